@@ -1,0 +1,17 @@
+//! What the database records: values of nine types, datoms, the entries of a history, and the four orders in which
+//! its indexes keep datoms. Every other crate of the database stands on this one.
+#![tactic(auto)]
+
+pub mod examples;
+mod facts;
+mod indexes;
+pub mod laws;
+mod texts;
+
+pub use facts::{Datom, Datoms, Entry, Value};
+pub use fb_memory::Memory;
+pub use indexes::{Order, Probe, cmp_in, cmp_probe};
+pub use texts::Text;
+
+#[cfg(test)]
+mod tests;
