@@ -1,0 +1,15 @@
+//! Lists that only grow and whose older versions stay: a longer list shares all but a few chunks with the list that it
+//! was made from.
+#![tactic(auto)]
+
+mod chunks;
+mod layers;
+mod lists;
+mod sharing;
+
+pub use fb_memory::Memory;
+pub use lists::ChunkList;
+pub use sharing::{Share, Shared};
+
+#[cfg(test)]
+mod tests;
