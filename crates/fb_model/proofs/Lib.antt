@@ -1,0 +1,12 @@
+pub mod OneMoreEntry
+pub mod LawfulHistories
+pub mod Triples
+pub mod Untouched
+pub mod Invariants
+pub mod SchemaHistories
+pub mod NewFacts
+pub mod TextEntries
+pub mod Members
+pub mod InOrder
+pub mod Times
+pub mod KnownFacts

@@ -1,0 +1,12 @@
+pub mod Numbers
+pub mod Words
+pub mod Rising
+pub mod FirstEntry
+pub mod History
+pub mod Facts
+pub mod Types
+pub mod Schema
+pub mod Laws
+pub mod Lawful
+pub mod TextEntry
+pub mod Samples

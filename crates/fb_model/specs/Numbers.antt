@@ -1,0 +1,107 @@
+-- Numbers: those of entities and of the built-in attributes, and the ranges of t and of instants.
+-- The attributes' meaning is that of Datomic, Schema; the numbers themselves are this project's own choice.
+use Rattle.std.specs.Prelude.{ℕ, ◌+◌, ◌-◌, ℤ, pos, negsuc, Bool, ◌&&◌, ◌||◌, nat_le, int_le}
+
+-- the entity of transaction t
+abbrev pub transaction_of : ℕ → ℕ
+transaction_of t = 13194139533312 + t
+
+-- the n-th user entity, n from 1 on
+abbrev pub user_entity : ℕ → ℕ
+user_entity n = 17592186044416 + n
+
+-- the n of a user entity, and 0 for every other number
+abbrev pub user_number : ℕ → ℕ
+user_number e = e - 17592186044416
+
+-- the attributes that describe attributes
+abbrev pub ident : ℕ
+ident = 1
+
+abbrev pub value_type : ℕ
+value_type = 2
+
+abbrev pub cardinality : ℕ
+cardinality = 3
+
+abbrev pub unique : ℕ
+unique = 4
+
+abbrev pub is_component : ℕ
+is_component = 5
+
+abbrev pub index : ℕ
+index = 6
+
+-- a text that tells what an entity is
+abbrev pub doc : ℕ
+doc = 7
+
+-- when a transaction was recorded
+abbrev pub tx_instant : ℕ
+tx_instant = 8
+
+-- the types of values
+abbrev pub type_keyword : ℕ
+type_keyword = 10
+
+abbrev pub type_string : ℕ
+type_string = 11
+
+abbrev pub type_boolean : ℕ
+type_boolean = 12
+
+abbrev pub type_long : ℕ
+type_long = 13
+
+abbrev pub type_ref : ℕ
+type_ref = 14
+
+abbrev pub type_instant : ℕ
+type_instant = 15
+
+abbrev pub type_uuid : ℕ
+type_uuid = 16
+
+abbrev pub type_symbol : ℕ
+type_symbol = 17
+
+abbrev pub type_uri : ℕ
+type_uri = 18
+
+-- how many values an entity may have of an attribute
+abbrev pub cardinality_one : ℕ
+cardinality_one = 20
+
+abbrev pub cardinality_many : ℕ
+cardinality_many = 21
+
+-- the two kinds of unique attributes
+abbrev pub unique_identity : ℕ
+unique_identity = 30
+
+abbrev pub unique_value : ℕ
+unique_value = 31
+
+-- an entity of the first entry: 1 to 8, 10 to 18, 20, 21, 30 and 31
+abbrev pub is_builtin : ℕ → Bool
+is_builtin e =
+    (nat_le 1 e && nat_le e 8) || (nat_le 10 e && nat_le e 18) || (nat_le 20 e && nat_le e 21) || (nat_le 30 e && nat_le e 31)
+
+-- the greatest t of a transaction
+abbrev pub greatest_t : ℕ
+greatest_t = 2147483647
+
+-- instants are milliseconds from 1970-01-01T00:00:00Z, and lie from 0001-01-01 to 9999-12-31T23:59:59.999Z
+abbrev pub least_instant : ℤ
+least_instant = negsuc 62135596799999
+
+abbrev pub greatest_instant : ℤ
+greatest_instant = pos 253402300799999
+
+abbrev pub is_instant : ℤ → Bool
+is_instant z = int_le least_instant z && int_le z greatest_instant
+
+-- the most datoms of an entry
+abbrev pub most_datoms : ℕ
+most_datoms = 65535
