@@ -1,0 +1,6 @@
+pub mod Fronts
+pub mod Inside
+pub mod Keywords
+pub mod Next
+pub mod Splits
+pub mod Views

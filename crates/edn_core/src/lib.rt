@@ -1,0 +1,16 @@
+//! EDN as data, and its reader: the bytes of a text, and the form that stands next in them.
+#![tactic(auto)]
+
+mod fault;
+mod form;
+mod read;
+mod scan;
+
+pub use fault::EdnFault;
+pub use fb_memory::Memory;
+pub use fb_values::Text;
+pub use form::{Edn, Items, Pairs};
+pub use read::{is_keyword, read_form};
+
+#[cfg(test)]
+mod tests;
