@@ -1,0 +1,11 @@
+pub mod Steps
+pub mod Lists
+pub mod Refused
+pub mod Assigned
+pub mod Changed
+pub mod Recorded
+pub mod Numbered
+pub mod Known
+pub mod After
+pub mod StepLaws
+pub mod SameAsks

@@ -1,0 +1,12 @@
+pub mod Asks
+pub mod Shapes
+pub mod Values
+pub mod Walk
+pub mod Tempids
+pub mod Changes
+pub mod Transaction
+pub mod NameRules
+pub mod Size
+pub mod ChangeRules
+pub mod Step
+pub mod Samples

@@ -1,0 +1,19 @@
+//! What a transaction is, and what it does to a history, as definitions in `specs/`. The functions here are laws about
+//! them, and examples: each has an empty body, and its contract is the law.
+#![tactic(auto)]
+
+mod clocks;
+mod components;
+mod lawful;
+mod numbers;
+mod rules;
+mod schema;
+mod unique;
+
+pub use clocks::{refusals_do_not_depend_on_the_clock, two_clocks_differ_in_the_instant_alone};
+pub use components::{components_and_references, nested_maps};
+pub use lawful::{an_accepted_entry_is_lawful, changes_are_those_of_what_is_asked};
+pub use numbers::{compare_and_set, greatest_and_least_numbers};
+pub use rules::{rules_on_changes, rules_on_names, shapes};
+pub use schema::{alterations, attributes, cardinality_there_and_back, other_types};
+pub use unique::{lookup_refs, moved_values, nameless_maps, texts, unique_emails};
