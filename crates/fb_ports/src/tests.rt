@@ -1,0 +1,114 @@
+use super::*;
+use std::alloc::Global;
+use std::test::Fail;
+
+// What a read through a buffer of four bytes gives.
+fn next_bytes<S: Source>(source: &mut S, alloc: Global) -> Result<Vec<u8>, Fail> {
+    let mut buf = [0u8; 4];
+    let count = source.read(&mut buf)?;
+    Ok(buf[..count].to_vec(alloc)?)
+}
+
+// Hands the first four bytes of a source to a sink, and answers how many it took.
+fn copied<H: Host>(host: &mut H, alloc: Global, from: &str, to: &str) -> Result<usize, Fail> {
+    let mut source = host.source(alloc, from)?;
+    let mut sink = host.sink(alloc, to)?;
+    let bytes = next_bytes(&mut source, alloc)?;
+    Ok(sink.write(&bytes)?)
+}
+
+fn reading<K: Clock + Sync>(clock: &K) -> i64 {
+    clock.now()
+}
+
+#[test]
+fn a_source_fails_at_the_calls_that_are_numbered(rt: HostRuntime) -> Result<(), Fail> {
+    let alloc = rt.alloc();
+    let bytes = b"abcdef".to_vec(alloc)?;
+    let mut source = MemSource::new(bytes, vec![in alloc; 1, 3]?);
+    let mut buf = [0u8; 4];
+    assert_eq!(rt; source.read(&mut buf), Err(Failed));
+    assert_eq!(rt;
+        next_bytes(&mut source, alloc)?.as_slice(),
+        b"abcd".as_slice()
+    );
+    assert_eq!(rt; source.read(&mut buf), Err(Failed));
+    assert_eq!(rt;
+        next_bytes(&mut source, alloc)?.as_slice(),
+        b"ef".as_slice()
+    );
+    assert_eq!(rt; source.read(&mut buf), Ok(0));
+    assert_eq!(rt; source.faults(), 2);
+    Ok(())
+}
+
+#[test]
+fn a_sink_takes_what_fits_and_fails_where_nothing_does(rt: HostRuntime) -> Result<(), Fail> {
+    let alloc = rt.alloc();
+    let mut sink = MemSink::new(alloc, 5, vec![in alloc; 2]?)?;
+    assert_eq!(rt; sink.write(b"ab"), Ok(2));
+    assert_eq!(rt; sink.write(b"xy"), Err(Failed));
+    assert_eq!(rt; sink.write(b"cd"), Ok(2));
+    assert_eq!(rt; sink.write(b"ef"), Ok(1));
+    assert_eq!(rt; sink.write(b"f"), Err(Failed));
+    assert_eq!(rt; sink.write(b""), Ok(0));
+    assert_eq!(rt; sink.bytes(), b"abcde".as_slice());
+    assert_eq!(rt; sink.faults(), 2);
+    Ok(())
+}
+
+#[test]
+fn a_host_in_memory_hands_out_each_source_once(rt: HostRuntime) -> Result<(), Fail> {
+    let alloc = rt.alloc();
+    let mut host = MemHost::new(alloc);
+    host.add_source("one", MemSource::new(b"1".to_vec(alloc)?, Vec::new(alloc)))?;
+    host.add_source(
+        "-",
+        MemSource::new(b"hello".to_vec(alloc)?, Vec::new(alloc)),
+    )?;
+    assert_eq!(rt; copied(&mut host, alloc, "-", "-")?, 4);
+    assert!(rt; matches!(host.source(alloc, "-"), Err(OpenFail::Failed)));
+    assert!(rt; matches!(host.source(alloc, "two"), Err(OpenFail::Failed)));
+    assert_eq!(rt; copied(&mut host, alloc, "one", "-")?, 1);
+    assert_eq!(rt; host.faults(), 2);
+    Ok(())
+}
+
+#[test]
+fn a_real_host_opens_files(rt: HostRuntime) -> Result<(), Fail> {
+    let alloc = rt.alloc();
+    std::fs::write(&rt, "script", "hello")?;
+    std::fs::write(&rt, "script.out", "what was there before")?;
+    let mut host = RealHost::new(rt);
+    assert_eq!(rt; copied(&mut host, alloc, "script", "script.out")?, 4);
+    assert_eq!(rt;
+        std::fs::read_to_string(&rt, "script.out")?.as_str(),
+        "hell"
+    );
+    assert!(rt; matches!(host.source(alloc, "missing"), Err(OpenFail::Failed)));
+    assert!(rt; matches!(host.sink(alloc, "missing/out"), Err(OpenFail::Failed)));
+    assert_eq!(rt; host.faults(), 2);
+    std::fs::remove_file(&rt, "script")?;
+    std::fs::remove_file(&rt, "script.out")?;
+    Ok(())
+}
+
+#[test]
+fn a_file_counts_its_faults(rt: HostRuntime) -> Result<(), Fail> {
+    let mut buf = [0u8; 4];
+    let mut folder = FileSource::open(&rt, ".")?;
+    assert_eq!(rt; folder.read(&mut buf), Err(Failed));
+    assert_eq!(rt; folder.faults(), 1);
+    let mut full = FileSink::create(&rt, "/dev/full")?;
+    assert_eq!(rt; full.write(b"x"), Err(Failed));
+    assert_eq!(rt; full.faults(), 1);
+    Ok(())
+}
+
+#[test]
+fn clocks_tell_the_time(rt: HostRuntime) -> Result<(), Fail> {
+    assert_eq!(rt; reading(&FixedClock::new(-5)), -5);
+    // The milliseconds at which 2025 began.
+    assert!(rt; reading(&SystemClock::new(rt)) > 1_735_689_600_000);
+    Ok(())
+}
