@@ -1,0 +1,5 @@
+pub mod KnownBytes
+pub mod Deciding
+pub mod TalkingOn
+pub mod Serving
+pub mod Running

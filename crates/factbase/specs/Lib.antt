@@ -1,0 +1,7 @@
+pub mod Taken
+pub mod Written
+pub mod StatusLines
+pub mod Asked
+pub mod Heads
+pub mod Headline
+pub mod Books

@@ -1,0 +1,72 @@
+//! The lines of standard error.
+ghost use Rattle.std.specs.Prelude.{◌≡◌, ◌++◌, IfOk, IsOk, string_bytes, codes, decimal};
+ghost use Rattle.factbase.specs.StatusLines.{usage, cannot_open, out_of_memory, script_line, status_of, line_of};
+
+use crate::outcome::SessionEnd;
+use edn_core::EdnFault;
+use fb_ports::Memory;
+use std::alloc::Global;
+
+const USAGE: &str =
+    "factbase: usage: factbase run [--merge-at N] DIR SCRIPT.. | check DIR | load N";
+
+const OUT_OF_MEMORY: &str = "factbase: out of memory";
+
+pub(crate) fn usage(alloc: Global) -> Result<String, Memory>
+    ensures { IfOk result (λ line. string_bytes line ≡ usage) }
+{
+    Ok(String::from_str(alloc, USAGE)?)
+}
+
+pub(crate) fn cannot_open(alloc: Global, name: &str) -> Result<String, Memory>
+    ensures { IfOk result (λ line. string_bytes line ≡ cannot_open name.now) }
+{
+    Ok(format!(in alloc; "factbase: cannot open {name}")?)
+}
+
+/// The exit status for how a session ended.
+pub(crate) fn status_of(end: &SessionEnd) -> u8
+    ensures { result ≡ status_of end.now }
+{
+    match end {
+        SessionEnd::Done => 0,
+        SessionEnd::Script(_) | SessionEnd::TooLong => 5,
+        SessionEnd::ReadFault | SessionEnd::WriteFault => 6,
+        SessionEnd::Memory => 9,
+    }
+}
+
+/// The line for how the session of a script ended.
+pub(crate) fn line_of(alloc: Global, name: &str, end: &SessionEnd) -> Result<String, Memory>
+    ensures line { IfOk result (λ line. string_bytes line ≡ line_of name.now end.now) }
+    // To say nothing takes no memory.
+    ensures done { end.now ≡ SessionEnd.Done → IsOk result }
+{
+    match end {
+        SessionEnd::Done => Ok(String::new(alloc)),
+        SessionEnd::Script(EdnFault::Bad { at }) => bad_at(alloc, name, *at),
+        SessionEnd::TooLong => about(alloc, name, "too long"),
+        SessionEnd::ReadFault => about(alloc, name, "read fault"),
+        SessionEnd::WriteFault => about(alloc, name, "write fault"),
+        SessionEnd::Script(EdnFault::Memory) | SessionEnd::Memory => out_of_memory(alloc),
+    }
+}
+
+/// A fault of a script.
+fn about(alloc: Global, name: &str, what: &str) -> Result<String, Memory>
+    ensures { IfOk result (λ line. string_bytes line ≡ script_line name.now what.now) }
+{
+    Ok(format!(in alloc; "factbase: script {name}: {what}")?)
+}
+
+fn bad_at(alloc: Global, name: &str, at: usize) -> Result<String, Memory>
+    ensures { IfOk result (λ line. string_bytes line ≡ script_line name.now (codes "bad at byte " ++ decimal at)) }
+{
+    Ok(format!(in alloc; "factbase: script {name}: bad at byte {at}")?)
+}
+
+pub(crate) fn out_of_memory(alloc: Global) -> Result<String, Memory>
+    ensures { IfOk result (λ line. string_bytes line ≡ out_of_memory) }
+{
+    Ok(String::from_str(alloc, OUT_OF_MEMORY)?)
+}

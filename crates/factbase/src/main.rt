@@ -1,0 +1,41 @@
+//! Factbase: a database of immutable facts.
+#![tactic(auto)]
+
+mod decide;
+mod lines;
+mod outcome;
+mod reply;
+mod run;
+mod script;
+mod session;
+mod words;
+
+use fb_ports::{Memory, RealHost, SystemClock};
+use std::env;
+use std::io::ErrorKind;
+use std::process::ExitCode;
+
+/// The status where memory was refused before there was anything to say.
+const OUT_OF_MEMORY: u8 = 9;
+
+fn main(rt: HostRuntime) -> ExitCode {
+    let Ok(words) = words_of(&rt) else {
+        return ExitCode::from(OUT_OF_MEMORY);
+    };
+    let mut host = RealHost::new(rt);
+    let outcome = run::run(rt.alloc(), &words, &mut host, &SystemClock::new(rt));
+    if !outcome.line.is_empty() {
+        // Where standard error takes nothing, the status says it alone.
+        let _ = rt.eprintln(outcome.line.as_str());
+    }
+    ExitCode::from(outcome.status)
+}
+
+/// The words behind the program's name. Words that are no text are no command, so they count as none at all.
+fn words_of(rt: &HostRuntime) -> Result<Vec<String>, Memory> {
+    match env::args(rt) {
+        Ok(args) => Ok(args.skip(1).collect(rt.alloc())?),
+        Err(e) if e.kind() == ErrorKind::OutOfMemory => Err(Memory),
+        Err(_) => Ok(Vec::new(rt.alloc())),
+    }
+}

@@ -1,0 +1,88 @@
+//! What a run hands back.
+ghost use Rattle.std.specs.Prelude.{◌≡◌, length, ◌==◌};
+
+use edn_core::EdnFault;
+use fb_history::{Authors, EntryList};
+use std::marker::Model;
+
+/// A list of transactions' t.
+#[derive(Drop)]
+pub struct Places {
+    items: Vec<u32>,
+}
+
+impl Model for Places {
+    ghost use Rattle.std.specs.Prelude.{ℕ, List};
+
+    ghost Value = { List ℕ };
+
+    ghost view = { λ p. p.items.items };
+}
+
+impl Places {
+    pub fn of(items: Vec<u32>) -> Places
+        ensures { result ≡ items.items }
+    {
+        Places { items }
+    }
+
+    pub fn as_slice(&self) -> &[u32]
+        ensures { result.now ≡ self.now }
+    {
+        self.items.as_slice()
+    }
+
+    pub fn len(&self) -> usize
+        ensures { result ≡ length self.now }
+    {
+        self.items.len()
+    }
+
+    pub fn is_empty(&self) -> bool
+        ensures { result ≡ (length self.now == 0) }
+    {
+        self.items.is_empty()
+    }
+}
+
+/// How a session ended.
+#[derive(Drop)]
+pub enum SessionEnd {
+    /// Each form of the script was answered.
+    Done,
+    /// Behind the forms that were answered stands no form.
+    Script(EdnFault),
+    /// The script has more bytes than are read.
+    TooLong,
+    ReadFault,
+    WriteFault,
+    /// Memory was refused.
+    Memory,
+}
+
+/// What is left of a session.
+#[derive(Drop)]
+pub struct SessionOut<I, O> {
+    pub source: I,
+    pub sink: O,
+    pub end: SessionEnd,
+    /// For each line that was written whole, the t of the last entry that it rests on.
+    pub places: Places,
+    /// The t of each transaction that the session committed.
+    pub commits: Places,
+}
+
+/// What a run hands back.
+#[derive(Drop)]
+pub struct Outcome<I, O> {
+    /// The program's exit status.
+    pub status: u8,
+    /// What is said on standard error, where it is not empty.
+    pub line: String,
+    /// One for each script, in order.
+    pub sessions: Vec<SessionOut<I, O>>,
+    /// For each t above 0 the number of its session, where sessions ran.
+    pub authors: Option<Authors>,
+    /// The history, where sessions ran.
+    pub entries: Option<EntryList>,
+}

@@ -1,0 +1,4 @@
+pub mod OneScript
+pub mod LongerTalks
+pub mod Places
+pub mod NextEntry
