@@ -1,0 +1,11 @@
+pub mod Codes
+mod Sums
+pub mod Tried
+mod Keeps
+mod Turns
+pub mod Commits
+mod Holding
+mod Cores
+mod Mailing
+mod Splits
+mod Lifetime

@@ -1,0 +1,6 @@
+pub mod Views
+pub mod Seat
+pub mod Board
+pub mod Plays
+pub mod Calls
+pub mod Notes

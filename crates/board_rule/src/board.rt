@@ -1,0 +1,73 @@
+//! The table that all seats share.
+//!
+//! Word 0 is the number of tickets drawn, word 1 the ticket served, word 2 the basis of the history, and word s + 3 the
+//! mail word of session s: 0 free, 1 held by its reader, 2 by the holder of the turn. Slot 0 has the value that stands for
+//! the history, and slot s + 1 the last snapshot mailed to session s.
+ghost use Rattle.std.specs.Prelude.{◌≡◌, ◌+◌, ◌<◌};
+
+use crate::named::{Mailed, Named};
+use crate::view::{Code, View};
+use atomic_table::{Table, TableRule};
+use std::alloc::Global;
+use std::marker::PhantomData;
+use std::snapshot::Snapshot;
+use std::sync::Wait;
+
+/// What a slot has: slot 0 the value that stands for the history, each other one a snapshot.
+#[derive(Drop)]
+pub enum Place<H, S> {
+    Core(Option<H>),
+    Mail(Option<S>),
+}
+
+/// What is fixed when the board is made.
+#[derive(Drop)]
+pub struct Begun<H> {
+    pub home: Snapshot<H>,
+    pub sessions: u32,
+    pub start: u32,
+}
+
+/// The rule: one lawful history for all seats.
+pub struct OneHistory<H, S> {
+    of: PhantomData<(H, S)>,
+}
+
+impl<H: Named, S: Mailed + Named<Entry = H::Entry>> TableRule<Place<H, S>, View<Code>, Begun<H>>
+    for OneHistory<H, S> {
+    ghost use Rattle.board_rule.specs.Views.{codes, starting};
+    ghost use Rattle.board_rule.specs.Board.{naming, Ruled};
+
+    ghost holds = { λ k. Ruled (naming H.Entry.row.coded.code H.entries H.authors H.marks H.follows H.sound S.entries) k.sessions k.start };
+
+    ghost first = { λ k. starting k.start (codes H.Entry.row.coded.code (H.entries k.home.value)) (H.marks k.home.value).covered };
+}
+
+/// The table of all seats of one history. `H` is the type of slot 0's value, and `S` that of a mailed snapshot.
+#[derive(Drop)]
+pub struct Board<H: Named, S: Mailed + Named<Entry = H::Entry>> {
+    pub(crate) table: Table<Place<H, S>, View<Code>, Begun<H>, OneHistory<H, S>, Global>,
+    ghost sized: { (table.shared.table_id.words ≡ table.shared.key.sessions + 3) × (table.shared.table_id.slots ≡ table.shared.key.sessions + 1) × (table.shared.key.sessions < 2147483648) },
+}
+
+impl<H: Named, S: Mailed + Named<Entry = H::Entry>> Board<H, S> {
+    /// The number of sessions that have a mail word and a mail slot.
+    pub fn sessions(&self) -> u32
+        ensures { result ≡ self.now.table.shared.key.sessions }
+    {
+        (self.table.slot_count() - 1) as u32
+    }
+
+    /// Sleeps while the ticket served is `served`, until a wake. It may also return for no reason.
+    pub fn park<R: Wait>(&self, rt: &R, served: u64) {
+        self.table.shared.park(rt, 1, (served & 0xffff_ffff) as u32);
+    }
+
+    /// Wakes whoever sleeps, if a ticket is drawn that is not served yet.
+    pub fn wake(&self) {
+        let shared = &self.table.shared;
+        if shared.peek(0) > shared.peek(1) {
+            shared.wake_all(1);
+        }
+    }
+}

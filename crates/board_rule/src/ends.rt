@@ -1,0 +1,129 @@
+//! How a board is made, and what is left when it is closed.
+ghost use Rattle.std.specs.Prelude.{◌≡◌, ℕ, ◌+◌, ◌<◌, ◌≤◌, [], ◌∷◌, map, length, Some, None, IfOk, IsTrue, slice_index_or, slice_set, replicate, true, false};
+ghost use Rattle.std.specs.List.{All};
+ghost use Rattle.std.specs.Slots.{slots_filled, slots_len};
+ghost use Rattle.board_rule.specs.Views.{worker, IsLawful, codes, starting, IsWhole};
+ghost use Rattle.board_rule.specs.Board.{mailed_as};
+ghost use Rattle.board_rule.specs.declared.board.Place.TheVariants.{Core};
+ghost use Rattle.board_rule.specs.Calls.{view_of, board_of};
+
+use crate::board::{Begun, Board, Place};
+use crate::mails::Mails;
+use crate::named::{Mailed, Named};
+use crate::seat::BoardSeat;
+use atomic_table::{Closed, Refused, Table};
+use fb_memory::Memory;
+use std::alloc::Global;
+use std::snapshot::Snapshot;
+
+// Slot 0 with the value, and a mail slot for each snapshot.
+fn lay_slots<H: Drop, S: Drop>(
+    alloc: Global,
+    home: H,
+    mailed: Vec<S>,
+) -> Result<Vec<Place<H, S>>, Memory>
+    ensures { IfOk result (λ v. v.items ≡ Core (Some home) ∷ map mailed_as mailed.items) }
+{
+    let mut slots = Vec::new(alloc);
+    slots.push(Place::Core(Some(home)))?;
+    for snapshot in mailed {
+        slots.push(Place::Mail(Some(snapshot)))?;
+    }
+    Ok(slots)
+}
+
+fn lay_words(alloc: Global, sessions: usize, basis: u32) -> Result<Vec<u64>, Memory>
+    requires { sessions < 2147483648 }
+    ensures { IfOk result (λ v. v.items ≡ slice_set (replicate (sessions + 3) 0) 2 basis) }
+{
+    let mut words = Vec::from_elem(alloc, 0u64, sessions + 3)?;
+    words[2] = basis as u64;
+    Ok(words)
+}
+
+fn core_of<H: Drop, S: Drop>(place: Place<H, S>) -> H
+    requires { (h : H) × (place ≡ Core (Some h)) }
+    ensures { place ≡ Core (Some result) }
+{
+    match place {
+        Place::Core(Some(home)) => home,
+        Place::Core(None) => unreachable!(),
+        Place::Mail(_) => unreachable!(),
+    }
+}
+
+// Drops what the mail slots have.
+fn clear<S: Drop>(mut closed: Closed<S, Global>)
+    requires full { (k : ℕ) → 1 ≤ k → k < slots_len closed.slots → slice_index_or (slots_filled closed.slots) k false ≡ true }
+    requires taken { slice_index_or (slots_filled closed.slots) 0 false ≡ false }
+{
+    let mut i = 1;
+    while i < closed.slot_count() {
+        drop(closed.take(i));
+        i += 1;
+    }
+    closed.free();
+}
+
+impl<H: Named, S: Mailed + Named<Entry = H::Entry>> Board<H, S> {
+    /// A board of one history, with a mail slot for each snapshot, and its first seat. `basis` is that of the history.
+    pub fn new(
+        alloc: Global,
+        home: H,
+        basis: u32,
+        mailed: Mails<S>,
+    ) -> Result<(Board<H, S>, BoardSeat), Memory>
+        requires history { (basis + 1 ≡ length (H.entries home)) × IsLawful H.follows (H.entries home) }
+        requires home { (H.authors home ≡ []) × ((H.marks home).stop ≡ None) × H.sound home }
+        requires mailed { All (λ s. S.entries s ≡ H.entries home) mailed × (length mailed < 2147483648) }
+        ensures board { IfOk result (λ r. (board_of r.1 ≡ r.0.table.shared.table_id) × (r.0.table.shared.key.sessions ≡ length mailed) × (r.0.table.shared.key.start ≡ basis)) }
+        ensures seat { IfOk result (λ r. view_of r.1 ≡ starting basis (codes H.Entry.row.coded.code (H.entries home)) (H.marks home).covered) }
+    {
+        let mailed = mailed.into_vec();
+        let sessions = mailed.len();
+        let about = Begun {
+            home: Snapshot::of(&home),
+            sessions: sessions as u32,
+            start: basis,
+        };
+        let words = lay_words(alloc, sessions, basis)?;
+        let slots = lay_slots(alloc, home, mailed)?;
+        match Table::new(alloc, words.as_slice(), slots, &about) {
+            Ok((table, seat)) => Ok((
+                Board { table },
+                BoardSeat {
+                    number: u32::MAX,
+                    given: 0,
+                    draws: 0,
+                    ticket: None,
+                    badge: seat.into_badge(),
+                },
+            )),
+            Err(Refused { slots: _ }) => Err(Memory),
+        }
+    }
+
+    /// The value of slot 0, which stands for the whole history. Every other seat was joined to this one, the first.
+    pub fn close(self, seat: BoardSeat) -> H
+        requires seat { board_of seat ≡ self.table.shared.table_id }
+        requires first { (view_of seat).number ≡ worker }
+        requires all { (view_of seat).seats ≡ (view_of seat).given + 1 }
+        requires free { (view_of seat).ticket ≡ None }
+        ensures lawful { IsLawful H.follows (H.entries result) }
+        ensures sound { H.sound result }
+        ensures whole { IsWhole (codes H.Entry.row.coded.code (H.entries result)) (H.authors result) (H.marks result) (view_of seat) }
+    {
+        let Board { table } = self;
+        let BoardSeat {
+            number: _,
+            given: _,
+            draws: _,
+            ticket: _,
+            badge,
+        } = seat;
+        let mut closed = table.close_with(badge.into_seat());
+        let home = core_of(closed.take(0));
+        clear(closed);
+        home
+    }
+}

@@ -1,0 +1,46 @@
+//! Laws and worked examples of the definitions. None of these functions does anything: each is its contract.
+ghost use Rattle.std.specs.Prelude.{◌≡◌, ℕ, ◌+◌, ◌<◌, List, [], ◌∷◌, Option, Some, None};
+ghost use mathlib.Core.Option.{some};
+ghost use lib.ListN.{get_elem?};
+ghost use Rattle.board_rule.specs.declared.view.Marks.{Marks};
+ghost use Rattle.board_rule.specs.Views.{commits_of, longer, marked, tried_down, IsTried};
+
+/// An entry's t is among its author's commits.
+pub fn each_entry_is_a_commit_of_its_author()
+    ensures { (n t i : ℕ) (who : List ℕ) → get_elem? who i ≡ some n → (k : ℕ) × (get_elem? (commits_of n t who) k ≡ some (t + i)) }
+{}
+
+/// And a commit is an entry of that author.
+pub fn each_commit_is_an_entry_of_that_author()
+    ensures { (n t k u : ℕ) (who : List ℕ) → get_elem? (commits_of n t who) k ≡ some u → (i : ℕ) × (u ≡ t + i) × (get_elem? who i ≡ some n) }
+{}
+
+/// A seat's commits strictly rise.
+pub fn commits_rise()
+    ensures { (n t k u w : ℕ) (who : List ℕ) → get_elem? (commits_of n t who) k ≡ some u → get_elem? (commits_of n t who) (k + 1) ≡ some w → u < w }
+{}
+
+/// Trying the sessions from the last down to the first tries each of them.
+pub fn each_session_is_tried()
+    ensures { (n : ℕ) (tried : Option (List ℕ)) → IsTried n (tried_down n tried) }
+{}
+
+pub fn examples_of_commits()
+    ensures two { commits_of 7 1 (7 ∷ 3 ∷ 7 ∷ []) ≡ 1 ∷ 3 ∷ [] }
+    ensures one { commits_of 3 1 (7 ∷ 3 ∷ 7 ∷ []) ≡ 2 ∷ [] }
+    ensures none { commits_of 5 1 (7 ∷ 3 ∷ 7 ∷ []) ≡ [] }
+{}
+
+pub fn examples_of_tries()
+    ensures two { tried_down 2 (Some []) ≡ Some (1 ∷ 0 ∷ []) }
+    ensures none { tried_down 2 None ≡ None }
+{}
+
+pub fn examples_of_longer()
+    ensures left { longer {E = ℕ} (1 ∷ 2 ∷ []) (1 ∷ []) ≡ 1 ∷ 2 ∷ [] }
+    ensures right { longer {E = ℕ} (1 ∷ []) (1 ∷ 2 ∷ []) ≡ 1 ∷ 2 ∷ [] }
+{}
+
+pub fn marks_are_the_next_ones_or_the_same()
+    ensures { (m k : Marks) → (marked m (Some k) ≡ k) × (marked m None ≡ m) }
+{}
