@@ -1,0 +1,101 @@
+//! Which attributes the indexes hold. EAVT and AEVT hold every attribute, AVET and VAET some.
+#![tactic(auto)]
+
+ghost use Rattle.std.specs.Prelude.{◌≡◌, ℕ, ◌↔◌, ◌==◌, IsTrue, IfOk, Contains};
+ghost use Rattle.std.specs.List.{list_any};
+ghost use Rattle.std.specs.List.Sorted.{IsNonDecreasing};
+ghost use Rattle.fb_covers.specs.Coverage.{covers};
+ghost use Rattle.fb_values.specs.declared.indexes.Order.TheVariants.{Avet, Vaet};
+
+use fb_memory::Memory;
+use fb_values::Order;
+use std::alloc::Global;
+use std::marker::Model;
+use std::sync::Arc;
+
+/// The attributes that AVET holds, and those that VAET holds. A copy shares them.
+#[derive(Drop)]
+pub struct Covers {
+    avet: Arc<Vec<u64>>,
+    vaet: Arc<Vec<u64>>,
+}
+
+impl Model for Covers {
+    ghost use Rattle.std.specs.List.Sorted.{IsNonDecreasing};
+    ghost use Rattle.std.specs.Arc.{arc_value};
+    ghost use Rattle.fb_covers.specs.Coverage.{Coverage};
+
+    ghost Value = { Coverage };
+
+    ghost view = { λ c. record { avet = (arc_value c.avet).items; vaet = (arc_value c.vaet).items } };
+
+    ghost invariant = { λ c. IsNonDecreasing (arc_value c.avet).items × IsNonDecreasing (arc_value c.vaet).items };
+}
+
+impl Covers {
+    /// The attributes in any order.
+    pub fn of(alloc: Global, avet: Vec<u64>, vaet: Vec<u64>) -> Result<Covers, Memory>
+        ensures avet { IfOk result (λ c. (a : ℕ) → IsTrue (covers c Avet a) ↔ Contains avet.items a) }
+        ensures vaet { IfOk result (λ c. (a : ℕ) → IsTrue (covers c Vaet a) ↔ Contains vaet.items a) }
+    {
+        let (mut avet, mut vaet) = (avet, vaet);
+        avet.sort_unstable();
+        vaet.sort_unstable();
+        let avet = Arc::new(alloc, avet)?;
+        let vaet = Arc::new(alloc, vaet)?;
+        Ok(Covers { avet, vaet })
+    }
+
+    /// Whether the order's index holds the attribute.
+    pub fn holds(&self, order: Order, attribute: u64) -> bool
+        ensures { result ≡ covers self.now order attribute }
+    {
+        match order {
+            Order::Eavt | Order::Aevt => true,
+            Order::Avet => contains(&self.avet, attribute),
+            Order::Vaet => contains(&self.vaet, attribute),
+        }
+    }
+
+    /// The same attributes, which are shared.
+    pub fn share(&self) -> Result<Covers, Memory>
+        ensures { IfOk result (λ c. c ≡ self.now) }
+    {
+        let (avet, vaet) = (self.avet.clone()?, self.vaet.clone()?);
+        Ok(Covers { avet, vaet })
+    }
+
+    /// Whether both hold the same attributes.
+    pub fn is_same(&self, other: &Covers) -> bool
+        ensures { IsTrue result ↔ (self.now ≡ other.now) }
+    {
+        self.avet.as_slice() == other.avet.as_slice()
+            && self.vaet.as_slice() == other.vaet.as_slice()
+    }
+}
+
+/// Whether a sorted list has the attribute.
+fn contains(sorted: &[u64], attribute: u64) -> bool
+    requires { IsNonDecreasing sorted.now }
+    ensures { result ≡ list_any (λ a. attribute == a) sorted.now }
+{
+    sorted.binary_search(&attribute).is_ok()
+}
+
+#[cfg(test)]
+mod tests {
+    use super::*;
+    use std::test::Fail;
+
+    #[test]
+    fn holds_what_it_was_given_in_any_order(rt: HostRuntime) -> Result<(), Fail> {
+        let alloc = rt.alloc();
+        let covers = Covers::of(alloc, vec![in alloc; 70, 8, 71]?, vec![in alloc; 72]?)?;
+        let copy = covers.share()?;
+        assert!(rt; copy.is_same(&covers));
+        assert!(rt; copy.holds(Order::Avet, 71) && copy.holds(Order::Avet, 8));
+        assert!(rt; !copy.holds(Order::Avet, 72) && copy.holds(Order::Vaet, 72));
+        assert!(rt; copy.holds(Order::Eavt, 1) && copy.holds(Order::Aevt, 1));
+        Ok(())
+    }
+}

@@ -1,0 +1,17 @@
+-- Lists of datoms that strictly rise in an order of the indexes.
+-- Restates Indexes of Datomic's documentation.
+use Rattle.std.specs.Prelude.{◌≡◌, List, [], ◌∷◌}
+use Rattle.std.specs.declared.cmp.Ordering.TheVariants.{Less}
+use Rattle.fb_values.specs.declared.facts.Datom.{Datom}
+use Rattle.fb_values.specs.declared.indexes.Order.{Order}
+use Rattle.fb_values.specs.Orders.{key_cmp}
+
+-- the datom's key is below that of each datom of the list
+abbrev pub StandsBefore : Order → Datom → List Datom → Type 0
+StandsBefore order x [] = Unit {0}
+StandsBefore order x (y ∷ ys) = (key_cmp order x y ≡ Less) × StandsBefore order x ys
+
+-- each datom's key is below those of all datoms behind it
+abbrev pub IsRising : Order → List Datom → Type 0
+IsRising order [] = Unit {0}
+IsRising order (x ∷ xs) = StandsBefore order x xs × IsRising order xs

@@ -1,0 +1,301 @@
+//! The balanced tree below a list of datoms. Its leaves are blocks; a datom stands between the two sides of each fork.
+ghost use Rattle.std.specs.Prelude.{◌≡◌, ℕ, ◌+◌, ◌^◌, ◌<◌, ◌≤◌, max, length, ◌∷◌, ◌++◌, IfOk, Some};
+ghost use Rattle.std.specs.List.{insert};
+ghost use Rattle.std.specs.List.{slice_get};
+ghost use Rattle.std.specs.Arc.{arc_value};
+ghost use Rattle.fb_search.specs.Rising.{IsRising};
+ghost use Rattle.fb_search.specs.Places.{place_of};
+ghost use Rattle.live_blocks.specs.Trees.{DifferByAtMost, least_len, IsHeightAfterBalance};
+ghost use Rattle.live_blocks.specs.Tree.{datoms_and_height, IsTree, IsCopy};
+
+use fb_memory::Memory;
+use fb_search::{Steps, is_below, lower_bound};
+use fb_values::{Datom, Probe};
+use std::alloc::Global;
+use std::marker::Model;
+use std::sync::Arc;
+use std::sync::ledger::Ledger;
+
+/// The greatest number of datoms of a block.
+pub const BLOCK: usize = 16;
+
+#[cycle(tree)]
+#[derive(Drop)]
+pub struct Tree {
+    node: Node,
+}
+
+#[cycle(tree)]
+#[derive(Drop)]
+enum Node {
+    Leaf(Vec<Datom>),
+    /// The two sides, the datom between them, how many datoms the first side has, how many the whole has, and how
+    /// many forks stand on the longest way down.
+    Fork(Arc<Tree>, Datom, Arc<Tree>, usize, usize, usize),
+}
+
+impl Model for Tree {
+    ghost use Rattle.std.specs.Prelude.{ℕ, List, length};
+    ghost use Rattle.fb_values.specs.declared.facts.Datom.{Datom};
+
+    ghost Value = { List Datom × ℕ };
+
+    ghost use Rattle.live_blocks.specs.Tree.{datoms_and_height, IsTree, IsCopy};
+
+    ghost view = { λ a. datoms_and_height a.node };
+
+    ghost invariant = { λ a. IsTree a.node };
+
+    ghost size = { λ d. length d.0 };
+
+    ghost use Rattle.live_blocks.specs.TreeFalls.{depth_le-length};
+
+    ghost size_decreases = { λ a h. depth_le-length a.node };
+}
+
+impl Tree {
+    /// A block of its own.
+    pub fn leaf(datoms: Vec<Datom>) -> Tree
+        requires some { 0 < length datoms.items }
+        requires few { length datoms.items ≤ BLOCK }
+        ensures { result ≡ (datoms.items, 0) }
+    {
+        Tree {
+            node: Node::Leaf(datoms),
+        }
+    }
+
+    pub fn len(&self) -> usize
+        ensures { result ≡ length self.now.0 }
+    {
+        match &self.node {
+            Node::Leaf(datoms) => datoms.len(),
+            Node::Fork(_, _, _, _, len, _) => *len,
+        }
+    }
+
+    pub fn height(&self) -> usize
+        ensures height { result ≡ self.now.1 }
+        ensures low { least_len self.now.1 ≤ length self.now.0 + 1 }
+        ensures fits { self.now.1 + 1 < 2 ^ 64 }
+    {
+        match &self.node {
+            Node::Leaf(_) => 0,
+            Node::Fork(_, _, _, _, _, height) => *height,
+        }
+    }
+}
+
+impl Node {
+    /// The same node, which shares its sides. A block's copy has room for one datom more.
+    fn copy(&self) -> Result<Node, Memory>
+        requires { IsTree self.now }
+        ensures { IfOk result (λ node. IsCopy self.now node) }
+    {
+        match self {
+            Node::Leaf(datoms) => Ok(Node::Leaf(copy_block(datoms)?)),
+            Node::Fork(left, datom, right, before, len, height) => {
+                let (left, right) = (left.clone()?, right.clone()?);
+                Ok(Node::Fork(left, datom.copy()?, right, *before, *len, *height))
+            }
+        }
+    }
+}
+
+/// The same datoms, with room for one more.
+fn copy_block(datoms: &Vec<Datom>) -> Result<Vec<Datom>, Memory>
+    requires { length datoms.now.items ≤ BLOCK }
+    ensures { IfOk result (λ block. block.items ≡ datoms.now.items) }
+{
+    let mut block = Vec::with_capacity(*datoms.allocator(), datoms.len() + 1)?;
+    for datom in datoms.iter() {
+        block.push(datom.copy()?)?;
+    }
+    Ok(block)
+}
+
+/// The node of a tree: taken out where nothing else shares it, and else copied.
+fn take(tree: Arc<Tree>) -> Result<Node, Memory>
+    ensures same { IfOk result (λ node. datoms_and_height node ≡ arc_value tree) }
+    ensures sound { IfOk result IsTree }
+{
+    match Arc::try_unwrap(tree) {
+        Ok(tree) => Ok(tree.node),
+        Err(shared) => shared.node.copy(),
+    }
+}
+
+/// The datom at a place.
+pub fn datom_at(tree: &Tree, place: usize) -> &Datom
+    requires { place < length tree.now.0 }
+    ensures { slice_get tree.now.0 place ≡ Some result.now }
+{
+    match &tree.node {
+        Node::Leaf(datoms) => &datoms[place],
+        Node::Fork(left, datom, right, before, _, _) => {
+            if place < *before {
+                datom_at(left, place)
+            } else if place == *before {
+                datom
+            } else {
+                datom_at(right, place - *before - 1)
+            }
+        }
+    }
+}
+
+/// The first place whose datom is not below the probe.
+pub fn place_in<L: Ledger>(tree: &Tree, probe: &Probe, steps: &mut Steps<L>) -> usize
+    requires { IsRising probe.now.order tree.now.0 }
+    ensures place { result ≡ place_of probe.now tree.now.0 }
+    // One comparison a fork, and those of a block.
+    ensures cost { steps.new ≤ steps.old + tree.now.1 + 5 }
+    ensures low { least_len tree.now.1 ≤ length tree.now.0 + 1 }
+{
+    match &tree.node {
+        Node::Leaf(datoms) => lower_bound(datoms, probe, steps),
+        Node::Fork(left, datom, right, before, _, _) => {
+            if is_below(probe, datom, steps) {
+                *before + 1 + place_in(right, probe, steps)
+            } else {
+                place_in(left, probe, steps)
+            }
+        }
+    }
+}
+
+/// A tree with a datom more.
+#[tactic(auto, using(crate::proofs::Sides::insert_behind))]
+pub fn with_datom(
+    alloc: Global,
+    tree: Arc<Tree>,
+    place: usize,
+    datom: Datom,
+) -> Result<Tree, Memory>
+    requires within { place ≤ length (arc_value tree).0 }
+    requires fits { length (arc_value tree).0 + 1 < 2 ^ 64 }
+    ensures datoms { IfOk result (λ new. new.0 ≡ insert (arc_value tree).0 place datom) }
+    ensures not_lower { IfOk result (λ new. (arc_value tree).1 ≤ new.1) }
+    ensures at_most_one_higher { IfOk result (λ new. new.1 ≤ (arc_value tree).1 + 1) }
+{
+    match take(tree)? {
+        Node::Leaf(datoms) => block_with(alloc, datoms, place, datom),
+        Node::Fork(left, middle, right, before, _, _) => {
+            if place <= before {
+                let left = Arc::new(alloc, with_datom(alloc, left, place, datom)?)?;
+                balance(alloc, left, middle, right)
+            } else {
+                let right = with_datom(alloc, right, place - before - 1, datom)?;
+                balance(alloc, left, middle, Arc::new(alloc, right)?)
+            }
+        }
+    }
+}
+
+/// A block with a datom more, in two where it is full.
+fn block_with(
+    alloc: Global,
+    mut datoms: Vec<Datom>,
+    place: usize,
+    datom: Datom,
+) -> Result<Tree, Memory>
+    requires few { length datoms.items ≤ BLOCK }
+    requires within { place ≤ length datoms.items }
+    ensures datoms { IfOk result (λ new. new.0 ≡ insert datoms.items place datom) }
+    ensures at_most_one_higher { IfOk result (λ new. new.1 ≤ 1) }
+{
+    datoms.insert(place, datom)?;
+    if datoms.len() <= BLOCK {
+        return Ok(Tree::leaf(datoms));
+    }
+    let right = datoms.split_off(BLOCK / 2 + 1)?;
+    match datoms.pop() {
+        None => unreachable!(),
+        Some(middle) => {
+            let left = Arc::new(alloc, Tree::leaf(datoms))?;
+            let right = Arc::new(alloc, Tree::leaf(right))?;
+            Ok(fork(left, middle, right))
+        }
+    }
+}
+
+/// A tree of two sides that are about as high.
+fn fork(left: Arc<Tree>, datom: Datom, right: Arc<Tree>) -> Tree
+    requires balanced { DifferByAtMost 1 (arc_value left).1 (arc_value right).1 }
+    requires fits { length (arc_value left).0 + length (arc_value right).0 + 1 < 2 ^ 64 }
+    ensures datoms { result.0 ≡ (arc_value left).0 ++ datom ∷ (arc_value right).0 }
+    ensures height { result.1 ≡ max (arc_value left).1 (arc_value right).1 + 1 }
+{
+    let before = left.len();
+    let len = before + 1 + right.len();
+    let height = left.height().max(right.height()) + 1;
+    Tree {
+        node: Node::Fork(left, datom, right, before, len, height),
+    }
+}
+
+/// A tree of two sides of which one may be two forks higher.
+fn balance(alloc: Global, left: Arc<Tree>, datom: Datom, right: Arc<Tree>) -> Result<Tree, Memory>
+    requires near { DifferByAtMost 2 (arc_value left).1 (arc_value right).1 }
+    requires fits { length (arc_value left).0 + length (arc_value right).0 + 1 < 2 ^ 64 }
+    ensures datoms { IfOk result (λ new. new.0 ≡ (arc_value left).0 ++ datom ∷ (arc_value right).0) }
+    ensures height { IfOk result (λ new. IsHeightAfterBalance (arc_value left).1 (arc_value right).1 new.1) }
+{
+    let (l, r) = (left.height(), right.height());
+    if l > r + 1 {
+        lean_left(alloc, left, datom, right)
+    } else if r > l + 1 {
+        lean_right(alloc, left, datom, right)
+    } else {
+        Ok(fork(left, datom, right))
+    }
+}
+
+/// A tree whose first side is two forks too high.
+fn lean_left(alloc: Global, left: Arc<Tree>, datom: Datom, right: Arc<Tree>) -> Result<Tree, Memory>
+    requires two_higher { (arc_value left).1 ≡ (arc_value right).1 + 2 }
+    requires fits { length (arc_value left).0 + length (arc_value right).0 + 1 < 2 ^ 64 }
+    ensures datoms { IfOk result (λ new. new.0 ≡ (arc_value left).0 ++ datom ∷ (arc_value right).0) }
+    ensures height { IfOk result (λ new. IsHeightAfterBalance (arc_value left).1 (arc_value right).1 new.1) }
+{
+    let Node::Fork(outer, first, inner, _, _, _) = take(left)? else {
+        unreachable!()
+    };
+    if outer.height() >= inner.height() {
+        let inner = Arc::new(alloc, fork(inner, datom, right))?;
+        return Ok(fork(outer, first, inner));
+    }
+    let Node::Fork(near, middle, far, _, _, _) = take(inner)? else {
+        unreachable!()
+    };
+    let left = Arc::new(alloc, fork(outer, first, near))?;
+    let right = Arc::new(alloc, fork(far, datom, right))?;
+    Ok(fork(left, middle, right))
+}
+
+/// A tree whose second side is two forks too high.
+fn lean_right(
+    alloc: Global,
+    left: Arc<Tree>,
+    datom: Datom,
+    right: Arc<Tree>,
+) -> Result<Tree, Memory>
+    requires two_higher { (arc_value right).1 ≡ (arc_value left).1 + 2 }
+    requires fits { length (arc_value left).0 + length (arc_value right).0 + 1 < 2 ^ 64 }
+    ensures datoms { IfOk result (λ new. new.0 ≡ (arc_value left).0 ++ datom ∷ (arc_value right).0) }
+    ensures height { IfOk result (λ new. IsHeightAfterBalance (arc_value left).1 (arc_value right).1 new.1) }
+{
+    let Node::Fork(inner, last, outer, _, _, _) = take(right)? else {
+        unreachable!()
+    };
+    if outer.height() >= inner.height() {
+        let inner = Arc::new(alloc, fork(left, datom, inner))?;
+        return Ok(fork(inner, last, outer));
+    }
+    let Node::Fork(far, middle, near, _, _, _) = take(inner)? else {
+        unreachable!()
+    };
+    let left = Arc::new(alloc, fork(left, datom, far))?;
+    let right = Arc::new(alloc, fork(near, last, outer))?;
+    Ok(fork(left, middle, right))
+}

@@ -1,0 +1,144 @@
+//! How one list of the live index grows by an entry.
+ghost use Rattle.std.specs.Prelude.{◌≡◌, ◌↔◌, ◌⊎◌, ◌∷◌, [], ◌++◌, filter, Contains, IfOk, IsTrue, Some};
+ghost use Rattle.std.specs.List.{slice_get};
+ghost use Rattle.fb_values.specs.declared.facts.Datom.{Datom};
+ghost use Rattle.fb_values.specs.declared.indexes.Order.TheVariants.{Avet};
+ghost use Rattle.fb_search.specs.Rising.{IsRising};
+ghost use Rattle.fb_search.specs.Places.{probe_of};
+ghost use Rattle.live_index.specs.Growth.{HasNoTwins, IsSound, is_held, is_twin};
+
+use fb_covers::Covers;
+use fb_memory::Memory;
+use fb_values::{Datom, Order, Probe, cmp_in};
+use live_blocks::Blocks;
+use std::cmp::Ordering;
+
+/// The datoms whose attribute the order's index holds by the new coverage. Under an unchanged coverage these are all.
+pub fn kept(
+    list: &Blocks,
+    order: Order,
+    old: &Option<Covers>,
+    new: &Covers,
+) -> Result<Blocks, Memory>
+    requires { IsSound order old.now list.now }
+    ensures { IfOk result (λ kept. kept ≡ filter (is_held new.now order) list.now) }
+{
+    if is_unchanged(old, new) {
+        list.share()
+    } else {
+        held(list, order, new)
+    }
+}
+
+fn is_unchanged(old: &Option<Covers>, new: &Covers) -> bool
+    ensures { IsTrue result → old.now ≡ Some new.now }
+{
+    match old {
+        None => false,
+        Some(old) => old.is_same(new),
+    }
+}
+
+/// The datoms whose attribute the order's index holds.
+fn held(list: &Blocks, order: Order, covers: &Covers) -> Result<Blocks, Memory>
+    ensures { IfOk result (λ held. held ≡ filter (is_held covers.now order) list.now) }
+{
+    let mut held = list.emptied();
+    for place in 0..list.len() {
+        held = pushed_if_held(held, order, list.datom(place), covers)?;
+    }
+    Ok(held)
+}
+
+fn pushed_if_held(
+    list: Blocks,
+    order: Order,
+    datom: &Datom,
+    covers: &Covers,
+) -> Result<Blocks, Memory>
+    ensures { IfOk result (λ new. new ≡ list ++ filter (is_held covers.now order) (datom.now ∷ [])) }
+{
+    if !covers.holds(order, datom.a) {
+        return Ok(list);
+    }
+    let end = list.len();
+    list.insert(end, datom.copy()?)
+}
+
+/// The list with those of the older datoms whose attribute AVET holds, in AVET alone.
+pub fn refilled(
+    list: Blocks,
+    order: Order,
+    refill: &[Datom],
+    covers: &Covers,
+) -> Result<Blocks, Memory>
+    requires rising { IsRising order list }
+    requires single { HasNoTwins (list ++ refill.now) }
+    ensures rising { IfOk result (λ new. IsRising order new) }
+    ensures members { IfOk result (λ new. (d : Datom) → Contains new d ↔ (Contains list d ⊎ ((order ≡ Avet) × Contains refill.now d × IsTrue (is_held covers.now order d)))) }
+{
+    match order {
+        Order::Avet => with_held(list, order, refill, covers),
+        Order::Eavt | Order::Aevt | Order::Vaet => Ok(list),
+    }
+}
+
+/// The list with those of the datoms whose attribute the order's index holds.
+pub fn with_held(
+    list: Blocks,
+    order: Order,
+    datoms: &[Datom],
+    covers: &Covers,
+) -> Result<Blocks, Memory>
+    requires rising { IsRising order list }
+    requires single { HasNoTwins (list ++ datoms.now) }
+    ensures rising { IfOk result (λ new. IsRising order new) }
+    ensures members { IfOk result (λ new. (d : Datom) → Contains new d ↔ (Contains list d ⊎ (Contains datoms.now d × IsTrue (is_held covers.now order d)))) }
+{
+    let mut list = list;
+    for datom in datoms {
+        list = with_datom(list, order, datom, covers)?;
+    }
+    Ok(list)
+}
+
+/// The list with one datom more, unless it is there or the order's index does not hold its attribute.
+fn with_datom(list: Blocks, order: Order, datom: &Datom, covers: &Covers) -> Result<Blocks, Memory>
+    requires rising { IsRising order list }
+    requires single { HasNoTwins (list ++ datom.now ∷ []) }
+    ensures rising { IfOk result (λ new. IsRising order new) }
+    ensures members { IfOk result (λ new. (d : Datom) → Contains new d ↔ (Contains list d ⊎ ((datom.now ≡ d) × IsTrue (is_held covers.now order d)))) }
+{
+    if !covers.holds(order, datom.a) {
+        return Ok(list);
+    }
+    let probe = probe_of(order, datom)?;
+    let place = list.place(&probe);
+    if is_there(&list, order, place, datom) {
+        return Ok(list);
+    }
+    list.insert(place, datom.copy()?)
+}
+
+/// The probe for a datom's own place.
+fn probe_of(order: Order, datom: &Datom) -> Result<Probe, Memory>
+    ensures { IfOk result (λ probe. probe ≡ probe_of order datom.now) }
+{
+    Ok(Probe {
+        order,
+        e: Some(datom.e),
+        a: Some(datom.a),
+        v: Some(datom.v.copy()?),
+        t: Some(datom.t),
+    })
+}
+
+/// Whether the datom at the place has the datom's key.
+fn is_there(list: &Blocks, order: Order, place: usize, datom: &Datom) -> bool
+    ensures { result ≡ is_twin order datom.now (slice_get list.now place) }
+{
+    match list.at(place) {
+        Some(found) => cmp_in(order, found, datom) == Ordering::Equal,
+        None => false,
+    }
+}
