@@ -56,6 +56,7 @@ module _ {H S E : Type 0} (N : Naming H S E) (n start : ℕ) where
             record {
               ticket = k.ticket;
               past = k.past;
+              found = k.found;
               notes = k.notes;
               number = k.number;
               turn = ((λ y e. let t = k.turn.0 y e in (t.0, t.1, t.2, refl, t.4)), k.turn.1);
@@ -65,6 +66,7 @@ module _ {H S E : Type 0} (N : Naming H S E) (n start : ℕ) where
             (λ j u ne e. let q = r.each j u e in record {
               ticket = q.ticket;
               past = q.past;
+              found = q.found;
               notes = q.notes;
               number = q.number;
               turn = ((λ y has'. absurd (not_his N n start s r id v at has j u ne e y has')), q.turn.1);

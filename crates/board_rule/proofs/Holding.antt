@@ -48,6 +48,7 @@ module _ {H S E : Type 0} (N : Naming H S E) (n start : ℕ) where
               record {
                 ticket = k.ticket;
                 past = k.past;
+                found = k.found;
                 notes = k.notes;
                 number = k.number;
                 turn = ((λ y e. let t = k.turn.0 y e in (t.0, t.1, t.2, t.3, refl)), λ _ q e. subst (MayMark v.number x.shown) (same_some new q e) (subst (λ (z : Marks). MayMark v.number z new) (shown_is N n start s r id v at has) may));
@@ -57,6 +58,7 @@ module _ {H S E : Type 0} (N : Naming H S E) (n start : ℕ) where
               (λ j u ne e. let q = r.each j u e in record {
                 ticket = q.ticket;
                 past = q.past;
+                found = q.found;
                 notes = q.notes;
                 number = q.number;
                 turn = ((λ y has'. absurd (not_his N n start s r id v at has j u ne e y has')), q.turn.1);
@@ -123,6 +125,7 @@ module _ {H S E : Type 0} (N : Naming H S E) (n start : ℕ) where
                   λ l. ap (λ (z : List ℕ). z ++ new ∷ []) (k.past.2 l) ∙ (ap (λ (z : ℕ). commits_of v.number (start + 1) x.authors ++ z ∷ []) new_is ∙ (sym (commits_own v.number (start + 1) x.authors) ∙ ap (commits_of v.number (start + 1)) (sym by))),
                   λ l. let b = starts_shorter x.entries v.seen k.past.1 in below_snoc (length v.seen) (length es) new v.commits (k.past.3 l) (omega arith) (omega arith),
                 );
+                found = λ l b. grow l (k.found l b);
                 notes = λ i q b. let t = k.notes i q b in (t.0 ∙ sym (other q.number (λ same. unnoted x.drawn x.given s.views id id i v v q r.counts at at live b (sym same))), t.1, t.2);
                 number = k.number;
                 turn = ((λ y b. (h.0, sym (same_some _ y b) ∙ ap (λ (z : Marks). story es who z) (shown_is N n start s r id v at has), h.2, h.3, h.4)), λ _ q b. k.turn.1 has q b);
@@ -132,6 +135,7 @@ module _ {H S E : Type 0} (N : Naming H S E) (n start : ℕ) where
               (λ j u ne b. let q = r.each j u b in record {
                 ticket = q.ticket;
                 past = (q.past.0, grow u.seen q.past.1, λ l. q.past.2 l ∙ sym (other u.number (unlike x.drawn x.given s.views id j v u r.counts ne at b live l)), q.past.3);
+                found = λ l c. grow l (q.found l c);
                 notes = λ i z c. let t = q.notes i z c in (t.0 ∙ sym (other z.number (λ same. unnoted x.drawn x.given s.views id j i v u z r.counts at b live c (sym same))), t.1, t.2);
                 number = q.number;
                 turn = ((λ y has'. absurd (not_his N n start s r id v at has j u ne b y has')), q.turn.1);
@@ -179,6 +183,7 @@ module _ {H S E : Type 0} (N : Naming H S E) (n start : ℕ) where
               record {
                 ticket = ((λ z b. absurd (none_not z b)), k.ticket.1);
                 past = k.past;
+                found = k.found;
                 notes = notes_stay id v at;
                 number = k.number;
                 turn = ((λ z b. absurd (none_not z b)), λ z. absurd (none_not z.0 z.1));
@@ -199,6 +204,7 @@ module _ {H S E : Type 0} (N : Naming H S E) (n start : ℕ) where
                   q.ticket.1,
                 );
                 past = q.past;
+                found = q.found;
                 notes = notes_stay j u b;
                 number = q.number;
                 turn = ((λ z e. absurd (not_his N n start s r id v at has j u ne b z e)), λ z. absurd (not_his N n start s r id v at has j u ne b z.0 z.1));

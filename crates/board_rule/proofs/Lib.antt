@@ -7,5 +7,8 @@ pub mod Commits
 mod Holding
 mod Cores
 mod Mailing
+mod Reading
+mod Posting
+mod Moving
 mod Splits
 mod Lifetime

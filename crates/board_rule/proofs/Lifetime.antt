@@ -90,6 +90,7 @@ module _ {H S E : Type 0} (N : Naming H S E) (n start : ℕ) where
         each = λ j u e. subst (Knows n start x j) (single v u j e) record {
           ticket = ((λ t z. absurd (none_not t z)), omega arith);
           past = ((λ _. refl), starts_whole es, (λ _. refl), λ _ i t z. absurd (some-ne-none t (sym z)));
+          found = λ l z. absurd (none_not l z);
           notes = λ i p z. absurd (some-ne-none p (sym z));
           number = ((λ _. inr refl), λ _ _. refl);
           turn = ((λ y z. absurd (none_not y z)), λ t. absurd (none_not t.0 t.1));

@@ -44,6 +44,7 @@ module _ {H S E : Type 0} (N : Naming H S E) (n start : ℕ) where
   new_knows s r id v at first live few j = let x : Scene E = r.scene in let k = r.each id v at in let same = k.number.1 live first in record {
     ticket = ((λ t e. absurd (none_not t e)), omega arith);
     past = ((λ _. k.past.0 live), k.past.1, (λ _. sym (r.history.unwritten v.given (omega arith) (λ e. omega arith))), λ _ i t e. absurd (none_in i t e));
+    found = λ l e. absurd (none_not l e);
     notes = λ i p e. absurd (none_in i p e);
     number = ((λ _. inl (omega arith)), λ _ e. absurd (omega arith));
     turn = ((λ y e. absurd (none_not y e)), λ t. absurd (none_not t.0 t.1));
@@ -85,6 +86,7 @@ module _ {H S E : Type 0} (N : Naming H S E) (n start : ℕ) where
             record {
               ticket = k.ticket;
               past = k.past;
+              found = k.found;
               notes = k.notes;
               number = ((λ _. inr first), λ _ _. ap (λ (z : ℕ). z + 1) same);
               turn = k.turn;
@@ -94,6 +96,7 @@ module _ {H S E : Type 0} (N : Naming H S E) (n start : ℕ) where
             (λ i b' ne e'. let q = r.each i b' e' in record {
               ticket = q.ticket;
               past = q.past;
+              found = q.found;
               notes = q.notes;
               number = (
                 (λ lv. ⊎_elim (λ (lt : b'.number < x.given). inl (omega arith)) (λ (is : b'.number ≡ worker). inr is) (q.number.0 lv)),
@@ -118,6 +121,7 @@ module _ {H S E : Type 0} (N : Naming H S E) (n start : ℕ) where
   spent_knows x j = record {
     ticket = ((λ t e. absurd (none_not t e)), omega arith);
     past = ((λ e. absurd (omega arith)), (x.entries, refl), (λ e. absurd (omega arith)), λ e. absurd (omega arith));
+    found = λ l e. absurd (none_not l e);
     notes = λ i p e. absurd (none_in i p e);
     number = ((λ e. absurd (omega arith)), λ e. absurd (omega arith));
     turn = ((λ y e. absurd (none_not y e)), λ t. absurd (none_not t.0 t.1));
@@ -163,6 +167,7 @@ module _ {H S E : Type 0} (N : Naming H S E) (n start : ℕ) where
             record {
               ticket = ((λ t e'. absurd (none_not t (sym no_ticket ∙ e'))), k.ticket.1);
               past = ((λ _. k.past.0 live), longer_begins x.entries v.seen u.seen k.past.1 q.past.1, (λ _. k.past.2 live), λ _. longer_recent v.seen u.seen v.commits (k.past.3 live));
+              found = k.found;
               notes = notes_join x v u k.notes q.notes q.past q.told live';
               number = ((λ _. k.number.0 live), λ _. k.number.1 live);
               turn = k.turn;

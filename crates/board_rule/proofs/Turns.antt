@@ -85,6 +85,7 @@ module _ {H S E : Type 0} (N : Naming H S E) (n start : ℕ) where
               record {
                 ticket = ((λ t e. let a = same_some f t e in (omega arith, omega arith, live)), omega arith);
                 past = k.past;
+                found = k.found;
                 notes = k.notes;
                 number = k.number;
                 turn = ((λ h e. absurd (none_not x.served (sym none_yet ∙ (k.turn.0 h e).0))), k.turn.1);
@@ -94,6 +95,7 @@ module _ {H S E : Type 0} (N : Naming H S E) (n start : ℕ) where
               (λ j u ne e. let q = r.each j u e in record {
                 ticket = ((λ t h. let a = q.ticket.0 t h in let lt = a.1 in (a.0, omega arith, a.2)), q.ticket.1);
                 past = q.past;
+                found = q.found;
                 notes = q.notes;
                 number = q.number;
                 turn = q.turn;
@@ -121,6 +123,7 @@ module _ {H S E : Type 0} (N : Naming H S E) (n start : ℕ) where
         loaded s 2 s.homes (set s.views id w) (learns s r id v w at record { seats = refl; number = refl; joined = refl; draws = refl; ticket = λ t e. e } refl (λ t. t) record {
           ticket = k.ticket;
           past = (k.past.0, starts_whole x.entries, k.past.2, λ live i t e. let a = k.past.3 live i t e in let b = starts_shorter x.entries v.seen k.past.1 in omega arith);
+          found = k.found;
           notes = k.notes;
           number = k.number;
           turn = k.turn;
@@ -202,6 +205,7 @@ module _ {H S E : Type 0} (N : Naming H S E) (n start : ℕ) where
               record {
                 ticket = k.ticket;
                 past = k.past;
+                found = k.found;
                 notes = k.notes;
                 number = k.number;
                 turn = ((λ h e. (served, sym (same_some y h e), refl, sym idle.0, sym idle.1)), λ _ p e. absurd (none_not p e));
@@ -211,6 +215,7 @@ module _ {H S E : Type 0} (N : Naming H S E) (n start : ℕ) where
               (λ j u ne e. let q = r.each j u e in record {
                 ticket = q.ticket;
                 past = q.past;
+                found = q.found;
                 notes = q.notes;
                 number = q.number;
                 turn = ((λ h has. absurd (not j (q.turn.0 h has).2)), q.turn.1);

@@ -148,6 +148,7 @@ module _ {E : Type 0} where
   pub record Knows (n start : ℕ) (x : Scene E) (j : ℕ) (v : View E) : Type 0 where
     pub ticket : HasTicket x v
     pub past : Recalls start x v
+    pub found : (l : List E) → v.last_found ≡ Some l → StartsWith x.entries l
     pub notes : KeepsNotes start x v
     pub number : HasNumber x v
     pub turn : KnowsTurn x j v

@@ -183,6 +183,7 @@ module _ {E : Type 0} where
     grabs = 0;
     lost = 0;
     met = 0;
+    last_found = None;
     seen = seen;
     commits = [];
     joined = [];
@@ -233,14 +234,14 @@ module _ {E : Type 0} where
 
   -- the reader's own mail word was grabbed, or found at 2
   abbrev pub grabbed : View E → View E
-  grabbed v = record v { grab = Grabbed; grabs = v.grabs + 1; met = 0 }
+  grabbed v = record v { grab = Grabbed; grabs = v.grabs + 1; met = 0; last_found = None }
 
   abbrev pub passed : View E → View E
   passed v = record v { grabs = v.grabs + 1; lost = v.lost + 1; met = 2 }
 
   -- a snapshot of this history lies in the mail slot
   abbrev pub found : View E → List E → View E
-  found v l = record v { grab = Found l (Full l) }
+  found v l = record v { grab = Found l (Full l); last_found = Some l }
 
   abbrev pub let_go : View E → Bool → View E
   let_go v kept = record v { grab = Free; seen = cond kept (longer v.seen (found_of v.grab)) v.seen }

@@ -90,6 +90,8 @@ pub struct View<E> {
     pub lost: u64,
     /// The mail word as its last grab found it.
     pub met: u64,
+    /// The history of the snapshot that the last grab of its own mail word found in the slot, once it was noted.
+    pub last_found: Option<LinkedList<E>>,
     /// A beginning of the history, as far as the seat has seen it.
     pub seen: LinkedList<E>,
     /// The t of each entry that it added, in order.

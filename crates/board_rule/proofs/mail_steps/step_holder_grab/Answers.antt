@@ -1,6 +1,6 @@
 use Rattle.std.proofs.Common.{rules, ap, sym, subst, ◌∙◌}
 use Rattle.board_rule.specs.Views.{HasTurn}
-use Rattle.board_rule.proofs.Mailing.{grabs_mail_on}
+use Rattle.board_rule.proofs.Posting.{grabs_mail_on}
 use Rattle.board_rule.proofs.mail_steps.step_holder_grab.Goals as goal
 
 pub compare_exchange-met-requires : goal.compare_exchange-met-requires

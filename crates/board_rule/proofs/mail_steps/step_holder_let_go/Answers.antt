@@ -2,7 +2,7 @@ use Rattle.std.proofs.Common.{rules, ap, sym, subst, ◌∙◌}
 use Rattle.board_rule.specs.declared.view.Content.TheVariants.{Full}
 use Rattle.board_rule.specs.declared.view.Grab.TheVariants.{Writing}
 use Rattle.board_rule.specs.Views.{HasTurn, history_of}
-use Rattle.board_rule.proofs.Mailing.{lets_mail_go_on}
+use Rattle.board_rule.proofs.Posting.{lets_mail_go_on}
 use Rattle.board_rule.proofs.mail_steps.step_holder_let_go.Goals as goal
 
 pub store-requires : goal.store-requires

@@ -8,7 +8,7 @@ use Rattle.board_rule.specs.declared.view.Grab.TheVariants.{Free, Grabbed, Found
 use Rattle.board_rule.specs.declared.view.View.{View}
 use Rattle.board_rule.specs.Views.{MayMove, grab_rests, content_rests, content_of, refilled}
 use Rattle.board_rule.specs.Calls.{view_of}
-use Rattle.board_rule.proofs.Mailing.{takes_mail_on, puts_mail_on}
+use Rattle.board_rule.proofs.Moving.{takes_mail_on, puts_mail_on}
 use Rattle.board_rule.proofs.mail_steps.step_mail.Goals as goal
 
 content_there : (number s : ℕ) (k : Grab Code) → MayMove number s k → grab_rests k ≡ true → content_rests (content_of k) ≡ true

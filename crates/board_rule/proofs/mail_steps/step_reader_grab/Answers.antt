@@ -1,5 +1,5 @@
 use Rattle.std.proofs.Common.{rules, ◌<◌, ap, sym, subst, ◌∙◌}
-use Rattle.board_rule.proofs.Mailing.{grabs_own_at}
+use Rattle.board_rule.proofs.Reading.{grabs_own_at}
 use Rattle.board_rule.proofs.mail_steps.step_reader_grab.Goals as goal
 
 pub compare_exchange-met-requires : goal.compare_exchange-met-requires

@@ -1,6 +1,6 @@
 use Rattle.std.proofs.Common.{rules, true, false, ap, sym, subst, ◌∙◌}
 use Rattle.board_rule.specs.Views.{MayLetGo}
-use Rattle.board_rule.proofs.Mailing.{lets_own_go_at}
+use Rattle.board_rule.proofs.Reading.{lets_own_go_at}
 use Rattle.board_rule.proofs.mail_steps.step_reader_let_go.Goals as goal
 
 pub store-requires : goal.store-requires

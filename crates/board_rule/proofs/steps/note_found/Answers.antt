@@ -1,5 +1,5 @@
 use Rattle.std.proofs.Common.{rules, ap, ◌∙◌}
-use Rattle.board_rule.proofs.Mailing.{notes_found_on}
+use Rattle.board_rule.proofs.Reading.{notes_found_on}
 use Rattle.board_rule.proofs.steps.note_found.Goals as goal
 
 pub load-served-requires : goal.load-served-requires
