@@ -43,7 +43,7 @@ abbrev pub lookup_in : Forms → Option (List ℕ × Form)
 lookup_in (form (edn.keyword attribute) (form value no_forms)) = Some (attribute, value)
 lookup_in _ = None
 
-abbrev name_of_pair : Option (List ℕ × Form) → Option Name
+abbrev pub name_of_pair : Option (List ℕ × Form) → Option Name
 name_of_pair None = None
 name_of_pair (Some pair) = Some (lookup pair.0 pair.1)
 
@@ -80,7 +80,7 @@ pub data Key : Type 0 where
   -- an attribute whose value is the map's entity: a name that begins with `_`, here without it
   backward : List ℕ → Key
 
-abbrev without_underscore : List ℕ → List ℕ
+abbrev pub without_underscore : List ℕ → List ℕ
 without_underscore k = cond (has_namespace k) (namespace k ++ (47 ∷ drop 1 (local_name k))) (drop 1 (local_name k))
 
 abbrev pub key_in : Form → Key
@@ -90,7 +90,7 @@ key_in f = forward []
 
 -- ---- what is read from an ask
 
-abbrev name_of_part : Part → List Name
+abbrev pub name_of_part : Part → List Name
 name_of_part (plain f) = []
 name_of_part (entity name) = name ∷ []
 

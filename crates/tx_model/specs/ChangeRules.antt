@@ -37,7 +37,7 @@ is_recorded tx d = is_change (said tx.db.history) d
 
 -- ---- 10: a cas of an attribute of cardinality many
 
-abbrev compares_many : Db → Ask → Bool
+abbrev pub compares_many : Db → Ask → Bool
 compares_many db (compares name attribute old new) = option_map_or (λ a. a.many) (attribute_named db.facts attribute) false
 compares_many db ask = false
 
@@ -46,20 +46,20 @@ breaks_cas_many tx place = list_any (compares_many tx.db) (at tx.asks place)
 
 -- ---- 11: the present value differs from the old one of a cas; nil stands for none
 
-abbrev is_value : Option Value → Option Value → Bool
+abbrev pub is_value : Option Value → Option Value → Bool
 is_value None None = true
 is_value (Some v) (Some w) = value_eq v w
 is_value None (Some w) = false
 is_value (Some v) None = false
 
-abbrev old_value : Transaction → Attribute → Part → Option Value
+abbrev pub old_value : Transaction → Attribute → Part → Option Value
 old_value tx attribute (plain edn.nil) = None
 old_value tx attribute part = value_of_part tx.db tx.names attribute part
 
-abbrev is_present : Transaction → ℕ → Part → Attribute → Bool
+abbrev pub is_present : Transaction → ℕ → Part → Attribute → Bool
 is_present tx e old attribute = is_value (value_of tx.db.facts e attribute.id) (old_value tx attribute old)
 
-abbrev compares_another : Transaction → Ask → Bool
+abbrev pub compares_another : Transaction → Ask → Bool
 compares_another tx (compares name k old new) =
     option_map_or (λ e. option_map_or (λ attribute. not (is_present tx e old attribute)) (attribute_named tx.db.facts k) false) (entity_of tx.db tx.names name) false
 compares_another tx ask = false

@@ -45,26 +45,26 @@ retractions db names (retracts name attribute part) = changes_of db names false 
 retractions db names ask = []
 
 -- from an entity to a part of it: a value under a component attribute
-abbrev link_to : ℕ → Value → Option (ℕ × ℕ)
+abbrev pub link_to : ℕ → Value → Option (ℕ × ℕ)
 link_to e (Ref part) = Some (e, part)
 link_to e v = None
 
-abbrev part_in : List Datom → Datom → Option (ℕ × ℕ)
+abbrev pub part_in : List Datom → Datom → Option (ℕ × ℕ)
 part_in facts d = cond (is_part facts d.a) (link_to d.e d.v) None
 
 abbrev pub component_links : List Datom → List (ℕ × ℕ)
 component_links facts = filter_map (part_in facts) facts
 
-abbrev is_in : List ℕ → ℕ → Bool
+abbrev pub is_in : List ℕ → ℕ → Bool
 is_in set e = list_any (nat_eq e) set
 
-abbrev added_parts : List (ℕ × ℕ) → List ℕ → List ℕ
+abbrev pub added_parts : List (ℕ × ℕ) → List ℕ → List ℕ
 added_parts [] set = set
 added_parts (link ∷ links) set =
     cond (is_in set link.0 && not (is_in set link.1)) (added_parts links (link.1 ∷ set)) (added_parts links set)
 
 -- an entity with its parts, their parts and so on: once for each link, after which none is left to add
-abbrev closed_under : List (ℕ × ℕ) → List (ℕ × ℕ) → List ℕ → List ℕ
+abbrev pub closed_under : List (ℕ × ℕ) → List (ℕ × ℕ) → List ℕ → List ℕ
 closed_under [] links set = set
 closed_under (_ ∷ more) links set = closed_under more links (added_parts links set)
 
@@ -72,11 +72,11 @@ abbrev pub closed_set : List Datom → ℕ → List ℕ
 closed_set facts e = closed_under (component_links facts) (component_links facts) (e ∷ [])
 
 -- the fact is about an entity of the set, or its value is one
-abbrev is_value_in : List ℕ → Value → Bool
+abbrev pub is_value_in : List ℕ → Value → Bool
 is_value_in set (Ref e) = is_in set e
 is_value_in set v = false
 
-abbrev is_about_set : List ℕ → Datom → Bool
+abbrev pub is_about_set : List ℕ → Datom → Bool
 is_about_set set d = is_in set d.e || is_value_in set d.v
 
 -- found in the database: every value of an attribute, or all that is said of a closed set

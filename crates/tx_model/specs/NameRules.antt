@@ -98,7 +98,7 @@ breaks_not_an_entity db asks = list_any (λ ask. list_any (finds_none db) (names
 
 -- ---- 7: a map inside another lacks what it needs
 
-abbrev is_lacking : Ask → Bool
+abbrev pub is_lacking : Ask → Bool
 is_lacking lacks_id = true
 is_lacking ask = false
 
@@ -107,7 +107,7 @@ breaks_nested_without_id db asks = list_any is_lacking asks
 
 -- ---- 8: it gives an identity value with a holder to a tempid that has identity values of two holders
 
-abbrev gives_one_of_two : Db → List Ask → Ask → Name → Bool
+abbrev pub gives_one_of_two : Db → List Ask → Ask → Name → Bool
 gives_one_of_two db all ask name =
     option_map_or (λ e. list_any (λ other. not (nat_eq other e)) (holders db all name)) (identified db name ask) false
 

@@ -153,3 +153,16 @@ nearly_full = first_at 2147483646 (pos 0)
 
 abbrev pub too_late : List Entry
 too_late = first_at 1 (pos 253402300799999)
+
+abbrev pub nearly_late : List Entry
+nearly_late = first_at 1 (pos 253402300799998)
+
+-- the last user entity has a text
+abbrev pub last_user : List Entry
+last_user =
+    record {
+      t = 0;
+      instant = pos 0;
+      datoms = first_entry.datoms ++ record { e = 18691697672192; a = 7; v = Str (codes "last"); t = 0; added = true } ∷ [];
+    }
+    ∷ []

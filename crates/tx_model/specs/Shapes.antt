@@ -12,7 +12,7 @@ pub data Verb : Type 0 where
   cas : Verb
   retract_entity : Verb
 
-abbrev verb_of : List ℕ → Option Verb
+abbrev pub verb_of : List ℕ → Option Verb
 verb_of k =
     cond (bytes_eq k (codes "db/add")) (Some add)
     (cond (bytes_eq k (codes "db/retract")) (Some retract)
@@ -23,11 +23,11 @@ abbrev pub verb_in : Form → Option Verb
 verb_in (edn.keyword k) = verb_of k
 verb_in f = None
 
-abbrev is_keyword : Form → Bool
+abbrev pub is_keyword : Form → Bool
 is_keyword (edn.keyword k) = true
 is_keyword f = false
 
-abbrev is_string : Form → Bool
+abbrev pub is_string : Form → Bool
 is_string (edn.string s) = true
 is_string f = false
 
@@ -39,7 +39,7 @@ abbrev pub names_an_old_entity : Form → Bool
 names_an_old_entity f = names_an_entity f && not (is_string f)
 
 -- [:db/add e a v], [:db/retract e a v], [:db/retract e a], [:db/cas e a old new] or [:db/retractEntity e], without the verb
-abbrev has_arguments : Option Verb → List Form → Bool
+abbrev pub has_arguments : Option Verb → List Form → Bool
 has_arguments (Some add) (e ∷ a ∷ v ∷ []) = names_an_entity e && is_keyword a
 has_arguments (Some retract) (e ∷ a ∷ v ∷ []) = names_an_old_entity e && is_keyword a
 has_arguments (Some retract) (e ∷ a ∷ []) = names_an_old_entity e && is_keyword a
@@ -47,16 +47,16 @@ has_arguments (Some cas) (e ∷ a ∷ old ∷ new ∷ []) = names_an_old_entity 
 has_arguments (Some retract_entity) (e ∷ []) = names_an_old_entity e
 has_arguments verb arguments = false
 
-abbrev has_list_shape : List Form → Bool
+abbrev pub has_list_shape : List Form → Bool
 has_list_shape [] = false
 has_list_shape (verb ∷ arguments) = has_arguments (verb_in verb) arguments
 
-abbrev is_named_by : Key → Form → Bool
+abbrev pub is_named_by : Key → Form → Bool
 is_named_by own value = names_an_entity value
 is_named_by key value = true
 
 -- a key is a keyword, and the value of `:db/id` names an entity
-abbrev has_pair_shape : Form → Form → Bool
+abbrev pub has_pair_shape : Form → Form → Bool
 has_pair_shape key value = is_keyword key && is_named_by (key_in key) value
 
 abbrev mutual

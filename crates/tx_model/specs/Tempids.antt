@@ -89,7 +89,7 @@ entity_of db names (nameless path) = assigned_to names (nameless path)
 entity_of db names name = found db name
 
 -- the tempids with a name, for the answer
-abbrev with_text : Name → ℕ → Option (List ℕ × ℕ)
+abbrev pub with_text : Name → ℕ → Option (List ℕ × ℕ)
 with_text (tempid s) e = Some (s, e)
 with_text name e = None
 

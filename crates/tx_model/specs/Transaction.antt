@@ -42,7 +42,7 @@ is_change ds d = cond d.added (not (holds_after false ds d.e d.a d.v)) (holds_af
 abbrev pub changes_in : List Datom → List Datom → List Datom
 changes_in ds asked = in_order Eavt (filter (is_change ds) asked)
 
-abbrev with_changes : Db → List (List Ask) → List (Name × ℕ) → List (List Datom) → List (List Datom) → List (List Datom) → List (List Datom) → Transaction
+abbrev pub with_changes : Db → List (List Ask) → List (Name × ℕ) → List (List Datom) → List (List Datom) → List (List Datom) → List (List Datom) → Transaction
 with_changes db asks names added retracted swept replaced =
     let recorded = changes_in (said db.history) (joined added ++ joined retracted ++ joined swept ++ joined replaced) in
     record {
@@ -57,12 +57,12 @@ with_changes db asks names added retracted swept replaced =
       after = standing (said db.history ++ recorded);
     }
 
-abbrev with_names : Db → List (List Ask) → List (Name × ℕ) → Transaction
+abbrev pub with_names : Db → List (List Ask) → List (Name × ℕ) → Transaction
 with_names db asks names =
     let added = map (flat_map (additions db names)) asks in
     with_changes db asks names added (map (flat_map (retractions db names)) asks) (map (flat_map (sweeps db names)) asks) (map (implied db) added)
 
-abbrev with_asks : Db → List (List Ask) → Transaction
+abbrev pub with_asks : Db → List (List Ask) → Transaction
 with_asks db asks = with_names db asks (assigned db (joined asks))
 
 -- the transaction of these forms at the history

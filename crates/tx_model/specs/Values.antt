@@ -28,7 +28,7 @@ if_of_type kind v = cond (is_of_type kind v) (Some v) None
 abbrev pub value_in : ℕ → Form → Option Value
 value_in kind f = option_map_or (if_of_type kind) (read_as kind f) None
 
-abbrev entity_number : ℤ → Option Value
+abbrev pub entity_number : ℤ → Option Value
 entity_number (pos n) = Some (Ref n)
 entity_number (negsuc n) = None
 

@@ -12,50 +12,50 @@ use Rattle.tx_model.specs.Shapes.{Verb, add, retract, cas, retract_entity, verb_
 
 -- ---- what the facts before say of a keyword in an attribute's place
 
-abbrev has_ref : List Datom → List ℕ → Bool
+abbrev pub has_ref : List Datom → List ℕ → Bool
 has_ref facts name = option_map_or (λ attribute. nat_eq attribute.kind type_ref) (attribute_named facts name) false
 
-abbrev has_many : List Datom → List ℕ → Bool
+abbrev pub has_many : List Datom → List ℕ → Bool
 has_many facts name = option_map_or (λ attribute. attribute.many) (attribute_named facts name) false
 
-abbrev has_parts : List Datom → List ℕ → Bool
+abbrev pub has_parts : List Datom → List ℕ → Bool
 has_parts facts name = option_map_or (λ attribute. attribute.component) (attribute_named facts name) false
 
-abbrev has_uniqueness : List Datom → List ℕ → Bool
+abbrev pub has_uniqueness : List Datom → List ℕ → Bool
 has_uniqueness facts name = option_map_or (λ attribute. not (nat_eq attribute.uniqueness 0)) (attribute_named facts name) false
 
 -- ---- values
 
 -- a number, an ident or a tempid under an attribute whose values are entities, and else a plain value
-abbrev scalar : Bool → Form → Part
+abbrev pub scalar : Bool → Form → Part
 scalar true (edn.integer (pos n)) = entity (number (pos n))
 scalar true (edn.keyword k) = entity (ident k)
 scalar true (edn.string s) = entity (tempid s)
 scalar is_ref f = plain f
 
-abbrev lookup_or : Option (List ℕ × Form) → Part → Part
+abbrev pub lookup_or : Option (List ℕ × Form) → Part → Part
 lookup_or None part = part
 lookup_or (Some found) part = entity (lookup found.0 found.1)
 
 -- the value of a list form: a lookup ref too, and a tempid only where the verb adds
-abbrev value_part : Bool → Form → Part
+abbrev pub value_part : Bool → Form → Part
 value_part true (edn.vector fs) = lookup_or (lookup_in fs) (plain (edn.vector fs))
 value_part is_ref f = scalar is_ref f
 
-abbrev old_value_part : Bool → Form → Part
+abbrev pub old_value_part : Bool → Form → Part
 old_value_part is_ref (edn.string s) = plain (edn.string s)
 old_value_part is_ref f = value_part is_ref f
 
 -- ---- list forms
 
-abbrev keyword_in : Form → List ℕ
+abbrev pub keyword_in : Form → List ℕ
 keyword_in (edn.keyword k) = k
 keyword_in f = []
 
-abbrev entity_in : Form → Name
+abbrev pub entity_in : Form → Name
 entity_in f = unwrap_or (name_in f) (nameless [])
 
-abbrev list_asks : List Datom → Option Verb → List Form → List Ask
+abbrev pub list_asks : List Datom → Option Verb → List Form → List Ask
 list_asks facts (Some add) (e ∷ a ∷ v ∷ []) = adds (entity_in e) (keyword_in a) (value_part (has_ref facts (keyword_in a)) v) ∷ []
 list_asks facts (Some retract) (e ∷ a ∷ v ∷ []) = retracts (entity_in e) (keyword_in a) (old_value_part (has_ref facts (keyword_in a)) v) ∷ []
 list_asks facts (Some retract) (e ∷ a ∷ []) = retracts_all (entity_in e) (keyword_in a) ∷ []
@@ -64,14 +64,14 @@ list_asks facts (Some cas) (e ∷ a ∷ old ∷ new ∷ []) =
 list_asks facts (Some retract_entity) (e ∷ []) = retracts_entity (entity_in e) ∷ []
 list_asks facts verb arguments = []
 
-abbrev verb_asks : List Datom → List Form → List Ask
+abbrev pub verb_asks : List Datom → List Form → List Ask
 verb_asks facts [] = []
 verb_asks facts (verb ∷ arguments) = list_asks facts (verb_in verb) arguments
 
 -- ---- maps
 
 -- the entity that the map names by `:db/id`, or its place
-abbrev named_by : Key → Form → Name → Name
+abbrev pub named_by : Key → Form → Name → Name
 named_by own value other = unwrap_or (name_in value) other
 named_by key value other = other
 
@@ -80,27 +80,27 @@ name_of_map path no_pairs = nameless path
 name_of_map path (pair key value rest) = named_by (key_in key) value (name_of_map path rest)
 
 -- the map has `:db/id` or a unique attribute among its keys
-abbrev identifies : List Datom → Key → Bool
+abbrev pub identifies : List Datom → Key → Bool
 identifies facts own = true
 identifies facts (forward name) = has_uniqueness facts name
 identifies facts (backward name) = false
 
-abbrev has_identity : List Datom → Pairs → Bool
+abbrev pub has_identity : List Datom → Pairs → Bool
 has_identity facts no_pairs = false
 has_identity facts (pair key value rest) = identifies facts (key_in key) || has_identity facts rest
 
 -- one value under a key: the map's entity has it, or the entity that is the value has the map's
-abbrev links : Name → Key → Part → List Ask
+abbrev pub links : Name → Key → Part → List Ask
 links self own part = []
 links self (forward name) part = adds self name part ∷ []
 links self (backward name) (entity other) = adds other name (entity self) ∷ []
 links self (backward name) (plain f) = adds self name (plain f) ∷ []
 
 -- a map inside another: the link, what it lacks, and then its own pairs
-abbrev need : Bool → List Ask
+abbrev pub need : Bool → List Ask
 need lacks = cond lacks (lacks_id ∷ []) []
 
-abbrev nested_asks : List Datom → Name → Key → Name → Pairs → List Ask → List Ask
+abbrev pub nested_asks : List Datom → Name → Key → Name → Pairs → List Ask → List Ask
 nested_asks facts self own name ps inner = []
 nested_asks facts self (forward attribute) name ps inner =
     cond (has_ref facts attribute)
@@ -110,7 +110,7 @@ nested_asks facts self (backward attribute) name ps inner =
     adds name attribute (entity self) ∷ (need (not (has_identity facts ps)) ++ inner)
 
 -- a number, an ident, a tempid or a plain value
-abbrev scalar_asks : List Datom → Name → Key → Form → List Ask
+abbrev pub scalar_asks : List Datom → Name → Key → Form → List Ask
 scalar_asks facts self own f = []
 scalar_asks facts self (forward name) f = links self (forward name) (scalar (has_ref facts name) f)
 scalar_asks facts self (backward name) (edn.integer z) = links self (backward name) (entity (number z))
@@ -118,7 +118,7 @@ scalar_asks facts self (backward name) f = links self (backward name) (scalar tr
 
 -- a vector is a lookup ref where its first member names a unique attribute and values are entities; else it is a
 -- collection, where there may be several values; else it stands for a lookup ref that finds no unique attribute, or for no value
-abbrev vector_asks : List Datom → Name → Key → Forms → Option (List ℕ × Form) → List Ask → List Ask
+abbrev pub vector_asks : List Datom → Name → Key → Forms → Option (List ℕ × Form) → List Ask → List Ask
 vector_asks facts self own fs found members = []
 vector_asks facts self (forward name) fs None members = cond (has_many facts name) members (adds self name (plain (edn.vector fs)) ∷ [])
 vector_asks facts self (forward name) fs (Some found) members =
@@ -130,14 +130,14 @@ vector_asks facts self (backward name) fs (Some found) members =
     cond (has_uniqueness facts found.0) (links self (backward name) (entity (lookup found.0 found.1))) members
 
 -- a list is a collection, where there may be several values
-abbrev sequence_asks : List Datom → Name → Key → Form → List Ask → List Ask
+abbrev pub sequence_asks : List Datom → Name → Key → Form → List Ask → List Ask
 sequence_asks facts self own f members = []
 sequence_asks facts self (forward name) f members = cond (has_many facts name) members (adds self name (plain f) ∷ [])
 sequence_asks facts self (backward name) f members = members
 
 -- what a pair asks beside its values: it mentions the attribute; under a reversed name the values of the attribute have to be
 -- entities
-abbrev pair_asks : List Datom → Name → Key → List Ask → List Ask
+abbrev pub pair_asks : List Datom → Name → Key → List Ask → List Ask
 pair_asks facts self own values = []
 pair_asks facts self (forward name) values = mentions name ∷ values
 pair_asks facts self (backward name) values =

@@ -4,6 +4,7 @@
 
 mod clocks;
 mod components;
+mod edges;
 mod lawful;
 mod numbers;
 mod rules;
@@ -12,6 +13,10 @@ mod unique;
 
 pub use clocks::{refusals_do_not_depend_on_the_clock, two_clocks_differ_in_the_instant_alone};
 pub use components::{components_and_references, nested_maps};
+pub use edges::{
+    changes_that_are_allowed, index_there_and_back, names_that_are_known, room_that_is_left,
+    symbols, tempids_that_are_known, what_is_told_of_several_faults,
+};
 pub use lawful::{an_accepted_entry_is_lawful, changes_are_those_of_what_is_asked};
 pub use numbers::{compare_and_set, greatest_and_least_numbers};
 pub use rules::{rules_on_changes, rules_on_names, shapes};

@@ -6,7 +6,7 @@ use Rattle.fb_values.specs.declared.facts.Value.{Value}
 use Rattle.fb_values.specs.declared.facts.Value.TheVariants.{Keyword, Str, Ref, Long, Instant, Bool as Boolean}
 use Rattle.fb_values.specs.declared.indexes.Order.{Order}
 use Rattle.fb_values.specs.declared.indexes.Probe.{Probe}
-use Rattle.fb_model.specs.Numbers.{transaction_of, user_entity, ident, value_type, cardinality, unique, tx_instant, type_long, type_string, cardinality_one, unique_identity}
+use Rattle.fb_model.specs.Numbers.{transaction_of, user_entity, ident, value_type, cardinality, unique, tx_instant, doc, type_long, type_string, cardinality_one, unique_identity}
 use Rattle.fb_model.specs.FirstEntry.{first_entry}
 
 abbrev pub datom : ℕ → ℕ → Value → ℕ → Bool → Datom
@@ -50,6 +50,14 @@ emails =
     ∷ datom (user_entity 4) (user_entity 1) (Str (codes "c@x")) 2 true
     ∷ [])
     ∷ []
+
+-- two transactions that say nothing of their own
+abbrev pub instants : List Entry
+instants = first_entry ∷ entry_at 1 1000 [] ∷ entry_at 2 2000 [] ∷ []
+
+-- the first user entity has a text
+abbrev pub texts : List Entry
+texts = first_entry ∷ entry_at 1 1000 (datom (user_entity 1) doc (Str (codes "hi")) 1 true ∷ []) ∷ []
 
 -- the probe of an order that gives an entity alone, an attribute alone, or an attribute and a value
 abbrev pub entity_probe : Order → ℕ → Probe

@@ -1,0 +1,6 @@
+pub mod Pieces
+pub mod Seeks
+pub mod InLeaves
+pub mod InTrees
+pub mod Making
+pub mod Growing

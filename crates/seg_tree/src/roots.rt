@@ -1,0 +1,54 @@
+//! The four trees of a database.
+ghost use Rattle.std.specs.Prelude.{◌≡◌, ◌≤◌, ◌^◌, IfOk};
+ghost use Rattle.seg_tree.specs.Ids.{next_above};
+
+use crate::tree::Tree;
+use fb_memory::Memory;
+use fb_values::Order;
+
+/// A tree for each of the four orders.
+#[derive(Drop)]
+pub struct Roots {
+    pub eavt: Tree,
+    pub aevt: Tree,
+    pub avet: Tree,
+    pub vaet: Tree,
+}
+
+impl Roots {
+    ghost use Rattle.seg_tree.specs.Indexes.{tree_in, root_ids};
+
+    pub fn tree(&self, order: Order) -> &Tree
+        ensures { result.now ≡ tree_in self.now order }
+    {
+        match order {
+            Order::Eavt => &self.eavt,
+            Order::Aevt => &self.aevt,
+            Order::Avet => &self.avet,
+            Order::Vaet => &self.vaet,
+        }
+    }
+
+    /// The same trees, ids included.
+    pub fn share(&self) -> Result<Roots, Memory>
+        ensures { IfOk result (λ roots. roots ≡ self.now) }
+    {
+        Ok(Roots {
+            eavt: self.eavt.share()?,
+            aevt: self.aevt.share()?,
+            avet: self.avet.share()?,
+            vaet: self.vaet.share()?,
+        })
+    }
+
+    /// The least number, from 1 on, that is above the ids of all nodes.
+    #[tactic(auto, using(crate::proofs::Making::next_above_append))]
+    pub fn next_id(&self) -> u64
+        ensures next { result ≡ next_above (root_ids self.now) }
+        ensures small { result ≤ 2 ^ 62 }
+    {
+        let by_entity = self.eavt.next_id().max(self.aevt.next_id());
+        let by_value = self.avet.next_id().max(self.vaet.next_id());
+        by_entity.max(by_value)
+    }
+}
