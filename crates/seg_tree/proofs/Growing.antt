@@ -1,5 +1,5 @@
 -- A tree in the making, after one leaf or one directory more.
-use Rattle.std.proofs.Common.{◌≡◌, ℕ, zero, suc, ◌+◌, ◌-◌, ◌<◌, ◌≤◌, ◌^◌, Bool, true, false, cond, List, [], ◌∷◌, ◌++◌, length, map, refl, sym, ap, ◌∙◌, arith, append_assoc, append-nil, inl, inr}
+use Rattle.std.proofs.Common.{◌≡◌, ℕ, zero, suc, ◌+◌, ◌-◌, ◌<◌, ◌≤◌, ◌^◌, Bool, true, false, cond, List, [], ◌∷◌, ◌++◌, length, refl, sym, ap, ◌∙◌, arith, append_assoc, append-nil, inl, inr}
 use Rattle.std.specs.Prelude.{filter}
 use Rattle.std.specs.List.{range_with_len}
 use Rattle.std.proofs.lemmas.List.FromFn.{length-range_with_len}
@@ -7,9 +7,9 @@ use Rattle.std.proofs.lemmas.Bool.{cases_lt, lt-ltb, le-ltb, le-leb, lt-leb}
 use Rattle.std.proofs.lemmas.List.{map-append}
 use Rattle.std.proofs.lemmas.List.Elements.{filter-append}
 use Rattle.fb_values.specs.declared.facts.Datom.{Datom}
-use Rattle.seg_tree.specs.Nodes.{LeafNode, DirectoryNode, leaf_datoms, tree_datoms, tree_leaves}
-use Rattle.seg_tree.specs.Ids.{leaf_ids, directory_ids, node_ids, is_new, is_old, AreNumbered, old_leaves}
-use Rattle.seg_tree.specs.Built.{Build, leaves_in, ids_in, build_of, IsGrowing, IsBuilt}
+use Rattle.seg_tree.specs.Nodes.{LeafNode, DirectoryNode, leaf_datoms, tree_leaves}
+use Rattle.seg_tree.specs.Ids.{leaf_ids, node_ids, is_new, is_old, AreNumbered, old_leaves}
+use Rattle.seg_tree.specs.Built.{leaves_in, ids_in, build_of, IsGrowing, IsBuilt}
 use Rattle.seg_tree.proofs.Making.{node_ids-push, tree_leaves-push, leaf_datoms-append, tree_datoms-leaves}
 
 range-push : (a n : ℕ) → range_with_len a n ++ (a + n) ∷ [] ≡ range_with_len a (suc n)

@@ -1,5 +1,5 @@
 -- Places in the leaves of a directory.
-use Rattle.std.proofs.Common.{◌≡◌, ℕ, zero, suc, ◌+◌, ◌-◌, ◌<◌, ◌≤◌, ◌^◌, List, [], ◌∷◌, ◌++◌, length, map, take, refl, sym, ap, ◌∙◌, subst, arith, Option, Some, None, add-one, inl, inr}
+use Rattle.std.proofs.Common.{◌≡◌, ℕ, zero, suc, ◌+◌, ◌-◌, ◌<◌, ◌≤◌, List, [], ◌∷◌, length, map, take, refl, ap, ◌∙◌, subst, arith, Some, None, add-one, inl, inr}
 use Rattle.std.specs.List.{slice_get, All}
 use Rattle.std.specs.Option.{option_map}
 use Rattle.std.proofs.lemmas.Option.{slice_get-map, slice_get_within, get_or_from_slice_get, slice_get_cases}
@@ -9,11 +9,11 @@ use Rattle.fb_search.specs.Rising.{IsRising}
 use Rattle.fb_search.specs.Places.{place_of}
 use Rattle.fb_search.proofs.Below.{place_of-le-length}
 use Rattle.fb_search.proofs.Ends.{rising-append_left, rising-append_right}
-use Rattle.seg_tree.specs.Chunks.{joined, AreFirsts, chunk_rank}
+use Rattle.seg_tree.specs.Chunks.{joined, AreFirsts}
 use Rattle.seg_tree.specs.Nodes.{LeafNode, DirectoryNode, leaf_datoms}
 use Rattle.seg_tree.specs.Ranks.{leaf_rank, IsInside}
-use Rattle.seg_tree.proofs.Pieces.{in_piece, get-chunk_rank, chunk_rank-inside, chunk_rank-past, chunk_rank-none, chunk_rank-next, chunk_rank-start, chunk_rank-first, joined-take}
-use Rattle.seg_tree.proofs.Seeks.{place_of-none, place_of-piece}
+use Rattle.seg_tree.proofs.Pieces.{in_piece, get-chunk_rank, chunk_rank-inside, chunk_rank-past, chunk_rank-none, chunk_rank-next, chunk_rank-start, joined-take}
+use Rattle.seg_tree.proofs.Seeks.{place_of-piece}
 
 abbrev pub pieces : List LeafNode → List (List Datom)
 pieces leaves = map (λ leaf. leaf.datoms) leaves

@@ -1,5 +1,5 @@
 -- Places in the directories of a tree.
-use Rattle.std.proofs.Common.{◌≡◌, ℕ, zero, suc, ◌+◌, ◌-◌, ◌<◌, ◌≤◌, min, List, [], ◌∷◌, ◌++◌, length, map, take, refl, sym, ap, ◌∙◌, subst, arith, Option, Some, None, add-one, inl, inr}
+use Rattle.std.proofs.Common.{◌≡◌, ℕ, zero, suc, ◌+◌, ◌-◌, ◌<◌, ◌≤◌, min, List, [], ◌∷◌, length, map, take, refl, sym, ap, ◌∙◌, subst, arith, Some, None, add-one, inl, inr}
 use Rattle.std.specs.List.{slice_get}
 use Rattle.std.specs.Option.{option_map, option_map_or}
 use Rattle.std.proofs.lemmas.Option.{slice_get-map, slice_get_cases}
@@ -8,12 +8,12 @@ use Rattle.fb_values.specs.declared.indexes.Probe.{Probe}
 use Rattle.fb_search.specs.Rising.{IsRising}
 use Rattle.fb_search.specs.Places.{place_of}
 use Rattle.fb_search.proofs.Ends.{rising-append_left, rising-append_right}
-use Rattle.seg_tree.specs.Chunks.{joined, AreFirsts, chunk_rank}
+use Rattle.seg_tree.specs.Chunks.{joined, chunk_rank}
 use Rattle.seg_tree.specs.Nodes.{LeafNode, DirectoryNode, leaf_datoms, tree_datoms, StartsFull, IsRoot}
-use Rattle.seg_tree.specs.Ranks.{leaf_rank, rank, IsInside}
+use Rattle.seg_tree.specs.Ranks.{leaf_rank, rank}
 use Rattle.seg_tree.specs.declared.tree.Place.{Place}
-use Rattle.seg_tree.proofs.Pieces.{in_piece, get-chunk_rank, chunk_rank-inside, chunk_rank-past, chunk_rank-none, chunk_rank-next, chunk_rank-first, joined-take, chunk_rank-le}
-use Rattle.seg_tree.proofs.Seeks.{place_of-none, place_of-piece}
+use Rattle.seg_tree.proofs.Pieces.{in_piece, get-chunk_rank, chunk_rank-inside, chunk_rank-past, chunk_rank-none, chunk_rank-next, chunk_rank-first, chunk_rank-le}
+use Rattle.seg_tree.proofs.Seeks.{place_of-piece}
 use Rattle.seg_tree.proofs.InLeaves.{all_read}
 
 abbrev pub parts : List DirectoryNode → List (List Datom)

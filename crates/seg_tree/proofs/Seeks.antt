@@ -1,5 +1,5 @@
 -- A seek goes to the last piece whose first datom is below the probe.
-use Rattle.std.proofs.Common.{◌≡◌, ℕ, zero, suc, ◌+◌, ◌<◌, ◌≤◌, Bool, true, false, cond, List, [], ◌∷◌, ◌++◌, length, take, refl, sym, ap, ◌∙◌, subst, arith, append-nil, length-append, Option, Some, None, inl, inr, ◌⊎◌}
+use Rattle.std.proofs.Common.{◌≡◌, ℕ, zero, suc, ◌+◌, true, false, List, [], ◌∷◌, ◌++◌, length, take, refl, subst, arith, append-nil, length-append, Some, inl, inr}
 use Rattle.std.specs.List.{slice_get}
 use Rattle.std.proofs.lemmas.Bool.{cases_Bool}
 use Rattle.std.specs.declared.cmp.Ordering.TheVariants.{Less}
@@ -9,8 +9,8 @@ use Rattle.fb_values.specs.declared.indexes.Probe.{Probe}
 use Rattle.fb_values.specs.Orders.{key_cmp}
 use Rattle.fb_search.specs.Rising.{StandsBefore, IsRising}
 use Rattle.fb_search.specs.Places.{is_below, place_of}
-use Rattle.fb_search.proofs.Ends.{rising-append_left, rising-append_right, place_of-behind, place_of-before}
-use Rattle.seg_tree.specs.Chunks.{joined, BeginsWith, AreFirsts, chunk_rank}
+use Rattle.fb_search.proofs.Ends.{rising-append_right, place_of-behind, place_of-before}
+use Rattle.seg_tree.specs.Chunks.{joined, AreFirsts}
 
 -- the first datoms of a rising list's pieces rise
 behind : (order : Order) (d : Datom) (xs ys : List Datom) → StandsBefore order d (xs ++ ys) → StandsBefore order d ys

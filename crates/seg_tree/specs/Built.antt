@@ -1,6 +1,6 @@
 -- Trees that are made from left to right, of leaves of an older tree and of new ones.
 -- This project's own choice.
-use Rattle.std.specs.Prelude.{◌≡◌, ◌<◌, ◌≤◌, ◌^◌, ℕ, List, ◌++◌, length, filter}
+use Rattle.std.specs.Prelude.{◌≡◌, ◌≤◌, ◌^◌, ℕ, List, ◌++◌, filter}
 use Rattle.fb_values.specs.declared.facts.Datom.{Datom}
 use Rattle.seg_tree.specs.Nodes.{LeafNode, DirectoryNode, leaf_datoms, tree_datoms, tree_leaves}
 use Rattle.seg_tree.specs.Ids.{leaf_ids, node_ids, is_old, AreNumbered, old_leaves}

@@ -1,6 +1,6 @@
 -- The ids of a segment tree's nodes, and the ids that new nodes get.
 -- This project's own choice.
-use Rattle.std.specs.Prelude.{◌≡◌, ◌≤◌, ◌+◌, ◌-◌, ◌^◌, ℕ, Bool, List, [], ◌∷◌, ◌++◌, length, map, filter, max, nat_lt, nat_le}
+use Rattle.std.specs.Prelude.{◌≡◌, ◌+◌, ◌-◌, ℕ, Bool, List, [], ◌∷◌, ◌++◌, length, map, filter, max, nat_lt, nat_le}
 use Rattle.std.specs.List.{range_with_len}
 use Rattle.seg_tree.specs.Nodes.{LeafNode, DirectoryNode}
 

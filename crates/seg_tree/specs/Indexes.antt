@@ -1,6 +1,6 @@
 -- The four segment trees of a database.
 -- Restates Indexes of Datomic's documentation (the four indexes).
-use Rattle.std.specs.Prelude.{ℕ, List, ◌++◌, max}
+use Rattle.std.specs.Prelude.{ℕ, List, ◌++◌}
 use Rattle.fb_values.specs.declared.indexes.Order.{Order}
 use Rattle.fb_values.specs.declared.indexes.Order.TheVariants.{Eavt, Aevt, Avet, Vaet}
 use Rattle.fb_search.specs.Lists.{Lists}

@@ -1,8 +1,8 @@
 use Rattle.std.proofs.Common.{◌≡◌, ◌+◌, ◌<◌, ◌^◌, ◌++◌, ◌∷◌, [], List, map, subst, sym, ap, ◌∙◌, arith}
 use Rattle.std.specs.Arc.{arc_value}
 use Rattle.std.proofs.lemmas.List.{map-append}
-use Rattle.seg_tree.specs.Nodes.{LeafNode, DirectoryNode}
-use Rattle.seg_tree.specs.Built.{Build, build_of, IsGrowing}
+use Rattle.seg_tree.specs.Nodes.{DirectoryNode}
+use Rattle.seg_tree.specs.Built.{build_of, IsGrowing}
 use Rattle.seg_tree.proofs.Growing.{growing_closed, build_closed}
 use Rattle.seg_tree.proofs.build.close.Goals as goal
 

@@ -3,7 +3,7 @@ use Rattle.std.specs.Prelude.{IfOk}
 use Rattle.std.specs.Arc.{arc_value}
 use Rattle.std.proofs.lemmas.List.{map-append}
 use Rattle.fb_values.specs.declared.facts.Datom.{Datom}
-use Rattle.seg_tree.specs.Nodes.{LeafNode, DirectoryNode}
+use Rattle.seg_tree.specs.Nodes.{LeafNode}
 use Rattle.seg_tree.specs.Built.{Build, build_of, IsGrowing}
 use Rattle.seg_tree.proofs.Growing.{growing_new, build_new}
 use Rattle.seg_tree.proofs.build.Builder.add_leaf.Goals as goal

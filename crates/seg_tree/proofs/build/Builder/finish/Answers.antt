@@ -1,7 +1,7 @@
-use Rattle.std.proofs.Common.{◌≡◌, [], List, map, subst, sym, ap, ◌∙◌}
+use Rattle.std.proofs.Common.{◌≡◌, [], List, map, subst, sym, ◌∙◌}
 use Rattle.std.specs.Arc.{arc_value}
-use Rattle.seg_tree.specs.Nodes.{LeafNode, DirectoryNode}
-use Rattle.seg_tree.specs.Built.{Build, build_of, IsGrowing, IsBuilt}
+use Rattle.seg_tree.specs.Nodes.{DirectoryNode}
+use Rattle.seg_tree.specs.Built.{Build, build_of, IsBuilt}
 use Rattle.seg_tree.proofs.Growing.{is_built}
 use Rattle.seg_tree.proofs.build.Builder.finish.Goals as goal
 

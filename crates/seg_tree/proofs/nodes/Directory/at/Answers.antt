@@ -1,4 +1,4 @@
-use Rattle.std.proofs.Common.{◌≡◌, ◌∙◌, sym, ap, List}
+use Rattle.std.proofs.Common.{◌∙◌, sym, ap, List}
 use Rattle.std.specs.List.{slice_get}
 use Rattle.fb_values.specs.declared.facts.Datom.{Datom}
 use Rattle.seg_tree.proofs.InLeaves.{at_leaf, at_no_leaf}

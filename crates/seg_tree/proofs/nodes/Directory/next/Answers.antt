@@ -1,4 +1,4 @@
-use Rattle.std.proofs.Common.{◌≡◌, ◌+◌, ◌≤◌, ◌<◌, sym, arith, length}
+use Rattle.std.proofs.Common.{◌+◌, ◌≤◌, ◌<◌, sym, arith, length}
 use Rattle.std.proofs.lemmas.Option.{slice_get_within}
 use Rattle.seg_tree.proofs.InLeaves.{rank_no_leaf, rank_past, rank_step, rank_within, rank_next_leaf, inside_start, firsts_of, few_of}
 use Rattle.seg_tree.proofs.nodes.Directory.next.Goals as goal

@@ -1,10 +1,9 @@
 use Rattle.std.proofs.Common.{◌≡◌, ◌+◌, ◌-◌, ◌<◌, ◌≤◌, ◌^◌, ◌∙◌, sym, ap, arith, length, take, List}
-use Rattle.std.specs.List.{slice_get}
 use Rattle.fb_values.specs.declared.facts.Datom.{Datom}
 use Rattle.fb_search.specs.Places.{place_of}
 use Rattle.fb_search.proofs.Below.{place_of-le-length}
 use Rattle.seg_tree.specs.Chunks.{joined}
-use Rattle.seg_tree.specs.Nodes.{LeafNode, leaf_datoms}
+use Rattle.seg_tree.specs.Nodes.{LeafNode}
 use Rattle.seg_tree.specs.Ranks.{leaf_rank}
 use Rattle.seg_tree.proofs.Pieces.{firsts_length, chunk_rank-first}
 use Rattle.seg_tree.proofs.Seeks.{rising_firsts, place_of-none}

@@ -1,4 +1,4 @@
-use Rattle.std.proofs.Common.{◌≡◌, ◌∙◌, sym}
+use Rattle.std.proofs.Common.{◌∙◌, sym}
 use Rattle.seg_tree.proofs.InTrees.{at_directory, at_no_directory}
 use Rattle.seg_tree.proofs.tree.Root.at.Goals as goal
 

@@ -1,4 +1,4 @@
-use Rattle.std.proofs.Common.{◌≡◌, sym, arith}
+use Rattle.std.proofs.Common.{sym, arith}
 use Rattle.seg_tree.proofs.InTrees.{rank_none, rank_end, rank_step}
 use Rattle.seg_tree.proofs.tree.Root.next.Goals as goal
 

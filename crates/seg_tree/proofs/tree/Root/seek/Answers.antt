@@ -1,5 +1,5 @@
-use Rattle.std.proofs.Common.{◌≡◌, ◌+◌, ◌-◌, ◌<◌, ◌≤◌, ◌^◌, ◌∙◌, sym, ap, arith, length, take, List}
-use Rattle.std.specs.List.{slice_get, All}
+use Rattle.std.proofs.Common.{◌+◌, ◌-◌, ◌<◌, ◌^◌, ◌∙◌, sym, ap, arith, length, take, List}
+use Rattle.std.specs.List.{All}
 use Rattle.fb_values.specs.declared.facts.Datom.{Datom}
 use Rattle.fb_search.specs.Places.{place_of}
 use Rattle.fb_search.proofs.Below.{place_of-le-length}

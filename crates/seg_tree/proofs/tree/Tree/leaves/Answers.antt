@@ -1,4 +1,4 @@
-use Rattle.std.proofs.Common.{◌≡◌, ◌++◌, List, get_or, map, take, sym, ap, ◌∙◌}
+use Rattle.std.proofs.Common.{◌++◌, List, map, take, sym, ap, ◌∙◌}
 use Rattle.std.specs.Arc.{arc_value}
 use Rattle.seg_tree.specs.Nodes.{LeafNode, DirectoryNode, tree_leaves}
 use Rattle.seg_tree.proofs.Making.{leaves_more}

@@ -1,4 +1,4 @@
-use Rattle.std.proofs.Common.{◌≡◌, ◌++◌, [], ◌∙◌, ap, subst}
+use Rattle.std.proofs.Common.{◌++◌, ◌∙◌, ap, subst}
 use Rattle.seg_tree.specs.Built.{Build, IsBuilt}
 use Rattle.seg_tree.proofs.Growing.{in_row}
 use Rattle.seg_tree.proofs.tree.Tree.of.Goals as goal
