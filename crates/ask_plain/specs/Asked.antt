@@ -1,6 +1,6 @@
 -- The names, the parts and the asks of the plain program, as the definitions see them. This project's own choice.
 use Rattle.std.specs.Prelude.{List, map}
-use Rattle.edn_core.specs.View.{form_of}
+use Rattle.edn_form.specs.View.{form_of}
 use Rattle.tx_model.specs.Asks as model
 use Rattle.ask_plain.specs.declared.asks.Name.{Name}
 use Rattle.ask_plain.specs.declared.asks.Name.TheVariants.{Number, Ident, Lookup, Tempid, Nameless}

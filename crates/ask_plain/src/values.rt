@@ -3,7 +3,7 @@ ghost use Rattle.std.specs.Prelude.{◌≡◌, IfOk};
 ghost use Rattle.fb_model.specs.Numbers.{is_instant as model_is_instant};
 ghost use Rattle.fb_model.specs.Types as types;
 ghost use Rattle.tx_model.specs.Values as values;
-ghost use Rattle.edn_core.specs.View.{form_of};
+ghost use Rattle.edn_form.specs.View.{form_of};
 
 use crate::words::{is_keyword_text, is_symbol_text, is_uri_text};
 use edn_core::Edn;

@@ -3,4 +3,3 @@ pub mod Inside
 pub mod Keywords
 pub mod Next
 pub mod Splits
-pub mod Views

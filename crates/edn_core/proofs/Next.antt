@@ -14,10 +14,10 @@ use Rattle.edn_model.proofs.Unique.{begins, begins_stop}
 use Rattle.edn_model.proofs.Places.{read_splits, one_reading, no_form_in_blank, no_fault_in_blank, one_fault}
 use Rattle.edn_core.specs.Answers.{MatchAnswer}
 use Rattle.edn_core.specs.Fronts.{HasFront, NoFront}
-use Rattle.edn_core.specs.View.{form_of}
+use Rattle.edn_form.specs.View.{form_of}
 use Rattle.edn_core.specs.declared.fault.EdnFault.{EdnFault}
 use Rattle.edn_core.specs.declared.fault.EdnFault.TheVariants.{Bad, Memory}
-use Rattle.edn_core.specs.declared.form.Edn.{Edn}
+use Rattle.edn_form.specs.declared.form.Edn.{Edn}
 use Rattle.edn_core.proofs.Fronts.{has_front}
 use Rattle.edn_core.proofs.Inside.{front_moves}
 

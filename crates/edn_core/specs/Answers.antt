@@ -4,8 +4,8 @@ use Rattle.std.specs.Prelude.{ℕ, Option, Some, None, Result, Ok, Err}
 use Rattle.edn_model.specs.Form.{Form}
 use Rattle.edn_core.specs.declared.fault.EdnFault.{EdnFault}
 use Rattle.edn_core.specs.declared.fault.EdnFault.TheVariants.{Bad, Memory}
-use Rattle.edn_core.specs.declared.form.Edn.{Edn}
-use Rattle.edn_core.specs.View.{form_of}
+use Rattle.edn_form.specs.declared.form.Edn.{Edn}
+use Rattle.edn_form.specs.View.{form_of}
 
 -- a fact of the form and the place behind its text, one where there is none, and one of the byte of a fault; want of
 -- memory says nothing

@@ -4,8 +4,8 @@ use Rattle.std.specs.Prelude.{ℕ, ◌≤◌, ◌==◌, Bool, false, Option, Som
 use Rattle.fb_memory.specs.declared.Memory.{Memory}
 use Rattle.edn_model.specs.Form.{Form}
 use Rattle.edn_model.specs.Text.{EndsBefore, IsTextWithin}
-use Rattle.edn_core.specs.declared.form.Edn.{Edn}
-use Rattle.edn_core.specs.View.{form_of}
+use Rattle.edn_form.specs.declared.form.Edn.{Edn}
+use Rattle.edn_form.specs.View.{form_of}
 
 -- this byte comes first
 abbrev pub begins_with : ℕ → List ℕ → Bool

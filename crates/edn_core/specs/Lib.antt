@@ -1,3 +1,2 @@
 pub mod Answers
 pub mod Fronts
-pub mod View

@@ -2,14 +2,12 @@
 #![tactic(auto)]
 
 mod fault;
-mod form;
 mod read;
 mod scan;
 
+pub use edn_form::{Edn, Items, Pairs, Text};
 pub use fault::EdnFault;
 pub use fb_memory::Memory;
-pub use fb_values::Text;
-pub use form::{Edn, Items, Pairs};
 pub use read::{is_keyword, read_form};
 
 #[cfg(test)]

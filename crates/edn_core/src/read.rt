@@ -7,10 +7,10 @@ ghost use Rattle.edn_core.specs.Answers.{MatchAnswer};
 ghost use Rattle.edn_core.specs.Fronts.{FrontIs};
 
 use crate::fault::EdnFault;
-use crate::form::{Edn, Items};
 use crate::scan::{
     begins_with, split_blank, split_keyword, split_letters, split_plain, token_ends,
 };
+use edn_form::{Edn, Items};
 use fb_memory::Memory;
 use fb_values::Text;
 use std::alloc::Global;

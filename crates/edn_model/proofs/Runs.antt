@@ -35,7 +35,7 @@ heads e = cc
 pub tails : {a b : ℕ} {x y : List ℕ} → a ∷ x ≡ b ∷ y → x ≡ y
 tails e = cc
 
-stop_differs : (test : ℕ → Bool) (b : ℕ) (x rest : List ℕ) → Stops test x → x ≡ b ∷ rest → test b ≡ true → ⊥
+pub stop_differs : (test : ℕ → Bool) (b : ℕ) (x rest : List ℕ) → Stops test x → x ≡ b ∷ rest → test b ≡ true → ⊥
 stop_differs test b [] rest stops e h = cc
 stop_differs test b (c ∷ x) rest stops e h =
     let same : test c ≡ test b = ap test (heads e) in cc

@@ -44,3 +44,12 @@ pairs (p ∷ ps) = pair p.0 p.1 (pairs ps)
 abbrev pub items : Forms → List Form
 items no_forms = []
 items (form f fs) = f ∷ items fs
+
+-- the forms, and one behind them
+abbrev pub with_last : Forms → Form → Forms
+with_last no_forms g = form g no_forms
+with_last (form f fs) g = form f (with_last fs g)
+
+abbrev pub with_last_pair : Pairs → Form → Form → Pairs
+with_last_pair no_pairs k v = pair k v no_pairs
+with_last_pair (pair l w ps) k v = pair l w (with_last_pair ps k v)

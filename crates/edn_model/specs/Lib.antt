@@ -1,4 +1,14 @@
+pub mod Bytes
+pub mod Canon
+pub mod Faults
 pub mod Form
+pub mod Grammar
+pub mod Instants
+pub mod Likeness
+pub mod Readable
 pub mod Reading
 pub mod Runs
+pub mod Steps
 pub mod Text
+pub mod Tokens
+pub mod Uuids

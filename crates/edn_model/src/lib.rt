@@ -8,6 +8,9 @@ ghost use Rattle.edn_model.specs.Text.{IsTextOf};
 ghost use Rattle.edn_model.specs.Reading.{ReadsForm, OnlyBlank, NoFormAt};
 
 pub mod examples;
+pub mod printing;
+pub mod reading;
+pub mod worked;
 
 /// A text is the text of one form.
 pub fn one_form_a_text()

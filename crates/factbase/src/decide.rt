@@ -4,7 +4,7 @@ ghost use Rattle.std.specs.Option.{option_map};
 ghost use Rattle.std.specs.Int.{int_max};
 ghost use Rattle.fb_model.specs.Numbers.{greatest_t, least_instant, greatest_instant};
 ghost use Rattle.fb_model.specs.History.{into_range};
-ghost use Rattle.edn_core.specs.View.{form_of, forms_of};
+ghost use Rattle.edn_form.specs.View.{form_of, forms_of};
 ghost use Rattle.script_model.specs.Step.{is_key, text_in, members_in, naming_of, change_of, asked_of, asked_in, longest_text, own_tempid};
 ghost use Rattle.factbase.specs.Asked.{IsNaming};
 ghost use Rattle.factbase.specs.Heads.{instant_datom, text_datom, entry_after};

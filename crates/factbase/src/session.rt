@@ -2,7 +2,7 @@
 ghost use Rattle.std.specs.Prelude.{◌≡◌, ◌≤◌, ◌<◌, ◌+◌, IsTrue, IfOk, IfErr, OnOk, OnErr, vec_len, vec_capacity, length, int_lt};
 ghost use Rattle.fb_model.specs.Numbers.{greatest_t, greatest_instant};
 ghost use Rattle.fb_model.specs.History.{basis};
-ghost use Rattle.edn_core.specs.View.{form_of};
+ghost use Rattle.edn_form.specs.View.{form_of};
 ghost use Rattle.script_model.specs.Prefixes.{Prefixes};
 ghost use Rattle.factbase.specs.Taken.{longest_script};
 ghost use Rattle.factbase.specs.Headline.{Replies, SourceCount, SinkCount};

@@ -2,10 +2,10 @@ use Rattle.std.proofs.Common.{◌+◌, ◌-◌, ◌∷◌, [], ◌++◌, Ok, tak
 use Rattle.std.proofs.lemmas.List.{map-append}
 use Rattle.edn_model.specs.Form.{vector, forms}
 use Rattle.edn_core.specs.Fronts.{FrontIs, HasFront}
-use Rattle.edn_core.specs.View.{form_of, forms_of}
+use Rattle.edn_form.specs.View.{form_of, forms_of}
 use Rattle.edn_core.proofs.Fronts.{cut}
 use Rattle.edn_core.proofs.Inside.{Passed, passed_blank, passed_item, vector_there, no_vector}
-use Rattle.edn_core.proofs.Views.{form_of-Vector}
+use Rattle.edn_form.proofs.Views.{form_of-Vector}
 use Rattle.edn_core.proofs.read.+read.Goals as goal
 
 pub vector_front-returns-then-begins_with : goal.vector_front-returns-then-begins_with

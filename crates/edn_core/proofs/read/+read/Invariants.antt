@@ -1,5 +1,5 @@
 use Rattle.std.proofs.Common.{◌+◌, ◌*◌, length}
-use Rattle.edn_core.specs.View.{forms_of}
+use Rattle.edn_form.specs.View.{forms_of}
 use Rattle.edn_core.proofs.Inside.{Passed}
 use Rattle.edn_core.proofs.read.+read.Given as goal
 

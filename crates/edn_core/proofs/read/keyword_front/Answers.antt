@@ -2,7 +2,7 @@ use Rattle.std.proofs.Common.{◌+◌, ◌∷◌, length, ◌∙◌, sym, ap, su
 use Rattle.edn_model.specs.Form.{keyword}
 use Rattle.edn_core.specs.Fronts.{HasFront}
 use Rattle.edn_core.proofs.Fronts.{keyword_there, no_keyword, keyword_utf8}
-use Rattle.edn_core.proofs.Views.{form_of-Key}
+use Rattle.edn_form.proofs.Views.{form_of-Key}
 use Rattle.edn_core.proofs.read.keyword_front.Goals as goal
 use Rattle.edn_core.proofs.read.keyword_front.Goals.{then-not-is_keyword-via-then-not-is_keyword, then-not-is_keyword-via-else-not-is_keyword+then-not-token_ends}
 

@@ -2,7 +2,7 @@ use Rattle.std.proofs.Common.{◌+◌, ◌∷◌, length, ◌∙◌, sym, ap, su
 use Rattle.edn_model.specs.Form.{string}
 use Rattle.edn_core.specs.Fronts.{HasFront}
 use Rattle.edn_core.proofs.Fronts.{string_there, no_string}
-use Rattle.edn_core.proofs.Views.{form_of-Str}
+use Rattle.edn_form.proofs.Views.{form_of-Str}
 use Rattle.edn_core.proofs.read.string_front.Goals as goal
 
 pub returns-then-not-begins_with : goal.returns-then-not-begins_with

@@ -1,5 +1,5 @@
 use Rattle.std.proofs.Common.{refl}
-use Rattle.edn_core.proofs.Views.{form_of-Vector, items-forms}
+use Rattle.edn_form.proofs.Views.{form_of-Vector, items-forms}
 use Rattle.factbase.proofs.decide.members_in.Goals as goal
 
 pub returns-in-Vector : goal.returns-in-Vector

@@ -1,5 +1,5 @@
 use Rattle.std.proofs.Common.{◌<◌, ◌∙◌, refl, arith}
-use Rattle.edn_core.specs.View.{form_of}
+use Rattle.edn_form.specs.View.{form_of}
 use Rattle.fb_model.specs.Numbers.{greatest_t}
 use Rattle.fb_model.specs.History.{basis}
 use Rattle.factbase.proofs.TalkingOn.{talk-opened, talk-replied, talk-done, talk-bad, talk-memory, talk-stops}

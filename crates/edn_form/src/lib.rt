@@ -1,0 +1,8 @@
+//! EDN as data: a form, its members and its pairs.
+#![tactic(auto)]
+
+mod form;
+
+pub use fb_memory::Memory;
+pub use fb_values::Text;
+pub use form::{Edn, Items, Pairs};

@@ -1,0 +1,5 @@
+pub mod DateParts
+pub mod FractionBounds
+pub mod FrontDigits
+pub mod InstantParts
+pub mod TimeParts

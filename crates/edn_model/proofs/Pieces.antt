@@ -1,0 +1,44 @@
+-- Pieces of the worked examples.
+use Rattle.std.proofs.Common.{◌≡◌, ℕ, zero, suc, ◌+◌, ◌<◌, ◌≤◌, Bool, false, nat_lt, List, [], ◌∷◌, ◌++◌, length, get_or, replicate, pos, refl, arith, inl, IsTrue}
+use Rattle.std.proofs.lemmas.Str.{IsUtf8-from_ascii}
+use Rattle.std.proofs.lemmas.Bool.Decides.{nat_tests}
+use Rattle.std.specs.Str.{IsUtf8}
+use Rattle.edn_model.specs.Form as form
+use Rattle.edn_model.specs.Bytes.{colon, open_bracket, is_name_byte, is_plain, Each, TokenEnds}
+use Rattle.edn_model.specs.Tokens.{IsDecimal, unsigned, is_long, begins_keyword, Spells, nothing, plain}
+use Rattle.edn_model.specs.Grammar.{no_gap, Text, atom, no_members, max_depth}
+use Rattle.edn_model.specs.Faults.{Open, in_vector, wants_string, depth_of, Stands, inside}
+use Rattle.edn_model.proofs.Runs.{Each-tail}
+
+abbrev pub is_ascii : ℕ → Bool
+is_ascii b = nat_lt b 128
+
+ascii_bytes : (bytes : List ℕ) → Each is_ascii bytes → (i : ℕ) → get_or bytes i 0 < 128
+ascii_bytes [] h i = omega arith
+ascii_bytes (x ∷ bytes) h zero = let first = (Each-tail is_ascii x bytes h).0 in grind (arith, nat_tests)
+ascii_bytes (x ∷ bytes) h (suc i) = ascii_bytes bytes (Each-tail is_ascii x bytes h).1 i
+
+pub ascii_utf8 : (bytes : List ℕ) → Each is_ascii bytes → IsUtf8 bytes
+ascii_utf8 bytes h = IsUtf8-from_ascii bytes (ascii_bytes bytes h)
+
+-- bytes that stand for themselves
+pub spelled_plain : (text rest : List ℕ) → Each is_plain text → Spells (text ++ rest) text rest
+spelled_plain [] rest h = nothing
+spelled_plain (b ∷ text) rest h = let parts = Each-tail is_plain b text h in plain parts.0 (spelled_plain text rest parts.1)
+
+-- an unsigned integer of more than one digit, or not 0
+pub int_text : (depth n : ℕ) (digits rest : List ℕ) → IsDecimal n digits → IsTrue (is_long (pos n)) → TokenEnds rest → Text depth (form.integer (pos n)) (digits ++ rest) rest
+int_text depth n digits rest is fits ends = atom digits (unsigned is refl, fits) refl ends
+
+pub key_text : (depth : ℕ) (k rest : List ℕ) → 0 < length k → Each is_name_byte k → IsTrue (begins_keyword k) → Each is_ascii k → TokenEnds rest → Text depth (form.keyword k) (colon ∷ (k ++ rest)) rest
+key_text depth k rest some each begin ascii ends = atom (colon ∷ k) (refl, (ascii_utf8 k ascii, inl ((some, each), begin))) refl ends
+
+-- vectors that are open in one another
+abbrev pub pile : ℕ → List Open → List Open
+pile zero opens = opens
+pile (suc k) opens = pile k (in_vector form.no_forms ∷ opens)
+
+pub deeper : (k : ℕ) (bytes : List ℕ) (opens : List Open) (rest : List ℕ) → wants_string opens ≡ false → k + depth_of opens ≤ max_depth → Stands bytes opens (replicate k open_bracket ++ rest) → Stands bytes (pile k opens) rest
+deeper zero bytes opens rest free fits stands = stands
+deeper (suc k) bytes opens rest free fits stands =
+    deeper k bytes (in_vector form.no_forms ∷ opens) rest refl (omega arith) (inside stands (rw free refl) (omega arith) (replicate k open_bracket ++ rest, refl, no_members no_gap))

@@ -1,0 +1,115 @@
+-- Kinds of bytes in a text.
+-- EDN, edn-format: "General considerations", "Symbols", "Keywords".
+use Rattle.std.specs.Prelude.{ℕ, nat_le, ◌==◌, Bool, true, false, ◌&&◌, ◌||◌, not, IsTrue, List, [], ◌∷◌}
+use Rattle.std.specs.Str.{StartsWithNoChar}
+pub use Rattle.edn_model.specs.Runs.{Each}
+
+abbrev pub line_feed : ℕ
+line_feed = 10
+
+abbrev pub quote : ℕ
+quote = 34
+
+abbrev pub hash : ℕ
+hash = 35
+
+abbrev pub open_paren : ℕ
+open_paren = 40
+
+abbrev pub close_paren : ℕ
+close_paren = 41
+
+abbrev pub plus : ℕ
+plus = 43
+
+abbrev pub minus : ℕ
+minus = 45
+
+abbrev pub point : ℕ
+point = 46
+
+abbrev pub slash : ℕ
+slash = 47
+
+abbrev pub colon : ℕ
+colon = 58
+
+abbrev pub semicolon : ℕ
+semicolon = 59
+
+abbrev pub open_bracket : ℕ
+open_bracket = 91
+
+abbrev pub backslash : ℕ
+backslash = 92
+
+abbrev pub close_bracket : ℕ
+close_bracket = 93
+
+abbrev pub underscore : ℕ
+underscore = 95
+
+abbrev pub open_brace : ℕ
+open_brace = 123
+
+abbrev pub close_brace : ℕ
+close_brace = 125
+
+-- tab, line feed, vertical tab, form feed, carriage return, space, comma
+abbrev pub is_blank : ℕ → Bool
+is_blank b = (nat_le 9 b && nat_le b 13) || (b == 32 || b == 44)
+
+abbrev pub is_digit : ℕ → Bool
+is_digit b = nat_le 48 b && nat_le b 57
+
+abbrev pub is_letter : ℕ → Bool
+is_letter b = (nat_le 65 b && nat_le b 90) || (nat_le 97 b && nat_le b 122)
+
+-- . * + ! - _ ? $ % & = < > : #
+abbrev pub is_sign : ℕ → Bool
+is_sign b =
+    ((b == 46 || (b == 42 || b == 43)) || (b == 33 || (b == 45 || b == 95)))
+    || (((b == 63 || b == 36) || (b == 37 || (b == 38 || b == 61))) || ((b == 60 || b == 62) || (b == 58 || b == 35)))
+
+-- stands in a name: a letter, a digit, one of the signs, or part of a character past ASCII
+abbrev pub is_name_byte : ℕ → Bool
+is_name_byte b = (is_letter b || is_digit b) || (is_sign b || nat_le 128 b)
+
+abbrev pub is_opening : ℕ → Bool
+is_opening b = b == 40 || (b == 91 || b == 123)
+
+abbrev pub is_closing : ℕ → Bool
+is_closing b = b == 41 || (b == 93 || b == 125)
+
+-- where it is the next byte, a token ends
+abbrev pub ends_token : ℕ → Bool
+ends_token b = is_blank b || ((is_opening b || is_closing b) || (b == quote || b == semicolon))
+
+-- ends no token, and so stands in one
+abbrev pub is_token_byte : ℕ → Bool
+is_token_byte b = not (ends_token b)
+
+abbrev pub is_line_byte : ℕ → Bool
+is_line_byte b = not (b == line_feed)
+
+-- stands in a string for itself
+abbrev pub is_plain : ℕ → Bool
+is_plain b = not (b == quote) && not (b == backslash)
+
+-- the first of some bytes passes the test
+abbrev pub begins : (ℕ → Bool) → List ℕ → Bool
+begins test [] = false
+begins test (b ∷ bytes) = test b
+
+-- a token may end before these bytes
+abbrev pub token_ends : List ℕ → Bool
+token_ends [] = true
+token_ends (b ∷ bytes) = ends_token b
+
+abbrev pub TokenEnds : List ℕ → Type 0
+TokenEnds bytes = IsTrue (token_ends bytes)
+
+-- bytes stand here, and no character begins with them
+abbrev pub NoCharacter : List ℕ → Type 0
+NoCharacter [] = ⊥
+NoCharacter (b ∷ bytes) = StartsWithNoChar (b ∷ bytes)

@@ -1,0 +1,33 @@
+-- What a call writes behind the bytes that were there.
+-- This project's own choice.
+use Rattle.std.specs.Prelude.{◌≡◌, ℕ, ◌/◌, ◌%◌, ◌==◌, if◌then◌else◌, List, [], ◌∷◌, ◌++◌}
+use Rattle.std.specs.Io.{StartsWith}
+use Rattle.edn_model.specs.Bytes.{point}
+use Rattle.edn_model.specs.Instants.{digits, second_text}
+
+-- the new bytes are the old ones with such a text behind them
+pub record Appends (IsSuch : List ℕ → Type 0) (old new : List ℕ) : Type 0 where
+  pub text : List ℕ
+  pub is : IsSuch text
+  pub behind : new ≡ old ++ text
+
+-- the members' texts between their brackets
+pub record Encloses (opening : List ℕ) (closing : ℕ) (IsInside : List ℕ → Type 0) (bytes : List ℕ) : Type 0 where
+  pub inside : List ℕ
+  pub is : IsInside inside
+  pub text : bytes ≡ opening ++ (inside ++ closing ∷ [])
+
+-- a space stands before each member but the first
+abbrev pub space_before : ℕ → List ℕ
+space_before index = if index == 0 then [] else 32 ∷ []
+
+-- a time of day with three digits of its second's fraction, from the milliseconds since midnight
+abbrev pub clock_text : ℕ → List ℕ
+clock_text millis =
+    let seconds = millis / 1000 in
+    let minutes = seconds / 60 in
+    second_text (minutes / 60) (minutes % 60) (seconds % 60) ++ point ∷ digits 3 (millis % 1000)
+
+-- what the old bytes begin with, the new ones begin with too
+abbrev pub Keeps : List ℕ → List ℕ → Type 0
+Keeps old new = (front : List ℕ) → StartsWith old front → StartsWith new front

@@ -1,0 +1,13 @@
+//! The canonical text of a form.
+#![tactic(auto)]
+
+mod form;
+mod instant;
+pub mod laws;
+mod token;
+
+pub use fb_memory::Memory;
+pub use form::print;
+
+#[cfg(test)]
+mod tests;

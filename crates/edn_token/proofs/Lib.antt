@@ -1,0 +1,11 @@
+pub mod Escapes
+pub mod Gaps
+pub mod Marks
+pub mod Names
+pub mod NoTokens
+pub mod Numbers
+pub mod Places
+pub mod Signs
+pub mod Splits
+pub mod Strings
+pub mod WholeCharacters

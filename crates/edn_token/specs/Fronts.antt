@@ -1,0 +1,21 @@
+-- Runs of characters at the front of some bytes.
+-- This project's own choice.
+use Rattle.std.specs.Prelude.{◌≡◌, ℕ, ◌<◌, Bool, IsUtf8, List, ◌++◌, length, take, drop}
+use Rattle.edn_model.specs.Bytes.{Each, is_token_byte, TokenEnds, NoCharacter}
+
+-- characters whose bytes pass a test, and the bytes behind them
+pub record RunStands (test : ℕ → Bool) (here run rest : List ℕ) : Type 0 where
+  pub is : here ≡ run ++ rest
+  pub each : Each test run
+  pub utf8 : IsUtf8 run
+
+-- characters that may be a token, and where it ends
+pub record TokenFront (here token rest : List ℕ) : Type 0 where
+  pub run : RunStands is_token_byte here token rest
+  pub ends : TokenEnds rest
+
+-- behind so many bytes of a run stands one with which no character begins
+pub record BrokenRun (test : ℕ → Bool) (here : List ℕ) (n : ℕ) : Type 0 where
+  pub inside : n < length here
+  pub run : RunStands test here (take n here) (drop n here)
+  pub none : NoCharacter (drop n here)

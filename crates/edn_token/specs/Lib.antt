@@ -1,0 +1,6 @@
+pub mod Fronts
+pub mod Gaps
+pub mod Judged
+pub mod Names
+pub mod Numerals
+pub mod Strings

@@ -1,0 +1,137 @@
+//! Kinds of bytes, and the runs of one kind that stand in front of others.
+ghost use Rattle.std.specs.Prelude.{◌≡◌, ◌||◌};
+ghost use Rattle.std.specs.List.{prefix_len};
+ghost use Rattle.edn_model.specs.Bytes as text;
+ghost use Rattle.edn_model.specs.Runs.{IsRun};
+ghost use Rattle.edn_token.specs.Names.{is_no_slash};
+
+fn is_blank(b: u8) -> bool
+    ensures { result ≡ text.is_blank b }
+{
+    matches!(b, 9..=13 | b' ' | b',')
+}
+
+fn ends_token(b: u8) -> bool
+    ensures { result ≡ text.ends_token b }
+{
+    is_blank(b) || matches!(b, b'(' | b')' | b'[' | b']' | b'{' | b'}' | b'"' | b';')
+}
+
+fn is_token_byte(b: u8) -> bool
+    ensures { result ≡ text.is_token_byte b }
+{
+    !ends_token(b)
+}
+
+fn is_plain(b: u8) -> bool
+    ensures { result ≡ text.is_plain b }
+{
+    b != b'"' && b != b'\\'
+}
+
+fn is_sign(b: u8) -> bool
+    ensures { result ≡ text.is_sign b }
+{
+    matches!(b, b'.' | b'*' | b'+' | b'!' | b'-' | b'_' | b'?' | b'$')
+        || matches!(b, b'%' | b'&' | b'=' | b'<' | b'>' | b':' | b'#')
+}
+
+pub fn is_letter(b: u8) -> bool
+    ensures { result ≡ text.is_letter b }
+{
+    matches!(b, b'A'..=b'Z' | b'a'..=b'z')
+}
+
+fn is_letter_or_digit(b: u8) -> bool
+    ensures { result ≡ (text.is_letter b || text.is_digit b) }
+{
+    matches!(b, b'A'..=b'Z' | b'a'..=b'z' | b'0'..=b'9')
+}
+
+/// Whether the byte stands in a name; each byte of a character past ASCII does.
+pub fn is_name_byte(b: u8) -> bool
+    ensures { result ≡ text.is_name_byte b }
+{
+    is_letter_or_digit(b) || is_sign(b) || b >= 128
+}
+
+/// The white space in front, and what follows.
+pub fn split_blank(bytes: &[u8]) -> (&[u8], &[u8])
+    ensures { IsRun text.is_blank bytes.now result.0.now result.1.now }
+{
+    bytes.split_at(blank_len(bytes))
+}
+
+fn blank_len(bytes: &[u8]) -> usize
+    ensures { result ≡ prefix_len text.is_blank bytes.now }
+{
+    bytes.iter().take_while(|b| is_blank(**b)).count()
+}
+
+/// The bytes before the first that ends a token, and what follows.
+pub fn split_token(bytes: &[u8]) -> (&[u8], &[u8])
+    ensures { IsRun text.is_token_byte bytes.now result.0.now result.1.now }
+{
+    bytes.split_at(token_len(bytes))
+}
+
+fn token_len(bytes: &[u8]) -> usize
+    ensures { result ≡ prefix_len text.is_token_byte bytes.now }
+{
+    bytes.iter().take_while(|b| is_token_byte(**b)).count()
+}
+
+/// The bytes in front that stand in a string for themselves, and what follows.
+pub fn split_plain(bytes: &[u8]) -> (&[u8], &[u8])
+    ensures { IsRun text.is_plain bytes.now result.0.now result.1.now }
+{
+    bytes.split_at(plain_len(bytes))
+}
+
+fn plain_len(bytes: &[u8]) -> usize
+    ensures { result ≡ prefix_len text.is_plain bytes.now }
+{
+    bytes.iter().take_while(|b| is_plain(**b)).count()
+}
+
+/// The bytes before the first line feed, and what follows.
+pub fn split_line(bytes: &[u8]) -> (&[u8], &[u8])
+    ensures { IsRun text.is_line_byte bytes.now result.0.now result.1.now }
+{
+    bytes.split_at(line_len(bytes))
+}
+
+fn line_len(bytes: &[u8]) -> usize
+    ensures { result ≡ prefix_len text.is_line_byte bytes.now }
+{
+    bytes.iter().take_while(|b| **b != b'\n').count()
+}
+
+/// The digits in front, and what follows.
+pub fn split_digits(bytes: &[u8]) -> (&[u8], &[u8])
+    ensures { IsRun text.is_digit bytes.now result.0.now result.1.now }
+{
+    bytes.split_at(digits_len(bytes))
+}
+
+fn digits_len(bytes: &[u8]) -> usize
+    ensures { result ≡ prefix_len text.is_digit bytes.now }
+{
+    bytes
+        .iter()
+        .take_while(|b| matches!(**b, b'0'..=b'9'))
+        .count()
+}
+
+/// The bytes before the first slash, and what follows.
+pub fn split_before_slash(bytes: &[u8]) -> (&[u8], &[u8])
+    ensures { IsRun is_no_slash bytes.now result.0.now result.1.now }
+{
+    bytes.split_at(before_slash_len(bytes))
+}
+
+fn before_slash_len(bytes: &[u8]) -> usize
+    ensures { result ≡ prefix_len is_no_slash bytes.now }
+{
+    bytes.iter().take_while(|b| **b != b'/').count()
+}

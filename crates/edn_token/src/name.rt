@@ -1,0 +1,142 @@
+//! Keywords and symbols.
+ghost use Rattle.std.specs.Prelude.{◌≡◌, ◌↔◌, ◌⊎◌, ◌++◌, [], ◌∷◌, IsTrue, MatchOption};
+ghost use Rattle.std.specs.List.{list_all};
+ghost use Rattle.edn_model.specs.Bytes as kinds;
+ghost use Rattle.edn_model.specs.Bytes.{slash, Each, begins};
+ghost use Rattle.edn_model.specs.Tokens as tokens;
+ghost use Rattle.edn_model.specs.Tokens.{IsName, Joined, IsKeywordName, IsKeyword, IsReserved, IsSymbol};
+ghost use Rattle.edn_token.specs.Names.{is_no_slash, IsSymbolOrWord};
+
+use crate::bytes::{is_name_byte, split_before_slash};
+use std::str;
+
+/// Whether a colon and this text are a keyword.
+pub fn is_keyword(text: &[u8]) -> bool
+    ensures { IsTrue result ↔ IsKeyword text.now }
+{
+    match str::from_utf8(text) {
+        Err(_) => false,
+        Ok(_) => are_keyword_names(text),
+    }
+}
+
+/// Whether the text is a symbol.
+pub fn is_symbol(text: &[u8]) -> bool
+    ensures { IsTrue result ↔ IsSymbol text.now }
+{
+    match str::from_utf8(text) {
+        Err(_) => false,
+        Ok(s) => !is_reserved(s) && is_symbol_or_word(text),
+    }
+}
+
+/// Whether the text is one of the words that are tokens of their own.
+fn is_reserved(s: &str) -> bool
+    ensures { IsTrue result ↔ IsReserved s.now }
+{
+    s == "nil" || s == "true" || s == "false"
+}
+
+/// Whether the bytes are one name of a keyword, or two joined by a slash.
+pub(crate) fn are_keyword_names(text: &[u8]) -> bool
+    ensures { IsTrue result ↔ (IsKeywordName text.now ⊎ Joined IsKeywordName IsKeywordName text.now) }
+{
+    match split_at_slash(text) {
+        None => is_keyword_name(text),
+        Some((first, second)) => is_keyword_name(first) && is_keyword_name(second),
+    }
+}
+
+fn is_keyword_name(text: &[u8]) -> bool
+    ensures { IsTrue result ↔ IsKeywordName text.now }
+{
+    is_name(text) && begins_keyword(text)
+}
+
+fn begins_keyword(text: &[u8]) -> bool
+    ensures { result ≡ tokens.begins_keyword text.now }
+{
+    match text.first() {
+        None => false,
+        Some(b) => *b != b':' && *b != b'#',
+    }
+}
+
+/// Whether the bytes are a symbol or a reserved word, if they are characters.
+pub(crate) fn is_symbol_or_word(text: &[u8]) -> bool
+    ensures { IsTrue result ↔ IsSymbolOrWord text.now }
+{
+    is_slash(text) || (begins_symbol(text) && are_names(text))
+}
+
+fn is_slash(text: &[u8]) -> bool
+    ensures { IsTrue result ↔ (text.now ≡ slash ∷ []) }
+{
+    match text.split_first() {
+        None => false,
+        Some((first, others)) => *first == b'/' && others.is_empty(),
+    }
+}
+
+fn begins_symbol(text: &[u8]) -> bool
+    ensures { result ≡ tokens.begins_symbol text.now }
+{
+    match text.split_first() {
+        None => false,
+        Some((first, others)) => {
+            !is_digit(*first)
+                && *first != b':'
+                && *first != b'#'
+                && !(matches!(*first, b'.' | b'+' | b'-') && begins_digit(others))
+        }
+    }
+}
+
+fn begins_digit(bytes: &[u8]) -> bool
+    ensures { result ≡ begins kinds.is_digit bytes.now }
+{
+    match bytes.first() {
+        None => false,
+        Some(b) => is_digit(*b),
+    }
+}
+
+fn is_digit(b: u8) -> bool
+    ensures { result ≡ kinds.is_digit b }
+{
+    matches!(b, b'0'..=b'9')
+}
+
+fn are_names(text: &[u8]) -> bool
+    ensures { IsTrue result ↔ (IsName text.now ⊎ Joined IsName IsName text.now) }
+{
+    match split_at_slash(text) {
+        None => is_name(text),
+        Some((first, second)) => is_name(first) && is_name(second),
+    }
+}
+
+fn is_name(text: &[u8]) -> bool
+    ensures { IsTrue result ↔ IsName text.now }
+{
+    !text.is_empty() && are_name_bytes(text)
+}
+
+fn are_name_bytes(text: &[u8]) -> bool
+    ensures { result ≡ list_all kinds.is_name_byte text.now }
+{
+    text.iter().all(|b| is_name_byte(*b))
+}
+
+/// What stands before the first slash, and what behind it.
+fn split_at_slash(text: &[u8]) -> Option<(&[u8], &[u8])>
+    ensures { MatchOption result
+        (Each is_no_slash text.now)
+        (λ p. (text.now ≡ p.0.now ++ slash ∷ p.1.now) × Each is_no_slash p.0.now) }
+{
+    let (first, rest) = split_before_slash(text);
+    match rest.split_first() {
+        None => None,
+        Some((_, second)) => Some((first, second)),
+    }
+}

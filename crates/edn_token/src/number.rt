@@ -1,0 +1,90 @@
+//! The numbers that digits spell.
+ghost use Rattle.std.specs.Prelude.{◌≡◌, ◌≤◌, ◌^◌, ◌↔◌, IsTrue, MatchOption};
+ghost use Rattle.std.specs.List.{list_all};
+ghost use Rattle.std.specs.Prelude.{pos, neg_ℤ};
+ghost use Rattle.edn_token.specs.Numerals.{DigitsAre, NumeralIs};
+ghost use Rattle.edn_model.specs.Bytes.{is_digit, Each};
+ghost use Rattle.edn_model.specs.Tokens.{number, IsDecimal};
+
+/// The number that the digits spell, where it has 64 bits.
+pub fn magnitude(digits: &[u8]) -> Option<u64>
+    requires { Each is_digit digits.now }
+    ensures { MatchOption result (2 ^ 64 ≤ number digits.now) (λ n. n ≡ number digits.now) }
+{
+    let mut n: u64 = 0;
+    for b in digits {
+        let Some(tens) = n.checked_mul(10) else {
+            return None;
+        };
+        let Some(sum) = tens.checked_add(u64::from(*b - b'0')) else {
+            return None;
+        };
+        n = sum;
+    }
+    Some(n)
+}
+
+/// Whether these are the digits of a number, without a leading zero.
+pub fn is_decimal(digits: &[u8]) -> bool
+    ensures { IsTrue result ↔ IsDecimal (number digits.now) digits.now }
+{
+    let Some((first, others)) = digits.split_first() else {
+        return false;
+    };
+    are_digits(digits) && (*first != b'0' || others.is_empty())
+}
+
+/// Whether each byte is a digit.
+pub fn are_digits(bytes: &[u8]) -> bool
+    ensures { result ≡ list_all is_digit bytes.now }
+{
+    bytes.iter().all(|b| matches!(*b, b'0'..=b'9'))
+}
+
+/// An integer, or that it has no 64 bits.
+#[derive(Clone, Copy, Debug, PartialEq, Eq)]
+pub enum Number {
+    Long(i64),
+    Wide,
+}
+
+/// The number of digits without a sign, or behind a plus.
+pub fn positive(digits: &[u8]) -> Option<Number>
+    ensures { DigitsAre pos digits.now result }
+{
+    if !is_decimal(digits) {
+        return None;
+    }
+    match magnitude(digits) {
+        Some(n) if n < 0x8000_0000_0000_0000 => Some(Number::Long(n as i64)),
+        _ => Some(Number::Wide),
+    }
+}
+
+/// The number of digits behind a minus.
+pub fn negative(digits: &[u8]) -> Option<Number>
+    ensures { DigitsAre (λ n. neg_ℤ (pos n)) digits.now result }
+{
+    if !is_decimal(digits) {
+        return None;
+    }
+    match magnitude(digits) {
+        Some(n) if n < 0x8000_0000_0000_0000 => Some(Number::Long(-(n as i64))),
+        Some(n) if n == 0x8000_0000_0000_0000 => Some(Number::Long(i64::MIN)),
+        _ => Some(Number::Wide),
+    }
+}
+
+/// The integer that the token is.
+pub fn read_numeral(token: &[u8]) -> Option<Number>
+    ensures { NumeralIs token.now result }
+{
+    let Some((first, digits)) = token.split_first() else {
+        return None;
+    };
+    match *first {
+        b'+' => positive(digits),
+        b'-' => negative(digits),
+        _ => positive(token),
+    }
+}
