@@ -20,7 +20,7 @@ use Rattle.edn_model.proofs.Spelled.{SameFault, one_string_fault, string_or_faul
 use Rattle.edn_model.proofs.NoToken.{unsupported_no_atom, one_what, inst_supported, uuid_supported, unsupported_some}
 use Rattle.edn_model.proofs.OneForm.{begins_atom, atom_bytes, atom_first, token_stops, not_true}
 use Rattle.edn_model.proofs.OneInstant.{one_instant}
-use Rattle.edn_model.proofs.OnePlace.{same_string, same_token, same_comment, comment_goes_on, first_here, one_uuid} 
+use Rattle.edn_model.proofs.OnePlace.{same_string, same_token, same_comment, comment_goes_on, first_here, one_uuid}
 use Rattle.edn_model.proofs.OnePlace as place
 use Rattle.edn_model.proofs.Fronts.{front, blank_front, closing_front, closes_closing, stands_front, character_front, atom_front, collection_front, discard_of}
 

@@ -195,10 +195,10 @@ framed (inside {at = at} {here = here} {inner = inner} {outer = outer} s ok fits
       frames = frame inner at below.frames;
       same = ap (λ z. inner ∷ z) below.same;
       runs = joined below.runs
-      (enter inner below.frames at here
-      (subst (λ z. IsTrue (is_discard inner || not (wants_string z))) back ok)
-      (subst (λ z. depth_of (inner ∷ z) ≤ max_depth) back fits)
-      (subst (λ z. Opened (room (inner ∷ z)) inner at here) back o));
+          (enter inner below.frames at here
+          (subst (λ z. IsTrue (is_discard inner || not (wants_string z))) back ok)
+          (subst (λ z. depth_of (inner ∷ z) ≤ max_depth) back fits)
+          (subst (λ z. Opened (room (inner ∷ z)) inner at here) back o));
     }
 
 -- ---- from a fault

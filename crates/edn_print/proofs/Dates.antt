@@ -97,10 +97,10 @@ next_year count d h k fits =
     let step = day_count-next_year (pos d.year) (pos (d.year + 1)) (omega (arith, signed_arith)) (omega (arith, signed_arith)) in
     let end = day_count-last_of_year (pos d.year) in
     let under : d.year < 9999 = by_lt_z (pos d.year) (pos 9999) (λ lt. omega (arith, signed_arith)) (λ le. absurd (
-      let same : pos d.year ≡ pos 9999 = omega (arith, signed_arith) in
-      let past : day_count (pos 9999) 12 31 + 1 ≡ day_count (pos 10000) 1 1 = omega (arith, day_count-last_of_year (pos 9999), day_count-next_year (pos 9999) (pos 10000) (omega (arith, signed_arith)) refl) in
-      let here : day_count (pos 9999) 12 31 ≡ count = rw same at before in
-      omega (arith, day_count-end))) in
+    let same : pos d.year ≡ pos 9999 = omega (arith, signed_arith) in
+    let past : day_count (pos 9999) 12 31 + 1 ≡ day_count (pos 10000) 1 1 = omega (arith, day_count-last_of_year (pos 9999), day_count-next_year (pos 9999) (pos 10000) (omega (arith, signed_arith)) refl) in
+    let here : day_count (pos 9999) 12 31 ≡ count = rw same at before in
+    omega (arith, day_count-end))) in
     record {
       year = d.year + 1;
       month = 1;

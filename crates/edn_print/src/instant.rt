@@ -15,6 +15,7 @@ const DAY: u64 = 86_400_000;
 
 /// The first and the last instant that have a text.
 const FIRST: i64 = -62_135_596_800_000;
+
 const LAST: i64 = 253_402_300_799_999;
 
 /// The days from -9999-01-01, where the calendar begins, to 0001-01-01.
@@ -41,7 +42,10 @@ fn print_date(out: &mut Vec<u8>, days: u32) -> Result<(), Memory>
 {
     let date = Date::from_days_since_min(days + DAYS_BEFORE);
     let year = date.year.unsigned_abs();
-    append(out, &civil(u32::from(year), u32::from(date.month), u32::from(date.day)))
+    append(
+        out,
+        &civil(u32::from(year), u32::from(date.month), u32::from(date.day)),
+    )
 }
 
 /// The text of a date.

@@ -27,7 +27,8 @@ fn nested(alloc: Global) -> Result<Edn, Fail> {
 }
 
 /// What is printed of that form: five characters of the string are escaped.
-const NESTED: &str = "[#{false a/b} {:db/id -7 (nil) {}} #uuid \"f81d4fae-7dec-11d0-a765-00a0c91e6bf6\" \
+const NESTED: &str =
+    "[#{false a/b} {:db/id -7 (nil) {}} #uuid \"f81d4fae-7dec-11d0-a765-00a0c91e6bf6\" \
      \"\\t\\r\\n\\\\\\\"\u{8}\u{c}/\u{e9}\"]";
 
 #[test]
@@ -42,10 +43,16 @@ fn prints_collections(rt: HostRuntime) -> Result<(), Fail> {
 /// Instants, of which the first and the last lie past the ends of what has a text, and their texts.
 const INSTANTS: [(i64, &str); 6] = [
     (i64::MIN, "#inst \"0001-01-01T00:00:00.000-00:00\""),
-    (-62_135_596_800_000, "#inst \"0001-01-01T00:00:00.000-00:00\""),
+    (
+        -62_135_596_800_000,
+        "#inst \"0001-01-01T00:00:00.000-00:00\"",
+    ),
     (0, "#inst \"1970-01-01T00:00:00.000-00:00\""),
     (1_709_245_799_999, "#inst \"2024-02-29T22:29:59.999-00:00\""),
-    (253_402_300_799_999, "#inst \"9999-12-31T23:59:59.999-00:00\""),
+    (
+        253_402_300_799_999,
+        "#inst \"9999-12-31T23:59:59.999-00:00\"",
+    ),
     (i64::MAX, "#inst \"9999-12-31T23:59:59.999-00:00\""),
 ];
 

@@ -23,7 +23,7 @@ print_items-loop-index-preserved t c =
     let here : drop l.index xs ≡ x ∷ drop (l.index + 1) xs = drop_more xs l.index x (omega arith) ∙ ap (λ y. y ∷ drop (l.index + 1) xs) (sym c.index-items-index.is) in
     record {
       text = λ end rest. l.invariant.text end (subst (λ ys. Appends (CanonFrom l.index (printables (form.forms (forms_of ys)))) l.out.items end) (sym here)
-    (member_first l.index (printable (form_of x)) others _ _ _ _ c.in_ok-separate.ensures.ok c.in_ok-print_form.ensures.ok (rest_from l.index others _ _ rest)));
+          (member_first l.index (printable (form_of x)) others _ _ _ _ c.in_ok-separate.ensures.ok c.in_ok-print_form.ensures.ok (rest_from l.index others _ _ rest)));
       kept = λ front h. c.print_form.ensures.kept front (c.separate.ensures.kept front (l.invariant.kept front h));
     }
 
@@ -45,7 +45,7 @@ print_pairs-loop-index-preserved t c =
     let here : drop l.index xs ≡ x ∷ drop (l.index + 1) xs = drop_more xs l.index x (omega arith) ∙ ap (λ y. y ∷ drop (l.index + 1) xs) (sym c.index-pairs-index.is) in
     record {
       text = λ end rest. l.invariant.text end (subst (λ ys. Appends (CanonPairsFrom l.index (printable_pairs (form.pairs (pairs_of ys)))) l.out.items end) (sym here)
-    (pair_first l.index (printable (form_of x.0)) (printable (form_of x.1)) others _ _ _ _ _ _ c.in_ok-separate.ensures.ok c.in_ok-print_form.ensures.ok c.in_ok-append-2.ensures.ok c.in_ok-print_form-2.ensures.ok (later_from l.index others _ _ rest)));
+          (pair_first l.index (printable (form_of x.0)) (printable (form_of x.1)) others _ _ _ _ _ _ c.in_ok-separate.ensures.ok c.in_ok-print_form.ensures.ok c.in_ok-append-2.ensures.ok c.in_ok-print_form-2.ensures.ok (later_from l.index others _ _ rest)));
       kept = λ front h. c.print_form-in-loop-index.ensures.kept front (c.append-in-loop-index.ensures.kept front (c.print_form.ensures.kept front (c.separate.ensures.kept front (l.invariant.kept front h))));
     }
 
