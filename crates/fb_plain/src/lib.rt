@@ -21,3 +21,6 @@ pub use orders::in_order;
 pub use scans::{Range, end_of_number, scan, transactions};
 pub use schema::{Attribute, attribute_named, attribute_of, covers, entity_under, named};
 pub use views::{Filter, Window, end_of_instant, seen, view};
+
+#[cfg(test)]
+mod tests;

@@ -8,4 +8,5 @@ pub mod Numbered
 pub mod Known
 pub mod After
 pub mod StepLaws
+pub mod FormOrder
 pub mod SameAsks

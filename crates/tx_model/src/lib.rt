@@ -7,6 +7,7 @@ mod components;
 mod edges;
 mod lawful;
 mod numbers;
+mod order;
 mod rules;
 mod schema;
 mod unique;
@@ -19,6 +20,7 @@ pub use edges::{
 };
 pub use lawful::{an_accepted_entry_is_lawful, changes_are_those_of_what_is_asked};
 pub use numbers::{compare_and_set, greatest_and_least_numbers};
+pub use order::{a_rule_is_broken_in_any_order, the_same_is_recorded_in_any_order};
 pub use rules::{rules_on_changes, rules_on_names, shapes};
 pub use schema::{alterations, attributes, cardinality_there_and_back, other_types};
 pub use unique::{lookup_refs, moved_values, nameless_maps, texts, unique_emails};

@@ -1,0 +1,10 @@
+pub mod Codes
+pub mod Firsts
+pub mod Likeness
+pub mod Lists
+pub mod Orders
+pub mod Prefix
+pub mod Sayings
+pub mod Steps
+pub mod Texts
+pub mod Tokens

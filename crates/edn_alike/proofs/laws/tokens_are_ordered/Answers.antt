@@ -1,0 +1,5 @@
+use Rattle.edn_alike.proofs.Tokens.{token_total, token_exact}
+use Rattle.edn_alike.proofs.laws.tokens_are_ordered.Goals as goal
+
+pub returns : goal.returns
+returns c = record { total = token_total; exact = token_exact }
