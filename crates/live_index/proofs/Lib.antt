@@ -1,3 +1,4 @@
 pub mod Members
 pub mod Insertion
 pub mod Growing
+mod Standing

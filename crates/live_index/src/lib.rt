@@ -3,6 +3,8 @@
 #![tactic(auto)]
 
 mod growth;
+mod laws;
 mod live;
 
+pub use laws::next_entries_bring_no_twins;
 pub use live::Live;

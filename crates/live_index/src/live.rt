@@ -1,5 +1,5 @@
 //! The live index as one value.
-ghost use Rattle.std.specs.Prelude.{◌≡◌, ℕ, ◌+◌, ◌*◌, ◌^◌, ◌<◌, ◌≤◌, length, [], ◌++◌, IfOk};
+ghost use Rattle.std.specs.Prelude.{◌≡◌, ℕ, ◌+◌, ◌*◌, ◌^◌, ◌<◌, ◌≤◌, List, length, [], ◌∷◌, ◌++◌, IfOk};
 ghost use Rattle.std.specs.List.{slice_get};
 ghost use Rattle.std.specs.Option.{option_copied};
 ghost use Rattle.fb_values.specs.declared.indexes.Order.{Order};
@@ -8,6 +8,9 @@ ghost use Rattle.fb_search.specs.Places.{place_of};
 ghost use Rattle.live_blocks.specs.Trees.{blocks_at_least};
 ghost use Rattle.fb_search.specs.Lists.{list_in};
 ghost use Rattle.live_index.specs.Growth.{IsGrown, HasNoTwins};
+ghost use Rattle.fb_values.specs.declared.facts.Entry.{Entry};
+ghost use Rattle.view_model.specs.Stands.{LiveStands};
+ghost use Rattle.live_index.specs.Standing.{lists_of, IsNext};
 
 use crate::growth::{kept, refilled, with_held};
 use fb_covers::Covers;
@@ -134,7 +137,9 @@ impl Live {
     ) -> Result<Live, Memory>
         // Datoms of one entity, attribute, value and t are one datom.
         requires { (order : Order) → HasNoTwins (list_in self.now order ++ refill.now ++ entry.now.datoms) }
-        ensures { IfOk result (λ live. (order : Order) → IsGrown order covers.now (list_in self.now order) refill.now entry.now.datoms (list_in live order)) }
+        ensures grown { IfOk result (λ live. (order : Order) → IsGrown order covers.now (list_in self.now order) refill.now entry.now.datoms (list_in live order)) }
+        // Where the lists stand for a history above c, and the entry comes next in it, the new ones stand for the history with the entry.
+        ensures stands { IfOk result (λ live. (h : List Entry) (c : ℕ) → IsNext h c entry.now covers.now refill.now → LiveStands (lists_of self.now) h c → LiveStands (lists_of live) (h ++ entry.now ∷ []) c) }
     {
         Ok(Live {
             eavt: self.with_entry_in(Order::Eavt, entry, covers, refill)?,

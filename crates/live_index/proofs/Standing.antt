@@ -1,0 +1,172 @@
+-- Live lists that stand for a history and grow by its next entry stand for the history with it.
+use Rattle.std.proofs.Common.{◌≡◌, ◌∙◌, ℕ, ◌+◌, ◌<◌, ◌≤◌, ◌⊎◌, inl, inr, Bool, true, false, ◌&&◌, List, [], ◌∷◌, ◌++◌, refl, sym, ap, subst, arith, eqb, length, Option, Some, None}
+use Rattle.std.specs.Prelude.{Contains, IsTrue, IsFalse, is_some, option_and_then}
+use Rattle.std.specs.Option.{option_map_or}
+use Rattle.std.specs.Ordering.{is_lt}
+use Rattle.std.specs.declared.cmp.Ordering.TheVariants.{Equal}
+use Rattle.std.specs.Cmp.{tied_itself}
+use Rattle.std.specs.Cmp.Lexicographic.{slice_cmp, lists_total}
+use Rattle.std.proofs.lemmas.Bool.{true≢false, and_from, cases_Bool, eqb-true}
+use Rattle.std.proofs.lemmas.List.Elements.{Contains-append_left, Contains-append_right, Contains-append_cases}
+use Rattle.fb_values.specs.declared.facts.Datom.{Datom}
+use Rattle.fb_values.specs.declared.facts.Entry.{Entry}
+use Rattle.fb_values.specs.declared.indexes.Order.{Order}
+use Rattle.fb_values.specs.declared.indexes.Order.TheVariants.{Eavt, Aevt, Avet, Vaet}
+use Rattle.fb_values.specs.Orders.{key_cmp, key_of, value_cmp}
+use Rattle.fb_values.specs.OrderLaws.{value_cmp_total}
+use Rattle.fb_covers.specs.Coverage.{Coverage}
+use Rattle.fb_search.specs.Lists.{Lists, list_in}
+use Rattle.fb_search.specs.Rising.{IsRising}
+use Rattle.fb_model.specs.Numbers.{ident, value_type, cardinality, unique, is_component, index, type_ref}
+use Rattle.fb_model.specs.Rising.{rises, IsRisingListOf}
+use Rattle.fb_model.specs.History.{basis, said, upto}
+use Rattle.fb_model.specs.Facts.{facts}
+use Rattle.fb_model.specs.Schema.{covers, is_held, attribute_of, attribute_from, is_attribute, keyword_of, entity_of, truth_of, entity_in}
+use Rattle.fb_model.specs.Laws.{facts_with}
+use Rattle.fb_model.specs.Lawful.{IsLawful, IsLawfulAfter}
+use Rattle.fb_model.proofs.OneMoreEntry.{said-push, upto-append}
+use Rattle.fb_model.proofs.LawfulHistories.{IsLawful-length, IsLawful-push}
+use Rattle.fb_model.proofs.Invariants.{facts-push}
+use Rattle.fb_model.proofs.SchemaHistories.{attribute_stays, none_about, fixed_forbidden}
+use Rattle.fb_model.proofs.Untouched.{value_of-untouched}
+use Rattle.fb_model.proofs.Members.{member_passes}
+use Rattle.fb_model.proofs.Times.{own_t, same_keys, one_for_each_key}
+use Rattle.fb_model.proofs.KnownFacts.{said_installed}
+use Rattle.view_model.specs.Stands.{IsIndexed, IsLive, LiveStands, list_in as model_list}
+use Rattle.live_index.specs.Growth.{HasNoTwins, IsGrown}
+use Rattle.live_index.specs.Standing.{lists_of, IsDemanded, IsNext}
+
+same_list : (l : Lists) (order : Order) → model_list (lists_of l) order ≡ list_in l order
+same_list l Eavt = refl
+same_list l Aevt = refl
+same_list l Avet = refl
+same_list l Vaet = refl
+
+rising-rises : (order : Order) (ds : List Datom) → IsRising order ds → rises order ds ≡ true
+rising-rises order [] rising = refl
+rising-rises order (d ∷ []) rising = refl
+rising-rises order (d ∷ next ∷ ds) rising = and_from _ _ (ap is_lt rising.0.0) (rising-rises order (next ∷ ds) rising.1)
+
+-- ---- VAET holds an attribute from its beginning
+
+held_from : (e : ℕ) (name : Option (List ℕ)) (kind count uniqueness : Option ℕ) (component indexed : Bool) → is_some (attribute_from e name kind count uniqueness component indexed) ≡ true
+    → option_map_or (is_held Vaet) (attribute_from e name kind count uniqueness component indexed) false ≡ option_map_or (λ k. eqb k type_ref) kind false
+held_from e None kind count uniqueness component indexed there = absurd (true≢false (sym there))
+held_from e (Some n) None count uniqueness component indexed there = absurd (true≢false (sym there))
+held_from e (Some n) (Some k) None uniqueness component indexed there = absurd (true≢false (sym there))
+held_from e (Some n) (Some k) (Some c) uniqueness component indexed there = refl
+
+covers-kind : (facts : List Datom) (a : ℕ) → is_attribute facts a ≡ true → covers facts Vaet a ≡ option_map_or (λ k. eqb k type_ref) (entity_of facts a value_type) false
+covers-kind facts a there =
+    held_from a (keyword_of facts a ident) (entity_of facts a value_type) (entity_of facts a cardinality) (entity_of facts a unique) (truth_of facts a is_component) (truth_of facts a index) there
+
+covers-stays : (h : List Entry) (entry : Entry) (a : ℕ) → IsLawfulAfter h entry → is_attribute (facts h) a ≡ true → covers (facts_with h entry) Vaet a ≡ covers (facts h) Vaet a
+covers-stays h entry a next installed =
+    covers-kind (facts_with h entry) a (attribute_stays h entry a next installed)
+    ∙ ap (λ (o : Option ℕ). option_map_or (λ k. eqb k type_ref) o false)
+    (ap (option_and_then entity_in) (value_of-untouched (said h) entry.datoms a value_type
+    (none_about (facts h) a value_type (fixed_forbidden (facts h) a value_type installed refl) entry.datoms next.allowed_changes)))
+    ∙ sym (covers-kind (facts h) a installed)
+
+-- ---- the lists
+
+module _ (h : List Entry) (c : ℕ) (entry : Entry) (coverage : Coverage) (refill : List Datom) (is : IsNext h c entry coverage refill) where
+  abbrev after : List Entry
+  after = h ++ entry ∷ []
+
+  same_past : upto after c ≡ upto h c
+  same_past = upto-append h (entry ∷ []) c (let counted = IsLawful-length h is.lawful in let bound = is.bound in omega arith)
+
+  live_on : (order : Order) (d : Datom) → IsLive h c order d → IsLive after c order d
+  live_on order d = subst (λ (before : List Entry). (c < d.t) ⊎ IsFalse (covers (facts before) order d.a)) (sym same_past)
+
+  live_back : (order : Order) (d : Datom) → IsLive after c order d → IsLive h c order d
+  live_back order d = subst (λ (before : List Entry). (c < d.t) ⊎ IsFalse (covers (facts before) order d.a)) same_past
+
+  said_before : (d : Datom) → Contains (said h) d → Contains (said after) d
+  said_before d there = subst (λ (ds : List Datom). Contains ds d) (sym (said-push h entry)) (Contains-append_left (said h) entry.datoms d there)
+
+  said_now : (d : Datom) → Contains entry.datoms d → Contains (said after) d
+  said_now d there = subst (λ (ds : List Datom). Contains ds d) (sym (said-push h entry)) (Contains-append_right (said h) entry.datoms d there)
+
+  later : (d : Datom) → Contains entry.datoms d → c < d.t
+  later d there = let own = eqb-true d.t (basis h + 1) (member_passes (λ x. eqb x.t (basis h + 1)) entry.datoms d (own_t h entry is.next) there) in let bound = is.bound in omega arith
+
+  -- an older datom that a list other than AVET demands now was demanded before
+  covered_before : (order : Order) (d : Datom) → (order ≡ Avet → ⊥) → Contains (said h) d → IsTrue (covers (facts after) order d.a) → IsTrue (covers (facts h) order d.a)
+  covered_before Eavt d other there covered = covered
+  covered_before Aevt d other there covered = covered
+  covered_before Avet d other there covered = absurd (other refl)
+  covered_before Vaet d other there covered =
+      let installed : is_attribute (facts h) d.a ≡ true = member_passes (λ x. is_attribute (facts h) x.a) (said h) d (said_installed h is.lawful) there in
+      sym (covers-stays h entry d.a is.next installed) ∙ (ap (λ (ds : List Datom). covers ds Vaet d.a) (sym (facts-push h entry)) ∙ covered)
+
+  module _ (old : Lists) (was : LiveStands (lists_of old) h c) where
+    of_old : (order : Order) (d : Datom) → Contains (list_in old order) d → IsDemanded h c order d
+    of_old order d there = ((was order).members d).0 (subst (λ (ds : List Datom). Contains ds d) (sym (same_list old order)) there)
+
+    in_old : (order : Order) (d : Datom) → IsDemanded h c order d → Contains (list_in old order) d
+    in_old order d demanded = subst (λ (ds : List Datom). Contains ds d) (same_list old order) (((was order).members d).1 demanded)
+
+    -- what is offered was said by the history with the entry
+    said_by_now : (order : Order) (d : Datom) → Contains (list_in old order ++ refill ++ entry.datoms) d → Contains (said after) d
+    said_by_now order d there =
+        elim (Contains-append_cases (list_in old order ++ refill) entry.datoms d there) [
+          | inl older ↦ elim (Contains-append_cases (list_in old order) refill d older) [
+              | inl before ↦ said_before d (of_old order d before).0.is_said
+              | inr filled ↦ said_before d ((is.refill_is.members d).0 filled).0
+            ]
+          | inr now ↦ said_now d now
+        ]
+
+    pub no_twins : (order : Order) → HasNoTwins (list_in old order ++ refill ++ entry.datoms)
+    no_twins order x y in_x in_y at =
+        (one_for_each_key after (IsLawful-push h entry is.lawful is.next)).same x y (said_by_now order x in_x) (said_by_now order y in_y)
+        (subst (λ key. slice_cmp value_cmp (key_of Eavt x) key ≡ Equal) (same_keys Eavt x y at) (tied_itself (lists_total value_cmp_total) (key_of Eavt x)))
+
+    module _ (new : Lists) (grown : (order : Order) → IsGrown order coverage (list_in old order) refill entry.datoms (list_in new order)) where
+      demanded_now : (order : Order) (d : Datom) → Contains (list_in new order) d → IsDemanded after c order d
+      demanded_now order d there =
+          let m = ((grown order).members d).0 there in
+          let covered : IsTrue (covers (facts after) order d.a) = sym (is.coverage_is order d.a) ∙ m.1 in
+          elim m.0 [
+            | inl older ↦ elim older [
+                | inl before ↦ let q = of_old order d before in (record { is_said = said_before d q.0.is_said; is_covered = covered }, live_on order d q.1)
+                | inr filled ↦ subst (λ (o : Order). IsDemanded after c o d) (sym filled.0) ((is.refill_is.members d).0 filled.1).1
+              ]
+            | inr now ↦ (record { is_said = said_now d now; is_covered = covered }, inl (later d now))
+          ]
+
+      offered : (order : Order) (d : Datom) → Contains (said h) d → IsDemanded after c order d → (Contains (list_in old order) d) ⊎ ((order ≡ Avet) × Contains refill d)
+      offered order d there demanded =
+          elim (cases_Bool (covers (facts h) order d.a)) [
+            | inl covered ↦ inl (in_old order d (record { is_said = there; is_covered = covered }, live_back order d demanded.1))
+            | inr bare ↦ refilled order bare demanded
+          ]
+        where
+          refilled : (o : Order) → covers (facts h) o d.a ≡ false → IsDemanded after c o d → (Contains (list_in old o) d) ⊎ ((o ≡ Avet) × Contains refill d)
+          refilled Eavt bare now = absurd (true≢false bare)
+          refilled Aevt bare now = absurd (true≢false bare)
+          refilled Avet bare now = inr (refl, (is.refill_is.members d).1 (there, now, λ before. true≢false (sym before.0.is_covered ∙ bare)))
+          refilled Vaet bare now = absurd (true≢false (sym (covered_before Vaet d (λ e. cc) there now.0.is_covered) ∙ bare))
+
+      listed : (order : Order) (d : Datom) → IsDemanded after c order d → Contains (list_in new order) d
+      listed order d demanded =
+          ((grown order).members d).1 (elim (Contains-append_cases (said h) entry.datoms d (subst (λ (ds : List Datom). Contains ds d) (said-push h entry) demanded.0.is_said)) [
+            | inl before ↦ inl (offered order d before demanded)
+            | inr now ↦ inr now
+          ], is.coverage_is order d.a ∙ demanded.0.is_covered)
+
+      pub stands : LiveStands (lists_of new) after c
+      stands order =
+          subst (λ (ds : List Datom). IsRisingListOf order ds (λ d. IsIndexed after order d × IsLive after c order d)) (sym (same_list new order)) record {
+            rising = rising-rises order (list_in new order) (grown order).rising;
+            members = λ d. (demanded_now order d, listed order d);
+          }
+
+-- what holds in each of the four orders
+pub in_each : (P : Order → Type 0) → P Eavt → P Aevt → P Avet → P Vaet → (order : Order) → P order
+in_each P e a v r Eavt = e
+in_each P e a v r Aevt = a
+in_each P e a v r Avet = v
+in_each P e a v r Vaet = r

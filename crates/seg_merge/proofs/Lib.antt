@@ -1,0 +1,10 @@
+pub mod Lists
+pub mod Before
+pub mod Merges
+pub mod Midway
+pub mod Planning
+pub mod Ranges
+pub mod Pieces
+pub mod Numbers
+pub mod Standing
+pub mod Orders

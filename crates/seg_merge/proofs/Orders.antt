@@ -1,0 +1,114 @@
+-- The plan and the tree of one order, and those of all four.
+use Rattle.std.proofs.Common.{◌≡◌, ℕ, ◌+◌, ◌-◌, ◌<◌, ◌≤◌, ◌⊎◌, Bool, List, [], ◌∷◌, ◌++◌, max, refl, sym, ap, ◌∙◌, subst, inl, inr, arith}
+use Rattle.std.specs.Prelude.{◌↔◌, Contains, IsTrue, filter}
+use Rattle.std.specs.List.{All, range_with_len}
+use Rattle.std.proofs.lemmas.List.Elements.{All-weaker, Contains-append_left, Contains-append_right, Contains-append_cases}
+use Rattle.fb_values.specs.declared.facts.Datom.{Datom}
+use Rattle.fb_values.specs.declared.indexes.Order.{Order}
+use Rattle.fb_values.specs.declared.indexes.Order.TheVariants.{Eavt, Aevt, Avet, Vaet}
+use Rattle.fb_covers.specs.Coverage.{Coverage}
+use Rattle.fb_search.specs.Rising.{IsRising}
+use Rattle.live_index.specs.Growth.{HasNoTwins, is_held}
+use Rattle.live_index.proofs.Members.{from_filter, into_filter}
+use Rattle.seg_tree.specs.Nodes.{LeafNode, DirectoryNode, leaf_datoms, tree_datoms, tree_leaves}
+use Rattle.seg_tree.specs.Ids.{node_ids, next_above, is_new, old_leaves}
+use Rattle.seg_tree.specs.Built.{IsBuilt}
+use Rattle.seg_tree.specs.Indexes.{tree_in, root_ids}
+use Rattle.seg_tree.specs.declared.roots.Roots.{Roots}
+use Rattle.seg_tree.proofs.Making.{tree_datoms-leaves, next_above_append}
+use Rattle.seg_merge.specs.Merged.{is_due, due_of, IsMergeable, KeepsLeaves}
+use Rattle.seg_merge.specs.Plans.{Planned, IsUnion}
+use Rattle.seg_merge.specs.Merges.{IsPlan, HasOlderLeaves}
+use Rattle.seg_merge.specs.Four.{plan_in}
+use Rattle.seg_merge.specs.declared.merge.Plans.{Plans}
+use Rattle.seg_merge.proofs.Before.{rising-filter}
+use Rattle.seg_merge.proofs.Planning.{single_part}
+use Rattle.seg_merge.proofs.Numbers.{old_leaves-later, numbered_later, tree_leaf_below}
+
+-- ---- one order
+
+pub leaves_rise : (order : Order) (tree : List DirectoryNode) (ls : List LeafNode) → ls ≡ tree_leaves tree → IsRising order (tree_datoms tree) → IsRising order (leaf_datoms ls)
+leaves_rise order tree ls is rising = subst (λ (xs : List LeafNode). IsRising order (leaf_datoms xs)) (sym is) (subst (IsRising order) (tree_datoms-leaves tree) rising)
+
+pub due_rises : (order : Order) (coverage : Coverage) (c : ℕ) (live due : List Datom) → due ≡ due_of coverage c order live → IsRising order live → IsRising order due
+due_rises order coverage c live due is rising = subst (IsRising order) (sym is) (rising-filter order (is_due coverage c order) live rising)
+
+pub due_single : (order : Order) (coverage : Coverage) (c : ℕ) (tree : List DirectoryNode) (ls : List LeafNode) (live due : List Datom) → ls ≡ tree_leaves tree → due ≡ due_of coverage c order live → HasNoTwins (tree_datoms tree ++ live) → HasNoTwins (leaf_datoms ls ++ due)
+due_single order coverage c tree ls live due ls_is due_is single =
+    single_part (tree_datoms tree ++ live) (leaf_datoms ls ++ due) single
+    (λ x there. elim (Contains-append_cases (leaf_datoms ls) due x there) [
+      | inl a ↦ Contains-append_left (tree_datoms tree) live x (subst (λ (ds : List Datom). Contains ds x) (ap leaf_datoms ls_is ∙ sym (tree_datoms-leaves tree)) a)
+      | inr b ↦ Contains-append_right (tree_datoms tree) live x (from_filter (is_due coverage c order) live x (subst (λ (ds : List Datom). Contains ds x) due_is b)).0
+    ])
+
+pub plan_is : (order : Order) (coverage : Coverage) (c : ℕ) (tree : List DirectoryNode) (ls : List LeafNode) (live due : List Datom) (plan : Planned) → ls ≡ tree_leaves tree → due ≡ due_of coverage c order live
+    → IsUnion order coverage (leaf_datoms ls) due plan.datoms → All (Contains ls) plan.kept → KeepsLeaves order coverage ls due plan.kept → IsPlan order coverage c tree live plan
+plan_is order coverage c tree ls live due plan ls_is due_is union older stays =
+    let e : leaf_datoms ls ≡ tree_datoms tree = ap leaf_datoms ls_is ∙ sym (tree_datoms-leaves tree) in
+    record {
+      merged = record {
+        rising = union.rising;
+        members = λ d. (
+          λ there. elim ((union.members d).0 there) [
+            | inl a ↦ inl (subst (λ (ds : List Datom). Contains ds d) e a.0, a.1)
+            | inr b ↦ inr (from_filter (is_due coverage c order) live d (subst (λ (ds : List Datom). Contains ds d) due_is b))
+          ],
+          λ given. elim given [
+            | inl a ↦ (union.members d).1 (inl (subst (λ (ds : List Datom). Contains ds d) (sym e) a.0, a.1))
+            | inr b ↦ (union.members d).1 (inr (subst (λ (ds : List Datom). Contains ds d) (sym due_is) (into_filter (is_due coverage c order) live d b.0 b.1)))
+          ],
+        );
+      };
+      older = subst (λ (xs : List LeafNode). All (Contains xs) plan.kept) ls_is older;
+      stays = subst (λ (ds : List Datom). KeepsLeaves order coverage (tree_leaves tree) ds plan.kept) due_is (subst (λ (xs : List LeafNode). KeepsLeaves order coverage xs due plan.kept) ls_is stays);
+    }
+
+-- the tree of a plan whose ids begin at a later number
+pub kept_first : (first later next : ℕ) (plan : Planned) (tree : List DirectoryNode) → first ≤ later → All (λ (leaf : LeafNode). leaf.id < first) plan.kept → IsBuilt (record { first = later; datoms = plan.datoms; kept = plan.kept }) tree next → old_leaves first (tree_leaves tree) ≡ plan.kept
+kept_first first later next plan tree le all built =
+    old_leaves-later first later (tree_leaves tree) le (subst (All (λ (leaf : LeafNode). leaf.id < first)) (sym built.kept) all) ∙ built.kept
+
+pub ids_first : (first later next : ℕ) (plan : Planned) (tree : List DirectoryNode) → first ≤ later → All (λ (leaf : LeafNode). leaf.id < first) plan.kept → IsBuilt (record { first = later; datoms = plan.datoms; kept = plan.kept }) tree next → filter (is_new first) (node_ids tree) ≡ range_with_len later (next - later)
+ids_first first later next plan tree le all built = numbered_later first later next (node_ids tree) plan.kept le built.old all built.new
+
+pub older_than : (first later : ℕ) (leaves : List LeafNode) → first ≤ later → All (λ (leaf : LeafNode). leaf.id < first) leaves → All (λ (leaf : LeafNode). leaf.id < later) leaves
+older_than first later leaves le all = All-weaker (λ (leaf : LeafNode). leaf.id < first) (λ (leaf : LeafNode). leaf.id < later) (λ leaf less. omega (arith, less)) leaves all
+
+-- ---- all four
+
+pub four_plans : (P : Order → Planned → Type 0) (plans : Plans) → P Eavt plans.eavt → P Aevt plans.aevt → P Avet plans.avet → P Vaet plans.vaet → (order : Order) → P order (plan_in plans order)
+four_plans P plans e a v r Eavt = e
+four_plans P plans e a v r Aevt = a
+four_plans P plans e a v r Avet = v
+four_plans P plans e a v r Vaet = r
+
+pub four_trees : (P : Order → Planned → List DirectoryNode → Type 0) (plans : Plans) (roots : Roots) → P Eavt plans.eavt roots.eavt → P Aevt plans.aevt roots.aevt → P Avet plans.avet roots.avet → P Vaet plans.vaet roots.vaet → (order : Order) → P order (plan_in plans order) (tree_in roots order)
+four_trees P plans roots e a v r Eavt = e
+four_trees P plans roots e a v r Aevt = a
+four_trees P plans roots e a v r Avet = v
+four_trees P plans roots e a v r Vaet = r
+
+next_in_order : (roots : Roots) (order : Order) → next_above (node_ids (tree_in roots order)) ≤ next_above (root_ids roots)
+next_in_order roots order =
+    let es = node_ids roots.eavt in
+    let bs = node_ids roots.aevt in
+    let vs = node_ids roots.avet in
+    let rs = node_ids roots.vaet in
+    let one = next_above_append es bs in
+    let two = next_above_append (es ++ bs) vs in
+    let three = next_above_append ((es ++ bs) ++ vs) rs in
+    at order one two three
+  where
+    at : (order : Order) → next_above (node_ids roots.eavt ++ node_ids roots.aevt) ≡ max (next_above (node_ids roots.eavt)) (next_above (node_ids roots.aevt))
+        → next_above ((node_ids roots.eavt ++ node_ids roots.aevt) ++ node_ids roots.avet) ≡ max (next_above (node_ids roots.eavt ++ node_ids roots.aevt)) (next_above (node_ids roots.avet))
+        → next_above (root_ids roots) ≡ max (next_above ((node_ids roots.eavt ++ node_ids roots.aevt) ++ node_ids roots.avet)) (next_above (node_ids roots.vaet))
+        → next_above (node_ids (tree_in roots order)) ≤ next_above (root_ids roots)
+    at Eavt one two three = omega (arith, one, two, three)
+    at Aevt one two three = omega (arith, one, two, three)
+    at Avet one two three = omega (arith, one, two, three)
+    at Vaet one two three = omega (arith, one, two, three)
+
+pub kept_are_older : (roots : Roots) (first : ℕ) (order : Order) (kept : List LeafNode) → next_above (root_ids roots) ≤ first → All (Contains (tree_leaves (tree_in roots order))) kept → All (λ (leaf : LeafNode). leaf.id < first) kept
+kept_are_older roots first order kept fresh older =
+    All-weaker (Contains (tree_leaves (tree_in roots order))) (λ (leaf : LeafNode). leaf.id < first)
+    (λ leaf there. omega (arith, tree_leaf_below (tree_in roots order) leaf there, next_in_order roots order, fresh)) kept older

@@ -1,0 +1,95 @@
+//! The merge in one order, leaf by leaf.
+ghost use Rattle.std.specs.Prelude.{◌≡◌, ◌<◌, ◌≤◌, ◌++◌, Some, true, false, length, map, take, drop, filter, IfOk, IsTrue, Contains};
+ghost use Rattle.std.specs.List.{All, slice_get};
+ghost use Rattle.std.specs.Option.{option_copied};
+ghost use Rattle.std.specs.Arc.{arc_value};
+ghost use Rattle.fb_values.specs.declared.facts.Datom.{Datom};
+ghost use Rattle.fb_search.specs.Rising.{IsRising};
+ghost use Rattle.live_index.specs.Growth.{HasNoTwins};
+ghost use Rattle.seg_tree.specs.Nodes.{LeafNode, leaf_datoms};
+ghost use Rattle.seg_merge.specs.Merged.{goes_before, KeepsLeaves};
+ghost use Rattle.seg_merge.specs.Plans.{IsUnion, AddsLeaf};
+
+use crate::leaf::{are_held, place_in, union};
+use crate::plan::Plan;
+use fb_covers::Covers;
+use fb_memory::Memory;
+use fb_values::{Datom, Order};
+use seg_tree::Leaf;
+use std::alloc::Global;
+use std::sync::Arc;
+
+/// The older leaves with the added datoms: a leaf stays where no added datom falls into its range.
+pub fn planned(
+    alloc: Global,
+    order: Order,
+    covers: &Covers,
+    leaves: &[Arc<Leaf>],
+    added: &[Datom],
+) -> Result<Plan, Memory>
+    requires leaves_rise { IsRising order (leaf_datoms (map arc_value leaves.now)) }
+    requires added_rises { IsRising order added.now }
+    requires single { HasNoTwins (leaf_datoms (map arc_value leaves.now) ++ added.now) }
+    ensures union { IfOk result (λ plan. IsUnion order covers.now (leaf_datoms (map arc_value leaves.now)) added.now plan.datoms) }
+    ensures older { IfOk result (λ plan. All (Contains (map arc_value leaves.now)) plan.kept) }
+    ensures stays { IfOk result (λ plan. KeepsLeaves order covers.now (map arc_value leaves.now) added.now plan.kept) }
+{
+    let mut plan = Plan::new(alloc);
+    let mut left = added;
+    for place in 0..leaves.len() {
+        let (now, behind) = left.split_at(before_leaf(order, leaves, place + 1, left)?);
+        plan = with_leaf(alloc, plan, order, covers, &leaves[place], now)?;
+        left = behind;
+    }
+    // Where there is a leaf, the last one took them all.
+    plan.add(union(alloc, order, covers, &[], left)?)
+}
+
+/// How many of the datoms go before the leaf with this number: all of them where there is no such leaf.
+fn before_leaf(
+    order: Order,
+    leaves: &[Arc<Leaf>],
+    place: usize,
+    datoms: &[Datom],
+) -> Result<usize, Memory>
+    requires { IsRising order datoms.now }
+    ensures within { IfOk result (λ n. n ≤ length datoms.now) }
+    ensures some { (leaf : LeafNode) → slice_get (map arc_value leaves.now) place ≡ Some leaf → 0 < length leaf.datoms }
+    ensures front { IfOk result (λ n. (d : Datom) → Contains (take n datoms.now) d → goes_before order (map arc_value leaves.now) place d ≡ true) }
+    ensures back { IfOk result (λ n. (d : Datom) → Contains (drop n datoms.now) d → goes_before order (map arc_value leaves.now) place d ≡ false) }
+{
+    match leaf_at(leaves, place) {
+        None => Ok(datoms.len()),
+        Some(leaf) => place_in(order, datoms, leaf.first()),
+    }
+}
+
+fn leaf_at(leaves: &[Arc<Leaf>], place: usize) -> Option<&Leaf>
+    ensures { option_copied result ≡ slice_get (map arc_value leaves.now) place }
+{
+    if place < leaves.len() {
+        Some(&leaves[place])
+    } else {
+        None
+    }
+}
+
+/// The plan with a leaf and with the datoms that fall into its range.
+fn with_leaf(
+    alloc: Global,
+    plan: Plan,
+    order: Order,
+    covers: &Covers,
+    leaf: &Arc<Leaf>,
+    added: &[Datom],
+) -> Result<Plan, Memory>
+    requires leaf_rises { IsRising order (arc_value leaf.now).datoms }
+    requires added_rises { IsRising order added.now }
+    requires single { HasNoTwins ((arc_value leaf.now).datoms ++ added.now) }
+    ensures { IfOk result (λ new. AddsLeaf order covers.now (arc_value leaf.now) added.now plan new) }
+{
+    if added.is_empty() && are_held(order, covers, leaf.datoms()) {
+        return plan.keep(leaf);
+    }
+    plan.add(union(alloc, order, covers, leaf.datoms(), added)?)
+}
