@@ -31,8 +31,8 @@ impl From<Memory> for OpenFail {
     }
 }
 
-// Counts a fault. At its last value the count stands still.
-pub(crate) fn raise(count: &mut u64)
+/// Counts a fault. At its last value the count stands still.
+pub fn raise(count: &mut u64)
     ensures value { count.new ≡ raised count.old }
     ensures rose { Rose count.old count.new }
 {

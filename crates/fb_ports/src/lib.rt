@@ -11,10 +11,10 @@ mod real;
 mod streams;
 
 pub use clocks::Clock;
-pub use fails::{Failed, OpenFail};
+pub use fails::{Failed, OpenFail, raise};
 pub use fb_memory::Memory;
 pub use hosts::Host;
-pub use memory::{FixedClock, MemHost, MemSink, MemSource};
+pub use memory::{CallPlan, FixedClock, MemHost, MemSink, MemSource};
 pub use real::{FileSink, FileSource, RealHost, SystemClock};
 pub use streams::{Sink, Source};
 

@@ -7,5 +7,6 @@ mod sources;
 
 pub use clocks::FixedClock;
 pub use hosts::MemHost;
+pub use plan::CallPlan;
 pub use sinks::MemSink;
 pub use sources::MemSource;

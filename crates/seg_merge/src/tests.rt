@@ -1,3 +1,5 @@
+ghost use Rattle.std.specs.Prelude.{◌≡◌, [], IfOk};
+
 use super::*;
 use fb_covers::Covers;
 use fb_memory::Memory;
@@ -6,8 +8,6 @@ use live_index::Live;
 use seg_tree::{Roots, Tree};
 use std::alloc::Global;
 use std::test::Fail;
-
-ghost use Rattle.std.specs.Prelude.{◌≡◌, [], IfOk};
 
 fn no_roots(alloc: Global) -> Result<Roots, Memory>
     ensures { IfOk result (λ roots. roots ≡ record { eavt = []; aevt = []; avet = []; vaet = [] }) }
@@ -33,7 +33,15 @@ fn one_datom_goes_into_the_trees_that_hold_it(rt: HostRuntime) -> Result<(), Fai
     let alloc = rt.alloc();
     let roots = no_roots(alloc)?;
     let covers = Covers::of(alloc, vec![in alloc; 7]?, Vec::new(alloc))?;
-    let datoms = vec![in alloc; Datom { e: 5, a: 7, v: Value::Bool(true), t: 1, added: false }]?;
+    let datoms = vec![in alloc;
+        Datom {
+            e: 5,
+            a: 7,
+            v: Value::Bool(true),
+            t: 1,
+            added: false
+        },
+    ]?;
     let entry = Entry {
         t: 1,
         instant: 0,

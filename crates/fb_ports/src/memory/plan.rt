@@ -7,8 +7,9 @@ use crate::Failed;
 use crate::fails::raise;
 use std::marker::Model;
 
+/// Counts the calls of an object in memory and their faults, and says which calls fail.
 #[derive(Drop)]
-pub(crate) struct CallPlan {
+pub struct CallPlan {
     fails: Vec<u64>,
     made: u64,
     faults: u64,
@@ -23,7 +24,8 @@ impl Model for CallPlan {
 }
 
 impl CallPlan {
-    pub(crate) fn new(fails: Vec<u64>) -> CallPlan
+    /// The calls that are numbered in `fails`, from 1, fail.
+    pub fn new(fails: Vec<u64>) -> CallPlan
         ensures { result ≡ no_calls fails.items }
     {
         CallPlan {
@@ -33,14 +35,14 @@ impl CallPlan {
         }
     }
 
-    pub(crate) fn faults(&self) -> u64
+    pub fn faults(&self) -> u64
         ensures { result ≡ self.now.faults }
     {
         self.faults
     }
 
-    // Counts a call, which fails at once if its number is listed.
-    pub(crate) fn begin(&mut self) -> Result<(), Failed>
+    /// Counts a call, which fails at once if its number is listed.
+    pub fn begin(&mut self) -> Result<(), Failed>
         ensures fails { is_err result ≡ fails_next self.old }
         ensures ok { OnOk result (self.new ≡ after_call self.old) }
         ensures fault { OnErr result (self.new ≡ after_fault self.old) }
@@ -53,8 +55,8 @@ impl CallPlan {
         Ok(())
     }
 
-    // Counts that the call which began has failed.
-    pub(crate) fn fault(&mut self) -> Failed
+    /// Counts that the call which began has failed.
+    pub fn fault(&mut self) -> Failed
         ensures count { self.new ≡ record self.old { faults = raised self.old.faults } }
         ensures rose { Rose self.old.faults self.new.faults }
     {

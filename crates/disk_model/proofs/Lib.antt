@@ -1,0 +1,5 @@
+pub mod Calls
+pub mod Journals
+pub mod Moments
+pub mod Readings
+pub mod Records

@@ -1,0 +1,4 @@
+pub mod Disk
+pub mod Examples
+pub mod Journal
+pub mod Record

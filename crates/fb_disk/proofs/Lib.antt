@@ -1,0 +1,5 @@
+pub mod StepLists
+pub mod Placing
+pub mod Replays
+pub mod Pasts
+pub mod Left

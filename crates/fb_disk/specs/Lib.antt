@@ -1,0 +1,4 @@
+pub mod Images
+pub mod MemDisks
+pub mod Room
+pub mod Steps

@@ -1,0 +1,6 @@
+pub mod Appends
+pub mod Filling
+pub mod Framing
+pub mod Outcomes
+pub mod Starting
+pub mod Walking

@@ -1,0 +1,57 @@
+-- What a start answers.
+-- This project's own choice.
+use Rattle.std.specs.Prelude.{◌≡◌, ◌<◌, ◌≤◌, ◌+◌, ◌^◌, ℕ, List, [], length, Option, Result, Ok, Err, ⊤}
+use Rattle.fb_ports.specs.Faults.{Rose}
+use Rattle.disk_model.specs.Disk.{WhereTold, Only}
+use Rattle.disk_model.specs.Journal.{opened, Holds, JournalBreaks}
+use Rattle.fb_journal.specs.declared.journals.Journal.{Journal}
+use Rattle.fb_journal.specs.declared.records.End.{End}
+use Rattle.fb_journal.specs.declared.records.End.TheVariants.{Closed, Broken}
+use Rattle.fb_journal.specs.declared.starts.StartFault.{StartFault}
+use Rattle.fb_journal.specs.declared.starts.StartFault.TheVariants.{Disk, BadLog, Memory}
+use Rattle.fb_journal.specs.declared.starts.StartStop.{StartStop}
+
+-- a fault of the disk raised its count, and nothing else did
+abbrev pub CountsStart : StartFault → ℕ → ℕ → Type 0
+CountsStart Disk old new = Rose old new
+CountsStart (BadLog nth at) old new = new ≡ old
+CountsStart Memory old new = new ≡ old
+
+-- The file's first fault, where that is why, with the payloads of the records before it. Else there are none.
+abbrev pub IsWhyNot : List ℕ → Option (List ℕ) → StartFault → List (List ℕ) → Type 0
+IsWhyNot mark told (BadLog nth at) before = WhereTold told (λ file. JournalBreaks mark before file nth at)
+IsWhyNot mark told Disk before = before ≡ []
+IsWhyNot mark told Memory before = before ≡ []
+
+-- it is no fault of the file
+abbrev pub IsNotBad : StartFault → Type 0
+IsNotBad (BadLog nth at) = ⊥
+IsNotBad Disk = ⊤
+IsNotBad Memory = ⊤
+
+-- behind these records there is a place for a gate and what follows it
+abbrev pub IsPlace : List (List ℕ) → End → Type 0
+IsPlace records (Closed gate) = (gate + 1 < 2 ^ 64) × (length records ≤ gate)
+IsPlace records (Broken nth at) = ⊤
+
+-- the fault with which records end
+abbrev pub IsFaultOf : End → StartFault → Type 0
+IsFaultOf end fault = (nth : ℕ) × (at : ℕ) × (end ≡ Broken nth at) × (fault ≡ BadLog nth at)
+
+-- the disk after a start
+abbrev pub disk_after : {D : Type 0} {g : _} → Result (Journal D g × List (List ℕ)) (StartStop D) → D
+disk_after (Ok r) = r.0.disk
+disk_after (Err s) = s.disk
+
+-- Behind these records a gate is closed, and they are on the disk.
+abbrev pub IsKept : {D : Type 0} → (D → Option (List ℕ)) → (D → List ℕ → Type 0) → List ℕ → List (List ℕ) → D → End → Type 0
+IsKept bytes images mark records disk (Closed gate) =
+    (gate ≡ length mark + length (opened records)) × WhereTold (bytes disk) (λ file. Holds mark records file × Only file (images disk))
+IsKept bytes images mark records disk (Broken nth at) = ⊤
+
+-- From some moment of a run on, a crash leaves an image that has P.
+pub record LeavesOnlyFrom {D : Type 0} (moment : D → ℕ) (since : D → ℕ → List ℕ → Type 0) (old new : D) (P : List ℕ → Type 0) : Type 0 where
+  pub from : ℕ
+  pub later : moment old ≤ from
+  pub in_time : from ≤ moment new
+  pub each : (image : List ℕ) → since new from image → P image
