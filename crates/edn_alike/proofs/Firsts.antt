@@ -69,12 +69,12 @@ module _ {X : Type 0} (f : X → form.Form) (xs : List X) where
   pub so_far_step : (i : ℕ) (x : X) (old new : Said) (fresh : Bool) → i < length xs → get_or xs i x ≡ x → SoFar (map f xs) i old
       → fresh ≡ not (any (alike (f x)) (form.forms (take i (map f xs)))) → fresh ≡ true → HasSaid (form.with_last (form.forms (take i (map f xs))) (f x)) new
       → SoFar (map f xs) (i + 1) new
-  so_far_step i x old new fresh l e s is yes h =
+  so_far_step i x old new fresh l e s is t h =
       let first : List form.Form = take i (map f xs) in
       let more : take (i + 1) (map f xs) ≡ first ++ f x ∷ [] = take_more (map f xs) i form.nil (within i l) ∙ ap (λ y. first ++ y ∷ []) (form_at i x l e) in
       let next : form.forms (take (i + 1) (map f xs)) ≡ form.with_last (form.forms first) (f x) = ap form.forms more ∙ forms_last first (f x) in
       let none : any (alike (f x)) (behind form.no_forms (form.forms first)) ≡ false =
-      ap (λ z. any (alike (f x)) z) (behind_is [] first) ∙ not_any (any (alike (f x)) (form.forms first)) (sym is ∙ yes) in
+      ap (λ z. any (alike (f x)) z) (behind_is [] first) ∙ not_any (any (alike (f x)) (form.forms first)) (sym is ∙ t) in
       record {
         has = subst (λ z. HasSaid z new) (sym next) h;
         apart = subst (λ z. distinct z ≡ true) (sym next) (distinct_last form.no_forms (form.forms first) (f x) s.apart none);
@@ -82,8 +82,8 @@ module _ {X : Type 0} (f : X → form.Form) (xs : List X) where
 
   pub so_far_twice : (i : ℕ) (x : X) (old : Said) (fresh : Bool) → i < length xs → get_or xs i x ≡ x → SoFar (map f xs) i old
       → fresh ≡ not (any (alike (f x)) (form.forms (take i (map f xs)))) → fresh ≡ false → IsFirstTwice (map f xs) (Some i)
-  so_far_twice i x old fresh l e s is no =
-      (within i l, s.apart, ap (λ g. any (alike g) (form.forms (take i (map f xs)))) (form_at i x l e) ∙ some_any (any (alike (f x)) (form.forms (take i (map f xs)))) (sym is ∙ no))
+  so_far_twice i x old fresh l e s is t =
+      (within i l, s.apart, ap (λ g. any (alike g) (form.forms (take i (map f xs)))) (form_at i x l e) ∙ some_any (any (alike (f x)) (form.forms (take i (map f xs)))) (sym is ∙ t))
 
   pub so_far_all : (i : ℕ) (said : Said) → length xs ≤ i → SoFar (map f xs) i said → IsFirstTwice (map f xs) None
   so_far_all i said l s = subst (λ zs. distinct (form.forms zs) ≡ true) (take_all i (map f xs) (subst (λ n. n ≤ i) (sym (length-map xs f)) l)) s.apart

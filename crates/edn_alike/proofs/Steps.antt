@@ -31,21 +31,24 @@ pair_codes_push (r ∷ ps) p (b ∷ cs) c h q = (h.0, pair_codes_push ps p cs c 
 mapped_more : {X Y : Type 0} (f : X → Y) (xs : List X) (i : ℕ) (x : X) → i < length xs → get_or xs i x ≡ x → map f (take (i + 1) xs) ≡ map f (take i xs) ++ f x ∷ []
 mapped_more f xs i x l e = ap (map f) (take_more xs i x l ∙ ap (λ y. take i xs ++ y ∷ []) e) ∙ map-append f (take i xs) (x ∷ [])
 
-pub forms_step : {X : Type 0} (f : X → form.Form) (xs : List X) (i : ℕ) (x : X) (cs : List (Vec Token Global)) (c : Vec Token Global) → i < length xs → get_or xs i x ≡ x
-    → AreCodes token_cmp (form.forms (map f (take i xs))) (map vec_items cs) → IsCode token_cmp (f x) c.items
-    → AreCodes token_cmp (form.forms (map f (take (i + 1) xs))) (map vec_items (cs ++ c ∷ []))
-forms_step f xs i x cs c l e p q =
-    subst (λ fs. AreCodes token_cmp (form.forms fs) (map vec_items (cs ++ c ∷ []))) (sym (mapped_more f xs i x l e))
-    (subst (AreCodes token_cmp (form.forms (map f (take i xs) ++ f x ∷ []))) (sym (map-append vec_items cs (c ∷ []))) (codes_push (map f (take i xs)) (f x) (map vec_items cs) c.items p q))
+pub items_step : (xs : List Edn) (i : ℕ) (x : Edn) (cs new : List (Vec Token Global)) (c : Vec Token Global) → i < length xs → x ≡ get_or xs i x → new ≡ cs ++ c ∷ []
+    → AreCodes token_cmp (form.forms (forms_of (take i xs))) (map vec_items cs) → IsCode token_cmp (form_of x) c.items
+    → AreCodes token_cmp (form.forms (forms_of (take (i + 1) xs))) (map vec_items new)
+items_step xs i x cs new c l e n p q =
+    let fs : List form.Form = forms_of (take i xs) in
+    subst (λ (zs : List form.Form). AreCodes token_cmp (form.forms zs) (map vec_items new)) (sym (mapped_more form_of xs i x l (sym e)))
+    (subst (λ (zs : List (List Token)). AreCodes token_cmp (form.forms (fs ++ form_of x ∷ [])) zs) (sym (ap (map vec_items) n ∙ map-append vec_items cs (c ∷ [])))
+    (codes_push fs (form_of x) (map vec_items cs) c.items p q))
 
-pub pairs_step : (xs : List (Edn × Edn)) (i : ℕ) (x : Edn × Edn) (cs : List (Vec Token Global)) (k v : List Token) (c : Vec Token Global) → i < length xs → get_or xs i x ≡ x
-    → ArePairCodes token_cmp (form.pairs (pairs_of (take i xs))) (map vec_items cs) → IsCode token_cmp (form_of x.0) k → IsCode token_cmp (form_of x.1) v
-    → c.items ≡ joined (Sequence 2) (k ∷ v ∷ []) → ArePairCodes token_cmp (form.pairs (pairs_of (take (i + 1) xs))) (map vec_items (cs ++ c ∷ []))
-pairs_step xs i x cs k v c l e p q r j =
-    let one : IsPairCode (IsCode token_cmp (form_of x.0)) (IsCode token_cmp (form_of x.1)) c.items = record { key = k; value = v; is_key = q; is_value = r; joins = j } in
-    subst (λ ps. ArePairCodes token_cmp (form.pairs ps) (map vec_items (cs ++ c ∷ []))) (sym (mapped_more (λ p. (form_of p.0, form_of p.1)) xs i x l e))
-    (subst (ArePairCodes token_cmp (form.pairs (pairs_of (take i xs) ++ (form_of x.0, form_of x.1) ∷ []))) (sym (map-append vec_items cs (c ∷ [])))
-    (pair_codes_push (pairs_of (take i xs)) (form_of x.0, form_of x.1) (map vec_items cs) c.items p one))
+pub pairs_step : (xs : List (Edn × Edn)) (i : ℕ) (x : Edn × Edn) (cs new : List (Vec Token Global)) (k v c : Vec Token Global) → i < length xs → x ≡ get_or xs i x → new ≡ cs ++ c ∷ []
+    → ArePairCodes token_cmp (form.pairs (pairs_of (take i xs))) (map vec_items cs) → IsCode token_cmp (form_of x.0) k.items → IsCode token_cmp (form_of x.1) v.items
+    → c.items ≡ joined (Sequence 2) (k.items ∷ v.items ∷ []) → ArePairCodes token_cmp (form.pairs (pairs_of (take (i + 1) xs))) (map vec_items new)
+pairs_step xs i x cs new k v c l e n p q r j =
+    let ps : List (form.Form × form.Form) = pairs_of (take i xs) in
+    let one : IsPairCode (IsCode token_cmp (form_of x.0)) (IsCode token_cmp (form_of x.1)) c.items = record { key = k.items; value = v.items; is_key = q; is_value = r; joins = j } in
+    subst (λ (zs : List (form.Form × form.Form)). ArePairCodes token_cmp (form.pairs zs) (map vec_items new)) (sym (mapped_more (λ p. (form_of p.0, form_of p.1)) xs i x l (sym e)))
+    (subst (λ (zs : List (List Token)). ArePairCodes token_cmp (form.pairs (ps ++ (form_of x.0, form_of x.1) ∷ [])) zs) (sym (ap (map vec_items) n ∙ map-append vec_items cs (c ∷ [])))
+    (pair_codes_push ps (form_of x.0, form_of x.1) (map vec_items cs) c.items p one))
 
 -- ---- collections
 

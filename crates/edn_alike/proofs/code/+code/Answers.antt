@@ -6,21 +6,18 @@ use Rattle.edn_alike.specs.Code.{joined, InOrder, IsCode, AreCodes, ArePairCodes
 use Rattle.edn_alike.specs.Order.{token_cmp}
 use Rattle.edn_alike.specs.declared.token.Token.{Token}
 use Rattle.edn_alike.specs.declared.token.Token.TheVariants.{Sequence, Map, Set}
-use Rattle.edn_alike.proofs.Steps.{forms_step, pairs_step, of_list, of_vector, of_set, of_map}
+use Rattle.edn_alike.proofs.Steps.{items_step, pairs_step, of_list, of_vector, of_set, of_map}
 use Rattle.edn_alike.proofs.code.+code.Goals as goal
 
 pub codes-loop-item-preserved : goal.codes-loop-item-preserved
 codes-loop-item-preserved t c =
-    let l = c.loop-item in
-    subst (λ (cs : List (Vec Token Global)). AreCodes token_cmp (form.forms (forms_of (take (l.item-index + 1) c.args.items.now))) (map vec_items cs)) (sym c.in_ok-push.ensures.items)
-    (forms_step form_of c.args.items.now l.item-index c.item-item.result l.codes.items c.in_ok-code.field-0 (omega arith) (sym c.item-item.is) l.invariant c.in_ok-code.ensures)
+    items_step c.args.items.now c.loop-item.item-index c.item-item.result c.loop-item.codes.items c.push.new.self.items c.in_ok-code.field-0
+    (omega arith) c.item-item.is c.in_ok-push.ensures.items c.loop-item.invariant c.in_ok-code.ensures
 
 pub pair_codes-loop-key-preserved : goal.pair_codes-loop-key-preserved
 pair_codes-loop-key-preserved t c =
-    let l = c.loop-key in
-    subst (λ (cs : List (Vec Token Global)). ArePairCodes token_cmp (form.pairs (pairs_of (take (l.key-index + 1) c.args.pairs.now))) (map vec_items cs)) (sym c.in_ok-push.ensures.items)
-    (pairs_step c.args.pairs.now l.key-index c.loop-key-item.result l.codes.items c.in_ok-code.field-0.items c.in_ok-code-2.field-0.items c.in_ok-pair.field-0 (omega arith) (sym c.loop-key-item.is)
-    l.invariant c.in_ok-code.ensures c.in_ok-code-2.ensures c.in_ok-pair.ensures)
+    pairs_step c.args.pairs.now c.loop-key.key-index c.loop-key-item.result c.loop-key.codes.items c.push.new.self.items c.in_ok-code.field-0 c.in_ok-code-2.field-0 c.in_ok-pair.field-0
+    (omega arith) c.loop-key-item.is c.in_ok-push.ensures.items c.loop-key.invariant c.in_ok-code.ensures c.in_ok-code-2.ensures c.in_ok-pair.ensures
 
 pub code-returns-in_ok-codes-in-List : goal.code-returns-in_ok-codes-in-List
 code-returns-in_ok-codes-in-List t c =
