@@ -113,9 +113,9 @@ module _ (h : List Entry) (c : ℕ) (entry : Entry) (coverage : Coverage) (refil
     said_by_now order d there =
         elim (Contains-append_cases (list_in old order ++ refill) entry.datoms d there) [
           | inl older ↦ elim (Contains-append_cases (list_in old order) refill d older) [
-              | inl before ↦ said_before d (of_old order d before).0.is_said
-              | inr filled ↦ said_before d ((is.refill_is.members d).0 filled).0
-            ]
+            | inl before ↦ said_before d (of_old order d before).0.is_said
+            | inr filled ↦ said_before d ((is.refill_is.members d).0 filled).0
+          ]
           | inr now ↦ said_now d now
         ]
 
@@ -131,9 +131,9 @@ module _ (h : List Entry) (c : ℕ) (entry : Entry) (coverage : Coverage) (refil
           let covered : IsTrue (covers (facts after) order d.a) = sym (is.coverage_is order d.a) ∙ m.1 in
           elim m.0 [
             | inl older ↦ elim older [
-                | inl before ↦ let q = of_old order d before in (record { is_said = said_before d q.0.is_said; is_covered = covered }, live_on order d q.1)
-                | inr filled ↦ subst (λ (o : Order). IsDemanded after c o d) (sym filled.0) ((is.refill_is.members d).0 filled.1).1
-              ]
+              | inl before ↦ let q = of_old order d before in (record { is_said = said_before d q.0.is_said; is_covered = covered }, live_on order d q.1)
+              | inr filled ↦ subst (λ (o : Order). IsDemanded after c o d) (sym filled.0) ((is.refill_is.members d).0 filled.1).1
+            ]
             | inr now ↦ (record { is_said = said_now d now; is_covered = covered }, inl (later d now))
           ]
 
@@ -152,10 +152,13 @@ module _ (h : List Entry) (c : ℕ) (entry : Entry) (coverage : Coverage) (refil
 
       listed : (order : Order) (d : Datom) → IsDemanded after c order d → Contains (list_in new order) d
       listed order d demanded =
-          ((grown order).members d).1 (elim (Contains-append_cases (said h) entry.datoms d (subst (λ (ds : List Datom). Contains ds d) (said-push h entry) demanded.0.is_said)) [
-            | inl before ↦ inl (offered order d before demanded)
-            | inr now ↦ inr now
-          ], is.coverage_is order d.a ∙ demanded.0.is_covered)
+          ((grown order).members d).1 (
+            elim (Contains-append_cases (said h) entry.datoms d (subst (λ (ds : List Datom). Contains ds d) (said-push h entry) demanded.0.is_said)) [
+              | inl before ↦ inl (offered order d before demanded)
+              | inr now ↦ inr now
+            ],
+            is.coverage_is order d.a ∙ demanded.0.is_covered,
+          )
 
       pub stands : LiveStands (lists_of new) after c
       stands order =
