@@ -1,0 +1,17 @@
+//! The reader of EDN: the bytes of a text, and the form that stands next in them.
+#![tactic(auto)]
+
+mod construct;
+mod fault;
+mod front;
+mod land;
+mod progress;
+mod read;
+mod step;
+mod token;
+
+pub use edn_form::{Edn, Items, Pairs, Text};
+pub use edn_token::{What, is_keyword, is_symbol};
+pub use fault::EdnFault;
+pub use fb_memory::Memory;
+pub use read::read_form;

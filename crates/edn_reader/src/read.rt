@@ -1,0 +1,46 @@
+//! Reads the form that stands next.
+ghost use Rattle.std.specs.Prelude.{◌≡◌, ◌<◌, ◌≤◌, ℕ, ⊤, length};
+ghost use Rattle.edn_model.specs.Form.{Form};
+ghost use Rattle.edn_model.specs.Grammar.{FormStands, OnlyGap};
+ghost use Rattle.edn_model.specs.Faults.{Fault, FaultAt};
+ghost use Rattle.edn_reader.specs.Answers.{MatchAnswer, Answers};
+
+use crate::fault::EdnFault;
+use crate::progress::Progress;
+use crate::step::step;
+use edn_form::Edn;
+use std::alloc::Global;
+
+/// The form that stands next from a place on, and the place behind its text; none where white space, comments and
+/// discarded forms alone remain.
+pub fn read_form(alloc: Global, bytes: &[u8], at: usize) -> Result<Option<(Edn, usize)>, EdnFault>
+    ensures next { MatchAnswer result
+        (FormStands bytes.now at) (OnlyGap bytes.now at) (FaultAt bytes.now at) }
+    ensures ahead { MatchAnswer result
+        (λ _ next. (at < next) × (next ≤ length bytes.now)) ⊤
+        (λ _ byte. (at ≤ byte) × (byte ≤ length bytes.now)) }
+    ensures form { (f : Form) (next : ℕ) → FormStands bytes.now at f next
+        → MatchAnswer result (λ g m. (g ≡ f) × (m ≡ next)) ⊥ (λ _ _. ⊥) }
+    ensures end { OnlyGap bytes.now at → MatchAnswer result (λ _ _. ⊥) ⊤ (λ _ _. ⊥) }
+    ensures fault { (why : Fault) (byte : ℕ) → FaultAt bytes.now at why byte
+        → MatchAnswer result (λ _ _. ⊥) ⊥ (λ a b. (a ≡ why) × (b ≡ byte)) }
+{
+    answer(alloc, bytes, at)
+}
+
+fn answer(alloc: Global, bytes: &[u8], at: usize) -> Result<Option<(Edn, usize)>, EdnFault>
+    ensures { Answers bytes.now at result }
+{
+    if bytes.len() < at {
+        return Ok(None);
+    }
+    let mut frames = Vec::new(alloc);
+    let mut here = at;
+    loop {
+        match step(alloc, bytes, &mut frames, here)? {
+            Progress::Further(next) => here = next,
+            Progress::Read(form, next) => return Ok(Some((form, next))),
+            Progress::End => return Ok(None),
+        }
+    }
+}
