@@ -1,0 +1,4 @@
+pub mod Broken
+pub mod Built
+pub mod Kept
+pub mod Numbering

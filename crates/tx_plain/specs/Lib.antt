@@ -1,0 +1,9 @@
+pub mod DatomFaults
+pub mod Faults
+pub mod Kinds
+pub mod Lists
+pub mod Pairs
+pub mod Read
+pub mod Refusals
+pub mod Rules
+pub mod Transactions
