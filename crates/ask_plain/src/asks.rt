@@ -1,7 +1,7 @@
 //! What a transaction asks, with entities still by their names.
 ghost use Rattle.std.specs.Prelude.{◌≡◌, ◌++◌, ◌∷◌, [], IfOk};
 
-use edn_core::Edn;
+use edn_form::Edn;
 use fb_memory::Memory;
 use fb_values::Text;
 use std::alloc::Global;

@@ -6,7 +6,7 @@ ghost use Rattle.tx_model.specs.Values as values;
 ghost use Rattle.edn_form.specs.View.{form_of};
 
 use crate::words::{is_keyword_text, is_symbol_text, is_uri_text};
-use edn_core::Edn;
+use edn_form::Edn;
 use fb_memory::Memory;
 use fb_plain::{GREATEST_INSTANT, LEAST_INSTANT};
 use fb_values::Value;

@@ -1,4 +1,5 @@
 pub mod Calls
+pub mod Existence
 pub mod Journals
 pub mod Moments
 pub mod Readings

@@ -4,4 +4,4 @@
 
 mod laws;
 
-pub use laws::a_file_has_one_reading;
+pub use laws::{a_file_has_one_reading, each_file_has_a_reading};

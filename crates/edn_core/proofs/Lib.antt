@@ -1,5 +1,6 @@
-pub mod Fronts
-pub mod Inside
-pub mod Keywords
-pub mod Next
-pub mod Splits
+pub mod Stacks
+pub mod Leading
+pub mod Landings
+pub mod Openings
+pub mod Texts
+pub mod Answering

@@ -1,29 +1,26 @@
--- What stands at the front of some bytes: the steps of reading a form.
--- This project's own choice.
-use Rattle.std.specs.Prelude.{ℕ, ◌≤◌, ◌==◌, Bool, false, Option, Some, None, Result, Ok, Err, List, [], ◌∷◌, drop, take, length}
-use Rattle.fb_memory.specs.declared.Memory.{Memory}
-use Rattle.edn_model.specs.Form.{Form}
-use Rattle.edn_model.specs.Text.{EndsBefore, IsTextWithin}
-use Rattle.edn_form.specs.declared.form.Edn.{Edn}
-use Rattle.edn_form.specs.View.{form_of}
+-- What stands at the front of some bytes where neither white space nor a comment does.
+-- EDN, edn-format: "Built-in elements".
+use Rattle.std.specs.Prelude.{◌≡◌, ◌≢◌, ℕ, true, List, [], ◌∷◌, drop}
+use Rattle.edn_model.specs.Bytes.{quote, hash, open_paren, open_bracket, underscore, open_brace, is_closing, is_token_byte}
+use Rattle.edn_core.specs.declared.front.Front.{Front}
+use Rattle.edn_core.specs.declared.front.Front.TheVariants.{End, Quote, Closing, Discard, List as List', Vector, Map, Set, Token}
 
--- this byte comes first
-abbrev pub begins_with : ℕ → List ℕ → Bool
-begins_with b [] = false
-begins_with b (x ∷ bytes) = x == b
+-- a byte that may stand in a token, and with the next one no mark of a discard or a set
+pub record BeginsToken (here : List ℕ) : Type 0 where
+  pub first : ℕ
+  pub behind : List ℕ
+  pub is : here ≡ first ∷ behind
+  pub may : is_token_byte first ≡ true
+  pub no_discard : (more : List ℕ) → here ≢ hash ∷ underscore ∷ more
+  pub no_set : (more : List ℕ) → here ≢ hash ∷ open_brace ∷ more
 
--- the first len bytes are a text of the form, and a token may end there
-pub record HasFront (depth : ℕ) (bytes : List ℕ) (f : Form) (len : ℕ) : Type 0 where
-  pub order : len ≤ length bytes
-  pub text : IsTextWithin depth f (take len bytes)
-  pub ends : EndsBefore f (drop len bytes)
-
--- no text of a form stands in front
-abbrev pub NoFront : ℕ → List ℕ → Type 0
-NoFront depth bytes = (f : Form) (len : ℕ) → ¬ HasFront depth bytes f len
-
--- an answer on what stands in front: a form and the length of its text, or that there is none
-abbrev pub FrontIs : ℕ → List ℕ → Result (Option (Edn × ℕ)) Memory → Type 0
-FrontIs depth bytes (Ok (Some p)) = HasFront depth bytes (form_of p.0) p.1
-FrontIs depth bytes (Ok None) = NoFront depth bytes
-FrontIs depth bytes (Err e) = Unit {0}
+abbrev pub FrontIs : List ℕ → Front → Type 0
+FrontIs here End = here ≡ []
+FrontIs here Quote = here ≡ quote ∷ drop 1 here
+FrontIs here (Closing b) = (here ≡ b ∷ drop 1 here) × (is_closing b ≡ true)
+FrontIs here Discard = here ≡ hash ∷ underscore ∷ drop 2 here
+FrontIs here List' = here ≡ open_paren ∷ drop 1 here
+FrontIs here Vector = here ≡ open_bracket ∷ drop 1 here
+FrontIs here Map = here ≡ open_brace ∷ drop 1 here
+FrontIs here Set = here ≡ hash ∷ open_brace ∷ drop 2 here
+FrontIs here Token = BeginsToken here

@@ -1,2 +1,3 @@
 pub mod Answers
+pub mod Frames
 pub mod Fronts

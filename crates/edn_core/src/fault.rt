@@ -1,12 +1,22 @@
 //! Why a form was not read.
+use edn_token::What;
 use fb_memory::Memory;
 use thiserror::Error;
 
 #[derive(Clone, Copy, Debug, PartialEq, Eq, Error)]
 pub enum EdnFault {
-    /// No text of a form begins at this byte of the input.
+    /// A token of no kind, a bracket that closes nothing, a bad escape, a form that is said twice, or a byte that is no UTF-8.
     #[error("bad at byte {at}")]
     Bad { at: usize },
+    /// What EDN has and this reader does not.
+    #[error("unsupported at byte {at}")]
+    Unsupported { at: usize, what: What },
+    /// A collection or a discard inside 64 open ones.
+    #[error("deep at byte {at}")]
+    Deep { at: usize },
+    /// The input ends inside a form.
+    #[error("cut at byte {at}")]
+    Cut { at: usize },
     #[error("out of memory")]
     Memory,
 }

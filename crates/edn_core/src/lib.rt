@@ -1,14 +1,18 @@
-//! EDN as data, and its reader: the bytes of a text, and the form that stands next in them.
+//! The reader of EDN: the bytes of a text, and the form that stands next in them.
 #![tactic(auto)]
 
+mod construct;
 mod fault;
+mod front;
+mod land;
+mod open;
+mod progress;
 mod read;
-mod scan;
+mod step;
+mod token;
 
 pub use edn_form::{Edn, Items, Pairs, Text};
+pub use edn_token::{What, is_keyword, is_symbol};
 pub use fault::EdnFault;
 pub use fb_memory::Memory;
-pub use read::{is_keyword, read_form};
-
-#[cfg(test)]
-mod tests;
+pub use read::read_form;

@@ -9,6 +9,12 @@ ghost use Rattle.edn_instant.specs.Fronts.{Front, NoFront, IsClock, IsSeconds, I
 use crate::digits::{behind, split_digits, two};
 use edn_token::magnitude;
 
+const LAST_HOUR: u32 = 23;
+
+const LAST_MINUTE: u32 = 59;
+
+const LAST_SECOND: u32 = 59;
+
 /// A time of day and its offset from UTC, up to the end: its milliseconds from midnight, and how many minutes its clock is
 /// ahead.
 pub fn time(bytes: &[u8]) -> Option<(u32, i32)>
@@ -26,7 +32,7 @@ fn clock(bytes: &[u8]) -> Option<(u32, &[u8])>
 {
     let (hour, rest) = two(bytes)?;
     let (minute, rest) = two(behind(b':', rest)?)?;
-    if hour > 23 || minute > 59 {
+    if hour > LAST_HOUR || minute > LAST_MINUTE {
         return None;
     }
     Some((hour * 60 + minute, rest))
@@ -38,7 +44,7 @@ fn seconds(bytes: &[u8]) -> Option<(u32, &[u8])>
 {
     let (minutes, rest) = clock(bytes)?;
     let (second, rest) = two(behind(b':', rest)?)?;
-    if second > 59 {
+    if second > LAST_SECOND {
         return None;
     }
     Some((minutes * 60 + second, rest))

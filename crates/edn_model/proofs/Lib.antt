@@ -7,7 +7,6 @@ pub mod OnePlace
 pub mod Pieces
 pub mod Places
 pub mod Runs
-pub mod Unique
 pub mod Utf8
 pub mod Spelled
 pub mod NoToken

@@ -6,9 +6,7 @@ pub mod Grammar
 pub mod Instants
 pub mod Likeness
 pub mod Readable
-pub mod Reading
 pub mod Runs
 pub mod Steps
-pub mod Text
 pub mod Tokens
 pub mod Uuids

@@ -1,5 +1,6 @@
 pub mod Arms
 pub mod Dates
+pub mod Escapes
 pub mod Keeping
 pub mod Moments
 pub mod ReadBack

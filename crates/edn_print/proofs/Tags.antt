@@ -20,6 +20,8 @@ use Rattle.edn_model.specs.Canon.{CanonInstant, escaped, string_text, Canon}
 use Rattle.edn_model.proofs.Runs.{both_true, Each-tail, Each-append, Each-weaken}
 use Rattle.edn_model.proofs.Pieces.{is_ascii, ascii_utf8}
 use Rattle.edn_model.proofs.CanonText.{string_stands}
+use Rattle.edn_print.specs.Printed.{is_unescaped}
+use Rattle.edn_print.proofs.Escapes.{plain_text}
 
 -- ---- the bytes of a date and a time
 
@@ -57,7 +59,7 @@ date_marks year month day = Each-append is_mark (digits 4 year) (minus ∷ (digi
 second_marks : (hour minute second : ℕ) → Each is_mark (second_text hour minute second)
 second_marks hour minute second = Each-append is_mark (minute_text hour minute) (colon ∷ digits 2 second) (two_marks 2 2 colon hour minute refl) (one_more is_mark colon (digits 2 second) refl (digits_marks 2 second))
 
-pub canon_marks : (z : ℤ) (s : List ℕ) → CanonInstant z s → Each is_mark s
+canon_marks : (z : ℤ) (s : List ℕ) → CanonInstant z s → Each is_mark s
 canon_marks z s h =
     let fraction = Each-append is_mark (digits 3 h.milli) (codes "-00:00") (digits_marks 3 h.milli) refl in
     let clock = Each-append is_mark (second_text h.hour h.minute h.second) (point ∷ (digits 3 h.milli ++ codes "-00:00")) (second_marks h.hour h.minute h.second) (one_more is_mark point (digits 3 h.milli ++ codes "-00:00") refl fraction) in
@@ -65,8 +67,8 @@ canon_marks z s h =
     subst (Each is_mark) (sym h.text) (Each-append is_mark (date_text h.year h.month h.day) (84 ∷ (second_text h.hour h.minute h.second ++ point ∷ (digits 3 h.milli ++ codes "-00:00"))) (date_marks h.year h.month h.day) time)
 
 -- none of them is escaped
-unescaped : (b : ℕ) → is_mark b ≡ true → escaped b ≡ b ∷ []
-unescaped b h =
+mark_unescaped : (b : ℕ) → is_mark b ≡ true → is_unescaped b ≡ true
+mark_unescaped b h =
     let tab : (b == 9) ≡ false = grind (arith, nat_tests) in
     let feed : (b == 10) ≡ false = grind (arith, nat_tests) in
     let back : (b == 13) ≡ false = grind (arith, nat_tests) in
@@ -74,11 +76,8 @@ unescaped b h =
     let slash : (b == backslash) ≡ false = grind (arith, nat_tests) in
     rw (tab, feed, back, mark, slash) refl
 
-pub plain_text : (s : List ℕ) → Each is_mark s → flat_map escaped s ≡ s
-plain_text [] h = refl
-plain_text (b ∷ s) h =
-    let parts = Each-tail is_mark b s h in
-    ap (λ (x : List ℕ). x ++ flat_map escaped s) (unescaped b parts.0) ∙ ap (λ (x : List ℕ). b ∷ x) (plain_text s parts.1)
+pub canon_plain : (z : ℤ) (s : List ℕ) → CanonInstant z s → flat_map escaped s ≡ s
+canon_plain z s h = plain_text s (Each-weaken is_mark is_unescaped mark_unescaped s (canon_marks z s h))
 
 -- ---- instants
 

@@ -1,8 +1,8 @@
 -- What a call writes behind the bytes that were there.
 -- This project's own choice.
-use Rattle.std.specs.Prelude.{◌≡◌, ℕ, ◌/◌, ◌%◌, ◌==◌, if◌then◌else◌, List, [], ◌∷◌, ◌++◌}
+use Rattle.std.specs.Prelude.{◌≡◌, ℕ, ◌/◌, ◌%◌, ◌==◌, ◌&&◌, not, Bool, if◌then◌else◌, List, [], ◌∷◌, ◌++◌}
 use Rattle.std.specs.Io.{StartsWith}
-use Rattle.edn_model.specs.Bytes.{point}
+use Rattle.edn_model.specs.Bytes.{quote, point, backslash}
 use Rattle.edn_model.specs.Instants.{digits, second_text}
 
 -- the new bytes are the old ones with such a text behind them
@@ -16,6 +16,10 @@ pub record Encloses (opening : List ℕ) (closing : ℕ) (IsInside : List ℕ �
   pub inside : List ℕ
   pub is : IsInside inside
   pub text : bytes ≡ opening ++ (inside ++ closing ∷ [])
+
+-- stands in a printed string for itself
+abbrev pub is_unescaped : ℕ → Bool
+is_unescaped b = not (b == 9) && not (b == 10) && not (b == 13) && not (b == quote) && not (b == backslash)
 
 -- a space stands before each member but the first
 abbrev pub space_before : ℕ → List ℕ

@@ -1,6 +1,7 @@
 //! The canonical text of a form.
 #![tactic(auto)]
 
+mod escape;
 mod form;
 mod instant;
 pub mod laws;

@@ -1,12 +1,13 @@
 //! The texts of the tokens. Each call appends, and on an error keeps what stood there in front.
-ghost use Rattle.std.specs.Prelude.{◌≡◌, ◌≤◌, [], ◌∷◌, ◌++◌, OnOk, MatchOption, if◌then◌else◌, codes, flat_map, length};
+ghost use Rattle.std.specs.Prelude.{◌≡◌, ◌≤◌, ◌∷◌, ◌++◌, OnOk, if◌then◌else◌, codes, length};
 ghost use Rattle.std.specs.Fmt.{signed_decimal};
 ghost use Rattle.std.specs.Int.{w128, to_be_bytes};
 ghost use Rattle.uuid.specs.Text.{lower, hyphenated_text};
-ghost use Rattle.edn_model.specs.Canon.{escaped, string_text};
-ghost use Rattle.edn_model.specs.Bytes.{backslash, colon};
+ghost use Rattle.edn_model.specs.Canon.{string_text};
+ghost use Rattle.edn_model.specs.Bytes.{colon};
 ghost use Rattle.edn_print.specs.Printed.{Keeps};
 
+use crate::escape::print_inside;
 use fb_memory::Memory;
 use itoa::Buffer;
 use uuid::Uuid;
@@ -87,40 +88,6 @@ fn lower_text<'b>(uuid: Uuid, buffer: &'b mut [u8]) -> &'b str
     ensures { result.now ≡ hyphenated_text lower uuid }
 {
     uuid.hyphenated().encode_lower(buffer)
-}
-
-/// What stands between a string's quotes.
-fn print_inside(out: &mut Vec<u8>, bytes: &[u8]) -> Result<(), Memory>
-    ensures ok { OnOk result (out.new.items ≡ out.old.items ++ flat_map escaped bytes.now) }
-    ensures kept { Keeps out.old.items out.new.items }
-{
-    for b in bytes {
-        print_byte(out, *b)?;
-    }
-    Ok(())
-}
-
-fn print_byte(out: &mut Vec<u8>, b: u8) -> Result<(), Memory>
-    ensures ok { OnOk result (out.new.items ≡ out.old.items ++ escaped b) }
-    ensures kept { Keeps out.old.items out.new.items }
-{
-    match escape_letter(b) {
-        None => append(out, &[b]),
-        Some(letter) => append(out, &[b'\\', letter]),
-    }
-}
-
-/// The letter that stands behind a backslash for the byte, where it is escaped.
-fn escape_letter(b: u8) -> Option<u8>
-    ensures { MatchOption result (escaped b ≡ b ∷ []) (λ letter. escaped b ≡ backslash ∷ letter ∷ []) }
-{
-    match b {
-        b'\t' => Some(b't'),
-        b'\n' => Some(b'n'),
-        b'\r' => Some(b'r'),
-        b'"' | b'\\' => Some(b),
-        _ => None,
-    }
 }
 
 /// The bytes as they are.

@@ -20,7 +20,8 @@ fn ends_token(b: u8) -> bool
 fn is_token_byte(b: u8) -> bool
     ensures { result ≡ text.is_token_byte b }
 {
-    !ends_token(b)
+    // Most bytes of a text are letters.
+    is_letter(b) || !ends_token(b)
 }
 
 fn is_plain(b: u8) -> bool

@@ -9,7 +9,7 @@ use Rattle.fb_model.specs.Numbers.{greatest_t, least_instant, is_instant, user_e
 use Rattle.fb_model.specs.History.{basis, users_issued}
 use Rattle.fb_model.proofs.OneMoreEntry.{basis-push, last_instant-push, users_issued-push}
 use Rattle.script_model.specs.Step.{Naming, asked_in, may_follow, entry_of, accepts, step}
-use Rattle.script_model.specs.Reply.{receipt}
+use Rattle.script_model.specs.Reply.{receipt, IsLineOf}
 use Rattle.factbase.specs.declared.decide.Head.{Head}
 use Rattle.factbase.specs.declared.session.Book.{Book}
 use Rattle.factbase.specs.Heads.{IsHeadOf, entry_after}
@@ -154,3 +154,6 @@ AddsText-at old new tempid text one other t line same added = let P = λ (readin
 
 pub receipt-same : (t u : ℕ) (name tempid : List ℕ) (m n : ℕ) → t ≡ u → name ≡ tempid → m ≡ n → receipt t ((name, m) ∷ []) ≡ receipt u ((tempid, n) ∷ [])
 receipt-same t u name tempid m n p q r = ap (λ k. receipt k ((name, m) ∷ [])) p ∙ ap (λ s. receipt u ((s, m) ∷ [])) q ∙ ap (λ k. receipt u ((tempid, k) ∷ [])) r
+
+pub line-same : (f g : Form) (line : List ℕ) → f ≡ g → IsLineOf f line → IsLineOf g line
+line-same f g line same says = let P : Form → Type 0 = λ reply. IsLineOf reply line in subst P same says

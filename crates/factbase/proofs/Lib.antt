@@ -3,3 +3,4 @@ pub mod Deciding
 pub mod TalkingOn
 pub mod Serving
 pub mod Running
+pub mod Completing

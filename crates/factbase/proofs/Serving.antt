@@ -46,7 +46,7 @@ replies-unread may book held left had opened some =
       answers = inl (record {
         forms = [];
         lines = [];
-        read = (0, refl);
+        read = record { end = 0; forms = refl; few = omega arith };
         talk = rw opened.places opened.commits;
         whole_lines = refl;
       });
@@ -63,7 +63,8 @@ prefixes-none book opened = Prefixes-SeesAll 0 (basis book.entries) book.places.
 
 pub source_count-past : (how : SessionEnd) (old new : ℕ) → IsPastReading how → new ≡ old → SourceCount how old new
 source_count-past ended.Done old new past same = same
-source_count-past (ended.Script fault) old new past same = same
+source_count-past (ended.Script why) old new past same = same
+source_count-past ended.TooMany old new past same = same
 source_count-past ended.TooLong old new past same = absurd past
 source_count-past ended.ReadFault old new past same = absurd past
 source_count-past ended.WriteFault old new past same = same

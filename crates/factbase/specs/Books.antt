@@ -1,18 +1,22 @@
 -- What a session keeps while it answers forms: its book, and what it answered so far.
 -- This project's own choice.
-use Rattle.std.specs.Prelude.{◌≡◌, ℕ, ◌+◌, ℤ, ◌≤◌, ◌⊎◌, List, [], ◌∷◌, ◌++◌, Option, length, codes}
+use Rattle.std.specs.Prelude.{◌≡◌, ◌≢◌, ℕ, ◌+◌, ℤ, ◌<◌, ◌≤◌, ◌⊎◌, List, [], ◌∷◌, ◌++◌, Option, length, codes}
 use Rattle.std.specs.List.{concat, AllByRecursion}
 use Rattle.std.specs.Io.KnownBytes.{append_known}
 use Rattle.edn_model.specs.Form.{Form}
+use Rattle.edn_model.specs.Grammar.{FormStands, OnlyGap}
+use Rattle.edn_model.specs.Faults.{FaultAt}
+use Rattle.edn_core.specs.Answers.{fault_of, MatchFault}
+use Rattle.edn_core.specs.declared.fault.EdnFault.TheVariants as edn
 use Rattle.fb_values.specs.declared.facts.Entry.{Entry}
 use Rattle.fb_ports.specs.Faults.{Rose}
 use Rattle.fb_model.specs.FirstEntry.{first_entry}
 use Rattle.fb_model.specs.History.{basis, users_issued}
 use Rattle.fb_model.specs.Numbers.{user_entity}
 use Rattle.fb_model.specs.Lawful.{IsLawful}
-use Rattle.script_model.specs.Script.{FormsBetween}
+use Rattle.script_model.specs.Script.{most_commands, FormsBetween}
 use Rattle.script_model.specs.Step.{accepts, not_built, step, entry_of}
-use Rattle.script_model.specs.Reply.{receipt, refusal}
+use Rattle.script_model.specs.Reply.{receipt, refusal, IsLineOf}
 use Rattle.script_model.specs.Talk.{Talk, place_after}
 use Rattle.script_model.specs.Prefixes.{SeesAll}
 use Rattle.factbase.specs.declared.session.Book.{Book}
@@ -64,14 +68,14 @@ pub record Adds (old new : Book) (entry : Entry) : Type 0 where
 pub record AddsText (old new : Book) (tempid text : List ℕ) (reading : ℤ) (t : ℕ) (line : List ℕ) : Type 0 where
   pub adds : Adds old new (entry_of old.entries text reading)
   pub next_t : t ≡ basis old.entries + 1
-  pub says : line ≡ receipt t ((tempid, user_entity (users_issued old.entries + 1)) ∷ [])
+  pub says : IsLineOf (receipt t ((tempid, user_entity (users_issued old.entries + 1)) ∷ [])) line
 
 -- The form is refused at the history, whatever the clock reads, and nothing is recorded.
 pub record Refuses (old new : Book) (f : Form) (place : ℕ) (line : List ℕ) : Type 0 where
   pub nothing : RecordsNothing old new
   pub at_basis : place ≡ basis old.entries
   pub refused : (reading : ℤ) → step old.entries f reading ≡ not_built
-  pub says : line ≡ refusal (codes "read/not-built") 0 place
+  pub says : IsLineOf (refusal (codes "read/not-built") 0 place) line
 
 -- The form is accepted at the history, at a number that the clock may answer, and its entry is recorded.
 pub record Accepts (may : ℤ → Type 0) (old new : Book) (f : Form) (place : ℕ) (line : List ℕ) : Type 0 where
@@ -83,7 +87,7 @@ pub record Accepts (may : ℤ → Type 0) (old new : Book) (f : Form) (place : �
   pub adds : Adds old new entry
   pub next_t : place ≡ basis old.entries + 1
   pub entry_t : entry.t ≡ place
-  pub says : line ≡ receipt place tempids
+  pub says : IsLineOf (receipt place tempids) line
 
 abbrev pub Decides : (ℤ → Type 0) → Book → Book → Form → ℕ → List ℕ → Type 0
 Decides may old new f place line = Refuses old new f place line ⊎ Accepts may old new f place line
@@ -123,6 +127,7 @@ pub record TalkSoFar (may : ℤ → Type 0) (bytes : List ℕ) (at : ℕ) (book 
   pub forms : List Form
   pub lines : List (List ℕ)
   pub read : FormsBetween bytes 0 forms at
+  pub few_forms : length forms ≤ most_commands
   pub talk : Talk may book.entries 0 forms book.places.items book.commits.items lines
   pub written : has ≡ append_known had (concat lines)
   pub sound : IsSound book
@@ -130,10 +135,28 @@ pub record TalkSoFar (may : ℤ → Type 0) (bytes : List ℕ) (at : ℕ) (book 
   pub few : basis book.entries ≤ at
   pub within : at ≤ length bytes
 
+-- a command stands behind this place, and there is room for it behind so many
+pub record IsCommand (bytes : List ℕ) (at count : ℕ) (f : Form) (next : ℕ) : Type 0 where
+  pub stands : FormStands bytes at f next
+  pub ahead : at < next
+  pub within : next ≤ length bytes
+  pub room : count < most_commands
+
+-- how a session ends where no command follows behind so many
+abbrev pub NoCommand : List ℕ → ℕ → ℕ → SessionEnd → Type 0
+NoCommand bytes at count ended.Done = OnlyGap bytes at
+NoCommand bytes at count (ended.Script why) = (why ≢ edn.Memory) × MatchFault (fault_of why) (FaultAt bytes at)
+NoCommand bytes at count ended.TooLong = ⊥
+NoCommand bytes at count ended.TooMany = (most_commands ≤ count) × (f : Form) × (next : ℕ) × FormStands bytes at f next
+NoCommand bytes at count ended.ReadFault = ⊥
+NoCommand bytes at count ended.WriteFault = ⊥
+NoCommand bytes at count ended.Memory = Unit {0}
+
 -- the ends of a session whose script was read
 abbrev pub IsPastReading : SessionEnd → Type 0
 IsPastReading ended.Done = Unit {0}
-IsPastReading (ended.Script fault) = Unit {0}
+IsPastReading (ended.Script why) = Unit {0}
+IsPastReading ended.TooMany = Unit {0}
 IsPastReading ended.TooLong = ⊥
 IsPastReading ended.ReadFault = ⊥
 IsPastReading ended.WriteFault = Unit {0}

@@ -6,13 +6,14 @@ use Rattle.std.specs.List.{concat, AllByRecursion}
 use Rattle.std.specs.List.Sorted.{IsStrictlyIncreasing}
 use Rattle.std.specs.Io.KnownBytes.{prepend_known, append_known, IsAtEnd}
 use Rattle.edn_model.specs.Form.{Form}
-use Rattle.edn_core.specs.declared.fault.EdnFault.TheVariants as edn
+use Rattle.edn_model.specs.Faults.{Fault}
+use Rattle.edn_core.specs.Answers.{fault_of}
 use Rattle.fb_values.specs.declared.facts.Entry.{Entry}
 use Rattle.fb_ports.specs.Faults.{Rose}
 use Rattle.fb_model.specs.History.{basis}
 use Rattle.fb_model.specs.Lawful.{IsLawful}
 use Rattle.script_model.specs.Words.{Command, run, sink_of}
-use Rattle.script_model.specs.Script.{Ending, whole, bad, Script, Begins}
+use Rattle.script_model.specs.Script.{Ending, whole, fault, too_many, Script, Begins}
 use Rattle.script_model.specs.Talk.{Talk}
 use Rattle.factbase.specs.declared.outcome.SessionEnd.{SessionEnd}
 use Rattle.factbase.specs.declared.outcome.SessionEnd.TheVariants as ended
@@ -81,11 +82,16 @@ pub record AnswersNone (written places commits : List ℕ) : Type 0 where
   pub no_place : places ≡ []
   pub no_commit : commits ≡ []
 
+-- the script's forms up to its fault were answered
+abbrev pub AnswersUpTo : (ℤ → Type 0) → List Entry → ℕ → List ℕ → Option (Fault × ℕ) → List ℕ → List ℕ → List ℕ → Type 0
+AnswersUpTo may h opening script (Some p) written places commits = AnswersAll may h opening script (fault p.0 p.1) written places commits
+AnswersUpTo may h opening script None written places commits = ⊥
+
 -- what the end of a session says of its answers to the script
 abbrev pub Answers : (ℤ → Type 0) → List Entry → ℕ → List ℕ → List ℕ → List ℕ → List ℕ → SessionEnd → Type 0
 Answers may h opening script written places commits ended.Done = AnswersAll may h opening script whole written places commits
-Answers may h opening script written places commits (ended.Script (edn.Bad at)) = AnswersAll may h opening script (bad at) written places commits
-Answers may h opening script written places commits (ended.Script edn.Memory) = ⊥
+Answers may h opening script written places commits (ended.Script why) = AnswersUpTo may h opening script (fault_of why) written places commits
+Answers may h opening script written places commits ended.TooMany = AnswersAll may h opening script too_many written places commits
 Answers may h opening script written places commits ended.TooLong = AnswersNone written places commits
 Answers may h opening script written places commits ended.ReadFault = AnswersNone written places commits
 Answers may h opening script written places commits ended.WriteFault = BreaksOff may h opening script written places commits
@@ -96,7 +102,8 @@ Answers may h opening script written places commits ended.Memory =
 -- the ends that rest on the whole script
 abbrev pub rests_on_whole : SessionEnd → Bool
 rests_on_whole ended.Done = true
-rests_on_whole (ended.Script fault) = true
+rests_on_whole (ended.Script why) = true
+rests_on_whole ended.TooMany = true
 rests_on_whole ended.TooLong = false
 rests_on_whole ended.ReadFault = false
 rests_on_whole ended.WriteFault = true
@@ -119,7 +126,8 @@ pub record Replies (may : ℤ → Type 0) (h : List Entry) (opening : ℕ) (held
 -- a fault of the source, and no other end, raised its count
 abbrev pub SourceCount : SessionEnd → ℕ → ℕ → Type 0
 SourceCount ended.Done old new = new ≡ old
-SourceCount (ended.Script fault) old new = new ≡ old
+SourceCount (ended.Script why) old new = new ≡ old
+SourceCount ended.TooMany old new = new ≡ old
 SourceCount ended.TooLong old new = new ≡ old
 SourceCount ended.ReadFault old new = Rose old new
 SourceCount ended.WriteFault old new = new ≡ old
@@ -128,7 +136,8 @@ SourceCount ended.Memory old new = new ≡ old
 -- and so of the sink
 abbrev pub SinkCount : SessionEnd → ℕ → ℕ → Type 0
 SinkCount ended.Done old new = new ≡ old
-SinkCount (ended.Script fault) old new = new ≡ old
+SinkCount (ended.Script why) old new = new ≡ old
+SinkCount ended.TooMany old new = new ≡ old
 SinkCount ended.TooLong old new = new ≡ old
 SinkCount ended.ReadFault old new = new ≡ old
 SinkCount ended.WriteFault old new = Rose old new
@@ -157,7 +166,8 @@ Says name how status line = (status ≡ status_of how) × (line ≡ line_of name
 -- The end decides. Memory may be refused to the line, but nothing is said of a session that is done.
 abbrev pub SaysEnd : List ℕ → SessionEnd → ℕ → List ℕ → Type 0
 SaysEnd name ended.Done status line = Says name ended.Done status line
-SaysEnd name (ended.Script fault) status line = Says name (ended.Script fault) status line ⊎ IsOutOfMemory status line
+SaysEnd name (ended.Script why) status line = Says name (ended.Script why) status line ⊎ IsOutOfMemory status line
+SaysEnd name ended.TooMany status line = Says name ended.TooMany status line ⊎ IsOutOfMemory status line
 SaysEnd name ended.TooLong status line = Says name ended.TooLong status line ⊎ IsOutOfMemory status line
 SaysEnd name ended.ReadFault status line = Says name ended.ReadFault status line ⊎ IsOutOfMemory status line
 SaysEnd name ended.WriteFault status line = Says name ended.WriteFault status line ⊎ IsOutOfMemory status line

@@ -4,4 +4,5 @@ pub mod StatusLines
 pub mod Asked
 pub mod Heads
 pub mod Headline
+pub mod Complete
 pub mod Books

@@ -1,6 +1,7 @@
 //! The lines of standard error.
 ghost use Rattle.std.specs.Prelude.{◌≡◌, ◌++◌, IfOk, IsOk, string_bytes, codes, decimal};
-ghost use Rattle.factbase.specs.StatusLines.{usage, cannot_open, out_of_memory, script_line, status_of, line_of};
+ghost use Rattle.edn_core.specs.Answers.{fault_of};
+ghost use Rattle.factbase.specs.StatusLines.{usage, cannot_open, out_of_memory, script_line, fault_line, status_of, line_of};
 
 use crate::outcome::SessionEnd;
 use edn_core::EdnFault;
@@ -30,7 +31,7 @@ pub(crate) fn status_of(end: &SessionEnd) -> u8
 {
     match end {
         SessionEnd::Done => 0,
-        SessionEnd::Script(_) | SessionEnd::TooLong => 5,
+        SessionEnd::Script(_) | SessionEnd::TooLong | SessionEnd::TooMany => 5,
         SessionEnd::ReadFault | SessionEnd::WriteFault => 6,
         SessionEnd::Memory => 9,
     }
@@ -44,11 +45,12 @@ pub(crate) fn line_of(alloc: Global, name: &str, end: &SessionEnd) -> Result<Str
 {
     match end {
         SessionEnd::Done => Ok(String::new(alloc)),
-        SessionEnd::Script(EdnFault::Bad { at }) => bad_at(alloc, name, *at),
+        SessionEnd::Script(fault) => fault_line(alloc, name, *fault),
         SessionEnd::TooLong => about(alloc, name, "too long"),
+        SessionEnd::TooMany => about(alloc, name, "too many commands"),
         SessionEnd::ReadFault => about(alloc, name, "read fault"),
         SessionEnd::WriteFault => about(alloc, name, "write fault"),
-        SessionEnd::Script(EdnFault::Memory) | SessionEnd::Memory => out_of_memory(alloc),
+        SessionEnd::Memory => out_of_memory(alloc),
     }
 }
 
@@ -59,10 +61,23 @@ fn about(alloc: Global, name: &str, what: &str) -> Result<String, Memory>
     Ok(format!(in alloc; "factbase: script {name}: {what}")?)
 }
 
-fn bad_at(alloc: Global, name: &str, at: usize) -> Result<String, Memory>
-    ensures { IfOk result (λ line. string_bytes line ≡ script_line name.now (codes "bad at byte " ++ decimal at)) }
+/// What is at fault in a script, and at which byte.
+fn fault_line(alloc: Global, name: &str, fault: EdnFault) -> Result<String, Memory>
+    ensures { IfOk result (λ line. string_bytes line ≡ fault_line name.now (fault_of fault)) }
 {
-    Ok(format!(in alloc; "factbase: script {name}: bad at byte {at}")?)
+    match fault {
+        EdnFault::Bad { at } => at_byte(alloc, name, "bad", at),
+        EdnFault::Unsupported { at, .. } => at_byte(alloc, name, "unsupported", at),
+        EdnFault::Deep { at } => at_byte(alloc, name, "deep", at),
+        EdnFault::Cut { at } => at_byte(alloc, name, "cut", at),
+        EdnFault::Memory => out_of_memory(alloc),
+    }
+}
+
+fn at_byte(alloc: Global, name: &str, what: &str, at: usize) -> Result<String, Memory>
+    ensures { IfOk result (λ line. string_bytes line ≡ script_line name.now (what.now ++ (codes " at byte " ++ decimal at))) }
+{
+    Ok(format!(in alloc; "factbase: script {name}: {what} at byte {at}")?)
 }
 
 pub(crate) fn out_of_memory(alloc: Global) -> Result<String, Memory>

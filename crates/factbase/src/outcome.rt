@@ -50,10 +50,12 @@ impl Places {
 pub enum SessionEnd {
     /// Each form of the script was answered.
     Done,
-    /// Behind the forms that were answered stands no form.
+    /// Behind the forms that were answered stands a fault.
     Script(EdnFault),
     /// The script has more bytes than are read.
     TooLong,
+    /// Behind as many commands as a script may have stands one more.
+    TooMany,
     ReadFault,
     WriteFault,
     /// Memory was refused.

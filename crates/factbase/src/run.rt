@@ -6,6 +6,7 @@ ghost use Rattle.fb_model.specs.History.{basis};
 ghost use Rattle.script_model.specs.Words.{run, command_of, sink_of};
 ghost use Rattle.script_model.specs.Prefixes.{Prefixes};
 ghost use Rattle.factbase.specs.Headline.{OneHistory, Replies, SaysEnd, NoSession, SessionCauses, Causes, EachScript};
+ghost use Rattle.factbase.specs.Complete.{Complete};
 ghost use Rattle.fb_ports.specs.Faults.{CountsOpening};
 
 use crate::lines::{cannot_open, line_of, out_of_memory, status_of, usage};
@@ -38,6 +39,11 @@ pub fn run<H: Host, K: Clock>(
     // Each status and its line have their cause.
     ensures causes { Causes (H.source_faults host.old) (H.sink_faults host.old) H.In.faults H.Out.faults (H.faults host.old) (H.faults host.new)
         (command_of (map string_bytes words.now.items)) result.status (string_bytes result.line) result.authors result.sessions.items result.entries }
+
+    // A script that is forms within the limits is answered whole where no count of faults rises, unless memory is refused.
+    ensures complete { Complete (K.may_answer clock.now) H.Out.contents (H.sources host.old) (H.sinks host.old)
+        (H.source_faults host.old) (H.sink_faults host.old) H.In.faults H.Out.faults (H.faults host.old) (H.faults host.new)
+        (command_of (map string_bytes words.now.items)) result.status (string_bytes result.line) result.sessions.items result.entries }
 {
     let Some(script) = script_in(words.as_slice()) else {
         return without_session(alloc, 1, usage(alloc));
@@ -91,6 +97,7 @@ fn run_session<I: Source, O: Sink, K: Clock>(
         entries,
         authors,
         head: _,
+        names: _,
         places,
         commits,
     } = book;

@@ -1,16 +1,17 @@
 //! A session: each form of a script is decided, recorded and answered, one after another.
-ghost use Rattle.std.specs.Prelude.{◌≡◌, ◌≤◌, ◌<◌, ◌+◌, IsTrue, IfOk, IfErr, OnOk, OnErr, vec_len, vec_capacity, length, int_lt};
+ghost use Rattle.std.specs.Prelude.{◌≡◌, ◌≤◌, ◌<◌, ◌+◌, codes, IsTrue, IfOk, IfErr, OnOk, OnErr, vec_len, vec_capacity, length, int_lt};
 ghost use Rattle.fb_model.specs.Numbers.{greatest_t, greatest_instant};
 ghost use Rattle.fb_model.specs.History.{basis};
 ghost use Rattle.edn_form.specs.View.{form_of};
 ghost use Rattle.script_model.specs.Prefixes.{Prefixes};
+ghost use Rattle.script_model.specs.Reply.{refusal, IsLineOf};
 ghost use Rattle.factbase.specs.Taken.{longest_script};
 ghost use Rattle.factbase.specs.Headline.{Replies, SourceCount, SinkCount};
-ghost use Rattle.factbase.specs.Books.{IsSound, IsOpened, IsSame, AddsText, Decides, Replied, StopsAt, StopCount, end_of, Talks};
+ghost use Rattle.factbase.specs.Books.{IsSound, IsOpened, IsSame, AddsText, Decides, Replied, StopsAt, StopCount, end_of, IsCommand, NoCommand, Talks};
 
 use crate::decide::{Head, Naming, USER_ENTITIES, asked_in, may_follow, next_entry};
 use crate::outcome::SessionEnd;
-use crate::reply::{build_receipt, build_refusal, write_line};
+use crate::reply::{Names, build_line, write_line};
 use crate::script::{ReadStop, read_script};
 use edn_core::{Edn, EdnFault, read_form};
 use fb_history::{Authors, EntryList};
@@ -20,12 +21,16 @@ use std::alloc::Global;
 /// The number of the one session.
 const SESSION: u32 = 0;
 
+/// How many commands a script may have.
+const MOST_COMMANDS: usize = 1_000_000;
+
 /// The history, and what the session did to it and answered.
 #[derive(Drop)]
 pub(crate) struct Book {
     pub(crate) entries: EntryList,
     pub(crate) authors: Authors,
     pub(crate) head: Head,
+    pub(crate) names: Names,
     /// For each line that was written whole, the t of the last entry that it rests on.
     pub(crate) places: Vec<u32>,
     /// The t of each transaction that was committed.
@@ -68,9 +73,11 @@ impl Book {
     {
         let entries = EntryList::first(alloc)?;
         let authors = Authors::new(alloc)?;
+        let names = Names::new(alloc)?;
         Ok(Book {
             entries,
             authors,
+            names,
             head: Head {
                 t: 0,
                 instant: 0,
@@ -112,12 +119,9 @@ impl Book {
         let head = self.head.after(&entry);
         let entries = self.entries.with(entry)?;
         let authors = self.authors.with(SESSION)?;
-        build_receipt(
-            line,
-            head.t,
-            naming.tempid.as_str(),
-            USER_ENTITIES + head.users,
-        )?;
+        let entity = USER_ENTITIES + head.users;
+        let reply = self.names.receipt(alloc, head.t, naming.tempid, entity)?;
+        build_line(line, reply)?;
         // Nothing from here on takes memory.
         self.entries = entries;
         self.authors = authors;
@@ -126,6 +130,15 @@ impl Book {
             unreachable!();
         }
         Ok(head.t)
+    }
+
+    /// Builds the line of a form that does nothing. Answers the place on which it rests.
+    fn refuse(&self, alloc: Global, line: &mut Vec<u8>) -> Result<u32, Memory>
+        ensures { IfOk result (λ place. (place ≡ self.now.head.t) × IsLineOf (refusal (codes "read/not-built") 0 place) line.new.items) }
+    {
+        let reply = self.names.refusal(alloc, self.head.t)?;
+        build_line(line, reply)?;
+        Ok(self.head.t)
     }
 
     /// Decides the form, records what it does, and builds its line. Answers the place on which the line rests.
@@ -150,10 +163,7 @@ impl Book {
                 clock.now(),
                 line,
             ),
-            _ => {
-                build_refusal(line, self.head.t)?;
-                Ok(self.head.t)
-            }
+            _ => self.refuse(alloc, line),
         }
     }
 
@@ -184,6 +194,25 @@ impl Book {
         Ok(())
     }
 
+    /// The command that stands next behind `at`, and the place behind it; or how the session ends.
+    fn next_command(
+        &self,
+        alloc: Global,
+        script: &[u8],
+        at: usize,
+    ) -> Result<(Edn, usize), SessionEnd>
+        ensures ok { IfOk result (λ r. IsCommand script.now at (length self.now.places.items) (form_of r.0) r.1) }
+        ensures err { IfErr result (NoCommand script.now at (length self.now.places.items)) }
+    {
+        match read_form(alloc, script, at) {
+            Ok(Some(_)) if self.places.len() >= MOST_COMMANDS => Err(SessionEnd::TooMany),
+            Ok(Some(read)) => Ok(read),
+            Ok(None) => Err(SessionEnd::Done),
+            Err(EdnFault::Memory) => Err(SessionEnd::Memory),
+            Err(fault) => Err(SessionEnd::Script(fault)),
+        }
+    }
+
     /// Answers the forms of the script, one after another, up to the first that is not answered.
     fn answer_all<O: Sink, K: Clock>(
         &mut self,
@@ -200,8 +229,8 @@ impl Book {
         let mut line = Vec::new(alloc);
         let mut at = 0;
         'forms: loop {
-            match read_form(alloc, script, at) {
-                Ok(Some((form, next))) => {
+            match self.next_command(alloc, script, at) {
+                Ok((form, next)) => {
                     let answered = self.answer(alloc, sink, clock, &form, &mut line);
                     drop(form);
                     if let Err(stop) = answered {
@@ -209,9 +238,7 @@ impl Book {
                     }
                     at = next;
                 }
-                Ok(None) => return SessionEnd::Done,
-                Err(EdnFault::Bad { at }) => return SessionEnd::Script(EdnFault::Bad { at }),
-                Err(EdnFault::Memory) => return SessionEnd::Memory,
+                Err(end) => return end,
             }
         }
     }

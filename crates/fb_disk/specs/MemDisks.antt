@@ -1,7 +1,7 @@
 -- A disk in memory.
 -- This project's own choice.
 use Rattle.std.specs.Prelude.{◌||◌, ◌+◌, ℕ, Bool, List, length, nat_lt, Option, Some}
-use Rattle.fb_ports.specs.Calls.{Calls, fails_next}
+use Rattle.fb_calls.specs.Calls.{Calls, fails_next}
 use Rattle.disk_model.specs.Record.{Change, replayed, MayLeave, MayHaveLeft}
 use Rattle.fb_disk.specs.Room.{room_taken}
 

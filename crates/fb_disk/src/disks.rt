@@ -1,9 +1,9 @@
 // A file that may crash. No call of a disk takes memory.
 ghost use Rattle.std.specs.Prelude.{◌≡◌, ◌≤◌, ◌<◌, ◌+◌, ◌^◌, ℕ, List, length, take, Option, Some, IfOk, OnOk, option_map};
-ghost use Rattle.fb_ports.specs.Faults.{Counts};
+ghost use Rattle.fb_calls.specs.Faults.{Counts};
 ghost use Rattle.disk_model.specs.Disk.{written, Torn, TornCut, Follows, Within, Only, WhereTold, Reads, Elapses};
 
-use fb_ports::Failed;
+use fb_calls::Failed;
 
 /// A file that may crash. Between two syncs each written range, each cut range and what lies past the old end may hold
 /// any bytes after a crash, and the length lies between the least and the greatest since the last sync. All other bytes

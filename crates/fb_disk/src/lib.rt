@@ -1,14 +1,13 @@
 //! The disk as the program sees it: a file that may crash. The trait tells what a read gives, what a crash now may
-//! leave, and what a crash since a given moment might have left. It has a form in memory that keeps its whole past, and
-//! a real form.
+//! leave, and what a crash since a given moment might have left. Its form in memory keeps its whole past.
 #![tactic(auto)]
 
 mod disks;
 mod memory;
 
 pub use disks::Disk;
+pub use fb_calls::Failed;
 pub use fb_memory::Memory;
-pub use fb_ports::{Failed, OpenFail};
 pub use memory::MemDisk;
 
 #[cfg(test)]

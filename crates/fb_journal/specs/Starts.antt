@@ -1,7 +1,7 @@
 -- What a start answers.
 -- This project's own choice.
 use Rattle.std.specs.Prelude.{◌≡◌, ◌<◌, ◌≤◌, ◌+◌, ◌^◌, ℕ, List, [], length, Option, Result, Ok, Err, ⊤}
-use Rattle.fb_ports.specs.Faults.{Rose}
+use Rattle.fb_calls.specs.Faults.{Rose}
 use Rattle.disk_model.specs.Disk.{WhereTold, Only}
 use Rattle.disk_model.specs.Journal.{opened, Holds, JournalBreaks}
 use Rattle.fb_journal.specs.declared.journals.Journal.{Journal}

@@ -1,6 +1,6 @@
 // A journal over a disk.
 ghost use Rattle.std.specs.Prelude.{◌≡◌, ◌≤◌, ◌<◌, ◌+◌, ◌^◌, ◌++◌, [], ◌∷◌, ℕ, List, length, None, Some, OnOk, IsErrOf};
-ghost use Rattle.fb_ports.specs.Faults.{Rose};
+ghost use Rattle.fb_calls.specs.Faults.{Rose};
 ghost use Rattle.disk_model.specs.Disk.{Only, WhereTold, LeavesOnly};
 
 use crate::marks::MARK;

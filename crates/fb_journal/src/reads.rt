@@ -1,6 +1,6 @@
 // Reading a file in bulk.
 ghost use Rattle.std.specs.Prelude.{◌≡◌, ◌≤◌, length, IfOk, OnOk};
-ghost use Rattle.fb_ports.specs.Faults.{Counts};
+ghost use Rattle.fb_calls.specs.Faults.{Counts};
 ghost use Rattle.disk_model.specs.Disk.{Only, Within, WhereTold, LeavesOnly};
 
 use fb_disk::{Disk, Failed};

@@ -1,6 +1,6 @@
 // Starting a journal: a new one, or what a file holds.
 ghost use Rattle.std.specs.Prelude.{◌≡◌, ◌⊎◌, ◌≤◌, ◌<◌, ◌+◌, ◌^◌, [], List, ℕ, length, None, IfOk, IfErr, OnOk, MatchResult};
-ghost use Rattle.fb_ports.specs.Faults.{Rose};
+ghost use Rattle.fb_calls.specs.Faults.{Rose};
 ghost use Rattle.disk_model.specs.Disk.{Only, Within, WhereTold, LeavesOnly};
 ghost use Rattle.disk_model.specs.Journal.{opened, Holds, JournalStands};
 ghost use Rattle.fb_journal.specs.Marks.{mark_bytes};
@@ -81,7 +81,7 @@ impl<D: Disk> Journal<D> {
         ensures why_not { IfErr result (λ s. IsWhyNot (mark_bytes mark) (D.bytes disk) s.fault s.before) }
         ensures counted { MatchResult result (λ r. D.faults (disk_of r.0) ≡ D.faults disk) (λ s. CountsStart s.fault (D.faults disk) (D.faults s.disk)) }
 
-        // A crash at any moment leaves an image from before, or the front of a new journal where there was none yet.
+        // A crash at any moment leaves an image from before, or at most 16 bytes where there were no more: a new journal.
         ensures any_moment { WhereTold (D.bytes disk) (λ file. LeavesOnly D.moment D.images_since disk (disk_after result)
             (λ image. D.images disk image ⊎ ((length file ≤ 16) × (length image ≤ 16)))) }
 

@@ -1,13 +1,13 @@
 // What a journal does to its disk. Each call leaves on the disk what it wrote before it answers Ok.
 ghost use Rattle.std.specs.Prelude.{◌≡◌, ◌⊎◌, ◌<◌, ◌+◌, ◌^◌, [], ◌∷◌, List, ℕ, length, OnOk, option_map};
-ghost use Rattle.fb_ports.specs.Faults.{Counts};
+ghost use Rattle.fb_calls.specs.Faults.{Counts};
 ghost use Rattle.disk_model.specs.Disk.{written, Torn, Only, WhereTold, LeavesOnly};
 ghost use Rattle.disk_model.specs.Journal.{new_journal};
 ghost use Rattle.fb_journal.specs.Marks.{mark_bytes};
 
 use crate::Mark;
+use fb_calls::Failed;
 use fb_disk::Disk;
-use fb_ports::Failed;
 
 pub(crate) fn store<D: Disk>(disk: &mut D, at: u64, piece: &[u8]) -> Result<(), Failed>
     ensures within { OnOk result (at + length piece.now < 2 ^ 64) }

@@ -1,26 +1,8 @@
--- Worked examples of the counts and of the objects in memory, each closed by computation.
+-- Worked examples of the objects in memory, each closed by computation.
 -- This project's own choice.
-use Rattle.std.specs.Prelude.{◌≡◌, ◌-◌, ◌^◌, [], ◌∷◌, ℕ, List, true, false, refl}
-use Rattle.fb_ports.specs.Calls.{no_calls, fails_next, after_call, after_fault}
-use Rattle.fb_ports.specs.Faults.{raised}
+use Rattle.std.specs.Prelude.{◌≡◌, [], ◌∷◌, ℕ, List, true, false, refl}
+use Rattle.fb_ports.specs.Calls.{no_calls}
 use Rattle.fb_ports.specs.InMemory.{Store, fails_write}
-
--- a count rises by one, but for its last value
-pub raised-seven : raised 7 ≡ 8
-raised-seven = refl
-
-pub raised-last : raised (2 ^ 64 - 1) ≡ 2 ^ 64 - 1
-raised-last = refl
-
--- of the calls 1, 2 and 3 the first and the third are made to fail
-pub fails_next-first : fails_next (no_calls (1 ∷ 3 ∷ [])) ≡ true
-fails_next-first = refl
-
-pub fails_next-second : fails_next (after_fault (no_calls (1 ∷ 3 ∷ []))) ≡ false
-fails_next-second = refl
-
-pub fails_next-third : fails_next (after_call (after_fault (no_calls (1 ∷ 3 ∷ [])))) ≡ true
-fails_next-third = refl
 
 -- a sink with room for two bytes
 abbrev pub small_sink : List ℕ → Store

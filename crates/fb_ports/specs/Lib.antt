@@ -1,3 +1,4 @@
+pub mod AnyDisks
 pub mod Calls
 pub mod Examples
 pub mod Faults

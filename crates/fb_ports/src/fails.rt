@@ -1,14 +1,6 @@
-// The faults of the outside. Which system error it was is not kept: the object's count says that there was one.
-ghost use Rattle.std.specs.Prelude.{◌≡◌};
-ghost use Rattle.fb_ports.specs.Faults.{Rose, raised};
-
+// Why a host handed out nothing.
 use fb_memory::Memory;
 use thiserror::Error;
-
-/// A source or a sink could not do what it was asked, and has counted it.
-#[derive(Clone, Copy, Debug, PartialEq, Eq, Error)]
-#[error("the call failed")]
-pub struct Failed;
 
 /// Why a host handed out nothing.
 #[derive(Clone, Copy, Debug, PartialEq, Eq, Error)]
@@ -29,12 +21,4 @@ impl From<Memory> for OpenFail {
     fn from(_: Memory) -> OpenFail {
         OpenFail::Memory
     }
-}
-
-/// Counts a fault. At its last value the count stands still.
-pub fn raise(count: &mut u64)
-    ensures value { count.new ≡ raised count.old }
-    ensures rose { Rose count.old count.new }
-{
-    *count = count.saturating_add(1);
 }

@@ -1,17 +1,27 @@
-// What opens sources and sinks by name.
+// What opens sources, sinks and disks by name.
 ghost use Rattle.std.specs.Prelude.{◌≡◌, ℕ, List, Option, IfOk};
 ghost use Rattle.fb_ports.specs.Faults.{CountsOpening};
-ghost use Rattle.fb_ports.specs.Telling.{Same, SameBut};
+ghost use Rattle.fb_ports.specs.Telling.{Same, SameBut, SameParts, SameButPart};
+ghost use Rattle.fb_ports.specs.declared.hosts.Part.{Part};
 
-use crate::{OpenFail, Sink, Source};
+use crate::{Disk, OpenFail, Sink, Source};
 use std::alloc::Global;
 
-/// What opens sources and sinks by name. A call for one name changes nothing that is told of another, and a call
-/// for a source nothing that is told of sinks.
+/// The two files of a directory.
+#[derive(Clone, Copy, Debug, PartialEq, Eq)]
+pub enum Part {
+    Log,
+    Segments,
+}
+
+/// What opens sources and sinks by name, and disks by directory and part. A call for one of these changes nothing that
+/// is told of another.
 pub trait Host {
     type In: Source + Send;
 
     type Out: Sink + Send;
+
+    type Disk: Disk + Send;
 
     /// How many calls have failed. It stands still at 2^64 - 1.
     ghost faults: { Self → ℕ };
@@ -26,6 +36,11 @@ pub trait Host {
 
     ghost sink_faults: { Self → List ℕ → ℕ };
 
+    /// By directory and part, the bytes and the count of faults of the disk that is handed out.
+    ghost disks: { Self → List ℕ → Part → Option (List ℕ) };
+
+    ghost disk_faults: { Self → List ℕ → Part → ℕ };
+
     fn faults(&self) -> u64
         ensures { result ≡ faults self.now };
 
@@ -36,6 +51,8 @@ pub trait Host {
         ensures other_counts { SameBut name.now (source_faults self.old) (source_faults self.new) }
         ensures sinks { Same (sinks self.old) (sinks self.new) }
         ensures sink_counts { Same (sink_faults self.old) (sink_faults self.new) }
+        ensures disks { SameParts (disks self.old) (disks self.new) }
+        ensures disk_counts { SameParts (disk_faults self.old) (disk_faults self.new) }
         ensures counted { CountsOpening result (faults self.old) (faults self.new) };
 
     fn sink(&mut self, alloc: Global, name: &str) -> Result<Self::Out, OpenFail>
@@ -45,5 +62,19 @@ pub trait Host {
         ensures other_counts { SameBut name.now (sink_faults self.old) (sink_faults self.new) }
         ensures sources { Same (sources self.old) (sources self.new) }
         ensures source_counts { Same (source_faults self.old) (source_faults self.new) }
+        ensures disks { SameParts (disks self.old) (disks self.new) }
+        ensures disk_counts { SameParts (disk_faults self.old) (disk_faults self.new) }
+        ensures counted { CountsOpening result (faults self.old) (faults self.new) };
+
+    /// The disk of a part of a directory.
+    fn disk(&mut self, alloc: Global, dir: &str, part: Part) -> Result<Self::Disk, OpenFail>
+        ensures bytes { IfOk result (λ d. Self.Disk.bytes d ≡ disks self.old dir.now part) }
+        ensures count { IfOk result (λ d. Self.Disk.faults d ≡ disk_faults self.old dir.now part) }
+        ensures others { SameButPart dir.now part (disks self.old) (disks self.new) }
+        ensures other_counts { SameButPart dir.now part (disk_faults self.old) (disk_faults self.new) }
+        ensures sources { Same (sources self.old) (sources self.new) }
+        ensures source_counts { Same (source_faults self.old) (source_faults self.new) }
+        ensures sinks { Same (sinks self.old) (sinks self.new) }
+        ensures sink_counts { Same (sink_faults self.old) (sink_faults self.new) }
         ensures counted { CountsOpening result (faults self.old) (faults self.new) };
 }

@@ -1,4 +1,4 @@
-//! The outside as the program sees it: where bytes come from, where they go, and what time it is.
+//! The outside as the program sees it: where bytes come from, where they go and where they stay, and what time it is.
 //! Each port is a trait with a form in memory, whose contents contracts can name, and a real form.
 //! A fault of the outside is counted, so that a caller who reports one can be held to it.
 #![tactic(auto)]
@@ -11,11 +11,13 @@ mod real;
 mod streams;
 
 pub use clocks::Clock;
-pub use fails::{Failed, OpenFail, raise};
+pub use fails::OpenFail;
+pub use fb_calls::Failed;
+pub use fb_disk::{Disk, MemDisk};
 pub use fb_memory::Memory;
-pub use hosts::Host;
-pub use memory::{CallPlan, FixedClock, MemHost, MemSink, MemSource};
-pub use real::{FileSink, FileSource, RealHost, SystemClock};
+pub use hosts::{Host, Part};
+pub use memory::{FixedClock, MemHost, MemSink, MemSource};
+pub use real::{AnyDisk, FileSink, FileSource, RealHost, SystemClock};
 pub use streams::{Sink, Source};
 
 #[cfg(test)]

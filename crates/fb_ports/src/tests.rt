@@ -112,3 +112,75 @@ fn clocks_tell_the_time(rt: HostRuntime) -> Result<(), Fail> {
     assert!(rt; reading(&SystemClock::new(rt)) > 1_735_689_600_000);
     Ok(())
 }
+
+// Writes to a host's disk, and closes it.
+fn written<H: Host>(host: &mut H, alloc: Global, dir: &str) -> Result<(), Fail> {
+    let mut disk = host.disk(alloc, dir, Part::Log)?;
+    disk.write_at(2, b"cdef")?;
+    disk.write_at(0, b"ab")?;
+    disk.cut(5)?;
+    disk.cut(9)?;
+    Ok(disk.sync()?)
+}
+
+// What a host's disk reads from its second byte on.
+fn read_again<H: Host>(host: &mut H, alloc: Global, dir: &str) -> Result<Vec<u8>, Fail> {
+    let mut disk = host.disk(alloc, dir, Part::Log)?;
+    let mut buf = [0u8; 8];
+    let count = disk.read_at(1, &mut buf)?;
+    Ok(buf[..count].to_vec(alloc)?)
+}
+
+#[test]
+fn a_real_disk_is_there_at_the_next_opening(rt: HostRuntime) -> Result<(), Fail> {
+    let alloc = rt.alloc();
+    std::fs::create_dir(&rt, "store")?;
+    let mut host = RealHost::new(rt);
+    written(&mut host, alloc, "store")?;
+    assert_eq!(rt;
+        read_again(&mut host, alloc, "store")?.as_slice(),
+        b"bcde".as_slice()
+    );
+    let mut segments = host.disk(alloc, "store", Part::Segments)?;
+    assert_eq!(rt; segments.len(), Ok(0));
+    assert_eq!(rt; segments.write_at(u64::MAX, b"x"), Err(Failed));
+    assert_eq!(rt; segments.faults(), 1);
+    std::fs::remove_file(&rt, "store/log")?;
+    std::fs::remove_file(&rt, "store/segments")?;
+    std::fs::remove_dir(&rt, "store")?;
+    Ok(())
+}
+
+#[test]
+fn a_real_host_opens_disks_where_a_directory_is(rt: HostRuntime) -> Result<(), Fail> {
+    let alloc = rt.alloc();
+    std::fs::write(&rt, "no_directory", "")?;
+    let mut host = RealHost::new(rt);
+    for dir in ["missing", "no_directory", ""] {
+        assert!(rt; matches!(host.disk(alloc, dir, Part::Log), Err(OpenFail::Failed)));
+    }
+    assert_eq!(rt; host.faults(), 3);
+    written(&mut host, alloc, ":memory:")?;
+    assert_eq!(rt;
+        read_again(&mut host, alloc, ":memory:")?.as_slice(),
+        b"".as_slice()
+    );
+    std::fs::remove_file(&rt, "no_directory")?;
+    Ok(())
+}
+
+#[test]
+fn a_host_in_memory_hands_out_each_disk_once(rt: HostRuntime) -> Result<(), Fail> {
+    let alloc = rt.alloc();
+    let mut host = MemHost::new(alloc);
+    let mut disk = MemDisk::new(alloc, 100, Vec::new(alloc))?;
+    disk.write_at(0, b"abc")?;
+    host.add_disk("one", Part::Segments, disk)?;
+    let mut segments = host.disk(alloc, "one", Part::Segments)?;
+    assert_eq!(rt; segments.len(), Ok(3));
+    let mut log = host.disk(alloc, "one", Part::Log)?;
+    assert_eq!(rt; log.len(), Ok(0));
+    let mut again = host.disk(alloc, "one", Part::Segments)?;
+    assert_eq!(rt; again.len(), Ok(0));
+    Ok(())
+}

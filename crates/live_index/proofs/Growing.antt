@@ -1,18 +1,18 @@
 -- What the list of the live index is after each step of an entry.
-use Rattle.std.proofs.Common.{◌≡◌, ℕ, zero, suc, ◌+◌, ◌<◌, ◌≤◌, ◌⊎◌, Bool, true, false, cond, List, [], ◌∷◌, ◌++◌, length, take, drop, get_or, refl, sym, ap, ◌∙◌, subst, inl, inr, arith, Option, Some, None}
-use Rattle.std.specs.Prelude.{◌↔◌, Contains, filter, IsTrue, IfSome, IfOk, Result, Ok, Err}
-use Rattle.std.specs.List.{insert, slice_get, All}
+use Rattle.std.proofs.Common.{◌≡◌, ℕ, zero, suc, ◌+◌, ◌<◌, ◌≤◌, ◌⊎◌, Bool, true, false, cond, List, [], ◌∷◌, ◌++◌, length, take, get_or, refl, sym, ap, ◌∙◌, subst, inl, inr, arith, Option, Some}
+use Rattle.std.specs.Prelude.{◌↔◌, Contains, filter, IsTrue, IfOk, Result, Ok, Err}
+use Rattle.std.specs.List.{insert, slice_get}
 use Rattle.std.specs.Ordering.{is_eq}
 use Rattle.std.specs.declared.cmp.Ordering.{Ordering}
 use Rattle.std.specs.declared.cmp.Ordering.TheVariants.{Less, Equal, Greater}
 use Rattle.std.proofs.lemmas.List.{take_more, take_all, get_or_default}
-use Rattle.std.proofs.lemmas.List.Elements.{Contains-append_left, Contains-append_right, Contains-append_cases, Contains-get_or, Contains-push, Contains-push_cases, filter_more}
+use Rattle.std.proofs.lemmas.List.Elements.{Contains-append_left, Contains-append_right, Contains-append_cases, Contains-push, Contains-push_cases}
 use Rattle.std.proofs.lemmas.Option.{slice_get_cases, get_or_from_slice_get}
 use Rattle.fb_values.specs.declared.facts.Datom.{Datom}
 use Rattle.fb_values.specs.declared.indexes.Order.{Order}
 use Rattle.fb_values.specs.declared.indexes.Order.TheVariants.{Avet}
 use Rattle.fb_values.specs.Orders.{key_cmp}
-use Rattle.fb_values.specs.OrderLaws.{key_cmp-Equal, IsAtOnePlace}
+use Rattle.fb_values.specs.OrderLaws.{key_cmp-Equal}
 use Rattle.fb_covers.specs.Coverage.{Coverage}
 use Rattle.fb_search.specs.Rising.{StandsBefore, IsRising}
 use Rattle.live_index.specs.Growth.{HasNoTwins, is_held, IsGrown, IsSound, is_twin}

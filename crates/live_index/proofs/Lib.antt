@@ -1,4 +1,5 @@
 pub mod Members
 pub mod Insertion
 pub mod Growing
+pub mod Samples
 mod Standing

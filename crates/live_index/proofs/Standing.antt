@@ -1,5 +1,5 @@
 -- Live lists that stand for a history and grow by its next entry stand for the history with it.
-use Rattle.std.proofs.Common.{◌≡◌, ◌∙◌, ℕ, ◌+◌, ◌<◌, ◌≤◌, ◌⊎◌, inl, inr, Bool, true, false, ◌&&◌, List, [], ◌∷◌, ◌++◌, refl, sym, ap, subst, arith, eqb, length, Option, Some, None}
+use Rattle.std.proofs.Common.{◌≡◌, ◌∙◌, ℕ, ◌+◌, ◌<◌, ◌⊎◌, inl, inr, Bool, true, false, List, [], ◌∷◌, ◌++◌, refl, sym, ap, subst, arith, eqb, Option, Some, None}
 use Rattle.std.specs.Prelude.{Contains, IsTrue, IsFalse, is_some, option_and_then}
 use Rattle.std.specs.Option.{option_map_or}
 use Rattle.std.specs.Ordering.{is_lt}
@@ -12,7 +12,7 @@ use Rattle.fb_values.specs.declared.facts.Datom.{Datom}
 use Rattle.fb_values.specs.declared.facts.Entry.{Entry}
 use Rattle.fb_values.specs.declared.indexes.Order.{Order}
 use Rattle.fb_values.specs.declared.indexes.Order.TheVariants.{Eavt, Aevt, Avet, Vaet}
-use Rattle.fb_values.specs.Orders.{key_cmp, key_of, value_cmp}
+use Rattle.fb_values.specs.Orders.{key_of, value_cmp}
 use Rattle.fb_values.specs.OrderLaws.{value_cmp_total}
 use Rattle.fb_covers.specs.Coverage.{Coverage}
 use Rattle.fb_search.specs.Lists.{Lists, list_in}
@@ -21,9 +21,9 @@ use Rattle.fb_model.specs.Numbers.{ident, value_type, cardinality, unique, is_co
 use Rattle.fb_model.specs.Rising.{rises, IsRisingListOf}
 use Rattle.fb_model.specs.History.{basis, said, upto}
 use Rattle.fb_model.specs.Facts.{facts}
-use Rattle.fb_model.specs.Schema.{covers, is_held, attribute_of, attribute_from, is_attribute, keyword_of, entity_of, truth_of, entity_in}
+use Rattle.fb_model.specs.Schema.{covers, is_held, attribute_from, is_attribute, keyword_of, entity_of, truth_of, entity_in}
 use Rattle.fb_model.specs.Laws.{facts_with}
-use Rattle.fb_model.specs.Lawful.{IsLawful, IsLawfulAfter}
+use Rattle.fb_model.specs.Lawful.{IsLawfulAfter}
 use Rattle.fb_model.proofs.OneMoreEntry.{said-push, upto-append}
 use Rattle.fb_model.proofs.LawfulHistories.{IsLawful-length, IsLawful-push}
 use Rattle.fb_model.proofs.Invariants.{facts-push}

@@ -1,4 +1,5 @@
 pub mod OneScript
 pub mod LongerTalks
 pub mod Places
+pub mod ReplyLines
 pub mod NextEntry

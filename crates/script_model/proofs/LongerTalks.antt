@@ -51,7 +51,7 @@ IsRefused-longer h more seen f p line counted within r =
       reason = r.reason;
       at = r.at;
       refused = λ reading. ap (λ past. step past f reading) (upto-append h more p (omega (arith, r.same, counted, within))) ∙ r.refused reading;
-      refusal = r.refusal;
+      says = r.says;
     }
 
 pub IsAccepted-longer : (may : ℤ → Type 0) (h more : List Entry) (seen : ℕ) (f : Form) (p : ℕ) (line : List ℕ)
@@ -66,7 +66,7 @@ IsAccepted-longer may h more seen f p line counted grows a =
       tempids = a.tempids;
       accepted = ap (λ past. step past f a.reading) (upto-append h more (p - 1) (omega (arith, a.within, counted))) ∙ a.accepted;
       kept = slice_get-append h more p a.entry a.kept;
-      receipt = a.receipt;
+      says = a.says;
     }
 
 -- a longer history keeps a talk

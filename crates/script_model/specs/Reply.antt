@@ -1,29 +1,33 @@
--- The line that answers a form: canonical EDN, and a line feed.
+-- What answers a form, as a form itself, and its line: the canonical text, and a line feed.
 -- EDN, edn-format. Which keys a reply has is this project's own choice.
-use Rattle.std.specs.Prelude.{ℕ, List, [], ◌∷◌, ◌++◌, codes, decimal}
+use Rattle.std.specs.Prelude.{◌≡◌, ℕ, pos, List, [], ◌∷◌, ◌++◌, codes, map}
+use Rattle.edn_model.specs.Form as form
+use Rattle.edn_model.specs.Canon.{Canon}
 
 abbrev pub line_feed : ℕ
 line_feed = 10
 
--- A string's text. No string that is read so far has a character that would need an escape.
-abbrev pub quoted : List ℕ → List ℕ
-quoted text = codes "\"" ++ text ++ codes "\""
+-- a keyword and what stands behind it in a map
+abbrev pub field : List ℕ → form.Form → form.Form × form.Form
+field name f = (form.keyword name, f)
+
+abbrev pub number : ℕ → form.Form
+number n = form.integer (pos n)
 
 -- "x" 17592186044417
-abbrev pub tempid_pair : List ℕ × ℕ → List ℕ
-tempid_pair p = quoted p.0 ++ codes " " ++ decimal p.1
-
--- the pairs, with a space between each two
-abbrev pub tempid_pairs : List (List ℕ × ℕ) → List ℕ
-tempid_pairs [] = []
-tempid_pairs (p ∷ []) = tempid_pair p
-tempid_pairs (p ∷ q ∷ ps) = tempid_pair p ++ codes " " ++ tempid_pairs (q ∷ ps)
+abbrev pub tempid_pair : List ℕ × ℕ → form.Form × form.Form
+tempid_pair p = (form.string p.0, number p.1)
 
 -- {:t 1 :tempids {"x" 17592186044417}}
-abbrev pub receipt : ℕ → List (List ℕ × ℕ) → List ℕ
-receipt t tempids = codes "{:t " ++ decimal t ++ codes " :tempids {" ++ tempid_pairs tempids ++ codes "}}" ++ line_feed ∷ []
+abbrev pub receipt : ℕ → List (List ℕ × ℕ) → form.Form
+receipt t tempids =
+    form.map (form.pairs (field (codes "t") (number t) ∷ field (codes "tempids") (form.map (form.pairs (map tempid_pair tempids))) ∷ []))
 
 -- {:refused :read/not-built :at 0 :basis 1}
-abbrev pub refusal : List ℕ → ℕ → ℕ → List ℕ
+abbrev pub refusal : List ℕ → ℕ → ℕ → form.Form
 refusal reason at basis =
-    codes "{:refused :" ++ reason ++ codes " :at " ++ decimal at ++ codes " :basis " ++ decimal basis ++ codes "}" ++ line_feed ∷ []
+    form.map (form.pairs (field (codes "refused") (form.keyword reason) ∷ field (codes "at") (number at) ∷ field (codes "basis") (number basis) ∷ []))
+
+-- the line of a reply
+abbrev pub IsLineOf : form.Form → List ℕ → Type 0
+IsLineOf reply line = (text : List ℕ) × Canon reply text × (line ≡ text ++ line_feed ∷ [])

@@ -1,33 +1,43 @@
--- A script: the forms that its bytes are, up to the end of the input or the first fault, and which of the two it is.
--- EDN, edn-format: "General considerations". That a script is read up to its first fault is this project's own choice.
-use Rattle.std.specs.Prelude.{ℕ, ◌≡◌, List, [], ◌∷◌}
+-- A script: the forms that its bytes are, up to the end of the input, the first fault or the greatest number of commands,
+-- and which of the three it is.
+-- EDN, edn-format: "General considerations". Where a script ends early is this project's own choice.
+use Rattle.std.specs.Prelude.{ℕ, ◌≡◌, ◌≤◌, List, [], ◌∷◌, length}
 use Rattle.edn_model.specs.Form.{Form}
-use Rattle.edn_model.specs.Reading.{ReadsForm, OnlyBlank, NoFormAt}
+use Rattle.edn_model.specs.Grammar.{FormStands, OnlyGap}
+use Rattle.edn_model.specs.Faults.{Fault, FaultAt}
 
--- what stands behind the last form
+-- how many commands a script may have
+abbrev pub most_commands : ℕ
+most_commands = 1000000
+
+-- what stands behind the forms
 pub data Ending : Type 0 where
   -- the end of the input
   whole : Ending
-  -- at this byte no form begins
-  bad : ℕ → Ending
+  -- a fault, and its byte
+  fault : Fault → ℕ → Ending
+  -- one more form, behind as many as there may be
+  too_many : Ending
 
-abbrev pub EndsAt : List ℕ → ℕ → Ending → Type 0
-EndsAt bytes at whole = OnlyBlank bytes at
-EndsAt bytes at (bad byte) = NoFormAt bytes at byte
-
--- from this place on the bytes are these forms, and then the ending
-abbrev pub ScriptFrom : List ℕ → ℕ → List Form → Ending → Type 0
-ScriptFrom bytes at [] ending = EndsAt bytes at ending
-ScriptFrom bytes at (f ∷ fs) ending = (next : ℕ) × ReadsForm bytes at f next × ScriptFrom bytes next fs ending
-
-abbrev pub Script : List ℕ → List Form → Ending → Type 0
-Script bytes fs ending = ScriptFrom bytes 0 fs ending
+-- Behind so many forms, from this place on.
+abbrev pub EndsAt : List ℕ → ℕ → ℕ → Ending → Type 0
+EndsAt bytes count at whole = OnlyGap bytes at
+EndsAt bytes count at (fault what byte) = FaultAt bytes at what byte
+EndsAt bytes count at too_many = (count ≡ most_commands) × (f : Form) × (next : ℕ) × FormStands bytes at f next
 
 -- from one place on the bytes are these forms, the last of which ends at another place
 abbrev pub FormsBetween : List ℕ → ℕ → List Form → ℕ → Type 0
 FormsBetween bytes at [] end = end ≡ at
-FormsBetween bytes at (f ∷ fs) end = (next : ℕ) × ReadsForm bytes at f next × FormsBetween bytes next fs end
+FormsBetween bytes at (f ∷ fs) end = (next : ℕ) × FormStands bytes at f next × FormsBetween bytes next fs end
+
+pub record Script (bytes : List ℕ) (fs : List Form) (ending : Ending) : Type 0 where
+  pub end : ℕ
+  pub forms : FormsBetween bytes 0 fs end
+  pub few : length fs ≤ most_commands
+  pub ends : EndsAt bytes (length fs) end ending
 
 -- the script begins with these forms, whatever it goes on with
-abbrev pub Begins : List ℕ → List Form → Type 0
-Begins bytes fs = (end : ℕ) × FormsBetween bytes 0 fs end
+pub record Begins (bytes : List ℕ) (fs : List Form) : Type 0 where
+  pub end : ℕ
+  pub forms : FormsBetween bytes 0 fs end
+  pub few : length fs ≤ most_commands

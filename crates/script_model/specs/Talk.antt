@@ -5,10 +5,10 @@ use Rattle.edn_model.specs.Form.{Form}
 use Rattle.fb_values.specs.declared.facts.Entry.{Entry}
 use Rattle.fb_model.specs.History.{basis, upto}
 use Rattle.script_model.specs.Step.{accepts, refuses, step}
-use Rattle.script_model.specs.Reply.{receipt, refusal}
+use Rattle.script_model.specs.Reply.{receipt, refusal, IsLineOf}
 
 -- The form is accepted at place p, above what its session had seen: entry p of the history is what the step gives after
--- the entries before it, at a number that the clock may answer, and the line is its receipt.
+-- the entries before it, at a number that the clock may answer, and the line is that of its receipt.
 pub record IsAccepted (may : ℤ → Type 0) (h : List Entry) (seen : ℕ) (f : Form) (p : ℕ) (line : List ℕ) : Type 0 where
   pub above : seen < p
   pub within : p ≤ basis h
@@ -18,7 +18,7 @@ pub record IsAccepted (may : ℤ → Type 0) (h : List Entry) (seen : ℕ) (f : 
   pub tempids : List (List ℕ × ℕ)
   pub accepted : step (upto h (p - 1)) f reading ≡ accepts entry tempids
   pub kept : slice_get h p ≡ Some entry
-  pub receipt : line ≡ receipt p tempids
+  pub says : IsLineOf (receipt p tempids) line
 
 -- The form is refused at what its session had seen, whatever the clock reads, and the line says so.
 pub record IsRefused (h : List Entry) (seen : ℕ) (f : Form) (p : ℕ) (line : List ℕ) : Type 0 where
@@ -26,7 +26,7 @@ pub record IsRefused (h : List Entry) (seen : ℕ) (f : Form) (p : ℕ) (line : 
   pub reason : List ℕ
   pub at : ℕ
   pub refused : (reading : ℤ) → step (upto h p) f reading ≡ refuses reason at
-  pub refusal : line ≡ refusal reason at p
+  pub says : IsLineOf (refusal reason at p) line
 
 -- In the history h the forms have these places and lines, one each in order, and the places of the accepted ones are the
 -- commits, in order. What was seen before the first form is seen, and then the place of each line.

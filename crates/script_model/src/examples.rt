@@ -4,7 +4,7 @@ ghost use Rattle.std.specs.Option.{option_map};
 ghost use Rattle.script_model.specs.Words.{run, command_of, sink_of};
 ghost use Rattle.script_model.specs.Script.{whole, Script};
 ghost use Rattle.script_model.specs.Step.{accepts, not_built, entry_of, step};
-ghost use Rattle.script_model.specs.Reply.{receipt, refusal};
+ghost use Rattle.script_model.specs.Reply.{receipt, refusal, IsLineOf};
 ghost use Rattle.script_model.specs.Talk.{Talk};
 ghost use Rattle.script_model.specs.Samples.{hi, other, new_year, opened, twice};
 
@@ -36,14 +36,14 @@ pub fn first_step()
     ensures accepted { step opened (hi (codes "x")) new_year ≡ accepts (entry_of opened (codes "hi") new_year) ((codes "x", 17592186044417) ∷ []) }
     ensures t { (entry_of opened (codes "hi") new_year).t ≡ 1 }
     ensures instant { (entry_of opened (codes "hi") new_year).instant ≡ new_year }
-    ensures line { receipt 1 ((codes "x", 17592186044417) ∷ []) ≡ codes "{:t 1 :tempids {\"x\" 17592186044417}}\n" }
+    ensures line { IsLineOf (receipt 1 ((codes "x", 17592186044417) ∷ [])) (codes "{:t 1 :tempids {\"x\" 17592186044417}}\n") }
 {}
 
 /// Anything else is not built. No tempid names the transaction itself here.
 pub fn refused_steps()
     ensures other_form { step opened other new_year ≡ not_built }
     ensures own_tempid { step opened (hi (codes "datomic.tx")) new_year ≡ not_built }
-    ensures line { refusal (codes "read/not-built") 0 0 ≡ codes "{:refused :read/not-built :at 0 :basis 0}\n" }
+    ensures line { IsLineOf (refusal (codes "read/not-built") 0 0) (codes "{:refused :read/not-built :at 0 :basis 0}\n") }
 {}
 
 /// Under a clock that stands still the second entry is recorded a millisecond after the first.
@@ -57,5 +57,8 @@ pub fn a_talk()
         (hi (codes "x") ∷ other ∷ hi (codes "y") ∷ [])
         (1 ∷ 1 ∷ 2 ∷ [])
         (1 ∷ 2 ∷ [])
-        (receipt 1 ((codes "x", 17592186044417) ∷ []) ∷ refusal (codes "read/not-built") 0 1 ∷ receipt 2 ((codes "y", 17592186044418) ∷ []) ∷ []) }
+        (codes "{:t 1 :tempids {\"x\" 17592186044417}}\n"
+        ∷ codes "{:refused :read/not-built :at 0 :basis 1}\n"
+        ∷ codes "{:t 2 :tempids {\"y\" 17592186044418}}\n"
+        ∷ []) }
 {}

@@ -6,5 +6,7 @@ pub mod Planning
 pub mod Ranges
 pub mod Pieces
 pub mod Numbers
+pub mod Distinct
+pub mod Samples
 pub mod Standing
 pub mod Orders

@@ -1,5 +1,5 @@
 -- One item more of a list, and the last of a result.
-use Rattle.std.proofs.Common.{◌≡◌, ℕ, zero, suc, ◌+◌, ◌<◌, ◌≤◌, List, [], ◌∷◌, ◌++◌, length, take, drop, get_or, map, refl, sym, ap, ◌∙◌, arith, Option, Some, Result, Ok, Err}
+use Rattle.std.proofs.Common.{◌≡◌, ℕ, zero, suc, ◌+◌, ◌<◌, ◌≤◌, List, [], ◌∷◌, ◌++◌, length, take, drop, get_or, map, refl, sym, ap, ◌∙◌, arith, Some, Result, Ok, Err}
 use Rattle.std.specs.Prelude.{IfOk}
 use Rattle.std.specs.List.{slice_get}
 use Rattle.std.specs.Option.{option_map}
@@ -33,7 +33,7 @@ pub length_map : {X Y : Type 0} (now : X → Y) (xs : List X) → length (map no
 length_map now [] = refl
 length_map now (x ∷ xs) = ap suc (length_map now xs)
 
--- three facts of a value
-pub if_ok_three : {X E : Type 0} (r : Result X E) (P Q S W : X → Type 0) → ((x : X) → P x → Q x → S x → W x) → IfOk r P → IfOk r Q → IfOk r S → IfOk r W
-if_ok_three (Ok x) P Q S W f p q s = f x p q s
-if_ok_three (Err e) P Q S W f p q s = p
+-- four facts of a value
+pub if_ok_four : {X E : Type 0} (r : Result X E) (P Q S T W : X → Type 0) → ((x : X) → P x → Q x → S x → T x → W x) → IfOk r P → IfOk r Q → IfOk r S → IfOk r T → IfOk r W
+if_ok_four (Ok x) P Q S T W f p q s t = f x p q s t
+if_ok_four (Err e) P Q S T W f p q s t = p

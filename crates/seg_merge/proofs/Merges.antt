@@ -1,11 +1,9 @@
 -- Two rising lists that are merged part by part.
-use Rattle.std.proofs.Common.{◌≡◌, ℕ, ◌⊎◌, Bool, List, [], ◌∷◌, ◌++◌, refl, sym, ap, ◌∙◌, subst, inl, inr}
+use Rattle.std.proofs.Common.{◌⊎◌, List, [], ◌++◌, inl, inr}
 use Rattle.std.specs.Prelude.{◌↔◌, Contains}
-use Rattle.std.specs.declared.cmp.Ordering.TheVariants.{Less}
 use Rattle.std.proofs.lemmas.List.Elements.{Contains-append_left, Contains-append_right, Contains-append_cases}
 use Rattle.fb_values.specs.declared.facts.Datom.{Datom}
 use Rattle.fb_values.specs.declared.indexes.Order.{Order}
-use Rattle.fb_values.specs.Orders.{key_cmp}
 use Rattle.fb_search.specs.Rising.{IsRising}
 use Rattle.live_index.proofs.Members.{contains_none}
 use Rattle.seg_merge.proofs.Before.{Before, rising_join}

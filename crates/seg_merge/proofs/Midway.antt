@@ -1,8 +1,7 @@
 -- One added datom, and the older ones before it.
-use Rattle.std.proofs.Common.{◌≡◌, ℕ, suc, ◌+◌, ◌<◌, ◌≤◌, ◌⊎◌, Bool, true, false, cond, List, [], ◌∷◌, ◌++◌, length, take, drop, get_or, refl, sym, ap, ◌∙◌, subst, inl, inr, arith, append_assoc, append-nil}
-use Rattle.std.specs.Prelude.{◌↔◌, Contains, filter, IsTrue}
+use Rattle.std.proofs.Common.{◌≡◌, ℕ, Bool, true, false, cond, List, [], ◌∷◌, ◌++◌, take, drop, refl, sym, ap, ◌∙◌, subst, inl, inr, append_assoc, append-nil}
+use Rattle.std.specs.Prelude.{Contains, filter, IsTrue}
 use Rattle.std.specs.Ordering.{is_gt, is_eq}
-use Rattle.std.specs.Cmp.{IsTotalOrder}
 use Rattle.std.specs.declared.cmp.Ordering.{Ordering}
 use Rattle.std.specs.declared.cmp.Ordering.TheVariants.{Less, Equal, Greater}
 use Rattle.std.proofs.lemmas.Bool.{cases_Bool}
@@ -12,13 +11,13 @@ use Rattle.fb_values.specs.declared.facts.Datom.{Datom}
 use Rattle.fb_values.specs.declared.indexes.Order.{Order}
 use Rattle.fb_values.specs.Orders.{key_cmp}
 use Rattle.fb_values.specs.OrderLaws.{key_cmp_total, key_cmp-Equal}
-use Rattle.fb_search.specs.Rising.{StandsBefore, IsRising}
+use Rattle.fb_search.specs.Rising.{IsRising}
 use Rattle.fb_search.specs.Places.{place_of, probe_of}
 use Rattle.fb_search.proofs.Ends.{rising-append_left, rising-append_right}
 use Rattle.live_index.specs.Growth.{HasNoTwins}
-use Rattle.live_index.proofs.Members.{contains-cons, contains_head, contains_tail, contains_none, from_filter, into_filter}
+use Rattle.live_index.proofs.Members.{contains-cons, contains_head, contains_none, from_filter, into_filter}
 use Rattle.seg_merge.specs.Plans.{without_twin}
-use Rattle.seg_merge.proofs.Before.{Before, stands_at, rising_join, rising_before, rising-filter, own_before, own_behind}
+use Rattle.seg_merge.proofs.Before.{stands_at, rising_join, rising_before, rising-filter, own_before, own_behind}
 use Rattle.seg_merge.proofs.Merges.{Merges, IsNext, merges_more}
 
 -- what goes before the rest is the datom itself

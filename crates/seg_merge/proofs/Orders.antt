@@ -1,6 +1,6 @@
 -- The plan and the tree of one order, and those of all four.
-use Rattle.std.proofs.Common.{◌≡◌, ℕ, ◌+◌, ◌-◌, ◌<◌, ◌≤◌, ◌⊎◌, Bool, List, [], ◌∷◌, ◌++◌, max, refl, sym, ap, ◌∙◌, subst, inl, inr, arith}
-use Rattle.std.specs.Prelude.{◌↔◌, Contains, IsTrue, filter}
+use Rattle.std.proofs.Common.{◌≡◌, ℕ, ◌-◌, ◌<◌, ◌≤◌, List, ◌++◌, max, sym, ap, ◌∙◌, subst, inl, inr, arith}
+use Rattle.std.specs.Prelude.{Contains, filter}
 use Rattle.std.specs.List.{All, range_with_len}
 use Rattle.std.proofs.lemmas.List.Elements.{All-weaker, Contains-append_left, Contains-append_right, Contains-append_cases}
 use Rattle.fb_values.specs.declared.facts.Datom.{Datom}
@@ -8,22 +8,21 @@ use Rattle.fb_values.specs.declared.indexes.Order.{Order}
 use Rattle.fb_values.specs.declared.indexes.Order.TheVariants.{Eavt, Aevt, Avet, Vaet}
 use Rattle.fb_covers.specs.Coverage.{Coverage}
 use Rattle.fb_search.specs.Rising.{IsRising}
-use Rattle.live_index.specs.Growth.{HasNoTwins, is_held}
+use Rattle.live_index.specs.Growth.{HasNoTwins}
 use Rattle.live_index.proofs.Members.{from_filter, into_filter}
 use Rattle.seg_tree.specs.Nodes.{LeafNode, DirectoryNode, leaf_datoms, tree_datoms, tree_leaves}
-use Rattle.seg_tree.specs.Ids.{node_ids, next_above, is_new, old_leaves}
-use Rattle.seg_tree.specs.Built.{IsBuilt}
+use Rattle.seg_tree.specs.Ids.{leaf_ids, node_ids, ids_of_four, next_above, is_new, old_leaves, AreDistinct, IsInRow}
+use Rattle.seg_tree.specs.Built.{Build, IsBuilt}
 use Rattle.seg_tree.specs.Indexes.{tree_in, root_ids}
 use Rattle.seg_tree.specs.declared.roots.Roots.{Roots}
 use Rattle.seg_tree.proofs.Making.{tree_datoms-leaves, next_above_append}
-use Rattle.seg_merge.specs.Merged.{is_due, due_of, IsMergeable, KeepsLeaves}
-use Rattle.seg_merge.specs.Plans.{Planned, IsUnion}
-use Rattle.seg_merge.specs.Merges.{IsPlan, HasOlderLeaves}
-use Rattle.seg_merge.specs.Four.{plan_in}
-use Rattle.seg_merge.specs.declared.merge.Plans.{Plans}
+use Rattle.seg_merge.specs.Merged.{is_due, due_of, KeepsLeaves}
+use Rattle.seg_merge.specs.Plans.{Planned, IsUnion, RepeatsNone}
+use Rattle.seg_merge.specs.Merges.{IsPlan}
 use Rattle.seg_merge.proofs.Before.{rising-filter}
 use Rattle.seg_merge.proofs.Planning.{single_part}
-use Rattle.seg_merge.proofs.Numbers.{old_leaves-later, numbered_later, tree_leaf_below}
+use Rattle.seg_merge.proofs.Numbers.{old_leaves-later, numbered_later, four_in_row, tree_leaf_below}
+use Rattle.seg_merge.proofs.Distinct.{four_distinct}
 
 -- ---- one order
 
@@ -42,8 +41,8 @@ due_single order coverage c tree ls live due ls_is due_is single =
     ])
 
 pub plan_is : (order : Order) (coverage : Coverage) (c : ℕ) (tree : List DirectoryNode) (ls : List LeafNode) (live due : List Datom) (plan : Planned) → ls ≡ tree_leaves tree → due ≡ due_of coverage c order live
-    → IsUnion order coverage (leaf_datoms ls) due plan.datoms → All (Contains ls) plan.kept → KeepsLeaves order coverage ls due plan.kept → IsPlan order coverage c tree live plan
-plan_is order coverage c tree ls live due plan ls_is due_is union older stays =
+    → IsUnion order coverage (leaf_datoms ls) due plan.datoms → All (Contains ls) plan.kept → RepeatsNone ls plan.kept → KeepsLeaves order coverage ls due plan.kept → IsPlan order coverage c tree live plan
+plan_is order coverage c tree ls live due plan ls_is due_is union older once stays =
     let e : leaf_datoms ls ≡ tree_datoms tree = ap leaf_datoms ls_is ∙ sym (tree_datoms-leaves tree) in
     record {
       merged = record {
@@ -60,6 +59,7 @@ plan_is order coverage c tree ls live due plan ls_is due_is union older stays =
         );
       };
       older = subst (λ (xs : List LeafNode). All (Contains xs) plan.kept) ls_is older;
+      once = subst (λ (xs : List LeafNode). RepeatsNone xs plan.kept) ls_is once;
       stays = subst (λ (ds : List Datom). KeepsLeaves order coverage (tree_leaves tree) ds plan.kept) due_is (subst (λ (xs : List LeafNode). KeepsLeaves order coverage xs due plan.kept) ls_is stays);
     }
 
@@ -76,17 +76,38 @@ older_than first later leaves le all = All-weaker (λ (leaf : LeafNode). leaf.id
 
 -- ---- all four
 
-pub four_plans : (P : Order → Planned → Type 0) (plans : Plans) → P Eavt plans.eavt → P Aevt plans.aevt → P Avet plans.avet → P Vaet plans.vaet → (order : Order) → P order (plan_in plans order)
-four_plans P plans e a v r Eavt = e
-four_plans P plans e a v r Aevt = a
-four_plans P plans e a v r Avet = v
-four_plans P plans e a v r Vaet = r
+pub in_each_order : (Q : Order → Type 0) → Q Eavt → Q Aevt → Q Avet → Q Vaet → (order : Order) → Q order
+in_each_order Q e a v r Eavt = e
+in_each_order Q e a v r Aevt = a
+in_each_order Q e a v r Avet = v
+in_each_order Q e a v r Vaet = r
 
-pub four_trees : (P : Order → Planned → List DirectoryNode → Type 0) (plans : Plans) (roots : Roots) → P Eavt plans.eavt roots.eavt → P Aevt plans.aevt roots.aevt → P Avet plans.avet roots.avet → P Vaet plans.vaet roots.vaet → (order : Order) → P order (plan_in plans order) (tree_in roots order)
-four_trees P plans roots e a v r Eavt = e
-four_trees P plans roots e a v r Aevt = a
-four_trees P plans roots e a v r Avet = v
-four_trees P plans roots e a v r Vaet = r
+abbrev pub build_at : ℕ → Planned → Build
+build_at first plan = record { first = first; datoms = plan.datoms; kept = plan.kept }
+
+-- four trees that were built one behind the other
+pub record FourBuilt (first second third fourth next : ℕ) (e b v r : Planned) (es bs vs rs : List DirectoryNode) : Type 0 where
+  pub eavt : IsBuilt (build_at first e) es second
+  pub aevt : IsBuilt (build_at second b) bs third
+  pub avet : IsBuilt (build_at third v) vs fourth
+  pub vaet : IsBuilt (build_at fourth r) rs next
+  pub b_older : All (λ (leaf : LeafNode). leaf.id < first) b.kept
+  pub v_older : All (λ (leaf : LeafNode). leaf.id < first) v.kept
+  pub r_older : All (λ (leaf : LeafNode). leaf.id < first) r.kept
+
+pub built_in_row : (first second third fourth next : ℕ) (e b v r : Planned) (es bs vs rs : List DirectoryNode) → FourBuilt first second third fourth next e b v r es bs vs rs → IsInRow first (ids_of_four es bs vs rs)
+built_in_row first second third fourth next e b v r es bs vs rs f =
+    let two : first ≤ third = omega (arith, f.eavt.behind, f.aevt.behind) in
+    let three : first ≤ fourth = omega (arith, two, f.avet.behind) in
+    four_in_row first second third fourth next (node_ids es) (node_ids bs) (node_ids vs) (node_ids rs) f.eavt.behind f.aevt.behind f.avet.behind f.vaet.behind f.eavt.new
+    (ids_first first second third b bs f.eavt.behind f.b_older f.aevt)
+    (ids_first first third fourth v vs two f.v_older f.avet)
+    (ids_first first fourth next r rs three f.r_older f.vaet)
+
+pub built_distinct : (first second third fourth next : ℕ) (e b v r : Planned) (es bs vs rs : List DirectoryNode) → FourBuilt first second third fourth next e b v r es bs vs rs → AreDistinct (((leaf_ids e.kept ++ leaf_ids b.kept) ++ leaf_ids v.kept) ++ leaf_ids r.kept) → AreDistinct (ids_of_four es bs vs rs)
+built_distinct first second third fourth next e b v r es bs vs rs f once =
+    four_distinct first second third fourth es bs vs rs e.kept b.kept v.kept r.kept f.eavt.behind f.aevt.behind f.avet.behind f.eavt.old f.aevt.old f.avet.old f.vaet.old
+    (built_in_row first second third fourth next e b v r es bs vs rs f) once
 
 next_in_order : (roots : Roots) (order : Order) → next_above (node_ids (tree_in roots order)) ≤ next_above (root_ids roots)
 next_in_order roots order =

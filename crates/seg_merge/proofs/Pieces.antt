@@ -1,5 +1,5 @@
 -- The leaves that a plan keeps.
-use Rattle.std.proofs.Common.{◌≡◌, List, [], ◌∷◌, ◌++◌, refl, sym, ◌∙◌, subst, inl, inr}
+use Rattle.std.proofs.Common.{◌≡◌, List, [], ◌∷◌, refl, sym, ◌∙◌, subst, inl, inr}
 use Rattle.std.specs.Prelude.{Contains, flat_map}
 use Rattle.std.specs.Arc.{arc_value}
 use Rattle.std.specs.declared.sync.Arc.{Arc}
@@ -9,7 +9,7 @@ use Rattle.live_index.proofs.Members.{contains-cons, contains_head, contains_non
 use Rattle.seg_tree.specs.declared.nodes.Leaf.{Leaf}
 use Rattle.seg_merge.specs.Pieces.{piece_kept}
 use Rattle.seg_merge.specs.declared.plan.Piece.{Piece}
-use Rattle.seg_merge.specs.declared.plan.Piece.TheVariants.{Kept, New}
+use Rattle.seg_merge.specs.declared.plan.Piece.TheVariants.{Kept}
 
 pub kept_contains : (pieces : List Piece) (piece : Piece) (leaf : Arc Leaf Global) → Contains pieces piece → piece ≡ Kept leaf → Contains (flat_map piece_kept pieces) (arc_value leaf)
 kept_contains [] piece leaf there is = absurd (contains_none piece there)

@@ -1,9 +1,8 @@
 -- The plan of a tree, one leaf after another.
-use Rattle.std.proofs.Common.{◌≡◌, ℕ, zero, suc, ◌+◌, ◌<◌, ◌≤◌, ◌⊎◌, Bool, true, false, List, [], ◌∷◌, ◌++◌, length, take, drop, refl, sym, ap, ◌∙◌, subst, inl, inr, arith, append_assoc, append-nil, Option, Some, None, add-one}
+use Rattle.std.proofs.Common.{◌≡◌, ℕ, zero, suc, ◌+◌, ◌<◌, ◌≤◌, ◌⊎◌, true, false, List, [], ◌∷◌, ◌++◌, length, take, drop, refl, sym, ap, ◌∙◌, subst, inl, inr, arith, append_assoc, append-nil, Option, Some}
 use Rattle.std.specs.Prelude.{◌↔◌, Contains, IsTrue}
 use Rattle.std.specs.List.{All, slice_get}
-use Rattle.std.specs.Ordering.{is_gt, is_lt}
-use Rattle.std.specs.Cmp.{IsTotalOrder}
+use Rattle.std.specs.Ordering.{is_lt}
 use Rattle.std.specs.declared.cmp.Ordering.{Ordering}
 use Rattle.std.specs.declared.cmp.Ordering.TheVariants.{Less, Equal, Greater}
 use Rattle.std.proofs.lemmas.Bool.{cases_lt}
@@ -15,16 +14,17 @@ use Rattle.fb_values.specs.declared.indexes.Order.{Order}
 use Rattle.fb_values.specs.Orders.{key_cmp}
 use Rattle.fb_values.specs.OrderLaws.{key_cmp_total}
 use Rattle.fb_covers.specs.Coverage.{Coverage}
-use Rattle.fb_search.specs.Rising.{StandsBefore, IsRising}
+use Rattle.fb_search.specs.Rising.{IsRising}
 use Rattle.fb_search.proofs.Ends.{rising-append_left, rising-append_right}
 use Rattle.live_index.specs.Growth.{HasNoTwins, is_held}
 use Rattle.live_index.proofs.Members.{contains-cons, contains_head, contains_none}
 use Rattle.seg_tree.specs.Nodes.{LeafNode, leaf_datoms}
 use Rattle.seg_tree.proofs.Making.{leaf_datoms-append}
 use Rattle.seg_merge.specs.Merged.{goes_before_leaf, goes_before, FallsInto, KeepsLeaves}
-use Rattle.seg_merge.specs.Plans.{Planned, IsUnion, AddsLeaf}
-use Rattle.seg_merge.proofs.Before.{Before, stands_at, rising_before}
+use Rattle.seg_merge.specs.Plans.{Planned, IsUnion, AddsLeaf, RepeatsNone}
+use Rattle.seg_merge.proofs.Before.{stands_at, rising_before}
 use Rattle.seg_merge.proofs.Merges.{Merges, IsNext, merges_none, merges_more}
+use Rattle.seg_merge.proofs.Distinct.{repeats_none, repeats_more}
 
 abbrev pub held : Coverage → Order → Datom → Type 0
 held coverage order d = IsTrue (is_held coverage order d)
@@ -35,6 +35,7 @@ pub record IsPlanning (order : Order) (coverage : Coverage) (ls : List LeafNode)
   pub parts : taken ++ left ≡ added
   pub merges : Merges order (held coverage order) (leaf_datoms (take k ls)) (leaf_datoms (drop k ls)) taken left plan.datoms
   pub older : (leaf : LeafNode) → Contains plan.kept leaf → Contains ls leaf
+  pub once : RepeatsNone (take k ls) plan.kept
   pub stays : (n : ℕ) (leaf : LeafNode) → n < k → slice_get ls n ≡ Some leaf → ((d : Datom) → Contains added d → FallsInto order ls n d → ⊥) → All (held coverage order) leaf.datoms → Contains plan.kept leaf
   pub from : (m : ℕ) → k ≡ suc m → (d : Datom) → Contains left d → goes_before order ls k d ≡ false
 
@@ -44,6 +45,7 @@ planning_none order coverage ls added = record {
   parts = refl;
   merges = merges_none order (held coverage order) (leaf_datoms ls) added;
   older = λ leaf there. absurd (contains_none leaf there);
+  once = repeats_none;
   stays = λ n leaf before read none all. absurd (omega arith);
   from = λ m is d there. absurd (omega arith);
 }
@@ -242,6 +244,7 @@ module _ (order : Order) (coverage : Coverage) (ls : List LeafNode) (added : Lis
     parts = append_assoc p.taken (take n left) (drop n left) ∙ ap (λ ds. p.taken ++ ds) cut ∙ p.parts;
     merges = merges;
     older = older;
+    once = subst (λ (xs : List LeafNode). RepeatsNone xs new.kept) (sym (take_at ls k leaf read)) (repeats_more (take k ls) plan.kept new.kept leaf adds.kept p.once);
     stays = stays;
     from = λ m is d there. back d there;
   }

@@ -1,10 +1,9 @@
 -- What goes before a leaf, by a search among datoms; and a leaf that stays.
-use Rattle.std.proofs.Common.{◌≡◌, ℕ, ◌+◌, ◌<◌, ◌≤◌, Bool, true, false, List, [], ◌∷◌, ◌++◌, length, take, drop, refl, sym, ap, ◌∙◌, subst, inl, inr, arith, Option, Some, None}
+use Rattle.std.proofs.Common.{◌≡◌, ◌<◌, Bool, true, false, List, [], ◌∷◌, ◌++◌, length, take, drop, refl, ap, ◌∙◌, inl, inr, arith, Some}
 use Rattle.std.specs.Prelude.{Contains, IsTrue}
 use Rattle.std.specs.List.{All, slice_get}
 use Rattle.std.specs.Option.{option_map_or}
 use Rattle.std.specs.Ordering.{is_gt, is_lt}
-use Rattle.std.specs.Cmp.{IsTotalOrder}
 use Rattle.std.specs.declared.cmp.Ordering.{Ordering}
 use Rattle.std.specs.declared.cmp.Ordering.TheVariants.{Less, Equal, Greater}
 use Rattle.std.proofs.lemmas.List.Elements.{All-contains}
@@ -20,7 +19,7 @@ use Rattle.live_index.proofs.Members.{contains_none}
 use Rattle.seg_tree.specs.Chunks.{BeginsWith}
 use Rattle.seg_tree.specs.Nodes.{LeafNode}
 use Rattle.seg_merge.specs.Merged.{goes_before_leaf}
-use Rattle.seg_merge.specs.Plans.{Planned, IsUnion, AddsLeaf}
+use Rattle.seg_merge.specs.Plans.{Planned, AddsLeaf}
 use Rattle.seg_merge.proofs.Before.{own_before, own_behind}
 
 pub begins_some : (ds : List Datom) (first : Datom) → BeginsWith ds first → 0 < length ds

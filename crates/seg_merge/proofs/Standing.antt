@@ -1,10 +1,10 @@
 -- Merged trees stand for the first entries of a history.
-use Rattle.std.proofs.Common.{◌≡◌, ℕ, ◌<◌, ◌≤◌, ◌⊎◌, Bool, true, false, List, [], ◌∷◌, ◌++◌, leb, refl, sym, ap, ◌∙◌, subst, inl, inr, arith}
-use Rattle.std.specs.Prelude.{◌↔◌, ◌&&◌, Contains, IsTrue, IsFalse, filter}
+use Rattle.std.proofs.Common.{◌≡◌, ℕ, ◌≤◌, ◌⊎◌, Bool, true, false, List, [], ◌∷◌, ◌++◌, leb, refl, sym, ◌∙◌, subst, inl, inr, arith}
+use Rattle.std.specs.Prelude.{◌&&◌, Contains, IsTrue}
 use Rattle.std.specs.Ordering.{is_lt}
 use Rattle.std.specs.declared.cmp.Ordering.{Ordering}
 use Rattle.std.specs.declared.cmp.Ordering.TheVariants.{Less, Equal, Greater}
-use Rattle.std.specs.Cmp.{IsTotalOrder, tied_itself}
+use Rattle.std.specs.Cmp.{tied_itself}
 use Rattle.std.specs.Cmp.Lexicographic.{slice_cmp, lists_total}
 use Rattle.std.proofs.lemmas.Bool.{cases_Bool, cases_lt, le-leb, leb-true}
 use Rattle.std.proofs.lemmas.List.Elements.{Contains-append_cases}
@@ -16,7 +16,7 @@ use Rattle.fb_values.specs.declared.facts.Value.{Value}
 use Rattle.fb_values.specs.Orders.{key_cmp, key_of, value_cmp}
 use Rattle.fb_values.specs.OrderLaws.{key_cmp_total, value_cmp_total, IsAtOnePlace}
 use Rattle.fb_model.specs.Rising.{rises, IsRisingListOf}
-use Rattle.fb_model.specs.History.{basis, upto, said}
+use Rattle.fb_model.specs.History.{upto, said}
 use Rattle.fb_model.specs.Facts.{facts}
 use Rattle.fb_model.specs.Schema.{covers}
 use Rattle.fb_model.specs.Lawful.{IsLawful}
@@ -25,9 +25,9 @@ use Rattle.fb_covers.specs.Coverage.{Coverage}
 use Rattle.fb_search.specs.Rising.{StandsBefore, IsRising}
 use Rattle.live_index.specs.Growth.{is_held}
 use Rattle.live_index.proofs.Members.{from_filter, into_filter}
-use Rattle.view_model.specs.Stands.{Lists, list_in, IsIndexed, IsLive, RootStands, LiveStands}
+use Rattle.view_model.specs.Stands.{Lists, list_in, IsIndexed, IsLive, RootStands}
 use Rattle.seg_merge.specs.Merged.{is_due, IsMerged, IsMergeable}
-use Rattle.seg_merge.specs.Standing.{lists, IsCoverageAfter, IsStillCovered, CanMerge}
+use Rattle.seg_merge.specs.Standing.{lists, CanMerge}
 
 pub rises_from : (order : Order) (ds : List Datom) → IsRising order ds → rises order ds ≡ true
 rises_from order [] rising = refl

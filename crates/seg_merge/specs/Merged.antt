@@ -1,6 +1,6 @@
 -- What new segment trees hold: the datoms of the older trees and of the live index up to a transaction, and which leaves stay.
 -- Restates Indexes of Datomic's documentation (the merging of recent datoms); that leaves stay is this project's own choice.
-use Rattle.std.specs.Prelude.{◌≡◌, ◌↔◌, ◌⊎◌, ◌≤◌, ◌+◌, ◌&&◌, ℕ, zero, suc, Bool, true, false, List, ◌++◌, Contains, IsTrue, IsFalse, Option, Some, nat_le, filter}
+use Rattle.std.specs.Prelude.{◌≡◌, ◌↔◌, ◌⊎◌, ◌+◌, ◌&&◌, ℕ, zero, suc, Bool, true, false, List, ◌++◌, Contains, IsTrue, IsFalse, Option, Some, nat_le, filter}
 use Rattle.std.specs.List.{All, slice_get}
 use Rattle.std.specs.Option.{option_map_or}
 use Rattle.std.specs.Ordering.{is_lt}

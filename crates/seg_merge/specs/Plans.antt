@@ -1,6 +1,6 @@
 -- What a tree is to be made of, from left to right: leaves that stay, and datoms for new leaves.
 -- This project's own choice.
-use Rattle.std.specs.Prelude.{◌≡◌, ◌↔◌, ◌⊎◌, List, [], ◌∷◌, ◌++◌, Contains, IsTrue, if◌then◌else◌}
+use Rattle.std.specs.Prelude.{◌≡◌, ◌≤◌, ◌↔◌, ◌⊎◌, ℕ, List, [], ◌∷◌, ◌++◌, Contains, IsTrue, if◌then◌else◌}
 use Rattle.std.specs.List.{All}
 use Rattle.std.specs.Ordering.{is_eq}
 use Rattle.fb_values.specs.declared.facts.Datom.{Datom}
@@ -10,11 +10,16 @@ use Rattle.fb_covers.specs.Coverage.{Coverage}
 use Rattle.fb_search.specs.Rising.{IsRising}
 use Rattle.live_index.specs.Growth.{is_held}
 use Rattle.seg_tree.specs.Nodes.{LeafNode}
+use Rattle.seg_tree.specs.Ids.{leaf_ids, count_of}
 
 -- the datoms, and the older leaves that have some of them
 pub record Planned : Type 0 where
   pub datoms : List Datom
   pub kept : List LeafNode
+
+-- no id stands more often among the kept leaves than among the older ones
+abbrev pub RepeatsNone : List LeafNode → List LeafNode → Type 0
+RepeatsNone old kept = (id : ℕ) → count_of id (leaf_ids kept) ≤ count_of id (leaf_ids old)
 
 -- the strictly rising list of the held ones of the older datoms, and of the added ones
 pub record IsUnion (order : Order) (coverage : Coverage) (old added new : List Datom) : Type 0 where

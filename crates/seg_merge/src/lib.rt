@@ -9,3 +9,6 @@ mod order;
 mod plan;
 
 pub use merge::{merge4, what_stands_may_be_merged};
+
+#[cfg(test)]
+mod tests;

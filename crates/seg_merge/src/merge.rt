@@ -7,7 +7,7 @@ ghost use Rattle.fb_values.specs.declared.indexes.Order.TheVariants.{Eavt, Aevt,
 ghost use Rattle.fb_covers.specs.Coverage.{Coverage};
 ghost use Rattle.fb_search.specs.Lists.{list_in};
 ghost use Rattle.seg_tree.specs.Nodes.{tree_datoms, tree_leaves};
-ghost use Rattle.seg_tree.specs.Ids.{next_above, IsInRow, old_leaves};
+ghost use Rattle.seg_tree.specs.Ids.{next_above, AreDistinct, IsInRow, old_leaves};
 ghost use Rattle.seg_tree.specs.Indexes.{tree_in, root_ids};
 ghost use Rattle.seg_merge.specs.Merged.{IsMergeable, IsMerged, KeepsLeaves, due_of};
 ghost use Rattle.seg_merge.specs.Merges.{IsPlan, HasOlderLeaves};
@@ -45,6 +45,7 @@ pub fn merge4<R: Threads + Sync>(
     ensures stays { IfOk result (λ new. (order : Order) → KeepsLeaves order covers.now (tree_leaves (tree_in roots.now order)) (due_of covers.now c order (list_in live.now order)) (tree_leaves (tree_in new order))) }
     ensures older { IfOk result (λ new. (order : Order) → HasOlderLeaves first_id (tree_leaves (tree_in roots.now order)) (tree_leaves (tree_in new order))) }
     ensures ids { IfOk result (λ new. IsInRow first_id (root_ids new)) }
+    ensures distinct { IfOk result (λ new. AreDistinct (root_ids new)) }
 
     // Where the older trees and the live lists stand for a history, the new trees stand for its entries up to `c`.
     ensures stand { IfOk result (λ new. (h : List Entry) (old : ℕ) → CanMerge h old c covers.now (lists (λ order. tree_datoms (tree_in roots.now order))) (lists (list_in live.now)) → RootStands (lists (λ order. tree_datoms (tree_in new order))) h c) }
@@ -64,7 +65,7 @@ struct Plans {
 }
 
 impl Plans {
-    ghost use Rattle.seg_merge.specs.Four.{plan_in};
+    ghost use Rattle.seg_merge.specs.Four.{plan_in, kept_ids};
 
     /// The four plans, made side by side. Where no thread can be started the caller makes them all.
     fn of<R: Threads + Sync>(
@@ -101,6 +102,7 @@ impl Plans {
     fn build(self, alloc: Global, first: u64) -> Result<Roots, Memory>
         requires small { first ≤ 2 ^ 61 }
         requires older { (order : Order) → All (λ leaf. leaf.id < first) (plan_in self order).kept }
+        requires once { AreDistinct (kept_ids self) }
         ensures datoms { IfOk result (λ roots. (order : Order) → tree_datoms (tree_in roots order) ≡ (plan_in self order).datoms) }
         ensures kept { IfOk result (λ roots. (order : Order) → old_leaves first (tree_leaves (tree_in roots order)) ≡ (plan_in self order).kept) }
         ensures ids { IfOk result (λ roots. IsInRow first (root_ids roots)) }

@@ -8,7 +8,7 @@ ghost use Rattle.fb_search.specs.Rising.{IsRising};
 ghost use Rattle.live_index.specs.Growth.{HasNoTwins};
 ghost use Rattle.seg_tree.specs.Nodes.{LeafNode, leaf_datoms};
 ghost use Rattle.seg_merge.specs.Merged.{goes_before, KeepsLeaves};
-ghost use Rattle.seg_merge.specs.Plans.{IsUnion, AddsLeaf};
+ghost use Rattle.seg_merge.specs.Plans.{IsUnion, AddsLeaf, RepeatsNone};
 
 use crate::leaf::{are_held, place_in, union};
 use crate::plan::Plan;
@@ -32,6 +32,7 @@ pub fn planned(
     requires single { HasNoTwins (leaf_datoms (map arc_value leaves.now) ++ added.now) }
     ensures union { IfOk result (λ plan. IsUnion order covers.now (leaf_datoms (map arc_value leaves.now)) added.now plan.datoms) }
     ensures older { IfOk result (λ plan. All (Contains (map arc_value leaves.now)) plan.kept) }
+    ensures once { IfOk result (λ plan. RepeatsNone (map arc_value leaves.now) plan.kept) }
     ensures stays { IfOk result (λ plan. KeepsLeaves order covers.now (map arc_value leaves.now) added.now plan.kept) }
 {
     let mut plan = Plan::new(alloc);

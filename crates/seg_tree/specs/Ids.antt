@@ -1,6 +1,6 @@
 -- The ids of a segment tree's nodes, and the ids that new nodes get.
 -- This project's own choice.
-use Rattle.std.specs.Prelude.{◌≡◌, ◌+◌, ◌-◌, ℕ, Bool, List, [], ◌∷◌, ◌++◌, length, map, filter, max, nat_lt, nat_le}
+use Rattle.std.specs.Prelude.{◌≡◌, ◌≤◌, ◌+◌, ◌-◌, ◌==◌, ℕ, Bool, List, [], ◌∷◌, ◌++◌, length, map, filter, max, nat_lt, nat_le}
 use Rattle.std.specs.List.{range_with_len}
 use Rattle.seg_tree.specs.Nodes.{LeafNode, DirectoryNode}
 
@@ -19,6 +19,18 @@ node_ids (directory ∷ directories) = directory_ids directory ++ node_ids direc
 abbrev pub next_above : List ℕ → ℕ
 next_above [] = 1
 next_above (id ∷ ids) = max (id + 1) (next_above ids)
+
+-- those of four trees
+abbrev pub ids_of_four : List DirectoryNode → List DirectoryNode → List DirectoryNode → List DirectoryNode → List ℕ
+ids_of_four eavt aevt avet vaet = ((node_ids eavt ++ node_ids aevt) ++ node_ids avet) ++ node_ids vaet
+
+-- how often an id stands among them
+abbrev pub count_of : ℕ → List ℕ → ℕ
+count_of id ids = length (filter (λ x. x == id) ids)
+
+-- no id stands there twice
+abbrev pub AreDistinct : List ℕ → Type 0
+AreDistinct ids = (id : ℕ) → count_of id ids ≤ 1
 
 -- an id from the first new one on, and an older one
 abbrev pub is_new : ℕ → ℕ → Bool

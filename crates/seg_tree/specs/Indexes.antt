@@ -1,11 +1,11 @@
 -- The four segment trees of a database.
 -- Restates Indexes of Datomic's documentation (the four indexes).
-use Rattle.std.specs.Prelude.{ℕ, List, ◌++◌}
+use Rattle.std.specs.Prelude.{ℕ, List}
 use Rattle.fb_values.specs.declared.indexes.Order.{Order}
 use Rattle.fb_values.specs.declared.indexes.Order.TheVariants.{Eavt, Aevt, Avet, Vaet}
 use Rattle.fb_search.specs.Lists.{Lists}
 use Rattle.seg_tree.specs.Nodes.{DirectoryNode, tree_datoms}
-use Rattle.seg_tree.specs.Ids.{node_ids}
+use Rattle.seg_tree.specs.Ids.{ids_of_four}
 use Rattle.seg_tree.specs.declared.roots.Roots.{Roots}
 
 abbrev pub tree_in : Roots → Order → List DirectoryNode
@@ -25,4 +25,4 @@ lists_of roots = record {
 
 -- the ids of all nodes
 abbrev pub root_ids : Roots → List ℕ
-root_ids roots = ((node_ids roots.eavt ++ node_ids roots.aevt) ++ node_ids roots.avet) ++ node_ids roots.vaet
+root_ids roots = ids_of_four roots.eavt roots.aevt roots.avet roots.vaet

@@ -1,22 +1,38 @@
 //! The four trees of a database.
-ghost use Rattle.std.specs.Prelude.{◌≡◌, ◌≤◌, ◌^◌, IfOk};
-ghost use Rattle.seg_tree.specs.Ids.{next_above};
+ghost use Rattle.std.specs.Prelude.{◌≡◌, ◌≤◌, ◌^◌, [], IfOk};
+ghost use Rattle.seg_tree.specs.Ids.{AreDistinct, ids_of_four, next_above};
 
 use crate::tree::Tree;
 use fb_memory::Memory;
 use fb_values::Order;
+use std::alloc::Global;
 
-/// A tree for each of the four orders.
+/// A tree for each of the four orders. No two of their nodes have one id.
 #[derive(Drop)]
 pub struct Roots {
     pub eavt: Tree,
     pub aevt: Tree,
     pub avet: Tree,
     pub vaet: Tree,
+    pub ghost distinct: { AreDistinct (ids_of_four eavt aevt avet vaet) },
 }
 
 impl Roots {
+    ghost use Rattle.fb_values.specs.declared.indexes.Order.{Order};
     ghost use Rattle.seg_tree.specs.Indexes.{tree_in, root_ids};
+
+    /// Four trees without a datom, as a database begins.
+    pub fn empty(alloc: Global) -> Result<Roots, Memory>
+        ensures { IfOk result (λ roots. (order : Order) → tree_in roots order ≡ []) }
+    {
+        let tree = Tree::of_directories(alloc, Vec::new(alloc))?;
+        Ok(Roots {
+            eavt: tree.share()?,
+            aevt: tree.share()?,
+            avet: tree.share()?,
+            vaet: tree,
+        })
+    }
 
     pub fn tree(&self, order: Order) -> &Tree
         ensures { result.now ≡ tree_in self.now order }
@@ -45,6 +61,7 @@ impl Roots {
     #[tactic(auto, using(crate::proofs::Making::next_above_append))]
     pub fn next_id(&self) -> u64
         ensures next { result ≡ next_above (root_ids self.now) }
+        ensures distinct { AreDistinct (root_ids self.now) }
         ensures small { result ≤ 2 ^ 62 }
     {
         let by_entity = self.eavt.next_id().max(self.aevt.next_id());

@@ -1,44 +1,86 @@
 use super::*;
 use fb_memory::Memory;
-use fb_values::{Datom, Value};
+use fb_values::{Datom, Order, Text, Value, cmp_in};
 use std::alloc::Global;
+use std::cmp::Ordering;
 use std::test::Fail;
 
-fn datoms(alloc: Global, entities: u64) -> Result<Vec<Datom>, Memory> {
+// Nine datoms of each entity, one of each type.
+fn datom(alloc: Global, n: u32) -> Result<Datom, Memory> {
+    let v = match n % 9 {
+        0 => Value::Keyword(Text::of(alloc, "a/b")?),
+        1 => Value::Str(Text::of(alloc, "text")?),
+        2 => Value::Bool(true),
+        3 => Value::Long(-(n as i64)),
+        4 => Value::Ref(n as u64),
+        5 => Value::Instant(n as i64),
+        6 => Value::Uuid(n as u128),
+        7 => Value::Symbol(Text::of(alloc, "sym")?),
+        _ => Value::Uri(Text::of(alloc, "uri:x")?),
+    };
+    Ok(Datom {
+        e: (n / 9) as u64,
+        a: 7,
+        v,
+        t: n % 5,
+        added: n % 5 != 3,
+    })
+}
+
+fn datoms(alloc: Global, count: u32) -> Result<Vec<Datom>, Memory> {
     let mut datoms = Vec::new(alloc);
-    for e in 0..entities {
-        datoms.push(Datom {
-            e,
-            a: 7,
-            v: Value::Bool(true),
-            t: 1,
-            added: true,
-        })?;
+    for n in 0..count {
+        datoms.push(datom(alloc, n)?)?;
     }
     Ok(datoms)
 }
 
-fn entity_at(tree: &Tree, place: Place) -> Option<u64> {
+fn is_at(tree: &Tree, place: Place, datom: &Datom) -> bool {
     match tree.at(place) {
-        Some(datom) => Some(datom.e),
-        None => None,
+        Some(found) => {
+            cmp_in(Order::Eavt, found, datom) == Ordering::Equal && found.added == datom.added
+        }
+        None => false,
     }
 }
 
+// A list that is too long for one leaf is halved until it is not.
+const SIZES: [(u32, usize); 7] = [
+    (0, 0),
+    (1, 1),
+    (256, 1),
+    (257, 1),
+    (512, 1),
+    (513, 2),
+    (100_000, 256),
+];
+
 #[test]
 fn trees_of_each_size_are_read_in_order(rt: HostRuntime) -> Result<(), Fail> {
-    for (size, leaves) in [(0, 0), (1, 1), (256, 1), (257, 1), (512, 1), (513, 2)] {
+    for (size, leaves) in SIZES {
         let tree = Tree::of(rt.alloc(), datoms(rt.alloc(), size)?, 5)?;
         let copy = tree.share()?;
         assert_eq!(rt; copy.leaves(rt.alloc())?.len(), leaves);
         let mut place = Place::START;
-        for e in 0..size {
-            assert_eq!(rt; entity_at(&copy, place), Some(e));
+        for n in 0..size {
+            let datom = datom(rt.alloc(), n)?;
+            assert!(rt; is_at(&copy, place, &datom), "{n} of {size}");
             place = copy.next(place);
         }
-        assert_eq!(rt; entity_at(&copy, place), None);
+        assert!(rt; copy.at(place).is_none());
         assert_eq!(rt; copy.next(place), place);
     }
+    Ok(())
+}
+
+fn crosses_threads<T: Send + Sync>(_value: &T) {}
+
+#[test]
+fn no_roots_have_no_ids(rt: HostRuntime) -> Result<(), Fail> {
+    let roots = Roots::empty(rt.alloc())?.share()?;
+    crosses_threads(&roots);
+    assert_eq!(rt; roots.next_id(), 1);
+    assert!(rt; roots.tree(Order::Vaet).at(Place::START).is_none());
     Ok(())
 }
 

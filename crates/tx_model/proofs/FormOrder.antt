@@ -43,12 +43,12 @@ module _ {A : Type 0} (test : A → Bool) where
   first_or_later x xs ys true is passes there later = one_passes x ys there is
   first_or_later x xs ys false is passes there later = later passes
 
-  any_of_fewer : (xs ys : List A) → ((x : A) → Contains xs x → Contains ys x) → list_any test xs ≡ true → list_any test ys ≡ true
+  pub any_of_fewer : (xs ys : List A) → ((x : A) → Contains xs x → Contains ys x) → list_any test xs ≡ true → list_any test ys ≡ true
   any_of_fewer [] ys fewer passes = absurd (true≢false (sym passes))
   any_of_fewer (x ∷ xs) ys fewer passes =
       first_or_later x xs ys (test x) refl passes (fewer x (first_of x xs)) (any_of_fewer xs ys (λ z among. fewer z (later_of x z xs among)))
 
-  same_truth : (a b : Bool) → (a ≡ true → b ≡ true) → (b ≡ true → a ≡ true) → a ≡ b
+  pub same_truth : (a b : Bool) → (a ≡ true → b ≡ true) → (b ≡ true → a ≡ true) → a ≡ b
   same_truth true b forth back = sym (forth refl)
   same_truth false true forth back = back refl
   same_truth false false forth back = refl
@@ -63,13 +63,13 @@ module _ {A : Type 0} (test : A → Bool) where
 -- ---- what is recorded
 
 module _ {A B : Type 0} (g : A → B) where
-  same_images : (xs ys : List A) → ((x : A) → Contains xs x → Contains ys x) → (y : B) → Contains (map g xs) y → Contains (map g ys) y
+  pub same_images : (xs ys : List A) → ((x : A) → Contains xs x → Contains ys x) → (y : B) → Contains (map g xs) y → Contains (map g ys) y
   same_images xs ys fewer y member =
       let is = image_of g xs y member in
       subst (λ z. Contains (map g ys) z) is.image_is (has_image g ys is.original (fewer is.original is.among))
 
 module _ {B : Type 0} where
-  same_joined : (xs ys : List (List B)) → ((x : List B) → Contains xs x → Contains ys x) → (y : B) → Contains (joined xs) y → Contains (joined ys) y
+  pub same_joined : (xs ys : List (List B)) → ((x : List B) → Contains xs x → Contains ys x) → (y : B) → Contains (joined xs) y → Contains (joined ys) y
   same_joined xs ys fewer y member =
       let from = comes_from (λ list. list) xs y member in
       goes_into (λ list. list) ys from.source y (fewer from.source from.among) from.made

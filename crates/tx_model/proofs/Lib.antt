@@ -10,3 +10,6 @@ pub mod After
 pub mod StepLaws
 pub mod FormOrder
 pub mod SameAsks
+pub mod SameRules
+pub mod EdnWords
+pub mod SameEntities

@@ -11,6 +11,7 @@ mod order;
 mod rules;
 mod schema;
 mod unique;
+mod words;
 
 pub use clocks::{refusals_do_not_depend_on_the_clock, two_clocks_differ_in_the_instant_alone};
 pub use components::{components_and_references, nested_maps};
@@ -20,7 +21,11 @@ pub use edges::{
 };
 pub use lawful::{an_accepted_entry_is_lawful, changes_are_those_of_what_is_asked};
 pub use numbers::{compare_and_set, greatest_and_least_numbers};
-pub use order::{a_rule_is_broken_in_any_order, the_same_is_recorded_in_any_order};
+pub use order::{
+    a_rule_is_broken_in_any_order, orders_with_the_same_entities_agree,
+    the_same_is_recorded_in_any_order, the_same_rules_are_broken_in_any_order,
+};
 pub use rules::{rules_on_changes, rules_on_names, shapes};
 pub use schema::{alterations, attributes, cardinality_there_and_back, other_types};
 pub use unique::{lookup_refs, moved_values, nameless_maps, texts, unique_emails};
+pub use words::{keywords_are_those_of_edn, symbols_are_those_of_edn};

@@ -1,9 +1,9 @@
 //! What the order of a transaction's forms does not tell.
-ghost use Rattle.std.specs.Prelude.{◌≡◌, ◌↔◌, ℕ, Bool, List, map, is_some, Contains};
+ghost use Rattle.std.specs.Prelude.{◌≡◌, ◌↔◌, ℕ, Bool, List, map, is_some, option_map, Contains};
 ghost use Rattle.tx_model.specs.Asks.{Name, Ask};
-ghost use Rattle.tx_model.specs.Tempids.{Db};
-ghost use Rattle.tx_model.specs.Transaction.{with_names};
-ghost use Rattle.tx_model.specs.Step.{first_yes};
+ghost use Rattle.tx_model.specs.Tempids.{Db, assigned, assigned_to};
+ghost use Rattle.tx_model.specs.Transaction.{joined, with_asks, with_names};
+ghost use Rattle.tx_model.specs.Step.{Refusal, first_yes, broken_rules, first_refusal};
 
 /// Whether a rule that is judged form by form is broken does not depend on the order of the forms, though the place of the form
 /// that is told does.
@@ -16,4 +16,19 @@ pub fn a_rule_is_broken_in_any_order()
 pub fn the_same_is_recorded_in_any_order()
     ensures changes { (db : Db) (names : List (Name × ℕ)) (asks other : List (List Ask)) → ((form : List Ask) → Contains asks form ↔ Contains other form) → (with_names db asks names).changes ≡ (with_names db other names).changes }
     ensures facts { (db : Db) (names : List (Name × ℕ)) (asks other : List (List Ask)) → ((form : List Ask) → Contains asks form ↔ Contains other form) → (with_names db asks names).after ≡ (with_names db other names).after }
+{}
+
+/// With the same entities for its tempids a transaction breaks the same rules in whatever order its forms stand, and so the least
+/// of them is the same; which form is told may differ.
+pub fn the_same_rules_are_broken_in_any_order()
+    ensures each { (db : Db) (names : List (Name × ℕ)) (asks other : List (List Ask)) → ((form : List Ask) → Contains asks form ↔ Contains other form) → map is_some (broken_rules (with_names db asks names)) ≡ map is_some (broken_rules (with_names db other names)) }
+    ensures least { (db : Db) (names : List (Name × ℕ)) (asks other : List (List Ask)) → ((form : List Ask) → Contains asks form ↔ Contains other form) → option_map (λ (r : Refusal). r.rule) (first_refusal 2 (broken_rules (with_names db asks names))) ≡ option_map (λ (r : Refusal). r.rule) (first_refusal 2 (broken_rules (with_names db other names))) }
+{}
+
+/// Where two orders of what the forms ask give each tempid the same entity, the transactions record the same, the same holds
+/// afterwards, and they break the same rules.
+pub fn orders_with_the_same_entities_agree()
+    ensures changes { (db : Db) (asks other : List (List Ask)) → ((form : List Ask) → Contains asks form ↔ Contains other form) → ((name : Name) → assigned_to (assigned db (joined asks)) name ≡ assigned_to (assigned db (joined other)) name) → (with_asks db asks).changes ≡ (with_asks db other).changes }
+    ensures facts { (db : Db) (asks other : List (List Ask)) → ((form : List Ask) → Contains asks form ↔ Contains other form) → ((name : Name) → assigned_to (assigned db (joined asks)) name ≡ assigned_to (assigned db (joined other)) name) → (with_asks db asks).after ≡ (with_asks db other).after }
+    ensures rules { (db : Db) (asks other : List (List Ask)) → ((form : List Ask) → Contains asks form ↔ Contains other form) → ((name : Name) → assigned_to (assigned db (joined asks)) name ≡ assigned_to (assigned db (joined other)) name) → map is_some (broken_rules (with_asks db asks)) ≡ map is_some (broken_rules (with_asks db other)) }
 {}

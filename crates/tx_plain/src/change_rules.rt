@@ -20,7 +20,7 @@ use crate::changes::{append, value_of_part};
 use crate::tempids::entity_of;
 use crate::transaction::{Transaction, extend, is_change, joined};
 use ask_plain::{Ask, Part, value_in};
-use edn_core::Edn;
+use edn_form::Edn;
 use fb_memory::Memory;
 use fb_plain::{
     Attribute, GREATEST_INSTANT, attribute_named, is_builtin, is_of, last_instant, users_in,

@@ -16,7 +16,7 @@ use ask_plain::{
     Ask, Name, Part, TYPE_REF, attribute_of_ask, is_reserved, is_same_tempid, is_tempid,
     lookup_value_in, names_of, value_in,
 };
-use edn_core::Edn;
+use edn_form::Edn;
 use fb_memory::Memory;
 use fb_plain::{Attribute, attribute_named};
 use fb_values::Text;

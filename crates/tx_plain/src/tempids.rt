@@ -13,7 +13,7 @@ use crate::db::Db;
 use ask_plain::{
     Ask, Name, OWN_TEMPID, Part, is_same_tempid, is_tempid, lookup_value_in, names_of, value_in,
 };
-use edn_core::Edn;
+use edn_form::Edn;
 use fb_memory::Memory;
 use fb_plain::{Attribute, TRANSACTIONS, USER_ENTITIES, attribute_named, holder, is_issued, named};
 use fb_values::Text;

@@ -1,24 +1,112 @@
 //! Runs over sources and sinks in memory, under a clock that stands still.
 use super::*;
 use fb_ports::{FixedClock, MemHost, MemSink, MemSource};
-use std::process::Abort;
 use std::test::Fail;
 
 /// The first instant of 2024.
 const NEW_YEAR: i64 = 1_704_067_200_000;
 
-const ROW: &str = "[:transact [[:db/add \"x\" :db/doc \"hi\"]]]";
-
 const RECEIPT: &str = "{:t 1 :tempids {\"x\" 17592186044417}}\n";
 
-fn source(alloc: Global, script: &str) -> Result<MemSource, Fail> {
-    Ok(MemSource::new(Vec::from_slice(alloc, script.as_bytes())?, Vec::new(alloc)))
+const NOT_BUILT: &str = "{:refused :read/not-built :at 0 :basis 0}\n";
+
+/// Scripts, and the status, the line of standard error and the replies that a run of each gives.
+const SCRIPTS: [(&[u8], u8, &str, &str); 21] = [
+    (b"", 0, "", ""),
+    (
+        b"[:transact [[:db/add \"x\" :db/doc \"hi\"]]]",
+        0,
+        "",
+        RECEIPT,
+    ),
+    (b"[:db]", 0, "", NOT_BUILT),
+    (b"1 #_ 2 ; c", 0, "", NOT_BUILT),
+    (
+        b"[:transact [[:db/add \"x\" :db/doc \"hi\"]",
+        5,
+        "factbase: script -: cut at byte 38",
+        "",
+    ),
+    (
+        b"[:as-of 9223372036854775808]",
+        5,
+        "factbase: script -: unsupported at byte 8",
+        "",
+    ),
+    (
+        b"#{} \xff",
+        5,
+        "factbase: script -: bad at byte 4",
+        NOT_BUILT,
+    ),
+    (
+        b"[[[[[[[[[[[[[[[[[[[[[[[[[[[[[[[[[[[[[[[[[[[[[[[[[[[[[[[[[[[[[[[[[",
+        5,
+        "factbase: script -: deep at byte 64",
+        "",
+    ),
+    (
+        b"[[[[[[[[[[[[[[[[[[[[[[[[[[[[[[[[[[[[[[[[[[[[[[[[[[[[[[[[[[[[[[[[",
+        5,
+        "factbase: script -: cut at byte 64",
+        "",
+    ),
+    (b"{:a 1 :a 2}", 5, "factbase: script -: bad at byte 6", ""),
+    (b"{:a}", 5, "factbase: script -: bad at byte 3", ""),
+    (b"#{[1] (1)}", 5, "factbase: script -: bad at byte 6", ""),
+    (
+        b"#{#{1 2} #{2 1}}",
+        5,
+        "factbase: script -: bad at byte 9",
+        "",
+    ),
+    (b"\"a\\q\"", 5, "factbase: script -: bad at byte 2", ""),
+    (
+        b"#inst \"2023-02-29\"",
+        5,
+        "factbase: script -: bad at byte 6",
+        "",
+    ),
+    (b"1.5", 5, "factbase: script -: unsupported at byte 0", ""),
+    (b"7N", 5, "factbase: script -: unsupported at byte 0", ""),
+    (
+        b"#foo 1",
+        5,
+        "factbase: script -: unsupported at byte 0",
+        "",
+    ),
+    (b"\\a", 5, "factbase: script -: unsupported at byte 0", ""),
+    (b"#_", 5, "factbase: script -: cut at byte 2", ""),
+    (
+        b"[:transact [[:db/add \"a\\u0041\\\"\" :db/doc \"\"]]] ]",
+        5,
+        "factbase: script -: bad at byte 47",
+        "{:t 1 :tempids {\"aA\\\"\" 17592186044417}}\n",
+    ),
+];
+
+/// Words that run no script, and the status and the line that each gives.
+const WORDS: [(&[&str], u8, &str); 3] = [
+    (&["run", ":memory:"], 1, USAGE),
+    (&["run", ":memory:", "-", "-"], 1, USAGE),
+    (
+        &["run", ":memory:", "a.edn"],
+        2,
+        "factbase: cannot open a.edn",
+    ),
+];
+
+const USAGE: &str =
+    "factbase: usage: factbase run [--merge-at N] DIR SCRIPT.. | check DIR | load N";
+
+fn source(alloc: Global, script: &[u8]) -> Result<MemSource, Fail> {
+    Ok(MemSource::new(Vec::from_slice(alloc, script)?, Vec::new(alloc)))
 }
 
 fn run_words(
     alloc: Global,
     words: &[&str],
-    script: &str,
+    script: &[u8],
 ) -> Result<Outcome<MemSource, MemSink>, Fail> {
     let mut host = MemHost::new(alloc);
     host.add_source("-", source(alloc, script)?)?;
@@ -29,62 +117,38 @@ fn run_words(
     Ok(run(alloc, &owned, &mut host, &FixedClock::new(NEW_YEAR)))
 }
 
-/// The status, the line, and what one session wrote.
-fn check_run(
-    rt: &impl Abort,
-    alloc: Global,
-    script: &str,
-    status: u8,
-    line: &str,
-    written: &str,
-) -> Result<(), Fail> {
-    let outcome = run_words(alloc, &["run", ":memory:", "-"], script)?;
-    assert_eq!(rt; outcome.status, status);
-    assert_eq!(rt; outcome.line.as_str(), line);
-    let session = outcome.sessions.as_slice().first().ok_or("no session")?;
-    assert_eq!(rt; session.sink.bytes(), written.as_bytes());
+/// A run of the script from standard input.
+fn run_script(alloc: Global, script: &[u8]) -> Result<Outcome<MemSource, MemSink>, Fail> {
+    run_words(alloc, &["run", ":memory:", "-"], script)
+}
+
+#[test]
+fn answers_each_script_to_its_end_or_its_fault(rt: HostRuntime) -> Result<(), Fail> {
+    for (script, status, line, written) in SCRIPTS {
+        let outcome = run_script(rt.alloc(), script)?;
+        assert_eq!(rt; outcome.status, status);
+        assert_eq!(rt; outcome.line.as_str(), line);
+        let session = outcome.sessions.as_slice().first().ok_or("no session")?;
+        assert_eq!(rt; session.sink.bytes(), written.as_bytes());
+    }
     Ok(())
 }
 
 #[test]
-fn answers_a_transaction(rt: HostRuntime) -> Result<(), Fail> {
-    check_run(&rt, rt.alloc(), ROW, 0, "", RECEIPT)
-}
-
-#[test]
-fn answers_nothing_to_an_empty_script(rt: HostRuntime) -> Result<(), Fail> {
-    check_run(&rt, rt.alloc(), "", 0, "", "")
-}
-
-#[test]
-fn names_the_byte_of_a_script_that_is_cut_off(rt: HostRuntime) -> Result<(), Fail> {
-    check_run(
-        &rt,
-        rt.alloc(),
-        "[:transact [[:db/add \"x\" :db/doc \"hi\"]",
-        5,
-        "factbase: script -: bad at byte 0",
-        "",
-    )
-}
-
-#[test]
-fn refuses_what_is_not_built(rt: HostRuntime) -> Result<(), Fail> {
-    check_run(
-        &rt,
-        rt.alloc(),
-        "[:db]",
-        0,
-        "",
-        "{:refused :read/not-built :at 0 :basis 0}\n",
-    )
+fn says_what_is_wrong_with_the_words(rt: HostRuntime) -> Result<(), Fail> {
+    for (words, status, line) in WORDS {
+        let outcome = run_words(rt.alloc(), words, b"")?;
+        assert_eq!(rt; outcome.status, status);
+        assert_eq!(rt; outcome.line.as_str(), line);
+    }
+    Ok(())
 }
 
 #[test]
 fn gives_each_new_entity_the_next_number(rt: HostRuntime) -> Result<(), Fail> {
     let script =
-        "[:transact [[:db/add \"x\" :db/doc \"hi\"]]] [:transact [[:db/add \"y\" :db/doc \"ho\"]]]";
-    let outcome = run_words(rt.alloc(), &["run", ":memory:", "-"], script)?;
+        b"[:transact [[:db/add \"x\" :db/doc \"hi\"]]] [:transact [[:db/add \"y\" :db/doc \"ho\"]]]";
+    let outcome = run_script(rt.alloc(), script)?;
     let session = outcome.sessions.as_slice().first().ok_or("no session")?;
     let lines = "{:t 1 :tempids {\"x\" 17592186044417}}\n{:t 2 :tempids {\"y\" 17592186044418}}\n";
     assert_eq!(rt; session.sink.bytes(), lines.as_bytes());
@@ -99,7 +163,7 @@ fn gives_each_new_entity_the_next_number(rt: HostRuntime) -> Result<(), Fail> {
 #[test]
 fn says_that_the_source_failed(rt: HostRuntime) -> Result<(), Fail> {
     let fails = vec![in rt.alloc(); 1]?;
-    let source = MemSource::new(Vec::from_slice(rt.alloc(), ROW.as_bytes())?, fails);
+    let source = MemSource::new(Vec::from_slice(rt.alloc(), b"[:db]")?, fails);
     let sink = MemSink::new(rt.alloc(), 1000, Vec::new(rt.alloc()))?;
     let outcome = run_session(rt.alloc(), "-", source, sink, &FixedClock::new(NEW_YEAR));
     assert_eq!(rt; outcome.status, 6);
@@ -110,7 +174,7 @@ fn says_that_the_source_failed(rt: HostRuntime) -> Result<(), Fail> {
 #[test]
 fn says_that_the_sink_failed(rt: HostRuntime) -> Result<(), Fail> {
     let sink = MemSink::new(rt.alloc(), 1000, vec![in rt.alloc(); 2]?)?;
-    let script = "[:db] [:db]";
+    let script = b"[:db] [:db]";
     let outcome = run_session(
         rt.alloc(),
         "-",
@@ -121,26 +185,6 @@ fn says_that_the_sink_failed(rt: HostRuntime) -> Result<(), Fail> {
     assert_eq!(rt; outcome.status, 6);
     assert_eq!(rt; outcome.line.as_str(), "factbase: script -: write fault");
     let session = outcome.sessions.as_slice().first().ok_or("no session")?;
-    assert_eq!(rt;
-        session.sink.bytes(),
-        b"{:refused :read/not-built :at 0 :basis 0}\n".as_slice()
-    );
-    Ok(())
-}
-
-#[test]
-fn cannot_open_a_script_that_is_missing(rt: HostRuntime) -> Result<(), Fail> {
-    let outcome = run_words(rt.alloc(), &["run", ":memory:", "a.edn"], "")?;
-    assert_eq!(rt; outcome.status, 2);
-    assert_eq!(rt; outcome.line.as_str(), "factbase: cannot open a.edn");
-    Ok(())
-}
-
-#[test]
-fn says_how_it_is_used(rt: HostRuntime) -> Result<(), Fail> {
-    let outcome = run_words(rt.alloc(), &["run", ":memory:"], "")?;
-    assert_eq!(rt; outcome.status, 1);
-    let usage = "factbase: usage: factbase run [--merge-at N] DIR SCRIPT.. | check DIR | load N";
-    assert_eq!(rt; outcome.line.as_str(), usage);
+    assert_eq!(rt; session.sink.bytes(), NOT_BUILT.as_bytes());
     Ok(())
 }

@@ -1,6 +1,6 @@
 ghost use Rattle.std.specs.Prelude.{◌≡◌, ◌≤◌, ◌<◌, ◌+◌, ◌-◌, ◌^◌, ◌++◌, [], ◌∷◌, Some, IfOk, OnOk, OnErr, is_err, length, nat_le, take, drop, min, option_map};
-ghost use Rattle.fb_ports.specs.Calls.{no_calls, fails_next, after_call, after_fault};
-ghost use Rattle.fb_ports.specs.Faults.{Counts};
+ghost use Rattle.fb_calls.specs.Calls.{no_calls, fails_next, after_call, after_fault};
+ghost use Rattle.fb_calls.specs.Faults.{Counts};
 ghost use Rattle.disk_model.specs.Disk.{written, Torn, TornCut, Follows, Within, Only, WhereTold, Reads, Elapses};
 ghost use Rattle.disk_model.specs.Record.{wrote, cut_to, synced};
 ghost use Rattle.fb_disk.specs.MemDisks.{file_of, told_by, images_of, moment_of, images_since_of, fails_write, fails_change};
@@ -9,8 +9,8 @@ ghost use Rattle.fb_disk.specs.Images.{image_from};
 use crate::Disk;
 use crate::memory::place::place;
 use crate::memory::record::Record;
+use fb_calls::{CallPlan, Failed};
 use fb_memory::Memory;
-use fb_ports::{CallPlan, Failed};
 use std::alloc::Global;
 use std::marker::Model;
 

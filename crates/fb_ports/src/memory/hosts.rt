@@ -1,36 +1,44 @@
 ghost use Rattle.std.specs.Prelude.{◌≡◌, ℕ, List, [], None, Some, is_ok, IfOk, IfErr, OnOk, OnErr};
+ghost use Rattle.std.specs.Option.{option_map_or};
 ghost use Rattle.std.specs.Result.{result_ok};
+ghost use Rattle.fb_disk.specs.MemDisks.{told_by};
 ghost use Rattle.fb_ports.specs.Calls.{no_calls};
 ghost use Rattle.fb_ports.specs.Faults.{CountsOpening, raised};
-ghost use Rattle.fb_ports.specs.Telling.{Same, SameBut};
+ghost use Rattle.fb_ports.specs.Telling.{Same, SameBut, SameParts, SameButPart};
+ghost use Rattle.fb_ports.specs.declared.hosts.Part.{Part};
 
-use crate::fails::raise;
-use crate::{Host, MemSink, MemSource, Memory, OpenFail};
+use crate::{Host, MemDisk, MemSink, MemSource, Memory, OpenFail, Part};
+use fb_calls::raise;
 use std::alloc::Global;
 use std::collections::BTreeMap;
 
-/// The room of a sink that a host in memory makes: 64 MiB.
-const SINK_ROOM: usize = 67_108_864;
+/// The room of a sink or a disk that a host in memory makes: 64 MiB.
+const ROOM: usize = 67_108_864;
 
-/// A host in memory. Its sources are those that were added, each of which it hands out once. A sink of any name is made
-/// empty as it is asked for.
+/// A host in memory. Its sources and disks are those that were added, each of which it hands out once. A sink of any name
+/// is made empty as it is asked for, and so is a disk that was not added.
 #[derive(Drop)]
 pub struct MemHost {
     alloc: Global,
     sources: BTreeMap<String, MemSource>,
+    logs: BTreeMap<String, MemDisk>,
+    segments: BTreeMap<String, MemDisk>,
     faults: u64,
 }
 
 impl MemHost {
-    ghost use Rattle.fb_ports.specs.MemHosts.{source_at, host_faults};
+    ghost use Rattle.fb_ports.specs.MemHosts.{source_at, disk_at, host_faults};
 
     pub fn new(alloc: Global) -> MemHost
         ensures empty { (name : List ℕ) → source_at result name ≡ None }
+        ensures no_disk { (dir : List ℕ) (part : Part) → disk_at result dir part ≡ None }
         ensures faults { host_faults result ≡ 0 }
     {
         MemHost {
             alloc,
             sources: BTreeMap::new(alloc),
+            logs: BTreeMap::new(alloc),
+            segments: BTreeMap::new(alloc),
             faults: 0,
         }
     }
@@ -40,11 +48,46 @@ impl MemHost {
         ensures added { OnOk result (source_at self.new name.now ≡ Some s) }
         ensures others { SameBut name.now (source_at self.old) (source_at self.new) }
         ensures err { OnErr result (Same (source_at self.old) (source_at self.new)) }
+        ensures disks { SameParts (disk_at self.old) (disk_at self.new) }
         ensures faults { host_faults self.new ≡ host_faults self.old }
     {
         let key = String::from_str(self.alloc, name)?;
         self.sources.insert(key, s)?;
         Ok(())
+    }
+
+    /// A disk that was added for this part of the directory before and not handed out is dropped.
+    pub fn add_disk(&mut self, dir: &str, part: Part, d: MemDisk) -> Result<(), Memory>
+        ensures added { OnOk result (disk_at self.new dir.now part ≡ Some d) }
+        ensures others { SameButPart dir.now part (disk_at self.old) (disk_at self.new) }
+        ensures err { OnErr result (SameParts (disk_at self.old) (disk_at self.new)) }
+        ensures sources { Same (source_at self.old) (source_at self.new) }
+        ensures faults { host_faults self.new ≡ host_faults self.old }
+    {
+        let key = String::from_str(self.alloc, dir)?;
+        match part {
+            Part::Log => {
+                self.logs.insert(key, d)?;
+                Ok(())
+            }
+            Part::Segments => {
+                self.segments.insert(key, d)?;
+                Ok(())
+            }
+        }
+    }
+
+    // The disk that was added for this part, which is then no longer there.
+    fn take_disk(&mut self, dir: &str, part: Part) -> Option<MemDisk>
+        ensures taken { result ≡ disk_at self.old dir.now part }
+        ensures others { SameButPart dir.now part (disk_at self.old) (disk_at self.new) }
+        ensures sources { Same (source_at self.old) (source_at self.new) }
+        ensures faults { host_faults self.new ≡ host_faults self.old }
+    {
+        match part {
+            Part::Log => self.logs.remove(dir),
+            Part::Segments => self.segments.remove(dir),
+        }
     }
 }
 
@@ -53,7 +96,9 @@ impl Host for MemHost {
 
     type Out = MemSink;
 
-    ghost use Rattle.fb_ports.specs.MemHosts.{source_at, left_at, faults_at, host_faults};
+    type Disk = MemDisk;
+
+    ghost use Rattle.fb_ports.specs.MemHosts.{source_at, left_at, faults_at, disk_at, held_at, disk_faults_at, host_faults};
 
     ghost faults = { host_faults };
 
@@ -65,6 +110,10 @@ impl Host for MemHost {
 
     ghost sink_faults = { λ _ _. 0 };
 
+    ghost disks = { held_at };
+
+    ghost disk_faults = { disk_faults_at };
+
     fn faults(&self) -> u64 {
         self.faults
     }
@@ -74,6 +123,7 @@ impl Host for MemHost {
         ensures count { IfOk result (λ s. s.calls.faults ≡ faults_at self.old name.now) }
         ensures others { SameBut name.now (left_at self.old) (left_at self.new) }
         ensures other_counts { SameBut name.now (faults_at self.old) (faults_at self.new) }
+        ensures parts { SameParts (disk_at self.old) (disk_at self.new) }
         ensures counted { CountsOpening result (host_faults self.old) (host_faults self.new) }
 
         // The source that was added is handed out once, and only a name without one fails.
@@ -98,6 +148,35 @@ impl Host for MemHost {
         ensures memory { IfErr result (λ e. e ≡ OpenFail.Memory) }
     {
         let fails = Vec::new(alloc);
-        Ok(MemSink::new(alloc, SINK_ROOM, fails)?)
+        Ok(MemSink::new(alloc, ROOM, fails)?)
+    }
+
+    fn disk(&mut self, alloc: Global, dir: &str, part: Part) -> Result<MemDisk, OpenFail>
+        ensures bytes { IfOk result (λ d. told_by d ≡ held_at self.old dir.now part) }
+        ensures count { IfOk result (λ d. d.calls.faults ≡ disk_faults_at self.old dir.now part) }
+        ensures others { SameButPart dir.now part (held_at self.old) (held_at self.new) }
+        ensures other_counts { SameButPart dir.now part (disk_faults_at self.old) (disk_faults_at self.new) }
+        ensures sources { Same (left_at self.old) (left_at self.new) }
+        ensures source_counts { Same (faults_at self.old) (faults_at self.new) }
+        ensures counted { CountsOpening result (host_faults self.old) (host_faults self.new) }
+
+        // The disk that was added is handed out once, and else an empty one is made.
+        ensures handed { IfOk result (λ d. d ≡ option_map_or (λ added. added) (disk_at self.old dir.now part) (record { first = []; changes = []; room = 67_108_864; calls = no_calls [] })) }
+        ensures kept { SameButPart dir.now part (disk_at self.old) (disk_at self.new) }
+        ensures memory { IfErr result (λ e. e ≡ OpenFail.Memory) }
+    {
+        let added = self.take_disk(dir, part);
+        handed_out(alloc, added)
+    }
+}
+
+// The disk that was added, or an empty one.
+fn handed_out(alloc: Global, added: Option<MemDisk>) -> Result<MemDisk, OpenFail>
+    ensures handed { IfOk result (λ d. d ≡ option_map_or (λ a. a) added (record { first = []; changes = []; room = 67_108_864; calls = no_calls [] })) }
+    ensures memory { IfErr result (λ e. e ≡ OpenFail.Memory) }
+{
+    match added {
+        Some(d) => Ok(d),
+        None => Ok(MemDisk::new(alloc, ROOM, Vec::new(alloc))?),
     }
 }

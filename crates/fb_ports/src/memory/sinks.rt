@@ -4,8 +4,8 @@ ghost use Rattle.fb_ports.specs.Faults.{Counts};
 ghost use Rattle.fb_ports.specs.Calls.{no_calls, after_call, after_fault};
 ghost use Rattle.fb_ports.specs.InMemory.{fails_write};
 
-use crate::memory::plan::CallPlan;
 use crate::{Failed, Memory, Sink};
+use fb_calls::CallPlan;
 use std::alloc::Global;
 use std::marker::Model;
 

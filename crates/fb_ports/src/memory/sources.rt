@@ -3,8 +3,8 @@ ghost use Rattle.std.specs.Io.KnownBytes.{prepend_known, IsAtEnd};
 ghost use Rattle.fb_ports.specs.Faults.{Counts};
 ghost use Rattle.fb_ports.specs.Calls.{no_calls, fails_next, after_call, after_fault};
 
-use crate::memory::plan::CallPlan;
 use crate::{Failed, Source};
+use fb_calls::CallPlan;
 use std::marker::Model;
 
 /// A source in memory.

@@ -2,8 +2,8 @@
 // a write took has left the program.
 ghost use Rattle.std.specs.Prelude.{◌≡◌, None, IfOk};
 
-use crate::fails::raise;
 use crate::{Failed, Sink, Source};
+use fb_calls::raise;
 use std::fs::File;
 use std::io;
 use std::io::{Read, Stdin, Stdout, Write};

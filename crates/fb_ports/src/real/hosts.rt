@@ -1,8 +1,9 @@
-ghost use Rattle.std.specs.Prelude.{◌≡◌, None, IfOk, IfErr};
+ghost use Rattle.std.specs.Prelude.{◌≡◌, None, IfOk, IfErr, IsTrue};
+ghost use Rattle.fb_ports.specs.AnyDisks.{faults_of, told_of, is_memory, held_in, opened_in};
 ghost use Rattle.fb_ports.specs.Faults.{CountsOpening};
 
-use crate::fails::raise;
-use crate::{FileSink, FileSource, Host, OpenFail};
+use crate::{AnyDisk, FileSink, FileSource, Host, OpenFail, Part};
+use fb_calls::raise;
 use std::alloc::Global;
 use std::marker::Model;
 
@@ -30,9 +31,13 @@ impl RealHost {
 }
 
 impl Host for RealHost {
+    ghost use Rattle.fb_ports.specs.AnyDisks.{held_in};
+
     type In = FileSource;
 
     type Out = FileSink;
+
+    type Disk = AnyDisk;
 
     ghost faults = { λ faults. faults };
 
@@ -43,6 +48,10 @@ impl Host for RealHost {
     ghost sinks = { λ _ _. None };
 
     ghost sink_faults = { λ _ _. 0 };
+
+    ghost disks = { λ _. held_in };
+
+    ghost disk_faults = { λ _ _ _. 0 };
 
     fn faults(&self) -> u64 {
         self.faults
@@ -77,6 +86,25 @@ impl Host for RealHost {
                 raise(&mut self.faults);
                 Err(OpenFail::Failed)
             }
+        }
+    }
+
+    fn disk(&mut self, alloc: Global, dir: &str, part: Part) -> Result<AnyDisk, OpenFail>
+        ensures bytes { IfOk result (λ d. told_of d ≡ held_in dir.now part) }
+        ensures count { IfOk result (λ d. faults_of d ≡ 0) }
+        ensures counted { CountsOpening result self.old self.new }
+
+        ensures opened { IfOk result (λ d. d ≡ opened_in dir.now) }
+
+        // In memory only memory can be wanting.
+        ensures in_memory { IsTrue (is_memory dir.now) → IfErr result (λ e. e ≡ OpenFail.Memory) }
+    {
+        match AnyDisk::open(&self.rt, alloc, dir, part) {
+            Err(OpenFail::Failed) => {
+                raise(&mut self.faults);
+                Err(OpenFail::Failed)
+            }
+            other => other,
         }
     }
 }

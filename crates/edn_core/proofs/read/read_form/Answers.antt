@@ -1,11 +1,15 @@
-use Rattle.edn_core.proofs.Next.{form_due, end_due, fault_due}
+use Rattle.edn_core.proofs.Answering.{next_stands, ahead_is, form_is, end_is, fault_is}
 use Rattle.edn_core.proofs.read.read_form.Goals as goal
 
-pub returns-clause-form : goal.returns-clause-form
-returns-clause-form c = form_due c.args.bytes.now c.args.at c.next_form.result c.next_form.ensures
-
-pub returns-clause-end : goal.returns-clause-end
-returns-clause-end c = end_due c.args.bytes.now c.args.at c.next_form.result c.next_form.ensures
-
-pub returns-clause-fault : goal.returns-clause-fault
-returns-clause-fault c = fault_due c.args.bytes.now c.args.at c.next_form.result c.next_form.ensures
+pub returns : goal.returns
+returns c =
+    let bytes = c.args.bytes.now in
+    let at = c.args.at in
+    let h = c.answer.ensures in
+    record {
+      next = next_stands bytes at c.answer.result h;
+      ahead = ahead_is bytes at c.answer.result h;
+      form = form_is bytes at c.answer.result h;
+      end = end_is bytes at c.answer.result h;
+      fault = fault_is bytes at c.answer.result h;
+    }

@@ -17,4 +17,4 @@ pub returns : goal.returns
 returns c =
     let hours : Front (IsTwo c.in_ok-hour.hour) c.args.bytes.now (colon ∷ c.in_ok-behind.field-0.now) = front_then _ _ _ _ c.in_ok-hour.ensures c.in_ok-behind.ensures in
     is_clock c.in_ok-hour.hour c.in_ok-minute.minute _ c.args.bytes.now c.in_ok-behind.field-0.now c.in_ok-minute.rest.now hours c.in_ok-minute.ensures
-    (omega (arith, c.if-hour-gt23.false), omega (arith, c.if-minute-gt59.false)) refl
+    (omega (arith, c.if-hour-gt-LAST_HOUR.false), omega (arith, c.if-minute-gt-LAST_MINUTE.false)) refl

@@ -17,4 +17,4 @@ pub returns : goal.returns
 returns c =
     let clock : Front (IsClock c.in_ok-minutes.minutes) c.args.bytes.now (colon ∷ c.in_ok-behind.field-0.now) = front_then _ _ _ _ c.in_ok-minutes.ensures c.in_ok-behind.ensures in
     is_seconds c.in_ok-minutes.minutes c.in_ok-second.second _ c.args.bytes.now c.in_ok-behind.field-0.now c.in_ok-second.rest.now clock c.in_ok-second.ensures
-    (omega (arith, c.if-second-gt59.false)) refl
+    (omega (arith, c.if-second-gt-LAST_SECOND.false)) refl

@@ -6,7 +6,7 @@ use Rattle.edn_model.specs.Form as form
 use Rattle.edn_model.specs.Canon.{CanonInstant, Canon}
 use Rattle.edn_print.specs.Printed.{Appends, clock_text}
 use Rattle.edn_print.specs.Printable.{nearest}
-use Rattle.edn_print.proofs.Tags.{canon_marks, plain_text}
+use Rattle.edn_print.proofs.Tags.{canon_plain}
 use Rattle.edn_print.proofs.Moments.{in_millis, canon_instant, written}
 use Rattle.edn_print.proofs.instant.print_instant.Goals as goal
 
@@ -25,7 +25,7 @@ returns-clause-ok c =
     let clock = clock_text (since % 86400000) in
     let s = date.text ++ 84 ∷ (clock ++ codes "-00:00") in
     let text : CanonInstant z s = canon_instant z since date.text is date.is in
-    let plain = plain_text s (canon_marks z s text) in
+    let plain = canon_plain z s text in
     let timed = c.in_ok-append-3.ensures.ok ∙ ap (λ y. c.append-2.new.out.items ++ y) c.clock.ensures in
     on_ok_weaker c.append-4.result (λ e. record {
       text = _;

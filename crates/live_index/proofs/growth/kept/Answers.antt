@@ -1,6 +1,5 @@
-use Rattle.std.proofs.Common.{◌≡◌, ◌∙◌, sym}
+use Rattle.std.proofs.Common.{◌∙◌, sym}
 use Rattle.std.proofs.lemmas.Result.{IfOk-weaker}
-use Rattle.live_index.specs.Growth.{is_held}
 use Rattle.live_index.proofs.Growing.{sound_filter}
 use Rattle.live_index.proofs.growth.kept.Goals as goal
 

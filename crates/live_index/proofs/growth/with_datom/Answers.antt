@@ -1,4 +1,4 @@
-use Rattle.std.proofs.Common.{◌≡◌, ◌∙◌, ◌≤◌, length, true, false, sym, ap, subst, List}
+use Rattle.std.proofs.Common.{◌≡◌, ◌∙◌, false, sym, ap, subst, List}
 use Rattle.fb_values.specs.declared.facts.Datom.{Datom}
 use Rattle.live_blocks.specs.Blocks.{datoms_of}
 use Rattle.std.specs.Prelude.{IsTrue}

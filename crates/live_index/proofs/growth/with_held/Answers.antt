@@ -1,4 +1,3 @@
-use Rattle.std.proofs.Common.{◌≡◌}
 use Rattle.std.specs.Prelude.{IsTrue}
 use Rattle.live_index.specs.Growth.{is_held}
 use Rattle.live_index.proofs.Growing.{single_next, gains_more, gains_all}

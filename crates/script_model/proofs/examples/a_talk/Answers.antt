@@ -1,10 +1,13 @@
 use Rattle.std.proofs.Common.{[], ◌∷◌, refl, inl, inr, lit<, lit≤}
 use Rattle.std.specs.Prelude.{codes}
+use Rattle.std.specs.Fmt.{digits}
+use Rattle.script_model.proofs.ReplyLines.{receipt_line, refusal_line}
 use Rattle.script_model.specs.Step.{entry_of}
 use Rattle.script_model.specs.Samples.{new_year, opened, once}
 use Rattle.script_model.proofs.examples.a_talk.Goals as goal
 
 pub returns : goal.returns
+unfolding digits
 returns c =
     inr (
       record {
@@ -16,12 +19,12 @@ returns c =
         tempids = (codes "x", 17592186044417) ∷ [];
         accepted = refl;
         kept = refl;
-        receipt = refl;
+        says = receipt_line 1 17592186044417 (codes "x") (codes "{:t 1 :tempids {\"x\" 17592186044417}}\n") refl;
       },
       2 ∷ [],
       refl,
       inl (
-        record { same = refl; reason = codes "read/not-built"; at = 0; refused = λ reading. refl; refusal = refl },
+        record { same = refl; reason = codes "read/not-built"; at = 0; refused = λ reading. refl; says = refusal_line (codes "read/not-built") 0 1 (codes "{:refused :read/not-built :at 0 :basis 1}\n") refl },
         inr (
           record {
             above = lit< tt;
@@ -32,7 +35,7 @@ returns c =
             tempids = (codes "y", 17592186044418) ∷ [];
             accepted = refl;
             kept = refl;
-            receipt = refl;
+            says = receipt_line 2 17592186044418 (codes "y") (codes "{:t 2 :tempids {\"y\" 17592186044418}}\n") refl;
           },
           [],
           refl,

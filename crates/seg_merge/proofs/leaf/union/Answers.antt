@@ -1,16 +1,15 @@
-use Rattle.std.proofs.Common.{◌≡◌, ◌+◌, ◌<◌, ◌≤◌, ◌++◌, ◌∷◌, [], ℕ, List, length, take, drop, refl, sym, ap, ◌∙◌, subst, arith}
-use Rattle.std.specs.Prelude.{IsTrue, IfOk, filter}
+use Rattle.std.proofs.Common.{◌≡◌, ◌+◌, ◌≤◌, ◌++◌, ◌∷◌, [], ℕ, List, length, take, drop, sym, ap, ◌∙◌, subst, arith}
+use Rattle.std.specs.Prelude.{IsTrue, filter}
 use Rattle.std.proofs.lemmas.List.{take-append-drop, take_all}
 use Rattle.std.proofs.lemmas.Result.{IfOk-weaker}
 use Rattle.fb_values.specs.declared.facts.Datom.{Datom}
 use Rattle.fb_search.specs.Rising.{IsRising}
-use Rattle.fb_search.specs.Places.{place_of, probe_of}
+use Rattle.fb_search.specs.Places.{probe_of}
 use Rattle.fb_search.proofs.Below.{place_of-le-length}
 use Rattle.fb_search.proofs.Ends.{rising-append_right}
 use Rattle.live_index.specs.Growth.{is_held}
 use Rattle.seg_merge.specs.Plans.{IsUnion, without_twin}
 use Rattle.seg_merge.proofs.Lists.{take_item, drop_item, drop_all}
-use Rattle.seg_merge.proofs.Merges.{Merges}
 use Rattle.seg_merge.proofs.Midway.{IsMidway, midway_more, midway_all}
 use Rattle.seg_merge.proofs.leaf.union.Goals as goal
 

@@ -1,9 +1,7 @@
-use Rattle.std.proofs.Common.{◌≡◌, ◌<◌, List, sym, ap, ◌∙◌, subst}
+use Rattle.std.proofs.Common.{List, sym, subst}
 use Rattle.std.specs.Prelude.{Contains}
 use Rattle.std.proofs.lemmas.Bool.{lt-ltb}
 use Rattle.std.proofs.lemmas.List.Elements.{All-contains}
-use Rattle.fb_values.specs.declared.facts.Datom.{Datom}
-use Rattle.fb_values.specs.declared.indexes.Order.{Order}
 use Rattle.fb_search.specs.Lists.{list_in}
 use Rattle.live_index.proofs.Members.{from_filter, into_filter}
 use Rattle.seg_tree.specs.Nodes.{LeafNode, tree_datoms, tree_leaves}
@@ -12,12 +10,19 @@ use Rattle.seg_tree.specs.Indexes.{tree_in}
 use Rattle.seg_merge.specs.Merged.{IsMerged}
 use Rattle.seg_merge.specs.Four.{plan_in}
 use Rattle.seg_merge.proofs.Orders.{kept_are_older}
+use Rattle.seg_merge.proofs.Distinct.{kept_distinct}
 use Rattle.seg_merge.proofs.Standing.{root_stands}
 use Rattle.seg_merge.proofs.merge.merge4.Goals as goal
 
 pub build-requires-clause-older : goal.build-requires-clause-older
 build-requires-clause-older g c = λ order.
     kept_are_older c.args.roots.now c.args.first_id order (plan_in c.in_ok-plans.plans order).kept c.requires.fresh (c.in_ok-plans.ensures order).older
+
+pub build-requires-clause-once : goal.build-requires-clause-once
+build-requires-clause-once g c = kept_distinct c.args.roots.now c.in_ok-plans.plans (λ order. (c.in_ok-plans.ensures order).once)
+
+pub returns-clause-distinct : goal.returns-clause-distinct
+returns-clause-distinct g c = c.in_ok-merged.merged.distinct
 
 pub returns-clause-merged : goal.returns-clause-merged
 returns-clause-merged g c = λ order.

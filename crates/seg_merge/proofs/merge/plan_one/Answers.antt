@@ -1,4 +1,4 @@
-use Rattle.std.proofs.Common.{◌≡◌, List, map, ap, ◌∙◌}
+use Rattle.std.proofs.Common.{map, ap, ◌∙◌}
 use Rattle.std.specs.Arc.{arc_value}
 use Rattle.std.specs.List.{All}
 use Rattle.std.specs.Prelude.{Contains}
@@ -6,9 +6,9 @@ use Rattle.fb_search.specs.Lists.{list_in}
 use Rattle.seg_tree.specs.Nodes.{leaf_datoms, tree_leaves}
 use Rattle.seg_tree.specs.Indexes.{tree_in}
 use Rattle.seg_merge.specs.Merged.{KeepsLeaves}
-use Rattle.seg_merge.specs.Plans.{Planned, IsUnion}
+use Rattle.seg_merge.specs.Plans.{Planned, IsUnion, RepeatsNone}
 use Rattle.seg_merge.specs.Merges.{IsPlan}
-use Rattle.seg_merge.proofs.Lists.{if_ok_three}
+use Rattle.seg_merge.proofs.Lists.{if_ok_four}
 use Rattle.seg_merge.proofs.Orders.{leaves_rise, due_rises, due_single, plan_is}
 use Rattle.seg_merge.proofs.merge.plan_one.Goals as goal
 
@@ -38,8 +38,8 @@ returns c =
     let due = c.deref-2.result.now in
     let ls_is = ap (map arc_value) c.deref.ensures.value ∙ c.in_ok-leaves.ensures ∙ ap tree_leaves c.tree.ensures in
     let due_is = c.deref-2.ensures.value ∙ c.in_ok-due.ensures in
-    if_ok_three c.planned.result
-    (λ (plan : Planned). IsUnion order coverage (leaf_datoms ls) due plan.datoms) (λ (plan : Planned). All (Contains ls) plan.kept) (λ (plan : Planned). KeepsLeaves order coverage ls due plan.kept)
+    if_ok_four c.planned.result
+    (λ (plan : Planned). IsUnion order coverage (leaf_datoms ls) due plan.datoms) (λ (plan : Planned). All (Contains ls) plan.kept) (λ (plan : Planned). RepeatsNone ls plan.kept) (λ (plan : Planned). KeepsLeaves order coverage ls due plan.kept)
     (IsPlan order coverage c.args.c tree live)
-    (λ plan union older stays. plan_is order coverage c.args.c tree ls live due plan ls_is due_is union older stays)
-    c.planned.ensures.union c.planned.ensures.older c.planned.ensures.stays
+    (λ plan union older once stays. plan_is order coverage c.args.c tree ls live due plan ls_is due_is union older once stays)
+    c.planned.ensures.union c.planned.ensures.older c.planned.ensures.once c.planned.ensures.stays

@@ -1,7 +1,6 @@
-use Rattle.std.proofs.Common.{◌≡◌, ℕ, ◌<◌, ◌≤◌, List, length, take, drop, true, false, sym, ap, ◌∙◌, subst, Option, Some}
-use Rattle.std.specs.Prelude.{Contains, IfOk}
+use Rattle.std.proofs.Common.{◌≡◌, ℕ, ◌<◌, ◌≤◌, length, take, drop, true, false, sym, ◌∙◌, subst, Option, Some}
+use Rattle.std.specs.Prelude.{Contains}
 use Rattle.std.proofs.lemmas.Result.{IfOk-weaker}
-use Rattle.fb_values.specs.declared.facts.Datom.{Datom}
 use Rattle.fb_search.specs.Places.{place_of, probe_of}
 use Rattle.fb_search.proofs.Below.{place_of-le-length}
 use Rattle.seg_tree.specs.Nodes.{LeafNode}

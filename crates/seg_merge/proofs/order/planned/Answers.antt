@@ -1,7 +1,8 @@
-use Rattle.std.proofs.Common.{◌≡◌, ℕ, suc, ◌+◌, ◌<◌, ◌++◌, ◌≤◌, [], List, length, take, drop, get_or, sym, ap, ◌∙◌, subst, map, arith}
-use Rattle.std.specs.Prelude.{IfOk, Contains}
+use Rattle.std.proofs.Common.{◌≡◌, suc, ◌<◌, ◌++◌, ◌≤◌, List, length, drop, get_or, sym, ap, ◌∙◌, subst, map, arith}
+use Rattle.std.specs.Prelude.{Contains}
 use Rattle.std.specs.List.{All}
 use Rattle.std.specs.Arc.{arc_value}
+use Rattle.std.proofs.lemmas.List.{take_all}
 use Rattle.std.proofs.lemmas.Result.{IfOk-weaker}
 use Rattle.std.proofs.lemmas.List.Elements.{Contains-append_right, Contains-get_or}
 use Rattle.fb_values.specs.declared.facts.Datom.{Datom}
@@ -9,7 +10,7 @@ use Rattle.fb_search.specs.Rising.{IsRising}
 use Rattle.live_index.specs.Growth.{HasNoTwins}
 use Rattle.seg_tree.specs.Nodes.{LeafNode, leaf_datoms}
 use Rattle.seg_merge.specs.Merged.{KeepsLeaves}
-use Rattle.seg_merge.specs.Plans.{Planned, IsUnion}
+use Rattle.seg_merge.specs.Plans.{Planned, IsUnion, RepeatsNone}
 use Rattle.seg_merge.specs.Pieces.{planned}
 use Rattle.seg_merge.proofs.Lists.{read_at, length_map}
 use Rattle.seg_merge.proofs.Planning.{IsPlanning, planning_none, planning_next, left_rises_at, taken_rises, leaf_and_rest_rise, single_leaf, single_part, union_all, keeps_all}
@@ -149,3 +150,18 @@ returns-clause-stays c =
     let same = ap (λ (q : Planned). record q { datoms = q.datoms ++ piece }) c.plan-2.view_is in
     let stays = keeps_all order coverage ls added place left plan past p in
     IfOk-weaker c.add.result (λ v. v ≡ new) (λ v. KeepsLeaves order coverage ls added v.kept) (λ v is. subst (λ (q : Planned). KeepsLeaves order coverage ls added q.kept) (sym (is ∙ same)) stays) c.add.ensures
+
+pub returns-clause-once : goal.returns-clause-once
+returns-clause-once c =
+    let leaves = c.args.leaves.now in
+    let ls = map arc_value leaves in
+    let place = c.loop-place.place in
+    let plan = c.loop-place.plan in
+    let p = c.loop-place.invariant in
+    let past : length ls ≤ place = omega (arith, length_map arc_value leaves, c.loop-place-test.false) in
+    let piece = c.in_ok-union.field-0.items in
+    let base = planned c.plan-2.inside.pieces.items in
+    let new : Planned = record base { datoms = base.datoms ++ piece } in
+    let same = ap (λ (q : Planned). record q { datoms = q.datoms ++ piece }) c.plan-2.view_is in
+    let once = subst (λ (xs : List LeafNode). RepeatsNone xs plan.kept) (take_all place ls past) p.once in
+    IfOk-weaker c.add.result (λ v. v ≡ new) (λ v. RepeatsNone ls v.kept) (λ v is. subst (λ (q : Planned). RepeatsNone ls q.kept) (sym (is ∙ same)) once) c.add.ensures

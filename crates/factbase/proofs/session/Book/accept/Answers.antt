@@ -4,8 +4,9 @@ use Rattle.fb_model.proofs.LawfulHistories.{IsLawful-length, IsLawful-instant}
 use Rattle.fb_model.specs.Numbers.{user_entity}
 use Rattle.fb_model.specs.History.{basis, users_issued}
 use Rattle.script_model.specs.Step.{entry_of}
+use Rattle.script_model.specs.Reply.{receipt}
 use Rattle.factbase.specs.Heads.{IsHeadOf, entry_after}
-use Rattle.factbase.proofs.Deciding.{entry_after-is, least_instant-le, head_after, pushed, receipt-same}
+use Rattle.factbase.proofs.Deciding.{entry_after-is, least_instant-le, head_after, pushed, receipt-same, line-same}
 use Rattle.factbase.proofs.session.Book.accept.Goals as goal
 
 pub next_entry-requires-clause-in_range : goal.next_entry-requires-clause-in_range
@@ -41,6 +42,7 @@ returns-clause-ok c =
             ∙ ap (λ t. c.args.self.now.commits.items ++ t ∷ []) t_is;
       };
       next_t = t_is;
-      says = c.in_ok-build_receipt.ensures ∙ receipt-same after.t after.t _ c.args.naming.tempid.now _ (user_entity (users_issued h + 1)) refl c.as_str.ensures
-          (ap (λ n. user_entity n) users_is);
+      says = line-same _ (receipt after.t ((c.args.naming.tempid.now, user_entity (users_issued h + 1)) ∷ [])) c.build_line.new.line.items
+          (c.in_ok-reply.ensures ∙ receipt-same after.t after.t c.args.naming.tempid.now c.args.naming.tempid.now _ (user_entity (users_issued h + 1)) refl refl (ap (λ n. user_entity n) users_is))
+          c.in_ok-build_line.ensures;
     }

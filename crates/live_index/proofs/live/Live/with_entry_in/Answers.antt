@@ -1,12 +1,9 @@
-use Rattle.std.proofs.Common.{◌≡◌, ◌∙◌, ◌++◌, ap, inl, inr, List, ◌⊎◌}
-use Rattle.std.specs.Prelude.{Contains, filter, IsTrue}
-use Rattle.std.proofs.lemmas.List.Elements.{Contains-append_left, Contains-append_right, Contains-append_cases}
-use Rattle.std.proofs.lemmas.Result.{IfOk-weaker, MatchResult-from_both}
+use Rattle.std.proofs.Common.{◌∙◌, ap, List}
+use Rattle.std.specs.Prelude.{filter}
 use Rattle.fb_values.specs.declared.facts.Datom.{Datom}
 use Rattle.fb_search.specs.Lists.{list_in}
-use Rattle.live_index.specs.Growth.{is_held, HasNoTwins}
-use Rattle.live_index.proofs.Members.{from_filter}
-use Rattle.live_index.proofs.Growing.{rising-filter, single_part, grown, Gains, single_kept, single_refilled, both_ok}
+use Rattle.live_index.specs.Growth.{is_held}
+use Rattle.live_index.proofs.Growing.{rising-filter, grown, single_kept, single_refilled, both_ok}
 use Rattle.live_index.proofs.live.Live.with_entry_in.Goals as goal
 
 pub refilled-requires-clause-rising : goal.refilled-requires-clause-rising

@@ -1,6 +1,5 @@
-use Rattle.std.proofs.Common.{◌≡◌, ◌<◌, ℕ, List, length, sym, ap, subst, arith}
+use Rattle.std.proofs.Common.{◌<◌, length, sym, subst, arith}
 use Rattle.std.specs.Prelude.{Contains}
-use Rattle.std.specs.List.{All}
 use Rattle.std.specs.Arc.{arc_value}
 use Rattle.std.proofs.lemmas.List.Elements.{All-contains}
 use Rattle.std.proofs.lemmas.Iterator.Adapters.{YieldsList-from_vec}
@@ -8,7 +7,6 @@ use Rattle.std.proofs.lemmas.Iterator.Consumers.{YieldsList-turn}
 use Rattle.seg_tree.specs.Nodes.{LeafNode}
 use Rattle.seg_tree.specs.Built.{Build}
 use Rattle.seg_merge.specs.Plans.{Planned}
-use Rattle.seg_merge.specs.Pieces.{planned}
 use Rattle.seg_merge.proofs.Pieces.{kept_contains}
 use Rattle.seg_merge.proofs.plan.Plan.build.Goals as goal
 

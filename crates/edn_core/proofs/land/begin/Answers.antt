@@ -1,0 +1,18 @@
+use Rattle.std.proofs.Common.{◌≡◌, List, subst}
+use Rattle.edn_model.specs.Faults.{room}
+use Rattle.edn_model.specs.Steps.{opens_of, HasRoom}
+use Rattle.edn_core.specs.Frames.{frames_of}
+use Rattle.edn_core.specs.declared.construct.Frame.{Frame}
+use Rattle.edn_core.proofs.Leading.{stuck_at}
+use Rattle.edn_core.proofs.Openings.{entered}
+use Rattle.edn_core.proofs.land.begin.Goals as goal
+
+pub returns-then-not-has_room : goal.returns-then-not-has_room
+returns-then-not-has_room c bytes opens start after before kept =
+    let full = subst (λ (xs : List Frame). room (opens_of (frames_of bytes xs)) ≡ 0) c.as_slice.ensures.value (c.if-not-has_room.ensures bytes) in
+    stuck_at c.args.at after before (opens.deep full)
+
+pub returns : goal.returns
+returns c bytes opens start after before kept =
+    let some = subst (λ (xs : List Frame). HasRoom (frames_of bytes xs)) c.as_slice.ensures.value (c.if-not-has_room.ensures bytes) in
+    entered bytes start c.args.frames.now.items c.push.new.frames.items (record { construct = c.args.construct; at = c.args.at }) c.args.next (opens.enters some) c.in_ok-push.ensures after before kept

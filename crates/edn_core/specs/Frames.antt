@@ -1,0 +1,145 @@
+-- What the constructs that the reader keeps open stand for, and what its steps come to.
+-- This project's own choice.
+use Rattle.std.specs.Prelude.{◌≡◌, ℕ, ◌<◌, ◌≤◌, true, false, IsTrue, List, [], ◌∷◌, ◌++◌, length, drop, fold, Result, Ok, Err}
+use Rattle.edn_model.specs.Form as model
+use Rattle.edn_model.specs.Likeness.{distinct, keys}
+use Rattle.edn_model.specs.Faults as faults
+use Rattle.edn_model.specs.Steps.{Frames, outermost, frame, opens_of, State, going, ended, read, nothing, fault, Step, Reaches, land, closed, HasRoom}
+use Rattle.edn_form.specs.View.{form_of, forms_of, pairs_of}
+use Rattle.edn_alike.specs.Inside.{IsDistinctInside, AreDistinctInside, ArePairsDistinctInside}
+use Rattle.edn_alike.specs.Said.{HasSaid}
+use Rattle.edn_core.specs.Answers.{MatchFault, fault_of}
+use Rattle.edn_core.specs.declared.construct.Construct.{Construct}
+use Rattle.edn_core.specs.declared.construct.Construct.TheVariants.{List as List', Vector, Map, Key, Set, Discard, Inst, Uuid}
+use Rattle.edn_core.specs.declared.construct.Frame.{Frame}
+use Rattle.edn_core.specs.declared.construct.Landed.{Landed}
+use Rattle.edn_core.specs.declared.construct.Landed.TheVariants.{Goes, Again}
+use Rattle.edn_core.specs.declared.fault.EdnFault.{EdnFault}
+use Rattle.edn_core.specs.declared.progress.Progress.{Progress}
+use Rattle.edn_core.specs.declared.progress.Progress.TheVariants.{Further, Read, End}
+
+abbrev pub open_of : Construct → faults.Open
+open_of (List' v) = faults.in_list (model.forms (forms_of v.items))
+open_of (Vector v) = faults.in_vector (model.forms (forms_of v.items))
+open_of (Map v said) = faults.in_map (model.pairs (pairs_of v.items))
+open_of (Key v key said) = faults.behind_key (model.pairs (pairs_of v.items)) (form_of key)
+open_of (Set v said) = faults.in_set (model.forms (forms_of v.items))
+open_of Discard = faults.behind_discard
+open_of Inst = faults.behind_inst
+open_of Uuid = faults.behind_uuid
+
+-- a construct inside those that are open, in these bytes
+abbrev pub inside : List ℕ → Frames → Frame → Frames
+inside bytes outer f = frame (open_of f.construct) (drop f.at bytes) outer
+
+-- the outermost is the first
+abbrev pub frames_of : List ℕ → List Frame → Frames
+frames_of bytes frames = fold (inside bytes) outermost frames
+
+-- inside its forms nothing is said twice, nor among its members or keys, and their codes are kept
+abbrev pub KeptOpen : Construct → Type 0
+KeptOpen (List' v) = AreDistinctInside (model.forms (forms_of v.items))
+KeptOpen (Vector v) = AreDistinctInside (model.forms (forms_of v.items))
+KeptOpen (Map v said) =
+    HasSaid (keys (model.pairs (pairs_of v.items))) said × IsTrue (distinct (keys (model.pairs (pairs_of v.items))))
+    × ArePairsDistinctInside (model.pairs (pairs_of v.items))
+KeptOpen (Key v key said) =
+    HasSaid (model.with_last (keys (model.pairs (pairs_of v.items))) (form_of key)) said
+    × IsTrue (distinct (model.with_last (keys (model.pairs (pairs_of v.items))) (form_of key)))
+    × ArePairsDistinctInside (model.pairs (pairs_of v.items)) × IsDistinctInside (form_of key)
+KeptOpen (Set v said) =
+    HasSaid (model.forms (forms_of v.items)) said × IsTrue (distinct (model.forms (forms_of v.items)))
+    × AreDistinctInside (model.forms (forms_of v.items))
+KeptOpen Discard = Unit {0}
+KeptOpen Inst = Unit {0}
+KeptOpen Uuid = Unit {0}
+
+-- it opens between two places
+pub record KeptFrame (start last : ℕ) (f : Frame) : Type 0 where
+  pub after : start ≤ f.at
+  pub within : f.at ≤ last
+  pub kept : KeptOpen f.construct
+
+abbrev pub Kept : ℕ → ℕ → List Frame → Type 0
+Kept start last [] = Unit {0}
+Kept start last (f ∷ fs) = KeptFrame start last f × Kept start last fs
+
+-- what a whole form does to the construct, as the steps have it
+abbrev pub LandsAs : Construct → model.Form → Landed → Type 0
+LandsAs o f (Goes p) =
+    KeptOpen p
+    × ((outer : Frames) (opened at rest : List ℕ) → land (frame (open_of o) opened outer) f at rest ≡ going (frame (open_of p) opened outer) rest)
+LandsAs o f Again = (outer : Frames) (opened at rest : List ℕ) → land (frame (open_of o) opened outer) f at rest ≡ ended (fault faults.bad at)
+
+-- a discard has its form, and is over; so would be a tag
+abbrev pub EndsWith : Construct → model.Form → Type 0
+EndsWith o f = (outer : Frames) (opened at rest : List ℕ) → land (frame (open_of o) opened outer) f at rest ≡ going outer rest
+
+abbrev pub ClosesAs : Construct → ℕ → model.Form → Type 0
+ClosesAs o b f = ((outer : List faults.Open) → faults.closes (open_of o ∷ outer) b ≡ true) × (f ≡ closed (open_of o))
+
+abbrev pub ClosesNothing : Construct → ℕ → Type 0
+ClosesNothing o b = (outer : List faults.Open) → faults.closes (open_of o ∷ outer) b ≡ false
+
+-- ---- what steps come to
+
+-- steps lead further, and what is open is kept
+pub record LeadsOn (bytes : List ℕ) (start here : ℕ) (begun : State) (next : ℕ) (frames : List Frame) : Type 0 where
+  pub ahead : here < next
+  pub within : next ≤ length bytes
+  pub kept : Kept start (length bytes) frames
+  pub runs : Reaches begun (going (frames_of bytes frames) (drop next bytes))
+
+pub record LeadsTo (bytes : List ℕ) (here : ℕ) (begun : State) (f : model.Form) (next : ℕ) : Type 0 where
+  pub ahead : here < next
+  pub within : next ≤ length bytes
+  pub runs : Reaches begun (ended (read f (drop next bytes)))
+
+pub record LeadsAstray (bytes : List ℕ) (start : ℕ) (begun : State) (why : faults.Fault) (byte : ℕ) : Type 0 where
+  pub ahead : start ≤ byte
+  pub within : byte ≤ length bytes
+  pub runs : Reaches begun (ended (fault why (drop byte bytes)))
+
+-- the steps from a state on come to this answer, behind a place, and leave these open
+abbrev pub Leads : List ℕ → ℕ → ℕ → State → Result Progress EdnFault → List Frame → Type 0
+Leads bytes start here begun (Ok (Further next)) frames = LeadsOn bytes start here begun next frames
+Leads bytes start here begun (Ok (Read form next)) frames = LeadsTo bytes here begun (form_of form) next
+Leads bytes start here begun (Ok End) frames = Reaches begun (ended nothing)
+Leads bytes start here begun (Err e) frames = MatchFault (fault_of e) (LeadsAstray bytes start begun)
+
+-- the same from a place on, with what is open there
+abbrev pub LeadsFrom : List ℕ → ℕ → List Frame → Result Progress EdnFault → List Frame → Type 0
+LeadsFrom bytes at old result new =
+    (start : ℕ) → start ≤ at → at ≤ length bytes → Kept start (length bytes) old
+    → Leads bytes start at (going (frames_of bytes old) (drop at bytes)) result new
+
+-- ---- what one step asks for
+
+-- a whole form, from a place up to the next
+pub record Whole (bytes : List ℕ) (start here at next : ℕ) (frames : List Frame) (form : model.Form) : Type 0 where
+  pub inside : IsDistinctInside form
+  pub after : start ≤ at
+  pub before : at ≤ length bytes
+  pub ahead : here < next
+  pub within : next ≤ length bytes
+  pub kept : Kept start (length bytes) frames
+
+-- a construct opens by a step, and its inside begins at the next place
+pub record Enters (bytes : List ℕ) (frames : List Frame) (o : Construct) (at next : ℕ) : Type 0 where
+  pub ahead : at < next
+  pub within : next ≤ length bytes
+  pub kept : KeptOpen o
+  pub step : Step (going (frames_of bytes frames) (drop at bytes)) (going (frame (open_of o) (drop at bytes) (frames_of bytes frames)) (drop next bytes))
+
+-- the same, or nothing can go on where too many are open
+pub record Opens (bytes : List ℕ) (frames : List Frame) (o : Construct) (at next : ℕ) : Type 0 where
+  pub enters : HasRoom (frames_of bytes frames) → Enters bytes frames o at next
+  pub deep : faults.room (opens_of (frames_of bytes frames)) ≡ 0
+      → faults.Stuck (opens_of (frames_of bytes frames)) (drop at bytes) faults.deep (drop at bytes)
+
+-- what steps lead to where a whole form landed so in the innermost construct, which is taken out
+abbrev pub LandsIn : ℕ → ℕ → ℕ → List Frame → Landed → Result Progress EdnFault → List Frame → Type 0
+LandsIn opened at next outer landed result new =
+    (bytes : List ℕ) (start here : ℕ) (old : List Frame) (innermost : Frame) (f : model.Form) → old ≡ outer ++ innermost ∷ [] → innermost.at ≡ opened
+    → Whole bytes start here at next old f → LandsAs innermost.construct f landed
+    → Leads bytes start here (land (frames_of bytes old) f (drop at bytes) (drop next bytes)) result new

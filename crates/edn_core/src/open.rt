@@ -1,0 +1,61 @@
+//! Which collection opens here. Each in a call of its own, so that a step over a token makes no room for what opens.
+ghost use Rattle.std.specs.Prelude.{◌≡◌, ℕ, ◌+◌, ◌∷◌, List, drop};
+ghost use Rattle.edn_model.specs.Bytes.{hash, open_paren, open_bracket, open_brace};
+ghost use Rattle.edn_core.specs.Frames.{LeadsFrom};
+
+use crate::construct::{Construct, Frame};
+use crate::fault::EdnFault;
+use crate::land::begin_collection;
+use crate::progress::Progress;
+use edn_alike::Said;
+use std::alloc::Global;
+
+pub(crate) fn list(
+    alloc: Global,
+    frames: &mut Vec<Frame>,
+    at: usize,
+    next: usize,
+) -> Result<Progress, EdnFault>
+    ensures { (bytes : List ℕ) → next ≡ at + 1 → drop at bytes ≡ open_paren ∷ drop 1 (drop at bytes)
+        → LeadsFrom bytes at frames.old.items result frames.new.items }
+{
+    begin_collection(frames, Construct::List(Vec::new(alloc)), at, next)
+}
+
+pub(crate) fn vector(
+    alloc: Global,
+    frames: &mut Vec<Frame>,
+    at: usize,
+    next: usize,
+) -> Result<Progress, EdnFault>
+    ensures { (bytes : List ℕ) → next ≡ at + 1 → drop at bytes ≡ open_bracket ∷ drop 1 (drop at bytes)
+        → LeadsFrom bytes at frames.old.items result frames.new.items }
+{
+    begin_collection(frames, Construct::Vector(Vec::new(alloc)), at, next)
+}
+
+pub(crate) fn map(
+    alloc: Global,
+    frames: &mut Vec<Frame>,
+    at: usize,
+    next: usize,
+) -> Result<Progress, EdnFault>
+    ensures { (bytes : List ℕ) → next ≡ at + 1 → drop at bytes ≡ open_brace ∷ drop 1 (drop at bytes)
+        → LeadsFrom bytes at frames.old.items result frames.new.items }
+{
+    let pairs = Vec::new(alloc);
+    begin_collection(frames, Construct::Map(pairs, Said::new(alloc)), at, next)
+}
+
+pub(crate) fn set(
+    alloc: Global,
+    frames: &mut Vec<Frame>,
+    at: usize,
+    next: usize,
+) -> Result<Progress, EdnFault>
+    ensures { (bytes : List ℕ) → next ≡ at + 2 → drop at bytes ≡ hash ∷ open_brace ∷ drop 2 (drop at bytes)
+        → LeadsFrom bytes at frames.old.items result frames.new.items }
+{
+    let items = Vec::new(alloc);
+    begin_collection(frames, Construct::Set(items, Said::new(alloc)), at, next)
+}

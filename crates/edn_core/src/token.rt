@@ -1,0 +1,148 @@
+//! Tokens and strings, as the reader takes them.
+ghost use Rattle.std.specs.Prelude.{◌≡◌, ℕ, ◌+◌, ◌<◌, ◌≤◌, true, false, ◌∷◌, List, length, drop};
+ghost use Rattle.edn_model.specs.Bytes.{quote, TokenEnds};
+ghost use Rattle.edn_model.specs.Faults as faults;
+ghost use Rattle.edn_model.specs.Faults.{TokenStands};
+ghost use Rattle.edn_model.specs.Steps.{opens_of, Free};
+ghost use Rattle.edn_model.specs.Tokens.{StringStands};
+ghost use Rattle.edn_core.specs.Fronts.{BeginsToken};
+ghost use Rattle.edn_core.specs.Frames.{frames_of, LeadsFrom, Enters};
+
+use crate::construct::{Construct, Frame, wants_string};
+use crate::fault::EdnFault;
+use crate::land::{push, put};
+use crate::progress::Progress;
+use edn_form::Edn;
+use edn_instant::{read_instant, read_uuid};
+use edn_token::{StringStop, Token, judge, keyword_name, read_string, read_token};
+use fb_values::Text;
+use std::alloc::Global;
+
+/// The token that stands here.
+pub(crate) fn token(
+    alloc: Global,
+    bytes: &[u8],
+    frames: &mut Vec<Frame>,
+    at: usize,
+) -> Result<Progress, EdnFault>
+    requires within { at ≤ length bytes.now }
+    requires begins { BeginsToken (drop at bytes.now) }
+    ensures { LeadsFrom bytes.now at frames.old.items result frames.new.items }
+{
+    if wants_string(frames.as_slice()) {
+        return Err(EdnFault::Bad { at });
+    }
+    let (_, here) = bytes.split_at(at);
+    match read_token(here) {
+        Ok(token) => judged(alloc, frames, token, at, at + token.len()),
+        Err(len) => Err(EdnFault::Bad { at: at + len }),
+    }
+}
+
+/// What the token comes to that stands from one place up to the next.
+fn judged(
+    alloc: Global,
+    frames: &mut Vec<Frame>,
+    token: &str,
+    at: usize,
+    next: usize,
+) -> Result<Progress, EdnFault>
+    ensures { (bytes : List ℕ) → at < next → next ≤ length bytes → TokenStands (drop at bytes) token.now (drop next bytes) → TokenEnds (drop next bytes)
+        → 0 < length token.now → Free (frames_of bytes frames.old.items) → LeadsFrom bytes at frames.old.items result frames.new.items }
+{
+    match judge(token) {
+        Token::Nil => put(alloc, frames, Edn::Nil, at, next),
+        Token::Bool(b) => put(alloc, frames, Edn::Bool(b), at, next),
+        Token::Int(n) => put(alloc, frames, Edn::Int(n), at, next),
+        Token::Symbol => put(alloc, frames, Edn::Sym(Text::of(alloc, token)?), at, next),
+        Token::Keyword => put(
+            alloc,
+            frames,
+            Edn::Key(Text::of(alloc, keyword_name(token))?),
+            at,
+            next,
+        ),
+        Token::Inst => tag(frames, Construct::Inst, at, next),
+        Token::Uuid => tag(frames, Construct::Uuid, at, next),
+        Token::Unsupported(what) => Err(EdnFault::Unsupported { at, what }),
+        Token::Bad => Err(EdnFault::Bad { at }),
+    }
+}
+
+fn tag(
+    frames: &mut Vec<Frame>,
+    construct: Construct,
+    at: usize,
+    next: usize,
+) -> Result<Progress, EdnFault>
+    ensures { (bytes : List ℕ) → Enters bytes frames.old.items construct at next → LeadsFrom bytes at frames.old.items result frames.new.items }
+{
+    push(frames, Frame { construct, at })?;
+    Ok(Progress::Further(next))
+}
+
+/// The string whose first quote stands here.
+pub(crate) fn string(
+    alloc: Global,
+    bytes: &[u8],
+    frames: &mut Vec<Frame>,
+    at: usize,
+) -> Result<Progress, EdnFault>
+    requires within { at < length bytes.now }
+    requires begins { drop at bytes.now ≡ quote ∷ drop (at + 1) bytes.now }
+    ensures { LeadsFrom bytes.now at frames.old.items result frames.new.items }
+{
+    let (_, inside) = bytes.split_at(at + 1);
+    match read_string(alloc, inside) {
+        Ok((text, len)) => whole_string(alloc, frames, text, at, at + 1 + len),
+        Err(StringStop::Bad { at: len }) => Err(EdnFault::Bad { at: at + 1 + len }),
+        Err(StringStop::Cut) => Err(EdnFault::Cut { at: bytes.len() }),
+        Err(StringStop::Memory) => Err(EdnFault::Memory),
+    }
+}
+
+/// What a string comes to that stands from one place up to the next.
+fn whole_string(
+    alloc: Global,
+    frames: &mut Vec<Frame>,
+    text: Text,
+    at: usize,
+    next: usize,
+) -> Result<Progress, EdnFault>
+    ensures { (bytes : List ℕ) → at < next → next ≤ length bytes → StringStands text (drop at bytes) (drop next bytes)
+        → LeadsFrom bytes at frames.old.items result frames.new.items }
+{
+    if wants_string(frames.as_slice()) {
+        tagged(alloc, frames, text, at, next)
+    } else {
+        put(alloc, frames, Edn::Str(text), at, next)
+    }
+}
+
+/// What the innermost construct, which is a tag, makes of the string behind it.
+fn tagged(
+    alloc: Global,
+    frames: &mut Vec<Frame>,
+    text: Text,
+    at: usize,
+    next: usize,
+) -> Result<Progress, EdnFault>
+    ensures { (bytes : List ℕ) → faults.wants_string (opens_of (frames_of bytes frames.old.items)) ≡ true → at < next → next ≤ length bytes
+        → StringStands text (drop at bytes) (drop next bytes) → LeadsFrom bytes at frames.old.items result frames.new.items }
+{
+    let Some(innermost) = frames.pop() else {
+        return Err(EdnFault::Bad { at });
+    };
+    match innermost.construct {
+        Construct::Inst => match read_instant(text.as_str().as_bytes()) {
+            Some(millis) => put(alloc, frames, Edn::Inst(millis), innermost.at, next),
+            None => Err(EdnFault::Bad { at }),
+        },
+        Construct::Uuid => match read_uuid(text.as_str()) {
+            Some(uuid) => put(alloc, frames, Edn::Uuid(uuid), innermost.at, next),
+            None => Err(EdnFault::Bad { at }),
+        },
+        // Nothing else wants a string.
+        _ => Err(EdnFault::Bad { at }),
+    }
+}

@@ -1,0 +1,5 @@
+pub mod FormMembers
+pub mod ListAsks
+pub mod ShapeRules
+pub mod Underscores
+pub mod MapNames
