@@ -13,3 +13,4 @@ pub mod SameAsks
 pub mod SameRules
 pub mod EdnWords
 pub mod SameEntities
+pub mod SameHolders

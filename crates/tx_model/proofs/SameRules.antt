@@ -97,7 +97,7 @@ module _ (db : Db) (names : List (Name × ℕ)) (asks other : List (List Ask)) (
   all_back : (ask : Ask) → Contains (joined other) ask → Contains (joined asks) ask
   all_back = same_joined other asks back
 
-  same_holders : (test : ℕ → Bool) (name : Name) → list_any test (holders db (joined asks) name) ≡ list_any test (holders db (joined other) name)
+  pub same_holders : (test : ℕ → Bool) (name : Name) → list_any test (holders db (joined asks) name) ≡ list_any test (holders db (joined other) name)
   same_holders test name =
       any_made test (identified db name) (joined asks)
       ∙ any_same (λ ask. option_map_or test (identified db name ask) false) (joined asks) (joined other) all_forth all_back

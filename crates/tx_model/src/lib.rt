@@ -22,8 +22,9 @@ pub use edges::{
 pub use lawful::{an_accepted_entry_is_lawful, changes_are_those_of_what_is_asked};
 pub use numbers::{compare_and_set, greatest_and_least_numbers};
 pub use order::{
-    a_rule_is_broken_in_any_order, orders_with_the_same_entities_agree,
-    the_same_is_recorded_in_any_order, the_same_rules_are_broken_in_any_order,
+    a_held_tempid_is_the_same_in_any_order, a_rule_is_broken_in_any_order,
+    orders_with_the_same_entities_agree, the_same_is_recorded_in_any_order,
+    the_same_rules_are_broken_in_any_order,
 };
 pub use rules::{rules_on_changes, rules_on_names, shapes};
 pub use schema::{alterations, attributes, cardinality_there_and_back, other_types};

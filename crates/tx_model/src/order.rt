@@ -1,7 +1,9 @@
 //! What the order of a transaction's forms does not tell.
-ghost use Rattle.std.specs.Prelude.{◌≡◌, ◌↔◌, ℕ, Bool, List, map, is_some, option_map, Contains};
-ghost use Rattle.tx_model.specs.Asks.{Name, Ask};
-ghost use Rattle.tx_model.specs.Tempids.{Db, assigned, assigned_to};
+ghost use Rattle.std.specs.Prelude.{◌≡◌, ◌↔◌, ℕ, ◌<◌, Bool, true, false, List, length, map, is_some, option_map, Contains};
+ghost use Rattle.std.specs.List.{list_any};
+ghost use Rattle.tx_model.specs.Asks.{Name, Ask, is_tempid};
+ghost use Rattle.tx_model.specs.Tempids.{Db, holders, assigned, assigned_to};
+ghost use Rattle.tx_model.specs.NameRules.{breaks_tempid_conflict};
 ghost use Rattle.tx_model.specs.Transaction.{joined, with_asks, with_names};
 ghost use Rattle.tx_model.specs.Step.{Refusal, first_yes, broken_rules, first_refusal};
 
@@ -31,4 +33,10 @@ pub fn orders_with_the_same_entities_agree()
     ensures changes { (db : Db) (asks other : List (List Ask)) → ((form : List Ask) → Contains asks form ↔ Contains other form) → ((name : Name) → assigned_to (assigned db (joined asks)) name ≡ assigned_to (assigned db (joined other)) name) → (with_asks db asks).changes ≡ (with_asks db other).changes }
     ensures facts { (db : Db) (asks other : List (List Ask)) → ((form : List Ask) → Contains asks form ↔ Contains other form) → ((name : Name) → assigned_to (assigned db (joined asks)) name ≡ assigned_to (assigned db (joined other)) name) → (with_asks db asks).after ≡ (with_asks db other).after }
     ensures rules { (db : Db) (asks other : List (List Ask)) → ((form : List Ask) → Contains asks form ↔ Contains other form) → ((name : Name) → assigned_to (assigned db (joined asks)) name ≡ assigned_to (assigned db (joined other)) name) → map is_some (broken_rules (with_asks db asks)) ≡ map is_some (broken_rules (with_asks db other)) }
+{}
+
+/// Where no form breaks the rule on tempids of two holders, a tempid that is given an identity value with a holder is that holder
+/// in whatever order the forms stand.
+pub fn a_held_tempid_is_the_same_in_any_order()
+    ensures { (db : Db) (asks other : List (List Ask)) → ((form : List Ask) → Contains asks form ↔ Contains other form) → list_any (breaks_tempid_conflict db (joined asks)) asks ≡ false → (name : Name) → is_tempid name ≡ true → 0 < length (holders db (joined asks) name) → assigned_to (assigned db (joined asks)) name ≡ assigned_to (assigned db (joined other)) name }
 {}
