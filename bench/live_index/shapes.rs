@@ -490,6 +490,130 @@ impl<const L: usize> Index for Binary2<L> {
     }
 }
 
+// A short list of the newest datoms before a binary tree; the whole list goes into the tree when it is full.
+impl<const L: usize> Bin2<L> {
+    fn built(mut v: Vec<Datom>) -> Self {
+        if v.len() <= L {
+            return Bin2::Leaf(v);
+        }
+        let right = v.split_off(v.len() / 2 + 1);
+        let mid = v.pop().unwrap();
+        Self::fork(Arc::new(Self::built(v)), mid, Arc::new(Self::built(right)))
+    }
+    fn join(left: Arc<Self>, mid: Datom, right: Arc<Self>) -> Self {
+        let (hl, hr) = (left.height(), right.height());
+        if hl > hr + 1 {
+            let Bin2::Fork { left: a, mid: m, right: b, .. } = Self::alone(left) else { unreachable!() };
+            Self::balance(a, m, Arc::new(Self::join(b, mid, right)))
+        } else if hr > hl + 1 {
+            let Bin2::Fork { left: a, mid: m, right: b, .. } = Self::alone(right) else { unreachable!() };
+            Self::balance(Arc::new(Self::join(left, mid, a)), m, b)
+        } else {
+            Self::fork(left, mid, right)
+        }
+    }
+    fn with_datoms(this: Arc<Self>, from: usize, below: &[usize], datoms: &[Datom]) -> Arc<Self> {
+        if datoms.is_empty() {
+            return this;
+        }
+        Arc::new(match Self::alone(this) {
+            Bin2::Leaf(v) => {
+                let mut all = Vec::with_capacity(v.len() + datoms.len());
+                let mut n = 0;
+                for (i, d) in v.into_iter().enumerate() {
+                    while n < datoms.len() && below[n] - from <= i {
+                        all.push(datoms[n].clone());
+                        n += 1;
+                    }
+                    all.push(d);
+                }
+                all.extend_from_slice(&datoms[n..]);
+                Self::built(all)
+            }
+            Bin2::Fork { left, mid, right, .. } => {
+                let before = left.count();
+                let cut = below.partition_point(|b| *b <= from + before);
+                let left = Self::with_datoms(left, from, &below[..cut], &datoms[..cut]);
+                let right = Self::with_datoms(right, from + before + 1, &below[cut..], &datoms[cut..]);
+                Self::join(left, mid, right)
+            }
+        })
+    }
+    fn place(&self, d: &Datom, cmp: Compare) -> usize {
+        match self {
+            Bin2::Leaf(v) => v.partition_point(|x| cmp(x, d) == Ordering::Less),
+            Bin2::Fork { left, mid, right, .. } => {
+                if cmp(mid, d) == Ordering::Less {
+                    left.count() + 1 + right.place(d, cmp)
+                } else {
+                    left.place(d, cmp)
+                }
+            }
+        }
+    }
+    fn datom(&self, mut place: usize) -> &Datom {
+        let mut n = self;
+        loop {
+            match n {
+                Bin2::Leaf(v) => return &v[place],
+                Bin2::Fork { left, mid, right, .. } => {
+                    let l = left.count();
+                    if place == l { return mid; }
+                    if place < l { n = left } else { n = right; place -= l + 1 }
+                }
+            }
+        }
+    }
+}
+struct New { datoms: Vec<Datom>, below: Vec<usize> }
+#[derive(Clone)]
+struct Newest<const N: usize, const L: usize> { tree: Option<Arc<Bin2<L>>>, newest: Arc<New> }
+impl<const N: usize, const L: usize> Newest<N, L> {
+    fn place(&self, d: &Datom, cmp: Compare) -> usize {
+        let t = match &self.tree { None => 0, Some(t) => t.place(d, cmp) };
+        t + self.newest.datoms.partition_point(|x| cmp(x, d) == Ordering::Less)
+    }
+    fn first_at(below: &[usize], place: usize) -> usize {
+        let (mut from, mut to) = (0, below.len());
+        while from < to {
+            let m = from + (to - from) / 2;
+            if below[m] + m < place { from = m + 1 } else { to = m }
+        }
+        from
+    }
+    fn insert(self, place: usize, d: Datom) -> Self {
+        let Newest { tree, newest } = self;
+        let New { mut datoms, mut below } = match Arc::try_unwrap(newest) {
+            Ok(n) => n,
+            Err(n) => if n.datoms.len() == N {
+                let tree = Some(match tree { None => Arc::new(Bin2::built(n.datoms.clone())), Some(t) => Bin2::with_datoms(t, 0, &n.below, &n.datoms) });
+                return Newest { tree, newest: Arc::new(New { datoms: vec![d], below: vec![place] }) };
+            } else { New { datoms: copy_cap(&n.datoms, N), below: copy_cap(&n.below, N) } },
+        };
+        if datoms.len() == N {
+            let tree = Some(match tree { None => Arc::new(Bin2::built(datoms)), Some(t) => Bin2::with_datoms(t, 0, &below, &datoms) });
+            return Newest { tree, newest: Arc::new(New { datoms: vec![d], below: vec![place] }) };
+        }
+        let i = Self::first_at(&below, place);
+        datoms.insert(i, d);
+        below.insert(i, place - i);
+        Newest { tree, newest: Arc::new(New { datoms, below }) }
+    }
+}
+impl<const N: usize, const L: usize> Index for Newest<N, L> {
+    fn empty() -> Self { Newest { tree: None, newest: Arc::new(New { datoms: Vec::new(), below: Vec::new() }) } }
+    fn put(&mut self, d: &Datom, cmp: Compare) {
+        let old = std::mem::replace(self, Self::empty());
+        let place = old.place(d, cmp);
+        *self = old.insert(place, d.clone());
+    }
+    fn len(&self) -> usize { self.tree.as_ref().map_or(0, |t| t.count()) + self.newest.datoms.len() }
+    fn at(&self, place: usize) -> &Datom {
+        let i = Self::first_at(&self.newest.below, place);
+        if i < self.newest.datoms.len() && self.newest.below[i] + i == place { &self.newest.datoms[i] } else { self.tree.as_ref().unwrap().datom(place - i) }
+    }
+}
+
 fn entry(i: usize, random: bool) -> [Datom; 3] {
     let j = if random { (i as u64).wrapping_mul(0x9E3779B97F4A7C15) >> 40 } else { i as u64 };
     let (tx, e, t) = (13194139533314 + i as u64, 17592186044419 + j, i as u32 + 2);
@@ -631,5 +755,9 @@ fn main() {
     row("binary2 12", run::<Binary2<12>>);
     row("binary2 16", run::<Binary2<16>>);
     row("binary2 24", run::<Binary2<24>>);
+    row("newest 15, 16", run::<Newest<15, 16>>);
+    row("newest 31, 16", run::<Newest<31, 16>>);
+    row("newest 63, 15", run::<Newest<63, 15>>);
+    row("newest 63, 31", run::<Newest<63, 31>>);
     }
 }

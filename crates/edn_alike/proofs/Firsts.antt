@@ -1,5 +1,5 @@
 -- The first forms of some, none of which is alike to one before it, and one more.
-use Rattle.std.proofs.Common.{◌≡◌, ℕ, ◌+◌, ◌<◌, ◌≤◌, Bool, true, false, ◌&&◌, not, List, [], ◌∷◌, ◌++◌, length, map, take, get_or, All, Some, None, refl, ap, sym, subst, ◌∙◌, append_assoc, take_all}
+use Rattle.std.proofs.Common.{◌≡◌, ℕ, ◌+◌, ◌<◌, ◌≤◌, Bool, true, false, not, List, [], ◌∷◌, ◌++◌, length, map, take, get_or, All, Some, None, refl, ap, sym, subst, ◌∙◌, append_assoc, take_all}
 use Rattle.std.proofs.lemmas.List.{take_more, get_or-map, length-map}
 use Rattle.edn_model.specs.Form as form
 use Rattle.edn_model.specs.Likeness.{alike, any, distinct, distinct_from}

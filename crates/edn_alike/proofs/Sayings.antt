@@ -1,5 +1,5 @@
 -- What a set of codes says of the forms that were said.
-use Rattle.std.proofs.Common.{◌≡◌, Bool, true, false, cond, ◌||◌, List, [], ◌∷◌, ◌++◌, Vec, Global, is_eq, refl, ap, sym, ◌∙◌}
+use Rattle.std.proofs.Common.{◌≡◌, Bool, true, false, cond, ◌||◌, List, [], ◌∷◌, ◌++◌, is_eq, refl, ap, sym, ◌∙◌}
 use Rattle.std.proofs.lemmas.Cmp.{lists_total, eq_by_cmp_equiv}
 use Rattle.std.proofs.lemmas.List.Folds.{list_any-append}
 use Rattle.std.specs.Cmp.Lexicographic.{slice_cmp}
@@ -9,12 +9,13 @@ use Rattle.edn_model.specs.Form as form
 use Rattle.edn_model.specs.Likeness.{alike, any}
 use Rattle.edn_alike.specs.Code.{IsCode}
 use Rattle.edn_alike.specs.Inside.{IsDistinctInside}
-use Rattle.edn_alike.specs.Order.{token_cmp}
 use Rattle.edn_alike.specs.Said.{AreSaid}
+use Rattle.edn_alike.specs.declared.coded.Coded.{Coded}
 use Rattle.edn_alike.specs.declared.token.Token.{Token}
 use Rattle.edn_alike.proofs.Codes.{codes_with_last, any_same, same_code}
 use Rattle.edn_alike.proofs.Likeness.{any_from, alike_from}
-use Rattle.edn_alike.proofs.Tokens.{token_total, code_exact}
+use Rattle.edn_alike.specs.Order.{token_cmp, token_total, tokens_of}
+use Rattle.edn_alike.proofs.Tokens.{code_exact}
 
 same_answers : (a b : Bool) → (a ≡ true → b ≡ true) → (b ≡ true → a ≡ true) → a ≡ b
 same_answers true b p q = sym (p refl)
@@ -37,25 +38,25 @@ has_one_more q code xs b e =
     ∙ or_back (is_one q code) (list_any (is_one q) xs) ∙ sym (list_any-append (is_one q) xs (code ∷ []))
 
 -- whether a set's keys have one that compares equal
-abbrev pub held : Vec Token Global → List (Vec Token Global) → Bool
-held q keys = list_any (λ k. is_eq (slice_cmp token_cmp q.items k.items)) keys
+abbrev pub held : Coded → List Coded → Bool
+held q keys = list_any (λ k. is_eq (slice_cmp token_cmp (tokens_of q) (tokens_of k))) keys
 
 pub said_none : AreSaid form.no_forms []
 said_none = record { codes = []; are = tt; same = λ q. refl }
 
-pub held_is_alike : (fs : form.Forms) (f : form.Form) (a : Vec Token Global) (keys : List (Vec Token Global)) → AreSaid fs keys → IsCode token_cmp f a.items → IsDistinctInside f
+pub held_is_alike : (fs : form.Forms) (f : form.Form) (a : Coded) (keys : List Coded) → AreSaid fs keys → IsCode token_cmp f (tokens_of a) → IsDistinctInside f
     → held a keys ≡ any (alike f) fs
 held_is_alike fs f a keys s c d =
     s.same a
     ∙ same_answers _ (any (alike f) fs)
-    (λ h. any_from token_cmp token_total code_exact (alike f) a.items (λ g k. alike_from token_cmp token_total code_exact f g a.items c k) fs s.codes s.are h)
-    (λ h. any_same token_cmp token_total code_exact (alike f) a.items (λ g t r k. same_code token_cmp token_total code_exact f g a.items t d r c k) fs s.codes s.are h)
+    (λ h. any_from token_cmp token_total code_exact (alike f) (tokens_of a) (λ g k. alike_from token_cmp token_total code_exact f g (tokens_of a) c k) fs s.codes s.are h)
+    (λ h. any_same token_cmp token_total code_exact (alike f) (tokens_of a) (λ g t r k. same_code token_cmp token_total code_exact f g (tokens_of a) t d r c k) fs s.codes s.are h)
 
-pub said_more : (fs : form.Forms) (f : form.Form) (a : Vec Token Global) (old new : List (Vec Token Global)) → AreSaid fs old → IsCode token_cmp f a.items
-    → ((q : Vec Token Global) → held q new ≡ cond (is_eq (slice_cmp token_cmp a.items q.items)) true (held q old)) → AreSaid (form.with_last fs f) new
+pub said_more : (fs : form.Forms) (f : form.Form) (a : Coded) (old new : List Coded) → AreSaid fs old → IsCode token_cmp f (tokens_of a)
+    → ((q : Coded) → held q new ≡ cond (is_eq (slice_cmp token_cmp (tokens_of a) (tokens_of q))) true (held q old)) → AreSaid (form.with_last fs f) new
 said_more fs f a old new s c up =
     record {
-      codes = s.codes ++ a.items ∷ [];
-      are = codes_with_last token_cmp token_total code_exact fs f s.codes a.items s.are c;
-      same = λ q. up q ∙ has_one_more q.items a.items s.codes (held q old) (s.same q);
+      codes = s.codes ++ (tokens_of a) ∷ [];
+      are = codes_with_last token_cmp token_total code_exact fs f s.codes (tokens_of a) s.are c;
+      same = λ q. up q ∙ has_one_more (tokens_of q) (tokens_of a) s.codes (held q old) (s.same q);
     }

@@ -1,18 +1,12 @@
 -- The order of tokens is total, and equal tokens are one token.
 use Rattle.std.proofs.Common.{◌≡◌, Bool, true, false, [], ◌∷◌, Ordering, Less, Equal, Greater, is_eq, refl, ap, sym, ◌∙◌, true≢false}
 use Rattle.std.proofs.lemmas.Map.Lookups.{CmpEqualImpliesEq, exact_unsigned, exact_signed, exact_bytes}
-use Rattle.std.specs.Cmp.{IsTotalOrder}
 use Rattle.std.specs.Cmp.Lexicographic.{slice_cmp}
 use Rattle.std.specs.Ordering.{ordering_then, bool_cmp}
 use Rattle.edn_alike.specs.Code.{spelled}
 use Rattle.edn_alike.specs.Order.{token_cmp}
-use Rattle.edn_alike.specs.contracts.token.TokenOrd.TheImpl.Laws as laws
 use Rattle.edn_alike.specs.declared.token.Token.{Token}
 use Rattle.edn_alike.specs.declared.token.Token.TheVariants.{Nil, Bool as Bool', Int, Str, Sym, Key, Inst, Uuid, Sequence, Map, Set}
-
-pub token_total : IsTotalOrder token_cmp
-unfolding token_cmp
-token_total = laws.total-law
 
 first_equal : (r s : Ordering) → ordering_then r s ≡ Equal → r ≡ Equal
 first_equal Less s h = h

@@ -1,21 +1,21 @@
 -- Which forms were said so far, where a set holds their codes.
 -- This project's own choice.
-use Rattle.std.specs.Prelude.{◌≡◌, Vec, List}
+use Rattle.std.specs.Prelude.{◌≡◌, List}
 use Rattle.std.specs.Cmp.Lexicographic.{slice_cmp}
 use Rattle.std.specs.List.{list_any}
 use Rattle.std.specs.Ordering.{eq_by_cmp, is_eq}
-use Rattle.std.specs.Global.{Global}
 use Rattle.edn_model.specs.Form as form
 use Rattle.edn_alike.specs.Code.{AreCodes}
-use Rattle.edn_alike.specs.Order.{token_cmp}
+use Rattle.edn_alike.specs.Order.{token_cmp, tokens_of}
+use Rattle.edn_alike.specs.declared.coded.Coded.{Coded}
 use Rattle.edn_alike.specs.declared.said.Said.{Said}
 use Rattle.edn_alike.specs.declared.token.Token.{Token}
 
 -- the keys are the codes of the forms
-pub record AreSaid (fs : form.Forms) (keys : List (Vec Token Global)) : Type 0 where
+pub record AreSaid (fs : form.Forms) (keys : List Coded) : Type 0 where
   pub codes : List (List Token)
   pub are : AreCodes token_cmp fs codes
-  pub same : (q : Vec Token Global) → list_any (λ k. is_eq (slice_cmp token_cmp q.items k.items)) keys ≡ list_any (eq_by_cmp (slice_cmp token_cmp) q.items) codes
+  pub same : (q : Coded) → list_any (λ k. is_eq (slice_cmp token_cmp (tokens_of q) (tokens_of k))) keys ≡ list_any (eq_by_cmp (slice_cmp token_cmp) (tokens_of q)) codes
 
 abbrev pub HasSaid : form.Forms → Said → Type 0
 HasSaid fs said = AreSaid fs said.codes.keys

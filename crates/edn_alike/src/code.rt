@@ -1,6 +1,6 @@
 //! The code of a form: its tokens laid out flat, the parts of a set and of a map in order. It is made of a whole form, or
 //! of the codes of its parts, so that what closes inside another is sorted once.
-ghost use Rattle.std.specs.Prelude.{◌≡◌, [], ◌∷◌, length, map, vec_items, IfOk, IsPermutation};
+ghost use Rattle.std.specs.Prelude.{◌≡◌, [], ◌∷◌, length, map, vec_items, IfOk, IfSome, IsPermutation};
 ghost use Rattle.edn_model.specs.Form as model;
 ghost use Rattle.edn_form.specs.View.{form_of, forms_of, pairs_of};
 ghost use Rattle.edn_alike.specs.Code.{IsCode, AreCodes, ArePairCodes, IsPairCode, joined, InOrder, IsRising};
@@ -32,6 +32,23 @@ pub fn code(alloc: Global, form: &Edn) -> Result<Vec<Token>, Memory>
         Edn::Inst(millis) => single(alloc, Token::Inst(*millis)),
         Edn::Uuid(uuid) => single(alloc, Token::Uuid(*uuid)),
     }
+}
+
+/// The one token that is the code of a form which holds no other.
+pub(crate) fn only_token(form: &Edn) -> Result<Option<Token>, Memory>
+    ensures { IfOk result (λ found. IfSome found (λ token. IsCode token_cmp (form_of form.now) (token ∷ []))) }
+{
+    Ok(match form {
+        Edn::Nil => Some(Token::Nil),
+        Edn::Bool(b) => Some(Token::Bool(*b)),
+        Edn::Int(n) => Some(Token::Int(*n)),
+        Edn::Str(text) => Some(Token::Str(spell(text)?)),
+        Edn::Sym(text) => Some(Token::Sym(spell(text)?)),
+        Edn::Key(text) => Some(Token::Key(spell(text)?)),
+        Edn::Inst(millis) => Some(Token::Inst(*millis)),
+        Edn::Uuid(uuid) => Some(Token::Uuid(*uuid)),
+        _ => None,
+    })
 }
 
 /// The codes of forms, in the order of these.

@@ -2,6 +2,7 @@
 #![tactic(auto)]
 
 pub mod code;
+mod coded;
 pub mod laws;
 mod said;
 mod search;

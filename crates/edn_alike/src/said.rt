@@ -1,12 +1,16 @@
 //! What was said so far: the members of a set that is open, or the keys of a map.
-ghost use Rattle.std.specs.Prelude.{◌≡◌, not, IfOk, IsTrue};
+ghost use Rattle.std.specs.Prelude.{◌≡◌, not, [], ◌∷◌, IfOk, IsTrue};
+ghost use Rattle.edn_form.specs.View.{form_of};
 ghost use Rattle.edn_model.specs.Form as model;
 ghost use Rattle.edn_model.specs.Likeness.{alike, any};
 ghost use Rattle.edn_alike.specs.Code.{IsCode};
 ghost use Rattle.edn_alike.specs.Inside.{IsDistinctInside};
 ghost use Rattle.edn_alike.specs.Order.{token_cmp};
 
+use crate::code::{code, only_token};
+use crate::coded::Coded;
 use crate::token::Token;
+use edn_form::Edn;
 use fb_memory::Memory;
 use std::alloc::Global;
 use std::collections::BTreeSet;
@@ -14,7 +18,7 @@ use std::collections::BTreeSet;
 /// The codes of the forms that were said. One more costs a logarithm of comparisons.
 #[derive(Drop)]
 pub struct Said {
-    codes: BTreeSet<Vec<Token>>,
+    codes: BTreeSet<Coded>,
 }
 
 impl Said {
@@ -35,7 +39,31 @@ impl Said {
         ensures said { (fs : model.Forms) (f : model.Form) → HasSaid fs self.old → IsCode token_cmp f code.items
             → IfOk result (λ fresh. HasSaid (model.with_last fs f) self.new) }
     {
-        let fresh = self.codes.insert(code)?;
+        let fresh = self.codes.insert(Coded::Many(code))?;
         Ok(fresh)
+    }
+
+    /// The same of a code of one token, which needs no list.
+    fn say_token(&mut self, token: Token) -> Result<bool, Memory>
+        ensures fresh { (fs : model.Forms) (f : model.Form) → HasSaid fs self.old → IsCode token_cmp f (token ∷ [])
+            → IsDistinctInside f → IfOk result (λ fresh. fresh ≡ not (any (alike f) fs)) }
+        ensures said { (fs : model.Forms) (f : model.Form) → HasSaid fs self.old → IsCode token_cmp f (token ∷ [])
+            → IfOk result (λ fresh. HasSaid (model.with_last fs f) self.new) }
+    {
+        let fresh = self.codes.insert(Coded::One(token))?;
+        Ok(fresh)
+    }
+
+    /// Says one more form, and answers whether none alike to it was said before. After an error it may not count as said.
+    pub fn say_form(&mut self, alloc: Global, form: &Edn) -> Result<bool, Memory>
+        ensures fresh { (fs : model.Forms) → HasSaid fs self.old → IsDistinctInside (form_of form.now)
+            → IfOk result (λ fresh. fresh ≡ not (any (alike (form_of form.now)) fs)) }
+        ensures said { (fs : model.Forms) → HasSaid fs self.old
+            → IfOk result (λ fresh. HasSaid (model.with_last fs (form_of form.now)) self.new) }
+    {
+        match only_token(form)? {
+            Some(token) => self.say_token(token),
+            None => self.say(code(alloc, form)?),
+        }
     }
 }

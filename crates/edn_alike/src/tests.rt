@@ -57,6 +57,9 @@ fn what_was_said_is_known(rt: HostRuntime) -> Result<(), Fail> {
     assert!(rt; said.say(code(alloc, &Edn::Int(1))?)?);
     assert!(rt; said.say(code(alloc, &Edn::Inst(1))?)?);
     assert!(rt; !said.say(code(alloc, &Edn::Int(1))?)?);
+    assert!(rt; said.say_form(alloc, &Edn::Nil)?);
+    assert!(rt; !said.say_form(alloc, &Edn::Inst(1))?);
+    assert!(rt; !said.say(code(alloc, &Edn::Nil)?)?);
     Ok(())
 }
 

@@ -1,6 +1,6 @@
 -- A whole form falls to a construct, and a construct closes.
 use Rattle.std.proofs.Common.{◌≡◌, ℕ, ◌≤◌, Bool, true, false, IsTrue, List, [], ◌∷◌, ◌++◌, length, drop, Vec, Global, refl, ap, ◌∙◌, sym, subst, arith, eq-eqb}
-use Rattle.std.specs.Prelude.{not, Result, Ok, Err, IfOk, OnErr}
+use Rattle.std.specs.Prelude.{not, Some, None, Result, Ok, Err, IfOk, OnErr}
 use Rattle.edn_model.specs.Form as model
 use Rattle.edn_model.specs.Likeness.{alike, any, distinct, keys}
 use Rattle.edn_model.specs.Faults as faults
@@ -17,14 +17,14 @@ use Rattle.edn_form.proofs.Views.{form_of-Map}
 use Rattle.edn_alike.specs.Inside.{IsDistinctInside, AreDistinctInside, ArePairsDistinctInside}
 use Rattle.edn_alike.specs.Said.{HasSaid}
 use Rattle.edn_alike.specs.declared.said.Said.{Said}
-use Rattle.edn_core.specs.Frames.{open_of, inside, frames_of, KeptOpen, KeptFrame, Kept, LandsAs, EndsWith, ClosesAs, LeadsOn, LeadsTo, LeadsAstray, Leads, Whole}
-use Rattle.edn_core.specs.declared.construct.Construct.TheVariants.{List as List', Vector, Map, Key, Set}
+use Rattle.edn_core.specs.Frames.{open_of, inside, frames_of, KeptOpen, KeptFrame, Kept, Becomes, IsAgain, LandsAs, IsRead, EndsWith, ClosesAs, LeadsOn, LeadsTo, LeadsAstray, Leads, Whole}
+use Rattle.edn_core.specs.declared.construct.Construct.TheVariants.{List as List', Vector, Map, Set}
+use Rattle.edn_core.specs.declared.construct.Construct.{Construct}
 use Rattle.edn_core.specs.declared.construct.Frame.{Frame}
-use Rattle.edn_core.specs.declared.construct.Landed.TheVariants.{Goes, Again}
 use Rattle.edn_core.specs.declared.fault.EdnFault.{EdnFault}
-use Rattle.edn_core.specs.declared.fault.EdnFault.TheVariants.{Memory}
+use Rattle.edn_core.specs.declared.fault.EdnFault.TheVariants.{Bad, Unsupported, Deep, Cut, Memory}
 use Rattle.edn_core.specs.declared.progress.Progress.{Progress}
-use Rattle.edn_core.specs.declared.progress.Progress.TheVariants.{Further}
+use Rattle.edn_core.specs.declared.progress.Progress.TheVariants.{Further, Read, End}
 use Rattle.edn_core.proofs.Stacks.{none_there, frames-last, kept_last, kept-split}
 
 -- ---- one more at the end
@@ -54,18 +54,18 @@ pairs_inside-last (model.pair l w ps) k v h a b = (h.0, h.1, pairs_inside-last p
 
 -- ---- what lands
 
-pub list_lands : (v w : Vec Edn Global) (x : Edn) → w.items ≡ v.items ++ x ∷ [] → AreDistinctInside (members v.items) → IsDistinctInside (form_of x) → LandsAs (List' v) (form_of x) (Goes (List' w))
+pub list_lands : (v w : Vec Edn Global) (x : Edn) → w.items ≡ v.items ++ x ∷ [] → AreDistinctInside (members v.items) → IsDistinctInside (form_of x) → Becomes (List' v) (form_of x) (List' w)
 list_lands v w x is h k =
     let same = ap members is ∙ members-last v.items x in
     (subst AreDistinctInside (sym same) (inside-last (members v.items) (form_of x) h k), λ outer opened at rest. ap (λ fs. going (frame (faults.in_list fs) opened outer) rest) (sym same))
 
-pub vector_lands : (v w : Vec Edn Global) (x : Edn) → w.items ≡ v.items ++ x ∷ [] → AreDistinctInside (members v.items) → IsDistinctInside (form_of x) → LandsAs (Vector v) (form_of x) (Goes (Vector w))
+pub vector_lands : (v w : Vec Edn Global) (x : Edn) → w.items ≡ v.items ++ x ∷ [] → AreDistinctInside (members v.items) → IsDistinctInside (form_of x) → Becomes (Vector v) (form_of x) (Vector w)
 vector_lands v w x is h k =
     let same = ap members is ∙ members-last v.items x in
     (subst AreDistinctInside (sym same) (inside-last (members v.items) (form_of x) h k), λ outer opened at rest. ap (λ fs. going (frame (faults.in_vector fs) opened outer) rest) (sym same))
 
-pub value_lands : (v w : Vec (Edn × Edn) Global) (said : Said) (k x : Edn) → w.items ≡ v.items ++ (k, x) ∷ [] → KeptOpen (Key v k said) → IsDistinctInside (form_of x)
-    → LandsAs (Key v k said) (form_of x) (Goes (Map w said))
+pub value_lands : (v w : Vec (Edn × Edn) Global) (said : Said) (k x : Edn) → w.items ≡ v.items ++ (k, x) ∷ [] → KeptOpen (Map v (Some k) said) → IsDistinctInside (form_of x)
+    → Becomes (Map v (Some k) said) (form_of x) (Map w None said)
 value_lands v w said k x is h inside =
     let same = ap entries is ∙ entries-last v.items k x in
     let names = ap keys same ∙ keys-last (entries v.items) (form_of k) (form_of x) in (
@@ -88,9 +88,9 @@ false_not false h = absurd (let wrong = h in cc)
 said_before : (b again : Bool) → b ≡ not again → b ≡ false → again ≡ true
 said_before b again is h = false_not again (sym is ∙ h)
 
-pub key_lands : (v : Vec (Edn × Edn) Global) (said after : Said) (x : Edn) (fresh : Bool) → KeptOpen (Map v said) → IsDistinctInside (form_of x)
+pub key_lands : (v : Vec (Edn × Edn) Global) (said after : Said) (x : Edn) (fresh : Bool) → KeptOpen (Map v None said) → IsDistinctInside (form_of x)
     → fresh ≡ not (any (alike (form_of x)) (keys (entries v.items))) → fresh ≡ true → HasSaid (model.with_last (keys (entries v.items)) (form_of x)) after
-    → LandsAs (Map v said) (form_of x) (Goes (Key v x after))
+    → Becomes (Map v None said) (form_of x) (Map v (Some x) after)
 key_lands v said after x fresh h inside is first_time has =
     let names = keys (entries v.items) in
     let new = unsaid fresh (any (alike (form_of x)) names) is first_time in (
@@ -99,7 +99,7 @@ key_lands v said after x fresh h inside is first_time has =
     )
 
 pub key_again : (v : Vec (Edn × Edn) Global) (said : Said) (x : Edn) (fresh : Bool)
-    → fresh ≡ not (any (alike (form_of x)) (keys (entries v.items))) → fresh ≡ false → LandsAs (Map v said) (form_of x) Again
+    → fresh ≡ not (any (alike (form_of x)) (keys (entries v.items))) → fresh ≡ false → IsAgain (Map v None said) (form_of x)
 key_again v said x fresh is h outer opened at rest =
     let names = keys (entries v.items) in
     by_unlikeness (any (alike (form_of x)) names) (ended (fault faults.bad at)) (going (frame (faults.behind_key (entries v.items) (form_of x)) opened outer) rest)
@@ -107,7 +107,7 @@ key_again v said x fresh is h outer opened at rest =
 
 pub member_lands : (v w : Vec Edn Global) (said after : Said) (x : Edn) (fresh : Bool) → w.items ≡ v.items ++ x ∷ [] → KeptOpen (Set v said) → IsDistinctInside (form_of x)
     → fresh ≡ not (any (alike (form_of x)) (members v.items)) → fresh ≡ true → HasSaid (model.with_last (members v.items) (form_of x)) after
-    → LandsAs (Set v said) (form_of x) (Goes (Set w after))
+    → Becomes (Set v said) (form_of x) (Set w after)
 member_lands v w said after x fresh is h inside test first_time has =
     let fs = members v.items in
     let same = ap members is ∙ members-last v.items x in
@@ -123,7 +123,7 @@ member_lands v w said after x fresh is h inside test first_time has =
     )
 
 pub member_again : (v : Vec Edn Global) (said : Said) (x : Edn) (fresh : Bool)
-    → fresh ≡ not (any (alike (form_of x)) (members v.items)) → fresh ≡ false → LandsAs (Set v said) (form_of x) Again
+    → fresh ≡ not (any (alike (form_of x)) (members v.items)) → fresh ≡ false → IsAgain (Set v said) (form_of x)
 member_again v said x fresh is h outer opened at rest =
     let fs = members v.items in
     by_unlikeness (any (alike (form_of x)) fs) (ended (fault faults.bad at)) (going (frame (faults.in_set (model.with_last fs (form_of x))) opened outer) rest)
@@ -131,8 +131,8 @@ member_again v said x fresh is h outer opened at rest =
 
 -- ---- what closes
 
-pub map_closes : (v : Vec (Edn × Edn) Global) (said : Said) (p : Pairs) (b : ℕ) → view.entries p ≡ v.items → b ≡ 125 → KeptOpen (Map v said)
-    → ClosesAs (Map v said) b (form_of (AMap p)) × IsDistinctInside (form_of (AMap p))
+pub map_closes : (v : Vec (Edn × Edn) Global) (said : Said) (p : Pairs) (b : ℕ) → view.entries p ≡ v.items → b ≡ 125 → KeptOpen (Map v None said)
+    → ClosesAs (Map v None said) b (form_of (AMap p)) × IsDistinctInside (form_of (AMap p))
 map_closes v said p b same is h =
     let seen : form_of (AMap p) ≡ model.map (entries v.items) = form_of-Map p ∙ ap (λ z. model.map (entries z)) same in
     ((λ outer. eq-eqb b 125 is, seen), subst IsDistinctInside (sym seen) (h.2, h.1))
@@ -142,14 +142,27 @@ map_closes v said p b same is h =
 reaches_same : {s t : State} → s ≡ t → Reaches s t
 reaches_same {s = s} e = subst (Reaches s) e stay
 
-pub read_there : (bytes : List ℕ) (start here at n : ℕ) (old new : List Frame) (f : Edn) → length old ≡ 0 → Whole bytes start here at n old (form_of f)
+read_alone : (bytes : List ℕ) (start here at n : ℕ) (old : List Frame) (f : Edn) → length old ≡ 0 → Whole bytes start here at n old (form_of f)
     → LeadsTo bytes here (steps.land (frames_of bytes old) (form_of f) (drop at bytes) (drop n bytes)) (form_of f) n
-read_there bytes start here at n old new f none h =
+read_alone bytes start here at n old f none h =
     record {
       ahead = h.ahead;
       within = h.within;
       runs = reaches_same (ap (λ xs. steps.land (frames_of bytes xs) (form_of f) (drop at bytes) (drop n bytes)) (none_there old none));
     }
+
+pub read_there : (bytes : List ℕ) (start here at n : ℕ) (old new : List Frame) (f : Edn) (r : Result Progress EdnFault) → length old ≡ 0 → Whole bytes start here at n old (form_of f)
+    → IsRead f n r → Leads bytes start here (steps.land (frames_of bytes old) (form_of f) (drop at bytes) (drop n bytes)) r new
+read_there bytes start here at n old new f (Ok (Read boxed m)) none h is =
+    let begun = steps.land (frames_of bytes old) (form_of f) (drop at bytes) (drop n bytes) in
+    subst (λ k. LeadsTo bytes here begun (form_of boxed.value) k) (sym is.1) (subst (λ e. LeadsTo bytes here begun (form_of e) n) (sym is.0) (read_alone bytes start here at n old f none h))
+read_there bytes start here at n old new f (Ok (Further m)) none h is = absurd is
+read_there bytes start here at n old new f (Ok End) none h is = absurd is
+read_there bytes start here at n old new f (Err (Bad byte)) none h is = absurd is
+read_there bytes start here at n old new f (Err (Unsupported byte what)) none h is = absurd is
+read_there bytes start here at n old new f (Err (Deep byte)) none h is = absurd is
+read_there bytes start here at n old new f (Err (Cut byte)) none h is = absurd is
+read_there bytes start here at n old new f (Err Memory) none h is = tt
 
 -- the state from which a form lands in the innermost
 landing : (bytes : List ℕ) (at n : ℕ) (old outer : List Frame) (i : Frame) (f : model.Form) → old ≡ outer ++ i ∷ []
@@ -163,7 +176,7 @@ pub kept_inner : (bytes : List ℕ) (start : ℕ) (old outer : List Frame) (i : 
 kept_inner bytes start old outer i is h = (kept-split outer i (subst (Kept start (length bytes)) is h)).innermost
 
 pub goes_there : (bytes : List ℕ) (start here at n : ℕ) (old outer new : List Frame) (i j : Frame) (f : model.Form) → old ≡ outer ++ i ∷ [] → new ≡ outer ++ j ∷ [] → j.at ≡ i.at
-    → Whole bytes start here at n old f → LandsAs i.construct f (Goes j.construct)
+    → Whole bytes start here at n old f → Becomes i.construct f j.construct
     → LeadsOn bytes start here (steps.land (frames_of bytes old) f (drop at bytes) (drop n bytes)) n new
 goes_there bytes start here at n old outer new i j f is now same h lands =
     let inner = kept_inner bytes start old outer i is h.kept in
@@ -181,7 +194,7 @@ goes_there bytes start here at n old outer new i j f is now same h lands =
           ∙ ap (λ z. going z (drop n bytes)) (opened ∙ sym frames)));
     }
 
-pub over_there : (bytes : List ℕ) (start here at n : ℕ) (old outer : List Frame) (i : Frame) (f : model.Form) → old ≡ outer ++ i ∷ []
+over_there : (bytes : List ℕ) (start here at n : ℕ) (old outer : List Frame) (i : Frame) (f : model.Form) → old ≡ outer ++ i ∷ []
     → Whole bytes start here at n old f → EndsWith i.construct f
     → LeadsOn bytes start here (steps.land (frames_of bytes old) f (drop at bytes) (drop n bytes)) n outer
 over_there bytes start here at n old outer i f is h lands =
@@ -192,8 +205,16 @@ over_there bytes start here at n old outer i f is h lands =
       runs = reaches_same (landing bytes at n old outer i f is ∙ lands (frames_of bytes outer) (drop i.at bytes) (drop at bytes) (drop n bytes));
     }
 
-pub again_there : (bytes : List ℕ) (start here at n : ℕ) (old outer : List Frame) (i : Frame) (f : model.Form) → old ≡ outer ++ i ∷ []
-    → Whole bytes start here at n old f → LandsAs i.construct f Again
+-- the same, by what is left open
+pub over_leads : (bytes : List ℕ) (start here at n : ℕ) (old outer new : List Frame) (i : Frame) (f : model.Form) (r : Result Progress EdnFault) → old ≡ outer ++ i ∷ []
+    → r ≡ Ok (Further n) → new ≡ outer → Whole bytes start here at n old f → EndsWith i.construct f
+    → Leads bytes start here (steps.land (frames_of bytes old) f (drop at bytes) (drop n bytes)) r new
+over_leads bytes start here at n old outer new i f r is on now h lands =
+    let begun = steps.land (frames_of bytes old) f (drop at bytes) (drop n bytes) in
+    subst (λ z. Leads bytes start here begun z new) (sym on) (subst (λ (xs : List Frame). LeadsOn bytes start here begun n xs) (sym now) (over_there bytes start here at n old outer i f is h lands))
+
+again_there : (bytes : List ℕ) (start here at n : ℕ) (old outer : List Frame) (i : Frame) (f : model.Form) → old ≡ outer ++ i ∷ []
+    → Whole bytes start here at n old f → IsAgain i.construct f
     → LeadsAstray bytes start (steps.land (frames_of bytes old) f (drop at bytes) (drop n bytes)) faults.bad at
 again_there bytes start here at n old outer i f is h lands =
     record {
@@ -202,13 +223,25 @@ again_there bytes start here at n old outer i f is h lands =
       runs = reaches_same (landing bytes at n old outer i f is ∙ lands (frames_of bytes outer) (drop i.at bytes) (drop at bytes) (drop n bytes));
     }
 
--- where the innermost grows in its place, or memory is wanting
-pub grows_there : (bytes : List ℕ) (start here at n : ℕ) (old outer new : List Frame) (i j : Frame) (f : model.Form) (r : Result Progress EdnFault) (Grew : Type 0)
-    → old ≡ outer ++ i ∷ [] → new ≡ outer ++ j ∷ [] → j.at ≡ i.at → Whole bytes start here at n old f
-    → IfOk r (λ p. (p ≡ Further n) × Grew) → OnErr r (r ≡ Err Memory) → (Grew → LandsAs i.construct f (Goes j.construct))
+-- where the innermost becomes another in its place, or the form is said again
+pub lands_there : (bytes : List ℕ) (start here at n : ℕ) (old outer new : List Frame) (i j : Frame) (f : model.Form) (r : Result Progress EdnFault)
+    → old ≡ outer ++ i ∷ [] → new ≡ outer ++ j ∷ [] → j.at ≡ i.at → Whole bytes start here at n old f → LandsAs i.construct f at n r j.construct
     → Leads bytes start here (steps.land (frames_of bytes old) f (drop at bytes) (drop n bytes)) r new
-grows_there bytes start here at n old outer new i j f (Ok p) Grew is now same h grew err lands =
-    subst (λ q. Leads bytes start here (steps.land (frames_of bytes old) f (drop at bytes) (drop n bytes)) (Ok q) new) (sym grew.0)
-    (goes_there bytes start here at n old outer new i j f is now same h (lands grew.1))
-grows_there bytes start here at n old outer new i j f (Err e) Grew is now same h grew err lands =
-    subst (λ q. Leads bytes start here (steps.land (frames_of bytes old) f (drop at bytes) (drop n bytes)) q new) (sym err) tt
+lands_there bytes start here at n old outer new i j f (Ok (Further m)) is now same h lands =
+    subst (λ k. LeadsOn bytes start here (steps.land (frames_of bytes old) f (drop at bytes) (drop n bytes)) k new) (sym lands.0)
+    (goes_there bytes start here at n old outer new i j f is now same h lands.1)
+lands_there bytes start here at n old outer new i j f (Ok (Read g m)) is now same h lands = absurd lands
+lands_there bytes start here at n old outer new i j f (Ok End) is now same h lands = absurd lands
+lands_there bytes start here at n old outer new i j f (Err (Bad byte)) is now same h lands =
+    subst (λ b. LeadsAstray bytes start (steps.land (frames_of bytes old) f (drop at bytes) (drop n bytes)) faults.bad b) (sym lands.0)
+    (again_there bytes start here at n old outer i f is h lands.1)
+lands_there bytes start here at n old outer new i j f (Err (Unsupported byte what)) is now same h lands = absurd lands
+lands_there bytes start here at n old outer new i j f (Err (Deep byte)) is now same h lands = absurd lands
+lands_there bytes start here at n old outer new i j f (Err (Cut byte)) is now same h lands = absurd lands
+lands_there bytes start here at n old outer new i j f (Err Memory) is now same h lands = tt
+
+-- where it grows, or memory is wanting
+pub grown_lands : (o p : Construct) (f : model.Form) (at n : ℕ) (r : Result Progress EdnFault) (Grew : Type 0)
+    → IfOk r (λ q. (q ≡ Further n) × Grew) → OnErr r (r ≡ Err Memory) → (Grew → Becomes o f p) → LandsAs o f at n r p
+grown_lands o p f at n (Ok q) Grew grew err becomes = subst (λ z. LandsAs o f at n (Ok z) p) (sym grew.0) (refl, becomes grew.1)
+grown_lands o p f at n (Err e) Grew grew err becomes = subst (λ z. LandsAs o f at n z p) (sym err) tt

@@ -2,7 +2,7 @@
 use Rattle.std.proofs.Common.{◌≡◌, ℕ, ◌+◌, ◌<◌, ◌≤◌, Bool, true, false, List, [], ◌∷◌, ◌++◌, length, drop, Vec, Global, refl, ap, ◌∙◌, sym, subst, arith}
 use Rattle.std.proofs.lemmas.List.{length-drop, drop-drop}
 use Rattle.std.proofs.lemmas.Bool.Decides.{nat_tests}
-use Rattle.std.specs.Prelude.{◌==◌, ◌&&◌, ◌||◌, not}
+use Rattle.std.specs.Prelude.{◌==◌, ◌&&◌, ◌||◌, not, None, Result, Ok, Err, IfOk, OnErr}
 use Rattle.edn_model.specs.Form as model
 use Rattle.edn_model.specs.Bytes.{quote, hash, open_paren, semicolon, open_bracket, underscore, open_brace, is_blank, is_opening, is_closing, is_token_byte}
 use Rattle.edn_model.specs.Likeness.{distinct, keys}
@@ -17,13 +17,19 @@ use Rattle.edn_form.specs.declared.form.Edn.{Edn}
 use Rattle.edn_alike.specs.Inside.{IsDistinctInside, AreDistinctInside, ArePairsDistinctInside}
 use Rattle.edn_alike.specs.Said.{HasSaid}
 use Rattle.edn_alike.specs.declared.said.Said.{Said}
-use Rattle.edn_core.specs.Frames.{open_of, inside, frames_of, Kept, ClosesAs, ClosesNothing, LeadsOn, LeadsAstray, Whole, Enters, Opens}
+use Rattle.edn_core.specs.Answers.{MatchFault, fault_of}
+use Rattle.edn_core.specs.Frames.{open_of, inside, frames_of, Kept, ClosesAs, ClosesNothing, LeadsOn, LeadsAstray, Leads, Whole, Enters, Opens, RefusedAt}
 use Rattle.edn_core.specs.Fronts.{BeginsToken}
+use Rattle.edn_core.specs.declared.construct.Construct.{Construct}
 use Rattle.edn_core.specs.declared.construct.Construct.TheVariants.{List as List', Vector, Map, Set, Discard}
 use Rattle.edn_core.specs.declared.construct.Frame.{Frame}
+use Rattle.edn_core.specs.declared.fault.EdnFault.{EdnFault}
+use Rattle.edn_core.specs.declared.fault.EdnFault.TheVariants.{Bad, Unsupported, Deep, Cut, Memory}
+use Rattle.edn_core.specs.declared.progress.Progress.{Progress}
+use Rattle.edn_core.specs.declared.progress.Progress.TheVariants.{Further}
 use Rattle.edn_core.proofs.Landings.{kept_outer, kept_inner}
 use Rattle.edn_core.proofs.Leading.{stuck_at}
-use Rattle.edn_core.proofs.Stacks.{none_there, frames-last, kept_last}
+use Rattle.edn_core.proofs.Stacks.{framed, none_there, frames-last, kept_last}
 
 -- ---- places
 
@@ -105,76 +111,73 @@ discard_opens bytes frames at is =
       deep = λ none. faults.deep_discard none (ap opens_discard is);
     }
 
-pub list_opens : (bytes : List ℕ) (frames : List Frame) (at : ℕ) (v : Vec Edn Global) → v.items ≡ [] → drop at bytes ≡ open_paren ∷ drop 1 (drop at bytes)
-    → Free (frames_of bytes frames) → Opens bytes frames (List' v) at (at + 1)
-list_opens bytes frames at v none is free =
+-- a bracket that opens a collection where there is no room
+pub deep_opening : (frames : Frames) (here rest : List ℕ) (b : ℕ) → here ≡ b ∷ rest → is_opening b ≡ true → Free frames → faults.room (opens_of frames) ≡ 0
+    → faults.Stuck (opens_of frames) here faults.deep here
+deep_opening frames here rest b is opening free full = faults.deep_collection free full (ap opens_collection is ∙ opening_opens b rest opening)
+
+pub deep_set : (frames : Frames) (here rest : List ℕ) → here ≡ hash ∷ open_brace ∷ rest → Free frames → faults.room (opens_of frames) ≡ 0
+    → faults.Stuck (opens_of frames) here faults.deep here
+deep_set frames here rest is free full = faults.deep_collection free full (ap opens_collection is)
+
+pub list_enters : (bytes : List ℕ) (frames : List Frame) (at : ℕ) (v : Vec Edn Global) → v.items ≡ [] → drop at bytes ≡ open_paren ∷ drop 1 (drop at bytes)
+    → Free (frames_of bytes frames) → HasRoom (frames_of bytes frames) → Enters bytes frames (List' v) at (at + 1)
+list_enters bytes frames at v none is free some =
     let F = frames_of bytes frames in
     record {
-      enters = λ some. record {
-        ahead = omega arith;
-        within = one_fits bytes at open_paren (drop 1 (drop at bytes)) is;
-        kept = subst (λ (xs : List Edn). AreDistinctInside (model.forms (forms_of xs))) (sym none) tt;
-        step = subst (λ (xs : List Edn). Step (going F (drop at bytes)) (going (frame (faults.in_list (model.forms (forms_of xs))) (drop at bytes) F) (drop (at + 1) bytes))) (sym none)
-            (steps.list (one_on bytes at open_paren is) free some);
-      };
-      deep = λ full. faults.deep_collection free full (ap opens_collection is ∙ opening_opens open_paren (drop 1 (drop at bytes)) refl);
+      ahead = omega arith;
+      within = one_fits bytes at open_paren (drop 1 (drop at bytes)) is;
+      kept = subst (λ (xs : List Edn). AreDistinctInside (model.forms (forms_of xs))) (sym none) tt;
+      step = subst (λ (xs : List Edn). Step (going F (drop at bytes)) (going (frame (faults.in_list (model.forms (forms_of xs))) (drop at bytes) F) (drop (at + 1) bytes))) (sym none)
+          (steps.list (one_on bytes at open_paren is) free some);
     }
 
-pub vector_opens : (bytes : List ℕ) (frames : List Frame) (at : ℕ) (v : Vec Edn Global) → v.items ≡ [] → drop at bytes ≡ open_bracket ∷ drop 1 (drop at bytes)
-    → Free (frames_of bytes frames) → Opens bytes frames (Vector v) at (at + 1)
-vector_opens bytes frames at v none is free =
+pub vector_enters : (bytes : List ℕ) (frames : List Frame) (at : ℕ) (v : Vec Edn Global) → v.items ≡ [] → drop at bytes ≡ open_bracket ∷ drop 1 (drop at bytes)
+    → Free (frames_of bytes frames) → HasRoom (frames_of bytes frames) → Enters bytes frames (Vector v) at (at + 1)
+vector_enters bytes frames at v none is free some =
     let F = frames_of bytes frames in
     record {
-      enters = λ some. record {
-        ahead = omega arith;
-        within = one_fits bytes at open_bracket (drop 1 (drop at bytes)) is;
-        kept = subst (λ (xs : List Edn). AreDistinctInside (model.forms (forms_of xs))) (sym none) tt;
-        step = subst (λ (xs : List Edn). Step (going F (drop at bytes)) (going (frame (faults.in_vector (model.forms (forms_of xs))) (drop at bytes) F) (drop (at + 1) bytes))) (sym none)
-            (steps.vector (one_on bytes at open_bracket is) free some);
-      };
-      deep = λ full. faults.deep_collection free full (ap opens_collection is ∙ opening_opens open_bracket (drop 1 (drop at bytes)) refl);
+      ahead = omega arith;
+      within = one_fits bytes at open_bracket (drop 1 (drop at bytes)) is;
+      kept = subst (λ (xs : List Edn). AreDistinctInside (model.forms (forms_of xs))) (sym none) tt;
+      step = subst (λ (xs : List Edn). Step (going F (drop at bytes)) (going (frame (faults.in_vector (model.forms (forms_of xs))) (drop at bytes) F) (drop (at + 1) bytes))) (sym none)
+          (steps.vector (one_on bytes at open_bracket is) free some);
     }
 
-pub map_opens : (bytes : List ℕ) (frames : List Frame) (at : ℕ) (v : Vec (Edn × Edn) Global) (said : Said) → v.items ≡ [] → HasSaid model.no_forms said
-    → drop at bytes ≡ open_brace ∷ drop 1 (drop at bytes) → Free (frames_of bytes frames) → Opens bytes frames (Map v said) at (at + 1)
-map_opens bytes frames at v said none has is free =
+pub map_enters : (bytes : List ℕ) (frames : List Frame) (at : ℕ) (v : Vec (Edn × Edn) Global) (said : Said) → v.items ≡ [] → HasSaid model.no_forms said
+    → drop at bytes ≡ open_brace ∷ drop 1 (drop at bytes) → Free (frames_of bytes frames) → HasRoom (frames_of bytes frames) → Enters bytes frames (Map v None said) at (at + 1)
+map_enters bytes frames at v said none has is free some =
     let F = frames_of bytes frames in
     record {
-      enters = λ some. record {
-        ahead = omega arith;
-        within = one_fits bytes at open_brace (drop 1 (drop at bytes)) is;
-        kept = (
-          subst (λ (xs : List (Edn × Edn)). HasSaid (keys (model.pairs (pairs_of xs))) said) (sym none) has,
-          subst (λ (xs : List (Edn × Edn)). distinct (keys (model.pairs (pairs_of xs))) ≡ true) (sym none) refl,
-          subst (λ (xs : List (Edn × Edn)). ArePairsDistinctInside (model.pairs (pairs_of xs))) (sym none) tt,
-        );
-        step = subst (λ (xs : List (Edn × Edn)). Step (going F (drop at bytes)) (going (frame (faults.in_map (model.pairs (pairs_of xs))) (drop at bytes) F) (drop (at + 1) bytes))) (sym none)
-            (steps.map (one_on bytes at open_brace is) free some);
-      };
-      deep = λ full. faults.deep_collection free full (ap opens_collection is ∙ opening_opens open_brace (drop 1 (drop at bytes)) refl);
+      ahead = omega arith;
+      within = one_fits bytes at open_brace (drop 1 (drop at bytes)) is;
+      kept = (
+        subst (λ (xs : List (Edn × Edn)). HasSaid (keys (model.pairs (pairs_of xs))) said) (sym none) has,
+        subst (λ (xs : List (Edn × Edn)). distinct (keys (model.pairs (pairs_of xs))) ≡ true) (sym none) refl,
+        subst (λ (xs : List (Edn × Edn)). ArePairsDistinctInside (model.pairs (pairs_of xs))) (sym none) tt,
+      );
+      step = subst (λ (xs : List (Edn × Edn)). Step (going F (drop at bytes)) (going (frame (faults.in_map (model.pairs (pairs_of xs))) (drop at bytes) F) (drop (at + 1) bytes))) (sym none)
+          (steps.map (one_on bytes at open_brace is) free some);
     }
 
-pub set_opens : (bytes : List ℕ) (frames : List Frame) (at : ℕ) (v : Vec Edn Global) (said : Said) → v.items ≡ [] → HasSaid model.no_forms said
-    → drop at bytes ≡ hash ∷ open_brace ∷ drop 2 (drop at bytes) → Free (frames_of bytes frames) → Opens bytes frames (Set v said) at (at + 2)
-set_opens bytes frames at v said none has is free =
+pub set_enters : (bytes : List ℕ) (frames : List Frame) (at : ℕ) (v : Vec Edn Global) (said : Said) → v.items ≡ [] → HasSaid model.no_forms said
+    → drop at bytes ≡ hash ∷ open_brace ∷ drop 2 (drop at bytes) → Free (frames_of bytes frames) → HasRoom (frames_of bytes frames) → Enters bytes frames (Set v said) at (at + 2)
+set_enters bytes frames at v said none has is free some =
     let F = frames_of bytes frames in
     record {
-      enters = λ some. record {
-        ahead = omega arith;
-        within = two_fit bytes at hash open_brace (drop 2 (drop at bytes)) is;
-        kept = (
-          subst (λ (xs : List Edn). HasSaid (model.forms (forms_of xs)) said) (sym none) has,
-          subst (λ (xs : List Edn). distinct (model.forms (forms_of xs)) ≡ true) (sym none) refl,
-          subst (λ (xs : List Edn). AreDistinctInside (model.forms (forms_of xs))) (sym none) tt,
-        );
-        step = subst (λ (xs : List Edn). Step (going F (drop at bytes)) (going (frame (faults.in_set (model.forms (forms_of xs))) (drop at bytes) F) (drop (at + 2) bytes))) (sym none)
-            (steps.set (two_on bytes at hash open_brace is) free some);
-      };
-      deep = λ full. faults.deep_collection free full (ap opens_collection is);
+      ahead = omega arith;
+      within = two_fit bytes at hash open_brace (drop 2 (drop at bytes)) is;
+      kept = (
+        subst (λ (xs : List Edn). HasSaid (model.forms (forms_of xs)) said) (sym none) has,
+        subst (λ (xs : List Edn). distinct (model.forms (forms_of xs)) ≡ true) (sym none) refl,
+        subst (λ (xs : List Edn). AreDistinctInside (model.forms (forms_of xs))) (sym none) tt,
+      );
+      step = subst (λ (xs : List Edn). Step (going F (drop at bytes)) (going (frame (faults.in_set (model.forms (forms_of xs))) (drop at bytes) F) (drop (at + 2) bytes))) (sym none)
+          (steps.set (two_on bytes at hash open_brace is) free some);
     }
 
 -- where it is entered
-pub entered : (bytes : List ℕ) (start : ℕ) (old new : List Frame) (f : Frame) (n : ℕ) → Enters bytes old f.construct f.at n → new ≡ old ++ f ∷ [] → start ≤ f.at → f.at ≤ length bytes
+entered : (bytes : List ℕ) (start : ℕ) (old new : List Frame) (f : Frame) (n : ℕ) → Enters bytes old f.construct f.at n → new ≡ old ++ f ∷ [] → start ≤ f.at → f.at ≤ length bytes
     → Kept start (length bytes) old → LeadsOn bytes start f.at (going (frames_of bytes old) (drop f.at bytes)) n new
 entered bytes start old new f n h is after within kept =
     record {
@@ -183,6 +186,27 @@ entered bytes start old new f n h is after within kept =
       kept = subst (Kept start (length bytes)) (sym is) (kept_last old f kept (record { after = after; within = within; kept = h.kept }));
       runs = subst (λ z. Reaches (going (frames_of bytes old) (drop f.at bytes)) (going z (drop n bytes))) (sym (ap (frames_of bytes) is ∙ frames-last bytes old f)) (one h.step);
     }
+
+-- the same, or memory is wanting
+pub grown_enters : (bytes : List ℕ) (start at n : ℕ) (old new : List Frame) (o : Construct) (r : Result Progress EdnFault) → Enters bytes old o at n
+    → IfOk r (λ q. (q ≡ Further n) × (new ≡ old ++ framed o at ∷ [])) → OnErr r (r ≡ Err Memory) → start ≤ at → at ≤ length bytes → Kept start (length bytes) old
+    → Leads bytes start at (going (frames_of bytes old) (drop at bytes)) r new
+grown_enters bytes start at n old new o (Ok q) h grew err after within kept =
+    subst (λ z. Leads bytes start at (going (frames_of bytes old) (drop at bytes)) (Ok z) new) (sym grew.0) (entered bytes start old new (framed o at) n h grew.1 after within kept)
+grown_enters bytes start at n old new o (Err e) h grew err after within kept =
+    subst (λ z. Leads bytes start at (going (frames_of bytes old) (drop at bytes)) z new) (sym err) tt
+
+-- where none may open
+pub refused_leads : (bytes : List ℕ) (start at : ℕ) (frames : Frames) (e : EdnFault) → RefusedAt at frames e → begins_no_string (drop at bytes) ≡ true
+    → (Free frames → faults.room (opens_of frames) ≡ 0 → faults.Stuck (opens_of frames) (drop at bytes) faults.deep (drop at bytes)) → start ≤ at → at ≤ length bytes
+    → MatchFault (fault_of e) (LeadsAstray bytes start (going frames (drop at bytes)))
+refused_leads bytes start at frames (Bad byte) h begins full after before =
+    subst (λ b. LeadsAstray bytes start (going frames (drop at bytes)) faults.bad b) (sym h.0) (stuck_at at after before (faults.no_string h.1 begins))
+refused_leads bytes start at frames (Deep byte) h begins full after before =
+    subst (λ b. LeadsAstray bytes start (going frames (drop at bytes)) faults.deep b) (sym h.0) (stuck_at at after before (full h.1 h.2))
+refused_leads bytes start at frames (Unsupported byte what) h begins full after before = absurd h
+refused_leads bytes start at frames (Cut byte) h begins full after before = absurd h
+refused_leads bytes start at frames Memory h begins full after before = absurd h
 
 -- ---- what closes
 

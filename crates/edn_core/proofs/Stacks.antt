@@ -10,6 +10,7 @@ use Rattle.edn_model.specs.Faults as faults
 use Rattle.edn_model.specs.Grammar.{max_depth}
 use Rattle.edn_model.specs.Steps.{Frames, outermost, opens_of, HasRoom}
 use Rattle.edn_core.specs.Frames.{open_of, inside, frames_of, KeptFrame, Kept}
+use Rattle.edn_core.specs.declared.construct.Construct.{Construct}
 use Rattle.edn_core.specs.declared.construct.Frame.{Frame}
 
 pub none_there : {X : Type 0} (xs : List X) → length xs ≡ 0 → xs ≡ []
@@ -30,6 +31,9 @@ pub record KeptBefore (start last : ℕ) (fs : List Frame) (f : Frame) : Type 0 
 pub kept-split : {start last : ℕ} (fs : List Frame) (f : Frame) → Kept start last (fs ++ f ∷ []) → KeptBefore start last fs f
 kept-split [] f h = record { before = tt; innermost = h.0 }
 kept-split (g ∷ gs) f h = let more = kept-split gs f h.1 in record { before = (h.0, more.before); innermost = more.innermost }
+
+abbrev pub framed : Construct → ℕ → Frame
+framed o n = record { construct = o; at = n }
 
 -- ---- the innermost
 

@@ -1,7 +1,7 @@
 -- Tokens, strings, and what stands between forms, by steps.
 use Rattle.std.proofs.Common.{◌≡◌, ◌≢◌, ℕ, ◌+◌, ◌<◌, ◌≤◌, Bool, true, false, ℤ, List, [], ◌∷◌, ◌++◌, length, take, drop, refl, ap, ◌∙◌, sym, subst, arith, codes}
 use Rattle.std.proofs.lemmas.List.{drop-drop, drop_all}
-use Rattle.std.specs.Prelude.{not}
+use Rattle.std.specs.Prelude.{not, Some, None}
 use Rattle.edn_model.specs.Form as model
 use Rattle.edn_model.specs.Bytes.{quote, is_token_byte, ends_token, TokenEnds, NoCharacter}
 use Rattle.edn_model.specs.Instants.{IsInstant}
@@ -12,22 +12,18 @@ use Rattle.edn_model.specs.Faults.{TokenStands, StringFault, IsNoToken, IsUnsupp
 use Rattle.edn_model.specs.Steps as steps
 use Rattle.edn_model.specs.Steps.{Frames, outermost, frame, opens_of, State, going, ended, Step, Reaches, stay, next, Free, land}
 use Rattle.edn_model.proofs.Reached.{joined, one}
-use Rattle.fb_values.specs.declared.texts.Text.{Text}
-use Rattle.edn_form.specs.View.{form_of}
-use Rattle.edn_form.specs.declared.form.Edn.{Str}
-use Rattle.edn_form.proofs.Views.{form_of-Str}
 use Rattle.edn_alike.specs.Inside.{IsDistinctInside}
 use Rattle.edn_token.specs.Fronts.{TokenFront, BrokenRun}
 use Rattle.edn_token.specs.Gaps as gaps
 use Rattle.edn_token.specs.Gaps.{Blanks, BrokenComment}
-use Rattle.edn_core.specs.Frames.{open_of, frames_of, Kept, LeadsTo, LeadsAstray, Whole, Enters}
+use Rattle.edn_core.specs.Frames.{open_of, frames_of, Kept, LeadsAstray, Whole, Enters}
 use Rattle.edn_core.specs.Fronts.{BeginsToken}
 use Rattle.edn_core.specs.declared.construct.Construct.{Construct}
-use Rattle.edn_core.specs.declared.construct.Construct.TheVariants.{List as List', Vector, Map, Key, Set, Discard, Inst, Uuid}
+use Rattle.edn_core.specs.declared.construct.Construct.TheVariants.{List as List', Vector, Map, Set, Discard, Inst, Uuid}
 use Rattle.edn_core.specs.declared.construct.Frame.{Frame}
 use Rattle.edn_core.proofs.Leading.{stuck_at}
 use Rattle.edn_core.proofs.Openings.{steps_out}
-use Rattle.edn_core.proofs.Stacks.{none_there, frames-last, wants-last}
+use Rattle.edn_core.proofs.Stacks.{frames-last, wants-last}
 
 pub whole_is : {bytes : List ℕ} {start at n : ℕ} {frames : List Frame} {f : model.Form} → IsDistinctInside f → at < n → n ≤ length bytes → start ≤ at → at ≤ length bytes
     → Kept start (length bytes) frames → Whole bytes start at at n frames f
@@ -68,8 +64,8 @@ string_leads bytes at n frames s h free = one (steps.string h free)
 pub no_tag : (o : Construct) → o ≢ Inst → o ≢ Uuid → faults.is_tag (open_of o) ≡ false
 no_tag (List' v) h k = refl
 no_tag (Vector v) h k = refl
-no_tag (Map v said) h k = refl
-no_tag (Key v key said) h k = refl
+no_tag (Map v None said) h k = refl
+no_tag (Map v (Some key) said) h k = refl
 no_tag (Set v said) h k = refl
 no_tag Discard h k = refl
 no_tag Inst h k = absurd (h refl)
@@ -186,21 +182,3 @@ pub uuid_enters : (bytes token : List ℕ) (frames : List Frame) (at n : ℕ) �
     → Free (frames_of bytes frames) → Enters bytes frames Uuid at n
 uuid_enters bytes token frames at n ahead within is h ends free =
     record { ahead = ahead; within = within; kept = tt; step = steps.uuid (record { is = h.is ∙ ap (λ z. z ++ drop n bytes) is; ends = ends }) free }
-
--- ---- a string where nothing is open, and in a construct that is put back
-
-abbrev pub framed : Construct → ℕ → Frame
-framed o n = record { construct = o; at = n }
-
-pub put_back : (old outer pushed : List Frame) (i : Frame) (o : Construct) → old ≡ outer ++ i ∷ [] → i.construct ≡ o → pushed ≡ outer ++ framed o i.at ∷ [] → pushed ≡ old
-put_back old outer pushed i o is same now = now ∙ (sym (ap (λ k. outer ++ framed k i.at ∷ []) same) ∙ sym is)
-
-pub string_alone : (bytes : List ℕ) (at n : ℕ) (old : List Frame) (s : Text) → length old ≡ 0 → at < n → n ≤ length bytes → StringStands s (drop at bytes) (drop n bytes)
-    → LeadsTo bytes at (going (frames_of bytes old) (drop at bytes)) (form_of (Str s)) n
-string_alone bytes at n old s none ahead within h =
-    record {
-      ahead = ahead;
-      within = within;
-      runs = subst (λ f. Reaches (going (frames_of bytes old) (drop at bytes)) (ended (steps.read f (drop n bytes)))) (sym (form_of-Str s))
-          (subst (λ (xs : List Frame). Reaches (going (frames_of bytes xs) (drop at bytes)) (ended (steps.read (model.string s) (drop n bytes)))) (sym (none_there old none)) (one (steps.string h refl)));
-    }

@@ -1,28 +1,28 @@
 -- What the constructs that the reader keeps open stand for, and what its steps come to.
 -- This project's own choice.
-use Rattle.std.specs.Prelude.{◌≡◌, ℕ, ◌<◌, ◌≤◌, true, false, IsTrue, List, [], ◌∷◌, ◌++◌, length, drop, fold, Result, Ok, Err}
+use Rattle.std.specs.Prelude.{◌≡◌, ℕ, ◌<◌, ◌≤◌, true, false, IsTrue, List, [], ◌∷◌, length, drop, fold, Some, None, Result, Ok, Err}
 use Rattle.edn_model.specs.Form as model
 use Rattle.edn_model.specs.Likeness.{distinct, keys}
 use Rattle.edn_model.specs.Faults as faults
-use Rattle.edn_model.specs.Steps.{Frames, outermost, frame, opens_of, State, going, ended, read, nothing, fault, Step, Reaches, land, closed, HasRoom}
+use Rattle.edn_model.specs.Steps.{Frames, outermost, frame, opens_of, State, going, ended, read, nothing, fault, Step, Reaches, land, closed, Free, HasRoom}
+use Rattle.edn_form.specs.declared.form.Edn.{Edn}
 use Rattle.edn_form.specs.View.{form_of, forms_of, pairs_of}
 use Rattle.edn_alike.specs.Inside.{IsDistinctInside, AreDistinctInside, ArePairsDistinctInside}
 use Rattle.edn_alike.specs.Said.{HasSaid}
 use Rattle.edn_core.specs.Answers.{MatchFault, fault_of}
 use Rattle.edn_core.specs.declared.construct.Construct.{Construct}
-use Rattle.edn_core.specs.declared.construct.Construct.TheVariants.{List as List', Vector, Map, Key, Set, Discard, Inst, Uuid}
+use Rattle.edn_core.specs.declared.construct.Construct.TheVariants.{List as List', Vector, Map, Set, Discard, Inst, Uuid}
 use Rattle.edn_core.specs.declared.construct.Frame.{Frame}
-use Rattle.edn_core.specs.declared.construct.Landed.{Landed}
-use Rattle.edn_core.specs.declared.construct.Landed.TheVariants.{Goes, Again}
 use Rattle.edn_core.specs.declared.fault.EdnFault.{EdnFault}
+use Rattle.edn_core.specs.declared.fault.EdnFault.TheVariants.{Bad, Deep, Memory}
 use Rattle.edn_core.specs.declared.progress.Progress.{Progress}
 use Rattle.edn_core.specs.declared.progress.Progress.TheVariants.{Further, Read, End}
 
 abbrev pub open_of : Construct → faults.Open
 open_of (List' v) = faults.in_list (model.forms (forms_of v.items))
 open_of (Vector v) = faults.in_vector (model.forms (forms_of v.items))
-open_of (Map v said) = faults.in_map (model.pairs (pairs_of v.items))
-open_of (Key v key said) = faults.behind_key (model.pairs (pairs_of v.items)) (form_of key)
+open_of (Map v None said) = faults.in_map (model.pairs (pairs_of v.items))
+open_of (Map v (Some key) said) = faults.behind_key (model.pairs (pairs_of v.items)) (form_of key)
 open_of (Set v said) = faults.in_set (model.forms (forms_of v.items))
 open_of Discard = faults.behind_discard
 open_of Inst = faults.behind_inst
@@ -40,10 +40,10 @@ frames_of bytes frames = fold (inside bytes) outermost frames
 abbrev pub KeptOpen : Construct → Type 0
 KeptOpen (List' v) = AreDistinctInside (model.forms (forms_of v.items))
 KeptOpen (Vector v) = AreDistinctInside (model.forms (forms_of v.items))
-KeptOpen (Map v said) =
+KeptOpen (Map v None said) =
     HasSaid (keys (model.pairs (pairs_of v.items))) said × IsTrue (distinct (keys (model.pairs (pairs_of v.items))))
     × ArePairsDistinctInside (model.pairs (pairs_of v.items))
-KeptOpen (Key v key said) =
+KeptOpen (Map v (Some key) said) =
     HasSaid (model.with_last (keys (model.pairs (pairs_of v.items))) (form_of key)) said
     × IsTrue (distinct (model.with_last (keys (model.pairs (pairs_of v.items))) (form_of key)))
     × ArePairsDistinctInside (model.pairs (pairs_of v.items)) × IsDistinctInside (form_of key)
@@ -64,12 +64,29 @@ abbrev pub Kept : ℕ → ℕ → List Frame → Type 0
 Kept start last [] = Unit {0}
 Kept start last (f ∷ fs) = KeptFrame start last f × Kept start last fs
 
--- what a whole form does to the construct, as the steps have it
-abbrev pub LandsAs : Construct → model.Form → Landed → Type 0
-LandsAs o f (Goes p) =
+-- what a whole form makes of the construct, as the steps have it
+abbrev pub Becomes : Construct → model.Form → Construct → Type 0
+Becomes o f p =
     KeptOpen p
     × ((outer : Frames) (opened at rest : List ℕ) → land (frame (open_of o) opened outer) f at rest ≡ going (frame (open_of p) opened outer) rest)
-LandsAs o f Again = (outer : Frames) (opened at rest : List ℕ) → land (frame (open_of o) opened outer) f at rest ≡ ended (fault faults.bad at)
+
+-- a form alike to it was said before
+abbrev pub IsAgain : Construct → model.Form → Type 0
+IsAgain o f = (outer : Frames) (opened at rest : List ℕ) → land (frame (open_of o) opened outer) f at rest ≡ ended (fault faults.bad at)
+
+-- a whole form, from one place up to the next, makes the one construct of the other, or is said again; want of memory
+-- says nothing
+abbrev pub LandsAs : Construct → model.Form → ℕ → ℕ → Result Progress EdnFault → Construct → Type 0
+LandsAs o f at next (Ok (Further n)) p = (n ≡ next) × Becomes o f p
+LandsAs o f at next (Err (Bad byte)) p = (byte ≡ at) × IsAgain o f
+LandsAs o f at next (Err Memory) p = Unit {0}
+LandsAs o f at next _ p = ⊥
+
+-- the form is what was to be read, up to a place; want of memory says nothing
+abbrev pub IsRead : Edn → ℕ → Result Progress EdnFault → Type 0
+IsRead form next (Ok (Read boxed n)) = (boxed.value ≡ form) × (n ≡ next)
+IsRead form next (Err Memory) = Unit {0}
+IsRead form next _ = ⊥
 
 -- a discard has its form, and is over; so would be a tag
 abbrev pub EndsWith : Construct → model.Form → Type 0
@@ -103,7 +120,7 @@ pub record LeadsAstray (bytes : List ℕ) (start : ℕ) (begun : State) (why : f
 -- the steps from a state on come to this answer, behind a place, and leave these open
 abbrev pub Leads : List ℕ → ℕ → ℕ → State → Result Progress EdnFault → List Frame → Type 0
 Leads bytes start here begun (Ok (Further next)) frames = LeadsOn bytes start here begun next frames
-Leads bytes start here begun (Ok (Read form next)) frames = LeadsTo bytes here begun (form_of form) next
+Leads bytes start here begun (Ok (Read form next)) frames = LeadsTo bytes here begun (form_of form.value) next
 Leads bytes start here begun (Ok End) frames = Reaches begun (ended nothing)
 Leads bytes start here begun (Err e) frames = MatchFault (fault_of e) (LeadsAstray bytes start begun)
 
@@ -137,9 +154,8 @@ pub record Opens (bytes : List ℕ) (frames : List Frame) (o : Construct) (at ne
   pub deep : faults.room (opens_of (frames_of bytes frames)) ≡ 0
       → faults.Stuck (opens_of (frames_of bytes frames)) (drop at bytes) faults.deep (drop at bytes)
 
--- what steps lead to where a whole form landed so in the innermost construct, which is taken out
-abbrev pub LandsIn : ℕ → ℕ → ℕ → List Frame → Landed → Result Progress EdnFault → List Frame → Type 0
-LandsIn opened at next outer landed result new =
-    (bytes : List ℕ) (start here : ℕ) (old : List Frame) (innermost : Frame) (f : model.Form) → old ≡ outer ++ innermost ∷ [] → innermost.at ≡ opened
-    → Whole bytes start here at next old f → LandsAs innermost.construct f landed
-    → Leads bytes start here (land (frames_of bytes old) f (drop at bytes) (drop next bytes)) result new
+-- why no collection may open at a place: a tag wants a string, or too many are open
+abbrev pub RefusedAt : ℕ → Frames → EdnFault → Type 0
+RefusedAt at frames (Bad byte) = (byte ≡ at) × (faults.wants_string (opens_of frames) ≡ true)
+RefusedAt at frames (Deep byte) = (byte ≡ at) × Free frames × (faults.room (opens_of frames) ≡ 0)
+RefusedAt at frames _ = ⊥

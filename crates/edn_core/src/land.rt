@@ -1,26 +1,26 @@
 //! What opens, what closes, and where a whole form goes.
-ghost use Rattle.std.specs.Prelude.{◌≡◌, ℕ, ◌<◌, ◌≤◌, true, ◌++◌, ◌∷◌, [], List, IfOk, OnErr, Err, length, drop};
+ghost use Rattle.std.specs.Prelude.{◌≡◌, ℕ, ◌-◌, ◌<◌, ◌≤◌, true, ◌++◌, ◌∷◌, [], List, Vec, vec_len, IfOk, IfErr, OnErr, Ok, Err, None, length, take, drop};
+ghost use Rattle.std.specs.Global.{Global};
 ghost use Rattle.edn_model.specs.Bytes.{is_closing};
-ghost use Rattle.edn_model.specs.Faults.{begins_no_string};
 ghost use Rattle.edn_model.specs.Steps as steps;
-ghost use Rattle.edn_model.specs.Steps.{Free};
+ghost use Rattle.edn_model.specs.Steps.{Free, HasRoom};
 ghost use Rattle.edn_form.specs.View.{form_of};
-ghost use Rattle.edn_core.specs.Frames.{frames_of, Leads, LeadsFrom, LandsIn, Whole, Opens};
-ghost use Rattle.edn_core.specs.declared.construct.Landed.TheVariants.{Goes};
+ghost use Rattle.edn_form.specs.declared.form.Edn.{Edn};
+ghost use Rattle.edn_alike.specs.Inside.{IsDistinctInside};
+ghost use Rattle.edn_core.specs.Frames.{frames_of, KeptOpen, LandsAs, IsRead, Leads, LeadsFrom, Whole, Opens, RefusedAt};
+ghost use Rattle.edn_core.specs.declared.construct.Construct.TheVariants.{Map, Set};
 ghost use Rattle.edn_core.specs.declared.fault.EdnFault.{EdnFault};
 ghost use Rattle.edn_core.specs.declared.progress.Progress.TheVariants.{Further};
 
-use crate::construct::{
-    Construct, Frame, Landed, closed, has_room, land_key, land_member, pushed, wants_string,
-};
+use crate::construct::{Construct, Frame, closed, has_room, wants_string};
 use crate::fault::EdnFault;
 use crate::progress::Progress;
+use edn_alike::Said;
 use edn_form::Edn;
-use fb_memory::Memory;
 use std::alloc::Global;
 
-/// A form from one place up to the next falls to the innermost construct, or is what was to be read. A list or a
-/// vector grows where it is, and is not moved.
+/// A form from one place up to the next falls to the innermost construct, or is what was to be read. What holds forms
+/// grows where it is, and is not moved; each kind in a call of its own, so that none makes room for another.
 pub(crate) fn put(
     alloc: Global,
     frames: &mut Vec<Frame>,
@@ -31,114 +31,107 @@ pub(crate) fn put(
     ensures { (bytes : List ℕ) (start here : ℕ) → Whole bytes start here at next frames.old.items (form_of form)
         → Leads bytes start here (steps.land (frames_of bytes frames.old.items) (form_of form) (drop at bytes) (drop next bytes)) result frames.new.items }
 {
-    if let Some(innermost) = frames.last_mut() {
-        match &mut innermost.construct {
-            Construct::List(items) => return grow(items, form, next),
-            Construct::Vector(items) => return grow(items, form, next),
-            _ => {}
-        }
+    let Some(innermost) = frames.last_mut() else {
+        return whole(alloc, form, next);
+    };
+    match &mut innermost.construct {
+        Construct::List(items) => grow(items, form, next),
+        Construct::Vector(items) => grow(items, form, next),
+        Construct::Map(pairs, key, said) => entry(alloc, pairs, key, said, form, at, next),
+        Construct::Set(items, said) => member(alloc, items, said, form, at, next),
+        // A discard has its form, and is over; so would be a tag.
+        Construct::Discard => over(frames, form, next),
+        Construct::Inst => over(frames, form, next),
+        Construct::Uuid => over(frames, form, next),
     }
-    land(alloc, frames, form, at, next)
 }
 
-/// One more form stands behind the others.
-fn grow(items: &mut Vec<Edn>, form: Edn, next: usize) -> Result<Progress, EdnFault>
-    ensures ok { IfOk result (λ p. (p ≡ Further next) × (items.new.items ≡ items.old.items ++ form ∷ [])) }
+/// One more item stands behind the others.
+pub(crate) fn grow<T: Drop>(items: &mut Vec<T>, item: T, next: usize) -> Result<Progress, EdnFault>
+    ensures ok { IfOk result (λ p. (p ≡ Further next) × (items.new.items ≡ items.old.items ++ item ∷ [])) }
     ensures err { OnErr result (result ≡ Err EdnFault.Memory) }
 {
-    match items.push(form) {
+    match items.push(item) {
         Ok(()) => Ok(Progress::Further(next)),
         Err(_) => Err(EdnFault::Memory),
     }
 }
 
-/// The same, where the innermost construct is taken out, and what becomes of it put back.
-fn land(
+/// A form stands in a map: the value of the key that waits for one, or the next key.
+fn entry(
     alloc: Global,
-    frames: &mut Vec<Frame>,
+    pairs: &mut Vec<(Edn, Edn)>,
+    waiting: &mut Option<Edn>,
+    said: &mut Said,
     form: Edn,
     at: usize,
     next: usize,
 ) -> Result<Progress, EdnFault>
-    ensures { (bytes : List ℕ) (start here : ℕ) → Whole bytes start here at next frames.old.items (form_of form)
-        → Leads bytes start here (steps.land (frames_of bytes frames.old.items) (form_of form) (drop at bytes) (drop next bytes)) result frames.new.items }
+    ensures { KeptOpen (Map pairs.old waiting.old said.old) → IsDistinctInside (form_of form)
+        → LandsAs (Map pairs.old waiting.old said.old) (form_of form) at next result (Map pairs.new waiting.new said.new) }
 {
-    let Some(innermost) = frames.pop() else {
-        return Ok(Progress::Read(form, next));
-    };
-    let Frame {
-        construct,
-        at: opened,
-    } = innermost;
-    match construct {
-        Construct::List(items) => {
-            let more = Construct::List(pushed(items, form)?);
-            stays(frames, more, opened, next)
-        }
-        Construct::Vector(items) => {
-            let more = Construct::Vector(pushed(items, form)?);
-            stays(frames, more, opened, next)
-        }
-        Construct::Key(pairs, key, said) => {
-            let more = Construct::Map(pushed(pairs, (key, form))?, said);
-            stays(frames, more, opened, next)
-        }
-        Construct::Map(pairs, said) => {
-            let key = land_key(alloc, pairs, said, form)?;
-            settle(frames, key, opened, at, next)
-        }
-        Construct::Set(items, said) => {
-            let member = land_member(alloc, items, said, form)?;
-            settle(frames, member, opened, at, next)
-        }
-        // A discard has its form, and is over; so would be a tag.
-        Construct::Discard => Ok(Progress::Further(next)),
-        Construct::Inst => Ok(Progress::Further(next)),
-        Construct::Uuid => Ok(Progress::Further(next)),
+    match waiting.take() {
+        Some(key) => grow(pairs, (key, form), next),
+        None => key(alloc, waiting, said, form, at, next),
     }
 }
 
-/// A key or a member stands in what is the innermost construct again, or was said there before.
-fn settle(
-    frames: &mut Vec<Frame>,
-    landed: Landed,
-    opened: usize,
+/// One more key stands in a map in which none waits for its value, or was said there before.
+fn key(
+    alloc: Global,
+    waiting: &mut Option<Edn>,
+    said: &mut Said,
+    form: Edn,
     at: usize,
     next: usize,
 ) -> Result<Progress, EdnFault>
-    ensures { LandsIn opened at next frames.old.items landed result frames.new.items }
+    ensures { (pairs : Vec (Edn × Edn) Global) → KeptOpen (Map pairs None said.old) → IsDistinctInside (form_of form)
+        → LandsAs (Map pairs None said.old) (form_of form) at next result (Map pairs waiting.new said.new) }
 {
-    match landed {
-        Landed::Goes(construct) => stays(frames, construct, opened, next),
-        Landed::Again => Err(EdnFault::Bad { at }),
+    if said.say_form(alloc, &form)? {
+        *waiting = Some(form);
+        Ok(Progress::Further(next))
+    } else {
+        Err(EdnFault::Bad { at })
     }
 }
 
-/// With a form more the construct is the innermost again.
-fn stays(
-    frames: &mut Vec<Frame>,
-    construct: Construct,
-    opened: usize,
+/// One more member stands in a set, or was said there before.
+fn member(
+    alloc: Global,
+    items: &mut Vec<Edn>,
+    said: &mut Said,
+    form: Edn,
+    at: usize,
     next: usize,
 ) -> Result<Progress, EdnFault>
-    ensures { (at : ℕ) → LandsIn opened at next frames.old.items (Goes construct) result frames.new.items }
+    ensures { KeptOpen (Set items.old said.old) → IsDistinctInside (form_of form)
+        → LandsAs (Set items.old said.old) (form_of form) at next result (Set items.new said.new) }
 {
-    push(
-        frames,
-        Frame {
-            construct,
-            at: opened,
-        },
-    )?;
+    if said.say_form(alloc, &form)? {
+        grow(items, form, next)
+    } else {
+        Err(EdnFault::Bad { at })
+    }
+}
+
+/// The innermost construct is over, and the form goes.
+fn over(frames: &mut Vec<Frame>, form: Edn, next: usize) -> Result<Progress, EdnFault>
+    ensures { (result ≡ Ok (Further next)) × (frames.new.items ≡ take (vec_len frames.old - 1) frames.old.items) }
+{
+    drop(form);
+    drop(frames.pop());
     Ok(Progress::Further(next))
 }
 
-/// One more construct is open, inside the others.
-pub(crate) fn push(frames: &mut Vec<Frame>, frame: Frame) -> Result<(), Memory>
-    ensures { IfOk result (λ _. frames.new.items ≡ frames.old.items ++ frame ∷ []) }
+/// The form is what was to be read.
+fn whole(alloc: Global, form: Edn, next: usize) -> Result<Progress, EdnFault>
+    ensures { IsRead form next result }
 {
-    frames.push(frame)?;
-    Ok(())
+    match Box::new(alloc, form) {
+        Ok(form) => Ok(Progress::Read(form, next)),
+        Err(_) => Err(EdnFault::Memory),
+    }
 }
 
 /// A bracket closes the innermost construct, or nothing.
@@ -161,23 +154,21 @@ pub(crate) fn close(
     }
 }
 
-/// A collection opens, where no tag wants a string.
-pub(crate) fn begin_collection(
-    frames: &mut Vec<Frame>,
-    construct: Construct,
-    at: usize,
-    next: usize,
-) -> Result<Progress, EdnFault>
-    ensures { (bytes : List ℕ) → (Free (frames_of bytes frames.old.items) → Opens bytes frames.old.items construct at next)
-        → begins_no_string (drop at bytes) ≡ true → LeadsFrom bytes at frames.old.items result frames.new.items }
+/// That a collection may open at a place: no tag wants a string there, and there is room.
+pub(crate) fn may_open(frames: &[Frame], at: usize) -> Result<(), EdnFault>
+    ensures free { (bytes : List ℕ) → IfOk result (λ _. Free (frames_of bytes frames.now) × HasRoom (frames_of bytes frames.now)) }
+    ensures refused { (bytes : List ℕ) → IfErr result (RefusedAt at (frames_of bytes frames.now)) }
 {
-    if wants_string(frames.as_slice()) {
+    if wants_string(frames) {
         return Err(EdnFault::Bad { at });
     }
-    begin(frames, construct, at, next)
+    if !has_room(frames) {
+        return Err(EdnFault::Deep { at });
+    }
+    Ok(())
 }
 
-/// A collection or a discard opens, where there is room.
+/// A discard opens, where there is room.
 pub(crate) fn begin(
     frames: &mut Vec<Frame>,
     construct: Construct,
@@ -189,6 +180,5 @@ pub(crate) fn begin(
     if !has_room(frames.as_slice()) {
         return Err(EdnFault::Deep { at });
     }
-    push(frames, Frame { construct, at })?;
-    Ok(Progress::Further(next))
+    grow(frames, Frame { construct, at }, next)
 }

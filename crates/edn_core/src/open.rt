@@ -5,7 +5,7 @@ ghost use Rattle.edn_core.specs.Frames.{LeadsFrom};
 
 use crate::construct::{Construct, Frame};
 use crate::fault::EdnFault;
-use crate::land::begin_collection;
+use crate::land::{grow, may_open};
 use crate::progress::Progress;
 use edn_alike::Said;
 use std::alloc::Global;
@@ -19,7 +19,9 @@ pub(crate) fn list(
     ensures { (bytes : List ℕ) → next ≡ at + 1 → drop at bytes ≡ open_paren ∷ drop 1 (drop at bytes)
         → LeadsFrom bytes at frames.old.items result frames.new.items }
 {
-    begin_collection(frames, Construct::List(Vec::new(alloc)), at, next)
+    may_open(frames.as_slice(), at)?;
+    let construct = Construct::List(Vec::new(alloc));
+    grow(frames, Frame { construct, at }, next)
 }
 
 pub(crate) fn vector(
@@ -31,7 +33,9 @@ pub(crate) fn vector(
     ensures { (bytes : List ℕ) → next ≡ at + 1 → drop at bytes ≡ open_bracket ∷ drop 1 (drop at bytes)
         → LeadsFrom bytes at frames.old.items result frames.new.items }
 {
-    begin_collection(frames, Construct::Vector(Vec::new(alloc)), at, next)
+    may_open(frames.as_slice(), at)?;
+    let construct = Construct::Vector(Vec::new(alloc));
+    grow(frames, Frame { construct, at }, next)
 }
 
 pub(crate) fn map(
@@ -43,8 +47,9 @@ pub(crate) fn map(
     ensures { (bytes : List ℕ) → next ≡ at + 1 → drop at bytes ≡ open_brace ∷ drop 1 (drop at bytes)
         → LeadsFrom bytes at frames.old.items result frames.new.items }
 {
-    let pairs = Vec::new(alloc);
-    begin_collection(frames, Construct::Map(pairs, Said::new(alloc)), at, next)
+    may_open(frames.as_slice(), at)?;
+    let construct = Construct::Map(Vec::new(alloc), None, Said::new(alloc));
+    grow(frames, Frame { construct, at }, next)
 }
 
 pub(crate) fn set(
@@ -56,6 +61,7 @@ pub(crate) fn set(
     ensures { (bytes : List ℕ) → next ≡ at + 2 → drop at bytes ≡ hash ∷ open_brace ∷ drop 2 (drop at bytes)
         → LeadsFrom bytes at frames.old.items result frames.new.items }
 {
-    let items = Vec::new(alloc);
-    begin_collection(frames, Construct::Set(items, Said::new(alloc)), at, next)
+    may_open(frames.as_slice(), at)?;
+    let construct = Construct::Set(Vec::new(alloc), Said::new(alloc));
+    grow(frames, Frame { construct, at }, next)
 }

@@ -39,7 +39,7 @@ fn answer(alloc: Global, bytes: &[u8], at: usize) -> Result<Option<(Edn, usize)>
     loop {
         match step(alloc, bytes, &mut frames, here)? {
             Progress::Further(next) => here = next,
-            Progress::Read(form, next) => return Ok(Some((form, next))),
+            Progress::Read(form, next) => return Ok(Some((Box::into_inner(form), next))),
             Progress::End => return Ok(None),
         }
     }

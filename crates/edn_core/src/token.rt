@@ -4,13 +4,14 @@ ghost use Rattle.edn_model.specs.Bytes.{quote, TokenEnds};
 ghost use Rattle.edn_model.specs.Faults as faults;
 ghost use Rattle.edn_model.specs.Faults.{TokenStands};
 ghost use Rattle.edn_model.specs.Steps.{opens_of, Free};
-ghost use Rattle.edn_model.specs.Tokens.{StringStands};
+ghost use Rattle.edn_model.specs.Form as model;
+ghost use Rattle.edn_model.specs.Tokens.{IsAtom, StringStands};
 ghost use Rattle.edn_core.specs.Fronts.{BeginsToken};
 ghost use Rattle.edn_core.specs.Frames.{frames_of, LeadsFrom, Enters};
 
 use crate::construct::{Construct, Frame, wants_string};
 use crate::fault::EdnFault;
-use crate::land::{push, put};
+use crate::land::{grow, put};
 use crate::progress::Progress;
 use edn_form::Edn;
 use edn_instant::{read_instant, read_uuid};
@@ -54,19 +55,45 @@ fn judged(
         Token::Nil => put(alloc, frames, Edn::Nil, at, next),
         Token::Bool(b) => put(alloc, frames, Edn::Bool(b), at, next),
         Token::Int(n) => put(alloc, frames, Edn::Int(n), at, next),
-        Token::Symbol => put(alloc, frames, Edn::Sym(Text::of(alloc, token)?), at, next),
-        Token::Keyword => put(
-            alloc,
-            frames,
-            Edn::Key(Text::of(alloc, keyword_name(token))?),
-            at,
-            next,
-        ),
+        Token::Symbol => symbol(alloc, frames, token, at, next),
+        Token::Keyword => keyword(alloc, frames, token, at, next),
         Token::Inst => tag(frames, Construct::Inst, at, next),
         Token::Uuid => tag(frames, Construct::Uuid, at, next),
         Token::Unsupported(what) => Err(EdnFault::Unsupported { at, what }),
         Token::Bad => Err(EdnFault::Bad { at }),
     }
+}
+
+/// The symbol that stands from one place up to the next. What makes a text has a call of its own, so that other tokens
+/// make no room for it.
+fn symbol(
+    alloc: Global,
+    frames: &mut Vec<Frame>,
+    token: &str,
+    at: usize,
+    next: usize,
+) -> Result<Progress, EdnFault>
+    ensures { (bytes : List ℕ) → IsAtom (model.symbol token.now) token.now → at < next → next ≤ length bytes
+        → TokenStands (drop at bytes) token.now (drop next bytes) → TokenEnds (drop next bytes)
+        → Free (frames_of bytes frames.old.items) → LeadsFrom bytes at frames.old.items result frames.new.items }
+{
+    put(alloc, frames, Edn::Sym(Text::of(alloc, token)?), at, next)
+}
+
+/// The keyword that stands from one place up to the next.
+fn keyword(
+    alloc: Global,
+    frames: &mut Vec<Frame>,
+    token: &str,
+    at: usize,
+    next: usize,
+) -> Result<Progress, EdnFault>
+    ensures { (bytes : List ℕ) → IsAtom (model.keyword (drop 1 token.now)) token.now → at < next → next ≤ length bytes
+        → TokenStands (drop at bytes) token.now (drop next bytes) → TokenEnds (drop next bytes)
+        → Free (frames_of bytes frames.old.items) → LeadsFrom bytes at frames.old.items result frames.new.items }
+{
+    let name = Text::of(alloc, keyword_name(token))?;
+    put(alloc, frames, Edn::Key(name), at, next)
 }
 
 fn tag(
@@ -77,8 +104,7 @@ fn tag(
 ) -> Result<Progress, EdnFault>
     ensures { (bytes : List ℕ) → Enters bytes frames.old.items construct at next → LeadsFrom bytes at frames.old.items result frames.new.items }
 {
-    push(frames, Frame { construct, at })?;
-    Ok(Progress::Further(next))
+    grow(frames, Frame { construct, at }, next)
 }
 
 /// The string whose first quote stands here.
@@ -127,11 +153,12 @@ fn tagged(
     at: usize,
     next: usize,
 ) -> Result<Progress, EdnFault>
-    ensures { (bytes : List ℕ) → faults.wants_string (opens_of (frames_of bytes frames.old.items)) ≡ true → at < next → next ≤ length bytes
+    requires { (bytes : List ℕ) → faults.wants_string (opens_of (frames_of bytes frames.now.items)) ≡ true }
+    ensures { (bytes : List ℕ) → at < next → next ≤ length bytes
         → StringStands text (drop at bytes) (drop next bytes) → LeadsFrom bytes at frames.old.items result frames.new.items }
 {
     let Some(innermost) = frames.pop() else {
-        return Err(EdnFault::Bad { at });
+        unreachable!()
     };
     match innermost.construct {
         Construct::Inst => match read_instant(text.as_str().as_bytes()) {
@@ -142,7 +169,6 @@ fn tagged(
             Some(uuid) => put(alloc, frames, Edn::Uuid(uuid), innermost.at, next),
             None => Err(EdnFault::Bad { at }),
         },
-        // Nothing else wants a string.
-        _ => Err(EdnFault::Bad { at }),
+        _ => unreachable!(),
     }
 }

@@ -1,16 +1,16 @@
 -- Escapes, and what is none.
-use Rattle.std.proofs.Common.{◌≡◌, ◌≢◌, ◌⊎◌, ℕ, zero, suc, ◌+◌, ◌-◌, ◌*◌, ◌<◌, ◌≤◌, Bool, true, false, Option, Some, None, List, [], ◌∷◌, ◌++◌, take, drop, length, length-take, get_or, fold, take_all, refl, ap, ◌∙◌, sym, subst, arith, inl, inr}
-use Rattle.std.proofs.lemmas.Bool.{cases_Bool, cases_lt}
+use Rattle.std.proofs.Common.{◌≡◌, ◌≢◌, ◌⊎◌, ℕ, zero, suc, ◌+◌, ◌*◌, ◌<◌, ◌≤◌, Bool, true, false, Option, Some, None, List, [], ◌∷◌, ◌++◌, take, drop, length, get_or, take_all, refl, ap, ◌∙◌, sym, subst, arith, inl, inr}
+use Rattle.std.proofs.lemmas.Bool.{cases_Bool}
 use Rattle.std.proofs.lemmas.Bool.Decides.{nat_tests}
 use Rattle.std.proofs.lemmas.List.{append-nil, take_more}
 use Rattle.std.proofs.lemmas.List.Sums.{fold-append}
 use Rattle.std.proofs.lemmas.List.Folds.{list_all_at}
-use Rattle.std.proofs.lemmas.Str.{IsUtf8-nil, IsUtf8-encode, IsUtf8-from_ascii, encode_ascii}
-use Rattle.std.specs.Prelude.{IsUtf8, encode_utf8, if◌then◌else◌}
+use Rattle.std.proofs.lemmas.Str.{IsUtf8-nil, IsUtf8-encode, encode_ascii}
+use Rattle.std.specs.Prelude.{encode_utf8, if◌then◌else◌}
 use Rattle.std.specs.Char.{IsScalar, InScalarRange, OutOfScalarRange}
 use Rattle.edn_model.specs.Runs.{Each}
 use Rattle.edn_model.specs.Bytes.{backslash}
-use Rattle.edn_model.specs.Tokens.{escape_of, is_hex_digit, hex_value, IsCode, Spells, nothing, escape, code}
+use Rattle.edn_model.specs.Tokens.{escape_of, is_hex_digit, hex_value, Spells, nothing, escape, code}
 use Rattle.edn_model.specs.Faults.{StringFault, bad, cut, cut_escape, bad_escape, IsBadEscape, unknown, no_digit, surrogate, IsCutEscape, no_letter, few_digits}
 use Rattle.edn_model.proofs.Runs.{Each-tail, Each-append, both_true}
 use Rattle.edn_token.specs.Strings.{hex_number, Spelled}

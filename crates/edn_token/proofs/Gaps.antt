@@ -1,17 +1,16 @@
 -- White space and comments, one behind another.
-use Rattle.std.proofs.Common.{◌≡◌, ◌≢◌, ℕ, ◌+◌, ◌-◌, ◌<◌, ◌≤◌, Bool, true, false, Ok, Err, List, [], ◌∷◌, ◌++◌, drop, length, length-append, append_assoc, refl, ap, ◌∙◌, sym, subst, arith}
+use Rattle.std.proofs.Common.{◌≡◌, ◌≢◌, ℕ, ◌+◌, ◌-◌, ◌<◌, ◌≤◌, true, false, Ok, Err, List, [], ◌∷◌, ◌++◌, drop, length, length-append, append_assoc, refl, ap, ◌∙◌, sym, subst, arith}
 use Rattle.std.proofs.lemmas.Bool.Decides.{nat_tests}
 use Rattle.std.proofs.lemmas.List.{append-nil, drop_at, drop_all, length_push}
-use Rattle.std.specs.Prelude.{IsUtf8, not, ◌==◌}
+use Rattle.std.specs.Prelude.{IsUtf8}
 use Rattle.std.specs.Str.{IsValidUpTo}
 use Rattle.edn_model.specs.Runs.{Each, Stops, IsRun}
 use Rattle.edn_model.specs.Bytes.{semicolon, line_feed, is_blank, is_line_byte}
 use Rattle.edn_model.specs.Grammar.{CommentStands, LastComment, Gap}
 use Rattle.edn_model.specs.Grammar as grammar
 use Rattle.edn_model.proofs.Runs.{Each-tail}
-use Rattle.edn_token.specs.Fronts.{BrokenRun}
 use Rattle.edn_token.specs.Gaps.{Blanks, no_blanks, blank, comment, last_comment, GoesNoFurther, BrokenComment, SkippedTo, LineIs}
-use Rattle.edn_token.proofs.WholeCharacters.{broken, not_false}
+use Rattle.edn_token.proofs.WholeCharacters.{broken}
 use Rattle.edn_token.proofs.Places.{Behind, behind_then, behind_short, behind_drop, behind_drop_more}
 
 -- they are a gap, whatever may still open

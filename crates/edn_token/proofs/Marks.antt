@@ -1,10 +1,10 @@
 -- The byte behind a sign and digits.
-use Rattle.std.proofs.Common.{◌≡◌, ◌≢◌, ℕ, ◌<◌, Bool, true, false, Option, Some, None, List, [], ◌∷◌, ◌++◌, length, slice_get, refl, ap, ◌∙◌, sym, subst, arith, inl, inr}
+use Rattle.std.proofs.Common.{◌≡◌, ◌≢◌, ℕ, ◌<◌, true, false, Option, Some, None, List, [], ◌∷◌, ◌++◌, length, slice_get, refl, ap, ◌∙◌, sym, subst, arith, inl, inr}
 use Rattle.std.proofs.lemmas.Bool.Decides.{nat_tests}
-use Rattle.edn_model.specs.Runs.{Each, Stops, IsRun}
+use Rattle.edn_model.specs.Runs.{Each, IsRun}
 use Rattle.edn_model.specs.Bytes.{plus, minus, is_digit}
 use Rattle.edn_model.specs.Faults.{DigitsBefore}
-use Rattle.edn_model.proofs.Runs.{Each-tail, one_run, heads, tails}
+use Rattle.edn_model.proofs.Runs.{one_run, heads, tails}
 use Rattle.edn_token.specs.Judged.{Unsigned, behind_plus, behind_minus, without_sign, MarkIs}
 use Rattle.edn_token.proofs.NoTokens.{digits_begin, is_mark}
 

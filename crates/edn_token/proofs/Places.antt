@@ -1,5 +1,5 @@
 -- Places in a text, each by the bytes from it on.
-use Rattle.std.proofs.Common.{◌≡◌, ℕ, ◌+◌, ◌-◌, ◌≤◌, List, [], ◌∷◌, ◌++◌, drop, length, length-append, append_assoc, ap, ◌∙◌, sym, arith}
+use Rattle.std.proofs.Common.{◌≡◌, ℕ, ◌+◌, ◌-◌, ◌≤◌, List, ◌++◌, drop, length, length-append, append_assoc, ap, ◌∙◌, sym, arith}
 use Rattle.std.proofs.lemmas.List.{drop_at, drop-drop}
 
 -- what stands behind some bytes in front

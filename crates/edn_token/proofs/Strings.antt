@@ -1,15 +1,14 @@
 -- A string, piece by piece.
-use Rattle.std.proofs.Common.{◌≡◌, ℕ, ◌+◌, ◌-◌, ◌<◌, ◌≤◌, Bool, true, false, List, [], ◌∷◌, ◌++◌, take, drop, length, length-append, length-drop, append_assoc, refl, ap, ◌∙◌, sym, subst, arith}
+use Rattle.std.proofs.Common.{◌≡◌, ℕ, ◌+◌, ◌-◌, ◌<◌, ◌≤◌, true, false, List, [], ◌∷◌, ◌++◌, take, drop, length, length-append, length-drop, append_assoc, refl, ap, ◌∙◌, sym, subst, arith}
 use Rattle.std.proofs.lemmas.Bool.Decides.{nat_tests}
 use Rattle.std.proofs.lemmas.Str.{IsUtf8-append, IsUtf8-nil}
 use Rattle.std.specs.Prelude.{IsUtf8, encode_utf8}
 use Rattle.std.specs.Str.{IsValidUpTo}
-use Rattle.edn_model.specs.Runs.{Each, Stops, IsRun}
+use Rattle.edn_model.specs.Runs.{Stops, IsRun}
 use Rattle.edn_model.specs.Bytes.{quote, backslash, is_plain, begins}
 use Rattle.edn_model.specs.Tokens.{Spells, nothing, plain, escape, code, StringStands}
 use Rattle.edn_model.specs.Faults.{Fault, bad, cut, StringFault, no_quote, cut_escape, bad_escape, no_character}
 use Rattle.edn_model.proofs.Pieces.{spelled_plain}
-use Rattle.edn_token.specs.Fronts.{BrokenRun}
 use Rattle.edn_token.specs.Strings.{Spelled}
 use Rattle.edn_token.proofs.WholeCharacters.{broken, run_back}
 use Rattle.edn_token.proofs.Places.{Behind, behind_short, behind_drop_more}

@@ -7,11 +7,10 @@ use Rattle.std.proofs.lemmas.List.{take_at, drop_at, take-append-le, drop-append
 use Rattle.std.proofs.lemmas.Str.{IsCharBoundary-after_ascii, IsUtf8-drop, IsUtf8-append, IsUtf8-encode, inside_one, length-encode, len_utf8_ascii, len_utf8_bounds}
 use Rattle.std.specs.Prelude.{encode_utf8, IsUtf8, IsCharBoundary, not}
 use Rattle.std.specs.Str.{StartsWithNoChar, IsValidUpTo}
-use Rattle.std.specs.Char.{IsScalar}
 use Rattle.edn_model.specs.Runs.{Each, Stops, IsRun}
 use Rattle.edn_model.specs.Bytes.{ends_token, is_token_byte, TokenEnds, NoCharacter}
 use Rattle.edn_model.proofs.Runs.{Each-tail, both_true}
-use Rattle.edn_token.specs.Fronts.{RunStands, TokenFront, BrokenRun}
+use Rattle.edn_token.specs.Fronts.{TokenFront, BrokenRun}
 
 pub each_front : (test : ℕ → Bool) (a c : List ℕ) → Each test (a ++ c) → Each test a
 each_front test [] c h = refl

@@ -1,7 +1,7 @@
 -- What a token is, by its text.
 -- EDN, edn-format: "nil", "Booleans", "Symbols", "Keywords", "Integers", "Tagged elements"; what is unsupported is this
 -- project's own choice.
-use Rattle.std.specs.Prelude.{◌≡◌, ◌≢◌, ◌⊎◌, ℕ, false, ℤ, Option, Some, None, List, [], ◌∷◌, drop, codes}
+use Rattle.std.specs.Prelude.{◌≡◌, ◌≢◌, ℕ, false, Option, Some, None, List, [], ◌∷◌, drop, codes}
 use Rattle.edn_model.specs.Form as form
 use Rattle.edn_model.specs.Bytes.{hash, plus, minus, colon, backslash, is_digit}
 use Rattle.edn_model.specs.Tokens.{IsReserved, IsAtom}

@@ -1,9 +1,8 @@
 //! Kinds of bytes, and the runs of one kind that stand in front of others.
-ghost use Rattle.std.specs.Prelude.{◌≡◌, ◌||◌};
+ghost use Rattle.std.specs.Prelude.{◌≡◌, ◌||◌, IsTrue};
 ghost use Rattle.std.specs.List.{prefix_len};
 ghost use Rattle.edn_model.specs.Bytes as text;
 ghost use Rattle.edn_model.specs.Runs.{IsRun};
-ghost use Rattle.edn_token.specs.Names.{is_no_slash};
 
 fn is_blank(b: u8) -> bool
     ensures { result ≡ text.is_blank b }
@@ -20,8 +19,19 @@ fn ends_token(b: u8) -> bool
 fn is_token_byte(b: u8) -> bool
     ensures { result ≡ text.is_token_byte b }
 {
-    // Most bytes of a text are letters.
-    is_letter(b) || !ends_token(b)
+    is_common(b) || !ends_token(b)
+}
+
+/// Whether the byte is one of those that most tokens are made of, and which end none: letters, digits, and from a minus on
+/// to a colon. The lower case is asked for first, since most bytes are of it.
+fn is_common(b: u8) -> bool
+    ensures { IsTrue result → IsTrue (text.is_token_byte b) }
+{
+    if b >= b'a' {
+        b <= b'z'
+    } else {
+        matches!(b, b'-'..=b':' | b'A'..=b'Z')
+    }
 }
 
 fn is_plain(b: u8) -> bool
@@ -46,7 +56,11 @@ pub fn is_letter(b: u8) -> bool
 fn is_letter_or_digit(b: u8) -> bool
     ensures { result ≡ (text.is_letter b || text.is_digit b) }
 {
-    matches!(b, b'A'..=b'Z' | b'a'..=b'z' | b'0'..=b'9')
+    if b >= b'a' {
+        b <= b'z'
+    } else {
+        matches!(b, b'0'..=b'9' | b'A'..=b'Z')
+    }
 }
 
 /// Whether the byte stands in a name; each byte of a character past ASCII does.
@@ -124,15 +138,15 @@ fn digits_len(bytes: &[u8]) -> usize
         .count()
 }
 
-/// The bytes before the first slash, and what follows.
-pub fn split_before_slash(bytes: &[u8]) -> (&[u8], &[u8])
-    ensures { IsRun is_no_slash bytes.now result.0.now result.1.now }
+/// The bytes in front that stand in a name, and what follows.
+pub fn split_name(bytes: &[u8]) -> (&[u8], &[u8])
+    ensures { IsRun text.is_name_byte bytes.now result.0.now result.1.now }
 {
-    bytes.split_at(before_slash_len(bytes))
+    bytes.split_at(name_len(bytes))
 }
 
-fn before_slash_len(bytes: &[u8]) -> usize
-    ensures { result ≡ prefix_len is_no_slash bytes.now }
+fn name_len(bytes: &[u8]) -> usize
+    ensures { result ≡ prefix_len text.is_name_byte bytes.now }
 {
-    bytes.iter().take_while(|b| **b != b'/').count()
+    bytes.iter().take_while(|b| is_name_byte(**b)).count()
 }

@@ -1,13 +1,13 @@
 //! Keywords and symbols.
-ghost use Rattle.std.specs.Prelude.{◌≡◌, ◌↔◌, ◌⊎◌, ◌++◌, [], ◌∷◌, IsTrue, MatchOption};
+ghost use Rattle.std.specs.Prelude.{◌≡◌, ◌↔◌, ◌⊎◌, [], ◌∷◌, IsTrue};
 ghost use Rattle.std.specs.List.{list_all};
 ghost use Rattle.edn_model.specs.Bytes as kinds;
-ghost use Rattle.edn_model.specs.Bytes.{slash, Each, begins};
+ghost use Rattle.edn_model.specs.Bytes.{slash, begins};
 ghost use Rattle.edn_model.specs.Tokens as tokens;
 ghost use Rattle.edn_model.specs.Tokens.{IsName, Joined, IsKeywordName, IsKeyword, IsReserved, IsSymbol};
-ghost use Rattle.edn_token.specs.Names.{is_no_slash, IsSymbolOrWord};
+ghost use Rattle.edn_token.specs.Names.{IsSymbolOrWord};
 
-use crate::bytes::{is_name_byte, split_before_slash};
+use crate::bytes::{is_name_byte, split_name};
 use std::str;
 
 /// Whether a colon and this text are a keyword.
@@ -41,10 +41,14 @@ fn is_reserved(s: &str) -> bool
 pub(crate) fn are_keyword_names(text: &[u8]) -> bool
     ensures { IsTrue result ↔ (IsKeywordName text.now ⊎ Joined IsKeywordName IsKeywordName text.now) }
 {
-    match split_at_slash(text) {
-        None => is_keyword_name(text),
-        Some((first, second)) => is_keyword_name(first) && is_keyword_name(second),
+    let (first, rest) = split_name(text);
+    let Some((b, second)) = rest.split_first() else {
+        return begins_keyword(first);
+    };
+    if *b != b'/' {
+        return false;
     }
+    begins_keyword(first) && is_keyword_name(second)
 }
 
 fn is_keyword_name(text: &[u8]) -> bool
@@ -110,10 +114,14 @@ fn is_digit(b: u8) -> bool
 fn are_names(text: &[u8]) -> bool
     ensures { IsTrue result ↔ (IsName text.now ⊎ Joined IsName IsName text.now) }
 {
-    match split_at_slash(text) {
-        None => is_name(text),
-        Some((first, second)) => is_name(first) && is_name(second),
+    let (first, rest) = split_name(text);
+    let Some((b, second)) = rest.split_first() else {
+        return !first.is_empty();
+    };
+    if *b != b'/' {
+        return false;
     }
+    !first.is_empty() && is_name(second)
 }
 
 fn is_name(text: &[u8]) -> bool
@@ -126,17 +134,4 @@ fn are_name_bytes(text: &[u8]) -> bool
     ensures { result ≡ list_all kinds.is_name_byte text.now }
 {
     text.iter().all(|b| is_name_byte(*b))
-}
-
-/// What stands before the first slash, and what behind it.
-fn split_at_slash(text: &[u8]) -> Option<(&[u8], &[u8])>
-    ensures { MatchOption result
-        (Each is_no_slash text.now)
-        (λ p. (text.now ≡ p.0.now ++ slash ∷ p.1.now) × Each is_no_slash p.0.now) }
-{
-    let (first, rest) = split_before_slash(text);
-    match rest.split_first() {
-        None => None,
-        Some((_, second)) => Some((first, second)),
-    }
 }

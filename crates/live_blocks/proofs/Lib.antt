@@ -1,3 +1,5 @@
 pub mod Heights
 pub mod Sides
 pub mod AtNode
+pub mod Woven
+pub mod Parts

@@ -1,13 +1,7 @@
 -- Insertions and places in a list that is two sides with a datom between them.
-use Rattle.std.proofs.Common.{◌≡◌, ℕ, zero, suc, ◌+◌, ◌-◌, ◌<◌, ◌≤◌, Bool, true, false, cond, List, [], ◌∷◌, ◌++◌, length, take, drop, refl, sym, ap, ◌∙◌, append_assoc, arith, length-append}
-use Rattle.std.proofs.lemmas.List.{take-append-le, drop-append-le, take-append-drop}
+use Rattle.std.proofs.Common.{◌≡◌, ℕ, zero, suc, ◌+◌, ◌-◌, ◌<◌, ◌≤◌, List, [], ◌∷◌, ◌++◌, length, take, drop, refl, sym, ap, append_assoc, arith}
+use Rattle.std.proofs.lemmas.List.{take-append-le, drop-append-le}
 use Rattle.std.specs.List.{insert}
-use Rattle.fb_values.specs.declared.facts.Datom.{Datom}
-use Rattle.fb_values.specs.declared.indexes.Order.{Order}
-use Rattle.fb_values.specs.declared.indexes.Probe.{Probe}
-use Rattle.fb_search.specs.Rising.{StandsBefore, IsRising}
-use Rattle.fb_search.specs.Places.{is_below, place_of}
-use Rattle.fb_search.proofs.Below.{below_earlier}
 
 pub insert-append_left : {X : Type 0} (xs ys : List X) (i : ℕ) (x : X) → i ≤ length xs → insert (xs ++ ys) i x ≡ insert xs i x ++ ys
 insert-append_left xs ys i x within = rw (take-append-le i xs ys within, drop-append-le i xs ys within) (sym (append_assoc (take i xs) (x ∷ drop i xs) ys))

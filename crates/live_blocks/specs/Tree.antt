@@ -1,6 +1,6 @@
 -- What a node of the balanced tree stands for, and what holds of it.
 -- This project's own choice.
-use Rattle.std.specs.Prelude.{◌≡◌, ℕ, ◌+◌, ◌^◌, ◌<◌, ◌≤◌, max, List, [], ◌∷◌, ◌++◌, length}
+use Rattle.std.specs.Prelude.{◌≡◌, ℕ, ◌+◌, ◌^◌, ◌<◌, ◌≤◌, max, List, ◌∷◌, ◌++◌, length}
 use Rattle.std.specs.Arc.{arc_value}
 use Rattle.fb_values.specs.declared.facts.Datom.{Datom}
 use Rattle.live_blocks.specs.declared.tree.Node.{Node}
@@ -21,9 +21,9 @@ pub record IsFork (l : List Datom × ℕ) (d : Datom) (r : List Datom × ℕ) (b
   pub low : least_len height ≤ len + 1
   pub fits : len < 2 ^ 64
 
--- a block has 1 to 16 datoms
+-- a block has 1 to 15 datoms
 abbrev pub IsTree : Node → Type 0
-IsTree (Leaf datoms) = (0 < length datoms.items) × (length datoms.items ≤ 16)
+IsTree (Leaf datoms) = (0 < length datoms.items) × (length datoms.items ≤ 15)
 IsTree (Fork l d r before len height) = IsFork (arc_value l) d (arc_value r) before len height
 
 -- a copy of a node: the same datoms, and sides of the same values

@@ -1,15 +1,19 @@
 //! A list of datoms whose copies share their blocks.
 ghost use Rattle.std.specs.Prelude.{◌≡◌, ℕ, ◌+◌, ◌*◌, ◌/◌, ◌^◌, ◌<◌, ◌≤◌, length, [], IfOk, Some};
+ghost use Rattle.std.specs.Arc.{arc_value};
 ghost use Rattle.std.specs.List.{insert};
 ghost use Rattle.std.specs.List.{slice_get};
 ghost use Rattle.std.specs.Option.{option_copied};
 ghost use Rattle.fb_search.specs.Rising.{IsRising};
 ghost use Rattle.fb_search.specs.Places.{place_of};
 ghost use Rattle.live_blocks.specs.Trees.{blocks_at_least};
+ghost use Rattle.live_blocks.specs.Newest.{AreNewest, woven};
+ghost use Rattle.live_blocks.specs.Blocks.{older_of, newest_of, below_of};
 
-use crate::tree::{Tree, datom_at, place_in, with_datom};
+use crate::newest::{NEWEST, Newest, Stand, stand_of};
+use crate::tree::{Tree, block_with, datom_at, place_in, with_datoms};
 use fb_memory::Memory;
-use fb_search::Steps;
+use fb_search::{Steps, lower_bound};
 use fb_values::{Datom, Probe};
 use std::alloc::Global;
 use std::marker::{Brand, Model};
@@ -21,6 +25,8 @@ use std::sync::ledger::{Blank, Ledger};
 pub struct Blocks {
     alloc: Global,
     root: Option<Arc<Tree>>,
+    /// The datoms of the last insertions, which go into the tree when they are many, all in one walk.
+    newest: Option<Arc<Newest>>,
 }
 
 impl Model for Blocks {
@@ -29,9 +35,12 @@ impl Model for Blocks {
 
     ghost Value = { List Datom };
 
-    ghost use Rattle.live_blocks.specs.Blocks.{datoms_of};
+    ghost use Rattle.live_blocks.specs.Blocks.{older_of, newest_of, below_of, datoms_of};
+    ghost use Rattle.live_blocks.specs.Newest.{AreNewest};
 
-    ghost view = { λ b. datoms_of b.root };
+    ghost view = { λ b. datoms_of b.root b.newest };
+
+    ghost invariant = { λ b. AreNewest (older_of b.root) (below_of b.newest) (newest_of b.newest) };
 }
 
 impl Blocks {
@@ -39,24 +48,24 @@ impl Blocks {
     pub fn new(alloc: Global) -> Blocks
         ensures { result ≡ [] }
     {
-        Blocks { alloc, root: None }
+        Blocks {
+            alloc,
+            root: None,
+            newest: None,
+        }
     }
 
     pub fn len(&self) -> usize
         ensures { result ≡ length self.now }
     {
-        match &self.root {
-            None => 0,
-            Some(tree) => tree.len(),
-        }
+        older_len(&self.root) + newest_in(&self.newest).len()
     }
 
     pub fn at(&self, place: usize) -> Option<&Datom>
         ensures { option_copied result ≡ slice_get self.now place }
     {
-        let tree = self.root.as_ref()?;
-        if place < tree.len() {
-            Some(datom_at(tree, place))
+        if place < self.len() {
+            Some(self.datom(place))
         } else {
             None
         }
@@ -67,9 +76,9 @@ impl Blocks {
         requires { place < length self.now }
         ensures { slice_get self.now place ≡ Some result.now }
     {
-        match &self.root {
-            None => unreachable!(),
-            Some(tree) => datom_at(tree, place),
+        match stand_of(below_in(&self.newest), place) {
+            Stand::Newest(place) => &newest_in(&self.newest)[place],
+            Stand::Tree(place) => older_at(&self.root, place),
         }
     }
 
@@ -81,9 +90,14 @@ impl Blocks {
             None => None,
             Some(tree) => Some(tree.clone()?),
         };
+        let newest = match &self.newest {
+            None => None,
+            Some(newest) => Some(newest.clone()?),
+        };
         Ok(Blocks {
             alloc: self.alloc,
             root,
+            newest,
         })
     }
 
@@ -92,23 +106,32 @@ impl Blocks {
         requires { place ≤ length self }
         ensures { IfOk result (λ blocks. blocks ≡ insert self place datom) }
     {
-        let Blocks { alloc, root } = self;
-        let tree = match root {
-            None => {
-                let mut datoms = Vec::new(alloc);
-                datoms.push(datom)?;
-                Tree::leaf(datoms)
-            }
-            Some(tree) => {
-                if tree.len() == usize::MAX {
-                    // No memory holds as many.
-                    return Err(Memory);
-                }
-                with_datom(alloc, tree, place, datom)?
-            }
-        };
-        let root = Some(Arc::new(alloc, tree)?);
-        Ok(Blocks { alloc, root })
+        if self.len() == usize::MAX {
+            // No memory holds as many.
+            return Err(Memory);
+        }
+        let Blocks {
+            alloc,
+            root,
+            newest,
+        } = self;
+        if newest_in(&newest).len() < NEWEST {
+            let newest = unshared(alloc, newest)?.with(place, datom)?;
+            let newest = Some(Arc::new(alloc, newest)?);
+            return Ok(Blocks {
+                alloc,
+                root,
+                newest,
+            });
+        }
+        let root = Some(grown(alloc, root, below_in(&newest), newest_in(&newest))?);
+        let newest = Newest::empty(alloc).with(place, datom)?;
+        let newest = Some(Arc::new(alloc, newest)?);
+        Ok(Blocks {
+            alloc,
+            root,
+            newest,
+        })
     }
 
     /// An empty list that takes its memory where this one does.
@@ -133,10 +156,91 @@ impl Blocks {
         // At most twice the binary digits of the number of blocks, and 18 more, however few the blocks are.
         ensures cost { (digits : ℕ) → blocks_at_least (length self.now) < 2 ^ digits → steps.new ≤ steps.old + 2 * digits + 18 }
     {
-        match &self.root {
-            None => 0,
-            Some(tree) => place_in(tree, probe, steps),
+        let older = older_place(&self.root, probe, steps);
+        older + lower_bound(newest_in(&self.newest), probe, steps)
+    }
+}
+
+fn newest_in(newest: &Option<Arc<Newest>>) -> &[Datom]
+    ensures { result.now ≡ newest_of newest.now }
+{
+    match newest {
+        None => &[],
+        Some(newest) => &newest.datoms,
+    }
+}
+
+fn below_in(newest: &Option<Arc<Newest>>) -> &[usize]
+    ensures { result.now ≡ below_of newest.now }
+{
+    match newest {
+        None => &[],
+        Some(newest) => &newest.below,
+    }
+}
+
+/// The newest datoms alone: taken out where no other list shares them, and else copied.
+fn unshared(alloc: Global, newest: Option<Arc<Newest>>) -> Result<Newest, Memory>
+    ensures below { IfOk result (λ own. own.below.items ≡ below_of newest) }
+    ensures datoms { IfOk result (λ own. own.datoms.items ≡ newest_of newest) }
+{
+    match newest {
+        None => Ok(Newest::empty(alloc)),
+        Some(newest) => match Arc::try_unwrap(newest) {
+            Ok(newest) => Ok(newest),
+            Err(shared) => shared.copy(),
+        },
+    }
+}
+
+/// The tree with the newest datoms.
+fn grown(
+    alloc: Global,
+    root: Option<Arc<Tree>>,
+    below: &[usize],
+    newest: &[Datom],
+) -> Result<Arc<Tree>, Memory>
+    requires some { 0 < length newest.now }
+    requires newest { AreNewest (older_of root) below.now newest.now }
+    ensures { IfOk result (λ tree. (arc_value tree).0 ≡ woven 0 (older_of root) below.now newest.now) }
+{
+    match root {
+        None => {
+            let tree = block_with(alloc, Vec::new(alloc), 0, below, newest)?;
+            Ok(Arc::new(alloc, tree)?)
         }
+        Some(tree) => with_datoms(alloc, tree, 0, below, newest),
+    }
+}
+
+fn older_len(root: &Option<Arc<Tree>>) -> usize
+    ensures { result ≡ length (older_of root.now) }
+{
+    match root {
+        None => 0,
+        Some(tree) => tree.len(),
+    }
+}
+
+fn older_at(root: &Option<Arc<Tree>>, place: usize) -> &Datom
+    requires { place < length (older_of root.now) }
+    ensures { slice_get (older_of root.now) place ≡ Some result.now }
+{
+    match root {
+        None => unreachable!(),
+        Some(tree) => datom_at(tree, place),
+    }
+}
+
+/// The first place of the tree whose datom is not below the probe.
+fn older_place<L: Ledger>(root: &Option<Arc<Tree>>, probe: &Probe, steps: &mut Steps<L>) -> usize
+    requires { IsRising probe.now.order (older_of root.now) }
+    ensures place { result ≡ place_of probe.now (older_of root.now) }
+    ensures cost { (digits : ℕ) → blocks_at_least (length (older_of root.now)) < 2 ^ digits → steps.new ≤ steps.old + 2 * digits + 12 }
+{
+    match root {
+        None => 0,
+        Some(tree) => place_in(tree, probe, steps),
     }
 }
 

@@ -1,8 +1,10 @@
-//! A list of datoms in small shared blocks under a balanced tree: an insertion copies one block and the path to it,
-//! and shares the rest with the old list.
+//! A list of datoms in small shared blocks under a balanced tree, with a short list of the newest datoms before it. An
+//! insertion goes into the short list; once that is full, all of it goes into the tree in one walk, which copies the
+//! blocks that it changes and the paths to them, and shares the rest with the old list.
 #![tactic(auto)]
 
 mod blocks;
+mod newest;
 mod tree;
 
 pub use blocks::Blocks;

@@ -5,6 +5,7 @@ ghost use Rattle.std.specs.List.{slice_get};
 ghost use Rattle.std.specs.Arc.{arc_value};
 ghost use Rattle.fb_search.specs.Rising.{IsRising};
 ghost use Rattle.fb_search.specs.Places.{place_of};
+ghost use Rattle.live_blocks.specs.Newest.{StandWithin, newer_upto, woven};
 ghost use Rattle.live_blocks.specs.Trees.{DifferByAtMost, least_len, IsHeightAfterBalance};
 ghost use Rattle.live_blocks.specs.Tree.{datoms_and_height, IsTree, IsCopy};
 
@@ -17,7 +18,7 @@ use std::sync::Arc;
 use std::sync::ledger::Ledger;
 
 /// The greatest number of datoms of a block.
-pub const BLOCK: usize = 16;
+pub const BLOCK: usize = 15;
 
 #[cycle(tree)]
 #[derive(Drop)]
@@ -149,7 +150,7 @@ pub fn place_in<L: Ledger>(tree: &Tree, probe: &Probe, steps: &mut Steps<L>) -> 
     requires { IsRising probe.now.order tree.now.0 }
     ensures place { result ≡ place_of probe.now tree.now.0 }
     // One comparison a fork, and those of a block.
-    ensures cost { steps.new ≤ steps.old + tree.now.1 + 5 }
+    ensures cost { steps.new ≤ steps.old + tree.now.1 + 4 }
     ensures low { least_len tree.now.1 ≤ length tree.now.0 + 1 }
 {
     match &tree.node {
@@ -164,59 +165,144 @@ pub fn place_in<L: Ledger>(tree: &Tree, probe: &Probe, steps: &mut Steps<L>) -> 
     }
 }
 
-/// A tree with a datom more.
-#[tactic(auto, using(crate::proofs::Sides::insert_behind))]
-pub fn with_datom(
+/// A tree with newer datoms woven in, each behind as many of its datoms as `below` says, counted from `from`.
+pub fn with_datoms(
     alloc: Global,
     tree: Arc<Tree>,
-    place: usize,
-    datom: Datom,
-) -> Result<Tree, Memory>
-    requires within { place ≤ length (arc_value tree).0 }
-    requires fits { length (arc_value tree).0 + 1 < 2 ^ 64 }
-    ensures datoms { IfOk result (λ new. new.0 ≡ insert (arc_value tree).0 place datom) }
-    ensures not_lower { IfOk result (λ new. (arc_value tree).1 ≤ new.1) }
-    ensures at_most_one_higher { IfOk result (λ new. new.1 ≤ (arc_value tree).1 + 1) }
+    from: usize,
+    below: &[usize],
+    new: &[Datom],
+) -> Result<Arc<Tree>, Memory>
+    requires same { length below.now ≡ length new.now }
+    requires stand { StandWithin from (from + length (arc_value tree).0) below.now }
+    requires fits { from + length (arc_value tree).0 + length new.now < 2 ^ 64 }
+    ensures { IfOk result (λ grown. (arc_value grown).0 ≡ woven from (arc_value tree).0 below.now new.now) }
 {
+    if new.is_empty() {
+        return Ok(tree);
+    }
     match take(tree)? {
-        Node::Leaf(datoms) => block_with(alloc, datoms, place, datom),
-        Node::Fork(left, middle, right, before, _, _) => {
-            if place <= before {
-                let left = Arc::new(alloc, with_datom(alloc, left, place, datom)?)?;
-                balance(alloc, left, middle, right)
-            } else {
-                let right = with_datom(alloc, right, place - before - 1, datom)?;
-                balance(alloc, left, middle, Arc::new(alloc, right)?)
-            }
+        Node::Leaf(datoms) => {
+            let grown = block_with(alloc, datoms, from, below, new)?;
+            Ok(Arc::new(alloc, grown)?)
+        }
+        Node::Fork(left, datom, right, before, _, _) => {
+            let middle = from + before;
+            let cut = newer_upto(below, middle);
+            let left = with_datoms(alloc, left, from, &below[..cut], &new[..cut])?;
+            let right = with_datoms(alloc, right, middle + 1, &below[cut..], &new[cut..])?;
+            let grown = join(alloc, left, datom, right)?;
+            Ok(Arc::new(alloc, grown)?)
         }
     }
 }
 
-/// A block with a datom more, in two where it is full.
-fn block_with(
-    alloc: Global,
-    mut datoms: Vec<Datom>,
-    place: usize,
-    datom: Datom,
-) -> Result<Tree, Memory>
-    requires few { length datoms.items ≤ BLOCK }
-    requires within { place ≤ length datoms.items }
-    ensures datoms { IfOk result (λ new. new.0 ≡ insert datoms.items place datom) }
-    ensures at_most_one_higher { IfOk result (λ new. new.1 ≤ 1) }
+/// How many of the newer datoms stand before the datom at a place of the tree.
+fn newer_upto(below: &[usize], place: usize) -> usize
+    ensures { result ≡ newer_upto place below.now }
 {
-    datoms.insert(place, datom)?;
+    below.iter().take_while(|older| **older <= place).count()
+}
+
+/// The tree of a block with newer datoms woven in.
+pub fn block_with(
+    alloc: Global,
+    datoms: Vec<Datom>,
+    from: usize,
+    below: &[usize],
+    new: &[Datom],
+) -> Result<Tree, Memory>
+    requires some { 0 < length datoms.items + length new.now }
+    requires same { length below.now ≡ length new.now }
+    requires stand { StandWithin from (from + length datoms.items) below.now }
+    ensures { IfOk result (λ tree. tree.0 ≡ woven from datoms.items below.now new.now) }
+{
+    let mut all = datoms;
+    all.reserve(new.len())?;
+    let mut left = new.len();
+    while left > 0 {
+        left -= 1;
+        all.insert(below[left] - from, new[left].copy()?)?;
+    }
+    built(alloc, all)
+}
+
+/// The tree of some datoms.
+fn built(alloc: Global, mut datoms: Vec<Datom>) -> Result<Tree, Memory>
+    requires { 0 < length datoms.items }
+    ensures { IfOk result (λ tree. tree.0 ≡ datoms.items) }
+{
     if datoms.len() <= BLOCK {
+        datoms.shrink_to_fit();
         return Ok(Tree::leaf(datoms));
     }
-    let right = datoms.split_off(BLOCK / 2 + 1)?;
+    let right = datoms.split_off(datoms.len() / 2 + 1)?;
     match datoms.pop() {
         None => unreachable!(),
         Some(middle) => {
-            let left = Arc::new(alloc, Tree::leaf(datoms))?;
-            let right = Arc::new(alloc, Tree::leaf(right))?;
-            Ok(fork(left, middle, right))
+            let left = Arc::new(alloc, built(alloc, datoms)?)?;
+            let right = Arc::new(alloc, built(alloc, right)?)?;
+            join(alloc, left, middle, right)
         }
     }
+}
+
+/// A tree of two sides of any heights.
+fn join(alloc: Global, left: Arc<Tree>, datom: Datom, right: Arc<Tree>) -> Result<Tree, Memory>
+    requires fits { length (arc_value left).0 + length (arc_value right).0 + 1 < 2 ^ 64 }
+    ensures { IfOk result (λ new. new.0 ≡ (arc_value left).0 ++ datom ∷ (arc_value right).0) }
+{
+    if right.height() <= left.height() {
+        join_lower_right(alloc, left, datom, right)
+    } else {
+        join_lower_left(alloc, left, datom, right)
+    }
+}
+
+/// A tree of two sides of which the second may be any number of forks lower.
+fn join_lower_right(
+    alloc: Global,
+    left: Arc<Tree>,
+    datom: Datom,
+    right: Arc<Tree>,
+) -> Result<Tree, Memory>
+    requires lower { (arc_value right).1 ≤ (arc_value left).1 + 1 }
+    requires fits { length (arc_value left).0 + length (arc_value right).0 + 1 < 2 ^ 64 }
+    ensures datoms { IfOk result (λ new. new.0 ≡ (arc_value left).0 ++ datom ∷ (arc_value right).0) }
+    ensures not_lower { IfOk result (λ new. (arc_value left).1 ≤ new.1) }
+    ensures at_most_one_higher { IfOk result (λ new. new.1 ≤ max (arc_value left).1 (arc_value right).1 + 1) }
+{
+    if left.height() <= right.height() + 1 {
+        return Ok(fork(left, datom, right));
+    }
+    let Node::Fork(outer, first, inner, _, _, _) = take(left)? else {
+        unreachable!()
+    };
+    let inner = join_lower_right(alloc, inner, datom, right)?;
+    balance(alloc, outer, first, Arc::new(alloc, inner)?)
+}
+
+/// A tree of two sides of which the first may be any number of forks lower.
+fn join_lower_left(
+    alloc: Global,
+    left: Arc<Tree>,
+    datom: Datom,
+    right: Arc<Tree>,
+) -> Result<Tree, Memory>
+    requires lower { (arc_value left).1 ≤ (arc_value right).1 + 1 }
+    requires fits { length (arc_value left).0 + length (arc_value right).0 + 1 < 2 ^ 64 }
+    ensures datoms { IfOk result (λ new. new.0 ≡ (arc_value left).0 ++ datom ∷ (arc_value right).0) }
+    ensures not_lower { IfOk result (λ new. (arc_value right).1 ≤ new.1) }
+    ensures at_most_one_higher { IfOk result (λ new. new.1 ≤ max (arc_value left).1 (arc_value right).1 + 1) }
+{
+    if right.height() <= left.height() + 1 {
+        return Ok(fork(left, datom, right));
+    }
+    let Node::Fork(inner, last, outer, _, _, _) = take(right)? else {
+        unreachable!()
+    };
+    let inner = join_lower_left(alloc, left, datom, inner)?;
+    balance(alloc, Arc::new(alloc, inner)?, last, outer)
 }
 
 /// A tree of two sides that are about as high.

@@ -10,3 +10,4 @@ pub mod Distinct
 pub mod Samples
 pub mod Standing
 pub mod Orders
+pub mod Attributes

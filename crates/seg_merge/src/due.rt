@@ -19,7 +19,7 @@ pub fn due(
 ) -> Result<Vec<Datom>, Memory>
     ensures { IfOk result (λ due. due.items ≡ due_of covers.now c order (list_in live.now order)) }
 {
-    let mut due = Vec::new(alloc);
+    let mut due = Vec::with_capacity(alloc, live.len(order) as usize)?;
     for place in 0..live.len(order) {
         match live.at(order, place) {
             None => unreachable!(),

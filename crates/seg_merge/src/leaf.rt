@@ -28,7 +28,7 @@ pub fn union(
     requires single { HasNoTwins (old.now ++ added.now) }
     ensures { IfOk result (λ new. IsUnion order covers.now old.now added.now new.items) }
 {
-    let mut all = Vec::with_capacity(alloc, old.len())?;
+    let mut all = Vec::with_capacity(alloc, old.len().saturating_add(added.len()))?;
     let mut rest = old;
     for datom in added {
         let (before, behind) = rest.split_at(place_in(order, rest, datom)?);
@@ -41,6 +41,20 @@ pub fn union(
 
 /// Whether the order's index holds the attribute of each of the datoms.
 pub fn are_held(order: Order, covers: &Covers, datoms: &[Datom]) -> bool
+    requires { IsRising order datoms.now }
+    ensures held { IsTrue result → All (λ d. IsTrue (is_held covers.now order d)) datoms.now }
+    ensures all { All (λ d. IsTrue (is_held covers.now order d)) datoms.now → IsTrue result }
+{
+    match (order, datoms.first(), datoms.last()) {
+        // Attributes come first in AVET, so those between have it too.
+        (Order::Avet, Some(first), Some(last)) if first.a == last.a => {
+            covers.holds(Order::Avet, first.a)
+        }
+        _ => are_each_held(order, covers, datoms),
+    }
+}
+
+fn are_each_held(order: Order, covers: &Covers, datoms: &[Datom]) -> bool
     ensures held { IsTrue result → All (λ d. IsTrue (is_held covers.now order d)) datoms.now }
     ensures all { All (λ d. IsTrue (is_held covers.now order d)) datoms.now → IsTrue result }
 {
@@ -84,6 +98,9 @@ pub fn place_in(order: Order, datoms: &[Datom], datom: &Datom) -> Result<usize, 
     requires { IsRising order datoms.now }
     ensures { IfOk result (λ place. place ≡ place_of (probe_of order datom.now) datoms.now) }
 {
+    if datoms.is_empty() {
+        return Ok(0);
+    }
     let probe = Probe {
         order,
         e: Some(datom.e),

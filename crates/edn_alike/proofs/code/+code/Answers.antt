@@ -1,8 +1,7 @@
-use Rattle.std.proofs.Common.{◌≡◌, List, length, map, take, vec_items, Vec, Global, sym, subst, arith, ◌+◌}
+use Rattle.std.proofs.Common.{◌≡◌, length, map, vec_items, Vec, Global, arith}
 use Rattle.std.proofs.lemmas.Result.{IfOk-weaker}
-use Rattle.edn_model.specs.Form as form
-use Rattle.edn_form.specs.View.{form_of, forms_of, pairs_of}
-use Rattle.edn_alike.specs.Code.{joined, InOrder, IsCode, AreCodes, ArePairCodes}
+use Rattle.edn_form.specs.View.{form_of}
+use Rattle.edn_alike.specs.Code.{joined, InOrder, IsCode}
 use Rattle.edn_alike.specs.Order.{token_cmp}
 use Rattle.edn_alike.specs.declared.token.Token.{Token}
 use Rattle.edn_alike.specs.declared.token.Token.TheVariants.{Sequence, Map, Set}

@@ -5,7 +5,7 @@ use Rattle.std.specs.Cmp.Lexicographic.{slice_cmp}
 use Rattle.edn_alike.specs.Order.{token_cmp}
 use Rattle.edn_alike.specs.declared.token.Token.{Token}
 use Rattle.edn_alike.proofs.Lists.{rises_from_sorted, rises_mapped}
-use Rattle.edn_alike.proofs.Tokens.{token_total}
+use Rattle.edn_alike.specs.Order.{token_total}
 use Rattle.edn_alike.proofs.code.sorted.Goals as goal
 
 pub returns-clause-shuffled : goal.returns-clause-shuffled

@@ -1,7 +1,8 @@
 use Rattle.edn_alike.specs.Order.{token_cmp}
 use Rattle.edn_alike.proofs.Codes.{same_code}
 use Rattle.edn_alike.proofs.Likeness.{alike_from}
-use Rattle.edn_alike.proofs.Tokens.{token_total, code_exact}
+use Rattle.edn_alike.specs.Order.{token_total}
+use Rattle.edn_alike.proofs.Tokens.{code_exact}
 use Rattle.edn_alike.proofs.laws.alike_forms_have_one_code.Goals as goal
 
 pub returns : goal.returns

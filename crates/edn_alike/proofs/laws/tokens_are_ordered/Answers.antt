@@ -1,4 +1,5 @@
-use Rattle.edn_alike.proofs.Tokens.{token_total, token_exact}
+use Rattle.edn_alike.specs.Order.{token_total}
+use Rattle.edn_alike.proofs.Tokens.{token_exact}
 use Rattle.edn_alike.proofs.laws.tokens_are_ordered.Goals as goal
 
 pub returns : goal.returns

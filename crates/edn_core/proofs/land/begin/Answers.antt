@@ -4,7 +4,7 @@ use Rattle.edn_model.specs.Steps.{opens_of, HasRoom}
 use Rattle.edn_core.specs.Frames.{frames_of}
 use Rattle.edn_core.specs.declared.construct.Frame.{Frame}
 use Rattle.edn_core.proofs.Leading.{stuck_at}
-use Rattle.edn_core.proofs.Openings.{entered}
+use Rattle.edn_core.proofs.Openings.{grown_enters}
 use Rattle.edn_core.proofs.land.begin.Goals as goal
 
 pub returns-then-not-has_room : goal.returns-then-not-has_room
@@ -15,4 +15,4 @@ returns-then-not-has_room c bytes opens start after before kept =
 pub returns : goal.returns
 returns c bytes opens start after before kept =
     let some = subst (λ (xs : List Frame). HasRoom (frames_of bytes xs)) c.as_slice.ensures.value (c.if-not-has_room.ensures bytes) in
-    entered bytes start c.args.frames.now.items c.push.new.frames.items (record { construct = c.args.construct; at = c.args.at }) c.args.next (opens.enters some) c.in_ok-push.ensures after before kept
+    grown_enters bytes start c.args.at c.args.next c.args.frames.now.items c.grow.new.items.items c.args.construct c.grow.result (opens.enters some) c.grow.ensures.ok c.grow.ensures.err after before kept

@@ -1,7 +1,9 @@
-use Rattle.std.proofs.Common.{drop, subst, arith}
+use Rattle.std.proofs.Common.{drop, sym, subst, arith}
 use Rattle.std.specs.Prelude.{Ok}
 use Rattle.std.proofs.lemmas.Result.{err_from_is_err_and}
 use Rattle.edn_model.specs.Steps.{going}
+use Rattle.edn_form.specs.View.{form_of}
+use Rattle.edn_core.specs.Answers.{ReadsTo}
 use Rattle.edn_core.specs.Frames.{frames_of, Leads}
 use Rattle.edn_core.proofs.Answering.{reading_begins, reading_goes, reading_reads, reading_ends, reading_fails, nothing_behind}
 use Rattle.edn_core.proofs.read.answer.Goals as goal
@@ -32,7 +34,8 @@ returns-in-Read c =
     let bytes = c.args.bytes.now in
     let h = c.loop-frames.invariant in
     let begun = going (frames_of bytes c.loop-frames.frames.items) (drop c.loop-frames.here bytes) in
-    reading_reads h (subst (λ p. Leads bytes c.args.at c.loop-frames.here begun (Ok p) c.step.new.frames.items) c.in-Read.is (c.in_ok-next.ensures c.args.at h.after h.within h.kept))
+    subst (λ e. ReadsTo bytes c.args.at (form_of e) c.in-Read.next) (sym c.into_inner.ensures)
+    (reading_reads h (subst (λ p. Leads bytes c.args.at c.loop-frames.here begun (Ok p) c.step.new.frames.items) c.in-Read.is (c.in_ok-next.ensures c.args.at h.after h.within h.kept)))
 
 pub returns-in-End : goal.returns-in-End
 returns-in-End c =

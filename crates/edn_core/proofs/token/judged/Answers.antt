@@ -4,8 +4,8 @@ use Rattle.std.proofs.lemmas.Int.{to_z-of_z}
 use Rattle.edn_model.specs.Form as model
 use Rattle.edn_model.specs.Faults.{unsupported_token, bad_token}
 use Rattle.edn_model.specs.Steps.{going}
-use Rattle.edn_form.specs.declared.form.Edn.{Nil, Bool, Int, Sym, Key}
-use Rattle.edn_form.proofs.Views.{form_of-Nil, form_of-Bool, form_of-Int, form_of-Sym, form_of-Key}
+use Rattle.edn_form.specs.declared.form.Edn.{Nil, Bool, Int}
+use Rattle.edn_form.proofs.Views.{form_of-Nil, form_of-Bool, form_of-Int}
 use Rattle.edn_core.specs.Frames.{frames_of}
 use Rattle.edn_core.proofs.Leading.{leads_put, stuck_at}
 use Rattle.edn_core.proofs.Texts.{whole_is, atom_leads, inst_enters, uuid_enters}
@@ -36,21 +36,11 @@ returns-in-Int c bytes ahead within stands ends some free start after before kep
     leads_put bytes start at at c.args.next old c.put-in-Int.new.frames.items (Int (to_z w64 (of_z w64 c.in-Int.n))) f (going (frames_of bytes old) (drop at bytes)) c.put-in-Int.result (form_of-Int (to_z w64 (of_z w64 c.in-Int.n)) ∙ ap model.integer (to_z-of_z w64 c.in-Int.n fits))
     (atom_leads bytes at c.args.next (frames_of bytes old) c.args.token.now f c.in-Int.ensures stands ends free) (whole_is tt ahead within after before kept) (c.put-in-Int.ensures bytes start at)
 
-pub returns-in_ok-of-in-Symbol : goal.returns-in_ok-of-in-Symbol
-returns-in_ok-of-in-Symbol c bytes ahead within stands ends some free start after before kept =
-    let old = c.args.frames.now.items in
-    let at = c.args.at in
-    let f = model.symbol c.args.token.now in
-    leads_put bytes start at at c.args.next old c.put-in-Symbol.new.frames.items (Sym c.in_ok-of-in-Symbol.field-0) f (going (frames_of bytes old) (drop at bytes)) c.put-in-Symbol.result (form_of-Sym c.in_ok-of-in-Symbol.field-0 ∙ ap model.symbol c.in_ok-of-in-Symbol.ensures)
-    (atom_leads bytes at c.args.next (frames_of bytes old) c.args.token.now f c.in-Symbol.ensures stands ends free) (whole_is tt ahead within after before kept) (c.put-in-Symbol.ensures bytes start at)
+pub returns-in-Symbol : goal.returns-in-Symbol
+returns-in-Symbol c bytes ahead within stands ends some free = c.symbol.ensures bytes c.in-Symbol.ensures ahead within stands ends free
 
-pub returns-in_ok-of-in-Keyword : goal.returns-in_ok-of-in-Keyword
-returns-in_ok-of-in-Keyword c bytes ahead within stands ends some free start after before kept =
-    let old = c.args.frames.now.items in
-    let at = c.args.at in
-    let f = model.keyword (drop 1 c.args.token.now) in
-    leads_put bytes start at at c.args.next old c.put-in-Keyword.new.frames.items (Key c.in_ok-of-in-Keyword.field-0) f (going (frames_of bytes old) (drop at bytes)) c.put-in-Keyword.result (form_of-Key c.in_ok-of-in-Keyword.field-0 ∙ ap model.keyword (c.in_ok-of-in-Keyword.ensures ∙ c.keyword_name.ensures (drop 1 c.args.token.now) c.in-Keyword.ensures.0))
-    (atom_leads bytes at c.args.next (frames_of bytes old) c.args.token.now f c.in-Keyword.ensures stands ends free) (whole_is tt ahead within after before kept) (c.put-in-Keyword.ensures bytes start at)
+pub returns-in-Keyword : goal.returns-in-Keyword
+returns-in-Keyword c bytes ahead within stands ends some free = c.keyword.ensures bytes c.in-Keyword.ensures ahead within stands ends free
 
 pub returns-in-Inst : goal.returns-in-Inst
 returns-in-Inst c bytes ahead within stands ends some free start after before kept =

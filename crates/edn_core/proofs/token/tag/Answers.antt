@@ -1,6 +1,6 @@
-use Rattle.edn_core.proofs.Openings.{entered}
+use Rattle.edn_core.proofs.Openings.{grown_enters}
 use Rattle.edn_core.proofs.token.tag.Goals as goal
 
 pub returns : goal.returns
 returns c bytes enters start after before kept =
-    entered bytes start c.args.frames.now.items c.push.new.frames.items (record { construct = c.args.construct; at = c.args.at }) c.args.next enters c.in_ok-push.ensures after before kept
+    grown_enters bytes start c.args.at c.args.next c.args.frames.now.items c.grow.new.items.items c.args.construct c.grow.result enters c.grow.ensures.ok c.grow.ensures.err after before kept

@@ -1,6 +1,5 @@
-use Rattle.std.proofs.Common.{◌≡◌, ◌<◌, ◌+◌, ◌*◌, length, length-take, take, get_or, arith}
-use Rattle.edn_model.specs.Tokens.{is_hex_digit, hex_value}
-use Rattle.edn_token.specs.Strings.{hex_number}
+use Rattle.std.proofs.Common.{◌<◌, length, length-take, take, get_or, arith}
+use Rattle.edn_model.specs.Tokens.{is_hex_digit}
 use Rattle.edn_token.proofs.Escapes.{hex_small, hex_more, each_more, all_pass, digit_some, digit_none, clash}
 use Rattle.edn_token.proofs.escape.code_of.Goals as goal
 

@@ -1,11 +1,9 @@
-use Rattle.std.proofs.Common.{◌≡◌, ◌+◌, ◌<◌, ◌≤◌, ◌∷◌, ◌++◌, length, true, false, ◌^◌, ℕ, List, ap, ◌∙◌, refl, sym, subst, arith, rules}
-use Rattle.live_blocks.specs.Tree.{datoms_and_height, IsTree}
+use Rattle.std.proofs.Common.{◌≡◌, ◌<◌, ◌∷◌, length, true, false, ◌^◌, refl, subst, arith, rules}
+use Rattle.live_blocks.specs.Tree.{IsTree}
 use Rattle.std.specs.Arc.{arc_value}
-use Rattle.fb_search.specs.Rising.{IsRising}
 use Rattle.fb_search.specs.Places.{is_below, place_of}
 use Rattle.fb_search.proofs.Below.{place_of-le-length}
 use Rattle.fb_search.proofs.Ends.{rising-append_left, rising-append_right, place_of-behind, place_of-before}
-use Rattle.fb_values.specs.declared.facts.Datom.{Datom}
 use Rattle.live_blocks.proofs.AtNode.{at_fork, leaf_low}
 use Rattle.live_blocks.proofs.tree.+place_in.Goals as goal
 
@@ -33,8 +31,8 @@ place_in-requires-else-is_below g t c κs within =
 pub returns-in-Leaf-clause-cost : goal.returns-in-Leaf-clause-cost
 returns-in-Leaf-clause-cost g t c =
     let good = subst IsTree c.in-Leaf.is c.tree.invariant in
-    let few : length c.deref.result.now < 2 ^ 5 = rw c.deref.ensures.value (omega (arith, good.1)) in
-    omega (arith, c.lower_bound.ensures.cost 5 few)
+    let few : length c.deref.result.now < 2 ^ 4 = rw c.deref.ensures.value (omega (arith, good.1)) in
+    omega (arith, c.lower_bound.ensures.cost 4 few)
 
 pub returns-then-is_below-clause-place : goal.returns-then-is_below-clause-place
 returns-then-is_below-clause-place g t c =

@@ -1,4 +1,4 @@
-use Rattle.std.proofs.Common.{◌≡◌, ◌≤◌, ◌+◌, ◌∷◌, ◌++◌, length, max, arith, length-append}
+use Rattle.std.proofs.Common.{◌≡◌, ◌≤◌, ◌+◌, ◌∷◌, ◌++◌, length, arith, length-append}
 use Rattle.std.specs.Arc.{arc_value}
 use Rattle.live_blocks.specs.Trees.{least_len}
 use Rattle.live_blocks.proofs.Heights.{least_len-fork}

@@ -1,6 +1,5 @@
 use Rattle.std.proofs.Common.{◌≡◌, ◌∙◌, false, sym, ap, subst, List}
 use Rattle.fb_values.specs.declared.facts.Datom.{Datom}
-use Rattle.live_blocks.specs.Blocks.{datoms_of}
 use Rattle.std.specs.Prelude.{IsTrue}
 use Rattle.std.specs.List.{insert, slice_get}
 use Rattle.std.proofs.lemmas.Result.{IfOk-weaker}
@@ -25,13 +24,11 @@ returns-clause-rising c =
     let place_is : c.place-place.result ≡ place_of (probe_of c.args.order c.args.datom.now) c.args.list = c.place-place.ensures ∙ ap (λ p. place_of p c.args.list) c.in_ok-probe.ensures in
     let apart : is_twin c.args.order c.args.datom.now (slice_get c.args.list c.place-place.result) ≡ false = sym c.is_there.ensures ∙ c.if-is_there.false in
     let rising : IsRising c.args.order (insert c.args.list c.place-place.result c.args.datom.now) = rw place_is (rising_with c.args.order c.args.datom.now c.args.list c.requires.rising (place_of-le-length (probe_of c.args.order c.args.datom.now) c.args.list) (rw place_is at apart)) in
-    let same : insert (datoms_of c.list.inside.root) c.place-place.result c.in_ok-copy.field-0 ≡ insert c.args.list c.place-place.result c.args.datom.now =
-    ap (λ (ds : List Datom). insert ds c.place-place.result c.in_ok-copy.field-0) c.list.view_is ∙ ap (λ (d : Datom). insert c.args.list c.place-place.result d) c.in_ok-copy.ensures in
+    let same = ap (λ (ds : List Datom). insert ds c.place-place.result c.in_ok-copy.field-0) c.list.view_is ∙ ap (λ (d : Datom). insert c.args.list c.place-place.result d) c.in_ok-copy.ensures in
     IfOk-weaker c.insert.result _ _ (λ new is. subst (IsRising c.args.order) (sym (is ∙ same)) rising) c.insert.ensures
 
 pub returns-clause-members : goal.returns-clause-members
 returns-clause-members c =
     let held : IsTrue (is_held c.args.covers.now c.args.order c.args.datom.now) = cc in
-    let same : insert (datoms_of c.list.inside.root) c.place-place.result c.in_ok-copy.field-0 ≡ insert c.args.list c.place-place.result c.args.datom.now =
-    ap (λ (ds : List Datom). insert ds c.place-place.result c.in_ok-copy.field-0) c.list.view_is ∙ ap (λ (d : Datom). insert c.args.list c.place-place.result d) c.in_ok-copy.ensures in
+    let same = ap (λ (ds : List Datom). insert ds c.place-place.result c.in_ok-copy.field-0) c.list.view_is ∙ ap (λ (d : Datom). insert c.args.list c.place-place.result d) c.in_ok-copy.ensures in
     IfOk-weaker c.insert.result _ _ (λ new is. gains_inserted c.args.list c.place-place.result c.args.datom.now new (λ d. IsTrue (is_held c.args.covers.now c.args.order d)) held (is ∙ same)) c.insert.ensures

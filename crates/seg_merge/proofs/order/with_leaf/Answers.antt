@@ -5,12 +5,17 @@ use Rattle.std.specs.Arc.{arc_value}
 use Rattle.std.proofs.lemmas.Bool.{eqb-true}
 use Rattle.std.proofs.lemmas.Result.{IfOk-weaker}
 use Rattle.fb_values.specs.declared.facts.Datom.{Datom}
+use Rattle.fb_search.specs.Rising.{IsRising}
 use Rattle.live_index.specs.Growth.{HasNoTwins, is_held}
 use Rattle.seg_tree.specs.Nodes.{LeafNode}
 use Rattle.seg_merge.specs.Plans.{Planned, AddsLeaf}
 use Rattle.seg_merge.proofs.Lists.{none_of_zero}
 use Rattle.seg_merge.proofs.Ranges.{adds_kept}
 use Rattle.seg_merge.proofs.order.with_leaf.Goals as goal
+
+pub are_held-requires : goal.are_held-requires
+are_held-requires c =
+    subst (IsRising c.args.order) (sym (c.datoms.ensures.datoms ∙ ap (λ (l : LeafNode). l.datoms) c.deref.ensures)) c.requires.leaf_rises
 
 pub returns-then-are_held : goal.returns-then-are_held
 returns-then-are_held c =
