@@ -1,4 +1,4 @@
-use Rattle.std.proofs.Common.{ap, ◌∙◌}
+use Rattle.std.proofs.Common.{ap}
 use Rattle.std.proofs.lemmas.Result.{IfOk-weaker}
 use Rattle.seg_tree.specs.Nodes.{tree_datoms}
 use Rattle.seg_merge.proofs.Samples.{none_rising}
