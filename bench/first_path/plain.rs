@@ -4,25 +4,15 @@ use std::io::{self, Read, Write};
 use std::sync::Arc;
 use std::time::{SystemTime, UNIX_EPOCH};
 
+#[path = "../datom.rs"]
+mod datom;
+
+use datom::{Datom, Value};
+
 enum Edn {
     Key(Arc<str>),
     Str(Arc<str>),
     Vector(Vec<Edn>),
-}
-
-#[allow(dead_code)]
-enum Value {
-    Instant(i64),
-    Str(Arc<str>),
-}
-
-#[allow(dead_code)]
-struct Datom {
-    e: u64,
-    a: u64,
-    v: Value,
-    t: u32,
-    added: bool,
 }
 
 #[allow(dead_code)]

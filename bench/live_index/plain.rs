@@ -5,21 +5,10 @@ use std::cmp::Ordering;
 use std::collections::BTreeSet;
 use std::sync::Arc;
 
-#[derive(Clone, PartialEq, Eq, PartialOrd, Ord)]
-enum Value {
-    Str(Arc<str>),
-    Instant(i64),
-    Long(i64),
-}
+#[path = "../datom.rs"]
+mod datom;
 
-#[derive(Clone)]
-struct Datom {
-    e: u64,
-    a: u64,
-    v: Value,
-    t: u32,
-    added: bool,
-}
+use datom::{Datom, Value};
 
 macro_rules! order {
     ($name:ident, $compare:ident, $d:ident => $key:expr) => {

@@ -5,23 +5,10 @@ use std::cmp::Ordering;
 use std::collections::BTreeSet;
 use std::sync::Arc;
 
-#[derive(Clone, PartialEq, Eq, PartialOrd, Ord)]
-#[allow(dead_code)]
-enum Value {
-    Text(Arc<str>),
-    Bool(bool),
-    Long(i64),
-    Uuid(u128),
-}
+#[path = "../datom.rs"]
+mod datom;
 
-#[derive(Clone)]
-struct Datom {
-    e: u64,
-    a: u64,
-    v: Value,
-    t: u32,
-    added: bool,
-}
+use datom::{Datom, Value};
 
 impl Datom {
     fn key(&self) -> (u64, u64, &Value, u32) {
