@@ -4,6 +4,7 @@ use Rattle.std.proofs.Math.Numerals.{one-add}
 use Rattle.std.proofs.lemmas.Bool.{cases_lt, lt-ltb, le-ltb, le-leb, lt-leb}
 use Rattle.std.proofs.lemmas.List.{length-take-le, take_rest}
 use Rattle.std.specs.List.{insert, slice_get}
+use Rattle.live_blocks.specs.declared.newest.TheConstants.{NEWEST}
 use Rattle.live_blocks.specs.Newest.{woven, StandWithin, AreNewest, newer_before, newer_upto}
 use Rattle.live_blocks.proofs.Sides.{insert-append_left, insert-append_right}
 
@@ -68,7 +69,7 @@ stand-insert low high place (b ∷ below) stand le within =
 pub newest-none : {X : Type 0} (old : List X) → length old < 2 ^ 64 → AreNewest old [] []
 newest-none old fits = record { same = refl; few = omega arith; stand = tt; fits = omega (arith, fits) }
 
-pub newest-insert : {X : Type 0} (old : List X) (below : List ℕ) (new : List X) (place : ℕ) (x : X) → AreNewest old below new → length new < 63 → place ≤ length old + length new → length old + length new + 1 < 2 ^ 64 → AreNewest old (insert below (newer_before place below) (place - newer_before place below)) (insert new (newer_before place below) x)
+pub newest-insert : {X : Type 0} (old : List X) (below : List ℕ) (new : List X) (place : ℕ) (x : X) → AreNewest old below new → length new < NEWEST → place ≤ length old + length new → length old + length new + 1 < 2 ^ 64 → AreNewest old (insert below (newer_before place below) (place - newer_before place below)) (insert new (newer_before place below) x)
 newest-insert old below new place x are few within fits =
     let count = newer_before place below in
     let longer = length-insert below count (place - count) in

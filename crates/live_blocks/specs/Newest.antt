@@ -2,6 +2,7 @@
 -- This project's own choice.
 use Rattle.std.specs.Prelude.{◌≡◌, ℕ, suc, ◌+◌, ◌-◌, ◌^◌, ◌<◌, ◌≤◌, List, [], ◌∷◌, length, Option, nat_lt, nat_le, if◌then◌else◌}
 use Rattle.std.specs.List.{insert, prefix_len, slice_get}
+use Rattle.live_blocks.specs.declared.newest.TheConstants.{NEWEST}
 use Rattle.live_blocks.specs.declared.newest.Stand.{Stand}
 use Rattle.live_blocks.specs.declared.newest.Stand.TheVariants.{Newest, Tree}
 
@@ -32,7 +33,7 @@ IsNotFalling below = (high : ℕ) × StandWithin 0 high below
 -- a few new elements that can be woven into the old ones, and all of them can be counted
 pub record AreNewest {X : Type 0} (old : List X) (below : List ℕ) (new : List X) : Type 0 where
   pub same : length below ≡ length new
-  pub few : length new ≤ 63
+  pub few : length new ≤ NEWEST
   pub stand : StandWithin 0 (length old) below
   pub fits : length old + length new < 2 ^ 64
 

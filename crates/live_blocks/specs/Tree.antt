@@ -3,6 +3,7 @@
 use Rattle.std.specs.Prelude.{◌≡◌, ℕ, ◌+◌, ◌^◌, ◌<◌, ◌≤◌, max, List, ◌∷◌, ◌++◌, length}
 use Rattle.std.specs.Arc.{arc_value}
 use Rattle.fb_values.specs.declared.facts.Datom.{Datom}
+use Rattle.live_blocks.specs.declared.tree.TheConstants.{BLOCK}
 use Rattle.live_blocks.specs.declared.tree.Node.{Node}
 use Rattle.live_blocks.specs.declared.tree.Node.TheVariants.{Leaf, Fork}
 use Rattle.live_blocks.specs.Trees.{DifferByAtMost, least_len}
@@ -21,9 +22,9 @@ pub record IsFork (l : List Datom × ℕ) (d : Datom) (r : List Datom × ℕ) (b
   pub low : least_len height ≤ len + 1
   pub fits : len < 2 ^ 64
 
--- a block has 1 to 15 datoms
+-- a block has a datom, and no more than its greatest number
 abbrev pub IsTree : Node → Type 0
-IsTree (Leaf datoms) = (0 < length datoms.items) × (length datoms.items ≤ 15)
+IsTree (Leaf datoms) = (0 < length datoms.items) × (length datoms.items ≤ BLOCK)
 IsTree (Fork l d r before len height) = IsFork (arc_value l) d (arc_value r) before len height
 
 -- a copy of a node: the same datoms, and sides of the same values
