@@ -210,7 +210,7 @@ module _ {E : Type 0} where
   own_number v live = let t = numbered_own v live in let m : ℕ = total (has_number v.number) v.joined in omega arith
 
   -- no note of a seat, its own or another's, has the number of a seat that is there
-  pub unnoted : (drawn given : ℕ) (vs : List (View E)) (i j k : ℕ) (v u : View E) (p : Joined) → CountsOk drawn given vs → get_elem? vs i ≡ some v → get_elem? vs j ≡ some u → 0 < v.seats → get_elem? u.joined k ≡ some p → p.number ≢ v.number
+  pub unnoted : (drawn given : ℕ) (vs : List (View E)) (i j k : ℕ) (v u : View E) (p : Joined E) → CountsOk drawn given vs → get_elem? vs i ≡ some v → get_elem? vs j ≡ some u → 0 < v.seats → get_elem? u.joined k ≡ some p → p.number ≢ v.number
   unnoted drawn given vs i j k v u p c a b live at e = dite (ℕ_discrete j i)
       (λ same. let is : v ≡ u = same_at vs i j v u (sym same) a b in
       let at' : get_elem? v.joined k ≡ some p = ap (λ (z : View E). get_elem? z.joined k) is ∙ at in

@@ -145,12 +145,13 @@ module _ {H S E : Type 0} (N : Naming H S E) (n start : ℕ) where
         seen = k.past.1;
         counted = ap (λ (z : ℕ). z + 1 + length x.authors) (k.past.0 live) ∙ r.history.counted;
         commits = k.past.2 live ∙ ap (λ (z : ℕ). commits_of v.number (z + 1) x.authors) (sym (k.past.0 live));
-        joined = λ i p e. (k.notes i p e).0 ∙ ap (λ (z : ℕ). commits_of p.number (z + 1) x.authors) (sym (k.past.0 live));
+        joined_seen = λ i p e. (k.notes i p e).0;
+        joined = λ i p e. (k.notes i p e).1 ∙ ap (λ (z : ℕ). commits_of p.number (z + 1) x.authors) (sym (k.past.0 live));
         unwritten = λ z le ne. ap (λ (y : ℕ). commits_of z (y + 1) x.authors) (k.past.0 live) ∙ r.history.unwritten z (omega arith) ne;
         stop = k.told.0;
         own_stop = k.told.1 live;
-        joined_stop = λ i p q e. (k.notes i p e).1 q;
-        joined_own_stop = λ i p q e. (k.notes i p e).2 q;
+        joined_stop = λ i p q e. (k.notes i p e).2 q;
+        joined_own_stop = λ i p q e. (k.notes i p e).3 q;
         covered = k.told.2 live first;
       } in (
         h,

@@ -1,5 +1,5 @@
 -- Seats split, and join again.
-use Rattle.std.proofs.Common.{◌≡◌, ◌≢◌, inl, inr, ⊎_elim, ℕ, zero, suc, ◌+◌, ◌<◌, List, [], ◌∷◌, ◌++◌, set, eqb, sym, refl, ap, ◌∙◌, subst, arith, Some, None}
+use Rattle.std.proofs.Common.{◌≡◌, ◌≢◌, inl, inr, ⊎_elim, ℕ, zero, suc, ◌+◌, ◌<◌, List, [], ◌∷◌, ◌++◌, set, eqb, sym, refl, ap, ◌∙◌, subst, arith, None}
 use mathlib.Core.Logic.{dite}
 use mathlib.Core.Option.{some, some-injective, some-ne-none}
 use native.Mathlib.Decide.{ℕ_discrete}
@@ -7,19 +7,17 @@ use lib.ListN.{get_elem?}
 use Rattle.atomic_table.specs.Table.{State}
 use Rattle.atomic_table.proofs.Lists.{set_else}
 use Rattle.board_rule.specs.declared.board.Place.{Place}
-use Rattle.board_rule.specs.declared.view.Stop.{Stop}
-use Rattle.board_rule.specs.declared.view.Joined.{Joined}
 use Rattle.board_rule.specs.declared.view.Grab.{Grab}
 use Rattle.board_rule.specs.declared.view.Grab.TheVariants.{Free}
 use Rattle.board_rule.specs.declared.view.View.{View}
-use Rattle.board_rule.specs.Views.{worker, commits_of}
+use Rattle.board_rule.specs.Views.{worker}
 use Rattle.board_rule.specs.Board.{Naming, Scene, total, seats_of, draws_left, numbered, Claims, KeepsNotes, Knows, Ruled}
 use Rattle.board_rule.proofs.Sums.{total-set, none_not, left_live}
 use Rattle.board_rule.proofs.Keeps.{same_at, seats_stay, apart_set, counts_kept, owned_kept, turns_kept, total_same, unlike}
 use Rattle.atomic_table.specs.Table.{Splits, Joins}
 use Rattle.atomic_table.proofs.Lists.{at_snoc}
 use Rattle.board_rule.specs.Views.{giver, newcomer, note_of, both, spent}
-use Rattle.board_rule.specs.Board.{one_if, has_number, Apart, Recalls, KeepsNotes, KnowsMarks}
+use Rattle.board_rule.specs.Board.{one_if, has_number, Apart, Recalls, IsNote, KnowsMarks}
 use Rattle.board_rule.proofs.Sums.{total-append, numbered_live, one_same, one_other}
 use Rattle.board_rule.proofs.Keeps.{at_longer, at_append, longer_begins, longer_recent, owned_else}
 
@@ -132,10 +130,8 @@ module _ {H S E : Type 0} (N : Naming H S E) (n start : ℕ) where
   notes_join : (x : Scene E) (v u : View E) → KeepsNotes start x v → KeepsNotes start x u → Recalls start x u → KnowsMarks x u → 0 < u.seats → KeepsNotes start x (both v u)
   notes_join x v u mine theirs past told live k p e = ⊎_elim (λ (old : get_elem? v.joined k ≡ some p). mine k p old) (λ t. go t.0 t.1) (at_append v.joined (note_of u ∷ u.joined) k p e)
     where
-      go : (i : ℕ) → get_elem? (note_of u ∷ u.joined) i ≡ some p → (p.commits ≡ commits_of p.number (start + 1) x.authors) × ((q : Stop) → p.stop ≡ Some q → x.shown.stop ≡ Some q) × ((q : Stop) → x.shown.stop ≡ Some q → p.number ≡ q.author → p.stop ≡ Some q)
-      go zero e = let is : note_of u ≡ p = some-injective (note_of u) p e in
-          subst (λ (z : Joined). (z.commits ≡ commits_of z.number (start + 1) x.authors) × ((q : Stop) → z.stop ≡ Some q → x.shown.stop ≡ Some q) × ((q : Stop) → x.shown.stop ≡ Some q → z.number ≡ q.author → z.stop ≡ Some q)) is
-          (past.2 live, told.0, told.1 live)
+      go : (i : ℕ) → get_elem? (note_of u ∷ u.joined) i ≡ some p → IsNote start x p
+      go zero e = subst (IsNote start x) (some-injective (note_of u) p e) (past.1, past.2 live, told.0, told.1 live)
       go (suc i) e = theirs i p e
 
   pub joins_on : (id : ℕ) (v : View E) (other : ℕ) (u : View E) → v.ticket ≡ None → u.ticket ≡ None → v.grab ≡ Free → u.grab ≡ Free → 0 < v.seats → 0 < u.seats → Joins Rule id v other u (both v u) spent

@@ -54,10 +54,10 @@ module _ {E : Type 0} where
   numbered_own v live = omega (arith, numbered_live v.number v live, one_same v.number v.number refl)
 
   -- a note of a number is counted
-  pub note_counts : (v : View E) (k : ℕ) (p : Joined) → get_elem? v.joined k ≡ some p → 1 ≤ total (has_number p.number) v.joined
+  pub note_counts : (v : View E) (k : ℕ) (p : Joined E) → get_elem? v.joined k ≡ some p → 1 ≤ total (has_number p.number) v.joined
   note_counts v k p at = omega (arith, term_le (has_number p.number) v.joined k p at, one_same p.number p.number refl)
 
-  pub note_numbered : (v : View E) (k : ℕ) (p : Joined) → get_elem? v.joined k ≡ some p → 1 ≤ numbered p.number v
+  pub note_numbered : (v : View E) (k : ℕ) (p : Joined E) → get_elem? v.joined k ≡ some p → 1 ≤ numbered p.number v
   note_numbered v k p at = let c : ℕ = cond (eqb v.seats 0) 0 (one_if (eqb v.number p.number)) in omega (arith, note_counts v k p at)
 
   -- where one seat weighs as much as all, the others weigh nothing

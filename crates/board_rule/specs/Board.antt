@@ -66,7 +66,7 @@ total g (x ∷ xs) = g x + total g xs
 abbrev pub one_if : Bool → ℕ
 one_if b = cond b 1 0
 
-abbrev pub has_number : ℕ → Joined → ℕ
+abbrev pub has_number : {E : Type 0} → ℕ → Joined E → ℕ
 has_number z p = one_if (eqb p.number z)
 
 module _ {E : Type 0} where
@@ -127,10 +127,13 @@ module _ {E : Type 0} where
   abbrev pub Recalls : ℕ → Scene E → View E → Type 0
   Recalls start x v = (0 < v.seats → v.start ≡ start) × StartsWith x.entries v.seen × (0 < v.seats → v.commits ≡ commits_of v.number (start + 1) x.authors) × (0 < v.seats → AllBelow (length v.seen) v.commits)
 
-  -- the same of the seats that were joined to it
-  abbrev pub KeepsNotes : ℕ → Scene E → View E → Type 0
-  KeepsNotes start x v = (k : ℕ) (p : Joined) → get_elem? v.joined k ≡ some p → (p.commits ≡ commits_of p.number (start + 1) x.authors)
+  -- the same of a seat that was joined to another, and what it was told of a stop
+  abbrev pub IsNote : ℕ → Scene E → Joined E → Type 0
+  IsNote start x p = StartsWith x.entries p.seen × (p.commits ≡ commits_of p.number (start + 1) x.authors)
       × ((q : Stop) → p.stop ≡ Some q → x.shown.stop ≡ Some q) × ((q : Stop) → x.shown.stop ≡ Some q → p.number ≡ q.author → p.stop ≡ Some q)
+
+  abbrev pub KeepsNotes : ℕ → Scene E → View E → Type 0
+  KeepsNotes start x v = (k : ℕ) (p : Joined E) → get_elem? v.joined k ≡ some p → IsNote start x p
 
   abbrev pub HasNumber : Scene E → View E → Type 0
   HasNumber x v = (0 < v.seats → (v.number < x.given) ⊎ (v.number ≡ worker)) × (0 < v.seats → v.number ≡ worker → v.given ≡ x.given)

@@ -203,8 +203,8 @@ module _ {E : Type 0} where
   abbrev pub newcomer : View E → View E
   newcomer v = record (starting v.start v.seen 0) { number = v.given }
 
-  abbrev pub note_of : View E → Joined
-  note_of v = record { number = v.number; commits = v.commits; stop = v.stop }
+  abbrev pub note_of : View E → Joined E
+  note_of v = record { number = v.number; seen = v.seen; commits = v.commits; stop = v.stop }
 
   -- the two views after a join
   abbrev pub both : View E → View E → View E
@@ -277,10 +277,11 @@ module _ {E : Type 0} where
     pub seen : StartsWith entries v.seen
     pub counted : v.start + 1 + length authors ≡ length entries
     pub commits : v.commits ≡ commits_of v.number (v.start + 1) authors
-    pub joined : (k : ℕ) (p : Joined) → get_elem? v.joined k ≡ some p → p.commits ≡ commits_of p.number (v.start + 1) authors
+    pub joined_seen : (k : ℕ) (p : Joined E) → get_elem? v.joined k ≡ some p → StartsWith entries p.seen
+    pub joined : (k : ℕ) (p : Joined E) → get_elem? v.joined k ≡ some p → p.commits ≡ commits_of p.number (v.start + 1) authors
     pub unwritten : (z : ℕ) → v.given ≤ z → z ≢ worker → commits_of z (v.start + 1) authors ≡ []
     pub stop : (p : Stop) → v.stop ≡ Some p → marks.stop ≡ Some p
     pub own_stop : (p : Stop) → marks.stop ≡ Some p → v.number ≡ p.author → v.stop ≡ Some p
-    pub joined_stop : (k : ℕ) (p : Joined) (q : Stop) → get_elem? v.joined k ≡ some p → p.stop ≡ Some q → marks.stop ≡ Some q
-    pub joined_own_stop : (k : ℕ) (p : Joined) (q : Stop) → get_elem? v.joined k ≡ some p → marks.stop ≡ Some q → p.number ≡ q.author → p.stop ≡ Some q
+    pub joined_stop : (k : ℕ) (p : Joined E) (q : Stop) → get_elem? v.joined k ≡ some p → p.stop ≡ Some q → marks.stop ≡ Some q
+    pub joined_own_stop : (k : ℕ) (p : Joined E) (q : Stop) → get_elem? v.joined k ≡ some p → marks.stop ≡ Some q → p.number ≡ q.author → p.stop ≡ Some q
     pub covered : v.covered ≡ marks.covered

@@ -27,8 +27,9 @@ pub struct Story<E> {
 }
 
 /// What is kept of a seat that was joined to another.
-pub struct Joined {
+pub struct Joined<E> {
     pub number: u64,
+    pub seen: LinkedList<E>,
     pub commits: LinkedList<u64>,
     pub stop: Option<Stop>,
 }
@@ -96,7 +97,7 @@ pub struct View<E> {
     pub seen: LinkedList<E>,
     /// The t of each entry that it added, in order.
     pub commits: LinkedList<u64>,
-    pub joined: LinkedList<Joined>,
+    pub joined: LinkedList<Joined<E>>,
     /// While it has the turn.
     pub turn: Option<Story<E>>,
     pub core: At,
