@@ -83,8 +83,13 @@ module _ {H S E : Type 0} (N : Naming H S E) (n start : ℕ) where
         };
       }
 
-  pub takes_core_on : (slots id : ℕ) (m : M) → HasTurn m.0 → core_rests m.0.core ≡ true → m.1 ≡ [] → Allows Rule slots id m 1 (λ z. z) (takes_core N (step slots 1 0 0 none) m)
-  takes_core_on slots id m has rests bare s r deep at _ =
+  had : {P : H → Type 0} (Q : H → Type 0) (c : At) (o : Option H) → ((h : H) → P h → Q h) → CoreHas P c o → CoreHas Q c o
+  had Q Home o more is = (is.0, is.1, more is.0 is.2)
+  had Q Away o more is = is
+  had Q Hand o more is = is
+
+  pub takes_core_on : (slots id : ℕ) (m : M) (kept : H → Type 0) → ((h : H) → N.sound h → kept h) → HasTurn m.0 → core_rests m.0.core ≡ true → m.1 ≡ [] → Allows Rule slots id m 1 (λ z. z) (takes_core (λ h. Fits (N.entries h) (N.authors h) (N.marks h) (kept h)) (step slots 1 0 0 none) m)
+  takes_core_on slots id m kept told has rests bare s r deep at _ =
       let v : View E = m.0 in let x : Scene E = r.scene in let hold = holds N n start s r id v at has in let p = get_elem? s.homes 0 in
       let es = entries_are N n start s r id v at has in let who = authors_are N n start s r id v at has in let mk = marks_are N n start s r id v at has in
       let was : CoreIs N (history_of v) (authors_of v) (marks_of v) v.core p = subst (λ (q : List E × List ℕ × Marks × At). CoreIs N q.0 q.1 q.2 q.3 p) (λ i. (sym es i, sym who i, sym mk i, sym hold.3 i)) r.core in
@@ -93,7 +98,7 @@ module _ {H S E : Type 0} (N : Naming H S E) (n start : ℕ) where
         takes 0 (Core o),
         lies.1,
         loaded N n start s 1 (set s.homes 0 none) (set s.views id w) (moves_core s r id v has Hand none at refl),
-        (o, (λ i. (w, (0, Core o) ∷ bare i)), lies.2),
+        (o, (λ i. (w, (0, Core o) ∷ bare i)), had (λ h. Fits (N.entries h) (N.authors h) (N.marks h) (kept h) v) v.core o (λ h f. (f.0, f.1, f.2, told h f.3)) lies.2),
       )
 
   core_stands : (x : Scene E) (v : View E) (o : Option H) → history_of v ≡ x.entries → authors_of v ≡ x.authors → marks_of v ≡ marked x.shown x.next → IfSome o (FitsIn v) → CoreIs N x.entries x.authors (marked x.shown x.next) (at_of o) (some (some (Core o)))

@@ -11,8 +11,7 @@ use Rattle.board_rule.specs.declared.view.Content.{Content}
 use Rattle.board_rule.specs.declared.view.Content.TheVariants.{InHand, Empty, Full}
 use Rattle.board_rule.specs.declared.view.Grab.TheVariants.{Free}
 use Rattle.board_rule.specs.declared.view.View.{View}
-use Rattle.board_rule.specs.Views.{StartsWith, HasTurn, history_of, Fits, content_of, found_of, refilled, drew, noted, added, ended, counted, grabbed, passed, found, let_go, writing, skipped, Looks}
-use Rattle.board_rule.specs.Board.{Naming}
+use Rattle.board_rule.specs.Views.{StartsWith, HasTurn, history_of, content_of, found_of, refilled, drew, noted, added, ended, counted, grabbed, passed, found, let_go, writing, skipped, Looks}
 
 abbrev pub at_of : {H : Type 0} → Option H → At
 at_of None = Away
@@ -96,5 +95,5 @@ module _ {H S E : Type 0} where
   abbrev pub takes_mail : (S → List E) → Said H S → Sat H S E → ℕ → Sat H S E → Type 0
   takes_mail mailed st m n m' = (o : Option S) × (m' ≡ (record m.0 { grab = refilled m.0.grab InHand }, (st.word - 2, Mail o) ∷ [])) × MailHas mailed (content_of m.0.grab) o
 
-  abbrev pub takes_core : Naming H S E → Said H S → Sat H S E → ℕ → Sat H S E → Type 0
-  takes_core N st m n m' = (o : Option H) × (m' ≡ (record m.0 { core = Hand }, (0, Core o) ∷ [])) × CoreHas (λ h. Fits (N.entries h) (N.authors h) (N.marks h) (N.sound h) m.0) m.0.core o
+  abbrev pub takes_core : (H → View E → Type 0) → Said H S → Sat H S E → ℕ → Sat H S E → Type 0
+  takes_core fits st m n m' = (o : Option H) × (m' ≡ (record m.0 { core = Hand }, (0, Core o) ∷ [])) × CoreHas (λ h. fits h m.0) m.0.core o

@@ -32,6 +32,10 @@ longer a b = cond (ltb (length a) (length b)) b a
 abbrev pub IsLawful : {E : Type 0} → (List E → E → Type 0) → List E → Type 0
 IsLawful {E} follows l = (i : ℕ) (e : E) → get_elem? l i ≡ some e → follows (take i l) e
 
+-- the value is sound, and its origin is that of `begun`, the one with which the board was opened
+abbrev pub IsSoundSince : {H O : Type 0} → (H → Type 0) → (H → O) → H → H → Type 0
+IsSoundSince sound origin begun h = sound h × (origin h ≡ origin begun)
+
 -- entries as they stand in views
 abbrev pub code : {A : Type 0} → (A → Gv) → A → Code
 code f a = record { of = f a }

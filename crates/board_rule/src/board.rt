@@ -20,7 +20,7 @@ pub enum Place<H, S> {
     Mail(Option<S>),
 }
 
-/// What is fixed when the board is made.
+/// What is fixed when the board is made: `home` is the value with which slot 0 began.
 #[derive(Drop)]
 pub struct Begun<H> {
     pub home: Snapshot<H>,
@@ -35,10 +35,10 @@ pub struct OneHistory<H, S> {
 
 impl<H: Named, S: Mailed + Named<Entry = H::Entry>> TableRule<Place<H, S>, View<Code>, Begun<H>>
     for OneHistory<H, S> {
-    ghost use Rattle.board_rule.specs.Views.{codes, starting};
+    ghost use Rattle.board_rule.specs.Views.{codes, starting, IsSoundSince};
     ghost use Rattle.board_rule.specs.Board.{naming, Ruled};
 
-    ghost holds = { λ k. Ruled (naming H.Entry.row.coded.code H.entries H.authors H.marks H.follows H.sound S.entries) k.sessions k.start };
+    ghost holds = { λ k. Ruled (naming H.Entry.row.coded.code H.entries H.authors H.marks H.follows (IsSoundSince H.sound H.origin k.home.value) S.entries) k.sessions k.start };
 
     ghost first = { λ k. starting k.start (codes H.Entry.row.coded.code (H.entries k.home.value)) (H.marks k.home.value).covered };
 }

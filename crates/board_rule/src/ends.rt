@@ -77,6 +77,7 @@ impl<H: Named, S: Mailed + Named<Entry = H::Entry>> Board<H, S> {
         requires home { (H.authors home ≡ []) × ((H.marks home).stop ≡ None) × H.sound home }
         requires mailed { All (λ s. S.entries s ≡ H.entries home) mailed × (length mailed < 2147483648) }
         ensures board { IfOk result (λ r. (board_of r.1 ≡ r.0.table.shared.table_id) × (r.0.table.shared.key.sessions ≡ length mailed) × (r.0.table.shared.key.start ≡ basis)) }
+        ensures home { IfOk result (λ r. r.0.table.shared.key.home.value ≡ home) }
         ensures seat { IfOk result (λ r. view_of r.1 ≡ starting basis (codes H.Entry.row.coded.code (H.entries home)) (H.marks home).covered) }
     {
         let mailed = mailed.into_vec();
@@ -111,6 +112,7 @@ impl<H: Named, S: Mailed + Named<Entry = H::Entry>> Board<H, S> {
         requires free { (view_of seat).ticket ≡ None }
         ensures lawful { IsLawful H.follows (H.entries result) }
         ensures sound { H.sound result }
+        ensures origin { H.origin result ≡ H.origin self.table.shared.key.home.value }
         ensures whole { IsWhole (codes H.Entry.row.coded.code (H.entries result)) (H.authors result) (H.marks result) (view_of seat) }
     {
         let Board { table } = self;

@@ -22,7 +22,7 @@ pub use mail_steps::{
 pub use mails::Mails;
 pub use named::{Mailed, Named};
 pub use note::Note;
-pub use plays::{PickedHistory, PickedMarks};
+pub use plays::{PickedHistory, PickedMarks, PickedOrigin};
 pub use seat::BoardSeat;
 pub use steps::{
     step_commit, step_core, step_count, step_draw, step_join, step_leave, step_look, step_split,

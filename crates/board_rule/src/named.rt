@@ -8,6 +8,8 @@ use fb_memory::Memory;
 pub trait Named: Drop {
     type Entry;
 
+    type Origin;
+
     // The history, a list of entries. An entry's t is its place in the list.
     ghost entries: { Self → List Self.Entry };
     // Of each entry that was added since the board was made, the number of the seat that added it, in order.
@@ -18,6 +20,8 @@ pub trait Named: Drop {
     ghost follows: { List Self.Entry → Self.Entry → Type 0 };
     // What else holds of a value in slot 0: what it keeps outside memory stands for its history too.
     ghost sound: { Self → Type 0 };
+    // What no turn changes: the value in slot 0 has one origin from the opening of the board to its close.
+    ghost origin: { Self → Self.Origin };
 
     /// The t of the last entry.
     fn basis(&self) -> u32

@@ -2,8 +2,7 @@
 ghost use Rattle.std.specs.Prelude.{ℕ, List, [], true, false};
 ghost use Rattle.board_rule.specs.declared.view.Code.{Code};
 ghost use Rattle.board_rule.specs.declared.view.Marks.{Marks};
-ghost use Rattle.board_rule.specs.Views.{AreLawful, codes, unmarked, giver, newcomer, both, spent};
-ghost use Rattle.board_rule.specs.Board.{naming};
+ghost use Rattle.board_rule.specs.Views.{AreLawful, codes, unmarked, Fits, giver, newcomer, both, spent};
 ghost use Rattle.board_rule.specs.Plays.{draws_ticket, looks, notes_marks, notes_found, commits, leaves, counts, takes_core, puts_core, grabs_own, grabs_mail, lets_own_go, lets_mail_go, takes_mail, puts_mail};
 
 use crate::board::Place;
@@ -82,13 +81,21 @@ impl<H, S> Play<Place<H, S>, View<Code>> for LoadCount {
     ghost then = { counts };
 }
 
-pub(crate) struct TakeCore<H, S> {
-    of: PhantomData<(H, S)>,
+/// What is kept of the value in slot 0 from the opening on, which a step alone cannot name. The call picks it.
+pub trait PickedOrigin<H> {
+    ghost kept: { H → Type 0 };
 }
 
-impl<H: Named, S: Mailed + Named<Entry = H::Entry>> Play<Place<H, S>, View<Code>>
-    for TakeCore<H, S> {
-    ghost then = { takes_core (naming H.Entry.row.coded.code H.entries H.authors H.marks H.follows H.sound S.entries) };
+impl<H> PickedOrigin<H> for Brand {
+    ghost kept = { λ h. Unit {0} };
+}
+
+pub(crate) struct TakeCore<H, B> {
+    of: PhantomData<(H, B)>,
+}
+
+impl<H: Named, S, B: PickedOrigin<H>> Play<Place<H, S>, View<Code>> for TakeCore<H, B> {
+    ghost then = { takes_core (λ h. Fits (codes H.Entry.row.coded.code (H.entries h)) (H.authors h) (H.marks h) (H.sound h × B.kept h)) };
 }
 
 pub(crate) struct PutCore;

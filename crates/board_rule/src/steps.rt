@@ -4,7 +4,7 @@ ghost use Rattle.board_rule.specs.declared.view.Code.{Code};
 ghost use Rattle.board_rule.specs.declared.view.At.TheVariants.{Home, Away};
 ghost use Rattle.board_rule.specs.declared.view.Grab.TheVariants.{Free, Grabbed};
 ghost use Rattle.board_rule.specs.Seat.{first_of};
-ghost use Rattle.board_rule.specs.Views.{worker, StartsWith, AreLawful, codes, HasTurn, history_of, authors_of, named_of, marks_of, Fits, MayMark, IsTried, drew, noted, found, added, ended, counted, giver, newcomer, both, Looks};
+ghost use Rattle.board_rule.specs.Views.{worker, StartsWith, AreLawful, codes, HasTurn, history_of, authors_of, named_of, marks_of, IsSoundSince, Fits, MayMark, IsTried, drew, noted, found, added, ended, counted, giver, newcomer, both, Looks};
 ghost use Rattle.board_rule.specs.Plays.{at_of, CoreHas};
 ghost use Rattle.board_rule.specs.Notes.{MayNote, Notes};
 ghost use Rattle.board_rule.specs.Calls.{view_of, board_of};
@@ -13,8 +13,8 @@ use crate::board::{Board, Place};
 use crate::named::{Mailed, Named};
 use crate::note::Note;
 use crate::plays::{
-    DrawTicket, LoadCount, Look, NoteFound, NoteMarks, Part, PickedHistory, PickedMarks, PutCore,
-    Reunite, ServeNext, StoreCount, TakeCore,
+    DrawTicket, LoadCount, Look, NoteFound, NoteMarks, Part, PickedHistory, PickedMarks,
+    PickedOrigin, PutCore, Reunite, ServeNext, StoreCount, TakeCore,
 };
 use crate::seat::BoardSeat;
 use crate::view::{Code, View};
@@ -196,7 +196,31 @@ pub fn step_count<H: Named, S: Mailed + Named<Entry = H::Entry>>(
     count as u32
 }
 
-/// Puts `put` into slot 0, and answers what was there.
+fn move_core<H: Named, S: Mailed + Named<Entry = H::Entry>, B: PickedOrigin<H>>(
+    board: &Board<H, S>,
+    seat: &mut BoardSeat,
+    put: Option<H>,
+) -> Option<H>
+    requires picked { (h : H) → H.origin h ≡ H.origin board.now.table.shared.key.home.value → B.kept h }
+    requires seat { board_of seat.old ≡ board.now.table.shared.table_id }
+    requires turn { HasTurn (view_of seat.old) }
+    requires fits { IfSome put (λ h. Fits (codes H.Entry.row.coded.code (H.entries h)) (H.authors h) (H.marks h) (IsSoundSince H.sound H.origin board.now.table.shared.key.home.value h) (view_of seat.old)) }
+    ensures seat { board_of seat.new ≡ board_of seat.old }
+    ensures put { view_of seat.new ≡ record (view_of seat.old) { core = at_of put } }
+    ensures was { CoreHas (λ h. Fits (codes H.Entry.row.coded.code (H.entries h)) (H.authors h) (H.marks h) (H.sound h × B.kept h) (view_of seat.old)) (view_of seat.old).core result }
+{
+    let shared = &board.table.shared;
+    let mut opened = open(&mut seat.badge);
+    shared.load::<TakeCore<H, B>>(&mut opened, 1);
+    let Place::Core(was) = shared.exchange(&mut opened, 0, Place::Core(put)) else {
+        unreachable!()
+    };
+    shared.load::<PutCore>(&mut opened, 1);
+    seat.badge = opened.into_badge();
+    was
+}
+
+/// Puts `put` into slot 0, and answers what was there. Both have the origin with which the board was opened.
 pub fn step_core<H: Named, S: Mailed + Named<Entry = H::Entry>>(
     board: &Board<H, S>,
     seat: &mut BoardSeat,
@@ -204,20 +228,12 @@ pub fn step_core<H: Named, S: Mailed + Named<Entry = H::Entry>>(
 ) -> Option<H>
     requires seat { board_of seat.old ≡ board.now.table.shared.table_id }
     requires turn { HasTurn (view_of seat.old) }
-    requires fits { IfSome put (λ h. Fits (codes H.Entry.row.coded.code (H.entries h)) (H.authors h) (H.marks h) (H.sound h) (view_of seat.old)) }
+    requires fits { IfSome put (λ h. Fits (codes H.Entry.row.coded.code (H.entries h)) (H.authors h) (H.marks h) (IsSoundSince H.sound H.origin board.now.table.shared.key.home.value h) (view_of seat.old)) }
     ensures seat { board_of seat.new ≡ board_of seat.old }
     ensures put { view_of seat.new ≡ record (view_of seat.old) { core = at_of put } }
-    ensures was { CoreHas (λ h. Fits (codes H.Entry.row.coded.code (H.entries h)) (H.authors h) (H.marks h) (H.sound h) (view_of seat.old)) (view_of seat.old).core result }
+    ensures was { CoreHas (λ h. Fits (codes H.Entry.row.coded.code (H.entries h)) (H.authors h) (H.marks h) (IsSoundSince H.sound H.origin board.now.table.shared.key.home.value h) (view_of seat.old)) (view_of seat.old).core result }
 {
-    let shared = &board.table.shared;
-    let mut opened = open(&mut seat.badge);
-    shared.load::<TakeCore<H, S>>(&mut opened, 1);
-    let Place::Core(was) = shared.exchange(&mut opened, 0, Place::Core(put)) else {
-        unreachable!()
-    };
-    shared.load::<PutCore>(&mut opened, 1);
-    seat.badge = opened.into_badge();
-    was
+    move_core::<H, S, Brand>(board, seat, put)
 }
 
 /// A new seat, by the first one alone. It has the least number that no seat was given, and has seen what this one has.

@@ -19,6 +19,7 @@ returns g c =
     let there = some-injective _ _ (sym c.take.ensures.value ∙ e.1) in let same : Some e.0 ≡ Some home = cc (there, c.core_of-home.ensures) in let is : e.0 ≡ home = cc same in
     record {
       lawful = subst (λ h. IsLawful g.H.Named.follows (g.H.Named.entries h)) is (lawful_inj g.row.H-Entry.coded g.H.Named.follows (g.H.Named.entries e.0) e.2);
-      sound = subst g.H.Named.sound is e.3;
+      sound = subst g.H.Named.sound is e.3.0;
+      origin = sym (ap g.H.Named.origin is) ∙ e.3.1;
       whole = subst (IsWhole (codes f (g.H.Named.entries home)) (g.H.Named.authors home) (g.H.Named.marks home)) u (subst (λ h. IsWhole (codes f (g.H.Named.entries h)) (g.H.Named.authors h) (g.H.Named.marks h) c.into_seat.result.me.0) is e.4);
     }

@@ -13,4 +13,4 @@ new-requires g c =
     starts_on _ _ _ h ms c.as_slice.result.now c.in_ok-slots.slots.items (search rules) (c.in_ok-slots.ensures ∙ ap (λ z. Core (Some z) ∷ map mailed_as ms) (sym is)) (search rules)
     (λ k s e. ap (codes f) (of_all (λ s. g.S.Named.entries s ≡ g.H.Named.entries c.args.home) ms (subst (λ z. Rattle.std.specs.List.All (λ s. g.S.Named.entries s ≡ g.H.Named.entries c.args.home) z) (sym mails) c.requires.mailed.0) k s e ∙ sym entries))
     (omega arith) (omega arith) (g.H.Named.entries h, refl, subst (λ z. IsLawful g.H.Named.follows (g.H.Named.entries z)) (sym is) c.requires.history.1) (ap g.H.Named.authors is ∙ c.requires.home.0)
-    (ap (λ z. (g.H.Named.marks z).stop) is ∙ c.requires.home.1) (subst g.H.Named.sound (sym is) c.requires.home.2)
+    (ap (λ z. (g.H.Named.marks z).stop) is ∙ c.requires.home.1) (subst g.H.Named.sound (sym is) c.requires.home.2, refl)
