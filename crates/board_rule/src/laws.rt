@@ -3,7 +3,17 @@ ghost use Rattle.std.specs.Prelude.{◌≡◌, ℕ, ◌+◌, ◌<◌, List, [], 
 ghost use mathlib.Core.Option.{some};
 ghost use lib.ListN.{get_elem?};
 ghost use Rattle.board_rule.specs.declared.view.Marks.{Marks};
-ghost use Rattle.board_rule.specs.Views.{commits_of, longer, marked, tried_down, IsTried};
+ghost use Rattle.board_rule.specs.Views.{StartsWith, codes, commits_of, longer, marked, tried_down, IsTried};
+
+/// Lists of entries are equal where their codes are.
+pub fn equal_codes_are_of_equal_lists<A>()
+    ensures { (l m : List A) → codes A.row.coded.code l ≡ codes A.row.coded.code m → l ≡ m }
+{}
+
+/// And a list of entries begins with another where its codes begin with those of the other.
+pub fn a_beginning_in_codes_is_one_in_entries<A>()
+    ensures { (l first : List A) → StartsWith (codes A.row.coded.code l) (codes A.row.coded.code first) → StartsWith l first }
+{}
 
 /// An entry's t is among its author's commits.
 pub fn each_entry_is_a_commit_of_its_author()
