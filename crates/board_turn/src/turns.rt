@@ -107,7 +107,8 @@ fn wait_for_turn<H: Named, S: Mailed + Named<Entry = H::Entry>, R: Wait>(
     sleep_until_turn(board, rt, seat);
 }
 
-/// Waits for the turn of the drawn ticket, and takes the value that stands for the history.
+/// Waits for the turn of the drawn ticket, and takes the value that stands for the history. Its origin is that of the
+/// value with which the board was opened.
 pub fn turn<H: Named, S: Mailed + Named<Entry = H::Entry>, R: Wait>(
     board: &Board<H, S>,
     rt: &R,
@@ -121,6 +122,7 @@ pub fn turn<H: Named, S: Mailed + Named<Entry = H::Entry>, R: Wait>(
     ensures told { IsTold (AreLawful H.Entry.row.coded.code H.follows) (view_of seat.old) (story (codes H.Entry.row.coded.code (H.entries result.home)) (H.authors result.home) (H.marks result.home)) }
     ensures lawful { IsLawful H.follows (H.entries result.home) }
     ensures sound { H.sound result.home }
+    ensures origin { H.origin result.home ≡ H.origin board.now.table.shared.key.home.value }
 {
     wait_for_turn(board, rt, seat);
     let Some(home) = step_core(board, seat, None) else {
@@ -147,7 +149,7 @@ pub fn commit<H: Named, S: Mailed + Named<Entry = H::Entry>>(
     step_commit(board, seat, &held.home);
 }
 
-/// Ends the turn: the value goes back to its slot, and its marks are the named ones. Wakes whoever waits for the next turn.
+/// Ends the turn: the value, whose origin no turn changes, goes back to its slot, and its marks are the named ones. Wakes whoever waits for the next turn.
 pub fn leave<H: Named, S: Mailed + Named<Entry = H::Entry>>(
     board: &Board<H, S>,
     seat: &mut BoardSeat,
@@ -158,6 +160,7 @@ pub fn leave<H: Named, S: Mailed + Named<Entry = H::Entry>>(
     requires history { (codes H.Entry.row.coded.code (H.entries held.home) ≡ history_of (view_of seat.old)) × (H.authors held.home ≡ authors_of (view_of seat.old)) }
     requires marks { MayMark (view_of seat.old).number (named_of (view_of seat.old)) (H.marks held.home) }
     requires sound { H.sound held.home }
+    requires origin { H.origin held.home ≡ H.origin board.now.table.shared.key.home.value }
     requires free { (view_of seat.old).grab ≡ Free }
     requires tried { IsTried board.now.table.shared.key.sessions (view_of seat.old).tried }
     ensures seat { board_of seat.new ≡ board_of seat.old }
