@@ -126,7 +126,7 @@ module _ {H S E : Type 0} (N : Naming H S E) (n start : ℕ) where
                   λ l. let b = starts_shorter x.entries v.seen k.past.1 in below_snoc (length v.seen) (length es) new v.commits (k.past.3 l) (omega arith) (omega arith),
                 );
                 found = λ l b. grow l (k.found l b);
-                notes = λ i q b. let t = k.notes i q b in (grow q.seen t.0, t.1 ∙ sym (other q.number (λ same. unnoted x.drawn x.given s.views id id i v v q r.counts at at live b (sym same))), t.2, t.3);
+                notes = λ i q b. let t = k.notes i q b in ((grow q.seen t.0.0, grow q.beside t.0.1), t.1 ∙ sym (other q.number (λ same. unnoted x.drawn x.given s.views id id i v v q r.counts at at live b (sym same))), t.2, t.3);
                 number = k.number;
                 turn = ((λ y b. (h.0, sym (same_some _ y b) ∙ ap (λ (z : Marks). story es who z) (shown_is N n start s r id v at has), h.2, h.3, h.4)), λ _ q b. k.turn.1 has q b);
                 told = k.told;
@@ -136,7 +136,7 @@ module _ {H S E : Type 0} (N : Naming H S E) (n start : ℕ) where
                 ticket = q.ticket;
                 past = (q.past.0, grow u.seen q.past.1, λ l. q.past.2 l ∙ sym (other u.number (unlike x.drawn x.given s.views id j v u r.counts ne at b live l)), q.past.3);
                 found = λ l c. grow l (q.found l c);
-                notes = λ i z c. let t = q.notes i z c in (grow z.seen t.0, t.1 ∙ sym (other z.number (λ same. unnoted x.drawn x.given s.views id j i v u z r.counts at b live c (sym same))), t.2, t.3);
+                notes = λ i z c. let t = q.notes i z c in ((grow z.seen t.0.0, grow z.beside t.0.1), t.1 ∙ sym (other z.number (λ same. unnoted x.drawn x.given s.views id j i v u z r.counts at b live c (sym same))), t.2, t.3);
                 number = q.number;
                 turn = ((λ y has'. absurd (not_his N n start s r id v at has j u ne b y has')), q.turn.1);
                 told = q.told;

@@ -11,4 +11,5 @@ mod Reading
 mod Posting
 mod Moving
 mod Splits
+mod Joins
 mod Lifetime

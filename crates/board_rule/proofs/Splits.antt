@@ -127,11 +127,11 @@ module _ {H S E : Type 0} (N : Naming H S E) (n start : ℕ) where
     grab = tt;
   }
 
-  notes_join : (x : Scene E) (v u : View E) → KeepsNotes start x v → KeepsNotes start x u → Recalls start x u → KnowsMarks x u → 0 < u.seats → KeepsNotes start x (both v u)
-  notes_join x v u mine theirs past told live k p e = ⊎_elim (λ (old : get_elem? v.joined k ≡ some p). mine k p old) (λ t. go t.0 t.1) (at_append v.joined (note_of u ∷ u.joined) k p e)
+  notes_join : (x : Scene E) (v u : View E) → KeepsNotes start x v → KeepsNotes start x u → Recalls start x v → Recalls start x u → KnowsMarks x u → 0 < u.seats → KeepsNotes start x (both v u)
+  notes_join x v u mine theirs here past told live k p e = ⊎_elim (λ (old : get_elem? v.joined k ≡ some p). mine k p old) (λ t. go t.0 t.1) (at_append v.joined (note_of v u ∷ u.joined) k p e)
     where
-      go : (i : ℕ) → get_elem? (note_of u ∷ u.joined) i ≡ some p → IsNote start x p
-      go zero e = subst (IsNote start x) (some-injective (note_of u) p e) (past.1, past.2 live, told.0, told.1 live)
+      go : (i : ℕ) → get_elem? (note_of v u ∷ u.joined) i ≡ some p → IsNote start x p
+      go zero e = subst (IsNote start x) (some-injective (note_of v u) p e) ((past.1, here.1), past.2 live, told.0, told.1 live)
       go (suc i) e = theirs i p e
 
   pub joins_on : (id : ℕ) (v : View E) (other : ℕ) (u : View E) → v.ticket ≡ None → u.ticket ≡ None → v.grab ≡ Free → u.grab ≡ Free → 0 < v.seats → 0 < u.seats → Joins Rule id v other u (both v u) spent
@@ -141,7 +141,7 @@ module _ {H S E : Type 0} (N : Naming H S E) (n start : ℕ) where
       let sum : (g : View E → ℕ) → total g l' + g u + g v ≡ total g s.views + g w + g spent = λ g. omega (arith, total-set g s.views id v w at, total-set g l other u spent there) in
       let seats = sum seats_of in let left = sum draws_left in let a = left_live v live in let b = left_live w (omega arith) in let gone : View E = spent in let d : draws_left gone ≡ 0 = refl in let kd = k.ticket.1 in
       let nums : (z : ℕ) → total (numbered z) l' ≡ total (numbered z) s.views = λ z. let e = sum (numbered z) in let f : numbered z gone ≡ 0 + 0 = refl in
-      let g = numbered_live z v live in let h = numbered_live z u live' in let i = numbered_live z w (omega arith) in let m = total-append (has_number z) v.joined (note_of u ∷ u.joined) in
+      let g = numbered_live z v live in let h = numbered_live z u live' in let i = numbered_live z w (omega arith) in let m = total-append (has_number z) v.joined (note_of v u ∷ u.joined) in
       let mine : ℕ = one_if (eqb v.number z) in let theirs : ℕ = one_if (eqb u.number z) in omega arith in
       let room = c.room in let made = c.made in
       let first_apart : Apart l = apart_set s.views id v w c.tickets at (λ t j b' has ne e. absurd (none_not t (sym no_ticket ∙ has))) in
@@ -164,7 +164,7 @@ module _ {H S E : Type 0} (N : Naming H S E) (n start : ℕ) where
               ticket = ((λ t e'. absurd (none_not t (sym no_ticket ∙ e'))), k.ticket.1);
               past = ((λ _. k.past.0 live), longer_begins x.entries v.seen u.seen k.past.1 q.past.1, (λ _. k.past.2 live), λ _. longer_recent v.seen u.seen v.commits (k.past.3 live));
               found = k.found;
-              notes = notes_join x v u k.notes q.notes q.past q.told live';
+              notes = notes_join x v u k.notes q.notes k.past q.past q.told live';
               number = ((λ _. k.number.0 live), λ _. k.number.1 live);
               turn = k.turn;
               told = (k.told.0, (λ _. k.told.1 live), λ _. k.told.2 live);

@@ -129,7 +129,7 @@ module _ {E : Type 0} where
 
   -- the same of a seat that was joined to another, and what it was told of a stop
   abbrev pub IsNote : ℕ → Scene E → Joined E → Type 0
-  IsNote start x p = StartsWith x.entries p.seen × (p.commits ≡ commits_of p.number (start + 1) x.authors)
+  IsNote start x p = (StartsWith x.entries p.seen × StartsWith x.entries p.beside) × (p.commits ≡ commits_of p.number (start + 1) x.authors)
       × ((q : Stop) → p.stop ≡ Some q → x.shown.stop ≡ Some q) × ((q : Stop) → x.shown.stop ≡ Some q → p.number ≡ q.author → p.stop ≡ Some q)
 
   abbrev pub KeepsNotes : ℕ → Scene E → View E → Type 0

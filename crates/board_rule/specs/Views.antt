@@ -207,12 +207,13 @@ module _ {E : Type 0} where
   abbrev pub newcomer : View E → View E
   newcomer v = record (starting v.start v.seen 0) { number = v.given }
 
-  abbrev pub note_of : View E → Joined E
-  note_of v = record { number = v.number; seen = v.seen; commits = v.commits; stop = v.stop }
+  -- what v keeps of u, which is joined to it
+  abbrev pub note_of : View E → View E → Joined E
+  note_of v u = record { number = u.number; seen = u.seen; beside = v.seen; commits = u.commits; stop = u.stop }
 
   -- the two views after a join
   abbrev pub both : View E → View E → View E
-  both v u = record v { seats = v.seats + u.seats; seen = longer v.seen u.seen; joined = v.joined ++ note_of u ∷ u.joined }
+  both v u = record v { seats = v.seats + u.seats; seen = longer v.seen u.seen; joined = v.joined ++ note_of v u ∷ u.joined }
 
   abbrev pub spent : View E
   spent = record (starting 0 [] 0) { seats = 0 }
@@ -281,7 +282,7 @@ module _ {E : Type 0} where
     pub seen : StartsWith entries v.seen
     pub counted : v.start + 1 + length authors ≡ length entries
     pub commits : v.commits ≡ commits_of v.number (v.start + 1) authors
-    pub joined_seen : (k : ℕ) (p : Joined E) → get_elem? v.joined k ≡ some p → StartsWith entries p.seen
+    pub joined_seen : (k : ℕ) (p : Joined E) → get_elem? v.joined k ≡ some p → StartsWith entries p.seen × StartsWith entries p.beside
     pub joined : (k : ℕ) (p : Joined E) → get_elem? v.joined k ≡ some p → p.commits ≡ commits_of p.number (v.start + 1) authors
     pub unwritten : (z : ℕ) → v.given ≤ z → z ≢ worker → commits_of z (v.start + 1) authors ≡ []
     pub stop : (p : Stop) → v.stop ≡ Some p → marks.stop ≡ Some p

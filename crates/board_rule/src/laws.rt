@@ -1,9 +1,12 @@
 //! Laws and worked examples of the definitions. None of these functions does anything: each is its contract.
-ghost use Rattle.std.specs.Prelude.{◌≡◌, ℕ, ◌+◌, ◌<◌, List, [], ◌∷◌, Option, Some, None};
+ghost use Rattle.std.specs.Prelude.{◌≡◌, ℕ, ◌+◌, ◌<◌, List, [], ◌∷◌, length, Option, Some, None};
 ghost use mathlib.Core.Option.{some};
 ghost use lib.ListN.{get_elem?};
+ghost use Rattle.board_rule.specs.declared.view.Code.{Code};
+ghost use Rattle.board_rule.specs.declared.view.Joined.{Joined};
 ghost use Rattle.board_rule.specs.declared.view.Marks.{Marks};
-ghost use Rattle.board_rule.specs.Views.{StartsWith, codes, commits_of, longer, marked, tried_down, IsTried};
+ghost use Rattle.board_rule.specs.declared.view.View.{View};
+ghost use Rattle.board_rule.specs.Views.{StartsWith, codes, commits_of, longer, marked, tried_down, IsTried, note_of, both};
 
 /// Lists of entries are equal where their codes are.
 pub fn equal_codes_are_of_equal_lists<A>()
@@ -13,6 +16,18 @@ pub fn equal_codes_are_of_equal_lists<A>()
 /// And a list of entries begins with another where its codes begin with those of the other.
 pub fn a_beginning_in_codes_is_one_in_entries<A>()
     ensures { (l first : List A) → StartsWith (codes A.row.coded.code l) (codes A.row.coded.code first) → StartsWith l first }
+{}
+
+/// What a beginning of a list begins with, the list does.
+pub fn a_beginning_of_a_beginning_is_one<A>()
+    ensures { (l m first : List A) → StartsWith l m → StartsWith m first → StartsWith l first }
+{}
+
+/// A join writes its note behind those that the seat has, and the notes of the other seat behind it.
+pub fn a_join_adds_its_note_behind_the_others()
+    ensures stay { (v u : View Code) (k : ℕ) (p : Joined Code) → get_elem? v.joined k ≡ some p → get_elem? (both v u).joined k ≡ some p }
+    ensures added { (v u : View Code) → get_elem? (both v u).joined (length v.joined) ≡ some (note_of v u) }
+    ensures taken { (v u : View Code) (k : ℕ) (p : Joined Code) → get_elem? u.joined k ≡ some p → get_elem? (both v u).joined (length v.joined + 1 + k) ≡ some p }
 {}
 
 /// An entry's t is among its author's commits.

@@ -26,10 +26,12 @@ pub struct Story<E> {
     pub marks: Marks,
 }
 
-/// What is kept of a seat that was joined to another.
+/// What is kept of a seat that was joined to another, and of what that one had seen.
 pub struct Joined<E> {
     pub number: u64,
     pub seen: LinkedList<E>,
+    /// What the seat that stayed had seen until then.
+    pub beside: LinkedList<E>,
     pub commits: LinkedList<u64>,
     pub stop: Option<Stop>,
 }
