@@ -16,6 +16,7 @@ impl Named for Fixed {
     ghost use Rattle.board_rule.specs.Views.{unmarked};
 
     type Entry = u32;
+    type Origin = u64;
 
     ghost entries = { λ h. 0 ∷ [] };
 
@@ -26,6 +27,8 @@ impl Named for Fixed {
     ghost follows = { λ l e. Unit {0} };
 
     ghost sound = { λ h. Unit {0} };
+
+    ghost origin = { λ h. h.counter };
 
     fn basis(&self) -> u32 {
         0
@@ -42,6 +45,7 @@ impl Named for Sheet {
     ghost use Rattle.board_rule.specs.Views.{unmarked};
 
     type Entry = u32;
+    type Origin = ();
 
     ghost entries = { λ s. 0 ∷ [] };
 
@@ -52,6 +56,8 @@ impl Named for Sheet {
     ghost follows = { λ l e. Unit {0} };
 
     ghost sound = { λ s. Unit {0} };
+
+    ghost origin = { λ s. tt };
 
     fn basis(&self) -> u32 {
         0

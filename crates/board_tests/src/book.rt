@@ -16,6 +16,8 @@ pub struct Halt {
 /// The numbers so far, of which the first has no author.
 #[derive(Drop)]
 pub struct Book {
+    /// The number that the book got when it was begun.
+    pub serial: u32,
     pub entries: Vec<u32>,
     pub authors: Vec<u32>,
     pub halt: Option<Halt>,
@@ -28,6 +30,8 @@ impl Named for Book {
 
     type Entry = u32;
 
+    type Origin = u32;
+
     ghost entries = { λ b. b.entries.items };
 
     ghost authors = { λ b. b.authors.items };
@@ -37,6 +41,8 @@ impl Named for Book {
     ghost follows = { λ l e. e < 1000000 };
 
     ghost sound = { λ b. IsSoundBook b.entries.items b.halt };
+
+    ghost origin = { λ b. b.serial };
 
     fn basis(&self) -> u32 {
         (self.entries.len() - 1) as u32
@@ -57,6 +63,8 @@ impl Named for Page {
 
     type Entry = u32;
 
+    type Origin = ();
+
     ghost entries = { λ p. p.entries.items };
 
     ghost authors = { λ p. [] };
@@ -66,6 +74,8 @@ impl Named for Page {
     ghost follows = { λ l e. e < 1000000 };
 
     ghost sound = { λ p. Unit {0} };
+
+    ghost origin = { λ p. tt };
 
     fn basis(&self) -> u32 {
         (self.entries.len() - 1) as u32
@@ -82,12 +92,13 @@ impl Mailed for Page {
 }
 
 impl Book {
-    pub fn new(alloc: Global, first: u32) -> Result<Book, Memory>
-        ensures { IfOk result (λ b. (b.entries.items ≡ first ∷ []) × (b.authors.items ≡ []) × (b.halt ≡ None)) }
+    pub fn new(alloc: Global, serial: u32, first: u32) -> Result<Book, Memory>
+        ensures { IfOk result (λ b. (b.serial ≡ serial) × (b.entries.items ≡ first ∷ []) × (b.authors.items ≡ []) × (b.halt ≡ None)) }
     {
         let mut entries = Vec::new(alloc);
         entries.push(first)?;
         Ok(Book {
+            serial,
             entries,
             authors: Vec::new(alloc),
             halt: None,
@@ -99,7 +110,7 @@ impl Book {
         requires room { length self.old.entries.items < 4294967296 }
         ensures added { IfOk result (λ _. (self.new.entries.items ≡ self.old.entries.items ++ value ∷ []) × (self.new.authors.items ≡ self.old.authors.items ++ author ∷ [])) }
         ensures same { IfErr result (λ _. (self.new.entries.items ≡ self.old.entries.items) × (self.new.authors.items ≡ self.old.authors.items)) }
-        ensures halt { self.new.halt ≡ self.old.halt }
+        ensures rest { (self.new.halt ≡ self.old.halt) × (self.new.serial ≡ self.old.serial) }
     {
         let before = self.entries.len();
         self.entries.push(value)?;

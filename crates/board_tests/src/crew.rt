@@ -176,27 +176,33 @@ fn gather(board: &Board<Book, Page>, first: &mut BoardSeat, mut workers: Vec<Wor
     (added, fell)
 }
 
-/// A board over a book of the number 0 alone, with that many sessions, and its first seat.
-pub fn open(alloc: Global, sessions: u32) -> Result<(Board<Book, Page>, BoardSeat), Memory>
+/// A board over a book of this serial number, which has the number 0 alone, with that many sessions, and its first seat.
+pub fn open(
+    alloc: Global,
+    serial: u32,
+    sessions: u32,
+) -> Result<(Board<Book, Page>, BoardSeat), Memory>
     requires { sessions ≤ 16 }
     ensures board { IfOk result (λ r. (board_of r.1 ≡ r.0.table.shared.table_id) × (r.0.table.shared.key.sessions ≡ sessions)) }
+    ensures serial { IfOk result (λ r. r.0.table.shared.key.home.value.serial ≡ serial) }
     ensures seat { IfOk result (λ r. IsIdle (view_of r.1) × ((view_of r.1).number ≡ worker) × ((view_of r.1).given ≡ 0) × ((view_of r.1).seats ≡ 1)) }
 {
     let pages = Page::copies(alloc, sessions as usize, &[0])?;
-    Board::new(alloc, Book::new(alloc, 0)?, 0, Mails::of(pages))
+    Board::new(alloc, Book::new(alloc, serial, 0)?, 0, Mails::of(pages))
 }
 
-/// Adds `count` times `rounds` numbers to a book, each worker in a thread of its own, and closes the board.
+/// Adds `count` times `rounds` numbers to a book of this serial number, each worker in a thread of its own, and closes the board.
 pub fn run<R: Threads + Wait + Sync>(
     alloc: Global,
     rt: &R,
+    serial: u32,
     count: u32,
     rounds: u32,
 ) -> Result<Report, Memory>
     requires { (0 < count) × (count ≤ 16) × (rounds ≤ 10000) }
-    ensures { IfOk result (λ r. IsLawful (λ l e. e < 1000000) r.book.entries.items × IsSoundBook r.book.entries.items r.book.halt) }
+    ensures { IfOk result (λ r. IsLawful (λ l e. e < 1000000) r.book.entries.items × IsSoundBook r.book.entries.items r.book.halt × (r.book.serial ≡ serial)) }
 {
-    let (board, mut first) = open(alloc, count)?;
+    let (board, mut first) = open(alloc, serial, count)?;
     let mut workers = hire(alloc, &board, &mut first, count, rounds)?;
     work_all(alloc, rt, &board, workers.as_mut_slice(), count as usize);
     let (added, fell) = gather(&board, &mut first, workers);

@@ -10,4 +10,4 @@ mod tests;
 
 pub use book::{Book, Halt, Page};
 pub use crew::{Report, Worker, open, run};
-pub use scenes::{Met, reader_holds, stops};
+pub use scenes::{Met, Readings, reader_holds, stops, two_readings};

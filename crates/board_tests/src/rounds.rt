@@ -19,6 +19,7 @@ pub fn begin<R: Wait>(rt: &R, board: &Board<Book, Page>, seat: &mut BoardSeat) -
     ensures seat { board_of seat.new ≡ board_of seat.old }
     ensures book { HasBook (view_of seat.new) result.home.entries.items result.home.authors.items result.home.halt }
     ensures sound { IsSoundBook result.home.entries.items result.home.halt }
+    ensures serial { result.home.serial ≡ board.now.table.shared.key.home.value.serial }
     ensures rest { ((view_of seat.new).draws ≡ (view_of seat.old).draws + 1) × IsSameSeat (view_of seat.old) (view_of seat.new) × ((view_of seat.new).tried ≡ None) }
 {
     draw(board, seat);
@@ -41,7 +42,7 @@ fn add(
     requires fresh { (view_of seat.old).tried ≡ None }
     ensures seat { board_of seat.new ≡ board_of seat.old }
     ensures book { HasBook (view_of seat.new) held.new.home.entries.items held.new.home.authors.items held.new.home.halt }
-    ensures open { held.new.home.halt ≡ None }
+    ensures open { (held.new.home.halt ≡ None) × (held.new.home.serial ≡ held.old.home.serial) }
     ensures tried { IsTried board.now.table.shared.key.sessions (view_of seat.new).tried }
     ensures rest { ((view_of seat.new).draws ≡ (view_of seat.old).draws) × IsSameSeat (view_of seat.old) (view_of seat.new) }
 {
@@ -72,7 +73,7 @@ fn offer(
     requires fresh { (view_of seat.old).tried ≡ None }
     ensures seat { board_of seat.new ≡ board_of seat.old }
     ensures book { HasBook (view_of seat.new) held.new.home.entries.items held.new.home.authors.items held.new.home.halt }
-    ensures sound { IsSoundBook held.new.home.entries.items held.new.home.halt }
+    ensures sound { IsSoundBook held.new.home.entries.items held.new.home.halt × (held.new.home.serial ≡ held.old.home.serial) }
     ensures tried { IsTried board.now.table.shared.key.sessions (view_of seat.new).tried }
     ensures rest { ((view_of seat.new).draws ≡ (view_of seat.old).draws) × IsSameSeat (view_of seat.old) (view_of seat.new) }
 {
@@ -87,10 +88,12 @@ pub fn end(board: &Board<Book, Page>, seat: &mut BoardSeat, held: Held<Book>)
     requires seat { board_of seat.old ≡ board.now.table.shared.table_id }
     requires book { HasBook (view_of seat.old) held.home.entries.items held.home.authors.items held.home.halt }
     requires sound { IsSoundBook held.home.entries.items held.home.halt }
+    requires serial { held.home.serial ≡ board.now.table.shared.key.home.value.serial }
     requires tried { IsTried board.now.table.shared.key.sessions (view_of seat.old).tried }
     ensures seat { board_of seat.new ≡ board_of seat.old }
     ensures idle { IsIdle (view_of seat.new) }
     ensures told { (view_of seat.new).stop ≡ stop_of held.home.halt }
+    ensures seen { (view_of seat.new).seen ≡ (view_of seat.old).seen }
     ensures rest { ((view_of seat.new).draws ≡ (view_of seat.old).draws) × IsSameSeat (view_of seat.old) (view_of seat.new) }
 {
     leave(board, seat, held);
@@ -144,7 +147,7 @@ pub fn round<R: Wait>(
 fn set_halt(book: &mut Book, author: u32) -> bool
     requires { IsSoundBook book.old.entries.items book.old.halt }
     ensures sound { IsSoundBook book.new.entries.items book.new.halt }
-    ensures same { (book.new.entries.items ≡ book.old.entries.items) × (book.new.authors.items ≡ book.old.authors.items) }
+    ensures same { (book.new.entries.items ≡ book.old.entries.items) × (book.new.authors.items ≡ book.old.authors.items) × (book.new.serial ≡ book.old.serial) }
     ensures halt { (book.new.halt ≡ book.old.halt) ⊎ ((book.old.halt ≡ None) × ((at : ℕ) × (book.new.halt ≡ Some record { at = at; author = author }))) }
 {
     if book.halt.is_some() || book.entries.len() >= 1 << 32 {
