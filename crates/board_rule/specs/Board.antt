@@ -24,7 +24,7 @@ use Rattle.board_rule.specs.declared.view.Code.{Code}
 use Rattle.board_rule.specs.declared.view.View.{View}
 use Rattle.board_rule.specs.Views.{worker, StartsWith, AreLawful, codes, commits_of, AllBelow, marked, MayMark, story, HasTurn, session_of}
 
--- what the values in the slots stand for
+-- what the values in the slots stand for, and what else holds of the one in slot 0: that it is sound, and keeps its origin
 pub record Naming (H S E : Type 0) : Type 1 where
   pub entries : H → List E
   pub authors : H → List ℕ
@@ -173,7 +173,7 @@ abbrev pub mailed_as : {H S : Type 0} → S → Place H S
 mailed_as s = Mail (Some s)
 
 module _ {H S E : Type 0} (N : Naming H S E) where
-  -- the value of slot 0, where it is at home, stands for the history and has these marks
+  -- the value of slot 0, where it is at home, stands for the history, has these marks and is sound
   abbrev pub CoreIs : List E → List ℕ → Marks → At → maybe.Option (maybe.Option (Place H S)) → Type 0
   CoreIs es who m Home p = (h : H) × (p ≡ some (some (Core (Some h)))) × (N.entries h ≡ es) × (N.authors h ≡ who) × (N.marks h ≡ m) × N.sound h
   CoreIs es who m Away p = p ≡ some (some (Core None))
