@@ -1,7 +1,8 @@
 -- What is read from left to right has one answer, and where filters are tests the computed one.
-use Rattle.std.proofs.Common.{◌≡◌, ℕ, ◌+◌, Bool, true, false, cond, List, [], ◌∷◌, length, refl, sym, ◌∙◌, subst, Option, Some, None, Result, Ok, Err, leb}
+use Rattle.std.proofs.Common.{◌≡◌, ℕ, ◌+◌, ◌≤◌, Bool, true, false, cond, List, [], ◌∷◌, ◌++◌, length, length-append, arith, refl, sym, ◌∙◌, subst, Option, Some, None, Result, Ok, Err, leb}
 use Rattle.std.specs.Prelude.{IsTrue, MatchBool}
 use Rattle.std.specs.List.{zip}
+use Rattle.std.proofs.lemmas.Bool.{le-leb}
 use Rattle.std.specs.Option.{option_map_or}
 use Rattle.edn_model.specs.Form.{Form}
 use Rattle.fb_values.specs.declared.facts.Datom.{Datom}
@@ -49,6 +50,35 @@ module _ (h : List Entry) (w : Window) (Selects : Datom → Type 0) where
           → MatchBool few (AreRead h w Selects (no_component order) 2 (zip (parts_of order) fs) q) (q ≡ Err no_command) → p ≡ q
       go true x y = are_read_one (zip (parts_of order) fs) (no_component order) 2 p q x y
       go false x y = x ∙ sym y
+
+  -- ---- what follows a place that fails
+
+  follows_on : {X Y : Type 0} (at : ℕ) (make : ℕ → X) (Next More : X → Result Y Refusal → Type 0) (r : Refusal) → ((x : X) → Next x (Err r) → More x (Err r))
+      → (found : Option ℕ) → Follows at make Next found (Err r) → Follows at make More found (Err r)
+  follows_on at make Next More r each None same = same
+  follows_on at make Next More r each (Some e) next = each (make e) next
+
+  reads_on : {X Y : Type 0} (at : ℕ) (g : Given X) (Next More : X → Result Y Refusal → Type 0) (r : Refusal) → ((x : X) → Next x (Err r) → More x (Err r))
+      → Reads h w Selects at g Next (Err r) → Reads h w Selects at g More (Err r)
+  reads_on at (is x) Next More r each next = each x next
+  reads_on at (by_name id make) Next More r each next = (next.0, next.1, follows_on at make Next More r each next.0 next.2)
+  reads_on at (wrong reason) Next More r each same = same
+
+  are_read_on : (parts : List Part) (fs more : List Form) (probe : Probe) (at : ℕ) (r : Refusal) → AreRead h w Selects probe at (zip parts fs) (Err r) → AreRead h w Selects probe at (zip parts (fs ++ more)) (Err r)
+  are_read_on [] fs more probe at r read = read
+  are_read_on (part ∷ parts) [] more probe at r read = let none : Err r ≡ Ok probe = read in absurd (cc)
+  are_read_on (part ∷ parts) (f ∷ fs) more probe at r read =
+      reads_on at (with_next (facts h) probe part f) (λ p. AreRead h w Selects p (at + 1) (zip parts fs)) (λ p. AreRead h w Selects p (at + 1) (zip parts (fs ++ more))) r
+      (λ p. are_read_on parts fs more p (at + 1) r) read
+
+  pub components_on : (order : Order) (fs more : List Form) (r : Refusal) → length (fs ++ more) ≤ 4 → AreComponents h w Selects order fs (Err r) → AreComponents h w Selects order (fs ++ more) (Err r)
+  components_on order fs more r few read =
+      let all : leb (length (fs ++ more)) 4 ≡ true = le-leb (length (fs ++ more)) 4 few in
+      let front : leb (length fs) 4 ≡ true = le-leb (length fs) 4 (omega (arith, few, length-append fs more)) in
+      let same : Result Probe Refusal → Type 0 = λ answer. answer ≡ Err no_command in
+      let Read : Bool → Type 0 = λ b. MatchBool b (AreRead h w Selects (no_component order) 2 (zip (parts_of order) fs) (Err r)) (same (Err r)) in
+      let There : Bool → Type 0 = λ b. MatchBool b (AreRead h w Selects (no_component order) 2 (zip (parts_of order) (fs ++ more)) (Err r)) (same (Err r)) in
+      subst There (sym all) (are_read_on (parts_of order) fs more (no_component order) 2 r (subst Read front read))
 
   pub range_one : (a start end : Form) (p q : Result Range Refusal) → IsIndexRange h w Selects a start end p → IsIndexRange h w Selects a start end q → p ≡ q
   range_one a start end p q first second =

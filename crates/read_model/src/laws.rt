@@ -1,5 +1,5 @@
 //! Laws of points, names and components.
-ghost use Rattle.std.specs.Prelude.{◌≡◌, ℕ, ◌+◌, ℤ, pos, ◌+ℤ◌, Bool, List, IsTrue, Option, option_map, Result};
+ghost use Rattle.std.specs.Prelude.{◌≡◌, ℕ, ◌+◌, ℤ, pos, ◌+ℤ◌, Bool, List, IsTrue, Option, option_map, Result, Err, ◌≤◌, ◌++◌, length};
 ghost use Rattle.edn_model.specs.Form.{Form};
 ghost use Rattle.fb_values.specs.declared.facts.Datom.{Datom};
 ghost use Rattle.fb_values.specs.declared.facts.Entry.{Entry};
@@ -45,4 +45,9 @@ pub fn components_are_read_in_one_way<S: Selection>()
 pub fn ranges_are_read_in_one_way<S: Selection>()
     ensures one { (h : List Entry) (w : Window) (a start end : Form) (x y : Result Range Refusal) → IsIndexRange h w S.selects a start end x → IsIndexRange h w S.selects a start end y → x ≡ y }
     ensures computed { (h : List Entry) (w : Window) (filters : List (Datom → Bool)) (a start end : Form) → IsIndexRange h w (λ d. IsTrue (is_selected_by filters d)) a start end (index_range h w filters a start end) }
+{}
+
+/// Components are read from left to right: what follows a place that fails does not tell.
+pub fn what_follows_a_refusal_does_not_tell<S: Selection>()
+    ensures { (h : List Entry) (w : Window) (order : Order) (fs more : List Form) (r : Refusal) → length (fs ++ more) ≤ 4 → AreComponents h w S.selects order fs (Err r) → AreComponents h w S.selects order (fs ++ more) (Err r) }
 {}

@@ -12,6 +12,6 @@ pub use components::{
 };
 pub use laws::{
     Selection, a_name_finds_one_entity, components_are_read_in_one_way, names_are_found_by_tests,
-    points_agree, ranges_are_read_in_one_way,
+    points_agree, ranges_are_read_in_one_way, what_follows_a_refusal_does_not_tell,
 };
 pub use points::{points_in_commands, ranges_of_the_log};
