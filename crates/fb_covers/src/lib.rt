@@ -2,9 +2,9 @@
 #![tactic(auto)]
 
 ghost use Rattle.std.specs.Prelude.{◌≡◌, ℕ, ◌↔◌, ◌==◌, IsTrue, IfOk, Contains};
-ghost use Rattle.std.specs.List.{list_any};
+ghost use Rattle.std.specs.List.{All, list_any};
 ghost use Rattle.std.specs.List.Sorted.{IsNonDecreasing};
-ghost use Rattle.fb_covers.specs.Coverage.{covers};
+ghost use Rattle.fb_covers.specs.Coverage.{StaysIn, covers};
 ghost use Rattle.fb_values.specs.declared.indexes.Order.TheVariants.{Avet, Vaet};
 
 use fb_memory::Memory;
@@ -65,6 +65,18 @@ impl Covers {
         Ok(Covers { avet, vaet })
     }
 
+    /// Whether the order's index holds by the newer coverage each attribute that it holds by this one.
+    pub fn stays_in(&self, newer: &Covers, order: Order) -> bool
+        ensures { IsTrue result ↔ StaysIn order self.now newer.now }
+    {
+        match order {
+            Order::Avet => is_part_of(&self.avet, &newer.avet),
+            Order::Vaet => is_part_of(&self.vaet, &newer.vaet),
+            // These hold every attribute.
+            _ => true,
+        }
+    }
+
     /// Whether both hold the same attributes.
     pub fn is_same(&self, other: &Covers) -> bool
         ensures { IsTrue result ↔ (self.now ≡ other.now) }
@@ -72,6 +84,22 @@ impl Covers {
         self.avet.as_slice() == other.avet.as_slice()
             && self.vaet.as_slice() == other.vaet.as_slice()
     }
+}
+
+/// Whether a sorted list has each of the attributes. Equal lists are the usual case.
+fn is_part_of(attributes: &[u64], sorted: &[u64]) -> bool
+    requires { IsNonDecreasing sorted.now }
+    ensures { IsTrue result ↔ All (Contains sorted.now) attributes.now }
+{
+    if attributes == sorted {
+        return true;
+    }
+    for attribute in attributes {
+        if !contains(sorted, *attribute) {
+            return false;
+        }
+    }
+    true
 }
 
 /// Whether a sorted list has the attribute.
@@ -96,6 +124,16 @@ mod tests {
         assert!(rt; copy.holds(Order::Avet, 71) && copy.holds(Order::Avet, 8));
         assert!(rt; !copy.holds(Order::Avet, 72) && copy.holds(Order::Vaet, 72));
         assert!(rt; copy.holds(Order::Eavt, 1) && copy.holds(Order::Aevt, 1));
+        Ok(())
+    }
+
+    #[test]
+    fn attributes_stay_in_a_wider_coverage(rt: HostRuntime) -> Result<(), Fail> {
+        let alloc = rt.alloc();
+        let narrow = Covers::of(alloc, vec![in alloc; 70, 8]?, vec![in alloc; 72]?)?;
+        let wide = Covers::of(alloc, vec![in alloc; 8, 9, 70]?, vec![in alloc; 72]?)?;
+        assert!(rt; narrow.stays_in(&wide, Order::Avet) && !wide.stays_in(&narrow, Order::Avet));
+        assert!(rt; wide.stays_in(&narrow, Order::Vaet) && wide.stays_in(&narrow, Order::Eavt));
         Ok(())
     }
 }

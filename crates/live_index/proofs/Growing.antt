@@ -1,6 +1,6 @@
 -- What the list of the live index is after each step of an entry.
-use Rattle.std.proofs.Common.{◌≡◌, ℕ, zero, suc, ◌+◌, ◌<◌, ◌≤◌, ◌⊎◌, Bool, true, false, cond, List, [], ◌∷◌, ◌++◌, length, take, get_or, refl, sym, ap, ◌∙◌, subst, inl, inr, arith, Option, Some}
-use Rattle.std.specs.Prelude.{◌↔◌, Contains, filter, IsTrue, IfOk, Result, Ok, Err}
+use Rattle.std.proofs.Common.{◌≡◌, ℕ, zero, suc, ◌+◌, ◌<◌, ◌≤◌, ◌⊎◌, Bool, true, false, cond, List, [], ◌∷◌, ◌++◌, length, take, get_or, refl, sym, ap, ◌∙◌, subst, inl, inr, arith, Option, Some, None}
+use Rattle.std.specs.Prelude.{◌↔◌, Contains, filter, IsTrue, IsSomeAnd, IfOk, Result, Ok, Err}
 use Rattle.std.specs.List.{insert, slice_get}
 use Rattle.std.specs.Ordering.{is_eq}
 use Rattle.std.specs.declared.cmp.Ordering.{Ordering}
@@ -13,7 +13,7 @@ use Rattle.fb_values.specs.declared.indexes.Order.{Order}
 use Rattle.fb_values.specs.declared.indexes.Order.TheVariants.{Avet}
 use Rattle.fb_values.specs.Orders.{key_cmp}
 use Rattle.fb_values.specs.OrderLaws.{key_cmp-Equal}
-use Rattle.fb_covers.specs.Coverage.{Coverage}
+use Rattle.fb_covers.specs.Coverage.{Coverage, StaysIn}
 use Rattle.fb_search.specs.Rising.{StandsBefore, IsRising}
 use Rattle.live_index.specs.Growth.{HasNoTwins, is_held, IsGrown, IsSound, is_twin}
 use Rattle.live_index.proofs.Members.{contains-cons, contains_none, from_filter, into_filter, filter_all, contains-insert}
@@ -112,11 +112,11 @@ pub gains_all : (old list datoms : List Datom) (i : ℕ) (P : Datom → Type 0) 
 gains_all old list datoms i P over gains = rw (take_all i datoms over) at gains
 
 -- only held datoms are left where the coverage stays
-pub sound_filter : (order : Order) (old : Option Coverage) (new : Coverage) (ds : List Datom) → old ≡ Some new → IsSound order old ds → filter (is_held new order) ds ≡ ds
-sound_filter order old new ds same sound =
-    let S : Option Coverage → Type 0 = λ o. IsSound order o ds in
-    let at : IsSound order (Some new) ds = subst S same sound in
-    filter_all (is_held new order) ds at.1
+-- where no attribute leaves the order's index, all datoms are held as before
+pub sound_filter : (order : Order) (old : Option Coverage) (new : Coverage) (ds : List Datom) → IsSomeAnd old (λ c. StaysIn order c new) → IsSound order old ds → filter (is_held new order) ds ≡ ds
+sound_filter order None new ds stays sound = absurd stays
+sound_filter order (Some old) new ds stays sound =
+    filter_all (is_held new order) ds (λ k d within. stays (get_or ds k d).a (sound.1 k d within))
 
 before-filter : (order : Order) (x : Datom) (p : Datom → Bool) (xs : List Datom) → StandsBefore order x xs → StandsBefore order x (filter p xs)
 before-filter order x p [] before = tt

@@ -1,8 +1,9 @@
 //! How one list of the live index grows by an entry.
-ghost use Rattle.std.specs.Prelude.{◌≡◌, ◌↔◌, ◌⊎◌, ◌∷◌, [], ◌++◌, filter, Contains, IfOk, IsTrue, Some};
+ghost use Rattle.std.specs.Prelude.{◌≡◌, ◌↔◌, ◌⊎◌, ◌∷◌, [], ◌++◌, filter, Contains, IfOk, IsTrue, IsSomeAnd};
 ghost use Rattle.std.specs.List.{slice_get};
 ghost use Rattle.fb_values.specs.declared.facts.Datom.{Datom};
 ghost use Rattle.fb_values.specs.declared.indexes.Order.TheVariants.{Avet};
+ghost use Rattle.fb_covers.specs.Coverage.{StaysIn};
 ghost use Rattle.fb_search.specs.Rising.{IsRising};
 ghost use Rattle.fb_search.specs.Places.{probe_of};
 ghost use Rattle.live_index.specs.Growth.{HasNoTwins, IsSound, is_held, is_twin};
@@ -13,7 +14,8 @@ use fb_values::{Datom, Order, Probe, cmp_in};
 use live_blocks::Blocks;
 use std::cmp::Ordering;
 
-/// The datoms whose attribute the order's index holds by the new coverage. Under an unchanged coverage these are all.
+/// The datoms whose attribute the order's index holds by the new coverage. The list is made anew only where an attribute
+/// leaves the index, so EAVT and AEVT stay shared, and AVET and VAET too where attributes come and none goes.
 pub fn kept(
     list: &Blocks,
     order: Order,
@@ -23,19 +25,20 @@ pub fn kept(
     requires { IsSound order old.now list.now }
     ensures { IfOk result (λ kept. kept ≡ filter (is_held new.now order) list.now) }
 {
-    if is_unchanged(old, new) {
+    if stays(order, old, new) {
         list.share()
     } else {
         held(list, order, new)
     }
 }
 
-fn is_unchanged(old: &Option<Covers>, new: &Covers) -> bool
-    ensures { IsTrue result → old.now ≡ Some new.now }
+/// Whether no attribute leaves the order's index. Where there was no entry before, nothing is known of it.
+fn stays(order: Order, old: &Option<Covers>, new: &Covers) -> bool
+    ensures { IsTrue result ↔ IsSomeAnd old.now (λ c. StaysIn order c new.now) }
 {
     match old {
         None => false,
-        Some(old) => old.is_same(new),
+        Some(old) => old.stays_in(new, order),
     }
 }
 

@@ -11,24 +11,13 @@ use Rattle.seg_tree.specs.Nodes.{LeafNode, DirectoryNode, tree_leaves}
 use Rattle.seg_tree.specs.Ids.{leaf_ids, directory_ids, node_ids, ids_of_four, is_new, is_old, IsInRow, count_of, AreDistinct}
 use Rattle.seg_tree.specs.Indexes.{tree_in}
 use Rattle.seg_tree.specs.declared.roots.Roots.{Roots}
+use Rattle.seg_tree.proofs.Rows.{count_range}
 use Rattle.seg_merge.specs.Plans.{RepeatsNone}
 use Rattle.seg_merge.specs.Four.{plan_in, kept_ids}
 use Rattle.seg_merge.specs.declared.merge.Plans.{Plans}
 
 count-append : (id : ℕ) (xs ys : List ℕ) → count_of id (xs ++ ys) ≡ count_of id xs + count_of id ys
 count-append id xs ys = ap length (filter-append (λ x. x == id) xs ys) ∙ length-append (filter (λ x. x == id) xs) (filter (λ x. x == id) ys)
-
-count_none : (id a n : ℕ) → id < a → count_of id (range_with_len a n) ≡ 0
-count_none id a zero less = refl
-count_none id a (suc n) less = rw (ne_eqb a id (λ e. omega (arith, e, less))) (count_none id (a + 1) n (omega arith))
-
-count_range : (id a n : ℕ) → count_of id (range_with_len a n) ≤ 1
-count_range id a zero = omega arith
-count_range id a (suc n) =
-    elim (cases_eq a id) [
-      | inl same ↦ let none = count_none id (a + 1) n (omega (arith, same)) in rw (eq-eqb a id same, none) (omega arith)
-      | inr apart ↦ rw (ne_eqb a id apart) (count_range id (a + 1) n)
-    ]
 
 -- a filter that lets the id through leaves its count
 count_filter : (p : ℕ → Bool) (id : ℕ) (ids : List ℕ) → p id ≡ true → count_of id (filter p ids) ≡ count_of id ids

@@ -9,6 +9,7 @@ use Rattle.live_index.proofs.Members.{contains-cons, contains_none}
 use Rattle.seg_tree.specs.Nodes.{LeafNode, DirectoryNode, tree_leaves}
 use Rattle.seg_tree.specs.Ids.{leaf_ids, directory_ids, node_ids, next_above, is_new, is_old, AreNumbered, IsInRow, old_leaves}
 use Rattle.seg_tree.proofs.Making.{next_above_append}
+use Rattle.seg_tree.proofs.Rows.{ranges_join}
 
 -- what is below a later number is below the first one already
 pub old_leaves-later : (first later : ℕ) (leaves : List LeafNode) → first ≤ later → All (λ (leaf : LeafNode). leaf.id < first) (old_leaves later leaves) → old_leaves first leaves ≡ old_leaves later leaves
@@ -56,19 +57,6 @@ all_ids first (leaf ∷ leaves) all = ids_cons first leaf leaves (All-head (λ (
 pub numbered_later : (first later next : ℕ) (ids : List ℕ) (kept : List LeafNode) → first ≤ later → filter (is_old later) ids ≡ leaf_ids kept → All (λ (leaf : LeafNode). leaf.id < first) kept → AreNumbered later next ids → filter (is_new first) ids ≡ range_with_len later (next - later)
 numbered_later first later next ids kept le old all numbered =
     new_ids-later first later ids le (subst (All (λ (id : ℕ). id < first)) (sym old) (all_ids first kept all)) ∙ numbered
-
-range-append : (a m n : ℕ) → range_with_len a m ++ range_with_len (a + m) n ≡ range_with_len a (m + n)
-range-append a zero n = let e : a + 0 ≡ a = omega arith in let f : 0 + n ≡ n = omega arith in rw (e, f) refl
-range-append a (suc m) n =
-    let e : a + suc m ≡ (a + 1) + m = omega arith in
-    let f : suc m + n ≡ suc (m + n) = omega arith in
-    rw (e, f) (ap (λ ns. a ∷ ns) (range-append (a + 1) m n))
-
-pub ranges_join : (a b c : ℕ) → a ≤ b → b ≤ c → range_with_len a (b - a) ++ range_with_len b (c - b) ≡ range_with_len a (c - a)
-ranges_join a b c one two =
-    let e : a + (b - a) ≡ b = omega arith in
-    let f : (b - a) + (c - b) ≡ c - a = omega arith in
-    ap (λ k. range_with_len a (b - a) ++ range_with_len k (c - b)) (sym e) ∙ range-append a (b - a) (c - b) ∙ ap (range_with_len a) f
 
 pub in_row_of : (first next : ℕ) (ids : List ℕ) → filter (is_new first) ids ≡ range_with_len first (next - first) → IsInRow first ids
 in_row_of first next ids is = is ∙ ap (range_with_len first) (sym (ap length is ∙ length-range_with_len first (next - first)))

@@ -162,7 +162,7 @@ is_built first next ds g = record {
   old = ap (filter (is_old first)) (sym (append-nil (node_ids ds))) ∙ g.old;
 }
 
-all_new : (first : ℕ) (ids : List ℕ) → filter (is_old first) ids ≡ [] → filter (is_new first) ids ≡ ids
+pub all_new : (first : ℕ) (ids : List ℕ) → filter (is_old first) ids ≡ [] → filter (is_new first) ids ≡ ids
 all_new first [] none = refl
 all_new first (id ∷ ids) none =
     elim (cases_lt id first) [

@@ -4,3 +4,4 @@ pub mod InLeaves
 pub mod InTrees
 pub mod Making
 pub mod Growing
+pub mod Rows

@@ -200,8 +200,16 @@ impl Tree {
         ensures datoms { IfOk result (λ tree. tree_datoms tree ≡ datoms.items) }
         ensures ids { IfOk result (λ tree. node_ids tree ≡ range_with_len first_id (length (node_ids tree))) }
     {
-        let builder = Builder::new(alloc, first_id).add(datoms)?;
-        let (tree, _) = builder.finish()?;
+        let (tree, _) = numbered(alloc, datoms, first_id)?;
         Ok(tree)
     }
+}
+
+/// The tree of a list, whose ids are `first` and the numbers that follow it, and the number behind them.
+pub fn numbered(alloc: Global, datoms: Vec<Datom>, first: u64) -> Result<(Tree, u64), Memory>
+    requires { first ≤ 2 ^ 62 }
+    ensures { IfOk result (λ built. IsBuilt (record { first = first; datoms = datoms.items; kept = [] }) built.0 built.1) }
+{
+    let builder = Builder::new(alloc, first).add(datoms)?;
+    builder.finish()
 }

@@ -1,10 +1,12 @@
 //! The four trees of a database.
-ghost use Rattle.std.specs.Prelude.{◌≡◌, ◌≤◌, ◌^◌, [], IfOk};
+ghost use Rattle.std.specs.Prelude.{◌≡◌, ◌+◌, ◌<◌, ◌≤◌, ◌^◌, [], length, IfOk};
+ghost use Rattle.std.specs.List.{range_with_len};
 ghost use Rattle.seg_tree.specs.Ids.{AreDistinct, ids_of_four, next_above};
 
+use crate::build::numbered;
 use crate::tree::Tree;
 use fb_memory::Memory;
-use fb_values::Order;
+use fb_values::{Datom, Order};
 use std::alloc::Global;
 
 /// A tree for each of the four orders. No two of their nodes have one id.
@@ -19,7 +21,7 @@ pub struct Roots {
 
 impl Roots {
     ghost use Rattle.fb_values.specs.declared.indexes.Order.{Order};
-    ghost use Rattle.seg_tree.specs.Indexes.{tree_in, root_ids};
+    ghost use Rattle.seg_tree.specs.Indexes.{tree_in, lists_of, root_ids};
 
     /// Four trees without a datom, as a database begins.
     pub fn empty(alloc: Global) -> Result<Roots, Memory>
@@ -34,6 +36,33 @@ impl Roots {
         })
     }
 
+    /// The trees of four lists. Their ids are `first_id` and the numbers that follow it, one tree behind the other.
+    pub fn of(
+        alloc: Global,
+        eavt: Vec<Datom>,
+        aevt: Vec<Datom>,
+        avet: Vec<Datom>,
+        vaet: Vec<Datom>,
+        first_id: u64,
+    ) -> Result<Roots, Memory>
+        requires { first_id ≤ 2 ^ 61 }
+        ensures lists { IfOk result (λ roots. lists_of roots ≡ record { eavt = eavt.items; aevt = aevt.items; avet = avet.items; vaet = vaet.items }) }
+        ensures ids { IfOk result (λ roots. root_ids roots ≡ range_with_len first_id (length (root_ids roots))) }
+        ensures next { IfOk result (λ roots. 0 < length (root_ids roots) → next_above (root_ids roots) ≡ first_id + length (root_ids roots)) }
+    {
+        let (eavt, second) = numbered(alloc, eavt, first_id)?;
+        let (aevt, third) = numbered(alloc, aevt, second)?;
+        let (avet, fourth) = numbered(alloc, avet, third)?;
+        let (vaet, _) = numbered(alloc, vaet, fourth)?;
+        Ok(Roots {
+            eavt,
+            aevt,
+            avet,
+            vaet,
+        })
+    }
+
+    /// The tree of an order.
     pub fn tree(&self, order: Order) -> &Tree
         ensures { result.now ≡ tree_in self.now order }
     {

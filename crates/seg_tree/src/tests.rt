@@ -44,6 +44,18 @@ fn is_at(tree: &Tree, place: Place, datom: &Datom) -> bool {
     }
 }
 
+// Whether the tree, read from left to right, has the datoms below `size` and then its end.
+fn is_list(alloc: Global, tree: &Tree, size: u32) -> Result<bool, Memory> {
+    let mut place = Place::START;
+    for n in 0..size {
+        if !is_at(tree, place, &datom(alloc, n)?) {
+            return Ok(false);
+        }
+        place = tree.next(place);
+    }
+    Ok(tree.at(place).is_none() && tree.next(place) == place)
+}
+
 // A list that is too long for one leaf is halved until it is not.
 const SIZES: [(u32, usize); 7] = [
     (0, 0),
@@ -61,14 +73,7 @@ fn trees_of_each_size_are_read_in_order(rt: HostRuntime) -> Result<(), Fail> {
         let tree = Tree::of(rt.alloc(), datoms(rt.alloc(), size)?, 5)?;
         let copy = tree.share()?;
         assert_eq!(rt; copy.leaves(rt.alloc())?.len(), leaves);
-        let mut place = Place::START;
-        for n in 0..size {
-            let datom = datom(rt.alloc(), n)?;
-            assert!(rt; is_at(&copy, place, &datom), "{n} of {size}");
-            place = copy.next(place);
-        }
-        assert!(rt; copy.at(place).is_none());
-        assert_eq!(rt; copy.next(place), place);
+        assert!(rt; is_list(rt.alloc(), &copy, size)?, "{size}");
     }
     Ok(())
 }
@@ -81,6 +86,29 @@ fn no_roots_have_no_ids(rt: HostRuntime) -> Result<(), Fail> {
     crosses_threads(&roots);
     assert_eq!(rt; roots.next_id(), 1);
     assert!(rt; roots.tree(Order::Vaet).at(Place::START).is_none());
+    Ok(())
+}
+
+#[test]
+fn first_roots_are_numbered_in_a_row(rt: HostRuntime) -> Result<(), Fail> {
+    let alloc = rt.alloc();
+    let lists = [700, 700, 513, 1].try_map(|size| datoms(alloc, size))?;
+    let [eavt, aevt, avet, vaet] = lists;
+    let roots = Roots::of(alloc, eavt, aevt, avet, vaet, 1)?;
+    let sizes = [
+        (Order::Eavt, 700, 2, 1),
+        (Order::Aevt, 700, 2, 4),
+        (Order::Avet, 513, 2, 7),
+        (Order::Vaet, 1, 1, 10),
+    ];
+    for (order, size, count, first) in sizes {
+        let tree = roots.tree(order);
+        let leaves = tree.leaves(alloc)?;
+        assert_eq!(rt; leaves.len(), count);
+        assert_eq!(rt; leaves.first().map(|leaf| leaf.id()), Some(first));
+        assert!(rt; is_list(alloc, tree, size)?, "{size}");
+    }
+    assert_eq!(rt; roots.next_id(), 12);
     Ok(())
 }
 

@@ -6,10 +6,10 @@ use Rattle.live_bench.proofs.entries.with_one.Goals as goal
 
 pub with_entry-requires : goal.with_entry-requires
 with_entry-requires c order =
-    no_twins _ (both _ _ (both _ _ (c.requires order) (subst AreSamples (sym c.no_datoms-refill.ensures) none)) (subst AreSamples (sym c.entry_of-entry.ensures) c.in_ok-datoms.ensures))
+    no_twins _ (both _ _ (both _ _ (c.requires.live order) (subst AreSamples (sym c.no_datoms-refill.ensures) none)) (subst AreSamples (sym c.entry_of-entry.ensures) c.requires.datoms))
 
 pub returns : goal.returns
 returns c =
     IfOk-weaker c.with_entry.result _ _
-    (λ new g order. grown order c.args.covers.now _ _ _ _ (c.requires order) (subst AreSamples (sym c.no_datoms-refill.ensures) none) (subst AreSamples (sym c.entry_of-entry.ensures) c.in_ok-datoms.ensures) (g order))
+    (λ new g order. grown order c.args.covers.now _ _ _ _ (c.requires.live order) (subst AreSamples (sym c.no_datoms-refill.ensures) none) (subst AreSamples (sym c.entry_of-entry.ensures) c.requires.datoms) (g order))
     c.with_entry.ensures.grown
