@@ -1,0 +1,7 @@
+pub mod Patterns
+pub mod Reading
+pub mod Found
+pub mod Made
+pub mod Tree
+pub mod Pull
+pub mod Samples
