@@ -4,4 +4,5 @@ pub mod Found
 pub mod Made
 pub mod Tree
 pub mod Pull
+pub mod Measures
 pub mod Samples
