@@ -4,13 +4,13 @@ use Rattle.edn_model.specs.Form as edn
 use Rattle.edn_model.specs.Form.{Form, forms, pairs}
 use Rattle.fb_values.specs.declared.facts.Datom.{Datom}
 use Rattle.fb_values.specs.declared.facts.Entry.{Entry}
-use Rattle.fb_values.specs.declared.facts.Value.TheVariants.{Keyword, Str, Bool as Boolean, Long, Ref}
-use Rattle.fb_model.specs.Numbers.{user_entity, ident, value_type, cardinality, is_component, type_long, type_string, type_ref, cardinality_one, cardinality_many}
+use Rattle.fb_values.specs.declared.facts.Value.TheVariants.{Keyword, Str, Bool as Boolean, Long, Ref, Uri}
+use Rattle.fb_model.specs.Numbers.{user_entity, ident, value_type, cardinality, is_component, type_long, type_string, type_ref, type_uri, cardinality_one, cardinality_many}
 use Rattle.fb_model.specs.FirstEntry.{first_entry}
 use Rattle.fb_model.specs.Facts.{facts}
 use Rattle.view_model.specs.Window.{whole}
 use Rattle.view_model.specs.Names.{number}
-use Rattle.view_model.specs.Samples.{datom, entry_at}
+use Rattle.view_model.specs.Samples.{datom, entry_at, texts}
 use Rattle.pull_model.specs.Found.{Db}
 use Rattle.pull_model.specs.Pull.{Answer, pull}
 
@@ -174,6 +174,23 @@ two_names =
     first_entry
     ∷ entry_at 1 1000 (installed 1 (codes "a/b") type_string cardinality_one ++ installed 2 (codes "a.b/c") type_string cardinality_one)
     ∷ entry_at 2 2000 (datom (user_entity 3) (user_entity 1) (Str (codes "1")) 2 true ∷ datom (user_entity 3) (user_entity 2) (Str (codes "2")) 2 true ∷ [])
+    ∷ []
+
+-- ---- a text, and a uri
+
+abbrev pub home : Form
+home = key (codes "u/home")
+
+-- an entity with a text has a uri too
+abbrev pub homes : List Entry
+homes =
+    texts
+    ++ entry_at 2 2000
+    (datom (user_entity 2) ident (Keyword (codes "u/home")) 2 true
+    ∷ datom (user_entity 2) value_type (Ref type_uri) 2 true
+    ∷ datom (user_entity 2) cardinality (Ref cardinality_one) 2 true
+    ∷ [])
+    ∷ entry_at 3 3000 (datom (user_entity 1) (user_entity 2) (Uri (codes "http://a")) 3 true ∷ [])
     ∷ []
 
 -- ---- many numbers, and a long chain

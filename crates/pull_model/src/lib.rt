@@ -17,8 +17,8 @@ pub use laws::{
     a_pull_has_one_answer, a_tree_is_finite, keys_stand_once_and_in_the_order_of_items,
     no_entity_is_twice_on_a_path, the_room_is_enough,
 };
-pub use limits::{a_long_chain, maps_that_are_made, refusals};
+pub use limits::{a_long_chain, hidden_idents, maps_that_are_made, refusals};
 pub use rows::{
-    a_retracted_entity, friends_of_friends, many_numbers, names_and_defaults, one_by_its_email,
-    under_filters,
+    a_home_page, a_retracted_entity, friends_of_friends, many_numbers, names_and_defaults,
+    one_by_its_email, under_filters,
 };

@@ -1,7 +1,7 @@
 //! Examples, by computation: refusals, in their order, and the maps that count.
-ghost use Rattle.std.specs.Prelude.{◌≡◌, [], ◌∷◌, codes, None, Some, true, false};
+ghost use Rattle.std.specs.Prelude.{◌≡◌, [], ◌∷◌, codes, not, nat_eq, None, Some, true, false};
 ghost use Rattle.edn_model.specs.Form.{nil};
-ghost use Rattle.fb_model.specs.Numbers.{user_entity};
+ghost use Rattle.fb_model.specs.Numbers.{user_entity, ident as db_ident};
 ghost use Rattle.view_model.specs.Window.{whole, with_history};
 ghost use Rattle.view_model.specs.Names.{number, ident};
 ghost use Rattle.view_model.specs.Samples.{texts};
@@ -22,6 +22,14 @@ pub fn refusals()
     ensures one_map_more { answered (record { form = None; maps = 65537; depth = 1 }) ≡ refused too_large }
     ensures as_deep { answered (record { form = None; maps = 300; depth = 256 }) ≡ pulled nil }
     ensures one_deeper { answered (record { form = None; maps = 300; depth = 257 }) ≡ refused too_large }
+{}
+
+/// An entity's ident is looked for in the view, an attribute's in the whole schema.
+pub fn hidden_idents()
+    ensures seen { pull friends whole [] (vector (id ∷ [])) (ident (codes "f/name")) ≡ pulled (entity 1) }
+    ensures hidden { pull friends whole ((λ d. not (nat_eq d.a db_ident)) ∷ []) (vector (id ∷ [])) (ident (codes "f/name")) ≡ refused no_entity }
+    ensures as_an_attribute { pull friends whole ((λ d. not (nat_eq d.a db_ident)) ∷ []) (vector (name ∷ [])) (number (user_entity 3)) ≡ pulled (below name (text (codes "A"))) }
+    ensures number_of_no_entity { pull friends whole [] (vector (name ∷ [])) (number 99) ≡ pulled nil }
 {}
 
 /// A chain of entities, each told inside the one before: 256 are told, and one more stands too deep.

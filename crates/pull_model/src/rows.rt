@@ -8,7 +8,7 @@ ghost use Rattle.view_model.specs.Window.{whole, as_of};
 ghost use Rattle.view_model.specs.Names.{number, lookup};
 ghost use Rattle.view_model.specs.Samples.{texts, emails};
 ghost use Rattle.pull_model.specs.Pull.{pull, pulled, pull_in};
-ghost use Rattle.pull_model.specs.Samples.{key, text, int, vector, map_of, star, dots, id, below, with, entity, tree_of, name, friend, friends, lines, sku, orders, orders_retracted, some_number, numbers, numbers_hidden_below_0, number_forms, counted};
+ghost use Rattle.pull_model.specs.Samples.{home, homes, key, text, int, vector, map_of, star, dots, id, below, with, entity, tree_of, name, friend, friends, lines, sku, orders, orders_retracted, some_number, numbers, numbers_hidden_below_0, number_forms, counted};
 
 /// A text, under a key of its own and with a filter that hides it.
 pub fn under_filters()
@@ -16,6 +16,12 @@ pub fn under_filters()
     ensures filtered { pull texts whole ((λ d. not (nat_eq d.a doc)) ∷ []) (vector (star ∷ [])) (number (user_entity 1)) ≡ pulled (entity 1) }
     ensures nothing_left { pull texts whole ((λ d. not (nat_eq d.a doc)) ∷ []) (vector (key (codes "db/doc") ∷ [])) (number (user_entity 1)) ≡ pulled nil }
     ensures before_it { pull texts (as_of 1 whole) [] (vector (key (codes "db/doc") ∷ [])) (number (user_entity 1)) ≡ pulled nil }
+{}
+
+/// A uri is told as a string.
+pub fn a_home_page()
+    ensures lawful { IsLawful homes }
+    ensures told { tree_of homes (star ∷ []) 1 ≡ pulled (map_of ((id, int (user_entity 1)) ∷ (key (codes "db/doc"), text (codes "hi")) ∷ (home, text (codes "http://a")) ∷ [])) }
 {}
 
 /// A key in place of a name, and what stands for an attribute that the entity has not.
