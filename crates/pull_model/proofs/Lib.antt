@@ -1,0 +1,9 @@
+pub mod Lists
+pub mod Entities
+pub mod Agreement
+pub mod Depth
+pub mod Finite
+pub mod Distinct
+pub mod Items
+pub mod Absent
+pub mod Views
