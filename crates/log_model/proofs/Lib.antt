@@ -1,0 +1,6 @@
+pub mod Entries
+pub mod Fields
+pub mod Logs
+pub mod Numbers
+pub mod Sizes
+pub mod Values
