@@ -16,10 +16,10 @@ use Rattle.log_model.proofs.Fields.{AreBytes-behind, Reads, Reads-then, Reads-th
 use Rattle.log_model.proofs.Values.{Reads-value, Wrote-value}
 
 -- four fields, one behind another
-in_a_row : (a b c d : List ℕ) → a ++ b ++ c ++ d ≡ a ++ (b ++ (c ++ d))
+pub in_a_row : (a b c d : List ℕ) → a ++ b ++ c ++ d ≡ a ++ (b ++ (c ++ d))
 in_a_row a b c d = append_assoc (a ++ b) c d ∙ append_assoc a b (c ++ d)
 
-four_and_rest : (a b c d rest : List ℕ) → a ++ (b ++ (c ++ (d ++ rest))) ≡ (a ++ b ++ c ++ d) ++ rest
+pub four_and_rest : (a b c d rest : List ℕ) → a ++ (b ++ (c ++ (d ++ rest))) ≡ (a ++ b ++ c ++ d) ++ rest
 four_and_rest a b c d rest =
     sym (ap (λ l. l ++ rest) (in_a_row a b c d) ∙ append_assoc a (b ++ (c ++ d)) rest ∙ ap (λ l. a ++ l) (append_assoc b (c ++ d) rest) ∙ ap (λ l. a ++ (b ++ l)) (append_assoc c d rest))
 
@@ -154,7 +154,7 @@ Wrote-fields format bytes entry rest are is =
       ap (is_storable_in format) (sym made_is) ∙ fits,
     )
 
-at_end-found : {A : Type 0} (r : Reading A) (a : A) (rest : List ℕ) → IsFound (at_end r) a rest → IsFound r a [] × (rest ≡ [])
+pub at_end-found : {A : Type 0} (r : Reading A) (a : A) (rest : List ℕ) → IsFound (at_end r) a rest → IsFound r a [] × (rest ≡ [])
 at_end-found (found x []) a rest is = ((is.0, refl), sym is.1)
 at_end-found (found x (b ∷ more)) a rest is = absurd is
 at_end-found (misfit l) a rest is = absurd is

@@ -73,7 +73,7 @@ holds_first before (holds entry) (hold others) entries is = record { first = ent
 holds_first before (holds entry) (bad_at nth byte) entries is = absurd (held (bad_at nth byte) entries is)
 holds_first before (breaks_at byte) behind entries is = absurd (held (with_record before (breaks_at byte) behind) entries is)
 
-abbrev AreRecords : List (List ℕ) → Type 0
+abbrev pub AreRecords : List (List ℕ) → Type 0
 AreRecords records = AllByRecursion (λ payload. AreBytes payload) records
 
 payloads-entries_behind : (before records : List (List ℕ)) (entries : List Entry) → AreRecords records → entries_behind before records ≡ hold entries → ArePayloadsOf entries records
@@ -98,7 +98,7 @@ lawful-first_unlawful h (entry ∷ rest) is =
     let split = none-first_unlawful_behind h rest entry (least_law h entry) (first_unlawful (h ++ entry ∷ []) rest) is in
     (lawful-least_law h entry split.0, lawful-first_unlawful (h ++ entry ∷ []) rest split.1)
 
-abbrev Stands : LogSays → Type 0
+abbrev pub Stands : LogSays → Type 0
 Stands (stands_for h) = Unit {0}
 Stands (bad_record nth byte) = ⊥
 Stands (unlawful t law) = ⊥
@@ -120,5 +120,8 @@ AreRecords-All : (records : List (List ℕ)) → All (λ (payload : List ℕ). A
 AreRecords-All [] all = tt
 AreRecords-All (payload ∷ records) all = (AreBytes-All payload (all 0 [] (omega arith)), AreRecords-All records (λ k d below. all (suc k) d (omega (arith, below))))
 
+pub stands-log_says_of : (records : List (List ℕ)) (h : List Entry) → AreRecords records → log_says records ≡ stands_for h → LogStands records h
+stands-log_says_of records h are is = from_told records h are (entries_behind [] records) refl is
+
 pub stands-log_says : (records : List (List ℕ)) (h : List Entry) → All (λ (payload : List ℕ). All (λ byte. byte < 256) payload) records → log_says records ≡ stands_for h → LogStands records h
-stands-log_says records h all is = from_told records h (AreRecords-All records all) (entries_behind [] records) refl is
+stands-log_says records h all is = stands-log_says_of records h (AreRecords-All records all) is

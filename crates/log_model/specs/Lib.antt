@@ -4,3 +4,6 @@ pub mod Payload
 pub mod Storable
 pub mod Log
 pub mod Samples
+pub mod Nodes
+pub mod Merges
+pub mod Kept

@@ -1,11 +1,11 @@
 -- Logs: when the records of a log stand for a history, and what is wrong with them first where they stand for none.
 -- Datomic, Log API (the log is the transactions in the order of t). What is told of a bad log is this project's own choice.
-use Rattle.std.specs.Prelude.{ℕ, ◌+◌, List, [], ◌∷◌, ◌++◌, length, drop, ⊤, Option, Some, None}
+use Rattle.std.specs.Prelude.{◌≡◌, ◌⊎◌, ℕ, ◌+◌, List, [], ◌∷◌, ◌++◌, length, drop, ⊤, Option, Some, None}
 use Rattle.std.specs.Option.{option_map_or}
 use Rattle.fb_values.specs.declared.facts.Entry.{Entry}
 use Rattle.fb_model.specs.FirstEntry.{first_entry}
 use Rattle.fb_model.specs.Lawful.{IsLawful, least_law}
-use Rattle.disk_model.specs.Journal.{log_mark, opened}
+use Rattle.disk_model.specs.Journal.{log_mark, opened, JournalStands, JournalBreaks}
 use Rattle.log_model.specs.Payload.{Says, holds, breaks_at, payload_says}
 use Rattle.log_model.specs.Storable.{IsPayloadOf}
 
@@ -69,3 +69,17 @@ told (hold entries) = judged entries (first_unlawful (first_entry ∷ []) entrie
 -- all records are judged as payloads before any entry is judged by the laws
 abbrev pub log_says : List (List ℕ) → LogSays
 log_says records = told (entries_behind [] records)
+
+-- ---- a file
+
+-- The file's journal has records that stand for the history.
+pub record IsLogOf (file : List ℕ) (h : List Entry) : Type 0 where
+  pub records : List (List ℕ)
+  pub journal : JournalStands log_mark records file
+  pub stands : LogStands records h
+
+-- What a file says: its journal is judged before any record of it.
+abbrev pub FileSays : List ℕ → LogSays → Type 0
+FileSays file said =
+    (records : List (List ℕ)) × ((JournalStands log_mark records file × (said ≡ log_says records))
+    ⊎ ((nth : ℕ) × (at : ℕ) × JournalBreaks log_mark records file nth at × (said ≡ bad_record nth at)))

@@ -4,6 +4,7 @@ use Rattle.fb_values.specs.declared.facts.Datom.{Datom}
 use Rattle.fb_values.specs.declared.facts.Entry.{Entry}
 use Rattle.fb_values.specs.declared.facts.Value.{Value}
 use Rattle.fb_values.specs.declared.facts.Value.TheVariants.{Str, Instant}
+use Rattle.log_model.specs.Nodes.{MergeRecord, record_bytes_in}
 use Rattle.fb_model.specs.Numbers.{transaction_of, user_entity, tx_instant, doc}
 
 abbrev pub datom : ℕ → ℕ → Value → Datom
@@ -62,3 +63,40 @@ with_byte place byte bytes = take place bytes ++ byte ∷ drop (place + 1) bytes
 -- the log with another byte at the place, where the payload is: its one record
 abbrev pub record_with : ℕ → ℕ → List (List ℕ)
 record_with place byte = take 67 (drop 24 (with_byte place byte hi_log)) ∷ []
+
+-- ---- a merge record with one leaf, which has the text `hi`, and one directory, which is the EAVT tree
+
+abbrev pub leaf_record : List ℕ
+leaf_record =
+    0x02
+    ∷ 0x00 ∷ 0x00 ∷ 0x00 ∷ 0x01
+    ∷ 0x00 ∷ 0x00 ∷ 0x00 ∷ 0x01
+    ∷ 0x00 ∷ 0x00 ∷ 0x00 ∷ 0x00 ∷ 0x00 ∷ 0x00 ∷ 0x00 ∷ 0x01
+    ∷ 0x00 ∷ 0x00 ∷ 0x00 ∷ 0x01
+    ∷ (hi_datom ++ 0x00 ∷ 0x00 ∷ 0x00 ∷ 0x01
+    ∷ 0x00 ∷ 0x00 ∷ 0x00 ∷ 0x01
+    ∷ 0x00 ∷ 0x00 ∷ 0x00 ∷ 0x00 ∷ 0x00 ∷ 0x00 ∷ 0x00 ∷ 0x02
+    ∷ 0x00 ∷ 0x00 ∷ 0x00 ∷ 0x01
+    ∷ 0x00 ∷ 0x00 ∷ 0x00 ∷ 0x00 ∷ 0x00 ∷ 0x00 ∷ 0x00 ∷ 0x01
+    ∷ 0x00 ∷ 0x00 ∷ 0x00 ∷ 0x01
+    ∷ 0x00 ∷ 0x00 ∷ 0x00 ∷ 0x00 ∷ 0x00 ∷ 0x00 ∷ 0x00 ∷ 0x02
+    ∷ 0x00 ∷ 0x00 ∷ 0x00 ∷ 0x00
+    ∷ 0x00 ∷ 0x00 ∷ 0x00 ∷ 0x00
+    ∷ 0x00 ∷ 0x00 ∷ 0x00 ∷ 0x00
+    ∷ [])
+
+abbrev pub leaf_merge : MergeRecord
+leaf_merge =
+    record {
+      c = 1;
+      leaves = record { id = 1; datoms = datom (user_entity 1) doc (Str (codes "hi")) ∷ [] } ∷ [];
+      directories = record { id = 2; leaves = 1 ∷ [] } ∷ [];
+      roots = record { eavt = 2 ∷ []; aevt = []; avet = []; vaet = [] };
+    }
+
+-- the record behind it: the same tree, for c = 2, without a new node
+abbrev pub next_merge : MergeRecord
+next_merge = record { c = 2; leaves = []; directories = []; roots = leaf_merge.roots }
+
+abbrev pub next_record : List ℕ
+next_record = record_bytes_in 2 next_merge

@@ -7,7 +7,7 @@ ghost use Rattle.log_model.specs.Fields.{found};
 ghost use Rattle.log_model.specs.Values.{value_bytes, read_value};
 ghost use Rattle.log_model.specs.Payload.{written_format, entry_bytes, entry_bytes_in, payload_says, holds, breaks_at};
 ghost use Rattle.log_model.specs.Storable.{is_storable_value, IsStorable, IsPayloadOf};
-ghost use Rattle.log_model.specs.Log.{LogStands, log_says, stands_for};
+ghost use Rattle.log_model.specs.Log.{LogStands, LogSays, log_says, stands_for, IsLogOf, FileSays};
 
 /// A storable entry's bytes say that entry, and so does a payload in the older format; a value's bytes say the value,
 /// whatever stands behind them.
@@ -49,4 +49,12 @@ pub fn a_log_stands_for_one_history()
 pub fn what_a_log_says()
     ensures stands { (records : List (List ℕ)) (h : List Entry) → LogStands records h → log_says records ≡ stands_for h }
     ensures says { (records : List (List ℕ)) (h : List Entry) → All (λ (payload : List ℕ). All (λ byte. byte < 256) payload) records → log_says records ≡ stands_for h → LogStands records h }
+{}
+
+/// A file of bytes says one thing as a log, and it says a history exactly where it is a log of that history.
+pub fn a_file_says_one_thing_as_a_log()
+    ensures one { (file : List ℕ) (said other : LogSays) → FileSays file said → FileSays file other → said ≡ other }
+    ensures some { (file : List ℕ) → All (λ byte. byte < 256) file → (said : LogSays) × FileSays file said }
+    ensures good { (file : List ℕ) (h : List Entry) → IsLogOf file h → FileSays file (stands_for h) }
+    ensures history { (file : List ℕ) (h : List Entry) → All (λ byte. byte < 256) file → FileSays file (stands_for h) → IsLogOf file h }
 {}
