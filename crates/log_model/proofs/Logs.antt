@@ -49,11 +49,11 @@ history_in (unlawful t law) = []
 pub one_history : (records : List (List ℕ)) (first second : List Entry) → LogStands records first → LogStands records second → first ≡ second
 one_history records first second one other = ap history_in (sym (log_says-stands records first one) ∙ log_says-stands records second other)
 
-abbrev entries_of : RecordsSay → List Entry
+abbrev pub entries_of : RecordsSay → List Entry
 entries_of (hold entries) = entries
 entries_of (bad_at nth byte) = []
 
-abbrev IsHeld : RecordsSay → Type 0
+abbrev pub IsHeld : RecordsSay → Type 0
 IsHeld (hold entries) = Unit {0}
 IsHeld (bad_at nth byte) = ⊥
 
@@ -76,7 +76,7 @@ holds_first before (breaks_at byte) behind entries is = absurd (held (with_recor
 abbrev pub AreRecords : List (List ℕ) → Type 0
 AreRecords records = AllByRecursion (λ payload. AreBytes payload) records
 
-payloads-entries_behind : (before records : List (List ℕ)) (entries : List Entry) → AreRecords records → entries_behind before records ≡ hold entries → ArePayloadsOf entries records
+pub payloads-entries_behind : (before records : List (List ℕ)) (entries : List Entry) → AreRecords records → entries_behind before records ≡ hold entries → ArePayloadsOf entries records
 payloads-entries_behind before [] entries are is = subst (λ es. ArePayloadsOf es []) (ap entries_of is) tt
 payloads-entries_behind before (payload ∷ records) entries are is =
     let split = holds_first before (payload_says payload) (entries_behind (before ++ payload ∷ []) records) entries is in
@@ -116,7 +116,7 @@ module _ (records : List (List ℕ)) (h : List Entry) (are : AreRecords records)
   from_told (hold entries) behind is = from_judged entries behind (first_unlawful (first_entry ∷ []) entries) refl is
   from_told (bad_at nth byte) behind is = absurd (subst Stands (sym is) tt)
 
-AreRecords-All : (records : List (List ℕ)) → All (λ (payload : List ℕ). All (λ byte. byte < 256) payload) records → AreRecords records
+pub AreRecords-All : (records : List (List ℕ)) → All (λ (payload : List ℕ). All (λ byte. byte < 256) payload) records → AreRecords records
 AreRecords-All [] all = tt
 AreRecords-All (payload ∷ records) all = (AreBytes-All payload (all 0 [] (omega arith)), AreRecords-All records (λ k d below. all (suc k) d (omega (arith, below))))
 
