@@ -1,0 +1,2 @@
+pub mod CopiedLogs
+pub mod Plans

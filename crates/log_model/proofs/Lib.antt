@@ -1,0 +1,9 @@
+pub mod Entries
+pub mod Fields
+pub mod KeptRoots
+pub mod LogFiles
+pub mod Logs
+pub mod MergeRecords
+pub mod Numbers
+pub mod Sizes
+pub mod Values

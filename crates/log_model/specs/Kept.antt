@@ -1,0 +1,72 @@
+-- Kept roots: the trees of a file of segments after each of its merges, and the newest of them that a history agrees with.
+-- This project's own choice; Datomic, Indexes, tells of the merging.
+use Rattle.std.specs.Prelude.{◌≡◌, ◌⊎◌, ℕ, List, [], ◌∷◌, ◌++◌, filter, fold, flat_map, nat_eq, Contains}
+use Rattle.fb_values.specs.declared.facts.Datom.{Datom}
+use Rattle.fb_values.specs.declared.facts.Entry.{Entry}
+use Rattle.view_model.specs.Stands.{Lists, RootStands}
+use Rattle.log_model.specs.Nodes.{Nodes, no_nodes, with_leaf, with_directory, MergeRecord}
+use Rattle.log_model.specs.Merges.{MergeSays, merges, bad_from, record_says}
+
+-- four trees, read from left to right, and how far they go
+pub record KeptRoot : Type 0 where
+  pub lists : Lists
+  pub c : ℕ
+
+-- the nodes of the file after the record
+abbrev pub with_nodes : Nodes → MergeRecord → Nodes
+with_nodes nodes merge = fold with_directory (fold with_leaf nodes merge.leaves) merge.directories
+
+abbrev pub leaf_datoms : Nodes → ℕ → List Datom
+leaf_datoms nodes id = flat_map (λ leaf. leaf.datoms) (filter (λ leaf. nat_eq leaf.id id) nodes.leaves)
+
+abbrev pub directory_datoms : Nodes → ℕ → List Datom
+directory_datoms nodes id =
+    flat_map (leaf_datoms nodes) (flat_map (λ directory. directory.leaves) (filter (λ directory. nat_eq directory.id id) nodes.directories))
+
+abbrev pub tree_datoms : Nodes → List ℕ → List Datom
+tree_datoms nodes ids = flat_map (directory_datoms nodes) ids
+
+abbrev pub kept_root : Nodes → MergeRecord → KeptRoot
+kept_root nodes merge =
+    record {
+      lists = record {
+        eavt = tree_datoms nodes merge.roots.eavt;
+        aevt = tree_datoms nodes merge.roots.aevt;
+        avet = tree_datoms nodes merge.roots.avet;
+        vaet = tree_datoms nodes merge.roots.vaet;
+      };
+      c = merge.c;
+    }
+
+-- a bad record keeps no root, and nothing behind it counts
+abbrev pub kept_by : Nodes → MergeSays → (Nodes → List KeptRoot) → List KeptRoot
+kept_by nodes (bad_from byte) behind = []
+kept_by nodes (merges merge) behind = kept_root (with_nodes nodes merge) merge ∷ behind (with_nodes nodes merge)
+
+abbrev pub kept_behind : Nodes → List (List ℕ) → List KeptRoot
+kept_behind nodes [] = []
+kept_behind nodes (payload ∷ records) = kept_by nodes (record_says nodes payload) (λ next. kept_behind next records)
+
+-- the roots of a file with these records, the oldest first
+abbrev pub kept_roots : List (List ℕ) → List KeptRoot
+kept_roots records = kept_behind no_nodes records
+
+-- ---- the root that a history is opened with
+
+-- its trees are the indexes of the entries up to its c
+abbrev pub Agrees : List Entry → KeptRoot → Type 0
+Agrees h root = RootStands root.lists h root.c
+
+abbrev pub NoneAgrees : List Entry → List KeptRoot → Type 0
+NoneAgrees h roots = (root : KeptRoot) → Contains roots root → Agrees h root → ⊥
+
+pub record IsNewestAgreeing (h : List Entry) (kept : List KeptRoot) (root : KeptRoot) : Type 0 where
+  pub older : List KeptRoot
+  pub newer : List KeptRoot
+  pub place : kept ≡ older ++ root ∷ newer
+  pub agrees : Agrees h root
+  pub newest : NoneAgrees h newer
+
+-- how far the trees go that the history is opened with: the newest root that agrees, or the first entry alone
+abbrev pub IsCoverage : List Entry → List KeptRoot → ℕ → Type 0
+IsCoverage h kept c = ((root : KeptRoot) × IsNewestAgreeing h kept root × (c ≡ root.c)) ⊎ (NoneAgrees h kept × (c ≡ 0))

@@ -1,0 +1,9 @@
+pub mod Fields
+pub mod Values
+pub mod Payload
+pub mod Storable
+pub mod Log
+pub mod Samples
+pub mod Nodes
+pub mod Merges
+pub mod Kept

@@ -1,0 +1,60 @@
+//! Laws about payloads and logs.
+ghost use Rattle.std.specs.Prelude.{◌≡◌, ◌≤◌, ◌<◌, ℕ, List, ◌∷◌, length, All, IsTrue, ◌++◌};
+ghost use Rattle.fb_values.specs.declared.facts.Entry.{Entry};
+ghost use Rattle.fb_values.specs.declared.facts.Value.{Value};
+ghost use Rattle.tx_model.specs.Size.{entry_size};
+ghost use Rattle.log_model.specs.Fields.{found};
+ghost use Rattle.log_model.specs.Values.{value_bytes, read_value};
+ghost use Rattle.log_model.specs.Payload.{written_format, entry_bytes, entry_bytes_in, payload_says, holds, breaks_at};
+ghost use Rattle.log_model.specs.Storable.{is_storable_value, IsStorable, IsPayloadOf};
+ghost use Rattle.log_model.specs.Log.{LogStands, LogSays, log_says, stands_for, IsLogOf, FileSays};
+
+/// A storable entry's bytes say that entry, and so does a payload in the older format; a value's bytes say the value,
+/// whatever stands behind them.
+pub fn an_entry_is_read_back()
+    ensures written { (entry : Entry) → IsStorable entry → payload_says (entry_bytes entry) ≡ holds entry }
+    ensures either_format { (entry : Entry) (payload : List ℕ) → IsPayloadOf entry payload → payload_says payload ≡ holds entry }
+    ensures value { (format : ℕ) (v : Value) (rest : List ℕ) → IsTrue (is_storable_value format v) → read_value format (value_bytes v ++ rest) ≡ found v rest }
+{}
+
+/// A payload that says an entry is that entry's bytes, in its format. So a storable entry has one payload in the written format.
+pub fn a_payload_is_its_entrys_bytes()
+    ensures bytes { (entry : Entry) (payload : List ℕ) → All (λ byte. byte < 256) payload → payload_says payload ≡ holds entry → IsPayloadOf entry payload }
+    ensures written { (entry : Entry) (fields : List ℕ) → IsPayloadOf entry (written_format ∷ fields) → written_format ∷ fields ≡ entry_bytes entry }
+    ensures value { (format : ℕ) (v : Value) (bytes rest : List ℕ) → All (λ byte. byte < 256) bytes → read_value format bytes ≡ found v rest
+        → (bytes ≡ value_bytes v ++ rest) × IsTrue (is_storable_value format v) }
+{}
+
+/// A payload is that of one entry at most.
+pub fn a_payload_holds_one_entry()
+    ensures { (first second : Entry) (payload : List ℕ) → IsPayloadOf first payload → IsPayloadOf second payload → first ≡ second }
+{}
+
+/// The first misfit begins within the payload, or at its end, where a field is wanting.
+pub fn a_fault_lies_in_its_payload()
+    ensures { (payload : List ℕ) (byte : ℕ) → payload_says payload ≡ breaks_at byte → byte ≤ length payload }
+{}
+
+/// The size of an entry, which transactions are judged by, is the number of its payload's bytes.
+pub fn an_entrys_size_is_that_of_its_bytes()
+    ensures { (format : ℕ) (entry : Entry) → length (entry_bytes_in format entry) ≡ entry_size entry.datoms }
+{}
+
+/// The records of a log stand for one history at most.
+pub fn a_log_stands_for_one_history()
+    ensures { (records : List (List ℕ)) (first second : List Entry) → LogStands records first → LogStands records second → first ≡ second }
+{}
+
+/// A log says the history that it stands for, and none where it stands for none.
+pub fn what_a_log_says()
+    ensures stands { (records : List (List ℕ)) (h : List Entry) → LogStands records h → log_says records ≡ stands_for h }
+    ensures says { (records : List (List ℕ)) (h : List Entry) → All (λ (payload : List ℕ). All (λ byte. byte < 256) payload) records → log_says records ≡ stands_for h → LogStands records h }
+{}
+
+/// A file of bytes says one thing as a log, and it says a history exactly where it is a log of that history.
+pub fn a_file_says_one_thing_as_a_log()
+    ensures one { (file : List ℕ) (said other : LogSays) → FileSays file said → FileSays file other → said ≡ other }
+    ensures some { (file : List ℕ) → All (λ byte. byte < 256) file → (said : LogSays) × FileSays file said }
+    ensures good { (file : List ℕ) (h : List Entry) → IsLogOf file h → FileSays file (stands_for h) }
+    ensures history { (file : List ℕ) (h : List Entry) → All (λ byte. byte < 256) file → FileSays file (stands_for h) → IsLogOf file h }
+{}

@@ -1,0 +1,21 @@
+//! The bytes of a log and of kept roots, as definitions in `specs/`. The functions here are laws about them, and examples:
+//! each has an empty body, and its contract is the law.
+#![tactic(auto)]
+
+mod examples;
+mod laws;
+mod merges;
+
+pub use examples::{
+    bad_journals, bad_logs, first_payload, payloads_that_break, payloads_with_other_fields,
+    storable_entries, unlawful_logs,
+};
+pub use laws::{
+    a_fault_lies_in_its_payload, a_file_says_one_thing_as_a_log, a_log_stands_for_one_history,
+    a_payload_holds_one_entry, a_payload_is_its_entrys_bytes, an_entry_is_read_back,
+    an_entrys_size_is_that_of_its_bytes, what_a_log_says,
+};
+pub use merges::{
+    a_merge_record_is_read_back, bad_merge_records, merge_records, more_records_keep_the_roots,
+    one_root_is_the_newest_that_agrees, roots_of_a_file,
+};

@@ -1,0 +1,4 @@
+pub mod Composite
+pub mod Tuples
+pub mod UniqueTuples
+pub mod Samples

@@ -1,0 +1,34 @@
+-- A history with a composite, for the examples. This project's own choice.
+use Rattle.std.specs.Prelude.{ℕ, ◌++◌, pos, true, List, [], ◌∷◌, codes, Option, Some}
+use Rattle.fb_values.specs.declared.facts.Datom.{Datom}
+use Rattle.fb_values.specs.declared.facts.Entry.{Entry}
+use Rattle.fb_values.specs.declared.facts.Value.{Value}
+use Rattle.fb_values.specs.declared.facts.Value.TheVariants.{Long}
+use Rattle.fb_model.specs.Numbers.{user_entity, cardinality_one}
+use Rattle.fb_model.specs.FirstEntry.{first_entry}
+use Rattle.fb_model.specs.Samples.{datom, entry_of, makes_attribute}
+use Rattle.tuple_model.specs.Tuples.{Tuple, Row}
+
+-- `:n/a` and `:n/b`
+abbrev pub a : ℕ
+a = user_entity 1
+
+abbrev pub b : ℕ
+b = user_entity 2
+
+abbrev pub long : ℕ → Option Value
+long n = Some (Long (pos n))
+
+abbrev pub has : ℕ → ℕ → ℕ → ℕ → Datom
+has t e attribute n = datom e attribute (Long (pos n)) t true
+
+-- one entity has 1 and 2, another 1 alone, a third 0 and 9
+abbrev pub numbered : List Entry
+numbered =
+    first_entry
+    ∷ entry_of 1 (makes_attribute 1 a (codes "n/a") cardinality_one ++ makes_attribute 1 b (codes "n/b") cardinality_one)
+    ∷ entry_of 2 (has 2 (user_entity 3) a 1 ∷ has 2 (user_entity 3) b 2 ∷ has 2 (user_entity 4) a 1 ∷ has 2 (user_entity 5) a 0 ∷ has 2 (user_entity 5) b 9 ∷ [])
+    ∷ []
+
+abbrev pub row : Tuple → ℕ → Row
+row tuple e = record { tuple = tuple; e = e }

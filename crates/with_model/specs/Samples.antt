@@ -1,0 +1,40 @@
+-- What is read off a chain, and a history with one text, for the examples. This project's own choice.
+use Rattle.std.specs.Prelude.{ℕ, Bool, true, false, map, List, [], ◌∷◌, codes, Option, Some}
+use Rattle.edn_model.specs.Form.{Form}
+use Rattle.fb_values.specs.declared.facts.Entry.{Entry}
+use Rattle.fb_values.specs.declared.facts.Value.{Value}
+use Rattle.fb_values.specs.declared.facts.Value.TheVariants.{Str}
+use Rattle.fb_model.specs.Numbers as numbers
+use Rattle.fb_model.specs.History.{basis}
+use Rattle.fb_model.specs.Facts.{facts, value_of}
+use Rattle.tx_model.specs.Samples.{string, number, vector, add, doc, after}
+use Rattle.with_model.specs.Chain.{Told, Chain, reaches, refused_at}
+
+-- the first user entity has the text `hi`
+abbrev pub hi : List Entry
+hi = after ((add (string (codes "x")) doc (string (codes "hi")) ∷ []) ∷ [])
+
+-- a transaction that gives an entity a text
+abbrev pub text_of : ℕ → List ℕ → Form
+text_of e text = vector (add (number e) doc (string text) ∷ [])
+
+abbrev pub told_in : Chain → List (ℕ × List (List ℕ × ℕ))
+told_in (reaches h told) = map (λ (one : Told). (one.t, one.tempids)) told
+told_in (refused_at refusal at) = []
+
+abbrev text_from : Option Value → List ℕ
+text_from (Some (Str text)) = text
+text_from other = []
+
+-- the text of the first user entity in the history that the chain comes to
+abbrev pub text_in : Chain → List ℕ
+text_in (reaches h told) = text_from (value_of (facts h) (numbers.user_entity 1) numbers.doc)
+text_in (refused_at refusal at) = []
+
+abbrev pub basis_in : Chain → ℕ
+basis_in (reaches h told) = basis h
+basis_in (refused_at refusal at) = at
+
+abbrev pub is_refused : Chain → Bool
+is_refused (reaches h told) = false
+is_refused (refused_at refusal at) = true
