@@ -14,3 +14,5 @@ pub mod SameRules
 pub mod EdnWords
 pub mod SameEntities
 pub mod SameHolders
+pub mod NamedTempids
+pub mod Told

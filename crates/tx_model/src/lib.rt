@@ -2,6 +2,7 @@
 //! them, and examples: each has an empty body, and its contract is the law.
 #![tactic(auto)]
 
+mod answers;
 mod clocks;
 mod components;
 mod edges;
@@ -13,6 +14,10 @@ mod schema;
 mod unique;
 mod words;
 
+pub use answers::{
+    named_tempids_rise_by_their_bytes, one_list_of_named_tempids, reasons_have_keywords,
+    the_least_rule_is_told,
+};
 pub use clocks::{refusals_do_not_depend_on_the_clock, two_clocks_differ_in_the_instant_alone};
 pub use components::{components_and_references, nested_maps};
 pub use edges::{
@@ -28,5 +33,8 @@ pub use order::{
 };
 pub use rules::{rules_on_changes, rules_on_names, shapes};
 pub use schema::{alterations, attributes, cardinality_there_and_back, other_types};
-pub use unique::{lookup_refs, moved_values, nameless_maps, texts, unique_emails};
+pub use unique::{
+    long_values_of_lookup_refs, lookup_refs, lookup_refs_by_an_entity, moved_values, nameless_maps,
+    texts, the_transaction_is_no_tempid, unique_emails,
+};
 pub use words::{keywords_are_those_of_edn, symbols_are_those_of_edn};
