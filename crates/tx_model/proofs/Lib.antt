@@ -16,3 +16,5 @@ pub mod SameEntities
 pub mod SameHolders
 pub mod NamedTempids
 pub mod Told
+pub mod Users
+pub mod EntryBytes

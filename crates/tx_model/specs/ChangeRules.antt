@@ -15,7 +15,7 @@ use Rattle.fb_model.specs.Laws.{has_no_other_holder, says_attribute, is_alterati
 use Rattle.tx_model.specs.Asks.{Part, plain, Ask, compares}
 use Rattle.tx_model.specs.Tempids.{Db, entity_of}
 use Rattle.tx_model.specs.Changes.{value_of_part}
-use Rattle.tx_model.specs.Size.{entry_size}
+use Rattle.tx_model.specs.Size.{entry_size, most_bytes}
 use Rattle.tx_model.specs.Transaction.{Transaction, joined, is_change}
 
 -- ---- what one form asks
@@ -107,11 +107,11 @@ breaks_incomplete_attribute tx place =
 abbrev pub breaks_attribute_fixed : Transaction → ℕ → Bool
 breaks_attribute_fixed tx place = list_any (λ d. is_recorded tx d && is_forbidden tx.db.facts d) (asked tx place)
 
--- ---- too large: too many datoms would be recorded, or too many bytes
+-- ---- too large: with the instant of the transaction, whose datom has 26 bytes, too many datoms would be recorded, or too many bytes
 
 abbrev pub breaks_too_large : Transaction → Bool
 breaks_too_large tx =
-    nat_lt most_datoms (length tx.changes + 1) || nat_lt 67108864 (entry_size tx.changes + 26)
+    nat_lt most_datoms (length tx.changes + 1) || nat_lt most_bytes (entry_size tx.changes + 26)
 
 -- ---- full: t, the user entities or the instant would pass their greatest value
 

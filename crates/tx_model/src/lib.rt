@@ -11,6 +11,7 @@ mod numbers;
 mod order;
 mod rules;
 mod schema;
+mod sizes;
 mod unique;
 mod words;
 
@@ -24,7 +25,9 @@ pub use edges::{
     changes_that_are_allowed, index_there_and_back, names_that_are_known, room_that_is_left,
     symbols, tempids_that_are_known, what_is_told_of_several_faults,
 };
-pub use lawful::{an_accepted_entry_is_lawful, changes_are_those_of_what_is_asked};
+pub use lawful::{
+    an_accepted_entry_is_lawful, changes_are_those_of_what_is_asked, lawful_histories_are_small,
+};
 pub use numbers::{compare_and_set, greatest_and_least_numbers};
 pub use order::{
     a_held_tempid_is_the_same_in_any_order, a_rule_is_broken_in_any_order,
@@ -33,6 +36,9 @@ pub use order::{
 };
 pub use rules::{rules_on_changes, rules_on_names, shapes};
 pub use schema::{alterations, attributes, cardinality_there_and_back, other_types};
+pub use sizes::{
+    an_accepted_entry_is_not_too_large, entries_that_are_too_large, the_bytes_of_an_entry,
+};
 pub use unique::{
     long_values_of_lookup_refs, lookup_refs, lookup_refs_by_an_entity, moved_values, nameless_maps,
     texts, the_transaction_is_no_tempid, unique_emails,
