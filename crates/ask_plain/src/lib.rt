@@ -10,5 +10,5 @@ mod words;
 pub use asks::{Ask, Name, Part, append, copy_path, inside, one};
 pub use fb_memory::Memory;
 pub use names::{OWN_TEMPID, attribute_of_ask, is_same_tempid, is_tempid, names_of};
-pub use values::{TYPE_KEYWORD, TYPE_REF, lookup_value_in, value_in};
+pub use values::{TYPE_KEYWORD, TYPE_REF, value_in};
 pub use words::{begins_with_one_of, is_reserved, local_name, split};

@@ -98,25 +98,3 @@ pub fn value_in(kind: u64, f: &Edn) -> Result<Option<Value>, Memory>
     };
     Ok(if is_of_type(kind, &v) { Some(v) } else { None })
 }
-
-fn entity_number(n: i64) -> Option<Value>
-    ensures { result ≡ values.entity_number n }
-{
-    if n < 0 {
-        None
-    } else {
-        Some(Value::Ref(n as u64))
-    }
-}
-
-/// The value in a lookup ref: a keyword may be of any length, and an integer may be an entity.
-pub fn lookup_value_in(kind: u64, f: &Edn) -> Result<Option<Value>, Memory>
-    ensures { IfOk result (λ v. v ≡ values.lookup_value_in kind (form_of f.now)) }
-{
-    match f {
-        Edn::Key(k) if kind == TYPE_KEYWORD => Ok(Some(Value::Keyword(k.copy()?))),
-        Edn::Key(_) => Ok(None),
-        Edn::Int(n) if kind == TYPE_REF => Ok(entity_number(*n)),
-        _ => value_in(kind, f),
-    }
-}

@@ -1,39 +1,36 @@
 -- The facts after a transaction that breaks no rule.
-use Rattle.std.proofs.Common.{◌≡◌, ℕ, zero, suc, ◌+◌, ◌-◌, ◌<◌, ◌≤◌, ℤ, pos, Bool, true, false, cond, not, ◌&&◌, ◌||◌, List, [], ◌∷◌, ◌++◌, length, map, refl, ap, sym, ◌∙◌, subst, arith, inl, inr, ◌⊎◌, eqb, ltb, leb, Option, Some, None}
-use Rattle.std.specs.Prelude.{Contains, flat_map, filter, is_some, option_and_then, unwrap_or}
-use Rattle.std.specs.List.{list_any, list_all}
+use Rattle.std.proofs.Common.{◌≡◌, ℕ, ◌+◌, ◌<◌, ◌≤◌, ℤ, Bool, true, false, cond, not, ◌&&◌, List, [], ◌∷◌, ◌++◌, length, map, refl, ap, sym, ◌∙◌, subst, arith, inl, inr, ◌⊎◌, eqb, Option, Some, None}
+use Rattle.std.specs.Prelude.{Contains, filter, is_some, option_and_then, unwrap_or}
+use Rattle.std.specs.List.{list_any}
 use Rattle.std.specs.Option.{option_map_or}
 use Rattle.std.specs.Ordering.{is_lt}
-use Rattle.std.specs.declared.cmp.Ordering.TheVariants.{Less, Equal, Greater}
-use Rattle.std.proofs.lemmas.Bool.{true≢false, and_parts, and_from, or_parts, or_left, or_right, or_cases, eqb-true, eq-eqb, leb-true, le-leb}
+use Rattle.std.specs.declared.cmp.Ordering.TheVariants.{Equal}
+use Rattle.std.proofs.lemmas.Bool.{true≢false, and_parts, and_from, or_parts, eqb-true, eq-eqb}
 use Rattle.std.proofs.lemmas.List.Elements.{Contains-append_left, Contains-append_right, Contains-append_cases}
 use Rattle.edn_model.specs.Form.{Form}
 use Rattle.fb_values.specs.declared.facts.Datom.{Datom}
 use Rattle.fb_values.specs.declared.facts.Entry.{Entry}
-use Rattle.fb_values.specs.declared.facts.Value.{Value}
 use Rattle.fb_values.specs.declared.indexes.Order.TheVariants.{Eavt}
 use Rattle.fb_values.specs.Orders.{key_cmp, key_of, value_cmp}
 use Rattle.fb_values.specs.OrderLaws.{value_cmp_total}
 use Rattle.std.specs.Cmp.{tied_itself}
 use Rattle.std.specs.Cmp.Lexicographic.{slice_cmp, lists_total}
-use Rattle.fb_model.specs.Numbers.{transaction_of, tx_instant, ident, value_type, cardinality, unique, is_component, index, is_builtin, cardinality_many, greatest_t}
-use Rattle.fb_model.specs.FirstEntry.{first_entry}
+use Rattle.fb_model.specs.Numbers.{transaction_of, tx_instant, ident, value_type, cardinality, unique, is_component, index, cardinality_many, greatest_t}
 use Rattle.fb_model.specs.Rising.{rises, in_order, put_in_order}
 use Rattle.fb_model.specs.History.{basis, said}
-use Rattle.fb_model.specs.Facts.{facts, standing, is_of, holds, values_of, value_of, value_eq}
-use Rattle.fb_model.specs.Schema.{Attribute, attribute_of, attribute_from, is_attribute, is_one, is_unique, is_whole, keyword_of, entity_of, truth_of, is_about, keyword_in, entity_in, truth_in}
-use Rattle.fb_model.specs.Laws.{facts_with, is_forbidden, has_no_other_holder}
+use Rattle.fb_model.specs.Facts.{facts, standing, is_of, values_of, value_of, value_eq}
+use Rattle.fb_model.specs.Schema.{Attribute, attribute_of, attribute_from, is_attribute, is_one, is_unique, is_whole, keyword_of, entity_of, truth_of, is_about, keyword_in, entity_in}
+use Rattle.fb_model.specs.Laws.{facts_with, is_forbidden}
 use Rattle.fb_model.specs.Lawful.{IsLawful}
-use Rattle.fb_model.proofs.Triples.{IsOf, is_of-true, standing-append, not_followed, value_eq-refl, value_eq-true, holds-facts}
+use Rattle.fb_model.proofs.Triples.{is_of-true, standing-append, not_followed, value_eq-refl}
 use Rattle.fb_model.proofs.Untouched.{IsOnTriples, filter-append, value_of-untouched}
-use Rattle.fb_model.proofs.Invariants.{one_value, one_holder, or_true, values_of-is_of, only_value}
 use Rattle.fb_model.proofs.SchemaHistories.{none_about, fixed_forbidden, builtin_forbidden, builtin_stays}
-use Rattle.fb_model.proofs.Members.{here, there, cases_of, none_of, member_passes, all_members, any_member, some_member, IsKept, kept, keep, standing_member, standing_added, standing-apart, standing_has, are_of_other_triples, filter-standing, filter-put, in_order-rises, in_order_member}
-use Rattle.fb_model.proofs.InOrder.{first_is_least, one_rising_list}
+use Rattle.fb_model.proofs.Members.{here, there, all_members, any_member, some_member, IsKept, kept, keep, standing_member, standing_added, standing-apart, standing_has, are_of_other_triples, filter-standing, filter-put, in_order-rises}
+use Rattle.fb_model.proofs.InOrder.{first_is_least}
 use Rattle.fb_model.proofs.Times.{same_keys}
 use Rattle.fb_model.proofs.KnownFacts.{facts_installed}
 use Rattle.fb_model.proofs.TextEntries.{unused_transaction}
-use Rattle.tx_model.specs.Transaction.{Transaction, joined, is_change, transaction, recorded}
+use Rattle.tx_model.specs.Transaction.{joined, is_change, transaction, recorded}
 use Rattle.tx_model.specs.Step.{entry_of}
 use Rattle.tx_model.proofs.Refused.{NoneBroken}
 use Rattle.tx_model.proofs.Recorded.{recorded_has, recorded_cases, instant_of, not_instant, not_forbidden, own_t_of, room_for_t}

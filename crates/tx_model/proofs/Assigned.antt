@@ -1,26 +1,26 @@
 -- The entities of tempids: issued ones, and the next user entities without a gap.
-use Rattle.std.proofs.Common.{◌≡◌, ℕ, zero, suc, ◌+◌, ◌-◌, ◌<◌, ◌≤◌, ℤ, pos, negsuc, Bool, true, false, cond, not, ◌&&◌, ◌||◌, List, [], ◌∷◌, ◌++◌, length, map, refl, ap, sym, ◌∙◌, subst, arith, inl, inr, ◌⊎◌, eqb, ltb, leb, Option, Some, None}
-use Rattle.std.specs.Prelude.{Contains, flat_map, option_and_then, bytes_eq, option_to_list, filter_map}
-use Rattle.std.specs.List.{list_any, list_all, cons_option}
+use Rattle.std.proofs.Common.{◌≡◌, ℕ, zero, suc, ◌+◌, ◌-◌, ◌<◌, ◌≤◌, pos, negsuc, Bool, true, false, cond, not, ◌&&◌, ◌||◌, List, [], ◌∷◌, length, refl, ap, sym, ◌∙◌, subst, arith, inl, inr, eqb, ltb, Option, Some, None}
+use Rattle.std.specs.Prelude.{Contains, flat_map, option_and_then, bytes_eq}
+use Rattle.std.specs.List.{cons_option}
 use Rattle.std.specs.Cmp.Lexicographic.{bytes_decides}
-use Rattle.std.proofs.lemmas.Bool.{true≢false, and_parts, and_from, or_parts, or_left, or_right, or_cases, eqb-true, eq-eqb, leb-true, le-leb, ltb-true}
+use Rattle.std.proofs.lemmas.Bool.{true≢false, and_parts, or_parts, eqb-true, ltb-true}
 use Rattle.std.proofs.lemmas.Bool.Decides.{nat_tests}
 use Rattle.edn_model.specs.Form.{Form}
 use Rattle.fb_values.specs.declared.facts.Datom.{Datom}
 use Rattle.fb_values.specs.declared.facts.Entry.{Entry}
 use Rattle.fb_values.specs.declared.facts.Value.{Value}
 use Rattle.fb_values.specs.declared.facts.Value.TheVariants.{Keyword}
-use Rattle.fb_model.specs.Numbers.{transaction_of, user_entity, ident as ident_attribute}
-use Rattle.fb_model.specs.History.{basis, users_issued, is_issued}
+use Rattle.fb_model.specs.Numbers.{user_entity, ident as ident_attribute}
+use Rattle.fb_model.specs.History.{is_issued}
 use Rattle.fb_model.specs.Facts.{facts, holder}
-use Rattle.fb_model.specs.Schema.{Attribute, attribute_named, named, is_identity}
+use Rattle.fb_model.specs.Schema.{Attribute, attribute_named, is_identity}
 use Rattle.fb_model.specs.Laws.{is_asserted, users_behind}
 use Rattle.fb_model.specs.Lawful.{IsLawful}
 use Rattle.fb_model.proofs.KnownFacts.{holder_issued}
-use Rattle.tx_model.specs.Asks.{Name, number, ident, lookup, tempid, nameless, Part, plain, entity, Ask, adds, own_tempid, is_tempid, is_same_tempid, names_of}
-use Rattle.tx_model.specs.Values.{value_in, lookup_value_in}
-use Rattle.tx_model.specs.Tempids.{Db, db_of, looked_up, find_by, found, identity_holder, identified, holders, number_next, number_from, assigned_to, entity_of, assigned, tempids_in, met_after, is_among}
-use Rattle.tx_model.proofs.Lists.{first_of, later_of, which, not_in_none, none_passes}
+use Rattle.tx_model.specs.Asks.{Name, number, ident, lookup, tempid, nameless, plain, entity, Ask, adds, is_tempid, is_same_tempid, names_of}
+use Rattle.tx_model.specs.Values.{value_in}
+use Rattle.tx_model.specs.Tempids.{Db, db_of, find_by, found, identity_holder, identified, holders, number_next, number_from, assigned_to, tempids_in, met_after, is_among}
+use Rattle.tx_model.proofs.Lists.{first_of, later_of, which, not_in_none}
 
 -- ---- what is found is issued
 
@@ -29,7 +29,7 @@ some_is x y same = cc
 
 found_by_issued : (h : List Entry) (value : Form) (k : Option Attribute) (n : ℕ) → IsLawful h → option_and_then (find_by (db_of h) value) k ≡ Some n → is_issued h n ≡ true
 found_by_issued h value None n lawful is = absurd (cc)
-found_by_issued h value (Some attribute) n lawful is = held (looked_up attribute value) is
+found_by_issued h value (Some attribute) n lawful is = held (value_in attribute.kind value) is
   where
     held : (o : Option Value) → option_and_then (holder (facts h) attribute.id) o ≡ Some n → is_issued h n ≡ true
     held None is = absurd (cc)

@@ -1,32 +1,30 @@
 -- Where the changes of a transaction come from.
-use Rattle.std.proofs.Common.{◌≡◌, ℕ, zero, suc, ◌+◌, ◌-◌, ◌<◌, ◌≤◌, ℤ, pos, negsuc, Bool, true, false, cond, not, ◌&&◌, ◌||◌, List, [], ◌∷◌, ◌++◌, length, map, refl, ap, sym, ◌∙◌, subst, arith, inl, inr, ◌⊎◌, eqb, Option, Some, None}
-use Rattle.std.specs.Prelude.{Contains, flat_map, filter, option_and_then, option_map, option_to_list, slice_index_or, is_none}
-use Rattle.std.specs.List.{list_any, list_all}
+use Rattle.std.proofs.Common.{◌≡◌, ℕ, ◌+◌, ◌<◌, Bool, true, false, cond, not, ◌&&◌, ◌||◌, List, [], ◌++◌, length, map, refl, ap, sym, ◌∙◌, subst, inl, inr, eqb, Option, Some, None}
+use Rattle.std.specs.Prelude.{Contains, flat_map, filter, option_and_then, option_map}
+use Rattle.std.specs.List.{list_any}
 use Rattle.std.specs.Option.{option_map_or}
-use Rattle.std.proofs.lemmas.Bool.{true≢false, and_parts, and_from, or_parts, or_left, or_right, or_cases, eqb-true, eq-eqb}
+use Rattle.std.proofs.lemmas.Bool.{true≢false, and_from, or_parts, eqb-true, eq-eqb}
 use Rattle.std.proofs.lemmas.List.Elements.{Contains-append_left, Contains-append_right, Contains-append_cases}
-use Rattle.edn_model.specs.Form as edn
 use Rattle.edn_model.specs.Form.{Form}
 use Rattle.fb_values.specs.declared.facts.Datom.{Datom}
 use Rattle.fb_values.specs.declared.facts.Entry.{Entry}
 use Rattle.fb_values.specs.declared.facts.Value.{Value}
-use Rattle.fb_values.specs.declared.facts.Value.TheVariants.{Keyword, Str, Bool as Boolean, Long, Ref, Instant, Uuid, Symbol, Uri}
+use Rattle.fb_values.specs.declared.facts.Value.TheVariants.{Ref}
 use Rattle.fb_values.specs.declared.indexes.Order.TheVariants.{Eavt}
 use Rattle.fb_model.specs.Numbers.{type_ref}
-use Rattle.fb_model.specs.Rising.{in_order}
 use Rattle.fb_model.specs.History.{basis, said}
-use Rattle.fb_model.specs.Facts.{facts, holds_after}
-use Rattle.fb_model.specs.Types.{is_of_type, type_of}
+use Rattle.fb_model.specs.Facts.{facts}
+use Rattle.fb_model.specs.Types.{is_of_type}
 use Rattle.fb_model.specs.Schema.{Attribute, attribute_from, attribute_named, attribute_of, named, is_one}
-use Rattle.fb_model.proofs.Members.{IsKept, kept, in_order_member}
+use Rattle.fb_model.proofs.Members.{kept, in_order_member}
 use Rattle.tx_model.specs.Asks.{Name, Part, plain, entity, Ask, adds, retracts, retracts_all, compares, retracts_entity, meets, mentions, lacks_id, names_of, attribute_of_ask}
 use Rattle.tx_model.specs.Values.{read_as, value_in, if_of_type}
 use Rattle.tx_model.specs.Tempids.{Db, db_of, entity_of}
 use Rattle.tx_model.specs.Changes.{value_of_part, change, changes_of, withdrawn, additions, retractions, values_withdrawn, set_withdrawn, sweeps, implied, is_replaced}
 use Rattle.tx_model.specs.Transaction.{Transaction, joined, is_change, transaction}
-use Rattle.tx_model.specs.ChangeRules.{at, asked_triples, asked}
+use Rattle.tx_model.specs.ChangeRules.{at, asked}
 use Rattle.tx_model.specs.NameRules.{breaks_wrong_type, is_wrong_part, is_wrong_old_part, has_wrong_part, has_wrong_lookup, attribute_in, adds_reserved_ident, is_ident, is_reserved_part}
-use Rattle.tx_model.proofs.Lists.{first_of, later_of, which, not_in_none, none_passes, in_option, ComesFrom, comes_from, IsImage, image_of, map-length, IsAt, at_of}
+use Rattle.tx_model.proofs.Lists.{not_in_none, none_passes, in_option, comes_from, image_of, map-length, at_of}
 
 some_is : {A : Type 0} (x y : A) → Some x ≡ Some y → x ≡ y
 some_is x y same = cc

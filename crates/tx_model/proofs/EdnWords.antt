@@ -1,12 +1,12 @@
 -- The texts of keywords and symbols, as the database judges them, are those of the grammar of EDN.
-use Rattle.std.proofs.Common.{◌≡◌, ℕ, zero, suc, ◌+◌, ◌<◌, Bool, true, false, cond, not, ◌&&◌, ◌||◌, List, [], ◌∷◌, ◌++◌, length, take, drop, refl, ap, sym, ◌∙◌, arith, inl, inr, ◌⊎◌, eqb}
-use Rattle.std.specs.Prelude.{IsTrue, IsUtf8, nat_eq, nat_le, bytes_eq, codes, nat_lt}
+use Rattle.std.proofs.Common.{◌≡◌, ℕ, zero, suc, ◌+◌, ◌<◌, Bool, true, false, cond, not, ◌&&◌, ◌||◌, List, [], ◌∷◌, ◌++◌, take, drop, refl, ap, sym, ◌∙◌, arith, inl, inr, ◌⊎◌}
+use Rattle.std.specs.Prelude.{IsUtf8, nat_eq, nat_le, bytes_eq, codes, nat_lt}
 use Rattle.std.specs.List.{list_any, list_all, position_or_len, before_first, after_first}
-use Rattle.std.proofs.lemmas.Bool.{true≢false, false≢true, and_parts, and_from, eqb-true, eq-eqb}
+use Rattle.std.proofs.lemmas.Bool.{true≢false, false≢true, and_parts, and_from, eqb-true}
 use Rattle.std.proofs.lemmas.Bool.Decides.{nat_tests}
 use Rattle.std.proofs.lemmas.Slice.Eq.{bytes_eq-Decides}
 use Rattle.edn_model.specs.Bytes as edn
-use Rattle.edn_model.specs.Tokens.{IsName, Joined, begins_keyword, IsKeywordName, IsKeyword, begins_symbol, IsReserved, IsLongSymbol, IsSymbol}
+use Rattle.edn_model.specs.Tokens.{IsName, Joined, IsKeywordName, IsKeyword, begins_symbol, IsReserved, IsLongSymbol, IsSymbol}
 use Rattle.fb_model.specs.Words.{is_slash, is_letter, is_digit, is_name_byte, is_name, begins_with_one_of, is_keyword_name, has_namespace, namespace, local_name, is_keyword_text, is_symbol_text}
 
 -- ---- bytes of names

@@ -14,3 +14,7 @@ pub mod SameRules
 pub mod EdnWords
 pub mod SameEntities
 pub mod SameHolders
+pub mod NamedTempids
+pub mod Told
+pub mod Users
+pub mod EntryBytes

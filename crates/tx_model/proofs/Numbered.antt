@@ -1,41 +1,15 @@
 -- The numbers, attributes and values of what a transaction records, where it breaks no rule.
-use Rattle.std.proofs.Common.{◌≡◌, ℕ, zero, suc, ◌+◌, ◌-◌, ◌<◌, ◌≤◌, ℤ, pos, negsuc, Bool, true, false, cond, not, ◌&&◌, ◌||◌, List, [], ◌∷◌, ◌++◌, length, map, refl, ap, sym, ◌∙◌, subst, arith, inl, inr, ◌⊎◌, eqb, leb, Option, Some, None}
-use Rattle.std.specs.Prelude.{Contains, flat_map, filter, is_none, is_some, bytes_eq, option_and_then, option_map, option_to_list}
-use Rattle.std.specs.List.{list_any, list_all}
-use Rattle.std.specs.Option.{option_map_or}
+use Rattle.std.proofs.Common.{◌≡◌, ℕ, ◌+◌, Bool, true, false, cond, List, [], ◌∷◌, refl, ap, sym, ◌∙◌, subst, inl, inr, ◌⊎◌, Option, Some, None}
+use Rattle.std.specs.Prelude.{Contains, flat_map, is_none}
+use Rattle.std.specs.List.{list_any}
 use Rattle.std.specs.Cmp.Lexicographic.{bytes_decides}
-use Rattle.std.proofs.lemmas.Bool.{true≢false, and_parts, and_from, or_parts, or_left, or_right, or_cases, eqb-true, eq-eqb, leb-true, le-leb}
-use Rattle.std.proofs.lemmas.List.Elements.{Contains-append_left}
-use Rattle.edn_model.specs.Form as edn
-use Rattle.edn_model.specs.Form.{Form}
-use Rattle.fb_values.specs.declared.facts.Datom.{Datom}
-use Rattle.fb_values.specs.declared.facts.Entry.{Entry}
-use Rattle.fb_values.specs.declared.facts.Value.{Value}
-use Rattle.fb_values.specs.declared.facts.Value.TheVariants.{Keyword, Str, Bool as Boolean, Long, Ref, Instant, Uuid, Symbol, Uri}
-use Rattle.fb_model.specs.Numbers.{transaction_of, user_entity, tx_instant, is_instant, type_uri}
-use Rattle.fb_model.specs.FirstEntry.{first_entry}
-use Rattle.fb_model.specs.History.{basis, said, users_issued, is_issued}
-use Rattle.fb_model.specs.Facts.{facts, holds}
-use Rattle.fb_model.specs.Types.{is_of_type}
-use Rattle.fb_model.specs.Schema.{Attribute, attribute_named, attribute_of, is_attribute}
-use Rattle.fb_model.specs.Laws.{is_asserted, users_after, is_known, is_known_value}
-use Rattle.fb_model.specs.Lawful.{IsLawful}
-use Rattle.fb_model.proofs.OneMoreEntry.{holds-unused}
-use Rattle.fb_model.proofs.Members.{any_member}
-use Rattle.fb_model.proofs.SchemaHistories.{builtin_stays}
-use Rattle.fb_model.proofs.KnownFacts.{is_issued_value, facts_issued, facts_installed, facts_typed, is_typed}
-use Rattle.tx_model.specs.Asks.{Name, number, ident, lookup, tempid, nameless, Part, plain, entity, Ask, adds, retracts, retracts_all, compares, retracts_entity, meets, mentions, lacks_id, own_tempid, is_tempid, is_same_tempid, names_of, attribute_of_ask}
-use Rattle.tx_model.specs.Values.{read_as, value_in, if_of_type}
-use Rattle.tx_model.specs.Tempids.{Db, db_of, found, met_after, is_among, tempids_in, number_next, number_from, assigned, assigned_to, entity_of, holders}
-use Rattle.tx_model.specs.Changes.{value_of_part, change, changes_of, withdrawn, additions}
-use Rattle.tx_model.specs.Transaction.{Transaction, joined, is_change, transaction, recorded}
-use Rattle.tx_model.specs.NameRules.{breaks_not_an_attribute, names_no_attribute, is_unknown, has_unknown_lookup, breaks_wrong_type, has_wrong_part, has_wrong_lookup, is_wrong_part, attribute_in, breaks_not_an_entity, finds_none, adds_to, is_added_to_by_none, breaks_tempid_not_an_entity}
-use Rattle.tx_model.specs.Step.{entry_of}
-use Rattle.tx_model.proofs.Lists.{first_of, later_of, which, not_in_none, none_passes, ComesFrom, comes_from, goes_into, has_image}
-use Rattle.tx_model.proofs.Refused.{NoneBroken}
-use Rattle.tx_model.proofs.Assigned.{IsGiven, issued, new, assigned_given, IsGivenTo, each_given, last_number, last_at_least, goes_on, tempids_apart, IsFirstMet, first_met, is_same_tempid-true, found_issued}
-use Rattle.tx_model.proofs.Changed.{Origin, by_addition, by_retraction, by_withdrawal, IsMade, IsAskedBy, IsWithdrawn, IsChangeOf, wrong_part_none, named_attribute, part_typed}
-use Rattle.tx_model.proofs.Recorded.{the_change, change_has, recorded_has, recorded_cases, instant_of}
+use Rattle.std.proofs.lemmas.Bool.{true≢false, or_cases}
+use Rattle.fb_model.specs.Numbers.{user_entity}
+use Rattle.fb_model.specs.History.{users_issued}
+use Rattle.tx_model.specs.Asks.{Name, number, ident, lookup, tempid, nameless, Ask, is_tempid, is_same_tempid, names_of}
+use Rattle.tx_model.specs.Tempids.{Db, met_after, is_among, tempids_in, number_next, number_from, assigned, assigned_to, holders}
+use Rattle.tx_model.proofs.Lists.{first_of, later_of, which, not_in_none}
+use Rattle.tx_model.proofs.Assigned.{is_same_tempid-true}
 
 -- ---- lists and options
 

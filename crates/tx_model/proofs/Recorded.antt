@@ -1,11 +1,10 @@
 -- What a transaction records, where it breaks no rule: in order, changes alone, and the instant.
-use Rattle.std.proofs.Common.{◌≡◌, ℕ, zero, suc, ◌+◌, ◌-◌, ◌<◌, ◌≤◌, ℤ, pos, Bool, true, false, cond, not, ◌&&◌, ◌||◌, List, [], ◌∷◌, ◌++◌, length, map, refl, ap, sym, ◌∙◌, subst, arith, inl, inr, ◌⊎◌, eqb, ltb, leb, Option, Some, None}
-use Rattle.std.specs.Prelude.{Contains, flat_map, filter, IsTrue, int_lt}
-use Rattle.std.specs.List.{list_any, list_all}
+use Rattle.std.proofs.Common.{◌≡◌, ℕ, suc, ◌+◌, ◌≤◌, ℤ, Bool, true, false, cond, not, ◌&&◌, ◌||◌, List, [], ◌∷◌, ◌++◌, length, refl, ap, sym, ◌∙◌, arith, ◌⊎◌, eqb, ltb, Some}
+use Rattle.std.specs.Prelude.{Contains, filter, int_lt}
+use Rattle.std.specs.List.{list_any}
 use Rattle.std.specs.Option.{option_map_or}
 use Rattle.std.specs.Ordering.{is_lt}
-use Rattle.std.specs.declared.cmp.Ordering.TheVariants.{Less, Equal, Greater}
-use Rattle.std.proofs.lemmas.Bool.{true≢false, and_parts, and_from, or_parts, or_left, or_right, or_cases, eqb-true, eq-eqb, leb-true, le-leb}
+use Rattle.std.proofs.lemmas.Bool.{true≢false, and_from, or_parts, or_right, eq-eqb}
 use Rattle.std.proofs.lemmas.Bool.Decides.{nat_tests}
 use Rattle.edn_model.specs.Form.{Form}
 use Rattle.fb_values.specs.declared.facts.Datom.{Datom}
@@ -17,24 +16,22 @@ use Rattle.fb_values.specs.declared.indexes.Order.TheVariants.{Eavt}
 use Rattle.fb_values.specs.Orders.{key_cmp}
 use Rattle.fb_values.specs.OrderLaws.{key_cmp-Equal, IsAtOnePlace}
 use Rattle.fb_model.specs.Numbers.{transaction_of, tx_instant, most_datoms, greatest_t, greatest_instant}
-use Rattle.fb_model.specs.Rising.{rises, put_in_order, in_order}
+use Rattle.fb_model.specs.Rising.{put_in_order, in_order}
 use Rattle.fb_model.specs.History.{basis, said, last_instant}
-use Rattle.fb_model.specs.Facts.{facts, holds, holds_after}
+use Rattle.fb_model.specs.Facts.{facts, holds_after}
 use Rattle.fb_model.specs.Schema.{Attribute, attribute_named}
 use Rattle.fb_model.specs.Laws.{is_forbidden}
 use Rattle.fb_model.specs.Lawful.{IsLawful}
-use Rattle.fb_model.proofs.Members.{IsKept, kept, keep, here, there, cases_of, none_of, in_order-rises, in_order_member, all_members}
+use Rattle.fb_model.proofs.Members.{kept, keep, cases_of, in_order_member}
 use Rattle.fb_model.proofs.InOrder.{OneForEachKey, in_order_has, put_has_old, put_has_new}
-use Rattle.fb_model.proofs.OneMoreEntry.{holds_after-unused}
-use Rattle.fb_model.proofs.TextEntries.{unused_transaction}
-use Rattle.tx_model.specs.Asks.{Name, Ask, attribute_of_ask}
-use Rattle.tx_model.specs.Tempids.{Db, db_of}
-use Rattle.tx_model.specs.Transaction.{Transaction, joined, is_change, transaction, recorded}
+use Rattle.tx_model.specs.Asks.{Ask, attribute_of_ask}
+use Rattle.tx_model.specs.Tempids.{db_of}
+use Rattle.tx_model.specs.Transaction.{joined, is_change, transaction, recorded}
 use Rattle.tx_model.specs.NameRules.{breaks_protected_attribute, is_protected, adds_reserved_ident}
-use Rattle.tx_model.specs.ChangeRules.{at, asked, is_recorded, breaks_attribute_fixed}
+use Rattle.tx_model.specs.ChangeRules.{asked, is_recorded}
 use Rattle.tx_model.proofs.Lists.{none_passes}
 use Rattle.tx_model.proofs.Refused.{NoneBroken}
-use Rattle.tx_model.proofs.Changed.{Origin, by_addition, by_retraction, by_withdrawal, IsAskedBy, IsWithdrawn, IsChangeOf, change_of}
+use Rattle.tx_model.proofs.Changed.{Origin, by_addition, by_retraction, by_withdrawal, IsChangeOf, change_of}
 
 -- ---- lists
 

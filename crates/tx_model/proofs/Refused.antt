@@ -1,15 +1,16 @@
 -- Where a transaction is not refused, no form breaks any rule.
-use Rattle.std.proofs.Common.{◌≡◌, ℕ, zero, suc, ◌+◌, ◌<◌, ◌≤◌, Bool, true, false, cond, not, ◌||◌, List, [], ◌∷◌, length, map, refl, ap, sym, ◌∙◌, subst, arith, Option, Some, None}
+use Rattle.std.proofs.Common.{◌≡◌, ℕ, zero, suc, ◌+◌, ◌<◌, Bool, true, false, cond, ◌||◌, List, [], ◌∷◌, length, map, refl, subst, arith, Option, Some, None}
 use Rattle.std.specs.Prelude.{slice_index_or}
 use Rattle.std.specs.List.{list_any}
-use Rattle.std.proofs.lemmas.Bool.{true≢false, or_from}
+use Rattle.std.proofs.lemmas.Bool.{or_from}
 use Rattle.edn_model.specs.Form.{Form}
 use Rattle.fb_values.specs.declared.facts.Entry.{Entry}
-use Rattle.tx_model.specs.Asks.{Ask}
 use Rattle.tx_model.specs.Transaction.{Transaction, joined, transaction}
-use Rattle.tx_model.specs.NameRules.{breaks_not_an_attribute, breaks_protected_attribute, breaks_wrong_type, breaks_not_unique_lookup, breaks_not_an_entity, breaks_nested_without_id, breaks_tempid_conflict, breaks_tempid_not_an_entity}
-use Rattle.tx_model.specs.ChangeRules.{breaks_cas_many, breaks_cas_failed, breaks_datoms_conflict, breaks_unique_conflict, breaks_incomplete_attribute, breaks_attribute_fixed, breaks_too_large, breaks_full, breaks_alteration_conflict}
-use Rattle.tx_model.specs.Step.{Refusal, first_yes, by_asks, tests_from, by_place, by_whole, broken_rules, first_refusal, first_without_shape, refusal_of}
+use Rattle.tx_model.specs.NameRules.{breaks_not_an_attribute, breaks_protected_attribute, breaks_wrong_type, breaks_not_unique_lookup, breaks_not_an_entity, breaks_tempid_not_an_entity}
+use Rattle.tx_model.specs.ChangeRules.{breaks_datoms_conflict, breaks_unique_conflict, breaks_incomplete_attribute, breaks_attribute_fixed, breaks_too_large, breaks_full, breaks_alteration_conflict}
+use Rattle.tx_refusals.specs.declared.reasons.Reason.{Reason}
+use Rattle.tx_refusals.specs.declared.reasons.Reason.TheVariants.{NotAForm}
+use Rattle.tx_model.specs.Step.{first_yes, tests_from, by_place, by_whole, all_rules, first_refusal, refusal_of}
 
 no_yes : {A : Type 0} (test : A → Bool) (n : ℕ) (xs : List A) → first_yes n (map test xs) ≡ None → list_any test xs ≡ false
 no_yes test n [] none = refl
@@ -33,11 +34,11 @@ no_whole : (b : Bool) → by_whole b ≡ None → b ≡ false
 no_whole false none = refl
 no_whole true none = absurd (cc)
 
-none_at : (n : ℕ) (os : List (Option ℕ)) → first_refusal n os ≡ None → (i : ℕ) → i < length os → slice_index_or os i None ≡ None
-none_at n [] none i below = absurd (omega (arith, below))
-none_at n (None ∷ os) none zero below = refl
-none_at n (None ∷ os) none (suc i) below = none_at (n + 1) os none i (omega (arith, below))
-none_at n (Some place ∷ os) none i below = absurd (cc)
+none_at : (rules : List (Reason × Option ℕ)) → first_refusal rules ≡ None → (i : ℕ) → i < length rules → (slice_index_or rules i (NotAForm, None)).1 ≡ None
+none_at [] none i below = absurd (omega (arith, below))
+none_at ((reason, None) ∷ rules) none zero below = refl
+none_at ((reason, None) ∷ rules) none (suc i) below = none_at rules none i (omega (arith, below))
+none_at ((reason, Some place) ∷ rules) none i below = absurd (cc)
 
 pub record NoneBroken (tx : Transaction) : Type 0 where
   pub not_an_attribute : list_any (breaks_not_an_attribute tx.db) tx.asks ≡ false
@@ -60,19 +61,19 @@ at_place tx test none i below = subst (λ k. test k ≡ false) (omega arith) (no
 pub none_broken : (h : List Entry) (fs : List Form) → refusal_of h fs ≡ None → NoneBroken (transaction h fs)
 none_broken h fs none =
     let tx = transaction h fs in
-    let rules = first_without_shape fs ∷ broken_rules tx in
+    let rules = all_rules h fs in
     record {
-      not_an_attribute = no_yes (breaks_not_an_attribute tx.db) 0 tx.asks (none_at 1 rules none 1 (omega arith));
-      protected_attribute = no_yes (breaks_protected_attribute tx.db) 0 tx.asks (none_at 1 rules none 2 (omega arith));
-      wrong_type = no_yes (breaks_wrong_type tx.db) 0 tx.asks (none_at 1 rules none 3 (omega arith));
-      not_unique_lookup = no_yes (breaks_not_unique_lookup tx.db) 0 tx.asks (none_at 1 rules none 4 (omega arith));
-      not_an_entity = no_yes (breaks_not_an_entity tx.db) 0 tx.asks (none_at 1 rules none 5 (omega arith));
-      tempid_not_an_entity = no_yes (breaks_tempid_not_an_entity (joined tx.asks)) 0 tx.asks (none_at 1 rules none 8 (omega arith));
-      datoms_conflict = at_place tx (breaks_datoms_conflict tx) (none_at 1 rules none 11 (omega arith));
-      unique_conflict = at_place tx (breaks_unique_conflict tx) (none_at 1 rules none 12 (omega arith));
-      incomplete_attribute = at_place tx (breaks_incomplete_attribute tx) (none_at 1 rules none 13 (omega arith));
-      attribute_fixed = at_place tx (breaks_attribute_fixed tx) (none_at 1 rules none 14 (omega arith));
-      too_large = no_whole (breaks_too_large tx) (none_at 1 rules none 15 (omega arith));
-      full = no_whole (breaks_full tx) (none_at 1 rules none 16 (omega arith));
-      alteration_conflict = at_place tx (breaks_alteration_conflict tx) (none_at 1 rules none 17 (omega arith));
+      not_an_attribute = no_yes (breaks_not_an_attribute tx.db) 0 tx.asks (none_at rules none 1 (omega arith));
+      protected_attribute = no_yes (breaks_protected_attribute tx.db) 0 tx.asks (none_at rules none 2 (omega arith));
+      wrong_type = no_yes (breaks_wrong_type tx.db) 0 tx.asks (none_at rules none 3 (omega arith));
+      not_unique_lookup = no_yes (breaks_not_unique_lookup tx.db) 0 tx.asks (none_at rules none 4 (omega arith));
+      not_an_entity = no_yes (breaks_not_an_entity tx.db) 0 tx.asks (none_at rules none 5 (omega arith));
+      tempid_not_an_entity = no_yes (breaks_tempid_not_an_entity (joined tx.asks)) 0 tx.asks (none_at rules none 8 (omega arith));
+      datoms_conflict = at_place tx (breaks_datoms_conflict tx) (none_at rules none 11 (omega arith));
+      unique_conflict = at_place tx (breaks_unique_conflict tx) (none_at rules none 12 (omega arith));
+      incomplete_attribute = at_place tx (breaks_incomplete_attribute tx) (none_at rules none 13 (omega arith));
+      attribute_fixed = at_place tx (breaks_attribute_fixed tx) (none_at rules none 14 (omega arith));
+      too_large = no_whole (breaks_too_large tx) (none_at rules none 15 (omega arith));
+      full = no_whole (breaks_full tx) (none_at rules none 16 (omega arith));
+      alteration_conflict = at_place tx (breaks_alteration_conflict tx) (none_at rules none 17 (omega arith));
     }

@@ -1,5 +1,5 @@
 -- What a transaction records depends on which changes are asked, and not on their order or number.
-use Rattle.std.proofs.Common.{◌≡◌, Bool, true, List}
+use Rattle.std.proofs.Common.{◌≡◌, List}
 use Rattle.std.specs.Prelude.{filter, Contains}
 use Rattle.fb_values.specs.declared.facts.Datom.{Datom}
 use Rattle.fb_values.specs.declared.indexes.Order.TheVariants.{Eavt}

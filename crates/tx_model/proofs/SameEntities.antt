@@ -1,22 +1,22 @@
 -- A transaction is what it is by the entities of its tempids, in whatever order these were numbered.
-use Rattle.std.proofs.Common.{◌≡◌, ℕ, ◌+◌, Bool, true, false, cond, not, ◌||◌, List, [], ◌∷◌, ◌++◌, map, refl, ap, sym, ◌∙◌, option_map, Option, Some, None}
-use Rattle.std.specs.Prelude.{flat_map, Contains, is_some, bytes_eq, option_and_then, option_to_list}
+use Rattle.std.proofs.Common.{◌≡◌, ℕ, ◌+◌, Bool, true, false, cond, not, List, [], ◌∷◌, ◌++◌, map, refl, ap, ◌∙◌, option_map, Option, Some}
+use Rattle.std.specs.Prelude.{flat_map, Contains, bytes_eq, option_and_then, option_to_list}
 use Rattle.std.specs.List.{list_any}
 use Rattle.std.specs.Option.{option_map_or}
-use Rattle.edn_model.specs.Form.{Form}
 use Rattle.fb_values.specs.declared.facts.Datom.{Datom}
 use Rattle.fb_values.specs.declared.facts.Value.{Value}
 use Rattle.fb_values.specs.declared.facts.Value.TheVariants.{Ref}
 use Rattle.fb_model.specs.Numbers.{transaction_of}
-use Rattle.fb_model.specs.History.{basis, said}
+use Rattle.fb_model.specs.History.{basis}
 use Rattle.fb_model.specs.Facts.{value_of}
 use Rattle.fb_model.specs.Schema.{Attribute, attribute_named}
 use Rattle.tx_model.specs.Asks.{Name, number, ident, lookup, tempid, nameless, Part, plain, entity, Ask, adds, retracts, retracts_all, compares, retracts_entity, meets, mentions, lacks_id, own_tempid}
 use Rattle.tx_model.specs.Tempids.{Db, assigned_to, assigned, entity_of}
 use Rattle.tx_model.specs.Changes.{value_of_part, change, changes_of, additions, retractions, sweeps, implied, values_withdrawn, set_withdrawn}
 use Rattle.tx_model.specs.Transaction.{Transaction, joined, with_changes, with_names, with_asks}
-use Rattle.tx_model.specs.ChangeRules.{at, compares_another, is_value, old_value, is_present}
-use Rattle.tx_model.specs.Step.{first_yes, tests_from, broken_rules}
+use Rattle.tx_model.specs.ChangeRules.{at, compares_another, is_value, old_value}
+use Rattle.tx_refusals.specs.declared.reasons.Reason.TheVariants.{CasFailed}
+use Rattle.tx_model.specs.Step.{first_yes, tests_from, broken_rules, are_broken}
 use Rattle.tx_model.proofs.FormOrder.{same_changes, same_facts}
 use Rattle.tx_model.proofs.SameRules.{any_by, map_by, then_rest, same_rules}
 
@@ -124,7 +124,7 @@ module _ (db : Db) (names others : List (Name × ℕ)) (same : (name : Name) →
     after_ten a b c d e f g h i x y rest is = ap (λ z. a ∷ b ∷ c ∷ d ∷ e ∷ f ∷ g ∷ h ∷ i ∷ z ∷ rest) is
 
     pub rules_by_entities : broken_rules (with_names db asks names) ≡ broken_rules (with_names db asks others)
-    rules_by_entities = ap broken_rules under_names ∙ after_ten _ _ _ _ _ _ _ _ _ _ _ _ cas_failed
+    rules_by_entities = ap broken_rules under_names ∙ after_ten _ _ _ _ _ _ _ _ _ _ _ _ (ap (λ place. (CasFailed, place)) cas_failed)
 
     pub changes_by_entities : (with_names db asks names).changes ≡ (with_names db asks others).changes
     changes_by_entities = ap (λ (tx : Transaction). tx.changes) under_names
@@ -141,9 +141,9 @@ module _ (db : Db) (asks other : List (List Ask)) (forth : (x : List Ask) → Co
       changes_by_entities db (assigned db (joined asks)) (assigned db (joined other)) same asks
       ∙ same_changes db (assigned db (joined other)) asks other forth back
 
-  pub rules_in_any_order : map is_some (broken_rules (with_asks db asks)) ≡ map is_some (broken_rules (with_asks db other))
+  pub rules_in_any_order : are_broken (broken_rules (with_asks db asks)) ≡ are_broken (broken_rules (with_asks db other))
   rules_in_any_order =
-      ap (map is_some) (rules_by_entities db (assigned db (joined asks)) (assigned db (joined other)) same asks)
+      ap are_broken (rules_by_entities db (assigned db (joined asks)) (assigned db (joined other)) same asks)
       ∙ same_rules db (assigned db (joined other)) asks other forth back
 
   pub facts_in_any_order : (with_asks db asks).after ≡ (with_asks db other).after

@@ -1,15 +1,14 @@
 -- A tempid that an identity value makes an entity of the database is that entity in whatever order the forms stand.
-use Rattle.std.proofs.Common.{◌≡◌, ◌≢◌, ℕ, ◌+◌, ◌<◌, Bool, true, false, cond, not, ◌&&◌, ◌||◌, List, [], ◌∷◌, ◌++◌, length, refl, ap, sym, ◌∙◌, subst, arith, inl, inr, ◌⊎◌, eqb, Option, Some, None}
-use Rattle.std.specs.Prelude.{flat_map, Contains, bytes_eq, nat_eq, option_and_then}
-use Rattle.std.specs.List.{list_any, filter_map, cons_option}
+use Rattle.std.proofs.Common.{◌≡◌, ◌≢◌, ℕ, ◌+◌, ◌<◌, Bool, true, false, cond, not, ◌&&◌, ◌||◌, List, [], ◌∷◌, length, refl, ap, sym, ◌∙◌, subst, arith, inl, inr, ◌⊎◌, Option, Some, None}
+use Rattle.std.specs.Prelude.{flat_map, Contains, nat_eq, option_and_then}
+use Rattle.std.specs.List.{list_any, cons_option}
 use Rattle.std.specs.Option.{option_map_or}
 use Rattle.std.proofs.lemmas.Bool.{true≢false, false≢true, or_parts, and_from, eqb-true}
 use Rattle.std.proofs.lemmas.Slice.Eq.{bytes_eq-Decides}
-use Rattle.edn_model.specs.Form.{Form}
 use Rattle.fb_model.specs.Numbers.{user_entity}
 use Rattle.fb_model.specs.History.{users_issued}
 use Rattle.fb_model.specs.Schema.{attribute_named}
-use Rattle.tx_model.specs.Asks.{Name, number, ident, lookup, tempid, nameless, Part, plain, entity, Ask, adds, retracts, retracts_all, compares, retracts_entity, meets, mentions, lacks_id, own_tempid, is_tempid, is_same_tempid, names_of}
+use Rattle.tx_model.specs.Asks.{Name, number, ident, lookup, tempid, nameless, plain, entity, Ask, adds, retracts, retracts_all, compares, retracts_entity, meets, mentions, lacks_id, is_tempid, is_same_tempid, names_of}
 use Rattle.tx_model.specs.Tempids.{Db, is_among, met_after, tempids_in, identified, identity_holder, holders, number_next, number_from, assigned, assigned_to}
 use Rattle.tx_model.specs.Transaction.{joined}
 use Rattle.tx_model.specs.NameRules.{breaks_tempid_conflict, gives_one_of_two}
@@ -33,7 +32,7 @@ same_is_equal (number z) b same = absurd (false≢true same)
 same_is_equal (ident k) b same = absurd (false≢true same)
 same_is_equal (lookup k f) b same = absurd (false≢true same)
 
-same_as_itself : (a : Name) → is_tempid a ≡ true → is_same_tempid a a ≡ true
+pub same_as_itself : (a : Name) → is_tempid a ≡ true → is_same_tempid a a ≡ true
 same_as_itself (tempid s) is = (bytes_eq-Decides s s).1 refl
 same_as_itself (nameless path) is = (bytes_eq-Decides path path).1 refl
 same_as_itself (number z) is = absurd (false≢true is)
@@ -148,7 +147,9 @@ module _ (db : Db) (asks other : List (List Ask)) (forth : (x : List Ask) → Co
       let of_form = none_passes (breaks_tempid_conflict db (joined asks)) asks from.source unbroken from.among in
       let of_ask = none_passes (λ ask. list_any (gives_one_of_two db (joined asks) ask) (names_of ask)) from.source given.ask of_form from.made in
       let of_name = none_passes (gives_one_of_two db (joined asks) given.ask) (names_of given.ask) name of_ask (is_named db name given.ask e given.gives) in
-      sym (ap (λ o. option_map_or (λ e. list_any (λ held. not (nat_eq held e)) (holders db (joined asks) name)) o false) given.gives) ∙ of_name
+      sym (ap (λ o. option_map_or (λ e. list_any (λ held. not (nat_eq held e)) (holders db (joined asks) name)) o false) given.gives)
+      ∙ sym (ap (λ b. b && option_map_or (λ e. list_any (λ held. not (nat_eq held e)) (holders db (joined asks) name)) (identified db name given.ask) false) is)
+      ∙ of_name
 
   same_first : (e f : ℕ) (es fs : List ℕ) → holders db (joined asks) name ≡ e ∷ es → holders db (joined other) name ≡ f ∷ fs → e ≡ f
   same_first e f es fs held held_there =

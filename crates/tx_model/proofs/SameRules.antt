@@ -1,6 +1,6 @@
 -- Which rules are broken depends on which forms there are, and not on their order or number, where the tempids have the same
 -- entities: the rules that look at all forms at once look at lists through their members only.
-use Rattle.std.proofs.Common.{◌≡◌, ℕ, zero, suc, ◌+◌, ◌<◌, Bool, true, false, cond, not, ◌&&◌, ◌||◌, List, [], ◌∷◌, ◌++◌, length, map, refl, ap, sym, ◌∙◌, arith, option_map, Option, Some, None}
+use Rattle.std.proofs.Common.{◌≡◌, ℕ, zero, suc, ◌+◌, ◌<◌, Bool, true, false, not, ◌&&◌, ◌||◌, List, [], ◌∷◌, ◌++◌, length, map, refl, ap, sym, ◌∙◌, arith, option_map, Option, Some, None}
 use Rattle.std.specs.Prelude.{flat_map, Contains, is_some, nat_eq}
 use Rattle.std.specs.List.{list_any, filter_map, cons_option}
 use Rattle.std.specs.Option.{option_map_or}
@@ -14,17 +14,24 @@ use Rattle.tx_model.specs.Tempids.{Db, identified, holders}
 use Rattle.tx_model.specs.Changes.{additions, retractions, sweeps, implied}
 use Rattle.tx_model.specs.Transaction.{Transaction, joined, with_names}
 use Rattle.tx_model.specs.NameRules.{breaks_not_an_attribute, breaks_protected_attribute, breaks_wrong_type, breaks_not_unique_lookup, breaks_not_an_entity, breaks_nested_without_id, breaks_tempid_conflict, breaks_tempid_not_an_entity, gives_one_of_two, adds_to, is_added_to_by_none}
-use Rattle.tx_model.specs.ChangeRules.{at, asked, asked_triples, compares_many, compares_another, is_recorded, conflicts, is_asked_in, has_another_value, describes, is_new_attribute, alters_a_promise, keeps_its_promise, breaks_cas_many, breaks_cas_failed, breaks_datoms_conflict, breaks_unique_conflict, breaks_incomplete_attribute, breaks_attribute_fixed, breaks_too_large, breaks_full, breaks_alteration_conflict}
-use Rattle.tx_model.specs.Step.{Refusal, first_yes, tests_from, by_whole, broken_rules, first_refusal}
+use Rattle.tx_model.specs.ChangeRules.{at, asked, asked_triples, compares_many, compares_another, is_recorded, conflicts, is_asked_in, has_another_value, describes, is_new_attribute, alters_a_promise, keeps_its_promise, breaks_datoms_conflict, breaks_unique_conflict, breaks_incomplete_attribute, breaks_attribute_fixed, breaks_too_large, breaks_full, breaks_alteration_conflict}
+use Rattle.tx_refusals.specs.declared.reasons.Reason.{Reason}
+use Rattle.tx_refusals.specs.declared.reasons.Refusal.{Refusal}
+use Rattle.tx_model.specs.Step.{first_yes, tests_from, by_whole, broken_rules, first_refusal, are_broken}
 use Rattle.tx_model.proofs.Lists.{map-length}
 use Rattle.tx_model.proofs.FormOrder.{broken_by_one, any_of_fewer, same_truth, same_images, same_joined, same_changes, same_facts}
 
 -- ---- the least rule that is broken
 
-pub least_rule : (n : ℕ) (places : List (Option ℕ)) → option_map (λ (r : Refusal). r.rule) (first_refusal n places) ≡ first_yes n (map is_some places)
-least_rule n [] = refl
-least_rule n (None ∷ places) = least_rule (n + 1) places
-least_rule n (Some place ∷ places) = refl
+abbrev first_broken : List (Reason × Bool) → Option Reason
+first_broken [] = None
+first_broken ((reason, true) ∷ rest) = Some reason
+first_broken ((reason, false) ∷ rest) = first_broken rest
+
+least_rule : (rules : List (Reason × Option ℕ)) → option_map (λ (r : Refusal). r.reason) (first_refusal rules) ≡ first_broken (are_broken rules)
+least_rule [] = refl
+least_rule ((reason, None) ∷ rules) = least_rule rules
+least_rule ((reason, Some place) ∷ rules) = refl
 
 -- ---- tests of lists through their members
 
@@ -104,7 +111,7 @@ module _ (db : Db) (names : List (Name × ℕ)) (asks other : List (List Ask)) (
       ∙ sym (any_made test (identified db name) (joined other))
 
   same_one_of_two : (ask : Ask) (name : Name) → gives_one_of_two db (joined asks) ask name ≡ gives_one_of_two db (joined other) ask name
-  same_one_of_two ask name = by_holder (identified db name ask)
+  same_one_of_two ask name = ap (λ b. is_tempid name && b) (by_holder (identified db name ask))
     where
       by_holder : (o : Option ℕ) → option_map_or (λ e. list_any (λ held. not (nat_eq held e)) (holders db (joined asks) name)) o false ≡ option_map_or (λ e. list_any (λ held. not (nat_eq held e)) (holders db (joined other) name)) o false
       by_holder None = refl
@@ -261,25 +268,29 @@ module _ (db : Db) (names : List (Name × ℕ)) (asks other : List (List Ask)) (
   by_ask test =
       by_places (λ n. list_any test (at asks n)) (λ n. list_any test (at other n)) (list_any test) (list_any test) (λ n below. refl) (λ n below. refl) (λ form. refl)
 
-  pub same_rules : map is_some (broken_rules one) ≡ map is_some (broken_rules two)
-  same_rules =
-      then_rest _ _ _ _ (same_test (breaks_not_an_attribute db))
-      (then_rest _ _ _ _ (same_test (breaks_protected_attribute db))
-      (then_rest _ _ _ _ (same_test (breaks_wrong_type db))
-      (then_rest _ _ _ _ (same_test (breaks_not_unique_lookup db))
-      (then_rest _ _ _ _ (same_test (breaks_not_an_entity db))
-      (then_rest _ _ _ _ (same_test (breaks_nested_without_id db))
-      (then_rest _ _ _ _ tempid_conflict
-      (then_rest _ _ _ _ tempid_of_none
-      (then_rest _ _ _ _ (by_ask (compares_many db))
-      (then_rest _ _ _ _ (by_ask (compares_another one))
-      (then_rest _ _ _ _ datoms_conflict
-      (then_rest _ _ _ _ unique_conflict
-      (then_rest _ _ _ _ incomplete_attribute
-      (then_rest _ _ _ _ attribute_fixed
-      (then_rest _ _ _ _ (ap (λ changes. is_some (by_whole (too_large changes))) changes_are)
-      (then_rest _ _ _ _ (ap (λ changes. is_some (by_whole (is_full changes))) changes_are)
-      (then_rest _ _ _ _ alteration_conflict refl))))))))))))))))
+  -- a rule is broken in both or in neither
+  here : {rest same : List (Reason × Bool)} (reason : Reason) (broken other : Bool) → broken ≡ other → rest ≡ same → (reason, broken) ∷ rest ≡ (reason, other) ∷ same
+  here {rest} {same} reason broken other is are = then_rest (reason, broken) (reason, other) rest same (ap (λ b. (reason, b)) is) are
 
-  pub same_least_rule : option_map (λ (r : Refusal). r.rule) (first_refusal 2 (broken_rules one)) ≡ option_map (λ (r : Refusal). r.rule) (first_refusal 2 (broken_rules two))
-  same_least_rule = least_rule 2 (broken_rules one) ∙ ap (first_yes 2) same_rules ∙ sym (least_rule 2 (broken_rules two))
+  pub same_rules : are_broken (broken_rules one) ≡ are_broken (broken_rules two)
+  same_rules =
+      here _ _ _ (same_test (breaks_not_an_attribute db))
+      (here _ _ _ (same_test (breaks_protected_attribute db))
+      (here _ _ _ (same_test (breaks_wrong_type db))
+      (here _ _ _ (same_test (breaks_not_unique_lookup db))
+      (here _ _ _ (same_test (breaks_not_an_entity db))
+      (here _ _ _ (same_test (breaks_nested_without_id db))
+      (here _ _ _ tempid_conflict
+      (here _ _ _ tempid_of_none
+      (here _ _ _ (by_ask (compares_many db))
+      (here _ _ _ (by_ask (compares_another one))
+      (here _ _ _ datoms_conflict
+      (here _ _ _ unique_conflict
+      (here _ _ _ incomplete_attribute
+      (here _ _ _ attribute_fixed
+      (here _ _ _ (ap (λ changes. is_some (by_whole (too_large changes))) changes_are)
+      (here _ _ _ (ap (λ changes. is_some (by_whole (is_full changes))) changes_are)
+      (here _ _ _ alteration_conflict refl))))))))))))))))
+
+  pub same_least_rule : option_map (λ (r : Refusal). r.reason) (first_refusal (broken_rules one)) ≡ option_map (λ (r : Refusal). r.reason) (first_refusal (broken_rules two))
+  same_least_rule = least_rule (broken_rules one) ∙ ap first_broken same_rules ∙ sym (least_rule (broken_rules two))

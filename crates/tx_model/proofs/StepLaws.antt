@@ -1,9 +1,9 @@
 -- The entry of a transaction that breaks no rule keeps every law.
-use Rattle.std.proofs.Common.{◌≡◌, ℕ, zero, suc, ◌+◌, ◌-◌, ◌<◌, ◌≤◌, ℤ, pos, Bool, true, false, cond, not, ◌&&◌, ◌||◌, List, [], ◌∷◌, ◌++◌, length, map, refl, ap, sym, ◌∙◌, subst, arith, inl, inr, ◌⊎◌, eqb, ltb, leb, Option, Some, None}
-use Rattle.std.specs.Prelude.{Contains, flat_map, filter, is_some, int_lt, option_map}
+use Rattle.std.proofs.Common.{◌≡◌, ℕ, zero, suc, ◌+◌, ◌<◌, ◌≤◌, ℤ, Bool, true, false, cond, not, ◌&&◌, ◌||◌, List, [], ◌∷◌, ◌++◌, length, refl, ap, sym, ◌∙◌, subst, arith, inl, inr, ◌⊎◌, eqb, leb, Option, Some, None}
+use Rattle.std.specs.Prelude.{Contains, filter, is_some, int_lt, option_map}
 use Rattle.std.specs.List.{list_any, list_all}
 use Rattle.std.specs.Option.{option_map_or}
-use Rattle.std.proofs.lemmas.Bool.{true≢false, and_parts, and_from, or_parts, or_left, or_right, or_cases, eqb-true, eq-eqb, leb-true, le-leb}
+use Rattle.std.proofs.lemmas.Bool.{true≢false, and_parts, and_from, or_parts, or_left, or_right, eqb-true, eq-eqb, leb-true, le-leb}
 use Rattle.std.proofs.lemmas.List.Elements.{Contains-append_left, Contains-append_right, Contains-get_or}
 use Rattle.edn_model.specs.Form as edn
 use Rattle.edn_model.specs.Form.{Form}
@@ -14,33 +14,31 @@ use Rattle.fb_values.specs.declared.facts.Value.TheVariants.{Keyword, Str, Bool 
 use Rattle.fb_values.specs.declared.indexes.Order.TheVariants.{Eavt}
 use Rattle.fb_model.specs.Numbers.{transaction_of, user_entity, tx_instant, ident, value_type, cardinality, unique, index, is_instant, greatest_t, most_datoms, type_uri}
 use Rattle.fb_model.specs.Words.{is_reserved}
-use Rattle.fb_model.specs.FirstEntry.{first_entry}
-use Rattle.fb_model.specs.Rising.{rises}
 use Rattle.fb_model.specs.History.{basis, said, last_instant, next_instant}
-use Rattle.fb_model.specs.Facts.{facts, standing, is_of, holds, values_of, value_eq}
+use Rattle.fb_model.specs.Facts.{facts, is_of, holds, values_of, value_eq}
 use Rattle.fb_model.specs.Types.{is_of_type}
-use Rattle.fb_model.specs.Schema.{Attribute, attribute_of, attribute_named, is_attribute, is_one, is_unique, is_whole, is_about}
+use Rattle.fb_model.specs.Schema.{Attribute, is_attribute, is_one, is_unique, is_whole, is_about}
 use Rattle.fb_model.specs.Laws.{facts_with, is_known, is_known_value, keeps_one_value, keeps_one_holder, has_no_other_holder, says_attribute, is_alteration, is_forbidden, has_reserved_name, is_reserved_value, is_own_instant, are_new_ones_whole, are_altered_ones_whole, keeps_reserved_names}
 use Rattle.fb_model.specs.Lawful.{IsLawful, IsLawfulAfter}
 use Rattle.fb_model.proofs.OneMoreEntry.{next_instant-later, next_instant-at_least, holds_after-unused}
-use Rattle.fb_model.proofs.Triples.{IsOf, is_of-true, value_eq-refl, value_eq-true, holds-facts, not_followed}
+use Rattle.fb_model.proofs.Triples.{value_eq-refl, value_eq-true, holds-facts, not_followed}
 use Rattle.fb_model.proofs.Invariants.{one_value, one_holder, or_true, values_of-is_of, only_value}
 use Rattle.fb_model.proofs.SchemaHistories.{builtin_stays, described_ones, reserved_names}
 use Rattle.fb_model.proofs.KnownFacts.{is_typed}
-use Rattle.fb_model.proofs.Members.{here, there, keep, member_passes, all_members, any_member, some_member, in_order-rises}
+use Rattle.fb_model.proofs.Members.{keep, member_passes, all_members, any_member, some_member, in_order-rises}
 use Rattle.fb_model.proofs.TextEntries.{unused_transaction, in_range}
-use Rattle.tx_model.specs.Asks.{Name, Part, plain, entity, Ask, attribute_of_ask}
-use Rattle.tx_model.specs.Values.{read_as, value_in, if_of_type}
-use Rattle.tx_model.specs.Tempids.{Db, db_of, entity_of}
+use Rattle.tx_model.specs.Asks.{Part, plain, entity, Ask, attribute_of_ask}
+use Rattle.tx_model.specs.Values.{value_in, if_of_type}
+use Rattle.tx_model.specs.Tempids.{db_of, entity_of}
 use Rattle.tx_model.specs.Changes.{value_of_part, withdrawn, implied, is_replaced}
-use Rattle.tx_model.specs.Transaction.{Transaction, joined, is_change, transaction, recorded}
+use Rattle.tx_model.specs.Transaction.{joined, transaction, recorded}
 use Rattle.tx_model.specs.NameRules.{breaks_protected_attribute, is_protected, is_ident, is_reserved_part, adds_reserved_ident}
-use Rattle.tx_model.specs.ChangeRules.{at, asked, asked_triples, is_recorded, conflicts, is_asked_in, has_another_value, describes, is_new_attribute, keeps_its_promise, alters_a_promise}
+use Rattle.tx_model.specs.ChangeRules.{at, asked, asked_triples, is_recorded, conflicts, describes, is_new_attribute, keeps_its_promise, alters_a_promise}
 use Rattle.tx_model.specs.Step.{entry_of, refusal_of}
 use Rattle.tx_model.proofs.Lists.{none_passes, goes_into, has_image}
 use Rattle.tx_model.proofs.Refused.{NoneBroken, none_broken}
-use Rattle.tx_model.proofs.Changed.{Origin, by_addition, by_retraction, by_withdrawal, IsAskedBy, IsWithdrawn, IsChangeOf}
-use Rattle.tx_model.proofs.Recorded.{the_change, change_has, not_asked, not_forbidden, not_instant, own_t_of, instant_of, recorded_cases, recorded_has, recorded_instant, room_for_t, room_for_instant, few_enough}
+use Rattle.tx_model.proofs.Changed.{Origin, by_addition, by_retraction, by_withdrawal, IsAskedBy, IsChangeOf}
+use Rattle.tx_model.proofs.Recorded.{the_change, change_has, not_forbidden, not_instant, own_t_of, instant_of, recorded_cases, recorded_instant, room_for_t, room_for_instant, few_enough}
 use Rattle.tx_model.proofs.Known.{change_known, change_typed, change_installed}
 use Rattle.tx_model.proofs.After.{is_not, of_itself, short_values, same_attribute, same_whole, IsAfter, stays, comes, after_cases, is_in_after, one_before, unique_before, instants_not_unique, after_installed, instant_alone}
 

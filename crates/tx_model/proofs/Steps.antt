@@ -1,5 +1,5 @@
 -- What of a step depends on the clock.
-use Rattle.std.proofs.Common.{◌≡◌, ℕ, ℤ, List, Option, Some, None, refl, ap, sym, ◌∙◌}
+use Rattle.std.proofs.Common.{◌≡◌, ℕ, ℤ, List, Option, Some, None, refl}
 use Rattle.std.specs.Option.{option_map_or}
 use Rattle.edn_model.specs.Form.{Form}
 use Rattle.fb_values.specs.declared.facts.Entry.{Entry}
@@ -7,11 +7,13 @@ use Rattle.fb_model.specs.History.{next_instant}
 use Rattle.tx_model.specs.Shapes.{forms_of}
 use Rattle.tx_model.specs.Tempids.{named_tempids}
 use Rattle.tx_model.specs.Transaction.{Transaction, transaction}
-use Rattle.tx_model.specs.Step.{Refusal, Guard, Outcome, refused, accepted, step, refusal_of, under_guard, unless_refused, entry_of, IsAcceptedAt}
+use Rattle.tx_refusals.specs.declared.reasons.Bar.{Bar}
+use Rattle.tx_refusals.specs.declared.reasons.Refusal.{Refusal}
+use Rattle.tx_model.specs.Step.{no_list, Guard, refused, accepted, step, refusal_of, under_guard, unless_refused, entry_of, IsAcceptedAt}
 
-guarded_refusal : (h : List Entry) (tx : Transaction) (bars : Option ℕ) (refusal : Refusal) (one other : ℤ)
+guarded_refusal : (h : List Entry) (tx : Transaction) (bars : Option Bar) (refusal : Refusal) (one other : ℤ)
     → under_guard h tx one bars ≡ refused refusal → under_guard h tx other bars ≡ refused refusal
-guarded_refusal h tx (Some rule) refusal one other is = is
+guarded_refusal h tx (Some bar) refusal one other is = is
 guarded_refusal h tx None refusal one other is = absurd (cc)
 
 refused_forms : (h : List Entry) (fs : List Form) (guard : Guard) (first : Option Refusal) (refusal : Refusal) (one other : ℤ)
@@ -20,8 +22,8 @@ refused_forms h fs guard (Some r) refusal one other is = is
 refused_forms h fs guard None refusal one other is = guarded_refusal h (transaction h fs) (guard h (transaction h fs).changes) refusal one other is
 
 refused_by : (h : List Entry) (forms : Option (List Form)) (guard : Guard) (refusal : Refusal) (one other : ℤ)
-    → option_map_or (λ fs. unless_refused h fs one guard (refusal_of h fs)) forms (refused (record { rule = 1; place = 0 })) ≡ refused refusal
-    → option_map_or (λ fs. unless_refused h fs other guard (refusal_of h fs)) forms (refused (record { rule = 1; place = 0 })) ≡ refused refusal
+    → option_map_or (λ fs. unless_refused h fs one guard (refusal_of h fs)) forms (refused no_list) ≡ refused refusal
+    → option_map_or (λ fs. unless_refused h fs other guard (refusal_of h fs)) forms (refused no_list) ≡ refused refusal
 refused_by h None guard refusal one other is = is
 refused_by h (Some fs) guard refusal one other is = refused_forms h fs guard (refusal_of h fs) refusal one other is
 
@@ -34,9 +36,9 @@ record Comes (h : List Entry) (tx : Transaction) (instant : ℤ) (entry : Entry)
   entry_is : entry ≡ entry_of h tx instant
   tempids_are : tempids ≡ named_tempids tx.names
 
-guarded_entry : (h : List Entry) (tx : Transaction) (bars : Option ℕ) (reading : ℤ) (entry : Entry) (tempids : List (List ℕ × ℕ))
+guarded_entry : (h : List Entry) (tx : Transaction) (bars : Option Bar) (reading : ℤ) (entry : Entry) (tempids : List (List ℕ × ℕ))
     → under_guard h tx reading bars ≡ accepted entry tempids → Comes h tx (next_instant h reading) entry tempids
-guarded_entry h tx (Some rule) reading entry tempids is = absurd (cc)
+guarded_entry h tx (Some bar) reading entry tempids is = absurd (cc)
 guarded_entry h tx None reading entry tempids is = record { entry_is = cc; tempids_are = cc }
 
 accepted_forms : (h : List Entry) (asked : Form) (fs : List Form) (guard : Guard) (first : Option Refusal) (reading : ℤ) (entry : Entry) (tempids : List (List ℕ × ℕ))
@@ -48,7 +50,7 @@ accepted_forms h asked fs guard None reading entry tempids forms_are first_is is
 
 accepted_by : (h : List Entry) (asked : Form) (forms : Option (List Form)) (guard : Guard) (reading : ℤ) (entry : Entry) (tempids : List (List ℕ × ℕ))
     → forms_of asked ≡ forms
-    → option_map_or (λ fs. unless_refused h fs reading guard (refusal_of h fs)) forms (refused (record { rule = 1; place = 0 })) ≡ accepted entry tempids
+    → option_map_or (λ fs. unless_refused h fs reading guard (refusal_of h fs)) forms (refused no_list) ≡ accepted entry tempids
     → IsAcceptedAt h asked (next_instant h reading) entry tempids
 accepted_by h asked None guard reading entry tempids forms_are is = absurd (cc)
 accepted_by h asked (Some fs) guard reading entry tempids forms_are is = accepted_forms h asked fs guard (refusal_of h fs) reading entry tempids forms_are refl is

@@ -1,6 +1,6 @@
 -- What a transaction asks, with entities still by their names.
 -- Datomic, Transaction Data (list forms, map forms, entity identifiers, temporary ids).
-use Rattle.std.specs.Prelude.{ℕ, ℤ, pos, Bool, true, false, ◌&&◌, ◌||◌, List, [], ◌∷◌, ◌++◌, bytes_eq, codes, cond, drop, flat_map, Option, Some, None}
+use Rattle.std.specs.Prelude.{ℕ, ℤ, Bool, true, false, List, [], ◌∷◌, ◌++◌, bytes_eq, codes, cond, drop, Option, Some, None}
 use Rattle.edn_model.specs.Form as edn
 use Rattle.edn_model.specs.Form.{Form, Forms, no_forms, form}
 use Rattle.fb_model.specs.Words.{has_namespace, namespace, local_name, begins_with_one_of}

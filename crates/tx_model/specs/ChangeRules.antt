@@ -1,22 +1,21 @@
 -- The rules on what a transaction changes: each as a test of one form, which breaks the rule where the test passes. A rule is
 -- read where no lower rule is broken. What a form asks includes what it finds and what its additions imply.
 -- Datomic, Transaction Data (:db/cas, cardinality, unique values) and Schema (altering attributes).
-use Rattle.std.specs.Prelude.{ℕ, ◌+◌, ◌^◌, ℤ, pos, Bool, true, false, not, ◌&&◌, ◌||◌, List, [], ◌∷◌, ◌++◌, length, filter, nat_eq, nat_le, nat_lt, int_lt, max, cond, is_some, is_none, Option, Some, None, option_and_then, slice_index_or}
+use Rattle.std.specs.Prelude.{ℕ, ◌+◌, ◌^◌, Bool, true, false, not, ◌&&◌, ◌||◌, List, [], ◌++◌, length, nat_eq, nat_le, nat_lt, int_lt, max, Option, Some, None, slice_index_or}
 use Rattle.std.specs.List.{list_any, list_all}
 use Rattle.std.specs.Option.{option_map_or}
 use Rattle.edn_model.specs.Form as edn
 use Rattle.fb_values.specs.declared.facts.Datom.{Datom}
 use Rattle.fb_values.specs.declared.facts.Value.{Value}
-use Rattle.fb_values.specs.declared.facts.Value.TheVariants.{Instant}
 use Rattle.fb_model.specs.Numbers.{ident, cardinality, unique, index, greatest_t, greatest_instant, most_datoms}
 use Rattle.fb_model.specs.History.{basis, last_instant, said, users_issued, users_in}
 use Rattle.fb_model.specs.Facts.{is_of, value_eq, value_of, values_of}
-use Rattle.fb_model.specs.Schema.{Attribute, attribute_named, is_attribute, is_one, is_many, is_unique, is_whole}
+use Rattle.fb_model.specs.Schema.{Attribute, attribute_named, is_attribute, is_one, is_unique, is_whole}
 use Rattle.fb_model.specs.Laws.{has_no_other_holder, says_attribute, is_alteration, is_forbidden}
-use Rattle.tx_model.specs.Asks.{Name, Part, plain, entity, Ask, compares}
+use Rattle.tx_model.specs.Asks.{Part, plain, Ask, compares}
 use Rattle.tx_model.specs.Tempids.{Db, entity_of}
 use Rattle.tx_model.specs.Changes.{value_of_part}
-use Rattle.tx_model.specs.Size.{entry_size}
+use Rattle.tx_model.specs.Size.{entry_size, most_bytes}
 use Rattle.tx_model.specs.Transaction.{Transaction, joined, is_change}
 
 -- ---- what one form asks
@@ -35,7 +34,7 @@ asked tx place = at tx.added place ++ at tx.retracted place ++ at tx.swept place
 abbrev pub is_recorded : Transaction → Datom → Bool
 is_recorded tx d = is_change (said tx.db.history) d
 
--- ---- 10: a cas of an attribute of cardinality many
+-- ---- cas of many: a cas of an attribute of cardinality many
 
 abbrev pub compares_many : Db → Ask → Bool
 compares_many db (compares name attribute old new) = option_map_or (λ a. a.many) (attribute_named db.facts attribute) false
@@ -44,7 +43,7 @@ compares_many db ask = false
 abbrev pub breaks_cas_many : Transaction → ℕ → Bool
 breaks_cas_many tx place = list_any (compares_many tx.db) (at tx.asks place)
 
--- ---- 11: the present value differs from the old one of a cas; nil stands for none
+-- ---- cas failed: the present value differs from the old one of a cas; nil stands for none
 
 abbrev pub is_value : Option Value → Option Value → Bool
 is_value None None = true
@@ -67,7 +66,7 @@ compares_another tx ask = false
 abbrev pub breaks_cas_failed : Transaction → ℕ → Bool
 breaks_cas_failed tx place = list_any (compares_another tx) (at tx.asks place)
 
--- ---- 12: it asks a triple that is added beside another value of cardinality one, or that is both added and retracted
+-- ---- datoms conflict: it asks a triple that is added beside another value of cardinality one, or that is both added and retracted
 
 abbrev pub is_asked_in : List Datom → Datom → Bool
 is_asked_in ds d = list_any (is_of d.e d.a d.v) ds
@@ -83,13 +82,13 @@ conflicts tx d =
 abbrev pub breaks_datoms_conflict : Transaction → ℕ → Bool
 breaks_datoms_conflict tx place = list_any (conflicts tx) (asked tx place)
 
--- ---- 13: it adds a value of a unique attribute that two entities have after the transaction
+-- ---- unique conflict: it adds a value of a unique attribute that two entities have after the transaction
 
 abbrev pub breaks_unique_conflict : Transaction → ℕ → Bool
 breaks_unique_conflict tx place =
     list_any (λ d. is_unique tx.db.facts d.a && not (has_no_other_holder tx.after d)) (at tx.added place)
 
--- ---- 14: it asks something of a new attribute that is not whole, or changes an attribute so that it is not whole
+-- ---- incomplete attribute: it asks something of a new attribute that is not whole, or changes an attribute so that it is not whole
 
 abbrev pub describes : Datom → Bool
 describes d = nat_le ident d.a && nat_le d.a index
@@ -103,18 +102,18 @@ breaks_incomplete_attribute tx place =
     list_any (λ d. describes d && is_new_attribute tx d.e && not (is_whole tx.after d.e)) (asked_triples tx place)
     || list_any (λ d. is_recorded tx d && is_alteration d && is_attribute tx.db.facts d.e && not (is_whole tx.after d.e)) (asked tx place)
 
--- ---- 15: it changes what stays as it is
+-- ---- attribute fixed: it changes what stays as it is
 
 abbrev pub breaks_attribute_fixed : Transaction → ℕ → Bool
 breaks_attribute_fixed tx place = list_any (λ d. is_recorded tx d && is_forbidden tx.db.facts d) (asked tx place)
 
--- ---- 16: too many datoms would be recorded, or too many bytes
+-- ---- too large: with the instant of the transaction, whose datom has 26 bytes, too many datoms would be recorded, or too many bytes
 
 abbrev pub breaks_too_large : Transaction → Bool
 breaks_too_large tx =
-    nat_lt most_datoms (length tx.changes + 1) || nat_lt 67108864 (entry_size tx.changes + 26)
+    nat_lt most_datoms (length tx.changes + 1) || nat_lt most_bytes (entry_size tx.changes + 26)
 
--- ---- 17: t, the user entities or the instant would pass their greatest value
+-- ---- full: t, the user entities or the instant would pass their greatest value
 
 abbrev pub breaks_full : Transaction → Bool
 breaks_full tx =
@@ -122,7 +121,7 @@ breaks_full tx =
     || nat_lt (2 ^ 40) (max (users_issued tx.db.history) (users_in tx.changes))
     || not (int_lt (last_instant tx.db.history) greatest_instant)
 
--- ---- 18: it alters the cardinality or the uniqueness of an attribute against its facts after the transaction
+-- ---- alteration conflict: it alters the cardinality or the uniqueness of an attribute against its facts after the transaction
 
 abbrev pub keeps_its_promise : List Datom → ℕ → Bool
 keeps_its_promise facts a =

@@ -1,6 +1,6 @@
 -- What a transaction asks to add and to retract, as datoms over entity numbers.
 -- Datomic, Transaction Data (:db/add, :db/retract, :db/cas, :db/retractEntity, cardinality one) and Schema (:db/isComponent).
-use Rattle.std.specs.Prelude.{ℕ, ◌+◌, Bool, true, false, not, ◌&&◌, ◌||◌, List, [], ◌∷◌, ◌++◌, map, filter, flat_map, filter_map, nat_eq, cond, Option, Some, None, option_and_then, option_map, option_to_list}
+use Rattle.std.specs.Prelude.{ℕ, ◌+◌, Bool, true, false, not, ◌&&◌, ◌||◌, List, [], ◌∷◌, map, filter, filter_map, nat_eq, cond, Option, Some, None, option_and_then, option_map, option_to_list}
 use Rattle.std.specs.List.{list_any}
 use Rattle.std.specs.Option.{option_map_or}
 use Rattle.fb_values.specs.declared.facts.Datom.{Datom}

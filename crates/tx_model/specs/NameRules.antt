@@ -1,27 +1,39 @@
 -- The rules on what a transaction names: each as a test of one form, which breaks the rule where the test passes. A rule is
 -- read where no lower rule is broken.
 -- Datomic, Transaction Data and Schema (lookup refs, unique identities).
-use Rattle.std.specs.Prelude.{ℕ, Bool, true, false, not, ◌&&◌, ◌||◌, List, [], ◌∷◌, ◌++◌, nat_eq, is_none, Option, Some, None}
-use Rattle.std.specs.List.{list_any, list_all}
+use Rattle.std.specs.Prelude.{ℕ, Bool, true, false, not, ◌&&◌, ◌||◌, List, [], ◌∷◌, nat_eq, cond, is_none, Option, None}
+use Rattle.std.specs.List.{list_any}
 use Rattle.std.specs.Option.{option_map_or}
 use Rattle.edn_model.specs.Form as edn
-use Rattle.edn_model.specs.Form.{Form}
+use Rattle.edn_model.specs.Form.{Form, no_forms, form}
 use Rattle.fb_values.specs.declared.facts.Datom.{Datom}
 use Rattle.fb_model.specs.Numbers.{tx_instant, ident as ident_attribute, type_ref}
 use Rattle.fb_model.specs.Words.{is_reserved}
 use Rattle.fb_model.specs.Schema.{Attribute, attribute_named}
-use Rattle.tx_model.specs.Asks.{Name, number, ident, lookup, tempid, nameless, Part, plain, entity, Ask, adds, retracts, compares, lacks_id, is_tempid, is_same_tempid, names_of, parts_of, attribute_of_ask}
+use Rattle.tx_model.specs.Asks.{Name, lookup, tempid, nameless, Part, plain, entity, Ask, adds, compares, lacks_id, is_tempid, is_same_tempid, names_of, parts_of, attribute_of_ask}
 use Rattle.tx_model.specs.Values.{value_in}
-use Rattle.tx_model.specs.Tempids.{Db, looked_up, found, identified, holders}
+use Rattle.tx_model.specs.Walk.{has_ref, old_value_part}
+use Rattle.tx_model.specs.Tempids.{Db, found, identified, holders}
 
--- ---- 2: a name in an attribute's place, in a key or in a lookup ref is no installed attribute
+-- ---- the lookup refs in a name
+
+-- from the outside in: where the values of the attribute are entities, the value may be a lookup ref itself
+abbrev pub lookups_from : List Datom → List ℕ → Form → List (List ℕ × Form)
+lookups_from facts k (edn.vector (form (edn.keyword inner) (form value no_forms))) =
+    (k, edn.vector (form (edn.keyword inner) (form value no_forms))) ∷ cond (has_ref facts k) (lookups_from facts inner value) []
+lookups_from facts k value = (k, value) ∷ []
+
+abbrev pub lookups_in : List Datom → Name → List (List ℕ × Form)
+lookups_in facts (lookup k value) = lookups_from facts k value
+lookups_in facts name = []
+
+-- ---- not an attribute: a name in an attribute's place, in a key or in a lookup ref is no installed attribute
 
 abbrev pub is_unknown : List Datom → List ℕ → Bool
 is_unknown facts k = is_none (attribute_named facts k)
 
 abbrev pub has_unknown_lookup : List Datom → Name → Bool
-has_unknown_lookup facts (lookup k value) = is_unknown facts k
-has_unknown_lookup facts name = false
+has_unknown_lookup facts name = list_any (λ (ref : List ℕ × Form). is_unknown facts ref.0) (lookups_in facts name)
 
 abbrev pub names_no_attribute : List Datom → Ask → Bool
 names_no_attribute facts ask =
@@ -30,7 +42,7 @@ names_no_attribute facts ask =
 abbrev pub breaks_not_an_attribute : Db → List Ask → Bool
 breaks_not_an_attribute db asks = list_any (names_no_attribute db.facts) asks
 
--- ---- 3: the attribute is `:db/txInstant`, or an ident is added that is kept for the database itself
+-- ---- protected attribute: the attribute is `:db/txInstant`, or an ident is added that is kept for the database itself
 
 abbrev pub is_protected : List Datom → List ℕ → Bool
 is_protected facts k = option_map_or (λ attribute. nat_eq attribute.id tx_instant) (attribute_named facts k) false
@@ -51,7 +63,7 @@ abbrev pub breaks_protected_attribute : Db → List Ask → Bool
 breaks_protected_attribute db asks =
     list_any (λ ask. option_map_or (is_protected db.facts) (attribute_of_ask ask) false || adds_reserved_ident db.facts ask) asks
 
--- ---- 4: a value is not of its attribute's type, or too long; an entity stands under an attribute that is no ref
+-- ---- wrong type: a value is not of its attribute's type, or too long; an entity stands under an attribute that is no ref
 
 abbrev pub is_wrong_part : Attribute → Part → Bool
 is_wrong_part attribute (plain f) = is_none (value_in attribute.kind f)
@@ -69,24 +81,29 @@ has_wrong_part ask attribute = list_any (is_wrong_part attribute) (parts_of ask)
 abbrev pub attribute_in : List Datom → Ask → Option Attribute
 attribute_in facts ask = option_map_or (attribute_named facts) (attribute_of_ask ask) None
 
+-- the value of a lookup ref is read as that of a retraction: by the type, and as an entity with a name of its own where values are
+-- entities
+abbrev pub is_wrong_lookup : Form → Attribute → Bool
+is_wrong_lookup value attribute = is_wrong_part attribute (old_value_part (nat_eq attribute.kind type_ref) value)
+
 abbrev pub has_wrong_lookup : List Datom → Name → Bool
-has_wrong_lookup facts (lookup k value) = option_map_or (λ attribute. is_none (looked_up attribute value)) (attribute_named facts k) false
-has_wrong_lookup facts name = false
+has_wrong_lookup facts name =
+    list_any (λ (ref : List ℕ × Form). option_map_or (is_wrong_lookup ref.1) (attribute_named facts ref.0) false) (lookups_in facts name)
 
 abbrev pub breaks_wrong_type : Db → List Ask → Bool
 breaks_wrong_type db asks =
     list_any (λ ask. option_map_or (has_wrong_part ask) (attribute_in db.facts ask) false || list_any (has_wrong_lookup db.facts) (names_of ask)) asks
 
--- ---- 5: the attribute of a lookup ref is not unique
+-- ---- not a unique lookup: the attribute of a lookup ref is not unique
 
 abbrev pub has_other_lookup : List Datom → Name → Bool
-has_other_lookup facts (lookup k value) = option_map_or (λ attribute. nat_eq attribute.uniqueness 0) (attribute_named facts k) false
-has_other_lookup facts name = false
+has_other_lookup facts name =
+    list_any (λ (ref : List ℕ × Form). option_map_or (λ attribute. nat_eq attribute.uniqueness 0) (attribute_named facts ref.0) false) (lookups_in facts name)
 
 abbrev pub breaks_not_unique_lookup : Db → List Ask → Bool
 breaks_not_unique_lookup db asks = list_any (λ ask. list_any (has_other_lookup db.facts) (names_of ask)) asks
 
--- ---- 6: a number is not issued, or an ident or a lookup ref finds no entity
+-- ---- not an entity: a number is not issued, or an ident or a lookup ref finds no entity
 
 abbrev pub finds_none : Db → Name → Bool
 finds_none db (tempid s) = false
@@ -96,7 +113,7 @@ finds_none db name = is_none (found db name)
 abbrev pub breaks_not_an_entity : Db → List Ask → Bool
 breaks_not_an_entity db asks = list_any (λ ask. list_any (finds_none db) (names_of ask)) asks
 
--- ---- 7: a map inside another lacks what it needs
+-- ---- nested without an id: a map inside another lacks what it needs
 
 abbrev pub is_lacking : Ask → Bool
 is_lacking lacks_id = true
@@ -105,16 +122,17 @@ is_lacking ask = false
 abbrev pub breaks_nested_without_id : Db → List Ask → Bool
 breaks_nested_without_id db asks = list_any is_lacking asks
 
--- ---- 8: it gives an identity value with a holder to a tempid that has identity values of two holders
+-- ---- tempid conflict: it gives an identity value with a holder to a tempid that has identity values of two holders; the transaction's
+-- own entity is no tempid
 
 abbrev pub gives_one_of_two : Db → List Ask → Ask → Name → Bool
 gives_one_of_two db all ask name =
-    option_map_or (λ e. list_any (λ other. not (nat_eq other e)) (holders db all name)) (identified db name ask) false
+    is_tempid name && option_map_or (λ e. list_any (λ other. not (nat_eq other e)) (holders db all name)) (identified db name ask) false
 
 abbrev pub breaks_tempid_conflict : Db → List Ask → List Ask → Bool
 breaks_tempid_conflict db all asks = list_any (λ ask. list_any (gives_one_of_two db all ask) (names_of ask)) asks
 
--- ---- 9: it uses a tempid that is the entity of no addition
+-- ---- tempid of no entity: it uses a tempid that is the entity of no addition
 
 abbrev pub adds_to : Name → Ask → Bool
 adds_to name (adds other attribute part) = is_same_tempid name other

@@ -8,7 +8,8 @@ use Rattle.fb_values.specs.declared.facts.Value.{Value}
 use Rattle.fb_values.specs.declared.facts.Value.TheVariants.{Str}
 use Rattle.fb_model.specs.FirstEntry.{first_entry}
 use Rattle.tx_model.specs.Transaction.{transaction}
-use Rattle.tx_model.specs.Step.{Outcome, refused, accepted, Refusal, step, no_guard}
+use Rattle.tx_refusals.specs.declared.reasons.Reason.{Reason}
+use Rattle.tx_model.specs.Step.{Outcome, refused, accepted, step, no_guard}
 
 -- ---- forms
 
@@ -32,6 +33,10 @@ set_of fs = edn.set (forms fs)
 
 abbrev pub map_of : List (Form × Form) → Form
 map_of ps = edn.map (pairs ps)
+
+-- [attribute value]
+abbrev pub lookup_ref : List ℕ → Form → Form
+lookup_ref attribute value = vector (keyword attribute ∷ value ∷ [])
 
 -- [:db/add e a v]
 abbrev pub add : Form → List ℕ → Form → Form
@@ -86,8 +91,8 @@ told_of (refused refusal) = None
 abbrev pub told : List Entry → List Form → Option (ℕ × List (List ℕ × ℕ))
 told h fs = told_of (outcome h fs)
 
-abbrev pub refusal_at : ℕ → ℕ → Outcome
-refusal_at rule place = refused (record { rule = rule; place = place })
+abbrev pub refusal_at : Reason → ℕ → Outcome
+refusal_at reason place = refused (record { reason = reason; at = place })
 
 -- the changes of a transaction, each as its entity, its text, if it has one, and whether it is added
 abbrev text_in : Value → List ℕ
@@ -121,6 +126,29 @@ install_age = install age (codes "long") (codes "one") [] ∷ []
 
 abbrev pub with_email : List ℕ → List ℕ → Form
 with_email name address = map_of ((id, string name) ∷ (keyword email, string address) ∷ [])
+
+-- `:id/s` and `:id/l`: two attributes that identify entities
+abbrev pub install_ids : List Form
+install_ids =
+    install (codes "id/s") (codes "string") (codes "one") ((keyword (codes "db/unique"), keyword (codes "db.unique/identity")) ∷ [])
+    ∷ install (codes "id/l") (codes "long") (codes "one") ((keyword (codes "db/unique"), keyword (codes "db.unique/identity")) ∷ [])
+    ∷ []
+
+-- two entities have one each
+abbrev pub two_ids : List Entry
+two_ids =
+    after (install_ids
+    ∷ (map_of ((keyword (codes "id/s"), string (codes "p")) ∷ []) ∷ map_of ((keyword (codes "id/l"), number 1) ∷ []) ∷ [])
+    ∷ [])
+
+-- they lose them, and another entity gets both
+abbrev pub both_ids_for : List ℕ → List Form
+both_ids_for name =
+    retract (number 17592186044419) (codes "id/s") (string (codes "p"))
+    ∷ retract (number 17592186044420) (codes "id/l") (number 1)
+    ∷ add (string name) (codes "id/s") (string (codes "p"))
+    ∷ add (string name) (codes "id/l") (number 1)
+    ∷ []
 
 -- orders with lines that are parts of them, and notes about lines
 abbrev pub orders : List Form

@@ -19,3 +19,7 @@ value_size (Uri text) = 5 + length text
 -- format, t, instant and the number of datoms; and for each datom entity, attribute, value and whether it was added
 abbrev pub entry_size : List Datom → ℕ
 entry_size ds = 17 + sum_by (λ d. 17 + value_size d.v) ds
+
+-- of an entry
+abbrev pub most_bytes : ℕ
+most_bytes = 67108864

@@ -1,23 +1,22 @@
 -- The step of a transaction: the entry that it adds to a history, or why it is refused.
 -- Datomic, Transaction Data. Which of several faults is told is this project's own choice: that of the least rule, and of the
 -- forms that break it the first.
-use Rattle.std.specs.Prelude.{◌≡◌, ℕ, ◌+◌, ℤ, Bool, true, false, not, List, [], ◌∷◌, map, length, cond, codes, Option, Some, None}
-use Rattle.std.specs.Option.{option_map_or, option_or}
+use Rattle.std.specs.Prelude.{◌≡◌, ℕ, ◌+◌, ℤ, Bool, not, List, [], ◌∷◌, map, cond, is_some, Option, Some, None}
+use Rattle.std.specs.Option.{option_map_or}
 use Rattle.edn_model.specs.Form.{Form}
 use Rattle.fb_values.specs.declared.facts.Datom.{Datom}
 use Rattle.fb_values.specs.declared.facts.Entry.{Entry}
 use Rattle.fb_model.specs.History.{basis, next_instant}
+use Rattle.tx_refusals.specs.declared.reasons.Bar.{Bar}
+use Rattle.tx_refusals.specs.declared.reasons.Reason.{Reason}
+use Rattle.tx_refusals.specs.declared.reasons.Reason.TheVariants.{NotAForm, NotAnAttribute, ProtectedAttribute, WrongType, NotUniqueLookup, NotAnEntity, NestedWithoutId, TempidConflict, TempidNotAnEntity, CasMany, CasFailed, DatomsConflict, UniqueConflict, IncompleteAttribute, AttributeFixed, TooLarge, Full, AlterationConflict, Barred}
+use Rattle.tx_refusals.specs.declared.reasons.Refusal.{Refusal}
 use Rattle.tx_model.specs.Asks.{Ask}
 use Rattle.tx_model.specs.Shapes.{has_shape, forms_of}
-use Rattle.tx_model.specs.Tempids.{Db, named_tempids}
+use Rattle.tx_model.specs.Tempids.{named_tempids}
 use Rattle.tx_model.specs.Transaction.{Transaction, joined, transaction, recorded}
 use Rattle.tx_model.specs.NameRules.{breaks_not_an_attribute, breaks_protected_attribute, breaks_wrong_type, breaks_not_unique_lookup, breaks_not_an_entity, breaks_nested_without_id, breaks_tempid_conflict, breaks_tempid_not_an_entity}
 use Rattle.tx_model.specs.ChangeRules.{breaks_cas_many, breaks_cas_failed, breaks_datoms_conflict, breaks_unique_conflict, breaks_incomplete_attribute, breaks_attribute_fixed, breaks_too_large, breaks_full, breaks_alteration_conflict}
-
--- the number of the rule that is broken, and the place of the form that breaks it
-pub record Refusal : Type 0 where
-  pub rule : ℕ
-  pub place : ℕ
 
 -- ---- the first form that breaks a rule
 
@@ -42,44 +41,55 @@ by_place tx test = first_yes 0 (tests_from test 0 tx.asks)
 abbrev pub by_whole : Bool → Option ℕ
 by_whole broken = cond broken (Some 0) None
 
--- for each rule from 2 to 18 the first form that breaks it
-abbrev pub broken_rules : Transaction → List (Option ℕ)
+-- the rules on forms that have a shape, each with the first form that breaks it: the least rule first
+abbrev pub broken_rules : Transaction → List (Reason × Option ℕ)
 broken_rules tx =
-    by_asks tx (breaks_not_an_attribute tx.db)
-    ∷ by_asks tx (breaks_protected_attribute tx.db)
-    ∷ by_asks tx (breaks_wrong_type tx.db)
-    ∷ by_asks tx (breaks_not_unique_lookup tx.db)
-    ∷ by_asks tx (breaks_not_an_entity tx.db)
-    ∷ by_asks tx (breaks_nested_without_id tx.db)
-    ∷ by_asks tx (breaks_tempid_conflict tx.db (joined tx.asks))
-    ∷ by_asks tx (breaks_tempid_not_an_entity (joined tx.asks))
-    ∷ by_place tx (breaks_cas_many tx)
-    ∷ by_place tx (breaks_cas_failed tx)
-    ∷ by_place tx (breaks_datoms_conflict tx)
-    ∷ by_place tx (breaks_unique_conflict tx)
-    ∷ by_place tx (breaks_incomplete_attribute tx)
-    ∷ by_place tx (breaks_attribute_fixed tx)
-    ∷ by_whole (breaks_too_large tx)
-    ∷ by_whole (breaks_full tx)
-    ∷ by_place tx (breaks_alteration_conflict tx)
+    (NotAnAttribute, by_asks tx (breaks_not_an_attribute tx.db))
+    ∷ (ProtectedAttribute, by_asks tx (breaks_protected_attribute tx.db))
+    ∷ (WrongType, by_asks tx (breaks_wrong_type tx.db))
+    ∷ (NotUniqueLookup, by_asks tx (breaks_not_unique_lookup tx.db))
+    ∷ (NotAnEntity, by_asks tx (breaks_not_an_entity tx.db))
+    ∷ (NestedWithoutId, by_asks tx (breaks_nested_without_id tx.db))
+    ∷ (TempidConflict, by_asks tx (breaks_tempid_conflict tx.db (joined tx.asks)))
+    ∷ (TempidNotAnEntity, by_asks tx (breaks_tempid_not_an_entity (joined tx.asks)))
+    ∷ (CasMany, by_place tx (breaks_cas_many tx))
+    ∷ (CasFailed, by_place tx (breaks_cas_failed tx))
+    ∷ (DatomsConflict, by_place tx (breaks_datoms_conflict tx))
+    ∷ (UniqueConflict, by_place tx (breaks_unique_conflict tx))
+    ∷ (IncompleteAttribute, by_place tx (breaks_incomplete_attribute tx))
+    ∷ (AttributeFixed, by_place tx (breaks_attribute_fixed tx))
+    ∷ (TooLarge, by_whole (breaks_too_large tx))
+    ∷ (Full, by_whole (breaks_full tx))
+    ∷ (AlterationConflict, by_place tx (breaks_alteration_conflict tx))
     ∷ []
 
--- the least rule that is broken, where the first one has the number n
-abbrev pub first_refusal : ℕ → List (Option ℕ) → Option Refusal
-first_refusal n [] = None
-first_refusal n (None ∷ rest) = first_refusal (n + 1) rest
-first_refusal n (Some place ∷ rest) = Some (record { rule = n; place = place })
-
--- rule 1: a form has a shape
+-- all rules: before the others, that a form has a shape
 abbrev pub first_without_shape : List Form → Option ℕ
 first_without_shape fs = first_yes 0 (map (λ f. not (has_shape f)) fs)
 
-abbrev pub refusal_of : List Entry → List Form → Option Refusal
-refusal_of h fs = first_refusal 1 (first_without_shape fs ∷ broken_rules (transaction h fs))
+abbrev pub all_rules : List Entry → List Form → List (Reason × Option ℕ)
+all_rules h fs = (NotAForm, first_without_shape fs) ∷ broken_rules (transaction h fs)
 
--- why the transaction is refused, if it is: what is no list of forms breaks rule 1
+-- of the rules that a form breaks the first one
+abbrev pub first_refusal : List (Reason × Option ℕ) → Option Refusal
+first_refusal [] = None
+first_refusal ((reason, None) ∷ rest) = first_refusal rest
+first_refusal ((reason, Some place) ∷ rest) = Some (record { reason = reason; at = place })
+
+-- for each rule whether a form breaks it
+abbrev pub are_broken : List (Reason × Option ℕ) → List (Reason × Bool)
+are_broken rules = map (λ (rule : Reason × Option ℕ). (rule.0, is_some rule.1)) rules
+
+abbrev pub refusal_of : List Entry → List Form → Option Refusal
+refusal_of h fs = first_refusal (all_rules h fs)
+
+-- what is no list of forms has no shape
+abbrev pub no_list : Refusal
+no_list = record { reason = NotAForm; at = 0 }
+
+-- why the transaction is refused, if it is
 abbrev pub refusal : List Entry → Form → Option Refusal
-refusal h asked = option_map_or (refusal_of h) (forms_of asked) (Some (record { rule = 1; place = 0 }))
+refusal h asked = option_map_or (refusal_of h) (forms_of asked) (Some no_list)
 
 -- ---- the step
 
@@ -88,9 +98,9 @@ pub data Outcome : Type 0 where
   -- the entry, and the entities of the tempids that have a name
   accepted : Entry → List (List ℕ × ℕ) → Outcome
 
--- the rule by which a guard bars these changes after the history, if it does
+-- by what a guard bars these changes after the history, if it does: it has no other answers than these three
 abbrev pub Guard : Type 0
-Guard = List Entry → List Datom → Option ℕ
+Guard = List Entry → List Datom → Option Bar
 
 abbrev pub no_guard : Guard
 no_guard h changes = None
@@ -98,8 +108,9 @@ no_guard h changes = None
 abbrev pub entry_of : List Entry → Transaction → ℤ → Entry
 entry_of h tx instant = record { t = basis h + 1; instant = instant; datoms = recorded tx instant }
 
-abbrev pub under_guard : List Entry → Transaction → ℤ → Option ℕ → Outcome
-under_guard h tx reading (Some rule) = refused (record { rule = rule; place = 0 })
+-- a guard judges the transaction as a whole, and is asked where no rule is broken
+abbrev pub under_guard : List Entry → Transaction → ℤ → Option Bar → Outcome
+under_guard h tx reading (Some bar) = refused (record { reason = Barred bar; at = 0 })
 under_guard h tx reading None = accepted (entry_of h tx (next_instant h reading)) (named_tempids tx.names)
 
 abbrev pub unless_refused : List Entry → List Form → ℤ → Guard → Option Refusal → Outcome
@@ -110,10 +121,10 @@ unless_refused h fs reading guard None =
 
 -- what the transaction does at the history, where the clock reads this
 abbrev pub step : List Entry → Form → ℤ → Guard → Outcome
-step h asked reading guard = option_map_or (λ fs. unless_refused h fs reading guard (refusal_of h fs)) (forms_of asked) (refused (record { rule = 1; place = 0 }))
+step h asked reading guard = option_map_or (λ fs. unless_refused h fs reading guard (refusal_of h fs)) (forms_of asked) (refused no_list)
 
--- The entry and the tempids are those of the forms, and of the clock only the instant tells: the entry records the instant
--- beside changes that no clock has a part in.
+-- The entry and the tempids are those of the forms, which break no rule, and of the clock only the instant tells: the entry
+-- records the instant beside changes that no clock has a part in. Of a guard it says nothing.
 pub record IsAcceptedAt (h : List Entry) (asked : Form) (instant : ℤ) (entry : Entry) (tempids : List (List ℕ × ℕ)) : Type 0 where
   pub forms : List Form
   pub forms_are : forms_of asked ≡ Some forms

@@ -1,18 +1,18 @@
 -- Names of entities in a transaction, and the entities that tempids stand for.
 -- Datomic, Transaction Data (temporary ids, unique identities). That user numbers have no gap is this project's own choice.
-use Rattle.std.specs.Prelude.{ℕ, ◌+◌, ℤ, pos, negsuc, Bool, true, false, ◌&&◌, ◌||◌, not, List, [], ◌∷◌, ◌++◌, map, filter, flat_map, filter_map, bytes_eq, nat_eq, nat_le, cond, length, Option, Some, None, is_some, option_and_then, option_map, option_to_list}
-use Rattle.std.specs.List.{list_any, list_all}
-use Rattle.std.specs.Option.{option_map_or}
+use Rattle.std.specs.Prelude.{ℕ, ◌+◌, pos, Bool, true, ◌&&◌, not, List, [], ◌∷◌, flat_map, filter_map, bytes_eq, cond, Option, Some, None, option_and_then}
+use Rattle.std.specs.List.{list_any}
+use Rattle.std.specs.Ordering.{is_lt}
 use Rattle.edn_model.specs.Form.{Form}
 use Rattle.fb_values.specs.declared.facts.Datom.{Datom}
 use Rattle.fb_values.specs.declared.facts.Entry.{Entry}
-use Rattle.fb_values.specs.declared.facts.Value.{Value}
+use Rattle.fb_values.specs.Orders.{text_cmp}
 use Rattle.fb_model.specs.Numbers.{transaction_of, user_entity}
 use Rattle.fb_model.specs.History.{basis, users_issued, is_issued}
 use Rattle.fb_model.specs.Facts.{holder, facts}
 use Rattle.fb_model.specs.Schema.{Attribute, attribute_named, named, is_identity}
-use Rattle.tx_model.specs.Asks.{Name, number, ident, lookup, tempid, nameless, Part, plain, entity, Ask, adds, own_tempid, is_tempid, is_same_tempid, names_of}
-use Rattle.tx_model.specs.Values.{value_in, lookup_value_in}
+use Rattle.tx_model.specs.Asks.{Name, number, ident, lookup, tempid, nameless, plain, Ask, adds, own_tempid, is_tempid, is_same_tempid, names_of}
+use Rattle.tx_model.specs.Values.{value_in}
 
 -- the database before the transaction: a history with its facts
 pub record Db : Type 0 where
@@ -24,14 +24,12 @@ db_of h = record { history = h; facts = facts h }
 
 -- ---- names in the database
 
--- the value of the lookup ref, by the type of its attribute
-abbrev pub looked_up : Attribute → Form → Option Value
-looked_up attribute value = lookup_value_in attribute.kind value
-
+-- the holder of the value, read by the type of the attribute
 abbrev pub find_by : Db → Form → Attribute → Option ℕ
-find_by db value attribute = option_and_then (holder db.facts attribute.id) (looked_up attribute value)
+find_by db value attribute = option_and_then (holder db.facts attribute.id) (value_in attribute.kind value)
 
--- the entity that a name has in the database: a number has to be issued; a tempid has none
+-- the entity that a name has in the database: a number has to be issued; a lookup ref finds one by a plain value alone, since no
+-- attribute whose values are entities is unique; a tempid has none
 abbrev pub found : Db → Name → Option ℕ
 found db (number (pos n)) = cond (is_issued db.history n) (Some n) None
 found db (ident k) = named db.facts k
@@ -54,8 +52,7 @@ tempids_in asks = met_after [] (flat_map names_of asks)
 
 -- the holder of the value, where the attribute identifies entities
 abbrev pub identity_holder : Db → Form → Attribute → Option ℕ
-identity_holder db f attribute =
-    cond (is_identity db.facts attribute.id) (option_and_then (holder db.facts attribute.id) (value_in attribute.kind f)) None
+identity_holder db f attribute = cond (is_identity db.facts attribute.id) (find_by db f attribute) None
 
 -- the entity that an addition makes of the tempid: the holder of the identity value that it gives
 abbrev pub identified : Db → Name → Ask → Option ℕ
@@ -88,10 +85,31 @@ entity_of db names (tempid s) = cond (bytes_eq s own_tempid) (Some (transaction_
 entity_of db names (nameless path) = assigned_to names (nameless path)
 entity_of db names name = found db name
 
--- the tempids with a name, for the answer
+-- ---- what is told of them
+
 abbrev pub with_text : Name → ℕ → Option (List ℕ × ℕ)
 with_text (tempid s) e = Some (s, e)
 with_text name e = None
 
+-- the tempids with a name, in the order in which they are met
+abbrev pub with_texts : List (Name × ℕ) → List (List ℕ × ℕ)
+with_texts pairs = filter_map (λ (pair : Name × ℕ). with_text pair.0 pair.1) pairs
+
+-- by the bytes of the texts
+abbrev pub put_by_text : List ℕ × ℕ → List (List ℕ × ℕ) → List (List ℕ × ℕ)
+put_by_text pair [] = pair ∷ []
+put_by_text pair (first ∷ rest) = cond (is_lt (text_cmp first.0 pair.0)) (first ∷ put_by_text pair rest) (pair ∷ first ∷ rest)
+
+abbrev pub by_text : List (List ℕ × ℕ) → List (List ℕ × ℕ)
+by_text [] = []
+by_text (pair ∷ pairs) = put_by_text pair (by_text pairs)
+
+-- each text is below the next one
+abbrev pub rises_by_text : List (List ℕ × ℕ) → Bool
+rises_by_text [] = true
+rises_by_text (pair ∷ []) = true
+rises_by_text (pair ∷ next ∷ rest) = is_lt (text_cmp pair.0 next.0) && rises_by_text (next ∷ rest)
+
+-- the tempids with a name, for the answer
 abbrev pub named_tempids : List (Name × ℕ) → List (List ℕ × ℕ)
-named_tempids pairs = filter_map (λ (pair : Name × ℕ). with_text pair.0 pair.1) pairs
+named_tempids pairs = by_text (with_texts pairs)

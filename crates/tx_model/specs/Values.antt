@@ -1,13 +1,13 @@
 -- Values: the value that a form is under an attribute of a type.
 -- Datomic, Schema (:db/valueType), and EDN, edn-format, "Built-in elements".
-use Rattle.std.specs.Prelude.{ℕ, ℤ, pos, negsuc, List, nat_eq, cond, Option, Some, None}
+use Rattle.std.specs.Prelude.{ℕ, nat_eq, cond, Option, Some, None}
 use Rattle.std.specs.Option.{option_map_or}
 use Rattle.edn_model.specs.Form as edn
 use Rattle.edn_model.specs.Form.{Form}
 use Rattle.fb_values.specs.declared.facts.Value.{Value}
-use Rattle.fb_values.specs.declared.facts.Value.TheVariants.{Keyword, Str, Bool as Boolean, Long, Ref, Instant, Uuid, Symbol, Uri}
-use Rattle.fb_model.specs.Numbers.{type_long, type_ref, type_string, type_uri}
-use Rattle.fb_model.specs.Types.{is_of_type, is_well_formed, type_of}
+use Rattle.fb_values.specs.declared.facts.Value.TheVariants.{Keyword, Str, Bool as Boolean, Long, Instant, Uuid, Symbol, Uri}
+use Rattle.fb_model.specs.Numbers.{type_uri}
+use Rattle.fb_model.specs.Types.{is_of_type}
 
 -- the value that the form stands for under the type, of whatever length: a string is a string or a uri; an entity is no
 -- plain value
@@ -27,14 +27,3 @@ if_of_type kind v = cond (is_of_type kind v) (Some v) None
 -- the value of the type, where the form is one
 abbrev pub value_in : ℕ → Form → Option Value
 value_in kind f = option_map_or (if_of_type kind) (read_as kind f) None
-
-abbrev pub entity_number : ℤ → Option Value
-entity_number (pos n) = Some (Ref n)
-entity_number (negsuc n) = None
-
--- the value in a lookup ref: a keyword of any length is one, of which one that is too long has no holder, and an integer may
--- be an entity
-abbrev pub lookup_value_in : ℕ → Form → Option Value
-lookup_value_in kind (edn.keyword k) = cond (nat_eq kind (type_of (Keyword k))) (Some (Keyword k)) None
-lookup_value_in kind (edn.integer z) = cond (nat_eq kind type_ref) (entity_number z) (value_in kind (edn.integer z))
-lookup_value_in kind f = value_in kind f

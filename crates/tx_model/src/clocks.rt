@@ -6,7 +6,8 @@ ghost use Rattle.fb_model.specs.History.{next_instant};
 ghost use Rattle.tx_model.specs.Shapes.{forms_of};
 ghost use Rattle.tx_model.specs.Tempids.{named_tempids};
 ghost use Rattle.tx_model.specs.Transaction.{transaction};
-ghost use Rattle.tx_model.specs.Step.{Refusal, Guard, step, refused, accepted, IsAcceptedAt};
+ghost use Rattle.tx_refusals.specs.declared.reasons.Refusal.{Refusal};
+ghost use Rattle.tx_model.specs.Step.{Guard, step, refused, accepted, IsAcceptedAt};
 
 /// A transaction is refused in the same way whatever the clock reads.
 pub fn refusals_do_not_depend_on_the_clock()

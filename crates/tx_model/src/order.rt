@@ -5,7 +5,8 @@ ghost use Rattle.tx_model.specs.Asks.{Name, Ask, is_tempid};
 ghost use Rattle.tx_model.specs.Tempids.{Db, holders, assigned, assigned_to};
 ghost use Rattle.tx_model.specs.NameRules.{breaks_tempid_conflict};
 ghost use Rattle.tx_model.specs.Transaction.{joined, with_asks, with_names};
-ghost use Rattle.tx_model.specs.Step.{Refusal, first_yes, broken_rules, first_refusal};
+ghost use Rattle.tx_refusals.specs.declared.reasons.Refusal.{Refusal};
+ghost use Rattle.tx_model.specs.Step.{first_yes, broken_rules, first_refusal, are_broken};
 
 /// Whether a rule that is judged form by form is broken does not depend on the order of the forms, though the place of the form
 /// that is told does.
@@ -23,8 +24,8 @@ pub fn the_same_is_recorded_in_any_order()
 /// With the same entities for its tempids a transaction breaks the same rules in whatever order its forms stand, and so the least
 /// of them is the same; which form is told may differ.
 pub fn the_same_rules_are_broken_in_any_order()
-    ensures each { (db : Db) (names : List (Name × ℕ)) (asks other : List (List Ask)) → ((form : List Ask) → Contains asks form ↔ Contains other form) → map is_some (broken_rules (with_names db asks names)) ≡ map is_some (broken_rules (with_names db other names)) }
-    ensures least { (db : Db) (names : List (Name × ℕ)) (asks other : List (List Ask)) → ((form : List Ask) → Contains asks form ↔ Contains other form) → option_map (λ (r : Refusal). r.rule) (first_refusal 2 (broken_rules (with_names db asks names))) ≡ option_map (λ (r : Refusal). r.rule) (first_refusal 2 (broken_rules (with_names db other names))) }
+    ensures each { (db : Db) (names : List (Name × ℕ)) (asks other : List (List Ask)) → ((form : List Ask) → Contains asks form ↔ Contains other form) → are_broken (broken_rules (with_names db asks names)) ≡ are_broken (broken_rules (with_names db other names)) }
+    ensures least { (db : Db) (names : List (Name × ℕ)) (asks other : List (List Ask)) → ((form : List Ask) → Contains asks form ↔ Contains other form) → option_map (λ (r : Refusal). r.reason) (first_refusal (broken_rules (with_names db asks names))) ≡ option_map (λ (r : Refusal). r.reason) (first_refusal (broken_rules (with_names db other names))) }
 {}
 
 /// Where two orders of what the forms ask give each tempid the same entity, the transactions record the same, the same holds
@@ -32,7 +33,7 @@ pub fn the_same_rules_are_broken_in_any_order()
 pub fn orders_with_the_same_entities_agree()
     ensures changes { (db : Db) (asks other : List (List Ask)) → ((form : List Ask) → Contains asks form ↔ Contains other form) → ((name : Name) → assigned_to (assigned db (joined asks)) name ≡ assigned_to (assigned db (joined other)) name) → (with_asks db asks).changes ≡ (with_asks db other).changes }
     ensures facts { (db : Db) (asks other : List (List Ask)) → ((form : List Ask) → Contains asks form ↔ Contains other form) → ((name : Name) → assigned_to (assigned db (joined asks)) name ≡ assigned_to (assigned db (joined other)) name) → (with_asks db asks).after ≡ (with_asks db other).after }
-    ensures rules { (db : Db) (asks other : List (List Ask)) → ((form : List Ask) → Contains asks form ↔ Contains other form) → ((name : Name) → assigned_to (assigned db (joined asks)) name ≡ assigned_to (assigned db (joined other)) name) → map is_some (broken_rules (with_asks db asks)) ≡ map is_some (broken_rules (with_asks db other)) }
+    ensures rules { (db : Db) (asks other : List (List Ask)) → ((form : List Ask) → Contains asks form ↔ Contains other form) → ((name : Name) → assigned_to (assigned db (joined asks)) name ≡ assigned_to (assigned db (joined other)) name) → are_broken (broken_rules (with_asks db asks)) ≡ are_broken (broken_rules (with_asks db other)) }
 {}
 
 /// Where no form breaks the rule on tempids of two holders, a tempid that is given an identity value with a holder is that holder

@@ -6,7 +6,8 @@ use Rattle.tx_model.specs.NameRules.{breaks_not_an_attribute, breaks_protected_a
 use Rattle.tx_model.specs.ChangeRules.{at, compares_many, compares_another}
 use Rattle.tx_model.specs.Transaction.{Transaction, joined}
 use Rattle.tx_model.specs.Step.{first_yes, tests_from, by_asks, by_place, broken_rules}
-use Rattle.tx_plain.specs.Rules.{first_of, all_rules}
+use Rattle.tx_refusals.specs.declared.reasons.Reason.{Reason}
+use Rattle.tx_plain.specs.Rules.{with_first, all_rules}
 
 next_at : {A : Type 0} (x : A) (xs : List A) (n : ℕ) (d : A) → get_or (x ∷ xs) (n + 1) d ≡ get_or xs n d
 next_at x xs n d = rw add-one refl
@@ -26,17 +27,17 @@ tests_at test d (x ∷ xs) = ap (λ r. test x ∷ r) (tests_behind test x xs d 0
 by_asks_at : (tx : Transaction) (test : List Ask → Bool) → by_asks tx test ≡ by_place tx (λ place. test (at tx.asks place))
 by_asks_at tx test = ap (first_yes 0) (sym (tests_at test [] tx.asks))
 
-both : {A : Type 0} {x y : A} {xs ys : List A} → x ≡ y → xs ≡ ys → x ∷ xs ≡ y ∷ ys
-both {A} {x} {y} {xs} {ys} e es = ap (λ z. z ∷ xs) e ∙ ap (λ zs. y ∷ zs) es
+here : {rest more : List (Reason × Option ℕ)} (rule : Reason) (place other : Option ℕ) → place ≡ other → rest ≡ more → (rule, place) ∷ rest ≡ (rule, other) ∷ more
+here {rest} {more} rule place other same are = ap (λ p. (rule, p) ∷ rest) same ∙ ap (λ rules. (rule, other) ∷ rules) are
 
-pub broken_by_rules : (tx : Transaction) → broken_rules tx ≡ map (first_of tx) all_rules
+pub broken_by_rules : (tx : Transaction) → broken_rules tx ≡ map (with_first tx) all_rules
 broken_by_rules tx =
-    both (by_asks_at tx (breaks_not_an_attribute tx.db))
-    (both (by_asks_at tx (breaks_protected_attribute tx.db))
-    (both (by_asks_at tx (breaks_wrong_type tx.db))
-    (both (by_asks_at tx (breaks_not_unique_lookup tx.db))
-    (both (by_asks_at tx (breaks_not_an_entity tx.db))
-    (both (by_asks_at tx (breaks_nested_without_id tx.db))
-    (both (by_asks_at tx (breaks_tempid_conflict tx.db (joined tx.asks)))
-    (both (by_asks_at tx (breaks_tempid_not_an_entity (joined tx.asks)))
+    here _ _ _ (by_asks_at tx (breaks_not_an_attribute tx.db))
+    (here _ _ _ (by_asks_at tx (breaks_protected_attribute tx.db))
+    (here _ _ _ (by_asks_at tx (breaks_wrong_type tx.db))
+    (here _ _ _ (by_asks_at tx (breaks_not_unique_lookup tx.db))
+    (here _ _ _ (by_asks_at tx (breaks_not_an_entity tx.db))
+    (here _ _ _ (by_asks_at tx (breaks_nested_without_id tx.db))
+    (here _ _ _ (by_asks_at tx (breaks_tempid_conflict tx.db (joined tx.asks)))
+    (here _ _ _ (by_asks_at tx (breaks_tempid_not_an_entity (joined tx.asks)))
     refl)))))))

@@ -4,6 +4,5 @@ pub mod Kinds
 pub mod Lists
 pub mod Pairs
 pub mod Read
-pub mod Refusals
 pub mod Rules
 pub mod Transactions

@@ -1,5 +1,5 @@
 -- The rules by name: which form is the first to break each, and how.
--- This project's own choice; the rules are those of the definitions, in their order from 2 to 18.
+-- This project's own choice; the rules are those of the definitions, in their order.
 use Rattle.std.specs.Prelude.{ℕ, Bool, false, ◌||◌, List, [], ◌∷◌, Option}
 use Rattle.std.specs.Option.{option_map_or}
 use Rattle.std.specs.List.{list_any}
@@ -8,11 +8,11 @@ use Rattle.tx_model.specs.NameRules as names
 use Rattle.tx_model.specs.ChangeRules as changes
 use Rattle.tx_model.specs.Transaction.{Transaction, joined}
 use Rattle.tx_model.specs.Step.{by_place, by_whole}
-use Rattle.tx_plain.specs.declared.rules.Rule.{Rule}
-use Rattle.tx_plain.specs.declared.rules.Rule.TheVariants.{NotAnAttribute, ProtectedAttribute, WrongType, NotUniqueLookup, NotAnEntity, NestedWithoutId, TempidConflict, TempidNotAnEntity, CasMany, CasFailed, DatomsConflict, UniqueConflict, IncompleteAttribute, AttributeFixed, TooLarge, Full, AlterationConflict}
+use Rattle.tx_refusals.specs.declared.reasons.Reason.{Reason}
+use Rattle.tx_refusals.specs.declared.reasons.Reason.TheVariants.{NotAnAttribute, ProtectedAttribute, WrongType, NotUniqueLookup, NotAnEntity, NestedWithoutId, TempidConflict, TempidNotAnEntity, CasMany, CasFailed, DatomsConflict, UniqueConflict, IncompleteAttribute, AttributeFixed, TooLarge, Full, AlterationConflict}
 
 -- the ask breaks the rule, of those that are judged by asks; `all` are those of the whole transaction
-abbrev pub ask_breaks : Rule → Transaction → List Ask → Ask → Bool
+abbrev pub ask_breaks : Reason → Transaction → List Ask → Ask → Bool
 ask_breaks NotAnAttribute tx all = names.names_no_attribute tx.db.facts
 ask_breaks ProtectedAttribute tx all =
     λ ask. option_map_or (names.is_protected tx.db.facts) (attribute_of_ask ask) false || names.adds_reserved_ident tx.db.facts ask
@@ -29,7 +29,7 @@ ask_breaks CasFailed tx all = changes.compares_another tx
 ask_breaks rule tx all = λ ask. false
 
 -- the form at the place breaks the rule
-abbrev pub breaks_at : Rule → Transaction → ℕ → Bool
+abbrev pub breaks_at : Reason → Transaction → ℕ → Bool
 breaks_at DatomsConflict tx = changes.breaks_datoms_conflict tx
 breaks_at UniqueConflict tx = changes.breaks_unique_conflict tx
 breaks_at IncompleteAttribute tx = changes.breaks_incomplete_attribute tx
@@ -40,13 +40,17 @@ breaks_at Full tx = λ place. changes.breaks_full tx
 breaks_at rule tx = λ place. list_any (ask_breaks rule tx (joined tx.asks)) (changes.at tx.asks place)
 
 -- the first form that breaks the rule: what is said of a transaction as a whole is said at its first one
-abbrev pub first_of : Transaction → Rule → Option ℕ
+abbrev pub first_of : Transaction → Reason → Option ℕ
 first_of tx TooLarge = by_whole (changes.breaks_too_large tx)
 first_of tx Full = by_whole (changes.breaks_full tx)
 first_of tx rule = by_place tx (breaks_at rule tx)
 
--- the rules from number 2 on
-abbrev pub all_rules : List Rule
+-- with the rule itself
+abbrev pub with_first : Transaction → Reason → Reason × Option ℕ
+with_first tx rule = (rule, first_of tx rule)
+
+-- the rules on forms that have a shape
+abbrev pub all_rules : List Reason
 all_rules =
     NotAnAttribute ∷ ProtectedAttribute ∷ WrongType ∷ NotUniqueLookup ∷ NotAnEntity ∷ NestedWithoutId ∷ TempidConflict
     ∷ TempidNotAnEntity ∷ CasMany ∷ CasFailed ∷ DatomsConflict ∷ UniqueConflict ∷ IncompleteAttribute ∷ AttributeFixed

@@ -67,7 +67,7 @@ fn asked(alloc: Global, tx: &Transaction, place: usize) -> Result<Vec<Datom>, Me
     Ok(list)
 }
 
-// ---- 10
+// ---- cas of many
 
 fn is_many(tx: &Transaction, k: &Text) -> bool
     ensures { result ≡ option_map_or (λ a. a.many) (schema.attribute_named tx.now.db.facts k.now) false }
@@ -87,7 +87,7 @@ pub fn compares_many(tx: &Transaction, ask: &Ask) -> bool
     }
 }
 
-// ---- 11
+// ---- cas failed
 
 fn old_value_in(
     tx: &Transaction,
@@ -153,7 +153,7 @@ pub fn compares_another(tx: &Transaction, ask: &Ask) -> Result<bool, Memory>
     Ok(!is_present(tx, e, old, &attribute)?)
 }
 
-// ---- 12
+// ---- datoms conflict
 
 fn is_asked_in(datoms: &[Datom], d: &Datom) -> bool
     ensures { result ≡ model.is_asked_in datoms.now d.now }
@@ -187,7 +187,7 @@ fn conflicts(alloc: Global, tx: &Transaction, d: &Datom) -> Result<bool, Memory>
     Ok(is_asked_in(&added, d) && (is_beside_another || is_asked_in(&retracted, d)))
 }
 
-// ---- 13
+// ---- unique conflict
 
 /// Whether no other entity has the datom's value of its attribute.
 fn has_no_other_holder(facts: &[Datom], d: &Datom) -> bool
@@ -207,7 +207,7 @@ fn shares_a_unique_value(tx: &Transaction, d: &Datom) -> bool
     is_unique(tx.db.facts(), d.a) && !has_no_other_holder(&tx.after, d)
 }
 
-// ---- 14
+// ---- incomplete attribute
 
 fn describes(d: &Datom) -> bool
     ensures { result ≡ model.describes d.now }
@@ -239,7 +239,7 @@ fn is_alteration(d: &Datom) -> bool
     d.a == 3 || d.a == 4 || d.a == 6
 }
 
-// ---- 15
+// ---- attribute fixed
 
 fn is_forbidden(facts: &[Datom], d: &Datom) -> bool
     ensures { result ≡ laws.is_forbidden facts.now d.now }
@@ -249,7 +249,7 @@ fn is_forbidden(facts: &[Datom], d: &Datom) -> bool
         || (d.a == 8 && !d.added)
 }
 
-// ---- 16
+// ---- too large
 
 fn value_size(v: &Value) -> u128
     ensures value { result ≡ size.value_size v.now }
@@ -290,7 +290,7 @@ pub fn breaks_too_large(tx: &Transaction) -> bool
     tx.changes.len() + 1 > MOST_DATOMS || is_larger(&tx.changes, MOST_BYTES - 26)
 }
 
-// ---- 17
+// ---- full
 
 pub fn breaks_full(tx: &Transaction) -> bool
     ensures { result ≡ model.breaks_full (transaction_of tx.now) }
@@ -301,7 +301,7 @@ pub fn breaks_full(tx: &Transaction) -> bool
         || last_instant(tx.db.history()) >= GREATEST_INSTANT
 }
 
-// ---- 18
+// ---- alteration conflict
 
 fn count_values(facts: &[Datom], e: u64, a: u64) -> usize
     ensures { result ≡ length (values_of facts.now e a) }

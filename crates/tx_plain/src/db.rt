@@ -1,7 +1,7 @@
 //! The database before a transaction: a history with its facts.
-ghost use Rattle.std.specs.Prelude.{◌≡◌, ◌≤◌, ◌+◌, ◌^◌, IfOk};
-ghost use Rattle.fb_model.specs.Numbers.{greatest_t};
+ghost use Rattle.std.specs.Prelude.{◌≡◌, ◌≤◌, ◌<◌, ◌+◌, ◌^◌, IfOk};
 ghost use Rattle.fb_model.specs.History.{basis as model_basis, users_issued as model_users_issued, said as model_said};
+ghost use Rattle.fb_model.specs.Lawful.{IsLawful};
 ghost use Rattle.tx_model.specs.Tempids.{db_of};
 
 use fb_memory::Memory;
@@ -9,6 +9,7 @@ use fb_plain::{basis, said, standing, users_issued};
 use fb_values::{Datom, Entry};
 use std::alloc::Global;
 use std::marker::Model;
+use tx_model::lawful_histories_are_small;
 
 /// A history, and what is read from it once.
 #[derive(Drop)]
@@ -43,12 +44,12 @@ fn copy_entries(alloc: Global, entries: &[Entry]) -> Result<Vec<Entry>, Memory>
 }
 
 impl Db {
-    /// The database of a history that has room for one more transaction and its entities.
+    /// The database of a lawful history.
     pub fn of(alloc: Global, entries: &[Entry]) -> Result<Db, Memory>
-        requires has_a_next { model_basis entries.now ≤ greatest_t }
-        requires has_room { model_users_issued entries.now ≤ 2 ^ 40 }
+        requires { IsLawful entries.now }
         ensures { IfOk result (λ db. db ≡ db_of entries.now) }
     {
+        lawful_histories_are_small();
         let copy = copy_entries(alloc, entries)?;
         let said = said(alloc, entries)?;
         let facts = standing(alloc, &said)?;
@@ -91,7 +92,7 @@ impl Db {
     /// The greatest user number in use.
     pub fn users(&self) -> u64
         ensures value { result ≡ model_users_issued self.now.history }
-        ensures bound { result ≤ 2 ^ 40 }
+        ensures bound { result < 2 ^ 47 }
     {
         self.users
     }

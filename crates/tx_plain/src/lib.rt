@@ -7,6 +7,7 @@ mod change_rules;
 mod changes;
 mod components;
 mod db;
+mod lookups;
 mod name_rules;
 mod rules;
 mod tempids;
@@ -14,6 +15,6 @@ mod transaction;
 
 pub use db::Db;
 pub use fb_memory::Memory;
-pub use rules::{Refusal, least_refusal};
+pub use rules::least_refusal;
 pub use tempids::{assigned, entity_of, found, named_tempids};
 pub use transaction::{Transaction, recorded, transaction_at};

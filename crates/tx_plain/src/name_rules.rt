@@ -11,10 +11,11 @@ ghost use Rattle.tx_plain.specs.Faults.{has_fault};
 
 use crate::attributes::TX_INSTANT;
 use crate::db::Db;
+use crate::lookups::{LookupFault, has_faulty_lookup, is_unknown};
 use crate::tempids::{found, holders, identified};
 use ask_plain::{
-    Ask, Name, Part, TYPE_REF, attribute_of_ask, is_reserved, is_same_tempid, is_tempid,
-    lookup_value_in, names_of, value_in,
+    Ask, Name, Part, TYPE_REF, attribute_of_ask, is_reserved, is_same_tempid, is_tempid, names_of,
+    value_in,
 };
 use edn_form::Edn;
 use fb_memory::Memory;
@@ -25,53 +26,10 @@ use std::alloc::Global;
 /// What may be wrong with a name.
 #[derive(Clone, Copy)]
 pub enum NameFault {
-    /// A lookup ref of no attribute.
-    UnknownLookup,
-    /// A lookup ref of no value of its attribute.
-    WrongLookup,
-    /// A lookup ref of an attribute that is not unique.
-    OtherLookup,
+    /// A lookup ref in it.
+    Lookup(LookupFault),
     /// No entity has the name.
     FindsNone,
-}
-
-fn is_unknown(db: &Db, k: &Text) -> bool
-    ensures { result ≡ model.is_unknown db.now.facts k.now }
-{
-    attribute_named(db.facts(), k.as_str()).is_none()
-}
-
-fn has_unknown_lookup(db: &Db, name: &Name) -> bool
-    ensures { result ≡ model.has_unknown_lookup db.now.facts (name_of name.now) }
-{
-    match name {
-        Name::Lookup(k, _) => is_unknown(db, k),
-        _ => false,
-    }
-}
-
-fn has_wrong_lookup(db: &Db, name: &Name) -> Result<bool, Memory>
-    ensures { IfOk result (λ b. b ≡ model.has_wrong_lookup db.now.facts (name_of name.now)) }
-{
-    let Name::Lookup(k, value) = name else {
-        return Ok(false);
-    };
-    let Some(attribute) = attribute_named(db.facts(), k.as_str()) else {
-        return Ok(false);
-    };
-    Ok(lookup_value_in(attribute.kind, value)?.is_none())
-}
-
-fn has_other_lookup(db: &Db, name: &Name) -> bool
-    ensures { result ≡ model.has_other_lookup db.now.facts (name_of name.now) }
-{
-    let Name::Lookup(k, _) = name else {
-        return false;
-    };
-    match attribute_named(db.facts(), k.as_str()) {
-        Some(attribute) => attribute.uniqueness == 0,
-        None => false,
-    }
 }
 
 fn finds_none(db: &Db, name: &Name) -> Result<bool, Memory>
@@ -88,9 +46,7 @@ fn is_faulty(fault: NameFault, db: &Db, name: &Name) -> Result<bool, Memory>
     ensures { IfOk result (λ b. b ≡ has_fault fault db.now (name_of name.now)) }
 {
     match fault {
-        NameFault::UnknownLookup => Ok(has_unknown_lookup(db, name)),
-        NameFault::WrongLookup => has_wrong_lookup(db, name),
-        NameFault::OtherLookup => Ok(has_other_lookup(db, name)),
+        NameFault::Lookup(fault) => has_faulty_lookup(fault, db, name),
         NameFault::FindsNone => finds_none(db, name),
     }
 }
@@ -108,16 +64,16 @@ pub fn names_with_fault(alloc: Global, fault: NameFault, db: &Db, ask: &Ask) -> 
     Ok(false)
 }
 
-// ---- 2
+// ---- not an attribute
 
 pub fn names_no_attribute(alloc: Global, db: &Db, ask: &Ask) -> Result<bool, Memory>
     ensures { IfOk result (λ b. b ≡ model.names_no_attribute db.now.facts (ask_of ask.now)) }
 {
     let lacks_one = attribute_of_ask(ask).is_some_and(|k| is_unknown(db, k));
-    Ok(lacks_one || names_with_fault(alloc, NameFault::UnknownLookup, db, ask)?)
+    Ok(lacks_one || names_with_fault(alloc, NameFault::Lookup(LookupFault::Unknown), db, ask)?)
 }
 
-// ---- 3
+// ---- protected attribute
 
 fn is_protected(db: &Db, k: &Text) -> bool
     ensures { result ≡ model.is_protected db.now.facts k.now }
@@ -171,7 +127,7 @@ pub fn is_of_protected(db: &Db, ask: &Ask) -> bool
     attribute_of_ask(ask).is_some_and(|k| is_protected(db, k)) || adds_reserved_ident(db, ask)
 }
 
-// ---- 4
+// ---- wrong type
 
 fn is_wrong_part(attribute: &Attribute<'_>, part: &Part) -> Result<bool, Memory>
     ensures { IfOk result (λ b. b ≡ model.is_wrong_part (attribute_in attribute.now) (part_of part.now)) }
@@ -228,10 +184,13 @@ fn has_wrong_value(db: &Db, ask: &Ask) -> Result<bool, Memory>
 pub fn has_wrong_type(alloc: Global, db: &Db, ask: &Ask) -> Result<bool, Memory>
     ensures { IfOk result (λ b. b ≡ (option_map_or (model.has_wrong_part (ask_of ask.now)) (model.attribute_in db.now.facts (ask_of ask.now)) false || list_any (model.has_wrong_lookup db.now.facts) (asks.names_of (ask_of ask.now)))) }
 {
-    Ok(has_wrong_value(db, ask)? || names_with_fault(alloc, NameFault::WrongLookup, db, ask)?)
+    Ok(
+        has_wrong_value(db, ask)?
+            || names_with_fault(alloc, NameFault::Lookup(LookupFault::Wrong), db, ask)?,
+    )
 }
 
-// ---- 7
+// ---- nested without an id
 
 pub fn is_lacking(ask: &Ask) -> bool
     ensures { result ≡ model.is_lacking (ask_of ask.now) }
@@ -242,7 +201,7 @@ pub fn is_lacking(ask: &Ask) -> bool
     }
 }
 
-// ---- 8
+// ---- tempid conflict
 
 fn has_another(es: &[u64], e: u64) -> bool
     ensures { result ≡ list_any (λ other. not (nat_eq other e)) es.now }
@@ -259,6 +218,9 @@ fn gives_one_of_two(
 ) -> Result<bool, Memory>
     ensures { IfOk result (λ b. b ≡ model.gives_one_of_two db.now (asks_of all.now) (ask_of ask.now) (name_of name.now)) }
 {
+    if !is_tempid(name) {
+        return Ok(false);
+    }
     let Some(e) = identified(db, name, ask)? else {
         return Ok(false);
     };
@@ -278,7 +240,7 @@ pub fn has_tempid_of_two(alloc: Global, db: &Db, all: &[Ask], ask: &Ask) -> Resu
     Ok(false)
 }
 
-// ---- 9
+// ---- tempid of no entity
 
 fn adds_to(name: &Name, ask: &Ask) -> bool
     ensures { result ≡ model.adds_to (name_of name.now) (ask_of ask.now) }

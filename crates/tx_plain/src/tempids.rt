@@ -1,18 +1,16 @@
 //! Names of entities in a transaction, and the entities that tempids stand for.
-ghost use Rattle.std.specs.Prelude.{◌≡◌, ◌++◌, ◌<◌, ◌^◌, pos, flat_map, [], ◌∷◌, IfOk};
+ghost use Rattle.std.specs.Prelude.{◌≡◌, ◌++◌, ◌<◌, ◌≤◌, ◌^◌, pos, flat_map, length, [], ◌∷◌, IfOk};
 ghost use Rattle.tx_model.specs.Asks as model_asks;
 ghost use Rattle.tx_model.specs.Tempids as model;
 ghost use Rattle.ask_plain.specs.Asked.{name_of, names_of as names_in, part_of, ask_of, asks_of};
 ghost use Rattle.fb_plain.specs.Attributes.{attribute_in};
 ghost use Rattle.edn_form.specs.View.{form_of};
 ghost use Rattle.fb_model.specs.History.{users_issued};
-ghost use Rattle.tx_plain.specs.Pairs.{pairs_of, entity_for, next_after};
+ghost use Rattle.tx_plain.specs.Pairs.{pairs_of, entity_for, next_after, place_of_text};
 
 use crate::attributes::is_identity;
 use crate::db::Db;
-use ask_plain::{
-    Ask, Name, OWN_TEMPID, Part, is_same_tempid, is_tempid, lookup_value_in, names_of, value_in,
-};
+use ask_plain::{Ask, Name, OWN_TEMPID, Part, is_same_tempid, is_tempid, names_of, value_in};
 use edn_form::Edn;
 use fb_memory::Memory;
 use fb_plain::{Attribute, TRANSACTIONS, USER_ENTITIES, attribute_named, holder, is_issued, named};
@@ -41,7 +39,7 @@ fn looked_up(db: &Db, k: &Text, value: &Edn) -> Result<Option<u64>, Memory>
     let Some(attribute) = attribute_named(db.facts(), k.as_str()) else {
         return Ok(None);
     };
-    let Some(v) = lookup_value_in(attribute.kind, value)? else {
+    let Some(v) = value_in(attribute.kind, value)? else {
         return Ok(None);
     };
     Ok(holder(db.facts(), attribute.id, &v))
@@ -239,9 +237,11 @@ pub fn entity_of(db: &Db, pairs: &[(Name, u64)], name: &Name) -> Result<Option<u
     }
 }
 
-/// The tempids with a name, for the answer.
-pub fn named_tempids(alloc: Global, pairs: &[(Name, u64)]) -> Result<Vec<(Text, u64)>, Memory>
-    ensures { IfOk result (λ list. list.items ≡ model.named_tempids (pairs_of pairs.now)) }
+// ---- what is told of them
+
+/// The tempids with a name, in the order in which they are met.
+fn with_texts(alloc: Global, pairs: &[(Name, u64)]) -> Result<Vec<(Text, u64)>, Memory>
+    ensures { IfOk result (λ list. list.items ≡ model.with_texts (pairs_of pairs.now)) }
 {
     let mut list = Vec::new(alloc);
     for (name, e) in pairs {
@@ -250,4 +250,47 @@ pub fn named_tempids(alloc: Global, pairs: &[(Name, u64)]) -> Result<Vec<(Text, 
         }
     }
     Ok(list)
+}
+
+/// The place of the first text that is not less.
+fn place_by_text(list: &[(Text, u64)], text: &Text) -> usize
+    ensures within { result ≤ length list.now }
+    ensures place { result ≡ place_of_text text.now list.now }
+{
+    let mut place = 0;
+    for (other, _) in list {
+        if !other.as_str().cmp(text.as_str()).is_lt() {
+            return place;
+        }
+        place += 1;
+    }
+    place
+}
+
+#[tactic(auto, using(crate::proofs::ByText::put_at_place))]
+fn put_by_text(list: &mut Vec<(Text, u64)>, text: Text, e: u64) -> Result<(), Memory>
+    ensures { IfOk result (λ _. list.new.items ≡ model.put_by_text (text, e) list.old.items) }
+{
+    let place = place_by_text(list, &text);
+    list.insert(place, (text, e))?;
+    Ok(())
+}
+
+#[tactic(auto, using(crate::proofs::ByText::put_all_in_none, crate::proofs::ByText::put_last))]
+fn by_text(alloc: Global, named: Vec<(Text, u64)>) -> Result<Vec<(Text, u64)>, Memory>
+    ensures { IfOk result (λ list. list.items ≡ model.by_text named.items) }
+{
+    let mut rest = named;
+    let mut list = Vec::new(alloc);
+    while let Some((text, e)) = rest.pop() {
+        put_by_text(&mut list, text, e)?;
+    }
+    Ok(list)
+}
+
+/// The tempids with a name by the bytes of their texts, for the answer.
+pub fn named_tempids(alloc: Global, pairs: &[(Name, u64)]) -> Result<Vec<(Text, u64)>, Memory>
+    ensures { IfOk result (λ list. list.items ≡ model.named_tempids (pairs_of pairs.now)) }
+{
+    by_text(alloc, with_texts(alloc, pairs)?)
 }

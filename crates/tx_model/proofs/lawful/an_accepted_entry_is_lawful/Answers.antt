@@ -1,6 +1,5 @@
 -- By the lemmas on steps and on what they record.
-use Rattle.std.proofs.Common.{sym, subst, ◌≡◌}
-use Rattle.fb_model.specs.History.{next_instant}
+use Rattle.std.proofs.Common.{sym, subst}
 use Rattle.fb_model.specs.Lawful.{IsLawfulAfter}
 use Rattle.tx_model.proofs.Steps.{accepted_at}
 use Rattle.tx_model.proofs.StepLaws.{step-lawful}

@@ -1,7 +1,6 @@
-use Rattle.std.proofs.Common.{◌≡◌, option_map, subst, sym}
+use Rattle.std.proofs.Common.{◌≡◌, subst, sym}
 use Rattle.std.specs.Prelude.{IfOk}
 use Rattle.tx_model.specs.Step.{first_refusal}
-use Rattle.tx_plain.specs.Refusals.{refusal_of}
 use Rattle.tx_plain.specs.Transactions.{transaction_of}
 use Rattle.tx_plain.proofs.Broken.{broken_by_rules}
 use Rattle.tx_plain.proofs.rules.least_refusal.Goals as goal
@@ -9,4 +8,4 @@ use Rattle.tx_plain.proofs.rules.least_refusal.Goals as goal
 pub returns : goal.returns
 returns c =
     let tx = transaction_of c.args.tx.now in
-    subst (λ rules. IfOk c.least_of.result (λ refusal. option_map refusal_of refusal ≡ first_refusal 2 rules)) (sym (broken_by_rules tx)) c.least_of.ensures
+    subst (λ rules. IfOk c.least_of.result (λ refusal. refusal ≡ first_refusal rules)) (sym (broken_by_rules tx)) c.least_of.ensures

@@ -21,7 +21,7 @@ loop-name-preserved c =
     let pair_is : pairs_of c.push_next.new.pairs.items ≡ before ++ (name_of name, entity_for n c.deref.result.now) ∷ [] = c.in_ok-n.ensures.pair in
     let first : drop i names ≡ name ∷ drop (i + 1) names = drop_first names i name c.loop-name-test.true c.name-item.is in
     let below : next_after n c.deref.result.now ≤ n + 1 = next_bound n c.deref.result.now in
-    let so_far : n ≤ 1099511627776 + i = c.loop-name.invariant.0 in (
+    let so_far : n ≤ 140737488355328 + i = c.loop-name.invariant.0 in (
       omega (arith, next_is, below, so_far),
       ap (λ pairs. pairs ++ number_from db asks rest c.in_ok-n.n) pair_is
           ∙ ap (λ next. (before ++ (name_of name, entity_for n c.deref.result.now) ∷ []) ++ number_from db asks rest next) next_is

@@ -6,4 +6,4 @@ use Rattle.ask_plain.specs.Asked.{name_of, names_of, asks_of}
 use Rattle.tx_plain.proofs.tempids.numbered_from.Given as goal
 
 abbrev pub invariant-loop-name : goal.invariant-loop-name
-invariant-loop-name l = (l.n ≤ 2 ^ 40 + l.name-index) × (pairs_of l.pairs.items ++ number_from l.db (asks_of l.asks) (names_of (drop l.name-index l.names)) l.n ≡ number_from l.db (asks_of l.asks) (names_of l.names) (users_issued l.db.history))
+invariant-loop-name l = (l.n ≤ 2 ^ 47 + l.name-index) × (pairs_of l.pairs.items ++ number_from l.db (asks_of l.asks) (names_of (drop l.name-index l.names)) l.n ≡ number_from l.db (asks_of l.asks) (names_of l.names) (users_issued l.db.history))
