@@ -67,8 +67,8 @@ fn what_two_seats_read_is_how_the_closed_book_begins(rt: HostRuntime) -> Result<
         second,
     } = two_readings(rt.alloc(), &rt, 7)?;
     assert_eq!(rt; book.serial, 7);
-    assert_eq!(rt; first.entries.as_slice(), &[0, 1]);
-    assert_eq!(rt; second.entries.as_slice(), &[0, 1, 2]);
-    assert_eq!(rt; book.entries.as_slice(), &[0, 1, 2]);
+    assert_eq!(rt; first.entries.as_slice(), [0, 1].as_slice());
+    assert_eq!(rt; second.entries.as_slice(), [0, 1, 2].as_slice());
+    assert_eq!(rt; book.entries.as_slice(), [0, 1, 2].as_slice());
     Ok(())
 }
