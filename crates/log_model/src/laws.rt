@@ -9,10 +9,11 @@ ghost use Rattle.log_model.specs.Payload.{written_format, entry_bytes, entry_byt
 ghost use Rattle.log_model.specs.Storable.{is_storable_value, IsStorable, IsPayloadOf};
 ghost use Rattle.log_model.specs.Log.{LogStands, LogSays, log_says, stands_for, IsLogOf, FileSays};
 
-/// A storable entry's bytes say that entry, and so does a payload in the older format; a value's bytes say the value,
-/// whatever stands behind them.
+/// A storable entry's bytes say that entry, and so does a payload in the older format, whose entry is storable in the written
+/// one too; a value's bytes say the value, whatever stands behind them.
 pub fn an_entry_is_read_back()
     ensures written { (entry : Entry) → IsStorable entry → payload_says (entry_bytes entry) ≡ holds entry }
+    ensures storable { (entry : Entry) (payload : List ℕ) → IsPayloadOf entry payload → IsStorable entry }
     ensures either_format { (entry : Entry) (payload : List ℕ) → IsPayloadOf entry payload → payload_says payload ≡ holds entry }
     ensures value { (format : ℕ) (v : Value) (rest : List ℕ) → IsTrue (is_storable_value format v) → read_value format (value_bytes v ++ rest) ≡ found v rest }
 {}

@@ -16,6 +16,7 @@ pub use laws::{
     an_entrys_size_is_that_of_its_bytes, what_a_log_says,
 };
 pub use merges::{
-    a_merge_record_is_read_back, bad_merge_records, merge_records, more_records_keep_the_roots,
-    one_root_is_the_newest_that_agrees, roots_of_a_file,
+    a_file_keeps_one_list_of_roots, a_merge_record_is_read_back, bad_merge_records, merge_records,
+    more_records_keep_the_roots, one_root_is_the_newest_that_agrees, roots_of_a_file,
+    roots_that_agree_with_nothing,
 };
