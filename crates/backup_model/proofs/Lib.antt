@@ -1,2 +1,3 @@
 pub mod CopiedLogs
 pub mod Plans
+pub mod Existence

@@ -11,9 +11,10 @@ ghost use Rattle.log_model.specs.Nodes.{MergeRecord, record_bytes_in};
 ghost use Rattle.log_model.specs.Kept.{KeptRoot, kept_roots, Agrees, IsCoverage};
 ghost use Rattle.backup_model.specs.Backup.{Plan, BackupSays, with_entries, IsCopyOf};
 
-/// A backup of a history to a target has one plan at most.
+/// A backup of a history to a target has one plan.
 pub fn a_backup_has_one_plan()
-    ensures { (file : List ℕ) (h : List Entry) (plan other : Plan) → BackupSays file h plan → BackupSays file h other → plan ≡ other }
+    ensures some { (file : List ℕ) (h : List Entry) → All (λ byte. byte < 256) file → All IsStorable (drop 1 h) → (plan : Plan) × BackupSays file h plan }
+    ensures one { (file : List ℕ) (h : List Entry) (plan other : Plan) → BackupSays file h plan → BackupSays file h other → plan ≡ other }
 {}
 
 /// With all that it lacks behind its records, a target stands for the history.

@@ -1,19 +1,19 @@
 -- Entries that are read where they were written, and the other way round.
 use Rattle.std.proofs.Common.{◌≡◌, ◌-◌, ◌≤◌, ℕ, ℤ, true, List, [], ◌∷◌, ◌++◌, length, get_or, refl, sym, ◌∙◌, ap, subst, arith, append_assoc}
-use Rattle.std.specs.Prelude.{◌&&◌, nat_eq, flat_map}
+use Rattle.std.specs.Prelude.{◌&&◌, nat_eq, nat_le, flat_map}
 use Rattle.std.specs.List.{list_all}
-use Rattle.std.proofs.lemmas.Bool.{and_parts, and_from, eqb-true, eq-eqb}
+use Rattle.std.proofs.lemmas.Bool.{and_parts, and_from, le-leb, leb-true, eqb-true, eq-eqb}
 use Rattle.std.proofs.lemmas.List.{append-nil}
 use Rattle.fb_values.specs.declared.facts.Datom.{Datom}
 use Rattle.fb_values.specs.declared.facts.Entry.{Entry}
 use Rattle.fb_values.specs.declared.facts.Value.{Value}
 use Rattle.log_model.specs.Fields.{Reading, found, misfit, and_then, that_fits, several, at_end, read_u8, read_u32, u32_bytes, read_u64, u64_bytes, read_i64, i64_bytes, read_truth, truth_bytes}
-use Rattle.log_model.specs.Values.{value_bytes, is_format, read_value}
+use Rattle.log_model.specs.Values.{value_bytes, is_format, read_value, tag_of, last_tag, is_tag}
 use Rattle.log_model.specs.Payload.{datom_bytes, entry_bytes_in, written_format, entry_bytes, read_datom, read_fields, read_entry, Says, holds, breaks_at, said_by, payload_says}
-use Rattle.log_model.specs.Storable.{is_u32, is_u64, is_i64, is_storable_value, is_storable_datom, is_storable_in, IsPayloadOf}
+use Rattle.log_model.specs.Storable.{is_u32, is_u64, is_i64, is_storable_content, is_storable_value, is_storable_datom, is_storable_in, IsPayloadOf}
 use Rattle.log_model.proofs.Numbers.{AreBytes}
 use Rattle.log_model.proofs.Fields.{AreBytes-behind, Reads, Reads-then, Reads-that_fits, Reads-u8, Reads-u32, Reads-u64, Reads-i64, Reads-truth, Reads-several, IsFound, Wrote, then-found, fits-found, Wrote-u8, Wrote-u32, Wrote-u64, Wrote-i64, Wrote-truth, several-found}
-use Rattle.log_model.proofs.Values.{Reads-value, Wrote-value}
+use Rattle.log_model.proofs.Values.{Reads-value, Wrote-value, last_tag_is}
 
 -- four fields, one behind another
 pub in_a_row : (a b c d : List ℕ) → a ++ b ++ c ++ d ≡ a ++ (b ++ (c ++ d))
@@ -223,3 +223,36 @@ pub written-entry_bytes : (entry : Entry) (fields : List ℕ) → IsPayloadOf en
 written-entry_bytes entry fields is =
     let written : written_format ≡ is.format = ap (λ l. get_or l 0 0) is.bytes in
     is.bytes ∙ ap (λ format. entry_bytes_in format entry) (sym written)
+
+-- ---- what is storable in either format is so in the written one
+
+written_value : (format : ℕ) (v : Value) → is_storable_value format v ≡ true → is_storable_value written_format v ≡ true
+written_value format v fits =
+    let parts = and_parts (is_tag format (tag_of v)) (is_storable_content v) fits in
+    let bounds = and_parts (nat_le 1 (tag_of v)) (nat_le (tag_of v) (last_tag format)) parts.0 in
+    let high = leb-true (tag_of v) (last_tag format) bounds.1 in
+    and_from _ _ (and_from _ _ bounds.0 (le-leb (tag_of v) 9 (omega (arith, high, last_tag_is format)))) parts.1
+
+written_datom : (format t : ℕ) (d : Datom) → is_storable_datom format t d ≡ true → is_storable_datom written_format t d ≡ true
+written_datom format t d fits =
+    let from_2 = and_parts (is_u64 d.e && is_u64 d.a && is_storable_value format d.v) (nat_eq d.t t) fits in
+    let from_1 = and_parts (is_u64 d.e && is_u64 d.a) (is_storable_value format d.v) from_2.0 in
+    and_from _ _ (and_from _ _ from_1.0 (written_value format d.v from_1.1)) from_2.1
+
+written_datoms : (format t : ℕ) (ds : List Datom) → list_all (is_storable_datom format t) ds ≡ true → list_all (is_storable_datom written_format t) ds ≡ true
+written_datoms format t [] every = refl
+written_datoms format t (d ∷ ds) every =
+    let parts = and_parts (is_storable_datom format t d) (list_all (is_storable_datom format t) ds) every in
+    and_from _ _ (written_datom format t d parts.0) (written_datoms format t ds parts.1)
+
+pub written-storable : (format : ℕ) (entry : Entry) → is_storable_in format entry ≡ true → is_storable_in written_format entry ≡ true
+written-storable format entry fits =
+    let parts = and_parts (is_u32 entry.t && is_i64 entry.instant && is_u32 (length entry.datoms)) (list_all (is_storable_datom format entry.t) entry.datoms) fits in
+    and_from _ _ parts.0 (written_datoms format entry.t entry.datoms parts.1)
+
+-- storable entries with the same bytes are the same
+pub same_bytes-entry : (first second : Entry) → is_storable_in written_format first ≡ true → is_storable_in written_format second ≡ true → entry_bytes first ≡ entry_bytes second → first ≡ second
+same_bytes-entry first second one other same =
+    one_entry first second (entry_bytes first)
+    (record { format = written_format; format_is = refl; storable = one; bytes = refl })
+    (record { format = written_format; format_is = refl; storable = other; bytes = same })

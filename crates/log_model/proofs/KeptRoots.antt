@@ -1,12 +1,15 @@
 -- Kept roots of a longer file, and the newest that agrees.
-use Rattle.std.proofs.Common.{inl, inr, ◌≡◌, ◌≤◌, ℕ, List, [], ◌∷◌, ◌++◌, get_or, drop, refl, sym, ◌∙◌, ap, subst, arith}
-use Rattle.std.specs.Prelude.{Contains}
+use Rattle.std.proofs.Common.{inl, inr, ◌⊎◌, ◌≡◌, ◌<◌, ◌≤◌, ℕ, List, [], ◌∷◌, ◌++◌, get_or, drop, refl, sym, ◌∙◌, ap, subst, arith}
+use Rattle.std.specs.Prelude.{Contains, All}
 use Rattle.std.proofs.lemmas.List.Elements.{Contains-append_right}
 use Rattle.fb_values.specs.declared.facts.Entry.{Entry}
 use Rattle.fb_model.specs.History.{basis}
 use Rattle.log_model.specs.Nodes.{Nodes}
 use Rattle.log_model.specs.Merges.{MergeSays, merges, bad_from, record_says}
-use Rattle.log_model.specs.Kept.{KeptRoot, with_nodes, kept_root, kept_by, kept_behind, Agrees, NoneAgrees, IsNewestAgreeing, IsCoverage}
+use Rattle.disk_model.specs.Journal.{segments_mark, JournalStands, JournalBreaks}
+use Rattle.disk_model.proofs.Existence.{some-reading}
+use Rattle.disk_model.proofs.Readings.{one-stands, one-fault, not-both}
+use Rattle.log_model.specs.Kept.{kept_roots, FileKeeps, KeptRoot, with_nodes, kept_root, kept_by, kept_behind, Agrees, NoneAgrees, IsNewestAgreeing, IsCoverage}
 
 pub kept_behind-append : (nodes : Nodes) (records more : List (List ℕ)) → (behind : List KeptRoot) × (kept_behind nodes (records ++ more) ≡ kept_behind nodes records ++ behind)
 kept_behind-append nodes [] more = (kept_behind nodes more, refl)
@@ -54,3 +57,26 @@ module _ (h : List Entry) where
   pub coverage-within : (kept : List KeptRoot) (c : ℕ) → IsCoverage h kept c → c ≤ basis h
   coverage-within kept c (inl newest) = subst (λ n. n ≤ basis h) (sym newest.2) newest.1.agrees.bound
   coverage-within kept c (inr none) = omega (arith, none.1)
+
+pub nothing-kept : (h : List Entry) → IsCoverage h [] 0
+nothing-kept h = inr ((λ root has agrees. absurd (omega (arith, has.1))), refl)
+
+pub above-the-basis : (h : List Entry) (root : KeptRoot) → basis h < root.c → Agrees h root → ⊥
+above-the-basis h root above agrees = omega (arith, above, agrees.bound)
+
+-- ---- a file
+
+abbrev Reading : List (List ℕ) → List ℕ → Type 0
+Reading records file = JournalStands segments_mark records file ⊎ ((nth : ℕ) × (at : ℕ) × JournalBreaks segments_mark records file nth at)
+
+same_records : (file : List ℕ) (records more : List (List ℕ)) → Reading records file → Reading more file → records ≡ more
+same_records file records more (inl one) (inl other) = one-stands segments_mark records more file one other
+same_records file records more (inl one) (inr other) = absurd (not-both segments_mark records more file other.0 other.1 one other.2)
+same_records file records more (inr one) (inl other) = absurd (not-both segments_mark more records file one.0 one.1 other one.2)
+same_records file records more (inr one) (inr other) = (one-fault segments_mark records more file one.0 other.0 one.1 other.1 one.2 other.2).0
+
+pub one_keeping : (file : List ℕ) (kept other : List KeptRoot) → FileKeeps file kept → FileKeeps file other → kept ≡ other
+one_keeping file kept other (records, reading, is) (more, too, also) = is ∙ ap kept_roots (same_records file records more reading too) ∙ sym also
+
+pub some_keeping : (file : List ℕ) → All (λ byte. byte < 256) file → (kept : List KeptRoot) × FileKeeps file kept
+some_keeping file all = let reading = some-reading segments_mark file refl all in (kept_roots reading.0, (reading.0, reading.1, refl))

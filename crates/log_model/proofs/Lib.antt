@@ -1,3 +1,4 @@
+pub mod BigEndian
 pub mod Entries
 pub mod Fields
 pub mod KeptRoots

@@ -35,7 +35,7 @@ opened-AreRecords (payload ∷ records) rest are =
       opened-AreRecords records rest (AreBytes-behind (framed payload) (opened records ++ rest) behind),
     )
 
-stands-AreRecords : (records : List (List ℕ)) (file : List ℕ) → AreBytes file → JournalStands log_mark records file → AreRecords records
+pub stands-AreRecords : (records : List (List ℕ)) (file : List ℕ) → AreBytes file → JournalStands log_mark records file → AreRecords records
 stands-AreRecords records file are (inl short) = subst AreRecords (sym short.1) tt
 stands-AreRecords records file are (inr long) =
     let holds : Holds log_mark records file = long.1 in

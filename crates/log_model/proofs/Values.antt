@@ -103,7 +103,7 @@ module _ (bytes : List ℕ) (v : Value) (rest : List ℕ) (are : AreBytes bytes)
   content (suc (suc (suc (suc (suc (suc (suc (suc (suc zero))))))))) low high is = content_9 is
   content (suc (suc (suc (suc (suc (suc (suc (suc (suc (suc tag)))))))))) low high is = absurd (omega (arith, high))
 
-last_tag_is : (format : ℕ) → last_tag format ≤ 9
+pub last_tag_is : (format : ℕ) → last_tag format ≤ 9
 last_tag_is format = cond_both (nat_eq format 1) 7 9 (λ n. n ≤ 9) (λ e. omega arith) (λ e. omega arith)
 
 pub Wrote-value : (format : ℕ) → Wrote (read_value format) value_bytes (is_storable_value format)

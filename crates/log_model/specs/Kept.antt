@@ -3,6 +3,7 @@
 use Rattle.std.specs.Prelude.{◌≡◌, ◌⊎◌, ℕ, List, [], ◌∷◌, ◌++◌, filter, fold, flat_map, nat_eq, Contains}
 use Rattle.fb_values.specs.declared.facts.Datom.{Datom}
 use Rattle.fb_values.specs.declared.facts.Entry.{Entry}
+use Rattle.disk_model.specs.Journal.{segments_mark, JournalStands, JournalBreaks}
 use Rattle.view_model.specs.Stands.{Lists, RootStands}
 use Rattle.log_model.specs.Nodes.{Nodes, no_nodes, with_leaf, with_directory, MergeRecord}
 use Rattle.log_model.specs.Merges.{MergeSays, merges, bad_from, record_says}
@@ -70,3 +71,11 @@ pub record IsNewestAgreeing (h : List Entry) (kept : List KeptRoot) (root : Kept
 -- how far the trees go that the history is opened with: the newest root that agrees, or the first entry alone
 abbrev pub IsCoverage : List Entry → List KeptRoot → ℕ → Type 0
 IsCoverage h kept c = ((root : KeptRoot) × IsNewestAgreeing h kept root × (c ≡ root.c)) ⊎ (NoneAgrees h kept × (c ≡ 0))
+
+-- ---- a file
+
+-- The roots that a file keeps: those of its journal's records, up to the journal's first fault where it has one.
+abbrev pub FileKeeps : List ℕ → List KeptRoot → Type 0
+FileKeeps file kept =
+    (records : List (List ℕ)) × (JournalStands segments_mark records file ⊎ ((nth : ℕ) × (at : ℕ) × JournalBreaks segments_mark records file nth at))
+    × (kept ≡ kept_roots records)

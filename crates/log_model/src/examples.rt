@@ -4,6 +4,7 @@ ghost use Rattle.fb_values.specs.declared.facts.Value.TheVariants.{Keyword, Str,
 ghost use Rattle.fb_model.specs.FirstEntry.{first_entry};
 ghost use Rattle.fb_model.specs.Numbers.{transaction_of, user_entity, tx_instant, doc};
 ghost use Rattle.disk_model.specs.Journal.{log_mark, opened, JournalStands, JournalBreaks};
+ghost use Rattle.tx_model.specs.Size.{entry_size};
 ghost use Rattle.log_model.specs.Fields.{u32_bytes, u64_bytes, i64_bytes, truth_bytes};
 ghost use Rattle.log_model.specs.Values.{value_bytes, is_format};
 ghost use Rattle.log_model.specs.Payload.{datom_bytes, entry_bytes, entry_bytes_in, payload_says, holds, breaks_at};
@@ -15,6 +16,7 @@ ghost use Rattle.log_model.specs.Samples.{datom, entry_with, hi_entry, entry_hea
 pub fn first_payload()
     ensures bytes { length hi_log ≡ 92 }
     ensures log { hi_log ≡ log_mark ++ opened (entry_bytes hi_entry ∷ []) ++ 0 ∷ [] }
+    ensures size { entry_size hi_entry.datoms ≡ 67 }
     ensures format { take 1 hi_payload ≡ 2 ∷ [] }
     ensures t { take 4 (drop 1 hi_payload) ≡ u32_bytes 1 }
     ensures instant { take 8 (drop 5 hi_payload) ≡ i64_bytes (pos 1704067200000) }

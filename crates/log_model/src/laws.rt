@@ -1,18 +1,48 @@
 //! Laws about payloads and logs.
-ghost use Rattle.std.specs.Prelude.{◌≡◌, ◌≤◌, ◌<◌, ℕ, List, ◌∷◌, length, All, IsTrue, ◌++◌};
+ghost use Rattle.std.specs.Prelude.{◌≡◌, ◌≤◌, ◌<◌, ◌^◌, ℕ, ℤ, Bool, List, ◌∷◌, length, All, IsTrue, ◌++◌};
 ghost use Rattle.fb_values.specs.declared.facts.Entry.{Entry};
 ghost use Rattle.fb_values.specs.declared.facts.Value.{Value};
 ghost use Rattle.tx_model.specs.Size.{entry_size};
-ghost use Rattle.log_model.specs.Fields.{found};
+ghost use Rattle.std.specs.Int.{w32, w64, w128, from_be_bytes};
+ghost use Rattle.log_model.specs.Fields.{found, number_in, u32_bytes, read_u32, u64_bytes, read_u64, u128_bytes, read_u128, i64_bytes, read_i64, truth_bytes, read_truth, text_bytes, read_text};
 ghost use Rattle.log_model.specs.Values.{value_bytes, read_value};
 ghost use Rattle.log_model.specs.Payload.{written_format, entry_bytes, entry_bytes_in, payload_says, holds, breaks_at};
-ghost use Rattle.log_model.specs.Storable.{is_storable_value, IsStorable, IsPayloadOf};
+ghost use Rattle.log_model.specs.Storable.{is_i64, is_storable_text, is_storable_value, IsStorable, IsPayloadOf};
 ghost use Rattle.log_model.specs.Log.{LogStands, LogSays, log_says, stands_for, IsLogOf, FileSays};
 
-/// A storable entry's bytes say that entry, and so does a payload in the older format; a value's bytes say the value,
-/// whatever stands behind them.
+/// Numbers of four, eight and sixteen bytes are read with the highest byte first.
+pub fn numbers_are_big_endian()
+    ensures four { (bytes : List ℕ) → length bytes ≡ 4 → number_in bytes ≡ from_be_bytes w32 bytes }
+    ensures eight { (bytes : List ℕ) → length bytes ≡ 8 → number_in bytes ≡ from_be_bytes w64 bytes }
+    ensures sixteen { (bytes : List ℕ) → length bytes ≡ 16 → number_in bytes ≡ from_be_bytes w128 bytes }
+{}
+
+/// Fields are read back where they were written, whatever stands behind them.
+pub fn a_field_is_read_back()
+    ensures u32 { (n : ℕ) (rest : List ℕ) → n < 2 ^ 32 → read_u32 (u32_bytes n ++ rest) ≡ found n rest }
+    ensures u64 { (n : ℕ) (rest : List ℕ) → n < 2 ^ 64 → read_u64 (u64_bytes n ++ rest) ≡ found n rest }
+    ensures u128 { (n : ℕ) (rest : List ℕ) → n < 2 ^ 128 → read_u128 (u128_bytes n ++ rest) ≡ found n rest }
+    ensures i64 { (z : ℤ) (rest : List ℕ) → IsTrue (is_i64 z) → read_i64 (i64_bytes z ++ rest) ≡ found z rest }
+    ensures truth { (b : Bool) (rest : List ℕ) → read_truth (truth_bytes b ++ rest) ≡ found b rest }
+    ensures text { (test : List ℕ → Bool) (text rest : List ℕ) → IsTrue (is_storable_text test text) → read_text test (text_bytes text ++ rest) ≡ found text rest }
+{}
+
+/// What is read as a field was written as one: its bytes are those of what is found.
+pub fn a_field_is_its_bytes()
+    ensures u32 { (bytes rest : List ℕ) (n : ℕ) → All (λ byte. byte < 256) bytes → read_u32 bytes ≡ found n rest → bytes ≡ u32_bytes n ++ rest }
+    ensures u64 { (bytes rest : List ℕ) (n : ℕ) → All (λ byte. byte < 256) bytes → read_u64 bytes ≡ found n rest → bytes ≡ u64_bytes n ++ rest }
+    ensures u128 { (bytes rest : List ℕ) (n : ℕ) → All (λ byte. byte < 256) bytes → read_u128 bytes ≡ found n rest → bytes ≡ u128_bytes n ++ rest }
+    ensures i64 { (bytes rest : List ℕ) (z : ℤ) → All (λ byte. byte < 256) bytes → read_i64 bytes ≡ found z rest → bytes ≡ i64_bytes z ++ rest }
+    ensures truth { (bytes rest : List ℕ) (b : Bool) → All (λ byte. byte < 256) bytes → read_truth bytes ≡ found b rest → bytes ≡ truth_bytes b ++ rest }
+    ensures text { (test : List ℕ → Bool) (bytes text rest : List ℕ) → All (λ byte. byte < 256) bytes → read_text test bytes ≡ found text rest
+        → (bytes ≡ text_bytes text ++ rest) × IsTrue (is_storable_text test text) }
+{}
+
+/// A storable entry's bytes say that entry, and so does a payload in the older format, whose entry is storable in the written
+/// one too; a value's bytes say the value, whatever stands behind them.
 pub fn an_entry_is_read_back()
     ensures written { (entry : Entry) → IsStorable entry → payload_says (entry_bytes entry) ≡ holds entry }
+    ensures storable { (entry : Entry) (payload : List ℕ) → IsPayloadOf entry payload → IsStorable entry }
     ensures either_format { (entry : Entry) (payload : List ℕ) → IsPayloadOf entry payload → payload_says payload ≡ holds entry }
     ensures value { (format : ℕ) (v : Value) (rest : List ℕ) → IsTrue (is_storable_value format v) → read_value format (value_bytes v ++ rest) ≡ found v rest }
 {}

@@ -7,7 +7,7 @@ ghost use Rattle.fb_model.specs.History.{basis};
 ghost use Rattle.log_model.specs.Fields.{u32_bytes, u64_bytes};
 ghost use Rattle.log_model.specs.Nodes.{Nodes, no_nodes, MergeRecord, record_bytes_in};
 ghost use Rattle.log_model.specs.Merges.{record_says, merges, bad_from, IsRecordOf};
-ghost use Rattle.log_model.specs.Kept.{KeptRoot, with_nodes, kept_roots, IsNewestAgreeing, IsCoverage};
+ghost use Rattle.log_model.specs.Kept.{KeptRoot, with_nodes, kept_roots, Agrees, IsNewestAgreeing, IsCoverage, FileKeeps};
 ghost use Rattle.log_model.specs.Samples.{datom, hi_payload, with_byte, leaf_record, leaf_merge, next_record, next_merge};
 
 /// A merge record is read back where it stands over the nodes that it was written over, and what is read is its bytes.
@@ -27,6 +27,19 @@ pub fn one_root_is_the_newest_that_agrees()
     ensures root { (h : List Entry) (kept : List KeptRoot) (root other : KeptRoot) → IsNewestAgreeing h kept root → IsNewestAgreeing h kept other → root ≡ other }
     ensures coverage { (h : List Entry) (kept : List KeptRoot) (c other : ℕ) → IsCoverage h kept c → IsCoverage h kept other → c ≡ other }
     ensures within { (h : List Entry) (kept : List KeptRoot) (c : ℕ) → IsCoverage h kept c → c ≤ basis h }
+{}
+
+/// Where no root is kept the history is opened with its first entry's trees, and a root whose c is above the basis agrees with
+/// no history.
+pub fn roots_that_agree_with_nothing()
+    ensures nothing_kept { (h : List Entry) → IsCoverage h [] 0 }
+    ensures above_the_basis { (h : List Entry) (root : KeptRoot) → basis h < root.c → Agrees h root → ⊥ }
+{}
+
+/// A file of bytes keeps one list of roots, whatever the bytes are.
+pub fn a_file_keeps_one_list_of_roots()
+    ensures one { (file : List ℕ) (kept other : List KeptRoot) → FileKeeps file kept → FileKeeps file other → kept ≡ other }
+    ensures some { (file : List ℕ) → All (λ byte. byte < 256) file → (kept : List KeptRoot) × FileKeeps file kept }
 {}
 
 /// The bytes of a merge record of one leaf and one directory, and of one without new nodes.

@@ -2,7 +2,7 @@
 use Rattle.std.proofs.Common.{refl}
 use Rattle.log_model.specs.Payload.{entry_bytes}
 use Rattle.log_model.proofs.Values.{Reads-value}
-use Rattle.log_model.proofs.Entries.{says-entry_bytes}
+use Rattle.log_model.proofs.Entries.{says-entry_bytes, written-storable}
 use Rattle.log_model.proofs.laws.an_entry_is_read_back.Goals as goal
 
 pub returns-clause-written : goal.returns-clause-written
@@ -13,3 +13,6 @@ returns-clause-either_format c = says-entry_bytes
 
 pub returns-clause-value : goal.returns-clause-value
 returns-clause-value c = λ format v rest fits. Reads-value format v fits rest
+
+pub returns-clause-storable : goal.returns-clause-storable
+returns-clause-storable c = λ entry payload is. written-storable is.format entry is.storable
