@@ -1,0 +1,2 @@
+pub mod FormMembers
+pub mod ShapeRules

@@ -1,0 +1,18 @@
+-- Verbs and keys as the definitions see them. This project's own choice.
+use Rattle.std.specs.Prelude.{Bool, true, false}
+use Rattle.tx_model.specs.Asks.{Key, own, forward, backward}
+use Rattle.tx_model.specs.Shapes as shapes
+use Rattle.tx_forms.specs.declared.verbs.Verb.{Verb}
+use Rattle.tx_forms.specs.declared.verbs.Verb.TheVariants.{Add, Retract, Cas, RetractEntity}
+
+abbrev pub verb_of : Verb → shapes.Verb
+verb_of Add = shapes.add
+verb_of Retract = shapes.retract
+verb_of Cas = shapes.cas
+verb_of RetractEntity = shapes.retract_entity
+
+-- the key is `:db/id`
+abbrev pub is_own : Key → Bool
+is_own own = true
+is_own (forward name) = false
+is_own (backward name) = false
