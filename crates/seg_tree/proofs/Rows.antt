@@ -48,11 +48,10 @@ row_of : (first next : ℕ) (datoms : List Datom) (tree : List DirectoryNode) �
 row_of first next datoms tree built = sym (all_new first (node_ids tree) built.old) ∙ built.new
 
 module _ (first second third fourth next : ℕ) (es bs vs rs : List Datom) (eavt aevt avet vaet : List DirectoryNode)
-  (e : IsBuilt (record { first = first; datoms = es; kept = [] }) eavt second)
-  (b : IsBuilt (record { first = second; datoms = bs; kept = [] }) aevt third)
-  (v : IsBuilt (record { first = third; datoms = vs; kept = [] }) avet fourth)
-  (r : IsBuilt (record { first = fourth; datoms = rs; kept = [] }) vaet next) where
-
+    (e : IsBuilt (record { first = first; datoms = es; kept = [] }) eavt second)
+    (b : IsBuilt (record { first = second; datoms = bs; kept = [] }) aevt third)
+    (v : IsBuilt (record { first = third; datoms = vs; kept = [] }) avet fourth)
+    (r : IsBuilt (record { first = fourth; datoms = rs; kept = [] }) vaet next) where
   four : ids_of_four eavt aevt avet vaet ≡ range_with_len first (next - first)
   four =
       ap (λ ids. ((ids ++ node_ids aevt) ++ node_ids avet) ++ node_ids vaet) (row_of first second es eavt e)
