@@ -1,5 +1,5 @@
-//! What a transaction is decided over: a history, as far as its facts are asked for. This crate has the trait alone. The
-//! engine of transactions stands on it, and so on no index, no snapshot and no clock.
+//! What a transaction is decided over: a history, as far as its facts are asked for. This crate has the trait alone, and a
+//! law of the lists that it tells. The engine of transactions stands on it, and so on no index, no snapshot and no clock.
 #![tactic(auto)]
 
 ghost use Rattle.std.specs.Prelude.{◌≡◌, List, IfOk};
@@ -8,8 +8,11 @@ ghost use Rattle.fb_model.specs.History as model;
 ghost use Rattle.fb_model.specs.Facts as facts;
 ghost use Rattle.fb_facts.specs.Told as told;
 
+mod laws;
+
 use fb_memory::Memory;
 use fb_values::{Datoms, Value};
+pub use laws::told_lists_are_the_rising_ones;
 
 /// Tells of a history which facts hold in it. What holds is asked by a search and takes no memory; lists of facts are
 /// new ones, whose texts are shared.

@@ -1,0 +1,13 @@
+use Rattle.std.proofs.Common.{◌≤◌, length, drop}
+use Rattle.fb_schema.specs.Tables.{HasDescriptions, HasAttributes}
+use Rattle.fb_schema.proofs.tables.attributes_of.Given as goal
+
+abbrev pub invariant-loop-i : goal.invariant-loop-i
+invariant-loop-i l = record {
+  in_range : l.i ≤ length l.facts;
+  descriptions : HasDescriptions l.descriptions (drop l.i l.facts);
+  attributes : HasAttributes l.attributes (drop l.i l.facts);
+}
+
+abbrev pub decreases-loop-i : goal.decreases-loop-i
+decreases-loop-i l = l.i

@@ -1,0 +1,5 @@
+pub mod Described
+pub mod Parts
+pub mod Standing
+pub mod Tables
+pub mod Change

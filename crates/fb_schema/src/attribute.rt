@@ -1,0 +1,46 @@
+//! An installed attribute.
+ghost use Rattle.std.specs.Prelude.{◌≡◌, not, nat_eq};
+ghost use Rattle.fb_model.specs.Numbers.{type_ref, unique_identity};
+
+use fb_numbers::{TYPE_REF, UNIQUE_IDENTITY};
+use fb_values::Text;
+
+/// An installed attribute. Its type and its uniqueness are the entities that say so in the data.
+#[derive(Drop)]
+pub struct Attribute {
+    pub id: u64,
+    /// Without its colon.
+    pub ident: Text,
+    /// The entity of its type.
+    pub kind: u64,
+    /// Whether an entity may have several values of it.
+    pub many: bool,
+    /// The entity of its uniqueness, or 0 where two entities may have one value.
+    pub unique: u64,
+    /// Whether its values are parts of their entities.
+    pub component: bool,
+    pub indexed: bool,
+}
+
+impl Attribute {
+    /// Whether its values are entities.
+    pub fn is_ref(&self) -> bool
+        ensures { result ≡ nat_eq self.now.kind type_ref }
+    {
+        self.kind == TYPE_REF
+    }
+
+    /// Whether a value has one entity at most.
+    pub fn is_unique(&self) -> bool
+        ensures { result ≡ not (nat_eq self.now.unique 0) }
+    {
+        self.unique != 0
+    }
+
+    /// Whether a value names the entity that has it, so that adding it to a new entity is adding to that one.
+    pub fn is_identity(&self) -> bool
+        ensures { result ≡ nat_eq self.now.unique unique_identity }
+    {
+        self.unique == UNIQUE_IDENTITY
+    }
+}
