@@ -1,5 +1,5 @@
 -- Numbers in a row: none stands among them twice, and rows that follow one another are one row.
-use Rattle.std.proofs.Common.{◌≡◌, ℕ, zero, suc, ◌+◌, ◌-◌, ◌<◌, ◌≤◌, max, List, [], ◌∷◌, ◌++◌, length, refl, sym, ap, ◌∙◌, subst, inl, inr, arith}
+use Rattle.std.proofs.Common.{◌≡◌, ℕ, zero, suc, ◌+◌, ◌-◌, ◌<◌, ◌≤◌, List, [], ◌∷◌, ◌++◌, length, refl, sym, ap, ◌∙◌, subst, inl, inr, arith}
 use Rattle.std.specs.List.{range_with_len}
 use Rattle.std.proofs.lemmas.Bool.{cases_eq, eq-eqb, ne_eqb}
 use Rattle.std.proofs.lemmas.List.FromFn.{length-range_with_len}
@@ -48,11 +48,10 @@ row_of : (first next : ℕ) (datoms : List Datom) (tree : List DirectoryNode) �
 row_of first next datoms tree built = sym (all_new first (node_ids tree) built.old) ∙ built.new
 
 module _ (first second third fourth next : ℕ) (es bs vs rs : List Datom) (eavt aevt avet vaet : List DirectoryNode)
-  (e : IsBuilt (record { first = first; datoms = es; kept = [] }) eavt second)
-  (b : IsBuilt (record { first = second; datoms = bs; kept = [] }) aevt third)
-  (v : IsBuilt (record { first = third; datoms = vs; kept = [] }) avet fourth)
-  (r : IsBuilt (record { first = fourth; datoms = rs; kept = [] }) vaet next) where
-
+    (e : IsBuilt (record { first = first; datoms = es; kept = [] }) eavt second)
+    (b : IsBuilt (record { first = second; datoms = bs; kept = [] }) aevt third)
+    (v : IsBuilt (record { first = third; datoms = vs; kept = [] }) avet fourth)
+    (r : IsBuilt (record { first = fourth; datoms = rs; kept = [] }) vaet next) where
   four : ids_of_four eavt aevt avet vaet ≡ range_with_len first (next - first)
   four =
       ap (λ ids. ((ids ++ node_ids aevt) ++ node_ids avet) ++ node_ids vaet) (row_of first second es eavt e)
