@@ -4,14 +4,13 @@ use Rattle.edn_model.specs.Form.{Form}
 use Rattle.fb_values.specs.declared.facts.Entry.{Entry}
 use Rattle.tx_model.specs.Transaction.{transaction}
 use Rattle.tx_model.specs.Step as model
-use Rattle.tx_plain.specs.Refusals.{refusal_of}
 use Rattle.step_plain.specs.declared.outcome.Outcome.{Outcome}
 use Rattle.step_plain.specs.declared.outcome.Outcome.TheVariants.{Refused, Accepted}
 
 abbrev pub outcome_of : Outcome → model.Outcome
-outcome_of (Refused refusal) = model.refused (refusal_of refusal)
+outcome_of (Refused refusal) = model.refused refusal
 outcome_of (Accepted entry tempids) = model.accepted entry tempids.items
 
--- the step of forms that have a shape: without rule 1
+-- the step of forms of which each has a shape
 abbrev pub shaped_step : List Entry → List Form → ℤ → model.Guard → model.Outcome
-shaped_step h fs reading guard = model.unless_refused h fs reading guard (model.first_refusal 2 (model.broken_rules (transaction h fs)))
+shaped_step h fs reading guard = model.unless_refused h fs reading guard (model.first_refusal (model.broken_rules (transaction h fs)))

@@ -1,7 +1,8 @@
 //! The step of a transaction: the entry that it adds to a history, or why it is refused.
-ghost use Rattle.std.specs.Prelude.{◌≡◌, ◌≤◌, ◌<ℤ◌, ◌^◌, IfOk};
-ghost use Rattle.fb_model.specs.Numbers.{greatest_t, greatest_instant};
+ghost use Rattle.std.specs.Prelude.{◌≡◌, ◌<ℤ◌, IfOk};
+ghost use Rattle.fb_model.specs.Numbers.{greatest_instant};
 ghost use Rattle.fb_model.specs.History as history;
+ghost use Rattle.fb_model.specs.Lawful.{IsLawful};
 ghost use Rattle.edn_form.specs.View.{form_of, forms_of};
 ghost use Rattle.tx_model.specs.Step as model;
 ghost use Rattle.tx_model.specs.Tempids as tempids;
@@ -14,15 +15,22 @@ use fb_memory::Memory;
 use fb_plain::{last_instant, next_instant};
 use fb_values::{Datoms, Entry, Text};
 use std::alloc::Global;
-use tx_plain::{Db, Refusal, Transaction, least_refusal, named_tempids, recorded, transaction_at};
+use tx_plain::{Db, Transaction, least_refusal, named_tempids, recorded, transaction_at};
+use tx_refusals::{Reason, Refusal};
 use walk_plain::{first_without_shape, flat, forms_in};
 
 /// What a transaction comes to.
 #[derive(Drop)]
 pub enum Outcome {
     Refused(Refusal),
-    /// The entry, and the entities of the tempids that have a name.
+    /// The entry, and the entities of the tempids that have a name, by the bytes of the names.
     Accepted(Entry, Vec<(Text, u64)>),
+}
+
+fn refused(reason: Reason, at: usize) -> Outcome
+    ensures { outcome_of result ≡ model.refused (record { reason = reason; at = at }) }
+{
+    Outcome::Refused(Refusal { reason, at })
 }
 
 fn with_entry(alloc: Global, tx: &Transaction, reading: i64) -> Result<Outcome, Memory>
@@ -52,7 +60,7 @@ fn unless_barred<G: Guard>(
 {
     let barred = guard.judge(tx.db.history(), &tx.changes)?;
     match barred {
-        Some(rule) => Ok(Outcome::Refused(Refusal { rule, place: 0 })),
+        Some(bar) => Ok(refused(Reason::Barred(bar), 0)),
         None => with_entry(alloc, tx, reading),
     }
 }
@@ -65,8 +73,7 @@ fn step_of_shaped<G: Guard>(
     reading: i64,
     guard: &G,
 ) -> Result<Outcome, Memory>
-    requires has_a_next { history.basis entries.now ≤ greatest_t }
-    requires has_room { history.users_issued entries.now ≤ 2 ^ 40 }
+    requires { IsLawful entries.now }
     ensures { IfOk result (λ outcome. outcome_of outcome ≡ shaped_step entries.now (forms_of forms.now) reading (G.bars guard.now)) }
 {
     let db = Db::of(alloc, entries)?;
@@ -79,7 +86,7 @@ fn step_of_shaped<G: Guard>(
     }
 }
 
-#[tactic(auto, using(crate::proofs::Steps::step_where_shaped, crate::proofs::Steps::step_where_not_shaped))]
+#[tactic(auto, using(crate::proofs::Steps::step_where_not_shaped))]
 fn step_of<G: Guard>(
     alloc: Global,
     entries: &[Entry],
@@ -87,18 +94,17 @@ fn step_of<G: Guard>(
     reading: i64,
     guard: &G,
 ) -> Result<Outcome, Memory>
-    requires has_a_next { history.basis entries.now ≤ greatest_t }
-    requires has_room { history.users_issued entries.now ≤ 2 ^ 40 }
+    requires { IsLawful entries.now }
     ensures { IfOk result (λ outcome. outcome_of outcome ≡ model.unless_refused entries.now (forms_of forms.now) reading (G.bars guard.now) (model.refusal_of entries.now (forms_of forms.now))) }
 {
     let place = first_without_shape(alloc, forms)?;
     match place {
-        Some(place) => Ok(Outcome::Refused(Refusal { rule: 1, place })),
+        Some(at) => Ok(refused(Reason::NotAForm, at)),
         None => step_of_shaped(alloc, entries, forms, reading, guard),
     }
 }
 
-/// What the transaction does at the history, where the clock reads this.
+/// What the transaction does at the history, where the clock reads this. A lawful history may be full: then it is refused.
 pub fn step<G: Guard>(
     alloc: Global,
     entries: &[Entry],
@@ -106,12 +112,11 @@ pub fn step<G: Guard>(
     reading: i64,
     guard: &G,
 ) -> Result<Outcome, Memory>
-    requires has_a_next { history.basis entries.now ≤ greatest_t }
-    requires has_room { history.users_issued entries.now ≤ 2 ^ 40 }
+    requires { IsLawful entries.now }
     ensures { IfOk result (λ outcome. outcome_of outcome ≡ model.step entries.now (form_of asked.now) reading (G.bars guard.now)) }
 {
     match forms_in(asked) {
         Some(forms) => step_of(alloc, entries, forms, reading, guard),
-        None => Ok(Outcome::Refused(Refusal { rule: 1, place: 0 })),
+        None => Ok(refused(Reason::NotAForm, 0)),
     }
 }
