@@ -16,6 +16,7 @@ impl Named for Fixed {
     ghost use Rattle.board_rule.specs.Views.{unmarked};
 
     type Entry = u32;
+
     type Origin = u64;
 
     ghost entries = { λ h. 0 ∷ [] };
@@ -45,6 +46,7 @@ impl Named for Sheet {
     ghost use Rattle.board_rule.specs.Views.{unmarked};
 
     type Entry = u32;
+
     type Origin = ();
 
     ghost entries = { λ s. 0 ∷ [] };
