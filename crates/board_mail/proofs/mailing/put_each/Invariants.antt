@@ -1,4 +1,4 @@
-use Rattle.std.proofs.Common.{◌≡◌, ◌≤◌, ℕ, length, vec_len}
+use Rattle.std.proofs.Common.{◌≡◌, ◌≤◌, vec_len}
 use Rattle.std.specs.List.{All}
 use Rattle.board_rule.specs.declared.view.Grab.TheVariants.{Free}
 use Rattle.board_rule.specs.declared.view.Code.{Code}
