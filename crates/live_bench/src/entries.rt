@@ -12,17 +12,26 @@ use std::alloc::Global;
 
 // The entities of the built-in schema that the entries name.
 const IDENT: u64 = 1;
+
 const VALUE_TYPE: u64 = 2;
+
 const CARDINALITY: u64 = 3;
+
 const UNIQUE: u64 = 4;
+
 const TX_INSTANT: u64 = 8;
+
 const STRING: u64 = 11;
+
 const ONE: u64 = 20;
+
 const IDENTITY: u64 = 30;
 
 // The two attributes of the entries' facts, and one whose values are entities.
 const KEY: u64 = 65;
+
 const NUMBER: u64 = 66;
+
 const FRIEND: u64 = 67;
 
 fn transaction(n: u32) -> u64 {
