@@ -5,7 +5,6 @@ ghost use Rattle.std.specs.Option.{option_map, option_copied};
 ghost use Rattle.fb_values.specs.declared.facts.Datom.{Datom};
 ghost use Rattle.fb_values.specs.declared.facts.Entry.{Entry};
 ghost use Rattle.fb_values.specs.declared.indexes.Order.TheVariants.{Avet};
-ghost use Rattle.fb_model.specs.FirstEntry.{first_entry};
 ghost use Rattle.fb_model.specs.Schema.{attribute_of, attribute_named, named};
 ghost use Rattle.fb_schema.specs.Described.{describes as model_describes, SchemaStands};
 ghost use Rattle.fb_schema.specs.Parts.{attribute_in};
@@ -63,7 +62,7 @@ impl Model for Schema {
 }
 
 impl Schema {
-    /// The schema of the history that has the first entry alone, which the entry is to be.
+    /// The schema of the history that has this entry alone.
     pub fn first(alloc: Global, first: &Entry) -> Result<Schema, Memory>
         ensures { IfOk result (λ schema. SchemaStands schema (first.now ∷ [])) }
     {
@@ -89,7 +88,8 @@ impl Schema {
 
     /// The schema after the entry: this one, where the entry says nothing of it.
     pub fn of_entry(&self, entry: &Entry) -> Result<Schema, Memory>
-        ensures { IfOk result (λ schema. (h : List Entry) → SchemaStands self.now h → SchemaStands schema (h ++ entry.now ∷ [])) }
+        ensures { IfOk result (λ schema. (h : List Entry) → SchemaStands self.now h
+            → SchemaStands schema (h ++ entry.now ∷ [])) }
     {
         if !changes_schema(entry) {
             return self.share();
@@ -146,7 +146,8 @@ impl Schema {
     /// The attributes that AVET holds under the later schema and not under this one. The other way round: those that it
     /// loses.
     pub fn gained(&self, after: &Schema) -> Result<Vec<u64>, Memory>
-        ensures { IfOk result (λ gained. (a : ℕ) → IsTrue (model_is_gained Avet self.now after.now a) ↔ Contains gained.items a) }
+        ensures { IfOk result (λ gained. (a : ℕ) → IsTrue (model_is_gained Avet self.now after.now a)
+            ↔ Contains gained.items a) }
     {
         let (held_before, held_after) = (self.covers(), after.covers());
         let mut gained = Vec::new(self.alloc);
@@ -161,13 +162,15 @@ impl Schema {
 
 /// Whether the datom names an attribute that AVET holds under the later coverage and not under the earlier one.
 fn names_gained(before: &Covers, after: &Covers, d: &Datom) -> bool
-    ensures { (facts facts_after : List Datom) → HasCoverage before.now facts → HasCoverage after.now facts_after → result ≡ names_one (model_is_gained Avet facts facts_after) d.now }
+    ensures { (facts facts_after : List Datom) → HasCoverage before.now facts
+        → HasCoverage after.now facts_after → result ≡ names_one (model_is_gained Avet facts facts_after) d.now }
 {
     d.a == IDENT && is_gained(before, after, d.e)
 }
 
 fn is_gained(before: &Covers, after: &Covers, a: u64) -> bool
-    ensures { (facts facts_after : List Datom) → HasCoverage before.now facts → HasCoverage after.now facts_after → result ≡ model_is_gained Avet facts facts_after a }
+    ensures { (facts facts_after : List Datom) → HasCoverage before.now facts
+        → HasCoverage after.now facts_after → result ≡ model_is_gained Avet facts facts_after a }
 {
     after.holds(Order::Avet, a) && !before.holds(Order::Avet, a)
 }
@@ -188,7 +191,8 @@ pub fn changes_schema(entry: &Entry) -> bool
 
 /// The schema's facts after the entry.
 fn facts_after(alloc: Global, facts: &[Datom], entry: &Entry) -> Result<Vec<Datom>, Memory>
-    ensures { IfOk result (λ after. (h : List Entry) → SchemaStands facts.now h → SchemaStands after.items (h ++ entry.now ∷ [])) }
+    ensures { IfOk result (λ after. (h : List Entry) → SchemaStands facts.now h
+        → SchemaStands after.items (h ++ entry.now ∷ [])) }
 {
     let mut said = copy_of(alloc, facts)?;
     push_described(&mut said, entry.datoms.as_slice())?;

@@ -37,8 +37,10 @@ fn describe(
     attributes: &mut BTreeMap<u64, Attribute>,
     d: &Datom,
 ) -> Result<(), Memory>
-    ensures descriptions { (facts : List Datom) → HasDescriptions descriptions.old facts → IfOk result (λ _. HasDescriptions descriptions.new (d.now ∷ facts)) }
-    ensures attributes { (facts : List Datom) → HasDescriptions descriptions.old facts → HasAttributes attributes.old facts → IfOk result (λ _. HasAttributes attributes.new (d.now ∷ facts)) }
+    ensures descriptions { (facts : List Datom) → HasDescriptions descriptions.old facts
+        → IfOk result (λ _. HasDescriptions descriptions.new (d.now ∷ facts)) }
+    ensures attributes { (facts : List Datom) → HasDescriptions descriptions.old facts → HasAttributes attributes.old facts
+        → IfOk result (λ _. HasAttributes attributes.new (d.now ∷ facts)) }
 {
     let known = descriptions.remove(&d.e).unwrap_or(Description::empty());
     let said = known.with(d)?;

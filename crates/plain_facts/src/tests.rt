@@ -1,4 +1,5 @@
 use super::*;
+use std::process::Abort;
 use std::test::Fail;
 
 const AGE: u64 = 17_592_186_044_417;
@@ -41,7 +42,7 @@ fn friends(alloc: Global) -> Result<PlainFacts, Memory> {
 }
 
 /// What is asked through the trait.
-fn asked<F: Facts>(rt: &HostRuntime, facts: &F) -> Result<(), Fail> {
+fn asked<F: Facts>(rt: &impl Abort, facts: &F) -> Result<(), Fail> {
     assert_eq!(rt;
         (facts.basis(), facts.issued(), facts.last_instant()),
         (2, 4, 20)
