@@ -1,2 +1,5 @@
 pub mod View
 pub mod Names
+pub mod Databases
+pub mod Numbers
+pub mod Making
