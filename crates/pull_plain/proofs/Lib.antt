@@ -1,2 +1,5 @@
+pub mod Fewer
 pub mod Joined
+pub mod Numbers
+pub mod Rooms
 pub mod Underscores

@@ -3,3 +3,4 @@ pub mod Names
 pub mod Databases
 pub mod Numbers
 pub mod Making
+pub mod Items

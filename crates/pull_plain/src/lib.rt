@@ -3,12 +3,16 @@
 #![tactic(auto)]
 
 mod found;
+mod items;
+mod keys;
 mod made;
 mod patterns;
 mod reading;
+mod trees;
 
 pub use fb_memory::Memory;
 pub use found::{Db, Found, form_of_value, found_under, is_reversed, names_of_entity};
 pub use made::{Inside, Made};
 pub use patterns::{Below, Item, Label, Limit, Options, Pattern};
 pub use reading::{first_bad_item, read_pattern};
+pub use trees::tree;
