@@ -6,13 +6,14 @@ use Rattle.std.proofs.lemmas.List.Elements.{All-nil, All-cons, All-map, All-filt
 use Rattle.fb_values.specs.declared.facts.Datom.{Datom}
 use Rattle.fb_values.specs.declared.facts.Value.{Value}
 use Rattle.fb_values.specs.declared.facts.Value.TheVariants.{Keyword, Str, Bool as Boolean, Long, Ref, Instant, Uuid, Symbol, Uri}
-use Rattle.fb_model.specs.Numbers.{type_ref}
-use Rattle.fb_model.specs.Facts.{value_eq, values_of}
+use Rattle.fb_model.specs.Numbers.{type_ref, ident as ident'}
+use Rattle.fb_model.specs.Facts.{value_eq, values_of, least, holder}
 use Rattle.fb_model.specs.Schema.{Attribute, entity_in}
+use Rattle.view_model.specs.Names.{Id, number, ident, lookup, entity_named}
 use Rattle.pull_model.specs.Found.{Db, Found, absent, values, entities, found, found_forward, found_backward, meant, referring}
 use Rattle.pull_model.specs.Made.{limited}
 use Rattle.pull_model.specs.Patterns.{Limit, first, all, is_reversed}
-use Rattle.pull_plain.specs.Numbers.{IsInteger, IsForm, AreForms, IsFoundForm}
+use Rattle.pull_plain.specs.Numbers.{IsInteger, IsForm, AreForms, IsFoundForm, IsSomeInteger, IsFormId}
 
 pub All-limited : {T : Type 0} (P : T → Type 0) (limit : Limit) (xs : List T) → All P xs → All P (limited limit xs)
 All-limited P (first n) xs every = All-take P n xs every
@@ -61,3 +62,21 @@ pub found_forms : (db : Db) (e : ℕ) (name : List ℕ) → AreForms db.seen →
 found_forms db e name forms =
     elim (is_reversed name) as (λ b. IsFoundForm (cond b (found_backward db e (meant db name)) (found_forward db e (meant db name))))
     [ true ↦ backward_forms db e (meant db name) forms | false ↦ forward_forms db e (meant db name) forms ]
+
+-- ---- the entity of a name
+
+least_integer : (e : ℕ) (o : Option ℕ) → IsInteger e → IsSomeInteger o → IsSomeInteger (least e o)
+least_integer e None below others = below
+least_integer e (Some other) below others = omega arith
+
+holder_integer : (seen : List Datom) (a : ℕ) (v : Value) → AreForms seen → IsSomeInteger (holder seen a v)
+holder_integer [] a v forms = tt
+holder_integer (d ∷ seen) a v forms =
+    let below : AreForms seen = λ k other within. forms (suc k) other (omega arith) in
+    elim (nat_eq d.a a && value_eq d.v v) as (λ b. IsSomeInteger (cond b (least d.e (holder seen a v)) (holder seen a v)))
+    [ true ↦ least_integer d.e (holder seen a v) (forms 0 d (omega arith)).0 (holder_integer seen a v below) | false ↦ holder_integer seen a v below ]
+
+pub named_integer : (seen : List Datom) (id : Id) → AreForms seen → IsFormId id → IsSomeInteger (entity_named seen id)
+named_integer seen (number n) forms form = form
+named_integer seen (ident name) forms form = holder_integer seen ident' (Keyword name) forms
+named_integer seen (lookup a v) forms form = holder_integer seen a v forms

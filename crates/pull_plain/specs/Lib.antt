@@ -4,3 +4,4 @@ pub mod Databases
 pub mod Numbers
 pub mod Making
 pub mod Items
+pub mod Answers
