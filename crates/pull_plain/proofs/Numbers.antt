@@ -1,5 +1,5 @@
 -- What is found in facts whose entities have integers of a form has them too.
-use Rattle.std.proofs.Common.{ℕ, suc, Bool, true, false, not, ◌&&◌, nat_eq, cond, List, [], ◌∷◌, map, length, ◌<◌, Option, Some, None, arith}
+use Rattle.std.proofs.Common.{ℕ, suc, true, false, not, ◌&&◌, nat_eq, cond, List, [], ◌∷◌, Option, Some, None, arith}
 use Rattle.std.specs.Prelude.{filter, filter_map}
 use Rattle.std.specs.List.{All}
 use Rattle.std.proofs.lemmas.List.Elements.{All-nil, All-cons, All-map, All-filter, All-take}
@@ -10,7 +10,7 @@ use Rattle.fb_model.specs.Numbers.{type_ref, ident as ident'}
 use Rattle.fb_model.specs.Facts.{value_eq, values_of, least, holder}
 use Rattle.fb_model.specs.Schema.{Attribute, entity_in}
 use Rattle.view_model.specs.Names.{Id, number, ident, lookup, entity_named}
-use Rattle.pull_model.specs.Found.{Db, Found, absent, values, entities, found, found_forward, found_backward, meant, referring}
+use Rattle.pull_model.specs.Found.{Db, absent, values, entities, found, found_forward, found_backward, meant, referring}
 use Rattle.pull_model.specs.Made.{limited}
 use Rattle.pull_model.specs.Patterns.{Limit, first, all, is_reversed}
 use Rattle.pull_plain.specs.Numbers.{IsInteger, IsForm, AreForms, IsFoundForm, IsSomeInteger, IsFormId}

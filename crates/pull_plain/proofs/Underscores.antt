@@ -1,5 +1,5 @@
 -- Reversed names.
-use Rattle.std.proofs.Common.{◌≡◌, ℕ, true, List, [], ◌∷◌, ◌++◌, drop, codes, cond, ap, sym, arith}
+use Rattle.std.proofs.Common.{◌≡◌, ℕ, true, List, [], ◌∷◌, drop, codes, cond, ap, sym, arith}
 use Rattle.std.proofs.lemmas.List.{append_assoc}
 use Rattle.fb_model.specs.Words.{begins_with_one_of, has_namespace, namespace, local_name}
 use Rattle.tx_model.specs.Asks.{without_underscore}

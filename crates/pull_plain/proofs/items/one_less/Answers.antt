@@ -1,6 +1,5 @@
-use Rattle.std.proofs.Common.{rules, arith, ◌∙◌, ap}
+use Rattle.std.proofs.Common.{rules}
 use Rattle.std.proofs.lemmas.List.{take_rest}
-use Rattle.pull_plain.specs.View.{items_in}
 use Rattle.pull_plain.proofs.Fewer.{less_made, less_made_past}
 use Rattle.pull_plain.proofs.items.one_less.Goals as goal
 

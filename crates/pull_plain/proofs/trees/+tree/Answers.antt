@@ -1,11 +1,10 @@
-use Rattle.std.proofs.Common.{◌≡◌, IfOk, map, ap, ap₂, sym, ◌∙◌, subst, rules, arith}
-use Rattle.pull_model.specs.Found as found
+use Rattle.std.proofs.Common.{◌≡◌, IfOk, map, ap, ap₂, sym, ◌∙◌, subst, rules}
 use Rattle.pull_model.specs.Made as made
 use Rattle.pull_model.specs.Tree as model
 use Rattle.pull_plain.specs.Databases.{db_in, found_in}
 use Rattle.pull_plain.specs.Making.{made_in, mades_in, inside_in}
 use Rattle.pull_plain.specs.Numbers.{IsFoundForm}
-use Rattle.pull_plain.specs.View.{limit_in, options_in, below_in, pattern_of}
+use Rattle.pull_plain.specs.View.{options_in, below_in, pattern_of}
 use Rattle.pull_plain.proofs.Numbers.{found_forms}
 use Rattle.pull_plain.proofs.Rooms.{some_room, one_more}
 use Rattle.pull_plain.proofs.trees.+tree.Goals as goal
