@@ -1,4 +1,5 @@
 pub mod Fewer
+pub mod Histories
 pub mod Joined
 pub mod Numbers
 pub mod Rooms

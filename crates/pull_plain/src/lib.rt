@@ -5,6 +5,7 @@
 mod found;
 mod items;
 mod keys;
+pub mod laws;
 mod made;
 mod patterns;
 mod pulls;
