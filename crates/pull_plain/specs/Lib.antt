@@ -5,3 +5,4 @@ pub mod Numbers
 pub mod Making
 pub mod Items
 pub mod Answers
+pub mod Stands

@@ -8,6 +8,7 @@ ghost use Rattle.pull_plain.specs.Databases.{db_in, found_in};
 ghost use Rattle.pull_plain.specs.Items.{placed_in};
 ghost use Rattle.pull_plain.specs.Making.{made_in, mades_in, inside_in};
 ghost use Rattle.pull_plain.specs.Numbers.{IsInteger, IsForm, AreForms, IsFoundForm};
+ghost use Rattle.pull_plain.specs.Stands.{trees_in, pattern_at};
 ghost use Rattle.pull_plain.specs.View.{item_in, limit_in, options_in, below_in, pattern_of};
 
 use crate::found::{Db, Found, form_of_value, found_under};
@@ -26,6 +27,18 @@ use std::alloc::Global;
 
 /// How many values are told where no limit is given.
 const USUAL_LIMIT: u32 = 1000;
+
+/// Where a pull stands.
+#[derive(Clone, Copy)]
+struct Stand<'a> {
+    db: Db<'a>,
+    /// How many maps may still stand inside one another.
+    room: u64,
+    /// The pattern.
+    items: &'a [Item],
+    /// The entities that led here, the last one first.
+    path: &'a [u64],
+}
 
 // ---- paths and limits
 
@@ -80,40 +93,30 @@ fn plain_values(alloc: Global, values: &[Value]) -> Result<Vec<Made>, Memory>
 
 /// Of an entity that is met again its number alone is told.
 #[cycle(tree)]
-fn unless_met(
-    alloc: Global,
-    room: u64,
-    db: &Db<'_>,
-    items: &[Item],
-    path: &[u64],
-    n: u64,
-) -> Result<Made, Memory>
-    requires seen { AreForms db.now.seen.now }
+fn unless_met(alloc: Global, at: &Stand<'_>, items: &[Item], n: u64) -> Result<Made, Memory>
+    requires seen { AreForms at.now.db.seen.now }
     requires number { IsInteger n }
-    ensures { IfOk result (λ made. made_in made ≡ model.unless_met (model.is_on path.now n) (model.tree room (db_in db.now)) (pattern_of items.now) path.now n) }
+    ensures { IfOk result (λ made. made_in made ≡ model.unless_met (model.is_on at.now.path.now n) (trees_in at.now) (pattern_of items.now) at.now.path.now n) }
 {
-    if is_on(path, n) {
+    if is_on(at.path, n) {
         return stub(alloc, n);
     }
-    tree(alloc, room, db, items, path, n)
+    tree(alloc, at.room, &at.db, items, at.path, n)
 }
 
 /// An entity under the item at the place; a pattern under an attribute has a path of its own.
 #[cycle(tree)]
 fn told(
     alloc: Global,
-    room: u64,
-    db: &Db<'_>,
-    items: &[Item],
+    at: &Stand<'_>,
     place: usize,
-    path: &[u64],
     parts: bool,
     below: &Below,
     n: u64,
 ) -> Result<Made, Memory>
-    requires seen { AreForms db.now.seen.now }
+    requires seen { AreForms at.now.db.seen.now }
     requires number { IsInteger n }
-    ensures { IfOk result (λ made. made_in made ≡ model.told (model.tree room (db_in db.now)) (pattern_of items.now) place path.now parts (below_in below.now) n) }
+    ensures { IfOk result (λ made. made_in made ≡ model.told (trees_in at.now) (pattern_at at.now) place at.now.path.now parts (below_in below.now) n) }
 {
     match below {
         Below::Usual => {
@@ -121,14 +124,14 @@ fn told(
                 return stub(alloc, n);
             }
             let everything = one(alloc, Item::Wildcard)?;
-            unless_met(alloc, room, db, &everything, path, n)
+            unless_met(alloc, at, &everything, n)
         }
-        Below::Under(inner) => tree(alloc, room, db, inner.as_slice(), &[], n),
+        Below::Under(inner) => tree(alloc, at.room, &at.db, inner.as_slice(), &[], n),
         Below::Times(_) => {
-            let fewer = one_less(alloc, place, items)?;
-            unless_met(alloc, room, db, &fewer, path, n)
+            let fewer = one_less(alloc, place, at.items)?;
+            unless_met(alloc, at, &fewer, n)
         }
-        Below::Unlimited => unless_met(alloc, room, db, items, path, n),
+        Below::Unlimited => unless_met(alloc, at, at.items, n),
     }
 }
 
@@ -136,22 +139,19 @@ fn told(
 #[cycle(tree)]
 fn all_told(
     alloc: Global,
-    room: u64,
-    db: &Db<'_>,
-    items: &[Item],
+    at: &Stand<'_>,
     place: usize,
-    path: &[u64],
     parts: bool,
     below: &Below,
     entities: &[u64],
 ) -> Result<Vec<Made>, Memory>
-    requires seen { AreForms db.now.seen.now }
+    requires seen { AreForms at.now.db.seen.now }
     requires numbers { All IsInteger entities.now }
-    ensures { IfOk result (λ list. mades_in list.items ≡ map (model.told (model.tree room (db_in db.now)) (pattern_of items.now) place path.now parts (below_in below.now)) entities.now) }
+    ensures { IfOk result (λ list. mades_in list.items ≡ map (model.told (trees_in at.now) (pattern_at at.now) place at.now.path.now parts (below_in below.now)) entities.now) }
 {
     let mut list = Vec::new(alloc);
     for n in entities {
-        list.push(told(alloc, room, db, items, place, path, parts, below, *n)?)?;
+        list.push(told(alloc, at, place, parts, below, *n)?)?;
     }
     Ok(list)
 }
@@ -162,18 +162,15 @@ fn all_told(
 #[cycle(tree)]
 fn value_of(
     alloc: Global,
-    room: u64,
-    db: &Db<'_>,
-    items: &[Item],
+    at: &Stand<'_>,
     place: usize,
-    path: &[u64],
     options: &Options,
     below: &Below,
     found: &Found,
 ) -> Result<Made, Memory>
-    requires seen { AreForms db.now.seen.now }
+    requires seen { AreForms at.now.db.seen.now }
     requires found { IsFoundForm (found_in found.now) }
-    ensures { IfOk result (λ made. made_in made ≡ model.value_of (model.tree room (db_in db.now)) (pattern_of items.now) place path.now (options_in options.now) (below_in below.now) (found_in found.now)) }
+    ensures { IfOk result (λ made. made_in made ≡ model.value_of (trees_in at.now) (pattern_at at.now) place at.now.path.now (options_in options.now) (below_in below.now) (found_in found.now)) }
 {
     match found {
         Found::Absent => Ok(nothing()),
@@ -183,35 +180,32 @@ fn value_of(
         }
         Found::Entities(several, parts, entities) => {
             let entities = limited(limit_for(*several, options), entities.as_slice());
-            let list = all_told(alloc, room, db, items, place, path, *parts, below, entities)?;
+            let list = all_told(alloc, at, place, *parts, below, entities)?;
             gathered(alloc, *several, &list)
         }
     }
 }
 
-/// What the item at the place makes for the entity e.
+/// What the item at the place makes for the entity e, to which the path led.
 #[cycle(tree)]
-fn made_of(
-    alloc: Global,
-    room: u64,
-    db: &Db<'_>,
-    items: &[Item],
-    above: &[u64],
-    e: u64,
-    place: usize,
-    i: &Item,
-) -> Result<Made, Memory>
-    requires seen { AreForms db.now.seen.now }
+fn made_of(alloc: Global, above: &Stand<'_>, e: u64, place: usize, i: &Item) -> Result<Made, Memory>
+    requires seen { AreForms above.now.db.seen.now }
     requires number { IsInteger e }
-    ensures { IfOk result (λ made. made_in made ≡ model.made_of (model.tree room (db_in db.now)) (db_in db.now) (pattern_of items.now) above.now e place (item_in i.now)) }
+    ensures { IfOk result (λ made. made_in made ≡ model.made_of (trees_in above.now) (db_in above.now.db) (pattern_at above.now) above.now.path.now e place (item_in i.now)) }
 {
     match i {
         Item::Wildcard => Ok(nothing()),
         Item::Own(_) => Ok(plain(Edn::Int(e as i64))),
         Item::Attribute(name, options, below) => {
-            let path = path_to(alloc, e, above)?;
-            let found = found_under(alloc, db, e, name.as_str())?;
-            let made = value_of(alloc, room, db, items, place, &path, options, below, &found)?;
+            let path = path_to(alloc, e, above.path)?;
+            let at = Stand {
+                db: above.db,
+                room: above.room,
+                items: above.items,
+                path: &path,
+            };
+            let found = found_under(alloc, &at.db, e, name.as_str())?;
+            let made = value_of(alloc, &at, place, options, below, &found)?;
             or_default(&options.default, made)
         }
     }
@@ -223,63 +217,50 @@ fn made_of(
 #[cycle(tree)]
 fn with_item(
     alloc: Global,
-    room: u64,
-    db: &Db<'_>,
-    items: &[Item],
-    above: &[u64],
+    above: &Stand<'_>,
     e: u64,
     inside: Inside,
     place: usize,
     i: &Item,
 ) -> Result<Inside, Memory>
-    requires seen { AreForms db.now.seen.now }
+    requires seen { AreForms above.now.db.seen.now }
     requires number { IsInteger e }
-    ensures { IfOk result (λ more. inside_in more ≡ model.with_item (model.made_of (model.tree room (db_in db.now)) (db_in db.now) (pattern_of items.now) above.now e) (inside_in inside) (place, item_in i.now)) }
+    ensures { IfOk result (λ more. inside_in more ≡ model.with_item (model.made_of (trees_in above.now) (db_in above.now.db) (pattern_at above.now) above.now.path.now e) (inside_in inside) (place, item_in i.now)) }
 {
     let key = key_of_item(alloc, i)?;
     if has_key(&inside.pairs, &key) {
         return Ok(inside);
     }
-    let made = made_of(alloc, room, db, items, above, e, place, i)?;
+    let made = made_of(alloc, above, e, place, i)?;
     with_pair(inside, form_of_key(key), made)
 }
 
 #[cycle(tree)]
 fn with_items(
     alloc: Global,
-    room: u64,
-    db: &Db<'_>,
-    items: &[Item],
-    above: &[u64],
+    above: &Stand<'_>,
     e: u64,
     list: &[(usize, Item)],
 ) -> Result<Inside, Memory>
-    requires seen { AreForms db.now.seen.now }
+    requires seen { AreForms above.now.db.seen.now }
     requires number { IsInteger e }
-    ensures { IfOk result (λ inside. inside_in inside ≡ fold (model.with_item (model.made_of (model.tree room (db_in db.now)) (db_in db.now) (pattern_of items.now) above.now e)) made.no_pairs_yet (placed_in list.now)) }
+    ensures { IfOk result (λ inside. inside_in inside ≡ fold (model.with_item (model.made_of (trees_in above.now) (db_in above.now.db) (pattern_at above.now) above.now.path.now e)) made.no_pairs_yet (placed_in list.now)) }
 {
     let mut inside = no_pairs_yet(alloc);
     for (place, i) in list {
-        inside = with_item(alloc, room, db, items, above, e, inside, *place, i)?;
+        inside = with_item(alloc, above, e, inside, *place, i)?;
     }
     Ok(inside)
 }
 
 #[cycle(tree)]
-fn pairs_of_entity(
-    alloc: Global,
-    room: u64,
-    db: &Db<'_>,
-    items: &[Item],
-    above: &[u64],
-    e: u64,
-) -> Result<Inside, Memory>
-    requires seen { AreForms db.now.seen.now }
+fn pairs_of_entity(alloc: Global, above: &Stand<'_>, e: u64) -> Result<Inside, Memory>
+    requires seen { AreForms above.now.db.seen.now }
     requires number { IsInteger e }
-    ensures { IfOk result (λ inside. inside_in inside ≡ model.inside (model.tree room (db_in db.now)) (db_in db.now) (pattern_of items.now) above.now e) }
+    ensures { IfOk result (λ inside. inside_in inside ≡ model.inside (trees_in above.now) (db_in above.now.db) (pattern_at above.now) above.now.path.now e) }
 {
-    let list = placed_items(alloc, db, e, items)?;
-    with_items(alloc, room, db, items, above, e, &list)
+    let list = placed_items(alloc, &above.db, e, above.items)?;
+    with_items(alloc, above, e, &list)
 }
 
 // ---- the tree
@@ -313,5 +294,11 @@ pub fn tree(
     if room == 0 {
         return Ok(too_deep());
     }
-    enclosed(pairs_of_entity(alloc, room - 1, db, items, above, e)?)
+    let above = Stand {
+        db: *db,
+        room: room - 1,
+        items,
+        path: above,
+    };
+    enclosed(pairs_of_entity(alloc, &above, e)?)
 }
