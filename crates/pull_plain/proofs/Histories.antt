@@ -1,6 +1,6 @@
 -- The entities of a lawful history, and of its views, have integers of a form.
-use Rattle.std.proofs.Common.{◌≡◌, ℕ, suc, ◌+◌, ◌<◌, ◌≤◌, ◌^◌, Bool, true, false, ◌&&◌, ◌||◌, cond, leb, length, List, [], ◌∷◌, ◌⊎◌, inl, inr, arith}
-use Rattle.std.specs.List.{All, list_all}
+use Rattle.std.proofs.Common.{◌≡◌, ℕ, suc, ◌+◌, ◌≤◌, ◌^◌, Bool, true, false, ◌&&◌, cond, leb, List, [], ◌∷◌, inl, inr, arith}
+use Rattle.std.specs.List.{list_all}
 use Rattle.std.specs.Ordering.{is_lt}
 use Rattle.std.proofs.lemmas.Bool.{and_parts, or_cases, leb-true}
 use Rattle.std.proofs.lemmas.List.Elements.{All-nil, All-cons, All-filter}
