@@ -1,1 +1,6 @@
+pub mod Fewer
+pub mod Histories
 pub mod Joined
+pub mod Numbers
+pub mod Rooms
+pub mod Underscores

@@ -1,2 +1,8 @@
 pub mod View
 pub mod Names
+pub mod Databases
+pub mod Numbers
+pub mod Making
+pub mod Items
+pub mod Answers
+pub mod Stands
