@@ -1,5 +1,5 @@
 -- The history grows by a lawful entry.
-use Rattle.std.proofs.Common.{◌≡◌, ℕ, ℤ, pos, List, [], ◌∷◌, ◌++◌, ap, sym, ◌∙◌, subst}
+use Rattle.std.proofs.Common.{◌≡◌, pos, List, ap, sym, ◌∙◌, subst}
 use Rattle.edn_form.specs.View.{form_of}
 use Rattle.fb_values.specs.declared.facts.Entry.{Entry}
 use Rattle.fb_model.specs.Lawful.{IsLawful, IsLawfulAfter}
