@@ -1,0 +1,118 @@
+-- What the definitions see in the asks of the program, and what expanding a transaction promises of them.
+-- Datomic, Transaction Data.
+use Rattle.std.specs.Prelude.{◌≡◌, ◌<◌, ℕ, Bool, true, false, List, [], map, filter, length, slice_index_or, Option, Some, None, ⊤}
+use Rattle.std.specs.List.{All}
+use Rattle.edn_model.specs.Form as edn
+use Rattle.edn_form.specs.View.{form_of}
+use Rattle.fb_values.specs.declared.facts.Datom.{Datom}
+use Rattle.fb_model.specs.Schema.{attribute_named}
+use Rattle.fb_schema.specs.declared.attribute.Attribute.{Attribute}
+use Rattle.fb_schema.specs.Parts.{attribute_in}
+use Rattle.tx_model.specs.Asks as model
+use Rattle.tx_model.specs.Values.{value_in}
+use Rattle.tx_model.specs.Step.{first_yes}
+use Rattle.tx_model.specs.NameRules.{is_lacking}
+use Rattle.std.specs.List.{list_any}
+use Rattle.tx_asks.specs.declared.asks.Name.{Name}
+use Rattle.tx_asks.specs.declared.asks.Name.TheVariants.{Number, Ident, Lookup, Tempid, Nameless}
+use Rattle.tx_asks.specs.declared.asks.Part.{Part}
+use Rattle.tx_asks.specs.declared.asks.Part.TheVariants.{Plain, Entity}
+use Rattle.tx_asks.specs.declared.asks.Ask.{Ask}
+use Rattle.tx_asks.specs.declared.asks.Ask.TheVariants.{Adds, Retracts, RetractsAll, Compares, RetractsEntity, Meets}
+use Rattle.tx_asks.specs.declared.asks.Flat.{Flat}
+
+-- ---- asks, where the maps without `:db/id` stand at these places
+
+abbrev pub name_of : List (List ℕ) → Name → model.Name
+name_of places (Number n) = model.number n
+name_of places (Ident k) = model.ident k
+name_of places (Lookup k value) = model.lookup k (form_of value)
+name_of places (Tempid text) = model.tempid text
+name_of places (Nameless n) = model.nameless (slice_index_or places n [])
+
+abbrev pub part_of : List (List ℕ) → Part → model.Part
+part_of places (Plain f v) = model.plain (form_of f)
+part_of places (Entity name) = model.entity (name_of places name)
+
+-- nil as the old value of a cas
+abbrev pub old_part_of : List (List ℕ) → Option Part → model.Part
+old_part_of places None = model.plain edn.nil
+old_part_of places (Some part) = part_of places part
+
+abbrev pub ask_of : List (List ℕ) → Ask → model.Ask
+ask_of places (Adds on attribute part) = model.adds (name_of places on) attribute.ident (part_of places part)
+ask_of places (Retracts on attribute part) = model.retracts (name_of places on) attribute.ident (part_of places part)
+ask_of places (RetractsAll on attribute) = model.retracts_all (name_of places on) attribute.ident
+ask_of places (Compares on attribute old new) =
+    model.compares (name_of places on) attribute.ident (old_part_of places old) (part_of places new)
+ask_of places (RetractsEntity on) = model.retracts_entity (name_of places on)
+ask_of places (Meets on) = model.meets (name_of places on)
+
+-- an ask that names an entity: the others mention an attribute, or say that a map lacks something
+abbrev pub matters : model.Ask → Bool
+matters (model.mentions attribute) = false
+matters model.lacks_id = false
+matters ask = true
+
+-- ---- values that are read, and maps that are counted
+
+abbrev pub IsReadPart : Attribute → Part → Type 0
+IsReadPart attribute (Plain f v) = value_in attribute.kind (form_of f) ≡ Some v
+IsReadPart attribute (Entity name) = ⊤
+
+abbrev pub IsReadOldPart : Attribute → Option Part → Type 0
+IsReadOldPart attribute None = ⊤
+IsReadOldPart attribute (Some part) = IsReadPart attribute part
+
+-- the attribute is installed
+abbrev pub IsInstalled : List Datom → Attribute → Type 0
+IsInstalled facts attribute = attribute_named facts attribute.ident ≡ Some (attribute_in attribute)
+
+-- attributes are installed, and plain values are those of their forms under the attribute's type
+abbrev pub IsRead : List Datom → Ask → Type 0
+IsRead facts (Adds on attribute part) = IsInstalled facts attribute × IsReadPart attribute part
+IsRead facts (Retracts on attribute part) = IsInstalled facts attribute × IsReadPart attribute part
+IsRead facts (RetractsAll on attribute) = IsInstalled facts attribute
+IsRead facts (Compares on attribute old new) = IsInstalled facts attribute × IsReadOldPart attribute old × IsReadPart attribute new
+IsRead facts (RetractsEntity on) = ⊤
+IsRead facts (Meets on) = ⊤
+
+-- a map without `:db/id` is one of the first n
+abbrev pub IsCounted : ℕ → Name → Type 0
+IsCounted n (Nameless k) = k < n
+IsCounted n name = ⊤
+
+abbrev pub IsCountedPart : ℕ → Part → Type 0
+IsCountedPart n (Plain f v) = ⊤
+IsCountedPart n (Entity name) = IsCounted n name
+
+abbrev pub IsCountedOldPart : ℕ → Option Part → Type 0
+IsCountedOldPart n None = ⊤
+IsCountedOldPart n (Some part) = IsCountedPart n part
+
+abbrev pub AreCounted : ℕ → Ask → Type 0
+AreCounted n (Adds on attribute part) = IsCounted n on × IsCountedPart n part
+AreCounted n (Retracts on attribute part) = IsCounted n on × IsCountedPart n part
+AreCounted n (RetractsAll on attribute) = IsCounted n on
+AreCounted n (Compares on attribute old new) = IsCounted n on × IsCountedOldPart n old × IsCountedPart n new
+AreCounted n (RetractsEntity on) = IsCounted n on
+AreCounted n (Meets on) = IsCounted n on
+
+-- no two of the places are alike
+abbrev pub AreApart : List (List ℕ) → Type 0
+AreApart places =
+    (i j : ℕ) → i < length places → j < length places → slice_index_or places i [] ≡ slice_index_or places j [] → i ≡ j
+
+-- ---- what expanding promises
+
+-- these are the asks of the forms, but for those that do not matter any more: by these facts the attributes are installed and
+-- the values of their types
+pub record AreAsks (flat : Flat) (facts : List Datom) (asks : List (List model.Ask)) : Type 0 where
+  -- where the maps without `:db/id` stand
+  pub places : List (List ℕ)
+  pub apart : AreApart places
+  pub counted : length places ≡ flat.nameless
+  pub same : map (λ form. map (ask_of places) form.items) flat.forms.items ≡ map (filter matters) asks
+  pub read : All (λ form. All (IsRead facts) form.items) flat.forms.items
+  pub names_counted : All (λ form. All (AreCounted flat.nameless) form.items) flat.forms.items
+  pub lacking : flat.lacking ≡ first_yes 0 (map (list_any is_lacking) asks)

@@ -1,0 +1,71 @@
+//! What the forms of a transaction ask, with entities still by their names.
+use edn_form::Edn;
+use fb_schema::Attribute;
+use fb_values::{Text, Value};
+
+/// How a transaction names an entity.
+#[derive(Clone, Copy)]
+pub enum Name<'a> {
+    Number(i64),
+    /// A keyword, without its colon.
+    Ident(&'a Text),
+    /// A lookup ref: the keyword of an attribute, and a value.
+    Lookup(&'a Text, &'a Edn),
+    /// A tempid, or `"datomic.tx"`, the transaction's own entity.
+    Tempid(&'a Text),
+    /// A map without `:db/id`, by its number among these maps in the order in which a reader meets them, from 0.
+    Nameless(usize),
+}
+
+/// What stands in the place of a value.
+#[derive(Drop)]
+pub enum Part<'a> {
+    /// A value, with the form that it was read from.
+    Plain(&'a Edn, Value),
+    /// An entity, under an attribute whose values are entities.
+    Entity(Name<'a>),
+}
+
+/// What is asked of an entity.
+#[derive(Drop)]
+pub enum Ask<'a> {
+    Adds {
+        on: Name<'a>,
+        attribute: &'a Attribute,
+        part: Part<'a>,
+    },
+    Retracts {
+        on: Name<'a>,
+        attribute: &'a Attribute,
+        part: Part<'a>,
+    },
+    /// Every value.
+    RetractsAll {
+        on: Name<'a>,
+        attribute: &'a Attribute,
+    },
+    /// `None` is `nil`: the entity has no value.
+    Compares {
+        on: Name<'a>,
+        attribute: &'a Attribute,
+        old: Option<Part<'a>>,
+        new: Part<'a>,
+    },
+    RetractsEntity {
+        on: Name<'a>,
+    },
+    /// A map stands for this entity.
+    Meets {
+        on: Name<'a>,
+    },
+}
+
+/// What each form asks, in the order in which a reader meets it.
+#[derive(Drop)]
+pub struct Flat<'a> {
+    pub forms: Vec<Vec<Ask<'a>>>,
+    /// How many maps without `:db/id` were met.
+    pub nameless: usize,
+    /// The first form with a map inside another that lacks what it needs.
+    pub lacking: Option<usize>,
+}

@@ -1,0 +1,12 @@
+//! What a transaction asks, between the steps that decide it: first of entities by their names, then of entities by their
+//! numbers, and last triple by triple. This crate has the types, and says what the definitions see in them, so that no step
+//! stands on another's body.
+#![tactic(auto)]
+
+mod acts;
+mod asks;
+mod triples;
+
+pub use acts::{Act, Resolved};
+pub use asks::{Ask, Flat, Name, Part};
+pub use triples::{Asking, Triple};
