@@ -28,10 +28,10 @@ pub data Act : Type 0 where
 
 -- the act of the program
 abbrev pub seen : program.Act → Act
-seen (Adds e attribute v) = adds e (attribute_in attribute) v
-seen (Retracts e attribute v) = retracts e (attribute_in attribute) v
-seen (RetractsAll e attribute) = retracts_all e (attribute_in attribute)
-seen (Compares e attribute old new) = compares e (attribute_in attribute) old new
+seen (Adds e attribute v) = adds e (attribute_in attribute.now) v
+seen (Retracts e attribute v) = retracts e (attribute_in attribute.now) v
+seen (RetractsAll e attribute) = retracts_all e (attribute_in attribute.now)
+seen (Compares e attribute old new) = compares e (attribute_in attribute.now) old new
 seen (RetractsEntity e) = retracts_entity e
 
 -- ---- the act of an ask, where its names and its attribute are known and its value is read

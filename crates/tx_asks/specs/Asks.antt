@@ -25,13 +25,13 @@ use Rattle.tx_asks.specs.declared.asks.Flat.{Flat}
 
 abbrev pub name_of : List (List ℕ) → Name → model.Name
 name_of places (Number n) = model.number n
-name_of places (Ident k) = model.ident k
-name_of places (Lookup k value) = model.lookup k (form_of value)
-name_of places (Tempid text) = model.tempid text
+name_of places (Ident k) = model.ident k.now
+name_of places (Lookup k value) = model.lookup k.now (form_of value.now)
+name_of places (Tempid text) = model.tempid text.now
 name_of places (Nameless n) = model.nameless (slice_index_or places n [])
 
 abbrev pub part_of : List (List ℕ) → Part → model.Part
-part_of places (Plain f v) = model.plain (form_of f)
+part_of places (Plain f v) = model.plain (form_of f.now)
 part_of places (Entity name) = model.entity (name_of places name)
 
 -- nil as the old value of a cas
@@ -40,11 +40,11 @@ old_part_of places None = model.plain edn.nil
 old_part_of places (Some part) = part_of places part
 
 abbrev pub ask_of : List (List ℕ) → Ask → model.Ask
-ask_of places (Adds on attribute part) = model.adds (name_of places on) attribute.ident (part_of places part)
-ask_of places (Retracts on attribute part) = model.retracts (name_of places on) attribute.ident (part_of places part)
-ask_of places (RetractsAll on attribute) = model.retracts_all (name_of places on) attribute.ident
+ask_of places (Adds on attribute part) = model.adds (name_of places on) attribute.now.ident (part_of places part)
+ask_of places (Retracts on attribute part) = model.retracts (name_of places on) attribute.now.ident (part_of places part)
+ask_of places (RetractsAll on attribute) = model.retracts_all (name_of places on) attribute.now.ident
 ask_of places (Compares on attribute old new) =
-    model.compares (name_of places on) attribute.ident (old_part_of places old) (part_of places new)
+    model.compares (name_of places on) attribute.now.ident (old_part_of places old) (part_of places new)
 ask_of places (RetractsEntity on) = model.retracts_entity (name_of places on)
 ask_of places (Meets on) = model.meets (name_of places on)
 
@@ -57,7 +57,7 @@ matters ask = true
 -- ---- values that are read, and maps that are counted
 
 abbrev pub IsReadPart : Attribute → Part → Type 0
-IsReadPart attribute (Plain f v) = value_in attribute.kind (form_of f) ≡ Some v
+IsReadPart attribute (Plain f v) = value_in attribute.kind (form_of f.now) ≡ Some v
 IsReadPart attribute (Entity name) = ⊤
 
 abbrev pub IsReadOldPart : Attribute → Option Part → Type 0
@@ -70,10 +70,10 @@ IsInstalled facts attribute = attribute_named facts attribute.ident ≡ Some (at
 
 -- attributes are installed, and plain values are those of their forms under the attribute's type
 abbrev pub IsRead : List Datom → Ask → Type 0
-IsRead facts (Adds on attribute part) = IsInstalled facts attribute × IsReadPart attribute part
-IsRead facts (Retracts on attribute part) = IsInstalled facts attribute × IsReadPart attribute part
-IsRead facts (RetractsAll on attribute) = IsInstalled facts attribute
-IsRead facts (Compares on attribute old new) = IsInstalled facts attribute × IsReadOldPart attribute old × IsReadPart attribute new
+IsRead facts (Adds on attribute part) = IsInstalled facts attribute.now × IsReadPart attribute.now part
+IsRead facts (Retracts on attribute part) = IsInstalled facts attribute.now × IsReadPart attribute.now part
+IsRead facts (RetractsAll on attribute) = IsInstalled facts attribute.now
+IsRead facts (Compares on attribute old new) = IsInstalled facts attribute.now × IsReadOldPart attribute.now old × IsReadPart attribute.now new
 IsRead facts (RetractsEntity on) = ⊤
 IsRead facts (Meets on) = ⊤
 
