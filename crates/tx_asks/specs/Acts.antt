@@ -1,6 +1,6 @@
 -- What is asked of entities by their numbers, and what resolving the names of a transaction promises.
 -- Datomic, Transaction Data.
-use Rattle.std.specs.Prelude.{◌≡◌, ℕ, Bool, true, false, not, List, [], ◌∷◌, map, filter_map, is_some, IsTrue, Option, Some, None, option_and_then, option_map, ⊤}
+use Rattle.std.specs.Prelude.{◌≡◌, ℕ, Bool, true, false, not, List, [], ◌∷◌, map, filter_map, is_some, IsTrue, Option, None, option_and_then, option_map, ⊤}
 use Rattle.std.specs.List.{All}
 use Rattle.edn_model.specs.Form as edn
 use Rattle.fb_values.specs.declared.facts.Datom.{Datom}

@@ -1,5 +1,5 @@
 -- Which forms ask a triple, and which one is the first. This project's own choice; the order of forms tells in refusals alone.
-use Rattle.std.specs.Prelude.{◌≡◌, ◌≤◌, ℕ, Bool, true, false, ◌&&◌, ◌||◌, List, [], ◌∷◌, map, nat_eq, nat_le, Contains, IsTrue, Option}
+use Rattle.std.specs.Prelude.{◌≡◌, ℕ, Bool, true, false, ◌&&◌, ◌||◌, List, [], ◌∷◌, map, nat_eq, nat_le, Contains, IsTrue, Option}
 use Rattle.std.specs.List.{All, list_any}
 use Rattle.std.specs.Ordering.{nat_cmp, ordering_then, is_lt}
 use Rattle.fb_values.specs.declared.facts.Datom.{Datom}

@@ -5,8 +5,10 @@
 
 mod acts;
 mod asks;
+mod laws;
 mod triples;
 
 pub use acts::{Act, Resolved};
 pub use asks::{Ask, Flat, Name, Part};
+pub use laws::{acts_ask_what_asks_do, acts_compare_what_asks_do, asks_that_ask_for_nothing};
 pub use triples::{Asking, Triple};
