@@ -1,6 +1,9 @@
 pub mod Orders
 pub mod Merging
 pub mod Searching
-pub mod Told
+pub mod WithChanges
 pub mod Drops
 pub mod Results
+pub mod Telling
+pub mod Describing
+pub mod Promising

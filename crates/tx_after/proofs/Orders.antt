@@ -114,7 +114,7 @@ pub rest_rises : (order : Order) (x : Datom) (ds : List Datom) → rises order (
 rest_rises order x [] rising = refl
 rest_rises order x (y ∷ ds) rising = (and_parts _ _ rising).1
 
-not_itself : (order : Order) (x : Datom) → is_lt (key_cmp order x x) ≡ true → ⊥
+pub not_itself : (order : Order) (x : Datom) → is_lt (key_cmp order x x) ≡ true → ⊥
 not_itself order x lt = true≢false (sym lt ∙ ap is_lt (tied_itself (key_cmp_total order) x))
 
 pub triples-from_keys : (order : Order) (ds : List Datom) → rises order ds ≡ true → AreApart ds → triples_rise order ds ≡ true

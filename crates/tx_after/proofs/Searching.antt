@@ -6,19 +6,17 @@ use Rattle.std.specs.Ordering.{is_lt, ordering_then, nat_cmp}
 use Rattle.std.specs.declared.cmp.Ordering.{Ordering}
 use Rattle.std.proofs.lemmas.Bool.{true≢false, and_parts, and_from, eqb-true, eq-eqb, ne_eqb, leb-true, le-leb, ltb-true, ltb-false, cases_order}
 use Rattle.fb_values.specs.declared.facts.Datom.{Datom}
-use Rattle.fb_values.specs.declared.indexes.Order.TheVariants.{Eavt}
-use Rattle.fb_values.specs.Orders.{key_cmp}
+use Rattle.fb_values.specs.declared.indexes.Order.TheVariants.{Eavt, Aevt}
+use Rattle.fb_values.specs.declared.facts.Value.TheVariants.{Ref}
+use Rattle.std.specs.Cmp.{tied_itself, nat_cmp_total}
+use Rattle.std.specs.Cmp.Lexicographic.{slice_cmp}
+use Rattle.fb_values.specs.Orders.{key_cmp, value_cmp}
 use Rattle.fb_model.specs.Rising.{rises}
 use Rattle.fb_model.proofs.Members.{member_passes, all_members}
 use Rattle.fb_model.proofs.InOrder.{first_is_least}
 use Rattle.fb_facts.specs.Told.{is_of_entity}
-use Rattle.tx_after.specs.Places.{place_of, front_of}
+use Rattle.tx_after.specs.Places.{place_of, front_of, entities_rise}
 use Rattle.tx_after.proofs.Orders.{rest_rises}
-
--- the entities do not fall
-abbrev pub entities_rise : List Datom → Bool
-entities_rise [] = true
-entities_rise (d ∷ ds) = list_all (λ y. leb d.e y.e) ds && entities_rise ds
 
 first_decides : (m n : ℕ) (r : Ordering) → is_lt (ordering_then (nat_cmp m n) r) ≡ true → leb m n ≡ true
 first_decides m n r less = go (ltb m n) refl (eqb m n) refl
@@ -160,3 +158,7 @@ part-filter e ds rising =
     let entities = entities-rise ds rising in
     front-filter e (drop (place_of e ds) ds) (rise-drop (place_of e ds) ds entities) (place-from e ds entities)
     ∙ place-filter e ds
+
+-- under one attribute the entity decides first in AEVT too
+pub entity_first : (x y : Datom) → x.a ≡ y.a → is_lt (key_cmp Aevt x y) ≡ true → leb x.e y.e ≡ true
+entity_first x y same less = first_decides x.e y.e _ (sym (ap (λ r. is_lt (ordering_then r (ordering_then (nat_cmp x.e y.e) (slice_cmp value_cmp (x.v ∷ Ref x.t ∷ []) (y.v ∷ Ref y.t ∷ []))))) (ap (λ n. nat_cmp n y.a) same ∙ tied_itself nat_cmp_total y.a)) ∙ less)

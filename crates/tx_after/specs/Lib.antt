@@ -1,3 +1,4 @@
 pub mod After
 pub mod Triples
 pub mod Places
+pub mod Promises

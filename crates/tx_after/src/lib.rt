@@ -1,10 +1,18 @@
 //! The facts of a history with changes behind it that are not recorded yet: those of an entity and those of an attribute,
-//! at the cost of what the history tells of them and of the changes that concern them. And laws: what is said of an
-//! entity depends on its facts alone.
+//! what an entity is as an attribute, and whether an attribute's facts keep what it promises. Each costs what the history
+//! tells of the entity or the attribute, and the changes that concern it.
 #![tactic(auto)]
 
+mod attributes;
+mod described;
 mod facts;
 mod merge;
 mod parts;
+mod promises;
+mod told;
 
+pub use attributes::{attribute_of, is_whole};
+pub use described::{attribute_after, is_whole_after};
 pub use facts::{facts_of, facts_under, values_of};
+pub use promises::{gives_one_holder, gives_one_value};
+pub use told::tells_of;

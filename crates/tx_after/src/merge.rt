@@ -65,7 +65,7 @@ fn push_all(list: &mut Vec<Datom>, datoms: &[Datom]) -> Result<(), Memory>
     Ok(())
 }
 
-fn push_additions(list: &mut Vec<Datom>, changes: &[Datom]) -> Result<(), Memory>
+pub fn push_additions(list: &mut Vec<Datom>, changes: &[Datom]) -> Result<(), Memory>
     ensures { IfOk result (λ _. list.new.items ≡ list.old.items ++ filter is_added changes.now) }
 {
     for d in changes {

@@ -5,7 +5,7 @@ use Rattle.fb_model.specs.History.{said}
 use Rattle.fb_facts.specs.Told.{is_of_entity, facts_of}
 use Rattle.tx_after.specs.Triples.{triples_rise, with_changes}
 use Rattle.tx_after.proofs.Orders.{apart_at_t, triples_rise-filter}
-use Rattle.tx_after.proofs.Told.{told-rises, told_with_changes, apart-from_triples, entity-IsOnTriples}
+use Rattle.tx_after.proofs.WithChanges.{told-rises, told_with_changes, apart-from_triples, entity-IsOnTriples}
 use Rattle.tx_after.proofs.Results.{IfOk-map}
 use Rattle.tx_after.proofs.facts.facts_of.Goals as goal
 

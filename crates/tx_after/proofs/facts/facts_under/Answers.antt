@@ -5,7 +5,7 @@ use Rattle.fb_model.specs.History.{said}
 use Rattle.fb_facts.specs.Told.{is_under, facts_under}
 use Rattle.tx_after.specs.Triples.{triples_rise, with_changes}
 use Rattle.tx_after.proofs.Orders.{apart_at_t, under_one}
-use Rattle.tx_after.proofs.Told.{told-rises, told_with_changes, apart-from_triples, under-IsOnTriples}
+use Rattle.tx_after.proofs.WithChanges.{told-rises, told_with_changes, apart-from_triples, under-IsOnTriples}
 use Rattle.tx_after.proofs.Results.{IfOk-map}
 use Rattle.tx_after.proofs.facts.facts_under.Goals as goal
 

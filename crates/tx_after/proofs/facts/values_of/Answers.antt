@@ -4,7 +4,7 @@ use Rattle.fb_values.specs.declared.facts.Datom.{Datom}
 use Rattle.fb_model.specs.History.{said}
 use Rattle.fb_facts.specs.Told.{is_under}
 use Rattle.tx_after.proofs.Results.{IfOk-map}
-use Rattle.tx_after.proofs.Told.{values-told}
+use Rattle.tx_after.proofs.WithChanges.{values-told}
 use Rattle.tx_after.proofs.facts.values_of.Goals as goal
 
 pub returns : goal.returns
