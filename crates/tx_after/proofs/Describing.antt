@@ -69,7 +69,7 @@ pub filter-length : (p : Datom → Bool) (ds : List Datom) → length (filter p 
 filter-length p [] = omega arith
 filter-length p (d ∷ ds) = elim (p d) as (λ b. length (cond b (d ∷ filter p ds) (filter p ds)) ≤ suc (length ds)) [ true ↦ omega (arith, filter-length p ds) | false ↦ omega (arith, filter-length p ds) ]
 
-length-values : (ds : List Datom) → length (map (λ (d : Datom). d.v) ds) ≡ length ds
+pub length-values : (ds : List Datom) → length (map (λ (d : Datom). d.v) ds) ≡ length ds
 length-values [] = refl
 length-values (d ∷ ds) = ap suc (length-values ds)
 

@@ -7,3 +7,4 @@ pub mod Results
 pub mod Telling
 pub mod Describing
 pub mod Promising
+pub mod Asking

@@ -99,8 +99,10 @@ two_values ds x y x_in y_in e a short =
 
 pub one_value-pairs : (ds : List Datom) (a : ℕ) → gives_one_value ds a ≡ true → HasOneValue ds a
 one_value-pairs ds a gives =
-    record { same = λ x y x_in y_in x_a y_a e. two_values ds x y x_in y_in e (x_a ∙ sym y_a)
-        (or_true _ _ (eq-eqb x.a a x_a) (member_passes (λ d. not (eqb d.a a) || leb (length (values_of ds d.e d.a)) 1) ds x gives x_in)) }
+    record {
+      same = λ x y x_in y_in x_a y_a e. two_values ds x y x_in y_in e (x_a ∙ sym y_a)
+          (or_true _ _ (eq-eqb x.a a x_a) (member_passes (λ d. not (eqb d.a a) || leb (length (values_of ds d.e d.a)) 1) ds x gives x_in));
+    }
 
 pub one_holder-from_pairs : (ds : List Datom) (a : ℕ) → HasOneHolder ds a → gives_one_holder ds a ≡ true
 one_holder-from_pairs ds a pairs =
@@ -125,8 +127,10 @@ two_holders ds x y y_in a v alone =
 
 pub one_holder-pairs : (ds : List Datom) (a : ℕ) → gives_one_holder ds a ≡ true → HasOneHolder ds a
 one_holder-pairs ds a gives =
-    record { same = λ x y x_in y_in x_a y_a v. two_holders ds x y y_in (x_a ∙ sym y_a) v
-        (or_true _ _ (eq-eqb x.a a x_a) (member_passes (λ d. not (eqb d.a a) || has_no_other_holder ds d) ds x gives x_in)) }
+    record {
+      same = λ x y x_in y_in x_a y_a v. two_holders ds x y y_in (x_a ∙ sym y_a) v
+          (or_true _ _ (eq-eqb x.a a x_a) (member_passes (λ d. not (eqb d.a a) || has_no_other_holder ds d) ds x gives x_in));
+    }
 
 -- ---- lists with no two alike
 

@@ -118,9 +118,9 @@ front-filter e (d ∷ ds) rising from = go (eqb d.e e) refl (front-filter e ds (
       where
         above : eqb d.e e ≡ false → e < d.e
         above other = elim (cases_order d.e e) [
-              | inl same ↦ absurd (true≢false (sym (eq-eqb d.e e same) ∙ other))
-              | inr apart ↦ elim apart [ inl lower ↦ absurd (omega (arith, leb-true e d.e (and_parts _ _ from).0)) | inr higher ↦ higher ]
-            ]
+          | inl same ↦ absurd (true≢false (sym (eq-eqb d.e e same) ∙ other))
+          | inr apart ↦ elim apart [ inl lower ↦ absurd (omega (arith, leb-true e d.e (and_parts _ _ from).0)) | inr higher ↦ higher ]
+        ]
 
 -- from the place on all are of this entity or a higher one
 pub place-from : (e : ℕ) (ds : List Datom) → entities_rise ds ≡ true → list_all (λ y. leb e y.e) (drop (place_of e ds) ds) ≡ true
