@@ -1,0 +1,10 @@
+pub mod Orders
+pub mod Merging
+pub mod Searching
+pub mod WithChanges
+pub mod Drops
+pub mod Results
+pub mod Telling
+pub mod Describing
+pub mod Promising
+pub mod Asking

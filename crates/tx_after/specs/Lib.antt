@@ -1,0 +1,4 @@
+pub mod After
+pub mod Triples
+pub mod Places
+pub mod Promises

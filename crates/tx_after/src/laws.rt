@@ -1,0 +1,25 @@
+//! What the lists that are told say of all facts after the changes.
+ghost use Rattle.std.specs.Prelude.{◌≡◌, ℕ, Bool, List, length, IsTrue};
+ghost use Rattle.std.specs.List.{list_any};
+ghost use Rattle.fb_values.specs.declared.facts.Datom.{Datom};
+ghost use Rattle.fb_values.specs.declared.facts.Entry.{Entry};
+ghost use Rattle.fb_model.specs.Facts as facts;
+ghost use Rattle.fb_model.specs.Laws.{has_datoms_in_order, has_no_other_holder};
+ghost use Rattle.tx_after.specs.After.{AreChanges, after, facts_of, facts_under, values_of};
+
+/// The datoms of an entry that are in order are changes.
+pub fn datoms_in_order_are_changes()
+    ensures { (h : List Entry) (entry : Entry) → IsTrue (has_datoms_in_order h entry) → AreChanges entry.datoms }
+{}
+
+/// What only facts of one entity or one attribute can pass is asked of these alone.
+pub fn what_is_asked_of_a_part_is_asked_of_it_alone()
+    ensures entity { (h : List Entry) (changes : List Datom) (e : ℕ) (test : Datom → Bool) → ((d : Datom) → IsTrue (test d) → d.e ≡ e) → list_any test (facts_of h changes e) ≡ list_any test (after h changes) }
+    ensures attribute { (h : List Entry) (changes : List Datom) (a : ℕ) (test : Datom → Bool) → ((d : Datom) → IsTrue (test d) → d.a ≡ a) → list_any test (facts_under h changes a) ≡ list_any test (after h changes) }
+    ensures holder { (h : List Entry) (changes : List Datom) (d : Datom) → has_no_other_holder (facts_under h changes d.a) d ≡ has_no_other_holder (after h changes) d }
+{}
+
+/// The values that are told are as many as all values of the entity under the attribute.
+pub fn values_are_as_many()
+    ensures { (h : List Entry) (changes : List Datom) (e a : ℕ) → length (values_of h changes e a) ≡ length (facts.values_of (after h changes) e a) }
+{}

@@ -1,0 +1,22 @@
+//! The facts of a history with changes behind it that are not recorded yet: those of an entity and those of an attribute,
+//! what an entity is as an attribute, and whether an attribute's facts keep what it promises. Each costs what the history
+//! tells of the entity or the attribute, and the changes that concern it.
+#![tactic(auto)]
+
+mod attributes;
+mod described;
+mod facts;
+mod laws;
+mod merge;
+mod parts;
+mod promises;
+mod told;
+
+pub use attributes::{attribute_of, is_whole};
+pub use described::{attribute_after, is_whole_after};
+pub use facts::{facts_of, facts_under, values_of};
+pub use laws::{
+    datoms_in_order_are_changes, values_are_as_many, what_is_asked_of_a_part_is_asked_of_it_alone,
+};
+pub use promises::{gives_one_holder, gives_one_value};
+pub use told::tells_of;
