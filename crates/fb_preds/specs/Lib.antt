@@ -1,0 +1,2 @@
+pub mod Datoms
+pub mod Table

@@ -1,0 +1,17 @@
+//! Filters that a caller stores: anything that answers of every datom whether it selects it.
+#![tactic(auto)]
+
+mod filters;
+mod finding;
+mod kept;
+mod ranges;
+mod selector;
+mod table;
+
+pub use filters::{Filter, NamedFilter};
+pub use kept::{BoxedTest, Kept};
+pub use selector::{BoxedSelector, Selector};
+pub use table::{PredTable, shipped};
+
+#[cfg(test)]
+mod tests;

@@ -1,0 +1,154 @@
+//! Tables of filters, and closures that are kept as filters.
+use super::*;
+use fb_memory::Memory;
+use fb_values::{Datom, Text, Value};
+use std::alloc::Global;
+use std::test::Fail;
+
+fn datom(e: u64, a: u64, v: Value) -> Datom {
+    Datom {
+        e,
+        a,
+        v,
+        t: 1,
+        added: true,
+    }
+}
+
+fn selects(
+    table: &PredTable,
+    alloc: Global,
+    name: &str,
+    d: &Datom,
+) -> Result<Option<bool>, Memory> {
+    let name = Text::of(alloc, name)?;
+    Ok(match table.find(&name) {
+        Some(place) => Some(table.test(place, d)),
+        None => None,
+    })
+}
+
+fn is(
+    rt: HostRuntime,
+    table: &PredTable,
+    name: &str,
+    d: &Datom,
+    answer: Option<bool>,
+) -> Result<(), Fail> {
+    assert_eq!(rt; selects(table, rt.alloc(), name, d)?, answer);
+    Ok(())
+}
+
+#[test]
+fn users_have_entities_above_a_number(rt: HostRuntime) -> Result<(), Fail> {
+    let table = shipped(rt.alloc())?;
+    is(
+        rt,
+        &table,
+        "users",
+        &datom(17_592_186_044_416, 9, Value::Ref(1)),
+        Some(false),
+    )?;
+    is(
+        rt,
+        &table,
+        "users",
+        &datom(17_592_186_044_417, 9, Value::Ref(1)),
+        Some(true),
+    )
+}
+
+#[test]
+fn a_doc_is_no_other_attribute(rt: HostRuntime) -> Result<(), Fail> {
+    let table = shipped(rt.alloc())?;
+    is(
+        rt,
+        &table,
+        "no-doc",
+        &datom(1, 7, Value::Ref(1)),
+        Some(false),
+    )?;
+    is(
+        rt,
+        &table,
+        "no-doc",
+        &datom(1, 8, Value::Ref(1)),
+        Some(true),
+    )?;
+    is(rt, &table, "docs", &datom(1, 8, Value::Ref(1)), None)
+}
+
+#[test]
+fn zero_is_positive_here(rt: HostRuntime) -> Result<(), Fail> {
+    let table = shipped(rt.alloc())?;
+    is(
+        rt,
+        &table,
+        "positive",
+        &datom(1, 1, Value::Long(-1)),
+        Some(false),
+    )?;
+    is(
+        rt,
+        &table,
+        "positive",
+        &datom(1, 1, Value::Long(0)),
+        Some(true),
+    )?;
+    is(
+        rt,
+        &table,
+        "positive",
+        &datom(1, 1, Value::Instant(-1)),
+        Some(true),
+    )
+}
+
+#[test]
+fn the_later_of_two_names_counts(rt: HostRuntime) -> Result<(), Fail> {
+    let alloc = rt.alloc();
+    let mut table = PredTable::new(alloc);
+    let late = Kept::new(Box::new(alloc, |d: &Datom| d.t > 5)?);
+    table.keep(Text::of(alloc, "late")?, late)?;
+    assert_eq!(rt;
+        selects(&table, alloc, "late", &datom(1, 1, Value::Ref(1)))?,
+        Some(false)
+    );
+    let added = Kept::new(Box::new(alloc, |d: &Datom| d.added)?);
+    table.keep(Text::of(alloc, "late")?, added)?;
+    assert_eq!(rt;
+        selects(&table, alloc, "late", &datom(1, 1, Value::Ref(1)))?,
+        Some(true)
+    );
+    Ok(())
+}
+
+/// Selects one entity.
+#[derive(Drop)]
+struct Entity(u64);
+
+impl Selector for Entity {
+    ghost use Rattle.std.specs.Prelude.{◌≡◌};
+
+    ghost selects = { λ one d. d.e ≡ one.0 };
+
+    fn test(&self, d: &Datom) -> bool {
+        d.e == self.0
+    }
+}
+
+#[test]
+fn a_type_of_a_caller_is_stored(rt: HostRuntime) -> Result<(), Fail> {
+    let alloc = rt.alloc();
+    let mut table = PredTable::new(alloc);
+    table.add(Text::of(alloc, "one")?, Box::new(alloc, Entity(1))?)?;
+    assert_eq!(rt;
+        selects(&table, alloc, "one", &datom(1, 1, Value::Ref(2)))?,
+        Some(true)
+    );
+    assert_eq!(rt;
+        selects(&table, alloc, "one", &datom(2, 1, Value::Ref(1)))?,
+        Some(false)
+    );
+    Ok(())
+}
