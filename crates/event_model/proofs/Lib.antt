@@ -1,0 +1,6 @@
+pub mod Sessions
+pub mod SoundWorlds
+pub mod Entries
+pub mod Growing
+pub mod Running
+pub mod Worlds
