@@ -10,7 +10,7 @@ use Rattle.event_model.specs.World.{Session, Stop, World, opened, with_session}
 
 -- sessions are numbered, and a form is the data of a transaction, with the reading of the clock behind it
 pub data Event : Type 0 where
-  -- a transaction is recorded, refused, or lost as its append to the log fails
+  -- a transaction is recorded, is refused, or its append to the log fails
   accept : ℕ → Form → ℤ → Event
   refuse : ℕ → Form → Event
   fail : ℕ → Form → ℤ → Event
@@ -37,9 +37,11 @@ with_snap b session = record session { snap = b }
 abbrev pub with_mail : ℕ → Session → Session
 with_mail b session = record session { mailed = b }
 
+-- it made a transaction, and has the snapshot behind it
 abbrev pub with_commit : ℕ → Session → Session
 with_commit t session = record session { snap = t; commits = session.commits ++ t ∷ [] }
 
+-- mail that is older than what it has changes nothing
 abbrev pub at_its_mail : Session → Session
 at_its_mail session = with_snap (max session.snap session.mailed) session
 
@@ -49,9 +51,11 @@ at_its_mail session = with_snap (max session.snap session.mailed) session
 abbrev pub synced : ℕ → World → World
 synced s world = with_session s (with_snap (basis world.history)) world
 
+-- the session's transaction is recorded
 abbrev pub committed : ℕ → Entry → World → World
 committed s entry world = with_session s (with_commit entry.t) (record world { history = world.history ++ entry ∷ [] })
 
+-- the append of the next entry failed
 abbrev pub stopped_at : Entry → World → World
 stopped_at entry world = record world { stop = Some (record { t = basis world.history + 1; torn = entry }) }
 
@@ -65,6 +69,7 @@ IsLogOf world h = (h ≡ world.history) ⊎ ((stop : Stop) × (world.stop ≡ So
 abbrev pub IsFoundIn : List ℕ → List Entry → ℕ → Type 0
 IsFoundIn kept h c = (c ≡ 0) ⊎ (Contains kept c × (c ≤ basis h))
 
+-- of the roots some may be lost with the end of their file
 pub record Crashes (before after : World) : Type 0 where
   pub log : IsLogOf before after.history
   pub kept : All (Contains before.kept) after.kept
@@ -73,7 +78,7 @@ pub record Crashes (before after : World) : Type 0 where
 
 -- ---- events
 
--- the event may happen to the one world, and makes the other of it
+-- the event may happen to the one world, and makes the other of it: no clock tells in a refusal, so any reading will do
 abbrev pub Happens : Guard → World → Event → World → Type 0
 Happens guard before (accept s asked reading) after =
     (entry : Entry) × (tempids : List (List ℕ × ℕ)) × (before.stop ≡ None)

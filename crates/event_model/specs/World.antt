@@ -26,7 +26,7 @@ pub record World : Type 0 where
   pub stop : Option Stop
   -- the last t that the adopted trees are of
   pub adopted : ℕ
-  -- the same of each root that the file of segments has
+  -- the last t of each root that the file of segments has
   pub kept : List ℕ
   -- the basis at which a merge has begun
   pub merging : Option ℕ
@@ -53,7 +53,7 @@ pub record IsBeginning (world : World) : Type 0 where
 
 -- ---- changes
 
--- one session is another from now on
+-- the sessions, with one of them changed
 abbrev pub changed : ℕ → (Session → Session) → (ℕ → Session) → ℕ → Session
 changed s change sessions other = cond (nat_eq other s) (change (sessions other)) (sessions other)
 
