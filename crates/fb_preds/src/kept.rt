@@ -13,14 +13,14 @@ pub type BoxedTest = Box<dyn Fn(&Datom) -> bool + Send + Sync>;
 #[derive(Drop)]
 pub struct Kept {
     answers: BoxedTest,
-    ghost callable: { BoxedTest.IsAlwaysCallable answers },
+    ghost callable: { (x : _) → IsDatom x.now → BoxedTest.pre answers x },
     ghost one_answer: { (x y : _) → x.now ≡ y.now → IsDatom x.now → BoxedTest.post answers x true → BoxedTest.post answers y false → ⊥ },
 }
 
 impl Kept {
     /// Takes no memory: the caller has boxed the closure.
     pub fn new(answers: BoxedTest) -> Kept
-        requires callable { BoxedTest.IsAlwaysCallable answers }
+        requires callable { (x : _) → IsDatom x.now → BoxedTest.pre answers x }
         requires one_answer { (x y : _) → x.now ≡ y.now → IsDatom x.now → BoxedTest.post answers x true → BoxedTest.post answers y false → ⊥ }
         ensures { result.answers ≡ answers }
     {

@@ -15,93 +15,52 @@ fn datom(e: u64, a: u64, v: Value) -> Datom {
     }
 }
 
-fn selects(
-    table: &PredTable,
-    alloc: Global,
-    name: &str,
-    d: &Datom,
-) -> Result<Option<bool>, Memory> {
+fn selects(table: &PredTable, alloc: Global, name: &str, d: Datom) -> Result<Option<bool>, Memory> {
     let name = Text::of(alloc, name)?;
     Ok(match table.find(&name) {
-        Some(place) => Some(table.test(place, d)),
+        Some(place) => Some(table.test(place, &d)),
         None => None,
     })
 }
 
-fn is(
-    rt: HostRuntime,
-    table: &PredTable,
-    name: &str,
-    d: &Datom,
-    answer: Option<bool>,
-) -> Result<(), Fail> {
-    assert_eq!(rt; selects(table, rt.alloc(), name, d)?, answer);
+#[test]
+fn users_have_entities_above_a_number(rt: HostRuntime) -> Result<(), Fail> {
+    let alloc = rt.alloc();
+    let table = shipped(alloc)?;
+    let below = selects(
+        &table,
+        alloc,
+        "users",
+        datom(17_592_186_044_416, 9, Value::Ref(1)),
+    )?;
+    let first = selects(
+        &table,
+        alloc,
+        "users",
+        datom(17_592_186_044_417, 9, Value::Ref(1)),
+    )?;
+    assert_eq!(rt; (below, first), (Some(false), Some(true)));
     Ok(())
 }
 
 #[test]
-fn users_have_entities_above_a_number(rt: HostRuntime) -> Result<(), Fail> {
-    let table = shipped(rt.alloc())?;
-    is(
-        rt,
-        &table,
-        "users",
-        &datom(17_592_186_044_416, 9, Value::Ref(1)),
-        Some(false),
-    )?;
-    is(
-        rt,
-        &table,
-        "users",
-        &datom(17_592_186_044_417, 9, Value::Ref(1)),
-        Some(true),
-    )
-}
-
-#[test]
 fn a_doc_is_no_other_attribute(rt: HostRuntime) -> Result<(), Fail> {
-    let table = shipped(rt.alloc())?;
-    is(
-        rt,
-        &table,
-        "no-doc",
-        &datom(1, 7, Value::Ref(1)),
-        Some(false),
-    )?;
-    is(
-        rt,
-        &table,
-        "no-doc",
-        &datom(1, 8, Value::Ref(1)),
-        Some(true),
-    )?;
-    is(rt, &table, "docs", &datom(1, 8, Value::Ref(1)), None)
+    let alloc = rt.alloc();
+    let table = shipped(alloc)?;
+    let doc = selects(&table, alloc, "no-doc", datom(1, 7, Value::Ref(1)))?;
+    let other = selects(&table, alloc, "no-doc", datom(1, 8, Value::Ref(1)))?;
+    assert_eq!(rt; (doc, other), (Some(false), Some(true)));
+    Ok(())
 }
 
 #[test]
 fn zero_is_positive_here(rt: HostRuntime) -> Result<(), Fail> {
-    let table = shipped(rt.alloc())?;
-    is(
-        rt,
-        &table,
-        "positive",
-        &datom(1, 1, Value::Long(-1)),
-        Some(false),
-    )?;
-    is(
-        rt,
-        &table,
-        "positive",
-        &datom(1, 1, Value::Long(0)),
-        Some(true),
-    )?;
-    is(
-        rt,
-        &table,
-        "positive",
-        &datom(1, 1, Value::Instant(-1)),
-        Some(true),
-    )
+    let alloc = rt.alloc();
+    let table = shipped(alloc)?;
+    let below = selects(&table, alloc, "positive", datom(1, 1, Value::Long(-1)))?;
+    let zero = selects(&table, alloc, "positive", datom(1, 1, Value::Long(0)))?;
+    assert_eq!(rt; (below, zero), (Some(false), Some(true)));
+    Ok(())
 }
 
 #[test]
@@ -110,16 +69,11 @@ fn the_later_of_two_names_counts(rt: HostRuntime) -> Result<(), Fail> {
     let mut table = PredTable::new(alloc);
     let late = Kept::new(Box::new(alloc, |d: &Datom| d.t > 5)?);
     table.keep(Text::of(alloc, "late")?, late)?;
-    assert_eq!(rt;
-        selects(&table, alloc, "late", &datom(1, 1, Value::Ref(1)))?,
-        Some(false)
-    );
+    let before = selects(&table, alloc, "late", datom(1, 1, Value::Ref(1)))?;
     let added = Kept::new(Box::new(alloc, |d: &Datom| d.added)?);
     table.keep(Text::of(alloc, "late")?, added)?;
-    assert_eq!(rt;
-        selects(&table, alloc, "late", &datom(1, 1, Value::Ref(1)))?,
-        Some(true)
-    );
+    let after = selects(&table, alloc, "late", datom(1, 1, Value::Ref(1)))?;
+    assert_eq!(rt; (before, after), (Some(false), Some(true)));
     Ok(())
 }
 
@@ -142,13 +96,9 @@ fn a_type_of_a_caller_is_stored(rt: HostRuntime) -> Result<(), Fail> {
     let alloc = rt.alloc();
     let mut table = PredTable::new(alloc);
     table.add(Text::of(alloc, "one")?, Box::new(alloc, Entity(1))?)?;
-    assert_eq!(rt;
-        selects(&table, alloc, "one", &datom(1, 1, Value::Ref(2)))?,
-        Some(true)
-    );
-    assert_eq!(rt;
-        selects(&table, alloc, "one", &datom(2, 1, Value::Ref(1)))?,
-        Some(false)
-    );
+    let one = selects(&table, alloc, "one", datom(1, 1, Value::Ref(2)))?;
+    let other = selects(&table, alloc, "one", datom(2, 1, Value::Ref(1)))?;
+    let none = selects(&table, alloc, "two", datom(1, 1, Value::Ref(1)))?;
+    assert_eq!(rt; (one, other, none), (Some(true), Some(false), None));
     Ok(())
 }

@@ -1,26 +1,25 @@
 -- What is asked of a part of the facts.
-use Rattle.std.proofs.Common.{◌≡◌, ℕ, suc, ◌+◌, ◌≤◌, Bool, true, false, cond, not, ◌&&◌, ◌||◌, List, [], ◌∷◌, ◌++◌, length, map, refl, ap, sym, ◌∙◌, subst, arith, eqb}
+use Rattle.std.proofs.Common.{◌≡◌, ℕ, suc, Bool, true, false, cond, not, ◌&&◌, ◌||◌, List, [], ◌∷◌, ◌++◌, length, refl, ap, sym, ◌∙◌, eqb}
 use Rattle.std.specs.Prelude.{filter, Contains}
-use Rattle.std.specs.List.{list_any, list_all}
+use Rattle.std.specs.List.{list_any}
 use Rattle.std.specs.Ordering.{is_lt}
-use Rattle.std.proofs.lemmas.Bool.{true≢false, and_parts, and_from, eq-eqb, eqb-true, or_parts, not-true}
+use Rattle.std.proofs.lemmas.Bool.{true≢false, and_parts, and_from, eq-eqb, or_parts, not-true}
 use Rattle.fb_values.specs.declared.facts.Datom.{Datom}
 use Rattle.fb_values.specs.declared.facts.Entry.{Entry}
-use Rattle.fb_values.specs.declared.facts.Value.{Value}
 use Rattle.fb_values.specs.declared.indexes.Order.{Order}
 use Rattle.fb_values.specs.declared.indexes.Order.TheVariants.{Eavt, Aevt}
 use Rattle.fb_values.specs.Orders.{key_cmp}
 use Rattle.fb_values.specs.OrderLaws.{key_cmp-Equal}
 use Rattle.fb_model.specs.History.{said}
-use Rattle.fb_model.specs.Rising.{rises, put_in_order, in_order}
+use Rattle.fb_model.specs.Rising.{put_in_order, in_order}
 use Rattle.fb_model.specs.Facts.{is_of, value_eq, standing, values_of}
 use Rattle.fb_model.specs.Schema.{is_about}
 use Rattle.fb_model.specs.Laws.{has_no_other_holder}
-use Rattle.fb_model.proofs.Members.{here, there, any_member, some_member, member_passes, all_members, kept, keep, standing_added, are_of_other_triples, standing-apart, filter-standing, in_order_member}
+use Rattle.fb_model.proofs.Members.{any_member, some_member, member_passes, all_members, kept, keep, standing_added, are_of_other_triples, standing-apart, filter-standing, in_order_member}
 use Rattle.fb_model.proofs.InOrder.{in_order_has, equal_keys}
 use Rattle.fb_model.proofs.Triples.{is_of-true, value_eq-refl}
-use Rattle.fb_facts.specs.Told.{is_of_entity, is_under}
-use Rattle.tx_after.specs.After.{after, facts_of, facts_under, values_of as told_values}
+use Rattle.fb_facts.specs.Told.{is_under}
+use Rattle.tx_after.specs.After.{after, facts_under, values_of as told_values}
 use Rattle.tx_after.proofs.WithChanges.{one_of_added}
 use Rattle.tx_after.proofs.Promising.{both_ways}
 use Rattle.tx_after.proofs.Describing.{length-values}

@@ -1,22 +1,21 @@
 -- What describes an entity after the changes: the facts before that stay, and then the additions.
-use Rattle.std.proofs.Common.{◌≡◌, ℕ, suc, ◌+◌, ◌≤◌, Bool, true, false, cond, not, ◌&&◌, ◌||◌, List, [], ◌∷◌, ◌++◌, length, map, refl, ap, sym, ◌∙◌, subst, arith, eqb, leb, Option, Some, None}
-use Rattle.std.specs.Prelude.{filter, Contains}
-use Rattle.std.specs.List.{list_any, list_all}
+use Rattle.std.proofs.Common.{◌≡◌, ℕ, suc, ◌≤◌, Bool, true, false, cond, not, ◌&&◌, ◌||◌, List, [], ◌∷◌, ◌++◌, length, map, refl, ap, sym, ◌∙◌, subst, arith, eqb, leb, Option}
+use Rattle.std.specs.Prelude.{filter}
+use Rattle.std.specs.List.{list_any}
 use Rattle.std.specs.Option.{option_map_or}
-use Rattle.std.proofs.lemmas.Bool.{true≢false, and_parts, and_from, or_parts, or_cases, eqb-true, leb-true}
+use Rattle.std.proofs.lemmas.Bool.{and_parts, or_parts, eqb-true, leb-true}
 use Rattle.fb_values.specs.declared.facts.Datom.{Datom}
 use Rattle.fb_values.specs.declared.facts.Entry.{Entry}
-use Rattle.fb_values.specs.declared.facts.Value.{Value}
 use Rattle.fb_values.specs.declared.indexes.Order.TheVariants.{Eavt}
 use Rattle.fb_model.specs.Numbers.{ident, value_type, cardinality, unique, is_component, index}
 use Rattle.fb_model.specs.History.{said}
 use Rattle.fb_model.specs.Rising.{in_order}
-use Rattle.fb_model.specs.Facts.{facts, is_of, standing, stands_before, values_of, value_of}
+use Rattle.fb_model.specs.Facts.{facts, standing, values_of, value_of}
 use Rattle.fb_model.specs.Lawful.{IsLawful}
 use Rattle.fb_model.specs.Laws.{keeps_one_value}
 use Rattle.fb_model.specs.Schema.{Attribute, attribute_of, is_whole, is_about, is_one}
-use Rattle.fb_model.proofs.Members.{here, there, kept, keep, standing_added, are_of_other_triples, filter_twice}
-use Rattle.fb_model.proofs.Triples.{standing-append, not_followed}
+use Rattle.fb_model.proofs.Members.{kept, standing_added, are_of_other_triples, filter_twice}
+use Rattle.fb_model.proofs.Triples.{standing-append}
 use Rattle.fb_model.proofs.Untouched.{filter-append}
 use Rattle.fb_model.proofs.Invariants.{lawful-one_value, both_pass, or_true}
 use Rattle.fb_model.proofs.SchemaHistories.{builtin_stays}
@@ -149,3 +148,18 @@ module _ (h : List Entry) (changes : List Datom) (e : ℕ) (lawful : IsLawful h)
 
   pub whole_said : is_whole (said_of h changes e) e ≡ is_whole (after h changes) e
   whole_said = rw (attribute_said, value_said cardinality (one_of cardinality _ (builtin_stays cardinality refl h lawful) refl)) refl
+
+-- ---- what is said of an entity is said by its own facts
+
+pub values-own : (ds : List Datom) (e a : ℕ) → values_of (filter (told.is_of_entity e) ds) e a ≡ values_of ds e a
+values-own ds e a = ap (map (λ (d : Datom). d.v)) (about_of e a ds)
+
+value-own : (ds : List Datom) (e a : ℕ) → value_of (filter (told.is_of_entity e) ds) e a ≡ value_of ds e a
+value-own ds e a = rw (about_of e a ds) refl
+
+pub attribute-own : (ds : List Datom) (e : ℕ) → attribute_of (filter (told.is_of_entity e) ds) e ≡ attribute_of ds e
+attribute-own ds e =
+    rw (value-own ds e ident, value-own ds e value_type, value-own ds e cardinality, value-own ds e unique, value-own ds e is_component, value-own ds e index) refl
+
+pub whole-own : (ds : List Datom) (e : ℕ) → is_whole (filter (told.is_of_entity e) ds) e ≡ is_whole ds e
+whole-own ds e = rw (attribute-own ds e, value-own ds e cardinality) refl

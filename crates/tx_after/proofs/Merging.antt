@@ -1,17 +1,17 @@
 -- Facts and changes as one rising list, a step after another.
-use Rattle.std.proofs.Common.{◌≡◌, ℕ, Bool, true, false, cond, not, ◌&&◌, ◌||◌, List, [], ◌∷◌, ◌++◌, refl, ap, sym, ◌∙◌, subst, append_assoc}
-use Rattle.std.specs.Prelude.{filter, Contains}
+use Rattle.std.proofs.Common.{◌≡◌, Bool, true, false, cond, not, ◌||◌, List, [], ◌∷◌, ◌++◌, refl, ap, sym, ◌∙◌}
+use Rattle.std.specs.Prelude.{filter}
 use Rattle.std.specs.List.{list_any, list_all}
 use Rattle.std.specs.Ordering.{is_lt, ordering_reverse}
 use Rattle.std.specs.declared.cmp.Ordering.TheVariants.{Less, Equal, Greater}
-use Rattle.std.proofs.lemmas.Bool.{true≢false, and_parts, and_from, or_from}
+use Rattle.std.proofs.lemmas.Bool.{and_parts, and_from, or_from}
 use Rattle.fb_values.specs.declared.facts.Datom.{Datom}
 use Rattle.fb_values.specs.declared.indexes.Order.{Order}
 use Rattle.fb_values.specs.Orders.{key_cmp}
 use Rattle.fb_values.specs.OrderLaws.{key_cmp_total}
 use Rattle.fb_model.specs.Rising.{rises, put_in_order, in_order}
 use Rattle.fb_model.specs.Facts.{is_of}
-use Rattle.fb_model.proofs.Members.{here, there, member_passes, all_members, kept, in_order_member}
+use Rattle.fb_model.proofs.Members.{member_passes, all_members, kept, in_order_member}
 use Rattle.tx_after.specs.Triples.{triple_cmp, triples_rise, is_untold, is_added, with_changes}
 use Rattle.tx_after.proofs.Orders.{triple_cmp_total, key_lt, same_triple, other_triple, other_triple_back, lt_chain, triples-keys, triples_rise-filter, is_less}
 

@@ -1,7 +1,7 @@
 -- Triples in the order of an index, whatever their t.
-use Rattle.std.proofs.Common.{◌≡◌, ℕ, Bool, true, false, cond, not, ◌&&◌, ◌||◌, List, [], ◌∷◌, ◌++◌, refl, ap, sym, ◌∙◌, subst, inl, inr, ◌⊎◌, eqb}
+use Rattle.std.proofs.Common.{◌≡◌, ℕ, Bool, true, false, cond, List, [], ◌∷◌, refl, ap, sym, ◌∙◌, subst, eqb}
 use Rattle.std.specs.Prelude.{filter, Contains}
-use Rattle.std.specs.List.{list_any, list_all}
+use Rattle.std.specs.List.{list_all}
 use Rattle.std.specs.Ordering.{is_lt, ordering_then, nat_cmp}
 use Rattle.std.specs.declared.cmp.Ordering.{Ordering}
 use Rattle.std.specs.declared.cmp.Ordering.TheVariants.{Less, Equal, Greater}
@@ -12,12 +12,12 @@ use Rattle.fb_values.specs.declared.facts.Value.{Value}
 use Rattle.fb_values.specs.declared.indexes.Order.{Order}
 use Rattle.fb_values.specs.declared.indexes.Order.TheVariants.{Eavt, Aevt, Avet, Vaet}
 use Rattle.fb_values.specs.Orders.{key_cmp, value_cmp}
-use Rattle.fb_values.specs.OrderLaws.{key_cmp_total, key_cmp-Equal, value_cmp_total}
-use Rattle.fb_model.specs.Facts.{is_of, standing, value_eq}
+use Rattle.fb_values.specs.OrderLaws.{key_cmp_total, key_cmp-Equal}
+use Rattle.fb_model.specs.Facts.{is_of}
 use Rattle.fb_model.specs.Rising.{rises}
-use Rattle.fb_model.proofs.Members.{here, there, cases_of, none_of, member_passes, all_members, some_member, any_member, kept}
+use Rattle.fb_model.proofs.Members.{here, there, member_passes, all_members, kept}
 use Rattle.fb_model.proofs.InOrder.{first_is_least}
-use Rattle.fb_model.proofs.Triples.{IsOf, is_of-true, value_eq-refl}
+use Rattle.fb_model.proofs.Triples.{is_of-true, value_eq-refl}
 use Rattle.fb_facts.specs.Told.{is_under}
 use Rattle.tx_after.specs.Triples.{without_t, triple_cmp, triples_rise}
 

@@ -1,24 +1,23 @@
 -- What an attribute promises of facts, told from its facts alone.
-use Rattle.std.proofs.Common.{◌≡◌, ℕ, zero, suc, ◌+◌, ◌<◌, ◌≤◌, Bool, true, false, cond, not, ◌&&◌, ◌||◌, List, [], ◌∷◌, ◌++◌, length, drop, map, refl, ap, sym, ◌∙◌, subst, arith, inl, inr, ◌⊎◌, eqb, leb}
+use Rattle.std.proofs.Common.{◌≡◌, ℕ, zero, suc, ◌<◌, ◌≤◌, Bool, true, false, cond, not, ◌&&◌, ◌||◌, List, [], ◌∷◌, ◌++◌, length, drop, map, refl, ap, sym, ◌∙◌, subst, arith, inl, inr, ◌⊎◌, eqb, leb}
 use Rattle.std.specs.Prelude.{filter, Contains}
-use Rattle.std.specs.List.{list_any, list_all}
+use Rattle.std.specs.List.{list_any}
 use Rattle.std.specs.Ordering.{is_lt, is_eq}
 use Rattle.std.specs.BTreeSet.{BTreeSet, contains, Updates}
-use Rattle.std.proofs.lemmas.Bool.{true≢false, and_parts, and_from, or_parts, or_from, or_left, or_right, or_cases, not-true, eqb-true, eq-eqb, leb-true, le-leb, cases_Bool}
+use Rattle.std.proofs.lemmas.Bool.{true≢false, and_parts, and_from, or_parts, not-true, eqb-true, eq-eqb, leb-true, le-leb}
 use Rattle.fb_values.specs.declared.facts.Datom.{Datom}
 use Rattle.fb_values.specs.declared.facts.Entry.{Entry}
 use Rattle.fb_values.specs.declared.facts.Value.{Value}
 use Rattle.fb_values.specs.Orders.{key_cmp, value_cmp}
-use Rattle.fb_values.specs.declared.indexes.Order.{Order}
 use Rattle.fb_values.specs.declared.indexes.Order.TheVariants.{Aevt}
 use Rattle.fb_model.specs.History.{said}
-use Rattle.fb_model.specs.Rising.{rises, in_order}
+use Rattle.fb_model.specs.Rising.{rises}
 use Rattle.fb_model.specs.Facts.{is_of, value_eq, values_of, standing}
 use Rattle.fb_model.specs.Schema.{is_about}
 use Rattle.fb_model.specs.Laws.{has_no_other_holder}
 use Rattle.fb_model.proofs.Members.{here, there, cases_of, none_of, member_passes, all_members, any_member, some_member, IsKept, kept, keep, standing_added, standing-apart, are_of_other_triples, filter-standing, in_order_member, in_order-rises}
 use Rattle.fb_model.proofs.InOrder.{in_order_has, first_is_least}
-use Rattle.fb_model.proofs.Triples.{IsOf, is_of-true, value_eq-true, value_eq-refl}
+use Rattle.fb_model.proofs.Triples.{is_of-true, value_eq-true, value_eq-refl}
 use Rattle.fb_model.proofs.Invariants.{values_of-is_of, only_value, or_true}
 use Rattle.fb_facts.specs.Told.{is_under}
 use Rattle.tx_after.specs.After.{after, facts_under}

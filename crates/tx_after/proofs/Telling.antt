@@ -1,20 +1,17 @@
 -- Where the changes of a triple lie.
-use Rattle.std.proofs.Common.{◌≡◌, ℕ, zero, suc, ◌+◌, ◌<◌, ◌≤◌, Bool, true, false, cond, ◌&&◌, ◌||◌, List, [], ◌∷◌, length, get_or, refl, ap, sym, ◌∙◌, subst, arith}
+use Rattle.std.proofs.Common.{◌≡◌, ℕ, zero, suc, ◌+◌, ◌<◌, ◌≤◌, Bool, true, false, cond, ◌||◌, List, [], ◌∷◌, length, get_or, refl, ap, sym, ◌∙◌, subst, arith}
 use Rattle.std.specs.List.{list_all, list_any}
 use Rattle.std.specs.Ordering.{is_lt}
-use Rattle.std.specs.declared.cmp.Ordering.{Ordering}
-use Rattle.std.specs.declared.cmp.Ordering.TheVariants.{Less, Equal, Greater}
-use Rattle.std.specs.Cmp.{IsTotalOrder, tied_itself}
 use Rattle.std.specs.Ordering.{ordering_reverse}
-use Rattle.std.proofs.lemmas.Bool.{true≢false, and_parts, or_from, or_right}
+use Rattle.std.proofs.lemmas.Bool.{true≢false, and_parts, or_from}
 use Rattle.fb_values.specs.declared.facts.Datom.{Datom}
 use Rattle.fb_values.specs.declared.facts.Value.{Value}
 use Rattle.fb_values.specs.declared.indexes.Order.TheVariants.{Eavt}
 use Rattle.fb_model.specs.Facts.{is_of}
-use Rattle.fb_model.proofs.Triples.{IsOf, is_of-true}
+use Rattle.fb_model.proofs.Triples.{is_of-true}
 use Rattle.tx_after.specs.Triples.{triple_cmp, triples_rise}
 use Rattle.tx_after.specs.Places.{is_lower, triple_place}
-use Rattle.tx_after.proofs.Orders.{triple_cmp_total, lt_chain, at_one_place, other_triple, same_triple}
+use Rattle.tx_after.proofs.Orders.{triple_cmp_total, lt_chain, at_one_place}
 
 module _ (e a : ℕ) (v : Value) where
   asked : Datom

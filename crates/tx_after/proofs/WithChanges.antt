@@ -1,24 +1,22 @@
 -- The facts with changes, as far as they pass a test of triples.
-use Rattle.std.proofs.Common.{◌≡◌, ℕ, Bool, true, false, cond, not, ◌&&◌, ◌||◌, List, [], ◌∷◌, ◌++◌, refl, ap, sym, ◌∙◌, subst, inl, inr, ◌⊎◌, eqb}
+use Rattle.std.proofs.Common.{◌≡◌, ℕ, Bool, true, false, cond, not, ◌&&◌, List, [], ◌∷◌, ◌++◌, refl, ap, sym, ◌∙◌, subst, inl, inr, ◌⊎◌, eqb}
 use Rattle.std.specs.Prelude.{filter, Contains, map}
 use Rattle.std.specs.List.{list_any, list_all}
 use Rattle.std.specs.Ordering.{is_lt}
-use Rattle.std.proofs.lemmas.Bool.{true≢false, and_parts, and_from, or_cases, not-true, eqb-true, eq-eqb}
+use Rattle.std.proofs.lemmas.Bool.{true≢false, and_parts, and_from, not-true, eq-eqb}
 use Rattle.std.proofs.lemmas.List.Elements.{Contains-append_left, Contains-append_right, Contains-append_cases}
-use Rattle.std.specs.declared.cmp.Ordering.TheVariants.{Equal}
 use Rattle.fb_values.specs.declared.facts.Datom.{Datom}
 use Rattle.fb_values.specs.declared.facts.Entry.{Entry}
 use Rattle.fb_values.specs.declared.facts.Value.{Value}
 use Rattle.fb_values.specs.declared.indexes.Order.{Order}
-use Rattle.fb_values.specs.declared.indexes.Order.TheVariants.{Eavt, Aevt}
-use Rattle.fb_values.specs.Orders.{key_cmp}
-use Rattle.fb_values.specs.OrderLaws.{key_cmp-Equal, IsAtOnePlace}
+use Rattle.fb_values.specs.declared.indexes.Order.TheVariants.{Eavt}
+use Rattle.fb_values.specs.OrderLaws.{key_cmp-Equal}
 use Rattle.fb_model.specs.Rising.{rises, in_order}
 use Rattle.fb_model.specs.History.{said}
 use Rattle.fb_model.specs.Facts.{is_of, standing, facts, value_eq}
-use Rattle.fb_model.proofs.Members.{here, there, cases_of, none_of, member_passes, all_members, any_member, some_member, IsKept, kept, keep, standing_member, standing_added, standing_has, standing-apart, are_of_other_triples, in_order_member, in_order-rises, filter_twice}
+use Rattle.fb_model.proofs.Members.{here, cases_of, none_of, member_passes, any_member, some_member, IsKept, kept, keep, standing_member, standing_added, standing_has, standing-apart, are_of_other_triples, in_order_member, in_order-rises, filter_twice}
 use Rattle.fb_model.proofs.InOrder.{OneForEachKey, in_order_has, one_rising_list, first_is_least}
-use Rattle.fb_model.proofs.Triples.{IsOf, is_of-true, standing-append, not_followed, value_eq-refl}
+use Rattle.fb_model.proofs.Triples.{is_of-true, standing-append, not_followed, value_eq-refl}
 use Rattle.fb_model.proofs.Untouched.{IsOnTriples}
 use Rattle.fb_model.specs.Schema.{is_about}
 use Rattle.fb_facts.specs.Told.{is_of_entity, is_under}

@@ -1,6 +1,6 @@
 -- What holds behind a history with changes that are not recorded yet, and the lists that are told of it.
 -- Datomic, Transaction Data (a database with a transaction applied) and Indexes (EAVT for an entity, AEVT for an attribute).
-use Rattle.std.specs.Prelude.{◌≡◌, ℕ, List, ◌++◌, map, filter, nat_eq, IsTrue}
+use Rattle.std.specs.Prelude.{ℕ, List, ◌++◌, map, filter, nat_eq, IsTrue}
 use Rattle.std.specs.List.{list_all}
 use Rattle.fb_values.specs.declared.facts.Datom.{Datom}
 use Rattle.fb_values.specs.declared.facts.Entry.{Entry}

@@ -17,6 +17,7 @@ pub use described::{attribute_after, is_whole_after};
 pub use facts::{facts_of, facts_under, values_of};
 pub use laws::{
     datoms_in_order_are_changes, values_are_as_many, what_is_asked_of_a_part_is_asked_of_it_alone,
+    what_is_said_of_an_entity_is_in_its_facts,
 };
 pub use promises::{gives_one_holder, gives_one_value};
 pub use told::tells_of;

@@ -1,5 +1,4 @@
-use Rattle.std.proofs.Common.{◌≡◌, ◌∙◌, ap, sym}
-use Rattle.fb_values.specs.declared.facts.Datom.{Datom}
+use Rattle.std.proofs.Common.{◌∙◌, ap}
 use Rattle.fb_values.specs.declared.indexes.Order.TheVariants.{Eavt}
 use Rattle.fb_model.specs.Schema.{attribute_of}
 use Rattle.tx_after.proofs.Results.{IfOk-map}

@@ -1,5 +1,4 @@
 use Rattle.std.proofs.Common.{◌≡◌, ◌∙◌, true, ap, sym, subst}
-use Rattle.std.specs.Prelude.{filter}
 use Rattle.fb_values.specs.declared.indexes.Order.TheVariants.{Eavt, Aevt}
 use Rattle.fb_model.specs.History.{said}
 use Rattle.fb_facts.specs.Told.{is_under, facts_under}

@@ -1,7 +1,6 @@
-use Rattle.std.proofs.Common.{◌≡◌, ◌∙◌, map, ap, sym}
+use Rattle.std.proofs.Common.{◌∙◌, map, ap}
 use Rattle.std.specs.Prelude.{filter}
 use Rattle.fb_values.specs.declared.facts.Datom.{Datom}
-use Rattle.fb_model.specs.History.{said}
 use Rattle.fb_facts.specs.Told.{is_under}
 use Rattle.tx_after.proofs.Results.{IfOk-map}
 use Rattle.tx_after.proofs.WithChanges.{values-told}

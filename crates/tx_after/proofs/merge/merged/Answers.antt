@@ -1,8 +1,7 @@
-use Rattle.std.proofs.Common.{◌≡◌, ◌+◌, ◌-◌, ◌<◌, ◌≤◌, ◌∙◌, ◌++◌, ◌&&◌, List, [], ◌∷◌, length, take, drop, cond, true, ap, sym, subst, arith, append_assoc}
+use Rattle.std.proofs.Common.{◌≡◌, ◌+◌, ◌-◌, ◌∙◌, ◌++◌, [], ◌∷◌, length, take, drop, cond, true, ap, sym, subst, arith, append_assoc}
 use Rattle.std.specs.Prelude.{filter}
-use Rattle.std.proofs.lemmas.Bool.{and_parts, and_from}
-use Rattle.fb_values.specs.declared.facts.Datom.{Datom}
-use Rattle.tx_after.specs.Triples.{triples_rise, triple_cmp, is_added, with_changes}
+use Rattle.std.proofs.lemmas.Bool.{and_parts}
+use Rattle.tx_after.specs.Triples.{triples_rise, is_added, with_changes}
 use Rattle.tx_after.proofs.Drops.{drop_first, drop_end, whole_rest}
 use Rattle.tx_after.proofs.Merging.{step-old, step-told, step-new, left_no_facts, left_no_changes, low_rest}
 use Rattle.tx_after.proofs.merge.merged.Goals as goal

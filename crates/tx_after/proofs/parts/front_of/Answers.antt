@@ -1,5 +1,4 @@
-use Rattle.std.proofs.Common.{◌≡◌, ◌∙◌, ap, sym, subst, arith}
-use Rattle.tx_after.specs.Places.{front_of}
+use Rattle.std.proofs.Common.{arith}
 use Rattle.tx_after.proofs.Searching.{front_more, front_end, front_of-le-length}
 use Rattle.tx_after.proofs.parts.front_of.Goals as goal
 

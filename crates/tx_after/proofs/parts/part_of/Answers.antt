@@ -1,4 +1,4 @@
-use Rattle.std.proofs.Common.{◌≡◌, ◌-◌, ◌∙◌, length, take, drop, ap, sym}
+use Rattle.std.proofs.Common.{◌-◌, ◌∙◌, length, take, drop, ap}
 use Rattle.tx_after.specs.Places.{place_of, front_of}
 use Rattle.tx_after.proofs.Drops.{whole_rest}
 use Rattle.tx_after.proofs.Searching.{part-filter}

@@ -1,5 +1,4 @@
-use Rattle.std.proofs.Common.{◌≡◌, ◌+◌, ◌-◌, ◌/◌, ◌<◌, ◌≤◌, ◌∙◌, get_or, ap, sym, arith}
-use Rattle.tx_after.specs.Places.{place_of}
+use Rattle.std.proofs.Common.{◌+◌, ◌-◌, ◌/◌, arith}
 use Rattle.tx_after.proofs.Searching.{entities-rise, place_behind, place_upto, place_of-le-length}
 use Rattle.tx_after.proofs.parts.place_of.Goals as goal
 

@@ -1,8 +1,8 @@
-use Rattle.std.proofs.Common.{◌≡◌, ◌-◌, ◌+◌, ◌<◌, ◌≤◌, ◌∙◌, ◌∷◌, length, drop, true, ap, sym, subst, arith, length-drop}
+use Rattle.std.proofs.Common.{◌≡◌, ◌-◌, ◌∙◌, ◌∷◌, length, drop, true, ap, sym, subst, arith, length-drop}
 use Rattle.fb_values.specs.declared.facts.Datom.{Datom}
 use Rattle.tx_after.specs.Places.{entities_rise}
 use Rattle.tx_after.specs.Promises as promises
-use Rattle.tx_after.proofs.Drops.{drop_first, drop_before}
+use Rattle.tx_after.proofs.Drops.{drop_before}
 use Rattle.tx_after.proofs.Promising.{single, not_entities, first_two, next_decides, rise_drop}
 use Rattle.tx_after.proofs.promises.are_of_other_entities.Goals as goal
 

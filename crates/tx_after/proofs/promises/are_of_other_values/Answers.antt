@@ -1,4 +1,4 @@
-use Rattle.std.proofs.Common.{◌≡◌, ◌-◌, ◌&&◌, ◌∙◌, ◌∷◌, drop, ap, sym, subst, true, arith}
+use Rattle.std.proofs.Common.{◌-◌, ◌&&◌, ◌∙◌, drop, ap, sym, subst, arith}
 use Rattle.std.proofs.lemmas.Bool.{and_from}
 use Rattle.tx_after.specs.Promises as promises
 use Rattle.tx_after.proofs.Drops.{drop_before}

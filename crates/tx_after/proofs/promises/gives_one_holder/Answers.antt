@@ -1,4 +1,4 @@
-use Rattle.std.proofs.Common.{◌≡◌, ◌∙◌, ap, sym}
+use Rattle.std.proofs.Common.{◌∙◌, ap}
 use Rattle.tx_after.specs.Promises.{are_of_other_values}
 use Rattle.tx_after.proofs.Results.{IfOk-map}
 use Rattle.tx_after.proofs.Promising.{other_values-is}

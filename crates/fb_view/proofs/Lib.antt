@@ -1,0 +1,14 @@
+pub mod Rises
+pub mod Ranging
+pub mod Lists
+pub mod Standing
+pub mod Refilling
+pub mod Alone
+pub mod Beginnings
+pub mod Merging
+pub mod Lasting
+pub mod Walking
+pub mod Probing
+pub mod Telling
+pub mod Answering
+pub mod Users

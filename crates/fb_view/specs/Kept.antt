@@ -1,0 +1,67 @@
+-- What a database value at a point keeps, and when that stands for its history.
+-- Restates Indexes of Datomic's documentation; that there are live lists beside the trees is this project's own choice.
+use Rattle.std.specs.Prelude.{◌≡◌, ℕ, List}
+use Rattle.fb_values.specs.declared.facts.Datom.{Datom}
+use Rattle.fb_values.specs.declared.facts.Entry.{Entry}
+use Rattle.fb_covers.specs.Coverage.{Coverage}
+use Rattle.fb_search.specs.Lists.{Lists}
+use Rattle.fb_model.specs.History.{basis, upto}
+use Rattle.fb_model.specs.Facts.{facts}
+use Rattle.fb_model.specs.Schema.{schema_in}
+use Rattle.fb_model.specs.Lawful.{IsLawful, IsLawfulAfter}
+use Rattle.view_model.specs.Stands.{Lists as ModelLists, RootStands, SnapshotStands}
+use Rattle.fb_schema.specs.Described.{SchemaStands}
+use Rattle.live_index.specs.Standing.{lists_of, IsCoverageOf}
+use Rattle.seg_tree.specs.Nodes.{tree_datoms}
+use Rattle.seg_tree.specs.declared.roots.Roots.{Roots}
+use Rattle.fb_view.specs.declared.growth.Older.{Older}
+use Rattle.fb_view.specs.declared.growth.Recent.{Recent}
+
+-- a history with its schema, its live lists, and the trees of its entries up to one of them
+pub record Kept : Type 0 where
+  pub entries : List Entry
+  -- the facts that name entities and describe attributes
+  pub schema : List Datom
+  pub live : Lists
+  pub roots : Roots
+  -- which attributes the trees hold
+  pub held : Coverage
+  -- the t of the last entry that the trees are of
+  pub covered : ℕ
+
+abbrev pub kept : List Entry → Recent → Older → Kept
+kept h recent older = record {
+  entries = h;
+  schema = recent.schema;
+  live = recent.live;
+  roots = older.roots;
+  held = older.held;
+  covered = older.covered;
+}
+
+-- what the trees hold, read from left to right
+abbrev pub trees_of : Roots → ModelLists
+trees_of roots = record {
+  eavt = tree_datoms roots.eavt;
+  aevt = tree_datoms roots.aevt;
+  avet = tree_datoms roots.avet;
+  vaet = tree_datoms roots.vaet;
+}
+
+-- the parts stand for the entries
+pub record Stands (k : Kept) : Type 0 where
+  pub history : SnapshotStands k.entries (schema_in k.schema) (trees_of k.roots) (lists_of k.live) k.covered k.entries
+  pub schema_is : SchemaStands k.schema k.entries
+  pub held_is : IsCoverageOf k.held (facts (upto k.entries k.covered))
+
+-- the trees are those of a whole history, with the coverage of its schema
+pub record AreWhole (h : List Entry) (older : Older) : Type 0 where
+  pub lawful : IsLawful h
+  pub roots_stand : RootStands (trees_of older.roots) h older.covered
+  pub covered_is : older.covered ≡ basis h
+  pub held_is : IsCoverageOf older.held (facts h)
+
+-- the parts stand for the history, and the entry may follow it
+pub record Follows (h : List Entry) (recent : Recent) (older : Older) (entry : Entry) : Type 0 where
+  pub stands : Stands (kept h recent older)
+  pub next : IsLawfulAfter h entry

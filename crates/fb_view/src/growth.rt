@@ -1,0 +1,168 @@
+//! What grows with each entry, the schema and the live lists, beside trees that stay.
+ghost use Rattle.std.specs.Prelude.{◌≡◌, ◌++◌, ◌∷◌, ◌<◌, [], List, IfOk, length};
+ghost use Rattle.fb_values.specs.declared.facts.Entry.{Entry};
+ghost use Rattle.fb_values.specs.declared.indexes.Order.{Order};
+ghost use Rattle.fb_values.specs.declared.indexes.Order.TheVariants.{Aevt};
+ghost use Rattle.fb_search.specs.Lists.{list_in};
+ghost use Rattle.fb_search.specs.Rising.{IsRising};
+ghost use Rattle.fb_model.specs.History.{upto};
+ghost use Rattle.fb_model.specs.Lawful.{IsLawful};
+ghost use Rattle.fb_schema.specs.Described.{SchemaStands};
+ghost use Rattle.live_index.specs.Standing.{IsNext};
+ghost use Rattle.seg_tree.specs.Nodes.{tree_datoms};
+
+use crate::ranges::{push_live, push_older};
+use crate::sorting::in_avet;
+use fb_covers::Covers;
+use fb_history::EntryList;
+use fb_memory::Memory;
+use fb_schema::{Schema, changes_schema};
+use fb_values::{Datom, Datoms, Entry, Order, Probe};
+use live_index::{Live, next_entries_bring_no_twins};
+use seg_tree::Roots;
+use std::alloc::Global;
+
+/// The indexes of the entries up to one of them.
+#[derive(Drop)]
+pub struct Older {
+    pub roots: Roots,
+    /// Which attributes the trees hold.
+    pub held: Covers,
+    /// The t of the last entry that they are of.
+    pub covered: u32,
+}
+
+/// The schema of a whole history, and what its indexes hold besides the trees.
+#[derive(Drop)]
+pub struct Recent {
+    pub schema: Schema,
+    pub live: Live,
+}
+
+impl Older {
+    /// The same trees, at the cost of a few reference counts.
+    pub fn share(&self) -> Result<Older, Memory>
+        ensures { IfOk result (λ older. older ≡ self.now) }
+    {
+        Ok(Older {
+            roots: self.roots.share()?,
+            held: self.held.share()?,
+            covered: self.covered,
+        })
+    }
+}
+
+impl Recent {
+    ghost use Rattle.fb_covers.specs.Coverage.{Coverage};
+    ghost use Rattle.fb_schema.specs.Tables.{HasCoverage};
+    ghost use Rattle.fb_view.specs.declared.growth.Older.{Older};
+    ghost use Rattle.fb_view.specs.Kept.{kept, Stands, AreWhole, Follows};
+    ghost use Rattle.fb_view.specs.Refills.{missed, all_missed, AreGained};
+
+    /// Nothing is live where the trees hold the whole history.
+    pub fn fresh(alloc: Global, schema: Schema) -> Recent
+        ensures empty { (order : Order) → list_in result.live order ≡ [] }
+        ensures stands { (h : List Entry) (older : Older) → SchemaStands schema h → AreWhole h older
+            → Stands (kept h result older) }
+    {
+        Recent {
+            schema,
+            live: Live::empty(alloc),
+        }
+    }
+
+    /// With the entry that comes next, where the trees stay.
+    pub fn with(&self, alloc: Global, older: &Older, entry: &Entry) -> Result<Recent, Memory>
+        requires { (h : List Entry) × Follows h self.now older.now entry.now }
+        ensures { IfOk result (λ new. (h : List Entry) → Follows h self.now older.now entry.now
+            → Stands (kept (h ++ entry.now ∷ []) new older.now)) }
+    {
+        next_entries_bring_no_twins();
+        let schema = self.schema.of_entry(entry)?;
+        let refill = self.refill(alloc, older, entry, &schema)?;
+        let live = self.live.with_entry(entry, schema.covers(), &refill)?;
+        Ok(Recent { schema, live })
+    }
+
+    /// With those of the entries that come after the ones of the trees.
+    pub fn replayed(
+        self,
+        alloc: Global,
+        older: &Older,
+        entries: &EntryList,
+    ) -> Result<Recent, Memory>
+        requires lawful { IsLawful entries.now }
+        requires within { older.now.covered < length entries.now }
+        requires stands { Stands (kept (upto entries.now older.now.covered) self older.now) }
+        ensures { IfOk result (λ new. Stands (kept entries.now new older.now)) }
+    {
+        let len = entries.len();
+        let from = older.covered + 1;
+        let mut recent = self;
+        for t in from..len {
+            recent = recent.with(alloc, older, entries.at(t))?;
+        }
+        Ok(recent)
+    }
+
+    /// The older datoms that AVET is to have with the entry and has not had before.
+    fn refill(
+        &self,
+        alloc: Global,
+        older: &Older,
+        entry: &Entry,
+        after: &Schema,
+    ) -> Result<Datoms, Memory>
+        requires follows { (h : List Entry) × Follows h self.now older.now entry.now }
+        requires schema { (h : List Entry) → SchemaStands self.now.schema h
+            → SchemaStands after.now (h ++ entry.now ∷ []) }
+        ensures { IfOk result (λ refill. (h : List Entry) (coverage : Coverage) → Follows h self.now older.now entry.now
+            → HasCoverage coverage after.now → IsNext h older.now.covered entry.now coverage refill) }
+    {
+        let gained = self.gained(alloc, entry, after)?;
+        let missed = self.missed(alloc, older, &gained)?;
+        in_avet(alloc, missed, after.covers())
+    }
+
+    /// The attributes that AVET holds with the entry and has not held before: none, where the entry says nothing of the
+    /// schema.
+    fn gained(&self, alloc: Global, entry: &Entry, after: &Schema) -> Result<Vec<u64>, Memory>
+        ensures { IfOk result (λ gained. (h : List Entry) → SchemaStands self.now.schema h
+            → SchemaStands after.now (h ++ entry.now ∷ []) → AreGained self.now.schema after.now gained.items) }
+    {
+        if !changes_schema(entry) {
+            return Ok(Vec::new(alloc));
+        }
+        Ok(self.schema.gained(after)?)
+    }
+
+    /// The attributes' datoms that no tree of AVET has.
+    fn missed(&self, alloc: Global, older: &Older, attributes: &[u64]) -> Result<Vec<Datom>, Memory>
+        requires { IsRising Aevt (tree_datoms older.now.roots.aevt) }
+        ensures { IfOk result (λ found. found.items ≡ all_missed self.now older.now attributes.now) }
+    {
+        let mut found = Vec::new(alloc);
+        for a in attributes {
+            self.push_missed(&mut found, older, *a)?;
+        }
+        Ok(found)
+    }
+
+    fn push_missed(&self, found: &mut Vec<Datom>, older: &Older, a: u64) -> Result<(), Memory>
+        requires { IsRising Aevt (tree_datoms older.now.roots.aevt) }
+        ensures { IfOk result (λ _. found.new.items ≡ found.old.items ++ missed self.now older.now a) }
+    {
+        let probe = Probe {
+            order: Order::Aevt,
+            e: None,
+            a: Some(a),
+            v: None,
+            t: None,
+        };
+        push_live(found, &self.live, &probe)?;
+        if older.held.holds(Order::Avet, a) {
+            return Ok(());
+        }
+        push_older(found, &older.roots.aevt, &probe)
+    }
+}

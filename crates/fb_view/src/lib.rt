@@ -1,0 +1,14 @@
+//! A database value at a point: its history with its schema, its trees and its live index, as one thing that is shared.
+#![tactic(auto)]
+
+mod facts;
+mod growth;
+mod issued;
+mod making;
+mod merged;
+mod ranges;
+mod snapshot;
+mod sorting;
+
+pub use merged::{Both, Spot};
+pub use snapshot::Snapshot;

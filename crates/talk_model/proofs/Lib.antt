@@ -1,0 +1,11 @@
+pub mod Steps
+pub mod OneMore
+pub mod Longer
+pub mod Places
+pub mod Reading
+pub mod OneReply
+pub mod Told
+pub mod PlainText
+pub mod Computed
+pub mod TextSteps
+pub mod OneLine

@@ -1,0 +1,98 @@
+-- What one form does to a standing, whatever its command is.
+use Rattle.std.proofs.Common.{◌≡◌, ℕ, ◌<◌, ◌≤◌, ◌⊎◌, Bool, true, false, cond, List, [], ◌∷◌, ◌++◌, refl, ap, sym, ◌∙◌, inl, inr, arith, Option, Some, None, Result, Ok, Err}
+use Rattle.edn_model.specs.Form.{Form}
+use Rattle.fb_values.specs.declared.facts.Entry.{Entry}
+use Rattle.fb_model.specs.History.{basis, upto}
+use Rattle.view_model.specs.Window.{Window}
+use Rattle.view_model.specs.Window as window
+use Rattle.read_refusals.specs.declared.reasons.Refusal.{Refusal}
+use Rattle.read_model.specs.Points.{point_in}
+use Rattle.talk_model.specs.Commands.{Command, transact, db, sync, as_of, since, history, filter, unfilter, command_in}
+use Rattle.talk_model.specs.Session.{Setting, Standing}
+use Rattle.talk_model.specs.Reads.{windowed, behind}
+use Rattle.talk_model.specs.Talk.{IsAccepted, IsRefused, IsNotTaken, IsStopped, IsShown, IsRead, AnswersCommand, IsAnswered}
+
+-- ---- reads
+
+windowed-place : (standing : Standing) (change : ℕ → Window → Window) (point : Result ℕ Refusal) → (windowed standing change point).place ≡ standing.place
+windowed-place standing change (Ok end) = refl
+windowed-place standing change (Err r) = refl
+
+windowed-told : (standing : Standing) (change : ℕ → Window → Window) (point : Result ℕ Refusal) → (windowed standing change point).told ≡ standing.told
+windowed-told standing change (Ok end) = refl
+windowed-told standing change (Err r) = refl
+
+filtered-place : (b : Bool) (standing : Standing) (names : List (List ℕ)) → (cond b (record standing { filters = names }) standing).place ≡ standing.place
+filtered-place true standing names = refl
+filtered-place false standing names = refl
+
+filtered-told : (b : Bool) (standing : Standing) (names : List (List ℕ)) → (cond b (record standing { filters = names }) standing).told ≡ standing.told
+filtered-told true standing names = refl
+filtered-told false standing names = refl
+
+pub behind-place : (h : List Entry) (is_filter : List ℕ → Bool) (standing : Standing) (command : Option Command) → (behind h is_filter standing command).place ≡ standing.place
+behind-place h is_filter standing (Some (as_of point)) = windowed-place standing window.as_of (point_in h point)
+behind-place h is_filter standing (Some (since point)) = windowed-place standing window.since (point_in h point)
+behind-place h is_filter standing (Some history) = refl
+behind-place h is_filter standing (Some (filter name)) = filtered-place (is_filter name) standing (standing.filters ++ name ∷ [])
+behind-place h is_filter standing (Some unfilter) = refl
+behind-place h is_filter standing command = refl
+
+pub behind-told : (h : List Entry) (is_filter : List ℕ → Bool) (standing : Standing) (command : Option Command) → (behind h is_filter standing command).told ≡ standing.told
+behind-told h is_filter standing (Some (as_of point)) = windowed-told standing window.as_of (point_in h point)
+behind-told h is_filter standing (Some (since point)) = windowed-told standing window.since (point_in h point)
+behind-told h is_filter standing (Some history) = refl
+behind-told h is_filter standing (Some (filter name)) = filtered-told (is_filter name) standing (standing.filters ++ name ∷ [])
+behind-told h is_filter standing (Some unfilter) = refl
+behind-told h is_filter standing command = refl
+
+-- ---- each form
+
+pub record Goes (s : Setting) (before after : Standing) (commit : Option ℕ) : Type 0 where
+  pub from : before.place ≤ after.place
+  pub within : after.place ≤ basis s.history
+  pub commits : (commit ≡ None) ⊎ ((commit ≡ Some after.place) × (before.place < after.place))
+
+moved_to : (s : Setting) (before after : Standing) (commit : Option ℕ) (place : ℕ) → before.place ≤ place → place ≤ basis s.history → commit ≡ None → after.place ≡ place → Goes s before after commit
+moved_to s before after commit place from within commits stands =
+    record { from = omega (arith, from, stands); within = omega (arith, within, stands); commits = inl commits }
+
+module _ (s : Setting) (before after : Standing) (line : List ℕ) (commit : Option ℕ) (seen : before.place ≤ basis s.history) where
+  accepted_goes : (asked : Form) → IsAccepted s before asked after line commit → Goes s before after commit
+  accepted_goes asked a =
+      let stands : after.place ≡ a.place = ap (λ (x : Standing). x.place) a.stands in
+      record {
+        from = omega (arith, a.above, stands);
+        within = omega (arith, a.within, stands);
+        commits = inr (a.commits ∙ ap Some (sym stands), omega (arith, a.above, stands));
+      }
+
+  refused_goes : (asked : Form) → IsRefused s before asked after line commit → Goes s before after commit
+  refused_goes asked r = moved_to s before after commit r.place r.from r.within r.commits (ap (λ (x : Standing). x.place) r.stands)
+
+  not_taken_goes : (asked : Form) → IsNotTaken s before asked after line commit → Goes s before after commit
+  not_taken_goes asked r = moved_to s before after commit r.place r.from r.within r.commits (ap (λ (x : Standing). x.place) r.stands)
+
+  stopped_goes : IsStopped s before after line commit → Goes s before after commit
+  stopped_goes r = moved_to s before after commit r.place r.from r.within r.commits (ap (λ (x : Standing). x.place) r.stands)
+
+  shown_goes : IsShown s before after line commit → Goes s before after commit
+  shown_goes r = moved_to s before after commit r.place r.from r.within r.commits (ap (λ (x : Standing). x.place) r.stands)
+
+  read_goes : (command : Option Command) → IsRead s before command after line commit → Goes s before after commit
+  read_goes command r =
+      moved_to s before after commit before.place (omega arith) seen r.commits
+      (ap (λ (x : Standing). x.place) r.stands ∙ behind-place (upto s.history before.place) s.is_filter before command)
+
+  command_goes : (command : Option Command) → AnswersCommand s before command after line commit → Goes s before after commit
+  command_goes (Some (transact asked)) a =
+      elim a [
+        | inl a ↦ accepted_goes asked a
+        | inr a ↦ elim a [ inl a ↦ refused_goes asked a | inr a ↦ elim a [ inl a ↦ not_taken_goes asked a | inr a ↦ stopped_goes a ] ]
+      ]
+  command_goes (Some db) a = shown_goes a
+  command_goes (Some sync) a = shown_goes a
+  command_goes command a = read_goes command a
+
+  pub answer_goes : (f : Form) → IsAnswered s before f after line commit → Goes s before after commit
+  answer_goes f a = command_goes (command_in f) a

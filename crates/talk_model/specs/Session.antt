@@ -1,0 +1,56 @@
+-- What a session is answered by: what it shares with others, and where it stands itself between two commands.
+-- This project's own choice. Of two filters with one name the later one counts: what is selected by a name is told here.
+use Rattle.std.specs.Prelude.{◌≡◌, ◌⊎◌, ℕ, ℤ, Bool, false, List, [], ◌∷◌, ◌++◌, Option, None}
+use Rattle.fb_values.specs.declared.facts.Datom.{Datom}
+use Rattle.fb_values.specs.declared.facts.Entry.{Entry}
+use Rattle.view_model.specs.Window.{Window, whole}
+use Rattle.tx_model.specs.Step.{Guard}
+
+pub record Setting : Type 1 where
+  -- what the clock may read
+  pub may : ℤ → Type 0
+  pub guard : Guard
+  -- which names are those of filters, and what the filter of a name selects
+  pub is_filter : List ℕ → Bool
+  pub Selects : List ℕ → Datom → Type 0
+  -- of all sessions together
+  pub history : List Entry
+  -- the t that the log did not take, and whether it was this session that asked for it
+  pub stop : Option ℕ
+  pub teller : Bool
+
+pub record Standing : Type 0 where
+  -- the t up to which the session has seen the history
+  pub place : ℕ
+  -- what its reads see of that
+  pub window : Window
+  -- the names of its filters, in the order in which they were added
+  pub filters : List (List ℕ)
+  -- whether it was told that the log did not take its transaction
+  pub told : Bool
+
+-- of a session that is opened at this t
+abbrev pub opened_at : ℕ → Standing
+opened_at t = record { place = t; window = whole; filters = []; told = false }
+
+-- the session has seen more of the history
+abbrev pub moved : Standing → ℕ → Standing
+moved standing t = record standing { place = t }
+
+-- each filter of these names selects the datom
+abbrev pub SelectedBy : (List ℕ → Datom → Type 0) → List (List ℕ) → Datom → Type 0
+SelectedBy Selects [] d = Unit {0}
+SelectedBy Selects (name ∷ names) d = Selects name d × SelectedBy Selects names d
+
+-- the same setting with more of the history, and with what became of the log
+abbrev pub grown : Setting → List Entry → Option ℕ → Bool → Setting
+grown s more stop teller = record s { history = s.history ++ more; stop = stop; teller = teller }
+
+-- the log may have stopped meanwhile; where it had, it has stopped there
+abbrev pub Stays : Setting → Option ℕ → Bool → Type 0
+Stays s stop teller = (s.stop ≡ None) ⊎ ((stop ≡ s.stop) × (teller ≡ s.teller))
+
+-- of what no clause can range over, and the rest
+abbrev pub setting : (ℤ → Type 0) → (List ℕ → Datom → Type 0) → Guard → (List ℕ → Bool) → List Entry → Option ℕ → Bool → Setting
+setting may Selects guard is_filter history stop teller =
+    record { may = may; guard = guard; is_filter = is_filter; Selects = Selects; history = history; stop = stop; teller = teller }

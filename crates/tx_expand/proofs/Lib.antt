@@ -1,0 +1,16 @@
+pub mod Arguments
+pub mod Cuts
+pub mod FormMembers
+pub mod MapNames
+pub mod Underscores
+pub mod Nested
+pub mod LookupRefs
+pub mod Together
+pub mod Renaming
+pub mod OneMore
+pub mod Numbering
+pub mod FormsNumbered
+pub mod Below
+pub mod SameAttributes
+pub mod Whole
+pub mod OwnNames

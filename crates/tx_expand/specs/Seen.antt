@@ -1,0 +1,54 @@
+-- What the definitions see in asks that are not judged yet. A map without `:db/id` goes by its number among these maps.
+-- This project's own choice.
+use Rattle.std.specs.Prelude.{ℕ, List, [], ◌∷◌, map, Option, Some, None}
+use Rattle.edn_form.specs.View.{form_of}
+use Rattle.tx_model.specs.Asks as model
+use Rattle.tx_asks.specs.declared.asks.Name.{Name}
+use Rattle.tx_asks.specs.declared.asks.Name.TheVariants.{Number, Ident, Lookup, Tempid, Nameless}
+use Rattle.tx_expand.specs.declared.raw.Attr.{Attr}
+use Rattle.tx_expand.specs.declared.raw.Attr.TheVariants.{Known, Unknown}
+use Rattle.tx_expand.specs.declared.raw.Link.{Link}
+use Rattle.tx_expand.specs.declared.raw.Link.TheVariants.{Forward, Backward}
+use Rattle.tx_expand.specs.declared.raw.RawPart.{RawPart}
+use Rattle.tx_expand.specs.declared.raw.RawPart.TheVariants.{Plain, Entity}
+use Rattle.tx_expand.specs.declared.raw.RawAsk.{RawAsk}
+use Rattle.tx_expand.specs.declared.raw.RawAsk.TheVariants.{Adds, Retracts, RetractsAll, Compares, RetractsEntity, Meets, Mentions, LacksId}
+use Rattle.tx_expand.specs.declared.raw.Out.{Out}
+
+abbrev pub name_seen : Name → model.Name
+name_seen (Number z) = model.number z
+name_seen (Ident k) = model.ident k.now
+name_seen (Lookup k f) = model.lookup k.now (form_of f.now)
+name_seen (Tempid s) = model.tempid s.now
+name_seen (Nameless n) = model.nameless (n ∷ [])
+
+-- the keyword in the attribute's place
+abbrev pub word_of : Attr → List ℕ
+word_of (Known attribute) = attribute.now.ident
+word_of (Unknown k) = k
+
+abbrev pub link_seen : Link → model.Key
+link_seen (Forward attr) = model.forward (word_of attr)
+link_seen (Backward attr) = model.backward (word_of attr)
+
+-- none is `:db/id`
+abbrev pub key_seen : Option Link → model.Key
+key_seen None = model.own
+key_seen (Some link) = link_seen link
+
+abbrev pub part_seen : RawPart → model.Part
+part_seen (Plain f) = model.plain (form_of f.now)
+part_seen (Entity name) = model.entity (name_seen name)
+
+abbrev pub raw_seen : RawAsk → model.Ask
+raw_seen (Adds name attr part) = model.adds (name_seen name) (word_of attr) (part_seen part)
+raw_seen (Retracts name attr part) = model.retracts (name_seen name) (word_of attr) (part_seen part)
+raw_seen (RetractsAll name attr) = model.retracts_all (name_seen name) (word_of attr)
+raw_seen (Compares name attr old new) = model.compares (name_seen name) (word_of attr) (part_seen old) (part_seen new)
+raw_seen (RetractsEntity name) = model.retracts_entity (name_seen name)
+raw_seen (Meets name) = model.meets (name_seen name)
+raw_seen (Mentions attr) = model.mentions (word_of attr)
+raw_seen LacksId = model.lacks_id
+
+abbrev pub out_seen : Out → List model.Ask
+out_seen out = map raw_seen out.raws.items

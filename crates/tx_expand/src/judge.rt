@@ -1,0 +1,222 @@
+//! The asks of a form, judged: those that stand, and what is wrong with any.
+ghost use Rattle.std.specs.Prelude.{◌≡◌, ◌++◌, ◌∷◌, [], map, filter, IfOk};
+ghost use Rattle.std.specs.List.{All};
+ghost use Rattle.edn_form.specs.View.{form_of};
+ghost use Rattle.tx_model.specs.Asks as asks;
+ghost use Rattle.tx_model.specs.NameRules as model;
+ghost use Rattle.tx_asks.specs.Asks.{IsRead};
+ghost use Rattle.tx_expand.specs.Seen.{word_of, part_seen, raw_seen};
+ghost use Rattle.tx_expand.specs.Known.{IsLookedUp, IsAskLookedUp};
+ghost use Rattle.tx_expand.specs.Faults as faults;
+ghost use Rattle.tx_expand.specs.Faults.{ask_read, is_kept, Settles};
+
+use crate::faults::{Faults, NameFaults};
+use crate::lookups::name_faults;
+use crate::raw::{Attr, RawAsk, RawPart};
+use crate::settle::{Settled, settle};
+use edn_form::Edn;
+use edn_values::is_reserved;
+use fb_memory::Memory;
+use fb_numbers::{IDENT, TX_INSTANT};
+use fb_schema::Schema;
+use std::alloc::Global;
+use tx_asks::Ask;
+
+/// The asks of a form that stand, and what is wrong with any of its asks.
+#[derive(Drop)]
+pub struct Judged<'a> {
+    pub asks: Vec<Ask<'a>>,
+    pub faults: Faults,
+}
+
+// ---- lookup refs
+
+#[tactic(auto, using(crate::proofs::LookupRefs::either_none))]
+fn part_faults(schema: &Schema, part: RawPart<'_>) -> Result<NameFaults, Memory>
+    ensures { IfOk result (λ found. found ≡ faults.names_faults schema.now (asks.name_of_part (part_seen part.entry))) }
+{
+    match part {
+        RawPart::Plain(_) => Ok(NameFaults::NONE),
+        RawPart::Entity(name) => name_faults(schema, name),
+    }
+}
+
+/// What is wrong with the lookup refs in the names of the ask.
+#[tactic(auto, using(crate::proofs::LookupRefs::either_none, crate::proofs::LookupRefs::faults_behind))]
+fn names_faults(schema: &Schema, raw: &RawAsk<'_>) -> Result<NameFaults, Memory>
+    ensures { IfOk result (λ found. found ≡ faults.names_faults schema.now (asks.names_of (raw_seen raw.now))) }
+{
+    match raw {
+        RawAsk::Adds(on, _, part) => Ok(name_faults(schema, *on)?.or(part_faults(schema, *part)?)),
+        RawAsk::Retracts(on, _, part) => {
+            Ok(name_faults(schema, *on)?.or(part_faults(schema, *part)?))
+        }
+        RawAsk::Compares(on, _, old, new) => {
+            let values = part_faults(schema, *old)?.or(part_faults(schema, *new)?);
+            Ok(name_faults(schema, *on)?.or(values))
+        }
+        RawAsk::RetractsAll(on, _) => name_faults(schema, *on),
+        RawAsk::RetractsEntity(on) => name_faults(schema, *on),
+        RawAsk::Meets(on) => name_faults(schema, *on),
+        RawAsk::Mentions(_) => Ok(NameFaults::NONE),
+        RawAsk::LacksId => Ok(NameFaults::NONE),
+    }
+}
+
+// ---- what the database keeps for itself
+
+fn is_protected(_schema: &Schema, attr: &Attr<'_>) -> bool
+    requires { IsLookedUp _schema.now attr.now }
+    ensures { result ≡ model.is_protected _schema.now (word_of attr.now) }
+{
+    match attr {
+        Attr::Known(attribute) => attribute.id == TX_INSTANT,
+        Attr::Unknown(_) => false,
+    }
+}
+
+fn is_ident(_schema: &Schema, attr: &Attr<'_>) -> bool
+    requires { IsLookedUp _schema.now attr.now }
+    ensures { result ≡ model.is_ident _schema.now (word_of attr.now) }
+{
+    match attr {
+        Attr::Known(attribute) => attribute.id == IDENT,
+        Attr::Unknown(_) => false,
+    }
+}
+
+fn is_reserved_form(f: &Edn) -> bool
+    ensures { result ≡ model.is_reserved_part (asks.plain (form_of f.now)) }
+{
+    match f {
+        Edn::Key(k) => is_reserved(k.as_str()),
+        _ => false,
+    }
+}
+
+fn is_reserved_part(part: RawPart<'_>) -> bool
+    ensures { result ≡ model.is_reserved_part (part_seen part.entry) }
+{
+    match part {
+        RawPart::Plain(f) => is_reserved_form(f),
+        RawPart::Entity(_) => false,
+    }
+}
+
+/// Whether the ask is of the attribute that the database sets, or adds an ident that the database keeps for itself.
+fn is_of_protected(schema: &Schema, raw: &RawAsk<'_>) -> bool
+    requires { IsAskLookedUp schema.now raw.now }
+    ensures { result ≡ faults.is_of_protected schema.now (raw_seen raw.now) }
+{
+    match raw {
+        RawAsk::Adds(_, attr, part) => {
+            is_protected(schema, attr) || (is_ident(schema, attr) && is_reserved_part(*part))
+        }
+        RawAsk::Compares(_, attr, _, new) => {
+            is_protected(schema, attr) || (is_ident(schema, attr) && is_reserved_part(*new))
+        }
+        RawAsk::Retracts(_, attr, _) => is_protected(schema, attr),
+        RawAsk::RetractsAll(_, attr) => is_protected(schema, attr),
+        RawAsk::Mentions(attr) => is_protected(schema, attr),
+        _ => false,
+    }
+}
+
+// ---- one ask
+
+fn is_unknown(_schema: &Schema, _raw: &RawAsk<'_>, settled: &Settled<'_>) -> bool
+    requires { Settles _schema.now (raw_seen _raw.now) settled.now }
+    ensures { result ≡ faults.is_of_unknown _schema.now (raw_seen _raw.now) }
+{
+    match settled {
+        Settled::Unknown => true,
+        Settled::Stands(_) => false,
+        Settled::Wrong => false,
+        Settled::Mere => false,
+    }
+}
+
+fn is_wrong(_schema: &Schema, _raw: &RawAsk<'_>, settled: &Settled<'_>) -> bool
+    requires { Settles _schema.now (raw_seen _raw.now) settled.now }
+    ensures { result ≡ faults.has_wrong_value _schema.now (raw_seen _raw.now) }
+{
+    match settled {
+        Settled::Wrong => true,
+        Settled::Stands(_) => false,
+        Settled::Unknown => false,
+        Settled::Mere => false,
+    }
+}
+
+fn is_lacking(raw: &RawAsk<'_>) -> bool
+    ensures { result ≡ model.is_lacking (raw_seen raw.now) }
+{
+    match raw {
+        RawAsk::LacksId => true,
+        _ => false,
+    }
+}
+
+/// Keeps an ask that stands.
+fn keep<'a>(
+    _schema: &Schema,
+    _raw: &RawAsk<'a>,
+    settled: Settled<'a>,
+    asks: &mut Vec<Ask<'a>>,
+) -> Result<(), Memory>
+    requires settled { Settles _schema.now (raw_seen _raw.now) settled }
+    requires read { All (IsRead _schema.now) asks.old.items }
+    ensures asks { IfOk result (λ _. map ask_read asks.new.items ≡ map ask_read asks.old.items ++ filter (is_kept _schema.now) (raw_seen _raw.now ∷ [])) }
+    ensures read { IfOk result (λ _. All (IsRead _schema.now) asks.new.items) }
+{
+    match settled {
+        Settled::Stands(ask) => {
+            asks.push(ask)?;
+            Ok(())
+        }
+        Settled::Wrong => Ok(()),
+        Settled::Unknown => Ok(()),
+        Settled::Mere => Ok(()),
+    }
+}
+
+fn judge<'a>(schema: &Schema, raw: &RawAsk<'a>, asks: &mut Vec<Ask<'a>>) -> Result<Faults, Memory>
+    requires known { IsAskLookedUp schema.now raw.now }
+    requires read { All (IsRead schema.now) asks.old.items }
+    ensures faults { IfOk result (λ found. found ≡ faults.ask_faults schema.now (raw_seen raw.now)) }
+    ensures asks { IfOk result (λ _. map ask_read asks.new.items ≡ map ask_read asks.old.items ++ filter (is_kept schema.now) (raw_seen raw.now ∷ [])) }
+    ensures read { IfOk result (λ _. All (IsRead schema.now) asks.new.items) }
+{
+    let names = names_faults(schema, raw)?;
+    let settled = settle(schema, raw)?;
+    let unknown = is_unknown(schema, raw, &settled);
+    let wrong = is_wrong(schema, raw, &settled);
+    keep(schema, raw, settled, asks)?;
+    Ok(Faults {
+        unknown: unknown || names.unknown,
+        protected: is_of_protected(schema, raw),
+        wrong: wrong || names.wrong,
+        not_unique: names.not_unique,
+        lacking: is_lacking(raw),
+    })
+}
+
+/// The asks of a form, judged.
+#[tactic(auto, using(crate::proofs::Together::either_of_none, crate::proofs::Together::faults_then))]
+pub fn judge_all<'a>(
+    alloc: Global,
+    schema: &Schema,
+    raws: &[RawAsk<'a>],
+) -> Result<Judged<'a>, Memory>
+    requires known { All (IsAskLookedUp schema.now) raws.now }
+    ensures faults { IfOk result (λ judged. judged.faults ≡ faults.form_faults schema.now (map raw_seen raws.now)) }
+    ensures asks { IfOk result (λ judged. map ask_read judged.asks.items ≡ filter (is_kept schema.now) (map raw_seen raws.now)) }
+    ensures read { IfOk result (λ judged. All (IsRead schema.now) judged.asks.items) }
+{
+    let mut asks = Vec::with_capacity(alloc, raws.len())?;
+    let mut faults = Faults::NONE;
+    for raw in raws {
+        faults = faults.or(judge(schema, raw, &mut asks)?);
+    }
+    Ok(Judged { asks, faults })
+}

@@ -1,0 +1,273 @@
+//! What one value under a key asks: the map's entity has it, or the entity that is the value has the map's.
+ghost use Rattle.std.specs.Prelude.{◌≡◌, ◌∷◌, [], ◌++◌, false, None, IfOk};
+ghost use Rattle.edn_model.specs.Form as edn;
+ghost use Rattle.edn_form.specs.View.{form_of, forms_of, pairs_of, members, entries};
+ghost use Rattle.tx_model.specs.Asks as asks;
+ghost use Rattle.tx_model.specs.Walk as model;
+ghost use Rattle.tx_expand.specs.Seen.{name_seen, word_of, link_seen, key_seen, part_seen, out_seen};
+ghost use Rattle.tx_expand.specs.Known.{HaveOwnNames, IsLinkLookedUp, IsKeyLookedUp, AreLookedUp};
+ghost use Rattle.tx_expand.specs.Numbered.{name_at, behind, is_collection as is_model_collection, takes_maps as takes_model_maps, lacks, entry_asks};
+
+use crate::attrs::{has_many, has_parts, has_ref, has_uniqueness, is_unique, push};
+use crate::lists::scalar;
+use crate::names::{link_in, name_of_map};
+use crate::raw::{Link, Out, RawAsk, RawPart};
+use edn_form::{Edn, Items, Pairs};
+use fb_memory::Memory;
+use fb_schema::Schema;
+use std::alloc::Global;
+use tx_asks::Name;
+use tx_forms::lookup_in;
+
+/// One value under a key.
+pub fn link<'a>(
+    schema: &Schema,
+    out: &mut Out<'a>,
+    this: Name<'a>,
+    link: &Link<'a>,
+    part: RawPart<'a>,
+) -> Result<(), Memory>
+    requires link_known { IsLinkLookedUp schema.now link.now }
+    requires known { AreLookedUp schema.now out.old }
+    ensures asks { IfOk result (λ _. out_seen out.new ≡ out_seen out.old ++ model.links (name_seen this.entry) (link_seen link.now) (part_seen part.entry)) }
+    ensures next { IfOk result (λ _. out.new.next ≡ out.old.next) }
+    ensures known { IfOk result (λ _. AreLookedUp schema.now out.new) }
+{
+    match link {
+        Link::Forward(attr) => push(schema, out, RawAsk::Adds(this, attr.copy()?, part)),
+        Link::Backward(attr) => match part {
+            RawPart::Entity(other) => {
+                let back = RawPart::Entity(this);
+                push(schema, out, RawAsk::Adds(other, attr.copy()?, back))
+            }
+            RawPart::Plain(_) => push(schema, out, RawAsk::Adds(this, attr.copy()?, part)),
+        },
+    }
+}
+
+/// A number, an ident, a tempid or a plain value under a key.
+pub fn scalar_link<'a>(
+    schema: &Schema,
+    out: &mut Out<'a>,
+    this: Name<'a>,
+    key: &Link<'a>,
+    f: &'a Edn,
+) -> Result<(), Memory>
+    requires link_known { IsLinkLookedUp schema.now key.now }
+    requires known { AreLookedUp schema.now out.old }
+    ensures asks { IfOk result (λ _. out_seen out.new ≡ out_seen out.old ++ model.scalar_asks schema.now (name_seen this.entry) (link_seen key.now) (form_of f.now)) }
+    ensures next { IfOk result (λ _. out.new.next ≡ out.old.next) }
+    ensures known { IfOk result (λ _. AreLookedUp schema.now out.new) }
+{
+    match key {
+        Link::Forward(attr) => link(schema, out, this, key, scalar(has_ref(schema, attr), f)),
+        Link::Backward(_) => match f {
+            Edn::Int(n) => link(schema, out, this, key, RawPart::Entity(Name::Number(*n))),
+            _ => link(schema, out, this, key, scalar(true, f)),
+        },
+    }
+}
+
+// ---- vectors and lists
+
+/// Whether the vector under the key is a collection: under a name, where there may be several values and it is no lookup
+/// ref of a unique attribute.
+pub fn is_collection<'a>(schema: &Schema, key: &Link<'a>, items: &Items) -> bool
+    requires { IsLinkLookedUp schema.now key.now }
+    ensures { result ≡ is_model_collection schema.now (link_seen key.now) (asks.lookup_in (edn.forms (forms_of (members items.now)))) }
+{
+    match lookup_in(items) {
+        Some((k, _)) => match key {
+            Link::Forward(attr) => {
+                has_many(schema, attr) && !(has_ref(schema, attr) && has_uniqueness(schema, k))
+            }
+            Link::Backward(_) => !has_uniqueness(schema, k),
+        },
+        None => takes_several(schema, key),
+    }
+}
+
+/// Whether a list under the key is a collection.
+pub fn takes_several<'a>(schema: &Schema, key: &Link<'a>) -> bool
+    requires { IsLinkLookedUp schema.now key.now }
+    ensures { result ≡ is_model_collection schema.now (link_seen key.now) None }
+{
+    match key {
+        Link::Forward(attr) => has_many(schema, attr),
+        Link::Backward(_) => true,
+    }
+}
+
+/// What a vector asks that is no collection: a lookup ref, or no value.
+pub fn vector_link<'a>(
+    schema: &Schema,
+    out: &mut Out<'a>,
+    this: Name<'a>,
+    key: &Link<'a>,
+    f: &'a Edn,
+    items: &'a Items,
+) -> Result<(), Memory>
+    requires vector { form_of f.now ≡ edn.vector (edn.forms (forms_of (members items.now))) }
+    requires alone { is_model_collection schema.now (link_seen key.now) (asks.lookup_in (edn.forms (forms_of (members items.now)))) ≡ false }
+    requires link_known { IsLinkLookedUp schema.now key.now }
+    requires known { AreLookedUp schema.now out.old }
+    ensures asks { IfOk result (λ _. out_seen out.new ≡ out_seen out.old ++ model.vector_asks schema.now (name_seen this.entry) (link_seen key.now) (edn.forms (forms_of (members items.now))) (asks.lookup_in (edn.forms (forms_of (members items.now)))) []) }
+    ensures next { IfOk result (λ _. out.new.next ≡ out.old.next) }
+    ensures known { IfOk result (λ _. AreLookedUp schema.now out.new) }
+{
+    match lookup_in(items) {
+        Some((k, value)) => {
+            let found = RawPart::Entity(Name::Lookup(k, value));
+            match key {
+                Link::Forward(attr) => {
+                    let part = if has_ref(schema, attr) {
+                        found
+                    } else {
+                        RawPart::Plain(f)
+                    };
+                    link(schema, out, this, key, part)
+                }
+                Link::Backward(_) => link(schema, out, this, key, found),
+            }
+        }
+        None => link(schema, out, this, key, RawPart::Plain(f)),
+    }
+}
+
+/// What a vector asks that is a member of a collection: a lookup ref, or no value.
+pub fn member_link<'a>(
+    schema: &Schema,
+    out: &mut Out<'a>,
+    this: Name<'a>,
+    key: &Link<'a>,
+    f: &'a Edn,
+    items: &'a Items,
+) -> Result<(), Memory>
+    requires vector { form_of f.now ≡ edn.vector (edn.forms (forms_of (members items.now))) }
+    requires link_known { IsLinkLookedUp schema.now key.now }
+    requires known { AreLookedUp schema.now out.old }
+    ensures asks { IfOk result (λ _. out_seen out.new ≡ out_seen out.old ++ model.vector_asks schema.now (name_seen this.entry) (link_seen key.now) (edn.forms (forms_of (members items.now))) (asks.lookup_in (edn.forms (forms_of (members items.now)))) (model.links (name_seen this.entry) (link_seen key.now) (asks.plain (edn.vector (edn.forms (forms_of (members items.now))))))) }
+    ensures next { IfOk result (λ _. out.new.next ≡ out.old.next) }
+    ensures known { IfOk result (λ _. AreLookedUp schema.now out.new) }
+{
+    if is_collection(schema, key, items) {
+        link(schema, out, this, key, RawPart::Plain(f))
+    } else {
+        vector_link(schema, out, this, key, f, items)
+    }
+}
+
+// ---- maps inside maps
+
+fn identifies<'a>(alloc: Global, schema: &'a Schema, key: &Edn) -> Result<bool, Memory>
+    requires { HaveOwnNames schema.now }
+    ensures { IfOk result (λ b. b ≡ model.identifies schema.now (asks.key_in (form_of key.now))) }
+{
+    match link_in(alloc, schema, key)? {
+        None => Ok(true),
+        Some(Link::Forward(attr)) => Ok(is_unique(schema, &attr)),
+        Some(Link::Backward(_)) => Ok(false),
+    }
+}
+
+/// Whether the map has `:db/id` or a unique attribute among its keys.
+fn has_identity<'a>(alloc: Global, schema: &'a Schema, pairs: &Pairs) -> Result<bool, Memory>
+    requires { HaveOwnNames schema.now }
+    ensures { IfOk result (λ b. b ≡ model.has_identity schema.now (edn.pairs (pairs_of (entries pairs.now)))) }
+{
+    for (key, _) in pairs.as_slice() {
+        if identifies(alloc, schema, key)? {
+            return Ok(true);
+        }
+    }
+    Ok(false)
+}
+
+/// Whether a map under the key lacks what it needs: an identity, or a key whose values are parts.
+pub fn lacks_id<'a>(
+    alloc: Global,
+    schema: &'a Schema,
+    key: &Link<'a>,
+    pairs: &Pairs,
+) -> Result<bool, Memory>
+    requires own { HaveOwnNames schema.now }
+    requires link_known { IsLinkLookedUp schema.now key.now }
+    ensures { IfOk result (λ b. b ≡ lacks schema.now (link_seen key.now) (edn.pairs (pairs_of (entries pairs.now)))) }
+{
+    if let Link::Forward(attr) = key {
+        if has_parts(schema, attr) {
+            return Ok(false);
+        }
+    }
+    Ok(!has_identity(alloc, schema, pairs)?)
+}
+
+/// The number of the next map without `:db/id`, behind one whose entity has this name.
+fn number_behind(name: Name<'_>, next: usize) -> Result<usize, Memory>
+    ensures { IfOk result (λ n. n ≡ behind (name_seen name.entry) next) }
+{
+    match name {
+        // No memory has room for as many maps as there are numbers.
+        Name::Nameless(_) => next.checked_add(1).ok_or(Memory),
+        _ => Ok(next),
+    }
+}
+
+/// The map's entity: the one that it names by `:db/id`, or the next of those that have none.
+pub fn enter<'a>(out: &mut Out<'a>, pairs: &'a Pairs) -> Result<Name<'a>, Memory>
+    ensures name { IfOk result (λ name. name_seen name ≡ name_at out.old.next (edn.pairs (pairs_of (entries pairs.now)))) }
+    ensures next { IfOk result (λ _. out.new.next ≡ behind (name_at out.old.next (edn.pairs (pairs_of (entries pairs.now)))) out.old.next) }
+    ensures raws { IfOk result (λ _. out.new.raws ≡ out.old.raws) }
+{
+    let name = name_of_map(pairs, out.next);
+    out.next = number_behind(name, out.next)?;
+    Ok(name)
+}
+
+/// Whether a map under the key is asked about: one under an attribute whose values are no entities is no value.
+pub fn takes_maps<'a>(schema: &Schema, key: &Link<'a>) -> bool
+    requires { IsLinkLookedUp schema.now key.now }
+    ensures { result ≡ takes_model_maps schema.now (link_seen key.now) }
+{
+    match key {
+        Link::Forward(attr) => has_ref(schema, attr),
+        Link::Backward(_) => true,
+    }
+}
+
+/// Says that a map lacks what it needs, if it does.
+fn push_lack(schema: &Schema, out: &mut Out<'_>, lacks: bool) -> Result<(), Memory>
+    requires known { AreLookedUp schema.now out.old }
+    ensures asks { IfOk result (λ _. out_seen out.new ≡ out_seen out.old ++ model.need lacks) }
+    ensures next { IfOk result (λ _. out.new.next ≡ out.old.next) }
+    ensures known { IfOk result (λ _. AreLookedUp schema.now out.new) }
+{
+    if lacks {
+        return push(schema, out, RawAsk::LacksId);
+    }
+    Ok(())
+}
+
+/// Enters a map that stands under a key: the link to it, and what it lacks.
+pub fn enter_nested<'a>(
+    alloc: Global,
+    schema: &'a Schema,
+    out: &mut Out<'a>,
+    this: Name<'a>,
+    key: &Link<'a>,
+    pairs: &'a Pairs,
+) -> Result<Name<'a>, Memory>
+    requires own { HaveOwnNames schema.now }
+    requires link_known { IsLinkLookedUp schema.now key.now }
+    requires known { AreLookedUp schema.now out.old }
+    ensures name { IfOk result (λ name. name_seen name ≡ name_at out.old.next (edn.pairs (pairs_of (entries pairs.now)))) }
+    ensures next { IfOk result (λ _. out.new.next ≡ behind (name_at out.old.next (edn.pairs (pairs_of (entries pairs.now)))) out.old.next) }
+    ensures asks { IfOk result (λ _. out_seen out.new ≡ out_seen out.old ++ entry_asks schema.now (name_seen this.entry) (link_seen key.now) out.old.next (edn.pairs (pairs_of (entries pairs.now)))) }
+    ensures known { IfOk result (λ _. AreLookedUp schema.now out.new) }
+{
+    let lacks = lacks_id(alloc, schema, key, pairs)?;
+    let name = enter(out, pairs)?;
+    link(schema, out, this, key, RawPart::Entity(name))?;
+    push_lack(schema, out, lacks)?;
+    Ok(name)
+}

@@ -1,0 +1,146 @@
+//! What a form names: an entity, an attribute, or the key of a map.
+ghost use Rattle.std.specs.Prelude.{◌≡◌, ◌∷◌, [], ℕ, List, true, drop, unwrap_or, IfOk};
+ghost use Rattle.std.specs.Option.{option_map};
+ghost use Rattle.edn_model.specs.Form as edn;
+ghost use Rattle.edn_form.specs.View.{form_of, pairs_of, entries};
+ghost use Rattle.fb_model.specs.Words as words;
+ghost use Rattle.tx_model.specs.Asks as asks;
+ghost use Rattle.tx_model.specs.Shapes as shapes;
+ghost use Rattle.tx_model.specs.Walk as walk;
+ghost use Rattle.tx_expand.specs.Seen.{name_seen, word_of, link_seen, key_seen};
+ghost use Rattle.tx_expand.specs.Known.{HaveOwnNames, IsLookedUp, IsLinkLookedUp, IsKeyLookedUp};
+ghost use Rattle.tx_expand.specs.Numbered.{name_at};
+ghost use Rattle.tx_expand.specs.Texts.{cut_at_slash, other_key};
+
+use crate::attrs::attribute;
+use crate::raw::{Attr, Link};
+use edn_form::{Edn, Pairs};
+use edn_values::{begins_with_one_of, local_name};
+use fb_memory::Memory;
+use fb_schema::Schema;
+use fb_values::Text;
+use std::alloc::Global;
+use tx_asks::Name;
+use tx_forms::{is_id, lookup_in};
+
+/// The entity that a form names, in a place where a tempid may stand.
+pub fn name_in<'a>(f: &'a Edn) -> Option<Name<'a>>
+    ensures { option_map name_seen result ≡ asks.name_in (form_of f.now) }
+{
+    match f {
+        Edn::Int(n) => Some(Name::Number(*n)),
+        Edn::Key(k) => Some(Name::Ident(k)),
+        Edn::Str(s) => Some(Name::Tempid(s)),
+        Edn::Vector(items) => match lookup_in(items) {
+            Some((k, value)) => Some(Name::Lookup(k, value)),
+            None => None,
+        },
+        _ => None,
+    }
+}
+
+/// The entity that the form names, as its shape says that it does.
+pub fn entity_in<'a>(f: &'a Edn) -> Name<'a>
+    requires { shapes.names_an_entity (form_of f.now) ≡ true }
+    ensures { name_seen result ≡ walk.entity_in (form_of f.now) }
+{
+    match name_in(f) {
+        Some(name) => name,
+        None => unreachable!(),
+    }
+}
+
+/// The attribute that the form names, as its shape says that it is a keyword.
+pub fn attribute_in<'a>(schema: &'a Schema, f: &Edn) -> Result<Attr<'a>, Memory>
+    requires own { HaveOwnNames schema.now }
+    requires keyword { shapes.is_keyword (form_of f.now) ≡ true }
+    ensures word { IfOk result (λ attr. word_of attr ≡ walk.keyword_in (form_of f.now)) }
+    ensures known { IfOk result (λ attr. IsLookedUp schema.now attr) }
+{
+    match f {
+        Edn::Key(k) => attribute(schema, k),
+        _ => unreachable!(),
+    }
+}
+
+// ---- the entity of a map
+
+/// The name that a pair of `:db/id` gives.
+fn named_by<'a>(key: &Edn, value: &'a Edn) -> Option<Name<'a>>
+    ensures { (other : asks.Name) → unwrap_or (option_map name_seen result) other ≡ walk.named_by (asks.key_in (form_of key.now)) (form_of value.now) other }
+{
+    if is_id(key) { name_in(value) } else { None }
+}
+
+/// The entity that the map names by `:db/id`, or the next one without it.
+pub fn name_of_map<'a>(pairs: &'a Pairs, next: usize) -> Name<'a>
+    ensures { name_seen result ≡ name_at next (edn.pairs (pairs_of (entries pairs.now))) }
+{
+    for (key, value) in pairs.as_slice() {
+        if let Some(name) = named_by(key, value) {
+            return name;
+        }
+    }
+    Name::Nameless(next)
+}
+
+// ---- the keys of maps
+
+/// The parts before and behind the first slash, where there is one.
+fn split(text: &str) -> Option<(&str, &str)>
+    ensures { option_map {U = List ℕ × List ℕ} (λ parts. (parts.0.now, parts.1.now)) result ≡ cut_at_slash text.now }
+{
+    text.split_once('/')
+}
+
+fn behind_underscore(text: &str) -> &str
+    requires { words.begins_with_one_of (95 ∷ []) text.now ≡ true }
+    ensures { result.now ≡ drop 1 text.now }
+{
+    match text.strip_prefix('_') {
+        Some(rest) => rest,
+        None => text,
+    }
+}
+
+/// A name that begins with `_`, without it.
+fn without_underscore(alloc: Global, k: &str) -> Result<Text, Memory>
+    requires { words.begins_with_one_of (95 ∷ []) (words.local_name k.now) ≡ true }
+    ensures { IfOk result (λ name. name ≡ asks.without_underscore k.now) }
+{
+    match split(k) {
+        Some((namespace, local)) => {
+            let rest = behind_underscore(local);
+            let name = format!(in alloc; "{namespace}/{rest}")?;
+            Ok(Text::of(alloc, name.as_str())?)
+        }
+        None => Ok(Text::of(alloc, behind_underscore(k))?),
+    }
+}
+
+fn link_named<'a>(alloc: Global, schema: &'a Schema, k: &Text) -> Result<Link<'a>, Memory>
+    requires own { HaveOwnNames schema.now }
+    ensures key { IfOk result (λ link. link_seen link ≡ other_key k.now) }
+    ensures known { IfOk result (λ link. IsLinkLookedUp schema.now link) }
+{
+    if begins_with_one_of(b"_", local_name(k.as_str()).as_bytes()) {
+        let name = without_underscore(alloc, k.as_str())?;
+        return Ok(Link::Backward(attribute(schema, &name)?));
+    }
+    Ok(Link::Forward(attribute(schema, k)?))
+}
+
+/// The attribute that the key names, and the way in which it leads. `None` is `:db/id`.
+pub fn link_in<'a>(alloc: Global, schema: &'a Schema, key: &Edn) -> Result<Option<Link<'a>>, Memory>
+    requires own { HaveOwnNames schema.now }
+    ensures key { IfOk result (λ link. key_seen link ≡ asks.key_in (form_of key.now)) }
+    ensures known { IfOk result (λ link. IsKeyLookedUp schema.now link) }
+{
+    if is_id(key) {
+        return Ok(None);
+    }
+    match key {
+        Edn::Key(k) => Ok(Some(link_named(alloc, schema, k)?)),
+        _ => Ok(Some(Link::Forward(attribute(schema, &Text::of(alloc, "")?)?))),
+    }
+}

@@ -1,0 +1,184 @@
+//! What becomes of an ask: it stands, with its values read, or something is wrong with it.
+ghost use Rattle.std.specs.Prelude.{◌≡◌, true, false, Some, option_map, MatchOption, IfOk};
+ghost use Rattle.edn_model.specs.Form as edn;
+ghost use Rattle.edn_form.specs.View.{form_of};
+ghost use Rattle.fb_values.specs.declared.facts.Datom.{Datom};
+ghost use Rattle.fb_schema.specs.Parts.{attribute_in};
+ghost use Rattle.tx_model.specs.Asks as asks;
+ghost use Rattle.tx_model.specs.NameRules as model;
+ghost use Rattle.tx_asks.specs.Asks.{IsReadPart, IsReadOldPart};
+ghost use Rattle.tx_expand.specs.Seen.{name_seen, word_of, part_seen, raw_seen};
+ghost use Rattle.tx_expand.specs.Known.{IsLookedUp, IsAskLookedUp};
+ghost use Rattle.tx_expand.specs.Faults.{part_read, old_part_read, Settles};
+
+use crate::lookups::plain_value;
+use crate::raw::{Attr, RawAsk, RawPart};
+use edn_form::Edn;
+use fb_memory::Memory;
+use fb_schema::{Attribute, Schema};
+use tx_asks::{Ask, Name, Part};
+
+/// What becomes of an ask.
+#[derive(Drop)]
+pub enum Settled<'a> {
+    Stands(Ask<'a>),
+    /// A value is not of its attribute's type.
+    Wrong,
+    /// No attribute has the name.
+    Unknown,
+    /// It asks for no change, and all is well.
+    Mere,
+}
+
+/// The part with its value read, if it is one of the attribute.
+fn read_part<'a>(attribute: &Attribute, part: RawPart<'a>) -> Result<Option<Part<'a>>, Memory>
+    ensures { IfOk result (λ read. MatchOption read (model.is_wrong_part (attribute_in attribute.now) (part_seen part.entry) ≡ true)
+        (λ r. (model.is_wrong_part (attribute_in attribute.now) (part_seen part.entry) ≡ false) × (part_read r ≡ part_seen part.entry) × IsReadPart attribute.now r)) }
+{
+    match part {
+        RawPart::Plain(f) => match plain_value(attribute, f)? {
+            Some(v) => Ok(Some(Part::Plain(f, v))),
+            None => Ok(None),
+        },
+        RawPart::Entity(name) => {
+            if !attribute.is_ref() {
+                return Ok(None);
+            }
+            Ok(Some(Part::Entity(name)))
+        }
+    }
+}
+
+/// The old value of a cas, with `None` for nil.
+fn read_old<'a>(
+    attribute: &Attribute,
+    part: RawPart<'a>,
+) -> Result<Option<Option<Part<'a>>>, Memory>
+    ensures { IfOk result (λ read. MatchOption read (model.is_wrong_old_part (attribute_in attribute.now) (part_seen part.entry) ≡ true)
+        (λ r. (model.is_wrong_old_part (attribute_in attribute.now) (part_seen part.entry) ≡ false) × (old_part_read r ≡ part_seen part.entry) × IsReadOldPart attribute.now r)) }
+{
+    match part {
+        RawPart::Plain(f) => read_old_form(attribute, f),
+        RawPart::Entity(_) => Ok(known_old(read_part(attribute, part)?)),
+    }
+}
+
+/// A part as an old value that there is.
+fn known_old<'a>(part: Option<Part<'a>>) -> Option<Option<Part<'a>>>
+    ensures { result ≡ option_map Some part.entry }
+{
+    match part {
+        Some(part) => Some(Some(part)),
+        None => None,
+    }
+}
+
+fn read_old_form<'a>(attribute: &Attribute, f: &'a Edn) -> Result<Option<Option<Part<'a>>>, Memory>
+    ensures { IfOk result (λ read. MatchOption read (model.is_wrong_old_part (attribute_in attribute.now) (asks.plain (form_of f.now)) ≡ true)
+        (λ r. (model.is_wrong_old_part (attribute_in attribute.now) (asks.plain (form_of f.now)) ≡ false) × (old_part_read r ≡ asks.plain (form_of f.now)) × IsReadOldPart attribute.now r)) }
+{
+    match f {
+        Edn::Nil => Ok(Some(None)),
+        _ => match plain_value(attribute, f)? {
+            Some(v) => Ok(Some(Some(Part::Plain(f, v)))),
+            None => Ok(None),
+        },
+    }
+}
+
+fn settle_addition<'a>(
+    _schema: &Schema,
+    on: Name<'a>,
+    attr: &Attr<'a>,
+    part: RawPart<'a>,
+) -> Result<Settled<'a>, Memory>
+    requires { IsLookedUp _schema.now attr.now }
+    ensures { IfOk result (λ settled. Settles _schema.now (asks.adds (name_seen on.entry) (word_of attr.now) (part_seen part.entry)) settled) }
+{
+    let Attr::Known(attribute) = attr else {
+        return Ok(Settled::Unknown);
+    };
+    match read_part(attribute, part)? {
+        Some(part) => Ok(Settled::Stands(Ask::Adds {
+            on,
+            attribute,
+            part,
+        })),
+        None => Ok(Settled::Wrong),
+    }
+}
+
+fn settle_retraction<'a>(
+    _schema: &Schema,
+    on: Name<'a>,
+    attr: &Attr<'a>,
+    part: RawPart<'a>,
+) -> Result<Settled<'a>, Memory>
+    requires { IsLookedUp _schema.now attr.now }
+    ensures { IfOk result (λ settled. Settles _schema.now (asks.retracts (name_seen on.entry) (word_of attr.now) (part_seen part.entry)) settled) }
+{
+    let Attr::Known(attribute) = attr else {
+        return Ok(Settled::Unknown);
+    };
+    match read_part(attribute, part)? {
+        Some(part) => Ok(Settled::Stands(Ask::Retracts {
+            on,
+            attribute,
+            part,
+        })),
+        None => Ok(Settled::Wrong),
+    }
+}
+
+fn settle_comparison<'a>(
+    _schema: &Schema,
+    on: Name<'a>,
+    attr: &Attr<'a>,
+    old: RawPart<'a>,
+    new: RawPart<'a>,
+) -> Result<Settled<'a>, Memory>
+    requires { IsLookedUp _schema.now attr.now }
+    ensures { IfOk result (λ settled. Settles _schema.now (asks.compares (name_seen on.entry) (word_of attr.now) (part_seen old.entry) (part_seen new.entry)) settled) }
+{
+    let Attr::Known(attribute) = attr else {
+        return Ok(Settled::Unknown);
+    };
+    let Some(old) = read_old(attribute, old)? else {
+        return Ok(Settled::Wrong);
+    };
+    match read_part(attribute, new)? {
+        Some(new) => Ok(Settled::Stands(Ask::Compares {
+            on,
+            attribute,
+            old,
+            new,
+        })),
+        None => Ok(Settled::Wrong),
+    }
+}
+
+/// What becomes of the ask.
+pub fn settle<'a>(schema: &Schema, raw: &RawAsk<'a>) -> Result<Settled<'a>, Memory>
+    requires { IsAskLookedUp schema.now raw.now }
+    ensures { IfOk result (λ settled. Settles schema.now (raw_seen raw.now) settled) }
+{
+    match raw {
+        RawAsk::Adds(on, attr, part) => settle_addition(schema, *on, attr, *part),
+        RawAsk::Retracts(on, attr, part) => settle_retraction(schema, *on, attr, *part),
+        RawAsk::Compares(on, attr, old, new) => settle_comparison(schema, *on, attr, *old, *new),
+        RawAsk::RetractsAll(on, attr) => Ok(match attr {
+            Attr::Known(attribute) => {
+                let on = *on;
+                Settled::Stands(Ask::RetractsAll { on, attribute })
+            }
+            Attr::Unknown(_) => Settled::Unknown,
+        }),
+        RawAsk::Mentions(attr) => Ok(match attr {
+            Attr::Known(_) => Settled::Mere,
+            Attr::Unknown(_) => Settled::Unknown,
+        }),
+        RawAsk::RetractsEntity(on) => Ok(Settled::Stands(Ask::RetractsEntity { on: *on })),
+        RawAsk::Meets(on) => Ok(Settled::Stands(Ask::Meets { on: *on })),
+        RawAsk::LacksId => Ok(Settled::Mere),
+    }
+}

@@ -1,0 +1,214 @@
+//! The walk over a form: what it asks, in the order in which a reader meets it.
+ghost use Rattle.std.specs.Prelude.{◌≡◌, ◌++◌, true, IfOk};
+ghost use Rattle.edn_model.specs.Form as edn;
+ghost use Rattle.edn_form.specs.View.{form_of, forms_of, pairs_of, members, entries};
+ghost use Rattle.tx_model.specs.Shapes as shapes;
+ghost use Rattle.tx_model.specs.Walk as model;
+ghost use Rattle.tx_expand.specs.Seen.{name_seen, link_seen, key_seen, out_seen};
+ghost use Rattle.tx_expand.specs.Known.{HaveOwnNames, IsLinkLookedUp, IsKeyLookedUp, AreLookedUp};
+ghost use Rattle.tx_expand.specs.Numbered.{map_told, pair_told, value_told, members_told, member_told, nested_told, form_told, name_at, behind};
+
+use crate::attrs::{has_ref, push};
+use crate::links::{
+    enter, enter_nested, is_collection, link, member_link, scalar_link, takes_maps, takes_several,
+    vector_link,
+};
+use crate::lists::list_ask;
+use crate::names::link_in;
+use crate::raw::{Link, Out, RawAsk, RawPart};
+use edn_form::{Edn, Items, Pairs};
+use fb_memory::Memory;
+use fb_schema::Schema;
+use std::alloc::Global;
+use tx_asks::Name;
+
+/// What the pairs of a map ask, one after another.
+#[cycle(walk)]
+fn map_asks<'a>(
+    alloc: Global,
+    schema: &'a Schema,
+    out: &mut Out<'a>,
+    this: Name<'a>,
+    pairs: &'a Pairs,
+) -> Result<(), Memory>
+    requires own { HaveOwnNames schema.now }
+    requires known { AreLookedUp schema.now out.old }
+    ensures asks { IfOk result (λ _. out_seen out.new ≡ out_seen out.old ++ (map_told schema.now (name_seen this.entry) out.old.next (edn.pairs (pairs_of (entries pairs.now)))).asks) }
+    ensures next { IfOk result (λ _. out.new.next ≡ (map_told schema.now (name_seen this.entry) out.old.next (edn.pairs (pairs_of (entries pairs.now)))).next) }
+    ensures known { IfOk result (λ _. AreLookedUp schema.now out.new) }
+{
+    for (key, value) in pairs.as_slice() {
+        if let Some(link) = link_in(alloc, schema, key)? {
+            pair_asks(alloc, schema, out, this, &link, value)?;
+        }
+    }
+    Ok(())
+}
+
+/// What a pair asks: it mentions its attribute, and under a reversed name the attribute's values have to be entities.
+#[cycle(walk)]
+fn pair_asks<'a>(
+    alloc: Global,
+    schema: &'a Schema,
+    out: &mut Out<'a>,
+    this: Name<'a>,
+    key: &Link<'a>,
+    value: &'a Edn,
+) -> Result<(), Memory>
+    requires own { HaveOwnNames schema.now }
+    requires link_known { IsLinkLookedUp schema.now key.now }
+    requires known { AreLookedUp schema.now out.old }
+    ensures asks { IfOk result (λ _. out_seen out.new ≡ out_seen out.old ++ (pair_told schema.now (name_seen this.entry) (link_seen key.now) out.old.next (value_told schema.now (name_seen this.entry) (link_seen key.now) out.old.next (form_of value.now))).asks) }
+    ensures next { IfOk result (λ _. out.new.next ≡ (pair_told schema.now (name_seen this.entry) (link_seen key.now) out.old.next (value_told schema.now (name_seen this.entry) (link_seen key.now) out.old.next (form_of value.now))).next) }
+    ensures known { IfOk result (λ _. AreLookedUp schema.now out.new) }
+{
+    match key {
+        Link::Forward(attr) => {
+            push(schema, out, RawAsk::Mentions(attr.copy()?))?;
+            value_asks(alloc, schema, out, this, key, value)
+        }
+        Link::Backward(attr) => {
+            push(schema, out, RawAsk::Mentions(attr.copy()?))?;
+            if has_ref(schema, attr) {
+                return value_asks(alloc, schema, out, this, key, value);
+            }
+            let fault = RawAsk::Adds(this, attr.copy()?, RawPart::Entity(this));
+            push(schema, out, fault)
+        }
+    }
+}
+
+/// What a value asks that stands under a key.
+#[cycle(walk)]
+fn value_asks<'a>(
+    alloc: Global,
+    schema: &'a Schema,
+    out: &mut Out<'a>,
+    this: Name<'a>,
+    key: &Link<'a>,
+    f: &'a Edn,
+) -> Result<(), Memory>
+    requires own { HaveOwnNames schema.now }
+    requires link_known { IsLinkLookedUp schema.now key.now }
+    requires known { AreLookedUp schema.now out.old }
+    ensures asks { IfOk result (λ _. out_seen out.new ≡ out_seen out.old ++ (value_told schema.now (name_seen this.entry) (link_seen key.now) out.old.next (form_of f.now)).asks) }
+    ensures next { IfOk result (λ _. out.new.next ≡ (value_told schema.now (name_seen this.entry) (link_seen key.now) out.old.next (form_of f.now)).next) }
+    ensures known { IfOk result (λ _. AreLookedUp schema.now out.new) }
+{
+    match f {
+        Edn::Map(pairs) => {
+            if !takes_maps(schema, key) {
+                return link(schema, out, this, key, RawPart::Plain(f));
+            }
+            let name = enter_nested(alloc, schema, out, this, key, pairs)?;
+            map_asks(alloc, schema, out, name, pairs)
+        }
+        Edn::Set(items) => members_asks(alloc, schema, out, this, key, items),
+        Edn::Vector(items) => {
+            if is_collection(schema, key, items) {
+                return members_asks(alloc, schema, out, this, key, items);
+            }
+            vector_link(schema, out, this, key, f, items)
+        }
+        Edn::List(items) => {
+            if takes_several(schema, key) {
+                return members_asks(alloc, schema, out, this, key, items);
+            }
+            link(schema, out, this, key, RawPart::Plain(f))
+        }
+        _ => scalar_link(schema, out, this, key, f),
+    }
+}
+
+/// What the members of a collection ask, one after another.
+#[cycle(walk)]
+fn members_asks<'a>(
+    alloc: Global,
+    schema: &'a Schema,
+    out: &mut Out<'a>,
+    this: Name<'a>,
+    key: &Link<'a>,
+    items: &'a Items,
+) -> Result<(), Memory>
+    requires own { HaveOwnNames schema.now }
+    requires link_known { IsLinkLookedUp schema.now key.now }
+    requires known { AreLookedUp schema.now out.old }
+    ensures asks { IfOk result (λ _. out_seen out.new ≡ out_seen out.old ++ (members_told schema.now (name_seen this.entry) (link_seen key.now) out.old.next (edn.forms (forms_of (members items.now)))).asks) }
+    ensures next { IfOk result (λ _. out.new.next ≡ (members_told schema.now (name_seen this.entry) (link_seen key.now) out.old.next (edn.forms (forms_of (members items.now)))).next) }
+    ensures known { IfOk result (λ _. AreLookedUp schema.now out.new) }
+{
+    for f in items.as_slice() {
+        member_asks(alloc, schema, out, this, key, f)?;
+    }
+    Ok(())
+}
+
+/// What a member of a collection asks: a collection inside it is no value.
+#[cycle(walk)]
+fn member_asks<'a>(
+    alloc: Global,
+    schema: &'a Schema,
+    out: &mut Out<'a>,
+    this: Name<'a>,
+    key: &Link<'a>,
+    f: &'a Edn,
+) -> Result<(), Memory>
+    requires own { HaveOwnNames schema.now }
+    requires link_known { IsLinkLookedUp schema.now key.now }
+    requires known { AreLookedUp schema.now out.old }
+    ensures asks { IfOk result (λ _. out_seen out.new ≡ out_seen out.old ++ (member_told schema.now (name_seen this.entry) (link_seen key.now) out.old.next (form_of f.now)).asks) }
+    ensures next { IfOk result (λ _. out.new.next ≡ (member_told schema.now (name_seen this.entry) (link_seen key.now) out.old.next (form_of f.now)).next) }
+    ensures known { IfOk result (λ _. AreLookedUp schema.now out.new) }
+{
+    match f {
+        Edn::Map(pairs) => {
+            if !takes_maps(schema, key) {
+                return link(schema, out, this, key, RawPart::Plain(f));
+            }
+            let name = enter_nested(alloc, schema, out, this, key, pairs)?;
+            map_asks(alloc, schema, out, name, pairs)
+        }
+        Edn::Vector(items) => member_link(schema, out, this, key, f, items),
+        _ => scalar_link(schema, out, this, key, f),
+    }
+}
+
+/// What the list form with these members asks.
+#[tactic(auto, using(crate::proofs::FormMembers::items_forms))]
+fn list_asks<'a>(schema: &'a Schema, out: &mut Out<'a>, items: &'a Items) -> Result<(), Memory>
+    requires own { HaveOwnNames schema.now }
+    requires shape { shapes.has_list_shape (edn.items (edn.forms (forms_of (members items.now)))) ≡ true }
+    requires known { AreLookedUp schema.now out.old }
+    ensures asks { IfOk result (λ _. out_seen out.new ≡ out_seen out.old ++ model.verb_asks schema.now (edn.items (edn.forms (forms_of (members items.now))))) }
+    ensures next { IfOk result (λ _. out.new.next ≡ out.old.next) }
+    ensures known { IfOk result (λ _. AreLookedUp schema.now out.new) }
+{
+    let raw = list_ask(schema, items.as_slice())?;
+    push(schema, out, raw)
+}
+
+/// What the form asks, which has a shape.
+pub fn form_asks<'a>(
+    alloc: Global,
+    schema: &'a Schema,
+    out: &mut Out<'a>,
+    f: &'a Edn,
+) -> Result<(), Memory>
+    requires own { HaveOwnNames schema.now }
+    requires shape { shapes.has_shape (form_of f.now) ≡ true }
+    requires known { AreLookedUp schema.now out.old }
+    ensures asks { IfOk result (λ _. out_seen out.new ≡ out_seen out.old ++ (form_told schema.now out.old.next (form_of f.now)).asks) }
+    ensures next { IfOk result (λ _. out.new.next ≡ (form_told schema.now out.old.next (form_of f.now)).next) }
+    ensures known { IfOk result (λ _. AreLookedUp schema.now out.new) }
+{
+    match f {
+        Edn::Vector(items) => list_asks(schema, out, items),
+        Edn::List(items) => list_asks(schema, out, items),
+        Edn::Map(pairs) => {
+            let name = enter(out, pairs)?;
+            push(schema, out, RawAsk::Meets(name))?;
+            map_asks(alloc, schema, out, name, pairs)
+        }
+        _ => unreachable!(),
+    }
+}

@@ -1,0 +1,9 @@
+pub mod Counting
+pub mod Neighbours
+pub mod Drops
+pub mod Altering
+pub mod Placing
+pub mod OneEach
+pub mod Results
+pub mod Wholeness
+pub mod Breaking

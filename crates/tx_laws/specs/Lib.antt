@@ -1,0 +1,4 @@
+pub mod Users
+pub mod Alterations
+pub mod Additions
+pub mod Changes

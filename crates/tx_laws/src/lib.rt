@@ -1,0 +1,15 @@
+//! Whether an entry may follow a history, judged by searches: the least of the nine laws that it breaks. What an entry
+//! leaves alone is not looked at, since the history keeps the laws.
+#![tactic(auto)]
+
+mod altered;
+mod attributes;
+mod datoms;
+mod laws;
+mod numbers;
+mod values;
+
+pub use laws::lawful;
+
+#[cfg(test)]
+mod tests;

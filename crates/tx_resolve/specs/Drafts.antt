@@ -1,0 +1,58 @@
+-- What an ask becomes when its names are looked up: none where one of them finds no entity.
+-- Datomic, Transaction Data (entity identifiers), and Schema (unique identities).
+use Rattle.std.specs.Prelude.{◌≡◌, ℕ, Bool, List, map, nat_eq, cond, Option, Some, None, is_none, option_map, option_and_then, Vec}
+use Rattle.std.specs.List.{list_any}
+use Rattle.std.specs.declared.alloc.Global.{Global}
+use Rattle.fb_model.specs.Numbers.{unique_identity}
+use Rattle.fb_model.specs.Facts.{holder}
+use Rattle.fb_schema.specs.declared.attribute.Attribute.{Attribute}
+use Rattle.tx_model.specs.Tempids.{Db}
+use Rattle.tx_model.specs.Step.{first_yes}
+use Rattle.tx_asks.specs.declared.asks.Part as asks
+use Rattle.tx_asks.specs.declared.asks.Part.TheVariants as part
+use Rattle.tx_asks.specs.declared.asks.Ask.{Ask}
+use Rattle.tx_asks.specs.declared.asks.Ask.TheVariants as ask
+use Rattle.tx_resolve.specs.declared.whom.Whom.{Whom}
+use Rattle.tx_resolve.specs.declared.whom.Whom.TheVariants.{Known, New}
+use Rattle.tx_resolve.specs.declared.drafts.Part.{Part}
+use Rattle.tx_resolve.specs.declared.drafts.Part.TheVariants.{Plain, Entity}
+use Rattle.tx_resolve.specs.declared.drafts.Draft.{Draft}
+use Rattle.tx_resolve.specs.declared.drafts.Draft.TheVariants as draft
+use Rattle.tx_resolve.specs.Whoms.{whom_of}
+
+abbrev pub part_of : Db → asks.Part → Option Part
+part_of db (part.Plain f v) = Some (Plain v)
+part_of db (part.Entity name) = option_map Entity (whom_of db name)
+
+abbrev pub old_part_of : Db → Option asks.Part → Option (Option Part)
+old_part_of db None = Some None
+old_part_of db (Some p) = option_map Some (part_of db p)
+
+-- the holder of the identity value that an addition gives to a tempid
+abbrev pub holder_for : Db → Whom → Attribute → Part → Option ℕ
+holder_for db (New tempid) attribute (Plain v) = cond (nat_eq attribute.unique unique_identity) (holder db.facts attribute.id v) None
+holder_for db whom attribute p = None
+
+abbrev pub draft_of : Db → Ask → Option Draft
+draft_of db (ask.Adds on attribute p) =
+    option_and_then (λ whom. option_map (λ read. draft.Adds whom attribute read (holder_for db whom attribute.now read)) (part_of db p)) (whom_of db on)
+draft_of db (ask.Retracts on attribute p) = option_and_then (λ whom. option_map (draft.Retracts whom attribute) (part_of db p)) (whom_of db on)
+draft_of db (ask.RetractsAll on attribute) = option_map (λ whom. draft.RetractsAll whom attribute) (whom_of db on)
+draft_of db (ask.Compares on attribute old new) =
+    option_and_then (λ whom. option_and_then (λ before. option_map (draft.Compares whom attribute before) (part_of db new)) (old_part_of db old)) (whom_of db on)
+draft_of db (ask.RetractsEntity on) = option_map draft.RetractsEntity (whom_of db on)
+draft_of db (ask.Meets on) = option_map draft.Meets (whom_of db on)
+
+-- one of its names finds no entity
+abbrev pub is_lost : Db → Ask → Bool
+is_lost db asked = is_none (draft_of db asked)
+
+-- ---- form by form
+
+-- the first form with a name that finds no entity
+abbrev pub lost_at : Db → List (Vec Ask Global) → Option ℕ
+lost_at db forms = first_yes 0 (map (λ form. list_any (is_lost db) form.items) forms)
+
+-- the asks are these drafts, and none is lost
+abbrev pub AreFound : Db → List (Vec Ask Global) → List (Vec Draft Global) → Type 0
+AreFound db forms drafts = map (λ form. map Some form.items) drafts ≡ map (λ form. map (draft_of db) form.items) forms

@@ -1,0 +1,9 @@
+pub mod Tempids
+pub mod Whoms
+pub mod Drafts
+pub mod Meeting
+pub mod Holders
+pub mod Numbers
+pub mod Breaks
+pub mod Rules
+pub mod Settled

@@ -1,0 +1,136 @@
+//! What is asked of entities by their numbers.
+ghost use Rattle.std.specs.Prelude.{◌≡◌, ◌++◌, ℕ, List, IfOk, map, filter_map, option_to_list};
+ghost use Rattle.std.specs.Option.{option_map};
+ghost use Rattle.tx_asks.specs.Acts.{seen};
+ghost use Rattle.tx_resolve.specs.declared.whom.Tempid.{Tempid as model_Tempid};
+ghost use Rattle.tx_resolve.specs.Numbers.{HasEntities, entity_of, value_of, old_value_of, act_of};
+
+use crate::drafts::{Draft, Part};
+use crate::numbers::Entities;
+use crate::whom::Whom;
+use fb_memory::Memory;
+use fb_values::Value;
+use std::alloc::Global;
+use tx_asks::Act;
+
+/// The acts of each form.
+pub fn acts_of_forms<'a>(
+    alloc: Global,
+    entities: &Entities,
+    forms: Vec<Vec<Draft<'a>>>,
+) -> Result<Vec<Vec<Act<'a>>>, Memory>
+    ensures { (pairs : List (model_Tempid × ℕ)) → HasEntities entities.now pairs
+        → IfOk result (λ list. map (λ acts. map seen acts.items) list.items ≡ map (λ form. filter_map (act_of pairs) form.items) forms.entry.items) }
+{
+    let mut list = Vec::with_capacity(alloc, forms.len())?;
+    for drafts in forms {
+        list.push(acts_of(alloc, entities, drafts)?)?;
+    }
+    Ok(list)
+}
+
+fn acts_of<'a>(
+    alloc: Global,
+    entities: &Entities,
+    drafts: Vec<Draft<'a>>,
+) -> Result<Vec<Act<'a>>, Memory>
+    ensures { (pairs : List (model_Tempid × ℕ)) → HasEntities entities.now pairs
+        → IfOk result (λ acts. map seen acts.items ≡ filter_map (act_of pairs) drafts.entry.items) }
+{
+    let mut acts = Vec::new(alloc);
+    for draft in drafts {
+        push_some(&mut acts, act(entities, draft))?;
+    }
+    Ok(acts)
+}
+
+fn push_some<'a>(acts: &mut Vec<Act<'a>>, act: Option<Act<'a>>) -> Result<(), Memory>
+    ensures { IfOk result (λ _. acts.new.items ≡ acts.old.items ++ option_to_list act.entry) }
+{
+    if let Some(act) = act {
+        acts.push(act)?;
+    }
+    Ok(())
+}
+
+/// None where a map only stands for its entity.
+fn act<'a>(entities: &Entities, draft: Draft<'a>) -> Option<Act<'a>>
+    ensures { (pairs : List (model_Tempid × ℕ)) → HasEntities entities.now pairs → option_map seen result ≡ act_of pairs draft.entry }
+{
+    match draft {
+        Draft::Adds {
+            on,
+            attribute,
+            part,
+            holder: _,
+        } => {
+            let e = entity(entities, &on)?;
+            let v = value(entities, part)?;
+            Some(Act::Adds { e, attribute, v })
+        }
+        Draft::Retracts {
+            on,
+            attribute,
+            part,
+        } => {
+            let e = entity(entities, &on)?;
+            let v = value(entities, part)?;
+            Some(Act::Retracts { e, attribute, v })
+        }
+        Draft::RetractsAll { on, attribute } => {
+            let e = entity(entities, &on)?;
+            Some(Act::RetractsAll { e, attribute })
+        }
+        Draft::Compares {
+            on,
+            attribute,
+            old,
+            new,
+        } => {
+            let e = entity(entities, &on)?;
+            let old = old_value(entities, old);
+            let new = value(entities, new)?;
+            Some(Act::Compares {
+                e,
+                attribute,
+                old,
+                new,
+            })
+        }
+        Draft::RetractsEntity { on } => {
+            let e = entity(entities, &on)?;
+            Some(Act::RetractsEntity { e })
+        }
+        Draft::Meets { .. } => None,
+    }
+}
+
+fn entity(entities: &Entities, whom: &Whom) -> Option<u64>
+    ensures { (pairs : List (model_Tempid × ℕ)) → HasEntities entities.now pairs → result ≡ entity_of pairs whom.now }
+{
+    match whom {
+        Whom::Known(e) => Some(*e),
+        Whom::New(tempid) => entities.get(tempid).copied(),
+    }
+}
+
+fn value(entities: &Entities, part: Part) -> Option<Value>
+    ensures { (pairs : List (model_Tempid × ℕ)) → HasEntities entities.now pairs → result ≡ value_of pairs part }
+{
+    match part {
+        Part::Plain(v) => Some(v),
+        Part::Entity(whom) => {
+            let e = entity(entities, &whom)?;
+            Some(Value::Ref(e))
+        }
+    }
+}
+
+fn old_value(entities: &Entities, part: Option<Part>) -> Option<Value>
+    ensures { (pairs : List (model_Tempid × ℕ)) → HasEntities entities.now pairs → result ≡ old_value_of pairs part }
+{
+    match part {
+        None => None,
+        Some(part) => value(entities, part),
+    }
+}

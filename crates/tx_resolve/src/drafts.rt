@@ -1,0 +1,284 @@
+//! Asks whose names are found.
+ghost use Rattle.std.specs.Prelude.{◌≡◌, IfOk, IfSome, Some, map, is_none};
+ghost use Rattle.std.specs.List.{list_any};
+ghost use Rattle.std.specs.Result.{result_err};
+ghost use Rattle.fb_model.specs.Lawful.{IsLawful};
+ghost use Rattle.fb_schema.specs.Described.{SchemaStands};
+ghost use Rattle.tx_model.specs.Tempids.{db_of};
+ghost use Rattle.tx_resolve.specs.Drafts as model;
+ghost use Rattle.tx_resolve.specs.Drafts.{is_lost, lost_at, AreFound};
+
+use crate::names::whom;
+use crate::whom::Whom;
+use fb_facts::Facts;
+use fb_memory::Memory;
+use fb_schema::{Attribute, Schema};
+use fb_values::Value;
+use std::alloc::Global;
+use tx_asks::{Ask, Name, Part as AskPart};
+
+/// What stands in the place of a value.
+#[derive(Drop)]
+pub enum Part {
+    Plain(Value),
+    Entity(Whom),
+}
+
+/// An ask whose names are found in the database, as far as they are no tempids.
+#[derive(Drop)]
+pub enum Draft<'a> {
+    Adds {
+        on: Whom,
+        attribute: &'a Attribute,
+        part: Part,
+        /// The entity that a tempid becomes by it: that which has the identity value.
+        holder: Option<u64>,
+    },
+    Retracts {
+        on: Whom,
+        attribute: &'a Attribute,
+        part: Part,
+    },
+    RetractsAll {
+        on: Whom,
+        attribute: &'a Attribute,
+    },
+    Compares {
+        on: Whom,
+        attribute: &'a Attribute,
+        old: Option<Part>,
+        new: Part,
+    },
+    RetractsEntity {
+        on: Whom,
+    },
+    Meets {
+        on: Whom,
+    },
+}
+
+/// What the forms ask, with the names found: or else the first form with a name that finds no entity.
+pub fn drafts_of_forms<'a, F: Facts>(
+    alloc: Global,
+    facts: &F,
+    schema: &Schema,
+    forms: &[Vec<Ask<'a>>],
+) -> Result<Result<Vec<Vec<Draft<'a>>>, usize>, Memory>
+    requires schema { SchemaStands schema.now (F.history facts.now) }
+    requires lawful { IsLawful (F.history facts.now) }
+    ensures found { IfOk result (λ r. IfOk r (λ drafts.
+        AreFound (db_of (F.history facts.now)) forms.now drafts.items)) }
+    ensures lost { IfOk result (λ r. result_err r ≡ lost_at (db_of (F.history facts.now)) forms.now) }
+{
+    let mut found = Vec::new(alloc);
+    let mut place = 0;
+    for asks in forms {
+        let Some(drafts) = drafts_of(alloc, facts, schema, asks)? else {
+            return Ok(Err(place));
+        };
+        found.push(drafts)?;
+        place += 1;
+    }
+    Ok(Ok(found))
+}
+
+/// None where a name finds no entity.
+fn drafts_of<'a, F: Facts>(
+    alloc: Global,
+    facts: &F,
+    schema: &Schema,
+    asks: &[Ask<'a>],
+) -> Result<Option<Vec<Draft<'a>>>, Memory>
+    requires schema { SchemaStands schema.now (F.history facts.now) }
+    requires lawful { IsLawful (F.history facts.now) }
+    ensures found { IfOk result (λ drafts. IfSome drafts
+        (λ list. map Some list.items ≡ map (model.draft_of (db_of (F.history facts.now))) asks.now)) }
+    ensures lost { IfOk result (λ drafts. is_none drafts ≡ list_any (is_lost (db_of (F.history facts.now))) asks.now) }
+{
+    let mut drafts = Vec::new(alloc);
+    for ask in asks {
+        let Some(draft) = draft_of(facts, schema, ask)? else {
+            return Ok(None);
+        };
+        drafts.push(draft)?;
+    }
+    Ok(Some(drafts))
+}
+
+fn draft_of<'a, F: Facts>(
+    facts: &F,
+    schema: &Schema,
+    ask: &Ask<'a>,
+) -> Result<Option<Draft<'a>>, Memory>
+    requires schema { SchemaStands schema.now (F.history facts.now) }
+    requires lawful { IsLawful (F.history facts.now) }
+    ensures { IfOk result (λ draft. draft ≡ model.draft_of (db_of (F.history facts.now)) ask.now) }
+{
+    match ask {
+        Ask::Adds {
+            on,
+            attribute,
+            part,
+        } => addition(facts, schema, on, *attribute, part),
+        Ask::Retracts {
+            on,
+            attribute,
+            part,
+        } => retraction(facts, schema, on, *attribute, part),
+        Ask::RetractsAll { on, attribute } => {
+            let Some(on) = whom(facts, schema, on)? else {
+                return Ok(None);
+            };
+            Ok(Some(Draft::RetractsAll {
+                on,
+                attribute: *attribute,
+            }))
+        }
+        Ask::Compares {
+            on,
+            attribute,
+            old,
+            new,
+        } => comparison(facts, schema, on, *attribute, old, new),
+        Ask::RetractsEntity { on } => {
+            let Some(on) = whom(facts, schema, on)? else {
+                return Ok(None);
+            };
+            Ok(Some(Draft::RetractsEntity { on }))
+        }
+        Ask::Meets { on } => {
+            let Some(on) = whom(facts, schema, on)? else {
+                return Ok(None);
+            };
+            Ok(Some(Draft::Meets { on }))
+        }
+    }
+}
+
+fn addition<'a, F: Facts>(
+    facts: &F,
+    schema: &Schema,
+    on: &Name<'a>,
+    attribute: &'a Attribute,
+    part: &AskPart<'a>,
+) -> Result<Option<Draft<'a>>, Memory>
+    requires schema { SchemaStands schema.now (F.history facts.now) }
+    requires lawful { IsLawful (F.history facts.now) }
+    ensures { IfOk result (λ draft. draft
+        ≡ model.draft_of (db_of (F.history facts.now)) (Ask.Adds on.now attribute.entry part.now)) }
+{
+    let Some(on) = whom(facts, schema, on)? else {
+        return Ok(None);
+    };
+    let Some(part) = part_of(facts, schema, part)? else {
+        return Ok(None);
+    };
+    let holder = holder_for(facts, &on, attribute, &part);
+    Ok(Some(Draft::Adds {
+        on,
+        attribute,
+        part,
+        holder,
+    }))
+}
+
+/// The holder of the identity value that an addition gives to a tempid.
+fn holder_for<F: Facts>(facts: &F, on: &Whom, attribute: &Attribute, part: &Part) -> Option<u64>
+    ensures { result ≡ model.holder_for (db_of (F.history facts.now)) on.now attribute.now part.now }
+{
+    match (on, part) {
+        (Whom::New(_), Part::Plain(v)) if attribute.is_identity() => facts.holder(attribute.id, v),
+        _ => None,
+    }
+}
+
+fn retraction<'a, F: Facts>(
+    facts: &F,
+    schema: &Schema,
+    on: &Name<'a>,
+    attribute: &'a Attribute,
+    part: &AskPart<'a>,
+) -> Result<Option<Draft<'a>>, Memory>
+    requires schema { SchemaStands schema.now (F.history facts.now) }
+    requires lawful { IsLawful (F.history facts.now) }
+    ensures { IfOk result (λ draft. draft
+        ≡ model.draft_of (db_of (F.history facts.now)) (Ask.Retracts on.now attribute.entry part.now)) }
+{
+    let Some(on) = whom(facts, schema, on)? else {
+        return Ok(None);
+    };
+    let Some(part) = part_of(facts, schema, part)? else {
+        return Ok(None);
+    };
+    Ok(Some(Draft::Retracts {
+        on,
+        attribute,
+        part,
+    }))
+}
+
+fn comparison<'a, F: Facts>(
+    facts: &F,
+    schema: &Schema,
+    on: &Name<'a>,
+    attribute: &'a Attribute,
+    old: &Option<AskPart<'a>>,
+    new: &AskPart<'a>,
+) -> Result<Option<Draft<'a>>, Memory>
+    requires schema { SchemaStands schema.now (F.history facts.now) }
+    requires lawful { IsLawful (F.history facts.now) }
+    ensures { IfOk result (λ draft. draft
+        ≡ model.draft_of (db_of (F.history facts.now)) (Ask.Compares on.now attribute.entry old.now new.now)) }
+{
+    let Some(on) = whom(facts, schema, on)? else {
+        return Ok(None);
+    };
+    let Some(old) = old_part_of(facts, schema, old)? else {
+        return Ok(None);
+    };
+    let Some(new) = part_of(facts, schema, new)? else {
+        return Ok(None);
+    };
+    Ok(Some(Draft::Compares {
+        on,
+        attribute,
+        old,
+        new,
+    }))
+}
+
+fn part_of<F: Facts>(facts: &F, schema: &Schema, part: &AskPart<'_>) -> Result<Option<Part>, Memory>
+    requires schema { SchemaStands schema.now (F.history facts.now) }
+    requires lawful { IsLawful (F.history facts.now) }
+    ensures { IfOk result (λ found. found ≡ model.part_of (db_of (F.history facts.now)) part.now) }
+{
+    match part {
+        AskPart::Plain(_, v) => Ok(Some(Part::Plain(v.copy()?))),
+        AskPart::Entity(name) => {
+            let Some(whom) = whom(facts, schema, name)? else {
+                return Ok(None);
+            };
+            Ok(Some(Part::Entity(whom)))
+        }
+    }
+}
+
+fn old_part_of<F: Facts>(
+    facts: &F,
+    schema: &Schema,
+    old: &Option<AskPart<'_>>,
+) -> Result<Option<Option<Part>>, Memory>
+    requires schema { SchemaStands schema.now (F.history facts.now) }
+    requires lawful { IsLawful (F.history facts.now) }
+    ensures { IfOk result (λ found. found ≡ model.old_part_of (db_of (F.history facts.now)) old.now) }
+{
+    match old {
+        None => Ok(Some(None)),
+        Some(part) => {
+            let Some(part) = part_of(facts, schema, part)? else {
+                return Ok(None);
+            };
+            Ok(Some(Some(part)))
+        }
+    }
+}

@@ -1,0 +1,114 @@
+//! Names in the database.
+ghost use Rattle.std.specs.Prelude.{◌≡◌, ◌+◌, IfOk};
+ghost use Rattle.std.specs.Option.{option_map};
+ghost use Rattle.edn_form.specs.View.{form_of};
+ghost use Rattle.fb_model.specs.History.{basis, is_issued as model_is_issued};
+ghost use Rattle.fb_model.specs.Numbers.{transaction_of};
+ghost use Rattle.fb_model.specs.Lawful.{IsLawful};
+ghost use Rattle.fb_schema.specs.Described.{SchemaStands};
+ghost use Rattle.tx_model.specs.Asks as asks;
+ghost use Rattle.tx_model.specs.Tempids.{db_of, found};
+ghost use Rattle.tx_model.specs.Values.{value_in};
+ghost use Rattle.tx_resolve.specs.declared.whom.Whom.TheVariants.{Known};
+ghost use Rattle.tx_resolve.specs.Whoms.{whom_of};
+
+use crate::whom::{Tempid, Whom};
+use edn_form::Edn;
+use edn_values::{as_value, forms_of_other_types};
+use fb_facts::Facts;
+use fb_memory::Memory;
+use fb_numbers::{TYPE_REF, is_builtin, transaction_entity, user_entity};
+use fb_schema::{Schema, schemas_tell_of_attributes};
+use fb_values::{Text, Value};
+use tx_asks::Name;
+use tx_model::lawful_histories_are_small;
+
+/// The tempid that names the transaction's own entity.
+const OWN_TEMPID: &str = "datomic.tx";
+
+/// The entity that the name stands for: none where the database has none of the name.
+pub fn whom<F: Facts>(facts: &F, schema: &Schema, name: &Name<'_>) -> Result<Option<Whom>, Memory>
+    requires schema { SchemaStands schema.now (F.history facts.now) }
+    requires lawful { IsLawful (F.history facts.now) }
+    ensures { IfOk result (λ whom. whom ≡ whom_of (db_of (F.history facts.now)) name.now) }
+{
+    schemas_tell_of_attributes();
+    match name {
+        Name::Number(n) => Ok(known(numbered(facts, *n))),
+        Name::Ident(k) => Ok(known(schema.entity_named(k))),
+        Name::Lookup(k, value) => Ok(known(looked_up(facts, schema, k, value)?)),
+        Name::Tempid(text) if text.as_str() == OWN_TEMPID => {
+            Ok(Some(Whom::Known(next_transaction(facts))))
+        }
+        Name::Tempid(text) => Ok(Some(Whom::New(Tempid::Named(text.copy()?)))),
+        Name::Nameless(n) => Ok(Some(Whom::New(Tempid::Nameless(*n)))),
+    }
+}
+
+fn known(e: Option<u64>) -> Option<Whom>
+    ensures { result ≡ option_map Known e }
+{
+    match e {
+        Some(e) => Some(Whom::Known(e)),
+        None => None,
+    }
+}
+
+fn numbered<F: Facts>(facts: &F, n: i64) -> Option<u64>
+    requires { IsLawful (F.history facts.now) }
+    ensures { result ≡ found (db_of (F.history facts.now)) (asks.number n) }
+{
+    if n < 0 {
+        return None;
+    }
+    let n = n as u64;
+    if is_issued(facts, n) { Some(n) } else { None }
+}
+
+fn is_issued<F: Facts>(facts: &F, n: u64) -> bool
+    requires { IsLawful (F.history facts.now) }
+    ensures { result ≡ model_is_issued (F.history facts.now) n }
+{
+    lawful_histories_are_small();
+    is_builtin(n)
+        || (transaction_entity(0) <= n && n <= transaction_entity(facts.basis()))
+        || (user_entity(1) <= n && n <= user_entity(facts.issued()))
+}
+
+fn next_transaction<F: Facts>(facts: &F) -> u64
+    requires { IsLawful (F.history facts.now) }
+    ensures { result ≡ transaction_of (basis (F.history facts.now) + 1) }
+{
+    lawful_histories_are_small();
+    transaction_entity(facts.basis() + 1)
+}
+
+fn looked_up<F: Facts>(
+    facts: &F,
+    schema: &Schema,
+    k: &Text,
+    value: &Edn,
+) -> Result<Option<u64>, Memory>
+    requires { SchemaStands schema.now (F.history facts.now) }
+    ensures { IfOk result (λ e. e ≡ found (db_of (F.history facts.now)) (asks.lookup k.now (form_of value.now))) }
+{
+    schemas_tell_of_attributes();
+    let Some(attribute) = schema.named(k) else {
+        return Ok(None);
+    };
+    let Some(v) = plain_value(attribute.kind, value)? else {
+        return Ok(None);
+    };
+    Ok(facts.holder(attribute.id, &v))
+}
+
+/// The value that the form is by itself, which no entity is.
+fn plain_value(kind: u64, value: &Edn) -> Result<Option<Value>, Memory>
+    ensures { IfOk result (λ v. v ≡ value_in kind (form_of value.now)) }
+{
+    forms_of_other_types();
+    if kind == TYPE_REF {
+        return Ok(None);
+    }
+    as_value(kind, value)
+}

@@ -1,0 +1,10 @@
+pub mod Places
+pub mod Cas
+pub mod Neighbours
+pub mod Conflicts
+pub mod Holders
+pub mod Whole
+pub mod Fixed
+pub mod Promises
+pub mod Rules
+pub mod Entries
