@@ -1,0 +1,40 @@
+//! Adopting trees that were merged, while the history went on.
+ghost use Rattle.std.specs.Prelude.{◌≡◌, IfOk};
+ghost use Rattle.fb_model.specs.History.{basis, upto};
+ghost use Rattle.view_model.specs.Stands.{RootStands};
+ghost use Rattle.fb_view.specs.Kept.{trees_of};
+
+use crate::shared::Core;
+use fb_memory::Memory;
+use fb_view::Snapshot;
+use seg_tree::Roots;
+
+/// The latest value of the database over newer trees, which are not yet adopted.
+#[derive(Drop)]
+pub struct Rebased {
+    snapshot: Snapshot,
+}
+
+impl Core {
+    ghost use Rattle.fb_core.specs.Cores.{IsRebaseOf};
+
+    /// Its latest value over trees that were made of those of an older one. What came since is live.
+    pub fn rebase(&self, begin: &Snapshot, roots: Roots) -> Result<Rebased, Memory>
+        requires begins { upto self.now.snapshot.entries (basis begin.now.entries) ≡ begin.now.entries }
+        requires roots { RootStands (trees_of roots) begin.now.entries (basis begin.now.entries) }
+        ensures rebase { IfOk result (λ rebased. IsRebaseOf self.now rebased) }
+        ensures roots { IfOk result (λ rebased. rebased.snapshot.roots ≡ roots) }
+        ensures covered { IfOk result (λ rebased. rebased.snapshot.covered ≡ basis begin.now.entries) }
+    {
+        let snapshot = self.snapshot().rebased(begin, roots)?;
+        Ok(Rebased { snapshot })
+    }
+
+    /// The newer trees stand from now on. The history and its authors stay. It takes no memory.
+    pub fn adopt(&mut self, rebased: Rebased)
+        requires { IsRebaseOf self.old rebased }
+        ensures { self.new ≡ record self.old { snapshot = rebased.snapshot } }
+    {
+        self.parts.snapshot = rebased.snapshot;
+    }
+}
