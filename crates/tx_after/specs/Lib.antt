@@ -2,3 +2,4 @@ pub mod After
 pub mod Triples
 pub mod Places
 pub mod Promises
+pub mod Parts

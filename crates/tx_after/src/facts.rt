@@ -4,9 +4,11 @@ ghost use Rattle.fb_values.specs.declared.indexes.Order.TheVariants.{Eavt, Aevt}
 ghost use Rattle.fb_model.specs.Schema.{is_about};
 ghost use Rattle.fb_facts.specs.Told.{is_under};
 ghost use Rattle.tx_after.specs.After as model;
+ghost use Rattle.tx_after.specs.Parts.{AreByAttribute};
 
+use crate::by_attribute::ByAttribute;
 use crate::merge::merged;
-use crate::parts::{part_of, part_under};
+use crate::parts::part_of;
 use fb_facts::Facts;
 use fb_memory::Memory;
 use fb_values::{Datom, Order, Value};
@@ -31,14 +33,15 @@ pub fn facts_under<F: Facts>(
     alloc: Global,
     facts: &F,
     changes: &[Datom],
+    by_attribute: &ByAttribute,
     a: u64,
 ) -> Result<Vec<Datom>, Memory>
-    requires { model.AreChanges changes.now }
+    requires changes { model.AreChanges changes.now }
+    requires parts { AreByAttribute by_attribute.now.parts changes.now }
     ensures { IfOk result (λ list. list.items ≡ model.facts_under (F.history facts.now) changes.now a) }
 {
     let before = facts.facts_under(a)?;
-    let part = part_under(alloc, changes, a)?;
-    merged(alloc, Order::Aevt, before.as_slice(), &part)
+    merged(alloc, Order::Aevt, before.as_slice(), by_attribute.under(a))
 }
 
 /// The values of the entity under the attribute, in their order.

@@ -4,6 +4,7 @@
 #![tactic(auto)]
 
 mod attributes;
+mod by_attribute;
 mod described;
 mod facts;
 mod laws;
@@ -13,6 +14,7 @@ mod promises;
 mod told;
 
 pub use attributes::{attribute_of, is_whole};
+pub use by_attribute::ByAttribute;
 pub use described::{attribute_after, is_whole_after};
 pub use facts::{facts_of, facts_under, values_of};
 pub use laws::{

@@ -1,13 +1,11 @@
-//! The changes of one entity, and those of one attribute.
-ghost use Rattle.std.specs.Prelude.{◌≡◌, ◌≤◌, length, filter, IfOk, IsTrue};
+//! The changes of one entity.
+ghost use Rattle.std.specs.Prelude.{◌≡◌, ◌≤◌, length, filter, IsTrue};
 ghost use Rattle.fb_values.specs.declared.indexes.Order.TheVariants.{Eavt};
 ghost use Rattle.fb_model.specs.Rising.{rises};
-ghost use Rattle.fb_facts.specs.Told.{is_of_entity, is_under};
+ghost use Rattle.fb_facts.specs.Told.{is_of_entity};
 ghost use Rattle.tx_after.specs.Places as places;
 
-use fb_memory::Memory;
 use fb_values::Datom;
-use std::alloc::Global;
 
 /// The changes of the entity, found by a search.
 pub fn part_of(changes: &[Datom], e: u64) -> &[Datom]
@@ -47,17 +45,4 @@ fn front_of(datoms: &[Datom], e: u64) -> usize
         to += 1;
     }
     to
-}
-
-/// Copies of the changes under the attribute.
-pub fn part_under(alloc: Global, changes: &[Datom], a: u64) -> Result<Vec<Datom>, Memory>
-    ensures { IfOk result (λ part. part.items ≡ filter (is_under a) changes.now) }
-{
-    let mut part = Vec::new(alloc);
-    for d in changes {
-        if d.a == a {
-            part.push(d.copy()?)?;
-        }
-    }
-    Ok(part)
 }

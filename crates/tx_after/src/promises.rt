@@ -4,9 +4,11 @@ ghost use Rattle.std.specs.List.{list_any};
 ghost use Rattle.fb_values.specs.declared.facts.Datom.{Datom};
 ghost use Rattle.fb_model.specs.Facts.{value_eq};
 ghost use Rattle.tx_after.specs.After as model;
+ghost use Rattle.tx_after.specs.Parts.{AreByAttribute};
 ghost use Rattle.tx_after.specs.Places.{entities_rise};
 ghost use Rattle.tx_after.specs.Promises as promises;
 
+use crate::by_attribute::ByAttribute;
 use crate::facts::facts_under;
 use fb_facts::Facts;
 use fb_memory::Memory;
@@ -19,12 +21,14 @@ pub fn gives_one_value<F: Facts>(
     alloc: Global,
     facts: &F,
     changes: &[Datom],
+    by_attribute: &ByAttribute,
     a: u64,
 ) -> Result<bool, Memory>
-    requires { model.AreChanges changes.now }
+    requires changes { model.AreChanges changes.now }
+    requires parts { AreByAttribute by_attribute.now.parts changes.now }
     ensures { IfOk result (λ is. is ≡ promises.gives_one_value (model.after (F.history facts.now) changes.now) a) }
 {
-    let under = facts_under(alloc, facts, changes, a)?;
+    let under = facts_under(alloc, facts, changes, by_attribute, a)?;
     Ok(are_of_other_entities(&under))
 }
 
@@ -33,12 +37,14 @@ pub fn gives_one_holder<F: Facts>(
     alloc: Global,
     facts: &F,
     changes: &[Datom],
+    by_attribute: &ByAttribute,
     a: u64,
 ) -> Result<bool, Memory>
-    requires { model.AreChanges changes.now }
+    requires changes { model.AreChanges changes.now }
+    requires parts { AreByAttribute by_attribute.now.parts changes.now }
     ensures { IfOk result (λ is. is ≡ promises.gives_one_holder (model.after (F.history facts.now) changes.now) a) }
 {
-    let under = facts_under(alloc, facts, changes, a)?;
+    let under = facts_under(alloc, facts, changes, by_attribute, a)?;
     are_of_other_values(alloc, &under)
 }
 

@@ -1,6 +1,8 @@
 -- The lesser of two places, and the least of many.
 use Rattle.std.proofs.Common.{◌≡◌, ℕ, ◌+◌, ◌<◌, min, Bool, true, false, cond, List, [], ◌∷◌, length, get_or, drop, refl, ap, sym, ◌∙◌, arith, add-one, drop-cons, Option, Some, None}
 use Rattle.std.specs.Prelude.{filter}
+use Rattle.std.specs.List.{list_any}
+use Rattle.std.proofs.lemmas.Bool.{or_parts}
 use Rattle.tx_asks.specs.declared.triples.Triple.{Triple}
 use Rattle.tx_rules.specs.Places.{earlier, first_where}
 
@@ -28,6 +30,13 @@ first_where-step p place ts i d first within =
   where
     first_of_rest : (ts : List Triple) (i : ℕ) → i < length ts → drop i ts ≡ get_or ts i d ∷ drop (i + 1) ts
     first_of_rest ts i within = rw (add-one, drop-cons ts i d) refl
+
+-- there is none where none passes
+pub nowhere_first : (p : Triple → Bool) (place : Triple → Option ℕ) (ts : List Triple) → list_any p ts ≡ false → first_where p place ts ≡ None
+nowhere_first p place [] none = refl
+nowhere_first p place (t ∷ ts) none =
+    let parts = or_parts (p t) (list_any p ts) none in
+    rw (parts.0, nowhere_first p place ts parts.1) refl
 
 pub first_where-same : (p q : Triple → Bool) (place : Triple → Option ℕ) → ((t : Triple) → p t ≡ q t) → (ts : List Triple) → first_where p place ts ≡ first_where q place ts
 first_where-same p q place same [] = refl

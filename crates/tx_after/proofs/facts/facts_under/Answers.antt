@@ -15,15 +15,15 @@ merged-requires-clause-before g c =
 
 pub merged-requires-clause-changes : goal.merged-requires-clause-changes
 merged-requires-clause-changes g c =
-    subst (λ l. triples_rise Aevt l ≡ true) (sym (c.deref.ensures.value ∙ c.in_ok-part.ensures))
-    (under_one c.args.a c.args.changes.now (apart_at_t Eavt c.requires.t c.args.changes.now c.requires.rising c.requires.of_t))
+    subst (λ l. triples_rise Aevt l ≡ true) (sym (c.under.ensures ∙ c.requires.parts c.args.a))
+    (under_one c.args.a c.args.changes.now (apart_at_t Eavt c.requires.changes.t c.args.changes.now c.requires.changes.rising c.requires.changes.of_t))
 
 pub returns : goal.returns
 returns g c =
     let h = g.F.Facts.history c.args.facts.now in
     let changes = c.args.changes.now in
-    let rise = apart_at_t Eavt c.requires.t changes c.requires.rising c.requires.of_t in
-    let is = ap (λ l. with_changes Aevt l c.deref.result.now) (c.as_slice.ensures ∙ c.in_ok-before.ensures)
-    ∙ ap (with_changes Aevt (facts_under h c.args.a)) (c.deref.ensures.value ∙ c.in_ok-part.ensures)
+    let rise = apart_at_t Eavt c.requires.changes.t changes c.requires.changes.rising c.requires.changes.of_t in
+    let is = ap (λ l. with_changes Aevt l c.under.result.now) (c.as_slice.ensures ∙ c.in_ok-before.ensures)
+    ∙ ap (with_changes Aevt (facts_under h c.args.a)) (c.under.ensures ∙ c.requires.parts c.args.a)
     ∙ told_with_changes h changes (apart-from_triples Eavt changes rise) Aevt (is_under c.args.a) (under-IsOnTriples c.args.a) in
     IfOk-map _ _ (λ list same. same ∙ is) c.merged.result c.merged.ensures

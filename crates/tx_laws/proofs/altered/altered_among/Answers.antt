@@ -4,7 +4,7 @@ use Rattle.fb_model.specs.Facts.{facts}
 use Rattle.tx_after.specs.After.{after}
 use Rattle.tx_laws.specs.Alterations.{HasAltered}
 use Rattle.tx_laws.proofs.Drops.{drop_before}
-use Rattle.tx_laws.proofs.altered.altered_by.Goals as goal
+use Rattle.tx_laws.proofs.altered.altered_among.Goals as goal
 
 pub loop-i-preserved : goal.loop-i-preserved
 loop-i-preserved g c =

@@ -3,7 +3,7 @@ use Rattle.std.specs.Prelude.{IfSome}
 use Rattle.tx_after.specs.After.{after}
 use Rattle.tx_rules.specs.Places.{earlier, first_where}
 use Rattle.tx_rules.specs.Promises.{promises_anew, broken_at, verdict_of, first_broken}
-use Rattle.tx_rules.proofs.promises.first_broken.Given as goal
+use Rattle.tx_rules.proofs.promises.first_broken_by.Given as goal
 
 abbrev pub invariant-loop-triple : goal.invariant-loop-triple
 invariant-loop-triple g l = record {

@@ -4,8 +4,8 @@ use Rattle.tx_after.specs.After.{after}
 use Rattle.tx_rules.specs.Places.{earlier, first_where}
 use Rattle.tx_rules.specs.Promises.{promises_anew, verdict_of, broken_at}
 use Rattle.tx_rules.proofs.Earlier.{first_where-pass, first_where-fail}
-use Rattle.tx_rules.proofs.promises.first_broken.Goals as goal
-use Rattle.tx_rules.proofs.promises.first_broken.Goals.{then-promises_anew+in_ok-verdict, else-promises_anew}
+use Rattle.tx_rules.proofs.promises.first_broken_by.Goals as goal
+use Rattle.tx_rules.proofs.promises.first_broken_by.Goals.{then-promises_anew+in_ok-verdict, else-promises_anew}
 
 pub loop-triple-preserved : goal.loop-triple-preserved
 loop-triple-preserved g c =

@@ -2,7 +2,7 @@ use Rattle.std.proofs.Common.{◌≤◌, length, drop}
 use Rattle.fb_model.specs.Facts.{facts}
 use Rattle.tx_after.specs.After.{after}
 use Rattle.tx_laws.specs.Alterations.{HasAltered}
-use Rattle.tx_laws.proofs.altered.altered_by.Given as goal
+use Rattle.tx_laws.proofs.altered.altered_among.Given as goal
 
 abbrev pub invariant-loop-i : goal.invariant-loop-i
 invariant-loop-i g l = record {
