@@ -25,8 +25,10 @@ pub fn accepting_keeps_histories_lawful()
     ensures stands { (core : CoreParts) (author : ℕ) (draft : Draft) → CoreStands core → IsDraftOf core author draft → CoreStands (record { snapshot = draft.after; authors = draft.authors }) }
 {}
 
-/// The snapshot that was taken before an accept is of a beginning of the history after it, and so is each older one.
+/// The latest snapshot is of a beginning of the core's history, the whole of it. After an accept it still is of a beginning,
+/// and so is each older one.
 pub fn a_beginning_stays_one()
+    ensures whole { (core : CoreParts) → CoreStands core → upto core.snapshot.entries (basis core.snapshot.entries) ≡ core.snapshot.entries }
     ensures latest { (core : CoreParts) (author : ℕ) (draft : Draft) → CoreStands core → IsDraftOf core author draft
         → upto draft.after.entries (basis core.snapshot.entries) ≡ core.snapshot.entries }
     ensures older { (core : CoreParts) (author : ℕ) (draft : Draft) (older : Kept) → IsDraftOf core author draft → Stands older
