@@ -1,2 +1,3 @@
 pub mod Datoms
 pub mod Table
+pub mod Selecting

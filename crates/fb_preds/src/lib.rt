@@ -4,12 +4,14 @@
 mod filters;
 mod finding;
 mod kept;
+mod picks;
 mod ranges;
 mod selector;
 mod table;
 
 pub use filters::{Filter, NamedFilter};
 pub use kept::{BoxedTest, Kept};
+pub use picks::{Pick, Picks};
 pub use selector::{BoxedSelector, Selector};
 pub use table::{PredTable, shipped};
 
