@@ -1,0 +1,57 @@
+//! What a database value sees of an index: its window comes first, and then its filter.
+ghost use Rattle.std.specs.Prelude.{◌≡◌, ◌&&◌, ◌↔◌, ◌∷◌, [], ◌++◌, ◌⊎◌, IsTrue, IfOk};
+ghost use Rattle.std.specs.Option.{option_copied};
+ghost use Rattle.fb_covers.specs.Coverage.{covers};
+ghost use Rattle.fb_db.specs.Seen.{window_of};
+ghost use Rattle.fb_scan.specs.Walks.{is_followed, is_shown};
+
+use fb_covers::Covers;
+use fb_db::Db;
+use fb_memory::Memory;
+use fb_preds::Selector;
+use fb_values::{Datom, Order};
+
+/// A database value, as a walk over one of its indexes asks it.
+pub struct Sight<'a, S> {
+    pub db: &'a Db<S>,
+    pub covers: &'a Covers,
+    pub order: Order,
+}
+
+impl<S: Selector> Sight<'_, S> {
+    ghost use Rattle.fb_scan.specs.Takes.{Takes};
+
+    /// Adds a copy of the datom where it is seen.
+    pub fn take(&self, found: &mut Vec<Datom>, d: &Datom, next: Option<&Datom>) -> Result<(), Memory>
+        ensures { IfOk result (λ _. Takes (IsTrue (covers self.now.covers.now self.now.order d.now.a && is_shown (window_of self.now.db.now) d.now (option_copied next.entry)) × S.selects self.now.db.now.filter d.now) found.old.items d.now found.new.items) }
+    {
+        if self.sees(d, next) {
+            found.push(d.copy()?)?;
+        }
+        Ok(())
+    }
+
+    /// Whether the index holds the datom, the window shows it beside the next one, and the filter selects it.
+    fn sees(&self, d: &Datom, next: Option<&Datom>) -> bool
+        ensures { IsTrue result ↔ (IsTrue (covers self.now.covers.now self.now.order d.now.a && is_shown (window_of self.now.db.now) d.now (option_copied next.entry)) × S.selects self.now.db.now.filter d.now) }
+    {
+        self.covers.holds(self.order, d.a) && shows(self.db, d, next) && self.db.filter.test(d)
+    }
+}
+
+/// Whether the window shows the datom beside the next one.
+fn shows<S: Selector>(db: &Db<S>, d: &Datom, next: Option<&Datom>) -> bool
+    ensures { result ≡ is_shown (window_of db.now) d.now (option_copied next.entry) }
+{
+    db.from <= d.t && d.t < db.to && (db.history || (d.added && !is_followed(db, d, next)))
+}
+
+/// Whether the next datom is of the same triple, and comes before the window's end.
+fn is_followed<S: Selector>(db: &Db<S>, d: &Datom, next: Option<&Datom>) -> bool
+    ensures { result ≡ is_followed (window_of db.now) d.now (option_copied next.entry) }
+{
+    match next {
+        None => false,
+        Some(next) => next.e == d.e && next.a == d.a && next.v == d.v && next.t < db.to,
+    }
+}
