@@ -19,7 +19,7 @@ pub enum End<'p> {
 impl End<'_> {
     /// Whether the datom lies beyond the end.
     pub fn is_past(self, d: &Datom) -> bool
-        ensures { result ≡ is_past self d.now }
+        ensures { result ≡ is_past self.entry d.now }
     {
         match self {
             End::Never => false,

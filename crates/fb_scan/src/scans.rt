@@ -64,7 +64,7 @@ fn valued(attr: u64, v: Option<Value>) -> Probe
 
 /// Before the value, or behind all of the attribute's datoms where the probe has none.
 fn end_at(probe: &Probe) -> End<'_>
-    ensures { MatchOption probe.now.v (result ≡ End.Behind probe) (λ _. result ≡ End.Before probe) }
+    ensures { MatchOption probe.now.v (result ≡ End.Behind probe.entry) (λ _. result ≡ End.Before probe.entry) }
 {
     if probe.v.is_some() {
         End::Before(probe)

@@ -12,6 +12,7 @@ use fb_preds::Selector;
 use fb_values::{Datom, Order};
 
 /// A database value, as a walk over one of its indexes asks it.
+#[derive(Drop)]
 pub struct Sight<'a, S> {
     pub db: &'a Db<S>,
     pub covers: &'a Covers,

@@ -15,7 +15,7 @@ pub struct Txs<'a> {
     to: u32,
 }
 
-impl Model for Txs<'_> {
+impl<'a> Model for Txs<'a> {
     ghost use Rattle.std.specs.Prelude.{List, length, ◌≤◌};
     ghost use Rattle.fb_values.specs.declared.facts.Entry.{Entry};
     ghost use Rattle.fb_scan.specs.Logs.{part};

@@ -21,7 +21,7 @@ pub fn collect<S: Selector>(
     end: End<'_>,
 ) -> Result<Datoms, Memory>
     requires { IsIn from.now.order end }
-    ensures { IfOk result (λ ds. IsWalk db.now.snapshot.entries (window_of db.now) (S.selects db.now.filter) from.now end ds) }
+    ensures { IfOk result (λ ds. IsWalk db.now.snapshot.entries (window_of db.now) (S.selects db.now.filter) from.now end.entry ds) }
 {
     let sight = Sight {
         db,
