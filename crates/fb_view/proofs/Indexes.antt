@@ -31,10 +31,10 @@ use Rattle.fb_view.proofs.Merging.{merged_rises, rising-filter, from_merged, int
 use Rattle.fb_view.proofs.Telling.{pair_stands, was_said, in_one, from_older, from_live, refs_covered}
 
 module _ (k : Kept) (stands : Stands k) (order : Order) where
-  older : List Datom
+  abbrev older : List Datom
   older = tree_datoms (tree_in k.roots order)
 
-  live : List Datom
+  abbrev live : List Datom
   live = list_in k.live order
 
   -- those that the index holds by the latest facts

@@ -1,17 +1,19 @@
 -- The two lists of an order, read as one.
-use Rattle.std.proofs.Common.{◌≡◌, ◌∙◌, ℕ, zero, suc, ◌+◌, ◌<◌, ◌≤◌, ◌⊎◌, inl, inr, Bool, true, false, cond, List, [], ◌∷◌, ◌++◌, length, drop, refl, sym, ap, subst, arith, Option, Some, None}
+use Rattle.std.proofs.Common.{◌≡◌, ◌∙◌, ℕ, zero, suc, ◌+◌, ◌<◌, ◌≤◌, ◌⊎◌, inl, inr, Bool, true, false, cond, List, [], ◌∷◌, ◌++◌, length, take, drop, refl, sym, ap, subst, arith, Option, Some, None}
 use Rattle.std.specs.Prelude.{Contains, filter, not}
 use Rattle.std.specs.List.{slice_get, take_while, prefix_len}
 use Rattle.std.specs.Ordering.{is_lt, is_eq, is_gt}
+use Rattle.std.specs.Cmp.Lexicographic.{slice_cmp}
 use Rattle.std.specs.declared.cmp.Ordering.{Ordering}
 use Rattle.std.specs.declared.cmp.Ordering.TheVariants.{Less, Equal, Greater}
 use Rattle.std.proofs.lemmas.Bool.{true≢false, cases_Bool}
 use Rattle.std.proofs.lemmas.List.Elements.{Contains-append_left, Contains-append_right, Contains-append_cases}
 use Rattle.fb_values.specs.declared.facts.Datom.{Datom}
+use Rattle.fb_values.specs.declared.facts.Value.{Value}
 use Rattle.fb_values.specs.declared.indexes.Order.{Order}
 use Rattle.fb_values.specs.declared.indexes.Order.TheVariants.{Eavt, Aevt, Avet, Vaet}
 use Rattle.fb_values.specs.declared.indexes.Probe.{Probe}
-use Rattle.fb_values.specs.Orders.{given, key_cmp, probe_cmp}
+use Rattle.fb_values.specs.Orders.{key_of, value_cmp, given, key_cmp, probe_cmp}
 use Rattle.fb_values.specs.OrderLaws.{key_cmp_total, key_cmp-Equal}
 use Rattle.fb_search.specs.Rising.{StandsBefore, IsRising}
 use Rattle.fb_search.specs.Places.{is_below, place_of}
@@ -346,7 +348,10 @@ ahead_from_place p older live pair =
 -- nothing is below a probe without components
 pub none_below_all : (p : Probe) (ds : List Datom) → given p ≡ [] → from_probe p ds ≡ ds
 none_below_all p [] is = refl
-none_below_all p (d ∷ ds) is = rw is (ap (λ l. d ∷ l) (none_below_all p ds is))
+none_below_all p (d ∷ ds) is = rw (not_below d) (ap (λ l. d ∷ l) (none_below_all p ds is))
+  where
+    not_below : (x : Datom) → is_below p x ≡ false
+    not_below x = ap (λ (g : List Value). is_gt (slice_cmp value_cmp g (take (length g) (key_of p.order x)))) is
 
 pub none_given : (order : Order) → given (record { order = order; e = None; a = None; v = None; t = None }) ≡ []
 none_given Eavt = refl
