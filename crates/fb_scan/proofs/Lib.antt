@@ -3,3 +3,4 @@ pub mod Meeting
 pub mod Ending
 pub mod Going
 pub mod Log
+pub mod Stepping

@@ -33,7 +33,7 @@ pub fn collect<S: Selector>(
     let mut next = both.next(from.order, both.start(from));
     while let Some((datom, spot)) = next {
         if end.is_past(datom) {
-            break;
+            return Ok(Datoms::of(found));
         }
         next = both.next(from.order, spot);
         sight.take(&mut found, datom, datom_of(next))?;
