@@ -99,7 +99,7 @@ module _ (a : ℕ) (d : Datom) where
   bounded Greater s e = refl
 
   -- whether the value is below the start, or the end, as a test of the attribute's datoms
-  is_early : Option Value → Bool
+  abbrev is_early : Option Value → Bool
   is_early start = option_map_or (λ v. is_lt (value_cmp d.v v)) start false
 
   early_start : (start : Option Value) → option_map_or (λ v. not (is_lt (value_cmp d.v v))) start true ≡ not (is_early start)

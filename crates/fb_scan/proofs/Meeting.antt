@@ -67,7 +67,7 @@ module _ (k : Kept) (stands : Stands k) (p : Probe) where
           let one = (one_for_each_key_in k.entries stands.history.lawful p.order).same d x (is_said d d_in) (is_said x x_in) is in
           subst (λ (z : Datom). z.t ≤ d.t) one (omega arith)
       go Greater is =
-          let less : key_cmp p.order x d ≡ Less = cc ((key_cmp_total p.order).antisymm x d, (key_cmp_total p.order).antisymm d x) in
+          let less : key_cmp p.order x d ≡ Less = cc ((key_cmp_total p.order).antisymm x d) in
           let early = (rising_by_time p.order (x ∷ d ∷ []) ((less, tt), (tt, tt))).0 d (contains_head d [] d refl) (of_back d x same) in
           omega (arith, early)
 

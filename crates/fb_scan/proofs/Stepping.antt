@@ -78,16 +78,17 @@ module _ (p : Probe) (w : Window) (coverage : Coverage) (end : End) (Selects : D
       (subst (λ (l : List Datom). IsGoing p.order w (λ d. held_by coverage p.order d.a) (is_past end) Selects (path p tree live) [] l) (sym start ∙ at_hand_is p.order tree live spot next is)
       (begins p.order w (λ d. held_by coverage p.order d.a) (is_past end) Selects (path p tree live) path_rises))
 
-  pub walk_goes : (found new : List Datom) (was next : Option (Bor Datom × Spot)) (b : Bor Datom) (spot : Spot) (beside : Option Datom)
-      → Walks p w coverage end Selects tree live found was → was ≡ Some (b, spot) → is_past end b.now ≡ false → IsNext p.order tree live spot next → beside ≡ option_map (λ n. n.0.now) next
-      → Takes (IsTrue (held_by coverage p.order b.now.a && is_shown w b.now beside) × Selects b.now) found b.now new
+  pub walk_goes : (found new : List Datom) (was next : Option (Bor Datom × Spot)) (b : Bor Datom) (spot : Spot) (held : Bool) (beside : Option Datom)
+      → Walks p w coverage end Selects tree live found was → was ≡ Some (b, spot) → is_past end b.now ≡ false → IsNext p.order tree live spot next → beside ≡ option_map (λ n. n.0.now) next → held ≡ held_by coverage p.order b.now.a
+      → Takes (IsTrue (held && is_shown w b.now beside) × Selects b.now) found b.now new
       → Walks p w coverage end Selects tree live new next
-  walk_goes found new was next b spot beside going was_is before is beside_is takes =
+  walk_goes found new was next b spot held beside going was_is before is beside_is held_is takes =
       goes_on p.order w (λ d. held_by coverage p.order d.a) (is_past end) Selects (path p tree live) found b.now (at_hand p.order tree live next)
       (subst (λ (l : List Datom). IsGoing p.order w (λ d. held_by coverage p.order d.a) (is_past end) Selects (path p tree live) found (b.now ∷ l)) (at_hand_is p.order tree live spot next is)
       (subst (Walks p w coverage end Selects tree live found) was_is going))
       new before
-      (subst (λ (n : Option Datom). Takes (IsTrue (held_by coverage p.order b.now.a && is_shown w b.now n) × Selects b.now) found b.now new) (beside_is ∙ sym (first_at_hand p.order tree live next)) takes)
+      (subst (λ (n : Option Datom). Takes (IsTrue (held_by coverage p.order b.now.a && is_shown w b.now n) × Selects b.now) found b.now new) (beside_is ∙ sym (first_at_hand p.order tree live next))
+      (subst (λ (h : Bool). Takes (IsTrue (h && is_shown w b.now beside) × Selects b.now) found b.now new) held_is takes))
 
   -- what the walk is to find
   abbrev pub HasAll : List Datom → Type 0
@@ -102,7 +103,6 @@ module _ (p : Probe) (w : Window) (coverage : Coverage) (end : End) (Selects : D
 
   pub walk_stops : IsIn p.order end → (found : List Datom) (was : Option (Bor Datom × Spot)) (b : Bor Datom) (spot : Spot) → Walks p w coverage end Selects tree live found was → was ≡ Some (b, spot) → is_past end b.now ≡ true → HasAll found
   walk_stops inside found was b spot going was_is past =
-      let rest : List Datom = b.now ∷ ahead p.order tree live spot in
       let here : IsGoing p.order w (λ d. held_by coverage p.order d.a) (is_past end) Selects (path p tree live) found (b.now ∷ ahead p.order tree live spot) = subst (Walks p w coverage end Selects tree live found) was_is going in
       let rises : IsRising p.order (b.now ∷ ahead p.order tree live spot) = rising_behind p.order found (b.now ∷ ahead p.order tree live spot) here.rising in (
         found_rises p.order w (λ d. held_by coverage p.order d.a) (is_past end) Selects (path p tree live) found (b.now ∷ ahead p.order tree live spot) here,
@@ -185,3 +185,8 @@ between_ends b end a start (Some v) is ends_at d =
     between_closed a d start v
     ∙ ap (λ (q : Probe). not (is_below (valued a start) d) && not (not (is_below q d))) (sym is)
     ∙ ap (λ (e : End). not (is_below (valued a start) d) && not (is_past e d)) (sym last)
+
+pub range_is_scan : (h : List Entry) (w : Window) (Selects : Datom → Type 0) (p : Probe) (b : Bor Probe) (end : End) (a : ℕ) (start to : Option Value) (ds : List Datom)
+    → EndsAt b end → p ≡ valued a start → b.now ≡ valued a to → IsWalk h w Selects p end ds → IsScan h w Selects Avet (between a start to) ds
+range_is_scan h w Selects p b end a start to ds ends_at from_is to_is is =
+    walk_is_scan h w Selects (valued a start) end (between a start to) ds (between_ends b end a start to to_is ends_at) (subst (λ (q : Probe). IsWalk h w Selects q end ds) from_is is)

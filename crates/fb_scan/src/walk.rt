@@ -5,7 +5,7 @@ ghost use Rattle.fb_db.specs.Seen.{window_of};
 ghost use Rattle.fb_scan.specs.Ends.{IsIn, IsWalk};
 
 use crate::ends::End;
-use crate::sight::Sight;
+use crate::sight::take;
 use fb_db::Db;
 use fb_memory::Memory;
 use fb_preds::Selector;
@@ -23,11 +23,7 @@ pub fn collect<S: Selector>(
     requires { IsIn from.now.order end }
     ensures { IfOk result (λ ds. IsWalk db.now.snapshot.entries (window_of db.now) (S.selects db.now.filter) from.now end.entry ds) }
 {
-    let sight = Sight {
-        db,
-        covers: db.snapshot.schema().covers(),
-        order: from.order,
-    };
+    let covers = db.snapshot.schema().covers();
     let both = db.snapshot.both(from.order);
     let mut found = Vec::new(alloc);
     let mut next = both.next(from.order, both.start(from));
@@ -36,7 +32,8 @@ pub fn collect<S: Selector>(
             return Ok(Datoms::of(found));
         }
         next = both.next(from.order, spot);
-        sight.take(&mut found, datom, datom_of(next))?;
+        let held = covers.holds(from.order, datom.a);
+        take(&mut found, db, held, datom, datom_of(next))?;
     }
     Ok(Datoms::of(found))
 }
