@@ -41,7 +41,9 @@ impl<'p> Picks<'p> {
     pub fn none(alloc: Global) -> Picks<'p>
         ensures { result.picks.items ≡ [] }
     {
-        Picks { picks: Vec::new(alloc) }
+        Picks {
+            picks: Vec::new(alloc),
+        }
     }
 
     /// One filter more.

@@ -124,9 +124,19 @@ fn each_of_two_filters_has_to_select(rt: HostRuntime) -> Result<(), Fail> {
     let documented = datom(17_592_186_044_417, 7, Value::Ref(1));
     let builtin = datom(1, 9, Value::Ref(1));
     let mut picks = Picks::none(alloc);
-    assert_eq!(rt; (picks.test(&documented), picks.test(&builtin)), (true, true));
+    assert_eq!(rt;
+        (picks.test(&documented), picks.test(&builtin)),
+        (true, true)
+    );
     pick(&mut picks, &table, alloc, "no-doc")?;
     pick(&mut picks, &table, alloc, "users")?;
-    assert_eq!(rt; (picks.test(&user), picks.test(&documented), picks.test(&builtin)), (true, false, false));
+    assert_eq!(rt;
+        (
+            picks.test(&user),
+            picks.test(&documented),
+            picks.test(&builtin)
+        ),
+        (true, false, false)
+    );
     Ok(())
 }

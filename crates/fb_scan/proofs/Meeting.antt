@@ -77,13 +77,13 @@ module _ (k : Kept) (stands : Stands k) (p : Probe) where
       let own = from_filter (λ x. not (is_below p x)) index d (seen_in_member w ahead_of d seen_there) in
       let above = not_true (is_below p d) own.1 in (
         seen_moves w ahead_of (said k.entries) d (rising_by_time p.order ahead_of ahead_rises) (said_by_time k.entries stands.history.lawful) (is_said d own.0)
-        (λ x x_in same.
-        let x_there = is_indexed x x_in (subst (λ (a : ℕ). covers (facts k.entries) p.order a ≡ true) (sym (is_of-true d.e d.a d.v x same).a_is) held) in
-        elim (cases_Bool (is_below p x)) [
-          | inl below ↦ inr (below_is_early d x own.0 x_there above below same)
-          | inr x_above ↦ inl (into_filter (λ z. not (is_below p z)) index x x_there (ap not x_above))
-        ])
-        seen_there,
+            (λ x x_in same.
+            let x_there = is_indexed x x_in (subst (λ (a : ℕ). covers (facts k.entries) p.order a ≡ true) (sym (is_of-true d.e d.a d.v x same).a_is) held) in
+            elim (cases_Bool (is_below p x)) [
+              | inl below ↦ inr (below_is_early d x own.0 x_there above below same)
+              | inr x_above ↦ inl (into_filter (λ z. not (is_below p z)) index x x_there (ap not x_above))
+            ])
+            seen_there,
         above,
       )
 

@@ -107,7 +107,7 @@ module _ (p : Probe) (w : Window) (coverage : Coverage) (end : End) (Selects : D
       let rises : IsRising p.order (b.now ∷ ahead p.order tree live spot) = rising_behind p.order found (b.now ∷ ahead p.order tree live spot) here.rising in (
         found_rises p.order w (λ d. held_by coverage p.order d.a) (is_past end) Selects (path p tree live) found (b.now ∷ ahead p.order tree live spot) here,
         ends p.order w (λ d. held_by coverage p.order d.a) (is_past end) Selects (path p tree live) found (b.now ∷ ahead p.order tree live spot) here
-        (λ d answer. true≢false (sym (all_past p.order end b.now (ahead p.order tree live spot) d inside rises past (shown_member w (b.now ∷ ahead p.order tree live spot) d answer.is_seen)) ∙ answer.is_before)),
+            (λ d answer. true≢false (sym (all_past p.order end b.now (ahead p.order tree live spot) d inside rises past (shown_member w (b.now ∷ ahead p.order tree live spot) d answer.is_seen)) ∙ answer.is_before)),
       )
 
 -- ---- what is found is what the view has
