@@ -50,38 +50,38 @@ part_at low to n h = take (min to (n + length h) - max low n) (drop (low - n) h)
 take_none : (n : ℕ) (h : List Entry) → n ≡ 0 → take n h ≡ []
 take_none n h is = ap (λ m. take m h) is
 
+no_part : (i j : ℕ) → take {A = Entry} i (drop {A = Entry} j []) ≡ []
+no_part zero zero = refl
+no_part zero (suc j) = refl
+no_part (suc i) zero = refl
+no_part (suc i) (suc j) = refl
+
 part_numbered : (from to n : ℕ) (h : List Entry) → IsNumbered n h → filter (λ entry. is_within from to entry.t) h ≡ part_at (max from 1) to n h
-part_numbered from to n [] numbered = sym (none (min to (n + 0) - max (max from 1) n) (max from 1 - n))
-  where
-    none : (i j : ℕ) → take i (drop j []) ≡ []
-    none zero zero = refl
-    none zero (suc j) = refl
-    none (suc i) zero = refl
-    none (suc i) (suc j) = refl
-part_numbered from to n (x ∷ xs) numbered =
+part_numbered from to n [] own = sym (no_part (min to (n + 0) - max (max from 1) n) (max from 1 - n))
+part_numbered from to n (x ∷ xs) own =
     elim (cases_lt n (max from 1)) [
       | inl low ↦
-          let skipped : is_within from to x.t ≡ false = ap (is_within from to) numbered.0 ∙ early from to n low in
+          let skipped : is_within from to x.t ≡ false = ap (is_within from to) own.0 ∙ early from to n low in
           let one : max from 1 - n ≡ suc (max from 1 - suc n) = omega (arith, low) in
           let count : min to (suc n + length xs) - max (max from 1) (suc n) ≡ min to (n + suc (length xs)) - max (max from 1) n = omega (arith, low) in
           ap (λ b. cond b (x ∷ filter (λ entry. is_within from to entry.t) xs) (filter (λ entry. is_within from to entry.t) xs)) skipped
-          ∙ part_numbered from to (suc n) xs numbered.1
+          ∙ part_numbered from to (suc n) xs own.1
           ∙ ap (λ m. take m (drop (max from 1 - suc n) xs)) count
           ∙ ap (λ m. take (min to (n + suc (length xs)) - max (max from 1) n) (drop m (x ∷ xs))) (sym one)
       | inr high ↦ elim (cases_lt n to) [
         | inl before ↦
-            let taken : is_within from to x.t ≡ true = ap (is_within from to) numbered.0 ∙ inside from to n high before in
+            let taken : is_within from to x.t ≡ true = ap (is_within from to) own.0 ∙ inside from to n high before in
             let front : max from 1 - n ≡ 0 = omega (arith, high) in
             let next : max from 1 - suc n ≡ 0 = omega (arith, high) in
             let count : min to (n + suc (length xs)) - max (max from 1) n ≡ suc (min to (suc n + length xs) - max (max from 1) (suc n)) = omega (arith, high, before) in
             ap (λ b. cond b (x ∷ filter (λ entry. is_within from to entry.t) xs) (filter (λ entry. is_within from to entry.t) xs)) taken
-            ∙ ap (λ l. x ∷ l) (part_numbered from to (suc n) xs numbered.1 ∙ ap (λ m. take (min to (suc n + length xs) - max (max from 1) (suc n)) (drop m xs)) next)
+            ∙ ap (λ l. x ∷ l) (part_numbered from to (suc n) xs own.1 ∙ ap (λ m. take (min to (suc n + length xs) - max (max from 1) (suc n)) (drop m xs)) next)
             ∙ ap (λ m. take m (x ∷ xs)) (sym count)
             ∙ ap (λ m. take (min to (n + suc (length xs)) - max (max from 1) n) (drop m (x ∷ xs))) (sym front)
         | inr beyond ↦
-            let skipped : is_within from to x.t ≡ false = ap (is_within from to) numbered.0 ∙ late from to n beyond in
+            let skipped : is_within from to x.t ≡ false = ap (is_within from to) own.0 ∙ late from to n beyond in
             ap (λ b. cond b (x ∷ filter (λ entry. is_within from to entry.t) xs) (filter (λ entry. is_within from to entry.t) xs)) skipped
-            ∙ part_numbered from to (suc n) xs numbered.1
+            ∙ part_numbered from to (suc n) xs own.1
             ∙ take_none (min to (suc n + length xs) - max (max from 1) (suc n)) (drop (max from 1 - suc n) xs) (omega (arith, beyond))
             ∙ sym (take_none (min to (n + suc (length xs)) - max (max from 1) n) (drop (max from 1 - n) (x ∷ xs)) (omega (arith, beyond)))
       ]
