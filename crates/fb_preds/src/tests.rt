@@ -102,3 +102,41 @@ fn a_type_of_a_caller_is_stored(rt: HostRuntime) -> Result<(), Fail> {
     assert_eq!(rt; (one, other, none), (Some(true), Some(false), None));
     Ok(())
 }
+
+fn pick<'p>(
+    picks: &mut Picks<'p>,
+    table: &'p PredTable,
+    alloc: Global,
+    name: &str,
+) -> Result<(), Memory> {
+    let name = Text::of(alloc, name)?;
+    match Pick::named(table, &name) {
+        Some(found) => picks.add(found),
+        None => Ok(()),
+    }
+}
+
+#[test]
+fn each_of_two_filters_has_to_select(rt: HostRuntime) -> Result<(), Fail> {
+    let alloc = rt.alloc();
+    let table = shipped(alloc)?;
+    let user = datom(17_592_186_044_417, 9, Value::Ref(1));
+    let documented = datom(17_592_186_044_417, 7, Value::Ref(1));
+    let builtin = datom(1, 9, Value::Ref(1));
+    let mut picks = Picks::none(alloc);
+    assert_eq!(rt;
+        (picks.test(&documented), picks.test(&builtin)),
+        (true, true)
+    );
+    pick(&mut picks, &table, alloc, "no-doc")?;
+    pick(&mut picks, &table, alloc, "users")?;
+    assert_eq!(rt;
+        (
+            picks.test(&user),
+            picks.test(&documented),
+            picks.test(&builtin)
+        ),
+        (true, false, false)
+    );
+    Ok(())
+}
