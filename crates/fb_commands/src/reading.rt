@@ -81,7 +81,13 @@ fn before_two<'a>(word: &str, x: &'a Edn, y: &'a Edn, rest: &'a [Edn]) -> Option
     }
 }
 
-fn before_three<'a>(word: &str, x: &'a Edn, y: &'a Edn, z: &'a Edn, rest: &'a [Edn]) -> Option<Command<'a>>
+fn before_three<'a>(
+    word: &str,
+    x: &'a Edn,
+    y: &'a Edn,
+    z: &'a Edn,
+    rest: &'a [Edn],
+) -> Option<Command<'a>>
     requires { forms_of rest.now ≡ form_of y.now ∷ form_of z.now ∷ [] }
     ensures { option_map (λ command. asked command) result
         ≡ option_and_then (λ command. command) (model.beside word.now (model.before (form_of x.now ∷ form_of y.now ∷ form_of z.now ∷ []))) }
