@@ -1,5 +1,5 @@
 -- The lines of maps with one, two and three fields.
-use Rattle.std.proofs.Common.{◌≡◌, ℕ, Bool, true, List, [], ◌∷◌, ◌++◌, map, refl, pos, codes}
+use Rattle.std.proofs.Common.{◌≡◌, ℕ, Bool, true, List, [], ◌∷◌, ◌++◌, map, refl, ap, ◌∙◌, sym, pos, codes}
 use Rattle.std.specs.Prelude.{decimal}
 use Rattle.std.proofs.lemmas.List.{append_assoc, append-nil}
 use Rattle.edn_model.specs.Form as edn
@@ -43,6 +43,17 @@ map_text ps inside h = (inside, h, refl)
 
 -- ---- lines
 
+-- what ends a line, behind its last number
+number_ended : (n : List ℕ) → n ++ 125 ∷ 10 ∷ [] ≡ ((n ++ []) ++ 125 ∷ []) ++ 10 ∷ []
+number_ended n =
+    let grouped : n ++ 125 ∷ 10 ∷ [] ≡ (n ++ 125 ∷ []) ++ 10 ∷ [] = simp append_assoc in
+    grouped ∙ ap (λ (z : List ℕ). (z ++ 125 ∷ []) ++ 10 ∷ []) (sym (append-nil n))
+
+place_ended : (word at basis : List ℕ) → word ++ (codes " :at " ++ (at ++ (codes " :basis " ++ (basis ++ 125 ∷ 10 ∷ [])))) ≡ ((word ++ (codes " :at " ++ (at ++ (codes " :basis " ++ (basis ++ []))))) ++ 125 ∷ []) ++ 10 ∷ []
+place_ended word at basis =
+    let grouped : word ++ (codes " :at " ++ (at ++ (codes " :basis " ++ (basis ++ 125 ∷ 10 ∷ [])))) ≡ ((word ++ (codes " :at " ++ (at ++ (codes " :basis " ++ basis)))) ++ 125 ∷ []) ++ 10 ∷ [] = simp append_assoc in
+    grouped ∙ ap (λ (z : List ℕ). ((word ++ (codes " :at " ++ (at ++ (codes " :basis " ++ z)))) ++ 125 ∷ []) ++ 10 ∷ []) (sym (append-nil basis))
+
 -- of a number and of something else
 abbrev pub numbered : List ℕ → ℕ → List ℕ → List ℕ → List ℕ
 numbered k n l u = braces (field_text k (decimal n) (32 ∷ field_text l u []))
@@ -57,14 +68,17 @@ receipt_line t tempids l0 l1 l2 l3 l4 e0 e1 e2 a e4 =
 
 pub basis_line : (basis : ℕ) (l0 l1 l2 : List ℕ) → l0 ≡ codes "{:basis " → l1 ≡ l0 ++ decimal basis → l2 ≡ l1 ++ codes "}\n" → IsLineOf (basis_reply basis) l2
 basis_line basis l0 l1 l2 e0 e1 e2 =
-    (braces (field_text (codes "basis") (decimal basis) []), one_field (codes "basis") (number basis) (decimal basis) refl, simp (e2, e1, e0, append_assoc, append-nil))
+    let pieces : l2 ≡ (codes "{:basis " ++ decimal basis) ++ codes "}\n" = simp (e2, e1, e0) in
+    (braces (field_text (codes "basis") (decimal basis) []), one_field (codes "basis") (number basis) (decimal basis) refl, pieces ∙ ap (λ (z : List ℕ). codes "{:basis " ++ z) (number_ended (decimal basis)))
 
 pub done_line : (basis : ℕ) (l0 l1 l2 : List ℕ) → l0 ≡ codes "{:ok true :basis " → l1 ≡ l0 ++ decimal basis → l2 ≡ l1 ++ codes "}\n" → IsLineOf (done_reply basis) l2
-done_line basis l0 l1 l2 e0 e1 e2 = (
-  braces (field_text (codes "ok") (codes "true") (32 ∷ field_text (codes "basis") (decimal basis) [])),
-  two_fields (codes "ok") (codes "basis") (edn.boolean true) (number basis) (codes "true") (decimal basis) refl refl,
-  simp (e2, e1, e0, append_assoc, append-nil),
-)
+done_line basis l0 l1 l2 e0 e1 e2 =
+    let pieces : l2 ≡ (codes "{:ok true :basis " ++ decimal basis) ++ codes "}\n" = simp (e2, e1, e0) in
+    (
+      braces (field_text (codes "ok") (codes "true") (32 ∷ field_text (codes "basis") (decimal basis) [])),
+      two_fields (codes "ok") (codes "basis") (edn.boolean true) (number basis) (codes "true") (decimal basis) refl refl,
+      pieces ∙ ap (λ (z : List ℕ). codes "{:ok true :basis " ++ z) (number_ended (decimal basis)),
+    )
 
 pub datoms_line : (basis : ℕ) (facts ds : List Datom) (l0 l1 l2 l3 l4 : List ℕ) → l0 ≡ codes "{:basis " → l1 ≡ l0 ++ decimal basis → l2 ≡ l1 ++ codes " :datoms [" → Appends (CanonAll (forms (map (datom_form facts) ds))) l2 l3 → l4 ≡ l3 ++ codes "]}\n" → IsLineOf (datoms_reply basis facts ds) l4
 datoms_line basis facts ds l0 l1 l2 l3 l4 e0 e1 e2 a e4 =
@@ -85,8 +99,10 @@ placed_text k word at basis = three_fields k (codes "at") (codes "basis") (edn.k
 
 pub refusal_line : (word : List ℕ) (at basis : ℕ) (l0 l1 l2 : List ℕ) → l0 ≡ codes "{:refused :" → l1 ≡ l0 ++ word → l2 ≡ l1 ++ place_text at basis → IsLineOf (refusal_reply word at basis) l2
 refusal_line word at basis l0 l1 l2 e0 e1 e2 =
-    (placed (codes "refused") word at basis, placed_text (codes "refused") word at basis, simp (e2, e1, e0, append_assoc, append-nil))
+    let pieces : l2 ≡ (codes "{:refused :" ++ word) ++ place_text at basis = simp (e2, e1, e0) in
+    (placed (codes "refused") word at basis, placed_text (codes "refused") word at basis, pieces ∙ ap (λ (z : List ℕ). codes "{:refused :" ++ z) (place_ended word (decimal at) (decimal basis)))
 
 pub fault_line : (word : List ℕ) (at basis : ℕ) (l0 l1 l2 : List ℕ) → l0 ≡ codes "{:fault :" → l1 ≡ l0 ++ word → l2 ≡ l1 ++ place_text at basis → IsLineOf (fault_reply word at basis) l2
 fault_line word at basis l0 l1 l2 e0 e1 e2 =
-    (placed (codes "fault") word at basis, placed_text (codes "fault") word at basis, simp (e2, e1, e0, append_assoc, append-nil))
+    let pieces : l2 ≡ (codes "{:fault :" ++ word) ++ place_text at basis = simp (e2, e1, e0) in
+    (placed (codes "fault") word at basis, placed_text (codes "fault") word at basis, pieces ∙ ap (λ (z : List ℕ). codes "{:fault :" ++ z) (place_ended word (decimal at) (decimal basis)))

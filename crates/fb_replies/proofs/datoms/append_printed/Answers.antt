@@ -8,5 +8,5 @@ use Rattle.fb_replies.proofs.datoms.append_printed.Goals as goal
 
 pub returns : goal.returns
 returns c =
-    subst (λ (f : Form). OnOk c.print.result (Appends (Canon f) c.args.line.now.items c.print.new.line.items))
+    subst (λ (f : Form). OnOk c.print.result (Appends (Canon f) c.args.line.now.items c.print.new.out.items))
     (ap printable c.in_ok-form.ensures ∙ printable_value c.args.v.now c.requires) c.print.ensures.text

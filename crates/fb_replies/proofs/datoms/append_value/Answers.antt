@@ -7,11 +7,6 @@ use Rattle.edn_print.specs.Printed.{Appends}
 use Rattle.fb_values.specs.declared.facts.Value.{Value}
 use Rattle.fb_replies.proofs.datoms.append_value.Goals as goal
 
-pub returns-in-Long : goal.returns-in-Long
-returns-in-Long c =
-    subst (λ (v : Value). OnOk c.append_long.result (Appends (Canon (form_of_value v)) c.args.line.now.items c.append_long.new.line.items)) (sym c.in-Long.is)
-    (on_ok_weaker c.append_long.result (λ e. record { text = _; is = refl; behind = e }) c.append_long.ensures)
-
 pub returns-in-Ref : goal.returns-in-Ref
 returns-in-Ref c =
     subst (λ (v : Value). OnOk c.append_entity.result (Appends (Canon (form_of_value v)) c.args.line.now.items c.append_entity.new.line.items)) (sym c.in-Ref.is) c.append_entity.ensures
