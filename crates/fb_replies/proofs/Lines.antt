@@ -1,5 +1,5 @@
 -- The lines of maps with one, two and three fields.
-use Rattle.std.proofs.Common.{◌≡◌, ℕ, Bool, true, List, [], ◌∷◌, ◌++◌, map, refl, ap, ◌∙◌, sym, pos, codes}
+use Rattle.std.proofs.Common.{◌≡◌, ℕ, true, List, [], ◌∷◌, ◌++◌, map, refl, ap, ◌∙◌, sym, codes}
 use Rattle.std.specs.Prelude.{decimal}
 use Rattle.std.proofs.lemmas.List.{append_assoc, append-nil}
 use Rattle.edn_model.specs.Form as edn
@@ -73,8 +73,7 @@ basis_line basis l0 l1 l2 e0 e1 e2 =
 
 pub done_line : (basis : ℕ) (l0 l1 l2 : List ℕ) → l0 ≡ codes "{:ok true :basis " → l1 ≡ l0 ++ decimal basis → l2 ≡ l1 ++ codes "}\n" → IsLineOf (done_reply basis) l2
 done_line basis l0 l1 l2 e0 e1 e2 =
-    let pieces : l2 ≡ (codes "{:ok true :basis " ++ decimal basis) ++ codes "}\n" = simp (e2, e1, e0) in
-    (
+    let pieces : l2 ≡ (codes "{:ok true :basis " ++ decimal basis) ++ codes "}\n" = simp (e2, e1, e0) in (
       braces (field_text (codes "ok") (codes "true") (32 ∷ field_text (codes "basis") (decimal basis) [])),
       two_fields (codes "ok") (codes "basis") (edn.boolean true) (number basis) (codes "true") (decimal basis) refl refl,
       pieces ∙ ap (λ (z : List ℕ). codes "{:ok true :basis " ++ z) (number_ended (decimal basis)),

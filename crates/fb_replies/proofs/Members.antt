@@ -1,16 +1,15 @@
 -- The texts of a datom and of a transaction.
-use Rattle.std.proofs.Common.{◌≡◌, ℕ, ◌+◌, ◌-◌, ◌<◌, ◌≤◌, List, [], ◌∷◌, ◌++◌, length, map, take, drop, get_or, Option, Some, refl, ap, ◌∙◌, sym, subst, arith, codes}
-use Rattle.std.specs.Prelude.{if◌then◌else◌, decimal, slice_get, slice_range}
+use Rattle.std.proofs.Common.{◌≡◌, ℕ, List, [], ◌∷◌, ◌++◌, map, refl, ap, ◌∙◌, codes}
+use Rattle.std.specs.Prelude.{if◌then◌else◌, decimal}
 use Rattle.std.proofs.lemmas.List.{append_assoc, append-nil}
-use Rattle.edn_model.specs.Form as edn
-use Rattle.edn_model.specs.Form.{Form, forms}
+use Rattle.edn_model.specs.Form.{forms}
 use Rattle.edn_model.specs.Canon.{Canon, CanonAll}
 use Rattle.edn_values.specs.Values.{form_of_value}
 use Rattle.edn_print.specs.Printed.{Appends}
 use Rattle.fb_values.specs.declared.facts.Datom.{Datom}
 use Rattle.fb_values.specs.declared.facts.Entry.{Entry}
 use Rattle.fb_model.specs.Numbers.{transaction_of}
-use Rattle.talk_model.specs.Replies.{number, entity, attribute, datom_form, datom_forms, transaction_form}
+use Rattle.talk_model.specs.Replies.{entity, attribute, datom_form, datom_forms, transaction_form}
 use Rattle.fb_replies.proofs.Lines.{in_brackets, vector_text, numbered, numbered_text}
 
 pub datom_behind : (facts : List Datom) (d : Datom) (l0 l1 l2 l3 l4 l5 l6 l7 l8 l9 : List ℕ) → l1 ≡ l0 ++ codes "[" → Appends (Canon (entity d.e)) l1 l2 → l3 ≡ l2 ++ codes " " → Appends (Canon (attribute facts d.a)) l3 l4 → l5 ≡ l4 ++ codes " " → Appends (Canon (form_of_value d.v)) l5 l6 → l7 ≡ l6 ++ codes " " → Appends (Canon (entity (transaction_of d.t))) l7 l8 → l9 ≡ l8 ++ 32 ∷ ((if d.added then codes "true" else codes "false") ++ 93 ∷ []) → Appends (Canon (datom_form facts d)) l0 l9

@@ -1,6 +1,6 @@
 -- What a lawful history says, and what a schema tells of it.
-use Rattle.std.proofs.Common.{◌≡◌, ℕ, Bool, true, false, ◌&&◌, List, [], ◌∷◌, ◌++◌, map, refl, ap, ◌∙◌, sym, subst}
-use Rattle.std.specs.Prelude.{IsTrue, Contains, flat_map, Option, Some, None}
+use Rattle.std.proofs.Common.{◌≡◌, ℕ, Bool, true, false, List, [], ◌∷◌, map, refl, ap, ◌∙◌, sym, subst}
+use Rattle.std.specs.Prelude.{Contains, Option, Some, None}
 use Rattle.std.specs.List.{list_all}
 use Rattle.std.specs.Option.{option_map_or}
 use Rattle.edn_model.specs.Form as edn
@@ -17,12 +17,12 @@ use Rattle.fb_model.specs.Schema.{Attribute, attribute_of}
 use Rattle.fb_model.proofs.KnownFacts.{is_typed, said_typed}
 use Rattle.talk_model.specs.Replies.{attribute, entity, datom_form, transaction_form}
 use Rattle.fb_replies.specs.Texts.{has_text, have_texts, entries_have_texts}
-use Rattle.std.proofs.Common.{◌<◌, length, get_or, codes, pos}
+use Rattle.std.proofs.Common.{◌<◌, length, get_or, codes}
 use Rattle.std.proofs.lemmas.Bool.{and_parts, and_from}
 use Rattle.std.proofs.lemmas.List.{get_or_default}
 use Rattle.std.proofs.lemmas.List.Folds.{list_all-append}
 use Rattle.std.proofs.lemmas.List.Sums.{AllPass-from_list_all, list_all-from_AllPass}
-use Rattle.fb_model.specs.Types.{is_well_formed, is_short_enough, type_of}
+use Rattle.fb_model.specs.Types.{is_well_formed}
 use Rattle.fb_model.specs.Numbers.{transaction_of}
 use Rattle.edn_values.specs.Values.{form_of_value}
 use Rattle.talk_model.specs.Replies.{vector, number, map_of, datom_forms, datoms_reply, transactions_reply}

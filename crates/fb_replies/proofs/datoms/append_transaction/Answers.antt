@@ -1,4 +1,4 @@
-use Rattle.std.proofs.Common.{◌≡◌, ◌++◌, ◌∙◌, ap, subst, map}
+use Rattle.std.proofs.Common.{◌++◌, ◌∙◌, ap, subst, map}
 use Rattle.std.specs.Prelude.{decimal}
 use Rattle.std.proofs.lemmas.Result.{on_ok_weaker}
 use Rattle.edn_model.specs.Form.{forms}

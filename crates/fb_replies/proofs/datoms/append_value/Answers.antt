@@ -1,6 +1,4 @@
-use Rattle.std.proofs.Common.{refl, sym, subst, OnOk}
-use Rattle.std.proofs.lemmas.Result.{on_ok_weaker}
-use Rattle.std.specs.Fmt.{signed_decimal}
+use Rattle.std.proofs.Common.{sym, subst, OnOk}
 use Rattle.edn_model.specs.Canon.{Canon}
 use Rattle.edn_values.specs.Values.{form_of_value}
 use Rattle.edn_print.specs.Printed.{Appends}
