@@ -1,0 +1,8 @@
+//! The command that a form of a script is.
+#![tactic(auto)]
+
+mod commands;
+mod reading;
+
+pub use commands::Command;
+pub use reading::command_in;

@@ -1,0 +1,5 @@
+pub mod Growing
+pub mod Lines
+pub mod Members
+pub mod Said
+pub mod Values

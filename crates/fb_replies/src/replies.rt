@@ -1,0 +1,126 @@
+//! The lines themselves. Each call puts the whole line, with its line feed, in place of what the buffer held. Where memory runs
+//! out nothing is promised of the buffer.
+ghost use Rattle.std.specs.Prelude.{◌≡◌, ◌++◌, IsTrue, OnOk, map};
+ghost use Rattle.talk_model.specs.Replies.{receipt, basis_reply, done_reply, datoms_reply, transactions_reply, refusal_reply, fault_reply, IsLineOf};
+ghost use Rattle.fb_replies.specs.Texts.{have_texts, entries_have_texts};
+ghost use Rattle.fb_replies.specs.Faults.{word_of, place_text};
+
+use crate::datoms::{append_datoms, append_transactions};
+use crate::tokens::{append, append_count, append_tempids, begin};
+use fb_memory::Memory;
+use fb_schema::Schema;
+use fb_values::{Datom, Entry, Text};
+
+/// What a transaction is told that the log kept from being recorded.
+#[derive(Clone, Copy)]
+pub enum LogFault {
+    /// The log did not take this transaction.
+    Failed,
+    /// It did not take an earlier one, and takes no more.
+    Stopped,
+}
+
+impl LogFault {
+    /// The keyword of the reply, without its colon.
+    fn word(self) -> &'static str
+        ensures { result.now ≡ word_of self }
+    {
+        match self {
+            LogFault::Failed => "log",
+            LogFault::Stopped => "log-stopped",
+        }
+    }
+}
+
+/// `{:t 1 :tempids {"x" 17592186044417}}`: the transaction was recorded as t, and its tempids stand for these entities.
+pub fn write_receipt(line: &mut Vec<u8>, t: u32, tempids: &[(Text, u64)]) -> Result<(), Memory>
+    ensures { OnOk result (IsLineOf (receipt t tempids.now) line.new.items) }
+{
+    begin(line, b"{:t ")?;
+    append_count(line, u64::from(t))?;
+    append(line, b" :tempids {")?;
+    append_tempids(line, tempids)?;
+    append(line, b"}}\n")
+}
+
+/// `{:basis 3}`: what there is to see.
+pub fn write_basis(line: &mut Vec<u8>, basis: u32) -> Result<(), Memory>
+    ensures { OnOk result (IsLineOf (basis_reply basis) line.new.items) }
+{
+    begin(line, b"{:basis ")?;
+    append_count(line, u64::from(basis))?;
+    append(line, b"}\n")
+}
+
+/// `{:ok true :basis 3}`: the command is carried out.
+pub fn write_done(line: &mut Vec<u8>, basis: u32) -> Result<(), Memory>
+    ensures { OnOk result (IsLineOf (done_reply basis) line.new.items) }
+{
+    begin(line, b"{:ok true :basis ")?;
+    append_count(line, u64::from(basis))?;
+    append(line, b"}\n")
+}
+
+/// `{:basis 3 :datoms [..]}`: the datoms of a range, their attributes named by the schema.
+pub fn write_datoms(
+    line: &mut Vec<u8>,
+    basis: u32,
+    schema: &Schema,
+    datoms: &[Datom],
+) -> Result<(), Memory>
+    requires { IsTrue (have_texts datoms.now) }
+    ensures { OnOk result (IsLineOf (datoms_reply basis schema.now datoms.now) line.new.items) }
+{
+    begin(line, b"{:basis ")?;
+    append_count(line, u64::from(basis))?;
+    append(line, b" :datoms [")?;
+    append_datoms(line, schema, datoms)?;
+    append(line, b"]}\n")
+}
+
+/// `{:basis 3 :txs [{:t 1 :data [..]} ..]}`: the transactions that these entries record.
+pub fn write_transactions(
+    line: &mut Vec<u8>,
+    basis: u32,
+    schema: &Schema,
+    entries: &[&Entry],
+) -> Result<(), Memory>
+    requires { IsTrue (entries_have_texts (map (λ entry. entry.now) entries.now)) }
+    ensures { OnOk result (IsLineOf
+        (transactions_reply basis schema.now (map (λ entry. entry.now) entries.now)) line.new.items) }
+{
+    begin(line, b"{:basis ")?;
+    append_count(line, u64::from(basis))?;
+    append(line, b" :txs [")?;
+    append_transactions(line, schema, entries)?;
+    append(line, b"]}\n")
+}
+
+/// `{:refused :read/bad-point :at 1 :basis 3}`: the keyword, without its colon, says why, and `at` is the place in the command.
+pub fn write_refusal(line: &mut Vec<u8>, keyword: &str, at: usize, basis: u32) -> Result<(), Memory>
+    ensures { OnOk result (IsLineOf (refusal_reply keyword.now at basis) line.new.items) }
+{
+    begin(line, b"{:refused :")?;
+    append(line, keyword.as_bytes())?;
+    append_place(line, at as u64, basis)
+}
+
+/// `{:fault :log :at 4 :basis 3}`: the log fails at t `at`.
+pub fn write_fault(line: &mut Vec<u8>, fault: LogFault, at: u32, basis: u32) -> Result<(), Memory>
+    ensures { OnOk result (IsLineOf (fault_reply (word_of fault) at basis) line.new.items) }
+{
+    begin(line, b"{:fault :")?;
+    append(line, fault.word().as_bytes())?;
+    append_place(line, u64::from(at), basis)
+}
+
+/// Where something stands, and on which basis: the end of a line.
+fn append_place(line: &mut Vec<u8>, at: u64, basis: u32) -> Result<(), Memory>
+    ensures { OnOk result (line.new.items ≡ line.old.items ++ place_text at basis) }
+{
+    append(line, b" :at ")?;
+    append_count(line, at)?;
+    append(line, b" :basis ")?;
+    append_count(line, u64::from(basis))?;
+    append(line, b"}\n")
+}
