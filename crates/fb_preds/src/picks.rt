@@ -1,6 +1,7 @@
 //! Filters of tables, of which each has to select a datom.
-ghost use Rattle.std.specs.Prelude.{◌≡◌, ◌<◌, [], ◌∷◌, ◌++◌, length, IfOk, IfErr, IfSome};
+ghost use Rattle.std.specs.Prelude.{◌≡◌, ◌<◌, [], ◌∷◌, ◌++◌, length, ◌↔◌, IsTrue, IfOk, IfErr, IfSome};
 ghost use Rattle.std.specs.Option.{option_map};
+ghost use Rattle.fb_preds.specs.Selecting.{SelectedByAll};
 ghost use Rattle.fb_preds.specs.Table.{last_place};
 
 use crate::kept::BoxedTest;
@@ -53,19 +54,37 @@ impl<'p> Picks<'p> {
     }
 }
 
+impl Selector for Pick<'_> {
+    ghost use Rattle.std.specs.Prelude.{true};
+    ghost use Rattle.fb_preds.specs.Table.{selected_at};
+
+    ghost selects = { λ pick d. selected_at (λ s. (Selector-box s).selects s.value) (λ kept e. (x : _) × (x.now ≡ e) × BoxedTest.post kept.answers x true) pick.table.now.filters.items pick.place d };
+
+    fn test(&self, d: &Datom) -> bool {
+        self.table.test(self.place, d)
+    }
+}
+
 impl Selector for Picks<'_> {
     ghost use Rattle.std.specs.Prelude.{true};
     ghost use Rattle.fb_preds.specs.Table.{selected_at};
     ghost use Rattle.fb_preds.specs.Selecting.{SelectedByAll};
 
-    ghost selects = { λ all d. SelectedByAll (λ (pick : _) e. selected_at (λ s. (Selector-box s).selects s.value) (λ kept d. (x : _) × (x.now ≡ d) × BoxedTest.post kept.answers x true) pick.table.now.filters.items pick.place e) all.picks.items d };
+    ghost selects = { λ all d. SelectedByAll (λ (pick : _) e. selected_at (λ s. (Selector-box s).selects s.value) (λ kept f. (x : _) × (x.now ≡ f) × BoxedTest.post kept.answers x true) pick.table.now.filters.items pick.place e) all.picks.items d };
 
     fn test(&self, d: &Datom) -> bool {
-        for pick in &self.picks {
-            if !pick.table.test(pick.place, d) {
-                return false;
-            }
-        }
-        true
+        all_select(&self.picks, d)
     }
+}
+
+/// Whether each of the filters selects the datom.
+fn all_select<S: Selector>(filters: &[S], d: &Datom) -> bool
+    ensures { IsTrue result ↔ SelectedByAll S.selects filters.now d.now }
+{
+    for filter in filters {
+        if !filter.test(d) {
+            return false;
+        }
+    }
+    true
 }

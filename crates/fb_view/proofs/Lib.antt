@@ -12,3 +12,4 @@ pub mod Probing
 pub mod Telling
 pub mod Answering
 pub mod Users
+pub mod Indexes

@@ -1,16 +1,19 @@
 -- The two lists of an order, read as one.
-use Rattle.std.proofs.Common.{◌≡◌, ◌∙◌, ℕ, zero, suc, ◌+◌, ◌<◌, ◌≤◌, ◌⊎◌, inl, inr, Bool, true, false, cond, List, [], ◌∷◌, ◌++◌, length, drop, refl, sym, ap, subst, arith, Option, Some, None}
-use Rattle.std.specs.Prelude.{Contains, filter}
+use Rattle.std.proofs.Common.{◌≡◌, ◌∙◌, ℕ, zero, suc, ◌+◌, ◌<◌, ◌≤◌, ◌⊎◌, inl, inr, Bool, true, false, cond, List, [], ◌∷◌, ◌++◌, length, take, drop, refl, sym, ap, subst, arith, Option, Some, None}
+use Rattle.std.specs.Prelude.{Contains, filter, not}
 use Rattle.std.specs.List.{slice_get, take_while, prefix_len}
 use Rattle.std.specs.Ordering.{is_lt, is_eq, is_gt}
+use Rattle.std.specs.Cmp.Lexicographic.{slice_cmp}
 use Rattle.std.specs.declared.cmp.Ordering.{Ordering}
 use Rattle.std.specs.declared.cmp.Ordering.TheVariants.{Less, Equal, Greater}
 use Rattle.std.proofs.lemmas.Bool.{true≢false, cases_Bool}
 use Rattle.std.proofs.lemmas.List.Elements.{Contains-append_left, Contains-append_right, Contains-append_cases}
 use Rattle.fb_values.specs.declared.facts.Datom.{Datom}
+use Rattle.fb_values.specs.declared.facts.Value.{Value}
 use Rattle.fb_values.specs.declared.indexes.Order.{Order}
+use Rattle.fb_values.specs.declared.indexes.Order.TheVariants.{Eavt, Aevt, Avet, Vaet}
 use Rattle.fb_values.specs.declared.indexes.Probe.{Probe}
-use Rattle.fb_values.specs.Orders.{key_cmp, probe_cmp}
+use Rattle.fb_values.specs.Orders.{key_of, value_cmp, given, key_cmp, probe_cmp}
 use Rattle.fb_values.specs.OrderLaws.{key_cmp_total, key_cmp-Equal}
 use Rattle.fb_search.specs.Rising.{StandsBefore, IsRising}
 use Rattle.fb_search.specs.Places.{is_below, place_of}
@@ -19,7 +22,7 @@ use Rattle.fb_model.specs.Rising.{rises, put_in_order, in_order}
 use Rattle.fb_model.proofs.Members.{in_order-rises, in_order_member}
 use Rattle.fb_model.proofs.InOrder.{OneForEachKey, in_order_has, one_rising_list}
 use Rattle.live_index.proofs.Members.{from_filter, into_filter, contains-cons, contains_head, contains_tail, contains_none}
-use Rattle.fb_view.specs.Ranges.{is_led, led_to}
+use Rattle.fb_view.specs.Ranges.{is_led, led_to, from_probe}
 use Rattle.fb_view.specs.Merged.{IsPair, merged}
 use Rattle.fb_view.proofs.Rises.{rises_from, rising_from}
 use Rattle.fb_view.proofs.Ranging.{above_later, above_not_led, neither, led_from_place}
@@ -279,3 +282,79 @@ run_from_place p older live pair =
           | inl a ↦ inl (led_part older d a at.1)
           | inr b ↦ inr (led_part live d b at.1)
         ])) at.1
+
+-- ---- what is not below a probe
+
+not_below_part : (p : Probe) (ds : List Datom) (d : Datom) → Contains ds d → is_below p d ≡ false → Contains (drop (place_of p ds) ds) d
+not_below_part p [] d there not_below = absurd (contains_none d there)
+not_below_part p (x ∷ ds) d there not_below =
+    elim (cases_Bool (is_below p x)) [
+      | inl below ↦
+          let P : ℕ → Type 0 = λ n. Contains (drop n (x ∷ ds)) d in
+          let one : suc (place_of p ds) ≡ place_of p (x ∷ ds) = rw below (omega arith) in
+          subst P one (elim (contains-cons x ds d there) [
+            | inl same ↦ absurd (true≢false (sym (subst (λ (z : Datom). is_below p z ≡ true) same below) ∙ not_below))
+            | inr behind ↦ not_below_part p ds d behind not_below
+          ])
+      | inr above ↦ rw above there
+    ]
+
+-- the probe's places are where the datoms begin that are not below it
+pub ahead_from_place : (p : Probe) (older live : List Datom) → IsPair p.order older live
+    → merged p.order (drop (place_of p older) older) (drop (place_of p live) live) ≡ from_probe p (merged p.order older live)
+ahead_from_place p older live pair =
+    one_rising_list p.order rest (from_probe p (merged p.order older live))
+    (rises_from p.order rest (merged_rises p.order part part_live))
+    (rises_from p.order (from_probe p (merged p.order older live)) (rising-filter p.order (λ d. not (is_below p d)) (merged p.order older live) (merged_rises p.order older live)))
+    forth back
+  where
+    part : List Datom
+    part = drop (place_of p older) older
+
+    part_live : List Datom
+    part_live = drop (place_of p live) live
+
+    rest : List Datom
+    rest = merged p.order part part_live
+
+    not_below : (d : Datom) → Contains rest d → is_below p d ≡ false
+    not_below d there =
+        elim (from_merged p.order part part_live d there) [
+          | inl a ↦ not_below_from p older pair.older_rises d a
+          | inr b ↦ not_below_from p live pair.live_rises d b
+        ]
+
+    forth : (d : Datom) → Contains rest d → Contains (from_probe p (merged p.order older live)) d
+    forth d there =
+        into_filter (λ x. not (is_below p x)) (merged p.order older live) d
+        (into_merged p.order older live d pair (elim (from_merged p.order part part_live d there) [
+          | inl a ↦ inl (from_drop older (place_of p older) d a)
+          | inr b ↦ inr (from_drop live (place_of p live) d b)
+        ])) (ap not (not_below d there))
+
+    is_false : (b : Bool) → not b ≡ true → b ≡ false
+    is_false true is = absurd (true≢false (sym is))
+    is_false false is = refl
+
+    back : (d : Datom) → Contains (from_probe p (merged p.order older live)) d → Contains rest d
+    back d there =
+        let at = from_filter (λ x. not (is_below p x)) (merged p.order older live) d there in
+        let above = is_false (is_below p d) at.1 in
+        into_merged p.order part part_live d (part_pair p.order older live (place_of p older) (place_of p live) pair) (elim (from_merged p.order older live d at.0) [
+          | inl a ↦ inl (not_below_part p older d a above)
+          | inr b ↦ inr (not_below_part p live d b above)
+        ])
+
+-- nothing is below a probe without components
+pub none_below_all : (p : Probe) (ds : List Datom) → given p ≡ [] → from_probe p ds ≡ ds
+none_below_all p [] is = refl
+none_below_all p (d ∷ ds) is = rw (not_below d) (ap (λ l. d ∷ l) (none_below_all p ds is))
+  where
+    not_below : (x : Datom) → is_below p x ≡ false
+    not_below x = ap (λ (g : List Value). is_gt (slice_cmp value_cmp g (take (length g) (key_of p.order x)))) is
+
+pub none_given : (order : Order) → given (record { order = order; e = None; a = None; v = None; t = None }) ≡ []
+none_given Eavt = refl
+none_given Aevt = refl
+none_given Avet = refl
+none_given Vaet = refl

@@ -56,13 +56,13 @@ module _ (k : Kept) (stands : Stands k) (order : Order) where
   lawful : IsLawful k.entries
   lawful = stands.history.lawful
 
-  from_older : (d : Datom) → Contains (tree_datoms (tree_in k.roots order)) d → Contains (said k.entries) d × (d.t ≤ k.covered) × IsTrue (covers (facts (upto k.entries k.covered)) order d.a)
+  pub from_older : (d : Datom) → Contains (tree_datoms (tree_in k.roots order)) d → Contains (said k.entries) d × (d.t ≤ k.covered) × IsTrue (covers (facts (upto k.entries k.covered)) order d.a)
   from_older d there =
       let is = ((stands.history.roots_stand.trees order).members d).0 (subst (λ (l : List Datom). Contains l d) (sym (same_tree k.roots order)) there) in
       let early = said_early k.entries k.covered d lawful is.is_said in
       (early.0, early.1, is.is_covered)
 
-  from_live : (d : Datom) → Contains (list_in k.live order) d → IsIndexed k.entries order d × IsLive k.entries k.covered order d
+  pub from_live : (d : Datom) → Contains (list_in k.live order) d → IsIndexed k.entries order d × IsLive k.entries k.covered order d
   from_live d there = ((stands.history.live_stands order).members d).0 (subst (λ (l : List Datom). Contains l d) (sym (same_list k.live order)) there)
 
   pub was_said : (d : Datom) → Contains (tree_datoms (tree_in k.roots order)) d ⊎ Contains (list_in k.live order) d → Contains (said k.entries) d

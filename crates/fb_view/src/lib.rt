@@ -4,11 +4,13 @@
 mod facts;
 mod growth;
 mod issued;
+mod laws;
 mod making;
 mod merged;
 mod ranges;
 mod snapshot;
 mod sorting;
 
+pub use laws::the_two_lists_are_the_index;
 pub use merged::{Both, Spot};
 pub use snapshot::Snapshot;

@@ -32,17 +32,35 @@ pub struct Both<'a> {
 }
 
 impl<'a> Both<'a> {
-    ghost use Rattle.fb_view.specs.Merged.{IsPair, ahead, run, ranged, facts_led};
+    ghost use Rattle.fb_view.specs.Ranges.{from_probe};
+    ghost use Rattle.fb_view.specs.Merged.{IsPair, merged, ahead, run, ranged, facts_led};
 
-    /// From where on the datoms stand that the probe leads to.
+    /// From where on the datoms stand that are not below the probe: first those that it leads to, then those above it.
     pub fn start(&self, probe: &Probe) -> Spot
         requires { IsPair probe.now.order (tree_datoms self.now.tree.now) (list_in self.now.live.now probe.now.order) }
-        ensures { run probe.now self.now.tree.now self.now.live.now result ≡ ranged probe.now self.now.tree.now self.now.live.now }
+        ensures run { run probe.now self.now.tree.now self.now.live.now result ≡ ranged probe.now self.now.tree.now self.now.live.now }
+        ensures ahead { ahead probe.now.order self.now.tree.now self.now.live.now result
+            ≡ from_probe probe.now (merged probe.now.order (tree_datoms self.now.tree.now) (list_in self.now.live.now probe.now.order)) }
     {
         Spot {
             older: self.tree.place(probe),
             live: live_place(self.live, probe),
         }
+    }
+
+    /// Where the order's list begins.
+    pub fn begin(&self, order: Order) -> Spot
+        requires { IsPair order (tree_datoms self.now.tree.now) (list_in self.now.live.now order) }
+        ensures { ahead order self.now.tree.now self.now.live.now result
+            ≡ merged order (tree_datoms self.now.tree.now) (list_in self.now.live.now order) }
+    {
+        self.start(&Probe {
+            order,
+            e: None,
+            a: None,
+            v: None,
+            t: None,
+        })
     }
 
     /// The next datom that the probe leads to, and the spot behind it.

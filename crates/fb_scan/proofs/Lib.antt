@@ -1,0 +1,6 @@
+pub mod Seeing
+pub mod Meeting
+pub mod Ending
+pub mod Going
+pub mod Log
+pub mod Stepping

@@ -1,0 +1,116 @@
+-- What a walk shows of a rising list is what a window sees of it, and lists that have the same of a triple show the same of it.
+use Rattle.std.proofs.Common.{◌≡◌, ◌∙◌, ℕ, ◌<◌, ◌≤◌, ◌⊎◌, inl, inr, Bool, true, false, not, ◌&&◌, ◌||◌, cond, List, [], ◌∷◌, refl, sym, ap, subst, arith, leb, ltb}
+use Rattle.std.specs.Prelude.{Contains, filter}
+use Rattle.std.specs.List.{slice_get, list_any}
+use Rattle.std.proofs.lemmas.Bool.{true≢false, cases_Bool, and_parts, and_from, leb-true, le-leb, ltb-true, lt-ltb}
+use Rattle.fb_values.specs.declared.facts.Datom.{Datom}
+use Rattle.fb_values.specs.declared.indexes.Order.{Order}
+use Rattle.fb_search.specs.Rising.{StandsBefore, IsRising}
+use Rattle.fb_model.specs.Facts.{is_of, standing}
+use Rattle.fb_model.proofs.Members.{some_member, any_member, standing_member}
+use Rattle.live_index.proofs.Members.{from_filter, into_filter, contains-cons, contains_head, contains_none}
+use Rattle.view_model.specs.Window.{Window, is_within, within}
+use Rattle.fb_view.proofs.Merging.{before_member}
+use Rattle.fb_view.proofs.Lasting.{IsByTime, IsLast, standing_last, last_stands, rising_by_time, together, of_through}
+use Rattle.fb_scan.specs.Walks.{is_followed, is_shown, shown, seen_in}
+
+same_bool : (a b : Bool) → (a ≡ true → b ≡ true) → (b ≡ true → a ≡ true) → a ≡ b
+same_bool true b forth back = sym (forth refl)
+same_bool false true forth back = absurd (true≢false (sym (back refl)))
+same_bool false false forth back = refl
+
+-- ---- the next datom tells whether any datom of the window follows
+
+module _ (order : Order) (w : Window) (d y : Datom) (ds : List Datom) (rising : IsRising order (d ∷ y ∷ ds)) (in_window : is_within w d ≡ true) where
+  next_follows : list_any (is_of d.e d.a d.v) (within w (y ∷ ds)) ≡ true → (is_of d.e d.a d.v y && ltb y.t w.to) ≡ true
+  next_follows some =
+      let found = some_member (is_of d.e d.a d.v) (within w (y ∷ ds)) some in
+      let own = from_filter (is_within w) (y ∷ ds) found.0 found.1 in
+      let early : found.0.t < w.to = ltb-true found.0.t w.to (and_parts (leb w.from found.0.t) (ltb found.0.t w.to) own.1).1 in
+      elim (contains-cons y ds found.0 own.0) [
+        | inl same ↦ subst (λ (z : Datom). (is_of d.e d.a d.v z && ltb z.t w.to) ≡ true) (sym same) (and_from (is_of d.e d.a d.v found.0) (ltb found.0.t w.to) found.2 (lt-ltb found.0.t w.to early))
+        | inr behind ↦
+            let of_next = together order d y found.0 rising.0.0 (before_member order y ds found.0 rising.1.0 behind) found.2 in
+            let before = (rising_by_time order (y ∷ ds) rising.1).0 found.0 behind (of_through d y found.0 of_next found.2) in
+            and_from (is_of d.e d.a d.v y) (ltb y.t w.to) of_next (lt-ltb y.t w.to (omega (arith, before, early)))
+      ]
+
+  follows_next : (is_of d.e d.a d.v y && ltb y.t w.to) ≡ true → list_any (is_of d.e d.a d.v) (within w (y ∷ ds)) ≡ true
+  follows_next is =
+      let both = and_parts (is_of d.e d.a d.v y) (ltb y.t w.to) is in
+      let later = (rising_by_time order (d ∷ y ∷ ds) rising).0 y (contains_head y ds y refl) both.0 in
+      let start = leb-true w.from d.t (and_parts (leb w.from d.t) (ltb d.t w.to) in_window).0 in
+      any_member (is_of d.e d.a d.v) (within w (y ∷ ds)) y
+      (into_filter (is_within w) (y ∷ ds) y (contains_head y ds y refl) (and_from (leb w.from y.t) (ltb y.t w.to) (le-leb w.from y.t (omega (arith, later, start))) both.1)) both.0
+
+any_is_followed : (order : Order) (w : Window) (d : Datom) (ds : List Datom) → IsRising order (d ∷ ds) → is_within w d ≡ true → list_any (is_of d.e d.a d.v) (within w ds) ≡ is_followed w d (slice_get ds 0)
+any_is_followed order w d [] rising in_window = refl
+any_is_followed order w d (y ∷ ds) rising in_window = same_bool _ _ (next_follows order w d y ds rising in_window) (follows_next order w d y ds rising in_window)
+
+-- ---- a walk shows what the window sees
+
+shown_whole : (w : Window) (ds : List Datom) → w.history ≡ true → shown w ds ≡ within w ds
+shown_whole w [] history = refl
+shown_whole w (d ∷ ds) history =
+    ap (λ b. cond (is_within w d && (b || (d.added && not (is_followed w d (slice_get ds 0))))) (d ∷ shown w ds) (shown w ds)) history
+    ∙ ap (λ l. cond (is_within w d && true) (d ∷ l) l) (shown_whole w ds history)
+    ∙ ap (λ b. cond b (d ∷ within w ds) (within w ds)) (and_true (is_within w d))
+  where
+    and_true : (b : Bool) → (b && true) ≡ b
+    and_true true = refl
+    and_true false = refl
+
+shown_standing : (order : Order) (w : Window) (ds : List Datom) → IsRising order ds → w.history ≡ false → shown w ds ≡ standing (within w ds)
+shown_standing order w [] rising plain = refl
+shown_standing order w (d ∷ ds) rising plain =
+    ap (λ b. cond (is_within w d && (b || (d.added && not (is_followed w d (slice_get ds 0))))) (d ∷ shown w ds) (shown w ds)) plain
+    ∙ ap (λ l. cond (is_within w d && (d.added && not (is_followed w d (slice_get ds 0)))) (d ∷ l) l) (shown_standing order w ds rising.1 plain)
+    ∙ go (is_within w d) refl
+  where
+    go : (b : Bool) → is_within w d ≡ b
+        → cond (b && (d.added && not (is_followed w d (slice_get ds 0)))) (d ∷ standing (within w ds)) (standing (within w ds)) ≡ standing (cond b (d ∷ within w ds) (within w ds))
+    go true is = ap (λ b. cond (d.added && not b) (d ∷ standing (within w ds)) (standing (within w ds))) (sym (any_is_followed order w d ds rising is))
+    go false is = refl
+
+pub shown-seen_in : (order : Order) (w : Window) (ds : List Datom) → IsRising order ds → shown w ds ≡ seen_in w ds
+shown-seen_in order w ds rising = go w.history refl
+  where
+    go : (b : Bool) → w.history ≡ b → shown w ds ≡ cond b (within w ds) (standing (within w ds))
+    go true is = shown_whole w ds is
+    go false is = shown_standing order w ds rising is
+
+-- ---- lists that have the same of a triple
+
+by_time-filter : (p : Datom → Bool) (ds : List Datom) → IsByTime ds → IsByTime (filter p ds)
+by_time-filter p [] by_time = tt
+by_time-filter p (x ∷ xs) by_time =
+    elim (p x) as (λ b. IsByTime (cond b (x ∷ filter p xs) (filter p xs))) [
+      | true ↦ (λ y there is. by_time.0 y (from_filter p xs y there).0 is, by_time-filter p xs by_time.1)
+      | false ↦ by_time-filter p xs by_time.1
+    ]
+
+pub seen_in_member : (w : Window) (ds : List Datom) (d : Datom) → Contains (seen_in w ds) d → Contains ds d
+seen_in_member w ds d member = go w.history member
+  where
+    go : (b : Bool) → Contains (cond b (within w ds) (standing (within w ds))) d → Contains ds d
+    go true there = (from_filter (is_within w) ds d there).0
+    go false there = (from_filter (is_within w) ds d (standing_member (within w ds) d there)).0
+
+-- a datom that the window sees in one list it sees in another that has the datom, where what the other one has of its triple
+-- is in the first or is not later
+pub seen_moves : (w : Window) (xs ys : List Datom) (d : Datom) → IsByTime xs → IsByTime ys → Contains ys d
+    → ((x : Datom) → Contains ys x → is_of d.e d.a d.v x ≡ true → Contains xs x ⊎ (x.t ≤ d.t))
+    → Contains (seen_in w xs) d → Contains (seen_in w ys) d
+seen_moves w xs ys d xs_by ys_by there known member = go w.history member
+  where
+    go : (b : Bool) → Contains (cond b (within w xs) (standing (within w xs))) d → Contains (cond b (within w ys) (standing (within w ys))) d
+    go true within_xs = into_filter (is_within w) ys d there (from_filter (is_within w) xs d within_xs).1
+    go false stands =
+        let last = standing_last (within w xs) d (by_time-filter (is_within w) xs xs_by) stands in
+        last_stands (within w ys) d (by_time-filter (is_within w) ys ys_by) record {
+          there = into_filter (is_within w) ys d there (from_filter (is_within w) xs d last.there).1;
+          added = last.added;
+          latest = λ x x_in same.
+              let own = from_filter (is_within w) ys x x_in in
+              elim (known x own.0 same) [ inl here ↦ last.latest x (into_filter (is_within w) xs x here own.1) same | inr early ↦ early ];
+        }

@@ -1,0 +1,4 @@
+pub mod Walks
+pub mod Ends
+pub mod Logs
+pub mod Takes

@@ -1,0 +1,22 @@
+//! What the two lists of an order are together, for callers that walk an order as one list.
+ghost use Rattle.std.specs.Prelude.{◌≡◌, filter};
+ghost use Rattle.fb_values.specs.declared.indexes.Order.{Order};
+ghost use Rattle.fb_values.specs.declared.indexes.Order.TheVariants.{Avet};
+ghost use Rattle.fb_search.specs.Lists.{list_in};
+ghost use Rattle.fb_model.specs.Facts.{facts};
+ghost use Rattle.fb_model.specs.Rising.{IsRisingListOf};
+ghost use Rattle.fb_model.specs.Schema.{covers};
+ghost use Rattle.view_model.specs.Stands.{IsIndexed};
+ghost use Rattle.seg_tree.specs.Indexes.{tree_in};
+ghost use Rattle.seg_tree.specs.Nodes.{tree_datoms};
+ghost use Rattle.fb_view.specs.Kept.{Kept, Stands};
+ghost use Rattle.fb_view.specs.Merged.{merged};
+
+/// The two lists of an order, read as one, are the index of the history. In AVET the trees may still hold datoms of an
+/// attribute whose index has been switched off since: without those.
+pub fn the_two_lists_are_the_index()
+    ensures whole { (k : Kept) (order : Order) → Stands k → (order ≡ Avet → ⊥)
+        → IsRisingListOf order (merged order (tree_datoms (tree_in k.roots order)) (list_in k.live order)) (IsIndexed k.entries order) }
+    ensures held { (k : Kept) (order : Order) → Stands k
+        → IsRisingListOf order (filter (λ d. covers (facts k.entries) order d.a) (merged order (tree_datoms (tree_in k.roots order)) (list_in k.live order))) (IsIndexed k.entries order) }
+{}
