@@ -18,3 +18,6 @@ pub use names::entid;
 pub use points::{LogRange, log_range, point};
 pub use ranges::{ValueRange, index_range};
 pub use stops::NameStop;
+
+#[cfg(test)]
+mod tests;
