@@ -95,18 +95,19 @@ module _ (h : List Entry) (w : Window) (Selects : Datom → Type 0) (a : ℕ) (v
       let parts = and_parts (covers (facts h) Avet d.a) (is_eq (probe_cmp (of_value a v) d)) mine.1 in
       let both = and_parts (eqb d.a a) (value_eq d.v v) (sym (leads a v d) ∙ parts.1) in
       let a_is = eqb-true d.a a both.0 in
-      let v_is = value_eq-true d.v v both.1 in
-      (record {
-        datom = d;
-        in_view = mine.0;
-        says = and_from (eqb d.e d.e && eqb d.a a) (value_eq d.v v) (and_from (eqb d.e d.e) (eqb d.a a) (eq-eqb d.e d.e refl) both.0) both.1;
-      },
-      λ other has.
-          let own = is_of-true other a v has.datom has.says in
-          elim (cases_of d has.datom ds ((scan.members has.datom).1 (has.in_view, scanned other has))) [
-            | inl same ↦ let e_is : d.e ≡ has.datom.e = ap (λ (x : Datom). x.e) same in omega (arith, e_is, own.e_is)
-            | inr later ↦ omega (arith, own.e_is, by_entity d has.datom (a_is ∙ sym own.a_is) (v_is ∙ sym own.v_is) (first_is_least Avet d ds has.datom scan.rising later))
-          ])
+      let v_is = value_eq-true d.v v both.1 in (
+        record {
+          datom = d;
+          in_view = mine.0;
+          says = and_from (eqb d.e d.e && eqb d.a a) (value_eq d.v v) (and_from (eqb d.e d.e) (eqb d.a a) (eq-eqb d.e d.e refl) both.0) both.1;
+        },
+        λ other has.
+            let own = is_of-true other a v has.datom has.says in
+            elim (cases_of d has.datom ds ((scan.members has.datom).1 (has.in_view, scanned other has))) [
+              | inl same ↦ let e_is : d.e ≡ has.datom.e = ap (λ (x : Datom). x.e) same in omega (arith, e_is, own.e_is)
+              | inr later ↦ omega (arith, own.e_is, by_entity d has.datom (a_is ∙ sym own.a_is) (v_is ∙ sym own.v_is) (first_is_least Avet d ds has.datom scan.rising later))
+            ],
+      )
 
 -- the same of a value that is lent
 pub holder_from : {F : Type 0} (Selects : F → Datom → Type 0) (h there : List Entry) (w present : Window) (filter lent : F) (a : ℕ) (v : Value) (ds : List Datom) (first : Option Datom) → there ≡ h → present ≡ without_history w → lent ≡ filter

@@ -39,22 +39,6 @@ map_given f (is x) = is (f x)
 map_given f (by_name id make) = by_name id (λ e. f (make e))
 map_given f (wrong reason) = wrong reason
 
-pub entity_is : {X Z : Type 0} (f : X → Z) (make : ℕ → X) (o : Option Id) → map_given f (entity_given make o) ≡ entity_given (λ e. f (make e)) o
-entity_is f make None = refl
-entity_is f make (Some id) = refl
-
-pub plain_is : {A X Z : Type 0} (f : X → Z) (make : A → X) (o : Option A) → map_given f (plain_given make o) ≡ plain_given (λ a. f (make a)) o
-plain_is f make None = refl
-plain_is f make (Some x) = refl
-
-pub attribute_is : {X Z : Type 0} (f : X → Z) (make : Attribute → X) (order : Order) (o : Option Attribute) → map_given f (attribute_given make order o) ≡ attribute_given (λ a. f (make a)) order o
-attribute_is f make order None = refl
-attribute_is {X} {Z} f make order (Some a) = go (is_held order a)
-  where
-    go : (b : Bool) → map_given f (cond b (is (make a)) (wrong NotInIndex)) ≡ cond b (is (f (make a))) (wrong NotInIndex)
-    go true = refl
-    go false = refl
-
 pub value_is : {X Z : Type 0} (f : X → Z) (facts : List Datom) (make : Value → X) (kind : ℕ) (form : Form) → map_given f (value_given facts make kind form) ≡ value_given facts (λ v. f (make v)) kind form
 value_is {X} {Z} f facts make kind form = go (eqb kind type_ref) (id_in facts form) (value_in kind form)
   where
@@ -109,36 +93,12 @@ module _ (h : List Entry) (w : Window) (Selects : Datom → Type 0) (at : ℕ) w
 
   -- ---- what stands there
 
-  pub entity_found : {X : Type 0} (make : ℕ → X) (o : Option Id) (e : ℕ) → IsFound h w Selects o (Some e) → IsGiven h w Selects at (entity_given make o) (Ok (make e))
-  entity_found make None e found = absurd (cc)
-  entity_found make (Some id) e named = (Some e, named, refl)
-
-  pub entity_none : {X : Type 0} (make : ℕ → X) (o : Option Id) → IsFound h w Selects o None → IsGiven h w Selects at (entity_given make o) (Err (refusal BadComponent at))
-  entity_none make None found = refl
-  entity_none make (Some id) none = (None, none, refl)
-
-  pub plain_found : {A X : Type 0} (make : A → X) (o : Option A) (a : A) → o ≡ Some a → IsGiven h w Selects at (plain_given make o) (Ok (make a))
-  plain_found make o a same = subst (λ p. IsGiven h w Selects at (plain_given make p) (Ok (make a))) (sym same) refl
-
-  pub plain_none : {A X : Type 0} (make : A → X) (o : Option A) → o ≡ None → IsGiven h w Selects at (plain_given make o) (Err (refusal BadComponent at))
-  plain_none make o same = subst (λ p. IsGiven h w Selects at (plain_given make p) (Err (refusal BadComponent at))) (sym same) refl
-
   pub attribute_held : {X : Type 0} (make : Attribute → X) (order : Order) (o : Option Attribute) (a : Attribute) → o ≡ Some a → is_held order a ≡ true → IsGiven h w Selects at (attribute_given make order o) (Ok (make a))
   attribute_held {X} make order o a same held = subst (λ p. IsGiven h w Selects at (attribute_given make order p) (Ok (make a))) (sym same) (go (is_held order a) held)
     where
       go : (b : Bool) → b ≡ true → IsGiven h w Selects at (cond b (is (make a)) (wrong NotInIndex)) (Ok (make a))
       go true held = refl
       go false other = absurd (cc)
-
-  pub attribute_not_held : {X : Type 0} (make : Attribute → X) (order : Order) (o : Option Attribute) (a : Attribute) → o ≡ Some a → is_held order a ≡ false → IsGiven h w Selects at (attribute_given make order o) (Err (refusal NotInIndex at))
-  attribute_not_held {X} make order o a same held = subst (λ p. IsGiven h w Selects at (attribute_given make order p) (Err (refusal NotInIndex at))) (sym same) (go (is_held order a) held)
-    where
-      go : (b : Bool) → b ≡ false → IsGiven h w Selects at (cond b (is (make a)) (wrong NotInIndex)) (Err (refusal NotInIndex at))
-      go true other = absurd (cc)
-      go false other = refl
-
-  pub attribute_none : {X : Type 0} (make : Attribute → X) (order : Order) (o : Option Attribute) → o ≡ None → IsGiven h w Selects at (attribute_given make order o) (Err (refusal BadComponent at))
-  attribute_none make order o same = subst (λ p. IsGiven h w Selects at (attribute_given make order p) (Err (refusal BadComponent at))) (sym same) refl
 
 -- ---- forms at their places
 
@@ -147,14 +107,6 @@ zip_at [] ys i x y at_x at_y = absurd (cc)
 zip_at (a ∷ xs) [] i x y at_x at_y = absurd (cc)
 zip_at (a ∷ xs) (b ∷ ys) zero x y at_x at_y = let one : a ≡ x = cc in let two : b ≡ y = cc in cc
 zip_at (a ∷ xs) (b ∷ ys) (suc i) x y at_x at_y = zip_at xs ys i x y at_x at_y
-
-pub zip_end : {A B : Type 0} (xs : List A) (ys : List B) (i : ℕ) → length ys ≤ i → drop i (zip xs ys) ≡ []
-zip_end [] ys zero past = refl
-zip_end [] ys (suc i) past = refl
-zip_end (a ∷ xs) [] zero past = refl
-zip_end (a ∷ xs) [] (suc i) past = refl
-zip_end (a ∷ xs) (b ∷ ys) zero past = absurd (omega arith)
-zip_end (a ∷ xs) (b ∷ ys) (suc i) past = zip_end xs ys i (omega arith)
 
 -- what is read from a place on comes to the answer, wherever reading began
 module _ (h : List Entry) (w : Window) (Selects : Datom → Type 0) (probe : Probe) (parts : List Part) (fs : List Form) (i : ℕ) (part : Part) (f : Form) (at_part : slice_get parts i ≡ Some part) (at_form : slice_get fs i ≡ Some f) where

@@ -19,9 +19,10 @@ AreLater z (e ∷ es) = (int_lt z e.instant ≡ true) × AreLater e.instant es
 
 later_from : (h rest : List Entry) → IsLawfulFrom h rest → AreLater (last_instant h) rest
 later_from h [] lawful = tt
-later_from h (e ∷ rest) lawful =
-    ((and_parts (int_lt (last_instant h) e.instant) (is_instant e.instant) lawful.0.later_instant).0,
-    subst (λ z. AreLater z rest) (fold-append (λ _ entry. entry.instant) (pos 0) h (e ∷ [])) (later_from (h ++ e ∷ []) rest lawful.1))
+later_from h (e ∷ rest) lawful = (
+  (and_parts (int_lt (last_instant h) e.instant) (is_instant e.instant) lawful.0.later_instant).0,
+  subst (λ z. AreLater z rest) (fold-append (λ _ entry. entry.instant) (pos 0) h (e ∷ [])) (later_from (h ++ e ∷ []) rest lawful.1),
+)
 
 -- the first entry's is above -1
 pub are_later : (h : List Entry) → IsLawful h → AreLater (negsuc 0) h

@@ -12,10 +12,10 @@ mod probes;
 mod ranges;
 mod stops;
 
-pub use probes::components;
 pub use laws::instants_rise;
 pub use names::entid;
 pub use points::{LogRange, log_range, point};
+pub use probes::components;
 pub use ranges::{ValueRange, index_range};
 pub use stops::NameStop;
 

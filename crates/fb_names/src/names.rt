@@ -40,11 +40,7 @@ pub struct Lookup {
 }
 
 /// The entity that the form names in the view: none where it is no name, or finds no entity. A number names itself.
-pub fn entid<S: Selector>(
-    alloc: Global,
-    db: &Db<S>,
-    form: &Edn,
-) -> Result<Option<u64>, Memory>
+pub fn entid<S: Selector>(alloc: Global, db: &Db<S>, form: &Edn) -> Result<Option<u64>, Memory>
     ensures { IfOk result (λ e. IsEntityOf db.now.snapshot.entries (window_of db.now) (S.selects db.now.filter) (form_of form.now) e) }
 {
     match form {
@@ -76,11 +72,7 @@ fn idents_are_indexed()
     attributes_stay_attributes();
 }
 
-fn looked_up<S: Selector>(
-    alloc: Global,
-    db: &Db<S>,
-    items: &Items,
-) -> Result<Option<u64>, Memory>
+fn looked_up<S: Selector>(alloc: Global, db: &Db<S>, items: &Items) -> Result<Option<u64>, Memory>
     ensures { IfOk result (λ e. IsFound db.now.snapshot.entries (window_of db.now) (S.selects db.now.filter) (lookup_of (facts db.now.snapshot.entries) (model_lookup_in (edn.forms (forms_of (members items.now))))) e) }
 {
     let Some((keyword, value)) = lookup_in(items) else {

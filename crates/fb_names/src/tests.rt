@@ -50,11 +50,20 @@ fn points_end_behind_their_transaction(rt: HostRuntime) -> Result<(), Fail> {
     let snapshot = Snapshot::first(rt.alloc())?;
     assert_eq!(rt; point(&snapshot, &Edn::Int(2)), Ok(3));
     assert_eq!(rt; point(&snapshot, &Edn::Int(13_194_139_533_314)), Ok(3));
-    assert_eq!(rt; point(&snapshot, &Edn::Int(2_147_483_648)), Err(refused(Reason::BadPoint, 1)));
+    assert_eq!(rt;
+        point(&snapshot, &Edn::Int(2_147_483_648)),
+        Err(refused(Reason::BadPoint, 1))
+    );
     assert_eq!(rt; point(&snapshot, &Edn::Inst(0)), Ok(1));
     assert_eq!(rt; point(&snapshot, &Edn::Inst(-1)), Ok(0));
-    assert_eq!(rt; log_range(&snapshot, &Edn::Int(0), &Edn::Nil), Ok(LogRange { start: 1, stop: 1 }));
-    assert_eq!(rt; log_range(&snapshot, &Edn::Nil, &Edn::Bool(true)), Err(refused(Reason::BadPoint, 2)));
+    assert_eq!(rt;
+        log_range(&snapshot, &Edn::Int(0), &Edn::Nil),
+        Ok(LogRange { start: 1, stop: 1 })
+    );
+    assert_eq!(rt;
+        log_range(&snapshot, &Edn::Nil, &Edn::Bool(true)),
+        Err(refused(Reason::BadPoint, 2))
+    );
     Ok(())
 }
 
@@ -63,7 +72,11 @@ fn names_find_what_the_view_has(rt: HostRuntime) -> Result<(), Fail> {
     let alloc = rt.alloc();
     let doc = key(alloc, "db/doc")?;
     let by_ident = pair(alloc, key(alloc, "db/ident")?, key(alloc, "db/doc")?)?;
-    let by_doc = pair(alloc, key(alloc, "db/doc")?, Edn::Str(Text::of(alloc, "x")?))?;
+    let by_doc = pair(
+        alloc,
+        key(alloc, "db/doc")?,
+        Edn::Str(Text::of(alloc, "x")?),
+    )?;
 
     let whole = first_without(alloc, 9)?;
     assert_eq!(rt; entid(alloc, &whole, &doc)?, Some(7));
@@ -93,8 +106,14 @@ fn components_are_read_from_left_to_right(rt: HostRuntime) -> Result<(), Fail> {
         Err(_) => None,
     };
     assert_eq!(rt; attribute, Some(7));
-    assert_eq!(rt; refusal_of(components(alloc, &hidden, Order::Avet, &given)), Some(refused(Reason::NotInIndex, 2)));
-    assert_eq!(rt; refusal_of(components(alloc, &hidden, Order::Eavt, &given)), Some(refused(Reason::BadComponent, 2)));
+    assert_eq!(rt;
+        refusal_of(components(alloc, &hidden, Order::Avet, &given)),
+        Some(refused(Reason::NotInIndex, 2))
+    );
+    assert_eq!(rt;
+        refusal_of(components(alloc, &hidden, Order::Eavt, &given)),
+        Some(refused(Reason::BadComponent, 2))
+    );
     Ok(())
 }
 
@@ -109,7 +128,13 @@ fn refusal_of<T: Drop>(answer: Result<T, NameStop>) -> Option<Refusal> {
 fn ranges_are_of_an_attribute_that_avet_holds(rt: HostRuntime) -> Result<(), Fail> {
     let alloc = rt.alloc();
     let db = first_without(alloc, 9)?;
-    let held = index_range(alloc, &db, &key(alloc, "db/txInstant")?, &Edn::Inst(5), &Edn::Nil);
+    let held = index_range(
+        alloc,
+        &db,
+        &key(alloc, "db/txInstant")?,
+        &Edn::Inst(5),
+        &Edn::Nil,
+    );
     let start = match held {
         Ok(range) => range.start,
         Err(_) => None,
@@ -117,7 +142,13 @@ fn ranges_are_of_an_attribute_that_avet_holds(rt: HostRuntime) -> Result<(), Fai
     assert!(rt; start == Some(Value::Instant(5)));
     let doc = index_range(alloc, &db, &key(alloc, "db/doc")?, &Edn::Nil, &Edn::Nil);
     assert_eq!(rt; refusal_of(doc), Some(refused(Reason::NotInIndex, 1)));
-    let number = index_range(alloc, &db, &key(alloc, "db/ident")?, &Edn::Nil, &Edn::Int(1));
+    let number = index_range(
+        alloc,
+        &db,
+        &key(alloc, "db/ident")?,
+        &Edn::Nil,
+        &Edn::Int(1),
+    );
     assert_eq!(rt; refusal_of(number), Some(refused(Reason::BadComponent, 3)));
     Ok(())
 }
