@@ -4,6 +4,7 @@ ghost use Rattle.std.specs.List.{list_any};
 ghost use Rattle.plain_tests.specs.Guards as model;
 
 use fb_values::{Datom, Entry, Value};
+use fb_view::Snapshot;
 use step_plain::{Guard, Memory};
 use tx_refusals::Bar;
 
@@ -36,14 +37,30 @@ fn adds_an_empty_text(changes: &[Datom]) -> bool
     changes.iter().any(|d| adds_empty_text(d))
 }
 
+impl NoEmptyText {
+    fn bar(&self, changes: &[Datom]) -> Option<Bar>
+        ensures { result ≡ model.empty_text_bar self.now.bars changes.now }
+    {
+        if self.bars && adds_an_empty_text(changes) {
+            Some(Bar::AttrPred)
+        } else {
+            None
+        }
+    }
+}
+
 impl Guard for NoEmptyText {
     ghost bars = { λ guard h changes. model.empty_text_bar guard.bars changes };
 
     fn judge(&self, _entries: &[Entry], changes: &[Datom]) -> Result<Option<Bar>, Memory> {
-        if self.bars && adds_an_empty_text(changes) {
-            Ok(Some(Bar::AttrPred))
-        } else {
-            Ok(None)
-        }
+        Ok(self.bar(changes))
+    }
+}
+
+impl tx_step::Guard<Snapshot> for NoEmptyText {
+    ghost bars = { λ guard h changes. model.empty_text_bar guard.bars changes };
+
+    fn judge(&self, _before: &Snapshot, changes: &[Datom]) -> Result<Option<Bar>, Memory> {
+        Ok(self.bar(changes))
     }
 }

@@ -1,21 +1,27 @@
-//! Runs the transactions of `rows.txt` through the plain program, each after those before it, and says where a reply differs from
-//! the table.
+//! Runs the transactions of `rows.txt` through the engine and through the plain program, each after those before it, and says where a
+//! reply differs from the table. Then it runs transactions that are drawn from a seed through both, and says where they differ.
 #![tactic(auto)]
 
+mod drawn;
+mod engine;
+mod generator;
 mod guard;
 mod reply;
+mod run;
 mod session;
 mod spelling;
 
-ghost use Rattle.std.specs.Prelude.{OnOk};
-ghost use Rattle.fb_model.specs.Lawful.{IsLawful};
-
 use anyhow::{Result, bail};
-use fb_values::Entry;
 use guard::NoEmptyText;
+use run::Run;
 use std::alloc::Global;
 use std::fs;
 use std::io::{self, Write};
+
+/// How many histories are drawn, and from which seed.
+const HISTORIES: u32 = 100;
+
+const SEED: u64 = 20_261_127;
 
 fn main(rt: HostRuntime) -> Result<()> {
     let table = fs::read_to_string(&rt, "rows.txt")?;
@@ -24,6 +30,12 @@ fn main(rt: HostRuntime) -> Result<()> {
     }
     let count = table.as_str().lines().filter(|line| is_row(line)).count();
     println!(rt; "{count} replies as the table says")?;
+    let tally = drawn::decided(rt.alloc(), HISTORIES, SEED)?;
+    println!(rt;
+        "{} transactions decided alike, {} of the rules met",
+        tally.drawn,
+        tally.refused.len()
+    )?;
     Ok(())
 }
 
@@ -34,14 +46,14 @@ fn is_row(line: &str) -> bool {
 
 /// Runs each row. The heading `new` begins a new history, and `new guarded` one under the guard.
 fn all_agree<W: Write>(alloc: Global, table: &str, out: &mut W) -> Result<bool> {
-    let mut entries = session::new_history(alloc)?;
+    let mut run = Run::new(alloc)?;
     let mut guard = NoEmptyText { bars: false };
     let mut agree = true;
     for line in table.lines() {
         match line.split_once('\t') {
-            Some((data, want)) => agree &= agrees(alloc, &mut entries, &guard, data, want, out)?,
+            Some((data, want)) => agree &= agrees(alloc, &mut run, &guard, data, want, out)?,
             None if line.starts_with("new") => {
-                entries = session::new_history(alloc)?;
+                run = Run::new(alloc)?;
                 guard.bars = line == "new guarded";
             }
             None => {}
@@ -53,17 +65,14 @@ fn all_agree<W: Write>(alloc: Global, table: &str, out: &mut W) -> Result<bool> 
 /// Whether the reply is the one of the table. Where it is not, one line more says what was replied.
 fn agrees<W: Write>(
     alloc: Global,
-    entries: &mut Vec<Entry>,
+    run: &mut Run,
     guard: &NoEmptyText,
     data: &str,
     want: &str,
     out: &mut W,
-) -> Result<bool>
-    requires { IsLawful entries.old.items }
-    ensures { OnOk result (IsLawful entries.new.items) }
-{
+) -> Result<bool> {
     let bytes = spelling::bytes_of(alloc, data)?;
-    let got = session::reply_to(alloc, entries, &bytes, guard)?;
+    let got = run.reply_to(alloc, &bytes, guard)?;
     if got.as_slice() == want.as_bytes() {
         return Ok(true);
     }

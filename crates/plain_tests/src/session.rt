@@ -1,13 +1,11 @@
 //! A lawful history on which transactions are tried, one after another.
-ghost use Rattle.std.specs.Prelude.{IfOk, OnOk};
+ghost use Rattle.std.specs.Prelude.{IfOk};
 ghost use Rattle.fb_model.specs.Lawful.{IsLawful};
 
 use crate::guard::NoEmptyText;
 use crate::reply;
-use anyhow::{Result, bail};
-use edn_core::read_form;
+use anyhow::Result;
 use edn_form::Edn;
-use edn_print::print;
 use fb_history::EntryList;
 use fb_model::{first_is_lawful, lawful_entries_make_lawful_histories};
 use fb_plain::basis;
@@ -17,7 +15,7 @@ use step_plain::{Outcome, step};
 use tx_model::an_accepted_entry_is_lawful;
 
 /// The first of January 2024.
-const CLOCK: i64 = 1_704_067_200_000;
+pub(crate) const CLOCK: i64 = 1_704_067_200_000;
 
 /// The history that has only the built-in schema.
 pub(crate) fn new_history(alloc: Global) -> Result<Vec<Entry>>
@@ -31,9 +29,14 @@ pub(crate) fn new_history(alloc: Global) -> Result<Vec<Entry>>
 }
 
 /// What the step answers; the history grows by the entry.
-fn transact(alloc: Global, entries: &mut Vec<Entry>, data: &Edn, guard: &NoEmptyText) -> Result<Edn>
+pub(crate) fn transact(
+    alloc: Global,
+    entries: &mut Vec<Entry>,
+    data: &Edn,
+    guard: &NoEmptyText,
+) -> Result<Edn>
     requires { IsLawful entries.old.items }
-    ensures { OnOk result (IsLawful entries.new.items) }
+    ensures { IsLawful entries.new.items }
 {
     an_accepted_entry_is_lawful();
     lawful_entries_make_lawful_histories();
@@ -45,23 +48,4 @@ fn transact(alloc: Global, entries: &mut Vec<Entry>, data: &Edn, guard: &NoEmpty
             Ok(reply)
         }
     }
-}
-
-/// The canonical text of the reply to the transaction whose data the bytes are.
-pub(crate) fn reply_to(
-    alloc: Global,
-    entries: &mut Vec<Entry>,
-    bytes: &[u8],
-    guard: &NoEmptyText,
-) -> Result<Vec<u8>>
-    requires { IsLawful entries.old.items }
-    ensures { OnOk result (IsLawful entries.new.items) }
-{
-    let Ok(Some((data, _))) = read_form(alloc, bytes, 0) else {
-        bail!("a row has no form");
-    };
-    let reply = transact(alloc, entries, &data, guard)?;
-    let mut text = Vec::new(alloc);
-    print(&reply, &mut text)?;
-    Ok(text)
 }
