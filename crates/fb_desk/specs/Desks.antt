@@ -1,0 +1,109 @@
+-- What a session knows of the database through its desk, and what each answer of the desk says of that.
+-- Restates Transactions of Datomic's documentation (transact, db, sync); the rest is this project's own choice.
+use Rattle.std.specs.Prelude.{◌≡◌, ◌⊎◌, ℕ, ℤ, ◌+◌, ◌≤◌, Bool, true, false, List, [], ◌∷◌, ◌++◌, Option, Some, None}
+use Rattle.edn_model.specs.Form.{Form}
+use Rattle.fb_values.specs.declared.facts.Entry.{Entry}
+use Rattle.fb_model.specs.History.{basis}
+use Rattle.tx_refusals.specs.declared.reasons.Refusal.{Refusal}
+use Rattle.tx_model.specs.Step.{Guard, step, accepted, refused}
+use Rattle.fb_view.specs.Kept.{Kept}
+use Rattle.fb_desk.specs.declared.answers.Receipt.{Receipt}
+use Rattle.fb_desk.specs.declared.answers.TxFault.{TxFault}
+use Rattle.fb_desk.specs.declared.answers.TxFault.TheVariants.{Refused, LogFault, Stopped, Memory}
+use Rattle.fb_desk.specs.declared.answers.Glance.{Glance}
+use Rattle.fb_desk.specs.declared.answers.Glance.TheVariants.{Fresh, Held}
+
+-- how often a desk was asked what was mailed, answered all that there was, and answered a transaction that it did not accept
+pub record Tally : Type 0 where
+  pub glances : ℕ
+  pub syncs : ℕ
+  pub unaccepted : ℕ
+
+pub record State : Type 0 where
+  -- the history of the last snapshot that the desk was answered
+  pub entries : List Entry
+  -- the t of each transaction that was accepted through it
+  pub commits : List ℕ
+  -- the t that the log did not take, once the desk was told of one, and whether it was this desk's transaction
+  pub stop : Option ℕ
+  pub teller : Bool
+  pub tally : Tally
+  -- how many calls it takes yet
+  pub left : ℕ
+
+abbrev pub glanced : Tally → Tally
+glanced tally = record tally { glances = tally.glances + 1 }
+
+abbrev pub synced : Tally → Tally
+synced tally = record tally { syncs = tally.syncs + 1 }
+
+abbrev pub not_accepted : Tally → Tally
+not_accepted tally = record tally { unaccepted = tally.unaccepted + 1 }
+
+-- The history has all that was seen before. A log that has stopped stays so. A call is used up at most.
+pub record GoesOn (old new : State) : Type 0 where
+  pub more : List Entry
+  pub entries : new.entries ≡ old.entries ++ more
+  pub stop : (old.stop ≡ None) ⊎ ((new.stop ≡ old.stop) × (new.teller ≡ old.teller))
+  pub left : old.left ≤ new.left + 1
+
+-- The transaction is the last of the history that is seen now: its entry is what the step gives after the entries before
+-- it, which have all that was seen, at a number that the clock may read.
+pub record IsReceipt (may : ℤ → Type 0) (guard : Guard) (asked : Form) (old new : State) (receipt : Receipt) : Type 0 where
+  pub others : List Entry
+  pub reading : ℤ
+  pub may_be : may reading
+  pub entry : Entry
+  pub step_is : step (old.entries ++ others) asked reading guard ≡ accepted entry receipt.tempids.items
+  pub entries : new.entries ≡ (old.entries ++ others) ++ entry ∷ []
+  pub t : receipt.t ≡ basis new.entries
+  pub instant : receipt.instant ≡ entry.instant
+  pub snapshot : receipt.snapshot.entries ≡ new.entries
+  pub commits : new.commits ≡ old.commits ++ receipt.t ∷ []
+  pub tally : new.tally ≡ old.tally
+
+-- no transaction of the desk was accepted, and this is the database that it was answered
+pub record IsNotAccepted (old new : State) (snapshot : Kept) : Type 0 where
+  pub commits : new.commits ≡ old.commits
+  pub tally : new.tally ≡ not_accepted old.tally
+  pub snapshot : snapshot.entries ≡ new.entries
+
+-- it is refused at the history that is seen now, whatever the clock reads
+pub record IsRefusal (guard : Guard) (asked : Form) (old new : State) (refusal : Refusal) (snapshot : Kept) : Type 0 where
+  pub step_is : (reading : ℤ) → step new.entries asked reading guard ≡ refused refusal
+  pub rest : IsNotAccepted old new snapshot
+
+-- it is accepted at the history that is seen now, and the log did not take its entry, of which the desk is told for the first time
+pub record IsLogFault (may : ℤ → Type 0) (guard : Guard) (asked : Form) (old new : State) (at : ℕ) (snapshot : Kept) : Type 0 where
+  pub reading : ℤ
+  pub may_be : may reading
+  pub entry : Entry
+  pub tempids : List (List ℕ × ℕ)
+  pub step_is : step new.entries asked reading guard ≡ accepted entry tempids
+  pub at_is : at ≡ basis new.entries + 1
+  pub untold : old.stop ≡ None
+  pub stop : new.stop ≡ Some at
+  pub teller : new.teller ≡ true
+  pub rest : IsNotAccepted old new snapshot
+
+-- the log had stopped; it was another desk's transaction, unless this desk was told of it before
+pub record IsStopped (old new : State) (at : ℕ) (snapshot : Kept) : Type 0 where
+  pub at_is : at ≡ basis new.entries + 1
+  pub stop : new.stop ≡ Some at
+  pub teller : (old.stop ≡ None) → new.teller ≡ false
+  pub rest : IsNotAccepted old new snapshot
+
+-- nothing was accepted, for want of memory
+pub record IsOutOfMemory (old new : State) : Type 0 where
+  pub commits : new.commits ≡ old.commits
+  pub tally : new.tally ≡ old.tally
+
+abbrev pub IsFault : (ℤ → Type 0) → Guard → Form → State → State → TxFault → Type 0
+IsFault may guard asked old new (Refused refusal snapshot) = IsRefusal guard asked old new refusal snapshot
+IsFault may guard asked old new (LogFault at snapshot) = IsLogFault may guard asked old new at snapshot
+IsFault may guard asked old new (Stopped at snapshot) = IsStopped old new at snapshot
+IsFault may guard asked old new Memory = IsOutOfMemory old new
+
+abbrev pub snapshot_of : Glance → Kept
+snapshot_of (Fresh snapshot) = snapshot
+snapshot_of (Held snapshot) = snapshot

@@ -1,0 +1,57 @@
+//! The desk of a session.
+ghost use Rattle.std.specs.Prelude.{◌≡◌, ◌<◌, IfOk, IfErr, OnOk, OnErr};
+ghost use Rattle.edn_form.specs.View.{form_of};
+ghost use Rattle.fb_desk.specs.Desks.{State, GoesOn, IsReceipt, IsFault, glanced, synced, snapshot_of};
+
+use crate::answers::{Glance, Receipt, TxFault};
+use edn_form::Edn;
+use fb_memory::Memory;
+use fb_ports::Clock;
+use fb_view::Snapshot;
+use std::sync::Wait;
+use std::thread::Threads;
+use tx_step::Guard;
+
+/// A session's place at the database. Every call but `snapshot` may wait for other sessions.
+pub trait Desk: Drop {
+    /// What the session knows through it.
+    ghost state: { Self → State };
+
+    /// The last value of the database that the desk was answered, which the session has seen.
+    fn snapshot(&self) -> &Snapshot
+        ensures { result.now.entries ≡ (state self.now).entries };
+
+    /// Asks for a transaction, by one reading of the clock at most.
+    fn transact<R: Threads + Wait + Sync, K: Clock, G: Guard<Snapshot>>(
+        &mut self,
+        rt: &R,
+        clock: &K,
+        guard: &G,
+        asked: &Edn,
+    ) -> Result<Receipt, TxFault>
+        requires { 0 < (state self.old).left }
+        ensures goes_on { GoesOn (state self.old) (state self.new) }
+        ensures receipt { IfOk result (IsReceipt (K.may_answer clock.now) (G.bars guard.now) (form_of asked.now) (state self.old) (state self.new)) }
+        ensures fault { IfErr result (IsFault (K.may_answer clock.now) (G.bars guard.now) (form_of asked.now) (state self.old) (state self.new)) };
+
+    /// Looks at what was mailed, and waits for nobody.
+    fn db(&mut self) -> Result<Glance, Memory>
+        requires { 0 < (state self.old).left }
+        ensures goes_on { GoesOn (state self.old) (state self.new) }
+        ensures commits { (state self.new).commits ≡ (state self.old).commits }
+        ensures tally { (state self.new).tally ≡ glanced (state self.old).tally }
+        ensures sees { IfOk result (λ glance. (snapshot_of glance).entries ≡ (state self.new).entries) };
+
+    /// The latest value of the database. It waits for a turn.
+    fn sync<R: Threads + Wait + Sync>(&mut self, rt: &R) -> Result<Snapshot, Memory>
+        requires { 0 < (state self.old).left }
+        ensures goes_on { GoesOn (state self.old) (state self.new) }
+        ensures commits { (state self.new).commits ≡ (state self.old).commits }
+        ensures tally { OnOk result ((state self.new).tally ≡ synced (state self.old).tally) }
+        ensures untold { OnErr result ((state self.new).tally ≡ (state self.old).tally) }
+        ensures sees { IfOk result (λ snapshot. snapshot.entries ≡ (state self.new).entries) };
+
+    /// Asks for a merge of the indexes, which changes nothing that the database says.
+    fn ring<R: Threads + Wait + Sync>(&mut self, rt: &R) -> Result<(), Memory>
+        ensures { state self.new ≡ state self.old };
+}
