@@ -10,11 +10,12 @@ use Rattle.fb_core.specs.Worlds.{commits_behind}
 use Rattle.fb_ports.specs.Faults.{Rose}
 use Rattle.fb_view.specs.Kept.{Kept}
 use Rattle.script_model.specs.Words.{Command, run, sink_of}
+use Rattle.fb_session.specs.Sessions.{Fixed}
 use Rattle.fb_session.specs.Replies.{Replies}
 use Rattle.factbase.specs.declared.outcome.SessionOut.{SessionOut}
 use Rattle.factbase.specs.declared.outcome.Outcome.{Outcome}
 use Rattle.factbase.specs.StatusLines.{cannot_open}
-use Rattle.factbase.specs.Outside.{Told, Tells, Terms, setting_of, scripts_of, EachOf}
+use Rattle.factbase.specs.Outside.{Told, Tells, setting_of, scripts_of, EachOf}
 use Rattle.factbase.specs.Headline.{OneHistory, stop_of, EachReplies, RepliesAlone}
 use Rattle.factbase.specs.Causes.{NoSession, Says, IsOutOfMemory, CannotOpen, HasBegun, Causes}
 
@@ -40,7 +41,7 @@ one_history h authors commits lawful each_t by_session same rising =
 
 -- ---- replies
 
-module _ {I O D : Type 0} (terms : Terms) (told : Told) (tells : Tells I O) (held had : Option (List ℕ)) (name : List ℕ) (outcome : Outcome I O D) where
+module _ {I O D : Type 0} (terms : Fixed) (told : Told) (tells : Tells I O) (held had : Option (List ℕ)) (name : List ℕ) (outcome : Outcome I O D) where
   no_stop : outcome.torn ≡ None → stop_of outcome ≡ None
   no_stop whole = rw whole refl
 

@@ -1,11 +1,10 @@
--- What the outside tells of a run, and the terms on which its transactions are decided and its reads answered.
+-- What the outside tells of a run, and by what its sessions are answered.
 -- This project's own choice.
-use Rattle.std.specs.Prelude.{ℕ, ◌+◌, ℤ, Bool, List, [], ◌∷◌, Option, Some, None}
-use Rattle.fb_values.specs.declared.facts.Datom.{Datom}
+use Rattle.std.specs.Prelude.{ℕ, ◌+◌, Bool, List, [], ◌∷◌, Option, Some, None}
 use Rattle.fb_values.specs.declared.facts.Entry.{Entry}
 use Rattle.script_model.specs.Words.{Command, run}
-use Rattle.tx_model.specs.Step.{Guard}
 use Rattle.talk_model.specs.Session.{Setting, setting}
+use Rattle.fb_session.specs.Sessions.{Fixed}
 
 -- ---- what a host tells of what it hands out, by name, and its own count of faults
 
@@ -24,18 +23,10 @@ pub record Tells (I O : Type 0) : Type 0 where
   pub contents : O → Option (List ℕ)
   pub sink_faults : O → ℕ
 
--- ---- the terms of a run
-
-pub record Terms : Type 1 where
-  -- what the clock may read
-  pub may : ℤ → Type 0
-  pub guard : Guard
-  -- the names of filters, and what the filter of a name selects
-  pub is_filter : List ℕ → Bool
-  pub Selects : List ℕ → Datom → Type 0
+-- ---- the terms on which all of its sessions are answered: the clock, the guard and the filters
 
 -- what a session is answered by on these terms, over a history that may have a stop
-abbrev pub setting_of : Terms → List Entry → Option ℕ → Bool → Setting
+abbrev pub setting_of : Fixed → List Entry → Option ℕ → Bool → Setting
 setting_of terms h stop teller = setting terms.may terms.Selects terms.guard terms.is_filter h stop teller
 
 -- ---- its scripts
