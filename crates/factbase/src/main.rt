@@ -10,7 +10,8 @@ mod script;
 mod session;
 mod words;
 
-use fb_ports::{Memory, RealHost, SystemClock};
+use fb_ports::Memory;
+use real_ports::{RealHost, SystemClock};
 use std::env;
 use std::io::ErrorKind;
 use std::process::ExitCode;

@@ -1,6 +1,6 @@
 //! Runs over sources and sinks in memory, under a clock that stands still.
 use super::*;
-use fb_ports::{FixedClock, MemHost, MemSink, MemSource};
+use mem_ports::{FixedClock, MemHost, MemSink, MemSource};
 use std::test::Fail;
 
 /// The first instant of 2024.
