@@ -1,5 +1,5 @@
 -- A disk that is handed out is told as what it is.
-use Rattle.std.proofs.Common.{◌≡◌, Option, ℕ, List, ap, sym, subst, Result, Ok, Err, IfOk}
+use Rattle.std.proofs.Common.{◌≡◌, sym, subst, Result, Ok, Err, IfOk}
 use Rattle.fb_disk.specs.MemDisks.{Past, images_of}
 use Rattle.fb_ports.specs.Telling.{Alike}
 

@@ -1,11 +1,11 @@
 -- A stepping clock's reading, in 128 bits and then within an i64.
-use Rattle.std.proofs.Common.{◌≡◌, ◌∙◌, ◌+◌, ◌-◌, ◌*◌, ◌^◌, ◌<◌, ◌≤◌, ℕ, ℤ, pos, ◌+ℤ◌, ◌*ℤ◌, w64, FitsSigned, to_z, of_z, ap, arith}
+use Rattle.std.proofs.Common.{◌≡◌, ◌∙◌, ◌-◌, ◌^◌, ◌<◌, ◌≤◌, ℕ, ℤ, pos, ◌+ℤ◌, ◌*ℤ◌, w64, FitsSigned, to_z, of_z, ap, arith}
 use Rattle.std.proofs.lemmas.Int.{ints, to_z-of_z, fits_signed_mul}
 use Rattle.std.specs.Prelude.{negsuc, unsigned_abs}
 use Rattle.std.specs.Int.{int_max, int_min, saturate_signed}
 use mir.Syntax.{w128}
 
-pub clamped : (z : ℤ) → int_max (negsuc (2 ^ 63 - 1)) (int_min z (pos (2 ^ 63 - 1))) ≡ saturate_signed w64 z
+pub clamped : (z : ℤ) → int_max (negsuc (2 ^ 63 - 1)) (int_min (saturate_signed w128 z) (pos (2 ^ 63 - 1))) ≡ saturate_signed w64 z
 clamped (pos n) = grind arith
 clamped (negsuc n) = grind arith
 

@@ -60,7 +60,8 @@ impl StepClock {
     fn reading_at(&self, call: u64) -> i64
         ensures { result ≡ reading_at self.now call }
     {
-        let reading = self.first as i128 + call as i128 * self.step as i128;
+        let way = call as i128 * self.step as i128;
+        let reading = (self.first as i128).saturating_add(way);
         reading.clamp(i64::MIN as i128, i64::MAX as i128) as i64
     }
 }

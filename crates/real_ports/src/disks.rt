@@ -169,7 +169,7 @@ impl AnyDisk {
 
 impl Disk for AnyDisk {
     ghost use Rattle.real_ports.specs.AnyDisks.{faults_of, told_of, may_leave, moment_at, may_have_left};
-    ghost use Rattle.real_ports.proofs.AnyDisks.{told_is_left, left_at_moment, left_no_later};
+    ghost use Rattle.real_ports.specs.AnyDiskLaws.{told_is_left, left_at_moment, left_no_later};
 
     ghost faults = { faults_of };
 

@@ -1,5 +1,6 @@
--- The laws of disks, for a file or a disk in memory in its place.
-use Rattle.std.proofs.Common.{◌≤◌, ℕ, List}
+-- The laws of disks, proved for a file or a disk in memory in its place: they define nothing.
+-- This project's own choice.
+use Rattle.std.specs.Prelude.{◌≤◌, ℕ, List}
 use Rattle.disk_model.specs.Disk.{WhereTold}
 use Rattle.disk_model.proofs.Records.{left_since-now, left_now, leaves_told}
 use Rattle.real_ports.specs.AnyDisks.{told_of, may_leave, moment_at, may_have_left}
