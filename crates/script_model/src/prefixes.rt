@@ -7,15 +7,15 @@ ghost use Rattle.fb_model.specs.History.{basis};
 ghost use Rattle.script_model.specs.Talk.{Talk};
 ghost use Rattle.script_model.specs.Prefixes.{SeesAll, Prefixes};
 
-use fb_ports::Clock;
+use crate::talks::Readings;
 
 /// The places of a talk never fall, lie between the opening's t and the basis, and each is at least every t that was
 /// committed before. So it is where the form behind the lines was answered too, and its line did not come out.
-pub fn a_talk_rests_on_what_was_seen<K: Clock>(_clock: &K)
+pub fn a_talk_rests_on_what_was_seen<R: Readings>()
     ensures whole { (h : List Entry) (opening : ℕ) (fs : List Form) (ps cs : List ℕ) (ls : List (List ℕ)) → opening ≤ basis h
-        → Talk (K.may_answer _clock.now) h opening fs ps cs ls → Prefixes opening (basis h) ps cs }
+        → Talk R.may h opening fs ps cs ls → Prefixes opening (basis h) ps cs }
     ensures unfinished { (h : List Entry) (opening : ℕ) (fs : List Form) (ps cs : List ℕ) (ls : List (List ℕ)) (f : Form) (p : ℕ) (line : List ℕ) → opening ≤ basis h
-        → Talk (K.may_answer _clock.now) h opening (fs ++ f ∷ []) (ps ++ p ∷ []) cs (ls ++ line ∷ []) → Prefixes opening (basis h) ps cs }
+        → Talk R.may h opening (fs ++ f ∷ []) (ps ++ p ∷ []) cs (ls ++ line ∷ []) → Prefixes opening (basis h) ps cs }
 {}
 
 /// Commits strictly rise.
