@@ -106,14 +106,16 @@ impl Core {
         })
     }
 
-    /// The draft's entry is the last one from now on. It takes no memory.
-    pub fn accept(&mut self, draft: Draft)
+    /// The draft's entry is the last one from now on. Answers the draft's tempids. It takes no memory.
+    pub fn accept(&mut self, draft: Draft) -> Vec<(Text, u64)>
         requires { (author : ℕ) × IsDraftOf self.old author draft }
-        ensures { self.new ≡ record { snapshot = draft.after; authors = draft.authors } }
+        ensures core { self.new ≡ record { snapshot = draft.after; authors = draft.authors } }
+        ensures tempids { result.items ≡ draft.tempids.items }
     {
         self.parts = CoreParts {
             snapshot: draft.after,
             authors: draft.authors,
         };
+        draft.tempids
     }
 }
