@@ -22,7 +22,7 @@ impl CoreDesk {
     ghost use Rattle.core_desk.specs.States.{state_of};
 
     /// Accepts the draft, for whose commit there is room, with a share of the value that it makes. It takes no memory.
-    fn accept(&mut self, draft: Draft, snapshot: Snapshot) -> Receipt
+    fn accept(&mut self, mut draft: Draft, snapshot: Snapshot) -> Receipt
         requires call { 0 < (state_of self.old).left }
         requires draft { IsDraftOf self.old.core 0 draft }
         requires room { vec_len self.old.commits < vec_capacity self.old.commits }
@@ -34,7 +34,8 @@ impl CoreDesk {
     {
         let t = snapshot.basis();
         let instant = draft.entry().instant;
-        let tempids = self.core.accept(draft);
+        let tempids = draft.take_tempids();
+        self.core.accept(draft);
         if self.commits.push(t).is_err() {
             unreachable!();
         }
