@@ -31,8 +31,8 @@ one_more core draft commits stands last is alone =
     let next : opening + length core.authors + 1 ≡ basis draft.after.entries = omega (arith, last, fits) in
     record {
       by_session = subst (AllByRecursion (λ author. author ≡ 0)) (sym is.authors) (by_session-push core.authors alone.by_session);
-      commits =
-          ap (λ ts. ts ++ basis draft.after.entries ∷ []) alone.commits
+      commits_are =
+          ap (λ ts. ts ++ basis draft.after.entries ∷ []) alone.commits_are
           ∙ ap (λ t. commits_behind opening 0 core.authors ++ t ∷ []) (sym next)
           ∙ sym (commits_behind-push opening 0 core.authors 0)
           ∙ ap (commits_behind opening 0) (sym is.authors)

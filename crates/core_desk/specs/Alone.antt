@@ -13,4 +13,4 @@ opening_of core = basis core.snapshot.entries - length core.authors
 -- session 0 is the author of each entry since the opening, and these are its commits
 pub record IsAlone (core : CoreParts) (commits : List ℕ) : Type 0 where
   pub by_session : AllByRecursion (λ author. author ≡ 0) core.authors
-  pub commits : commits ≡ commits_behind (opening_of core) 0 core.authors
+  pub commits_are : commits ≡ commits_behind (opening_of core) 0 core.authors

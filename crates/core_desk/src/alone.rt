@@ -1,6 +1,7 @@
 //! The desk, from the core that it is made of to the core that it gives back.
 ghost use Rattle.std.specs.Prelude.{◌≡◌, ◌+◌, ◌^◌, ◌≤◌, [], length};
 ghost use Rattle.std.specs.List.{AllByRecursion};
+ghost use Rattle.std.proofs.Props.{props};
 ghost use Rattle.fb_model.specs.History.{basis};
 ghost use Rattle.fb_core.specs.Cores.{CoreStands};
 ghost use Rattle.fb_core.specs.Worlds.{commits_behind};
@@ -29,7 +30,7 @@ pub struct CoreDesk {
     /// The t of each transaction that was accepted.
     pub(crate) commits: Vec<u32>,
     pub(crate) counts: Counts,
-    ghost alone: { IsAlone core commits.items },
+    ghost alone: { IsAlone core commits.items } by { Prim.hlevel props },
     ghost few_calls: { counts.calls ≤ 2 ^ 32 },
     ghost few_glances: { counts.glances ≤ counts.calls },
     ghost few_syncs: { counts.syncs ≤ counts.calls },

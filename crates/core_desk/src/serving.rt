@@ -1,9 +1,8 @@
 //! What the desk answers.
-ghost use Rattle.std.specs.Prelude.{◌≡◌, ◌<◌, ℤ, vec_len, vec_capacity};
-ghost use Rattle.edn_model.specs.Form.{Form};
-ghost use Rattle.tx_model.specs.Step.{Guard as ModelGuard, step, accepted};
+ghost use Rattle.std.specs.Prelude.{◌≡◌, ◌<◌, ◌++◌, ◌∷◌, [], OnOk, vec_len, vec_capacity};
+ghost use Rattle.fb_model.specs.History.{basis};
 ghost use Rattle.fb_core.specs.Cores.{IsDraftOf, entry_of};
-ghost use Rattle.fb_desk.specs.Desks.{GoesOn, IsReceipt};
+ghost use Rattle.fb_desk.specs.Desks.{GoesOn};
 
 use crate::alone::{CoreDesk, SESSION};
 use edn_form::Edn;
@@ -18,6 +17,25 @@ use std::thread::Threads;
 use tx_model::refusals_do_not_depend_on_the_clock;
 use tx_step::{Guard, TxStop};
 
+/// Makes room for one more commit.
+fn make_room(commits: &mut Vec<u32>) -> Result<(), Memory>
+    ensures same { commits.new.items ≡ commits.old.items }
+    ensures room { OnOk result (vec_len commits.new < vec_capacity commits.new) }
+{
+    commits.reserve(1)?;
+    Ok(())
+}
+
+/// Adds a commit, for which there is room.
+fn add(commits: &mut Vec<u32>, t: u32)
+    requires { vec_len commits.old < vec_capacity commits.old }
+    ensures { commits.new.items ≡ commits.old.items ++ t ∷ [] }
+{
+    if commits.push(t).is_err() {
+        unreachable!();
+    }
+}
+
 impl CoreDesk {
     ghost use Rattle.core_desk.specs.States.{state_of};
 
@@ -28,17 +46,21 @@ impl CoreDesk {
         requires room { vec_len self.old.commits < vec_capacity self.old.commits }
         requires snapshot { snapshot ≡ draft.after }
         ensures goes_on { GoesOn (state_of self.old) (state_of self.new) }
-        ensures receipt { (may : ℤ → Type 0) (guard : ModelGuard) (asked : Form) (reading : ℤ) → may reading
-            → step self.old.core.snapshot.entries asked reading guard ≡ accepted (entry_of draft) draft.tempids.items
-            → IsReceipt may guard asked (state_of self.old) (state_of self.new) result }
+        ensures entries { (state_of self.new).entries ≡ (state_of self.old).entries ++ entry_of draft ∷ [] }
+        ensures commits { (state_of self.new).commits ≡ (state_of self.old).commits ++ result.t ∷ [] }
+        ensures tally { (state_of self.new).tally ≡ (state_of self.old).tally }
+        ensures t { result.t ≡ basis (state_of self.new).entries }
+        ensures instant { result.instant ≡ (entry_of draft).instant }
+        ensures tempids { result.tempids.items ≡ draft.tempids.items }
+        ensures snapshot { result.snapshot.entries ≡ (state_of self.new).entries }
     {
+        // A core that is asked tells that it stands for its history.
+        let _basis = self.core.basis();
         let t = snapshot.basis();
         let instant = draft.entry().instant;
         let tempids = draft.take_tempids();
         self.core.accept(draft);
-        if self.commits.push(t).is_err() {
-            unreachable!();
-        }
+        add(&mut self.commits, t);
         self.counts.calls += 1;
         Receipt {
             t,
@@ -66,9 +88,8 @@ impl Desk for CoreDesk {
         asked: &Edn,
     ) -> Result<Receipt, TxFault> {
         refusals_do_not_depend_on_the_clock();
-        self.commits.reserve(1).map_err(Memory::from)?;
-        let decided = self.core.decide(asked, clock.now(), SESSION, guard);
-        match decided {
+        make_room(&mut self.commits)?;
+        match self.core.decide(asked, clock.now(), SESSION, guard) {
             Ok(draft) => {
                 let snapshot = draft.after().share()?;
                 Ok(self.accept(draft, snapshot))
