@@ -5,10 +5,7 @@ use Rattle.std.proofs.lemmas.Result.{on_ok_weaker}
 use Rattle.edn_model.specs.Form.{Form}
 use Rattle.fb_values.specs.declared.facts.Datom.{Datom}
 use Rattle.fb_values.specs.declared.facts.Entry.{Entry}
-use Rattle.fb_preds.specs.declared.filters.NamedFilter.{NamedFilter}
 use Rattle.fb_preds.specs.Selecting.{SelectedByAll}
-use Rattle.fb_preds.specs.Table.{selected_at, selected_by_name, names_at, AreLast}
-use Rattle.fb_preds.proofs.Naming.{selected_by_names}
 use Rattle.view_model.specs.Window.{Window}
 use Rattle.talk_model.specs.Commands.{Command}
 use Rattle.talk_model.specs.Replies.{IsLineOf}
@@ -43,15 +40,8 @@ same_shape : (F : List ℕ → Datom → Type 0) (names : List (List ℕ)) (d : 
 same_shape F [] d = refl
 same_shape F (name ∷ names) d = λ i. F name d × same_shape F names d i
 
-pub selects_by_names : {S K : Type 0} (stored : S → Datom → Type 0) (kept : K → Datom → Type 0) (filters : List (NamedFilter S K)) (places : List ℕ) → AreLast filters places
-    → SelectedByAll (selected_at stored kept filters) places ≡ SelectedBy (selected_by_name stored kept filters) (names_at filters places)
-selects_by_names stored kept filters places are =
-    selected_by_names stored kept filters places are ∙ (λ i d. same_shape (selected_by_name stored kept filters) (names_at filters places) d i)
-
--- what is answered of what filters select is answered of what their names select
-pub told_by_names : {S K T E : Type 0} (r : Result T E) (stored : S → Datom → Type 0) (kept : K → Datom → Type 0) (filters : List (NamedFilter S K)) (places : List ℕ) → AreLast filters places
-    → (h : List Entry) (basis : ℕ) (is_filter : List ℕ → Bool) (w : Window) (command : Option Command) (line : List ℕ)
-    → OnOk r (Says (IsReply h basis is_filter w (SelectedByAll (selected_at stored kept filters) places) command) line)
-    → OnOk r (Says (IsReply h basis is_filter w (SelectedBy (selected_by_name stored kept filters) (names_at filters places)) command) line)
-told_by_names r stored kept filters places are h basis is_filter w command line says =
-    subst (λ (Selects : Datom → Type 0). OnOk r (Says (IsReply h basis is_filter w Selects command) line)) (selects_by_names stored kept filters places are) says
+-- what filters select of these names is said in two ways
+pub told_by_names : {T E : Type 0} (r : Result T E) (F : List ℕ → Datom → Type 0) (names : List (List ℕ)) (h : List Entry) (basis : ℕ) (is_filter : List ℕ → Bool) (w : Window) (command : Option Command) (line : List ℕ)
+    → OnOk r (Says (IsReply h basis is_filter w (SelectedByAll F names) command) line) → OnOk r (Says (IsReply h basis is_filter w (SelectedBy F names) command) line)
+told_by_names r F names h basis is_filter w command line says =
+    subst (λ (Selects : Datom → Type 0). OnOk r (Says (IsReply h basis is_filter w Selects command) line)) (λ i d. same_shape F names d i) says
