@@ -89,7 +89,7 @@ impl Database {
     /// It has a number with an index and a text, as the first transaction of the other program makes them.
     fn new() -> Database {
         let mut db = Database { issued: 2, basis: 1, instant: CLOCK, ..Database::default() };
-        let attributes = [(NUM, "b/num", LONG, true), (TEXT, "b/text", STRING, false), (DOC, "db/doc", STRING, false), (TX_INSTANT, "db/txInstant", INSTANT, false)];
+        let attributes = [(NUM, "b/num", LONG, true), (TEXT, "b/text", STRING, false), (DOC, "db/doc", STRING, false), (TX_INSTANT, "db/txInstant", INSTANT, true)];
         for (id, name, kind, index) in attributes {
             db.idents.insert(name.into(), id);
             db.attributes.insert(id, Attribute { id, kind, many: false, unique: false, index });
