@@ -43,14 +43,15 @@ impl Course {
     }
 }
 
-/// Merges a last time. With these trees the database is opened anew.
+/// The database is opened anew over the trees that it has. Then it merges a last time.
 fn end<R: Threads + Sync>(rt: &R, alloc: Global, run: Run, wanted: &Indexes) -> Result<()> {
-    check(alloc, run.core().snapshot(), wanted)?;
+    let snapshot = run.core().snapshot();
+    check(alloc, snapshot, wanted)?;
+    let core = reopened(alloc, snapshot)?;
+    check(alloc, core.snapshot(), wanted)?;
     let mut run = run.begin_merge()?;
     run.end_merge(rt, alloc)?;
-    check(alloc, run.core().snapshot(), wanted)?;
-    let core = reopened(alloc, run.core().snapshot())?;
-    check(alloc, core.snapshot(), wanted)
+    check(alloc, run.core().snapshot(), wanted)
 }
 
 fn check(alloc: Global, snapshot: &Snapshot, wanted: &Indexes) -> Result<()> {
