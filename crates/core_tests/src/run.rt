@@ -1,6 +1,4 @@
 //! A core with a merge that has begun, one event after another.
-ghost use Rattle.std.specs.Prelude.{◌≡◌};
-
 use crate::rows::Row;
 use anyhow::{Result, bail};
 use fb_core::{Core, NoGuard, TxStop, a_beginning_stays_one};
@@ -24,6 +22,7 @@ pub(crate) struct Run {
 }
 
 impl Model for Run {
+    ghost use Rattle.std.specs.Prelude.{◌≡◌};
     ghost use Rattle.fb_model.specs.History.{basis, upto};
     ghost use Rattle.fb_core.specs.declared.shared.CoreParts.{CoreParts};
 
