@@ -4,6 +4,7 @@ use Rattle.std.specs.Prelude.{◌≡◌, ◌⊎◌, ℕ, ℤ, ◌+◌, ◌≤◌
 use Rattle.edn_model.specs.Form.{Form}
 use Rattle.fb_values.specs.declared.facts.Entry.{Entry}
 use Rattle.fb_model.specs.History.{basis}
+use Rattle.fb_model.specs.Lawful.{IsLawful}
 use Rattle.tx_refusals.specs.declared.reasons.Refusal.{Refusal}
 use Rattle.tx_model.specs.Step.{Guard, step, accepted, refused}
 use Rattle.fb_view.specs.Kept.{Kept}
@@ -40,10 +41,11 @@ synced tally = record tally { syncs = tally.syncs + 1 }
 abbrev pub not_accepted : Tally → Tally
 not_accepted tally = record tally { unaccepted = tally.unaccepted + 1 }
 
--- The history has all that was seen before. A log that has stopped stays so. A call is used up at most.
+-- The history has all that was seen before, and stays lawful. A log that has stopped stays so. A call is used up at most.
 pub record GoesOn (old new : State) : Type 0 where
   pub more : List Entry
   pub entries : new.entries ≡ old.entries ++ more
+  pub lawful : IsLawful old.entries → IsLawful new.entries
   pub stop : (old.stop ≡ None) ⊎ ((new.stop ≡ old.stop) × (new.teller ≡ old.teller))
   pub left : old.left ≤ new.left + 1
 

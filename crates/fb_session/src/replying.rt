@@ -1,11 +1,15 @@
 //! Which command a form is, and its line.
-ghost use Rattle.std.specs.Prelude.{◌≡◌, ◌<◌, OnOk, OnErr, vec_len, vec_capacity};
+ghost use Rattle.std.specs.Prelude.{◌≡◌, ◌<◌, IsTrue, OnOk, OnErr, vec_len, vec_capacity, Some, None};
+ghost use Rattle.std.specs.Option.{option_map};
 ghost use Rattle.edn_form.specs.View.{form_of};
 ghost use Rattle.fb_model.specs.History.{basis};
+ghost use Rattle.talk_model.specs.Commands.{is_read};
 ghost use Rattle.talk_model.specs.Session.{Standing};
 ghost use Rattle.talk_model.specs.Replies.{basis_reply, IsLineOf};
+ghost use Rattle.fb_preds.specs.Table.{is_filter, names_at};
+ghost use Rattle.fb_commands.specs.Asked.{asked};
 ghost use Rattle.fb_desk.specs.Desks.{GoesOn};
-ghost use Rattle.fb_session.specs.Sessions.{Fixed, StandsAt, Answered, Unanswered};
+ghost use Rattle.fb_session.specs.Sessions.{fixed, StandsAt, Sees, Shows, Keeps, Reads, Answered, Unanswered};
 
 use crate::session::Session;
 use edn_form::Edn;
@@ -13,7 +17,7 @@ use fb_commands::{Command, command_in};
 use fb_desk::{Desk, Glance};
 use fb_memory::Memory;
 use fb_ports::Clock;
-use fb_preds::PredTable;
+use fb_preds::{Picks, PredTable, Selector, SelectsByName};
 use fb_reads::answer_read;
 use fb_replies::write_basis;
 use fb_view::Snapshot;
@@ -22,7 +26,7 @@ use std::sync::Wait;
 use std::thread::Threads;
 use tx_step::Guard;
 
-impl<'p> Session<'p> {
+impl Session<Picks<'_>> {
     /// Does what the form asks and builds its line.
     pub(crate) fn reply<R: Threads + Wait + Sync, T: Desk, K: Clock, G: Guard<Snapshot>>(
         &mut self,
@@ -31,12 +35,16 @@ impl<'p> Session<'p> {
         desk: &mut T,
         clock: &K,
         guard: &G,
-        preds: &'p PredTable,
         form: &Edn,
     ) -> Result<(), Memory>
         requires left { 0 < (T.state desk.old).left }
         requires room { vec_len self.old.commits < vec_capacity self.old.commits }
         ensures goes_on { GoesOn (T.state desk.old) (T.state desk.new) }
+        ensures ok { OnOk result ((before : Standing) → StandsAt self.old.view (λ p. names_at p.table.now.filters.items p.places.items) (T.state desk.old) before
+            → Answered (fixed (K.may_answer clock.now) (G.bars guard.now) (is_filter self.old.view.filter.table.now.filters.items) (⟦<PredTable as SelectsByName>⟧.selects_by self.old.view.filter.table.now)) (form_of form.now) self.old self.new (λ p. names_at p.table.now.filters.items p.places.items) (T.state desk.old) (T.state desk.new) before self.new.line.items) }
+        ensures err { OnErr result ((before : Standing) → StandsAt self.old.view (λ p. names_at p.table.now.filters.items p.places.items) (T.state desk.old) before
+            → Unanswered (fixed (K.may_answer clock.now) (G.bars guard.now) (is_filter self.old.view.filter.table.now.filters.items) (⟦<PredTable as SelectsByName>⟧.selects_by self.old.view.filter.table.now)) (form_of form.now) self.old self.new (λ p. names_at p.table.now.filters.items p.places.items) (T.state desk.old) (T.state desk.new) before) }
+        ensures table { self.new.view.filter.table ≡ self.old.view.filter.table }
         ensures places { self.new.places ≡ self.old.places }
     {
         match command_in(form) {
@@ -45,14 +53,32 @@ impl<'p> Session<'p> {
             Some(Command::Sync) => self.catch_up(rt, desk),
             Some(Command::RequestIndex) => {
                 desk.ring(rt)?;
-                self.read(alloc, preds, Some(Command::RequestIndex))
+                self.read(alloc, Some(Command::RequestIndex))
             }
-            command => self.read(alloc, preds, command),
+            command => self.read(alloc, command),
         }
     }
 
+    /// Answers of what was seen before.
+    fn read(&mut self, alloc: Global, command: Option<Command<'_>>) -> Result<(), Memory>
+        requires { IsTrue (is_read (option_map (λ asks. asked asks) command)) }
+        ensures ok { OnOk result (Reads self.old.view self.new.view (λ p. names_at p.table.now.filters.items p.places.items) (is_filter self.old.view.filter.table.now.filters.items) (⟦<PredTable as SelectsByName>⟧.selects_by self.old.view.filter.table.now) (option_map (λ asks. asked asks) command.entry) self.new.line.items) }
+        ensures table { self.new.view.filter.table ≡ self.old.view.filter.table }
+        ensures rest { self.new ≡ record self.old { view = self.new.view; line = self.new.line } }
+    {
+        answer_read(alloc, &mut self.view, command, &mut self.line)
+    }
+}
+
+impl<S: Selector> Session<S> {
     /// Sees what was mailed.
-    fn look<T: Desk>(&mut self, desk: &mut T) -> Result<(), Memory> {
+    fn look<T: Desk>(&mut self, desk: &mut T) -> Result<(), Memory>
+        requires { 0 < (T.state desk.old).left }
+        ensures goes_on { GoesOn (T.state desk.old) (T.state desk.new) }
+        ensures shows { OnOk result (Shows self.old self.new (T.state desk.new)) }
+        ensures keeps { Keeps self.old self.new (T.state desk.old) (T.state desk.new) None }
+        ensures places { self.new.places ≡ self.old.places }
+    {
         match desk.db()? {
             Glance::Fresh(snapshot) => self.show(snapshot),
             Glance::Held(snapshot) => self.show(snapshot),
@@ -60,12 +86,26 @@ impl<'p> Session<'p> {
     }
 
     /// Sees all that there is.
-    fn catch_up<R: Threads + Wait + Sync, T: Desk>(&mut self, rt: &R, desk: &mut T) -> Result<(), Memory> {
+    fn catch_up<R: Threads + Wait + Sync, T: Desk>(
+        &mut self,
+        rt: &R,
+        desk: &mut T,
+    ) -> Result<(), Memory>
+        requires { 0 < (T.state desk.old).left }
+        ensures goes_on { GoesOn (T.state desk.old) (T.state desk.new) }
+        ensures shows { OnOk result (Shows self.old self.new (T.state desk.new)) }
+        ensures keeps { Keeps self.old self.new (T.state desk.old) (T.state desk.new) None }
+        ensures places { self.new.places ≡ self.old.places }
+    {
         let snapshot = desk.sync(rt)?;
         self.show(snapshot)
     }
 
-    fn show(&mut self, snapshot: Snapshot) -> Result<(), Memory> {
+    fn show(&mut self, snapshot: Snapshot) -> Result<(), Memory>
+        ensures view { self.new.view ≡ record self.old.view { snapshot = snapshot } }
+        ensures rest { self.new ≡ record self.old { view = self.new.view; line = self.new.line } }
+        ensures line { OnOk result (IsLineOf (basis_reply (basis snapshot.entries)) self.new.line.items) }
+    {
         self.see(snapshot);
         let basis = self.place();
         write_basis(&mut self.line, basis)

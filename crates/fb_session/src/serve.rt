@@ -1,4 +1,14 @@
 //! The loop over the forms of a script.
+ghost use Rattle.std.specs.Prelude.{◌≡◌, ◌≤◌, ◌<◌, ◌+◌, ◌++◌, IfOk, IfErr, OnOk, OnErr, length};
+ghost use Rattle.edn_form.specs.View.{form_of};
+ghost use Rattle.fb_model.specs.History.{basis};
+ghost use Rattle.fb_preds.specs.Table.{is_filter, names_at};
+ghost use Rattle.talk_model.specs.Prefixes.{Prefixes};
+ghost use Rattle.talk_model.specs.Session.{Standing, setting};
+ghost use Rattle.fb_desk.specs.Desks.{GoesOn};
+ghost use Rattle.fb_session.specs.Replies.{Replies, SourceCount, SinkCount};
+ghost use Rattle.fb_session.specs.Sessions.{fixed, WentOn, StandsAt, IsOpened, Replied, StopsAt, StopCount, end_of, IsCommand, NoCommand, Talks};
+
 use crate::outcome::{Served, SessionEnd};
 use crate::reading::{ReadStop, read_script};
 use crate::session::Session;
@@ -7,7 +17,7 @@ use edn_core::{Edn, EdnFault, read_form};
 use fb_desk::Desk;
 use fb_memory::Memory;
 use fb_ports::{Clock, Sink, Source};
-use fb_preds::PredTable;
+use fb_preds::{Picks, PredTable, SelectsByName};
 use fb_view::Snapshot;
 use std::alloc::Global;
 use std::sync::Wait;
@@ -27,6 +37,7 @@ pub(crate) enum Stop {
 impl Stop {
     /// How a session ends that stops so.
     fn end(self) -> SessionEnd
+        ensures { result ≡ end_of self }
     {
         match self {
             Stop::WriteFault => SessionEnd::WriteFault,
@@ -63,6 +74,15 @@ pub fn serve_desk<
     guard: &G,
     preds: &PredTable,
 ) -> Served
+    requires { 1_000_000 ≤ (T.state desk.old).left }
+    ensures replies { Replies
+        (setting (K.may_answer clock.now) (⟦<PredTable as SelectsByName>⟧.selects_by preds.now) (G.bars guard.now) (is_filter preds.now.filters.items) (T.state desk.new).entries (T.state desk.new).stop (T.state desk.new).teller)
+        (basis (T.state desk.old).entries) (I.left source.old) (I.left source.new) (O.contents sink.old) (O.contents sink.new) result.places result.commits result.end }
+    ensures prefixes { Prefixes (basis (T.state desk.old).entries) (basis (T.state desk.new).entries) result.places result.commits }
+    ensures commits { (T.state desk.new).commits ≡ (T.state desk.old).commits ++ result.commits }
+    ensures went_on { WentOn (T.state desk.old) (T.state desk.new) }
+    ensures source_count { SourceCount result.end (I.faults source.old) (I.faults source.new) }
+    ensures sink_count { SinkCount result.end (O.faults sink.old) (O.faults sink.new) }
 {
     match read_script(alloc, source) {
         Ok(script) => serve_script(rt, alloc, script.as_slice(), sink, desk, clock, guard, preds),
@@ -83,15 +103,19 @@ fn serve_script<R: Threads + Wait + Sync, O: Sink, T: Desk, K: Clock, G: Guard<S
     guard: &G,
     preds: &PredTable,
 ) -> Served
+    requires { 1_000_000 ≤ (T.state desk.old).left }
+    ensures answers { Talks (fixed (K.may_answer clock.now) (G.bars guard.now) (is_filter preds.now.filters.items) (⟦<PredTable as SelectsByName>⟧.selects_by preds.now)) script.now
+        (T.state desk.old) (T.state desk.new) result.places result.commits (O.contents sink.old) (O.contents sink.new) result.end }
+    ensures count { SinkCount result.end (O.faults sink.old) (O.faults sink.new) }
 {
     let Ok(mut session) = Session::open(alloc, desk, preds) else {
         return Served::nothing(alloc, SessionEnd::Memory);
     };
-    let end = session.answer_all(rt, alloc, script, sink, desk, clock, guard, preds);
+    let end = session.answer_all(rt, alloc, script, sink, desk, clock, guard);
     session.served(end)
 }
 
-impl<'p> Session<'p> {
+impl Session<Picks<'_>> {
     /// Answers the forms of the script, one after another, up to the first that is not answered.
     fn answer_all<R: Threads + Wait + Sync, O: Sink, T: Desk, K: Clock, G: Guard<Snapshot>>(
         &mut self,
@@ -102,14 +126,18 @@ impl<'p> Session<'p> {
         desk: &mut T,
         clock: &K,
         guard: &G,
-        preds: &'p PredTable,
     ) -> SessionEnd
+        requires opened { IsOpened self.old (λ p. names_at p.table.now.filters.items p.places.items) (T.state desk.old) }
+        requires left { 1_000_000 ≤ (T.state desk.old).left }
+        ensures answers { Talks (fixed (K.may_answer clock.now) (G.bars guard.now) (is_filter self.old.view.filter.table.now.filters.items) (⟦<PredTable as SelectsByName>⟧.selects_by self.old.view.filter.table.now)) script.now
+            (T.state desk.old) (T.state desk.new) self.new.places.items self.new.commits.items (O.contents sink.old) (O.contents sink.new) result }
+        ensures count { SinkCount result (O.faults sink.old) (O.faults sink.new) }
     {
         let mut at = 0;
         'forms: loop {
             match self.next_command(alloc, script, at) {
                 Ok((form, next)) => {
-                    let answered = self.answer(rt, alloc, sink, desk, clock, guard, preds, &form);
+                    let answered = self.answer(rt, alloc, sink, desk, clock, guard, &form);
                     drop(form);
                     if let Err(stop) = answered {
                         return stop.end();
@@ -128,6 +156,8 @@ impl<'p> Session<'p> {
         script: &[u8],
         at: usize,
     ) -> Result<(Edn, usize), SessionEnd>
+        ensures ok { IfOk result (λ r. IsCommand script.now at (length self.now.places.items) (form_of r.0) r.1) }
+        ensures err { IfErr result (NoCommand script.now at (length self.now.places.items)) }
     {
         match read_form(alloc, script, at) {
             Ok(Some(_)) if self.places.len() >= MOST_COMMANDS => Err(SessionEnd::TooMany),
@@ -147,12 +177,21 @@ impl<'p> Session<'p> {
         desk: &mut T,
         clock: &K,
         guard: &G,
-        preds: &'p PredTable,
         form: &Edn,
     ) -> Result<(), Stop>
+        requires { 0 < (T.state desk.old).left }
+        ensures goes_on { GoesOn (T.state desk.old) (T.state desk.new) }
+        ensures ok { OnOk result ((before : Standing) → StandsAt self.old.view (λ p. names_at p.table.now.filters.items p.places.items) (T.state desk.old) before
+            → Replied (fixed (K.may_answer clock.now) (G.bars guard.now) (is_filter self.old.view.filter.table.now.filters.items) (⟦<PredTable as SelectsByName>⟧.selects_by self.old.view.filter.table.now)) (form_of form.now) self.old self.new (λ p. names_at p.table.now.filters.items p.places.items) (T.state desk.old) (T.state desk.new) before (O.contents sink.old) (O.contents sink.new)) }
+        ensures err { IfErr result (λ stop. (before : Standing) → StandsAt self.old.view (λ p. names_at p.table.now.filters.items p.places.items) (T.state desk.old) before
+            → StopsAt (fixed (K.may_answer clock.now) (G.bars guard.now) (is_filter self.old.view.filter.table.now.filters.items) (⟦<PredTable as SelectsByName>⟧.selects_by self.old.view.filter.table.now)) (form_of form.now) self.old self.new (λ p. names_at p.table.now.filters.items p.places.items) (T.state desk.old) (T.state desk.new) before (O.contents sink.old) (O.contents sink.new) stop) }
+        ensures table { self.new.view.filter.table ≡ self.old.view.filter.table }
+        ensures places { OnOk result (length self.new.places.items ≡ length self.old.places.items + 1) }
+        ensures count { OnOk result (O.faults sink.new ≡ O.faults sink.old) }
+        ensures stop_count { IfErr result (λ stop. StopCount stop (O.faults sink.old) (O.faults sink.new)) }
     {
         self.make_room()?;
-        self.reply(rt, alloc, desk, clock, guard, preds, form)?;
+        self.reply(rt, alloc, desk, clock, guard, form)?;
         if write_line(sink, self.line.as_slice()).is_err() {
             return Err(Stop::WriteFault);
         }

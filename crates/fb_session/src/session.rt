@@ -1,20 +1,22 @@
 //! What a session keeps between two commands.
 ghost use Rattle.std.specs.Prelude.{◌≡◌, ◌<◌, IfOk, OnOk, vec_len, vec_capacity};
 ghost use Rattle.fb_model.specs.History.{basis};
-ghost use Rattle.fb_session.specs.Sessions.{IsOpened, Sees};
+ghost use Rattle.fb_preds.specs.Table.{names_at};
+ghost use Rattle.fb_session.specs.Sessions.{IsOpened};
 
 use crate::outcome::{Places, Served, SessionEnd};
 use fb_db::Db;
 use fb_desk::Desk;
 use fb_memory::Memory;
-use fb_preds::{Picks, PredTable};
+use fb_preds::{Picks, PredTable, Selector};
 use fb_view::Snapshot;
 use std::alloc::Global;
 
+/// A session with such a filter.
 #[derive(Drop)]
-pub(crate) struct Session<'p> {
+pub(crate) struct Session<S> {
     /// What its reads see. The snapshot is the last one that the desk was answered.
-    pub(crate) view: Db<Picks<'p>>,
+    pub(crate) view: Db<S>,
     /// For each line that was written whole, the t of the last entry that it rests on.
     pub(crate) places: Vec<u32>,
     /// The t of each transaction that was committed.
@@ -23,14 +25,15 @@ pub(crate) struct Session<'p> {
     pub(crate) line: Vec<u8>,
 }
 
-impl<'p> Session<'p> {
+impl<'p> Session<Picks<'p>> {
     /// It has seen what the desk was answered last.
     pub(crate) fn open<T: Desk>(
         alloc: Global,
         desk: &T,
         preds: &'p PredTable,
-    ) -> Result<Session<'p>, Memory>
-        ensures { IfOk result (λ session. IsOpened preds.now session (T.state desk.now)) }
+    ) -> Result<Session<Picks<'p>>, Memory>
+        ensures opened { IfOk result (λ session. IsOpened session (λ p. names_at p.table.now.filters.items p.places.items) (T.state desk.now)) }
+        ensures table { IfOk result (λ session. session.view.filter.table.now ≡ preds.now) }
     {
         let snapshot = desk.snapshot().share()?;
         // A snapshot that is asked tells that its history is lawful.
@@ -42,7 +45,9 @@ impl<'p> Session<'p> {
             line: Vec::new(alloc),
         })
     }
+}
 
+impl<S: Selector> Session<S> {
     /// Makes room for one more place and one more commit.
     pub(crate) fn make_room(&mut self) -> Result<(), Memory>
         ensures view { self.new.view ≡ self.old.view }

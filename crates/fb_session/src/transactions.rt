@@ -14,6 +14,7 @@ use edn_form::Edn;
 use fb_desk::{Desk, Receipt, TxFault};
 use fb_memory::Memory;
 use fb_ports::Clock;
+use fb_preds::Selector;
 use fb_replies::{LogFault, write_fault, write_receipt, write_refusal};
 use fb_view::Snapshot;
 use std::sync::Wait;
@@ -21,7 +22,7 @@ use std::thread::Threads;
 use tx_refusals::Refusal;
 use tx_step::Guard;
 
-impl Session<'_> {
+impl<S: Selector> Session<S> {
     /// Asks for the transaction and builds its line. Out of memory, it may have been accepted.
     pub(crate) fn transact<R: Threads + Wait + Sync, T: Desk, K: Clock, G: Guard<Snapshot>>(
         &mut self,

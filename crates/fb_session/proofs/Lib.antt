@@ -1,0 +1,6 @@
+pub mod KnownBytes
+pub mod Results
+pub mod Deciding
+pub mod Looking
+pub mod TalkingOn
+pub mod Serving
