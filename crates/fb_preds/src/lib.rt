@@ -4,6 +4,7 @@
 mod filters;
 mod finding;
 mod kept;
+mod laws;
 mod picks;
 mod ranges;
 mod selector;
@@ -11,9 +12,10 @@ mod table;
 
 pub use filters::{Filter, NamedFilter};
 pub use kept::{BoxedTest, Kept};
+pub use laws::picks_select_by_their_names;
 pub use picks::{Pick, Picks};
 pub use selector::{BoxedSelector, Selector};
-pub use table::{PredTable, shipped};
+pub use table::{PredTable, SelectsByName, shipped};
 
 #[cfg(test)]
 mod tests;

@@ -1,10 +1,11 @@
 //! Filters by name.
-ghost use Rattle.std.specs.Prelude.{◌≡◌, ◌<◌, ◌↔◌, [], ◌∷◌, ◌++◌, length, IsTrue, IfSome, IfOk, IfErr};
+ghost use Rattle.std.specs.Prelude.{◌≡◌, ℕ, ◌<◌, ◌↔◌, List, [], ◌∷◌, ◌++◌, length, IsTrue, IfSome, IfOk, IfErr};
+ghost use Rattle.fb_values.specs.declared.facts.Datom.{Datom as TheDatom};
 ghost use Rattle.fb_preds.specs.Table.{last_place, Selects, selected_at, shipped_filters};
 
 use crate::filters::{Filter, NamedFilter};
 use crate::finding::{is_negative, last_named};
-use crate::kept::Kept;
+use crate::kept::{BoxedTest, Kept};
 use crate::selector::{BoxedSelector, Selector};
 use fb_memory::Memory;
 use fb_numbers::{DOC, USER_ENTITIES};
@@ -66,6 +67,19 @@ impl PredTable {
     {
         is_selected(&self.filters[place].filter, d)
     }
+}
+
+/// What names select, as contracts speak of it.
+pub trait SelectsByName {
+    /// The filter that the name finds selects the datom.
+    ghost selects_by: { Self → List ℕ → TheDatom → Type 0 };
+}
+
+impl SelectsByName for PredTable {
+    ghost use Rattle.std.specs.Prelude.{true};
+    ghost use Rattle.fb_preds.specs.Table.{selected_by_name};
+
+    ghost selects_by = { λ table name d. selected_by_name (λ s. (Selector-box s).selects s.value) (λ kept e. (x : _) × (x.now ≡ e) × BoxedTest.post kept.answers x true) table.filters.items name d };
 }
 
 /// Whether the filter selects the datom.
