@@ -18,8 +18,6 @@ use Rattle.talk_model.specs.Replies.{tempid_pair, IsLineOf}
 use Rattle.talk_model.specs.Session.{Standing, moved}
 use Rattle.talk_model.specs.Talk.{IsAccepted, IsRefused, IsNotTaken, IsStopped, AnswersCommand}
 use Rattle.talk_model.proofs.PlainText.{text, is_plain, are_plain_pairs, line}
-use Rattle.fb_preds.specs.Table.{names_at}
-use Rattle.fb_preds.specs.declared.picks.Picks.{Picks}
 use Rattle.fb_desk.specs.Desks.{State, GoesOn, IsReceipt, IsRefusal, IsLogFault}
 use Rattle.fb_desk.specs.Desks as desk
 use Rattle.fb_desk.specs.declared.answers.Receipt.{Receipt}
@@ -60,7 +58,7 @@ not_true false never = refl
 some_none : (o : Option ℕ) (n : ℕ) → o ≡ Some n → o ≢ None
 some_none o n some none = let e : Some n ≡ None = sym some ∙ none in absurd (cc)
 
-module _ (f : Fixed) (was is : State) (before : Standing) (old : Session) (goes : GoesOn was is) (stands : StandsAt f.table old.view was before) where
+module _ {S : Type 0} (f : Fixed) (names : S → List (List ℕ)) (was is : State) (before : Standing) (old : Session S) (goes : GoesOn was is) (stands : StandsAt old.view names was before) where
   counted_was : length was.entries ≡ basis was.entries + 1
   counted_was = IsLawful-length was.entries stands.lawful
 
@@ -77,16 +75,15 @@ module _ (f : Fixed) (was is : State) (before : Standing) (old : Session) (goes 
       elim goes.stop [ inl untold ↦ stands.told told untold | inr same ↦ stands.told told (sym same.0 ∙ none) ]
 
   -- what is seen now, through the same window and filters
-  pub stands_behind : (new : Session) (after : Standing) → Sees old new is → after.place ≡ basis is.entries → after.window ≡ before.window → after.filters ≡ before.filters
-      → (after.told ≡ true → is.stop ≢ None) → StandsAt f.table new.view is after
+  pub stands_behind : (new : Session S) (after : Standing) → Sees old new is → after.place ≡ basis is.entries → after.window ≡ before.window → after.filters ≡ before.filters
+      → (after.told ≡ true → is.stop ≢ None) → StandsAt new.view names is after
   stands_behind new after sees place window filters told =
       record {
         lawful = goes.lawful stands.lawful;
         sees = sees.snapshot;
         place = place;
         window = window ∙ stands.window ∙ sym sees.window;
-        filters = filters ∙ stands.filters ∙ ap (λ (v : Picks). names_at v.table.now.filters.items v.places.items) (sym sees.filter);
-        of_table = ap (λ (v : Picks). v.table.now) sees.filter ∙ stands.of_table;
+        filters = filters ∙ stands.filters ∙ ap names (sym sees.filter);
         told = told;
       }
 
@@ -171,13 +168,13 @@ module _ (f : Fixed) (was is : State) (before : Standing) (old : Session) (goes 
 
   -- ---- the form that asked
 
-  module _ (form asked : Form) (asks : command_in form ≡ Some (transact asked)) (new : Session) where
+  module _ (form asked : Form) (asks : command_in form ≡ Some (transact asked)) (new : Session S) where
     as_form : (after : Standing) (bytes : List ℕ) (commit : Option ℕ) → AnswersCommand (over f is) before (Some (transact asked)) after bytes commit
         → AnswersCommand (over f is) before (command_in form) after bytes commit
     as_form after bytes commit a = let P : Option Command → Type 0 = λ c. AnswersCommand (over f is) before c after bytes commit in subst P (sym asks) a
 
     answered_receipt : (receipt : Receipt) (bytes : List ℕ) → Received f.may f.guard asked old new was is receipt → IsLineOf (reply.receipt receipt.t receipt.tempids.items) bytes
-        → Answered f form old new was is before bytes
+        → Answered f form old new names was is before bytes
     answered_receipt receipt bytes r says =
         record {
           after = moved before receipt.t;
@@ -187,7 +184,7 @@ module _ (f : Fixed) (was is : State) (before : Standing) (old : Session) (goes 
           keeps = r.keeps;
         }
 
-    answered_fault : (why : TxFault) → Denied f.may f.guard asked old new was is why → Answered f form old new was is before new.line.items
+    answered_fault : (why : TxFault) → Denied f.may f.guard asked old new was is why → Answered f form old new names was is before new.line.items
     answered_fault (Refused refusal snapshot) d =
         let after = moved before (basis is.entries) in
         record {
@@ -217,11 +214,11 @@ module _ (f : Fixed) (was is : State) (before : Standing) (old : Session) (goes 
         }
     answered_fault Memory d = absurd d.says
 
-    pub answered_transaction : Transacts f.may f.guard asked old new was is → Answered f form old new was is before new.line.items
+    pub answered_transaction : Transacts f.may f.guard asked old new was is → Answered f form old new names was is before new.line.items
     answered_transaction transacts =
         elim transacts [ inl r ↦ answered_receipt r.0 new.line.items r.1 r.2 | inr d ↦ answered_fault d.0 d.1 ]
 
-    pub unanswered_transaction : Stalls f.may f.guard asked old new was is → Unanswered f form old new was is before
+    pub unanswered_transaction : Stalls f.may f.guard asked old new was is → Unanswered f form old new names was is before
     unanswered_transaction stalls =
         elim stalls [
           | inl r ↦ (let l = receipt_has_a_line r.0.t r.0.tempids.items in inr (l.0, answered_receipt r.0 l.0 r.1 l.1))

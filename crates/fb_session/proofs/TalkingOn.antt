@@ -21,7 +21,6 @@ use Rattle.talk_model.specs.Prefixes.{SeesAll}
 use Rattle.talk_model.proofs.Longer.{Talk-longer}
 use Rattle.talk_model.proofs.OneMore.{Talk-push, Talk-lengths}
 use Rattle.talk_model.proofs.Places.{SeesAll-Talk, SeesAll-unfinished}
-use Rattle.fb_preds.specs.Table.{is_filter}
 use Rattle.fb_desk.specs.Desks.{State, GoesOn}
 use Rattle.fb_session.specs.declared.outcome.SessionEnd.{SessionEnd}
 use Rattle.fb_session.specs.declared.outcome.SessionEnd.TheVariants as ended
@@ -55,15 +54,15 @@ went_on-more start was is went goes =
       stop = stop_stays start was is went.stop goes.stop;
     }
 
-pub commits_on : (start was is : State) (old new : Session) (commit : Option ℕ) → was.commits ≡ start.commits ++ old.commits.items → Keeps old new was is commit → is.commits ≡ start.commits ++ new.commits.items
+pub commits_on : {S : Type 0} (start was is : State) (old new : Session S) (commit : Option ℕ) → was.commits ≡ start.commits ++ old.commits.items → Keeps old new was is commit → is.commits ≡ start.commits ++ new.commits.items
 commits_on start was is old new commit had keeps =
     keeps.desk ∙ ap (λ cs. cs ++ option_to_list commit) had ∙ append_assoc start.commits old.commits.items (option_to_list commit) ∙ ap (λ cs. start.commits ++ cs) (sym keeps.commits)
 
 -- ---- the talk so far
 
 -- nothing was answered yet
-pub talk-opened : (f : Fixed) (bytes : List ℕ) (session : Session) (start : State) (had : Option (List ℕ)) → IsOpened f.table session start → TalkSoFar f bytes 0 session start start had had
-talk-opened f bytes session start had opened =
+pub talk-opened : {S : Type 0} (f : Fixed) (names : S → List (List ℕ)) (bytes : List ℕ) (session : Session S) (start : State) (had : Option (List ℕ)) → IsOpened session names start → TalkSoFar f bytes 0 session names start start had had
+talk-opened f names bytes session start had opened =
     record {
       forms = [];
       lines = [];
@@ -79,10 +78,7 @@ talk-opened f bytes session start had opened =
       within = omega arith;
     }
 
-module _ (f : Fixed) (bytes : List ℕ) (start was : State) (old : Session) (had mid : Option (List ℕ)) (at : ℕ) (so_far : TalkSoFar f bytes at old start was had mid) where
-  opening : Standing
-  opening = opened_at (basis start.entries)
-
+module _ {S : Type 0} (f : Fixed) (names : S → List (List ℕ)) (bytes : List ℕ) (start was : State) (old : Session S) (had mid : Option (List ℕ)) (at : ℕ) (so_far : TalkSoFar f bytes at old names start was had mid) where
   -- there is one place for each form
   count-forms : length old.places.items ≡ length so_far.forms
   count-forms = (Talk-lengths (over f was) (opened_at (basis start.entries)) so_far.standing so_far.forms old.places.items old.commits.items so_far.lines so_far.talk).0
@@ -186,7 +182,7 @@ module _ (f : Fixed) (bytes : List ℕ) (start was : State) (old : Session) (had
 
   -- ---- the desk goes on, and one form more is answered
 
-  module _ (is : State) (new : Session) (goes : GoesOn was is) where
+  module _ (is : State) (new : Session S) (goes : GoesOn was is) where
     counted : length was.entries ≡ basis was.entries + 1
     counted = IsLawful-length was.entries so_far.stands.lawful
 
@@ -202,11 +198,11 @@ module _ (f : Fixed) (bytes : List ℕ) (start was : State) (old : Session) (had
 
     talk-now : Talk (over f is) (opened_at (basis start.entries)) so_far.forms old.places.items old.commits.items so_far.lines so_far.standing
     talk-now =
-        let P : List Entry → Type 0 = λ h. Talk (setting f.may f.Selects f.guard (is_filter f.table.filters.items) h is.stop is.teller) (opened_at (basis start.entries)) so_far.forms old.places.items old.commits.items so_far.lines so_far.standing in
+        let P : List Entry → Type 0 = λ h. Talk (setting f.may f.Selects f.guard f.is_filter h is.stop is.teller) (opened_at (basis start.entries)) so_far.forms old.places.items old.commits.items so_far.lines so_far.standing in
         subst P (sym goes.entries)
         (Talk-longer (over f was) goes.more is.stop is.teller counted grows goes.stop (opened_at (basis start.entries)) so_far.standing so_far.forms old.places.items old.commits.items so_far.lines so_far.from so_far.talk)
 
-    module _ (form : Form) (line : List ℕ) (answered : Answered f form old new was is so_far.standing line) where
+    module _ (form : Form) (line : List ℕ) (answered : Answered f form old new names was is so_far.standing line) where
       talk-one_more : Talk (over f is) (opened_at (basis start.entries)) (so_far.forms ++ form ∷ []) (old.places.items ++ answered.after.place ∷ []) new.commits.items (so_far.lines ++ line ∷ []) answered.after
       talk-one_more =
           rw answered.keeps.commits
@@ -218,7 +214,7 @@ module _ (f : Fixed) (bytes : List ℕ) (start was : State) (old : Session) (had
 
     module _ (next : ℕ) (form : Form) (ahead : at < next) (within : next ≤ length bytes) (room : length old.places.items < most_commands) (read : FormStands bytes at form next) (has : Option (List ℕ)) where
       -- one more form was answered
-      pub talk-replied : Replied f form old new was is so_far.standing mid has → TalkSoFar f bytes next new start is had has
+      pub talk-replied : Replied f form old new names was is so_far.standing mid has → TalkSoFar f bytes next new names start is had has
       talk-replied r =
           record {
             forms = so_far.forms ++ form ∷ [];
@@ -237,7 +233,7 @@ module _ (f : Fixed) (bytes : List ℕ) (start was : State) (old : Session) (had
           }
 
       -- the sink failed in the middle of a line
-      talk-breaks_off : RepliedPart f form old new was is so_far.standing mid has → Talks f bytes start is new.places.items new.commits.items had has ended.WriteFault
+      talk-breaks_off : RepliedPart f form old new names was is so_far.standing mid has → Talks f bytes start is new.places.items new.commits.items had has ended.WriteFault
       talk-breaks_off r =
           record {
             written = concat so_far.lines ++ r.written.out;
@@ -292,7 +288,7 @@ module _ (f : Fixed) (bytes : List ℕ) (start was : State) (old : Session) (had
           }
 
       -- it was refused to the line of the form behind
-      talk-unwritten : (line : List ℕ) → Answered f form old new was is so_far.standing line → new.places.items ≡ old.places.items → has ≡ mid
+      talk-unwritten : (line : List ℕ) → Answered f form old new names was is so_far.standing line → new.places.items ≡ old.places.items → has ≡ mid
           → Talks f bytes start is new.places.items new.commits.items had has ended.Memory
       talk-unwritten line answered places written =
           record {
@@ -319,7 +315,7 @@ module _ (f : Fixed) (bytes : List ℕ) (start was : State) (old : Session) (had
           }
 
       -- the form behind was not answered
-      pub talk-stops : (stop : Stop) → StopsAt f form old new was is so_far.standing mid has stop → Talks f bytes start is new.places.items new.commits.items had has (end_of stop)
+      pub talk-stops : (stop : Stop) → StopsAt f form old new names was is so_far.standing mid has stop → Talks f bytes start is new.places.items new.commits.items had has (end_of stop)
       talk-stops WriteFault stopped = talk-breaks_off stopped
       talk-stops Memory stopped =
           elim stopped.unanswered [
