@@ -68,7 +68,7 @@ pub record IsReceipt (may : ℤ → Type 0) (guard : Guard) (asked : Form) (old 
 pub record IsNotAccepted (old new : State) (snapshot : Kept) : Type 0 where
   pub commits : new.commits ≡ old.commits
   pub tally : new.tally ≡ not_accepted old.tally
-  pub snapshot : snapshot.entries ≡ new.entries
+  pub snapshot_is : snapshot.entries ≡ new.entries
 
 -- it is refused at the history that is seen now, whatever the clock reads
 pub record IsRefusal (guard : Guard) (asked : Form) (old new : State) (refusal : Refusal) (snapshot : Kept) : Type 0 where

@@ -294,20 +294,23 @@ module _ {S : Type 0} (f : Fixed) (names : S → List (List ℕ)) (bytes : List 
           record {
             written = concat so_far.lines;
             gained = written ∙ so_far.written;
-            answers = inr (line, record {
-              forms = so_far.forms;
-              lines = so_far.lines;
-              next = form;
-              place = answered.after.place;
-              after = answered.after;
-              read = record {
-                end = next;
-                forms = FormsBetween-push bytes 0 so_far.forms at form next so_far.read read;
-                few = one_more form room;
-              };
-              talk = rw places (talk-one_more form line answered);
-              whole_lines = sym (append-nil (concat so_far.lines));
-            });
+            answers = inr (
+              line,
+              record {
+                forms = so_far.forms;
+                lines = so_far.lines;
+                next = form;
+                place = answered.after.place;
+                after = answered.after;
+                read = record {
+                  end = next;
+                  forms = FormsBetween-push bytes 0 so_far.forms at form next so_far.read read;
+                  few = one_more form room;
+                };
+                talk = rw places (talk-one_more form line answered);
+                whole_lines = sym (append-nil (concat so_far.lines));
+              },
+            );
             prefixes = rw places (sees-unfinished form line answered);
             commits_are = commits_on start was is old new answered.commit so_far.commits answered.keeps;
             went_on = went_on-more start was is so_far.went_on goes;

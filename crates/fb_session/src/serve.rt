@@ -85,7 +85,16 @@ pub fn serve_desk<
     ensures sink_count { SinkCount result.end (O.faults sink.old) (O.faults sink.new) }
 {
     match read_script(alloc, source) {
-        Ok(script) => serve_script(rt, alloc, script.as_slice(), sink, desk, clock, guard, preds),
+        Ok(script) => serve_script(
+            rt,
+            alloc,
+            script.as_slice(),
+            sink,
+            desk,
+            clock,
+            guard,
+            preds,
+        ),
         Err(ReadStop::TooLong) => Served::nothing(alloc, SessionEnd::TooLong),
         Err(ReadStop::Fault) => Served::nothing(alloc, SessionEnd::ReadFault),
         Err(ReadStop::Memory) => Served::nothing(alloc, SessionEnd::Memory),

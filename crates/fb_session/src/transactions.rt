@@ -70,12 +70,7 @@ impl<S: Selector> Session<S> {
     {
         self.see(snapshot);
         let basis = self.place();
-        write_refusal(
-            &mut self.line,
-            refusal.reason.keyword(),
-            refusal.at,
-            basis,
-        )
+        write_refusal(&mut self.line, refusal.reason.keyword(), refusal.at, basis)
     }
 
     fn fail(&mut self, fault: LogFault, at: u32, snapshot: Snapshot) -> Result<(), Memory>
