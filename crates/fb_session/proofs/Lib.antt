@@ -1,5 +1,6 @@
 pub mod KnownBytes
 pub mod Results
+pub mod Seeing
 pub mod Deciding
 pub mod Looking
 pub mod TalkingOn

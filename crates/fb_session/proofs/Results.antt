@@ -15,3 +15,7 @@ fact_at_ok (Err e) P is fact = absurd (true≢false (sym is))
 pub pushed : {E : Type 0} (r : Result (Unit {0}) E) (new old : List ℕ) (x : ℕ) → false ≡ is_err r → new ≡ (if is_ok r then old ++ x ∷ [] else old) → new ≡ old ++ x ∷ []
 pushed (Ok u) new old x no_err is = is
 pushed (Err e) new old x no_err is = absurd (true≢false (sym no_err))
+
+pub at_err : {T E : Type 0} (r : Result T E) (P : Type 0) → P → OnErr r P
+at_err (Ok x) P fact = tt
+at_err (Err e) P fact = fact

@@ -3,7 +3,7 @@ use Rattle.fb_values.specs.declared.facts.Datom.{Datom}
 use Rattle.script_model.specs.Script.{most_commands}
 use Rattle.fb_preds.specs.Table.{is_filter, names_at, selected_by_name}
 use Rattle.fb_session.specs.Sessions.{fixed, TalkSoFar}
-use Rattle.fb_session.proofs.serve.Session.answer_all.Given as goal
+use Rattle.fb_session.proofs.serve.Session+Picks.answer_all.Given as goal
 
 -- the talk over the forms so far
 abbrev pub invariant-forms : goal.invariant-forms
