@@ -1,14 +1,15 @@
--- Places at which their names stand last: what they find, and what they select together.
-use Rattle.std.proofs.Common.{◌≡◌, ℕ, suc, zero, ◌+◌, ◌<◌, Bool, true, false, List, [], ◌∷◌, ◌++◌, length, bytes_eq, cond, get_or, Option, Some, None, refl, sym, ◌∙◌, ap, subst, arith, add-one}
-use Rattle.std.specs.Prelude.{MatchOption}
+-- Places that their names find: what a name finds, and what filters select together.
+use Rattle.std.proofs.Common.{◌≡◌, ℕ, suc, zero, ◌+◌, ◌<◌, Bool, true, false, List, [], ◌∷◌, ◌++◌, length, bytes_eq, cond, get_or, map, Option, Some, None, refl, sym, ◌∙◌, ap, subst, arith, add-one}
+use Rattle.std.specs.Prelude.{MatchOption, IfSome, ◌↔◌}
 use Rattle.std.specs.Option.{option_map_or}
 use Rattle.std.proofs.lemmas.Slice.Eq.{bytes_eq-Decides}
 use Rattle.fb_values.specs.declared.facts.Datom.{Datom}
 use Rattle.fb_preds.specs.declared.filters.NamedFilter.{NamedFilter}
+use Rattle.fb_preds.specs.Naming.{IsFound, AreFound, selected_by}
 use Rattle.fb_preds.specs.Selecting.{SelectedByAll}
-use Rattle.fb_preds.specs.Table.{last_place, name_at, names_at, IsLast, AreLast, selected_at, selected_by_name}
+use Rattle.fb_preds.specs.Table.{last_place, name_at}
 
--- ---- what a name finds
+-- ---- what a name finds in a table
 
 first_name : {S K : Type 0} (name : List ℕ) (y : NamedFilter S K) (xs : List (NamedFilter S K)) (b : Bool) (p : ℕ) → bytes_eq y.name name ≡ b → cond b (Some 0) None ≡ Some p
     → (name_at (y ∷ xs) p ≡ name) × (p < length (y ∷ xs))
@@ -31,26 +32,24 @@ pub last_place-name : {S K : Type 0} (name : List ℕ) (xs : List (NamedFilter S
 last_place-name name [] p e = absurd (cc)
 last_place-name name (y ∷ xs) p e = later_name name y xs (last_place name xs) p (last_place-name name xs) e
 
-pub found_is_last : {S K : Type 0} (name : List ℕ) (xs : List (NamedFilter S K)) (p : ℕ) → last_place name xs ≡ Some p → IsLast xs p
-found_is_last name xs p e = ap (λ n. last_place n xs) (last_place-name name xs p e).0 ∙ e
+pub found_named : {S K : Type 0} (name : List ℕ) (xs : List (NamedFilter S K)) (o : Option ℕ) → o ≡ last_place name xs → IfSome o (λ place. name_at xs place ≡ name)
+found_named name xs None is = tt
+found_named name xs (Some p) is = (last_place-name name xs p (sym is)).0
 
 -- ---- several places
 
-pub AreLast-push : {S K : Type 0} (xs : List (NamedFilter S K)) (places : List ℕ) (p : ℕ) → AreLast xs places → IsLast xs p → AreLast xs (places ++ p ∷ [])
-AreLast-push xs [] p are is = (is, tt)
-AreLast-push xs (q ∷ places) p are is = (are.0, AreLast-push xs places p are.1 is)
+pub AreFound-at : (place_of : List ℕ → Option ℕ) (name_at : ℕ → List ℕ) (places : List ℕ) (k d : ℕ) → AreFound place_of name_at places → k < length places → IsFound place_of name_at (get_or places k d)
+AreFound-at place_of name_at [] k d are below = absurd (omega arith)
+AreFound-at place_of name_at (p ∷ places) zero d are below = are.0
+AreFound-at place_of name_at (p ∷ places) (suc k) d are below = AreFound-at place_of name_at places k d are.1 (omega arith)
 
-pub AreLast-at : {S K : Type 0} (xs : List (NamedFilter S K)) (places : List ℕ) (k d : ℕ) → AreLast xs places → k < length places → get_or places k d < length xs
-AreLast-at xs [] k d are below = absurd (omega arith)
-AreLast-at xs (p ∷ places) zero d are below = (last_place-name (name_at xs p) xs p are.0).1
-AreLast-at xs (p ∷ places) (suc k) d are below = AreLast-at xs places k d are.1 (omega arith)
+-- what the filters at the places select is what those that their names find select
+same_selected : (place_of : List ℕ → Option ℕ) (name_at : ℕ → List ℕ) (selects_at : ℕ → Datom → Type 0) (places : List ℕ) (d : Datom) → AreFound place_of name_at places
+    → SelectedByAll selects_at places d ≡ SelectedByAll (selected_by place_of selects_at) (map name_at places) d
+same_selected place_of name_at selects_at [] d are = refl
+same_selected place_of name_at selects_at (p ∷ places) d are =
+    λ i. MatchOption (sym are.0 i) ⊥ (λ place. selects_at place d) × same_selected place_of name_at selects_at places d are.1 i
 
--- what they select is what their names select
-pub selected_by_names : {S K : Type 0} (stored : S → Datom → Type 0) (kept : K → Datom → Type 0) (xs : List (NamedFilter S K)) (places : List ℕ) → AreLast xs places
-    → SelectedByAll (selected_at stored kept xs) places ≡ SelectedByAll (selected_by_name stored kept xs) (names_at xs places)
-selected_by_names stored kept xs places are = λ i d. same places are d i
-  where
-    same : (places : List ℕ) → AreLast xs places → (d : Datom)
-        → SelectedByAll (selected_at stored kept xs) places d ≡ SelectedByAll (selected_by_name stored kept xs) (names_at xs places) d
-    same [] are d = refl
-    same (p ∷ places) are d = λ i. MatchOption (sym are.0 i) ⊥ (λ place. selected_at stored kept xs place d) × same places are.1 d i
+pub selected_by_names : (place_of : List ℕ → Option ℕ) (name_at : ℕ → List ℕ) (selects_at : ℕ → Datom → Type 0) (places : List ℕ) (d : Datom) (P : Type 0) → AreFound place_of name_at places
+    → P ↔ SelectedByAll selects_at places d → P ↔ SelectedByAll (selected_by place_of selects_at) (map name_at places) d
+selected_by_names place_of name_at selects_at places d P are same = subst (λ (Q : Type 0). P ↔ Q) (same_selected place_of name_at selects_at places d are) same

@@ -1,8 +1,6 @@
 -- Filters by name: which filter a name finds, and which datoms it selects.
 -- Datomic, Database Filters (d/filter). Which filters a table begins with is this project's own choice.
-use Rattle.std.specs.Prelude.{◌≡◌, ℕ, ◌+◌, negsuc, Bool, true, false, not, List, [], ◌∷◌, map, nat_eq, nat_lt, bytes_eq, cond, slice_get, Option, Some, None, is_some, IsTrue, MatchOption, codes}
-use Rattle.std.specs.List.{AllByRecursion, AllByRecursion-prop}
-use Rattle.std.proofs.Props.{props}
+use Rattle.std.specs.Prelude.{ℕ, ◌+◌, negsuc, Bool, true, false, not, List, [], ◌∷◌, nat_eq, nat_lt, bytes_eq, cond, slice_get, Option, Some, None, IsTrue, MatchOption, codes}
 use Rattle.std.specs.Option.{option_map_or}
 use Rattle.fb_values.specs.declared.facts.Datom.{Datom}
 use Rattle.fb_values.specs.declared.facts.Value.{Value}
@@ -18,29 +16,9 @@ last_place name [] = None
 last_place name (named ∷ rest) =
     option_map_or (λ place. Some (place + 1)) (last_place name rest) (cond (bytes_eq named.name name) (Some 0) None)
 
--- a filter has the name
-abbrev pub is_filter : {S K : Type 0} → List (NamedFilter S K) → List ℕ → Bool
-is_filter filters name = is_some (last_place name filters)
-
--- the name at a place, and those at several places
+-- the name at a place
 abbrev pub name_at : {S K : Type 0} → List (NamedFilter S K) → ℕ → List ℕ
 name_at filters place = option_map_or (λ named. named.name) (slice_get filters place) []
-
-abbrev pub names_at : {S K : Type 0} → List (NamedFilter S K) → List ℕ → List (List ℕ)
-names_at filters places = map (name_at filters) places
-
--- the place is where its own name stands last
-abbrev pub IsLast : {S K : Type 0} → List (NamedFilter S K) → ℕ → Type 0
-IsLast filters place = last_place (name_at filters place) filters ≡ Some place
-
-abbrev pub AreLast : {S K : Type 0} → List (NamedFilter S K) → List ℕ → Type 0
-AreLast filters places = AllByRecursion (IsLast filters) places
-
-pub IsLast-prop : {S K : Type 0} (filters : List (NamedFilter S K)) (place : ℕ) → IsProp (IsLast filters place)
-IsLast-prop filters place = hlevel props
-
-pub AreLast-prop : {S K : Type 0} (filters : List (NamedFilter S K)) (places : List ℕ) → IsProp (AreLast filters places)
-AreLast-prop filters places = AllByRecursion-prop (IsLast filters) (IsLast-prop filters) places
 
 -- a long below zero
 abbrev pub is_negative : Value → Bool
@@ -58,10 +36,6 @@ Selects stored kept (Closure k) d = kept k d
 -- the filter at the place selects the datom
 abbrev pub selected_at : {S K : Type 0} → (S → Datom → Type 0) → (K → Datom → Type 0) → List (NamedFilter S K) → ℕ → Datom → Type 0
 selected_at stored kept filters place d = MatchOption (slice_get filters place) ⊥ (λ named. Selects stored kept named.filter d)
-
--- the filter that the name finds selects the datom
-abbrev pub selected_by_name : {S K : Type 0} → (S → Datom → Type 0) → (K → Datom → Type 0) → List (NamedFilter S K) → List ℕ → Datom → Type 0
-selected_by_name stored kept filters name d = MatchOption (last_place name filters) ⊥ (λ place. selected_at stored kept filters place d)
 
 -- the filters that a table begins with
 abbrev pub shipped_filters : {S K : Type 0} → List (NamedFilter S K)

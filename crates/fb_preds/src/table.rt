@@ -1,8 +1,8 @@
 //! Filters by name.
-ghost use Rattle.std.specs.Prelude.{◌≡◌, ℕ, ◌<◌, ◌↔◌, List, [], ◌∷◌, ◌++◌, length, IsTrue, IfSome, IfOk, IfErr};
-ghost use Rattle.fb_values.specs.declared.facts.Datom.{Datom as TheDatom};
+ghost use Rattle.std.specs.Prelude.{◌≡◌, ◌<◌, ◌↔◌, [], ◌∷◌, ◌++◌, length, IsTrue, IfSome, IfOk, IfErr};
 ghost use Rattle.fb_preds.specs.Table.{last_place, Selects, selected_at, shipped_filters};
 
+use crate::filter_table::FilterTable;
 use crate::filters::{Filter, NamedFilter};
 use crate::finding::{is_negative, last_named};
 use crate::kept::{BoxedTest, Kept};
@@ -69,17 +69,23 @@ impl PredTable {
     }
 }
 
-/// What names select, as contracts speak of it.
-pub trait SelectsByName {
-    /// The filter that the name finds selects the datom.
-    ghost selects_by: { Self → List ℕ → TheDatom → Type 0 };
-}
-
-impl SelectsByName for PredTable {
+impl FilterTable for PredTable {
     ghost use Rattle.std.specs.Prelude.{true};
-    ghost use Rattle.fb_preds.specs.Table.{selected_by_name};
+    ghost use Rattle.fb_preds.specs.Table.{name_at};
 
-    ghost selects_by = { λ table name d. selected_by_name (λ s. (Selector-box s).selects s.value) (λ kept e. (x : _) × (x.now ≡ e) × BoxedTest.post kept.answers x true) table.filters.items name d };
+    ghost place_of = { λ table name. last_place name table.filters.items };
+
+    ghost name_at = { λ table place. name_at table.filters.items place };
+
+    ghost selects_at = { λ table place d. selected_at (λ s. (Selector-box s).selects s.value) (λ kept e. (x : _) × (x.now ≡ e) × BoxedTest.post kept.answers x true) table.filters.items place d };
+
+    fn place(&self, name: &Text) -> Option<usize> {
+        self.find(name)
+    }
+
+    fn select(&self, place: usize, d: &Datom) -> bool {
+        self.test(place, d)
+    }
 }
 
 /// Whether the filter selects the datom.

@@ -103,10 +103,10 @@ fn a_type_of_a_caller_is_stored(rt: HostRuntime) -> Result<(), Fail> {
     Ok(())
 }
 
-fn pick<'p>(picks: &mut Picks<'p>, alloc: Global, name: &str) -> Result<(), Memory> {
+fn pick(picks: &mut Picks<'_, PredTable>, alloc: Global, name: &str) -> Result<(), Memory> {
     let name = Text::of(alloc, name)?;
-    match Pick::named(picks.table, &name) {
-        Some(found) => picks.add(found),
+    match picks.table.place(&name) {
+        Some(place) => picks.add(place),
         None => Ok(()),
     }
 }

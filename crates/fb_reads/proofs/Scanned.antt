@@ -1,6 +1,8 @@
 -- What was read, and what was found or refused of it, as replies.
-use Rattle.std.proofs.Common.{◌≡◌, ℕ, List, length, Result, Ok, Err, refl, sym, subst}
-use Rattle.std.specs.Prelude.{MatchBool}
+use Rattle.std.proofs.Common.{◌≡◌, ℕ, Bool, true, false, cond, List, [], ◌∷◌, Result, Ok, Err, refl, sym, subst}
+use Rattle.std.specs.Prelude.{filter}
+use Rattle.std.specs.List.{list_all}
+use Rattle.std.proofs.lemmas.Bool.{and_parts, and_from}
 use Rattle.edn_model.specs.Form.{Form}
 use Rattle.fb_values.specs.declared.facts.Datom.{Datom}
 use Rattle.fb_values.specs.declared.facts.Entry.{Entry}
@@ -30,6 +32,18 @@ done basis answer end line is says = subst (λ (answer : Result ℕ Refusal). Sa
 pub refuses : {X : Type 0} (basis : ℕ) (IsReplyTo : X → Form → Type 0) (answer : Result X Refusal) (r : Refusal) (line : List ℕ) → answer ≡ Err r → IsLineOf (refused basis r) line
     → Says (Shows basis IsReplyTo answer) line
 refuses {X} basis IsReplyTo answer r line is says = subst (λ (answer : Result X Refusal). Says (Shows basis IsReplyTo answer) line) (sym is) (refused basis r, refl, says)
+
+-- what holds of each holds of some of them
+pub all_kept : {X : Type 0} (p q : X → Bool) (xs : List X) → list_all p xs ≡ true → list_all p (filter q xs) ≡ true
+all_kept p q [] every = refl
+all_kept {X} p q (x ∷ xs) every = by_test (q x)
+  where
+    parts : (p x ≡ true) × (list_all p xs ≡ true)
+    parts = and_parts (p x) (list_all p xs) every
+
+    by_test : (b : Bool) → list_all p (cond b (x ∷ filter q xs) (filter q xs)) ≡ true
+    by_test true = and_from _ _ parts.0 (all_kept p q xs parts.1)
+    by_test false = all_kept p q xs parts.1
 
 -- ---- scans
 

@@ -1,8 +1,8 @@
 //! Each command goes to what answers it.
-ghost use Rattle.std.specs.Prelude.{◌≡◌, ℕ, Bool, IsTrue, OnOk, OnErr};
+ghost use Rattle.std.specs.Prelude.{◌≡◌, ℕ, Bool, IsTrue, OnOk, OnErr, is_some, map};
 ghost use Rattle.std.specs.Option.{option_map};
 ghost use Rattle.fb_model.specs.History.{basis};
-ghost use Rattle.fb_preds.specs.Table.{is_filter, names_at};
+ghost use Rattle.fb_preds.specs.Naming.{selected_by};
 ghost use Rattle.fb_db.specs.Seen.{window_of};
 ghost use Rattle.talk_model.specs.Commands.{is_read};
 ghost use Rattle.talk_model.specs.Reads.{IsReply, behind};
@@ -16,26 +16,25 @@ use crate::views::{add_filter, see_as_of, see_history, see_since, see_whole};
 use fb_commands::Command;
 use fb_db::Db;
 use fb_memory::Memory;
-use fb_preds::{Picks, PredTable, SelectsByName};
+use fb_preds::{FilterTable, Picks};
 use fb_replies::write_done;
 use std::alloc::Global;
 
 /// Answers a command that records nothing, or what is none, of what its session has seen: its line takes the place of what the
 /// buffer held, and the view changes as the command says. Where memory runs out the view stays, and nothing is promised of
 /// the buffer.
-pub fn answer_read(
+pub fn answer_read<T: FilterTable>(
     alloc: Global,
-    view: &mut Db<Picks<'_>>,
+    view: &mut Db<Picks<'_, T>>,
     command: Option<Command<'_>>,
     line: &mut Vec<u8>,
 ) -> Result<(), Memory>
     requires { IsTrue (is_read (option_map (λ asks. asked asks) command)) }
-    ensures line { OnOk result (Says (IsReply view.old.snapshot.entries (basis view.old.snapshot.entries) (is_filter view.old.filter.table.now.filters.items) (window_of view.old)
-        (SelectedBy (⟦<PredTable as SelectsByName>⟧.selects_by view.old.filter.table.now) (names_at view.old.filter.table.now.filters.items view.old.filter.places.items))
+    ensures line { let table = view.old.filter.table.now in OnOk result (Says (IsReply view.old.snapshot.entries (basis view.old.snapshot.entries)
+        (λ name. is_some (T.place_of table name)) (window_of view.old) (SelectedBy (selected_by (T.place_of table) (T.selects_at table)) (map (T.name_at table) view.old.filter.places.items))
         (option_map (λ asks. asked asks) command.entry)) line.new.items) }
-    ensures stands { OnOk result ((place : ℕ) (told : Bool) → standing_at place told (window_of view.new) (names_at view.new.filter.table.now.filters.items view.new.filter.places.items)
-        ≡ behind view.old.snapshot.entries (is_filter view.old.filter.table.now.filters.items)
-        (standing_at place told (window_of view.old) (names_at view.old.filter.table.now.filters.items view.old.filter.places.items)) (option_map (λ asks. asked asks) command.entry)) }
+    ensures stands { let table = view.old.filter.table.now in OnOk result ((place : ℕ) (told : Bool) → standing_at place told (window_of view.new) (map (T.name_at table) view.new.filter.places.items)
+        ≡ behind view.old.snapshot.entries (λ name. is_some (T.place_of table name)) (standing_at place told (window_of view.old) (map (T.name_at table) view.old.filter.places.items)) (option_map (λ asks. asked asks) command.entry)) }
     ensures unchanged { OnErr result ((window_of view.new ≡ window_of view.old) × (view.new.filter.places.items ≡ view.old.filter.places.items)) }
     ensures snapshot { view.new.snapshot ≡ view.old.snapshot }
     ensures table { view.new.filter.table ≡ view.old.filter.table }

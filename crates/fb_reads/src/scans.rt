@@ -133,10 +133,9 @@ fn write_log(
 }
 
 /// References to the entries.
-fn lent<'a>(alloc: Global, txs: Txs<'a>) -> Result<Vec<&'a Entry>, Memory>
-    ensures { IfOk result (λ entries. map (λ entry. entry.now) entries.items ≡ txs) }
+fn lent<'a>(alloc: Global, mut txs: Txs<'a>) -> Result<Vec<&'a Entry>, Memory>
+    ensures { IfOk result (λ entries. map (λ entry. entry.now) entries.items ≡ txs.entry) }
 {
-    let mut txs = txs;
     let mut entries = Vec::new(alloc);
     while let Some(entry) = txs.next() {
         entries.push(entry)?;

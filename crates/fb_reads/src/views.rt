@@ -1,9 +1,8 @@
 //! The commands that change what the reads behind them see. The line is written first, so that a view changes only where all
 //! went well.
-ghost use Rattle.std.specs.Prelude.{◌≡◌, ◌∷◌, ◌++◌, [], OnOk, OnErr, cond};
+ghost use Rattle.std.specs.Prelude.{◌≡◌, ◌∷◌, ◌++◌, [], OnOk, OnErr, cond, is_some, map};
 ghost use Rattle.edn_form.specs.View.{form_of};
 ghost use Rattle.fb_model.specs.History.{basis};
-ghost use Rattle.fb_preds.specs.Table.{is_filter, names_at};
 ghost use Rattle.view_model.specs.Window as window;
 ghost use Rattle.fb_db.specs.Seen.{window_of};
 ghost use Rattle.read_model.specs.Points.{point_in};
@@ -16,7 +15,7 @@ use edn_form::Edn;
 use fb_db::Db;
 use fb_memory::Memory;
 use fb_names::point;
-use fb_preds::{Pick, Picks, Selector};
+use fb_preds::{FilterTable, Picks, Selector};
 use fb_replies::write_done;
 use fb_values::Text;
 use read_refusals::{Reason, Refusal};
@@ -81,21 +80,26 @@ pub fn see_history<S: Selector>(view: &mut Db<S>, line: &mut Vec<u8>) -> Result<
 }
 
 /// `[:filter :name]`
-pub fn add_filter(view: &mut Db<Picks<'_>>, name: &Text, line: &mut Vec<u8>) -> Result<(), Memory>
-    ensures line { OnOk result (IsLineOf (cond (is_filter view.old.filter.table.now.filters.items name.now) (done_reply (basis view.old.snapshot.entries)) (refused (basis view.old.snapshot.entries) model_no_filter)) line.new.items) }
-    ensures names { OnOk result (names_at view.old.filter.table.now.filters.items view.new.filter.places.items
-        ≡ cond (is_filter view.old.filter.table.now.filters.items name.now) (names_at view.old.filter.table.now.filters.items view.old.filter.places.items ++ name.now ∷ []) (names_at view.old.filter.table.now.filters.items view.old.filter.places.items)) }
+pub fn add_filter<T: FilterTable>(
+    view: &mut Db<Picks<'_, T>>,
+    name: &Text,
+    line: &mut Vec<u8>,
+) -> Result<(), Memory>
+    ensures line { let basis = basis view.old.snapshot.entries in
+        OnOk result (IsLineOf (cond (is_some (T.place_of view.old.filter.table.now name.now)) (done_reply basis) (refused basis model_no_filter)) line.new.items) }
+    ensures names { let names = map (T.name_at view.old.filter.table.now) view.old.filter.places.items in
+        OnOk result (map (T.name_at view.old.filter.table.now) view.new.filter.places.items ≡ cond (is_some (T.place_of view.old.filter.table.now name.now)) (names ++ name.now ∷ []) names) }
     ensures unchanged { OnErr result (view.new.filter.places.items ≡ view.old.filter.places.items) }
     ensures window { window_of view.new ≡ window_of view.old }
     ensures snapshot { view.new.snapshot ≡ view.old.snapshot }
     ensures table { view.new.filter.table ≡ view.old.filter.table }
 {
     let basis = view.snapshot.basis();
-    let Some(pick) = Pick::named(view.filter.table, name) else {
+    let Some(place) = view.filter.table.place(name) else {
         return refuse(line, no_filter(), basis);
     };
     write_done(line, basis)?;
-    view.filter.add(pick)
+    view.filter.add(place)
 }
 
 fn no_filter() -> Refusal
@@ -108,7 +112,10 @@ fn no_filter() -> Refusal
 }
 
 /// `[:unfilter]`
-pub fn see_whole(view: &mut Db<Picks<'_>>, line: &mut Vec<u8>) -> Result<(), Memory>
+pub fn see_whole<T: FilterTable>(
+    view: &mut Db<Picks<'_, T>>,
+    line: &mut Vec<u8>,
+) -> Result<(), Memory>
     ensures line { OnOk result (IsLineOf (done_reply (basis view.old.snapshot.entries)) line.new.items) }
     ensures window { OnOk result (window_of view.new ≡ window.whole) }
     ensures places { OnOk result (view.new.filter.places.items ≡ []) }

@@ -1,12 +1,8 @@
-use Rattle.std.proofs.Common.{◌<◌, List, ℕ, length, arith, subst, sym}
-use Rattle.std.specs.Prelude.{slice_index_or}
-use Rattle.fb_preds.proofs.Naming.{AreLast-at}
+use Rattle.fb_preds.proofs.Naming.{selected_by_names}
 use Rattle.fb_preds.proofs.picks.PicksSelector.test.Goals as goal
 
-pub test-requires : goal.test-requires
-test-requires g c =
-    let filters = c.args.self.now.table.now.filters.items in
-    let k = c.loop-place.place-index in
-    let places = c.deref-place-items.ensures.value in
-    subst (λ (places : List ℕ). slice_index_or places k 0 < length filters) (sym places)
-    (AreLast-at filters c.args.self.now.places.items k 0 c.args.self.now.are_last (subst (λ (places : List ℕ). k < length places) places (omega arith)))
+pub returns : goal.returns
+returns g c =
+    let picks = c.args.self.now in
+    let table = picks.table.now in
+    selected_by_names (g.T.FilterTable.place_of table) (g.T.FilterTable.name_at table) (g.T.FilterTable.selects_at table) picks.places.items c.args.d.now _ picks.are_found c.all_select.ensures
