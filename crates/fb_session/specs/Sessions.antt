@@ -1,6 +1,6 @@
 -- What a session keeps while it answers forms: what its reads see, and what it answered so far.
 -- This project's own choice.
-use Rattle.std.specs.Prelude.{◌≡◌, ◌≢◌, ℕ, ◌+◌, ℤ, ◌<◌, ◌≤◌, ◌⊎◌, Bool, true, List, [], ◌∷◌, ◌++◌, Option, Some, None, option_to_list, length, codes}
+use Rattle.std.specs.Prelude.{◌≡◌, ◌≢◌, ℕ, ◌+◌, ℤ, ◌<◌, ◌≤◌, ◌⊎◌, Bool, true, List, [], ◌∷◌, ◌++◌, Option, Some, None, is_some, option_to_list, length, codes}
 use Rattle.std.specs.List.{concat}
 use Rattle.std.specs.Io.KnownBytes.{append_known}
 use Rattle.edn_model.specs.Form.{Form}
@@ -23,6 +23,7 @@ use Rattle.talk_model.specs.Session.{Setting, Standing, setting, opened_at, Sele
 use Rattle.talk_model.specs.Talk.{IsAnswered, Talk}
 use Rattle.talk_model.specs.Prefixes.{SeesAll}
 use Rattle.fb_ports.specs.Faults.{Rose}
+use Rattle.fb_preds.specs.Naming.{selected_by}
 use Rattle.fb_db.specs.Seen.{window_of}
 use Rattle.fb_db.specs.declared.db.Db.{Db}
 use Rattle.fb_reads.specs.Answers.{Says, standing_at}
@@ -47,8 +48,10 @@ pub record Fixed : Type 1 where
   pub is_filter : List ℕ → Bool
   pub Selects : List ℕ → Datom → Type 0
 
-abbrev pub fixed : (ℤ → Type 0) → Guard → (List ℕ → Bool) → (List ℕ → Datom → Type 0) → Fixed
-fixed may guard is_filter Selects = record { may = may; guard = guard; is_filter = is_filter; Selects = Selects }
+-- where a name finds the filter at a place of a table, if it finds one, and this is what the filter at a place selects
+abbrev pub fixed : (ℤ → Type 0) → Guard → (List ℕ → Option ℕ) → (ℕ → Datom → Type 0) → Fixed
+fixed may guard place_of SelectsAt =
+    record { may = may; guard = guard; is_filter = λ name. is_some (place_of name); Selects = selected_by place_of SelectsAt }
 
 -- with what its desk was answered by now
 abbrev pub over : Fixed → State → Setting

@@ -1,12 +1,12 @@
 //! Which command a form is, and its line.
-ghost use Rattle.std.specs.Prelude.{◌≡◌, ◌<◌, IsTrue, OnOk, OnErr, vec_len, vec_capacity, Some, None};
+ghost use Rattle.std.specs.Prelude.{◌≡◌, ◌<◌, IsTrue, OnOk, OnErr, vec_len, vec_capacity, is_some, map, None};
 ghost use Rattle.std.specs.Option.{option_map};
 ghost use Rattle.edn_form.specs.View.{form_of};
 ghost use Rattle.fb_model.specs.History.{basis};
 ghost use Rattle.talk_model.specs.Commands.{is_read};
 ghost use Rattle.talk_model.specs.Session.{Standing};
 ghost use Rattle.talk_model.specs.Replies.{basis_reply, IsLineOf};
-ghost use Rattle.fb_preds.specs.Table.{is_filter, names_at};
+ghost use Rattle.fb_preds.specs.Naming.{selected_by};
 ghost use Rattle.fb_commands.specs.Asked.{asked};
 ghost use Rattle.fb_desk.specs.Desks.{GoesOn};
 ghost use Rattle.fb_session.specs.Sessions.{fixed, StandsAt, Sees, Shows, Keeps, Reads, Answered, Unanswered};
@@ -17,7 +17,7 @@ use fb_commands::{Command, command_in};
 use fb_desk::{Desk, Glance};
 use fb_memory::Memory;
 use fb_ports::Clock;
-use fb_preds::{Picks, PredTable, Selector, SelectsByName};
+use fb_preds::{FilterTable, Picks, Selector};
 use fb_reads::answer_read;
 use fb_replies::write_basis;
 use fb_view::Snapshot;
@@ -26,7 +26,7 @@ use std::sync::Wait;
 use std::thread::Threads;
 use tx_step::Guard;
 
-impl Session<Picks<'_>> {
+impl<P: FilterTable> Session<Picks<'_, P>> {
     /// Does what the form asks and builds its line.
     pub(crate) fn reply<R: Threads + Wait + Sync, T: Desk, K: Clock, G: Guard<Snapshot>>(
         &mut self,
@@ -40,10 +40,10 @@ impl Session<Picks<'_>> {
         requires left { 0 < (T.state desk.old).left }
         requires room { vec_len self.old.commits < vec_capacity self.old.commits }
         ensures goes_on { GoesOn (T.state desk.old) (T.state desk.new) }
-        ensures ok { OnOk result ((before : Standing) → StandsAt self.old.view (λ p. names_at p.table.now.filters.items p.places.items) (T.state desk.old) before
-            → Answered (fixed (K.may_answer clock.now) (G.bars guard.now) (is_filter self.old.view.filter.table.now.filters.items) (⟦<PredTable as SelectsByName>⟧.selects_by self.old.view.filter.table.now)) (form_of form.now) self.old self.new (λ p. names_at p.table.now.filters.items p.places.items) (T.state desk.old) (T.state desk.new) before self.new.line.items) }
-        ensures err { OnErr result ((before : Standing) → StandsAt self.old.view (λ p. names_at p.table.now.filters.items p.places.items) (T.state desk.old) before
-            → Unanswered (fixed (K.may_answer clock.now) (G.bars guard.now) (is_filter self.old.view.filter.table.now.filters.items) (⟦<PredTable as SelectsByName>⟧.selects_by self.old.view.filter.table.now)) (form_of form.now) self.old self.new (λ p. names_at p.table.now.filters.items p.places.items) (T.state desk.old) (T.state desk.new) before) }
+        ensures ok { OnOk result ((before : Standing) → StandsAt self.old.view (λ p. map (P.name_at p.table.now) p.places.items) (T.state desk.old) before
+            → Answered (fixed (K.may_answer clock.now) (G.bars guard.now) (P.place_of self.old.view.filter.table.now) (P.selects_at self.old.view.filter.table.now)) (form_of form.now) self.old self.new (λ p. map (P.name_at p.table.now) p.places.items) (T.state desk.old) (T.state desk.new) before self.new.line.items) }
+        ensures err { OnErr result ((before : Standing) → StandsAt self.old.view (λ p. map (P.name_at p.table.now) p.places.items) (T.state desk.old) before
+            → Unanswered (fixed (K.may_answer clock.now) (G.bars guard.now) (P.place_of self.old.view.filter.table.now) (P.selects_at self.old.view.filter.table.now)) (form_of form.now) self.old self.new (λ p. map (P.name_at p.table.now) p.places.items) (T.state desk.old) (T.state desk.new) before) }
         ensures table { self.new.view.filter.table ≡ self.old.view.filter.table }
         ensures places { self.new.places ≡ self.old.places }
     {
@@ -62,7 +62,7 @@ impl Session<Picks<'_>> {
     /// Answers of what was seen before.
     fn read(&mut self, alloc: Global, command: Option<Command<'_>>) -> Result<(), Memory>
         requires { IsTrue (is_read (option_map (λ asks. asked asks) command)) }
-        ensures ok { OnOk result (Reads self.old.view self.new.view (λ p. names_at p.table.now.filters.items p.places.items) (is_filter self.old.view.filter.table.now.filters.items) (⟦<PredTable as SelectsByName>⟧.selects_by self.old.view.filter.table.now) (option_map (λ asks. asked asks) command.entry) self.new.line.items) }
+        ensures ok { OnOk result (Reads self.old.view self.new.view (λ p. map (P.name_at p.table.now) p.places.items) (λ name. is_some (P.place_of self.old.view.filter.table.now name)) (selected_by (P.place_of self.old.view.filter.table.now) (P.selects_at self.old.view.filter.table.now)) (option_map (λ asks. asked asks) command.entry) self.new.line.items) }
         ensures table { self.new.view.filter.table ≡ self.old.view.filter.table }
         ensures rest { self.new ≡ record self.old { view = self.new.view; line = self.new.line } }
     {

@@ -1,8 +1,8 @@
 //! The loop over the forms of a script.
-ghost use Rattle.std.specs.Prelude.{◌≡◌, ◌≤◌, ◌<◌, ◌+◌, ◌++◌, IfOk, IfErr, OnOk, OnErr, length};
+ghost use Rattle.std.specs.Prelude.{◌≡◌, ◌≤◌, ◌<◌, ◌+◌, ◌++◌, IfOk, IfErr, OnOk, OnErr, length, is_some, map};
 ghost use Rattle.edn_form.specs.View.{form_of};
 ghost use Rattle.fb_model.specs.History.{basis};
-ghost use Rattle.fb_preds.specs.Table.{is_filter, names_at};
+ghost use Rattle.fb_preds.specs.Naming.{selected_by};
 ghost use Rattle.talk_model.specs.Prefixes.{Prefixes};
 ghost use Rattle.talk_model.specs.Session.{Standing, setting};
 ghost use Rattle.fb_desk.specs.Desks.{GoesOn};
@@ -17,7 +17,7 @@ use edn_core::{Edn, EdnFault, read_form};
 use fb_desk::Desk;
 use fb_memory::Memory;
 use fb_ports::{Clock, Sink, Source};
-use fb_preds::{Picks, PredTable, SelectsByName};
+use fb_preds::{FilterTable, Picks};
 use fb_view::Snapshot;
 use std::alloc::Global;
 use std::sync::Wait;
@@ -64,6 +64,7 @@ pub fn serve_desk<
     T: Desk,
     K: Clock,
     G: Guard<Snapshot>,
+    P: FilterTable,
 >(
     rt: &R,
     alloc: Global,
@@ -72,11 +73,11 @@ pub fn serve_desk<
     desk: &mut T,
     clock: &K,
     guard: &G,
-    preds: &PredTable,
+    preds: &P,
 ) -> Served
     requires { 1_000_000 ≤ (T.state desk.old).left }
     ensures replies { Replies
-        (setting (K.may_answer clock.now) (⟦<PredTable as SelectsByName>⟧.selects_by preds.now) (G.bars guard.now) (is_filter preds.now.filters.items) (T.state desk.new).entries (T.state desk.new).stop (T.state desk.new).teller)
+        (setting (K.may_answer clock.now) (selected_by (P.place_of preds.now) (P.selects_at preds.now)) (G.bars guard.now) (λ name. is_some (P.place_of preds.now name)) (T.state desk.new).entries (T.state desk.new).stop (T.state desk.new).teller)
         (basis (T.state desk.old).entries) (I.left source.old) (I.left source.new) (O.contents sink.old) (O.contents sink.new) result.places result.commits result.end }
     ensures prefixes { Prefixes (basis (T.state desk.old).entries) (basis (T.state desk.new).entries) result.places result.commits }
     ensures commits { (T.state desk.new).commits ≡ (T.state desk.old).commits ++ result.commits }
@@ -102,7 +103,14 @@ pub fn serve_desk<
 }
 
 /// Answers the forms of the script.
-fn serve_script<R: Threads + Wait + Sync, O: Sink, T: Desk, K: Clock, G: Guard<Snapshot>>(
+fn serve_script<
+    R: Threads + Wait + Sync,
+    O: Sink,
+    T: Desk,
+    K: Clock,
+    G: Guard<Snapshot>,
+    P: FilterTable,
+>(
     rt: &R,
     alloc: Global,
     script: &[u8],
@@ -110,10 +118,10 @@ fn serve_script<R: Threads + Wait + Sync, O: Sink, T: Desk, K: Clock, G: Guard<S
     desk: &mut T,
     clock: &K,
     guard: &G,
-    preds: &PredTable,
+    preds: &P,
 ) -> Served
     requires { 1_000_000 ≤ (T.state desk.old).left }
-    ensures answers { Talks (fixed (K.may_answer clock.now) (G.bars guard.now) (is_filter preds.now.filters.items) (⟦<PredTable as SelectsByName>⟧.selects_by preds.now)) script.now
+    ensures answers { Talks (fixed (K.may_answer clock.now) (G.bars guard.now) (P.place_of preds.now) (P.selects_at preds.now)) script.now
         (T.state desk.old) (T.state desk.new) result.places result.commits (O.contents sink.old) (O.contents sink.new) result.end }
     ensures count { SinkCount result.end (O.faults sink.old) (O.faults sink.new) }
 {
@@ -124,7 +132,7 @@ fn serve_script<R: Threads + Wait + Sync, O: Sink, T: Desk, K: Clock, G: Guard<S
     session.served(end)
 }
 
-impl Session<Picks<'_>> {
+impl<P: FilterTable> Session<Picks<'_, P>> {
     /// Answers the forms of the script, one after another, up to the first that is not answered.
     fn answer_all<R: Threads + Wait + Sync, O: Sink, T: Desk, K: Clock, G: Guard<Snapshot>>(
         &mut self,
@@ -136,9 +144,9 @@ impl Session<Picks<'_>> {
         clock: &K,
         guard: &G,
     ) -> SessionEnd
-        requires opened { IsOpened self.old (λ p. names_at p.table.now.filters.items p.places.items) (T.state desk.old) }
+        requires opened { IsOpened self.old (λ p. map (P.name_at p.table.now) p.places.items) (T.state desk.old) }
         requires left { 1_000_000 ≤ (T.state desk.old).left }
-        ensures answers { Talks (fixed (K.may_answer clock.now) (G.bars guard.now) (is_filter self.old.view.filter.table.now.filters.items) (⟦<PredTable as SelectsByName>⟧.selects_by self.old.view.filter.table.now)) script.now
+        ensures answers { Talks (fixed (K.may_answer clock.now) (G.bars guard.now) (P.place_of self.old.view.filter.table.now) (P.selects_at self.old.view.filter.table.now)) script.now
             (T.state desk.old) (T.state desk.new) self.new.places.items self.new.commits.items (O.contents sink.old) (O.contents sink.new) result }
         ensures count { SinkCount result (O.faults sink.old) (O.faults sink.new) }
     {
@@ -190,10 +198,10 @@ impl Session<Picks<'_>> {
     ) -> Result<(), Stop>
         requires { 0 < (T.state desk.old).left }
         ensures goes_on { GoesOn (T.state desk.old) (T.state desk.new) }
-        ensures ok { OnOk result ((before : Standing) → StandsAt self.old.view (λ p. names_at p.table.now.filters.items p.places.items) (T.state desk.old) before
-            → Replied (fixed (K.may_answer clock.now) (G.bars guard.now) (is_filter self.old.view.filter.table.now.filters.items) (⟦<PredTable as SelectsByName>⟧.selects_by self.old.view.filter.table.now)) (form_of form.now) self.old self.new (λ p. names_at p.table.now.filters.items p.places.items) (T.state desk.old) (T.state desk.new) before (O.contents sink.old) (O.contents sink.new)) }
-        ensures err { IfErr result (λ stop. (before : Standing) → StandsAt self.old.view (λ p. names_at p.table.now.filters.items p.places.items) (T.state desk.old) before
-            → StopsAt (fixed (K.may_answer clock.now) (G.bars guard.now) (is_filter self.old.view.filter.table.now.filters.items) (⟦<PredTable as SelectsByName>⟧.selects_by self.old.view.filter.table.now)) (form_of form.now) self.old self.new (λ p. names_at p.table.now.filters.items p.places.items) (T.state desk.old) (T.state desk.new) before (O.contents sink.old) (O.contents sink.new) stop) }
+        ensures ok { OnOk result ((before : Standing) → StandsAt self.old.view (λ p. map (P.name_at p.table.now) p.places.items) (T.state desk.old) before
+            → Replied (fixed (K.may_answer clock.now) (G.bars guard.now) (P.place_of self.old.view.filter.table.now) (P.selects_at self.old.view.filter.table.now)) (form_of form.now) self.old self.new (λ p. map (P.name_at p.table.now) p.places.items) (T.state desk.old) (T.state desk.new) before (O.contents sink.old) (O.contents sink.new)) }
+        ensures err { IfErr result (λ stop. (before : Standing) → StandsAt self.old.view (λ p. map (P.name_at p.table.now) p.places.items) (T.state desk.old) before
+            → StopsAt (fixed (K.may_answer clock.now) (G.bars guard.now) (P.place_of self.old.view.filter.table.now) (P.selects_at self.old.view.filter.table.now)) (form_of form.now) self.old self.new (λ p. map (P.name_at p.table.now) p.places.items) (T.state desk.old) (T.state desk.new) before (O.contents sink.old) (O.contents sink.new) stop) }
         ensures table { self.new.view.filter.table ≡ self.old.view.filter.table }
         ensures places { OnOk result (length self.new.places.items ≡ length self.old.places.items + 1) }
         ensures count { OnOk result (O.faults sink.new ≡ O.faults sink.old) }

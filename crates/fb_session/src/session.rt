@@ -1,14 +1,13 @@
 //! What a session keeps between two commands.
-ghost use Rattle.std.specs.Prelude.{◌≡◌, ◌<◌, IfOk, OnOk, vec_len, vec_capacity};
+ghost use Rattle.std.specs.Prelude.{◌≡◌, ◌<◌, IfOk, OnOk, vec_len, vec_capacity, map};
 ghost use Rattle.fb_model.specs.History.{basis};
-ghost use Rattle.fb_preds.specs.Table.{names_at};
 ghost use Rattle.fb_session.specs.Sessions.{IsOpened};
 
 use crate::outcome::{Places, Served, SessionEnd};
 use fb_db::Db;
 use fb_desk::Desk;
 use fb_memory::Memory;
-use fb_preds::{Picks, PredTable, Selector};
+use fb_preds::{FilterTable, Picks, Selector};
 use fb_view::Snapshot;
 use std::alloc::Global;
 
@@ -25,14 +24,14 @@ pub(crate) struct Session<S> {
     pub(crate) line: Vec<u8>,
 }
 
-impl<'p> Session<Picks<'p>> {
+impl<'p, P: FilterTable> Session<Picks<'p, P>> {
     /// It has seen what the desk was answered last.
     pub(crate) fn open<T: Desk>(
         alloc: Global,
         desk: &T,
-        preds: &'p PredTable,
-    ) -> Result<Session<Picks<'p>>, Memory>
-        ensures opened { IfOk result (λ session. IsOpened session (λ p. names_at p.table.now.filters.items p.places.items) (T.state desk.now)) }
+        preds: &'p P,
+    ) -> Result<Session<Picks<'p, P>>, Memory>
+        ensures opened { IfOk result (λ session. IsOpened session (λ p. map (P.name_at p.table.now) p.places.items) (T.state desk.now)) }
         ensures table { IfOk result (λ session. session.view.filter.table.now ≡ preds.now) }
     {
         let snapshot = desk.snapshot().share()?;
