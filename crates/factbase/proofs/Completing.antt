@@ -117,19 +117,19 @@ module _ {I O D : Type 0} (terms : Fixed) (told : Told) (tells : Tells I O) (new
       → IfSome last (λ l. RepliesAlone terms (told.sources name) (told.sinks (sink_of name)) tells outcome l.entries)
       → HasRun tells (told.source_faults name) (told.sink_faults (sink_of name)) name outcome
       → AnsweredWhole terms told tells name forms outcome ⊎ IsOutOfMemory outcome
-  complete_run None is_last opened replies run = let there = run.last in absurd (rw is_last at there)
-  complete_run (Some l) is_last opened replies run =
-      let both = sym replies.1 ∙ run.alone in
-      let one : replies.0 ≡ run.session = cc in
+  complete_run None is_last opened replies ran = let there = rw is_last at ran.last in absurd cc
+  complete_run (Some l) is_last opened replies ran =
+      let both = sym replies.1 ∙ ran.alone in
+      let one : replies.0 ≡ ran.session = cc in
       let P : SessionOut I O → Type 0 = λ x. Replies (setting_of terms l.entries None false) 0 (told.sources name) (tells.left x.source) (told.sinks (sink_of name)) (tells.contents x.sink) x.places x.commits x.end in
-      complete_session l run.session is_last run.alone (subst P one (rw opened at replies.2)) run.says run.source run.sink
+      complete_session l ran.session is_last ran.alone (subst P one (rw opened at replies.2)) ran.says ran.source ran.sink
 
   pub complete_opened : outcome.recovered ≡ 0
       → IfSome outcome.last (λ l. RepliesAlone terms (told.sources name) (told.sinks (sink_of name)) tells outcome l.entries)
       → HasBegun tells (told.source_faults name) (told.sink_faults (sink_of name)) name outcome
       → AnsweredWhole terms told tells name forms outcome ⊎ IsOutOfMemory outcome
   complete_opened opened replies (inl nothing) = inr nothing.1
-  complete_opened opened replies (inr run) = complete_run outcome.last refl opened replies run
+  complete_opened opened replies (inr ran) = complete_run outcome.last refl opened replies ran
 
   pub complete_unopened : CannotOpen told new name outcome ⊎ IsOutOfMemory outcome → AnsweredWhole terms told tells name forms outcome ⊎ IsOutOfMemory outcome
   complete_unopened (inl cannot) = absurd (calm.host cannot.host)

@@ -1,16 +1,23 @@
 -- A run: its one history, its replies, and the causes of its status.
-use Rattle.std.proofs.Common.{◌≡◌, ℕ, ◌+◌, ◌<◌, ◌⊎◌, List, [], ◌∷◌, length, Option, Some, None, Result, Ok, Err, zero, suc, refl, sym, ap, ◌∙◌, subst, inl, inr, arith}
+use Rattle.std.proofs.Common.{◌≡◌, ℕ, ◌+◌, ◌<◌, ◌⊎◌, Bool, false, List, [], ◌∷◌, ◌++◌, length, Option, Some, None, Result, Ok, Err, zero, suc, refl, sym, ap, ◌∙◌, subst, inl, inr, arith}
 use Rattle.std.specs.Prelude.{IfSome, IfOk, OnErr, nat_eq, slice_index_or, string_bytes}
 use Rattle.std.specs.List.{AllByRecursion}
 use Rattle.std.specs.List.Sorted.{IsStrictlyIncreasing}
 use Rattle.fb_values.specs.declared.facts.Entry.{Entry}
 use Rattle.fb_model.specs.History.{basis}
 use Rattle.fb_model.specs.Lawful.{IsLawful}
+use Rattle.fb_model.specs.FirstEntry.{first_entry}
+use Rattle.fb_core.specs.declared.shared.CoreParts.{CoreParts}
+use Rattle.fb_core.specs.Cores.{CoreStands}
 use Rattle.fb_core.specs.Worlds.{commits_behind}
+use Rattle.fb_desk.specs.Desks.{State}
+use Rattle.core_desk.specs.States.{as_opened}
 use Rattle.fb_ports.specs.Faults.{Rose}
 use Rattle.fb_view.specs.Kept.{Kept}
 use Rattle.script_model.specs.Words.{Command, run, sink_of}
-use Rattle.fb_session.specs.Sessions.{Fixed}
+use Rattle.talk_model.specs.Session.{setting}
+use Rattle.fb_session.specs.declared.outcome.SessionEnd.{SessionEnd}
+use Rattle.fb_session.specs.Sessions.{Fixed, WentOn}
 use Rattle.fb_session.specs.Replies.{Replies}
 use Rattle.factbase.specs.declared.outcome.SessionOut.{SessionOut}
 use Rattle.factbase.specs.declared.outcome.Outcome.{Outcome}
@@ -27,19 +34,43 @@ own : (commits authors : List ℕ) → commits ≡ commits_behind 0 0 authors �
 own commits authors same zero one = same
 own commits authors same (suc session) one = absurd (omega (arith, one))
 
--- the history of one session
-pub one_history : (h : List Entry) (authors commits : List ℕ) → IsLawful h → length authors ≡ basis h → AllByRecursion (λ author. author ≡ 0) authors
-    → commits ≡ commits_behind 0 0 authors → IsStrictlyIncreasing commits → OneHistory h 0 authors (commits ∷ [])
-one_history h authors commits lawful each_t by_session same rising =
+-- the history of one session since the opening at its first entry
+pub one_history : (h : List Entry) (opening : ℕ) (authors commits : List ℕ) → IsLawful h → opening ≡ 0 → opening + length authors ≡ basis h
+    → AllByRecursion (λ author. author ≡ 0) authors → commits ≡ commits_behind opening 0 authors → IsStrictlyIncreasing commits → OneHistory h 0 authors (commits ∷ [])
+one_history h opening authors commits lawful at_first each_t by_session same rising =
+    let P : ℕ → Type 0 = λ from. from + length authors ≡ basis h in
+    let Q : ℕ → Type 0 = λ from. commits ≡ commits_behind from 0 authors in
     record {
       lawful = lawful;
-      each_t = each_t;
+      each_t = subst P at_first each_t;
       by_sessions = by_one authors by_session;
-      own = own commits authors same;
+      own = own commits authors (subst Q at_first same);
       rising = (rising, tt);
     }
 
+-- what its desk says of it
+pub session_history : (was is : State) (entries : List Entry) (core : CoreParts) (commits : List ℕ) → was ≡ as_opened entries → entries ≡ first_entry ∷ []
+    → WentOn was is → is.commits ≡ was.commits ++ commits → IsStrictlyIncreasing commits
+    → CoreStands core → is.opening + length core.authors ≡ basis core.snapshot.entries → AllByRecursion (λ author. author ≡ 0) core.authors
+    → is.commits ≡ commits_behind is.opening 0 core.authors → OneHistory core.snapshot.entries 0 core.authors (commits ∷ [])
+session_history was is entries core commits was_is entries_is went grown rising stands each_t by_session kept =
+    let at_first : is.opening ≡ 0 = went.opening ∙ ap (λ s. s.opening) was_is ∙ ap basis entries_is in
+    let ours : is.commits ≡ commits = grown ∙ ap (λ s. s.commits ++ commits) was_is in
+    one_history core.snapshot.entries is.opening core.authors commits stands.snapshot.history.lawful at_first each_t by_session (sym ours ∙ kept) rising
+
 -- ---- replies
+
+pub session_replies : (f : Fixed) (was is : State) (entries h : List Entry) (recovered : ℕ) (held left had has : Option (List ℕ)) (places commits : List ℕ) (how : SessionEnd)
+    → was ≡ as_opened entries → entries ≡ first_entry ∷ [] → recovered ≡ 0 → h ≡ is.entries → is.stop ≡ None → is.teller ≡ false
+    → Replies (setting f.may f.Selects f.guard f.is_filter is.entries is.stop is.teller) (basis was.entries) held left had has places commits how
+    → Replies (setting_of f h None false) recovered held left had has places commits how
+session_replies f was is entries h recovered held left had has places commits how was_is entries_is opened grown stop teller replies =
+    let P : List Entry → Option ℕ → Bool → ℕ → Type 0 = λ es st te from. Replies (setting f.may f.Selects f.guard f.is_filter es st te) from held left had has places commits how in
+    let start : basis was.entries ≡ recovered = ap (λ s. basis s.entries) was_is ∙ ap basis entries_is ∙ sym opened in
+    subst (λ es. P es None false recovered) (sym grown)
+    (subst (λ from. P is.entries None false from) start
+    (subst (λ te. P is.entries None te (basis was.entries)) teller
+    (subst (λ st. P is.entries st is.teller (basis was.entries)) stop replies)))
 
 module _ {I O D : Type 0} (terms : Fixed) (told : Told) (tells : Tells I O) (held had : Option (List ℕ)) (name : List ℕ) (outcome : Outcome I O D) where
   no_stop : outcome.torn ≡ None → stop_of outcome ≡ None

@@ -24,6 +24,7 @@ use fb_view::Snapshot;
 use std::alloc::Global;
 use std::sync::Wait;
 use std::thread::Threads;
+use talk_model::commits_strictly_rise;
 
 /// Runs the command that the words behind the program's name are.
 pub fn run<R: Threads + Wait + Sync, H: Host, K: Clock, G: Guard<Snapshot>, P: FilterTable>(
@@ -122,9 +123,9 @@ fn run_session<
     ensures one_history { IfSome result.last (λ last. OneHistory last.entries result.recovered (unwrap_or result.authors []) (map (λ s. s.commits) result.sessions.items)) }
     ensures replies { IfSome result.last (λ last. RepliesAlone
         (record { may = K.may_answer clock.now; guard = G.bars guard.now; is_filter = λ name. is_some (P.place_of preds.now name); Selects = selected_by (P.place_of preds.now) (P.selects_at preds.now) })
-        (I.left script.source) (O.contents script.sink) (record { left = I.left; source_faults = I.faults; contents = O.contents; sink_faults = O.faults }) result last.entries) }
+        (I.left script.entry.source) (O.contents script.entry.sink) (record { left = I.left; source_faults = I.faults; contents = O.contents; sink_faults = O.faults }) result last.entries) }
     ensures prefixes { IfSome result.last (λ last. AllByRecursion (λ s. Prefixes result.recovered (basis last.entries) s.places s.commits) result.sessions.items) }
-    ensures causes { HasBegun (record { left = I.left; source_faults = I.faults; contents = O.contents; sink_faults = O.faults }) (I.faults script.source) (O.faults script.sink) script.name.now result }
+    ensures causes { HasBegun (record { left = I.left; source_faults = I.faults; contents = O.contents; sink_faults = O.faults }) (I.faults script.entry.source) (O.faults script.entry.sink) script.entry.name.now result }
     ensures covered { IfSome result.last (λ last. result.covered ≡ last.covered) }
     ensures no_device { HasNoDevice result }
 {
@@ -136,6 +137,7 @@ fn run_session<
         mut source,
         mut sink,
     } = script;
+    commits_strictly_rise();
     let mut desk = CoreDesk::new(alloc, core);
     let served = serve_desk(
         rt,

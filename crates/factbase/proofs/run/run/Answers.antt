@@ -1,46 +1,68 @@
-use Rattle.std.proofs.Common.{ap, ◌∙◌}
-use Rattle.std.specs.Prelude.{map, string_bytes}
+use Rattle.std.proofs.Common.{List, ℕ, ap, ◌∙◌, subst}
+use Rattle.std.specs.Prelude.{map, string_bytes, is_some}
+use Rattle.fb_preds.specs.Naming.{selected_by}
 use Rattle.script_model.specs.Words.{command_of}
-use Rattle.factbase.proofs.Running.{replies_of_command, causes_of_command, causes_of_failure, cannot_open_or_memory}
-use Rattle.factbase.proofs.Completing.{complete}
+use Rattle.fb_session.specs.Sessions.{Fixed}
+use Rattle.factbase.specs.Outside.{Told, Tells}
+use Rattle.factbase.specs.Causes.{HasBegun}
+use Rattle.factbase.proofs.Running.{replies_of_command}
+use Rattle.factbase.proofs.Completing.{complete_command}
 use Rattle.factbase.proofs.run.run.Goals as goal
 
 pub returns-in-Ok-clause-replies : goal.returns-in-Ok-clause-replies
 returns-in-Ok-clause-replies g c =
     let host = c.args.host.now in
-    let out = c.run_session.result in
-    replies_of_command (g.K.Clock.may_answer c.args.clock.now) g.H.In.Source.left g.H.Out.Sink.contents (g.H.Host.sources host) (g.H.Host.sinks host)
-    (g.H.In.Source.left c.in-Ok.source) (g.H.Out.Sink.contents c.in-Ok.sink) c.in-Some.script.now (command_of (map string_bytes c.args.words.now.items))
-    out.entries out.sessions.items
-    (c.in-Some.ensures ∙ ap (λ ws. command_of (map string_bytes ws)) c.as_slice.ensures.value) c.in-Ok.ensures.source c.in-Ok.ensures.sink c.run_session.ensures.replies
-
-pub returns-in-Ok-clause-causes : goal.returns-in-Ok-clause-causes
-returns-in-Ok-clause-causes g c =
-    let host = c.args.host.now in
-    let out = c.run_session.result in
-    causes_of_command (g.H.Host.source_faults host) (g.H.Host.sink_faults host) g.H.In.Source.faults g.H.Out.Sink.faults
-    (g.H.In.Source.faults c.in-Ok.source) (g.H.Out.Sink.faults c.in-Ok.sink) (g.H.Host.faults host) (g.H.Host.faults c.open.new.host)
-    c.in-Some.script.now (command_of (map string_bytes c.args.words.now.items)) out.status (string_bytes out.line) out.authors out.sessions.items out.entries
-    (c.in-Some.ensures ∙ ap (λ ws. command_of (map string_bytes ws)) c.as_slice.ensures.value) c.in-Ok.ensures.source_count c.in-Ok.ensures.sink_count c.in-Ok.ensures.counted
-    c.run_session.ensures.causes
-
-pub returns-in-Err-Failed-clause-causes : goal.returns-in-Err-Failed-clause-causes
-returns-in-Err-Failed-clause-causes g c =
-    let host = c.args.host.now in
-    let out = c.without_session-in-Err-Failed in
-    causes_of_failure (g.H.Host.source_faults host) (g.H.Host.sink_faults host) g.H.In.Source.faults g.H.Out.Sink.faults
-    (g.H.Host.faults host) (g.H.Host.faults c.open.new.host) c.in-Some.script.now (command_of (map string_bytes c.args.words.now.items))
-    out.result.status (string_bytes out.result.line) out.result.authors out.result.sessions.items out.result.entries
-    (c.in-Some.ensures ∙ ap (λ ws. command_of (map string_bytes ws)) c.as_slice.ensures.value) out.ensures.none
-    (cannot_open_or_memory c.cannot_open.result string_bytes c.in-Some.script.now out.result.status (string_bytes out.result.line)
-    (g.H.Host.faults host) (g.H.Host.faults c.open.new.host) c.cannot_open.ensures out.ensures.said out.ensures.unsaid
-    (rw c.in-Err-Failed.field-0-is at c.in-Err-Failed.ensures).counted)
+    let terms : Fixed = record {
+      may = g.K.Clock.may_answer c.args.clock.now;
+      guard = g.G.Guard.bars c.args.guard.now;
+      is_filter = λ name. is_some (g.P.FilterTable.place_of c.args.preds.now name);
+      Selects = selected_by (g.P.FilterTable.place_of c.args.preds.now) (g.P.FilterTable.selects_at c.args.preds.now);
+    } in
+    let told : Told = record {
+      sources = g.H.Host.sources host;
+      source_faults = g.H.Host.source_faults host;
+      sinks = g.H.Host.sinks host;
+      sink_faults = g.H.Host.sink_faults host;
+      faults = g.H.Host.faults host;
+    } in
+    let tells : Tells g.row.H-In.Denot g.row.H-Out.Denot = record {
+      left = g.H.In.Source.left;
+      source_faults = g.H.In.Source.faults;
+      contents = g.H.Out.Sink.contents;
+      sink_faults = g.H.Out.Sink.faults;
+    } in
+    replies_of_command terms told tells (g.H.In.Source.left c.in-Ok.script.source) (g.H.Out.Sink.contents c.in-Ok.script.sink) c.in-Some.script.now c.run_session.result
+    (command_of (map string_bytes c.args.words.now.items))
+    (c.in-Some.ensures ∙ ap (λ ws. command_of (map string_bytes ws)) c.as_slice.ensures.value)
+    c.in-Ok.ensures.source c.in-Ok.ensures.sink c.run_session.ensures.no_device.torn c.run_session.ensures.replies
 
 pub returns-in-Ok-clause-complete : goal.returns-in-Ok-clause-complete
 returns-in-Ok-clause-complete g c =
     let host = c.args.host.now in
-    let out = c.run_session.result in
-    complete (g.K.Clock.may_answer c.args.clock.now) g.H.In.Source.left g.H.Out.Sink.contents g.H.In.Source.faults g.H.Out.Sink.faults
-    out.status (string_bytes out.line) out.sessions.items (g.H.Host.sources host) (g.H.Host.sinks host) (g.H.Host.source_faults host) (g.H.Host.sink_faults host)
-    (g.H.Host.faults host) (g.H.Host.faults c.open.new.host) (command_of (map string_bytes c.args.words.now.items)) out.authors out.entries
-    (returns-in-Ok-clause-replies g c) (returns-in-Ok-clause-causes g c)
+    let terms : Fixed = record {
+      may = g.K.Clock.may_answer c.args.clock.now;
+      guard = g.G.Guard.bars c.args.guard.now;
+      is_filter = λ name. is_some (g.P.FilterTable.place_of c.args.preds.now name);
+      Selects = selected_by (g.P.FilterTable.place_of c.args.preds.now) (g.P.FilterTable.selects_at c.args.preds.now);
+    } in
+    let told : Told = record {
+      sources = g.H.Host.sources host;
+      source_faults = g.H.Host.source_faults host;
+      sinks = g.H.Host.sinks host;
+      sink_faults = g.H.Host.sink_faults host;
+      faults = g.H.Host.faults host;
+    } in
+    let tells : Tells g.row.H-In.Denot g.row.H-Out.Denot = record {
+      left = g.H.In.Source.left;
+      source_faults = g.H.In.Source.faults;
+      contents = g.H.Out.Sink.contents;
+      sink_faults = g.H.Out.Sink.faults;
+    } in
+    let m = g.H.In.Source.faults c.in-Ok.script.source in
+    let n = g.H.Out.Sink.faults c.in-Ok.script.sink in
+    let P : List ℕ → Type 0 = λ name. HasBegun tells m n name c.run_session.result in
+    complete_command terms told tells (g.H.Host.faults c.open.new.host) c.in-Some.script.now (command_of (map string_bytes c.args.words.now.items)) c.run_session.result
+    (g.H.In.Source.left c.in-Ok.script.source) (g.H.Out.Sink.contents c.in-Ok.script.sink) m n
+    (c.in-Some.ensures ∙ ap (λ ws. command_of (map string_bytes ws)) c.as_slice.ensures.value)
+    c.in-Ok.ensures.source c.in-Ok.ensures.sink c.in-Ok.ensures.source_count c.in-Ok.ensures.sink_count c.run_session.ensures.no_device.recovered
+    c.run_session.ensures.replies (subst P c.in-Ok.ensures.name c.run_session.ensures.causes)

@@ -1,13 +1,47 @@
 use Rattle.std.proofs.Common.{refl, inr}
-use Rattle.factbase.proofs.Running.{one_history}
+use Rattle.std.specs.Prelude.{is_some}
+use Rattle.fb_preds.specs.Naming.{selected_by}
+use Rattle.core_desk.specs.States.{state_of}
+use Rattle.fb_session.specs.Sessions.{Fixed}
+use Rattle.factbase.proofs.Running.{session_history, session_replies}
 use Rattle.factbase.proofs.run.run_session.Goals as goal
 
 pub returns-clause-one_history : goal.returns-clause-one_history
-returns-clause-one_history g c = rw (c.with_one.ensures, c.of-2.ensures) (one_history c.serve-end.new.self c.serve-end.ensures.sound c.serve-end.ensures.prefixes)
+returns-clause-one_history g c =
+    let served = c.serve_desk-served in
+    rw (c.into_parts-snapshot.ensures, c.without_session-2.ensures.no_device.recovered, c.with_one.ensures)
+    (session_history (state_of c.new-desk.result) (state_of served.new.desk) c.in-Ok.core.snapshot.entries c.close.result served.result.commits
+    c.new-desk.ensures c.in-Ok.ensures.entries served.ensures.went_on served.ensures.commits
+    (c.commits_strictly_rise.ensures _ _ _ _ served.ensures.prefixes.committed_before)
+    c.close.ensures.stands c.close.ensures.each_t c.close.ensures.by_session c.close.ensures.commits)
 
 pub returns-clause-replies : goal.returns-clause-replies
-returns-clause-replies g c = (_, c.with_one.ensures, rw (c.of.ensures, c.of-2.ensures) c.serve-end.ensures.replies)
+returns-clause-replies g c =
+    let served = c.serve_desk-served in
+    let terms : Fixed = record {
+      may = g.K.Clock.may_answer c.args.clock.now;
+      guard = g.G.Guard.bars c.args.guard.now;
+      is_filter = λ name. is_some (g.P.FilterTable.place_of c.args.preds.now name);
+      Selects = selected_by (g.P.FilterTable.place_of c.args.preds.now) (g.P.FilterTable.selects_at c.args.preds.now);
+    } in (
+      _,
+      c.with_one.ensures,
+      rw c.into_parts-snapshot.ensures
+          (session_replies terms (state_of c.new-desk.result) (state_of served.new.desk) c.in-Ok.core.snapshot.entries c.close.result.snapshot.entries c.without_session-2.result.recovered
+          (g.I.Source.left c.args.script.source) (g.I.Source.left served.new.source) (g.O.Sink.contents c.args.script.sink) (g.O.Sink.contents served.new.sink)
+          served.result.places served.result.commits served.result.end
+          c.new-desk.ensures c.in-Ok.ensures.entries c.without_session-2.ensures.no_device.recovered c.close.ensures.entries refl refl served.ensures.replies),
+    )
 
 pub returns-clause-causes : goal.returns-clause-causes
 returns-clause-causes g c =
-    inr (_, c.with_one.ensures, refl, refl, c.said-status.ensures, c.serve-end.ensures.source_count, c.serve-end.ensures.sink_count)
+    let said = c.without_session-2.ensures.said in
+    inr (record {
+      session = _;
+      alone = c.with_one.ensures;
+      last = refl;
+      authors = refl;
+      says = rw (said.0, said.1) c.said-status.ensures;
+      source = c.serve_desk-served.ensures.source_count;
+      sink = c.serve_desk-served.ensures.sink_count;
+    })
