@@ -1,6 +1,6 @@
 -- A session that sees another snapshot, and what it then keeps of what its desk answered.
-use Rattle.std.proofs.Common.{◌≡◌, ℕ, ℤ, List, [], ◌∷◌, ◌++◌, None, refl, sym, ap, ◌∙◌, subst, inl, inr, arith, append-nil}
-use Rattle.std.specs.Prelude.{codes}
+use Rattle.std.proofs.Common.{◌≡◌, ℕ, ℤ, List, [], ◌∷◌, ◌++◌, None, refl, sym, ap, ◌∙◌, subst, inl, inr, arith, append-nil, Option}
+use Rattle.std.specs.Prelude.{codes, option_to_list}
 use Rattle.edn_model.specs.Form.{Form}
 use Rattle.fb_values.specs.declared.facts.Entry.{Entry}
 use Rattle.fb_model.specs.History.{basis}
@@ -9,6 +9,7 @@ use Rattle.tx_refusals.specs.Reasons.{keyword_of}
 use Rattle.tx_model.specs.Step.{Guard}
 use Rattle.talk_model.specs.Replies as reply
 use Rattle.talk_model.specs.Replies.{IsLineOf}
+use Rattle.talk_model.specs.Session.{Standing}
 use Rattle.fb_view.specs.Kept.{Kept}
 use Rattle.fb_db.specs.Seen.{window_of}
 use Rattle.fb_db.specs.declared.db.Db.{Db}
@@ -16,7 +17,7 @@ use Rattle.fb_desk.specs.Desks.{State, GoesOn, IsReceipt, IsRefusal, IsLogFault,
 use Rattle.fb_desk.specs.declared.answers.Receipt.{Receipt}
 use Rattle.fb_desk.specs.declared.answers.TxFault.TheVariants.{Refused, LogFault, Stopped}
 use Rattle.fb_session.specs.declared.session.Session.{Session}
-use Rattle.fb_session.specs.Sessions.{Sees, Shows, Keeps, Received, Denied}
+use Rattle.fb_session.specs.Sessions.{Fixed, Sees, Shows, Keeps, Received, Denied, StandsAt, Answered, Unanswered}
 
 -- a desk that was not asked
 pub goes_on-nowhere : (desk : State) → GoesOn desk desk
@@ -77,3 +78,33 @@ module _ {S : Type 0} (old new : Session S) (was is : State) where
       → new.view ≡ record old.view { snapshot = receipt.snapshot } → new.commits.items ≡ old.commits.items ++ receipt.t ∷ [] → Received may guard asked old new was is receipt
   received may guard asked receipt r view commits =
       record { is_receipt = r; sees = sees_from receipt.snapshot view r.snapshot; keeps = record { commits = commits; desk = r.commits } }
+
+-- ---- a session that was given room before
+
+module _ {S : Type 0} (f : Fixed) (form : Form) (old roomy new : Session S) (names : S → List (List ℕ)) (was is : State) (before : Standing) (same : roomy.commits.items ≡ old.commits.items) where
+  keeps_before : (commit : Option ℕ) → Keeps roomy new was is commit → Keeps old new was is commit
+  keeps_before commit keeps = record { commits = keeps.commits ∙ ap (λ cs. cs ++ option_to_list commit) same; desk = keeps.desk }
+
+  pub answered_before : (line : List ℕ) → Answered f form roomy new names was is before line → Answered f form old new names was is before line
+  answered_before line a =
+      record { after = a.after; commit = a.commit; answered = a.answered; stands = a.stands; keeps = keeps_before a.commit a.keeps }
+
+  pub unanswered_before : Unanswered f form roomy new names was is before → Unanswered f form old new names was is before
+  unanswered_before u = elim u [ inl keeps ↦ inl (keeps_before None keeps) | inr part ↦ inr (part.0, answered_before part.0 part.1) ]
+
+-- and whose place was kept behind
+pub answered_behind : {S : Type 0} (f : Fixed) (form : Form) (old new later : Session S) (names : S → List (List ℕ)) (was is : State) (before : Standing) (line : List ℕ)
+    → later.view ≡ new.view → later.commits.items ≡ new.commits.items → Answered f form old new names was is before line → Answered f form old later names was is before line
+answered_behind {S} f form old new later names was is before line view commits a =
+    let Stands : Db S → Type 0 = λ v. StandsAt v names is a.after in
+    record {
+      after = a.after;
+      commit = a.commit;
+      answered = a.answered;
+      stands = subst Stands (sym view) a.stands;
+      keeps = record { commits = commits ∙ a.keeps.commits; desk = a.keeps.desk };
+    }
+
+-- its place is that of its snapshot
+pub place_of_view : {S : Type 0} (view : Db S) (names : S → List (List ℕ)) (desk : State) (standing : Standing) → StandsAt view names desk standing → basis view.snapshot.entries ≡ standing.place
+place_of_view view names desk standing stands = ap basis stands.sees ∙ sym stands.place

@@ -62,6 +62,7 @@ impl<P: FilterTable> Session<Picks<'_, P>> {
     /// Answers of what was seen before.
     fn read(&mut self, alloc: Global, command: Option<Command<'_>>) -> Result<(), Memory>
         requires { IsTrue (is_read (option_map (λ asks. asked asks) command)) }
+        ensures is_read { IsTrue (is_read (option_map (λ asks. asked asks) command.entry)) }
         ensures ok { OnOk result (Reads self.old.view self.new.view (λ p. map (P.name_at p.table.now) p.places.items) (λ name. is_some (P.place_of self.old.view.filter.table.now name)) (selected_by (P.place_of self.old.view.filter.table.now) (P.selects_at self.old.view.filter.table.now)) (option_map (λ asks. asked asks) command.entry) self.new.line.items) }
         ensures table { self.new.view.filter.table ≡ self.old.view.filter.table }
         ensures rest { self.new ≡ record self.old { view = self.new.view; line = self.new.line } }
@@ -77,6 +78,7 @@ impl<S: Selector> Session<S> {
         ensures goes_on { GoesOn (T.state desk.old) (T.state desk.new) }
         ensures shows { OnOk result (Shows self.old self.new (T.state desk.new)) }
         ensures keeps { Keeps self.old self.new (T.state desk.old) (T.state desk.new) None }
+        ensures filter { self.new.view.filter ≡ self.old.view.filter }
         ensures places { self.new.places ≡ self.old.places }
     {
         match desk.db()? {
@@ -95,6 +97,7 @@ impl<S: Selector> Session<S> {
         ensures goes_on { GoesOn (T.state desk.old) (T.state desk.new) }
         ensures shows { OnOk result (Shows self.old self.new (T.state desk.new)) }
         ensures keeps { Keeps self.old self.new (T.state desk.old) (T.state desk.new) None }
+        ensures filter { self.new.view.filter ≡ self.old.view.filter }
         ensures places { self.new.places ≡ self.old.places }
     {
         let snapshot = desk.sync(rt)?;

@@ -37,6 +37,7 @@ impl<S: Selector> Session<S> {
         ensures goes_on { GoesOn (T.state desk.old) (T.state desk.new) }
         ensures ok { OnOk result (Transacts (K.may_answer clock.now) (G.bars guard.now) (form_of asked.now) self.old self.new (T.state desk.old) (T.state desk.new)) }
         ensures err { OnErr result (Stalls (K.may_answer clock.now) (G.bars guard.now) (form_of asked.now) self.old self.new (T.state desk.old) (T.state desk.new)) }
+        ensures filter { self.new.view.filter ≡ self.old.view.filter }
         ensures places { self.new.places ≡ self.old.places }
     {
         match desk.transact(rt, clock, guard, asked) {

@@ -4,7 +4,7 @@ use Rattle.fb_session.proofs.Seeing.{keeps_nothing, shows_from}
 use Rattle.fb_session.proofs.session.Session.look.Goals as goal
 
 pub returns-in_err-snapshot-clause-keeps : goal.returns-in_err-snapshot-clause-keeps
-returns-in_err-snapshot-clause-keeps g c = ?
+returns-in_err-snapshot-clause-keeps g c = keeps_nothing _ _ _ _ refl c.db.ensures.commits
 
 pub returns-in-Fresh-clause-shows : goal.returns-in-Fresh-clause-shows
 returns-in-Fresh-clause-shows g c =
@@ -14,10 +14,14 @@ returns-in-Fresh-clause-shows g c =
     c.show.ensures.line
 
 pub returns-in-Fresh-clause-keeps : goal.returns-in-Fresh-clause-keeps
-returns-in-Fresh-clause-keeps g c = keeps_nothing _ _ _ _ (ap (λ s. s.commits.items) c.show.ensures.rest) ?
+returns-in-Fresh-clause-keeps g c = keeps_nothing _ _ _ _ (ap (λ s. s.commits.items) c.show.ensures.rest) c.db.ensures.commits
 
 pub returns-in-Held-clause-shows : goal.returns-in-Held-clause-shows
-returns-in-Held-clause-shows g c = ?
+returns-in-Held-clause-shows g c =
+    let state = g.T.Desk.state in
+    on_ok_weaker c.show-2.result
+    (λ says. shows_from c.args.self.now c.show-2.new.self (state c.args.desk.now) (state c.db.new.self) c.in-Held.snapshot c.show-2.ensures.view c.in-Held.ensures.sees says)
+    c.show-2.ensures.line
 
 pub returns-in-Held-clause-keeps : goal.returns-in-Held-clause-keeps
-returns-in-Held-clause-keeps g c = ?
+returns-in-Held-clause-keeps g c = keeps_nothing _ _ _ _ (ap (λ s. s.commits.items) c.show-2.ensures.rest) c.db.ensures.commits

@@ -1,0 +1,54 @@
+use Rattle.std.proofs.Common.{refl, sym, ap, ◌∙◌, subst, map, arith}
+use Rattle.edn_form.specs.View.{form_of}
+use Rattle.fb_session.specs.Sessions.{fixed, Replied, StopsAt}
+use Rattle.fb_session.proofs.TalkingOn.{talk-opened, talk-replied, talk-no_command, talk-stops}
+use Rattle.fb_session.proofs.serve.Session+Picks.answer_all.Goals as goal
+
+pub forms-init : goal.forms-init
+forms-init g c =
+    record {
+      table = refl;
+      left = omega (arith, c.requires.left);
+      talk = talk-opened _ _ c.args.script.now c.args.self.now _ _ c.requires.opened;
+      count = refl;
+    }
+
+pub returns-in-Err-clause-answers : goal.returns-in-Err-clause-answers
+returns-in-Err-clause-answers g c =
+    talk-no_command _ _ c.args.script.now _ _ c.forms.self _ _ c.forms.at c.forms.invariant.talk c.in-Err.end c.in-Err.ensures.err
+
+pub returns-in-Err-answered-clause-answers : goal.returns-in-Err-answered-clause-answers
+returns-in-Err-answered-clause-answers g c =
+    let state = g.T.Desk.state in
+    let contents = g.O.Sink.contents in
+    let so_far = c.forms.invariant.talk in
+    let read = c.in-Ok.ensures.ok in
+    let form = form_of c.in-Ok.form in
+    let new = c.answer-answered.new.self in
+    let stopped = subst
+    (λ table. StopsAt (fixed (g.K.Clock.may_answer c.args.clock.now) (g.G.Guard.bars c.args.guard.now) (g.P.FilterTable.place_of table.now) (g.P.FilterTable.selects_at table.now)) form c.forms.self new
+    (λ p. map (g.P.FilterTable.name_at p.table.now) p.places.items) (state c.forms.desk) (state c.answer-answered.new.desk) so_far.standing (contents c.forms.sink) (contents c.answer-answered.new.sink) c.in-Err-answered.stop)
+    c.forms.invariant.table (c.in-Err-answered.ensures.err so_far.standing so_far.stands) in
+    rw c.end.ensures
+    (talk-stops _ _ c.args.script.now _ (state c.forms.desk) c.forms.self _ _ c.forms.at so_far (state c.answer-answered.new.desk) new c.answer-answered.ensures.goes_on c.in-Ok.next form
+    read.ahead read.within read.room read.stands _ c.in-Err-answered.stop stopped)
+
+pub forms-preserved : goal.forms-preserved
+forms-preserved g c =
+    let state = g.T.Desk.state in
+    let contents = g.O.Sink.contents in
+    let so_far = c.forms.invariant.talk in
+    let read = c.in-Ok.ensures.ok in
+    let form = form_of c.in-Ok.form in
+    let new = c.answer-answered.new.self in
+    let replied = subst
+    (λ table. Replied (fixed (g.K.Clock.may_answer c.args.clock.now) (g.G.Guard.bars c.args.guard.now) (g.P.FilterTable.place_of table.now) (g.P.FilterTable.selects_at table.now)) form c.forms.self new
+    (λ p. map (g.P.FilterTable.name_at p.table.now) p.places.items) (state c.forms.desk) (state c.answer-answered.new.desk) so_far.standing (contents c.forms.sink) (contents c.answer-answered.new.sink))
+    c.forms.invariant.table (c.in_default.ensures.ok so_far.standing so_far.stands) in
+    record {
+      table = c.answer-answered.ensures.table ∙ c.forms.invariant.table;
+      left = omega (arith, c.forms.invariant.left, c.answer-answered.ensures.goes_on.left, c.in_default.ensures.places);
+      talk = talk-replied _ _ c.args.script.now _ (state c.forms.desk) c.forms.self _ _ c.forms.at so_far (state c.answer-answered.new.desk) new c.answer-answered.ensures.goes_on c.in-Ok.next form
+          read.ahead read.within read.room read.stands _ replied;
+      count = c.in_default.ensures.count ∙ c.forms.invariant.count;
+    }
