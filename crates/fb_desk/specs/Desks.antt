@@ -23,6 +23,8 @@ pub record Tally : Type 0 where
 pub record State : Type 0 where
   -- the history of the last snapshot that the desk was answered
   pub entries : List Entry
+  -- the t of its last entry when the database was opened
+  pub opening : ℕ
   -- the t of each transaction that was accepted through it
   pub commits : List ℕ
   -- the t that the log did not take, once the desk was told of one, and whether it was this desk's transaction
@@ -41,11 +43,13 @@ synced tally = record tally { syncs = tally.syncs + 1 }
 abbrev pub not_accepted : Tally → Tally
 not_accepted tally = record tally { unaccepted = tally.unaccepted + 1 }
 
--- The history has all that was seen before, and stays lawful. A log that has stopped stays so. A call is used up at most.
+-- The history has all that was seen before, since the same opening, and stays lawful. A log that has stopped stays so. A
+-- call is used up at most.
 pub record GoesOn (old new : State) : Type 0 where
   pub more : List Entry
   pub entries : new.entries ≡ old.entries ++ more
   pub lawful : IsLawful old.entries → IsLawful new.entries
+  pub opening : new.opening ≡ old.opening
   pub stop : (old.stop ≡ None) ⊎ ((new.stop ≡ old.stop) × (new.teller ≡ old.teller))
   pub left : old.left ≤ new.left + 1
 
