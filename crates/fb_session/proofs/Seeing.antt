@@ -21,7 +21,7 @@ use Rattle.fb_session.specs.Sessions.{Fixed, Sees, Shows, Keeps, Received, Denie
 
 -- a desk that was not asked
 pub goes_on-nowhere : (desk : State) → GoesOn desk desk
-goes_on-nowhere desk = record { more = []; entries = sym (append-nil desk.entries); lawful = λ lawful. lawful; stop = inr (refl, refl); left = omega arith }
+goes_on-nowhere desk = record { more = []; entries = sym (append-nil desk.entries); lawful = λ lawful. lawful; opening = refl; stop = inr (refl, refl); left = omega arith }
 
 module _ {S : Type 0} (old new : Session S) (was is : State) where
   pub keeps_nothing : new.commits.items ≡ old.commits.items → is.commits ≡ was.commits → Keeps old new was is None

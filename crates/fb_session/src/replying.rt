@@ -1,4 +1,5 @@
 //! Which command a form is, and its line.
+ghost use denote.Param.Send.{IsSync};
 ghost use Rattle.std.specs.Prelude.{◌≡◌, ◌<◌, IsTrue, OnOk, OnErr, vec_len, vec_capacity, is_some, map, None};
 ghost use Rattle.std.specs.Option.{option_map};
 ghost use Rattle.edn_form.specs.View.{form_of};
@@ -37,6 +38,7 @@ impl<P: FilterTable> Session<Picks<'_, P>> {
         guard: &G,
         form: &Edn,
     ) -> Result<(), Memory>
+        requires sync { IsSync R.row }
         requires left { 0 < (T.state desk.old).left }
         requires room { vec_len self.old.commits < vec_capacity self.old.commits }
         ensures goes_on { GoesOn (T.state desk.old) (T.state desk.new) }

@@ -1,4 +1,5 @@
 //! The loop over the forms of a script.
+ghost use denote.Param.Send.{IsSync};
 ghost use Rattle.std.specs.Prelude.{◌≡◌, ◌≤◌, ◌<◌, ◌+◌, ◌++◌, IfOk, IfErr, OnOk, OnErr, length, is_some, map};
 ghost use Rattle.edn_form.specs.View.{form_of};
 ghost use Rattle.fb_model.specs.History.{basis};
@@ -75,7 +76,8 @@ pub fn serve_desk<
     guard: &G,
     preds: &P,
 ) -> Served
-    requires { 1_000_000 ≤ (T.state desk.old).left }
+    requires sync { IsSync R.row }
+    requires left { 1_000_000 ≤ (T.state desk.old).left }
     ensures replies { Replies
         (setting (K.may_answer clock.now) (selected_by (P.place_of preds.now) (P.selects_at preds.now)) (G.bars guard.now) (λ name. is_some (P.place_of preds.now name)) (T.state desk.new).entries (T.state desk.new).stop (T.state desk.new).teller)
         (basis (T.state desk.old).entries) (I.left source.old) (I.left source.new) (O.contents sink.old) (O.contents sink.new) result.places result.commits result.end }
@@ -120,7 +122,8 @@ fn serve_script<
     guard: &G,
     preds: &P,
 ) -> Served
-    requires { 1_000_000 ≤ (T.state desk.old).left }
+    requires sync { IsSync R.row }
+    requires left { 1_000_000 ≤ (T.state desk.old).left }
     ensures answers { Talks (fixed (K.may_answer clock.now) (G.bars guard.now) (P.place_of preds.now) (P.selects_at preds.now)) script.now
         (T.state desk.old) (T.state desk.new) result.places result.commits (O.contents sink.old) (O.contents sink.new) result.end }
     ensures count { SinkCount result.end (O.faults sink.old) (O.faults sink.new) }
@@ -144,6 +147,7 @@ impl<P: FilterTable> Session<Picks<'_, P>> {
         clock: &K,
         guard: &G,
     ) -> SessionEnd
+        requires sync { IsSync R.row }
         requires opened { IsOpened self.old (λ p. map (P.name_at p.table.now) p.places.items) (T.state desk.old) }
         requires left { 1_000_000 ≤ (T.state desk.old).left }
         ensures answers { Talks (fixed (K.may_answer clock.now) (G.bars guard.now) (P.place_of self.old.view.filter.table.now) (P.selects_at self.old.view.filter.table.now)) script.now
@@ -196,7 +200,8 @@ impl<P: FilterTable> Session<Picks<'_, P>> {
         guard: &G,
         form: &Edn,
     ) -> Result<(), Stop>
-        requires { 0 < (T.state desk.old).left }
+        requires sync { IsSync R.row }
+        requires left { 0 < (T.state desk.old).left }
         ensures goes_on { GoesOn (T.state desk.old) (T.state desk.new) }
         ensures ok { OnOk result ((before : Standing) → StandsAt self.old.view (λ p. map (P.name_at p.table.now) p.places.items) (T.state desk.old) before
             → Replied (fixed (K.may_answer clock.now) (G.bars guard.now) (P.place_of self.old.view.filter.table.now) (P.selects_at self.old.view.filter.table.now)) (form_of form.now) self.old self.new (λ p. map (P.name_at p.table.now) p.places.items) (T.state desk.old) (T.state desk.new) before (O.contents sink.old) (O.contents sink.new)) }
