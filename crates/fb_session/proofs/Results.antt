@@ -19,3 +19,7 @@ pushed (Err e) new old x no_err is = absurd (true≢false (sym no_err))
 pub at_err : {T E : Type 0} (r : Result T E) (P : Type 0) → P → OnErr r P
 at_err (Ok x) P fact = tt
 at_err (Err e) P fact = fact
+
+pub on_ok_both : {T E P Q R : Type 0} (r : Result T E) → (P → Q → R) → OnOk r P → OnOk r Q → OnOk r R
+on_ok_both (Ok x) f p q = f p q
+on_ok_both (Err e) f p q = tt

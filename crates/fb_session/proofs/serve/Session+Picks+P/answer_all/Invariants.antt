@@ -1,7 +1,7 @@
 use Rattle.std.proofs.Common.{◌≡◌, ◌+◌, ◌-◌, ◌≤◌, length, map}
 use Rattle.script_model.specs.Script.{most_commands}
 use Rattle.fb_session.specs.Sessions.{fixed, TalkSoFar}
-use Rattle.fb_session.proofs.serve.Session+Picks.answer_all.Given as goal
+use Rattle.fb_session.proofs.serve.Session+Picks+P.answer_all.Given as goal
 
 -- the talk over the forms so far
 abbrev pub invariant-forms : goal.invariant-forms

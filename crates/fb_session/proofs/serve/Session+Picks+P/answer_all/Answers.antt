@@ -2,7 +2,7 @@ use Rattle.std.proofs.Common.{refl, sym, ap, ◌∙◌, subst, map, arith}
 use Rattle.edn_form.specs.View.{form_of}
 use Rattle.fb_session.specs.Sessions.{fixed, Replied, StopsAt}
 use Rattle.fb_session.proofs.TalkingOn.{talk-opened, talk-replied, talk-no_command, talk-stops}
-use Rattle.fb_session.proofs.serve.Session+Picks.answer_all.Goals as goal
+use Rattle.fb_session.proofs.serve.Session+Picks+P.answer_all.Goals as goal
 
 pub forms-init : goal.forms-init
 forms-init g c =

@@ -2,7 +2,7 @@ use Rattle.std.proofs.Common.{refl, sym, ap, ◌∙◌, inl, ◌++◌, [], ◌�
 use Rattle.std.proofs.lemmas.Result.{err_from_is_err_and}
 use Rattle.fb_session.proofs.Results.{fact_at_err, fact_at_ok, pushed}
 use Rattle.fb_session.proofs.Seeing.{goes_on-nowhere, answered_before, unanswered_before, answered_behind, place_of_view}
-use Rattle.fb_session.proofs.serve.Session+Picks.answer.Goals as goal
+use Rattle.fb_session.proofs.serve.Session+Picks+P.answer.Goals as goal
 
 pub returns-in_err-make_room-clause-goes_on : goal.returns-in_err-make_room-clause-goes_on
 returns-in_err-make_room-clause-goes_on g c = goes_on-nowhere (g.T.Desk.state c.args.desk.now)

@@ -5,7 +5,7 @@ use Rattle.fb_desk.specs.Desks.{State, GoesOn}
 use Rattle.fb_session.proofs.Seeing.{goes_on-nowhere}
 use Rattle.fb_session.proofs.Deciding.{answered_transaction, unanswered_transaction}
 use Rattle.fb_session.proofs.Looking.{answered_db, answered_sync, answered_read}
-use Rattle.fb_session.proofs.replying.Session+Picks.reply.Goals as goal
+use Rattle.fb_session.proofs.replying.Session+Picks+P.reply.Goals as goal
 
 pub returns-in-Some-Transact-clause-ok : goal.returns-in-Some-Transact-clause-ok
 returns-in-Some-Transact-clause-ok g c =

@@ -1,0 +1,19 @@
+use Rattle.std.proofs.Common.{subst}
+use Rattle.fb_session.specs.Sessions.{fixed, Talks}
+use Rattle.fb_session.proofs.Serving.{talks-unopened}
+use Rattle.fb_session.proofs.serve.serve_script.Goals as goal
+
+pub returns-in_default-clause-answers : goal.returns-in_default-clause-answers
+returns-in_default-clause-answers g c =
+    rw c.nothing.ensures.end (talks-unopened _ c.args.script.now _ c.nothing.result.places c.nothing.result.commits _ c.nothing.ensures.places c.nothing.ensures.commits)
+
+pub returns-clause-answers : goal.returns-clause-answers
+returns-clause-answers g c =
+    let state = g.T.Desk.state in
+    let contents = g.O.Sink.contents in
+    let session = c.answer_all.new.self in
+    let talks = subst
+    (λ table. Talks (fixed (g.K.Clock.may_answer c.args.clock.now) (g.G.Guard.bars c.args.guard.now) (g.P.FilterTable.place_of table) (g.P.FilterTable.selects_at table)) c.args.script.now
+    (state c.args.desk.now) (state c.answer_all.new.desk) session.places.items session.commits.items (contents c.args.sink.now) (contents c.answer_all.new.sink) c.answer_all.result)
+    c.in-Ok.ensures.table c.answer_all.ensures.answers in
+    rw (c.served.ensures.end, c.served.ensures.places, c.served.ensures.commits) talks
