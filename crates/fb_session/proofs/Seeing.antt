@@ -85,12 +85,26 @@ module _ {S : Type 0} (f : Fixed) (form : Form) (old roomy new : Session S) (nam
   keeps_before : (commit : Option ℕ) → Keeps roomy new was is commit → Keeps old new was is commit
   keeps_before commit keeps = record { commits = keeps.commits ∙ ap (λ cs. cs ++ option_to_list commit) same; desk = keeps.desk }
 
-  pub answered_before : (line : List ℕ) → Answered f form roomy new names was is before line → Answered f form old new names was is before line
+  answered_before : (line : List ℕ) → Answered f form roomy new names was is before line → Answered f form old new names was is before line
   answered_before line a =
       record { after = a.after; commit = a.commit; answered = a.answered; stands = a.stands; keeps = keeps_before a.commit a.keeps }
 
-  pub unanswered_before : Unanswered f form roomy new names was is before → Unanswered f form old new names was is before
+  unanswered_before : Unanswered f form roomy new names was is before → Unanswered f form old new names was is before
   unanswered_before u = elim u [ inl keeps ↦ inl (keeps_before None keeps) | inr part ↦ inr (part.0, answered_before part.0 part.1) ]
+
+-- and whose table stayed the same
+module _ {S : Type 0} (old roomy new : Session S) (fix : S → Fixed) (names : S → List (List ℕ)) (form : Form) (was is : State) (view : roomy.view ≡ old.view) (same : roomy.commits.items ≡ old.commits.items) where
+  pub answered_with_room : (line : List ℕ) → ((before : Standing) → StandsAt roomy.view names was before → Answered (fix roomy.view.filter) form roomy new names was is before line)
+      → (before : Standing) → StandsAt old.view names was before → Answered (fix old.view.filter) form old new names was is before line
+  answered_with_room line told before stands =
+      let Tells : Db S → Type 0 = λ v. StandsAt v names was before → Answered (fix v.filter) form roomy new names was is before line in
+      answered_before (fix old.view.filter) form old roomy new names was is before same line (subst Tells view (told before) stands)
+
+  pub unanswered_with_room : ((before : Standing) → StandsAt roomy.view names was before → Unanswered (fix roomy.view.filter) form roomy new names was is before)
+      → (before : Standing) → StandsAt old.view names was before → Unanswered (fix old.view.filter) form old new names was is before
+  unanswered_with_room told before stands =
+      let Tells : Db S → Type 0 = λ v. StandsAt v names was before → Unanswered (fix v.filter) form roomy new names was is before in
+      unanswered_before (fix old.view.filter) form old roomy new names was is before same (subst Tells view (told before) stands)
 
 -- and whose place was kept behind
 pub answered_behind : {S : Type 0} (f : Fixed) (form : Form) (old new later : Session S) (names : S → List (List ℕ)) (was is : State) (before : Standing) (line : List ℕ)

@@ -61,6 +61,7 @@ over f desk = setting f.may f.Selects f.guard f.is_filter desk.entries desk.stop
 pub record WentOn (old new : State) : Type 0 where
   pub more : List Entry
   pub entries : new.entries ≡ old.entries ++ more
+  pub opening : new.opening ≡ old.opening
   pub stop : (old.stop ≡ None) ⊎ ((new.stop ≡ old.stop) × (new.teller ≡ old.teller))
 
 -- ---- between two commands

@@ -11,9 +11,9 @@ pub returns-clause-answers : goal.returns-clause-answers
 returns-clause-answers g c =
     let state = g.T.Desk.state in
     let contents = g.O.Sink.contents in
-    let session = c.answer_all.new.self in
+    let session = c.answer_all-end.new.self in
     let talks = subst
     (λ table. Talks (fixed (g.K.Clock.may_answer c.args.clock.now) (g.G.Guard.bars c.args.guard.now) (g.P.FilterTable.place_of table) (g.P.FilterTable.selects_at table)) c.args.script.now
-    (state c.args.desk.now) (state c.answer_all.new.desk) session.places.items session.commits.items (contents c.args.sink.now) (contents c.answer_all.new.sink) c.answer_all.result)
-    c.in-Ok.ensures.table c.answer_all.ensures.answers in
+    (state c.args.desk.now) (state c.answer_all-end.new.desk) session.places.items session.commits.items (contents c.args.sink.now) (contents c.answer_all-end.new.sink) c.answer_all-end.result)
+    c.in-Ok.ensures.table c.answer_all-end.ensures.answers in
     rw (c.served.ensures.end, c.served.ensures.places, c.served.ensures.commits) talks

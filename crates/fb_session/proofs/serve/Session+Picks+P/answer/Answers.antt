@@ -1,7 +1,10 @@
-use Rattle.std.proofs.Common.{refl, sym, ap, ◌∙◌, inl, ◌++◌, [], ◌∷◌}
+use Rattle.std.proofs.Common.{refl, sym, ap, ◌∙◌, inl, ◌++◌, [], ◌∷◌, map}
 use Rattle.std.proofs.lemmas.Result.{err_from_is_err_and}
+use Rattle.edn_form.specs.View.{form_of}
+use Rattle.fb_model.specs.History.{basis}
+use Rattle.fb_session.specs.Sessions.{fixed}
 use Rattle.fb_session.proofs.Results.{fact_at_err, fact_at_ok, pushed}
-use Rattle.fb_session.proofs.Seeing.{goes_on-nowhere, answered_before, unanswered_before, answered_behind, place_of_view}
+use Rattle.fb_session.proofs.Seeing.{goes_on-nowhere, answered_with_room, unanswered_with_room, answered_behind, place_of_view}
 use Rattle.fb_session.proofs.serve.Session+Picks+P.answer.Goals as goal
 
 pub returns-in_err-make_room-clause-goes_on : goal.returns-in_err-make_room-clause-goes_on
@@ -9,37 +12,46 @@ returns-in_err-make_room-clause-goes_on g c = goes_on-nowhere (g.T.Desk.state c.
 
 pub returns-in_err-reply-clause-err : goal.returns-in_err-reply-clause-err
 returns-in_err-reply-clause-err g c =
+    let state = g.T.Desk.state in
     let room = c.in_ok-make_room.ensures in
     let p = err_from_is_err_and c.from_residual-in_err-reply.result c.from_residual-in_err-reply.ensures.1 in
-    rw (p.1, p.2, ← room.view)
+    rw (p.1, p.2)
     (λ before stands. record {
-      unanswered = unanswered_before _ _ c.args.self.now c.make_room.new.self c.reply.new.self _ _ _ before room.commits (c.in_err-reply.ensures.err before stands);
+      unanswered = unanswered_with_room c.args.self.now c.make_room.new.self c.reply.new.self
+          (λ p. fixed (g.K.Clock.may_answer c.args.clock.now) (g.G.Guard.bars c.args.guard.now) (g.P.FilterTable.place_of p.table.now) (g.P.FilterTable.selects_at p.table.now))
+          (λ p. map (g.P.FilterTable.name_at p.table.now) p.places.items) (form_of c.args.form.now) (state c.args.desk.now) (state c.reply.new.desk) room.view room.commits
+          c.in_err-reply.ensures.err before stands;
       places = ap (λ v. v.items) c.in_err-reply.ensures.places ∙ room.places;
       written = refl;
     })
 
 pub returns-then-is_err-clause-err : goal.returns-then-is_err-clause-err
-returns-then-is_err-clause-err g c =
+returns-then-is_err-clause-err g c = λ before stands.
+    let state = g.T.Desk.state in
     let room = c.in_ok-make_room.ensures in
-    rw (← room.view)
-    (λ before stands. record {
-      line = c.reply.new.self.line.items;
-      answered = answered_before _ _ c.args.self.now c.make_room.new.self c.reply.new.self _ _ _ before room.commits _ (c.in_ok-reply.ensures.ok before stands);
-      places = ap (λ v. v.items) c.in_ok-reply.ensures.places ∙ room.places;
-      written = rw (← c.as_slice.ensures.value) (fact_at_err c.write_line.result _ c.if-is_err.ensures.value c.write_line.ensures.part);
-    })
-
-pub returns-clause-ok : goal.returns-clause-ok
-returns-clause-ok g c =
-    let room = c.in_ok-make_room.ensures in
-    rw (← room.view)
-    (λ before stands.
-    let answered = c.in_ok-reply.ensures.ok before stands in
     record {
       line = c.reply.new.self.line.items;
-      answered = answered_behind _ _ c.args.self.now c.reply.new.self _ _ _ _ before _ refl refl (answered_before _ _ c.args.self.now c.make_room.new.self c.reply.new.self _ _ _ before room.commits _ answered);
+      answered = answered_with_room c.args.self.now c.make_room.new.self c.reply.new.self
+          (λ p. fixed (g.K.Clock.may_answer c.args.clock.now) (g.G.Guard.bars c.args.guard.now) (g.P.FilterTable.place_of p.table.now) (g.P.FilterTable.selects_at p.table.now))
+          (λ p. map (g.P.FilterTable.name_at p.table.now) p.places.items) (form_of c.args.form.now) (state c.args.desk.now) (state c.reply.new.desk) room.view room.commits _
+          c.in_ok-reply.ensures.ok before stands;
+      places = ap (λ v. v.items) c.in_ok-reply.ensures.places ∙ room.places;
+      written = rw (← c.as_slice.ensures.value) (fact_at_err c.write_line.result _ c.if-is_err.ensures.value c.write_line.ensures.part);
+    }
+
+pub returns-clause-ok : goal.returns-clause-ok
+returns-clause-ok g c = λ before stands.
+    let state = g.T.Desk.state in
+    let room = c.in_ok-make_room.ensures in
+    let answered = answered_with_room c.args.self.now c.make_room.new.self c.reply.new.self
+    (λ p. fixed (g.K.Clock.may_answer c.args.clock.now) (g.G.Guard.bars c.args.guard.now) (g.P.FilterTable.place_of p.table.now) (g.P.FilterTable.selects_at p.table.now))
+    (λ p. map (g.P.FilterTable.name_at p.table.now) p.places.items) (form_of c.args.form.now) (state c.args.desk.now) (state c.reply.new.desk) room.view room.commits _
+    c.in_ok-reply.ensures.ok before stands in
+    record {
+      line = c.reply.new.self.line.items;
+      answered = answered_behind _ _ c.args.self.now c.reply.new.self _ _ _ _ before _ refl refl answered;
       places = pushed c.push.result c.push.new.self.items c.reply.new.self.places.items c.place.result c.if-is_err-2.ensures.value c.push.ensures.items
           ∙ ap (λ ps. ps ++ c.place.result ∷ []) (ap (λ v. v.items) c.in_ok-reply.ensures.places ∙ room.places)
           ∙ ap (λ place. c.args.self.now.places.items ++ place ∷ []) (c.place.ensures ∙ place_of_view c.reply.new.self.view _ _ _ answered.stands);
       written = rw (← c.as_slice.ensures.value) (fact_at_ok c.write_line.result _ c.if-is_err.ensures.value c.write_line.ensures.whole);
-    })
+    }

@@ -8,11 +8,11 @@ abbrev pub invariant-forms : goal.invariant-forms
 invariant-forms g l =
     let state = g.T.Desk.state in
     let contents = g.O.Sink.contents in
-    let table = l.fn.self.view.filter.table.now in
+    let preds = l.fn.self.view.filter.table.now in
     record {
       table : l.self.view.filter.table ≡ l.fn.self.view.filter.table;
       left : most_commands ≤ length l.self.places.items + (state l.desk).left;
-      talk : TalkSoFar (fixed (g.K.Clock.may_answer l.clock) (g.G.Guard.bars l.guard) (g.P.FilterTable.place_of table) (g.P.FilterTable.selects_at table)) l.script l.at l.self
+      talk : TalkSoFar (fixed (g.K.Clock.may_answer l.clock) (g.G.Guard.bars l.guard) (g.P.FilterTable.place_of preds) (g.P.FilterTable.selects_at preds)) l.script l.at l.self
           (λ p. map (g.P.FilterTable.name_at p.table.now) p.places.items) (state l.fn.desk) (state l.desk) (contents l.fn.sink) (contents l.sink);
       count : g.O.Sink.faults l.sink ≡ g.O.Sink.faults l.fn.sink;
     }

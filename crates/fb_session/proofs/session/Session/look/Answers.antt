@@ -9,12 +9,12 @@ returns-in_err-snapshot-clause-keeps g c = keeps_nothing _ _ _ _ refl c.db.ensur
 pub returns-in-Fresh-clause-shows : goal.returns-in-Fresh-clause-shows
 returns-in-Fresh-clause-shows g c =
     let state = g.T.Desk.state in
-    on_ok_weaker c.show-in-Fresh.result
-    (λ says. shows_from c.args.self.now c.show-in-Fresh.new.self (state c.args.desk.now) (state c.db.new.self) c.in-Fresh.snapshot c.show-in-Fresh.ensures.view (rw c.in-Fresh.is at c.in_ok-snapshot.ensures).sees says)
-    c.show-in-Fresh.ensures.line
+    on_ok_weaker c.show.result
+    (λ says. shows_from c.args.self.now c.show.new.self (state c.args.desk.now) (state c.db.new.self) c.in-Fresh.snapshot c.show.ensures.view (rw c.in-Fresh.is at c.in_ok-snapshot.ensures).sees says)
+    c.show.ensures.line
 
 pub returns-in-Fresh-clause-keeps : goal.returns-in-Fresh-clause-keeps
-returns-in-Fresh-clause-keeps g c = keeps_nothing _ _ _ _ (ap (λ s. s.commits.items) c.show-in-Fresh.ensures.rest) c.db.ensures.commits
+returns-in-Fresh-clause-keeps g c = keeps_nothing _ _ _ _ (ap (λ s. s.commits.items) c.show.ensures.rest) c.db.ensures.commits
 
 pub returns-in-Held-clause-shows : goal.returns-in-Held-clause-shows
 returns-in-Held-clause-shows g c =
