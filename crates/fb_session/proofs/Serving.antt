@@ -11,7 +11,7 @@ use Rattle.fb_session.specs.declared.outcome.SessionEnd.{SessionEnd}
 use Rattle.fb_session.specs.declared.outcome.SessionEnd.TheVariants as ended
 use Rattle.fb_session.specs.declared.reading.ReadStop.TheVariants as stopped
 use Rattle.fb_session.specs.Taken.{TakesAll, TakesSome}
-use Rattle.fb_session.specs.Replies.{Replies, SourceCount}
+use Rattle.fb_session.specs.Replies.{Replies}
 use Rattle.fb_session.specs.Sessions.{Fixed, over, IsPastReading, Talks}
 use Rattle.fb_session.proofs.KnownBytes.{append_known-none}
 use Rattle.fb_session.proofs.TalkingOn.{went_on-nothing}
@@ -62,9 +62,6 @@ no_line ps cs p q line =
     let Q : List ℕ → Type 0 = λ xs. IsTrue (false || (nat_lt 0 0 || nat_lt 0 (length xs))) in
     absurd (true≢false (sym (subst Q q (subst P p line))))
 
-pub prefixes-none : (b : ℕ) (places commits : List ℕ) → places ≡ [] → commits ≡ [] → Prefixes b b places commits
-prefixes-none b places commits p q = Prefixes-SeesAll b b places commits (rw p (inl q))
-
 -- memory was refused before
 pub replies-unread : (f : Fixed) (start : State) (places commits : List ℕ) (held left had : Option (List ℕ)) → places ≡ [] → commits ≡ [] → TakesSome stopped.Memory held left
     → Replies (over f start) (basis start.entries) held left had had places commits ended.Memory
@@ -85,40 +82,3 @@ replies-unread f start places commits held left had p q some =
       too_long = (λ same. absurd (cc), λ more. absurd (omega (arith, some.stopped)));
       all = λ line. absurd (no_line places commits p q line);
     }
-
--- more bytes than a script may have
-pub replies-too_long : (f : Fixed) (start : State) (places commits : List ℕ) (held left had : Option (List ℕ)) → places ≡ [] → commits ≡ [] → TakesSome stopped.TooLong held left
-    → Replies (over f start) (basis start.entries) held left had had places commits ended.TooLong
-replies-too_long f start places commits held left had p q some =
-    record {
-      script = some.bytes;
-      written = [];
-      taken = some.taken;
-      gained = sym (append_known-none had);
-      answers = record { nothing_written = refl; no_place = p; no_commit = q };
-      too_long = (λ _. some.stopped, λ _. refl);
-      all = λ line. absurd (no_line places commits p q line);
-    }
-
--- the source failed
-pub replies-fault : (f : Fixed) (start : State) (places commits : List ℕ) (held left had : Option (List ℕ)) → places ≡ [] → commits ≡ [] → TakesSome stopped.Fault held left
-    → Replies (over f start) (basis start.entries) held left had had places commits ended.ReadFault
-replies-fault f start places commits held left had p q some =
-    record {
-      script = some.bytes;
-      written = [];
-      taken = some.taken;
-      gained = sym (append_known-none had);
-      answers = record { nothing_written = refl; no_place = p; no_commit = q };
-      too_long = (λ same. absurd (cc), λ more. absurd (omega (arith, some.stopped)));
-      all = λ line. absurd (no_line places commits p q line);
-    }
-
-pub source_count-past : (how : SessionEnd) (old new : ℕ) → IsPastReading how → new ≡ old → SourceCount how old new
-source_count-past ended.Done old new past same = same
-source_count-past (ended.Script why) old new past same = same
-source_count-past ended.TooMany old new past same = same
-source_count-past ended.TooLong old new past same = absurd past
-source_count-past ended.ReadFault old new past same = absurd past
-source_count-past ended.WriteFault old new past same = same
-source_count-past ended.Memory old new past same = same

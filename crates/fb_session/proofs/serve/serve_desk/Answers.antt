@@ -1,6 +1,7 @@
 use Rattle.std.proofs.Common.{ℕ, List, sym, subst}
 use Rattle.fb_session.specs.Taken.{TakesAll}
-use Rattle.fb_session.proofs.Serving.{replies-whole, replies-unread, replies-too_long, replies-fault, prefixes-talk, prefixes-none, source_count-past}
+use Rattle.fb_session.specs.Sessions.{fixed}
+use Rattle.fb_session.proofs.Serving.{replies-whole, replies-unread, prefixes-talk}
 use Rattle.fb_session.proofs.TalkingOn.{went_on-nothing}
 use Rattle.fb_session.proofs.serve.serve_desk.Goals as goal
 
@@ -12,3 +13,20 @@ returns-in-Ok-clause-replies g c =
 
 pub returns-in-Ok-clause-prefixes : goal.returns-in-Ok-clause-prefixes
 returns-in-Ok-clause-prefixes g c = prefixes-talk _ _ _ _ _ _ _ _ _ c.serve_script.ensures.answers
+
+pub returns-in-Err-TooLong-clause-went_on : goal.returns-in-Err-TooLong-clause-went_on
+returns-in-Err-TooLong-clause-went_on g c = went_on-nothing (g.T.Desk.state c.args.desk.now)
+
+pub returns-in-Err-Fault-clause-went_on : goal.returns-in-Err-Fault-clause-went_on
+returns-in-Err-Fault-clause-went_on g c = went_on-nothing (g.T.Desk.state c.args.desk.now)
+
+pub returns-in-Err-Memory-clause-replies : goal.returns-in-Err-Memory-clause-replies
+returns-in-Err-Memory-clause-replies g c =
+    let table = c.args.preds.now in
+    let nothing = c.nothing-in-Err-Memory in
+    rw nothing.ensures.end
+    (replies-unread (fixed (g.K.Clock.may_answer c.args.clock.now) (g.G.Guard.bars c.args.guard.now) (g.P.FilterTable.place_of table) (g.P.FilterTable.selects_at table))
+    (g.T.Desk.state c.args.desk.now) nothing.result.places nothing.result.commits _ _ _ nothing.ensures.places nothing.ensures.commits (rw c.in-Err-Memory.field-0-is at c.in-Err-Memory.ensures).stopped)
+
+pub returns-in-Err-Memory-clause-went_on : goal.returns-in-Err-Memory-clause-went_on
+returns-in-Err-Memory-clause-went_on g c = went_on-nothing (g.T.Desk.state c.args.desk.now)

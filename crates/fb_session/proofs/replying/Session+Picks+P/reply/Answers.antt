@@ -1,4 +1,4 @@
-use Rattle.std.proofs.Common.{refl, sym, ap, ◌∙◌, subst, inl}
+use Rattle.std.proofs.Common.{refl, sym, ap, ◌∙◌, subst, rules}
 use Rattle.std.proofs.lemmas.Result.{on_ok_weaker, on_err_weaker}
 use Rattle.edn_form.specs.View.{form_of}
 use Rattle.fb_desk.specs.Desks.{State, GoesOn}
@@ -68,5 +68,5 @@ pub returns-in_default-clause-ok : goal.returns-in_default-clause-ok
 returns-in_default-clause-ok g c =
     let state = g.T.Desk.state in
     on_ok_weaker c.read-in_default.result
-    (λ reads before stands. answered_read _ _ (state c.args.desk.now) before c.args.self.now c.read-in_default.new.self stands _ reads (form_of c.args.form.now) (sym c.command_in.ensures) c.read-in_default.ensures.is_read (state c.args.desk.now) refl (ap (λ s. s.commits.items) c.read-in_default.ensures.rest))
+    (λ reads before stands. answered_read _ _ (state c.args.desk.now) before c.args.self.now c.read-in_default.new.self stands _ reads (form_of c.args.form.now) (search rules) c.read-in_default.ensures.is_read (state c.args.desk.now) refl (ap (λ s. s.commits.items) c.read-in_default.ensures.rest))
     c.read-in_default.ensures.ok
