@@ -1,5 +1,5 @@
 -- The talk of a session goes on by one form, and ends.
-use Rattle.std.proofs.Common.{◌≡◌, ℕ, ◌+◌, ◌<◌, ◌≤◌, ◌⊎◌, List, [], ◌∷◌, ◌++◌, Option, Some, None, length, refl, sym, ap, ◌∙◌, subst, inl, inr, arith, length-append, append_assoc, append-nil}
+use Rattle.std.proofs.Common.{◌≡◌, ℕ, ◌+◌, ◌<◌, ◌≤◌, ◌⊎◌, List, [], ◌∷◌, ◌++◌, Option, None, length, refl, sym, ap, ◌∙◌, subst, inl, inr, arith, length-append, append_assoc, append-nil}
 use Rattle.std.specs.Prelude.{option_to_list}
 use Rattle.std.specs.List.{concat}
 use Rattle.std.specs.Io.KnownBytes.{append_known}
@@ -15,7 +15,7 @@ use Rattle.fb_model.specs.History.{basis}
 use Rattle.fb_model.proofs.LawfulHistories.{IsLawful-length}
 use Rattle.script_model.specs.Script.{Ending, whole, fault, too_many, most_commands, EndsAt}
 use Rattle.script_model.proofs.OneScript.{FormsBetween-push}
-use Rattle.talk_model.specs.Session.{Standing, setting, opened_at}
+use Rattle.talk_model.specs.Session.{setting, opened_at}
 use Rattle.talk_model.specs.Talk.{Talk}
 use Rattle.talk_model.specs.Prefixes.{SeesAll}
 use Rattle.talk_model.proofs.Longer.{Talk-longer}
@@ -28,7 +28,7 @@ use Rattle.fb_session.specs.declared.session.Session.{Session}
 use Rattle.fb_session.specs.declared.serve.Stop.{Stop}
 use Rattle.fb_session.specs.declared.serve.Stop.TheVariants.{WriteFault, Memory}
 use Rattle.fb_session.specs.Replies.{AnswersAll, AnswersUpTo, SinkCount}
-use Rattle.fb_session.specs.Sessions.{Fixed, over, WentOn, StandsAt, IsOpened, Keeps, Answered, Unanswered, Replied, RepliedPart, RepliedNothing, StopsAt, end_of, TalkSoFar, NoCommand, Talks}
+use Rattle.fb_session.specs.Sessions.{Fixed, over, WentOn, IsOpened, Keeps, Answered, Replied, RepliedPart, StopsAt, end_of, TalkSoFar, NoCommand, Talks}
 use Rattle.fb_session.proofs.KnownBytes.{append_known-none, append_known-append}
 
 concat-push : (ls : List (List ℕ)) (line : List ℕ) → concat (ls ++ line ∷ []) ≡ concat ls ++ line
