@@ -44,13 +44,14 @@ stop_stays start was is (inr same) (inl none) = inl (sym same.0 ∙ none)
 stop_stays start was is (inr same) (inr later) = inr (later.0 ∙ same.0, later.1 ∙ same.1)
 
 pub went_on-nothing : (start : State) → WentOn start start
-went_on-nothing start = record { more = []; entries = sym (append-nil start.entries); opening = refl; stop = inr (refl, refl) }
+went_on-nothing start = record { more = []; entries = sym (append-nil start.entries); lawful = λ lawful. lawful; opening = refl; stop = inr (refl, refl) }
 
 pub went_on-more : (start was is : State) → WentOn start was → GoesOn was is → WentOn start is
 went_on-more start was is went goes =
     record {
       more = went.more ++ goes.more;
       entries = goes.entries ∙ ap (λ h. h ++ goes.more) went.entries ∙ append_assoc start.entries went.more goes.more;
+      lawful = λ lawful. goes.lawful (went.lawful lawful);
       opening = goes.opening ∙ went.opening;
       stop = stop_stays start was is went.stop goes.stop;
     }

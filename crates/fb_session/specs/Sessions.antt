@@ -57,10 +57,11 @@ fixed may guard place_of SelectsAt =
 abbrev pub over : Fixed → State → Setting
 over f desk = setting f.may f.Selects f.guard f.is_filter desk.entries desk.stop desk.teller
 
--- The desk has seen more of the history. A stop of the log stays as it is known.
+-- The desk has seen more of the history, since the same opening. A stop of the log stays as it is known.
 pub record WentOn (old new : State) : Type 0 where
   pub more : List Entry
   pub entries : new.entries ≡ old.entries ++ more
+  pub lawful : IsLawful old.entries → IsLawful new.entries
   pub opening : new.opening ≡ old.opening
   pub stop : (old.stop ≡ None) ⊎ ((new.stop ≡ old.stop) × (new.teller ≡ old.teller))
 
