@@ -1,13 +1,12 @@
 -- What a desk answers to a transaction is what the talk of its session says of that.
-use Rattle.std.proofs.Common.{◌≡◌, ◌≢◌, ℕ, ◌+◌, ◌-◌, ◌<◌, ◌≤◌, ℤ, Bool, true, false, ◌&&◌, List, [], ◌∷◌, ◌++◌, Option, Some, None, length, take, map, refl, sym, ap, ◌∙◌, subst, inl, inr, arith, length-append, append-nil}
-use Rattle.std.specs.Prelude.{codes, option_to_list}
+use Rattle.std.proofs.Common.{◌≡◌, ◌≢◌, ℕ, ◌+◌, ◌-◌, ◌<◌, ◌≤◌, ℤ, Bool, true, false, ◌&&◌, List, [], ◌∷◌, ◌++◌, Option, Some, None, length, take, map, refl, sym, ap, ◌∙◌, subst, inl, inr, arith, length-append}
+use Rattle.std.specs.Prelude.{codes}
 use Rattle.std.specs.List.{slice_get}
 use Rattle.std.proofs.Math.Seq.{take-length}
 use Rattle.std.proofs.lemmas.List.{take-append-le}
 use Rattle.edn_model.specs.Form.{Form, pairs}
 use Rattle.fb_values.specs.declared.facts.Entry.{Entry}
 use Rattle.fb_model.specs.History.{basis, upto}
-use Rattle.fb_model.specs.Lawful.{IsLawful}
 use Rattle.fb_model.proofs.LawfulHistories.{IsLawful-length}
 use Rattle.tx_refusals.specs.declared.reasons.Refusal.{Refusal}
 use Rattle.tx_refusals.specs.Reasons.{keyword_of}
@@ -24,7 +23,7 @@ use Rattle.fb_desk.specs.declared.answers.Receipt.{Receipt}
 use Rattle.fb_desk.specs.declared.answers.TxFault.{TxFault}
 use Rattle.fb_desk.specs.declared.answers.TxFault.TheVariants.{Refused, LogFault, Stopped, Memory}
 use Rattle.fb_session.specs.declared.session.Session.{Session}
-use Rattle.fb_session.specs.Sessions.{Fixed, over, StandsAt, Sees, Keeps, Received, Denied, SaysFault, Transacts, Stalls, Answered, Unanswered}
+use Rattle.fb_session.specs.Sessions.{Fixed, over, StandsAt, Sees, Received, Denied, Transacts, Stalls, Answered, Unanswered}
 
 -- ---- histories
 

@@ -1,5 +1,5 @@
 -- What is shown and read is what the talk of the session says of that.
-use Rattle.std.proofs.Common.{◌≡◌, ℕ, Bool, true, List, Option, Some, None, refl, sym, ap, ◌∙◌, subst, inl, inr, arith, append-nil}
+use Rattle.std.proofs.Common.{◌≡◌, ℕ, Bool, true, List, Option, Some, None, refl, sym, ap, ◌∙◌, subst, arith, append-nil}
 use Rattle.edn_model.specs.Form.{Form}
 use Rattle.fb_values.specs.declared.facts.Datom.{Datom}
 use Rattle.fb_values.specs.declared.facts.Entry.{Entry}
@@ -9,15 +9,14 @@ use Rattle.view_model.specs.Window.{Window}
 use Rattle.talk_model.specs.Commands.{Command, transact, db, sync, as_of, since, history, filter, unfilter, request_index, datoms, seek, index_range, tx_range, pull, command_in, is_read}
 use Rattle.talk_model.specs.Session.{Setting, Standing, moved, SelectedBy}
 use Rattle.talk_model.specs.Reads.{IsReply, behind}
-use Rattle.talk_model.specs.Replies.{IsLineOf}
 use Rattle.talk_model.specs.Talk.{IsShown, IsRead, AnswersCommand}
 use Rattle.talk_model.proofs.Steps.{behind-place, behind-told}
 use Rattle.fb_view.specs.Kept.{Kept}
 use Rattle.fb_db.specs.Seen.{window_of}
-use Rattle.fb_reads.specs.Answers.{Says, standing_at}
+use Rattle.fb_reads.specs.Answers.{standing_at}
 use Rattle.fb_desk.specs.Desks.{State, GoesOn}
 use Rattle.fb_session.specs.declared.session.Session.{Session}
-use Rattle.fb_session.specs.Sessions.{Fixed, over, StandsAt, Sees, Shows, Keeps, Reads, Answered}
+use Rattle.fb_session.specs.Sessions.{Fixed, over, StandsAt, Shows, Keeps, Reads, Answered}
 use Rattle.fb_session.proofs.Deciding.{upto-basis, grown, still_told, stands_behind}
 
 -- ---- what is shown

@@ -1,5 +1,5 @@
 -- What a result says where it is known which of the two it is.
-use Rattle.std.proofs.Common.{◌≡◌, ℕ, true, false, List, [], ◌∷◌, ◌++◌, Result, Ok, Err, refl, sym}
+use Rattle.std.proofs.Common.{◌≡◌, ℕ, true, false, List, [], ◌∷◌, ◌++◌, Result, Ok, Err, sym}
 use Rattle.std.specs.Prelude.{OnOk, OnErr, is_ok, is_err, if◌then◌else◌}
 use Rattle.std.proofs.lemmas.Bool.{true≢false}
 

@@ -1,5 +1,5 @@
 -- A session from its source to its end.
-use Rattle.std.proofs.Common.{◌≡◌, ℕ, false, ◌||◌, List, [], Option, length, refl, sym, subst, inl, inr, arith, append-nil}
+use Rattle.std.proofs.Common.{◌≡◌, ℕ, false, ◌||◌, List, [], Option, length, refl, sym, subst, inl, arith, append-nil}
 use Rattle.std.specs.Prelude.{IsTrue, nat_lt}
 use Rattle.std.proofs.lemmas.Bool.{true≢false}
 use Rattle.fb_model.specs.History.{basis}

@@ -1,5 +1,5 @@
 -- The talk of a session goes on by one form, and ends.
-use Rattle.std.proofs.Common.{◌≡◌, ℕ, ◌+◌, ◌<◌, ◌≤◌, ◌⊎◌, List, [], ◌∷◌, ◌++◌, Option, Some, None, length, refl, sym, ap, ◌∙◌, subst, inl, inr, arith, length-append, append_assoc, append-nil}
+use Rattle.std.proofs.Common.{◌≡◌, ℕ, ◌+◌, ◌<◌, ◌≤◌, ◌⊎◌, List, [], ◌∷◌, ◌++◌, Option, None, length, refl, sym, ap, ◌∙◌, subst, inl, inr, arith, length-append, append_assoc, append-nil}
 use Rattle.std.specs.Prelude.{option_to_list}
 use Rattle.std.specs.List.{concat}
 use Rattle.std.specs.Io.KnownBytes.{append_known}
@@ -15,7 +15,7 @@ use Rattle.fb_model.specs.History.{basis}
 use Rattle.fb_model.proofs.LawfulHistories.{IsLawful-length}
 use Rattle.script_model.specs.Script.{Ending, whole, fault, too_many, most_commands, EndsAt}
 use Rattle.script_model.proofs.OneScript.{FormsBetween-push}
-use Rattle.talk_model.specs.Session.{Standing, setting, opened_at}
+use Rattle.talk_model.specs.Session.{setting, opened_at}
 use Rattle.talk_model.specs.Talk.{Talk}
 use Rattle.talk_model.specs.Prefixes.{SeesAll}
 use Rattle.talk_model.proofs.Longer.{Talk-longer}
@@ -28,7 +28,7 @@ use Rattle.fb_session.specs.declared.session.Session.{Session}
 use Rattle.fb_session.specs.declared.serve.Stop.{Stop}
 use Rattle.fb_session.specs.declared.serve.Stop.TheVariants.{WriteFault, Memory}
 use Rattle.fb_session.specs.Replies.{AnswersAll, AnswersUpTo, SinkCount}
-use Rattle.fb_session.specs.Sessions.{Fixed, over, WentOn, StandsAt, IsOpened, Keeps, Answered, Unanswered, Replied, RepliedPart, RepliedNothing, StopsAt, end_of, TalkSoFar, NoCommand, Talks}
+use Rattle.fb_session.specs.Sessions.{Fixed, over, WentOn, IsOpened, Keeps, Answered, Replied, RepliedPart, StopsAt, end_of, TalkSoFar, NoCommand, Talks}
 use Rattle.fb_session.proofs.KnownBytes.{append_known-none, append_known-append}
 
 concat-push : (ls : List (List ℕ)) (line : List ℕ) → concat (ls ++ line ∷ []) ≡ concat ls ++ line
@@ -44,13 +44,14 @@ stop_stays start was is (inr same) (inl none) = inl (sym same.0 ∙ none)
 stop_stays start was is (inr same) (inr later) = inr (later.0 ∙ same.0, later.1 ∙ same.1)
 
 pub went_on-nothing : (start : State) → WentOn start start
-went_on-nothing start = record { more = []; entries = sym (append-nil start.entries); opening = refl; stop = inr (refl, refl) }
+went_on-nothing start = record { more = []; entries = sym (append-nil start.entries); lawful = λ lawful. lawful; opening = refl; stop = inr (refl, refl) }
 
 pub went_on-more : (start was is : State) → WentOn start was → GoesOn was is → WentOn start is
 went_on-more start was is went goes =
     record {
       more = went.more ++ goes.more;
       entries = goes.entries ∙ ap (λ h. h ++ goes.more) went.entries ∙ append_assoc start.entries went.more goes.more;
+      lawful = λ lawful. goes.lawful (went.lawful lawful);
       opening = goes.opening ∙ went.opening;
       stop = stop_stays start was is went.stop goes.stop;
     }

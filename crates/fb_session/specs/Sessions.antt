@@ -1,6 +1,6 @@
 -- What a session keeps while it answers forms: what its reads see, and what it answered so far.
 -- This project's own choice.
-use Rattle.std.specs.Prelude.{◌≡◌, ◌≢◌, ℕ, ◌+◌, ℤ, ◌<◌, ◌≤◌, ◌⊎◌, Bool, true, List, [], ◌∷◌, ◌++◌, Option, Some, None, is_some, option_to_list, length, codes}
+use Rattle.std.specs.Prelude.{◌≡◌, ◌≢◌, ℕ, ℤ, ◌<◌, ◌≤◌, ◌⊎◌, Bool, true, List, [], ◌∷◌, ◌++◌, Option, Some, None, is_some, option_to_list, length, codes}
 use Rattle.std.specs.List.{concat}
 use Rattle.std.specs.Io.KnownBytes.{append_known}
 use Rattle.edn_model.specs.Form.{Form}
@@ -27,7 +27,7 @@ use Rattle.fb_preds.specs.Naming.{selected_by}
 use Rattle.fb_db.specs.Seen.{window_of}
 use Rattle.fb_db.specs.declared.db.Db.{Db}
 use Rattle.fb_reads.specs.Answers.{Says, standing_at}
-use Rattle.fb_desk.specs.Desks.{State, GoesOn, IsReceipt, IsFault}
+use Rattle.fb_desk.specs.Desks.{State, IsReceipt, IsFault}
 use Rattle.fb_desk.specs.declared.answers.Receipt.{Receipt}
 use Rattle.fb_desk.specs.declared.answers.TxFault.{TxFault}
 use Rattle.fb_desk.specs.declared.answers.TxFault.TheVariants as fault
@@ -57,10 +57,11 @@ fixed may guard place_of SelectsAt =
 abbrev pub over : Fixed → State → Setting
 over f desk = setting f.may f.Selects f.guard f.is_filter desk.entries desk.stop desk.teller
 
--- The desk has seen more of the history. A stop of the log stays as it is known.
+-- The desk has seen more of the history, since the same opening. A stop of the log stays as it is known.
 pub record WentOn (old new : State) : Type 0 where
   pub more : List Entry
   pub entries : new.entries ≡ old.entries ++ more
+  pub lawful : IsLawful old.entries → IsLawful new.entries
   pub opening : new.opening ≡ old.opening
   pub stop : (old.stop ≡ None) ⊎ ((new.stop ≡ old.stop) × (new.teller ≡ old.teller))
 

@@ -42,10 +42,14 @@ impl<P: FilterTable> Session<Picks<'_, P>> {
         requires left { 0 < (T.state desk.old).left }
         requires room { vec_len self.old.commits < vec_capacity self.old.commits }
         ensures goes_on { GoesOn (T.state desk.old) (T.state desk.new) }
-        ensures ok { OnOk result ((before : Standing) → StandsAt self.old.view (λ p. map (P.name_at p.table.now) p.places.items) (T.state desk.old) before
-            → Answered (fixed (K.may_answer clock.now) (G.bars guard.now) (P.place_of self.old.view.filter.table.now) (P.selects_at self.old.view.filter.table.now)) (form_of form.now) self.old self.new (λ p. map (P.name_at p.table.now) p.places.items) (T.state desk.old) (T.state desk.new) before self.new.line.items) }
-        ensures err { OnErr result ((before : Standing) → StandsAt self.old.view (λ p. map (P.name_at p.table.now) p.places.items) (T.state desk.old) before
-            → Unanswered (fixed (K.may_answer clock.now) (G.bars guard.now) (P.place_of self.old.view.filter.table.now) (P.selects_at self.old.view.filter.table.now)) (form_of form.now) self.old self.new (λ p. map (P.name_at p.table.now) p.places.items) (T.state desk.old) (T.state desk.new) before) }
+        ensures ok { let table = self.old.view.filter.table.now in OnOk result ((before : Standing)
+            → StandsAt self.old.view (λ p. map (P.name_at p.table.now) p.places.items) (T.state desk.old) before
+            → Answered (fixed (K.may_answer clock.now) (G.bars guard.now) (P.place_of table) (P.selects_at table))
+            (form_of form.now) self.old self.new (λ p. map (P.name_at p.table.now) p.places.items) (T.state desk.old) (T.state desk.new) before self.new.line.items) }
+        ensures err { let table = self.old.view.filter.table.now in OnErr result ((before : Standing)
+            → StandsAt self.old.view (λ p. map (P.name_at p.table.now) p.places.items) (T.state desk.old) before
+            → Unanswered (fixed (K.may_answer clock.now) (G.bars guard.now) (P.place_of table) (P.selects_at table))
+            (form_of form.now) self.old self.new (λ p. map (P.name_at p.table.now) p.places.items) (T.state desk.old) (T.state desk.new) before) }
         ensures table { self.new.view.filter.table ≡ self.old.view.filter.table }
         ensures places { self.new.places ≡ self.old.places }
     {
@@ -65,7 +69,9 @@ impl<P: FilterTable> Session<Picks<'_, P>> {
     fn read(&mut self, alloc: Global, command: Option<Command<'_>>) -> Result<(), Memory>
         requires { IsTrue (is_read (option_map (λ asks. asked asks) command)) }
         ensures is_read { IsTrue (is_read (option_map (λ asks. asked asks) command.entry)) }
-        ensures ok { OnOk result (Reads self.old.view self.new.view (λ p. map (P.name_at p.table.now) p.places.items) (λ name. is_some (P.place_of self.old.view.filter.table.now name)) (selected_by (P.place_of self.old.view.filter.table.now) (P.selects_at self.old.view.filter.table.now)) (option_map (λ asks. asked asks) command.entry) self.new.line.items) }
+        ensures ok { let table = self.old.view.filter.table.now in OnOk result (Reads self.old.view self.new.view
+            (λ p. map (P.name_at p.table.now) p.places.items) (λ name. is_some (P.place_of table name))
+            (selected_by (P.place_of table) (P.selects_at table)) (option_map (λ asks. asked asks) command.entry) self.new.line.items) }
         ensures table { self.new.view.filter.table ≡ self.old.view.filter.table }
         ensures rest { self.new ≡ record self.old { view = self.new.view; line = self.new.line } }
     {

@@ -78,9 +78,11 @@ pub fn serve_desk<
 ) -> Served
     requires sync { IsSync R.row }
     requires left { 1_000_000 ≤ (T.state desk.old).left }
-    ensures replies { Replies
-        (setting (K.may_answer clock.now) (selected_by (P.place_of preds.now) (P.selects_at preds.now)) (G.bars guard.now) (λ name. is_some (P.place_of preds.now name)) (T.state desk.new).entries (T.state desk.new).stop (T.state desk.new).teller)
-        (basis (T.state desk.old).entries) (I.left source.old) (I.left source.new) (O.contents sink.old) (O.contents sink.new) result.places result.commits result.end }
+    ensures replies { let table = preds.now in let now = T.state desk.new in Replies
+        (setting (K.may_answer clock.now) (selected_by (P.place_of table) (P.selects_at table)) (G.bars guard.now)
+        (λ name. is_some (P.place_of table name)) now.entries now.stop now.teller)
+        (basis (T.state desk.old).entries) (I.left source.old) (I.left source.new)
+        (O.contents sink.old) (O.contents sink.new) result.places result.commits result.end }
     ensures prefixes { Prefixes (basis (T.state desk.old).entries) (basis (T.state desk.new).entries) result.places result.commits }
     ensures commits { (T.state desk.new).commits ≡ (T.state desk.old).commits ++ result.commits }
     ensures went_on { WentOn (T.state desk.old) (T.state desk.new) }
@@ -124,7 +126,8 @@ fn serve_script<
 ) -> Served
     requires sync { IsSync R.row }
     requires left { 1_000_000 ≤ (T.state desk.old).left }
-    ensures answers { Talks (fixed (K.may_answer clock.now) (G.bars guard.now) (P.place_of preds.now) (P.selects_at preds.now)) script.now
+    ensures answers { Talks
+        (fixed (K.may_answer clock.now) (G.bars guard.now) (P.place_of preds.now) (P.selects_at preds.now)) script.now
         (T.state desk.old) (T.state desk.new) result.places result.commits (O.contents sink.old) (O.contents sink.new) result.end }
     ensures count { SinkCount result.end (O.faults sink.old) (O.faults sink.new) }
 {
@@ -150,8 +153,10 @@ impl<P: FilterTable> Session<Picks<'_, P>> {
         requires sync { IsSync R.row }
         requires opened { IsOpened self.old (λ p. map (P.name_at p.table.now) p.places.items) (T.state desk.old) }
         requires left { 1_000_000 ≤ (T.state desk.old).left }
-        ensures answers { Talks (fixed (K.may_answer clock.now) (G.bars guard.now) (P.place_of self.old.view.filter.table.now) (P.selects_at self.old.view.filter.table.now)) script.now
-            (T.state desk.old) (T.state desk.new) self.new.places.items self.new.commits.items (O.contents sink.old) (O.contents sink.new) result }
+        ensures answers { let table = self.old.view.filter.table.now in Talks
+            (fixed (K.may_answer clock.now) (G.bars guard.now) (P.place_of table) (P.selects_at table)) script.now
+            (T.state desk.old) (T.state desk.new) self.new.places.items self.new.commits.items
+            (O.contents sink.old) (O.contents sink.new) result }
         ensures count { SinkCount result (O.faults sink.old) (O.faults sink.new) }
     {
         let mut at = 0;
@@ -203,10 +208,16 @@ impl<P: FilterTable> Session<Picks<'_, P>> {
         requires sync { IsSync R.row }
         requires left { 0 < (T.state desk.old).left }
         ensures goes_on { GoesOn (T.state desk.old) (T.state desk.new) }
-        ensures ok { OnOk result ((before : Standing) → StandsAt self.old.view (λ p. map (P.name_at p.table.now) p.places.items) (T.state desk.old) before
-            → Replied (fixed (K.may_answer clock.now) (G.bars guard.now) (P.place_of self.old.view.filter.table.now) (P.selects_at self.old.view.filter.table.now)) (form_of form.now) self.old self.new (λ p. map (P.name_at p.table.now) p.places.items) (T.state desk.old) (T.state desk.new) before (O.contents sink.old) (O.contents sink.new)) }
-        ensures err { IfErr result (λ stop. (before : Standing) → StandsAt self.old.view (λ p. map (P.name_at p.table.now) p.places.items) (T.state desk.old) before
-            → StopsAt (fixed (K.may_answer clock.now) (G.bars guard.now) (P.place_of self.old.view.filter.table.now) (P.selects_at self.old.view.filter.table.now)) (form_of form.now) self.old self.new (λ p. map (P.name_at p.table.now) p.places.items) (T.state desk.old) (T.state desk.new) before (O.contents sink.old) (O.contents sink.new) stop) }
+        ensures ok { let table = self.old.view.filter.table.now in OnOk result ((before : Standing)
+            → StandsAt self.old.view (λ p. map (P.name_at p.table.now) p.places.items) (T.state desk.old) before
+            → Replied (fixed (K.may_answer clock.now) (G.bars guard.now) (P.place_of table) (P.selects_at table))
+            (form_of form.now) self.old self.new (λ p. map (P.name_at p.table.now) p.places.items) (T.state desk.old) (T.state desk.new) before
+            (O.contents sink.old) (O.contents sink.new)) }
+        ensures err { let table = self.old.view.filter.table.now in IfErr result (λ stop. (before : Standing)
+            → StandsAt self.old.view (λ p. map (P.name_at p.table.now) p.places.items) (T.state desk.old) before
+            → StopsAt (fixed (K.may_answer clock.now) (G.bars guard.now) (P.place_of table) (P.selects_at table))
+            (form_of form.now) self.old self.new (λ p. map (P.name_at p.table.now) p.places.items) (T.state desk.old) (T.state desk.new) before
+            (O.contents sink.old) (O.contents sink.new) stop) }
         ensures table { self.new.view.filter.table ≡ self.old.view.filter.table }
         ensures places { OnOk result (length self.new.places.items ≡ length self.old.places.items + 1) }
         ensures count { OnOk result (O.faults sink.new ≡ O.faults sink.old) }

@@ -1,7 +1,7 @@
-use Rattle.std.proofs.Common.{refl, sym, ap, ◌∙◌, subst, rules}
+use Rattle.std.proofs.Common.{refl, sym, ap, subst, rules}
 use Rattle.std.proofs.lemmas.Result.{on_ok_weaker, on_err_weaker}
 use Rattle.edn_form.specs.View.{form_of}
-use Rattle.fb_desk.specs.Desks.{State, GoesOn}
+use Rattle.fb_desk.specs.Desks.{GoesOn}
 use Rattle.fb_session.proofs.Seeing.{goes_on-nowhere}
 use Rattle.fb_session.proofs.Deciding.{answered_transaction, unanswered_transaction}
 use Rattle.fb_session.proofs.Looking.{answered_db, answered_sync, answered_read}

@@ -1,4 +1,4 @@
-use Rattle.std.proofs.Common.{refl, sym, ap, ◌∙◌, subst, map, arith, Bor}
+use Rattle.std.proofs.Common.{refl, ◌∙◌, subst, map, arith, Bor}
 use Rattle.edn_form.specs.View.{form_of}
 use Rattle.fb_session.specs.Sessions.{fixed, Replied, StopsAt}
 use Rattle.fb_session.proofs.TalkingOn.{talk-opened, talk-replied, talk-no_command, talk-stops}
