@@ -1,9 +1,10 @@
 //! Where two runs of a script differ.
 use anyhow::Result;
+use std::io::Write;
 
-/// Whether the lines are the same. Where they are not, the script is shown, and the first two that differ.
-pub(crate) fn are_same(
-    rt: &HostRuntime,
+/// Whether the lines are those that are wanted. Where they are not, the script is shown, and the first line that differs.
+pub(crate) fn are_same<W: Write>(
+    out: &mut W,
     name: &str,
     script: &[u8],
     wanted: &[u8],
@@ -12,20 +13,23 @@ pub(crate) fn are_same(
     if wanted == lines {
         return Ok(true);
     }
-    println!(rt; "{name}:")?;
-    println!(rt; "{}", text(script))?;
-    let mut others = text(lines).lines();
-    for (index, line) in text(wanted).lines().enumerate() {
-        let other = others.next().unwrap_or("(no line)");
+    show(out, name.as_bytes(), script)?;
+    let mut others = lines.split_inclusive(|byte| *byte == b'\n');
+    for line in wanted.split_inclusive(|byte| *byte == b'\n') {
+        let other = others.next().unwrap_or(b"no line\n");
         if line != other {
-            println!(rt; "reply {index} is   {other}\nand should be {line}")?;
+            show(out, b"there is", other)?;
+            show(out, b"and should be", line)?;
             return Ok(false);
         }
     }
-    println!(rt; "there is a line more: {}", others.next().unwrap_or(""))?;
+    show(out, b"there is one line more", others.next().unwrap_or(b""))?;
     Ok(false)
 }
 
-fn text(bytes: &[u8]) -> &str {
-    str::from_utf8(bytes).unwrap_or("(no text)")
+fn show<W: Write>(out: &mut W, what: &[u8], bytes: &[u8]) -> Result<()> {
+    out.write_all(what)?;
+    out.write_all(b":\n")?;
+    out.write_all(bytes)?;
+    Ok(())
 }

@@ -7,13 +7,20 @@ use fb_preds::shipped;
 use fb_session::{SessionEnd, serve_desk};
 use fb_view::Snapshot;
 use mem_ports::{MemSink, MemSource, StepClock};
+use std::alloc::Global;
+use std::sync::Wait;
+use std::thread::Threads;
 use tx_step::NoGuard;
 
 /// The room of a sink: 16 MiB.
 const ROOM: usize = 16_777_216;
 
-pub(crate) fn lines(rt: &HostRuntime, script: &[u8], clock: Readings) -> Result<Vec<u8>> {
-    let alloc = rt.alloc();
+pub(crate) fn lines<R: Threads + Wait + Sync>(
+    rt: &R,
+    alloc: Global,
+    script: &[u8],
+    clock: Readings,
+) -> Result<Vec<u8>> {
     let mut bytes = Vec::new(alloc);
     bytes.extend_from_slice(script)?;
     let mut source = MemSource::new(bytes, Vec::new(alloc));
