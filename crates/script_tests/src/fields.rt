@@ -1,7 +1,6 @@
-//! Attributes that drawn scripts speak of, with values to choose from. So few values collide often.
-use drawn_data::Dice;
+//! Attributes that drawn scripts speak of, with values to choose from: so few that they collide often.
 
-/// An attribute, the name of its type, and values of it; none where a value is an entity.
+/// An attribute, the name of its type, and values of it; none where its values are entities.
 #[derive(Clone, Copy)]
 pub(crate) struct Field {
     pub(crate) name: &'static str,
@@ -32,17 +31,17 @@ const SYMBOLS: &[&str] = &["a", "b/c", "z"];
 
 const URIS: &[&str] = &["\"http://a\"", "\"http://b\""];
 
-const IDENTS: &[&str] = &[":g/one", ":g/two", ":h/long", ":db/doc", ":no/one", ":i/one"];
+const KEYS: &[&str] = &["\"k1\"", "\"k2\"", "\"k3\""];
 
-const NAMES: &[&str] = &["\"k1\"", "\"k2\"", "\"k3\""];
+const TEXTS: &[&str] = &["\"text\"", "\"\""];
 
-const DOCS: &[&str] = &["\"text\"", "\"\""];
+const IDENTS: &[&str] = &[":g/one", ":g/two", ":h/long", ":db/doc", ":no/one", ":h/renamed"];
 
 const TYPES: &[&str] = &[":db.type/long", ":db.type/ref", "14", "11"];
 
 const ENTITIES: &[&str] = &[];
 
-/// What a script may install.
+/// Those of which a world installs some.
 pub(crate) const OWN: [Field; 10] = [
     Field { name: ":h/keyword", kind: ":db.type/keyword", values: KEYWORDS },
     Field { name: ":h/string", kind: ":db.type/string", values: STRINGS },
@@ -56,35 +55,22 @@ pub(crate) const OWN: [Field; 10] = [
     Field { name: ":h/uri", kind: ":db.type/uri", values: URIS },
 ];
 
-/// What other scripts install, or the first entry; one is nowhere.
-const OTHERS: [Field; 13] = [
+/// Those of the transactions that other tests draw too.
+pub(crate) const SHARED: [Field; 7] = [
     Field { name: ":g/one", kind: ":db.type/long", values: LONGS },
     Field { name: ":g/many", kind: ":db.type/long", values: LONGS },
     Field { name: ":g/key", kind: ":db.type/long", values: LONGS },
     Field { name: ":g/held", kind: ":db.type/long", values: LONGS },
-    Field { name: ":g/id", kind: ":db.type/string", values: NAMES },
+    Field { name: ":g/id", kind: ":db.type/string", values: KEYS },
     Field { name: ":g/ref", kind: ":db.type/ref", values: ENTITIES },
-    Field { name: ":g/to", kind: ":db.type/ref", values: ENTITIES },
     Field { name: ":g/part", kind: ":db.type/ref", values: ENTITIES },
-    Field { name: ":db/doc", kind: ":db.type/string", values: DOCS },
+];
+
+/// Those of the first entry, and one that is nowhere.
+pub(crate) const OTHERS: [Field; 5] = [
+    Field { name: ":db/doc", kind: ":db.type/string", values: TEXTS },
     Field { name: ":db/ident", kind: ":db.type/keyword", values: IDENTS },
     Field { name: ":db/valueType", kind: ":db.type/ref", values: TYPES },
     Field { name: ":db/txInstant", kind: ":db.type/instant", values: INSTANTS },
     Field { name: ":no/one", kind: ":db.type/long", values: LONGS },
 ];
-
-impl Field {
-    /// Any attribute.
-    pub(crate) fn any(dice: &mut Dice) -> Field {
-        if dice.once_in(2) {
-            Field::own(dice)
-        } else {
-            OTHERS[dice.roll(13) as usize]
-        }
-    }
-
-    /// One of those that the script may have installed.
-    pub(crate) fn own(dice: &mut Dice) -> Field {
-        OWN[dice.roll(10) as usize]
-    }
-}

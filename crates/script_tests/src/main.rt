@@ -4,15 +4,16 @@
 #![tactic(auto)]
 
 mod compared;
-mod components;
 mod drawn;
 mod fields;
 mod merges;
+mod pen;
 mod plain;
 mod rows;
 mod session;
 mod stage;
 mod tally;
+mod worlds;
 
 use anyhow::Result;
 use rows::rows_in;
@@ -20,8 +21,10 @@ use stage::Stage;
 use std::fs;
 use std::io;
 
-/// How many scripts are drawn, and from which seed.
-const SCRIPTS: u32 = 500;
+/// How many worlds are drawn, how many scripts in each of them, and from which seed.
+const WORLDS: u32 = 50;
+
+const SCRIPTS: u32 = 10;
 
 const SEED: u64 = 20_261_128;
 
@@ -36,9 +39,9 @@ fn main(rt: HostRuntime) -> Result<()> {
     for row in rows.iter() {
         stage.run_row(row)?;
     }
-    let tally = stage.run_drawn(SCRIPTS, SEED)?;
+    let tally = stage.run_drawn(WORLDS, SCRIPTS, SEED)?;
     println!(rt; "{} scripts as the table says", rows.len())?;
-    println!(rt; "{SCRIPTS} drawn scripts of {} lines as the plain session says", tally.lines)?;
+    println!(rt; "{} drawn scripts, of {} lines, as the plain session says", tally.scripts, tally.lines)?;
     println!(rt;
         "{} of 13 commands answered, {} of 4 reads with a datom, {} of 6 refusals of reads, {} of transactions",
         tally.answered.len(),

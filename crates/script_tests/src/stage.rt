@@ -1,8 +1,11 @@
 //! Scripts are run, and compared with what they should reply.
 use crate::compared::are_same;
+use crate::drawn::commands;
+use crate::plain::PlainScript;
 use crate::rows::{CLOCK, Readings, Row};
 use crate::tally::Tally;
-use crate::{drawn, merges, plain, session};
+use crate::worlds::world;
+use crate::{merges, session};
 use anyhow::{Result, bail};
 use drawn_data::Dice;
 use std::alloc::Global;
@@ -32,30 +35,40 @@ impl<R: Threads + Wait + Sync, W: Write> Stage<'_, R, W> {
             bail!("a script is answered otherwise than the table says");
         }
         if script.len() < LONG {
-            let plain = plain::lines(self.alloc, script, row.clock)?;
-            if !are_same(self.out, name, script, wanted, &plain)? {
+            let plain = PlainScript::of(self.alloc, row.script.as_str(), row.clock)?;
+            if !are_same(self.out, name, script, wanted, &plain.lines)? {
                 bail!("the plain session answers otherwise than the table says");
             }
         }
         self.run_with_merges(script, &lines, row.clock)
     }
 
-    /// So many scripts that are drawn from the seed, by the session and by the plain one.
-    pub(crate) fn run_drawn(&mut self, scripts: u32, seed: u64) -> Result<Tally> {
+    /// So many worlds, and so many scripts in each, that are drawn from the seed.
+    pub(crate) fn run_drawn(&mut self, worlds: u32, scripts: u32, seed: u64) -> Result<Tally> {
         let mut dice = Dice::new(seed);
         let mut tally = Tally::new(self.alloc);
-        for _ in 0..scripts {
-            let text = drawn::script(self.alloc, &mut dice)?;
-            let script = text.as_str().as_bytes();
-            let plain = plain::lines(self.alloc, script, CLOCK)?;
-            let lines = session::lines(self.rt, self.alloc, script, CLOCK)?;
-            if !are_same(self.out, "a drawn script", script, &plain, &lines)? {
-                bail!("a drawn script is answered otherwise than the plain session says");
+        for _ in 0..worlds {
+            let world = world(self.alloc, &mut dice)?;
+            let begun = PlainScript::of(self.alloc, world.commands.as_str(), CLOCK)?;
+            for _ in 0..scripts {
+                let commands = commands(self.alloc, &mut dice, &world)?;
+                let mut plain = begun.copy()?;
+                plain.go_on(commands.as_str())?;
+                self.run_as_plain(&plain, &mut tally)?;
             }
-            self.run_with_merges(script, &lines, CLOCK)?;
-            tally.count(self.alloc, script, &lines)?;
         }
         Ok(tally)
+    }
+
+    /// A script that the plain session has answered.
+    fn run_as_plain(&mut self, plain: &PlainScript, tally: &mut Tally) -> Result<()> {
+        let script = plain.script.as_str().as_bytes();
+        let lines = session::lines(self.rt, self.alloc, script, CLOCK)?;
+        if !are_same(self.out, "a drawn script", script, &plain.lines, &lines)? {
+            bail!("a drawn script is answered otherwise than the plain session says");
+        }
+        tally.count(self.alloc, script, &lines)?;
+        self.run_with_merges(script, &lines, CLOCK)
     }
 
     /// Requests for merges change no other line.

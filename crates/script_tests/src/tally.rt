@@ -10,6 +10,7 @@ pub(crate) type Counts = BTreeMap<Vec<u8>, u32>;
 
 #[derive(Drop)]
 pub(crate) struct Tally {
+    pub(crate) scripts: u32,
     pub(crate) lines: u32,
     /// Commands that were not refused, by their words.
     pub(crate) answered: Counts,
@@ -23,6 +24,7 @@ pub(crate) struct Tally {
 impl Tally {
     pub(crate) fn new(alloc: Global) -> Tally {
         Tally {
+            scripts: 0,
             lines: 0,
             answered: BTreeMap::new(alloc),
             found: BTreeMap::new(alloc),
@@ -32,6 +34,7 @@ impl Tally {
     }
 
     pub(crate) fn count(&mut self, alloc: Global, script: &[u8], lines: &[u8]) -> Result<()> {
+        self.scripts = self.scripts.saturating_add(1);
         let mut at = 0;
         for line in lines.split_inclusive(|byte| *byte == b'\n') {
             let Ok(Some((form, behind))) = read_form(alloc, script, at) else {
@@ -47,7 +50,7 @@ impl Tally {
     fn count_line(&mut self, alloc: Global, word: &str, line: &[u8]) -> Result<()> {
         let Some(rest) = line.strip_prefix(b"{:refused :") else {
             add_one(alloc, &mut self.answered, word.as_bytes())?;
-            if line.starts_with(b"{:basis ") && line.ends_with(b"]]}\n") {
+            if line.ends_with(b"]]}\n") || line.ends_with(b"]]}]}\n") {
                 add_one(alloc, &mut self.found, word.as_bytes())?;
             }
             return Ok(());

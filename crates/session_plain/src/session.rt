@@ -1,5 +1,5 @@
 //! A session, from one command to the next.
-ghost use Rattle.std.specs.Prelude.{IfOk};
+ghost use Rattle.std.specs.Prelude.{◌≡◌, IfOk};
 ghost use Rattle.fb_model.specs.Lawful.{IsLawful};
 
 use crate::commands::{Command, command_in};
@@ -62,6 +62,16 @@ pub fn new_history(alloc: Global) -> Result<Vec<Entry>, Memory>
     Ok(entries)
 }
 
+fn copy_entries(alloc: Global, entries: &[Entry]) -> Result<Vec<Entry>, Memory>
+    ensures { IfOk result (λ copy. copy.items ≡ entries.now) }
+{
+    let mut copy = Vec::new(alloc);
+    for entry in entries {
+        copy.push(entry.copy()?)?;
+    }
+    Ok(copy)
+}
+
 /// The reply to a transaction, where the clock reads this. The history grows by the entry.
 pub fn transact<G: Guard>(
     alloc: Global,
@@ -98,6 +108,20 @@ impl PlainSession {
             filters: Vec::new(alloc),
             reading: first,
             step,
+        })
+    }
+
+    /// The same session, to go on with in another way.
+    pub fn copy(&self) -> Result<PlainSession, Memory> {
+        let mut filters = Vec::new(self.alloc);
+        filters.extend_from_slice(&self.filters)?;
+        Ok(PlainSession {
+            alloc: self.alloc,
+            entries: copy_entries(self.alloc, &self.entries)?,
+            window: self.window,
+            filters,
+            reading: self.reading,
+            step: self.step,
         })
     }
 
