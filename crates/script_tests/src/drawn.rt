@@ -100,14 +100,18 @@ impl Pen<'_> {
     }
 
     fn attribute_and_value(&mut self) -> Result<()> {
-        let field = self.field();
+        let field = if self.dice.once_in(16) {
+            self.field()
+        } else {
+            self.own_field()
+        };
         write!(self.out, " {} ", field.name)?;
         self.value(field)?;
         self.write("]")
     }
 
     fn change_schema(&mut self) -> Result<()> {
-        let field = self.field();
+        let field = self.own_field();
         let (verb, change) = CHANGES_OF_SCHEMA[self.dice.roll(6) as usize];
         write!(self.out, "[:transact [[{verb} {} {change}]]]", field.name)?;
         Ok(())

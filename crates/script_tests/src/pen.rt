@@ -1,7 +1,7 @@
 //! What stands in drawn commands: points, names, values and components, most of which can be read.
 ghost use Rattle.std.specs.Prelude.{◌<◌, length};
 
-use crate::fields::{Field, OWN};
+use crate::fields::{Field, OTHERS, OWN};
 use crate::worlds::World;
 use anyhow::Result;
 use drawn_data::Dice;
@@ -68,16 +68,23 @@ impl Pen<'_> {
         Ok(())
     }
 
-    /// An attribute of the world, or now and then another one.
-    pub(crate) fn field(&mut self) -> Field {
-        let any = OWN[self.dice.roll(10) as usize];
-        if self.dice.once_in(12) {
-            return any;
-        }
+    /// An attribute that the world installs, or now and then another one.
+    pub(crate) fn own_field(&mut self) -> Field {
+        let other = OWN[self.dice.roll(10) as usize];
         let place = self.dice.roll(22) as usize;
         match self.world.fields.len() {
-            0 => any,
+            0 => other,
+            _ if self.dice.once_in(16) => other,
             count => self.world.fields[place % count],
+        }
+    }
+
+    /// The same, or one that is always there.
+    pub(crate) fn field(&mut self) -> Field {
+        if self.dice.once_in(4) {
+            OTHERS[self.dice.roll(5) as usize]
+        } else {
+            self.own_field()
         }
     }
 

@@ -4,7 +4,7 @@ use crate::drawn::commands;
 use crate::plain::PlainScript;
 use crate::rows::{CLOCK, Readings, Row};
 use crate::tally::Tally;
-use crate::worlds::world;
+use crate::worlds::drawn_world;
 use crate::{merges, session};
 use anyhow::{Result, bail};
 use drawn_data::Dice;
@@ -48,7 +48,7 @@ impl<R: Threads + Wait + Sync, W: Write> Stage<'_, R, W> {
         let mut dice = Dice::new(seed);
         let mut tally = Tally::new(self.alloc);
         for _ in 0..worlds {
-            let world = world(self.alloc, &mut dice)?;
+            let world = drawn_world(self.alloc, &mut dice)?;
             let begun = PlainScript::of(self.alloc, world.commands.as_str(), CLOCK)?;
             for _ in 0..scripts {
                 let commands = commands(self.alloc, &mut dice, &world)?;

@@ -1,10 +1,10 @@
 //! Worlds: small schemas that are drawn from a seed, in which scripts go on.
-use crate::fields::{Field, OTHERS, OWN, SHARED};
+use crate::fields::{Field, OWN, SHARED};
 use anyhow::Result;
 use drawn_data::{Dice, PEOPLE, SCHEMA};
 use std::alloc::Global;
 
-/// The commands with which its scripts begin, and the attributes that they have then.
+/// The commands with which its scripts begin, and the attributes that these install.
 #[derive(Drop)]
 pub(crate) struct World {
     pub(crate) commands: String,
@@ -22,7 +22,7 @@ const UNIQUENESSES: [&str; 4] = [
 
 const CARDINALITIES: [&str; 2] = [":db.cardinality/one", ":db.cardinality/many"];
 
-pub(crate) fn world(alloc: Global, dice: &mut Dice) -> Result<World> {
+pub(crate) fn drawn_world(alloc: Global, dice: &mut Dice) -> Result<World> {
     let mut world = World {
         commands: String::new(alloc),
         fields: Vec::new(alloc),
@@ -39,7 +39,6 @@ pub(crate) fn world(alloc: Global, dice: &mut Dice) -> Result<World> {
         }
     }
     world.commands.push_str("]]\n")?;
-    world.fields.extend_from_slice(&OTHERS)?;
     Ok(world)
 }
 

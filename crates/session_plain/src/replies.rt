@@ -5,22 +5,39 @@ use fb_plain::{TRANSACTIONS, attribute_of};
 use fb_values::{Datom, Entry, Text, Value};
 use std::alloc::Global;
 
-fn key(alloc: Global, name: &str) -> Result<Edn, Memory> {
-    Ok(Edn::Key(Text::of(alloc, name)?))
-}
-
 /// The number, which no number of a history reaches where it is past the greatest integer of a form.
 fn number(n: u64) -> Edn {
     Edn::Int(i64::try_from(n).unwrap_or(i64::MAX))
 }
 
-/// A map of two keywords and what stands behind each.
-fn pairs<const N: usize>(alloc: Global, parts: [(&str, Edn); N]) -> Result<Edn, Memory> {
-    let mut list = Vec::new(alloc);
-    for (name, form) in parts {
-        list.push((key(alloc, name)?, form))?;
+/// A map that begins with these keys.
+#[derive(Drop)]
+struct Reply {
+    alloc: Global,
+    pairs: Vec<(Edn, Edn)>,
+}
+
+impl Reply {
+    fn new(alloc: Global) -> Reply {
+        Reply {
+            alloc,
+            pairs: Vec::new(alloc),
+        }
     }
-    Ok(Edn::Map(Pairs::of(list)))
+
+    fn with(mut self, key: &str, form: Edn) -> Result<Reply, Memory> {
+        let key = Edn::Key(Text::of(self.alloc, key)?);
+        self.pairs.push((key, form))?;
+        Ok(self)
+    }
+
+    fn with_number(self, key: &str, n: u64) -> Result<Reply, Memory> {
+        self.with(key, number(n))
+    }
+
+    fn map(self) -> Edn {
+        Edn::Map(Pairs::of(self.pairs))
+    }
 }
 
 /// `{:t 2 :tempids {"p" 17592186044418}}`
@@ -30,33 +47,28 @@ pub fn receipt(alloc: Global, t: u32, tempids: Vec<(Text, u64)>) -> Result<Edn, 
         entities.push((Edn::Str(name), number(e)))?;
     }
     let tempids = Edn::Map(Pairs::of(entities));
-    pairs(alloc, [("t", number(u64::from(t))), ("tempids", tempids)])
+    let reply = Reply::new(alloc).with_number("t", u64::from(t))?;
+    Ok(reply.with("tempids", tempids)?.map())
 }
 
 /// `{:basis 3}`
 pub(crate) fn basis(alloc: Global, basis: u32) -> Result<Edn, Memory> {
-    pairs(alloc, [("basis", number(u64::from(basis)))])
+    let reply = Reply::new(alloc).with_number("basis", u64::from(basis))?;
+    Ok(reply.map())
 }
 
 /// `{:ok true :basis 3}`
 pub(crate) fn done(alloc: Global, basis: u32) -> Result<Edn, Memory> {
-    pairs(
-        alloc,
-        [("ok", Edn::Bool(true)), ("basis", number(u64::from(basis)))],
-    )
+    let reply = Reply::new(alloc).with("ok", Edn::Bool(true))?;
+    Ok(reply.with_number("basis", u64::from(basis))?.map())
 }
 
 /// `{:refused :db.error/cas-failed :at 0 :basis 3}`
 pub fn refusal(alloc: Global, keyword: &str, at: usize, basis: u32) -> Result<Edn, Memory> {
-    let keyword = key(alloc, keyword)?;
-    pairs(
-        alloc,
-        [
-            ("refused", keyword),
-            ("at", number(at as u64)),
-            ("basis", number(u64::from(basis))),
-        ],
-    )
+    let keyword = Edn::Key(Text::of(alloc, keyword)?);
+    let reply = Reply::new(alloc).with("refused", keyword)?;
+    let reply = reply.with_number("at", at as u64)?;
+    Ok(reply.with_number("basis", u64::from(basis))?.map())
 }
 
 /// `{:basis 3 :datoms [[17592186044417 :db/doc "hi" 13194139533313 true] ..]}`
@@ -67,10 +79,8 @@ pub(crate) fn datoms(
     datoms: &[Datom],
 ) -> Result<Edn, Memory> {
     let datoms = vectors(alloc, facts, datoms)?;
-    pairs(
-        alloc,
-        [("basis", number(u64::from(basis))), ("datoms", datoms)],
-    )
+    let reply = Reply::new(alloc).with_number("basis", u64::from(basis))?;
+    Ok(reply.with("datoms", datoms)?.map())
 }
 
 /// `{:basis 3 :txs [{:t 1 :data [..]} ..]}`
@@ -83,11 +93,11 @@ pub(crate) fn transactions(
     let mut list = Vec::new(alloc);
     for entry in entries {
         let data = vectors(alloc, facts, entry.datoms.as_slice())?;
-        let t = number(u64::from(entry.t));
-        list.push(pairs(alloc, [("t", t), ("data", data)])?)?;
+        let reply = Reply::new(alloc).with_number("t", u64::from(entry.t))?;
+        list.push(reply.with("data", data)?.map())?;
     }
-    let txs = Edn::Vector(Items::of(list));
-    pairs(alloc, [("basis", number(u64::from(basis))), ("txs", txs)])
+    let reply = Reply::new(alloc).with_number("basis", u64::from(basis))?;
+    Ok(reply.with("txs", Edn::Vector(Items::of(list)))?.map())
 }
 
 fn vectors(alloc: Global, facts: &[Datom], datoms: &[Datom]) -> Result<Edn, Memory> {
