@@ -18,8 +18,7 @@ mod worlds;
 use anyhow::Result;
 use rows::rows_in;
 use stage::Stage;
-use std::fs;
-use std::io;
+use std::{fs, io};
 
 /// How many worlds are drawn, how many scripts in each of them, and from which seed.
 const WORLDS: u32 = 50;
@@ -41,7 +40,10 @@ fn main(rt: HostRuntime) -> Result<()> {
     }
     let tally = stage.run_drawn(WORLDS, SCRIPTS, SEED)?;
     println!(rt; "{} scripts as the table says", rows.len())?;
-    println!(rt; "{} drawn scripts, of {} lines, as the plain session says", tally.scripts, tally.lines)?;
+    println!(rt;
+        "{} drawn scripts, of {} lines, as the plain session says",
+        tally.scripts, tally.lines
+    )?;
     println!(rt;
         "{} of 13 commands answered, {} of 4 reads with a datom, {} of 6 refusals of reads, {} of transactions",
         tally.answered.len(),

@@ -30,7 +30,10 @@ pub(crate) fn drawn_world(alloc: Global, dice: &mut Dice) -> Result<World> {
     };
     if world.is_shared {
         world.fields.extend_from_slice(&SHARED)?;
-        write!(world.commands, "[:transact {SCHEMA}]\n[:transact {PEOPLE}]\n")?;
+        write!(
+            world.commands,
+            "[:transact {SCHEMA}]\n[:transact {PEOPLE}]\n"
+        )?;
     }
     world.commands.push_str("[:transact [")?;
     for field in OWN.iter() {
