@@ -8,17 +8,29 @@ pub(crate) enum Command<'a> {
     Transact(&'a Edn),
     /// `[:db]` or `[:sync]`, which a session that is alone cannot tell apart.
     Basis,
+    Turn(Turn<'a>),
+    RequestIndex,
+    Look(Look<'a>),
+    Pull,
+}
+
+/// It changes what the session sees.
+#[derive(Clone, Copy)]
+pub(crate) enum Turn<'a> {
     AsOf(&'a Edn),
     Since(&'a Edn),
     History,
     Filter(&'a Text),
     Unfilter,
-    RequestIndex,
+}
+
+/// It shows some of what the session sees.
+#[derive(Clone, Copy)]
+pub(crate) enum Look<'a> {
     Datoms(Order, &'a [Edn]),
     Seek(Order, &'a [Edn]),
     IndexRange(&'a Edn, &'a Edn, &'a Edn),
     TxRange(&'a Edn, &'a Edn),
-    Pull,
 }
 
 /// The command that the form is, if it is one: a vector that begins with a command's word.
@@ -33,7 +45,9 @@ pub(crate) fn command_in(form: &Edn) -> Option<Command<'_>> {
         [] => alone(word.as_str()),
         [x] => before_one(word.as_str(), x),
         [x, y] => before_two(word.as_str(), x, y),
-        [x, y, z] if word.as_str() == "index-range" => Some(Command::IndexRange(x, y, z)),
+        [x, y, z] if word.as_str() == "index-range" => Some(Command::Look(Look::IndexRange(
+            x, y, z,
+        ))),
         _ => None,
     }
     .or(of_an_index(word.as_str(), behind))
@@ -42,8 +56,8 @@ pub(crate) fn command_in(form: &Edn) -> Option<Command<'_>> {
 fn alone(word: &str) -> Option<Command<'_>> {
     match word {
         "db" | "sync" => Some(Command::Basis),
-        "history" => Some(Command::History),
-        "unfilter" => Some(Command::Unfilter),
+        "history" => Some(Command::Turn(Turn::History)),
+        "unfilter" => Some(Command::Turn(Turn::Unfilter)),
         "request-index" => Some(Command::RequestIndex),
         _ => None,
     }
@@ -52,16 +66,16 @@ fn alone(word: &str) -> Option<Command<'_>> {
 fn before_one<'a>(word: &str, x: &'a Edn) -> Option<Command<'a>> {
     match (word, x) {
         ("transact", _) => Some(Command::Transact(x)),
-        ("as-of", _) => Some(Command::AsOf(x)),
-        ("since", _) => Some(Command::Since(x)),
-        ("filter", Edn::Key(name)) => Some(Command::Filter(name)),
+        ("as-of", _) => Some(Command::Turn(Turn::AsOf(x))),
+        ("since", _) => Some(Command::Turn(Turn::Since(x))),
+        ("filter", Edn::Key(name)) => Some(Command::Turn(Turn::Filter(name))),
         _ => None,
     }
 }
 
 fn before_two<'a>(word: &str, x: &'a Edn, y: &'a Edn) -> Option<Command<'a>> {
     match word {
-        "tx-range" => Some(Command::TxRange(x, y)),
+        "tx-range" => Some(Command::Look(Look::TxRange(x, y))),
         "pull" => Some(Command::Pull),
         _ => None,
     }
@@ -74,8 +88,8 @@ fn of_an_index<'a>(word: &str, behind: &'a [Edn]) -> Option<Command<'a>> {
     };
     let order = order_in(index.as_str())?;
     match word {
-        "datoms" => Some(Command::Datoms(order, components)),
-        "seek" => Some(Command::Seek(order, components)),
+        "datoms" => Some(Command::Look(Look::Datoms(order, components))),
+        "seek" => Some(Command::Look(Look::Seek(order, components))),
         _ => None,
     }
 }

@@ -2,7 +2,7 @@
 ghost use Rattle.std.specs.Prelude.{◌≡◌, IfOk};
 ghost use Rattle.fb_model.specs.Lawful.{IsLawful};
 
-use crate::commands::{Command, command_in};
+use crate::commands::{Command, Turn, command_in};
 use crate::filters::{Filter, filter_named};
 use crate::points::end_of;
 use crate::sight::Sight;
@@ -137,68 +137,47 @@ impl PlainSession {
     }
 
     fn answer(&mut self, form: &Edn) -> Result<Edn, ReadStop> {
-        let command = or_refused(command_in(form), "read/not-a-command", 0)?;
-        match command {
+        match or_refused(command_in(form), "read/not-a-command", 0)? {
             Command::Transact(data) => {
                 let reading = self.reading;
                 self.reading = reading.saturating_add(self.step);
                 Ok(transact(self.alloc, &mut self.entries, data, reading, &NoGuard)?)
             }
             Command::Basis => Ok(replies::basis(self.alloc, basis(&self.entries))?),
-            Command::Pull => Err(ReadStop::Refused("read/not-built", 0)),
-            Command::Datoms(..)
-            | Command::Seek(..)
-            | Command::IndexRange(..)
-            | Command::TxRange(..) => self.look(command),
-            _ => {
-                self.turn(command)?;
+            Command::Turn(turn) => {
+                self.turn(turn)?;
                 Ok(replies::done(self.alloc, basis(&self.entries))?)
             }
+            Command::RequestIndex => Ok(replies::done(self.alloc, basis(&self.entries))?),
+            Command::Look(look) => {
+                let sight = Sight::of(self.alloc, &self.entries, self.window, &self.filters)?;
+                sight.reply(look)
+            }
+            Command::Pull => Err(ReadStop::Refused("read/not-built", 0)),
         }
     }
 
     /// What the session sees from now on.
-    fn turn(&mut self, command: Command<'_>) -> Result<(), ReadStop> {
-        match command {
-            Command::AsOf(point) => {
+    fn turn(&mut self, turn: Turn<'_>) -> Result<(), ReadStop> {
+        match turn {
+            Turn::AsOf(point) => {
                 let end = end_of(&self.entries, point)?;
                 self.window.to = self.window.to.min(end);
             }
-            Command::Since(point) => {
+            Turn::Since(point) => {
                 let end = end_of(&self.entries, point)?;
                 self.window.from = self.window.from.max(end);
             }
-            Command::History => self.window.history = true,
-            Command::Filter(name) => {
+            Turn::History => self.window.history = true,
+            Turn::Filter(name) => {
                 let filter = or_refused(filter_named(name.as_str()), "read/no-filter", 1)?;
-                if self.filters.push(filter).is_err() {
-                    return Err(ReadStop::Memory);
-                }
+                self.filters.push(filter).map_err(Memory::from)?;
             }
-            Command::Unfilter => {
+            Turn::Unfilter => {
                 self.window = WHOLE;
                 self.filters.clear();
             }
-            _ => {}
         }
         Ok(())
-    }
-
-    fn look(&self, command: Command<'_>) -> Result<Edn, ReadStop> {
-        let sight = Sight::of(self.alloc, &self.entries, self.window, &self.filters)?;
-        let basis = basis(&self.entries);
-        match command {
-            Command::Datoms(order, forms) => {
-                reads::datoms(self.alloc, &sight, order, forms, basis)
-            }
-            Command::Seek(order, forms) => reads::seek(self.alloc, &sight, order, forms, basis),
-            Command::IndexRange(name, start, end) => {
-                reads::index_range(self.alloc, &sight, [name, start, end], basis)
-            }
-            Command::TxRange(start, stop) => {
-                reads::tx_range(self.alloc, &sight, &self.entries, start, stop)
-            }
-            _ => Ok(replies::basis(self.alloc, basis)?),
-        }
     }
 }

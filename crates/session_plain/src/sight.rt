@@ -9,8 +9,8 @@ use std::alloc::Global;
 
 #[derive(Drop)]
 pub(crate) struct Sight<'a> {
-    alloc: Global,
-    entries: &'a [Entry],
+    pub(crate) alloc: Global,
+    pub(crate) entries: &'a [Entry],
     window: Window,
     filters: &'a [Filter],
     /// What holds at the end of the whole history: names of attributes, their types and their indexes go by it.
