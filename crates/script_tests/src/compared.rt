@@ -23,7 +23,8 @@ pub(crate) fn are_same<W: Write>(
             return Ok(false);
         }
     }
-    show(out, b"there is one line more", others.next().unwrap_or(b""))?;
+    let line = others.next().unwrap_or(b"");
+    show(out, b"there is one line more", line)?;
     Ok(false)
 }
 
