@@ -1,7 +1,7 @@
 -- A script with nothing wrong is answered whole.
-use Rattle.std.proofs.Common.{◌≡◌, ℕ, ◌<◌, ◌⊎◌, ℤ, List, [], ◌∷◌, ◌++◌, Option, Some, None, length, length-append, refl, ap, ◌∙◌, sym, subst, inl, inr, arith}
+use Rattle.std.proofs.Common.{◌≡◌, ℕ, ◌<◌, ◌⊎◌, false, List, [], ◌∷◌, ◌++◌, Option, Some, None, length, length-append, refl, ap, ◌∙◌, sym, subst, inl, inr, arith}
 use Rattle.std.proofs.lemmas.List.{append-nil}
-use Rattle.std.specs.Prelude.{IfSome, IsSome}
+use Rattle.std.specs.Prelude.{IfSome, IsSome, string_bytes}
 use Rattle.std.specs.List.{AllByRecursion}
 use Rattle.std.specs.Io.KnownBytes.{prepend_known, append_known, IsAtEnd}
 use Rattle.edn_model.specs.Form.{Form}
@@ -9,15 +9,22 @@ use Rattle.edn_model.specs.Faults.{Fault}
 use Rattle.edn_core.specs.Answers.{fault_of}
 use Rattle.fb_values.specs.declared.facts.Entry.{Entry}
 use Rattle.fb_ports.specs.Faults.{Rose}
+use Rattle.fb_view.specs.Kept.{Kept}
 use Rattle.script_model.specs.Words.{Command, run, sink_of}
 use Rattle.script_model.specs.Script.{Ending, whole, fault, too_many, Script}
-use Rattle.script_model.specs.Talk.{Talk}
 use Rattle.script_model.proofs.OneScript.{OneReading, one_script}
-use Rattle.factbase.specs.declared.outcome.SessionEnd.{SessionEnd}
-use Rattle.factbase.specs.declared.outcome.SessionEnd.TheVariants as ended
+use Rattle.talk_model.specs.Session.{Setting, opened_at}
+use Rattle.talk_model.specs.Talk.{Talk}
+use Rattle.fb_session.specs.declared.outcome.SessionEnd.{SessionEnd}
+use Rattle.fb_session.specs.declared.outcome.SessionEnd.TheVariants as ended
+use Rattle.fb_session.specs.Taken.{longest_script}
+use Rattle.fb_session.specs.Sessions.{Fixed}
+use Rattle.fb_session.specs.Replies.{AnswersUpTo, Replies, SourceCount, SinkCount}
 use Rattle.factbase.specs.declared.outcome.SessionOut.{SessionOut}
-use Rattle.factbase.specs.Taken.{longest_script}
-use Rattle.factbase.specs.Headline.{AnswersUpTo, Replies, EachScript, SourceCount, SinkCount, SaysEnd, IsOutOfMemory, NoSession, SessionCauses, Causes, CannotOpen}
+use Rattle.factbase.specs.declared.outcome.Outcome.{Outcome}
+use Rattle.factbase.specs.Outside.{Told, Tells, setting_of}
+use Rattle.factbase.specs.Headline.{RepliesAlone}
+use Rattle.factbase.specs.Causes.{OutOfMemory, IsOutOfMemory, EndsAs, NoSession, CannotOpen, HasRun, HasBegun}
 use Rattle.factbase.specs.Complete.{HoldsForms, NoneRose, EachHasItsLine, AnsweredWhole, Complete}
 
 -- what was taken of a source that tells, up to its end, is what it held
@@ -44,96 +51,104 @@ same_reading held left script forms read ending holds taken at_end stands =
     one_script holds.script read forms ending whole (subst P same stands) holds.read
 
 -- forms alone have no fault behind them
-no_fault : (may : ℤ → Type 0) (h : List Entry) (held left : Option (List ℕ)) (script written : List ℕ) (places commits : List ℕ) (forms : List Form) (why : Option (Fault × ℕ))
-    → HoldsForms held forms → held ≡ prepend_known script left → IsAtEnd left → AnswersUpTo may h 0 script why written places commits → ⊥
-no_fault may h held left script written places commits forms None holds taken at_end answers = answers
-no_fault may h held left script written places commits forms (Some p) holds taken at_end answers =
+no_fault : (s : Setting) (held left : Option (List ℕ)) (script written : List ℕ) (places commits : List ℕ) (forms : List Form) (why : Option (Fault × ℕ))
+    → HoldsForms held forms → held ≡ prepend_known script left → IsAtEnd left → AnswersUpTo s 0 script why written places commits → ⊥
+no_fault s held left script written places commits forms None holds taken at_end answers = answers
+no_fault s held left script written places commits forms (Some p) holds taken at_end answers =
     let wrong = (same_reading held left script forms answers.forms (fault p.0 p.1) holds taken at_end answers.read).endings in
     absurd cc
 
--- how a session ends whose source holds forms alone and where no count rose
-complete_end : (may : ℤ → Type 0) (h : List Entry) (held left had has : Option (List ℕ)) (places commits : List ℕ) (forms : List Form) (m k n j : ℕ) (name : List ℕ) (status : ℕ) (line : List ℕ) (how : SessionEnd)
-    → HoldsForms held forms → Replies may h 0 held left had has places commits how → SaysEnd name how status line
-    → SourceCount how m k → SinkCount how n j → ¬ Rose m k → ¬ Rose n j
-    → ((status ≡ 0) × EachHasItsLine may h forms had has places commits) ⊎ IsOutOfMemory status line
-complete_end may h held left had has places commits forms m k n j name status line ended.Done holds replies says source sink calm_source calm_sink =
-    let one = same_reading held left replies.script forms replies.answers.forms whole holds replies.taken (replies.all refl) replies.answers.read in
-    let P : List Form → Type 0 = λ fs. Talk may h 0 fs places commits replies.answers.lines in
-    inl (
-      says.0,
-      record {
-        lines = replies.answers.lines;
-        talk = subst P one.forms replies.answers.talk;
-        gained = replies.gained ∙ ap (append_known had) replies.answers.whole_lines;
-      },
-    )
-complete_end may h held left had has places commits forms m k n j name status line (ended.Script why) holds replies (inl says) source sink calm_source calm_sink =
-    absurd (no_fault may h held left replies.script replies.written places commits forms (fault_of why) holds replies.taken (replies.all refl) replies.answers)
-complete_end may h held left had has places commits forms m k n j name status line (ended.Script why) holds replies (inr refused) source sink calm_source calm_sink = inr refused
-complete_end may h held left had has places commits forms m k n j name status line ended.TooMany holds replies says source sink calm_source calm_sink =
-    let wrong = (same_reading held left replies.script forms replies.answers.forms too_many holds replies.taken (replies.all refl) replies.answers.read).endings in
-    absurd cc
-complete_end may h held left had has places commits forms m k n j name status line ended.TooLong holds replies says source sink calm_source calm_sink =
-    let long = taken_part held left holds.script replies.script holds.told replies.taken (replies.too_long.0 refl) in
-    absurd (omega (arith, long, holds.fits))
-complete_end may h held left had has places commits forms m k n j name status line ended.ReadFault holds replies says source sink calm_source calm_sink = absurd (calm_source source)
-complete_end may h held left had has places commits forms m k n j name status line ended.WriteFault holds replies says source sink calm_source calm_sink = absurd (calm_sink sink)
-complete_end may h held left had has places commits forms m k n j name status line ended.Memory holds replies says source sink calm_source calm_sink = inr says
+module _ (s : Setting) (held left had has : Option (List ℕ)) (places commits : List ℕ) (forms : List Form) (m k n j : ℕ) (name : List ℕ) (status : ℕ) (line : List ℕ) where
+  -- how a session ends whose source holds forms alone and where no count rose
+  complete_end : (how : SessionEnd) → HoldsForms held forms → Replies s 0 held left had has places commits how → EndsAs name how status line
+      → SourceCount how m k → SinkCount how n j → ¬ Rose m k → ¬ Rose n j
+      → ((status ≡ 0) × EachHasItsLine s forms had has places commits) ⊎ OutOfMemory status line
+  complete_end ended.Done holds replies says source sink calm_source calm_sink =
+      let one = same_reading held left replies.script forms replies.answers.forms whole holds replies.taken (replies.all refl) replies.answers.read in
+      let P : List Form → Type 0 = λ fs. Talk s (opened_at 0) fs places commits replies.answers.lines replies.answers.after in
+      inl (
+        says.0,
+        record {
+          lines = replies.answers.lines;
+          after = replies.answers.after;
+          talk = subst P one.forms replies.answers.talk;
+          gained = replies.gained ∙ ap (append_known had) replies.answers.whole_lines;
+        },
+      )
+  complete_end (ended.Script why) holds replies (inl says) source sink calm_source calm_sink =
+      absurd (no_fault s held left replies.script replies.written places commits forms (fault_of why) holds replies.taken (replies.all refl) replies.answers)
+  complete_end (ended.Script why) holds replies (inr refused) source sink calm_source calm_sink = inr refused
+  complete_end ended.TooMany holds replies says source sink calm_source calm_sink =
+      let wrong = (same_reading held left replies.script forms replies.answers.forms too_many holds replies.taken (replies.all refl) replies.answers.read).endings in
+      absurd cc
+  complete_end ended.TooLong holds replies says source sink calm_source calm_sink =
+      let long = taken_part held left holds.script replies.script holds.told replies.taken (replies.too_long.0 refl) in
+      absurd (omega (arith, long, holds.fits))
+  complete_end ended.ReadFault holds replies says source sink calm_source calm_sink = absurd (calm_source source)
+  complete_end ended.WriteFault holds replies says source sink calm_source calm_sink = absurd (calm_sink sink)
+  complete_end ended.Memory holds replies (inl says) source sink calm_source calm_sink = inr (says.0, inl says.1)
+  complete_end ended.Memory holds replies (inr refused) source sink calm_source calm_sink = inr refused
 
-module _ {S O : Type 0} (may : ℤ → Type 0) (left : S → Option (List ℕ)) (contents : O → Option (List ℕ)) (source_has : S → ℕ) (sink_has : O → ℕ)
-    (status : ℕ) (line : List ℕ) (sessions : List (SessionOut S O)) where
+module _ {I O D : Type 0} (terms : Fixed) (told : Told) (tells : Tells I O) (new : ℕ) (name : List ℕ) (outcome : Outcome I O D) (forms : List Form)
+    (holds : HoldsForms (told.sources name) forms) (calm : NoneRose told tells new name outcome) where
   -- the session's answers are the run's
-  whole_run : (h : List Entry) (had : Option (List ℕ)) (forms : List Form) (s : SessionOut S O) → sessions ≡ s ∷ []
-      → ((status ≡ 0) × EachHasItsLine may h forms had (contents s.sink) s.places s.commits) ⊎ IsOutOfMemory status line
-      → AnsweredWhole may contents had forms status sessions (Some h) ⊎ IsOutOfMemory status line
-  whole_run h had forms s alone (inl done) = inl (record { succeeded = done.0; session = s; alone = alone; history = h; kept = refl; each = done.1 })
-  whole_run h had forms s alone (inr refused) = inr refused
+  whole_run : (last : Kept) (s : SessionOut I O) → outcome.last ≡ Some last → outcome.sessions.items ≡ s ∷ []
+      → ((outcome.status ≡ 0) × EachHasItsLine (setting_of terms last.entries None false) forms (told.sinks (sink_of name)) (tells.contents s.sink) s.places s.commits)
+      ⊎ IsOutOfMemory outcome
+      → AnsweredWhole terms told tells name forms outcome ⊎ IsOutOfMemory outcome
+  whole_run last s is_last alone (inl done) = inl (record { succeeded = done.0; session = s; alone = alone; last = last; kept = is_last; each = done.1 })
+  whole_run last s is_last alone (inr refused) = inr refused
 
-  complete_session : (h : List Entry) (held had : Option (List ℕ)) (forms : List Form) (m n old new : ℕ) (name : List ℕ) (s : SessionOut S O)
-      → HoldsForms held forms → sessions ≡ s ∷ [] → Replies may h 0 held (left s.source) had (contents s.sink) s.places s.commits s.end → SaysEnd name s.end status line
-      → SourceCount s.end m (source_has s.source) → SinkCount s.end n (sink_has s.sink) → NoneRose m n source_has sink_has old new sessions
-      → AnsweredWhole may contents had forms status sessions (Some h) ⊎ IsOutOfMemory status line
-  complete_session h held had forms m n old new name s holds alone replies says source sink calm =
-      let P : List (SessionOut S O) → Type 0 = AllByRecursion (λ (x : SessionOut S O). ¬ Rose m (source_has x.source)) in
-      let Q : List (SessionOut S O) → Type 0 = AllByRecursion (λ (x : SessionOut S O). ¬ Rose n (sink_has x.sink)) in
-      whole_run h had forms s alone
-      (complete_end may h held (left s.source) had (contents s.sink) s.places s.commits forms m (source_has s.source) n (sink_has s.sink) name status line s.end
+  complete_session : (last : Kept) (s : SessionOut I O) → outcome.last ≡ Some last → outcome.sessions.items ≡ s ∷ []
+      → Replies (setting_of terms last.entries None false) 0 (told.sources name) (tells.left s.source) (told.sinks (sink_of name)) (tells.contents s.sink) s.places s.commits s.end
+      → EndsAs name s.end outcome.status (string_bytes outcome.line)
+      → SourceCount s.end (told.source_faults name) (tells.source_faults s.source) → SinkCount s.end (told.sink_faults (sink_of name)) (tells.sink_faults s.sink)
+      → AnsweredWhole terms told tells name forms outcome ⊎ IsOutOfMemory outcome
+  complete_session last s is_last alone replies says source sink =
+      let P : List (SessionOut I O) → Type 0 = AllByRecursion (λ (x : SessionOut I O). ¬ Rose (told.source_faults name) (tells.source_faults x.source)) in
+      let Q : List (SessionOut I O) → Type 0 = AllByRecursion (λ (x : SessionOut I O). ¬ Rose (told.sink_faults (sink_of name)) (tells.sink_faults x.sink)) in
+      whole_run last s is_last alone
+      (complete_end (setting_of terms last.entries None false) (told.sources name) (tells.left s.source) (told.sinks (sink_of name)) (tells.contents s.sink) s.places s.commits forms
+      (told.source_faults name) (tells.source_faults s.source) (told.sink_faults (sink_of name)) (tells.sink_faults s.sink) name outcome.status (string_bytes outcome.line) s.end
       holds replies says source sink (subst P alone calm.sources).0 (subst Q alone calm.sinks).0)
 
   -- two names of one session
-  complete_opened : (entries : Option (List Entry)) (held had : Option (List ℕ)) (forms : List Form) (m n old new : ℕ) (name : List ℕ) (s : SessionOut S O)
-      → IfSome entries (λ h. (x : SessionOut S O) × (sessions ≡ x ∷ []) × Replies may h 0 held (left x.source) had (contents x.sink) x.places x.commits x.end)
-      → IsSome entries → HoldsForms held forms → sessions ≡ s ∷ [] → SaysEnd name s.end status line
-      → SourceCount s.end m (source_has s.source) → SinkCount s.end n (sink_has s.sink) → NoneRose m n source_has sink_has old new sessions
-      → AnsweredWhole may contents had forms status sessions entries ⊎ IsOutOfMemory status line
-  complete_opened None held had forms m n old new name s replies there holds alone says source sink calm = absurd cc
-  complete_opened (Some h) held had forms m n old new name s replies there holds alone says source sink calm =
-      let both = sym replies.1 ∙ alone in
-      let one : replies.0 ≡ s = cc in
-      let P : SessionOut S O → Type 0 = λ x. Replies may h 0 held (left x.source) had (contents x.sink) x.places x.commits x.end in
-      complete_session h held had forms m n old new name s holds alone (subst P one replies.2) says source sink calm
+  complete_run : (last : Option Kept) → outcome.last ≡ last → outcome.recovered ≡ 0
+      → IfSome last (λ l. RepliesAlone terms (told.sources name) (told.sinks (sink_of name)) tells outcome l.entries)
+      → HasRun tells (told.source_faults name) (told.sink_faults (sink_of name)) name outcome
+      → AnsweredWhole terms told tells name forms outcome ⊎ IsOutOfMemory outcome
+  complete_run None is_last opened replies run = let there = run.last in absurd (rw is_last at there)
+  complete_run (Some l) is_last opened replies run =
+      let both = sym replies.1 ∙ run.alone in
+      let one : replies.0 ≡ run.session = cc in
+      let P : SessionOut I O → Type 0 = λ x. Replies (setting_of terms l.entries None false) 0 (told.sources name) (tells.left x.source) (told.sinks (sink_of name)) (tells.contents x.sink) x.places x.commits x.end in
+      complete_session l run.session is_last run.alone (subst P one (rw opened at replies.2)) run.says run.source run.sink
 
-  refused_or_failed : (forms : List Form) (had : Option (List ℕ)) (old new : ℕ) (name : List ℕ) (entries : Option (List Entry)) → ¬ Rose old new
-      → CannotOpen name status line old new ⊎ IsOutOfMemory status line → AnsweredWhole may contents had forms status sessions entries ⊎ IsOutOfMemory status line
-  refused_or_failed forms had old new name entries calm (inl cannot) = absurd (calm cannot.host)
-  refused_or_failed forms had old new name entries calm (inr refused) = inr refused
+  pub complete_opened : outcome.recovered ≡ 0
+      → IfSome outcome.last (λ l. RepliesAlone terms (told.sources name) (told.sinks (sink_of name)) tells outcome l.entries)
+      → HasBegun tells (told.source_faults name) (told.sink_faults (sink_of name)) name outcome
+      → AnsweredWhole terms told tells name forms outcome ⊎ IsOutOfMemory outcome
+  complete_opened opened replies (inl nothing) = inr nothing.1
+  complete_opened opened replies (inr run) = complete_run outcome.last refl opened replies run
 
-  complete_causes : (entries : Option (List Entry)) (held had : Option (List ℕ)) (forms : List Form) (m n old new : ℕ) (name : List ℕ) (authors : Option (List ℕ))
-      → IfSome entries (λ h. (x : SessionOut S O) × (sessions ≡ x ∷ []) × Replies may h 0 held (left x.source) had (contents x.sink) x.places x.commits x.end)
-      → HoldsForms held forms → NoneRose m n source_has sink_has old new sessions
-      → (NoSession authors sessions entries × (CannotOpen name status line old new ⊎ IsOutOfMemory status line))
-      ⊎ (SessionCauses m n source_has sink_has name status line authors sessions entries × (new ≡ old))
-      → AnsweredWhole may contents had forms status sessions entries ⊎ IsOutOfMemory status line
-  complete_causes entries held had forms m n old new name authors replies holds calm (inl (none, failed)) = refused_or_failed forms had old new name entries calm.host failed
-  complete_causes entries held had forms m n old new name authors replies holds calm (inr (inl (none, refused), same)) = inr refused
-  complete_causes entries held had forms m n old new name authors replies holds calm (inr (inr opened, same)) =
-      complete_opened entries held had forms m n old new name opened.0 replies opened.2 holds opened.1 opened.4 opened.5 opened.6 calm
+  pub complete_unopened : CannotOpen told new name outcome ⊎ IsOutOfMemory outcome → AnsweredWhole terms told tells name forms outcome ⊎ IsOutOfMemory outcome
+  complete_unopened (inl cannot) = absurd (calm.host cannot.host)
+  complete_unopened (inr refused) = inr refused
 
-  -- what the replies and the causes of a run come to
-  pub complete : (sources sinks : List ℕ → Option (List ℕ)) (source_had sink_had : List ℕ → ℕ) (old new : ℕ) (command : Option Command) (authors : Option (List ℕ)) (entries : Option (List Entry))
-      → IfSome entries (λ h. EachScript (λ name (s : SessionOut S O). Replies may h 0 (sources name) (left s.source) (sinks (sink_of name)) (contents s.sink) s.places s.commits s.end) command sessions)
-      → Causes source_had sink_had source_has sink_has old new command status line authors sessions entries
-      → Complete may contents sources sinks source_had sink_had source_has sink_has old new command status line sessions entries
-  complete sources sinks source_had sink_had old new None authors entries replies causes = tt
-  complete sources sinks source_had sink_had old new (Some (run name)) authors entries replies causes = λ forms holds calm.
-      complete_causes entries (sources name) (sinks (sink_of name)) forms (source_had name) (sink_had (sink_of name)) old new name authors replies holds calm causes
+module _ {I O D : Type 0} (terms : Fixed) (told : Told) (tells : Tells I O) (new : ℕ) (name : List ℕ) (command : Option Command) (outcome : Outcome I O D) where
+  -- what the replies and the causes of a session come to
+  pub complete_command : (held had : Option (List ℕ)) (m n : ℕ) → Some (run name) ≡ command → held ≡ told.sources name → had ≡ told.sinks (sink_of name)
+      → m ≡ told.source_faults name → n ≡ told.sink_faults (sink_of name) → outcome.recovered ≡ 0
+      → IfSome outcome.last (λ l. RepliesAlone terms held had tells outcome l.entries) → HasBegun tells m n name outcome
+      → Complete terms told tells new command outcome
+  complete_command held had m n is is_source is_sink counted_source counted_sink opened replies begun =
+      let P : Option Command → Type 0 = λ asked. Complete terms told tells new asked outcome in
+      let ours : IfSome outcome.last (λ l. RepliesAlone terms (told.sources name) (told.sinks (sink_of name)) tells outcome l.entries) = rw (← is_source, ← is_sink) replies in
+      let theirs : HasBegun tells (told.source_faults name) (told.sink_faults (sink_of name)) name outcome = rw (← counted_source, ← counted_sink) begun in
+      subst P is (λ forms holds calm. complete_opened terms told tells new name outcome forms holds calm opened ours theirs)
+
+  -- where nothing was opened
+  pub complete_failure : Some (run name) ≡ command → CannotOpen told new name outcome ⊎ IsOutOfMemory outcome → Complete terms told tells new command outcome
+  complete_failure is failed =
+      let P : Option Command → Type 0 = λ asked. Complete terms told tells new asked outcome in
+      subst P is (λ forms holds calm. complete_unopened terms told tells new name outcome forms holds calm failed)

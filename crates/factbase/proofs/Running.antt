@@ -1,71 +1,90 @@
--- A run: its one history, and the causes of its status.
-use Rattle.std.proofs.Common.{◌≡◌, ℕ, ◌+◌, ◌<◌, ◌⊎◌, ℤ, List, [], ◌∷◌, Option, Some, None, Result, Ok, Err, zero, suc, ◌∙◌, subst, inl, inr, arith}
-use Rattle.std.specs.Prelude.{IfSome, IfOk, OnErr}
-use Rattle.std.specs.List.{AllByRecursion, slice_index_or}
+-- A run: its one history, its replies, and the causes of its status.
+use Rattle.std.proofs.Common.{◌≡◌, ℕ, ◌+◌, ◌<◌, ◌⊎◌, List, [], ◌∷◌, length, Option, Some, None, Result, Ok, Err, zero, suc, refl, sym, ap, ◌∙◌, subst, inl, inr, arith}
+use Rattle.std.specs.Prelude.{IfSome, IfOk, OnErr, nat_eq, slice_index_or, string_bytes}
+use Rattle.std.specs.List.{AllByRecursion}
+use Rattle.std.specs.List.Sorted.{IsStrictlyIncreasing}
 use Rattle.fb_values.specs.declared.facts.Entry.{Entry}
 use Rattle.fb_model.specs.History.{basis}
+use Rattle.fb_model.specs.Lawful.{IsLawful}
+use Rattle.fb_core.specs.Worlds.{commits_behind}
 use Rattle.fb_ports.specs.Faults.{Rose}
+use Rattle.fb_view.specs.Kept.{Kept}
 use Rattle.script_model.specs.Words.{Command, run, sink_of}
-use Rattle.script_model.specs.Prefixes.{Prefixes}
-use Rattle.script_model.proofs.Places.{commits_rise}
+use Rattle.fb_session.specs.Sessions.{Fixed}
+use Rattle.fb_session.specs.Replies.{Replies}
 use Rattle.factbase.specs.declared.outcome.SessionOut.{SessionOut}
-use Rattle.factbase.specs.declared.session.Book.{Book}
+use Rattle.factbase.specs.declared.outcome.Outcome.{Outcome}
 use Rattle.factbase.specs.StatusLines.{cannot_open}
-use Rattle.factbase.specs.Headline.{authored, OneHistory, Replies, EachScript, IsOutOfMemory, CannotOpen, SessionCauses, Causes, NoSession}
-use Rattle.factbase.specs.Books.{IsSound}
+use Rattle.factbase.specs.Outside.{Told, Tells, setting_of, scripts_of, EachOf}
+use Rattle.factbase.specs.Headline.{OneHistory, stop_of, EachReplies, RepliesAlone}
+use Rattle.factbase.specs.Causes.{NoSession, Says, IsOutOfMemory, CannotOpen, HasBegun, Causes}
 
 by_one : (authors : List ℕ) → AllByRecursion (λ author. author ≡ 0) authors → AllByRecursion (λ author. author < 1) authors
 by_one [] all = tt
 by_one (a ∷ authors) all = (omega (arith, all.0), by_one authors all.1)
 
-own : (commits authors : List ℕ) → commits ≡ authored 0 1 authors → (session : ℕ) → session < 1 → slice_index_or (commits ∷ []) session [] ≡ authored session (0 + 1) authors
+own : (commits authors : List ℕ) → commits ≡ commits_behind 0 0 authors → (session : ℕ) → session < 1 → slice_index_or (commits ∷ []) session [] ≡ commits_behind 0 session authors
 own commits authors same zero one = same
 own commits authors same (suc session) one = absurd (omega (arith, one))
 
 -- the history of one session
-pub one_history : (book : Book) → IsSound book → Prefixes 0 (basis book.entries) book.places.items book.commits.items
-    → OneHistory book.entries 0 book.authors (book.commits.items ∷ [])
-one_history book sound prefixes =
+pub one_history : (h : List Entry) (authors commits : List ℕ) → IsLawful h → length authors ≡ basis h → AllByRecursion (λ author. author ≡ 0) authors
+    → commits ≡ commits_behind 0 0 authors → IsStrictlyIncreasing commits → OneHistory h 0 authors (commits ∷ [])
+one_history h authors commits lawful each_t by_session same rising =
     record {
-      lawful = sound.lawful;
-      each_t = omega (arith, sound.each_t);
-      by_sessions = by_one book.authors sound.by_session;
-      own = own book.commits.items book.authors sound.commits;
-      rising = (commits_rise (basis book.entries) 0 book.places.items book.commits.items prefixes.committed_before, tt);
+      lawful = lawful;
+      each_t = each_t;
+      by_sessions = by_one authors by_session;
+      own = own commits authors same;
+      rising = (rising, tt);
     }
 
--- the replies of the session that runs the command
-pub replies_of_command : {S O : Type 0} (may : ℤ → Type 0) (left : S → Option (List ℕ)) (contents : O → Option (List ℕ)) (sources sinks : List ℕ → Option (List ℕ)) (held had : Option (List ℕ))
-    (name : List ℕ) (command : Option Command) (entries : Option (List Entry)) (sessions : List (SessionOut S O))
-    → Some (run name) ≡ command → held ≡ sources name → had ≡ sinks (sink_of name)
-    → IfSome entries (λ h. EachScript (λ _ (s : SessionOut S O). Replies may h 0 held (left s.source) had (contents s.sink) s.places s.commits s.end) (Some (run name)) sessions)
-    → IfSome entries (λ h. EachScript (λ n (s : SessionOut S O). Replies may h 0 (sources n) (left s.source) (sinks (sink_of n)) (contents s.sink) s.places s.commits s.end) command sessions)
-replies_of_command {S} {O} may left contents sources sinks held had name command None sessions is told gained replies = tt
-replies_of_command {S} {O} may left contents sources sinks held had name command (Some h) sessions is told gained replies =
-    let P : Option Command → Type 0 = λ asked. EachScript (λ n (s : SessionOut S O). Replies may h 0 (sources n) (left s.source) (sinks (sink_of n)) (contents s.sink) s.places s.commits s.end) asked sessions in
-    subst P is (replies.0, replies.1, rw (← told, ← gained) replies.2)
+-- ---- replies
 
--- the causes of the session that runs the command
-pub causes_of_command : {S O : Type 0} (source_had sink_had : List ℕ → ℕ) (source_has : S → ℕ) (sink_has : O → ℕ) (m n old new : ℕ) (name : List ℕ) (command : Option Command)
-    (status : ℕ) (line : List ℕ) (authors : Option (List ℕ)) (sessions : List (SessionOut S O)) (entries : Option (List Entry))
-    → Some (run name) ≡ command → m ≡ source_had name → n ≡ sink_had (sink_of name) → new ≡ old
-    → SessionCauses m n source_has sink_has name status line authors sessions entries
-    → Causes source_had sink_had source_has sink_has old new command status line authors sessions entries
-causes_of_command {S} {O} source_had sink_had source_has sink_has m n old new name command status line authors sessions entries is counted_source counted_sink same causes =
-    let P : Option Command → Type 0 = λ asked. Causes source_had sink_had source_has sink_has old new asked status line authors sessions entries in
-    subst P is (inr (rw (← counted_source, ← counted_sink) causes, same))
+module _ {I O D : Type 0} (terms : Fixed) (told : Told) (tells : Tells I O) (held had : Option (List ℕ)) (name : List ℕ) (outcome : Outcome I O D) where
+  no_stop : outcome.torn ≡ None → stop_of outcome ≡ None
+  no_stop whole = rw whole refl
 
--- the host could not open, whether or not there was memory to say so
-pub cannot_open_or_memory : {Z E : Type 0} (r : Result Z E) (bytes : Z → List ℕ) (name : List ℕ) (status : ℕ) (line : List ℕ) (old new : ℕ)
-    → IfOk r (λ said. bytes said ≡ cannot_open name) → IfOk r (λ said. (status ≡ 2) × (line ≡ bytes said)) → OnErr r ((status ≡ 9) × (line ≡ [])) → Rose old new
-    → CannotOpen name status line old new ⊎ IsOutOfMemory status line
-cannot_open_or_memory (Ok x) bytes name status line old new is said unsaid rose = inl (record { two = said.0; says_so = said.1 ∙ is; host = rose })
-cannot_open_or_memory (Err e) bytes name status line old new is said unsaid rose = inr (record { nine = unsaid.0; says_so = inr unsaid.1 })
+  replies_over : (h : List Entry) → held ≡ told.sources name → had ≡ told.sinks (sink_of name) → outcome.torn ≡ None
+      → RepliesAlone terms held had tells outcome h → EachReplies terms told tells (Some (run name)) outcome h
+  replies_over h is_source is_sink whole replies =
+      let P : ℕ → List ℕ → SessionOut I O → Type 0 = λ n script s. Replies (setting_of terms h (stop_of outcome) (nat_eq n 1)) outcome.recovered
+          (told.sources script) (tells.left s.source) (told.sinks (sink_of script)) (tells.contents s.sink) s.places s.commits s.end in
+      let Q : List (SessionOut I O) → Type 0 = λ ss. EachOf P 0 (name ∷ []) ss in
+      let one : P 0 name replies.0 = rw (no_stop whole, ← is_source, ← is_sink) replies.2 in
+      (1, subst Q (sym replies.1) (one, tt))
 
-pub causes_of_failure : {S O : Type 0} (source_had sink_had : List ℕ → ℕ) (source_has : S → ℕ) (sink_has : O → ℕ) (old new : ℕ) (name : List ℕ) (command : Option Command)
-    (status : ℕ) (line : List ℕ) (authors : Option (List ℕ)) (sessions : List (SessionOut S O)) (entries : Option (List Entry))
-    → Some (run name) ≡ command → NoSession authors sessions entries → CannotOpen name status line old new ⊎ IsOutOfMemory status line
-    → Causes source_had sink_had source_has sink_has old new command status line authors sessions entries
-causes_of_failure {S} {O} source_had sink_had source_has sink_has old new name command status line authors sessions entries is none failed =
-    let P : Option Command → Type 0 = λ asked. Causes source_had sink_had source_has sink_has old new asked status line authors sessions entries in
-    subst P is (inl (none, failed))
+  replies_if : (last : Option Kept) → held ≡ told.sources name → had ≡ told.sinks (sink_of name) → outcome.torn ≡ None
+      → IfSome last (λ l. RepliesAlone terms held had tells outcome l.entries) → IfSome last (λ l. EachReplies terms told tells (Some (run name)) outcome l.entries)
+  replies_if None is_source is_sink whole replies = tt
+  replies_if (Some l) is_source is_sink whole replies = replies_over l.entries is_source is_sink whole replies
+
+  -- the replies of the session that runs the command
+  pub replies_of_command : (command : Option Command) → Some (run name) ≡ command → held ≡ told.sources name → had ≡ told.sinks (sink_of name) → outcome.torn ≡ None
+      → IfSome outcome.last (λ l. RepliesAlone terms held had tells outcome l.entries) → IfSome outcome.last (λ l. EachReplies terms told tells command outcome l.entries)
+  replies_of_command command is is_source is_sink whole replies =
+      let P : Option Command → Type 0 = λ asked. IfSome outcome.last (λ l. EachReplies terms told tells asked outcome l.entries) in
+      subst P is (replies_if outcome.last is_source is_sink whole replies)
+
+-- ---- causes
+
+module _ {I O D : Type 0} (told : Told) (tells : Tells I O) (new : ℕ) (name : List ℕ) (command : Option Command) (outcome : Outcome I O D) where
+  -- the causes of the session that runs the command
+  pub causes_of_command : (m n : ℕ) → Some (run name) ≡ command → m ≡ told.source_faults name → n ≡ told.sink_faults (sink_of name) → new ≡ told.faults
+      → HasBegun tells m n name outcome → Causes told tells new command outcome
+  causes_of_command m n is counted_source counted_sink same begun =
+      let P : Option Command → Type 0 = λ asked. Causes told tells new asked outcome in
+      let opened : HasBegun tells (told.source_faults name) (told.sink_faults (sink_of name)) name outcome = rw (← counted_source, ← counted_sink) begun in
+      subst P is (inr (opened, same))
+
+  -- the host could not open, whether or not there was memory to say so
+  pub cannot_open_or_memory : {Z E : Type 0} (r : Result Z E) (bytes : Z → List ℕ)
+      → IfOk r (λ said. bytes said ≡ cannot_open name) → IfOk r (λ said. Says outcome 2 (bytes said)) → OnErr r (Says outcome 9 []) → Rose told.faults new
+      → CannotOpen told new name outcome ⊎ IsOutOfMemory outcome
+  cannot_open_or_memory (Ok x) bytes is said unsaid rose = inl (record { says = (said.0, said.1 ∙ is); host = rose })
+  cannot_open_or_memory (Err e) bytes is said unsaid rose = inr (unsaid.0, inr unsaid.1)
+
+  pub causes_of_failure : Some (run name) ≡ command → NoSession outcome → CannotOpen told new name outcome ⊎ IsOutOfMemory outcome → Causes told tells new command outcome
+  causes_of_failure is none failed =
+      let P : Option Command → Type 0 = λ asked. Causes told tells new asked outcome in
+      subst P is (inl (none, failed))

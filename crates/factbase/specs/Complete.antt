@@ -1,17 +1,21 @@
 -- What a run owes to a script that has nothing wrong with it: each of its forms has its line.
 -- This project's own choice.
-use Rattle.std.specs.Prelude.{◌≡◌, ℕ, ℤ, ◌≤◌, ◌⊎◌, List, [], ◌∷◌, Option, Some, None, length}
+use Rattle.std.specs.Prelude.{◌≡◌, ℕ, ◌≤◌, ◌⊎◌, false, List, [], ◌∷◌, Option, Some, None, length}
 use Rattle.std.specs.List.{concat, AllByRecursion}
 use Rattle.std.specs.Io.KnownBytes.{append_known}
 use Rattle.edn_model.specs.Form.{Form}
-use Rattle.fb_values.specs.declared.facts.Entry.{Entry}
+use Rattle.fb_view.specs.Kept.{Kept}
 use Rattle.fb_ports.specs.Faults.{Rose}
 use Rattle.script_model.specs.Words.{Command, run, sink_of}
 use Rattle.script_model.specs.Script.{whole, Script}
-use Rattle.script_model.specs.Talk.{Talk}
+use Rattle.talk_model.specs.Session.{Setting, Standing, opened_at}
+use Rattle.talk_model.specs.Talk.{Talk}
+use Rattle.fb_session.specs.Sessions.{Fixed}
+use Rattle.fb_session.specs.Taken.{longest_script}
 use Rattle.factbase.specs.declared.outcome.SessionOut.{SessionOut}
-use Rattle.factbase.specs.Taken.{longest_script}
-use Rattle.factbase.specs.Headline.{IsOutOfMemory}
+use Rattle.factbase.specs.declared.outcome.Outcome.{Outcome}
+use Rattle.factbase.specs.Outside.{Told, Tells, setting_of}
+use Rattle.factbase.specs.Causes.{IsOutOfMemory}
 
 -- the source holds these forms, within the limits, and nothing else
 pub record HoldsForms (held : Option (List ℕ)) (forms : List Form) : Type 0 where
@@ -21,30 +25,31 @@ pub record HoldsForms (held : Option (List ℕ)) (forms : List Form) : Type 0 wh
   pub read : Script script forms whole
 
 -- no count of faults rose: not the host's, nor that of a session's source or sink
-pub record NoneRose {S O : Type 0} (source_had sink_had : ℕ) (source_has : S → ℕ) (sink_has : O → ℕ) (old new : ℕ) (sessions : List (SessionOut S O)) : Type 0 where
-  pub host : ¬ Rose old new
-  pub sources : AllByRecursion (λ (s : SessionOut S O). ¬ Rose source_had (source_has s.source)) sessions
-  pub sinks : AllByRecursion (λ (s : SessionOut S O). ¬ Rose sink_had (sink_has s.sink)) sessions
+pub record NoneRose {I O D : Type 0} (told : Told) (tells : Tells I O) (new : ℕ) (name : List ℕ) (outcome : Outcome I O D) : Type 0 where
+  pub host : ¬ Rose told.faults new
+  pub sources : AllByRecursion (λ (s : SessionOut I O). ¬ Rose (told.source_faults name) (tells.source_faults s.source)) outcome.sessions.items
+  pub sinks : AllByRecursion (λ (s : SessionOut I O). ¬ Rose (told.sink_faults (sink_of name)) (tells.sink_faults s.sink)) outcome.sessions.items
 
 -- each of the forms has its line, and the sink gained nothing else
-pub record EachHasItsLine (may : ℤ → Type 0) (h : List Entry) (forms : List Form) (had has : Option (List ℕ)) (places commits : List ℕ) : Type 0 where
+pub record EachHasItsLine (s : Setting) (forms : List Form) (had has : Option (List ℕ)) (places commits : List ℕ) : Type 0 where
   pub lines : List (List ℕ)
-  pub talk : Talk may h 0 forms places commits lines
+  pub after : Standing
+  pub talk : Talk s (opened_at 0) forms places commits lines after
   pub gained : has ≡ append_known had (concat lines)
 
--- the run succeeded, and its one session answered all forms
-pub record AnsweredWhole {S O : Type 0} (may : ℤ → Type 0) (contents : O → Option (List ℕ)) (had : Option (List ℕ)) (forms : List Form) (status : ℕ) (sessions : List (SessionOut S O)) (entries : Option (List Entry)) : Type 0 where
-  pub succeeded : status ≡ 0
-  pub session : SessionOut S O
-  pub alone : sessions ≡ session ∷ []
-  pub history : List Entry
-  pub kept : entries ≡ Some history
-  pub each : EachHasItsLine may history forms had (contents session.sink) session.places session.commits
+-- the run succeeded, and its one session answered all forms; the log, of which there is none, has not stopped
+pub record AnsweredWhole {I O D : Type 0} (terms : Fixed) (told : Told) (tells : Tells I O) (name : List ℕ) (forms : List Form) (outcome : Outcome I O D) : Type 0 where
+  pub succeeded : outcome.status ≡ 0
+  pub session : SessionOut I O
+  pub alone : outcome.sessions.items ≡ session ∷ []
+  pub last : Kept
+  pub kept : outcome.last ≡ Some last
+  pub each : EachHasItsLine (setting_of terms last.entries None false) forms (told.sinks (sink_of name)) (tells.contents session.sink) session.places session.commits
 
 -- Where the words are a command, its script is forms within the limits, and no count of faults rises, each form is
 -- answered, or memory was refused.
-abbrev pub Complete : {S O : Type 0} → (ℤ → Type 0) → (O → Option (List ℕ)) → (List ℕ → Option (List ℕ)) → (List ℕ → Option (List ℕ)) → (List ℕ → ℕ) → (List ℕ → ℕ) → (S → ℕ) → (O → ℕ) → ℕ → ℕ → Option Command → ℕ → List ℕ → List (SessionOut S O) → Option (List Entry) → Type 0
-Complete may contents sources sinks source_had sink_had source_has sink_has old new None status line sessions entries = Unit {0}
-Complete may contents sources sinks source_had sink_had source_has sink_has old new (Some (run name)) status line sessions entries =
-    (forms : List Form) → HoldsForms (sources name) forms → NoneRose (source_had name) (sink_had (sink_of name)) source_has sink_has old new sessions
-    → AnsweredWhole may contents (sinks (sink_of name)) forms status sessions entries ⊎ IsOutOfMemory status line
+abbrev pub Complete : {I O D : Type 0} → Fixed → Told → Tells I O → ℕ → Option Command → Outcome I O D → Type 0
+Complete terms told tells new None outcome = Unit {0}
+Complete terms told tells new (Some (run name)) outcome =
+    (forms : List Form) → HoldsForms (told.sources name) forms → NoneRose told tells new name outcome
+    → AnsweredWhole terms told tells name forms outcome ⊎ IsOutOfMemory outcome

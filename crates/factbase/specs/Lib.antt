@@ -1,8 +1,5 @@
-pub mod Taken
-pub mod Written
 pub mod StatusLines
-pub mod Asked
-pub mod Heads
+pub mod Outside
 pub mod Headline
+pub mod Causes
 pub mod Complete
-pub mod Books

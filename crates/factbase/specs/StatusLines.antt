@@ -3,8 +3,8 @@
 use Rattle.std.specs.Prelude.{ℕ, List, [], ◌++◌, Option, Some, None, codes, decimal}
 use Rattle.edn_model.specs.Faults.{Fault, bad, unsupported, deep, cut}
 use Rattle.edn_core.specs.Answers.{fault_of}
-use Rattle.factbase.specs.declared.outcome.SessionEnd.{SessionEnd}
-use Rattle.factbase.specs.declared.outcome.SessionEnd.TheVariants.{Done, Script, TooLong, TooMany, ReadFault, WriteFault, Memory}
+use Rattle.fb_session.specs.declared.outcome.SessionEnd.{SessionEnd}
+use Rattle.fb_session.specs.declared.outcome.SessionEnd.TheVariants.{Done, Script, TooLong, TooMany, ReadFault, WriteFault, Memory}
 
 abbrev pub usage : List ℕ
 usage = codes "factbase: usage: factbase run [--merge-at N] DIR SCRIPT.. | check DIR | load N"

@@ -1,16 +1,15 @@
 //! Factbase: a database of immutable facts.
 #![tactic(auto)]
 
-mod decide;
 mod lines;
 mod outcome;
-mod reply;
 mod run;
-mod script;
-mod session;
 mod words;
 
-use fb_ports::{Memory, RealHost, SystemClock};
+use fb_core::NoGuard;
+use fb_ports::Memory;
+use fb_preds::shipped;
+use real_ports::{RealHost, SystemClock};
 use std::env;
 use std::io::ErrorKind;
 use std::process::ExitCode;
@@ -19,11 +18,12 @@ use std::process::ExitCode;
 const OUT_OF_MEMORY: u8 = 9;
 
 fn main(rt: HostRuntime) -> ExitCode {
-    let Ok(words) = words_of(&rt) else {
+    let (Ok(words), Ok(preds)) = (words_of(&rt), shipped(rt.alloc())) else {
         return ExitCode::from(OUT_OF_MEMORY);
     };
     let mut host = RealHost::new(rt);
-    let outcome = run::run(rt.alloc(), &words, &mut host, &SystemClock::new(rt));
+    let clock = SystemClock::new(rt);
+    let outcome = run::run(&rt, rt.alloc(), &words, &mut host, &clock, &preds, &NoGuard);
     if !outcome.line.is_empty() {
         // Where standard error takes nothing, the status says it alone.
         let _ = rt.eprintln(outcome.line.as_str());

@@ -1,66 +1,9 @@
 //! What a run hands back.
-ghost use Rattle.std.specs.Prelude.{◌≡◌, length, ◌==◌};
-
-use edn_core::EdnFault;
-use fb_history::{Authors, EntryList};
-use std::marker::Model;
-
-/// A list of transactions' t.
-#[derive(Drop)]
-pub struct Places {
-    items: Vec<u32>,
-}
-
-impl Model for Places {
-    ghost use Rattle.std.specs.Prelude.{ℕ, List};
-
-    ghost Value = { List ℕ };
-
-    ghost view = { λ p. p.items.items };
-}
-
-impl Places {
-    pub fn of(items: Vec<u32>) -> Places
-        ensures { result ≡ items.items }
-    {
-        Places { items }
-    }
-
-    pub fn as_slice(&self) -> &[u32]
-        ensures { result.now ≡ self.now }
-    {
-        self.items.as_slice()
-    }
-
-    pub fn len(&self) -> usize
-        ensures { result ≡ length self.now }
-    {
-        self.items.len()
-    }
-
-    pub fn is_empty(&self) -> bool
-        ensures { result ≡ (length self.now == 0) }
-    {
-        self.items.is_empty()
-    }
-}
-
-/// How a session ended.
-#[derive(Drop)]
-pub enum SessionEnd {
-    /// Each form of the script was answered.
-    Done,
-    /// Behind the forms that were answered stands a fault.
-    Script(EdnFault),
-    /// The script has more bytes than are read.
-    TooLong,
-    /// Behind as many commands as a script may have stands one more.
-    TooMany,
-    ReadFault,
-    WriteFault,
-    /// Memory was refused.
-    Memory,
-}
+use fb_core::Draft;
+use fb_history::Authors;
+use mem_ports::{MemSink, MemSource};
+use fb_session::{Places, SessionEnd};
+use fb_view::Snapshot;
 
 /// What is left of a session.
 #[derive(Drop)]
@@ -74,17 +17,30 @@ pub struct SessionOut<I, O> {
     pub commits: Places,
 }
 
-/// What a run hands back.
+/// What a run hands back. The parts of a log, a console and a generator are empty until the program has these.
 #[derive(Drop)]
-pub struct Outcome<I, O> {
+pub struct Outcome<I, O, D> {
     /// The program's exit status.
     pub status: u8,
     /// What is said on standard error, where it is not empty.
     pub line: String,
     /// One for each script, in order.
     pub sessions: Vec<SessionOut<I, O>>,
-    /// For each t above 0 the number of its session, where sessions ran.
+    /// Where a command's own answer was written.
+    pub console: Option<O>,
+    /// The sessions of a generator.
+    pub loads: Vec<SessionOut<MemSource, MemSink>>,
+    /// The two disks of the directory.
+    pub log: Option<D>,
+    pub segments: Option<D>,
+    /// For each t behind the opening's the number of its session, where sessions ran.
     pub authors: Option<Authors>,
-    /// The history, where sessions ran.
-    pub entries: Option<EntryList>,
+    /// The last value of the database, where sessions ran: its entries are the one history.
+    pub last: Option<Snapshot>,
+    /// What the log did not take.
+    pub torn: Option<Draft>,
+    /// The t up to which the history was there at the opening.
+    pub recovered: u32,
+    /// The last t in the trees of the last value.
+    pub covered: u32,
 }

@@ -1,120 +1,162 @@
 //! The top call: from the words of a command line, over a host and a clock, to an outcome.
-ghost use Rattle.std.specs.Prelude.{◌≡◌, ◌<◌, [], ◌∷◌, Some, map, string_bytes, vec_capacity, IfSome, IfOk, OnErr};
+ghost use Rattle.std.specs.Prelude.{◌≡◌, ◌<◌, ◌⊎◌, [], ◌∷◌, map, string_bytes, vec_capacity, IfSome, IfOk, OnErr};
 ghost use Rattle.std.specs.Option.{unwrap_or};
 ghost use Rattle.std.specs.List.{AllByRecursion};
 ghost use Rattle.fb_model.specs.History.{basis};
-ghost use Rattle.script_model.specs.Words.{run, command_of, sink_of};
-ghost use Rattle.script_model.specs.Prefixes.{Prefixes};
-ghost use Rattle.factbase.specs.Headline.{OneHistory, Replies, SaysEnd, NoSession, SessionCauses, Causes, EachScript};
-ghost use Rattle.factbase.specs.Complete.{Complete};
+ghost use Rattle.fb_model.specs.FirstEntry.{first_entry};
 ghost use Rattle.fb_ports.specs.Faults.{CountsOpening};
+ghost use Rattle.fb_preds.specs.Table.{is_filter};
+ghost use Rattle.script_model.specs.Words.{command_of, sink_of};
+ghost use Rattle.talk_model.specs.Prefixes.{Prefixes};
+ghost use Rattle.factbase.specs.Headline.{OneHistory, EachReplies, RepliesAlone};
+ghost use Rattle.factbase.specs.Causes.{HasNoDevice, NoSession, Says, EndsAs, HasBegun, Causes};
+ghost use Rattle.factbase.specs.Complete.{Complete};
 
 use crate::lines::{cannot_open, line_of, out_of_memory, status_of, usage};
-use crate::outcome::{Outcome, Places, SessionEnd, SessionOut};
-use crate::session::Book;
+use crate::outcome::{Outcome, SessionOut};
 use crate::words::{script_in, sink_name};
+use core_desk::CoreDesk;
+use fb_core::{Core, CoreParts, Guard};
 use fb_ports::{Clock, Host, Memory, OpenFail, Sink, Source};
+use fb_preds::{PredTable, SelectsByName};
+use fb_session::{SessionEnd, serve_desk};
+use fb_view::Snapshot;
 use std::alloc::Global;
+use std::sync::Wait;
+use std::thread::Threads;
 
 /// Runs the command that the words behind the program's name are.
-pub fn run<H: Host, K: Clock>(
+pub fn run<R: Threads + Wait + Sync, H: Host, K: Clock, G: Guard<Snapshot>>(
+    rt: &R,
     alloc: Global,
     words: &Vec<String>,
     host: &mut H,
     clock: &K,
-) -> Outcome<H::In, H::Out>
+    preds: &PredTable,
+    guard: &G,
+) -> Outcome<H::In, H::Out, H::Disk>
     // The accepted transactions form one lawful history, in which each has one author.
-    ensures one_history { IfSome result.entries (λ h. OneHistory h 0 (unwrap_or result.authors []) (map (λ s. s.commits) result.sessions.items)) }
+    ensures one_history { IfSome result.last (λ last. OneHistory last.entries result.recovered (unwrap_or result.authors []) (map (λ s. s.commits) result.sessions.items)) }
 
     // Each line answers its form as a database with one thread would at its place in the history.
-    ensures replies { IfSome result.entries (λ h. EachScript (λ name s.
-        Replies (K.may_answer clock.now) h 0
-        (H.sources host.old name) (H.In.left s.source)
-        (H.sinks host.old (sink_of name)) (H.Out.contents s.sink)
-        s.places s.commits s.end) (command_of (map string_bytes words.now.items)) result.sessions.items) }
+    ensures replies { IfSome result.last (λ last. EachReplies
+        (record { may = K.may_answer clock.now; guard = G.bars guard.now; is_filter = is_filter preds.now.filters.items; Selects = ⟦<PredTable as SelectsByName>⟧.selects_by preds.now })
+        (record { sources = H.sources host.old; source_faults = H.source_faults host.old; sinks = H.sinks host.old; sink_faults = H.sink_faults host.old; faults = H.faults host.old })
+        (record { left = H.In.left; source_faults = H.In.faults; contents = H.Out.contents; sink_faults = H.Out.faults })
+        (command_of (map string_bytes words.now.items)) result last.entries) }
 
     // Each line rests on a prefix of the history that has all that its session had seen.
-    ensures prefixes { IfSome result.entries (λ h. AllByRecursion (λ s. Prefixes 0 (basis h) s.places s.commits) result.sessions.items) }
+    ensures prefixes { IfSome result.last (λ last. AllByRecursion (λ s. Prefixes result.recovered (basis last.entries) s.places s.commits) result.sessions.items) }
 
     // Each status and its line have their cause.
-    ensures causes { Causes (H.source_faults host.old) (H.sink_faults host.old) H.In.faults H.Out.faults (H.faults host.old) (H.faults host.new)
-        (command_of (map string_bytes words.now.items)) result.status (string_bytes result.line) result.authors result.sessions.items result.entries }
+    ensures causes { Causes
+        (record { sources = H.sources host.old; source_faults = H.source_faults host.old; sinks = H.sinks host.old; sink_faults = H.sink_faults host.old; faults = H.faults host.old })
+        (record { left = H.In.left; source_faults = H.In.faults; contents = H.Out.contents; sink_faults = H.Out.faults })
+        (H.faults host.new) (command_of (map string_bytes words.now.items)) result }
 
     // A script that is forms within the limits is answered whole where no count of faults rises, unless memory is refused.
-    ensures complete { Complete (K.may_answer clock.now) H.Out.contents (H.sources host.old) (H.sinks host.old)
-        (H.source_faults host.old) (H.sink_faults host.old) H.In.faults H.Out.faults (H.faults host.old) (H.faults host.new)
-        (command_of (map string_bytes words.now.items)) result.status (string_bytes result.line) result.sessions.items result.entries }
+    ensures complete { Complete
+        (record { may = K.may_answer clock.now; guard = G.bars guard.now; is_filter = is_filter preds.now.filters.items; Selects = ⟦<PredTable as SelectsByName>⟧.selects_by preds.now })
+        (record { sources = H.sources host.old; source_faults = H.source_faults host.old; sinks = H.sinks host.old; sink_faults = H.sink_faults host.old; faults = H.faults host.old })
+        (record { left = H.In.left; source_faults = H.In.faults; contents = H.Out.contents; sink_faults = H.Out.faults })
+        (H.faults host.new) (command_of (map string_bytes words.now.items)) result }
+
+    // What the history stands on, and the parts that nothing fills yet.
+    ensures covered { IfSome result.last (λ last. result.covered ≡ last.covered) }
+    ensures no_device { HasNoDevice result }
 {
     let Some(script) = script_in(words.as_slice()) else {
         return without_session(alloc, 1, usage(alloc));
     };
     match open(alloc, host, script) {
-        Ok((source, sink)) => run_session(alloc, script, source, sink, clock),
+        Ok(script) => run_session(rt, alloc, script, clock, preds, guard),
         Err(OpenFail::Failed) => without_session(alloc, 2, cannot_open(alloc, script)),
         Err(OpenFail::Memory) => without_session(alloc, 9, out_of_memory(alloc)),
     }
 }
 
 /// Opens the source of a script, and then its sink.
-fn open<H: Host>(alloc: Global, host: &mut H, script: &str) -> Result<(H::In, H::Out), OpenFail>
-    ensures source { IfOk result (λ opened. H.In.left opened.0 ≡ H.sources host.old script.now) }
-    ensures source_count { IfOk result (λ opened. H.In.faults opened.0 ≡ H.source_faults host.old script.now) }
-    ensures sink { IfOk result (λ opened. H.Out.contents opened.1 ≡ H.sinks host.old (sink_of script.now)) }
-    ensures sink_count { IfOk result (λ opened. H.Out.faults opened.1 ≡ H.sink_faults host.old (sink_of script.now)) }
+fn open<'a, H: Host>(
+    alloc: Global,
+    host: &mut H,
+    name: &'a str,
+) -> Result<Opened<'a, H::In, H::Out>, OpenFail>
+    ensures name { IfOk result (λ (opened : _). opened.name.now ≡ name.now) }
+    ensures source { IfOk result (λ (opened : _). H.In.left opened.source ≡ H.sources host.old name.now) }
+    ensures source_count { IfOk result (λ (opened : _). H.In.faults opened.source ≡ H.source_faults host.old name.now) }
+    ensures sink { IfOk result (λ (opened : _). H.Out.contents opened.sink ≡ H.sinks host.old (sink_of name.now)) }
+    ensures sink_count { IfOk result (λ (opened : _). H.Out.faults opened.sink ≡ H.sink_faults host.old (sink_of name.now)) }
     ensures counted { CountsOpening result (H.faults host.old) (H.faults host.new) }
 {
-    let source = host.source(alloc, script)?;
-    let name = sink_name(alloc, script)?;
-    let sink = host.sink(alloc, name.as_str())?;
-    Ok((source, sink))
+    let source = host.source(alloc, name)?;
+    let lines = sink_name(alloc, name)?;
+    let sink = host.sink(alloc, lines.as_str())?;
+    Ok(Opened { name, source, sink })
+}
+
+/// A script that was opened.
+struct Opened<'a, I, O> {
+    name: &'a str,
+    source: I,
+    sink: O,
 }
 
 /// Runs the session of a script over a new history.
-fn run_session<I: Source, O: Sink, K: Clock>(
+fn run_session<R: Threads + Wait + Sync, I: Source, O: Sink, D: Drop, K: Clock, G: Guard<Snapshot>>(
+    rt: &R,
     alloc: Global,
-    script: &str,
-    source: I,
-    sink: O,
+    script: Opened<'_, I, O>,
     clock: &K,
-) -> Outcome<I, O>
-    ensures one_history { IfSome result.entries (λ h. OneHistory h 0 (unwrap_or result.authors []) (map (λ s. s.commits) result.sessions.items)) }
-    ensures replies { IfSome result.entries (λ h. EachScript (λ name s.
-        Replies (K.may_answer clock.now) h 0 (I.left source) (I.left s.source) (O.contents sink) (O.contents s.sink) s.places s.commits s.end)
-        (Some (run script.now)) result.sessions.items) }
-    ensures prefixes { IfSome result.entries (λ h. AllByRecursion (λ s. Prefixes 0 (basis h) s.places s.commits) result.sessions.items) }
-    ensures causes { SessionCauses (I.faults source) (O.faults sink) I.faults O.faults script.now result.status (string_bytes result.line) result.authors result.sessions.items result.entries }
+    preds: &PredTable,
+    guard: &G,
+) -> Outcome<I, O, D>
+    ensures one_history { IfSome result.last (λ last. OneHistory last.entries result.recovered (unwrap_or result.authors []) (map (λ s. s.commits) result.sessions.items)) }
+    ensures replies { IfSome result.last (λ last. RepliesAlone
+        (record { may = K.may_answer clock.now; guard = G.bars guard.now; is_filter = is_filter preds.now.filters.items; Selects = ⟦<PredTable as SelectsByName>⟧.selects_by preds.now })
+        (I.left script.source) (O.contents script.sink) (record { left = I.left; source_faults = I.faults; contents = O.contents; sink_faults = O.faults }) result last.entries) }
+    ensures prefixes { IfSome result.last (λ last. AllByRecursion (λ s. Prefixes result.recovered (basis last.entries) s.places s.commits) result.sessions.items) }
+    ensures causes { HasBegun (record { left = I.left; source_faults = I.faults; contents = O.contents; sink_faults = O.faults }) (I.faults script.source) (O.faults script.sink) script.name.now result }
+    ensures covered { IfSome result.last (λ last. result.covered ≡ last.covered) }
+    ensures no_device { HasNoDevice result }
 {
-    let (mut source, mut sink) = (source, sink);
-    let Ok(sessions) = Vec::with_capacity(alloc, 1) else {
+    let Ok((sessions, core)) = prepared(alloc) else {
         return without_session(alloc, 9, out_of_memory(alloc));
     };
-    let Ok(mut book) = Book::open(alloc) else {
-        return without_session(alloc, 9, out_of_memory(alloc));
-    };
-    let end = book.serve(alloc, &mut source, &mut sink, clock);
-    let (status, line) = said(alloc, script, &end);
-    let Book {
-        entries,
-        authors,
-        head: _,
-        names: _,
-        places,
-        commits,
-    } = book;
+    let Opened {
+        name,
+        mut source,
+        mut sink,
+    } = script;
+    let mut desk = CoreDesk::new(alloc, core);
+    let served = serve_desk(rt, alloc, &mut source, &mut sink, &mut desk, clock, guard, preds);
+    let (status, line) = said(alloc, name, &served.end);
+    let CoreParts { snapshot, authors } = desk.close().into_parts();
     let session = SessionOut {
         source,
         sink,
-        end,
-        places: Places::of(places),
-        commits: Places::of(commits),
+        end: served.end,
+        places: served.places,
+        commits: served.commits,
     };
     Outcome {
-        status,
-        line,
         sessions: with_one(sessions, session),
         authors: Some(authors),
-        entries: Some(entries),
+        covered: snapshot.covered(),
+        last: Some(snapshot),
+        ..without_session(alloc, status, Ok(line))
     }
+}
+
+/// Room for one session, and the core of a new history.
+fn prepared<T: Drop>(alloc: Global) -> Result<(Vec<T>, Core), Memory>
+    ensures empty { IfOk result (λ r. r.0.items ≡ []) }
+    ensures room { IfOk result (λ r. 0 < vec_capacity r.0) }
+    ensures entries { IfOk result (λ r. r.1.snapshot.entries ≡ first_entry ∷ []) }
+    ensures authors { IfOk result (λ r. r.1.authors ≡ []) }
+{
+    let sessions = Vec::with_capacity(alloc, 1)?;
+    let core = Core::of(alloc, Snapshot::first(alloc)?)?;
+    Ok((sessions, core))
 }
 
 /// The vector with its one item, for which there is room.
@@ -131,7 +173,7 @@ fn with_one<T: Drop>(mut items: Vec<T>, item: T) -> Vec<T>
 
 /// The status and the line for how the session of a script ended.
 fn said(alloc: Global, script: &str, end: &SessionEnd) -> (u8, String)
-    ensures { SaysEnd script.now end.now result.0 (string_bytes result.1) }
+    ensures { EndsAs script.now end.now result.0 (string_bytes result.1) }
 {
     match line_of(alloc, script, end) {
         Ok(line) => (status_of(end), line),
@@ -140,14 +182,15 @@ fn said(alloc: Global, script: &str, end: &SessionEnd) -> (u8, String)
 }
 
 /// The outcome where no session ran.
-fn without_session<I: Drop, O: Drop>(
+fn without_session<I: Drop, O: Drop, D: Drop>(
     alloc: Global,
     status: u8,
     line: Result<String, Memory>,
-) -> Outcome<I, O>
-    ensures none { NoSession result.authors result.sessions.items result.entries }
-    ensures said { IfOk line (λ line. (result.status ≡ status) × (string_bytes result.line ≡ string_bytes line)) }
-    ensures unsaid { OnErr line ((result.status ≡ 9) × (string_bytes result.line ≡ [])) }
+) -> Outcome<I, O, D>
+    ensures none { NoSession result }
+    ensures no_device { HasNoDevice result }
+    ensures said { IfOk line (λ line. Says result status (string_bytes line)) }
+    ensures unsaid { OnErr line (Says result 9 []) }
 {
     let (status, line) = match line {
         Ok(line) => (status, line),
@@ -157,8 +200,15 @@ fn without_session<I: Drop, O: Drop>(
         status,
         line,
         sessions: Vec::new(alloc),
+        console: None,
+        loads: Vec::new(alloc),
+        log: None,
+        segments: None,
         authors: None,
-        entries: None,
+        last: None,
+        torn: None,
+        recovered: 0,
+        covered: 0,
     }
 }
 

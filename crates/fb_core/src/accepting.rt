@@ -11,6 +11,7 @@ use fb_history::Authors;
 use fb_memory::Memory;
 use fb_values::{Entry, Text};
 use fb_view::Snapshot;
+use std::mem;
 use tx_model::{an_accepted_entry_is_lawful, lawful_histories_are_small};
 use tx_step::{Accepted, Guard, TxStop, decide};
 
@@ -39,6 +40,16 @@ impl Draft {
         ensures { result.now ≡ self.now.tempids.items }
     {
         self.tempids.as_slice()
+    }
+
+    /// Gives up the tempids, which accepting it does not take.
+    pub fn take_tempids(&mut self) -> Vec<(Text, u64)>
+        ensures tempids { result ≡ self.old.tempids }
+        ensures after { self.new.after ≡ self.old.after }
+        ensures authors { self.new.authors ≡ self.old.authors }
+    {
+        let none = Vec::new(*self.tempids.allocator());
+        mem::replace(&mut self.tempids, none)
     }
 
     /// The value of the database with the entry.

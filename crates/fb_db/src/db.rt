@@ -37,38 +37,40 @@ impl<S: Selector> Db<S> {
     }
 
     /// Sees nothing from the end on.
-    pub fn as_of(self, end: u32) -> Db<S>
-        ensures window { window_of result ≡ window.as_of end (window_of self) }
-        ensures snapshot { result.snapshot ≡ self.snapshot }
-        ensures filter { result.filter ≡ self.filter }
+    pub fn as_of(&mut self, end: u32)
+        ensures window { window_of self.new ≡ window.as_of end (window_of self.old) }
+        ensures snapshot { self.new.snapshot ≡ self.old.snapshot }
+        ensures filter { self.new.filter ≡ self.old.filter }
     {
-        Db {
-            to: self.to.min(end),
-            ..self
-        }
+        self.to = self.to.min(end);
     }
 
     /// Sees nothing before the end.
-    pub fn since(self, end: u32) -> Db<S>
-        ensures window { window_of result ≡ window.since end (window_of self) }
-        ensures snapshot { result.snapshot ≡ self.snapshot }
-        ensures filter { result.filter ≡ self.filter }
+    pub fn since(&mut self, end: u32)
+        ensures window { window_of self.new ≡ window.since end (window_of self.old) }
+        ensures snapshot { self.new.snapshot ≡ self.old.snapshot }
+        ensures filter { self.new.filter ≡ self.old.filter }
     {
-        Db {
-            from: self.from.max(end),
-            ..self
-        }
+        self.from = self.from.max(end);
     }
 
     /// Sees also what was retracted, and the retractions.
-    pub fn with_history(self) -> Db<S>
-        ensures window { window_of result ≡ window.with_history (window_of self) }
-        ensures snapshot { result.snapshot ≡ self.snapshot }
-        ensures filter { result.filter ≡ self.filter }
+    pub fn with_history(&mut self)
+        ensures window { window_of self.new ≡ window.with_history (window_of self.old) }
+        ensures snapshot { self.new.snapshot ≡ self.old.snapshot }
+        ensures filter { self.new.filter ≡ self.old.filter }
     {
-        Db {
-            history: true,
-            ..self
-        }
+        self.history = true;
+    }
+
+    /// Sees the whole again that the filter selects.
+    pub fn widen(&mut self)
+        ensures window { window_of self.new ≡ window.whole }
+        ensures snapshot { self.new.snapshot ≡ self.old.snapshot }
+        ensures filter { self.new.filter ≡ self.old.filter }
+    {
+        self.from = 0;
+        self.to = END;
+        self.history = false;
     }
 }

@@ -4,6 +4,7 @@ use Rattle.std.specs.Prelude.{◌≡◌, ◌⊎◌, ℕ, ℤ, ◌+◌, ◌≤◌
 use Rattle.edn_model.specs.Form.{Form}
 use Rattle.fb_values.specs.declared.facts.Entry.{Entry}
 use Rattle.fb_model.specs.History.{basis}
+use Rattle.fb_model.specs.Lawful.{IsLawful}
 use Rattle.tx_refusals.specs.declared.reasons.Refusal.{Refusal}
 use Rattle.tx_model.specs.Step.{Guard, step, accepted, refused}
 use Rattle.fb_view.specs.Kept.{Kept}
@@ -22,6 +23,8 @@ pub record Tally : Type 0 where
 pub record State : Type 0 where
   -- the history of the last snapshot that the desk was answered
   pub entries : List Entry
+  -- the t of its last entry when the database was opened
+  pub opening : ℕ
   -- the t of each transaction that was accepted through it
   pub commits : List ℕ
   -- the t that the log did not take, once the desk was told of one, and whether it was this desk's transaction
@@ -40,10 +43,13 @@ synced tally = record tally { syncs = tally.syncs + 1 }
 abbrev pub not_accepted : Tally → Tally
 not_accepted tally = record tally { unaccepted = tally.unaccepted + 1 }
 
--- The history has all that was seen before. A log that has stopped stays so. A call is used up at most.
+-- The history has all that was seen before, since the same opening, and stays lawful. A log that has stopped stays so. A
+-- call is used up at most.
 pub record GoesOn (old new : State) : Type 0 where
   pub more : List Entry
   pub entries : new.entries ≡ old.entries ++ more
+  pub lawful : IsLawful old.entries → IsLawful new.entries
+  pub opening : new.opening ≡ old.opening
   pub stop : (old.stop ≡ None) ⊎ ((new.stop ≡ old.stop) × (new.teller ≡ old.teller))
   pub left : old.left ≤ new.left + 1
 
@@ -66,7 +72,7 @@ pub record IsReceipt (may : ℤ → Type 0) (guard : Guard) (asked : Form) (old 
 pub record IsNotAccepted (old new : State) (snapshot : Kept) : Type 0 where
   pub commits : new.commits ≡ old.commits
   pub tally : new.tally ≡ not_accepted old.tally
-  pub snapshot : snapshot.entries ≡ new.entries
+  pub snapshot_is : snapshot.entries ≡ new.entries
 
 -- it is refused at the history that is seen now, whatever the clock reads
 pub record IsRefusal (guard : Guard) (asked : Form) (old new : State) (refusal : Refusal) (snapshot : Kept) : Type 0 where

@@ -1,4 +1,7 @@
 //! What a desk answers. Each answer has the value of the database on which it rests.
+ghost use Rattle.std.specs.Prelude.{◌≡◌};
+
+use fb_memory::Memory;
 use fb_values::Text;
 use fb_view::Snapshot;
 use tx_refusals::Refusal;
@@ -36,6 +39,16 @@ pub enum TxFault {
     },
     /// Out of memory. Nothing was accepted.
     Memory,
+}
+
+impl From<Memory> for TxFault {
+    ghost use Rattle.fb_desk.specs.declared.answers.TxFault.TheVariants.{Memory};
+
+    ghost from_gives = { λ _ fault. fault ≡ Memory };
+
+    fn from(_: Memory) -> TxFault {
+        TxFault::Memory
+    }
 }
 
 /// What there was to see without waiting.

@@ -1,4 +1,5 @@
 //! The desk of a session.
+ghost use denote.Param.Send.{IsSync};
 ghost use Rattle.std.specs.Prelude.{◌≡◌, ◌<◌, IfOk, IfErr, OnOk, OnErr};
 ghost use Rattle.edn_form.specs.View.{form_of};
 ghost use Rattle.fb_desk.specs.Desks.{State, GoesOn, IsReceipt, IsFault, glanced, synced, snapshot_of};
@@ -53,5 +54,7 @@ pub trait Desk: Drop {
 
     /// Asks for a merge of the indexes, which changes nothing that the database says.
     fn ring<R: Threads + Wait + Sync>(&mut self, rt: &R) -> Result<(), Memory>
+        // A body is not told of the bound by itself, and needs it where it starts threads.
+        requires { IsSync R.row }
         ensures { state self.new ≡ state self.old };
 }

@@ -1,12 +1,13 @@
 -- What a start makes of a file, and where its records end.
 use Rattle.std.proofs.Common.{inl, inr, ⊎_elim, ◌⊎◌, ◌≡◌, ◌+◌, ◌≤◌, ◌<◌, ◌^◌, ℕ, List, [], ◌∷◌, ◌++◌, length, take, drop, get_or, Option, None, Some, option_map, refl, sym, ◌∙◌, ap, subst, arith, length-append, length-take, take-append-drop}
 use Rattle.std.proofs.lemmas.List.{append-nil, drop_all, drop_more}
-use Rattle.disk_model.specs.Disk.{written, Torn, Only, WhereTold}
+use Rattle.disk_model.specs.Disk.{written, Torn, Only, WhereTold, LeavesOnly}
 use Rattle.disk_model.specs.Journal.{new_journal, opened, framed, Holds, JournalStands}
 use Rattle.disk_model.proofs.Calls.{written-within}
+use Rattle.disk_model.proofs.Moments.{weakened}
 use Rattle.fb_journal.specs.Marks.{mark_bytes}
 use Rattle.fb_journal.specs.Walks.{EndsAt, IsReading}
-use Rattle.fb_journal.specs.Starts.{IsKept, IsPlace, LeavesOnlyFrom}
+use Rattle.fb_journal.specs.Starts.{IsKept, IsPlace}
 use Rattle.fb_journal.specs.declared.marks.Mark.{Mark}
 use Rattle.fb_journal.specs.declared.records.End.{End}
 use Rattle.fb_journal.specs.declared.records.End.TheVariants.{Closed, Broken}
@@ -69,22 +70,15 @@ kept-ends bytes images mark records disk items (Closed gate) ends told =
     (ends.1, λ file is. (subst (Holds mark records) (told file is).0 ends.0, (told file is).1))
 kept-ends bytes images mark records disk items (Broken nth at) ends told = tt
 
--- what a crash leaves stands for what the file stands for
-pub after-closed : {D : Type 0} (moment : D → ℕ) (since : D → ℕ → List ℕ → Type 0) (old new : D) (mark : List ℕ) (records : List (List ℕ)) (file : List ℕ) (end : End) (gate : ℕ) → end ≡ Closed gate
-    → IsReading mark records file end → LeavesOnlyFrom moment since old new (λ image. (image ≡ file) ⊎ ((length file ≤ 16) × (length image ≤ 16)))
-    → LeavesOnlyFrom moment since old new (JournalStands mark records)
-after-closed moment since old new mark records file end gate closed reading run = record {
-  from = run.from;
-  later = run.later;
-  in_time = run.in_time;
-  each = λ image left. ⊎_elim (λ same. subst (JournalStands mark records) (sym same) stands) (λ short. still image short.0 short.1) (run.each image left);
-}
-  where
-    stands : JournalStands mark records file
-    stands = subst (λ (e : End). IsReading mark records file e) closed reading
+-- at most sixteen bytes stand for what at most sixteen stood for
+pub still_new : (mark : List ℕ) (records : List (List ℕ)) (file image : List ℕ) → length file ≤ 16 → length image ≤ 16 → JournalStands mark records file → JournalStands mark records image
+still_new mark records file image short shorter (inl new_one) = inl (shorter, new_one.1)
+still_new mark records file image short shorter (inr longer) = absurd (omega (arith, longer.0, short))
 
-    still : (image : List ℕ) → length file ≤ 16 → length image ≤ 16 → JournalStands mark records image
-    still image short shorter = elim stands [
-      | inl new_one ↦ inl (shorter, new_one.1)
-      | inr longer ↦ absurd (omega (arith, longer.0, short))
-    ]
+-- what a crash leaves is an image from before, or stands for what the file stands for
+pub stands-closed : {D : Type 0} (moment : D → ℕ) (since : D → ℕ → List ℕ → Type 0) (old new : D) (images : List ℕ → Type 0) (mark : List ℕ) (records : List (List ℕ)) (file : List ℕ) (end : End) (gate : ℕ)
+    → end ≡ Closed gate → IsReading mark records file end → LeavesOnly moment since old new (λ image. images image ⊎ ((length file ≤ 16) × (length image ≤ 16)))
+    → LeavesOnly moment since old new (λ image. images image ⊎ JournalStands mark records image)
+stands-closed moment since old new images mark records file end gate closed reading run =
+    let stands : JournalStands mark records file = subst (λ (e : End). IsReading mark records file e) closed reading in
+    weakened moment since old new _ _ run (λ image left. ⊎_elim (λ was. inl was) (λ short. inr (still_new mark records file image short.0 short.1 stands)) left)

@@ -48,10 +48,3 @@ abbrev pub IsKept : {D : Type 0} → (D → Option (List ℕ)) → (D → List �
 IsKept bytes images mark records disk (Closed gate) =
     (gate ≡ length mark + length (opened records)) × WhereTold (bytes disk) (λ file. Holds mark records file × Only file (images disk))
 IsKept bytes images mark records disk (Broken nth at) = ⊤
-
--- From some moment of a run on, a crash leaves an image that has P.
-pub record LeavesOnlyFrom {D : Type 0} (moment : D → ℕ) (since : D → ℕ → List ℕ → Type 0) (old new : D) (P : List ℕ → Type 0) : Type 0 where
-  pub from : ℕ
-  pub later : moment old ≤ from
-  pub in_time : from ≤ moment new
-  pub each : (image : List ℕ) → since new from image → P image

@@ -6,7 +6,7 @@ ghost use Rattle.disk_model.specs.Journal.{opened, Holds, JournalStands};
 ghost use Rattle.fb_journal.specs.Marks.{mark_bytes};
 ghost use Rattle.fb_journal.specs.Walks.{IsReading};
 ghost use Rattle.fb_journal.specs.Journals.{disk_of, mark_of, Keeps, StaysTold};
-ghost use Rattle.fb_journal.specs.Starts.{CountsStart, IsNotBad, IsPlace, IsKept, LeavesOnlyFrom};
+ghost use Rattle.fb_journal.specs.Starts.{CountsStart, IsNotBad, IsPlace, IsKept};
 
 use crate::marks::MARK;
 use crate::reads::{fill, settle};
@@ -66,7 +66,7 @@ impl From<AllocError> for StartFault {
 
 impl<D: Disk> Journal<D> {
     ghost use Rattle.fb_journal.specs.Journals.{disk_of, mark_of, Keeps, StaysTold};
-    ghost use Rattle.fb_journal.specs.Starts.{CountsStart, IsWhyNot, IsPlace, IsFaultOf, disk_after, LeavesOnlyFrom};
+    ghost use Rattle.fb_journal.specs.Starts.{CountsStart, IsWhyNot, IsPlace, IsFaultOf, disk_after};
     ghost use Rattle.fb_journal.specs.declared.records.End.TheVariants.{Closed};
 
     /// Starts the journal of a disk, with a sync first. Of at most 16 bytes it makes a new journal; of more it reads what
@@ -85,9 +85,9 @@ impl<D: Disk> Journal<D> {
         ensures any_moment { WhereTold (D.bytes disk) (λ file. LeavesOnly D.moment D.images_since disk (disk_after result)
             (λ image. D.images disk image ⊎ ((length file ≤ 16) × (length image ≤ 16)))) }
 
-        // After the first sync it leaves a file that stands for the same records.
-        ensures after_sync { IfOk result (λ r. WhereTold (D.bytes disk) (λ file. LeavesOnlyFrom D.moment D.images_since disk (disk_of r.0)
-            (JournalStands (mark_bytes mark) r.1))) }
+        // So it leaves an image from before, or a file that stands for the same records.
+        ensures any_moment_stands { IfOk result (λ r. WhereTold (D.bytes disk) (λ _. LeavesOnly D.moment D.images_since disk (disk_of r.0)
+            (λ image. D.images disk image ⊎ JournalStands (mark_bytes mark) r.1 image))) }
     {
         let mut disk = disk;
         match open_records(alloc, &mut disk, mark) {
@@ -167,8 +167,6 @@ fn open_records<D: Disk>(alloc: Global, disk: &mut D, mark: Mark) -> Result<Reco
     ensures counted { MatchResult result (λ _. D.faults disk.new ≡ D.faults disk.old) (λ e. CountsStart e (D.faults disk.old) (D.faults disk.new)) }
     ensures any_moment { WhereTold (D.bytes disk.old) (λ file. LeavesOnly D.moment D.images_since disk.old disk.new
         (λ image. D.images disk.old image ⊎ ((length file ≤ 16) × (length image ≤ 16)))) }
-    ensures after_sync { OnOk result (WhereTold (D.bytes disk.old) (λ file. LeavesOnlyFrom D.moment D.images_since disk.old disk.new
-        (λ image. (image ≡ file) ⊎ ((length file ≤ 16) × (length image ≤ 16))))) }
 {
     let len = settle(disk)?;
     if len <= NEW {

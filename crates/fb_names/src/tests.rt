@@ -88,9 +88,11 @@ fn names_find_what_the_view_has(rt: HostRuntime) -> Result<(), Fail> {
     let hidden = first_without(alloc, 1)?;
     assert_eq!(rt; entid(alloc, &hidden, &doc)?, None);
 
-    let before = first_without(alloc, 9)?.as_of(0);
+    let mut before = first_without(alloc, 9)?;
+    before.as_of(0);
     assert_eq!(rt; entid(alloc, &before, &doc)?, None);
-    assert_eq!(rt; entid(alloc, &before.with_history(), &by_ident)?, None);
+    before.with_history();
+    assert_eq!(rt; entid(alloc, &before, &by_ident)?, None);
     Ok(())
 }
 

@@ -1,7 +1,7 @@
 // What opens sources, sinks and disks by name.
 ghost use Rattle.std.specs.Prelude.{◌≡◌, ℕ, List, Option, IfOk};
 ghost use Rattle.fb_ports.specs.Faults.{CountsOpening};
-ghost use Rattle.fb_ports.specs.Telling.{Same, SameBut, SameParts, SameButPart};
+ghost use Rattle.fb_ports.specs.Telling.{Same, SameBut, SameParts, SameButPart, Alike, SameImages, SameImagesBut};
 ghost use Rattle.fb_ports.specs.declared.hosts.Part.{Part};
 
 use crate::{Disk, OpenFail, Sink, Source};
@@ -41,6 +41,11 @@ pub trait Host {
 
     ghost disk_faults: { Self → List ℕ → Part → ℕ };
 
+    /// And its images, which a crash may leave as it is handed out, and its moment then.
+    ghost disk_images: { Self → List ℕ → Part → List ℕ → Type 0 };
+
+    ghost disk_moment: { Self → List ℕ → Part → ℕ };
+
     fn faults(&self) -> u64
         ensures { result ≡ faults self.now };
 
@@ -53,6 +58,8 @@ pub trait Host {
         ensures sink_counts { Same (sink_faults self.old) (sink_faults self.new) }
         ensures disks { SameParts (disks self.old) (disks self.new) }
         ensures disk_counts { SameParts (disk_faults self.old) (disk_faults self.new) }
+        ensures disk_images { SameImages (disk_images self.old) (disk_images self.new) }
+        ensures disk_moments { SameParts (disk_moment self.old) (disk_moment self.new) }
         ensures counted { CountsOpening result (faults self.old) (faults self.new) };
 
     fn sink(&mut self, alloc: Global, name: &str) -> Result<Self::Out, OpenFail>
@@ -64,14 +71,20 @@ pub trait Host {
         ensures source_counts { Same (source_faults self.old) (source_faults self.new) }
         ensures disks { SameParts (disks self.old) (disks self.new) }
         ensures disk_counts { SameParts (disk_faults self.old) (disk_faults self.new) }
+        ensures disk_images { SameImages (disk_images self.old) (disk_images self.new) }
+        ensures disk_moments { SameParts (disk_moment self.old) (disk_moment self.new) }
         ensures counted { CountsOpening result (faults self.old) (faults self.new) };
 
     /// The disk of a part of a directory.
     fn disk(&mut self, alloc: Global, dir: &str, part: Part) -> Result<Self::Disk, OpenFail>
         ensures bytes { IfOk result (λ d. Self.Disk.bytes d ≡ disks self.old dir.now part) }
         ensures count { IfOk result (λ d. Self.Disk.faults d ≡ disk_faults self.old dir.now part) }
+        ensures images { IfOk result (λ d. Alike (disk_images self.old dir.now part) (Self.Disk.images d)) }
+        ensures moment { IfOk result (λ d. Self.Disk.moment d ≡ disk_moment self.old dir.now part) }
         ensures others { SameButPart dir.now part (disks self.old) (disks self.new) }
         ensures other_counts { SameButPart dir.now part (disk_faults self.old) (disk_faults self.new) }
+        ensures other_images { SameImagesBut dir.now part (disk_images self.old) (disk_images self.new) }
+        ensures other_moments { SameButPart dir.now part (disk_moment self.old) (disk_moment self.new) }
         ensures sources { Same (sources self.old) (sources self.new) }
         ensures source_counts { Same (source_faults self.old) (source_faults self.new) }
         ensures sinks { Same (sinks self.old) (sinks self.new) }

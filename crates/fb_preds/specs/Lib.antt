@@ -1,3 +1,4 @@
 pub mod Datoms
 pub mod Table
+pub mod Naming
 pub mod Selecting

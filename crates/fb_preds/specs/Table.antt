@@ -16,6 +16,10 @@ last_place name [] = None
 last_place name (named ∷ rest) =
     option_map_or (λ place. Some (place + 1)) (last_place name rest) (cond (bytes_eq named.name name) (Some 0) None)
 
+-- the name at a place
+abbrev pub name_at : {S K : Type 0} → List (NamedFilter S K) → ℕ → List ℕ
+name_at filters place = option_map_or (λ named. named.name) (slice_get filters place) []
+
 -- a long below zero
 abbrev pub is_negative : Value → Bool
 is_negative (Long (negsuc n)) = true

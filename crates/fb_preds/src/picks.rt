@@ -1,92 +1,73 @@
-//! Filters of tables, of which each has to select a datom.
-ghost use Rattle.std.specs.Prelude.{◌≡◌, ◌<◌, [], ◌∷◌, ◌++◌, length, ◌↔◌, IsTrue, IfOk, IfErr, IfSome};
-ghost use Rattle.std.specs.Option.{option_map};
+//! Filters that were picked from a table by their names, of which each has to select a datom.
+ghost use Rattle.std.specs.Prelude.{◌≡◌, ◌↔◌, [], ◌∷◌, ◌++◌, IsTrue, IfOk, IfErr};
 ghost use Rattle.fb_preds.specs.Selecting.{SelectedByAll};
-ghost use Rattle.fb_preds.specs.Table.{last_place};
+ghost use Rattle.fb_preds.specs.Naming.{IsFound, AreFound, AreFound-prop};
 
-use crate::kept::BoxedTest;
+use crate::filter_table::FilterTable;
 use crate::selector::Selector;
-use crate::table::PredTable;
 use fb_memory::Memory;
-use fb_values::{Datom, Text};
+use fb_values::Datom;
 use std::alloc::Global;
 
-/// A filter, by its place in a table.
-#[derive(Clone, Copy, Drop)]
-pub struct Pick<'p> {
-    pub table: &'p PredTable,
-    pub place: usize,
-    pub ghost within: { place < length table.now.filters.items },
-}
-
-impl<'p> Pick<'p> {
-    /// The filter that a name finds.
-    pub fn named(table: &'p PredTable, name: &Text) -> Option<Pick<'p>>
-        ensures place { option_map (λ (pick : _). pick.place) result ≡ last_place name.now table.now.filters.items }
-        ensures table { IfSome result (λ (pick : _). pick.table.now ≡ table.now) }
-    {
-        let place = table.find(name)?;
-        Some(Pick { table, place })
-    }
-}
-
-/// Filters in the order in which they were added. Together they are a filter, which selects what each of them selects.
+/// Filters of one table in the order in which they were added, each at the place that its name finds. Together they are a
+/// filter, which selects what each of them selects.
 #[derive(Drop)]
-pub struct Picks<'p> {
-    pub picks: Vec<Pick<'p>>,
+pub struct Picks<'p, T: FilterTable> {
+    pub table: &'p T,
+    pub places: Vec<usize>,
+    pub ghost are_found: { AreFound (T.place_of table.now) (T.name_at table.now) places.items } by { AreFound-prop (T.place_of table.now) (T.name_at table.now) places.items },
 }
 
-impl<'p> Picks<'p> {
+impl<'p, T: FilterTable> Picks<'p, T> {
     /// No filter: every datom is selected.
-    pub fn none(alloc: Global) -> Picks<'p>
-        ensures { result.picks.items ≡ [] }
+    pub fn none(alloc: Global, table: &'p T) -> Picks<'p, T>
+        ensures places { result.places.items ≡ [] }
+        ensures table { result.table.now ≡ table.now }
     {
         Picks {
-            picks: Vec::new(alloc),
+            table,
+            places: Vec::new(alloc),
         }
     }
 
-    /// One filter more.
-    pub fn add(&mut self, pick: Pick<'p>) -> Result<(), Memory>
-        ensures added { IfOk result (λ _. self.new.picks.items ≡ self.old.picks.items ++ pick.entry ∷ []) }
-        ensures unchanged { IfErr result (λ _. self.new.picks.items ≡ self.old.picks.items) }
+    /// One filter more, at the place that its name finds.
+    pub fn add(&mut self, place: usize) -> Result<(), Memory>
+        requires { IsFound (T.place_of self.old.table.now) (T.name_at self.old.table.now) place }
+        ensures added { IfOk result (λ _. self.new.places.items ≡ self.old.places.items ++ place ∷ []) }
+        ensures unchanged { IfErr result (λ _. self.new.places.items ≡ self.old.places.items) }
+        ensures table { self.new.table ≡ self.old.table }
     {
-        self.picks.push(pick)?;
+        self.places.push(place)?;
         Ok(())
     }
-}
 
-impl Selector for Pick<'_> {
-    ghost use Rattle.std.specs.Prelude.{true};
-    ghost use Rattle.fb_preds.specs.Table.{selected_at};
-
-    ghost selects = { λ pick d. selected_at (λ s. (Selector-box s).selects s.value) (λ kept e. (x : _) × (x.now ≡ e) × BoxedTest.post kept.answers x true) pick.table.now.filters.items pick.place d };
-
-    fn test(&self, d: &Datom) -> bool {
-        self.table.test(self.place, d)
+    /// Every datom is selected again.
+    pub fn clear(&mut self)
+        ensures places { self.new.places.items ≡ [] }
+        ensures table { self.new.table ≡ self.old.table }
+    {
+        self.places.clear();
     }
-}
 
-impl Selector for Picks<'_> {
-    ghost use Rattle.std.specs.Prelude.{true};
-    ghost use Rattle.fb_preds.specs.Table.{selected_at};
-    ghost use Rattle.fb_preds.specs.Selecting.{SelectedByAll};
-
-    ghost selects = { λ all d. SelectedByAll (λ (pick : _) e. selected_at (λ s. (Selector-box s).selects s.value) (λ kept f. (x : _) × (x.now ≡ f) × BoxedTest.post kept.answers x true) pick.table.now.filters.items pick.place e) all.picks.items d };
-
-    fn test(&self, d: &Datom) -> bool {
-        all_select(&self.picks, d)
-    }
-}
-
-/// Whether each of the filters selects the datom.
-fn all_select<S: Selector>(filters: &[S], d: &Datom) -> bool
-    ensures { IsTrue result ↔ SelectedByAll S.selects filters.now d.now }
-{
-    for filter in filters {
-        if !filter.test(d) {
-            return false;
+    fn all_select(&self, d: &Datom) -> bool
+        ensures { IsTrue result ↔ SelectedByAll (T.selects_at self.now.table.now) self.now.places.items d.now }
+    {
+        for place in &self.places {
+            if !self.table.select(*place, d) {
+                return false;
+            }
         }
+        true
     }
-    true
+}
+
+impl<T: FilterTable> Selector for Picks<'_, T> {
+    ghost use Rattle.std.specs.Prelude.{map};
+    ghost use Rattle.fb_preds.specs.Naming.{selected_by};
+
+    ghost selects = { λ picks d. SelectedByAll (selected_by (T.place_of picks.table.now) (T.selects_at picks.table.now)) (map (T.name_at picks.table.now) picks.places.items) d };
+
+    fn test(&self, d: &Datom) -> bool {
+        self.all_select(d)
+    }
 }

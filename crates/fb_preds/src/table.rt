@@ -2,9 +2,10 @@
 ghost use Rattle.std.specs.Prelude.{◌≡◌, ◌<◌, ◌↔◌, [], ◌∷◌, ◌++◌, length, IsTrue, IfSome, IfOk, IfErr};
 ghost use Rattle.fb_preds.specs.Table.{last_place, Selects, selected_at, shipped_filters};
 
+use crate::filter_table::FilterTable;
 use crate::filters::{Filter, NamedFilter};
 use crate::finding::{is_negative, last_named};
-use crate::kept::Kept;
+use crate::kept::{BoxedTest, Kept};
 use crate::selector::{BoxedSelector, Selector};
 use fb_memory::Memory;
 use fb_numbers::{DOC, USER_ENTITIES};
@@ -65,6 +66,25 @@ impl PredTable {
         ensures { IsTrue result ↔ selected_at (λ s. selects s) (λ kept. ⟦<Kept as Selector>⟧.selects kept) self.now.filters.items place d.now }
     {
         is_selected(&self.filters[place].filter, d)
+    }
+}
+
+impl FilterTable for PredTable {
+    ghost use Rattle.std.specs.Prelude.{true};
+    ghost use Rattle.fb_preds.specs.Table.{name_at};
+
+    ghost place_of = { λ table name. last_place name table.filters.items };
+
+    ghost name_at = { λ table place. name_at table.filters.items place };
+
+    ghost selects_at = { λ table place d. selected_at (λ s. (Selector-box s).selects s.value) (λ kept e. (x : _) × (x.now ≡ e) × BoxedTest.post kept.answers x true) table.filters.items place d };
+
+    fn place(&self, name: &Text) -> Option<usize> {
+        self.find(name)
+    }
+
+    fn select(&self, place: usize, d: &Datom) -> bool {
+        self.test(place, d)
     }
 }
 

@@ -103,15 +103,10 @@ fn a_type_of_a_caller_is_stored(rt: HostRuntime) -> Result<(), Fail> {
     Ok(())
 }
 
-fn pick<'p>(
-    picks: &mut Picks<'p>,
-    table: &'p PredTable,
-    alloc: Global,
-    name: &str,
-) -> Result<(), Memory> {
+fn pick(picks: &mut Picks<'_, PredTable>, alloc: Global, name: &str) -> Result<(), Memory> {
     let name = Text::of(alloc, name)?;
-    match Pick::named(table, &name) {
-        Some(found) => picks.add(found),
+    match picks.table.place(&name) {
+        Some(place) => picks.add(place),
         None => Ok(()),
     }
 }
@@ -123,13 +118,13 @@ fn each_of_two_filters_has_to_select(rt: HostRuntime) -> Result<(), Fail> {
     let user = datom(17_592_186_044_417, 9, Value::Ref(1));
     let documented = datom(17_592_186_044_417, 7, Value::Ref(1));
     let builtin = datom(1, 9, Value::Ref(1));
-    let mut picks = Picks::none(alloc);
+    let mut picks = Picks::none(alloc, &table);
     assert_eq!(rt;
         (picks.test(&documented), picks.test(&builtin)),
         (true, true)
     );
-    pick(&mut picks, &table, alloc, "no-doc")?;
-    pick(&mut picks, &table, alloc, "users")?;
+    pick(&mut picks, alloc, "no-doc")?;
+    pick(&mut picks, alloc, "users")?;
     assert_eq!(rt;
         (
             picks.test(&user),

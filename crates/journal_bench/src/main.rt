@@ -3,7 +3,8 @@
 #![tactic(auto)]
 
 use fb_journal::{Journal, Mark, frame};
-use fb_ports::{Host, Part, RealHost};
+use fb_ports::{Disk, Host, Part};
+use real_ports::RealHost;
 use std::process::ExitCode;
 use std::{env, io};
 
@@ -60,7 +61,7 @@ fn perform<H: Host>(rt: &HostRuntime, host: &mut H, words: &Words) -> bool {
     true
 }
 
-fn append_all<D: fb_ports::Disk>(rt: &HostRuntime, journal: &mut Journal<D>, count: u32) -> bool {
+fn append_all<D: Disk>(rt: &HostRuntime, journal: &mut Journal<D>, count: u32) -> bool {
     for _ in 0..count {
         let Ok(framed) = frame(rt.alloc(), &PAYLOAD) else {
             return false;

@@ -1,5 +1,1 @@
 pub mod OneScript
-pub mod LongerTalks
-pub mod Places
-pub mod ReplyLines
-pub mod NextEntry

@@ -13,49 +13,49 @@ ghost use Rattle.std.specs.List.Sorted.{IsStrictlyIncreasing};
 
 /// What a clock may read, and what the filter of a name selects: a law that speaks of any of them is generic in this.
 pub trait Surroundings {
-    ghost may: { ℤ → Type 0 };
+    ghost may: { Self → ℤ → Type 0 };
 
-    ghost selects: { List ℕ → Datom → Type 0 };
+    ghost selects: { Self → List ℕ → Datom → Type 0 };
 }
 
 /// A longer lawful history keeps a talk, also where the log has stopped behind it meanwhile.
 pub fn a_longer_history_keeps_a_talk<S: Surroundings>()
-    ensures { (guard : Guard) (is_filter : List ℕ → Bool) (h more : List Entry) (stop later : Option ℕ) (teller is_teller : Bool)
+    ensures { (s : S) (guard : Guard) (is_filter : List ℕ → Bool) (h more : List Entry) (stop later : Option ℕ) (teller is_teller : Bool)
         (before after : Standing) (fs : List Form) (ps cs : List ℕ) (ls : List (List ℕ)) → IsLawful h → IsLawful (h ++ more) → before.place ≤ basis h
-        → Stays (setting S.may S.selects guard is_filter h stop teller) later is_teller
-        → Talk (setting S.may S.selects guard is_filter h stop teller) before fs ps cs ls after
-        → Talk (setting S.may S.selects guard is_filter (h ++ more) later is_teller) before fs ps cs ls after }
+        → Stays (setting (S.may s) (S.selects s) guard is_filter h stop teller) later is_teller
+        → Talk (setting (S.may s) (S.selects s) guard is_filter h stop teller) before fs ps cs ls after
+        → Talk (setting (S.may s) (S.selects s) guard is_filter (h ++ more) later is_teller) before fs ps cs ls after }
 {}
 
 /// A talk goes on by one form more, with its place, its line and its commit.
 pub fn a_talk_goes_on<S: Surroundings>()
-    ensures { (guard : Guard) (is_filter : List ℕ → Bool) (h : List Entry) (stop : Option ℕ) (teller : Bool)
+    ensures { (s : S) (guard : Guard) (is_filter : List ℕ → Bool) (h : List Entry) (stop : Option ℕ) (teller : Bool)
         (before middle after : Standing) (fs : List Form) (ps cs : List ℕ) (ls : List (List ℕ)) (f : Form) (line : List ℕ) (commit : Option ℕ)
-        → Talk (setting S.may S.selects guard is_filter h stop teller) before fs ps cs ls middle
-        → IsAnswered (setting S.may S.selects guard is_filter h stop teller) middle f after line commit
-        → Talk (setting S.may S.selects guard is_filter h stop teller) before (fs ++ f ∷ []) (ps ++ after.place ∷ []) (cs ++ option_to_list commit) (ls ++ line ∷ []) after }
+        → Talk (setting (S.may s) (S.selects s) guard is_filter h stop teller) before fs ps cs ls middle
+        → IsAnswered (setting (S.may s) (S.selects s) guard is_filter h stop teller) middle f after line commit
+        → Talk (setting (S.may s) (S.selects s) guard is_filter h stop teller) before (fs ++ f ∷ []) (ps ++ after.place ∷ []) (cs ++ option_to_list commit) (ls ++ line ∷ []) after }
 {}
 
 /// And it is the talk of the forms before the last one, gone on by that. So where the last line did not come out, the talk of
 /// the forms before it has the same commits, or those without the last.
 pub fn a_talk_ends_with_its_last_form<S: Surroundings>()
-    ensures { (guard : Guard) (is_filter : List ℕ → Bool) (h : List Entry) (stop : Option ℕ) (teller : Bool)
+    ensures { (s : S) (guard : Guard) (is_filter : List ℕ → Bool) (h : List Entry) (stop : Option ℕ) (teller : Bool)
         (before after : Standing) (fs : List Form) (ps cs : List ℕ) (ls : List (List ℕ)) (f : Form) (p : ℕ) (line : List ℕ)
-        → Talk (setting S.may S.selects guard is_filter h stop teller) before (fs ++ f ∷ []) (ps ++ p ∷ []) cs (ls ++ line ∷ []) after
+        → Talk (setting (S.may s) (S.selects s) guard is_filter h stop teller) before (fs ++ f ∷ []) (ps ++ p ∷ []) cs (ls ++ line ∷ []) after
         → (middle : Standing) × (commit : Option ℕ) × (earlier : List ℕ) × (cs ≡ earlier ++ option_to_list commit) × (after.place ≡ p)
-        × Talk (setting S.may S.selects guard is_filter h stop teller) before fs ps earlier ls middle
-        × IsAnswered (setting S.may S.selects guard is_filter h stop teller) middle f after line commit }
+        × Talk (setting (S.may s) (S.selects s) guard is_filter h stop teller) before fs ps earlier ls middle
+        × IsAnswered (setting (S.may s) (S.selects s) guard is_filter h stop teller) middle f after line commit }
 {}
 
 /// The places of a talk never fall, lie between the opening's t and the basis, and each is at least every t that was committed
 /// before. So it is where the form behind the lines was answered too, and its line did not come out.
 pub fn a_talk_rests_on_what_was_seen<S: Surroundings>()
-    ensures whole { (guard : Guard) (is_filter : List ℕ → Bool) (h : List Entry) (stop : Option ℕ) (teller : Bool)
+    ensures whole { (s : S) (guard : Guard) (is_filter : List ℕ → Bool) (h : List Entry) (stop : Option ℕ) (teller : Bool)
         (before after : Standing) (fs : List Form) (ps cs : List ℕ) (ls : List (List ℕ)) → before.place ≤ basis h
-        → Talk (setting S.may S.selects guard is_filter h stop teller) before fs ps cs ls after → Prefixes before.place (basis h) ps cs }
-    ensures unfinished { (guard : Guard) (is_filter : List ℕ → Bool) (h : List Entry) (stop : Option ℕ) (teller : Bool)
+        → Talk (setting (S.may s) (S.selects s) guard is_filter h stop teller) before fs ps cs ls after → Prefixes before.place (basis h) ps cs }
+    ensures unfinished { (s : S) (guard : Guard) (is_filter : List ℕ → Bool) (h : List Entry) (stop : Option ℕ) (teller : Bool)
         (before after : Standing) (fs : List Form) (ps cs : List ℕ) (ls : List (List ℕ)) (f : Form) (p : ℕ) (line : List ℕ) → before.place ≤ basis h
-        → Talk (setting S.may S.selects guard is_filter h stop teller) before (fs ++ f ∷ []) (ps ++ p ∷ []) cs (ls ++ line ∷ []) after → Prefixes before.place (basis h) ps cs }
+        → Talk (setting (S.may s) (S.selects s) guard is_filter h stop teller) before (fs ++ f ∷ []) (ps ++ p ∷ []) cs (ls ++ line ∷ []) after → Prefixes before.place (basis h) ps cs }
 {}
 
 /// Commits strictly rise.
@@ -65,25 +65,25 @@ pub fn commits_strictly_rise()
 
 /// A session is told once at most that the log did not take its transaction.
 pub fn a_session_is_told_once<S: Surroundings>()
-    ensures { (guard : Guard) (is_filter : List ℕ → Bool) (h : List Entry) (stop : Option ℕ) (teller : Bool)
+    ensures { (s : S) (guard : Guard) (is_filter : List ℕ → Bool) (h : List Entry) (stop : Option ℕ) (teller : Bool)
         (one two three four : Standing) (fs : List Form) (ps cs : List ℕ) (ls : List (List ℕ)) (f g : Form) (line other : List ℕ) (commit last : Option ℕ)
-        → IsNotTaken (setting S.may S.selects guard is_filter h stop teller) one f two line commit
-        → Talk (setting S.may S.selects guard is_filter h stop teller) two fs ps cs ls three
-        → ¬ IsNotTaken (setting S.may S.selects guard is_filter h stop teller) three g four other last }
+        → IsNotTaken (setting (S.may s) (S.selects s) guard is_filter h stop teller) one f two line commit
+        → Talk (setting (S.may s) (S.selects s) guard is_filter h stop teller) two fs ps cs ls three
+        → ¬ IsNotTaken (setting (S.may s) (S.selects s) guard is_filter h stop teller) three g four other last }
 {}
 
 /// At one place a transaction that is accepted, or refused, has one line, and so have `:db` and `:sync`.
 pub fn one_line_at_a_place<S: Surroundings>()
-    ensures accepted { (guard : Guard) (is_filter : List ℕ → Bool) (h : List Entry) (stop : Option ℕ) (teller : Bool)
+    ensures accepted { (s : S) (guard : Guard) (is_filter : List ℕ → Bool) (h : List Entry) (stop : Option ℕ) (teller : Bool)
         (before after other : Standing) (asked : Form) (line that : List ℕ) (commit last : Option ℕ) → after.place ≡ other.place
-        → IsAccepted (setting S.may S.selects guard is_filter h stop teller) before asked after line commit
-        → IsAccepted (setting S.may S.selects guard is_filter h stop teller) before asked other that last → line ≡ that }
-    ensures refused { (guard : Guard) (is_filter : List ℕ → Bool) (h : List Entry) (stop : Option ℕ) (teller : Bool)
+        → IsAccepted (setting (S.may s) (S.selects s) guard is_filter h stop teller) before asked after line commit
+        → IsAccepted (setting (S.may s) (S.selects s) guard is_filter h stop teller) before asked other that last → line ≡ that }
+    ensures refused { (s : S) (guard : Guard) (is_filter : List ℕ → Bool) (h : List Entry) (stop : Option ℕ) (teller : Bool)
         (before after other : Standing) (asked : Form) (line that : List ℕ) (commit last : Option ℕ) → after.place ≡ other.place
-        → IsRefused (setting S.may S.selects guard is_filter h stop teller) before asked after line commit
-        → IsRefused (setting S.may S.selects guard is_filter h stop teller) before asked other that last → line ≡ that }
-    ensures shown { (guard : Guard) (is_filter : List ℕ → Bool) (h : List Entry) (stop : Option ℕ) (teller : Bool)
+        → IsRefused (setting (S.may s) (S.selects s) guard is_filter h stop teller) before asked after line commit
+        → IsRefused (setting (S.may s) (S.selects s) guard is_filter h stop teller) before asked other that last → line ≡ that }
+    ensures shown { (s : S) (guard : Guard) (is_filter : List ℕ → Bool) (h : List Entry) (stop : Option ℕ) (teller : Bool)
         (before after other : Standing) (line that : List ℕ) (commit last : Option ℕ) → after.place ≡ other.place
-        → IsShown (setting S.may S.selects guard is_filter h stop teller) before after line commit
-        → IsShown (setting S.may S.selects guard is_filter h stop teller) before other that last → line ≡ that }
+        → IsShown (setting (S.may s) (S.selects s) guard is_filter h stop teller) before after line commit
+        → IsShown (setting (S.may s) (S.selects s) guard is_filter h stop teller) before other that last → line ≡ that }
 {}

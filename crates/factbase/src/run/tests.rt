@@ -1,6 +1,9 @@
 //! Runs over sources and sinks in memory, under a clock that stands still.
 use super::*;
-use fb_ports::{FixedClock, MemHost, MemSink, MemSource};
+use fb_core::NoGuard;
+use fb_preds::shipped;
+use fb_ports::MemDisk;
+use mem_ports::{FixedClock, MemHost, MemSink, MemSource};
 use std::test::Fail;
 
 /// The first instant of 2024.
@@ -8,7 +11,7 @@ const NEW_YEAR: i64 = 1_704_067_200_000;
 
 const RECEIPT: &str = "{:t 1 :tempids {\"x\" 17592186044417}}\n";
 
-const NOT_BUILT: &str = "{:refused :read/not-built :at 0 :basis 0}\n";
+const NO_COMMAND: &str = "{:refused :read/not-a-command :at 0 :basis 0}\n";
 
 /// Scripts, and the status, the line of standard error and the replies that a run of each gives.
 const SCRIPTS: [(&[u8], u8, &str, &str); 21] = [
@@ -19,8 +22,8 @@ const SCRIPTS: [(&[u8], u8, &str, &str); 21] = [
         "",
         RECEIPT,
     ),
-    (b"[:db]", 0, "", NOT_BUILT),
-    (b"1 #_ 2 ; c", 0, "", NOT_BUILT),
+    (b"[:db]", 0, "", "{:basis 0}\n"),
+    (b"1 #_ 2 ; c", 0, "", NO_COMMAND),
     (
         b"[:transact [[:db/add \"x\" :db/doc \"hi\"]",
         5,
@@ -37,7 +40,7 @@ const SCRIPTS: [(&[u8], u8, &str, &str); 21] = [
         b"#{} \xff",
         5,
         "factbase: script -: bad at byte 4",
-        NOT_BUILT,
+        NO_COMMAND,
     ),
     (
         b"[[[[[[[[[[[[[[[[[[[[[[[[[[[[[[[[[[[[[[[[[[[[[[[[[[[[[[[[[[[[[[[[[",
@@ -103,29 +106,41 @@ fn source(alloc: Global, script: &[u8]) -> Result<MemSource, Fail> {
     Ok(MemSource::new(Vec::from_slice(alloc, script)?, Vec::new(alloc)))
 }
 
-fn run_words(
-    alloc: Global,
+/// What is handed back over a host that has the script as standard input.
+fn run_over(
+    rt: HostRuntime,
     words: &[&str],
-    script: &[u8],
-) -> Result<Outcome<MemSource, MemSink>, Fail> {
-    let mut host = MemHost::new(alloc);
-    host.add_source("-", source(alloc, script)?)?;
+    host: &mut MemHost,
+) -> Result<Outcome<MemSource, MemSink, MemDisk>, Fail> {
+    let alloc = rt.alloc();
     let mut owned = Vec::new(alloc);
     for word in words {
         owned.push(String::from_str(alloc, word)?)?;
     }
-    Ok(run(alloc, &owned, &mut host, &FixedClock::new(NEW_YEAR)))
+    let preds = shipped(alloc)?;
+    let clock = FixedClock::new(NEW_YEAR);
+    Ok(run(&rt, alloc, &owned, host, &clock, &preds, &NoGuard))
+}
+
+fn host_of(alloc: Global, source: MemSource) -> Result<MemHost, Fail> {
+    let mut host = MemHost::new(alloc);
+    host.add_source("-", source)?;
+    Ok(host)
 }
 
 /// A run of the script from standard input.
-fn run_script(alloc: Global, script: &[u8]) -> Result<Outcome<MemSource, MemSink>, Fail> {
-    run_words(alloc, &["run", ":memory:", "-"], script)
+fn run_script(
+    rt: HostRuntime,
+    script: &[u8],
+) -> Result<Outcome<MemSource, MemSink, MemDisk>, Fail> {
+    let mut host = host_of(rt.alloc(), source(rt.alloc(), script)?)?;
+    run_over(rt, &["run", ":memory:", "-"], &mut host)
 }
 
 #[test]
 fn answers_each_script_to_its_end_or_its_fault(rt: HostRuntime) -> Result<(), Fail> {
     for (script, status, line, written) in SCRIPTS {
-        let outcome = run_script(rt.alloc(), script)?;
+        let outcome = run_script(rt, script)?;
         assert_eq!(rt; outcome.status, status);
         assert_eq!(rt; outcome.line.as_str(), line);
         let session = outcome.sessions.as_slice().first().ok_or("no session")?;
@@ -137,7 +152,7 @@ fn answers_each_script_to_its_end_or_its_fault(rt: HostRuntime) -> Result<(), Fa
 #[test]
 fn says_what_is_wrong_with_the_words(rt: HostRuntime) -> Result<(), Fail> {
     for (words, status, line) in WORDS {
-        let outcome = run_words(rt.alloc(), words, b"")?;
+        let outcome = run_over(rt, words, &mut MemHost::new(rt.alloc()))?;
         assert_eq!(rt; outcome.status, status);
         assert_eq!(rt; outcome.line.as_str(), line);
     }
@@ -145,46 +160,42 @@ fn says_what_is_wrong_with_the_words(rt: HostRuntime) -> Result<(), Fail> {
 }
 
 #[test]
-fn gives_each_new_entity_the_next_number(rt: HostRuntime) -> Result<(), Fail> {
-    let script =
-        b"[:transact [[:db/add \"x\" :db/doc \"hi\"]]] [:transact [[:db/add \"y\" :db/doc \"ho\"]]]";
-    let outcome = run_script(rt.alloc(), script)?;
+fn hands_back_the_history_and_its_trees(rt: HostRuntime) -> Result<(), Fail> {
+    let script = b"[:transact [[:db/add \"x\" :db/doc \"hi\"]]] [:request-index]
+        [:transact [[:db/add \"y\" :db/doc \"ho\"]]]";
+    let outcome = run_script(rt, script)?;
     let session = outcome.sessions.as_slice().first().ok_or("no session")?;
-    let lines = "{:t 1 :tempids {\"x\" 17592186044417}}\n{:t 2 :tempids {\"y\" 17592186044418}}\n";
+    let lines = "{:t 1 :tempids {\"x\" 17592186044417}}\n{:ok true :basis 1}\n{:t 2 :tempids {\"y\" 17592186044418}}\n";
     assert_eq!(rt; session.sink.bytes(), lines.as_bytes());
+    assert_eq!(rt; session.places.as_slice(), [1, 1, 2].as_slice());
     assert_eq!(rt; session.commits.as_slice(), [1, 2].as_slice());
+    assert_eq!(rt; outcome.covered, 1);
     // The clock stands still, so the second entry comes a millisecond later.
-    let entries = outcome.entries.ok_or("no history")?;
-    assert_eq!(rt; entries.len(), 3);
-    assert_eq!(rt; entries.at(2).instant, NEW_YEAR + 1);
+    let last = outcome.last.ok_or("no history")?;
+    assert_eq!(rt; last.entries().len(), 3);
+    assert_eq!(rt; last.entries().at(2).instant, NEW_YEAR + 1);
     Ok(())
 }
 
 #[test]
-fn says_that_the_source_failed(rt: HostRuntime) -> Result<(), Fail> {
-    let fails = vec![in rt.alloc(); 1]?;
-    let source = MemSource::new(Vec::from_slice(rt.alloc(), b"[:db]")?, fails);
-    let sink = MemSink::new(rt.alloc(), 1000, Vec::new(rt.alloc()))?;
-    let outcome = run_session(rt.alloc(), "-", source, sink, &FixedClock::new(NEW_YEAR));
+fn says_that_the_source_or_the_sink_failed(rt: HostRuntime) -> Result<(), Fail> {
+    let alloc = rt.alloc();
+    let failing = MemSource::new(Vec::from_slice(alloc, b"[:db]")?, vec![in alloc; 1]?);
+    let outcome = run_over(rt, &["run", ":memory:", "-"], &mut host_of(alloc, failing)?)?;
     assert_eq!(rt; outcome.status, 6);
     assert_eq!(rt; outcome.line.as_str(), "factbase: script -: read fault");
-    Ok(())
-}
-
-#[test]
-fn says_that_the_sink_failed(rt: HostRuntime) -> Result<(), Fail> {
-    let sink = MemSink::new(rt.alloc(), 1000, vec![in rt.alloc(); 2]?)?;
-    let script = b"[:db] [:db]";
-    let outcome = run_session(
-        rt.alloc(),
-        "-",
-        source(rt.alloc(), script)?,
-        sink,
-        &FixedClock::new(NEW_YEAR),
-    );
+    let opened = Opened {
+        name: "-",
+        source: source(alloc, b"[:db] [:db]")?,
+        sink: MemSink::new(alloc, 1000, vec![in alloc; 2]?)?,
+    };
+    let preds = shipped(alloc)?;
+    let clock = FixedClock::new(NEW_YEAR);
+    let outcome: Outcome<_, _, MemDisk> =
+        run_session(&rt, alloc, opened, &clock, &preds, &NoGuard);
     assert_eq!(rt; outcome.status, 6);
     assert_eq!(rt; outcome.line.as_str(), "factbase: script -: write fault");
     let session = outcome.sessions.as_slice().first().ok_or("no session")?;
-    assert_eq!(rt; session.sink.bytes(), NOT_BUILT.as_bytes());
+    assert_eq!(rt; session.sink.bytes(), b"{:basis 0}\n".as_slice());
     Ok(())
 }

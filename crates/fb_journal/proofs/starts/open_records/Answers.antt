@@ -28,17 +28,6 @@ returns-then-len-le-NEW-clause-any_moment g c = λ file told.
     (λ image was. inl was)
     (λ image torn. inr (short, torn-new c.new_journal.result.now file image sixteen short torn))
 
-pub returns-then-len-le-NEW-clause-after_sync : goal.returns-then-len-le-NEW-clause-after_sync
-returns-then-len-le-NEW-clause-after_sync g c = λ file told.
-    let short : length file ≤ 16 = omega (arith, c.in_ok-len.ensures.length file told, c.if-len-le-NEW.true) in
-    let sixteen : length c.new_journal.result.now ≡ 16 = ap length c.new_journal.ensures ∙ length-new_journal c.args.mark in
-    let run = c.store.ensures.any_moment file (c.in_ok-len.ensures.durable file told) in record {
-      from = g.D.Disk.moment c.settle.new.disk;
-      later = c.settle.ensures.any_moment.later;
-      in_time = run.later;
-      each = λ image left. inr (short, torn-new c.new_journal.result.now file image sixteen short (run.each image left));
-    }
-
 pub returns-then-len-le-NEW-clause-kept : goal.returns-then-len-le-NEW-clause-kept
 returns-then-len-le-NEW-clause-kept g c =
     let mark : List ℕ = mark_bytes c.args.mark in
@@ -67,15 +56,6 @@ returns-clause-reading g c = λ file told.
 pub returns-clause-place : goal.returns-clause-place
 returns-clause-place g c =
     place-ends (mark_bytes c.args.mark) c.in_ok-read_records.field-0.payloads c.truncate.new.self.items c.in_ok-read_records.field-0.end (omega arith) c.in_ok-read_records.ensures.ends
-
-pub returns-clause-after_sync : goal.returns-clause-after_sync
-returns-clause-after_sync g c = λ file told.
-    let only = c.in_ok-len.ensures.durable file told in record {
-      from = g.D.Disk.moment c.settle.new.disk;
-      later = c.settle.ensures.any_moment.later;
-      in_time = c.fill.ensures.any_moment.later;
-      each = λ image left. inl (only image (c.fill.ensures.any_moment.each image left));
-    }
 
 pub returns-clause-kept : goal.returns-clause-kept
 returns-clause-kept g c =

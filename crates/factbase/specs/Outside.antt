@@ -1,0 +1,42 @@
+-- What the outside tells of a run, and by what its sessions are answered.
+-- This project's own choice.
+use Rattle.std.specs.Prelude.{ℕ, ◌+◌, Bool, List, [], ◌∷◌, Option, Some, None}
+use Rattle.fb_values.specs.declared.facts.Entry.{Entry}
+use Rattle.script_model.specs.Words.{Command, run}
+use Rattle.talk_model.specs.Session.{Setting, setting}
+use Rattle.fb_session.specs.Sessions.{Fixed}
+
+-- ---- what a host tells of what it hands out, by name, and its own count of faults
+
+pub record Told : Type 0 where
+  pub sources : List ℕ → Option (List ℕ)
+  pub source_faults : List ℕ → ℕ
+  pub sinks : List ℕ → Option (List ℕ)
+  pub sink_faults : List ℕ → ℕ
+  pub faults : ℕ
+
+-- ---- what its objects tell: the bytes that a source has left and that a sink holds, and their counts of faults
+
+pub record Tells (I O : Type 0) : Type 0 where
+  pub left : I → Option (List ℕ)
+  pub source_faults : I → ℕ
+  pub contents : O → Option (List ℕ)
+  pub sink_faults : O → ℕ
+
+-- ---- the terms on which all of its sessions are answered: the clock, the guard and the filters
+
+-- what a session is answered by on these terms, over a history that may have a stop
+abbrev pub setting_of : Fixed → List Entry → Option ℕ → Bool → Setting
+setting_of terms h stop teller = setting terms.may terms.Selects terms.guard terms.is_filter h stop teller
+
+-- ---- its scripts
+
+abbrev pub scripts_of : Option Command → List (List ℕ)
+scripts_of None = []
+scripts_of (Some (run name)) = name ∷ []
+
+-- each of the first list and the one of the second at its place, with their number; the lists have one length
+abbrev pub EachOf : {A B : Type 0} → (ℕ → A → B → Type 0) → ℕ → List A → List B → Type 0
+EachOf P n [] [] = Unit {0}
+EachOf P n (x ∷ xs) (y ∷ ys) = P n x y × EachOf P (n + 1) xs ys
+EachOf P n xs ys = ⊥

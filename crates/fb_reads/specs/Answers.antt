@@ -1,0 +1,35 @@
+-- What a read answers, and where its session stands behind it.
+-- This project's own choice.
+use Rattle.std.specs.Prelude.{ℕ, Bool, List, Result, Ok, Err}
+use Rattle.edn_model.specs.Form.{Form}
+use Rattle.view_model.specs.Window.{Window}
+use Rattle.read_refusals.specs.declared.reasons.Reason.TheVariants.{NoFilter}
+use Rattle.read_refusals.specs.declared.reasons.Refusal.{Refusal}
+use Rattle.read_model.specs.Given.{refusal}
+use Rattle.talk_model.specs.Replies.{IsLineOf}
+use Rattle.talk_model.specs.Reads.{refused}
+use Rattle.talk_model.specs.Session.{Standing}
+use Rattle.fb_names.specs.declared.stops.NameStop.{NameStop}
+use Rattle.fb_names.specs.declared.stops.NameStop.TheVariants.{Refused, Memory}
+
+-- the line is that of such a reply
+abbrev pub Says : (Form → Type 0) → List ℕ → Type 0
+Says IsAnswer line = (reply : Form) × IsAnswer reply × IsLineOf reply line
+
+-- the line is that of the refusal; there is none of want of memory
+abbrev pub IsRefused : ℕ → NameStop → List ℕ → Type 0
+IsRefused basis (Refused r) line = IsLineOf (refused basis r) line
+IsRefused basis Memory line = ⊥
+
+-- no filter has the name behind the command's word
+abbrev pub no_filter : Refusal
+no_filter = refusal NoFilter 1
+
+-- a point that could be read changes the window
+abbrev pub narrowed : (ℕ → Window → Window) → Result ℕ Refusal → Window → Window
+narrowed change (Ok end) w = change end w
+narrowed change (Err r) w = w
+
+-- a session at this place, told or not, whose reads see the window under the filters of these names
+abbrev pub standing_at : ℕ → Bool → Window → List (List ℕ) → Standing
+standing_at place told w names = record { place = place; window = w; filters = names; told = told }

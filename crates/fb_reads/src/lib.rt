@@ -1,0 +1,10 @@
+//! Answers the commands of a session that record nothing, and what is no command: one line each, of what the session has
+//! seen, and the change of what it sees.
+#![tactic(auto)]
+
+mod lines;
+mod reads;
+mod scans;
+mod views;
+
+pub use reads::answer_read;

@@ -1,0 +1,48 @@
+//! The lines of refusals.
+ghost use Rattle.std.specs.Prelude.{◌≡◌, OnOk, codes};
+ghost use Rattle.read_model.specs.Components.{no_command};
+ghost use Rattle.talk_model.specs.Replies.{refusal_reply, IsLineOf};
+ghost use Rattle.talk_model.specs.Reads.{refused};
+ghost use Rattle.fb_reads.specs.Answers.{IsRefused};
+
+use fb_memory::Memory;
+use fb_names::NameStop;
+use fb_replies::write_refusal;
+use read_refusals::{Reason, Refusal};
+
+/// The keyword of what this program does not answer yet.
+const NOT_BUILT: &str = "read/not-built";
+
+pub fn refuse(line: &mut Vec<u8>, refusal: Refusal, basis: u32) -> Result<(), Memory>
+    ensures { OnOk result (IsLineOf (refused basis refusal) line.new.items) }
+{
+    write_refusal(line, refusal.reason.keyword(), refusal.at, basis)
+}
+
+/// The refusal that stopped a read; where memory ran out there is no line.
+pub fn refuse_stop(line: &mut Vec<u8>, stop: NameStop, basis: u32) -> Result<(), Memory>
+    ensures { OnOk result (IsRefused basis stop line.new.items) }
+{
+    match stop {
+        NameStop::Refused(refusal) => refuse(line, refusal, basis),
+        NameStop::Memory => Err(Memory),
+    }
+}
+
+/// The line of what is no command.
+pub fn not_a_command(line: &mut Vec<u8>, basis: u32) -> Result<(), Memory>
+    ensures { OnOk result (IsLineOf (refused basis no_command) line.new.items) }
+{
+    let refusal = Refusal {
+        reason: Reason::NotACommand,
+        at: 0,
+    };
+    refuse(line, refusal, basis)
+}
+
+/// The line of a Pull.
+pub fn not_built(line: &mut Vec<u8>, basis: u32) -> Result<(), Memory>
+    ensures { OnOk result (IsLineOf (refusal_reply (codes "read/not-built") 0 basis) line.new.items) }
+{
+    write_refusal(line, NOT_BUILT, 0, basis)
+}

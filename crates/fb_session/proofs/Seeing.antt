@@ -1,0 +1,79 @@
+-- A session that sees another snapshot, and what it then keeps of what its desk answered.
+use Rattle.std.proofs.Common.{◌≡◌, ℕ, ℤ, List, [], ◌∷◌, ◌++◌, None, refl, sym, ap, ◌∙◌, subst, inl, inr, arith, append-nil}
+use Rattle.std.specs.Prelude.{codes}
+use Rattle.edn_model.specs.Form.{Form}
+use Rattle.fb_values.specs.declared.facts.Entry.{Entry}
+use Rattle.fb_model.specs.History.{basis}
+use Rattle.tx_refusals.specs.declared.reasons.Refusal.{Refusal}
+use Rattle.tx_refusals.specs.Reasons.{keyword_of}
+use Rattle.tx_model.specs.Step.{Guard}
+use Rattle.talk_model.specs.Replies as reply
+use Rattle.talk_model.specs.Replies.{IsLineOf}
+use Rattle.fb_view.specs.Kept.{Kept}
+use Rattle.fb_db.specs.Seen.{window_of}
+use Rattle.fb_db.specs.declared.db.Db.{Db}
+use Rattle.fb_desk.specs.Desks.{State, GoesOn, IsReceipt, IsRefusal, IsLogFault, IsStopped}
+use Rattle.fb_desk.specs.declared.answers.Receipt.{Receipt}
+use Rattle.fb_desk.specs.declared.answers.TxFault.TheVariants.{Refused, LogFault, Stopped}
+use Rattle.fb_session.specs.declared.session.Session.{Session}
+use Rattle.fb_session.specs.Sessions.{Sees, Shows, Keeps, Received, Denied}
+
+-- a desk that was not asked
+pub goes_on-nowhere : (desk : State) → GoesOn desk desk
+goes_on-nowhere desk = record { more = []; entries = sym (append-nil desk.entries); lawful = λ lawful. lawful; stop = inr (refl, refl); left = omega arith }
+
+module _ {S : Type 0} (old new : Session S) (was is : State) where
+  pub keeps_nothing : new.commits.items ≡ old.commits.items → is.commits ≡ was.commits → Keeps old new was is None
+  keeps_nothing commits desk = record { commits = commits ∙ sym (append-nil old.commits.items); desk = desk ∙ sym (append-nil was.commits) }
+
+  module _ (snapshot : Kept) (view : new.view ≡ record old.view { snapshot = snapshot }) where
+    pub sees_from : snapshot.entries ≡ is.entries → Sees old new is
+    sees_from same =
+        record {
+          snapshot = ap (λ (v : Db S). v.snapshot.entries) view ∙ same;
+          window = ap window_of view;
+          filter = ap (λ (v : Db S). v.filter) view;
+        }
+
+    -- the line of the basis of what is seen
+    at_basis : (reply_at : ℕ → Form) → snapshot.entries ≡ is.entries → IsLineOf (reply_at (basis snapshot.entries)) new.line.items → IsLineOf (reply_at (basis is.entries)) new.line.items
+    at_basis reply_at same says = let P : List Entry → Type 0 = λ h. IsLineOf (reply_at (basis h)) new.line.items in subst P same says
+
+    pub shows_from : snapshot.entries ≡ is.entries → IsLineOf (reply.basis_reply (basis snapshot.entries)) new.line.items → Shows old new is
+    shows_from same says = record { sees = sees_from same; says = at_basis reply.basis_reply same says }
+
+    module _ (may : ℤ → Type 0) (guard : Guard) (asked : Form) (commits : new.commits.items ≡ old.commits.items) where
+      pub denied_refused : (refusal : Refusal) → IsRefusal guard asked was is refusal snapshot
+          → IsLineOf (reply.refusal_reply (keyword_of refusal.reason) refusal.at (basis snapshot.entries)) new.line.items → Denied may guard asked old new was is (Refused refusal snapshot)
+      denied_refused refusal r says =
+          record {
+            is_fault = r;
+            sees = sees_from r.rest.snapshot_is;
+            keeps = keeps_nothing commits r.rest.commits;
+            says = at_basis (reply.refusal_reply (keyword_of refusal.reason) refusal.at) r.rest.snapshot_is says;
+          }
+
+      pub denied_fault : (at : ℕ) → IsLogFault may guard asked was is at snapshot
+          → IsLineOf (reply.fault_reply (codes "log") at (basis snapshot.entries)) new.line.items → Denied may guard asked old new was is (LogFault at snapshot)
+      denied_fault at r says =
+          record {
+            is_fault = r;
+            sees = sees_from r.rest.snapshot_is;
+            keeps = keeps_nothing commits r.rest.commits;
+            says = at_basis (reply.fault_reply (codes "log") at) r.rest.snapshot_is says;
+          }
+
+      pub denied_stopped : (at : ℕ) → IsStopped was is at snapshot
+          → IsLineOf (reply.fault_reply (codes "log-stopped") at (basis snapshot.entries)) new.line.items → Denied may guard asked old new was is (Stopped at snapshot)
+      denied_stopped at r says =
+          record {
+            is_fault = r;
+            sees = sees_from r.rest.snapshot_is;
+            keeps = keeps_nothing commits r.rest.commits;
+            says = at_basis (reply.fault_reply (codes "log-stopped") at) r.rest.snapshot_is says;
+          }
+
+  pub received : (may : ℤ → Type 0) (guard : Guard) (asked : Form) (receipt : Receipt) → IsReceipt may guard asked was is receipt
+      → new.view ≡ record old.view { snapshot = receipt.snapshot } → new.commits.items ≡ old.commits.items ++ receipt.t ∷ [] → Received may guard asked old new was is receipt
+  received may guard asked receipt r view commits =
+      record { is_receipt = r; sees = sees_from receipt.snapshot view r.snapshot; keeps = record { commits = commits; desk = r.commits } }

@@ -1,0 +1,21 @@
+use Rattle.std.proofs.Common.{◌≡◌, ◌+◌, ◌-◌, ◌≤◌, length, map}
+use Rattle.script_model.specs.Script.{most_commands}
+use Rattle.fb_session.specs.Sessions.{fixed, TalkSoFar}
+use Rattle.fb_session.proofs.serve.Session+Picks.answer_all.Given as goal
+
+-- the talk over the forms so far
+abbrev pub invariant-forms : goal.invariant-forms
+invariant-forms g l =
+    let state = g.T.Desk.state in
+    let contents = g.O.Sink.contents in
+    let table = l.fn.self.view.filter.table.now in
+    record {
+      table : l.self.view.filter.table ≡ l.fn.self.view.filter.table;
+      left : most_commands ≤ length l.self.places.items + (state l.desk).left;
+      talk : TalkSoFar (fixed (g.K.Clock.may_answer l.clock) (g.G.Guard.bars l.guard) (g.P.FilterTable.place_of table) (g.P.FilterTable.selects_at table)) l.script l.at l.self
+          (λ p. map (g.P.FilterTable.name_at p.table.now) p.places.items) (state l.fn.desk) (state l.desk) (contents l.fn.sink) (contents l.sink);
+      count : g.O.Sink.faults l.sink ≡ g.O.Sink.faults l.fn.sink;
+    }
+
+abbrev pub decreases-forms : goal.decreases-forms
+decreases-forms g l = length l.script - l.at

@@ -1,0 +1,113 @@
+//! Which command a form is, and its line.
+ghost use Rattle.std.specs.Prelude.{◌≡◌, ◌<◌, IsTrue, OnOk, OnErr, vec_len, vec_capacity, is_some, map, None};
+ghost use Rattle.std.specs.Option.{option_map};
+ghost use Rattle.edn_form.specs.View.{form_of};
+ghost use Rattle.fb_model.specs.History.{basis};
+ghost use Rattle.talk_model.specs.Commands.{is_read};
+ghost use Rattle.talk_model.specs.Session.{Standing};
+ghost use Rattle.talk_model.specs.Replies.{basis_reply, IsLineOf};
+ghost use Rattle.fb_preds.specs.Naming.{selected_by};
+ghost use Rattle.fb_commands.specs.Asked.{asked};
+ghost use Rattle.fb_desk.specs.Desks.{GoesOn};
+ghost use Rattle.fb_session.specs.Sessions.{fixed, StandsAt, Sees, Shows, Keeps, Reads, Answered, Unanswered};
+
+use crate::session::Session;
+use edn_form::Edn;
+use fb_commands::{Command, command_in};
+use fb_desk::{Desk, Glance};
+use fb_memory::Memory;
+use fb_ports::Clock;
+use fb_preds::{FilterTable, Picks, Selector};
+use fb_reads::answer_read;
+use fb_replies::write_basis;
+use fb_view::Snapshot;
+use std::alloc::Global;
+use std::sync::Wait;
+use std::thread::Threads;
+use tx_step::Guard;
+
+impl<P: FilterTable> Session<Picks<'_, P>> {
+    /// Does what the form asks and builds its line.
+    pub(crate) fn reply<R: Threads + Wait + Sync, T: Desk, K: Clock, G: Guard<Snapshot>>(
+        &mut self,
+        rt: &R,
+        alloc: Global,
+        desk: &mut T,
+        clock: &K,
+        guard: &G,
+        form: &Edn,
+    ) -> Result<(), Memory>
+        requires left { 0 < (T.state desk.old).left }
+        requires room { vec_len self.old.commits < vec_capacity self.old.commits }
+        ensures goes_on { GoesOn (T.state desk.old) (T.state desk.new) }
+        ensures ok { OnOk result ((before : Standing) → StandsAt self.old.view (λ p. map (P.name_at p.table.now) p.places.items) (T.state desk.old) before
+            → Answered (fixed (K.may_answer clock.now) (G.bars guard.now) (P.place_of self.old.view.filter.table.now) (P.selects_at self.old.view.filter.table.now)) (form_of form.now) self.old self.new (λ p. map (P.name_at p.table.now) p.places.items) (T.state desk.old) (T.state desk.new) before self.new.line.items) }
+        ensures err { OnErr result ((before : Standing) → StandsAt self.old.view (λ p. map (P.name_at p.table.now) p.places.items) (T.state desk.old) before
+            → Unanswered (fixed (K.may_answer clock.now) (G.bars guard.now) (P.place_of self.old.view.filter.table.now) (P.selects_at self.old.view.filter.table.now)) (form_of form.now) self.old self.new (λ p. map (P.name_at p.table.now) p.places.items) (T.state desk.old) (T.state desk.new) before) }
+        ensures table { self.new.view.filter.table ≡ self.old.view.filter.table }
+        ensures places { self.new.places ≡ self.old.places }
+    {
+        match command_in(form) {
+            Some(Command::Transact(asked)) => self.transact(rt, desk, clock, guard, asked),
+            Some(Command::Db) => self.look(desk),
+            Some(Command::Sync) => self.catch_up(rt, desk),
+            Some(Command::RequestIndex) => {
+                desk.ring(rt)?;
+                self.read(alloc, Some(Command::RequestIndex))
+            }
+            command => self.read(alloc, command),
+        }
+    }
+
+    /// Answers of what was seen before.
+    fn read(&mut self, alloc: Global, command: Option<Command<'_>>) -> Result<(), Memory>
+        requires { IsTrue (is_read (option_map (λ asks. asked asks) command)) }
+        ensures ok { OnOk result (Reads self.old.view self.new.view (λ p. map (P.name_at p.table.now) p.places.items) (λ name. is_some (P.place_of self.old.view.filter.table.now name)) (selected_by (P.place_of self.old.view.filter.table.now) (P.selects_at self.old.view.filter.table.now)) (option_map (λ asks. asked asks) command.entry) self.new.line.items) }
+        ensures table { self.new.view.filter.table ≡ self.old.view.filter.table }
+        ensures rest { self.new ≡ record self.old { view = self.new.view; line = self.new.line } }
+    {
+        answer_read(alloc, &mut self.view, command, &mut self.line)
+    }
+}
+
+impl<S: Selector> Session<S> {
+    /// Sees what was mailed.
+    fn look<T: Desk>(&mut self, desk: &mut T) -> Result<(), Memory>
+        requires { 0 < (T.state desk.old).left }
+        ensures goes_on { GoesOn (T.state desk.old) (T.state desk.new) }
+        ensures shows { OnOk result (Shows self.old self.new (T.state desk.new)) }
+        ensures keeps { Keeps self.old self.new (T.state desk.old) (T.state desk.new) None }
+        ensures places { self.new.places ≡ self.old.places }
+    {
+        match desk.db()? {
+            Glance::Fresh(snapshot) => self.show(snapshot),
+            Glance::Held(snapshot) => self.show(snapshot),
+        }
+    }
+
+    /// Sees all that there is.
+    fn catch_up<R: Threads + Wait + Sync, T: Desk>(
+        &mut self,
+        rt: &R,
+        desk: &mut T,
+    ) -> Result<(), Memory>
+        requires { 0 < (T.state desk.old).left }
+        ensures goes_on { GoesOn (T.state desk.old) (T.state desk.new) }
+        ensures shows { OnOk result (Shows self.old self.new (T.state desk.new)) }
+        ensures keeps { Keeps self.old self.new (T.state desk.old) (T.state desk.new) None }
+        ensures places { self.new.places ≡ self.old.places }
+    {
+        let snapshot = desk.sync(rt)?;
+        self.show(snapshot)
+    }
+
+    fn show(&mut self, snapshot: Snapshot) -> Result<(), Memory>
+        ensures view { self.new.view ≡ record self.old.view { snapshot = snapshot } }
+        ensures rest { self.new ≡ record self.old { view = self.new.view; line = self.new.line } }
+        ensures line { OnOk result (IsLineOf (basis_reply (basis snapshot.entries)) self.new.line.items) }
+    {
+        self.see(snapshot);
+        let basis = self.place();
+        write_basis(&mut self.line, basis)
+    }
+}

@@ -1,0 +1,221 @@
+//! The loop over the forms of a script.
+ghost use Rattle.std.specs.Prelude.{◌≡◌, ◌≤◌, ◌<◌, ◌+◌, ◌++◌, IfOk, IfErr, OnOk, OnErr, length, is_some, map};
+ghost use Rattle.edn_form.specs.View.{form_of};
+ghost use Rattle.fb_model.specs.History.{basis};
+ghost use Rattle.fb_preds.specs.Naming.{selected_by};
+ghost use Rattle.talk_model.specs.Prefixes.{Prefixes};
+ghost use Rattle.talk_model.specs.Session.{Standing, setting};
+ghost use Rattle.fb_desk.specs.Desks.{GoesOn};
+ghost use Rattle.fb_session.specs.Replies.{Replies, SourceCount, SinkCount};
+ghost use Rattle.fb_session.specs.Sessions.{fixed, WentOn, StandsAt, IsOpened, Replied, StopsAt, StopCount, end_of, IsCommand, NoCommand, Talks};
+
+use crate::outcome::{Served, SessionEnd};
+use crate::reading::{ReadStop, read_script};
+use crate::session::Session;
+use crate::writing::write_line;
+use edn_core::{Edn, EdnFault, read_form};
+use fb_desk::Desk;
+use fb_memory::Memory;
+use fb_ports::{Clock, Sink, Source};
+use fb_preds::{FilterTable, Picks};
+use fb_view::Snapshot;
+use std::alloc::Global;
+use std::sync::Wait;
+use std::thread::Threads;
+use tx_step::Guard;
+
+/// How many commands a script may have.
+const MOST_COMMANDS: usize = 1_000_000;
+
+/// Why a form was not answered.
+#[derive(Drop)]
+pub(crate) enum Stop {
+    WriteFault,
+    Memory,
+}
+
+impl Stop {
+    /// How a session ends that stops so.
+    fn end(self) -> SessionEnd
+        ensures { result ≡ end_of self }
+    {
+        match self {
+            Stop::WriteFault => SessionEnd::WriteFault,
+            Stop::Memory => SessionEnd::Memory,
+        }
+    }
+}
+
+impl From<Memory> for Stop {
+    ghost use Rattle.fb_session.specs.declared.serve.Stop.{Stop};
+
+    ghost from_gives = { λ _ stop. stop ≡ Stop.Memory };
+
+    fn from(_: Memory) -> Stop {
+        Stop::Memory
+    }
+}
+
+/// Runs one script: reads the source to its end, and then answers its forms, one line each.
+pub fn serve_desk<
+    R: Threads + Wait + Sync,
+    I: Source,
+    O: Sink,
+    T: Desk,
+    K: Clock,
+    G: Guard<Snapshot>,
+    P: FilterTable,
+>(
+    rt: &R,
+    alloc: Global,
+    source: &mut I,
+    sink: &mut O,
+    desk: &mut T,
+    clock: &K,
+    guard: &G,
+    preds: &P,
+) -> Served
+    requires { 1_000_000 ≤ (T.state desk.old).left }
+    ensures replies { Replies
+        (setting (K.may_answer clock.now) (selected_by (P.place_of preds.now) (P.selects_at preds.now)) (G.bars guard.now) (λ name. is_some (P.place_of preds.now name)) (T.state desk.new).entries (T.state desk.new).stop (T.state desk.new).teller)
+        (basis (T.state desk.old).entries) (I.left source.old) (I.left source.new) (O.contents sink.old) (O.contents sink.new) result.places result.commits result.end }
+    ensures prefixes { Prefixes (basis (T.state desk.old).entries) (basis (T.state desk.new).entries) result.places result.commits }
+    ensures commits { (T.state desk.new).commits ≡ (T.state desk.old).commits ++ result.commits }
+    ensures went_on { WentOn (T.state desk.old) (T.state desk.new) }
+    ensures source_count { SourceCount result.end (I.faults source.old) (I.faults source.new) }
+    ensures sink_count { SinkCount result.end (O.faults sink.old) (O.faults sink.new) }
+{
+    match read_script(alloc, source) {
+        Ok(script) => serve_script(
+            rt,
+            alloc,
+            script.as_slice(),
+            sink,
+            desk,
+            clock,
+            guard,
+            preds,
+        ),
+        Err(ReadStop::TooLong) => Served::nothing(alloc, SessionEnd::TooLong),
+        Err(ReadStop::Fault) => Served::nothing(alloc, SessionEnd::ReadFault),
+        Err(ReadStop::Memory) => Served::nothing(alloc, SessionEnd::Memory),
+    }
+}
+
+/// Answers the forms of the script.
+fn serve_script<
+    R: Threads + Wait + Sync,
+    O: Sink,
+    T: Desk,
+    K: Clock,
+    G: Guard<Snapshot>,
+    P: FilterTable,
+>(
+    rt: &R,
+    alloc: Global,
+    script: &[u8],
+    sink: &mut O,
+    desk: &mut T,
+    clock: &K,
+    guard: &G,
+    preds: &P,
+) -> Served
+    requires { 1_000_000 ≤ (T.state desk.old).left }
+    ensures answers { Talks (fixed (K.may_answer clock.now) (G.bars guard.now) (P.place_of preds.now) (P.selects_at preds.now)) script.now
+        (T.state desk.old) (T.state desk.new) result.places result.commits (O.contents sink.old) (O.contents sink.new) result.end }
+    ensures count { SinkCount result.end (O.faults sink.old) (O.faults sink.new) }
+{
+    let Ok(mut session) = Session::open(alloc, desk, preds) else {
+        return Served::nothing(alloc, SessionEnd::Memory);
+    };
+    let end = session.answer_all(rt, alloc, script, sink, desk, clock, guard);
+    session.served(end)
+}
+
+impl<P: FilterTable> Session<Picks<'_, P>> {
+    /// Answers the forms of the script, one after another, up to the first that is not answered.
+    fn answer_all<R: Threads + Wait + Sync, O: Sink, T: Desk, K: Clock, G: Guard<Snapshot>>(
+        &mut self,
+        rt: &R,
+        alloc: Global,
+        script: &[u8],
+        sink: &mut O,
+        desk: &mut T,
+        clock: &K,
+        guard: &G,
+    ) -> SessionEnd
+        requires opened { IsOpened self.old (λ p. map (P.name_at p.table.now) p.places.items) (T.state desk.old) }
+        requires left { 1_000_000 ≤ (T.state desk.old).left }
+        ensures answers { Talks (fixed (K.may_answer clock.now) (G.bars guard.now) (P.place_of self.old.view.filter.table.now) (P.selects_at self.old.view.filter.table.now)) script.now
+            (T.state desk.old) (T.state desk.new) self.new.places.items self.new.commits.items (O.contents sink.old) (O.contents sink.new) result }
+        ensures count { SinkCount result (O.faults sink.old) (O.faults sink.new) }
+    {
+        let mut at = 0;
+        'forms: loop {
+            match self.next_command(alloc, script, at) {
+                Ok((form, next)) => {
+                    let answered = self.answer(rt, alloc, sink, desk, clock, guard, &form);
+                    drop(form);
+                    if let Err(stop) = answered {
+                        return stop.end();
+                    }
+                    at = next;
+                }
+                Err(end) => return end,
+            }
+        }
+    }
+
+    /// The command that stands next behind `at`, and the place behind it; or how the session ends.
+    fn next_command(
+        &self,
+        alloc: Global,
+        script: &[u8],
+        at: usize,
+    ) -> Result<(Edn, usize), SessionEnd>
+        ensures ok { IfOk result (λ r. IsCommand script.now at (length self.now.places.items) (form_of r.0) r.1) }
+        ensures err { IfErr result (NoCommand script.now at (length self.now.places.items)) }
+    {
+        match read_form(alloc, script, at) {
+            Ok(Some(_)) if self.places.len() >= MOST_COMMANDS => Err(SessionEnd::TooMany),
+            Ok(Some(read)) => Ok(read),
+            Ok(None) => Err(SessionEnd::Done),
+            Err(EdnFault::Memory) => Err(SessionEnd::Memory),
+            Err(fault) => Err(SessionEnd::Script(fault)),
+        }
+    }
+
+    /// Answers the form and writes its line.
+    fn answer<R: Threads + Wait + Sync, O: Sink, T: Desk, K: Clock, G: Guard<Snapshot>>(
+        &mut self,
+        rt: &R,
+        alloc: Global,
+        sink: &mut O,
+        desk: &mut T,
+        clock: &K,
+        guard: &G,
+        form: &Edn,
+    ) -> Result<(), Stop>
+        requires { 0 < (T.state desk.old).left }
+        ensures goes_on { GoesOn (T.state desk.old) (T.state desk.new) }
+        ensures ok { OnOk result ((before : Standing) → StandsAt self.old.view (λ p. map (P.name_at p.table.now) p.places.items) (T.state desk.old) before
+            → Replied (fixed (K.may_answer clock.now) (G.bars guard.now) (P.place_of self.old.view.filter.table.now) (P.selects_at self.old.view.filter.table.now)) (form_of form.now) self.old self.new (λ p. map (P.name_at p.table.now) p.places.items) (T.state desk.old) (T.state desk.new) before (O.contents sink.old) (O.contents sink.new)) }
+        ensures err { IfErr result (λ stop. (before : Standing) → StandsAt self.old.view (λ p. map (P.name_at p.table.now) p.places.items) (T.state desk.old) before
+            → StopsAt (fixed (K.may_answer clock.now) (G.bars guard.now) (P.place_of self.old.view.filter.table.now) (P.selects_at self.old.view.filter.table.now)) (form_of form.now) self.old self.new (λ p. map (P.name_at p.table.now) p.places.items) (T.state desk.old) (T.state desk.new) before (O.contents sink.old) (O.contents sink.new) stop) }
+        ensures table { self.new.view.filter.table ≡ self.old.view.filter.table }
+        ensures places { OnOk result (length self.new.places.items ≡ length self.old.places.items + 1) }
+        ensures count { OnOk result (O.faults sink.new ≡ O.faults sink.old) }
+        ensures stop_count { IfErr result (λ stop. StopCount stop (O.faults sink.old) (O.faults sink.new)) }
+    {
+        self.make_room()?;
+        self.reply(rt, alloc, desk, clock, guard, form)?;
+        if write_line(sink, self.line.as_slice()).is_err() {
+            return Err(Stop::WriteFault);
+        }
+        let place = self.place();
+        if self.places.push(place).is_err() {
+            unreachable!();
+        }
+        Ok(())
+    }
+}

@@ -1,0 +1,89 @@
+//! What a session keeps between two commands.
+ghost use Rattle.std.specs.Prelude.{◌≡◌, ◌<◌, IfOk, OnOk, vec_len, vec_capacity, map};
+ghost use Rattle.fb_model.specs.History.{basis};
+ghost use Rattle.fb_session.specs.Sessions.{IsOpened};
+
+use crate::outcome::{Places, Served, SessionEnd};
+use fb_db::Db;
+use fb_desk::Desk;
+use fb_memory::Memory;
+use fb_preds::{FilterTable, Picks, Selector};
+use fb_view::Snapshot;
+use std::alloc::Global;
+
+/// A session with such a filter.
+#[derive(Drop)]
+pub(crate) struct Session<S> {
+    /// What its reads see. The snapshot is the last one that the desk was answered.
+    pub(crate) view: Db<S>,
+    /// For each line that was written whole, the t of the last entry that it rests on.
+    pub(crate) places: Vec<u32>,
+    /// The t of each transaction that was committed.
+    pub(crate) commits: Vec<u32>,
+    /// The line that is being built.
+    pub(crate) line: Vec<u8>,
+}
+
+impl<'p, P: FilterTable> Session<Picks<'p, P>> {
+    /// It has seen what the desk was answered last.
+    pub(crate) fn open<T: Desk>(
+        alloc: Global,
+        desk: &T,
+        preds: &'p P,
+    ) -> Result<Session<Picks<'p, P>>, Memory>
+        ensures opened { IfOk result (λ session. IsOpened session (λ p. map (P.name_at p.table.now) p.places.items) (T.state desk.now)) }
+        ensures table { IfOk result (λ session. session.view.filter.table.now ≡ preds.now) }
+    {
+        let snapshot = desk.snapshot().share()?;
+        // A snapshot that is asked tells that its history is lawful.
+        let _basis = snapshot.basis();
+        Ok(Session {
+            view: Db::of(snapshot, Picks::none(alloc, preds)),
+            places: Vec::new(alloc),
+            commits: Vec::new(alloc),
+            line: Vec::new(alloc),
+        })
+    }
+}
+
+impl<S: Selector> Session<S> {
+    /// Makes room for one more place and one more commit.
+    pub(crate) fn make_room(&mut self) -> Result<(), Memory>
+        ensures view { self.new.view ≡ self.old.view }
+        ensures places { self.new.places.items ≡ self.old.places.items }
+        ensures commits { self.new.commits.items ≡ self.old.commits.items }
+        ensures place { OnOk result (vec_len self.new.places < vec_capacity self.new.places) }
+        ensures commit { OnOk result (vec_len self.new.commits < vec_capacity self.new.commits) }
+    {
+        self.places.reserve(1)?;
+        self.commits.reserve(1)?;
+        Ok(())
+    }
+
+    /// Sees this from now on, through the same window and filters.
+    pub(crate) fn see(&mut self, snapshot: Snapshot)
+        ensures snapshot { self.new.view ≡ record self.old.view { snapshot = snapshot } }
+        ensures rest { self.new ≡ record self.old { view = self.new.view } }
+    {
+        self.view.snapshot = snapshot;
+    }
+
+    /// The t up to which it has seen the history.
+    pub(crate) fn place(&self) -> u32
+        ensures { result ≡ basis self.now.view.snapshot.entries }
+    {
+        self.view.snapshot.basis()
+    }
+
+    pub(crate) fn served(self, end: SessionEnd) -> Served
+        ensures end { result.end ≡ end }
+        ensures places { result.places ≡ self.places.items }
+        ensures commits { result.commits ≡ self.commits.items }
+    {
+        Served {
+            end,
+            places: Places::of(self.places),
+            commits: Places::of(self.commits),
+        }
+    }
+}

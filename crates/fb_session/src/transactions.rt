@@ -1,0 +1,85 @@
+//! A transaction: it is asked for at the desk, and its line says what became of it. What the desk answers is seen from then on,
+//! also where the transaction was not accepted.
+ghost use Rattle.std.specs.Prelude.{◌≡◌, ◌++◌, [], ◌∷◌, ◌<◌, OnOk, OnErr, vec_len, vec_capacity, codes};
+ghost use Rattle.edn_form.specs.View.{form_of};
+ghost use Rattle.fb_model.specs.History.{basis};
+ghost use Rattle.tx_refusals.specs.Reasons.{keyword_of};
+ghost use Rattle.talk_model.specs.Replies.{receipt as receipt_reply, refusal_reply, fault_reply, IsLineOf};
+ghost use Rattle.fb_replies.specs.Faults.{word_of};
+ghost use Rattle.fb_desk.specs.Desks.{GoesOn};
+ghost use Rattle.fb_session.specs.Sessions.{Transacts, Stalls};
+
+use crate::session::Session;
+use edn_form::Edn;
+use fb_desk::{Desk, Receipt, TxFault};
+use fb_memory::Memory;
+use fb_ports::Clock;
+use fb_preds::Selector;
+use fb_replies::{LogFault, write_fault, write_receipt, write_refusal};
+use fb_view::Snapshot;
+use std::sync::Wait;
+use std::thread::Threads;
+use tx_refusals::Refusal;
+use tx_step::Guard;
+
+impl<S: Selector> Session<S> {
+    /// Asks for the transaction and builds its line. Out of memory, it may have been accepted.
+    pub(crate) fn transact<R: Threads + Wait + Sync, T: Desk, K: Clock, G: Guard<Snapshot>>(
+        &mut self,
+        rt: &R,
+        desk: &mut T,
+        clock: &K,
+        guard: &G,
+        asked: &Edn,
+    ) -> Result<(), Memory>
+        requires left { 0 < (T.state desk.old).left }
+        requires room { vec_len self.old.commits < vec_capacity self.old.commits }
+        ensures goes_on { GoesOn (T.state desk.old) (T.state desk.new) }
+        ensures ok { OnOk result (Transacts (K.may_answer clock.now) (G.bars guard.now) (form_of asked.now) self.old self.new (T.state desk.old) (T.state desk.new)) }
+        ensures err { OnErr result (Stalls (K.may_answer clock.now) (G.bars guard.now) (form_of asked.now) self.old self.new (T.state desk.old) (T.state desk.new)) }
+        ensures places { self.new.places ≡ self.old.places }
+    {
+        match desk.transact(rt, clock, guard, asked) {
+            Ok(receipt) => self.accept(receipt),
+            Err(TxFault::Refused { refusal, snapshot }) => self.refuse(refusal, snapshot),
+            Err(TxFault::LogFault { at, snapshot }) => self.fail(LogFault::Failed, at, snapshot),
+            Err(TxFault::Stopped { at, snapshot }) => self.fail(LogFault::Stopped, at, snapshot),
+            Err(TxFault::Memory) => Err(Memory),
+        }
+    }
+
+    fn accept(&mut self, receipt: Receipt) -> Result<(), Memory>
+        requires room { vec_len self.old.commits < vec_capacity self.old.commits }
+        ensures view { self.new.view ≡ record self.old.view { snapshot = receipt.snapshot } }
+        ensures commits { self.new.commits.items ≡ self.old.commits.items ++ receipt.t ∷ [] }
+        ensures places { self.new.places ≡ self.old.places }
+        ensures line { OnOk result (IsLineOf (receipt_reply receipt.t receipt.tempids.items) self.new.line.items) }
+    {
+        self.see(receipt.snapshot);
+        if self.commits.push(receipt.t).is_err() {
+            unreachable!();
+        }
+        write_receipt(&mut self.line, receipt.t, receipt.tempids.as_slice())
+    }
+
+    fn refuse(&mut self, refusal: Refusal, snapshot: Snapshot) -> Result<(), Memory>
+        ensures view { self.new.view ≡ record self.old.view { snapshot = snapshot } }
+        ensures rest { self.new ≡ record self.old { view = self.new.view; line = self.new.line } }
+        ensures line { OnOk result (IsLineOf
+            (refusal_reply (keyword_of refusal.reason) refusal.at (basis snapshot.entries)) self.new.line.items) }
+    {
+        self.see(snapshot);
+        let basis = self.place();
+        write_refusal(&mut self.line, refusal.reason.keyword(), refusal.at, basis)
+    }
+
+    fn fail(&mut self, fault: LogFault, at: u32, snapshot: Snapshot) -> Result<(), Memory>
+        ensures view { self.new.view ≡ record self.old.view { snapshot = snapshot } }
+        ensures rest { self.new ≡ record self.old { view = self.new.view; line = self.new.line } }
+        ensures line { OnOk result (IsLineOf (fault_reply (word_of fault) at (basis snapshot.entries)) self.new.line.items) }
+    {
+        self.see(snapshot);
+        let basis = self.place();
+        write_fault(&mut self.line, fault, at, basis)
+    }
+}

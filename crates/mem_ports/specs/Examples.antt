@@ -1,0 +1,20 @@
+-- Worked examples of the objects in memory, each closed by computation.
+-- This project's own choice.
+use Rattle.std.specs.Prelude.{◌≡◌, [], ◌∷◌, ℕ, List, true, false, refl}
+use Rattle.fb_calls.specs.Calls.{no_calls}
+use Rattle.mem_ports.specs.InMemory.{Store, fails_write}
+
+-- a sink with room for two bytes
+abbrev pub small_sink : List ℕ → Store
+small_sink bytes = record { bytes = bytes; room = 2; calls = no_calls [] }
+
+-- it takes a part of a piece that does not fit, and fails where not one byte fits
+pub fails_write-partly_full : fails_write (small_sink (7 ∷ [])) 5 ≡ false
+fails_write-partly_full = refl
+
+pub fails_write-full : fails_write (small_sink (7 ∷ 8 ∷ [])) 1 ≡ true
+fails_write-full = refl
+
+-- nothing always fits
+pub fails_write-nothing : fails_write (small_sink (7 ∷ 8 ∷ [])) 0 ≡ false
+fails_write-nothing = refl

@@ -1,0 +1,2 @@
+pub mod AnyDiskLaws
+pub mod AnyDisks

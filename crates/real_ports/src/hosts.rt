@@ -1,0 +1,118 @@
+ghost use Rattle.std.specs.Prelude.{◌≡◌, None, IfOk, IfErr, IsTrue};
+ghost use Rattle.fb_ports.specs.Faults.{CountsOpening};
+ghost use Rattle.fb_ports.specs.Telling.{Alike};
+ghost use Rattle.real_ports.specs.AnyDisks.{faults_of, told_of, may_leave, moment_at, is_memory, held_in, may_leave_in, opened_in};
+
+use crate::{AnyDisk, FileSink, FileSource};
+use fb_calls::raise;
+use fb_ports::{Host, OpenFail, Part};
+use std::alloc::Global;
+use std::marker::Model;
+
+/// The file system, and the standard streams by the name `-`. A contract sees its count of faults.
+#[derive(Drop)]
+pub struct RealHost {
+    rt: HostRuntime,
+    faults: u64,
+}
+
+impl Model for RealHost {
+    ghost use Rattle.std.specs.Prelude.{ℕ};
+
+    ghost Value = { ℕ };
+
+    ghost view = { λ h. h.faults };
+}
+
+impl RealHost {
+    pub fn new(rt: HostRuntime) -> RealHost
+        ensures { result ≡ 0 }
+    {
+        RealHost { rt, faults: 0 }
+    }
+}
+
+impl Host for RealHost {
+    ghost use Rattle.real_ports.specs.AnyDisks.{held_in, may_leave_in};
+
+    type In = FileSource;
+
+    type Out = FileSink;
+
+    type Disk = AnyDisk;
+
+    ghost faults = { λ faults. faults };
+
+    ghost sources = { λ _ _. None };
+
+    ghost source_faults = { λ _ _. 0 };
+
+    ghost sinks = { λ _ _. None };
+
+    ghost sink_faults = { λ _ _. 0 };
+
+    ghost disks = { λ _. held_in };
+
+    ghost disk_faults = { λ _ _ _. 0 };
+
+    ghost disk_images = { λ _. may_leave_in };
+
+    ghost disk_moment = { λ _ _ _. 0 };
+
+    fn faults(&self) -> u64 {
+        self.faults
+    }
+
+    fn source(&mut self, _alloc: Global, name: &str) -> Result<FileSource, OpenFail>
+        ensures count { IfOk result (λ s. s ≡ 0) }
+        ensures counted { CountsOpening result self.old self.new }
+
+        // Opening takes no memory.
+        ensures fault { IfErr result (λ e. e ≡ OpenFail.Failed) }
+    {
+        match FileSource::open(&self.rt, name) {
+            Ok(source) => Ok(source),
+            Err(_) => {
+                raise(&mut self.faults);
+                Err(OpenFail::Failed)
+            }
+        }
+    }
+
+    fn sink(&mut self, _alloc: Global, name: &str) -> Result<FileSink, OpenFail>
+        ensures count { IfOk result (λ s. s ≡ 0) }
+        ensures counted { CountsOpening result self.old self.new }
+
+        // Opening takes no memory.
+        ensures fault { IfErr result (λ e. e ≡ OpenFail.Failed) }
+    {
+        match FileSink::create(&self.rt, name) {
+            Ok(sink) => Ok(sink),
+            Err(_) => {
+                raise(&mut self.faults);
+                Err(OpenFail::Failed)
+            }
+        }
+    }
+
+    fn disk(&mut self, alloc: Global, dir: &str, part: Part) -> Result<AnyDisk, OpenFail>
+        ensures bytes { IfOk result (λ d. told_of d ≡ held_in dir.now part) }
+        ensures count { IfOk result (λ d. faults_of d ≡ 0) }
+        ensures images { IfOk result (λ d. Alike (may_leave_in dir.now part) (may_leave d)) }
+        ensures moment { IfOk result (λ d. moment_at d ≡ 0) }
+        ensures counted { CountsOpening result self.old self.new }
+
+        ensures opened { IfOk result (λ d. d ≡ opened_in dir.now) }
+
+        // In memory only memory can be wanting.
+        ensures in_memory { IsTrue (is_memory dir.now) → IfErr result (λ e. e ≡ OpenFail.Memory) }
+    {
+        match AnyDisk::open(&self.rt, alloc, dir, part) {
+            Err(OpenFail::Failed) => {
+                raise(&mut self.faults);
+                Err(OpenFail::Failed)
+            }
+            other => other,
+        }
+    }
+}

@@ -1,0 +1,16 @@
+//! The ports of the system that the program runs on. Nothing is claimed of the bytes that they give and take: this is
+//! the edge where the operating system is trusted.
+#![tactic(auto)]
+
+mod clocks;
+mod disks;
+mod files;
+mod hosts;
+
+pub use clocks::SystemClock;
+pub use disks::AnyDisk;
+pub use files::{FileSink, FileSource};
+pub use hosts::RealHost;
+
+#[cfg(test)]
+mod tests;
