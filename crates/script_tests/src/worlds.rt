@@ -48,15 +48,15 @@ pub(crate) fn drawn_world(alloc: Global, dice: &mut Dice) -> Result<World> {
 impl World {
     /// With a cardinality, a uniqueness and an index as they fall.
     fn install(&mut self, dice: &mut Dice, field: Field) -> Result<()> {
-        let Field { name, kind, values } = field;
-        let cardinality = dice.pick(&CARDINALITIES);
-        write!(
-            self.commands,
-            "{{:db/ident {name} :db/valueType {kind} :db/cardinality {cardinality}"
-        )?;
-        if !values.is_empty() {
+        self.commands.push_str("{:db/ident ")?;
+        self.commands.push_str(field.name)?;
+        self.commands.push_str(" :db/valueType ")?;
+        self.commands.push_str(field.kind)?;
+        self.commands.push_str(" :db/cardinality ")?;
+        self.commands.push_str(dice.pick(&CARDINALITIES))?;
+        if !field.values.is_empty() {
             self.commands.push_str(dice.pick(&UNIQUENESSES))?;
-        } else if name == ":h/part" {
+        } else if field.name == ":h/part" {
             self.commands.push_str(" :db/isComponent true")?;
         }
         if dice.once_in(3) {
