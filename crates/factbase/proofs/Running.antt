@@ -49,7 +49,7 @@ module _ {I O D : Type 0} (terms : Fixed) (told : Told) (tells : Tells I O) (hel
       → RepliesAlone terms held had tells outcome h → EachReplies terms told tells (Some (run name)) outcome h
   replies_over h is_source is_sink whole replies =
       let P : ℕ → List ℕ → SessionOut I O → Type 0 = λ n script s. Replies (setting_of terms h (stop_of outcome) (nat_eq n 1)) outcome.recovered
-          (told.sources script) (tells.left s.source) (told.sinks (sink_of script)) (tells.contents s.sink) s.places s.commits s.end in
+      (told.sources script) (tells.left s.source) (told.sinks (sink_of script)) (tells.contents s.sink) s.places s.commits s.end in
       let Q : List (SessionOut I O) → Type 0 = λ ss. EachOf P 0 (name ∷ []) ss in
       let one : P 0 name replies.0 = rw (no_stop whole, ← is_source, ← is_sink) replies.2 in
       (1, subst Q (sym replies.1) (one, tt))

@@ -3,9 +3,9 @@ ghost use Rattle.std.specs.Prelude.{◌≡◌, ◌++◌, IfOk, IsOk, string_byte
 ghost use Rattle.edn_core.specs.Answers.{fault_of};
 ghost use Rattle.factbase.specs.StatusLines.{usage, cannot_open, out_of_memory, script_line, fault_line, status_of, line_of};
 
-use fb_session::SessionEnd;
 use edn_core::EdnFault;
 use fb_ports::Memory;
+use fb_session::SessionEnd;
 use std::alloc::Global;
 
 const USAGE: &str =

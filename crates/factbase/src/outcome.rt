@@ -1,9 +1,9 @@
 //! What a run hands back.
 use fb_core::Draft;
 use fb_history::Authors;
-use mem_ports::{MemSink, MemSource};
 use fb_session::{Places, SessionEnd};
 use fb_view::Snapshot;
+use mem_ports::{MemSink, MemSource};
 
 /// What is left of a session.
 #[derive(Drop)]

@@ -1,11 +1,11 @@
 //! The top call: from the words of a command line, over a host and a clock, to an outcome.
-ghost use Rattle.std.specs.Prelude.{◌≡◌, ◌<◌, ◌⊎◌, [], ◌∷◌, map, string_bytes, vec_capacity, IfSome, IfOk, OnErr};
+ghost use Rattle.std.specs.Prelude.{◌≡◌, ◌<◌, ◌⊎◌, [], ◌∷◌, map, string_bytes, vec_capacity, is_some, IfSome, IfOk, OnErr};
 ghost use Rattle.std.specs.Option.{unwrap_or};
 ghost use Rattle.std.specs.List.{AllByRecursion};
 ghost use Rattle.fb_model.specs.History.{basis};
 ghost use Rattle.fb_model.specs.FirstEntry.{first_entry};
 ghost use Rattle.fb_ports.specs.Faults.{CountsOpening};
-ghost use Rattle.fb_preds.specs.Table.{is_filter};
+ghost use Rattle.fb_preds.specs.Naming.{selected_by};
 ghost use Rattle.script_model.specs.Words.{command_of, sink_of};
 ghost use Rattle.talk_model.specs.Prefixes.{Prefixes};
 ghost use Rattle.factbase.specs.Headline.{OneHistory, EachReplies, RepliesAlone};
@@ -18,7 +18,7 @@ use crate::words::{script_in, sink_name};
 use core_desk::CoreDesk;
 use fb_core::{Core, CoreParts, Guard};
 use fb_ports::{Clock, Host, Memory, OpenFail, Sink, Source};
-use fb_preds::{PredTable, SelectsByName};
+use fb_preds::FilterTable;
 use fb_session::{SessionEnd, serve_desk};
 use fb_view::Snapshot;
 use std::alloc::Global;
@@ -26,13 +26,13 @@ use std::sync::Wait;
 use std::thread::Threads;
 
 /// Runs the command that the words behind the program's name are.
-pub fn run<R: Threads + Wait + Sync, H: Host, K: Clock, G: Guard<Snapshot>>(
+pub fn run<R: Threads + Wait + Sync, H: Host, K: Clock, G: Guard<Snapshot>, P: FilterTable>(
     rt: &R,
     alloc: Global,
     words: &Vec<String>,
     host: &mut H,
     clock: &K,
-    preds: &PredTable,
+    preds: &P,
     guard: &G,
 ) -> Outcome<H::In, H::Out, H::Disk>
     // The accepted transactions form one lawful history, in which each has one author.
@@ -40,7 +40,7 @@ pub fn run<R: Threads + Wait + Sync, H: Host, K: Clock, G: Guard<Snapshot>>(
 
     // Each line answers its form as a database with one thread would at its place in the history.
     ensures replies { IfSome result.last (λ last. EachReplies
-        (record { may = K.may_answer clock.now; guard = G.bars guard.now; is_filter = is_filter preds.now.filters.items; Selects = ⟦<PredTable as SelectsByName>⟧.selects_by preds.now })
+        (record { may = K.may_answer clock.now; guard = G.bars guard.now; is_filter = λ name. is_some (P.place_of preds.now name); Selects = selected_by (P.place_of preds.now) (P.selects_at preds.now) })
         (record { sources = H.sources host.old; source_faults = H.source_faults host.old; sinks = H.sinks host.old; sink_faults = H.sink_faults host.old; faults = H.faults host.old })
         (record { left = H.In.left; source_faults = H.In.faults; contents = H.Out.contents; sink_faults = H.Out.faults })
         (command_of (map string_bytes words.now.items)) result last.entries) }
@@ -56,7 +56,7 @@ pub fn run<R: Threads + Wait + Sync, H: Host, K: Clock, G: Guard<Snapshot>>(
 
     // A script that is forms within the limits is answered whole where no count of faults rises, unless memory is refused.
     ensures complete { Complete
-        (record { may = K.may_answer clock.now; guard = G.bars guard.now; is_filter = is_filter preds.now.filters.items; Selects = ⟦<PredTable as SelectsByName>⟧.selects_by preds.now })
+        (record { may = K.may_answer clock.now; guard = G.bars guard.now; is_filter = λ name. is_some (P.place_of preds.now name); Selects = selected_by (P.place_of preds.now) (P.selects_at preds.now) })
         (record { sources = H.sources host.old; source_faults = H.source_faults host.old; sinks = H.sinks host.old; sink_faults = H.sink_faults host.old; faults = H.faults host.old })
         (record { left = H.In.left; source_faults = H.In.faults; contents = H.Out.contents; sink_faults = H.Out.faults })
         (H.faults host.new) (command_of (map string_bytes words.now.items)) result }
@@ -95,6 +95,7 @@ fn open<'a, H: Host>(
 }
 
 /// A script that was opened.
+#[derive(Drop)]
 struct Opened<'a, I, O> {
     name: &'a str,
     source: I,
@@ -102,17 +103,25 @@ struct Opened<'a, I, O> {
 }
 
 /// Runs the session of a script over a new history.
-fn run_session<R: Threads + Wait + Sync, I: Source, O: Sink, D: Drop, K: Clock, G: Guard<Snapshot>>(
+fn run_session<
+    R: Threads + Wait + Sync,
+    I: Source,
+    O: Sink,
+    D: Drop,
+    K: Clock,
+    G: Guard<Snapshot>,
+    P: FilterTable,
+>(
     rt: &R,
     alloc: Global,
     script: Opened<'_, I, O>,
     clock: &K,
-    preds: &PredTable,
+    preds: &P,
     guard: &G,
 ) -> Outcome<I, O, D>
     ensures one_history { IfSome result.last (λ last. OneHistory last.entries result.recovered (unwrap_or result.authors []) (map (λ s. s.commits) result.sessions.items)) }
     ensures replies { IfSome result.last (λ last. RepliesAlone
-        (record { may = K.may_answer clock.now; guard = G.bars guard.now; is_filter = is_filter preds.now.filters.items; Selects = ⟦<PredTable as SelectsByName>⟧.selects_by preds.now })
+        (record { may = K.may_answer clock.now; guard = G.bars guard.now; is_filter = λ name. is_some (P.place_of preds.now name); Selects = selected_by (P.place_of preds.now) (P.selects_at preds.now) })
         (I.left script.source) (O.contents script.sink) (record { left = I.left; source_faults = I.faults; contents = O.contents; sink_faults = O.faults }) result last.entries) }
     ensures prefixes { IfSome result.last (λ last. AllByRecursion (λ s. Prefixes result.recovered (basis last.entries) s.places s.commits) result.sessions.items) }
     ensures causes { HasBegun (record { left = I.left; source_faults = I.faults; contents = O.contents; sink_faults = O.faults }) (I.faults script.source) (O.faults script.sink) script.name.now result }
@@ -128,7 +137,16 @@ fn run_session<R: Threads + Wait + Sync, I: Source, O: Sink, D: Drop, K: Clock, 
         mut sink,
     } = script;
     let mut desk = CoreDesk::new(alloc, core);
-    let served = serve_desk(rt, alloc, &mut source, &mut sink, &mut desk, clock, guard, preds);
+    let served = serve_desk(
+        rt,
+        alloc,
+        &mut source,
+        &mut sink,
+        &mut desk,
+        clock,
+        guard,
+        preds,
+    );
     let (status, line) = said(alloc, name, &served.end);
     let CoreParts { snapshot, authors } = desk.close().into_parts();
     let session = SessionOut {

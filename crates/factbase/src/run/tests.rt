@@ -1,8 +1,8 @@
 //! Runs over sources and sinks in memory, under a clock that stands still.
 use super::*;
 use fb_core::NoGuard;
-use fb_preds::shipped;
 use fb_ports::MemDisk;
+use fb_preds::shipped;
 use mem_ports::{FixedClock, MemHost, MemSink, MemSource};
 use std::test::Fail;
 
@@ -165,7 +165,8 @@ fn hands_back_the_history_and_its_trees(rt: HostRuntime) -> Result<(), Fail> {
         [:transact [[:db/add \"y\" :db/doc \"ho\"]]]";
     let outcome = run_script(rt, script)?;
     let session = outcome.sessions.as_slice().first().ok_or("no session")?;
-    let lines = "{:t 1 :tempids {\"x\" 17592186044417}}\n{:ok true :basis 1}\n{:t 2 :tempids {\"y\" 17592186044418}}\n";
+    let lines =
+        "{:t 1 :tempids {\"x\" 17592186044417}}\n{:ok true :basis 1}\n{:t 2 :tempids {\"y\" 17592186044418}}\n";
     assert_eq!(rt; session.sink.bytes(), lines.as_bytes());
     assert_eq!(rt; session.places.as_slice(), [1, 1, 2].as_slice());
     assert_eq!(rt; session.commits.as_slice(), [1, 2].as_slice());
@@ -191,8 +192,7 @@ fn says_that_the_source_or_the_sink_failed(rt: HostRuntime) -> Result<(), Fail> 
     };
     let preds = shipped(alloc)?;
     let clock = FixedClock::new(NEW_YEAR);
-    let outcome: Outcome<_, _, MemDisk> =
-        run_session(&rt, alloc, opened, &clock, &preds, &NoGuard);
+    let outcome: Outcome<_, _, MemDisk> = run_session(&rt, alloc, opened, &clock, &preds, &NoGuard);
     assert_eq!(rt; outcome.status, 6);
     assert_eq!(rt; outcome.line.as_str(), "factbase: script -: write fault");
     let session = outcome.sessions.as_slice().first().ok_or("no session")?;
