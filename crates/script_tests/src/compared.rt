@@ -16,15 +16,19 @@ pub(crate) fn are_same<W: Write>(
     show(out, name.as_bytes(), script)?;
     let mut others = lines.split_inclusive(|byte| *byte == b'\n');
     for line in wanted.split_inclusive(|byte| *byte == b'\n') {
-        let other = others.next().unwrap_or(b"no line\n");
+        let Some(other) = others.next() else {
+            show(out, b"a line is missing", line)?;
+            return Ok(false);
+        };
         if line != other {
             show(out, b"there is", other)?;
             show(out, b"and should be", line)?;
             return Ok(false);
         }
     }
-    let line = others.next().unwrap_or(b"");
-    show(out, b"there is one line more", line)?;
+    if let Some(other) = others.next() {
+        show(out, b"there is one line more", other)?;
+    }
     Ok(false)
 }
 
