@@ -18,9 +18,14 @@ use std::fs;
 /// Compiles only where a value of the type may be sent to another thread and shared with it.
 fn crosses_threads<T: Send + Sync>(_value: &T) {}
 
+fn snapshots_cross_threads(alloc: Global) -> Result<()> {
+    crosses_threads(&Snapshot::first(alloc)?);
+    Ok(())
+}
+
 fn main(rt: HostRuntime) -> Result<()> {
     let alloc = rt.alloc();
-    crosses_threads::<Snapshot>(&Snapshot::first(alloc)?);
+    snapshots_cross_threads(alloc)?;
     let text = fs::read_to_string(&rt, "rows.txt")?;
     let rows = rows_of(alloc, text.as_str())?;
     let wanted = plain::indexes_after(alloc, &rows)?;

@@ -1,4 +1,4 @@
 pub mod Orders
 pub mod Scanned
-pub mod Standing
+pub mod Naming
 pub mod Answered

@@ -36,14 +36,14 @@ refuses {X} basis IsReplyTo answer r line is says = subst (λ (answer : Result X
 -- what holds of each holds of some of them
 pub all_kept : {X : Type 0} (p q : X → Bool) (xs : List X) → list_all p xs ≡ true → list_all p (filter q xs) ≡ true
 all_kept p q [] every = refl
-all_kept {X} p q (x ∷ xs) every = by_test (q x)
+all_kept {X} p q (x ∷ xs) every = by_test (q x) (all_kept p q xs parts.1)
   where
     parts : (p x ≡ true) × (list_all p xs ≡ true)
     parts = and_parts (p x) (list_all p xs) every
 
-    by_test : (b : Bool) → list_all p (cond b (x ∷ filter q xs) (filter q xs)) ≡ true
-    by_test true = and_from _ _ parts.0 (all_kept p q xs parts.1)
-    by_test false = all_kept p q xs parts.1
+    by_test : (b : Bool) → list_all p (filter q xs) ≡ true → list_all p (cond b (x ∷ filter q xs) (filter q xs)) ≡ true
+    by_test true rest = and_from _ _ parts.0 rest
+    by_test false rest = rest
 
 -- ---- scans
 

@@ -1,4 +1,4 @@
-use Rattle.std.proofs.Common.{ℕ, sym, subst}
+use Rattle.std.proofs.Common.{◌≡◌, ℕ, Err, sym, subst}
 use Rattle.std.specs.Prelude.{OnOk}
 use Rattle.std.proofs.lemmas.Result.{on_ok_weaker}
 use Rattle.edn_form.specs.View.{form_of}
@@ -20,6 +20,6 @@ pub returns-in-Err-clause-line : goal.returns-in-Err-clause-line
 returns-in-Err-clause-line g c =
     let h = c.args.view.now.snapshot.entries in
     let line = c.refuse.new.line.items in
-    on_ok_weaker c.refuse.result
-    (refuses (basis h) (IsDone (basis h)) (point_in h (form_of c.args.form.now)) c.in-Err.refusal line (sym c.in-Err.ensures))
+    let is : point_in h (form_of c.args.form.now) ≡ Err c.in-Err.refusal = sym c.in-Err.ensures in
+    on_ok_weaker c.refuse.result (refuses (basis h) (IsDone (basis h)) (point_in h (form_of c.args.form.now)) c.in-Err.refusal line is)
     (subst (λ (n : ℕ). OnOk c.refuse.result (IsLineOf (refused n c.in-Err.refusal) line)) c.basis-basis.ensures.basis c.refuse.ensures)
