@@ -1,8 +1,8 @@
 //! Transactions that are drawn from a seed.
-use crate::generator::{self, Dice};
 use crate::guard::NoEmptyText;
 use crate::run::Run;
 use anyhow::Result;
+use drawn_data::{Dice, PEOPLE, SCHEMA};
 use std::alloc::Global;
 use std::collections::BTreeMap;
 
@@ -48,11 +48,11 @@ fn decide_round(
     tally: &mut Tally,
 ) -> Result<()> {
     let mut run = Run::new(alloc)?;
-    for data in [generator::SCHEMA, generator::PEOPLE] {
+    for data in [SCHEMA, PEOPLE] {
         run.reply_to(alloc, data.as_bytes(), guard)?;
     }
     for _ in 0..ROUND {
-        let data = generator::data(alloc, dice)?;
+        let data = drawn_data::data(alloc, dice)?;
         let reply = run.reply_to(alloc, data.as_bytes(), guard)?;
         tally.count(alloc, &reply)?;
     }

@@ -1,7 +1,6 @@
 //! The engine over a snapshot.
+use crate::CLOCK;
 use crate::guard::NoEmptyText;
-use crate::reply;
-use crate::session::CLOCK;
 use anyhow::{Result, bail};
 use edn_form::Edn;
 use fb_values::{Datom, Entry};
@@ -21,11 +20,12 @@ pub(crate) fn transact(
     an_accepted_entry_is_lawful();
     match decide(alloc, data, snapshot, snapshot.schema(), CLOCK, guard) {
         Ok(accepted) => {
-            let reply = reply::accepted(alloc, accepted.entry.t, accepted.tempids)?;
+            let reply = session_plain::receipt(alloc, accepted.entry.t, accepted.tempids)?;
             Ok((snapshot.with_entry(accepted.entry)?, reply))
         }
         Err(TxStop::Refused(refusal)) => {
-            let reply = reply::refused(alloc, refusal, snapshot.basis())?;
+            let keyword = refusal.reason.keyword();
+            let reply = session_plain::refusal(alloc, keyword, refusal.at, snapshot.basis())?;
             Ok((snapshot.share()?, reply))
         }
         Err(TxStop::Memory) => bail!("out of memory"),

@@ -4,11 +4,8 @@
 
 mod drawn;
 mod engine;
-mod generator;
 mod guard;
-mod reply;
 mod run;
-mod session;
 mod spelling;
 
 use anyhow::{Result, bail};
@@ -17,6 +14,9 @@ use run::Run;
 use std::alloc::Global;
 use std::fs;
 use std::io::{self, Write};
+
+/// The first of January 2024.
+pub(crate) const CLOCK: i64 = 1_704_067_200_000;
 
 /// How many histories are drawn, and from which seed.
 const HISTORIES: u32 = 100;

@@ -1,7 +1,7 @@
 //! One history twice: by the plain program as a list of entries, and by the engine as a snapshot. Each transaction is decided by
 //! both, which have to agree in the reply and in what is recorded.
 use crate::guard::NoEmptyText;
-use crate::{engine, session};
+use crate::{CLOCK, engine};
 use anyhow::{Result, bail};
 use edn_core::read_form;
 use edn_print::print;
@@ -32,7 +32,7 @@ impl Model for Run {
 impl Run {
     /// The history that has only the built-in schema.
     pub(crate) fn new(alloc: Global) -> Result<Run> {
-        let entries = session::new_history(alloc)?;
+        let entries = session_plain::new_history(alloc)?;
         let snapshot = Snapshot::first(alloc)?;
         Ok(Run { entries, snapshot })
     }
@@ -48,7 +48,7 @@ impl Run {
             bail!("a row has no form");
         };
         let (snapshot, told) = engine::transact(alloc, &self.snapshot, &data, guard)?;
-        let wanted = session::transact(alloc, &mut self.entries, &data, guard)?;
+        let wanted = session_plain::transact(alloc, &mut self.entries, &data, CLOCK, guard)?;
         self.snapshot = snapshot;
         let mut text = Vec::new(alloc);
         print(&wanted, &mut text)?;

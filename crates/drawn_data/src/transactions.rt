@@ -1,11 +1,10 @@
 //! Small transactions, drawn from a seed: most of them sensible, some with a fault, so that each rule on forms is met.
-ghost use Rattle.std.specs.Prelude.{◌<◌, length};
-
+use crate::dice::Dice;
 use anyhow::Result;
 use std::alloc::Global;
 
 /// Attributes of each kind. Their entities are 17592186044417 to 17592186044424.
-pub(crate) const SCHEMA: &str = "[
+pub const SCHEMA: &str = "[
     {:db/ident :g/one :db/valueType :db.type/long :db/cardinality :db.cardinality/one}
     {:db/ident :g/many :db/valueType :db.type/long :db/cardinality :db.cardinality/many}
     {:db/ident :g/id :db/valueType :db.type/string :db/cardinality :db.cardinality/one :db/unique :db.unique/identity}
@@ -16,7 +15,7 @@ pub(crate) const SCHEMA: &str = "[
     {:db/ident :g/part :db/valueType :db.type/ref :db/cardinality :db.cardinality/many :db/isComponent true}]";
 
 /// Entities 17592186044425 to 17592186044429.
-pub(crate) const PEOPLE: &str = "[
+pub const PEOPLE: &str = "[
     {:db/id \"a\" :g/one 1 :g/id \"k1\"}
     {:db/id \"b\" :g/one 2 :g/key 1 :g/part \"c\"}
     {:db/id \"c\" :g/many [1 2] :g/ref [\"a\" \"b\"]}
@@ -55,45 +54,8 @@ const CHANGES_OF_SCHEMA: [&str; 10] = [
     "[:db/add \"n\" :db/ident :db/mine]",
 ];
 
-/// A sequence of numbers that a seed determines.
-#[derive(Drop)]
-pub(crate) struct Dice {
-    state: u64,
-}
-
-impl Dice {
-    pub(crate) fn new(seed: u64) -> Dice {
-        Dice { state: seed }
-    }
-
-    /// A number below so many. The constants are those of Knuth's MMIX.
-    fn roll(&mut self, sides: u64) -> u64
-        requires { 0 < sides }
-        ensures { result < sides }
-    {
-        self.state = self
-            .state
-            .wrapping_mul(6_364_136_223_846_793_005)
-            .wrapping_add(1_442_695_040_888_963_407);
-        (self.state >> 33) % sides
-    }
-
-    /// Once in so many times.
-    fn once_in(&mut self, sides: u64) -> bool
-        requires { 0 < sides }
-    {
-        self.roll(sides) == 0
-    }
-
-    fn pick<'a>(&mut self, words: &[&'a str]) -> &'a str
-        requires { 0 < length words.now }
-    {
-        words[self.roll(words.len() as u64) as usize]
-    }
-}
-
 /// The data of a transaction of one to three forms.
-pub(crate) fn data(alloc: Global, dice: &mut Dice) -> Result<String> {
+pub fn data(alloc: Global, dice: &mut Dice) -> Result<String> {
     let mut out = String::new(alloc);
     out.push('[')?;
     let forms = 1 + dice.roll(3);
