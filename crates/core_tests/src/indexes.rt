@@ -2,7 +2,7 @@
 use anyhow::Result;
 use fb_db::Db;
 use fb_plain::{Range, Window, scan};
-use fb_preds::Picks;
+use fb_preds::{Picks, PredTable};
 use fb_scan::{Bounds, index_range, seek};
 use fb_values::{Datom, Datoms, Entry, Order, Probe, Value};
 use fb_view::Snapshot;
@@ -35,7 +35,9 @@ impl Indexes {
 
     /// Whether the snapshot has the same.
     pub(crate) fn are_those_of(&self, alloc: Global, snapshot: &Snapshot) -> Result<bool> {
-        let all = Db::of(snapshot.share()?, Picks::none(alloc)).with_history();
+        let filters = PredTable::new(alloc);
+        let mut all = Db::of(snapshot.share()?, Picks::none(alloc, &filters));
+        all.with_history();
         for (order, list) in ORDERS.iter().zip(self.lists.iter()) {
             let own = seek(alloc, &all, &from_the_first(*order))?;
             if !are_same(own.as_slice(), list) {
@@ -48,7 +50,8 @@ impl Indexes {
 }
 
 fn aged_five(alloc: Global, snapshot: &Snapshot) -> Result<Datoms> {
-    let now = Db::of(snapshot.share()?, Picks::none(alloc));
+    let filters = PredTable::new(alloc);
+    let now = Db::of(snapshot.share()?, Picks::none(alloc, &filters));
     let bounds = Bounds {
         start: Some(Value::Long(5)),
         end: Some(Value::Long(6)),
