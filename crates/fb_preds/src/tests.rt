@@ -103,7 +103,7 @@ fn a_type_of_a_caller_is_stored(rt: HostRuntime) -> Result<(), Fail> {
     Ok(())
 }
 
-fn pick(picks: &mut Picks<'_, PredTable>, alloc: Global, name: &str) -> Result<(), Memory> {
+fn pick<T: FilterTable>(picks: &mut Picks<'_, T>, alloc: Global, name: &str) -> Result<(), Memory> {
     let name = Text::of(alloc, name)?;
     match picks.table.place(&name) {
         Some(place) => picks.add(place),
