@@ -1,7 +1,7 @@
 //! Runs over sources and sinks in memory, under a clock that stands still.
 use super::*;
 use fb_core::NoGuard;
-use fb_ports::MemDisk;
+use fb_disk::MemDisk;
 use fb_preds::shipped;
 use mem_ports::{FixedClock, MemHost, MemSink, MemSource};
 use std::test::Fail;
@@ -107,19 +107,19 @@ fn source(alloc: Global, script: &[u8]) -> Result<MemSource, Fail> {
 }
 
 /// What is handed back over a host that has the script as standard input.
-fn run_over(
-    rt: HostRuntime,
+fn run_over<R: Threads + Wait + Sync>(
+    rt: &R,
+    alloc: Global,
     words: &[&str],
     host: &mut MemHost,
 ) -> Result<Outcome<MemSource, MemSink, MemDisk>, Fail> {
-    let alloc = rt.alloc();
     let mut owned = Vec::new(alloc);
     for word in words {
         owned.push(String::from_str(alloc, word)?)?;
     }
     let preds = shipped(alloc)?;
     let clock = FixedClock::new(NEW_YEAR);
-    Ok(run(&rt, alloc, &owned, host, &clock, &preds, &NoGuard))
+    Ok(run(rt, alloc, &owned, host, &clock, &preds, &NoGuard))
 }
 
 fn host_of(alloc: Global, source: MemSource) -> Result<MemHost, Fail> {
@@ -129,18 +129,19 @@ fn host_of(alloc: Global, source: MemSource) -> Result<MemHost, Fail> {
 }
 
 /// A run of the script from standard input.
-fn run_script(
-    rt: HostRuntime,
+fn run_script<R: Threads + Wait + Sync>(
+    rt: &R,
+    alloc: Global,
     script: &[u8],
 ) -> Result<Outcome<MemSource, MemSink, MemDisk>, Fail> {
-    let mut host = host_of(rt.alloc(), source(rt.alloc(), script)?)?;
-    run_over(rt, &["run", ":memory:", "-"], &mut host)
+    let mut host = host_of(alloc, source(alloc, script)?)?;
+    run_over(rt, alloc, &["run", ":memory:", "-"], &mut host)
 }
 
 #[test]
 fn answers_each_script_to_its_end_or_its_fault(rt: HostRuntime) -> Result<(), Fail> {
     for (script, status, line, written) in SCRIPTS {
-        let outcome = run_script(rt, script)?;
+        let outcome = run_script(&rt, rt.alloc(), script)?;
         assert_eq!(rt; outcome.status, status);
         assert_eq!(rt; outcome.line.as_str(), line);
         let session = outcome.sessions.as_slice().first().ok_or("no session")?;
@@ -152,7 +153,7 @@ fn answers_each_script_to_its_end_or_its_fault(rt: HostRuntime) -> Result<(), Fa
 #[test]
 fn says_what_is_wrong_with_the_words(rt: HostRuntime) -> Result<(), Fail> {
     for (words, status, line) in WORDS {
-        let outcome = run_over(rt, words, &mut MemHost::new(rt.alloc()))?;
+        let outcome = run_over(&rt, rt.alloc(), words, &mut MemHost::new(rt.alloc()))?;
         assert_eq!(rt; outcome.status, status);
         assert_eq!(rt; outcome.line.as_str(), line);
     }
@@ -163,7 +164,7 @@ fn says_what_is_wrong_with_the_words(rt: HostRuntime) -> Result<(), Fail> {
 fn hands_back_the_history_and_its_trees(rt: HostRuntime) -> Result<(), Fail> {
     let script = b"[:transact [[:db/add \"x\" :db/doc \"hi\"]]] [:request-index]
         [:transact [[:db/add \"y\" :db/doc \"ho\"]]]";
-    let outcome = run_script(rt, script)?;
+    let outcome = run_script(&rt, rt.alloc(), script)?;
     let session = outcome.sessions.as_slice().first().ok_or("no session")?;
     let lines =
         "{:t 1 :tempids {\"x\" 17592186044417}}\n{:ok true :basis 1}\n{:t 2 :tempids {\"y\" 17592186044418}}\n";
@@ -182,7 +183,12 @@ fn hands_back_the_history_and_its_trees(rt: HostRuntime) -> Result<(), Fail> {
 fn says_that_the_source_or_the_sink_failed(rt: HostRuntime) -> Result<(), Fail> {
     let alloc = rt.alloc();
     let failing = MemSource::new(Vec::from_slice(alloc, b"[:db]")?, vec![in alloc; 1]?);
-    let outcome = run_over(rt, &["run", ":memory:", "-"], &mut host_of(alloc, failing)?)?;
+    let outcome = run_over(
+        &rt,
+        alloc,
+        &["run", ":memory:", "-"],
+        &mut host_of(alloc, failing)?,
+    )?;
     assert_eq!(rt; outcome.status, 6);
     assert_eq!(rt; outcome.line.as_str(), "factbase: script -: read fault");
     let opened = Opened {
