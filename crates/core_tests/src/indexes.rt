@@ -2,7 +2,7 @@
 use anyhow::Result;
 use fb_db::Db;
 use fb_plain::{Range, Window, scan};
-use fb_preds::{Picks, PredTable};
+use fb_preds::Selector;
 use fb_scan::{Bounds, index_range, seek};
 use fb_values::{Datom, Datoms, Entry, Order, Probe, Value};
 use fb_view::Snapshot;
@@ -35,8 +35,7 @@ impl Indexes {
 
     /// Whether the snapshot has the same.
     pub(crate) fn are_those_of(&self, alloc: Global, snapshot: &Snapshot) -> Result<bool> {
-        let filters = PredTable::new(alloc);
-        let mut all = Db::of(snapshot.share()?, Picks::none(alloc, &filters));
+        let mut all = Db::of(snapshot.share()?, Everything);
         all.with_history();
         for (order, list) in ORDERS.iter().zip(self.lists.iter()) {
             let own = seek(alloc, &all, &from_the_first(*order))?;
@@ -49,9 +48,22 @@ impl Indexes {
     }
 }
 
+/// The filter that selects every datom.
+#[derive(Drop)]
+struct Everything;
+
+impl Selector for Everything {
+    ghost use Rattle.std.specs.Prelude.{⊤};
+
+    ghost selects = { λ _ d. ⊤ };
+
+    fn test(&self, _d: &Datom) -> bool {
+        true
+    }
+}
+
 fn aged_five(alloc: Global, snapshot: &Snapshot) -> Result<Datoms> {
-    let filters = PredTable::new(alloc);
-    let now = Db::of(snapshot.share()?, Picks::none(alloc, &filters));
+    let now = Db::of(snapshot.share()?, Everything);
     let bounds = Bounds {
         start: Some(Value::Long(5)),
         end: Some(Value::Long(6)),
