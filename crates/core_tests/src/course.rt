@@ -1,0 +1,62 @@
+//! One way through the table.
+use crate::indexes::Indexes;
+use crate::rows::Row;
+use crate::run::{Run, reopened};
+use anyhow::{Result, bail};
+use fb_view::Snapshot;
+use std::alloc::Global;
+use std::thread::Threads;
+
+/// How many transactions come before a merge begins, and how many before its trees are adopted.
+#[derive(Clone, Copy)]
+pub(crate) struct Course {
+    pub(crate) begin: usize,
+    pub(crate) adopt: usize,
+}
+
+impl Course {
+    /// Drives a core through all transactions. The list has the indexes that are wanted after so many of them.
+    pub(crate) fn follow<R: Threads + Sync>(
+        self,
+        rt: &R,
+        alloc: Global,
+        rows: &[Row],
+        wanted: &[Indexes],
+    ) -> Result<()> {
+        let mut run = Run::new(alloc)?;
+        for (place, indexes) in wanted.iter().enumerate() {
+            if place == self.begin {
+                run = run.begin_merge()?;
+            }
+            if place == self.adopt {
+                run.end_merge(rt, alloc)?;
+                check(alloc, run.core().snapshot(), indexes)?;
+            }
+            if let Some(row) = rows.get(place) {
+                run.transact(row)?;
+            }
+        }
+        match wanted.last() {
+            Some(indexes) => end(rt, alloc, run, indexes),
+            None => Ok(()),
+        }
+    }
+}
+
+/// The database is opened anew over the trees that it has. Then it merges a last time.
+fn end<R: Threads + Sync>(rt: &R, alloc: Global, run: Run, wanted: &Indexes) -> Result<()> {
+    let snapshot = run.core().snapshot();
+    check(alloc, snapshot, wanted)?;
+    let core = reopened(alloc, snapshot)?;
+    check(alloc, core.snapshot(), wanted)?;
+    let mut run = run.begin_merge()?;
+    run.end_merge(rt, alloc)?;
+    check(alloc, run.core().snapshot(), wanted)
+}
+
+fn check(alloc: Global, snapshot: &Snapshot, wanted: &Indexes) -> Result<()> {
+    if !wanted.are_those_of(alloc, snapshot)? {
+        bail!("an index is otherwise than the plain program has it");
+    }
+    Ok(())
+}

@@ -1,0 +1,55 @@
+//! Runs whole scripts through a session over a core in memory, and compares every line. The scripts of a table have the lines that they
+//! should have beside them; those that are drawn from a seed are answered by a plain session too, which is slow and obvious. Each
+//! script runs once more with a request for a merge behind each command, which may change no other line.
+#![tactic(auto)]
+
+mod compared;
+mod drawn;
+mod fields;
+mod merges;
+mod pen;
+mod plain;
+mod rows;
+mod session;
+mod stage;
+mod tally;
+mod worlds;
+
+use anyhow::Result;
+use rows::rows_in;
+use stage::Stage;
+use std::{fs, io};
+
+/// How many worlds are drawn, how many scripts in each of them, and from which seed.
+const WORLDS: u32 = 50;
+
+const SCRIPTS: u32 = 10;
+
+const SEED: u64 = 20_261_128;
+
+fn main(rt: HostRuntime) -> Result<()> {
+    let table = fs::read_to_string(&rt, "scripts.txt")?;
+    let rows = rows_in(rt.alloc(), table.as_str())?;
+    let mut stage = Stage {
+        rt: &rt,
+        alloc: rt.alloc(),
+        out: &mut io::writer(&rt),
+    };
+    for row in rows.iter() {
+        stage.run_row(row)?;
+    }
+    let tally = stage.run_drawn(WORLDS, SCRIPTS, SEED)?;
+    println!(rt; "{} scripts as the table says", rows.len())?;
+    println!(rt;
+        "{} drawn scripts, of {} lines, as the plain session says",
+        tally.scripts, tally.lines
+    )?;
+    println!(rt;
+        "{} of 13 commands answered, {} of 4 reads with a datom, {} of 6 refusals of reads, {} of transactions",
+        tally.answered.len(),
+        tally.found.len(),
+        tally.refused_reads.len(),
+        tally.refused_transactions.len()
+    )?;
+    Ok(())
+}

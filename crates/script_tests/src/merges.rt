@@ -1,0 +1,36 @@
+//! The same script with a request for a merge behind each command.
+use anyhow::{Result, bail};
+use edn_core::read_form;
+use std::alloc::Global;
+
+pub(crate) fn with_merges(alloc: Global, script: &[u8]) -> Result<Vec<u8>> {
+    let mut more = Vec::new(alloc);
+    let mut at = 0;
+    for _ in 0..script.len() {
+        let Ok(read) = read_form(alloc, script, at) else {
+            bail!("a script cannot be read");
+        };
+        let Some((_, behind)) = read else {
+            break;
+        };
+        if let Some(command) = script.get(at..behind) {
+            more.extend_from_slice(command)?;
+        }
+        more.extend_from_slice(b" [:request-index]")?;
+        at = behind;
+    }
+    Ok(more)
+}
+
+/// The lines of the other commands. Each merge has to be answered as one.
+pub(crate) fn other_lines(alloc: Global, lines: &[u8]) -> Result<Vec<u8>> {
+    let mut others = Vec::new(alloc);
+    for (index, line) in lines.split_inclusive(|byte| *byte == b'\n').enumerate() {
+        if index % 2 == 0 {
+            others.extend_from_slice(line)?;
+        } else if !line.starts_with(b"{:ok true :basis ") {
+            bail!("a request for a merge is not carried out");
+        }
+    }
+    Ok(others)
+}

@@ -1,0 +1,93 @@
+//! Scripts with the lines that should answer them, as a table has them: a line `# name`, the script, and behind each command its
+//! reply, a line that begins with an arrow. A line `clock` gives the clock's first reading and its step. A number in angle quotes
+//! stands for so many numbers, from 0 on.
+use anyhow::{Result, bail};
+use std::alloc::Global;
+
+/// What a clock reads: the first reading, and how much more each further one is.
+#[derive(Clone, Copy)]
+pub(crate) struct Readings {
+    pub(crate) first: i64,
+    pub(crate) step: i64,
+}
+
+/// A clock that stands still at the first of January 2024.
+pub(crate) const CLOCK: Readings = Readings {
+    first: 1_704_067_200_000,
+    step: 0,
+};
+
+/// A script of the table.
+#[derive(Drop)]
+pub(crate) struct Row {
+    pub(crate) name: String,
+    pub(crate) clock: Readings,
+    pub(crate) script: String,
+    /// Each with its line feed.
+    pub(crate) replies: String,
+}
+
+pub(crate) fn rows_in(alloc: Global, table: &str) -> Result<Vec<Row>> {
+    let mut rows = Vec::new(alloc);
+    for line in table.lines() {
+        match line.strip_prefix("# ") {
+            Some(name) => rows.push(Row::named(alloc, name)?)?,
+            None => match rows.last_mut() {
+                Some(row) => row.add(line)?,
+                None => bail!("a line has no name above it"),
+            },
+        }
+    }
+    Ok(rows)
+}
+
+impl Row {
+    fn named(alloc: Global, name: &str) -> Result<Row> {
+        Ok(Row {
+            name: String::from_str(alloc, name)?,
+            clock: CLOCK,
+            script: String::new(alloc),
+            replies: String::new(alloc),
+        })
+    }
+
+    fn add(&mut self, line: &str) -> Result<()> {
+        if let Some(reply) = line.strip_prefix("-> ") {
+            self.replies.push_str(reply)?;
+            self.replies.push('\n')?;
+        } else if let Some(words) = line.strip_prefix("clock ") {
+            self.clock = readings_in(words)?;
+        } else {
+            add_script(&mut self.script, line)?;
+        }
+        Ok(())
+    }
+}
+
+fn readings_in(words: &str) -> Result<Readings> {
+    let Some((first, step)) = words.split_once(' ') else {
+        bail!("a clock has two numbers");
+    };
+    Ok(Readings {
+        first: first.parse::<i64>()?,
+        step: step.parse::<i64>()?,
+    })
+}
+
+fn add_script(script: &mut String, line: &str) -> Result<()> {
+    match line.split_once('‹') {
+        None => script.push_str(line)?,
+        Some((before, rest)) => {
+            let Some((count, behind)) = rest.split_once('›') else {
+                bail!("an angle quote is not closed");
+            };
+            script.push_str(before)?;
+            for n in 0..count.parse::<u32>()? {
+                write!(script, "{n} ")?;
+            }
+            script.push_str(behind)?;
+        }
+    }
+    script.push('\n')?;
+    Ok(())
+}
