@@ -29,12 +29,12 @@ fn main(rt: HostRuntime) -> Result<()> {
     let text = fs::read_to_string(&rt, "rows.txt")?;
     let rows = rows_of(alloc, text.as_str())?;
     let wanted = plain::indexes_after(alloc, &rows)?;
-    let mut runs = 0;
+    let mut runs = 0_u64;
     for begin in 0..wanted.len() {
         for adopt in begin..wanted.len() {
             let course = Course { begin, adopt };
             course.follow(&rt, alloc, &rows, &wanted)?;
-            runs += 1;
+            runs = runs.saturating_add(1);
         }
     }
     println!(rt; "{runs} runs end in the indexes of the plain program")?;
