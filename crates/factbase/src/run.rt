@@ -231,6 +231,3 @@ fn without_session<I: Drop, O: Drop, D: Drop>(
         covered: 0,
     }
 }
-
-#[cfg(test)]
-mod tests;
