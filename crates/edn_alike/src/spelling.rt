@@ -7,7 +7,7 @@ ghost use Rattle.std.specs.Cmp.Lexicographic.{slice_cmp};
 ghost use Rattle.std.specs.Ordering.{nat_cmp, on, eq_by_cmp, as_partial_cmp};
 
 use fb_memory::Memory;
-use fb_values::Text;
+use fb_text::Text;
 use std::cmp::Ordering;
 
 /// A text that can be compared.

@@ -2,7 +2,7 @@
 use crate::code::code;
 use crate::{Said, first_key_twice, first_twice};
 use edn_form::{Edn, Items, Pairs};
-use fb_values::Text;
+use fb_text::Text;
 use std::alloc::Global;
 use std::test::Fail;
 

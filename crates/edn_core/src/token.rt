@@ -16,7 +16,7 @@ use crate::progress::Progress;
 use edn_form::Edn;
 use edn_instant::{read_instant, read_uuid};
 use edn_token::{StringStop, Token, judge, keyword_name, read_string, read_token};
-use fb_values::Text;
+use fb_text::Text;
 use std::alloc::Global;
 
 /// The token that stands here.

@@ -2,7 +2,7 @@
 use Rattle.std.proofs.Common.{◌≡◌, Bool, ℕ, zero, suc, ℤ, List, [], ◌∷◌, length, option_map, slice_get, refl, ap, rules}
 use Rattle.std.proofs.lemmas.List.{length-map}
 use Rattle.edn_model.specs.Form as form
-use Rattle.fb_values.specs.declared.texts.Text.{Text}
+use Rattle.fb_text.specs.declared.texts.Text.{Text}
 use Rattle.edn_form.specs.declared.form.Edn.{Edn, Nil, Bool as Bool', Int, Str, Sym, Key, List as List', Vector, Map, Set, Inst, Uuid, the_lemmas}
 use Rattle.edn_form.specs.declared.form.Items.{Items}
 use Rattle.edn_form.specs.declared.form.Pairs.{Pairs}

@@ -2,7 +2,7 @@
 ghost use Rattle.std.specs.Prelude.{◌≡◌, length, IfOk};
 
 use fb_memory::Memory;
-use fb_values::Text;
+use fb_text::Text;
 
 /// A form. A keyword's text is without its colon, and a string's escapes are read.
 #[cycle(edn)]

@@ -4,5 +4,5 @@
 mod form;
 
 pub use fb_memory::Memory;
-pub use fb_values::Text;
+pub use fb_text::Text;
 pub use form::{Edn, Items, Pairs};

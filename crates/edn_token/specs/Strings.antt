@@ -1,7 +1,7 @@
 -- What the bytes behind a string's first quote are, and the pieces that it is read in.
 -- EDN, edn-format: "Strings"; the pieces are this project's own choice.
 use Rattle.std.specs.Prelude.{◌≡◌, ℕ, ◌+◌, ◌*◌, ◌<◌, ◌≤◌, IsUtf8, fold, Result, Ok, Err, List, [], ◌∷◌, length, drop, encode_utf8}
-use Rattle.fb_values.specs.declared.texts.Text.{Text}
+use Rattle.fb_text.specs.declared.texts.Text.{Text}
 use Rattle.edn_model.specs.Bytes.{quote}
 use Rattle.edn_model.specs.Tokens.{hex_value, Spells, StringStands}
 use Rattle.edn_model.specs.Faults.{StringFault, bad, cut}

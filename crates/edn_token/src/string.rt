@@ -3,7 +3,7 @@ ghost use Rattle.edn_token.specs.Strings.{StringIs};
 
 use crate::piece::{Piece, next_piece};
 use fb_memory::Memory;
-use fb_values::Text;
+use fb_text::Text;
 use std::alloc::{AllocError, Global};
 
 /// Why no string was read.

@@ -1,7 +1,8 @@
 use super::*;
 use edn_form::Edn;
 use fb_memory::Memory;
-use fb_values::{Text, Value};
+use fb_text::Text;
+use fb_values::Value;
 use std::alloc::Global;
 use std::test::Fail;
 

@@ -1,6 +1,7 @@
 //! What a session may be asked.
 use edn_form::Edn;
-use fb_values::{Order, Text};
+use fb_text::Text;
+use fb_values::Order;
 
 /// A command, with the forms that stand behind its word.
 #[derive(Clone, Copy)]

@@ -8,7 +8,8 @@ ghost use Rattle.fb_commands.specs.Asked.{asked};
 
 use crate::commands::Command;
 use edn_form::Edn;
-use fb_values::{Order, Text};
+use fb_text::Text;
+use fb_values::Order;
 
 /// The command that the form is, if it is one.
 pub fn command_in(form: &Edn) -> Option<Command<'_>>

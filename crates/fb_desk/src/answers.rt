@@ -2,7 +2,7 @@
 ghost use Rattle.std.specs.Prelude.{◌≡◌};
 
 use fb_memory::Memory;
-use fb_values::Text;
+use fb_text::Text;
 use fb_view::Snapshot;
 use tx_refusals::Refusal;
 

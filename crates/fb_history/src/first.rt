@@ -3,7 +3,8 @@ ghost use Rattle.std.specs.Prelude.{◌≡◌, [], ◌∷◌, ◌++◌, IfOk};
 ghost use Rattle.fb_model.specs.FirstEntry.{first_datom, named, attribute, first_attributes, first_names, first_entry};
 
 use fb_memory::Memory;
-use fb_values::{Datom, Datoms, Entry, Text, Value};
+use fb_text::Text;
+use fb_values::{Datom, Datoms, Entry, Value};
 use std::alloc::Global;
 
 // The built-in entities that others refer to.

@@ -1,5 +1,6 @@
 use super::*;
-use fb_values::{Text, Value};
+use fb_text::Text;
+use fb_values::Value;
 use std::alloc::{AllocError, Global};
 use std::test::Fail;
 

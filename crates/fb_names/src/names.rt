@@ -28,7 +28,8 @@ use fb_numbers::{IDENT, TYPE_REF};
 use fb_preds::Selector;
 use fb_scan::datoms;
 use fb_schema::{Schema, schemas_tell_of_attributes};
-use fb_values::{Order, Probe, Text, Value};
+use fb_text::Text;
+use fb_values::{Order, Probe, Value};
 use std::alloc::Global;
 use tx_forms::lookup_in;
 

@@ -3,7 +3,8 @@ ghost use Rattle.std.specs.Prelude.{◌≡◌, ℕ, ◌↔◌, List, Option, IsT
 ghost use Rattle.fb_values.specs.declared.facts.Datom.{Datom as TheDatom};
 ghost use Rattle.fb_preds.specs.Naming.{IsFound};
 
-use fb_values::{Datom, Text};
+use fb_text::Text;
+use fb_values::Datom;
 
 /// Filters by name, each at a place.
 pub trait FilterTable: Drop {

@@ -1,5 +1,5 @@
 //! The filters of a table.
-use fb_values::Text;
+use fb_text::Text;
 
 /// A filter of a table. Callers store an `S` or a closure, which is kept as a `K`.
 #[derive(Drop)]

@@ -3,7 +3,8 @@ ghost use Rattle.std.specs.Prelude.{◌≡◌, ◌<◌, length, IfSome};
 ghost use Rattle.fb_preds.specs.Table.{last_place, is_negative as model_is_negative};
 
 use crate::filters::NamedFilter;
-use fb_values::{Text, Value};
+use fb_text::Text;
+use fb_values::Value;
 
 /// The place of the last filter with the name.
 pub fn last_named<S, K>(filters: &[NamedFilter<S, K>], name: &Text) -> Option<usize>

@@ -9,7 +9,8 @@ use crate::kept::{BoxedTest, Kept};
 use crate::selector::{BoxedSelector, Selector};
 use fb_memory::Memory;
 use fb_numbers::{DOC, USER_ENTITIES};
-use fb_values::{Datom, Text};
+use fb_text::Text;
+use fb_values::Datom;
 use std::alloc::Global;
 
 /// Filters by name, in the order in which they were added. Of two with one name the later one counts.

@@ -1,7 +1,8 @@
 //! Tables of filters, and closures that are kept as filters.
 use super::*;
 use fb_memory::Memory;
-use fb_values::{Datom, Text, Value};
+use fb_text::Text;
+use fb_values::{Datom, Value};
 use std::alloc::Global;
 use std::test::Fail;
 

@@ -17,7 +17,7 @@ use fb_memory::Memory;
 use fb_names::point;
 use fb_preds::{FilterTable, Picks, Selector};
 use fb_replies::write_done;
-use fb_values::Text;
+use fb_text::Text;
 use read_refusals::{Reason, Refusal};
 
 /// `[:as-of point]`

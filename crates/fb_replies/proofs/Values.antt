@@ -13,7 +13,7 @@ use Rattle.edn_values.specs.Values.{form_of_value}
 use Rattle.edn_print.specs.Printed.{Appends}
 use Rattle.edn_print.specs.Printable.{printable}
 use Rattle.edn_print.proofs.Moments.{nearest_itself}
-use Rattle.fb_values.specs.declared.texts.Text.{Text}
+use Rattle.fb_text.specs.declared.texts.Text.{Text}
 use Rattle.fb_values.specs.declared.facts.Datom.{Datom}
 use Rattle.fb_values.specs.declared.facts.Value.{Value}
 use Rattle.fb_values.specs.declared.facts.Value.TheVariants.{Keyword, Str, Bool as Boolean, Long, Ref, Instant, Uuid, Symbol, Uri}

@@ -9,7 +9,8 @@ use crate::datoms::{append_datoms, append_transactions};
 use crate::tokens::{append, append_count, append_tempids, begin};
 use fb_memory::Memory;
 use fb_schema::Schema;
-use fb_values::{Datom, Entry, Text};
+use fb_text::Text;
+use fb_values::{Datom, Entry};
 
 /// What a transaction is told that the log kept from being recorded.
 #[derive(Clone, Copy)]

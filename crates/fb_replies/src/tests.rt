@@ -6,7 +6,8 @@ use crate::{
     write_transactions,
 };
 use fb_schema::Schema;
-use fb_values::{Datom, Datoms, Entry, Text, Value};
+use fb_text::Text;
+use fb_values::{Datom, Datoms, Entry, Value};
 use std::alloc::Global;
 use std::test::Fail;
 

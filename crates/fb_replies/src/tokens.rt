@@ -11,7 +11,7 @@ ghost use Rattle.talk_model.specs.Replies.{entity, tempid_pair};
 use edn_form::Edn;
 use edn_print::print;
 use fb_memory::Memory;
-use fb_values::Text;
+use fb_text::Text;
 use itoa::Buffer;
 
 /// Begins a line, in place of what the buffer held.

@@ -3,7 +3,7 @@ ghost use Rattle.std.specs.Prelude.{◌≡◌, not, nat_eq};
 ghost use Rattle.fb_model.specs.Numbers.{type_ref, unique_identity};
 
 use fb_numbers::{TYPE_REF, UNIQUE_IDENTITY};
-use fb_values::Text;
+use fb_text::Text;
 
 /// An installed attribute. Its type and its uniqueness are the entities that say so in the data.
 #[derive(Drop)]

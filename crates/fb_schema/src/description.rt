@@ -7,7 +7,8 @@ ghost use Rattle.fb_model.specs.Schema.{keyword_in as model_keyword_in, entity_i
 use crate::attribute::Attribute;
 use fb_memory::Memory;
 use fb_numbers::{CARDINALITY, CARDINALITY_MANY, IDENT, INDEX, IS_COMPONENT, UNIQUE, VALUE_TYPE};
-use fb_values::{Datom, Text, Value};
+use fb_text::Text;
+use fb_values::{Datom, Value};
 
 /// The first thing said of each kind.
 #[derive(Drop)]

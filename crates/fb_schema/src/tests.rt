@@ -1,6 +1,7 @@
 use super::*;
 use fb_memory::Memory;
-use fb_values::{Datom, Datoms, Entry, Order, Text, Value};
+use fb_text::Text;
+use fb_values::{Datom, Datoms, Entry, Order, Value};
 use std::alloc::Global;
 use std::test::Fail;
 

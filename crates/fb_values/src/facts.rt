@@ -1,8 +1,8 @@
 //! Values, datoms, and the entries of a history.
 ghost use Rattle.std.specs.Prelude.{◌≡◌, length, IfOk, ◌==◌};
 
-use crate::texts::Text;
 use fb_memory::Memory;
+use fb_text::Text;
 use std::cmp::Ordering;
 use std::marker::Model;
 

@@ -1,7 +1,7 @@
 //! The orders in which indexes keep datoms.
-ghost use Rattle.std.specs.Prelude.{◌≡◌};
-ghost use Rattle.std.specs.Option.{option_map};
-ghost use Rattle.std.specs.Ordering.{partial_ordering_then};
+ghost use Rattle.std.specs.Prelude.{◌≡◌, Ok, Err, MatchOption, MatchResult};
+ghost use Rattle.std.specs.Ordering.{MatchOrdering};
+ghost use Rattle.std.specs.declared.cmp.Ordering.TheVariants.{Less, Equal, Greater};
 ghost use Rattle.fb_values.specs.Orders.{key_cmp, probe_cmp};
 
 use crate::facts::{Datom, Value};
@@ -51,33 +51,50 @@ pub fn cmp_in(order: Order, x: &Datom, y: &Datom) -> Ordering
 pub fn cmp_probe(probe: &Probe, d: &Datom) -> Ordering
     ensures { result ≡ probe_cmp probe.now d.now }
 {
-    let e = cmp_component(&probe.e, &d.e);
-    let a = cmp_component(&probe.a, &d.a);
-    let v = cmp_component(&probe.v, &d.v);
-    let t = cmp_component(&probe.t, &d.t);
-    let decided = match probe.order {
-        Order::Eavt => leading(e, leading(a, leading(v, t))),
-        Order::Aevt => leading(a, leading(e, leading(v, t))),
-        Order::Avet => leading(a, leading(v, leading(e, t))),
-        Order::Vaet => leading(v, leading(a, leading(e, t))),
-    };
-    decided.unwrap_or(Ordering::Equal)
+    match all_equal(probe, d) {
+        Ok(()) => Ordering::Equal,
+        Err(decided) => decided,
+    }
 }
 
-/// `None` where the component is not given.
-fn cmp_component<T: Ord>(given: &Option<T>, held: &T) -> Option<Ordering>
-    ensures { result ≡ option_map (λ x. T.cmp x held.now) given.now }
+/// Compares component by component up to the first that decides, which it fails with.
+fn all_equal(probe: &Probe, d: &Datom) -> Result<(), Ordering>
+    ensures { MatchResult result (λ _. probe_cmp probe.now d.now ≡ Equal) (λ decided. probe_cmp probe.now d.now ≡ decided) }
 {
-    given.as_ref().map(|x| x.cmp(held))
+    match probe.order {
+        Order::Eavt => {
+            equal(&probe.e, &d.e)?;
+            equal(&probe.a, &d.a)?;
+            equal(&probe.v, &d.v)?;
+        }
+        Order::Aevt => {
+            equal(&probe.a, &d.a)?;
+            equal(&probe.e, &d.e)?;
+            equal(&probe.v, &d.v)?;
+        }
+        Order::Avet => {
+            equal(&probe.a, &d.a)?;
+            equal(&probe.v, &d.v)?;
+            equal(&probe.e, &d.e)?;
+        }
+        Order::Vaet => {
+            equal(&probe.v, &d.v)?;
+            equal(&probe.a, &d.a)?;
+            equal(&probe.e, &d.e)?;
+        }
+    }
+    equal(&probe.t, &d.t)
 }
 
-/// The first component decides unless it is equal. Where it is not given, none does.
-fn leading(first: Option<Ordering>, rest: Option<Ordering>) -> Option<Ordering>
-    ensures { result ≡ partial_ordering_then first rest }
+/// A component against a datom's. One that is not given decides that the probe is equal, whatever comes after it.
+fn equal<T: Ord>(given: &Option<T>, held: &T) -> Result<(), Ordering>
+    ensures { MatchOption given.now (result ≡ Err Equal) (λ x. MatchOrdering (T.cmp x held.now) (result ≡ Err Less) (result ≡ Ok tt) (result ≡ Err Greater)) }
 {
-    if first == Some(Ordering::Equal) {
-        rest
-    } else {
-        first
+    match given {
+        None => Err(Ordering::Equal),
+        Some(x) => match x.cmp(held) {
+            Ordering::Equal => Ok(()),
+            decided => Err(decided),
+        },
     }
 }

@@ -6,12 +6,10 @@ pub mod examples;
 mod facts;
 mod indexes;
 pub mod laws;
-mod texts;
 
 pub use facts::{Datom, Datoms, Entry, Value};
 pub use fb_memory::Memory;
 pub use indexes::{Order, Probe, cmp_in, cmp_probe};
-pub use texts::Text;
 
 #[cfg(test)]
 mod tests;

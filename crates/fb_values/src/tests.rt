@@ -1,4 +1,5 @@
 use super::*;
+use fb_text::Text;
 use std::alloc::Global;
 use std::cmp::Ordering;
 use std::test::Fail;

@@ -40,8 +40,8 @@ impl PlainFacts {
     pub fn of(alloc: Global, entries: Vec<Entry>) -> Result<PlainFacts, Memory>
         ensures { IfOk result (λ plain. plain ≡ entries.items) }
     {
-        let said = fb_plain::said(alloc, &entries)?;
-        let facts = fb_plain::standing(alloc, &said)?;
+        let said = plain_reads::said(alloc, &entries)?;
+        let facts = plain_reads::standing(alloc, &said)?;
         Ok(PlainFacts {
             alloc,
             entries,
@@ -55,44 +55,44 @@ impl Facts for PlainFacts {
     ghost history = { λ plain. plain };
 
     fn basis(&self) -> u32 {
-        fb_plain::basis(&self.entries)
+        plain_reads::basis(&self.entries)
     }
 
     fn issued(&self) -> u64 {
-        fb_plain::users_issued(&self.entries)
+        plain_reads::users_issued(&self.entries)
     }
 
     fn last_instant(&self) -> i64 {
-        fb_plain::last_instant(&self.entries)
+        plain_reads::last_instant(&self.entries)
     }
 
     fn holds(&self, e: u64, a: u64, v: &Value) -> bool {
-        fb_plain::holds(&self.said, e, a, v)
+        plain_reads::holds(&self.said, e, a, v)
     }
 
     fn holder(&self, a: u64, v: &Value) -> Option<u64> {
-        fb_plain::holder(&self.facts, a, v)
+        plain_reads::holder(&self.facts, a, v)
     }
 
     fn values_of(&self, e: u64, a: u64) -> Result<Vec<Value>, Memory> {
         let about = about(self.alloc, &self.facts, e, a)?;
-        let about = fb_plain::in_order(self.alloc, Order::Eavt, &about)?;
+        let about = plain_reads::in_order(self.alloc, Order::Eavt, &about)?;
         values(self.alloc, &about)
     }
 
     fn facts_of(&self, e: u64) -> Result<Datoms, Memory> {
         let facts = of_entity(self.alloc, &self.facts, e)?;
-        Ok(Datoms::of(fb_plain::in_order(self.alloc, Order::Eavt, &facts)?))
+        Ok(Datoms::of(plain_reads::in_order(self.alloc, Order::Eavt, &facts)?))
     }
 
     fn refs_to(&self, e: u64) -> Result<Datoms, Memory> {
         let facts = refs(self.alloc, &self.facts, e)?;
-        Ok(Datoms::of(fb_plain::in_order(self.alloc, Order::Vaet, &facts)?))
+        Ok(Datoms::of(plain_reads::in_order(self.alloc, Order::Vaet, &facts)?))
     }
 
     fn facts_under(&self, a: u64) -> Result<Datoms, Memory> {
         let facts = under(self.alloc, &self.facts, a)?;
-        Ok(Datoms::of(fb_plain::in_order(self.alloc, Order::Aevt, &facts)?))
+        Ok(Datoms::of(plain_reads::in_order(self.alloc, Order::Aevt, &facts)?))
     }
 }
 

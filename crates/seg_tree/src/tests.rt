@@ -1,6 +1,7 @@
 use super::*;
 use fb_memory::Memory;
-use fb_values::{Datom, Order, Text, Value, cmp_in};
+use fb_text::Text;
+use fb_values::{Datom, Order, Value, cmp_in};
 use std::alloc::Global;
 use std::cmp::Ordering;
 use std::test::Fail;

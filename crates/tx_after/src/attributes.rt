@@ -13,7 +13,8 @@ use fb_numbers::{
     TYPE_URI, UNIQUE, UNIQUE_IDENTITY, UNIQUE_VALUE, USER_ENTITIES, VALUE_TYPE,
 };
 use fb_schema::Attribute;
-use fb_values::{Datom, Text, Value};
+use fb_text::Text;
+use fb_values::{Datom, Value};
 
 /// The entity as an attribute, if it has an ident, a type and a cardinality.
 pub fn attribute_of(facts: &[Datom], e: u64) -> Result<Option<Attribute>, Memory>

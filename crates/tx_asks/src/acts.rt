@@ -1,6 +1,7 @@
 //! What the forms of a transaction ask, over entities by their numbers.
 use fb_schema::Attribute;
-use fb_values::{Text, Value};
+use fb_text::Text;
+use fb_values::Value;
 
 /// What is asked of an entity.
 #[derive(Drop)]

@@ -1,7 +1,8 @@
 //! What the forms of a transaction ask, with entities still by their names.
 use edn_form::Edn;
 use fb_schema::Attribute;
-use fb_values::{Text, Value};
+use fb_text::Text;
+use fb_values::Value;
 
 /// How a transaction names an entity.
 #[derive(Clone, Copy)]

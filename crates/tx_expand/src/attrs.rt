@@ -7,7 +7,7 @@ ghost use Rattle.tx_expand.specs.Known.{HaveOwnNames, IsLookedUp, IsAskLookedUp,
 use crate::raw::{Attr, Out, RawAsk};
 use fb_memory::Memory;
 use fb_schema::Schema;
-use fb_values::Text;
+use fb_text::Text;
 
 /// The attribute that the keyword names.
 pub fn attribute<'a>(schema: &'a Schema, k: &Text) -> Result<Attr<'a>, Memory>

@@ -16,7 +16,8 @@ use edn_form::{Edn, Items};
 use edn_values::{as_value, forms_of_other_types};
 use fb_memory::Memory;
 use fb_schema::{Attribute, Schema};
-use fb_values::{Text, Value};
+use fb_text::Text;
+use fb_values::Value;
 use tx_asks::Name;
 use tx_forms::lookup_in;
 

@@ -18,7 +18,7 @@ use edn_form::{Edn, Pairs};
 use edn_values::{begins_with_one_of, local_name};
 use fb_memory::Memory;
 use fb_schema::Schema;
-use fb_values::Text;
+use fb_text::Text;
 use std::alloc::Global;
 use tx_asks::Name;
 use tx_forms::{is_id, lookup_in};

@@ -4,7 +4,7 @@ ghost use Rattle.std.specs.Prelude.{◌≡◌, ◌++◌, ◌∷◌, [], IfOk};
 use edn_form::Edn;
 use fb_memory::Memory;
 use fb_schema::{Attribute, Schema};
-use fb_values::Text;
+use fb_text::Text;
 use std::alloc::Global;
 use tx_asks::Name;
 

@@ -9,7 +9,7 @@ ghost use Rattle.tx_model.specs.Shapes as model;
 ghost use Rattle.tx_forms.specs.Words.{is_own};
 
 use edn_form::{Edn, Items};
-use fb_values::Text;
+use fb_text::Text;
 
 /// Whether the form is a keyword.
 pub fn is_keyword(f: &Edn) -> bool

@@ -1,6 +1,6 @@
 use super::*;
 use edn_form::{Edn, Items};
-use fb_values::Text;
+use fb_text::Text;
 use std::alloc::Global;
 use std::test::Fail;
 use tx_refusals::Reason;

@@ -19,7 +19,8 @@ use fb_facts::Facts;
 use fb_memory::Memory;
 use fb_numbers::{TYPE_REF, is_builtin, transaction_entity, user_entity};
 use fb_schema::{Schema, schemas_tell_of_attributes};
-use fb_values::{Text, Value};
+use fb_text::Text;
+use fb_values::Value;
 use tx_asks::Name;
 use tx_model::lawful_histories_are_small;
 

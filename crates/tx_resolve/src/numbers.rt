@@ -8,7 +8,7 @@ use crate::holders::{Holders, held_by};
 use crate::whom::Tempid;
 use fb_memory::Memory;
 use fb_numbers::user_entity;
-use fb_values::Text;
+use fb_text::Text;
 use std::alloc::Global;
 use std::collections::BTreeMap;
 

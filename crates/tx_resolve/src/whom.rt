@@ -2,7 +2,7 @@
 ghost use Rattle.std.specs.Prelude.{◌≡◌, IfOk};
 
 use fb_memory::Memory;
-use fb_values::Text;
+use fb_text::Text;
 use std::cmp::Ordering;
 
 /// An entity of the database, or a tempid, which has no entity yet.

@@ -1,9 +1,0 @@
-use denote.Param.Send.{sendable}
-use Rattle.core_tests.proofs.Crossing.{Snapshot-send, Snapshot-sync}
-use Rattle.core_tests.proofs.snapshots_cross_threads.Goals as goal
-
-pub crosses_threads-requires-send-T : goal.crosses_threads-requires-send-T
-crosses_threads-requires-send-T c κs = search (sendable, Snapshot-send)
-
-pub crosses_threads-requires-sync-T : goal.crosses_threads-requires-sync-T
-crosses_threads-requires-sync-T c κs = search (sendable, Snapshot-sync)

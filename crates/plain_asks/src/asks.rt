@@ -1,0 +1,142 @@
+//! What a transaction asks, with entities still by their names.
+ghost use Rattle.std.specs.Prelude.{◌≡◌, ◌++◌, ◌∷◌, [], IfOk};
+
+use edn_form::Edn;
+use fb_memory::Memory;
+use fb_text::Text;
+use std::alloc::Global;
+
+/// How a transaction names an entity.
+#[derive(Drop)]
+pub enum Name {
+    Number(i64),
+    /// A keyword, without its colon.
+    Ident(Text),
+    /// A unique attribute, by its keyword, and its value.
+    Lookup(Text, Edn),
+    Tempid(Text),
+    /// A map without `:db/id`: its place among the forms, pairs and members, from the inside out.
+    Nameless(Vec<usize>),
+}
+
+/// What stands in the place of a value.
+#[derive(Drop)]
+pub enum Part {
+    /// A value, to be read by the attribute's type.
+    Plain(Edn),
+    /// An entity, under an attribute whose values are entities.
+    Entity(Name),
+}
+
+#[derive(Drop)]
+pub enum Ask {
+    Adds(Name, Text, Part),
+    Retracts(Name, Text, Part),
+    /// Every value.
+    RetractsAll(Name, Text),
+    /// The old value and the new one.
+    Compares(Name, Text, Part, Part),
+    RetractsEntity(Name),
+    /// A map stands for this entity.
+    Meets(Name),
+    /// An attribute is a key of a map.
+    Mentions(Text),
+    /// A map inside another lacks what it needs.
+    LacksId,
+}
+
+/// Adds the numbers at the end.
+fn extend(list: &mut Vec<usize>, path: &[usize]) -> Result<(), Memory>
+    ensures { IfOk result (λ _. list.new.items ≡ list.old.items ++ path.now) }
+{
+    for n in path {
+        list.push(*n)?;
+    }
+    Ok(())
+}
+
+pub fn copy_path(alloc: Global, path: &[usize]) -> Result<Vec<usize>, Memory>
+    ensures { IfOk result (λ copy. copy.items ≡ path.now) }
+{
+    let mut copy = Vec::new(alloc);
+    extend(&mut copy, path)?;
+    Ok(copy)
+}
+
+/// The place of the n-th part of what stands at a place.
+pub fn inside(alloc: Global, n: usize, path: &[usize]) -> Result<Vec<usize>, Memory>
+    ensures { IfOk result (λ inner. inner.items ≡ n ∷ path.now) }
+{
+    let mut inner = Vec::new(alloc);
+    inner.push(n)?;
+    extend(&mut inner, path)?;
+    Ok(inner)
+}
+
+impl Name {
+    ghost use Rattle.plain_asks.specs.Asked.{name_of};
+
+    pub fn copy(&self) -> Result<Name, Memory>
+        ensures { IfOk result (λ name. name_of name ≡ name_of self.now) }
+    {
+        Ok(match self {
+            Name::Number(n) => Name::Number(*n),
+            Name::Ident(k) => Name::Ident(k.copy()?),
+            Name::Lookup(k, f) => Name::Lookup(k.copy()?, f.copy()?),
+            Name::Tempid(s) => Name::Tempid(s.copy()?),
+            Name::Nameless(path) => Name::Nameless(copy_path(*path.allocator(), path)?),
+        })
+    }
+}
+
+/// Moves the asks to the end of the list.
+pub fn append(list: &mut Vec<Ask>, more: Vec<Ask>) -> Result<(), Memory>
+    ensures { IfOk result (λ _. list.new.items ≡ list.old.items ++ more.items) }
+{
+    for ask in more {
+        list.push(ask)?;
+    }
+    Ok(())
+}
+
+pub fn one(alloc: Global, ask: Ask) -> Result<Vec<Ask>, Memory>
+    ensures { IfOk result (λ list. list.items ≡ ask ∷ []) }
+{
+    let mut list = Vec::new(alloc);
+    list.push(ask)?;
+    Ok(list)
+}
+
+impl Part {
+    ghost use Rattle.plain_asks.specs.Asked.{part_of};
+
+    pub fn copy(&self) -> Result<Part, Memory>
+        ensures { IfOk result (λ part. part_of part ≡ part_of self.now) }
+    {
+        Ok(match self {
+            Part::Plain(f) => Part::Plain(f.copy()?),
+            Part::Entity(name) => Part::Entity(name.copy()?),
+        })
+    }
+}
+
+impl Ask {
+    ghost use Rattle.plain_asks.specs.Asked.{ask_of};
+
+    pub fn copy(&self) -> Result<Ask, Memory>
+        ensures { IfOk result (λ ask. ask_of ask ≡ ask_of self.now) }
+    {
+        Ok(match self {
+            Ask::Adds(name, k, part) => Ask::Adds(name.copy()?, k.copy()?, part.copy()?),
+            Ask::Retracts(name, k, part) => Ask::Retracts(name.copy()?, k.copy()?, part.copy()?),
+            Ask::RetractsAll(name, k) => Ask::RetractsAll(name.copy()?, k.copy()?),
+            Ask::Compares(name, k, old, new) => {
+                Ask::Compares(name.copy()?, k.copy()?, old.copy()?, new.copy()?)
+            }
+            Ask::RetractsEntity(name) => Ask::RetractsEntity(name.copy()?),
+            Ask::Meets(name) => Ask::Meets(name.copy()?),
+            Ask::Mentions(k) => Ask::Mentions(k.copy()?),
+            Ask::LacksId => Ask::LacksId,
+        })
+    }
+}

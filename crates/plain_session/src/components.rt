@@ -1,0 +1,107 @@
+//! Components of an index, read from left to right, and ranges of values.
+use crate::points::t_in;
+use crate::sight::Sight;
+use crate::stops::{ReadStop, or_refused};
+use plain_asks::{TYPE_REF, value_in};
+use edn_form::Edn;
+use fb_memory::Memory;
+use plain_reads::{Attribute, Range, attribute_named, attribute_of, covers};
+use fb_values::{Order, Probe, Value};
+
+const BAD_COMPONENT: &str = "read/bad-component";
+
+#[derive(Clone, Copy)]
+enum Part {
+    Entity,
+    Attribute,
+    Value,
+    T,
+}
+
+fn parts_of(order: Order) -> [Part; 4] {
+    match order {
+        Order::Eavt => [Part::Entity, Part::Attribute, Part::Value, Part::T],
+        Order::Aevt => [Part::Attribute, Part::Entity, Part::Value, Part::T],
+        Order::Avet => [Part::Attribute, Part::Value, Part::Entity, Part::T],
+        Order::Vaet => [Part::Value, Part::Attribute, Part::Entity, Part::T],
+    }
+}
+
+impl Sight<'_> {
+    /// The probe that the components give. The first of them is the third member of its command.
+    pub(crate) fn probe(&self, order: Order, forms: &[Edn]) -> Result<Probe, ReadStop> {
+        if forms.len() > 4 {
+            return Err(ReadStop::Refused("read/not-a-command", 0));
+        }
+        let mut probe = Probe {
+            order,
+            e: None,
+            a: None,
+            v: None,
+            t: None,
+        };
+        for (index, (part, form)) in parts_of(order).iter().zip(forms).enumerate() {
+            self.put(&mut probe, *part, form, index.saturating_add(2))?;
+        }
+        Ok(probe)
+    }
+
+    fn put(&self, probe: &mut Probe, part: Part, form: &Edn, at: usize) -> Result<(), ReadStop> {
+        match part {
+            Part::Entity => probe.e = Some(or_refused(self.entity(form)?, BAD_COMPONENT, at)?),
+            Part::Attribute => probe.a = Some(self.attribute(probe.order, form, at)?.id),
+            Part::Value => {
+                let value = self.value(self.kind_behind(probe), form)?;
+                probe.v = Some(or_refused(value, BAD_COMPONENT, at)?);
+            }
+            Part::T => probe.t = Some(or_refused(t_in(form), BAD_COMPONENT, at)?),
+        }
+        Ok(())
+    }
+
+    /// The attribute that a keyword names, which the index has to hold.
+    fn attribute(&self, order: Order, form: &Edn, at: usize) -> Result<Attribute<'_>, ReadStop> {
+        let named = match form {
+            Edn::Key(name) => attribute_named(&self.facts, name.as_str()),
+            _ => None,
+        };
+        let attribute = or_refused(named, BAD_COMPONENT, at)?;
+        if covers(&self.facts, order, attribute.id) {
+            Ok(attribute)
+        } else {
+            Err(ReadStop::Refused("read/not-in-index", at))
+        }
+    }
+
+    /// The type of the attribute that was read; where none was, the next value is an entity.
+    fn kind_behind(&self, probe: &Probe) -> u64 {
+        match probe.a.and_then(|a| attribute_of(&self.facts, a)) {
+            Some(attribute) => attribute.kind,
+            None => TYPE_REF,
+        }
+    }
+
+    /// A value of the type. Entities stand there by their names.
+    fn value(&self, kind: u64, form: &Edn) -> Result<Option<Value>, Memory> {
+        if kind == TYPE_REF {
+            Ok(self.entity(form)?.map(|e| Value::Ref(e)))
+        } else {
+            value_in(kind, form)
+        }
+    }
+
+    /// The values of an attribute from the first one on and before the second. Nil leaves an end open.
+    pub(crate) fn range(&self, name: &Edn, start: &Edn, end: &Edn) -> Result<Range, ReadStop> {
+        let attribute = self.attribute(Order::Avet, name, 1)?;
+        let from = self.end(attribute.kind, start, 2)?;
+        let to = self.end(attribute.kind, end, 3)?;
+        Ok(Range::Between(attribute.id, from, to))
+    }
+
+    fn end(&self, kind: u64, form: &Edn, at: usize) -> Result<Option<Value>, ReadStop> {
+        match form {
+            Edn::Nil => Ok(None),
+            _ => or_refused(self.value(kind, form)?, BAD_COMPONENT, at).map(|v| Some(v)),
+        }
+    }
+}

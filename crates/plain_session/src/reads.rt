@@ -1,0 +1,43 @@
+//! What the commands that look reply.
+use crate::commands::Look;
+use crate::points::log_range;
+use crate::replies;
+use crate::sight::Sight;
+use crate::stops::ReadStop;
+use edn_form::Edn;
+use plain_reads::{Range, basis, transactions};
+use fb_values::Order;
+
+impl Sight<'_> {
+    pub(crate) fn reply(&self, look: Look<'_>) -> Result<Edn, ReadStop> {
+        match look {
+            Look::Datoms(order, components) => {
+                let probe = self.probe(order, components)?;
+                self.shown(order, &Range::Leading(probe))
+            }
+            Look::Seek(order, components) => {
+                let probe = self.probe(order, components)?;
+                self.shown(order, &Range::NotBelow(probe))
+            }
+            Look::IndexRange(attribute, start, end) => {
+                let range = self.range(attribute, start, end)?;
+                self.shown(Order::Avet, &range)
+            }
+            Look::TxRange(start, stop) => self.log(start, stop),
+        }
+    }
+
+    fn shown(&self, order: Order, range: &Range) -> Result<Edn, ReadStop> {
+        let datoms = self.scanned(order, range)?;
+        let basis = basis(self.entries);
+        Ok(replies::datoms(self.alloc, basis, &self.facts, &datoms)?)
+    }
+
+    /// The transactions of a range of the log, which no window and no filter hides.
+    fn log(&self, start: &Edn, stop: &Edn) -> Result<Edn, ReadStop> {
+        let (start, stop) = log_range(self.entries, start, stop)?;
+        let list = transactions(self.alloc, self.entries, start, stop)?;
+        let basis = basis(self.entries);
+        Ok(replies::transactions(self.alloc, basis, &self.facts, &list)?)
+    }
+}

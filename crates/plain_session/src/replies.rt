@@ -1,0 +1,145 @@
+//! What answers a command, as a form.
+use edn_form::{Edn, Items, Pairs};
+use fb_memory::Memory;
+use plain_reads::{TRANSACTIONS, attribute_of};
+use fb_text::Text;
+use fb_values::{Datom, Entry, Value};
+use std::alloc::Global;
+
+/// The number, which no number of a history reaches where it is past the greatest integer of a form.
+fn number(n: u64) -> Edn {
+    Edn::Int(i64::try_from(n).unwrap_or(i64::MAX))
+}
+
+/// A map that begins with these keys.
+#[derive(Drop)]
+struct Reply {
+    alloc: Global,
+    pairs: Vec<(Edn, Edn)>,
+}
+
+impl Reply {
+    fn new(alloc: Global) -> Reply {
+        Reply {
+            alloc,
+            pairs: Vec::new(alloc),
+        }
+    }
+
+    fn with(mut self, key: &str, form: Edn) -> Result<Reply, Memory> {
+        let key = Edn::Key(Text::of(self.alloc, key)?);
+        self.pairs.push((key, form))?;
+        Ok(self)
+    }
+
+    fn with_number(self, key: &str, n: u64) -> Result<Reply, Memory> {
+        self.with(key, number(n))
+    }
+
+    fn map(self) -> Edn {
+        Edn::Map(Pairs::of(self.pairs))
+    }
+}
+
+/// `{:t 2 :tempids {"p" 17592186044418}}`
+pub fn receipt(alloc: Global, t: u32, tempids: Vec<(Text, u64)>) -> Result<Edn, Memory> {
+    let mut entities = Vec::new(alloc);
+    for (name, e) in tempids {
+        entities.push((Edn::Str(name), number(e)))?;
+    }
+    let tempids = Edn::Map(Pairs::of(entities));
+    let reply = Reply::new(alloc).with_number("t", u64::from(t))?;
+    Ok(reply.with("tempids", tempids)?.map())
+}
+
+/// `{:basis 3}`
+pub(crate) fn basis(alloc: Global, basis: u32) -> Result<Edn, Memory> {
+    let reply = Reply::new(alloc).with_number("basis", u64::from(basis))?;
+    Ok(reply.map())
+}
+
+/// `{:ok true :basis 3}`
+pub(crate) fn done(alloc: Global, basis: u32) -> Result<Edn, Memory> {
+    let reply = Reply::new(alloc).with("ok", Edn::Bool(true))?;
+    Ok(reply.with_number("basis", u64::from(basis))?.map())
+}
+
+/// `{:refused :db.error/cas-failed :at 0 :basis 3}`
+pub fn refusal(alloc: Global, keyword: &str, at: usize, basis: u32) -> Result<Edn, Memory> {
+    let keyword = Edn::Key(Text::of(alloc, keyword)?);
+    let reply = Reply::new(alloc).with("refused", keyword)?;
+    let reply = reply.with_number("at", at as u64)?;
+    Ok(reply.with_number("basis", u64::from(basis))?.map())
+}
+
+/// `{:basis 3 :datoms [[17592186044417 :db/doc "hi" 13194139533313 true] ..]}`
+pub(crate) fn datoms(
+    alloc: Global,
+    basis: u32,
+    facts: &[Datom],
+    datoms: &[Datom],
+) -> Result<Edn, Memory> {
+    let datoms = vectors(alloc, facts, datoms)?;
+    let reply = Reply::new(alloc).with_number("basis", u64::from(basis))?;
+    Ok(reply.with("datoms", datoms)?.map())
+}
+
+/// `{:basis 3 :txs [{:t 1 :data [..]} ..]}`
+pub(crate) fn transactions(
+    alloc: Global,
+    basis: u32,
+    facts: &[Datom],
+    entries: &[Entry],
+) -> Result<Edn, Memory> {
+    let mut list = Vec::new(alloc);
+    for entry in entries {
+        let data = vectors(alloc, facts, entry.datoms.as_slice())?;
+        let reply = Reply::new(alloc).with_number("t", u64::from(entry.t))?;
+        list.push(reply.with("data", data)?.map())?;
+    }
+    let reply = Reply::new(alloc).with_number("basis", u64::from(basis))?;
+    Ok(reply.with("txs", Edn::Vector(Items::of(list)))?.map())
+}
+
+fn vectors(alloc: Global, facts: &[Datom], datoms: &[Datom]) -> Result<Edn, Memory> {
+    let mut list = Vec::new(alloc);
+    for d in datoms {
+        list.push(vector(alloc, facts, d)?)?;
+    }
+    Ok(Edn::Vector(Items::of(list)))
+}
+
+fn vector(alloc: Global, facts: &[Datom], d: &Datom) -> Result<Edn, Memory> {
+    let members = Vec::from_array(
+        alloc,
+        [
+            number(d.e),
+            attribute(facts, d.a)?,
+            value(&d.v)?,
+            number(TRANSACTIONS + u64::from(d.t)),
+            Edn::Bool(d.added),
+        ],
+    )?;
+    Ok(Edn::Vector(Items::of(members)))
+}
+
+/// An attribute by its keyword, and what is none by its number.
+fn attribute(facts: &[Datom], a: u64) -> Result<Edn, Memory> {
+    Ok(match attribute_of(facts, a) {
+        Some(attribute) => Edn::Key(attribute.name.copy()?),
+        None => number(a),
+    })
+}
+
+fn value(v: &Value) -> Result<Edn, Memory> {
+    Ok(match v {
+        Value::Keyword(text) => Edn::Key(text.copy()?),
+        Value::Str(text) | Value::Uri(text) => Edn::Str(text.copy()?),
+        Value::Symbol(text) => Edn::Sym(text.copy()?),
+        Value::Bool(b) => Edn::Bool(*b),
+        Value::Long(n) => Edn::Int(*n),
+        Value::Ref(e) => number(*e),
+        Value::Instant(millis) => Edn::Inst(*millis),
+        Value::Uuid(uuid) => Edn::Uuid(*uuid),
+    })
+}

@@ -1,0 +1,183 @@
+//! A session, from one command to the next.
+ghost use Rattle.std.specs.Prelude.{◌≡◌, IfOk};
+ghost use Rattle.fb_model.specs.Lawful.{IsLawful};
+
+use crate::commands::{Command, Turn, command_in};
+use crate::filters::{Filter, filter_named};
+use crate::points::end_of;
+use crate::sight::Sight;
+use crate::stops::{ReadStop, or_refused};
+use crate::{reads, replies};
+use edn_form::Edn;
+use fb_history::EntryList;
+use fb_memory::Memory;
+use fb_model::{first_is_lawful, lawful_entries_make_lawful_histories};
+use plain_reads::{Window, basis};
+use fb_values::Entry;
+use std::alloc::Global;
+use std::marker::Model;
+use plain_step::{Guard, NoGuard, Outcome, step};
+use tx_model::an_accepted_entry_is_lawful;
+
+/// What a session sees as it begins: every transaction, and no history.
+const WHOLE: Window = Window {
+    from: 0,
+    to: 2_147_483_648,
+    history: false,
+};
+
+/// A session that is alone with a history.
+#[derive(Drop)]
+pub struct PlainSession {
+    alloc: Global,
+    entries: Vec<Entry>,
+    window: Window,
+    filters: Vec<Filter>,
+    /// What the clock reads at the next transaction, and how much more at the one after it.
+    reading: i64,
+    step: i64,
+}
+
+impl Model for PlainSession {
+    ghost use Rattle.std.specs.Prelude.{List};
+    ghost use Rattle.fb_values.specs.declared.facts.Entry.{Entry};
+    ghost use Rattle.fb_model.specs.Lawful.{IsLawful};
+
+    ghost Value = { List Entry };
+
+    ghost view = { λ session. session.entries.items };
+
+    ghost invariant = { λ session. IsLawful session.entries.items };
+}
+
+/// The history that has only the built-in schema.
+pub fn new_history(alloc: Global) -> Result<Vec<Entry>, Memory>
+    ensures { IfOk result (λ entries. IsLawful entries.items) }
+{
+    first_is_lawful();
+    let first = EntryList::first(alloc)?;
+    let mut entries = Vec::new(alloc);
+    entries.push(first.at(0).copy()?)?;
+    Ok(entries)
+}
+
+fn copy_entries(alloc: Global, entries: &[Entry]) -> Result<Vec<Entry>, Memory>
+    ensures { IfOk result (λ copy. copy.items ≡ entries.now) }
+{
+    let mut copy = Vec::new(alloc);
+    for entry in entries {
+        copy.push(entry.copy()?)?;
+    }
+    Ok(copy)
+}
+
+/// The reply to a transaction, where the clock reads this. The history grows by the entry.
+pub fn transact<G: Guard>(
+    alloc: Global,
+    entries: &mut Vec<Entry>,
+    data: &Edn,
+    reading: i64,
+    guard: &G,
+) -> Result<Edn, Memory>
+    requires { IsLawful entries.old.items }
+    ensures { IsLawful entries.new.items }
+{
+    an_accepted_entry_is_lawful();
+    lawful_entries_make_lawful_histories();
+    match step(alloc, entries, data, reading, guard)? {
+        Outcome::Refused(refusal) => {
+            let keyword = refusal.reason.keyword();
+            replies::refusal(alloc, keyword, refusal.at, basis(entries))
+        }
+        Outcome::Accepted(entry, tempids) => {
+            let reply = replies::receipt(alloc, entry.t, tempids)?;
+            entries.push(entry)?;
+            Ok(reply)
+        }
+    }
+}
+
+impl PlainSession {
+    /// A session over the history that has only the built-in schema. Its clock begins at a reading, and each transaction steps it.
+    pub fn new(alloc: Global, first: i64, step: i64) -> Result<PlainSession, Memory> {
+        Ok(PlainSession {
+            alloc,
+            entries: new_history(alloc)?,
+            window: WHOLE,
+            filters: Vec::new(alloc),
+            reading: first,
+            step,
+        })
+    }
+
+    /// The same session, to go on with in another way.
+    pub fn copy(&self) -> Result<PlainSession, Memory> {
+        let mut filters = Vec::new(self.alloc);
+        filters.extend_from_slice(&self.filters)?;
+        Ok(PlainSession {
+            alloc: self.alloc,
+            entries: copy_entries(self.alloc, &self.entries)?,
+            window: self.window,
+            filters,
+            reading: self.reading,
+            step: self.step,
+        })
+    }
+
+    /// The reply to a form of a script.
+    pub fn reply(&mut self, form: &Edn) -> Result<Edn, Memory> {
+        let basis = basis(&self.entries);
+        match self.answer(form) {
+            Ok(reply) => Ok(reply),
+            Err(ReadStop::Refused(keyword, at)) => {
+                replies::refusal(self.alloc, keyword, at, basis)
+            }
+            Err(ReadStop::Memory) => Err(Memory),
+        }
+    }
+
+    fn answer(&mut self, form: &Edn) -> Result<Edn, ReadStop> {
+        match or_refused(command_in(form), "read/not-a-command", 0)? {
+            Command::Transact(data) => {
+                let reading = self.reading;
+                self.reading = reading.saturating_add(self.step);
+                Ok(transact(self.alloc, &mut self.entries, data, reading, &NoGuard)?)
+            }
+            Command::Basis => Ok(replies::basis(self.alloc, basis(&self.entries))?),
+            Command::Turn(turn) => {
+                self.turn(turn)?;
+                Ok(replies::done(self.alloc, basis(&self.entries))?)
+            }
+            Command::RequestIndex => Ok(replies::done(self.alloc, basis(&self.entries))?),
+            Command::Look(look) => {
+                let sight = Sight::of(self.alloc, &self.entries, self.window, &self.filters)?;
+                sight.reply(look)
+            }
+            Command::Pull => Err(ReadStop::Refused("read/not-built", 0)),
+        }
+    }
+
+    /// What the session sees from now on.
+    fn turn(&mut self, turn: Turn<'_>) -> Result<(), ReadStop> {
+        match turn {
+            Turn::AsOf(point) => {
+                let end = end_of(&self.entries, point)?;
+                self.window.to = self.window.to.min(end);
+            }
+            Turn::Since(point) => {
+                let end = end_of(&self.entries, point)?;
+                self.window.from = self.window.from.max(end);
+            }
+            Turn::History => self.window.history = true,
+            Turn::Filter(name) => {
+                let filter = or_refused(filter_named(name.as_str()), "read/no-filter", 1)?;
+                self.filters.push(filter).map_err(Memory::from)?;
+            }
+            Turn::Unfilter => {
+                self.window = WHOLE;
+                self.filters.clear();
+            }
+        }
+        Ok(())
+    }
+}

@@ -1,0 +1,93 @@
+-- The shape of a map by its pairs, and of a list form by how many arguments it has.
+use Rattle.std.proofs.Common.{◌≡◌, ◌≢◌, ℕ, ◌<◌, ◌≤◌, Bool, true, false, List, [], ◌∷◌, ◌+◌, length, drop, get_or, refl, ap, ◌∙◌, sym, arith}
+use Rattle.std.specs.Prelude.{◌&&◌, Option, Some, None}
+use Rattle.std.proofs.lemmas.List.{drop_more, drop_all}
+use Rattle.edn_model.specs.Form as edn
+use Rattle.edn_model.specs.Form.{Form, Forms, forms, pairs}
+use Rattle.tx_model.specs.Asks.{lookup_in}
+use Rattle.tx_model.specs.Shapes.{has_arguments, has_map_shape, has_pair_shape, has_value_shape, add, retract, cas, retract_entity}
+use Rattle.edn_form.specs.declared.form.Edn.{Edn}
+use Rattle.edn_form.specs.View.{form_of, forms_of, pairs_of}
+use Rattle.plain_walk.specs.Whole.{have_pair_shapes}
+
+at_end : (a b : Bool) → (a && b) ≡ ((a && b) && true)
+at_end true true = refl
+at_end true false = refl
+at_end false b = refl
+
+in_pairs : (a b c : Bool) → (a && b && c) ≡ ((a && b) && c)
+in_pairs true b c = refl
+in_pairs false b c = refl
+
+map_shape : (ps : List (Form × Form)) → 0 < length ps → has_map_shape (pairs ps) ≡ have_pair_shapes ps
+map_shape [] some = absurd (omega arith)
+map_shape (p ∷ []) some = at_end (has_pair_shape p.0 p.1) (has_value_shape p.1)
+map_shape (p ∷ q ∷ ps) some =
+    ap (λ r. has_pair_shape p.0 p.1 && has_value_shape p.1 && r) (map_shape (q ∷ ps) (omega arith))
+    ∙ in_pairs (has_pair_shape p.0 p.1) (has_value_shape p.1) (have_pair_shapes (q ∷ ps))
+
+pub map_shape_of : (es : List (Edn × Edn)) → 0 < length es → has_map_shape (pairs (pairs_of es)) ≡ have_pair_shapes (pairs_of es)
+map_shape_of [] some = absurd (omega arith)
+map_shape_of (e ∷ es) some = map_shape (pairs_of (e ∷ es)) (omega arith)
+
+pub empty_map_shape : (es : List (Edn × Edn)) → length es ≡ 0 → has_map_shape (pairs (pairs_of es)) ≡ false
+empty_map_shape [] none = refl
+empty_map_shape (e ∷ es) none = absurd (omega arith)
+
+-- ---- arguments of another number than a verb has
+
+pub add_of_others : (xs : List Edn) → length xs ≢ 3 → has_arguments (Some add) (forms_of xs) ≡ false
+add_of_others [] other = refl
+add_of_others (a ∷ []) other = refl
+add_of_others (a ∷ b ∷ []) other = refl
+add_of_others (a ∷ b ∷ c ∷ []) other = absurd (other refl)
+add_of_others (a ∷ b ∷ c ∷ d ∷ rest) other = refl
+
+pub retract_of_others : (xs : List Edn) → length xs ≢ 3 → length xs ≢ 2 → has_arguments (Some retract) (forms_of xs) ≡ false
+retract_of_others [] other two = refl
+retract_of_others (a ∷ []) other two = refl
+retract_of_others (a ∷ b ∷ []) other two = absurd (two refl)
+retract_of_others (a ∷ b ∷ c ∷ []) other two = absurd (other refl)
+retract_of_others (a ∷ b ∷ c ∷ d ∷ rest) other two = refl
+
+pub cas_of_others : (xs : List Edn) → length xs ≢ 4 → has_arguments (Some cas) (forms_of xs) ≡ false
+cas_of_others [] other = refl
+cas_of_others (a ∷ []) other = refl
+cas_of_others (a ∷ b ∷ []) other = refl
+cas_of_others (a ∷ b ∷ c ∷ []) other = refl
+cas_of_others (a ∷ b ∷ c ∷ d ∷ []) other = absurd (other refl)
+cas_of_others (a ∷ b ∷ c ∷ d ∷ e ∷ rest) other = refl
+
+pub retract_entity_of_others : (xs : List Edn) → length xs ≢ 1 → has_arguments (Some retract_entity) (forms_of xs) ≡ false
+retract_entity_of_others [] other = refl
+retract_entity_of_others (a ∷ []) other = absurd (other refl)
+retract_entity_of_others (a ∷ b ∷ rest) other = refl
+
+-- ---- a map whose pairs are looked at one by one
+
+and_false : (a : Bool) → (a && false) ≡ false
+and_false true = refl
+and_false false = refl
+
+module _ (es : List (Edn × Edn)) (i : ℕ) (p : Edn × Edn) (rest : have_pair_shapes (pairs_of (drop i es)) ≡ have_pair_shapes (pairs_of es)) (below : i < length es) (is : p ≡ get_or es i p) where
+  from_here : have_pair_shapes (pairs_of es) ≡ ((has_pair_shape (form_of p.0) (form_of p.1) && has_value_shape (form_of p.1)) && have_pair_shapes (pairs_of (drop (i + 1) es)))
+  from_here =
+      sym rest
+      ∙ ap (λ xs. have_pair_shapes (pairs_of xs)) (drop_more es i p below)
+      ∙ ap (λ (q : Edn × Edn). have_pair_shapes (pairs_of (q ∷ drop (i + 1) es))) (sym is)
+
+  pub no_pair_shape : has_pair_shape (form_of p.0) (form_of p.1) ≡ false → false ≡ has_map_shape (pairs (pairs_of es))
+  no_pair_shape bad =
+      sym (map_shape_of es (omega (arith, below)) ∙ from_here
+      ∙ ap (λ b. (b && has_value_shape (form_of p.1)) && have_pair_shapes (pairs_of (drop (i + 1) es))) bad)
+
+  pub no_value_shape : has_value_shape (form_of p.1) ≡ false → false ≡ has_map_shape (pairs (pairs_of es))
+  no_value_shape bad =
+      sym (map_shape_of es (omega (arith, below)) ∙ from_here
+      ∙ ap (λ b. (has_pair_shape (form_of p.0) (form_of p.1) && b) && have_pair_shapes (pairs_of (drop (i + 1) es))) bad
+      ∙ ap (λ b. b && have_pair_shapes (pairs_of (drop (i + 1) es))) (and_false (has_pair_shape (form_of p.0) (form_of p.1))))
+
+pub all_whole : (es : List (Edn × Edn)) (i : ℕ) → have_pair_shapes (pairs_of (drop i es)) ≡ have_pair_shapes (pairs_of es) → length es ≤ i → 0 < length es
+    → true ≡ has_map_shape (pairs (pairs_of es))
+all_whole es i rest past some =
+    sym (map_shape_of es some ∙ sym rest ∙ ap (λ xs. have_pair_shapes (pairs_of xs)) (drop_all i es past))

@@ -1,0 +1,75 @@
+//! Transactions that are drawn from a seed.
+use crate::guard::NoEmptyText;
+use crate::run::Run;
+use anyhow::Result;
+use test_data::{Dice, PEOPLE, SCHEMA};
+use std::alloc::Global;
+use std::collections::BTreeMap;
+
+/// How many transactions are drawn for one history.
+const ROUND: u32 = 20;
+
+/// How many transactions were drawn, and how many of them each rule refused, by its keyword.
+#[derive(Drop)]
+pub(crate) struct Tally {
+    pub(crate) drawn: u32,
+    pub(crate) refused: BTreeMap<Vec<u8>, u32>,
+}
+
+impl Tally {
+    fn count(&mut self, alloc: Global, reply: &[u8]) -> Result<()> {
+        self.drawn = self.drawn.saturating_add(1);
+        if let Some(reason) = reason_in(alloc, reply)? {
+            let before = self.refused.get(&reason).copied().unwrap_or(0);
+            self.refused.insert(reason, before.saturating_add(1))?;
+        }
+        Ok(())
+    }
+}
+
+/// Decides transactions on so many histories. On every other one the guard bars empty texts.
+pub(crate) fn decided(alloc: Global, histories: u32, seed: u64) -> Result<Tally> {
+    let mut dice = Dice::new(seed);
+    let mut tally = Tally {
+        drawn: 0,
+        refused: BTreeMap::new(alloc),
+    };
+    for i in 0..histories {
+        let guard = NoEmptyText { bars: i % 2 == 1 };
+        decide_round(alloc, &mut dice, &guard, &mut tally)?;
+    }
+    Ok(tally)
+}
+
+fn decide_round(
+    alloc: Global,
+    dice: &mut Dice,
+    guard: &NoEmptyText,
+    tally: &mut Tally,
+) -> Result<()> {
+    let mut run = Run::new(alloc)?;
+    for data in [SCHEMA, PEOPLE] {
+        run.reply_to(alloc, data.as_bytes(), guard)?;
+    }
+    for _ in 0..ROUND {
+        let data = test_data::data(alloc, dice)?;
+        let reply = run.reply_to(alloc, data.as_bytes(), guard)?;
+        tally.count(alloc, &reply)?;
+    }
+    Ok(())
+}
+
+/// The keyword behind `{:refused `, if the reply begins with it.
+fn reason_in(alloc: Global, reply: &[u8]) -> Result<Option<Vec<u8>>> {
+    let Some(rest) = reply.strip_prefix(b"{:refused ") else {
+        return Ok(None);
+    };
+    let mut reason = Vec::new(alloc);
+    for byte in rest {
+        if *byte == b' ' {
+            break;
+        }
+        reason.push(*byte)?;
+    }
+    Ok(Some(reason))
+}

@@ -1,0 +1,60 @@
+//! The engine over a snapshot.
+use crate::CLOCK;
+use crate::guard::NoEmptyText;
+use anyhow::{Result, bail};
+use edn_form::Edn;
+use fb_values::{Datom, Entry};
+use fb_view::Snapshot;
+use std::alloc::Global;
+use tx_forms::TxStop;
+use tx_model::an_accepted_entry_is_lawful;
+use tx_step::decide;
+
+/// What the engine replies; the snapshot with the entry, where there is one.
+pub(crate) fn transact(
+    alloc: Global,
+    snapshot: &Snapshot,
+    data: &Edn,
+    guard: &NoEmptyText,
+) -> Result<(Snapshot, Edn)> {
+    an_accepted_entry_is_lawful();
+    match decide(alloc, data, snapshot, snapshot.schema(), CLOCK, guard) {
+        Ok(accepted) => {
+            let reply = plain_session::receipt(alloc, accepted.entry.t, accepted.tempids)?;
+            Ok((snapshot.with_entry(accepted.entry)?, reply))
+        }
+        Err(TxStop::Refused(refusal)) => {
+            let keyword = refusal.reason.keyword();
+            let reply = plain_session::refusal(alloc, keyword, refusal.at, snapshot.basis())?;
+            Ok((snapshot.share()?, reply))
+        }
+        Err(TxStop::Memory) => bail!("out of memory"),
+    }
+}
+
+/// Whether the snapshot's last entry is that of the list.
+pub(crate) fn is_same(snapshot: &Snapshot, entries: &[Entry]) -> bool {
+    let Some(last) = entries.last() else {
+        return false;
+    };
+    let kept = snapshot.entries();
+    if kept.len() == 0 {
+        return false;
+    }
+    let own = kept.at(kept.len() - 1);
+    own.t == last.t
+        && own.instant == last.instant
+        && are_same(own.datoms.as_slice(), last.datoms.as_slice())
+}
+
+fn are_same(own: &[Datom], other: &[Datom]) -> bool {
+    if own.len() != other.len() {
+        return false;
+    }
+    for (x, y) in own.iter().zip(other) {
+        if x.e != y.e || x.a != y.a || x.v != y.v || x.t != y.t || x.added != y.added {
+            return false;
+        }
+    }
+    true
+}
