@@ -21,7 +21,7 @@ pub fn take<S: Selector>(
     ensures { IfOk result (λ _. Takes (IsTrue (held && is_shown (window_of db.now) d.now (option_copied next.entry)) × S.selects db.now.filter d.now) found.old.items d.now found.new.items) }
 {
     if held && sees(db, d, next) {
-        found.push(d.copy()?)?;
+        d.copy_into(found)?;
     }
     Ok(())
 }

@@ -1,5 +1,5 @@
 //! Values, datoms, and the entries of a history.
-ghost use Rattle.std.specs.Prelude.{◌≡◌, length, IfOk, ◌==◌};
+ghost use Rattle.std.specs.Prelude.{◌≡◌, ◌++◌, ◌∷◌, [], length, IfOk, OnOk, OnErr, ◌==◌};
 
 use fb_memory::Memory;
 use fb_text::Text;
@@ -89,6 +89,23 @@ impl Ord for Value {
     }
 }
 
+/// A copy of the value behind a reference, spelled out where it stands: each hand-over of a value moves its bytes once more.
+macro_rules! copy_of {
+    ($value:expr) => {
+        match $value {
+            Value::Keyword(text) => Value::Keyword(text.copy()?),
+            Value::Str(text) => Value::Str(text.copy()?),
+            Value::Bool(b) => Value::Bool(*b),
+            Value::Long(n) => Value::Long(*n),
+            Value::Ref(entity) => Value::Ref(*entity),
+            Value::Instant(millis) => Value::Instant(*millis),
+            Value::Uuid(uuid) => Value::Uuid(*uuid),
+            Value::Symbol(text) => Value::Symbol(text.copy()?),
+            Value::Uri(text) => Value::Uri(text.copy()?),
+        }
+    };
+}
+
 impl Value {
     ghost use Rattle.fb_values.specs.Orders.{type_place};
 
@@ -109,21 +126,11 @@ impl Value {
         }
     }
 
-    /// The same value. A text's bytes are shared, not copied.
+    /// The same value. The bytes of a longer text are shared, not copied.
     pub fn copy(&self) -> Result<Value, Memory>
         ensures { IfOk result (λ v. v ≡ self.now) }
     {
-        Ok(match self {
-            Value::Keyword(text) => Value::Keyword(text.copy()?),
-            Value::Str(text) => Value::Str(text.copy()?),
-            Value::Bool(b) => Value::Bool(*b),
-            Value::Long(n) => Value::Long(*n),
-            Value::Ref(entity) => Value::Ref(*entity),
-            Value::Instant(millis) => Value::Instant(*millis),
-            Value::Uuid(uuid) => Value::Uuid(*uuid),
-            Value::Symbol(text) => Value::Symbol(text.copy()?),
-            Value::Uri(text) => Value::Uri(text.copy()?),
-        })
+        Ok(copy_of!(self))
     }
 }
 
@@ -139,7 +146,23 @@ pub struct Datom {
 }
 
 impl Datom {
-    /// The same datom, which shares the bytes of a text.
+    /// Adds a copy of the datom at the end of a list, which stays as it was where memory runs out.
+    pub fn copy_into(&self, list: &mut Vec<Datom>) -> Result<(), Memory>
+        ensures ok { OnOk result (list.new.items ≡ list.old.items ++ self.now ∷ []) }
+        ensures err { OnErr result (list.new.items ≡ list.old.items) }
+    {
+        let v = copy_of!(&self.v);
+        list.push(Datom {
+            e: self.e,
+            a: self.a,
+            v,
+            t: self.t,
+            added: self.added,
+        })?;
+        Ok(())
+    }
+
+    /// The same datom, which shares the bytes of a longer text.
     pub fn copy(&self) -> Result<Datom, Memory>
         ensures { IfOk result (λ d. d ≡ self.now) }
     {
@@ -199,7 +222,7 @@ impl Datoms {
     {
         let mut items = Vec::with_capacity(*self.items.allocator(), self.items.len())?;
         for datom in self.items.iter() {
-            items.push(datom.copy()?)?;
+            datom.copy_into(&mut items)?;
         }
         Ok(Datoms { items })
     }

@@ -128,7 +128,7 @@ impl<'a> Both<'a> {
         while let Some((datom, spot)) = next {
             next = self.next_led(probe, spot);
             if stands_at(datom, datom_of(next)) {
-                facts.push(datom.copy()?)?;
+                datom.copy_into(&mut facts)?;
             }
         }
         Ok(facts)

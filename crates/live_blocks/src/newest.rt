@@ -45,7 +45,7 @@ impl Newest {
         let alloc = *self.datoms.allocator();
         let mut datoms = Vec::with_capacity(alloc, NEWEST)?;
         for datom in self.datoms.iter() {
-            datoms.push(datom.copy()?)?;
+            datom.copy_into(&mut datoms)?;
         }
         let mut below = Vec::with_capacity(alloc, NEWEST)?;
         below.extend_from_slice(&self.below)?;

@@ -110,7 +110,7 @@ fn copy_block(datoms: &Vec<Datom>) -> Result<Vec<Datom>, Memory>
 {
     let mut block = Vec::with_capacity(*datoms.allocator(), datoms.len() + 1)?;
     for datom in datoms.iter() {
-        block.push(datom.copy()?)?;
+        datom.copy_into(&mut block)?;
     }
     Ok(block)
 }

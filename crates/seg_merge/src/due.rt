@@ -40,7 +40,7 @@ fn with_due(
 {
     let mut due = due;
     if datom.t <= c && covers.holds(order, datom.a) {
-        due.push(datom.copy()?)?;
+        datom.copy_into(&mut due)?;
     }
     Ok(due)
 }

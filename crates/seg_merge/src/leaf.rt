@@ -33,7 +33,7 @@ pub fn union(
     for datom in added {
         let (before, behind) = rest.split_at(place_in(order, rest, datom)?);
         all = with_held(all, order, covers, before)?;
-        all.push(datom.copy()?)?;
+        datom.copy_into(&mut all)?;
         rest = without_twin(order, behind, datom);
     }
     with_held(all, order, covers, rest)
@@ -77,7 +77,7 @@ fn with_held(
     let mut list = list;
     for datom in datoms {
         if covers.holds(order, datom.a) {
-            list.push(datom.copy()?)?;
+            datom.copy_into(&mut list)?;
         }
     }
     Ok(list)
