@@ -115,6 +115,10 @@ said_issued =
 pub facts_issued : (h : List Entry) → IsLawful h → (d : Datom) → Contains (facts h) d → has_issued_numbers h d ≡ true
 facts_issued h lawful d member = member_passes (has_issued_numbers h) (said h) d (said_issued h lawful) (standing_member (said h) d member)
 
+pub facts_referred : (h : List Entry) → IsLawful h → (d : Datom) → Contains (facts h) d → (n : ℕ) → d.v ≡ Ref n → is_issued h n ≡ true
+facts_referred h lawful d member n is =
+    subst (λ v. is_issued_value h v ≡ true) is (and_parts (is_issued h d.e) (is_issued_value h d.v) (facts_issued h lawful d member)).1
+
 -- ---- holders
 
 pub record HasFact (facts : List Datom) (e a : ℕ) (v : Value) : Type 0 where

@@ -1,3 +1,4 @@
+pub mod Utf8Texts
 pub mod OneMoreEntry
 pub mod LawfulHistories
 pub mod Triples

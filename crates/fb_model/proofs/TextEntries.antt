@@ -9,6 +9,7 @@ use Rattle.std.proofs.lemmas.Bool.{and_parts, and_from, or_left, or_right, eqb-t
 use Rattle.std.proofs.lemmas.Bool.Decides.{nat_tests}
 use Rattle.std.proofs.lemmas.List.Folds.{list_all-append}
 use Rattle.std.proofs.lemmas.Int.{ints}
+use Rattle.std.specs.Str.{IsUtf8}
 use Rattle.fb_values.specs.declared.facts.Datom.{Datom}
 use Rattle.fb_values.specs.declared.facts.Entry.{Entry}
 use Rattle.fb_values.specs.declared.facts.Value.TheVariants.{Str, Instant}
@@ -18,6 +19,7 @@ use Rattle.fb_model.specs.Laws.{is_asserted, users_behind, users_after, is_known
 use Rattle.fb_model.specs.Lawful.{IsLawful, IsLawfulAfter}
 use Rattle.fb_model.specs.TextEntry.{text_entry}
 use Rattle.fb_model.proofs.OneMoreEntry.{basis-push, said-push, unused, holds_after-unused, holds-unused, next_instant-later, next_instant-at_least}
+use Rattle.fb_model.proofs.Utf8Texts.{is_utf8_text-from_IsUtf8}
 use Rattle.fb_model.proofs.Triples.{value_eq-refl}
 use Rattle.fb_model.proofs.Invariants.{of_lawful}
 use Rattle.fb_model.proofs.SchemaHistories.{all_pass, none_pass}
@@ -88,7 +90,7 @@ apart-user t n small = grind (arith, nat_tests)
 behind_first : (d : Datom) (more ds : List Datom) (n : ℕ) → is_asserted ds (user_entity (n + 1)) ≡ true → n + 1 ≤ users_behind (d ∷ more) ds n
 behind_first d more ds n asserted = rw asserted (users_behind-at_least more ds (n + 1))
 
-module _ (h : List Entry) (reading : ℤ) (text : List ℕ) (lawful : IsLawful h) (small : basis h < greatest_t) (room : int_lt (last_instant h) greatest_instant ≡ true) (short : length text ≤ 1048576) where
+module _ (h : List Entry) (reading : ℤ) (text : List ℕ) (lawful : IsLawful h) (small : basis h < greatest_t) (room : int_lt (last_instant h) greatest_instant ≡ true) (utf8 : IsUtf8 text) (short : length text ≤ 1048576) where
   t : ℕ
   t = basis h + 1
 
@@ -126,7 +128,7 @@ module _ (h : List Entry) (reading : ℤ) (text : List ℕ) (lawful : IsLawful h
         added = refl;
         stand = rw (apart-user (basis h + 1) (users_issued h + 1) small_t) refl;
         single = rw (same (transaction_of (basis h + 1)), same (user_entity (users_issued h + 1)), user-apart (basis h + 1) (users_issued h + 1) small_t, apart-user (basis h + 1) (users_issued h + 1) small_t) refl;
-        typed = and_from _ _ (and_from _ _ within refl) (and_from _ _ (le-leb (length text) 1048576 short) refl);
+        typed = and_from _ _ (and_from _ _ within refl) (and_from _ _ (and_from _ _ (is_utf8_text-from_IsUtf8 text utf8) (le-leb (length text) 1048576 short)) refl);
       }
 
   pub text_entry-lawful : IsLawfulAfter h (text_entry h reading text)

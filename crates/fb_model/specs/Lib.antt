@@ -1,5 +1,6 @@
 pub mod Numbers
 pub mod Words
+pub mod Utf8
 pub mod Rising
 pub mod FirstEntry
 pub mod History

@@ -1,6 +1,6 @@
--- Numbers: those of entities and of the built-in attributes, and the ranges of t and of instants.
+-- Numbers: those of entities and of the built-in attributes, and the ranges of t, of instants and of the other numbers in values.
 -- The attributes' meaning is that of Datomic, Schema; the numbers themselves are this project's own choice.
-use Rattle.std.specs.Prelude.{ℕ, ◌+◌, ◌-◌, ℤ, pos, negsuc, Bool, ◌&&◌, ◌||◌, nat_le, int_le}
+use Rattle.std.specs.Prelude.{ℕ, ◌+◌, ◌-◌, ◌^◌, ℤ, pos, negsuc, Bool, ◌&&◌, ◌||◌, nat_le, nat_lt, int_le}
 
 -- the entity of transaction t
 abbrev pub transaction_of : ℕ → ℕ
@@ -101,6 +101,23 @@ greatest_instant = pos 253402300799999
 
 abbrev pub is_instant : ℤ → Bool
 is_instant z = int_le least_instant z && int_le z greatest_instant
+
+-- a long has 64 bits, one of them for its sign
+abbrev pub least_long : ℤ
+least_long = negsuc 9223372036854775807
+
+abbrev pub greatest_long : ℤ
+greatest_long = pos 9223372036854775807
+
+abbrev pub is_long : ℤ → Bool
+is_long z = int_le least_long z && int_le z greatest_long
+
+-- a reference has 64 bits, and a uuid 128
+abbrev pub is_reference : ℕ → Bool
+is_reference n = nat_lt n (2 ^ 64)
+
+abbrev pub is_uuid : ℕ → Bool
+is_uuid n = nat_lt n (2 ^ 128)
 
 -- the most datoms of an entry
 abbrev pub most_datoms : ℕ

@@ -3,7 +3,8 @@
 use Rattle.std.specs.Prelude.{ℕ, Bool, true, ◌&&◌, nat_eq, nat_le, length}
 use Rattle.fb_values.specs.declared.facts.Value.{Value}
 use Rattle.fb_values.specs.declared.facts.Value.TheVariants.{Keyword, Str, Bool as Boolean, Long, Ref, Instant, Uuid, Symbol, Uri}
-use Rattle.fb_model.specs.Numbers.{type_keyword, type_string, type_boolean, type_long, type_ref, type_instant, type_uuid, type_symbol, type_uri, is_instant}
+use Rattle.fb_model.specs.Numbers.{type_keyword, type_string, type_boolean, type_long, type_ref, type_instant, type_uuid, type_symbol, type_uri, is_instant, is_long, is_reference, is_uuid}
+use Rattle.fb_model.specs.Utf8.{is_utf8_text}
 use Rattle.fb_model.specs.Words.{is_keyword_text, is_symbol_text, is_uri_text}
 
 -- the entity of the value's type
@@ -18,13 +19,18 @@ type_of (Uuid n) = type_uuid
 type_of (Symbol text) = type_symbol
 type_of (Uri text) = type_uri
 
--- a keyword, a symbol and a uri have texts of their own kind, and an instant lies in its range
+-- a number lies in its range, and a text is in UTF-8; a keyword and a symbol have texts of their own kind besides, and a uri has visible
+-- ASCII characters, which are UTF-8 as they stand
 abbrev pub is_well_formed : Value → Bool
-is_well_formed (Keyword text) = is_keyword_text text
+is_well_formed (Keyword text) = is_utf8_text text && is_keyword_text text
+is_well_formed (Str text) = is_utf8_text text
+is_well_formed (Boolean b) = true
+is_well_formed (Long n) = is_long n
+is_well_formed (Ref e) = is_reference e
 is_well_formed (Instant n) = is_instant n
-is_well_formed (Symbol text) = is_symbol_text text
+is_well_formed (Uuid n) = is_uuid n
+is_well_formed (Symbol text) = is_utf8_text text && is_symbol_text text
 is_well_formed (Uri text) = is_uri_text text
-is_well_formed v = true
 
 abbrev pub is_short_enough : Value → Bool
 is_short_enough (Keyword text) = nat_le (length text) 65535

@@ -1,6 +1,6 @@
 //! Examples, by computation.
-ghost use Rattle.std.specs.Prelude.{◌≡◌, [], ◌∷◌, length, IsTrue, IsFalse, pos, ◌-ℤ◌, true, false, Some, None, codes};
-ghost use Rattle.fb_values.specs.declared.facts.Value.TheVariants.{Keyword, Str, Ref, Long, Instant, Bool};
+ghost use Rattle.std.specs.Prelude.{◌≡◌, ◌-◌, ◌^◌, [], ◌∷◌, length, IsTrue, IsFalse, pos, negsuc, ◌-ℤ◌, true, false, Some, None, codes};
+ghost use Rattle.fb_values.specs.declared.facts.Value.TheVariants.{Keyword, Str, Ref, Long, Instant, Uuid, Symbol, Uri, Bool};
 ghost use Rattle.fb_values.specs.declared.indexes.Order.TheVariants.{Eavt, Avet, Vaet};
 ghost use Rattle.fb_model.specs.Numbers.{user_entity, user_number, transaction_of, ident, cardinality, unique, index, doc, type_long, type_ref, type_symbol, type_uri, unique_value, cardinality_many};
 ghost use Rattle.fb_model.specs.FirstEntry.{first_entry};
@@ -8,7 +8,7 @@ ghost use Rattle.fb_model.specs.Words.{is_keyword_text, is_symbol_text, is_uri_t
 ghost use Rattle.fb_model.specs.Rising.{rises, in_order};
 ghost use Rattle.fb_model.specs.History.{next_instant, users_issued, is_issued};
 ghost use Rattle.fb_model.specs.Facts.{facts, holds, value_of};
-ghost use Rattle.fb_model.specs.Types.{is_of_type};
+ghost use Rattle.fb_model.specs.Types.{is_of_type, is_well_formed};
 ghost use Rattle.fb_model.specs.Schema.{attribute_of, attribute_named, is_attribute, is_many, is_unique, covers, named, schema_of};
 ghost use Rattle.fb_model.specs.Lawful.{IsLawful, IsLawfulAfter, least_law};
 ghost use Rattle.fb_model.specs.Samples.{datom, entry_of, hi, hi_entry, makes_attribute, age, ages, altered_doc};
@@ -64,6 +64,33 @@ pub fn types()
     ensures other { IsFalse (is_of_type type_ref (Long (pos 5))) }
     ensures instant { IsFalse (is_of_type 15 (Instant (pos 253402300800000))) }
     ensures keyword { IsFalse (is_of_type 10 (Keyword (codes "a b"))) }
+{}
+
+/// Numbers at the ends of their ranges, and the first past them.
+pub fn numbers_of_values()
+    ensures greatest { IsTrue (is_well_formed (Long (pos (2 ^ 63 - 1)))) }
+    ensures past_greatest { IsFalse (is_well_formed (Long (pos (2 ^ 63)))) }
+    ensures least { IsTrue (is_well_formed (Long (negsuc (2 ^ 63 - 1)))) }
+    ensures before_least { IsFalse (is_well_formed (Long (negsuc (2 ^ 63)))) }
+    ensures last_reference { IsTrue (is_well_formed (Ref (2 ^ 64 - 1))) }
+    ensures past_references { IsFalse (is_well_formed (Ref (2 ^ 64))) }
+    ensures last_uuid { IsTrue (is_well_formed (Uuid (2 ^ 128 - 1))) }
+    ensures past_uuids { IsFalse (is_well_formed (Uuid (2 ^ 128))) }
+{}
+
+/// Texts that are UTF-8, and bytes that are not: one that begins no character, a character that its end cuts off, one that
+/// takes more bytes than it needs, and half of a pair of UTF-16.
+pub fn texts_of_values()
+    ensures city { IsTrue (is_well_formed (Str (90 ∷ 195 ∷ 188 ∷ 114 ∷ 105 ∷ 99 ∷ 104 ∷ []))) }
+    ensures empty { IsTrue (is_well_formed (Str [])) }
+    ensures no_character { IsFalse (is_well_formed (Str (255 ∷ []))) }
+    ensures cut_off { IsFalse (is_well_formed (Str (90 ∷ 195 ∷ []))) }
+    ensures overlong { IsFalse (is_well_formed (Str (192 ∷ 128 ∷ []))) }
+    ensures surrogate { IsFalse (is_well_formed (Str (237 ∷ 160 ∷ 128 ∷ []))) }
+    ensures keyword { IsTrue (is_well_formed (Keyword (195 ∷ 188 ∷ []))) }
+    ensures no_keyword { IsFalse (is_well_formed (Keyword (255 ∷ []))) }
+    ensures no_symbol { IsFalse (is_well_formed (Symbol (97 ∷ 255 ∷ []))) }
+    ensures no_uri { IsFalse (is_well_formed (Uri (195 ∷ 188 ∷ []))) }
 {}
 
 /// The schema of the first entry, and of a history that installs an attribute.

@@ -5,6 +5,7 @@ ghost use Rattle.std.specs.Option.{option_map_or};
 ghost use Rattle.fb_values.specs.declared.facts.Datom.{Datom};
 ghost use Rattle.fb_values.specs.declared.facts.Entry.{Entry};
 ghost use Rattle.fb_values.specs.declared.facts.Value.{Value};
+ghost use Rattle.fb_values.specs.declared.facts.Value.TheVariants.{Ref};
 ghost use Rattle.fb_model.specs.Numbers.{is_builtin};
 ghost use Rattle.fb_model.specs.FirstEntry.{first_entry};
 ghost use Rattle.fb_model.specs.History.{is_issued};
@@ -36,9 +37,11 @@ pub fn attributes_stay_attributes()
     ensures built_in { (e : ℕ) → IsTrue (is_builtin e) → (h : List Entry) → IsLawful h → attribute_of (facts h) e ≡ attribute_of (facts (first_entry ∷ [])) e }
 {}
 
-/// In a lawful history each fact is of an installed attribute and its type, and its numbers are those of entities.
+/// In a lawful history each fact is of an installed attribute and its type. Its entity's number is that of an entity, and so is its
+/// value's, where its value is a reference.
 pub fn facts_are_of_their_types()
     ensures installed { (h : List Entry) → IsLawful h → (d : Datom) → Contains (facts h) d → IsTrue (is_attribute (facts h) d.a) }
     ensures typed { (h : List Entry) → IsLawful h → (d : Datom) → Contains (facts h) d → IsTrue (option_map_or (λ attribute. is_of_type attribute.kind d.v) (attribute_of (facts h) d.a) false) }
     ensures issued { (h : List Entry) → IsLawful h → (d : Datom) → Contains (facts h) d → IsTrue (is_issued h d.e) }
+    ensures referred { (h : List Entry) → IsLawful h → (d : Datom) → Contains (facts h) d → (n : ℕ) → d.v ≡ Ref n → IsTrue (is_issued h n) }
 {}

@@ -11,7 +11,7 @@ use Rattle.fb_values.specs.declared.facts.Entry.{Entry}
 use Rattle.fb_values.specs.declared.facts.Value.{Value}
 use Rattle.fb_values.specs.declared.facts.Value.TheVariants.{Ref}
 use Rattle.fb_values.specs.declared.indexes.Order.TheVariants.{Eavt}
-use Rattle.fb_model.specs.Numbers.{type_ref}
+use Rattle.fb_model.specs.Numbers.{type_ref, is_reference}
 use Rattle.fb_model.specs.History.{basis, said}
 use Rattle.fb_model.specs.Facts.{facts}
 use Rattle.fb_model.specs.Types.{is_of_type}
@@ -190,9 +190,11 @@ plain_typed kind f v is = by_option (read_as kind f) is
     by_option None is = absurd (cc)
     by_option (Some w) is = if_typed w (is_of_type kind w) refl is
 
-pub part_typed : (db : Db) (names : List (Name × ℕ)) (a : Attribute) (part : Part) (v : Value) → is_wrong_part a part ≡ false → value_of_part db names a part ≡ Some v → is_of_type a.kind v ≡ true
-part_typed db names a (plain f) v right is = plain_typed a.kind f v is
-part_typed db names a (entity name) v right is = by_option (entity_of db names name) is
+-- an entity that there is has a number in the range of references
+pub part_typed : (db : Db) (names : List (Name × ℕ)) (a : Attribute) (part : Part) (v : Value) → is_wrong_part a part ≡ false → value_of_part db names a part ≡ Some v
+    → ((n : ℕ) → v ≡ Ref n → is_reference n ≡ true) → is_of_type a.kind v ≡ true
+part_typed db names a (plain f) v right is small = plain_typed a.kind f v is
+part_typed db names a (entity name) v right is small = by_option (entity_of db names name) is
   where
     is_ref : eqb a.kind type_ref ≡ true
     is_ref = not_not (eqb a.kind type_ref) right
@@ -203,7 +205,10 @@ part_typed db names a (entity name) v right is = by_option (entity_of db names n
 
     by_option : (o : Option ℕ) → option_map Ref o ≡ Some v → is_of_type a.kind v ≡ true
     by_option None is = absurd (cc)
-    by_option (Some n) is = subst (λ x. is_of_type a.kind x ≡ true) (some_is (Ref n) v is) (and_from _ _ (and_from _ _ (eq-eqb type_ref a.kind (sym (eqb-true a.kind type_ref is_ref))) refl) refl)
+    by_option (Some n) is =
+        let v_is = some_is (Ref n) v is in
+        subst (λ x. is_of_type a.kind x ≡ true) v_is
+        (and_from _ _ (and_from _ _ (eq-eqb type_ref a.kind (sym (eqb-true a.kind type_ref is_ref))) (small n (sym v_is))) refl)
 
 -- ---- attributes by their keywords
 

@@ -1,5 +1,5 @@
 -- Each number that a transaction records is known, where it breaks no rule; each attribute is installed, and each value typed.
-use Rattle.std.proofs.Common.{◌≡◌, ℕ, ◌+◌, ◌<◌, ◌≤◌, ℤ, Bool, true, false, cond, not, ◌&&◌, ◌||◌, List, [], ◌∷◌, ◌++◌, refl, ap, sym, ◌∙◌, subst, arith, eqb, Option, Some, None}
+use Rattle.std.proofs.Common.{◌≡◌, ℕ, ◌+◌, ◌<◌, ◌≤◌, ℤ, pos, Bool, true, false, cond, not, ◌&&◌, ◌||◌, List, [], ◌∷◌, ◌++◌, refl, ap, sym, ◌∙◌, subst, arith, eqb, Option, Some, None}
 use Rattle.std.specs.Prelude.{Contains, flat_map, is_some, bytes_eq, option_and_then, option_map, option_to_list}
 use Rattle.std.specs.List.{list_any}
 use Rattle.std.specs.Option.{option_map_or}
@@ -32,7 +32,8 @@ use Rattle.tx_model.proofs.Lists.{first_of, later_of, none_passes, comes_from, g
 use Rattle.tx_model.proofs.Refused.{NoneBroken}
 use Rattle.tx_model.proofs.Assigned.{IsGiven, issued, new, assigned_given, IsGivenTo, each_given, last_number, last_at_least, goes_on, tempids_apart, first_met, is_same_tempid-true, found_issued}
 use Rattle.tx_model.proofs.Changed.{Origin, by_addition, by_retraction, by_withdrawal, IsAskedBy, wrong_part_none, named_attribute, part_typed}
-use Rattle.tx_model.proofs.Recorded.{the_change, change_has, recorded_has}
+use Rattle.tx_model.proofs.Recorded.{the_change, change_has, recorded_has, room_for_t, few_enough}
+use Rattle.tx_model.proofs.Users.{known_small}
 use Rattle.tx_model.proofs.Numbered.{some_passes, IsThere, there_is, assigned_some}
 
 some_is : {A : Type 0} (x y : A) → Some x ≡ Some y → x ≡ y
@@ -267,6 +268,8 @@ module _ (h : List Entry) (fs : List Form) (lawful : IsLawful h) (none : NoneBro
           ap (λ o. option_map_or (λ (attribute : Attribute). is_of_type attribute.kind d.v) o false)
           (ap (attribute_of (facts h)) asked_by.made.a_is ∙ named_attribute (facts h) asked_by.k asked_by.made.attribute asked_by.made.attribute_is)
           ∙ part_typed (db_of h) (transaction h fs).names asked_by.made.attribute asked_by.part d.v asked_by.right_part asked_by.made.value_is
+          (λ n is. known_small h (entry_of h (transaction h fs) (pos 0)) n lawful (room_for_t h fs lawful none) (few_enough h fs lawful none (pos 0))
+          (subst (λ v. is_known_value h (entry_of h (transaction h fs) (pos 0)) v ≡ true) is (part_known (pos 0) asked_by.made.attribute asked_by.part d.v asked_by.made.value_is)))
 
       by_origin : Origin (transaction h fs).db (transaction h fs).names (transaction h fs).asks d → is_typed (facts h) d ≡ true
       by_origin (by_addition group group_among ask ask_among asked_by) = asked_typed true ask asked_by

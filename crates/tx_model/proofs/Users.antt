@@ -1,17 +1,15 @@
 -- How many user entities a lawful history has.
-use Rattle.std.proofs.Common.{◌≡◌, ℕ, suc, ◌+◌, ◌*◌, ◌^◌, ◌<◌, ◌≤◌, Bool, true, false, cond, ◌&&◌, ◌||◌, List, [], ◌∷◌, ◌++◌, length, refl, ap, sym, ◌∙◌, arith, eqb, leb}
-use Rattle.std.specs.Prelude.{max}
+use Rattle.std.proofs.Common.{◌≡◌, ℕ, suc, ◌+◌, ◌*◌, ◌^◌, ◌<◌, ◌≤◌, Bool, true, false, cond, ◌&&◌, ◌||◌, List, [], ◌∷◌, ◌++◌, length, arith, eqb, leb, ltb}
 use Rattle.std.specs.List.{list_all}
 use Rattle.std.proofs.lemmas.Bool.{and_parts, eqb-true, leb-true}
 use Rattle.std.proofs.lemmas.Bool.Decides.{nat_tests}
 use Rattle.fb_values.specs.declared.facts.Datom.{Datom}
 use Rattle.fb_values.specs.declared.facts.Entry.{Entry}
-use Rattle.fb_model.specs.Numbers.{transaction_of, user_entity, user_number, is_builtin, greatest_t, most_datoms}
-use Rattle.fb_model.specs.History.{basis, said, users_in, users_issued}
+use Rattle.fb_model.specs.Numbers.{transaction_of, user_entity, user_number, is_builtin, greatest_t, most_datoms, is_reference}
+use Rattle.fb_model.specs.History.{basis, users_in, users_issued}
 use Rattle.fb_model.specs.Laws.{is_asserted, users_behind, users_after, is_known, is_known_value}
 use Rattle.fb_model.specs.Lawful.{IsLawful, IsLawfulAfter}
 use Rattle.fb_model.proofs.Invariants.{of_lawful}
-use Rattle.fb_model.proofs.LawfulHistories.{IsLawful-length}
 use Rattle.fb_model.proofs.OneMoreEntry.{basis-push, users_issued-push}
 
 -- each new user entity is that of a datom
@@ -76,3 +74,16 @@ basis_small =
 
 pub users_fit : (h : List Entry) → IsLawful h → users_issued h < 2 ^ 47
 users_fit h lawful = omega (arith, few_users h lawful, basis_small h lawful)
+
+-- ---- numbers of entities are in the range of references
+
+number_small : (b t u v n : ℕ) → b ≤ greatest_t → t ≤ greatest_t → u < 2 ^ 47 → v ≤ u + most_datoms
+    → (is_builtin n || (leb (transaction_of 0) n && leb n (transaction_of b)) || (leb (user_entity 1) n && leb n (user_entity u))
+    || eqb n (transaction_of t) || (leb (user_entity 1) n && leb n (user_entity v))) ≡ true
+    → ltb n (2 ^ 64) ≡ true
+number_small b t u v n basis_is t_is users more known = grind (arith, nat_tests, builtin_small)
+
+pub known_small : (h : List Entry) (entry : Entry) (n : ℕ) → IsLawful h → entry.t ≤ greatest_t → length entry.datoms ≤ most_datoms → is_known h entry n ≡ true → is_reference n ≡ true
+known_small h entry n lawful t_is few known =
+    number_small (basis h) entry.t (users_issued h) (users_after h entry) n (basis_small h lawful) t_is (users_fit h lawful)
+    (omega (arith, few, behind_at_most entry.datoms entry.datoms (users_issued h))) known

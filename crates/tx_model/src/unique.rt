@@ -5,9 +5,10 @@ ghost use Rattle.fb_model.specs.FirstEntry.{first_entry};
 ghost use Rattle.tx_refusals.specs.declared.reasons.Reason.TheVariants.{NotAnAttribute, WrongType, NotUniqueLookup, NotAnEntity, NestedWithoutId, TempidConflict, TempidNotAnEntity, UniqueConflict};
 ghost use Rattle.tx_model.specs.Samples.{keyword, string, number, vector, lookup_ref, list_of, set_of, map_of, add, retract, retract_all, cas, retract_entity, install, outcome, after, told, changed, refusal_at, id, email, install_email, with_email, age, install_age, doc, orders, two_aged, two_ids, both_ids_for};
 
-/// A text of a new entity, and nothing at all.
+/// A text of a new entity, bytes that are no text, and nothing at all.
 pub fn texts()
     ensures text { told (first_entry ∷ []) (add (string (codes "x")) doc (string (codes "hi")) ∷ []) ≡ Some (1, (codes "x", 17592186044417) ∷ []) }
+    ensures no_utf_8 { outcome (first_entry ∷ []) (add (string (codes "x")) doc (string (255 ∷ [])) ∷ []) ≡ refusal_at WrongType 0 }
     ensures nothing { told (first_entry ∷ []) [] ≡ Some (1, []) }
     ensures own { told (first_entry ∷ []) (add (string (codes "datomic.tx")) doc (string (codes "hi")) ∷ []) ≡ Some (1, []) }
 {}
