@@ -1,9 +1,9 @@
 -- Tokens, strings, and what stands between forms, by steps.
 use Rattle.std.proofs.Common.{◌≡◌, ◌≢◌, ℕ, ◌+◌, ◌<◌, ◌≤◌, Bool, true, false, ℤ, List, [], ◌∷◌, ◌++◌, length, take, drop, refl, ap, ◌∙◌, sym, subst, arith, codes}
 use Rattle.std.proofs.lemmas.List.{drop-drop, drop_all}
-use Rattle.std.specs.Prelude.{not, Some, None}
+use Rattle.std.specs.Prelude.{not, if◌then◌else◌, Some, None}
 use Rattle.edn_model.specs.Form as model
-use Rattle.edn_model.specs.Bytes.{quote, is_token_byte, ends_token, TokenEnds, NoCharacter}
+use Rattle.edn_model.specs.Bytes.{quote, is_token_byte, ends_token, begins_no_token, TokenEnds, NoCharacter}
 use Rattle.edn_model.specs.Instants.{IsInstant}
 use Rattle.edn_model.specs.Uuids.{IsUuid}
 use Rattle.edn_model.specs.Tokens.{IsAtom, StringStands}
@@ -13,7 +13,7 @@ use Rattle.edn_model.specs.Steps as steps
 use Rattle.edn_model.specs.Steps.{Frames, outermost, frame, opens_of, State, going, ended, Step, Reaches, stay, next, Free, land}
 use Rattle.edn_model.proofs.Reached.{joined, one}
 use Rattle.edn_alike.specs.Inside.{IsDistinctInside}
-use Rattle.edn_token.specs.Fronts.{TokenFront, BrokenRun}
+use Rattle.edn_token.specs.Fronts.{TokenFront, BrokenRun, BrokenToken}
 use Rattle.edn_token.specs.Gaps as gaps
 use Rattle.edn_token.specs.Gaps.{Blanks, BrokenComment}
 use Rattle.edn_core.specs.Frames.{open_of, frames_of, Kept, LeadsAstray, Whole, Enters}
@@ -159,15 +159,32 @@ token_there bytes here token at is size begins fits h =
       some = some;
     }
 
-pub token_broken : (bytes here : List ℕ) (start at n : ℕ) (frames : Frames) → here ≡ drop at bytes → length here + at ≡ length bytes → BeginsToken (drop at bytes) → Free frames → start ≤ at
-    → BrokenRun is_token_byte here n → LeadsAstray bytes start (going frames (drop at bytes)) faults.bad (at + n)
-token_broken bytes here start at n frames is size begins free after h =
+begun_broken : (bytes here : List ℕ) (start at n : ℕ) (frames : Frames) → here ≡ drop at bytes → length here + at ≡ length bytes → BeginsToken (drop at bytes) → Free frames → start ≤ at
+    → begins_no_token here ≡ false → BrokenRun is_token_byte here n → LeadsAstray bytes start (going frames (drop at bytes)) faults.bad (at + n)
+begun_broken bytes here start at n frames is size begins free after begun h =
     let back = ap (drop n) is ∙ drop-drop n at bytes in
     let inside = h.inside in
     stuck_at (at + n) (omega arith) (omega arith)
-    (faults.bad_character free
+    (faults.bad_character free (sym (ap begins_no_token is) ∙ begun)
     (record { is = sym is ∙ (h.run.is ∙ ap (λ z. take n here ++ z) back); each = h.run.each; utf8 = h.run.utf8; no_discard = begins.no_discard; no_set = begins.no_set })
     (subst (λ z. NoCharacter z) back h.none))
+
+none_begun : (bytes here : List ℕ) (start at : ℕ) (frames : Frames) → here ≡ drop at bytes → at ≤ length bytes → Free frames → start ≤ at
+    → begins_no_token here ≡ true → LeadsAstray bytes start (going frames (drop at bytes)) faults.bad (at + 0)
+none_begun bytes here start at frames is before free after none =
+    stuck_at (at + 0) (omega arith) (omega arith)
+    (subst (λ z. faults.Stuck (opens_of frames) (drop at bytes) faults.bad (drop z bytes)) (omega arith) (faults.no_token free (sym (ap begins_no_token is) ∙ none)))
+
+either_way : (bytes here : List ℕ) (start at n : ℕ) (frames : Frames) (none : Bool) → here ≡ drop at bytes → length here + at ≡ length bytes → BeginsToken (drop at bytes) → Free frames → start ≤ at
+    → begins_no_token here ≡ none → BrokenRun is_token_byte here n → LeadsAstray bytes start (going frames (drop at bytes)) faults.bad (at + (if none then 0 else n))
+either_way bytes here start at n frames true is size begins free after e h = none_begun bytes here start at frames is (omega arith) free after e
+either_way bytes here start at n frames false is size begins free after e h = begun_broken bytes here start at n frames is size begins free after e h
+
+pub token_broken : (bytes here : List ℕ) (start at place : ℕ) (frames : Frames) → here ≡ drop at bytes → length here + at ≡ length bytes → BeginsToken (drop at bytes) → Free frames → start ≤ at
+    → BrokenToken here place → LeadsAstray bytes start (going frames (drop at bytes)) faults.bad (at + place)
+token_broken bytes here start at place frames is size begins free after h =
+    subst (λ z. LeadsAstray bytes start (going frames (drop at bytes)) faults.bad (at + z)) (sym h.is)
+    (either_way bytes here start at h.at frames (begins_no_token here) is size begins free after refl h.broken)
 
 pub atom_leads : (bytes : List ℕ) (at n : ℕ) (frames : Frames) (token : List ℕ) (f : model.Form) → IsAtom f token → TokenStands (drop at bytes) token (drop n bytes) → TokenEnds (drop n bytes) → Free frames
     → Reaches (going frames (drop at bytes)) (land frames f (drop at bytes) (drop n bytes))

@@ -4,7 +4,7 @@ use Rattle.std.proofs.lemmas.Bool.{cases_eq, cases_Bool}
 use Rattle.std.proofs.lemmas.Bool.Decides.{nat_tests}
 use Rattle.std.specs.Prelude.{◌==◌, ◌&&◌, ◌||◌, not, if◌then◌else◌}
 use Rattle.edn_model.specs.Form as form
-use Rattle.edn_model.specs.Bytes.{quote, hash, open_paren, close_paren, semicolon, open_bracket, close_bracket, underscore, open_brace, close_brace, is_blank, is_opening, is_closing, is_token_byte, ends_token, Each, NoCharacter}
+use Rattle.edn_model.specs.Bytes.{quote, hash, open_paren, close_paren, semicolon, open_bracket, close_bracket, underscore, open_brace, close_brace, is_blank, is_opening, is_closing, is_token_byte, ends_token, may_begin_token, begins_no_token, Each, NoCharacter}
 use Rattle.edn_model.specs.Tokens.{IsAtom}
 use Rattle.edn_model.specs.Faults.{Open, in_list, in_vector, in_map, behind_key, in_set, behind_discard, behind_inst, behind_uuid, closes, opens_collection, opens_discard, TokenStands}
 use Rattle.edn_model.proofs.Runs.{heads, tails, both, Each-tail}
@@ -165,6 +165,16 @@ no_character_front (b ∷ rest) n =
 pub character_front : (here token rest : List ℕ) → TokenStands here token rest → NoCharacter rest → front here ≡ 10
 character_front here [] rest h n = ap front h.is ∙ no_character_front rest n
 character_front here (b ∷ token) rest h n = stands_front here (b ∷ token) rest h (λ e. let wrong = e in cc)
+
+no_token_front_of : (b : ℕ) (bytes : List ℕ) → is_token_byte b ≡ true → may_begin_token b ≡ false → front (b ∷ bytes) ≡ 10
+no_token_front_of b bytes h fails =
+    token_byte_front b bytes h (λ e. absurd (let same : may_begin_token b ≡ may_begin_token hash = ap may_begin_token (equal b hash e) in cc))
+
+pub no_token_front : (here : List ℕ) → begins_no_token here ≡ true → front here ≡ 10
+no_token_front [] h = cc
+no_token_front (b ∷ bytes) h =
+    let parts = both (is_token_byte b) (not (may_begin_token b)) h in
+    no_token_front_of b bytes parts.0 (not_true (may_begin_token b) parts.1)
 
 pub atom_front : (f : form.Form) (here token rest : List ℕ) → IsAtom f token → here ≡ token ++ rest → front here ≡ 10
 atom_front f here token rest h is =

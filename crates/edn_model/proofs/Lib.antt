@@ -10,6 +10,7 @@ pub mod Runs
 pub mod Utf8
 pub mod Spelled
 pub mod NoToken
+pub mod TokenFronts
 pub mod Fronts
 pub mod OneStep
 pub mod Joined

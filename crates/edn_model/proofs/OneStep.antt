@@ -6,23 +6,24 @@ use Rattle.std.proofs.lemmas.Str.{IsUtf8-append}
 use Rattle.std.specs.Prelude.{ℤ, ◌==◌, ◌&&◌, not, IsUtf8}
 use Rattle.edn_model.specs.Form as form
 use Rattle.edn_model.specs.Runs.{Stops}
-use Rattle.edn_model.specs.Bytes.{quote, hash, colon, plus, minus, semicolon, line_feed, is_blank, is_digit, is_token_byte, is_line_byte, Each, TokenEnds, NoCharacter}
+use Rattle.edn_model.specs.Bytes.{quote, hash, colon, plus, minus, semicolon, line_feed, is_blank, is_digit, is_token_byte, is_line_byte, begins_no_token, Each, TokenEnds, NoCharacter}
 use Rattle.edn_model.specs.Tokens.{IsAtom, IsDecimal, IsNumeral, unsigned, positive, negative}
 use Rattle.edn_model.specs.Instants.{IsInstant}
 use Rattle.edn_model.specs.Uuids.{IsUuid}
 use Rattle.edn_model.specs.Grammar.{TagStands, CommentStands, LastComment}
-use Rattle.edn_model.specs.Faults.{Open, in_list, in_vector, in_map, behind_key, in_set, behind_discard, behind_inst, behind_uuid, is_tag, wants_string, room, closes, opens_discard, begins_no_string, Fault, unsupported, bad, TokenStands, IsNoToken, IsUnsupported, Stuck, ends, closes_nothing, no_string, deep_collection, deep_discard, bad_character, bad_token, unsupported_token, in_string, in_comment, no_instant, no_uuid}
+use Rattle.edn_model.specs.Faults.{What, Open, in_list, in_vector, in_map, behind_key, in_set, behind_discard, behind_inst, behind_uuid, is_tag, wants_string, room, closes, opens_discard, begins_no_string, Fault, unsupported, bad, TokenStands, IsNoToken, IsUnsupported, Stuck, ends, closes_nothing, no_string, deep_collection, deep_discard, no_token, bad_character, bad_token, unsupported_token, in_string, in_comment, no_instant, no_uuid}
 use Rattle.edn_model.specs.Steps.{Frames, outermost, frame, opens_of, Outcome, fault, State, going, ended, land, closed, Free, HasRoom, Step, blank, comment, last_comment, discard, list, vector, map, set, inst, uuid, atom, string, close, instant, identifier, stuck, end}
 use Rattle.edn_model.proofs.Runs.{heads, tails, both, both_true, Each-weaken, one_run}
 use Rattle.edn_model.proofs.Utf8.{one_cut, no_cut}
 use Rattle.edn_model.proofs.Pieces.{is_ascii, ascii_utf8}
 use Rattle.edn_model.proofs.Spelled.{SameFault, one_string_fault, string_or_fault}
 use Rattle.edn_model.proofs.NoToken.{unsupported_no_atom, one_what, inst_supported, uuid_supported, unsupported_some}
+use Rattle.edn_model.proofs.TokenFronts.{front_of_atom, front_of_unsupported, none_begun}
 use Rattle.edn_model.proofs.OneForm.{begins_atom, atom_bytes, atom_first, token_stops, not_true}
 use Rattle.edn_model.proofs.OneInstant.{one_instant}
 use Rattle.edn_model.proofs.OnePlace.{same_string, same_token, same_comment, comment_goes_on, first_here, one_uuid}
 use Rattle.edn_model.proofs.OnePlace as place
-use Rattle.edn_model.proofs.Fronts.{front, blank_front, closing_front, closes_closing, stands_front, character_front, atom_front, collection_front, discard_of}
+use Rattle.edn_model.proofs.Fronts.{front, blank_front, closing_front, closes_closing, stands_front, character_front, atom_front, no_token_front, collection_front, discard_of}
 
 -- ---- tokens, as the bytes that stand in them
 
@@ -98,7 +99,8 @@ stuck_front (closes_nothing c n) = 3
 stuck_front (no_string {here = here} w b) = front here
 stuck_front (deep_collection w r o) = 5
 stuck_front (deep_discard r o) = 8
-stuck_front (bad_character w t n) = 10
+stuck_front (no_token w b) = 10
+stuck_front (bad_character w b t n) = 10
 stuck_front (bad_token w t e s n) = 10
 stuck_front (unsupported_token w t e u) = 10
 stuck_front (in_string f) = 4
@@ -115,7 +117,8 @@ stuck_front_is (closes_nothing {b = b} {rest = rest} c n) = closing_front b rest
 stuck_front_is (no_string w b) = refl
 stuck_front_is (deep_collection {here = here} w r o) = collection_front here o
 stuck_front_is (deep_discard {here = here} r o) = ap front (discard_of here o).is
-stuck_front_is (bad_character {here = here} {token = token} {rest = rest} w t n) = character_front here token rest t n
+stuck_front_is (no_token {here = here} w b) = no_token_front here b
+stuck_front_is (bad_character {here = here} {token = token} {rest = rest} w b t n) = character_front here token rest t n
 stuck_front_is (bad_token {here = here} {token = token} {rest = rest} w t e s n) = stands_front here token rest t (some_token token s)
 stuck_front_is (unsupported_token {what = what} {here = here} {token = token} {rest = rest} w t e u) = stands_front here token rest t (λ i. unsupported_some what token u i)
 stuck_front_is (in_string f) = refl
@@ -134,6 +137,14 @@ wants_apart opens other h k e = let same : wants_string opens ≡ wants_string o
 no_string_at : (here there : List ℕ) → begins_no_string here ≡ true → here ≡ there → begins_no_string there ≡ false → ⊥
 no_string_at here there h e k = let same : begins_no_string here ≡ begins_no_string there = ap begins_no_string e in cc
 
+-- no token begins here, and one may
+begins_apart : (here there : List ℕ) → begins_no_token here ≡ true → begins_no_token there ≡ false → here ≡ there → ⊥
+begins_apart here there h k e = let same : begins_no_token here ≡ begins_no_token there = ap begins_no_token e in cc
+
+-- what is unsupported begins with a byte with which tokens do
+unsupported_begun : {here there : List ℕ} (what : What) (token rest : List ℕ) → begins_no_token here ≡ true → IsUnsupported what token → there ≡ token ++ rest → here ≡ there → ⊥
+unsupported_begun {here = here} what token rest none h is e = none_begun here token rest (front_of_unsupported what token h) (e ∙ is) none
+
 same_place : {why : Fault} {x y : List ℕ} → x ≡ y → SameFault why why x y
 same_place e = record { fault = refl; place = e }
 
@@ -149,7 +160,8 @@ one_stuck (no_string w b) (closes_nothing d m) o e = same_place e
 one_stuck (no_string w b) (no_string v c) o e = same_place e
 one_stuck {opens = opens} {other = other} (no_string w b) (deep_collection v r p) o e = absurd (wants_apart opens other w v o)
 one_stuck (no_string {here = here} w b) (deep_discard {here = there} r p) o e = absurd (no_string_at here _ b (e ∙ (discard_of there p).is) refl)
-one_stuck {opens = opens} {other = other} (no_string w b) (bad_character v t n) o e = absurd (wants_apart opens other w v o)
+one_stuck {opens = opens} {other = other} (no_string w b) (no_token v c) o e = absurd (wants_apart opens other w v o)
+one_stuck {opens = opens} {other = other} (no_string w b) (bad_character v c t n) o e = absurd (wants_apart opens other w v o)
 one_stuck {opens = opens} {other = other} (no_string w b) (bad_token v t i s n) o e = absurd (wants_apart opens other w v o)
 one_stuck {opens = opens} {other = other} (no_string w b) (unsupported_token v t i u) o e = absurd (wants_apart opens other w v o)
 one_stuck (no_string {here = here} w b) (in_string {bytes = bytes} f) o e = absurd (no_string_at here (quote ∷ bytes) b e refl)
@@ -162,18 +174,27 @@ one_stuck {opens = opens} (deep_collection w r p) l o e = absurd (let same = stu
 one_stuck (deep_discard {here = here} r p) (no_string {here = there} v b) o e = absurd (no_string_at there _ b (sym e ∙ (discard_of here p).is) refl)
 one_stuck (deep_discard r p) (deep_discard s q) o e = same_place e
 one_stuck {opens = opens} (deep_discard r p) l o e = absurd (let same = stuck_apart {opens = opens} (deep_discard r p) l e in omega arith)
-one_stuck {opens = opens} {other = other} (bad_character w t n) (no_string v b) o e = absurd (wants_apart other opens v w (sym o))
-one_stuck (bad_character {token = a} {rest = x} w t n) (bad_character {token = b} {rest = y} v u m) o e = same_place (one_cut a x b y t.utf8 u.utf8 n m (sym t.is ∙ e ∙ u.is))
-one_stuck (bad_character w t n) (bad_token v u i s m) o e = absurd (token_no_cut (whole_token u i) t n (sym e))
-one_stuck (bad_character w t n) (unsupported_token v u i s) o e = absurd (token_no_cut (whole_token u i) t n (sym e))
-one_stuck {opens = opens} (bad_character w t n) l o e = absurd (let same = stuck_apart {opens = opens} (bad_character w t n) l e in omega arith)
+one_stuck {opens = opens} {other = other} (no_token w c) (no_string v b) o e = absurd (wants_apart other opens v w (sym o))
+one_stuck (no_token w c) (no_token v d) o e = same_place e
+one_stuck (no_token {here = here} w c) (bad_character {here = there} v d t n) o e = absurd (begins_apart here there c d e)
+one_stuck (no_token w c) (bad_token v t i s n) o e = same_place e
+one_stuck (no_token w c) (unsupported_token {what = what} {token = token} {rest = rest} v t i u) o e = absurd (unsupported_begun what token rest c u t.is e)
+one_stuck {opens = opens} (no_token w c) l o e = absurd (let same = stuck_apart {opens = opens} (no_token w c) l e in omega arith)
+one_stuck {opens = opens} {other = other} (bad_character w c t n) (no_string v b) o e = absurd (wants_apart other opens v w (sym o))
+one_stuck (bad_character {here = here} w c t n) (no_token {here = there} v d) o e = absurd (begins_apart there here d c (sym e))
+one_stuck (bad_character {token = a} {rest = x} w c t n) (bad_character {token = b} {rest = y} v d u m) o e = same_place (one_cut a x b y t.utf8 u.utf8 n m (sym t.is ∙ e ∙ u.is))
+one_stuck (bad_character w c t n) (bad_token v u i s m) o e = absurd (token_no_cut (whole_token u i) t n (sym e))
+one_stuck (bad_character w c t n) (unsupported_token v u i s) o e = absurd (token_no_cut (whole_token u i) t n (sym e))
+one_stuck {opens = opens} (bad_character w c t n) l o e = absurd (let same = stuck_apart {opens = opens} (bad_character w c t n) l e in omega arith)
 one_stuck {opens = opens} {other = other} (bad_token w t i s n) (no_string v b) o e = absurd (wants_apart other opens v w (sym o))
-one_stuck (bad_token w t i s n) (bad_character v u m) o e = absurd (token_no_cut (whole_token t i) u m e)
+one_stuck (bad_token w t i s n) (no_token v c) o e = same_place e
+one_stuck (bad_token w t i s n) (bad_character v c u m) o e = absurd (token_no_cut (whole_token t i) u m e)
 one_stuck (bad_token w t i s n) (bad_token v u j r m) o e = same_place e
 one_stuck (bad_token w t i s n) (unsupported_token {what = what} v u j r) o e = absurd (n.supported what (subst (IsUnsupported what) (sym (one_token (whole_token t i) (whole_token u j) e)) r))
 one_stuck {opens = opens} (bad_token w t i s n) l o e = absurd (let same = stuck_apart {opens = opens} (bad_token w t i s n) l e in omega arith)
 one_stuck {opens = opens} {other = other} (unsupported_token w t i s) (no_string v b) o e = absurd (wants_apart other opens v w (sym o))
-one_stuck (unsupported_token w t i s) (bad_character v u m) o e = absurd (token_no_cut (whole_token t i) u m e)
+one_stuck (unsupported_token {what = what} {token = token} {rest = rest} w t i u) (no_token v c) o e = absurd (unsupported_begun what token rest c u t.is (sym e))
+one_stuck (unsupported_token w t i s) (bad_character v c u m) o e = absurd (token_no_cut (whole_token t i) u m e)
 one_stuck (unsupported_token {what = what} w t i s) (bad_token v u j r m) o e = absurd (m.supported what (subst (IsUnsupported what) (one_token (whole_token t i) (whole_token u j) e) s))
 one_stuck (unsupported_token {what = a} w t i s) (unsupported_token {what = b} {token = token} v u j r) o e =
     record { fault = ap unsupported (one_what a b token (subst (IsUnsupported a) (one_token (whole_token t i) (whole_token u j) e) s) r); place = e }
@@ -303,10 +324,14 @@ only_stuck {frames = frames} (deep_collection {opens = opens} w r p) o e (set i 
 only_stuck {opens = opens} (deep_collection w r p) o e y = absurd (let same = fault_apart {opens = opens} (deep_collection w r p) y e in omega arith)
 only_stuck {frames = frames} (deep_discard {opens = opens} r p) o e (discard i s) = absurd (no_room opens (opens_of frames) r s o)
 only_stuck {opens = opens} (deep_discard r p) o e y = absurd (let same = fault_apart {opens = opens} (deep_discard r p) y e in omega arith)
-only_stuck (bad_character w t n) o e (inst i f) = absurd (token_no_cut (whole_inst i) t n (sym e))
-only_stuck (bad_character w t n) o e (uuid i f) = absurd (token_no_cut (whole_uuid i) t n (sym e))
-only_stuck {there = there} (bad_character w t n) o e (atom g token rest h is stops f) = absurd (token_no_cut (whole_atom g there token rest h is stops) t n (sym e))
-only_stuck {opens = opens} (bad_character w t n) o e y = absurd (let same = fault_apart {opens = opens} (bad_character w t n) y e in omega arith)
+only_stuck (no_token {here = here} w c) o e (inst i f) = absurd (begins_apart here _ c refl (e ∙ i.is))
+only_stuck (no_token {here = here} w c) o e (uuid i f) = absurd (begins_apart here _ c refl (e ∙ i.is))
+only_stuck (no_token {here = here} w c) o e (atom g token rest h is stops f) = absurd (none_begun here token rest (front_of_atom g token h) (e ∙ is) c)
+only_stuck {opens = opens} (no_token w c) o e y = absurd (let same = fault_apart {opens = opens} (no_token w c) y e in omega arith)
+only_stuck (bad_character w c t n) o e (inst i f) = absurd (token_no_cut (whole_inst i) t n (sym e))
+only_stuck (bad_character w c t n) o e (uuid i f) = absurd (token_no_cut (whole_uuid i) t n (sym e))
+only_stuck {there = there} (bad_character w c t n) o e (atom g token rest h is stops f) = absurd (token_no_cut (whole_atom g there token rest h is stops) t n (sym e))
+only_stuck {opens = opens} (bad_character w c t n) o e y = absurd (let same = fault_apart {opens = opens} (bad_character w c t n) y e in omega arith)
 only_stuck (bad_token w t i s n) o e (inst j f) = absurd (n.no_tag.0 (one_token (whole_token t i) (whole_inst j) e))
 only_stuck (bad_token w t i s n) o e (uuid j f) = absurd (n.no_tag.1 (one_token (whole_token t i) (whole_uuid j) e))
 only_stuck {there = there} (bad_token w t i s n) o e (atom g token rest h is stops f) =

@@ -60,7 +60,7 @@ low_at : (b : ℕ) → b < 128 → (i : ℕ) → get_or (b ∷ []) i 0 < 128
 low_at b low zero = low
 low_at b low (suc i) = lit< tt
 
-one_low : (b : ℕ) → b < 128 → IsUtf8 (b ∷ [])
+pub one_low : (b : ℕ) → b < 128 → IsUtf8 (b ∷ [])
 one_low b low = IsUtf8-from_ascii (b ∷ []) (low_at b low)
 
 -- a byte with which no character begins is past ASCII

@@ -89,6 +89,10 @@ ends_token b = is_blank b || ((is_opening b || is_closing b) || (b == quote || b
 abbrev pub is_token_byte : ℕ → Bool
 is_token_byte b = not (ends_token b)
 
+-- a token may begin with it: it stands in a name, or is the slash that is a symbol, or a character's backslash
+abbrev pub may_begin_token : ℕ → Bool
+may_begin_token b = is_name_byte b || (b == slash || b == backslash)
+
 abbrev pub is_line_byte : ℕ → Bool
 is_line_byte b = not (b == line_feed)
 
@@ -100,6 +104,10 @@ is_plain b = not (b == quote) && not (b == backslash)
 abbrev pub begins : (ℕ → Bool) → List ℕ → Bool
 begins test [] = false
 begins test (b ∷ bytes) = test b
+
+-- a byte comes next that ends no token, and no token begins with it
+abbrev pub begins_no_token : List ℕ → Bool
+begins_no_token bytes = begins (λ b. is_token_byte b && not (may_begin_token b)) bytes
 
 -- a token may end before these bytes
 abbrev pub token_ends : List ℕ → Bool

@@ -4,7 +4,7 @@
 -- "Integers", "Tagged elements".
 use Rattle.std.specs.Prelude.{◌≡◌, ◌≢◌, ◌⊎◌, ℕ, suc, ◌+◌, ◌-◌, ◌<◌, ◌≤◌, ◌==◌, Bool, true, false, ◌&&◌, ◌||◌, not, IsTrue, IsUtf8, ℤ, List, [], ◌∷◌, ◌++◌, length, drop, codes, None}
 use Rattle.edn_model.specs.Form as form
-use Rattle.edn_model.specs.Bytes.{quote, hash, open_paren, close_paren, plus, minus, point, colon, semicolon, open_bracket, backslash, close_bracket, underscore, open_brace, close_brace, is_blank, is_digit, is_letter, is_opening, is_closing, is_token_byte, is_line_byte, Each, TokenEnds, NoCharacter}
+use Rattle.edn_model.specs.Bytes.{quote, hash, open_paren, close_paren, plus, minus, point, colon, semicolon, open_bracket, backslash, close_bracket, underscore, open_brace, close_brace, is_blank, is_digit, is_letter, is_opening, is_closing, is_token_byte, is_line_byte, begins_no_token, Each, TokenEnds, NoCharacter}
 use Rattle.edn_model.specs.Tokens.{IsNumeral, IsLong, IsAtom, IsCode, Spells, StringStands, escape_of, is_hex_digit}
 use Rattle.edn_model.specs.Instants.{IsInstant}
 use Rattle.edn_model.specs.Uuids.{IsUuid}
@@ -188,8 +188,10 @@ pub data Stuck : List Open → List ℕ → Fault → List ℕ → Type 0 where
   deep_collection : {opens : List Open} {here : List ℕ} → wants_string opens ≡ false → room opens ≡ 0 → opens_collection here ≡ true
       → Stuck opens here deep here
   deep_discard : {opens : List Open} {here : List ℕ} → room opens ≡ 0 → opens_discard here ≡ true → Stuck opens here deep here
-  bad_character : {opens : List Open} {here token rest : List ℕ} → wants_string opens ≡ false → TokenStands here token rest → NoCharacter rest
-      → Stuck opens here bad rest
+  -- whatever follows the byte
+  no_token : {opens : List Open} {here : List ℕ} → wants_string opens ≡ false → begins_no_token here ≡ true → Stuck opens here bad here
+  bad_character : {opens : List Open} {here token rest : List ℕ} → wants_string opens ≡ false → begins_no_token here ≡ false
+      → TokenStands here token rest → NoCharacter rest → Stuck opens here bad rest
   bad_token : {opens : List Open} {here token rest : List ℕ} → wants_string opens ≡ false → TokenStands here token rest → TokenEnds rest
       → 0 < length token → IsNoToken token → Stuck opens here bad here
   unsupported_token : {opens : List Open} {what : What} {here token rest : List ℕ} → wants_string opens ≡ false → TokenStands here token rest

@@ -1,9 +1,10 @@
 //! Next in a text stands one form, or the end, or one fault at one byte, and no two of them.
-ghost use Rattle.std.specs.Prelude.{◌≡◌, ℕ, true, List};
+ghost use Rattle.std.specs.Prelude.{◌≡◌, ℕ, ◌<◌, true, false, List, ◌∷◌};
 ghost use Rattle.edn_model.specs.Form.{Form};
+ghost use Rattle.edn_model.specs.Bytes.{may_begin_token};
 ghost use Rattle.edn_model.specs.Likeness.{alike};
 ghost use Rattle.edn_model.specs.Grammar.{IsWholeTextOf, FormStands, OnlyGap};
-ghost use Rattle.edn_model.specs.Faults.{Fault, FaultAt};
+ghost use Rattle.edn_model.specs.Faults.{Fault, IsNoToken, FaultAt};
 
 /// A text is the text of one form.
 pub fn one_form()
@@ -41,4 +42,11 @@ pub fn no_fault_in_a_gap()
 pub fn one_fault()
     ensures { (bytes : List ℕ) (at : ℕ) (a b : Fault) (m n : ℕ) →
         FaultAt bytes at a m → FaultAt bytes at b n → (a ≡ b) × (m ≡ n) }
+{}
+
+/// With each byte of ASCII that may begin a token one begins, whether it is a form's or unsupported; with no other byte does
+/// one, whatever follows.
+pub fn tokens_begin()
+    ensures some { (b : ℕ) → b < 128 → may_begin_token b ≡ true → (more : List ℕ) × ¬ IsNoToken (b ∷ more) }
+    ensures none { (b : ℕ) (more : List ℕ) → may_begin_token b ≡ false → IsNoToken (b ∷ more) }
 {}

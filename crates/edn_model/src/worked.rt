@@ -89,3 +89,15 @@ pub fn unsupported_tokens()
     ensures wide { FaultAt (codes "9223372036854775808") 0 (unsupported wide) 0 }
     ensures namespaced { FaultAt (codes "#:a{}") 0 (unsupported namespaced_map) 0 }
 {}
+
+/// Where a byte stands with which no character begins. It is the first fault unless the run of bytes that it stands in
+/// begins with one with which no token does.
+pub fn broken_tokens()
+    ensures tilde { FaultAt (codes "~a" ++ 0xFF ∷ []) 0 bad 0 }
+    ensures letter { FaultAt (codes "a" ++ 0xFF ∷ []) 0 bad 1 }
+    ensures quote { FaultAt (codes "'" ++ 0xFF ∷ []) 0 bad 0 }
+    ensures number { FaultAt (codes "01" ++ 0xFF ∷ []) 0 bad 2 }
+    ensures tilde_inside { FaultAt (codes "[~a" ++ 0xFF ∷ codes "]") 0 bad 1 }
+    ensures letter_inside { FaultAt (codes "[a" ++ 0xFF ∷ codes "]") 0 bad 2 }
+    ensures quote_inside { FaultAt (codes "['" ++ 0xFF ∷ codes "]") 0 bad 1 }
+{}

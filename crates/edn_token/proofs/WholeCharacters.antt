@@ -1,16 +1,16 @@
 -- Where the characters of a run end, and bytes begin with which no character does.
-use Rattle.std.proofs.Common.{◌≡◌, ℕ, ◌+◌, ◌-◌, ◌<◌, ◌≤◌, Bool, true, false, List, [], ◌∷◌, ◌++◌, take, drop, length, get_or, Result, Ok, Err, MatchResult, Bor, length-append, length-drop, take-append-drop, refl, ap, ◌∙◌, sym, subst, arith, inl, inr}
+use Rattle.std.proofs.Common.{◌≡◌, ℕ, ◌+◌, ◌-◌, ◌<◌, ◌≤◌, Bool, true, false, List, [], ◌∷◌, ◌++◌, take, drop, length, get_or, length-append, length-drop, take-append-drop, refl, ap, ◌∙◌, sym, subst, arith, inl, inr}
 use Rattle.std.proofs.Math.Seq.{take-add}
 use Rattle.std.proofs.lemmas.Bool.{cases_lt}
 use Rattle.std.proofs.lemmas.Bool.Decides.{nat_tests}
 use Rattle.std.proofs.lemmas.List.{take_at, drop_at, take-append-le, drop-append-le, get_or_at}
 use Rattle.std.proofs.lemmas.Str.{IsCharBoundary-after_ascii, IsUtf8-drop, IsUtf8-append, IsUtf8-encode, inside_one, length-encode, len_utf8_ascii, len_utf8_bounds}
-use Rattle.std.specs.Prelude.{encode_utf8, IsUtf8, IsCharBoundary, not}
+use Rattle.std.specs.Prelude.{encode_utf8, IsUtf8, IsCharBoundary, not, if◌then◌else◌}
 use Rattle.std.specs.Str.{StartsWithNoChar, IsValidUpTo}
 use Rattle.edn_model.specs.Runs.{Each, Stops, IsRun}
-use Rattle.edn_model.specs.Bytes.{ends_token, is_token_byte, TokenEnds, NoCharacter}
+use Rattle.edn_model.specs.Bytes.{ends_token, is_token_byte, begins_no_token, TokenEnds, NoCharacter}
 use Rattle.edn_model.proofs.Runs.{Each-tail, both_true}
-use Rattle.edn_token.specs.Fronts.{TokenFront, BrokenRun}
+use Rattle.edn_token.specs.Fronts.{BrokenRun, TokenFront, BrokenToken}
 
 pub each_front : (test : ℕ → Bool) (a c : List ℕ) → Each test (a ++ c) → Each test a
 each_front test [] c h = refl
@@ -104,13 +104,9 @@ token_front here run rest token is e utf8 =
       ends = subst TokenEnds (sym back) (ends_where_stops rest is.stops);
     }
 
-pub token_broken : (here run rest : List ℕ) (n : ℕ) → IsRun is_token_byte here run rest → IsValidUpTo run n → BrokenRun is_token_byte here n
-token_broken = broken is_token_byte high_in_token
-
-pub token_read : (here run rest : List ℕ) (r : Result (Bor (List ℕ)) ℕ) → IsRun is_token_byte here run rest → MatchResult r (λ s. (s.now ≡ run) × IsUtf8 run) (IsValidUpTo run)
-    → MatchResult r (λ s. TokenFront here s.now (drop (length s.now) here)) (BrokenRun is_token_byte here)
-token_read here run rest (Ok s) is h = token_front here run rest s.now is h.0 h.1
-token_read here run rest (Err n) is h = token_broken here run rest n is h
+pub token_broken : (here run rest : List ℕ) (n place : ℕ) → IsRun is_token_byte here run rest → IsValidUpTo run n → place ≡ (if begins_no_token here then 0 else n)
+    → BrokenToken here place
+token_broken here run rest n place is valid e = record { at = n; broken = broken is_token_byte high_in_token here run rest n is valid; is = e }
 
 -- ---- behind a byte of ASCII
 

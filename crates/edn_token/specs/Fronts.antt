@@ -1,7 +1,7 @@
 -- Runs of characters at the front of some bytes.
 -- This project's own choice.
-use Rattle.std.specs.Prelude.{◌≡◌, ℕ, ◌<◌, Bool, IsUtf8, List, ◌++◌, length, take, drop}
-use Rattle.edn_model.specs.Bytes.{Each, is_token_byte, TokenEnds, NoCharacter}
+use Rattle.std.specs.Prelude.{◌≡◌, ℕ, ◌<◌, Bool, if◌then◌else◌, IsUtf8, List, ◌++◌, length, take, drop}
+use Rattle.edn_model.specs.Bytes.{Each, is_token_byte, begins_no_token, TokenEnds, NoCharacter}
 
 -- characters whose bytes pass a test, and the bytes behind them
 pub record RunStands (test : ℕ → Bool) (here run rest : List ℕ) : Type 0 where
@@ -19,3 +19,10 @@ pub record BrokenRun (test : ℕ → Bool) (here : List ℕ) (n : ℕ) : Type 0 
   pub inside : n < length here
   pub run : RunStands test here (take n here) (drop n here)
   pub none : NoCharacter (drop n here)
+
+-- the first fault of a run up to where a token ends, some of whose bytes are no characters: its first byte where no token
+-- begins with it, else the first byte with which no character begins
+pub record BrokenToken (here : List ℕ) (place : ℕ) : Type 0 where
+  pub at : ℕ
+  pub broken : BrokenRun is_token_byte here at
+  pub is : place ≡ (if begins_no_token here then 0 else at)

@@ -96,6 +96,23 @@ fn token_len(bytes: &[u8]) -> usize
     bytes.iter().take_while(|b| is_token_byte(**b)).count()
 }
 
+/// Whether the first byte ends no token, and no token begins with it.
+pub fn begins_no_token(bytes: &[u8]) -> bool
+    ensures { result ≡ text.begins_no_token bytes.now }
+{
+    match bytes.first() {
+        None => false,
+        Some(b) => is_token_byte(*b) && !may_begin_token(*b),
+    }
+}
+
+/// Whether a token may begin with the byte.
+fn may_begin_token(b: u8) -> bool
+    ensures { result ≡ text.may_begin_token b }
+{
+    is_name_byte(b) || matches!(b, b'/' | b'\\')
+}
+
 /// The bytes in front that stand in a string for themselves, and what follows.
 pub fn split_plain(bytes: &[u8]) -> (&[u8], &[u8])
     ensures { IsRun text.is_plain bytes.now result.0.now result.1.now }
@@ -132,10 +149,7 @@ pub fn split_digits(bytes: &[u8]) -> (&[u8], &[u8])
 fn digits_len(bytes: &[u8]) -> usize
     ensures { result ≡ prefix_len text.is_digit bytes.now }
 {
-    bytes
-        .iter()
-        .take_while(|b| matches!(**b, b'0'..=b'9'))
-        .count()
+    bytes.iter().take_while(|b| b.is_ascii_digit()).count()
 }
 
 /// The bytes in front that stand in a name, and what follows.

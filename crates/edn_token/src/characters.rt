@@ -1,10 +1,9 @@
 //! Bytes that are to be characters.
 ghost use Rattle.std.specs.Prelude.{◌≡◌, MatchResult, IsUtf8, length, drop};
 ghost use Rattle.std.specs.Str.{IsValidUpTo};
-ghost use Rattle.edn_model.specs.Bytes.{is_token_byte};
-ghost use Rattle.edn_token.specs.Fronts.{TokenFront, BrokenRun};
+ghost use Rattle.edn_token.specs.Fronts.{TokenFront, BrokenToken};
 
-use crate::bytes::split_token;
+use crate::bytes::{begins_no_token, split_token};
 use std::str;
 
 /// The bytes as a text, or how many of them are whole characters before the first that begins none.
@@ -17,13 +16,18 @@ pub(crate) fn characters(bytes: &[u8]) -> Result<&str, usize>
     }
 }
 
-/// The characters in front, up to the first byte that ends a token, or the place of a byte among them with which no
-/// character begins.
+/// The characters in front, up to the first byte that ends a token. Where some of the bytes are no characters, the place
+/// of the first fault among them: of the first byte where no token begins with it, else of the first with which no
+/// character does.
 pub fn read_token(here: &[u8]) -> Result<&str, usize>
     ensures { MatchResult result
         (λ s. TokenFront here.now s.now (drop (length s.now) here.now))
-        (BrokenRun is_token_byte here.now) }
+        (BrokenToken here.now) }
 {
     let (run, _) = split_token(here);
-    characters(run)
+    match characters(run) {
+        Ok(token) => Ok(token),
+        Err(_) if begins_no_token(here) => Err(0),
+        Err(at) => Err(at),
+    }
 }

@@ -6,6 +6,10 @@ ghost use Rattle.edn_token.specs.Strings.{hex_number, PieceIs};
 
 use crate::piece::Piece;
 
+const BACKSPACE: u8 = 0x08;
+
+const FORM_FEED: u8 = 0x0c;
+
 /// The escape whose backslash stands before these bytes.
 pub(crate) fn read_escape(behind: &[u8]) -> Piece<'_>
     ensures { PieceIs (backslash ∷ behind.now) result }
@@ -30,13 +34,13 @@ pub fn escape_of(letter: u8) -> Option<u8>
     ensures { result ≡ text.escape_of letter }
 {
     match letter {
-        b't' => Some(9),
-        b'r' => Some(13),
-        b'n' => Some(10),
+        b't' => Some(b'\t'),
+        b'r' => Some(b'\r'),
+        b'n' => Some(b'\n'),
         b'\\' => Some(b'\\'),
         b'"' => Some(b'"'),
-        b'b' => Some(8),
-        b'f' => Some(12),
+        b'b' => Some(BACKSPACE),
+        b'f' => Some(FORM_FEED),
         _ => None,
     }
 }
@@ -92,8 +96,8 @@ pub fn hex_value(digit: u8) -> Option<u8>
 {
     match digit {
         b'0'..=b'9' => Some(digit - b'0'),
-        b'a'..=b'f' => Some(digit - 87),
-        b'A'..=b'F' => Some(digit - 55),
+        b'a'..=b'f' => Some(digit - b'a' + 10),
+        b'A'..=b'F' => Some(digit - b'A' + 10),
         _ => None,
     }
 }

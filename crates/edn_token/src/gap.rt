@@ -38,9 +38,7 @@ fn line_end(line: &[u8]) -> Result<usize, usize>
     ensures { LineIs line.now result }
 {
     let (text, rest) = split_line(line);
-    if let Err(at) = characters(text) {
-        return Err(at);
-    }
+    characters(text)?;
     match rest.split_first() {
         None => Ok(text.len()),
         Some(_) => Ok(text.len() + 1),

@@ -88,7 +88,7 @@ fn begins_symbol(text: &[u8]) -> bool
     match text.split_first() {
         None => false,
         Some((first, others)) => {
-            !is_digit(*first)
+            !first.is_ascii_digit()
                 && *first != b':'
                 && *first != b'#'
                 && !(matches!(*first, b'.' | b'+' | b'-') && begins_digit(others))
@@ -101,14 +101,8 @@ fn begins_digit(bytes: &[u8]) -> bool
 {
     match bytes.first() {
         None => false,
-        Some(b) => is_digit(*b),
+        Some(b) => b.is_ascii_digit(),
     }
-}
-
-fn is_digit(b: u8) -> bool
-    ensures { result ≡ kinds.is_digit b }
-{
-    matches!(b, b'0'..=b'9')
 }
 
 fn are_names(text: &[u8]) -> bool

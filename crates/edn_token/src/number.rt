@@ -13,13 +13,8 @@ pub fn magnitude(digits: &[u8]) -> Option<u64>
 {
     let mut n: u64 = 0;
     for b in digits {
-        let Some(tens) = n.checked_mul(10) else {
-            return None;
-        };
-        let Some(sum) = tens.checked_add(u64::from(*b - b'0')) else {
-            return None;
-        };
-        n = sum;
+        let tens = n.checked_mul(10)?;
+        n = tens.checked_add(u64::from(*b - b'0'))?;
     }
     Some(n)
 }
@@ -38,7 +33,7 @@ pub fn is_decimal(digits: &[u8]) -> bool
 pub fn are_digits(bytes: &[u8]) -> bool
     ensures { result ≡ list_all is_digit bytes.now }
 {
-    bytes.iter().all(|b| matches!(*b, b'0'..=b'9'))
+    bytes.iter().all(|b| b.is_ascii_digit())
 }
 
 /// An integer, or that it has no 64 bits.
@@ -48,6 +43,9 @@ pub enum Number {
     Wide,
 }
 
+/// The first number past those of 64 bits with a sign; behind a minus it is still one.
+const WIDE: u64 = 1 << 63;
+
 /// The number of digits without a sign, or behind a plus.
 pub fn positive(digits: &[u8]) -> Option<Number>
     ensures { DigitsAre pos digits.now result }
@@ -56,7 +54,7 @@ pub fn positive(digits: &[u8]) -> Option<Number>
         return None;
     }
     match magnitude(digits) {
-        Some(n) if n < 0x8000_0000_0000_0000 => Some(Number::Long(n as i64)),
+        Some(n) if n < WIDE => Some(Number::Long(n as i64)),
         _ => Some(Number::Wide),
     }
 }
@@ -69,8 +67,8 @@ pub fn negative(digits: &[u8]) -> Option<Number>
         return None;
     }
     match magnitude(digits) {
-        Some(n) if n < 0x8000_0000_0000_0000 => Some(Number::Long(-(n as i64))),
-        Some(n) if n == 0x8000_0000_0000_0000 => Some(Number::Long(i64::MIN)),
+        Some(n) if n < WIDE => Some(Number::Long(-(n as i64))),
+        Some(n) if n == WIDE => Some(Number::Long(i64::MIN)),
         _ => Some(Number::Wide),
     }
 }

@@ -60,10 +60,26 @@ fn names_and_gaps(rt: HostRuntime) -> Result<(), Fail> {
         (skip_blanks(b" ,;c\n\t;d\n1"), skip_blanks(b"; \xFF")),
         (Ok(9), Err(2))
     );
-    assert_eq!(rt;
-        (read_token(b"ab;c"), read_token(b"ab\xFF")),
-        (Ok("ab"), Err(2))
-    );
+    Ok(())
+}
+
+/// What stands somewhere, and the characters up to the end of a token, or the place of the first fault among them.
+const FRONTS: [(&[u8], Result<&str, usize>); 8] = [
+    (b"ab;c", Ok("ab")),
+    (b"~a)", Ok("~a")),
+    (b"ab\xFF", Err(2)),
+    (b"~a\xFF", Err(0)),
+    (b"'\xFF", Err(0)),
+    (b"\xC3(", Err(0)),
+    (b"\\\xFF", Err(1)),
+    (b"a~\xFF", Err(2)),
+];
+
+#[test]
+fn tokens_have_one_first_fault(rt: HostRuntime) -> Result<(), Fail> {
+    for (here, want) in FRONTS {
+        assert_eq!(rt; read_token(here), want);
+    }
     Ok(())
 }
 
