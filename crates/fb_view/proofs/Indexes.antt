@@ -8,7 +8,7 @@ use Rattle.fb_values.specs.declared.facts.Value.{Value}
 use Rattle.fb_values.specs.declared.facts.Value.TheVariants.{Keyword, Str, Bool, Long, Ref, Instant, Uuid, Symbol, Uri}
 use Rattle.fb_values.specs.declared.indexes.Order.{Order}
 use Rattle.fb_values.specs.declared.indexes.Order.TheVariants.{Eavt, Aevt, Avet, Vaet}
-use Rattle.fb_search.specs.Lists.{list_in}
+use Rattle.fb_values.specs.Lists.{list_in}
 use Rattle.fb_model.specs.History.{said, upto}
 use Rattle.fb_model.specs.Numbers.{type_ref}
 use Rattle.fb_model.specs.Facts.{value_eq, facts}
@@ -24,7 +24,7 @@ use Rattle.seg_tree.specs.Nodes.{tree_datoms}
 use Rattle.seg_tree.specs.Indexes.{tree_in}
 use Rattle.fb_view.specs.Kept.{Kept, Stands}
 use Rattle.fb_view.specs.Merged.{merged}
-use Rattle.fb_view.proofs.Rises.{rises_from}
+use Rattle.fb_values.proofs.Rising.{rises_from}
 use Rattle.fb_view.proofs.Beginnings.{upto_lawful}
 use Rattle.fb_view.proofs.Standing.{early_said}
 use Rattle.fb_view.proofs.Merging.{merged_rises, rising-filter, from_merged, into_merged}
