@@ -11,12 +11,12 @@ ghost use Rattle.tx_model.specs.Asks as asks;
 ghost use Rattle.plain_pull.specs.Databases.{db_in, found_in};
 ghost use Rattle.plain_pull.specs.Numbers.{IsForm};
 
-use plain_asks::{TYPE_REF, begins_with_one_of, local_name, split};
 use edn_form::Edn;
 use fb_memory::Memory;
-use plain_reads::{attribute_named, attribute_of};
 use fb_text::Text;
 use fb_values::{Datom, Value};
+use plain_asks::{TYPE_REF, begins_with_one_of, local_name, split};
+use plain_reads::{attribute_named, attribute_of};
 use std::alloc::Global;
 use std::cmp::Ordering;
 

@@ -22,8 +22,8 @@ use crate::reading::{first_bad_item, read_pattern};
 use crate::trees::tree;
 use edn_form::Edn;
 use fb_memory::Memory;
-use plain_reads::{Filter, Id, Window, entity_named, in_order, said, standing, view};
 use fb_values::{Datom, Entry, Order};
+use plain_reads::{Filter, Id, Window, entity_named, in_order, said, standing, view};
 use std::alloc::Global;
 
 /// The most maps of a pull.

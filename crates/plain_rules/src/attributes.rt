@@ -4,9 +4,9 @@ ghost use Rattle.fb_model.specs.Numbers.{cardinality_one, cardinality_many};
 ghost use Rattle.fb_model.specs.Schema as schema;
 ghost use Rattle.plain_reads.specs.Attributes.{attribute_in};
 
+use fb_values::Datom;
 use plain_asks::{TYPE_REF, begins_with_one_of, local_name};
 use plain_reads::{Attribute, USER_ENTITIES, attribute_of, entity_under};
-use fb_values::Datom;
 
 pub const TX_INSTANT: u64 = 8;
 

@@ -19,15 +19,15 @@ use crate::attributes::{is_attribute, is_one, is_unique, is_whole};
 use crate::changes::{append, value_of_part};
 use crate::tempids::entity_of;
 use crate::transaction::{Transaction, extend, is_change, joined};
-use plain_asks::{Ask, Part, value_in};
 use edn_form::Edn;
 use fb_memory::Memory;
+use fb_text::Text;
+use fb_values::{Datom, Value};
+use plain_asks::{Ask, Part, value_in};
 use plain_reads::{
     Attribute, GREATEST_INSTANT, attribute_named, is_builtin, is_of, last_instant, users_in,
     value_of,
 };
-use fb_text::Text;
-use fb_values::{Datom, Value};
 use std::alloc::Global;
 
 const GREATEST_T: u64 = 2_147_483_647;

@@ -13,11 +13,11 @@ use crate::attributes::is_one;
 use crate::components::{closed_set, is_in};
 use crate::db::Db;
 use crate::tempids::entity_of;
-use plain_asks::{Ask, Name, Part, value_in};
 use fb_memory::Memory;
-use plain_reads::{Attribute, attribute_named};
 use fb_text::Text;
 use fb_values::{Datom, Value};
+use plain_asks::{Ask, Name, Part, value_in};
+use plain_reads::{Attribute, attribute_named};
 use std::alloc::Global;
 
 /// What an ask may ask for.

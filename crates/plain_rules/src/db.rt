@@ -5,8 +5,8 @@ ghost use Rattle.fb_model.specs.Lawful.{IsLawful};
 ghost use Rattle.tx_model.specs.Tempids.{db_of};
 
 use fb_memory::Memory;
-use plain_reads::{basis, said, standing, users_issued};
 use fb_values::{Datom, Entry};
+use plain_reads::{basis, said, standing, users_issued};
 use std::alloc::Global;
 use std::marker::Model;
 use tx_model::lawful_histories_are_small;

@@ -12,11 +12,11 @@ ghost use Rattle.plain_reads.specs.Attributes.{attribute_in};
 ghost use Rattle.plain_rules.specs.Faults.{is_faulty_lookup, lookups_inside};
 
 use crate::db::Db;
-use plain_asks::{Name, TYPE_REF, value_in};
 use edn_form::{Edn, Items};
 use fb_memory::Memory;
-use plain_reads::{Attribute, attribute_named};
 use fb_text::Text;
+use plain_asks::{Name, TYPE_REF, value_in};
+use plain_reads::{Attribute, attribute_named};
 
 /// What may be wrong with a lookup ref.
 #[derive(Clone, Copy)]

@@ -13,14 +13,14 @@ use crate::attributes::TX_INSTANT;
 use crate::db::Db;
 use crate::lookups::{LookupFault, has_faulty_lookup, is_unknown};
 use crate::tempids::{found, holders, identified};
+use edn_form::Edn;
+use fb_memory::Memory;
+use fb_text::Text;
 use plain_asks::{
     Ask, Name, Part, TYPE_REF, attribute_of_ask, is_reserved, is_same_tempid, is_tempid, names_of,
     value_in,
 };
-use edn_form::Edn;
-use fb_memory::Memory;
 use plain_reads::{Attribute, attribute_named};
-use fb_text::Text;
 use std::alloc::Global;
 
 /// What may be wrong with a name.

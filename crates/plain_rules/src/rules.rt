@@ -19,8 +19,8 @@ use crate::name_rules::{
     names_no_attribute, names_with_fault,
 };
 use crate::transaction::{Transaction, joined_asks};
-use plain_asks::Ask;
 use fb_memory::Memory;
+use plain_asks::Ask;
 use std::alloc::Global;
 use tx_refusals::{Reason, Refusal};
 

@@ -10,11 +10,13 @@ ghost use Rattle.plain_rules.specs.Pairs.{pairs_of, entity_for, next_after, plac
 
 use crate::attributes::is_identity;
 use crate::db::Db;
-use plain_asks::{Ask, Name, OWN_TEMPID, Part, is_same_tempid, is_tempid, names_of, value_in};
 use edn_form::Edn;
 use fb_memory::Memory;
-use plain_reads::{Attribute, TRANSACTIONS, USER_ENTITIES, attribute_named, holder, is_issued, named};
 use fb_text::Text;
+use plain_asks::{Ask, Name, OWN_TEMPID, Part, is_same_tempid, is_tempid, names_of, value_in};
+use plain_reads::{
+    Attribute, TRANSACTIONS, USER_ENTITIES, attribute_named, holder, is_issued, named,
+};
 use std::alloc::Global;
 
 // ---- names in the database

@@ -11,10 +11,10 @@ ghost use Rattle.plain_rules.specs.Transactions.{transaction_of};
 use crate::changes::{Kind, append, implied_by_forms, of_forms};
 use crate::db::Db;
 use crate::tempids::assigned;
-use plain_asks::{Ask, Name};
 use fb_memory::Memory;
-use plain_reads::{TRANSACTIONS, holds, in_order, standing};
 use fb_values::{Datom, Order, Value};
+use plain_asks::{Ask, Name};
+use plain_reads::{TRANSACTIONS, holds, in_order, standing};
 use std::alloc::Global;
 
 const TX_INSTANT: u64 = 8;

@@ -2,11 +2,11 @@
 use crate::points::t_in;
 use crate::sight::Sight;
 use crate::stops::{ReadStop, or_refused};
-use plain_asks::{TYPE_REF, value_in};
 use edn_form::Edn;
 use fb_memory::Memory;
-use plain_reads::{Attribute, Range, attribute_named, attribute_of, covers};
 use fb_values::{Order, Probe, Value};
+use plain_asks::{TYPE_REF, value_in};
+use plain_reads::{Attribute, Range, attribute_named, attribute_of, covers};
 
 const BAD_COMPONENT: &str = "read/bad-component";
 

@@ -5,8 +5,8 @@ use crate::replies;
 use crate::sight::Sight;
 use crate::stops::ReadStop;
 use edn_form::Edn;
-use plain_reads::{Range, basis, transactions};
 use fb_values::Order;
+use plain_reads::{Range, basis, transactions};
 
 impl Sight<'_> {
     pub(crate) fn reply(&self, look: Look<'_>) -> Result<Edn, ReadStop> {

@@ -12,11 +12,11 @@ use edn_form::Edn;
 use fb_history::EntryList;
 use fb_memory::Memory;
 use fb_model::{first_is_lawful, lawful_entries_make_lawful_histories};
-use plain_reads::{Window, basis};
 use fb_values::Entry;
+use plain_reads::{Window, basis};
+use plain_step::{Guard, NoGuard, Outcome, step};
 use std::alloc::Global;
 use std::marker::Model;
-use plain_step::{Guard, NoGuard, Outcome, step};
 use tx_model::an_accepted_entry_is_lawful;
 
 /// What a session sees as it begins: every transaction, and no history.

@@ -1,10 +1,10 @@
 //! What the reads of a session see, and the names that are found in it.
 use crate::filters::{Filter, selects};
-use plain_asks::value_in;
 use edn_form::Edn;
 use fb_memory::Memory;
-use plain_reads::{Id, Range, Window, attribute_named, entity_named, said, scan, standing, view};
 use fb_values::{Datom, Entry, Order};
+use plain_asks::value_in;
+use plain_reads::{Id, Range, Window, attribute_named, entity_named, said, scan, standing, view};
 use std::alloc::Global;
 
 #[derive(Drop)]

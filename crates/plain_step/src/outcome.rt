@@ -12,13 +12,13 @@ ghost use Rattle.plain_step.specs.Outcomes.{outcome_of, shaped_step};
 use crate::guard::Guard;
 use edn_form::Edn;
 use fb_memory::Memory;
-use plain_reads::{last_instant, next_instant};
 use fb_text::Text;
 use fb_values::{Datoms, Entry};
-use std::alloc::Global;
+use plain_reads::{last_instant, next_instant};
 use plain_rules::{Db, Transaction, least_refusal, named_tempids, recorded, transaction_at};
-use tx_refusals::{Reason, Refusal};
 use plain_walk::{first_without_shape, flat, forms_in};
+use std::alloc::Global;
+use tx_refusals::{Reason, Refusal};
 
 /// What a transaction comes to.
 #[derive(Drop)]

@@ -10,10 +10,10 @@ ghost use Rattle.tx_model.specs.Walk as walk;
 ghost use Rattle.plain_asks.specs.Asked.{name_of};
 ghost use Rattle.plain_walk.specs.Keys.{key_of, verb_of};
 
-use plain_asks::{Name, begins_with_one_of, local_name, split};
 use edn_form::{Edn, Items};
 use fb_memory::Memory;
 use fb_text::Text;
+use plain_asks::{Name, begins_with_one_of, local_name, split};
 use std::alloc::Global;
 
 /// What a list form asks.

@@ -8,11 +8,11 @@ ghost use Rattle.plain_asks.specs.Asked.{part_of, asks_of};
 ghost use Rattle.plain_walk.specs.Keys.{verb_of};
 
 use crate::forms::{Verb, entity_in, keyword_in, lookup_in, verb_in};
-use plain_asks::{Ask, Name, Part, TYPE_REF, one};
 use edn_form::Edn;
 use fb_memory::Memory;
-use plain_reads::attribute_named;
 use fb_values::Datom;
+use plain_asks::{Ask, Name, Part, TYPE_REF, one};
+use plain_reads::attribute_named;
 use std::alloc::Global;
 
 // ---- what the facts before say of a keyword in an attribute's place

@@ -9,11 +9,11 @@ ghost use Rattle.plain_walk.specs.Keys.{key_of};
 
 use crate::forms::{Key, key_in, lookup_in, name_in};
 use crate::lists::{has_many, has_parts, has_ref, has_uniqueness, scalar};
-use plain_asks::{Ask, Name, Part, append, copy_path, one};
 use edn_form::{Edn, Items, Pairs};
 use fb_memory::Memory;
 use fb_text::Text;
 use fb_values::Datom;
+use plain_asks::{Ask, Name, Part, append, copy_path, one};
 use std::alloc::Global;
 
 /// The name that a pair of `:db/id` gives.

@@ -12,10 +12,10 @@ use crate::lists::verb_asks;
 use crate::maps::{
     links, name_of_map, nested_asks, pair_asks, scalar_asks, sequence_asks, vector_asks,
 };
-use plain_asks::{Ask, Name, Part, append, inside, one};
 use edn_form::{Edn, Items, Pairs};
 use fb_memory::Memory;
 use fb_values::Datom;
+use plain_asks::{Ask, Name, Part, append, inside, one};
 use std::alloc::Global;
 
 /// What the pairs of a map ask, one after another.

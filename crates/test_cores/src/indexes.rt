@@ -1,11 +1,11 @@
 //! The four indexes of a history, as the plain program has them and as a core has them.
 use anyhow::Result;
 use fb_db::Db;
-use plain_reads::{Range, Window, scan};
 use fb_preds::Selector;
 use fb_scan::{Bounds, index_range, seek};
 use fb_values::{Datom, Datoms, Entry, Order, Probe, Value};
 use fb_view::Snapshot;
+use plain_reads::{Range, Window, scan};
 use std::alloc::Global;
 
 const ORDERS: [Order; 4] = [Order::Eavt, Order::Aevt, Order::Avet, Order::Vaet];

@@ -9,8 +9,8 @@ use anyhow::{Result, bail};
 use fb_history::EntryList;
 use fb_model::{first_is_lawful, lawful_entries_make_lawful_histories};
 use fb_values::Entry;
-use std::alloc::Global;
 use plain_step::{NoGuard, Outcome, step};
+use std::alloc::Global;
 use tx_model::an_accepted_entry_is_lawful;
 
 /// The indexes of the new database, and those after each of the transactions.

@@ -2,9 +2,9 @@
 use crate::guard::NoEmptyText;
 use crate::run::Run;
 use anyhow::Result;
-use test_data::{Dice, PEOPLE, SCHEMA};
 use std::alloc::Global;
 use std::collections::BTreeMap;
+use test_data::{Dice, PEOPLE, SCHEMA};
 
 /// How many transactions are drawn for one history.
 const ROUND: u32 = 20;

@@ -2,8 +2,8 @@
 use crate::pen::Pen;
 use crate::worlds::World;
 use anyhow::Result;
-use test_data::{Dice, data};
 use std::alloc::Global;
+use test_data::{Dice, data};
 
 const OTHER_FORMS: [&str; 9] = [
     "[:pull [*] 17592186044417]",

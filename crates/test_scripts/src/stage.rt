@@ -7,11 +7,11 @@ use crate::tally::Tally;
 use crate::worlds::drawn_world;
 use crate::{merges, session};
 use anyhow::{Result, bail};
-use test_data::Dice;
 use std::alloc::Global;
 use std::io::Write;
 use std::sync::Wait;
 use std::thread::Threads;
+use test_data::Dice;
 
 /// What scripts run on, and where it is said that a line is another one than it should be.
 #[derive(Drop)]

@@ -1,8 +1,8 @@
 //! Worlds: small schemas that are drawn from a seed, in which scripts go on.
 use crate::fields::{Field, OWN, SHARED};
 use anyhow::Result;
-use test_data::{Dice, PEOPLE, SCHEMA};
 use std::alloc::Global;
+use test_data::{Dice, PEOPLE, SCHEMA};
 
 /// The commands with which its scripts begin, and the attributes that these install.
 #[derive(Drop)]
