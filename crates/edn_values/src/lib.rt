@@ -11,6 +11,7 @@ pub use types::{is_of_type, type_of};
 pub use values::{as_edn, as_value};
 pub use words::{
     begins_with_one_of, is_keyword_text, is_reserved, is_symbol_text, is_uri_text, local_name,
+    split,
 };
 
 #[cfg(test)]

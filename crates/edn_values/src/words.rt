@@ -63,7 +63,7 @@ fn is_keyword_name(text: &str) -> bool
 }
 
 /// The parts before and behind the first slash, where there is one.
-fn split(text: &str) -> Option<(&str, &str)>
+pub fn split(text: &str) -> Option<(&str, &str)>
     ensures { option_map {U = List ℕ × List ℕ} (λ parts. (parts.0.now, parts.1.now)) result ≡ cut_at_slash text.now }
 {
     text.split_once('/')

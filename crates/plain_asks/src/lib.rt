@@ -1,14 +1,12 @@
-//! What a transaction asks, by the definitions, over plain lists and slowly: words, values, and asks with their names.
+//! What a transaction asks, by the definitions, over plain lists and slowly: values, and asks with their names.
 //! Nothing of the product stands on it.
 #![tactic(auto)]
 
 mod asks;
 mod names;
 mod values;
-mod words;
 
 pub use asks::{Ask, Name, Part, append, copy_path, inside, one};
 pub use fb_memory::Memory;
 pub use names::{OWN_TEMPID, attribute_of_ask, is_same_tempid, is_tempid, names_of};
-pub use values::{TYPE_KEYWORD, TYPE_REF, value_in};
-pub use words::{begins_with_one_of, is_reserved, local_name, split};
+pub use values::value_in;

@@ -12,10 +12,11 @@ ghost use Rattle.plain_pull.specs.Databases.{db_in, found_in};
 ghost use Rattle.plain_pull.specs.Numbers.{IsForm};
 
 use edn_form::Edn;
+use edn_values::{begins_with_one_of, local_name, split};
 use fb_memory::Memory;
+use fb_numbers::TYPE_REF;
 use fb_text::Text;
 use fb_values::{Datom, Value};
-use plain_asks::{TYPE_REF, begins_with_one_of, local_name, split};
 use plain_reads::{attribute_named, attribute_of};
 use std::alloc::Global;
 use std::cmp::Ordering;

@@ -4,19 +4,8 @@ ghost use Rattle.std.specs.Int.{int_max};
 ghost use Rattle.fb_model.specs.Numbers.{user_number as model_user_number, is_builtin as model_is_builtin, transaction_of, user_entity, greatest_instant};
 ghost use Rattle.fb_model.specs.History.{basis as model_basis, last_instant as model_last_instant, into_range, users_in as model_users_in, users_issued as model_users_issued, is_issued as model_is_issued};
 
+use fb_numbers::{GREATEST_INSTANT, LEAST_INSTANT, TRANSACTIONS, USER_ENTITIES};
 use fb_values::{Datom, Entry};
-
-/// The entity of transaction 0.
-pub const TRANSACTIONS: u64 = 13_194_139_533_312;
-
-/// The number before the first user entity.
-pub const USER_ENTITIES: u64 = 17_592_186_044_416;
-
-/// The first millisecond of the year 1.
-pub const LEAST_INSTANT: i64 = -62_135_596_800_000;
-
-/// The last millisecond of the year 9999.
-pub const GREATEST_INSTANT: i64 = 253_402_300_799_999;
 
 /// The t of the last entry.
 pub fn basis(entries: &[Entry]) -> u32

@@ -13,8 +13,7 @@ mod views;
 pub use facts::{holds, is_of, said, standing};
 pub use fb_memory::Memory;
 pub use history::{
-    GREATEST_INSTANT, LEAST_INSTANT, TRANSACTIONS, USER_ENTITIES, basis, is_builtin, is_issued,
-    last_instant, next_instant, user_number, users_in, users_issued,
+    basis, is_builtin, is_issued, last_instant, next_instant, user_number, users_in, users_issued,
 };
 pub use names::{Id, entity_named, holder, value_of};
 pub use orders::in_order;

@@ -9,11 +9,11 @@ ghost use Rattle.plain_reads.specs.Filters.{window_of, tests};
 ghost use Rattle.plain_reads.specs.Ranges.{range_in};
 
 use crate::facts::{said, standing};
-use crate::history::TRANSACTIONS;
 use crate::orders::in_order;
 use crate::schema::covers;
 use crate::views::{Filter, Window, view};
 use fb_memory::Memory;
+use fb_numbers::TRANSACTIONS;
 use fb_values::{Datom, Entry, Order, Probe, Value, cmp_probe};
 use std::alloc::Global;
 use std::cmp::Ordering;

@@ -8,25 +8,12 @@ ghost use Rattle.fb_model.specs.Schema.{keyword_of as model_keyword_of, entity_o
 ghost use Rattle.plain_reads.specs.Attributes.{attribute_in};
 
 use crate::names::value_of;
+use fb_numbers::{
+    CARDINALITY, CARDINALITY_MANY, IDENT, INDEX, IS_COMPONENT, TYPE_REF, UNIQUE, VALUE_TYPE,
+};
 use fb_text::Text;
 use fb_values::{Datom, Order, Value};
 use std::cmp::Ordering;
-
-pub const IDENT: u64 = 1;
-
-pub const VALUE_TYPE: u64 = 2;
-
-pub const CARDINALITY: u64 = 3;
-
-pub const UNIQUE: u64 = 4;
-
-pub const IS_COMPONENT: u64 = 5;
-
-pub const INDEX: u64 = 6;
-
-pub const TYPE_REF: u64 = 14;
-
-pub const CARDINALITY_MANY: u64 = 21;
 
 /// An installed attribute.
 #[derive(Clone, Copy)]

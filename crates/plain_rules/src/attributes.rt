@@ -4,15 +4,10 @@ ghost use Rattle.fb_model.specs.Numbers.{cardinality_one, cardinality_many};
 ghost use Rattle.fb_model.specs.Schema as schema;
 ghost use Rattle.plain_reads.specs.Attributes.{attribute_in};
 
+use edn_values::{begins_with_one_of, local_name};
+use fb_numbers::{TYPE_REF, UNIQUE_IDENTITY, UNIQUE_VALUE, USER_ENTITIES};
 use fb_values::Datom;
-use plain_asks::{TYPE_REF, begins_with_one_of, local_name};
-use plain_reads::{Attribute, USER_ENTITIES, attribute_of, entity_under};
-
-pub const TX_INSTANT: u64 = 8;
-
-const UNIQUE_IDENTITY: u64 = 30;
-
-const UNIQUE_VALUE: u64 = 31;
+use plain_reads::{Attribute, attribute_of, entity_under};
 
 /// Whether an entity has one value of it.
 pub fn is_one(facts: &[Datom], a: u64) -> bool

@@ -21,20 +21,16 @@ use crate::tempids::entity_of;
 use crate::transaction::{Transaction, extend, is_change, joined};
 use edn_form::Edn;
 use fb_memory::Memory;
+use fb_numbers::{GREATEST_INSTANT, MOST_DATOMS, MOST_USERS};
 use fb_text::Text;
 use fb_values::{Datom, Value};
 use plain_asks::{Ask, Part, value_in};
 use plain_reads::{
-    Attribute, GREATEST_INSTANT, attribute_named, is_builtin, is_of, last_instant, users_in,
-    value_of,
+    Attribute, attribute_named, is_builtin, is_of, last_instant, users_in, value_of,
 };
 use std::alloc::Global;
 
 const GREATEST_T: u64 = 2_147_483_647;
-
-const MOST_USERS: u64 = 1_099_511_627_776;
-
-const MOST_DATOMS: usize = 65_535;
 
 const MOST_BYTES: u128 = 67_108_864;
 

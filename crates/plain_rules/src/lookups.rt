@@ -14,8 +14,9 @@ ghost use Rattle.plain_rules.specs.Faults.{is_faulty_lookup, lookups_inside};
 use crate::db::Db;
 use edn_form::{Edn, Items};
 use fb_memory::Memory;
+use fb_numbers::TYPE_REF;
 use fb_text::Text;
-use plain_asks::{Name, TYPE_REF, value_in};
+use plain_asks::{Name, value_in};
 use plain_reads::{Attribute, attribute_named};
 
 /// What may be wrong with a lookup ref.

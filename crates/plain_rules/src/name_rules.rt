@@ -9,16 +9,16 @@ ghost use Rattle.edn_form.specs.View.{form_of};
 ghost use Rattle.plain_reads.specs.Attributes.{attribute_in};
 ghost use Rattle.plain_rules.specs.Faults.{has_fault};
 
-use crate::attributes::TX_INSTANT;
 use crate::db::Db;
 use crate::lookups::{LookupFault, has_faulty_lookup, is_unknown};
 use crate::tempids::{found, holders, identified};
 use edn_form::Edn;
+use edn_values::is_reserved;
 use fb_memory::Memory;
+use fb_numbers::{TX_INSTANT, TYPE_REF};
 use fb_text::Text;
 use plain_asks::{
-    Ask, Name, Part, TYPE_REF, attribute_of_ask, is_reserved, is_same_tempid, is_tempid, names_of,
-    value_in,
+    Ask, Name, Part, attribute_of_ask, is_same_tempid, is_tempid, names_of, value_in,
 };
 use plain_reads::{Attribute, attribute_named};
 use std::alloc::Global;

@@ -12,11 +12,10 @@ use crate::attributes::is_identity;
 use crate::db::Db;
 use edn_form::Edn;
 use fb_memory::Memory;
+use fb_numbers::{TRANSACTIONS, USER_ENTITIES};
 use fb_text::Text;
 use plain_asks::{Ask, Name, OWN_TEMPID, Part, is_same_tempid, is_tempid, names_of, value_in};
-use plain_reads::{
-    Attribute, TRANSACTIONS, USER_ENTITIES, attribute_named, holder, is_issued, named,
-};
+use plain_reads::{Attribute, attribute_named, holder, is_issued, named};
 use std::alloc::Global;
 
 // ---- names in the database

@@ -12,12 +12,11 @@ use crate::changes::{Kind, append, implied_by_forms, of_forms};
 use crate::db::Db;
 use crate::tempids::assigned;
 use fb_memory::Memory;
+use fb_numbers::{TRANSACTIONS, TX_INSTANT};
 use fb_values::{Datom, Order, Value};
 use plain_asks::{Ask, Name};
-use plain_reads::{TRANSACTIONS, holds, in_order, standing};
+use plain_reads::{holds, in_order, standing};
 use std::alloc::Global;
-
-const TX_INSTANT: u64 = 8;
 
 #[derive(Drop)]
 pub struct Transaction {

@@ -4,8 +4,9 @@ use crate::sight::Sight;
 use crate::stops::{ReadStop, or_refused};
 use edn_form::Edn;
 use fb_memory::Memory;
+use fb_numbers::TYPE_REF;
 use fb_values::{Order, Probe, Value};
-use plain_asks::{TYPE_REF, value_in};
+use plain_asks::value_in;
 use plain_reads::{Attribute, Range, attribute_named, attribute_of, covers};
 
 const BAD_COMPONENT: &str = "read/bad-component";

@@ -1,10 +1,6 @@
 //! The filters that a session finds by their names.
+use fb_numbers::{DOC, USER_ENTITIES};
 use fb_values::{Datom, Value};
-
-/// The number before the first user entity.
-const USER_ENTITIES: u64 = 17_592_186_044_416;
-
-const DOC: u64 = 7;
 
 #[derive(Clone, Copy)]
 pub(crate) enum Filter {

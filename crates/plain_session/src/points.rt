@@ -1,8 +1,9 @@
 //! Points in time: the ends that as-of and since take, and those of a range of the log.
 use crate::stops::{ReadStop, or_refused};
 use edn_form::Edn;
+use fb_numbers::TRANSACTIONS;
 use fb_values::Entry;
-use plain_reads::{TRANSACTIONS, basis, end_of_instant, end_of_number};
+use plain_reads::{basis, end_of_instant, end_of_number};
 
 const BAD_POINT: &str = "read/bad-point";
 

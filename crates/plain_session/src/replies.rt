@@ -1,9 +1,10 @@
 //! What answers a command, as a form.
 use edn_form::{Edn, Items, Pairs};
 use fb_memory::Memory;
+use fb_numbers::TRANSACTIONS;
 use fb_text::Text;
 use fb_values::{Datom, Entry, Value};
-use plain_reads::{TRANSACTIONS, attribute_of};
+use plain_reads::attribute_of;
 use std::alloc::Global;
 
 /// The number, which no number of a history reaches where it is past the greatest integer of a form.

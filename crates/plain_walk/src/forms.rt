@@ -11,9 +11,10 @@ ghost use Rattle.plain_asks.specs.Asked.{name_of};
 ghost use Rattle.plain_walk.specs.Keys.{key_of, verb_of};
 
 use edn_form::{Edn, Items};
+use edn_values::{begins_with_one_of, local_name, split};
 use fb_memory::Memory;
 use fb_text::Text;
-use plain_asks::{Name, begins_with_one_of, local_name, split};
+use plain_asks::Name;
 use std::alloc::Global;
 
 /// What a list form asks.

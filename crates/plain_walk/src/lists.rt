@@ -10,8 +10,9 @@ ghost use Rattle.plain_walk.specs.Keys.{verb_of};
 use crate::forms::{Verb, entity_in, keyword_in, lookup_in, verb_in};
 use edn_form::Edn;
 use fb_memory::Memory;
+use fb_numbers::TYPE_REF;
 use fb_values::Datom;
-use plain_asks::{Ask, Name, Part, TYPE_REF, one};
+use plain_asks::{Ask, Name, Part, one};
 use plain_reads::attribute_named;
 use std::alloc::Global;
 
