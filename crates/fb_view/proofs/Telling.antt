@@ -19,7 +19,7 @@ use Rattle.fb_values.specs.Orders.{key_of, value_cmp}
 use Rattle.fb_values.specs.OrderLaws.{value_cmp_total, IsAtOnePlace}
 use Rattle.fb_values.specs.Lists.{Lists, list_in}
 use Rattle.fb_values.specs.Rising.{StandsBefore, IsRising}
-use Rattle.fb_model.specs.Numbers.{type_ref}
+use Rattle.fb_model.specs.Numbers.{type_ref, is_reference}
 use Rattle.fb_model.specs.History.{basis, said, upto}
 use Rattle.fb_model.specs.Facts.{is_of, value_eq, standing, holds, holder, least, facts}
 use Rattle.fb_model.specs.Types.{is_of_type}
@@ -129,14 +129,10 @@ whole_by f d x is passes = let same = is_of-true d.e d.a d.v x is in rw (same.e_
 
 ref_held : (found : Option Attribute) (e : ℕ) → option_map_or (λ attribute. is_of_type attribute.kind (Ref e)) found false ≡ true → option_map_or (is_held Vaet) found false ≡ true
 ref_held None e typed = typed
-ref_held (Some attribute) e typed = let same = eqb-true type_ref attribute.kind (and_parts (eqb type_ref attribute.kind) true (first typed)).0 in eq-eqb attribute.kind type_ref (sym same)
-  where
-    is_true : (b : Bool) → ((b && true) && true) ≡ true → (b && true) ≡ true
-    is_true true is = refl
-    is_true false is = is
-
-    first : is_of_type attribute.kind (Ref e) ≡ true → (eqb type_ref attribute.kind && true) ≡ true
-    first is = is_true (eqb type_ref attribute.kind) is
+ref_held (Some attribute) e typed =
+    let formed = and_parts (eqb type_ref attribute.kind && is_reference e) true typed in
+    let same = eqb-true type_ref attribute.kind (and_parts (eqb type_ref attribute.kind) (is_reference e) formed.0).0 in
+    eq-eqb attribute.kind type_ref (sym same)
 
 pub refs_covered : (h : List Entry) (e : ℕ) → IsLawful h → (d : Datom) → Contains (said h) d → value_eq d.v (Ref e) ≡ true → IsTrue (covers (facts h) Vaet d.a)
 refs_covered h e lawful d there is =
