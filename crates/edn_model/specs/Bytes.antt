@@ -1,11 +1,26 @@
 -- Kinds of bytes in a text.
 -- EDN, edn-format: "General considerations", "Symbols", "Keywords".
 use Rattle.std.specs.Prelude.{ℕ, nat_le, ◌==◌, Bool, true, false, ◌&&◌, ◌||◌, not, IsTrue, List, [], ◌∷◌}
-use Rattle.std.specs.Str.{StartsWithNoChar}
+use Rattle.std.specs.Str.{byte, StartsWithNoChar}
 pub use Rattle.edn_model.specs.Runs.{Each}
+
+abbrev pub backspace : ℕ
+backspace = 8
+
+abbrev pub tab : ℕ
+tab = 9
 
 abbrev pub line_feed : ℕ
 line_feed = 10
+
+abbrev pub form_feed : ℕ
+form_feed = 12
+
+abbrev pub carriage_return : ℕ
+carriage_return = 13
+
+abbrev pub space : ℕ
+space = 32
 
 abbrev pub quote : ℕ
 quote = 34
@@ -57,29 +72,30 @@ close_brace = 125
 
 -- tab, line feed, vertical tab, form feed, carriage return, space, comma
 abbrev pub is_blank : ℕ → Bool
-is_blank b = (nat_le 9 b && nat_le b 13) || (b == 32 || b == 44)
+is_blank b = (nat_le tab b && nat_le b carriage_return) || (b == space || b == byte ",")
 
 abbrev pub is_digit : ℕ → Bool
-is_digit b = nat_le 48 b && nat_le b 57
+is_digit b = nat_le (byte "0") b && nat_le b (byte "9")
 
 abbrev pub is_letter : ℕ → Bool
-is_letter b = (nat_le 65 b && nat_le b 90) || (nat_le 97 b && nat_le b 122)
+is_letter b = (nat_le (byte "A") b && nat_le b (byte "Z")) || (nat_le (byte "a") b && nat_le b (byte "z"))
 
 -- . * + ! - _ ? $ % & = < > : #
 abbrev pub is_sign : ℕ → Bool
 is_sign b =
-    ((b == 46 || (b == 42 || b == 43)) || (b == 33 || (b == 45 || b == 95)))
-    || (((b == 63 || b == 36) || (b == 37 || (b == 38 || b == 61))) || ((b == 60 || b == 62) || (b == 58 || b == 35)))
+    ((b == point || (b == byte "*" || b == plus)) || (b == byte "!" || (b == minus || b == underscore)))
+    || (((b == byte "?" || b == byte "$") || (b == byte "%" || (b == byte "&" || b == byte "=")))
+    || ((b == byte "<" || b == byte ">") || (b == colon || b == hash)))
 
 -- stands in a name: a letter, a digit, one of the signs, or part of a character past ASCII
 abbrev pub is_name_byte : ℕ → Bool
-is_name_byte b = (is_letter b || is_digit b) || (is_sign b || nat_le 128 b)
+is_name_byte b = (is_letter b || is_digit b) || (is_sign b || nat_le 0x80 b)
 
 abbrev pub is_opening : ℕ → Bool
-is_opening b = b == 40 || (b == 91 || b == 123)
+is_opening b = b == open_paren || (b == open_bracket || b == open_brace)
 
 abbrev pub is_closing : ℕ → Bool
-is_closing b = b == 41 || (b == 93 || b == 125)
+is_closing b = b == close_paren || (b == close_bracket || b == close_brace)
 
 -- where it is the next byte, a token ends
 abbrev pub ends_token : ℕ → Bool

@@ -6,14 +6,15 @@ use Rattle.std.specs.Fmt.{signed_decimal}
 use Rattle.std.specs.Int.{w128, to_be_bytes}
 use Rattle.jiff_core.specs.Calendar.{IsCivilDate, days_from_civil}
 use Rattle.uuid.specs.Text.{lower, hyphenated_text}
+use Rattle.std.specs.Str.{byte}
 use Rattle.edn_model.specs.Form as form
-use Rattle.edn_model.specs.Bytes.{quote, hash, open_paren, close_paren, colon, point, open_bracket, backslash, close_bracket, open_brace, close_brace}
+use Rattle.edn_model.specs.Bytes.{tab, line_feed, carriage_return, space, quote, hash, open_paren, close_paren, colon, point, open_bracket, backslash, close_bracket, open_brace, close_brace}
 use Rattle.edn_model.specs.Instants.{digits, date_text, second_text, instant_of}
 
 -- what stands in a string for a byte of its text
 abbrev pub escaped : ℕ → List ℕ
 escaped b =
-    if b == 9 then backslash ∷ 116 ∷ [] else (if b == 10 then backslash ∷ 110 ∷ [] else (if b == 13 then backslash ∷ 114 ∷ []
+    if b == tab then codes "\\t" else (if b == line_feed then codes "\\n" else (if b == carriage_return then codes "\\r"
     else (if b == quote then backslash ∷ quote ∷ [] else (if b == backslash then backslash ∷ backslash ∷ [] else b ∷ []))))
 
 abbrev pub string_text : List ℕ → List ℕ
@@ -29,7 +30,7 @@ pub record CanonInstant (z : ℤ) (bytes : List ℕ) : Type 0 where
   pub second : ℕ
   pub milli : ℕ
   pub exists : (1 ≤ year) × IsCivilDate (pos year) month day × (hour < 24) × (minute < 60) × (second < 60) × (milli < 1000)
-  pub text : bytes ≡ date_text year month day ++ 84 ∷ (second_text hour minute second ++ point ∷ (digits 3 milli ++ codes "-00:00"))
+  pub text : bytes ≡ date_text year month day ++ byte "T" ∷ (second_text hour minute second ++ point ∷ (digits 3 milli ++ codes "-00:00"))
   pub is : z ≡ instant_of (days_from_civil (pos year) month day) (((hour * 60 + minute) * 60 + second) * 1000 + milli) (pos 0)
 
 -- the members' texts between their brackets
@@ -55,14 +56,14 @@ abbrev mutual
 
   pub CanonRest : form.Forms → List ℕ → Type 0
   CanonRest form.no_forms bytes = bytes ≡ []
-  CanonRest (form.form f fs) bytes = (text : List ℕ) × (rest : List ℕ) × Canon f text × CanonRest fs rest × (bytes ≡ 32 ∷ (text ++ rest))
+  CanonRest (form.form f fs) bytes = (text : List ℕ) × (rest : List ℕ) × Canon f text × CanonRest fs rest × (bytes ≡ space ∷ (text ++ rest))
 
   pub CanonPairs : form.Pairs → List ℕ → Type 0
   CanonPairs form.no_pairs bytes = bytes ≡ []
   CanonPairs (form.pair k v ps) bytes =
-      (key : List ℕ) × (value : List ℕ) × (rest : List ℕ) × Canon k key × Canon v value × CanonRestPairs ps rest × (bytes ≡ key ++ 32 ∷ (value ++ rest))
+      (key : List ℕ) × (value : List ℕ) × (rest : List ℕ) × Canon k key × Canon v value × CanonRestPairs ps rest × (bytes ≡ key ++ space ∷ (value ++ rest))
 
   pub CanonRestPairs : form.Pairs → List ℕ → Type 0
   CanonRestPairs form.no_pairs bytes = bytes ≡ []
   CanonRestPairs (form.pair k v ps) bytes =
-      (key : List ℕ) × (value : List ℕ) × (rest : List ℕ) × Canon k key × Canon v value × CanonRestPairs ps rest × (bytes ≡ 32 ∷ (key ++ 32 ∷ (value ++ rest)))
+      (key : List ℕ) × (value : List ℕ) × (rest : List ℕ) × Canon k key × Canon v value × CanonRestPairs ps rest × (bytes ≡ space ∷ (key ++ space ∷ (value ++ rest)))

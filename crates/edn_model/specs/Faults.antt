@@ -3,6 +3,7 @@
 -- This project's own choice; what is unsupported is of EDN, edn-format: "Characters", "Floating point numbers",
 -- "Integers", "Tagged elements".
 use Rattle.std.specs.Prelude.{◌≡◌, ◌≢◌, ◌⊎◌, ℕ, suc, ◌+◌, ◌-◌, ◌<◌, ◌≤◌, ◌==◌, Bool, true, false, ◌&&◌, ◌||◌, not, IsTrue, IsUtf8, ℤ, List, [], ◌∷◌, ◌++◌, length, drop, codes, None}
+use Rattle.std.specs.Str.{byte}
 use Rattle.edn_model.specs.Form as form
 use Rattle.edn_model.specs.Bytes.{quote, hash, open_paren, close_paren, plus, minus, point, colon, semicolon, open_bracket, backslash, close_bracket, underscore, open_brace, close_brace, is_blank, is_digit, is_letter, is_opening, is_closing, is_token_byte, is_line_byte, begins_no_token, Each, TokenEnds, NoCharacter}
 use Rattle.edn_model.specs.Tokens.{IsNumeral, IsLong, IsAtom, IsCode, Spells, StringStands, escape_of, is_hex_digit}
@@ -100,13 +101,13 @@ pub record DigitsBefore (mark : ℕ) (token : List ℕ) : Type 0 where
 
 -- a point, an exponent's e in either case, or the M of a decimal
 abbrev pub is_float_mark : ℕ → Bool
-is_float_mark b = (b == point || b == 77) || (b == 101 || b == 69)
+is_float_mark b = (b == point || b == byte "M") || (b == byte "e" || b == byte "E")
 
 abbrev pub IsUnsupported : What → List ℕ → Type 0
 IsUnsupported char token = (more : List ℕ) × (token ≡ backslash ∷ more)
 IsUnsupported float token =
     ((mark : ℕ) × IsTrue (is_float_mark mark) × DigitsBefore mark token) ⊎ ((more : List ℕ) × (token ≡ hash ∷ hash ∷ more))
-IsUnsupported big_int token = DigitsBefore 78 token
+IsUnsupported big_int token = DigitsBefore (byte "N") token
 IsUnsupported wide token = (z : ℤ) × IsNumeral z token × (¬ IsLong z)
 IsUnsupported namespaced_map token = (more : List ℕ) × (token ≡ hash ∷ colon ∷ more)
 IsUnsupported tag token =
@@ -131,16 +132,16 @@ pub record TokenStands (here token rest : List ℕ) : Type 0 where
 
 -- the bytes behind a backslash, and no escape begins with them
 pub data IsBadEscape : List ℕ → Type 0 where
-  unknown : {b : ℕ} {more : List ℕ} → escape_of b ≡ None → b ≢ 117 → IsBadEscape (b ∷ more)
-  no_digit : {bytes : List ℕ} → (digits : List ℕ) (b : ℕ) (more : List ℕ) → bytes ≡ 117 ∷ (digits ++ b ∷ more) → length digits < 4
+  unknown : {b : ℕ} {more : List ℕ} → escape_of b ≡ None → b ≢ byte "u" → IsBadEscape (b ∷ more)
+  no_digit : {bytes : List ℕ} → (digits : List ℕ) (b : ℕ) (more : List ℕ) → bytes ≡ byte "u" ∷ (digits ++ b ∷ more) → length digits < 4
       → Each is_hex_digit digits → is_hex_digit b ≡ false → IsBadEscape bytes
-  surrogate : {a b c d : ℕ} {bytes more : List ℕ} → bytes ≡ 117 ∷ a ∷ b ∷ c ∷ d ∷ more → Each is_hex_digit (a ∷ b ∷ c ∷ d ∷ [])
+  surrogate : {a b c d : ℕ} {bytes more : List ℕ} → bytes ≡ byte "u" ∷ a ∷ b ∷ c ∷ d ∷ more → Each is_hex_digit (a ∷ b ∷ c ∷ d ∷ [])
       → ((n : ℕ) → ¬ IsCode a b c d n) → IsBadEscape bytes
 
 -- the bytes behind a backslash, which end within an escape
 pub data IsCutEscape : List ℕ → Type 0 where
   no_letter : IsCutEscape []
-  few_digits : {digits : List ℕ} → length digits < 4 → Each is_hex_digit digits → IsCutEscape (117 ∷ digits)
+  few_digits : {digits : List ℕ} → length digits < 4 → Each is_hex_digit digits → IsCutEscape (byte "u" ∷ digits)
 
 -- the bytes behind the quote of a string, which is not whole
 pub data StringFault : List ℕ → Fault → List ℕ → Type 0 where

@@ -1,6 +1,7 @@
 -- Which text is which instant. A day has the number that `jiff`'s calendar gives it.
 -- EDN, edn-format: "#inst"; the texts are those of RFC 3339, of which the time, its fraction and its offset may be left out.
-use Rattle.std.specs.Prelude.{◌≡◌, ℕ, zero, suc, ◌+◌, ◌*◌, ◌/◌, ◌%◌, ◌^◌, ◌<◌, ◌≤◌, ℤ, pos, negsuc, neg_ℤ, ◌+ℤ◌, ◌-ℤ◌, ◌*ℤ◌, int_le, Bool, ◌&&◌, IsTrue, List, [], ◌∷◌, ◌++◌, length}
+use Rattle.std.specs.Prelude.{◌≡◌, ℕ, zero, suc, ◌+◌, ◌*◌, ◌/◌, ◌%◌, ◌^◌, ◌<◌, ◌≤◌, ℤ, pos, negsuc, neg_ℤ, ◌+ℤ◌, ◌-ℤ◌, ◌*ℤ◌, int_le, Bool, ◌&&◌, IsTrue, List, [], ◌∷◌, ◌++◌, length, codes}
+use Rattle.std.specs.Str.{byte}
 use Rattle.jiff_core.specs.Calendar.{IsCivilDate, days_from_civil}
 use Rattle.edn_model.specs.Bytes.{plus, minus, point, colon, is_digit, Each}
 use Rattle.edn_model.specs.Tokens.{number}
@@ -8,7 +9,7 @@ use Rattle.edn_model.specs.Tokens.{number}
 -- the lowest digits of a number, this many of them
 abbrev pub digits : ℕ → ℕ → List ℕ
 digits zero n = []
-digits (suc count) n = digits count (n / 10) ++ (48 + n % 10) ∷ []
+digits (suc count) n = digits count (n / 10) ++ (byte "0" + n % 10) ∷ []
 
 -- ---- dates
 
@@ -54,7 +55,7 @@ pub record IsTime (millis : ℕ) (bytes : List ℕ) : Type 0 where
 -- how many minutes a clock is ahead of UTC
 pub data IsOffset : ℤ → List ℕ → Type 0 where
   unsaid : {ahead : ℤ} {bytes : List ℕ} → bytes ≡ [] → ahead ≡ pos 0 → IsOffset ahead bytes
-  utc : {ahead : ℤ} {bytes : List ℕ} → bytes ≡ 90 ∷ [] → ahead ≡ pos 0 → IsOffset ahead bytes
+  utc : {ahead : ℤ} {bytes : List ℕ} → bytes ≡ codes "Z" → ahead ≡ pos 0 → IsOffset ahead bytes
   east : {ahead : ℤ} {bytes : List ℕ} → (hours minutes : ℕ) → bytes ≡ plus ∷ minute_text hours minutes → (hours < 24) × (minutes < 60)
       → ahead ≡ pos (hours * 60 + minutes) → IsOffset ahead bytes
   west : {ahead : ℤ} {bytes : List ℕ} → (hours minutes : ℕ) → bytes ≡ minus ∷ minute_text hours minutes → (hours < 24) × (minutes < 60)
@@ -72,5 +73,5 @@ instant_of day millis offset = (day *ℤ pos 86400000 +ℤ pos millis) -ℤ offs
 -- a date, and the letter T and a time of day behind it or none, where it is midnight UTC
 pub data IsInstant : ℤ → List ℕ → Type 0 where
   at_midnight : {z day : ℤ} {bytes : List ℕ} → IsDate day bytes → z ≡ instant_of day 0 (pos 0) → IsInstant z bytes
-  at_time : {z day offset : ℤ} {millis : ℕ} {date time ending bytes : List ℕ} → bytes ≡ date ++ 84 ∷ (time ++ ending)
+  at_time : {z day offset : ℤ} {millis : ℕ} {date time ending bytes : List ℕ} → bytes ≡ date ++ byte "T" ∷ (time ++ ending)
       → IsDate day date → IsTime millis time → IsOffset offset ending → z ≡ instant_of day millis offset → IsTrue (in_range z) → IsInstant z bytes

@@ -1,8 +1,9 @@
 -- Which bytes are a text of which token: nil, booleans, integers, symbols, keywords and strings.
 -- EDN, edn-format: "nil", "Booleans", "Strings", "Symbols", "Keywords", "Integers".
 use Rattle.std.specs.Prelude.{◌≡◌, ◌⊎◌, ℕ, ◌+◌, ◌-◌, ◌*◌, ◌<◌, ◌≤◌, nat_le, ◌==◌, Bool, true, false, ◌&&◌, ◌||◌, not, if◌then◌else◌, IsTrue, IsUtf8, ℤ, pos, negsuc, neg_ℤ, int_le, fold, List, [], ◌∷◌, ◌++◌, length, Option, Some, None, codes, encode_utf8}
+use Rattle.std.specs.Str.{byte}
 use Rattle.edn_model.specs.Form as form
-use Rattle.edn_model.specs.Bytes.{quote, hash, plus, minus, point, slash, colon, backslash, is_digit, is_name_byte, is_plain, begins, Each}
+use Rattle.edn_model.specs.Bytes.{backspace, tab, line_feed, form_feed, carriage_return, quote, hash, plus, minus, point, slash, colon, backslash, is_digit, is_name_byte, is_plain, begins, Each}
 
 -- ---- names
 
@@ -48,13 +49,13 @@ IsSymbol bytes = IsUtf8 bytes × ((bytes ≡ slash ∷ []) ⊎ IsLongSymbol byte
 
 -- the number that digits spell
 abbrev pub number : List ℕ → ℕ
-number digits = fold (λ n b. n * 10 + (b - 48)) 0 digits
+number digits = fold (λ n b. n * 10 + (b - byte "0")) 0 digits
 
 -- digits without a leading zero
 pub record IsDecimal (n : ℕ) (digits : List ℕ) : Type 0 where
   pub some : 0 < length digits
   pub each : Each is_digit digits
-  pub leading : (digits ≡ 48 ∷ []) ⊎ IsTrue (begins (λ b. not (b == 48)) digits)
+  pub leading : (digits ≡ codes "0") ⊎ IsTrue (begins (λ b. not (b == byte "0")) digits)
   pub is : n ≡ number digits
 
 -- a numeral, with a sign or without
@@ -92,15 +93,15 @@ IsAtom (form.uuid n) bytes = ⊥
 -- backspace, form feed
 abbrev pub escape_of : ℕ → Option ℕ
 escape_of b =
-    if b == 116 then Some 9 else (if b == 114 then Some 13 else (if b == 110 then Some 10
-    else (if b == 92 then Some 92 else (if b == 34 then Some 34
-    else (if b == 98 then Some 8 else (if b == 102 then Some 12 else None))))))
+    if b == byte "t" then Some tab else (if b == byte "r" then Some carriage_return else (if b == byte "n" then Some line_feed
+    else (if b == backslash then Some backslash else (if b == quote then Some quote
+    else (if b == byte "b" then Some backspace else (if b == byte "f" then Some form_feed else None))))))
 
 abbrev pub is_hex_digit : ℕ → Bool
-is_hex_digit b = is_digit b || ((nat_le 97 b && nat_le b 102) || (nat_le 65 b && nat_le b 70))
+is_hex_digit b = is_digit b || ((nat_le (byte "a") b && nat_le b (byte "f")) || (nat_le (byte "A") b && nat_le b (byte "F")))
 
 abbrev pub hex_value : ℕ → ℕ
-hex_value b = if is_digit b then b - 48 else (if nat_le 97 b then b - 87 else b - 55)
+hex_value b = if is_digit b then b - byte "0" else (if nat_le (byte "a") b then b - byte "a" + 10 else b - byte "A" + 10)
 
 -- four hexadecimal digits, and the character that they number, which is no surrogate
 pub record IsCode (a b c d code : ℕ) : Type 0 where
@@ -114,7 +115,7 @@ pub data Spells : List ℕ → List ℕ → List ℕ → Type 0 where
   plain : {b : ℕ} {here text rest : List ℕ} → is_plain b ≡ true → Spells here text rest → Spells (b ∷ here) (b ∷ text) rest
   escape : {b e : ℕ} {here after text rest : List ℕ} → here ≡ backslash ∷ b ∷ after → escape_of b ≡ Some e → Spells after text rest
       → Spells here (e ∷ text) rest
-  code : {a b c d n : ℕ} {here after text all rest : List ℕ} → here ≡ backslash ∷ 117 ∷ a ∷ b ∷ c ∷ d ∷ after → IsCode a b c d n
+  code : {a b c d n : ℕ} {here after text all rest : List ℕ} → here ≡ backslash ∷ byte "u" ∷ a ∷ b ∷ c ∷ d ∷ after → IsCode a b c d n
       → Spells after text rest → all ≡ encode_utf8 n ++ text → Spells here all rest
 
 -- from one place to a later one stands a string between its quotes

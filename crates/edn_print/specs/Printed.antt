@@ -2,7 +2,7 @@
 -- This project's own choice.
 use Rattle.std.specs.Prelude.{◌≡◌, ℕ, ◌/◌, ◌%◌, ◌==◌, ◌&&◌, not, Bool, if◌then◌else◌, List, [], ◌∷◌, ◌++◌}
 use Rattle.std.specs.Io.{StartsWith}
-use Rattle.edn_model.specs.Bytes.{quote, point, backslash}
+use Rattle.edn_model.specs.Bytes.{tab, line_feed, carriage_return, space, quote, point, backslash}
 use Rattle.edn_model.specs.Instants.{digits, second_text}
 
 -- the new bytes are the old ones with such a text behind them
@@ -19,11 +19,11 @@ pub record Encloses (opening : List ℕ) (closing : ℕ) (IsInside : List ℕ �
 
 -- stands in a printed string for itself
 abbrev pub is_unescaped : ℕ → Bool
-is_unescaped b = not (b == 9) && not (b == 10) && not (b == 13) && not (b == quote) && not (b == backslash)
+is_unescaped b = not (b == tab) && not (b == line_feed) && not (b == carriage_return) && not (b == quote) && not (b == backslash)
 
 -- a space stands before each member but the first
 abbrev pub space_before : ℕ → List ℕ
-space_before index = if index == 0 then [] else 32 ∷ []
+space_before index = if index == 0 then [] else space ∷ []
 
 -- a time of day with three digits of its second's fraction, from the milliseconds since midnight
 abbrev pub clock_text : ℕ → List ℕ

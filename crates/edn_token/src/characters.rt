@@ -1,6 +1,7 @@
 //! Bytes that are to be characters.
-ghost use Rattle.std.specs.Prelude.{◌≡◌, MatchResult, IsUtf8, length, drop};
+ghost use Rattle.std.specs.Prelude.{◌≡◌, if◌then◌else◌, MatchResult, IsUtf8, length, drop};
 ghost use Rattle.std.specs.Str.{IsValidUpTo};
+ghost use Rattle.edn_model.specs.Bytes as text;
 ghost use Rattle.edn_token.specs.Fronts.{TokenFront, BrokenToken};
 
 use crate::bytes::{begins_no_token, split_token};
@@ -27,7 +28,13 @@ pub fn read_token(here: &[u8]) -> Result<&str, usize>
     let (run, _) = split_token(here);
     match characters(run) {
         Ok(token) => Ok(token),
-        Err(_) if begins_no_token(here) => Err(0),
-        Err(at) => Err(at),
+        Err(at) => Err(first_fault(here, at)),
     }
+}
+
+/// Where a token's bytes are first at fault, of which the one at a place begins no character.
+fn first_fault(here: &[u8], at: usize) -> usize
+    ensures { result ≡ (if text.begins_no_token here.now then 0 else at) }
+{
+    if begins_no_token(here) { 0 } else { at }
 }

@@ -1,5 +1,6 @@
 //! The letters behind a backslash.
 ghost use Rattle.std.specs.Prelude.{◌≡◌, ◌<◌, ◌≤◌, ◌∷◌, Some, None, if◌then◌else◌, length, MatchOption};
+ghost use Rattle.std.specs.Str.{byte};
 ghost use Rattle.edn_model.specs.Bytes.{backslash, Each};
 ghost use Rattle.edn_model.specs.Tokens as text;
 ghost use Rattle.edn_token.specs.Strings.{hex_number, PieceIs};
@@ -47,7 +48,7 @@ pub fn escape_of(letter: u8) -> Option<u8>
 
 /// The escape whose backslash and `u` stand before these bytes.
 fn read_code(digits: &[u8]) -> Piece<'_>
-    ensures { PieceIs (backslash ∷ 117 ∷ digits.now) result }
+    ensures { PieceIs (backslash ∷ byte "u" ∷ digits.now) result }
 {
     if digits.len() < 4 {
         return read_short_code(digits);
@@ -65,7 +66,7 @@ fn read_code(digits: &[u8]) -> Piece<'_>
 /// The same, where the input ends before a fourth digit.
 fn read_short_code(digits: &[u8]) -> Piece<'_>
     requires { length digits.now < 4 }
-    ensures { PieceIs (backslash ∷ 117 ∷ digits.now) result }
+    ensures { PieceIs (backslash ∷ byte "u" ∷ digits.now) result }
 {
     match code_of(digits) {
         None => Piece::Bad { at: 0 },
