@@ -1,5 +1,5 @@
 -- Pieces of the worked examples.
-use Rattle.std.proofs.Common.{◌≡◌, ℕ, zero, suc, ◌+◌, ◌*◌, ◌/◌, ◌<◌, ◌≤◌, Bool, true, false, nat_lt, List, [], ◌∷◌, ◌++◌, length, get_or, replicate, pos, cond, refl, ap, ◌∙◌, arith, inl, inr, IsTrue}
+use Rattle.std.proofs.Common.{◌≡◌, ℕ, zero, suc, ◌+◌, ◌/◌, ◌<◌, ◌≤◌, Bool, true, false, nat_lt, List, [], ◌∷◌, ◌++◌, length, get_or, replicate, pos, cond, refl, ap, ◌∙◌, arith, inl, inr, IsTrue}
 use Rattle.std.proofs.lemmas.Str.{IsUtf8-from_ascii}
 use Rattle.std.proofs.lemmas.Bool.Decides.{nat_tests}
 use Rattle.std.specs.Str.{IsUtf8}
@@ -24,13 +24,16 @@ ascii_utf8 bytes h = IsUtf8-from_ascii bytes (ascii_bytes bytes h)
 
 -- a character's bytes, by how many they are
 abbrev bytes_by : Bool → Bool → Bool → ℕ → List ℕ
-bytes_by true q r c = c ∷ []
-bytes_by false true r c = (192 + c / 64) ∷ next c ∷ []
-bytes_by false false true c = (224 + c / 4096) ∷ next (c / 64) ∷ next c ∷ []
-bytes_by false false false c = (240 + c / 262144) ∷ next (c / 4096) ∷ next (c / 64) ∷ next c ∷ []
+bytes_by one two three c =
+    cond one (c ∷ []) (cond two ((192 + c / 64) ∷ next c ∷ []) (cond three ((224 + c / 4096) ∷ next (c / 64) ∷ next c ∷ [])
+    ((240 + c / 262144) ∷ next (c / 4096) ∷ next (c / 64) ∷ next c ∷ [])))
 
-first_below : (p q r : Bool) (c : ℕ) (bytes rest : List ℕ) → (p ≡ true → c < 128) → (q ≡ true → c < 2048) → (r ≡ true → c < 65536) → c < 1114112
-    → 255 ∷ bytes ≡ bytes_by p q r c ++ rest → ⊥
+bytes_of : (c : ℕ) → encode c ≡ bytes_by (nat_lt c 0x80) (nat_lt c 0x800) (nat_lt c 0x1_0000) c
+unfolding encode
+bytes_of c = refl
+
+first_below : (one two three : Bool) (c : ℕ) (bytes rest : List ℕ) → (one ≡ true → c < 0x80) → (two ≡ true → c < 0x800) → (three ≡ true → c < 0x1_0000)
+    → c < 0x11_0000 → 255 ∷ bytes ≡ bytes_by one two three c ++ rest → ⊥
 first_below true q r c bytes rest hp hq hr below e = let low = hp refl in let first = heads e in omega arith
 first_below false true r c bytes rest hp hq hr below e = let low = hq refl in let first = heads e in omega arith
 first_below false false true c bytes rest hp hq hr below e = let low = hr refl in let first = heads e in omega arith
@@ -39,32 +42,17 @@ first_below false false false c bytes rest hp hq hr below e = let first = heads 
 below : (c n : ℕ) → nat_lt c n ≡ true → c < n
 below c n h = grind (arith, nat_tests)
 
-abbrev encode_by : Bool → Bool → Bool → ℕ → List ℕ
-encode_by p q r c =
-    cond p (c ∷ []) (cond q ((192 + c / 64) ∷ next c ∷ []) (cond r ((224 + c / 4096) ∷ next (c / 64) ∷ next c ∷ [])
-    ((240 + c / 262144) ∷ next (c / 4096) ∷ next (c / 64) ∷ next c ∷ [])))
-
-bytes_are : (p q r : Bool) (c : ℕ) → encode_by p q r c ≡ bytes_by p q r c
-bytes_are true q r c = refl
-bytes_are false true r c = refl
-bytes_are false false true c = refl
-bytes_are false false false c = refl
-
-scalar_below : (c : ℕ) → scalar c ≡ true → c < 1114112
+scalar_below : (c : ℕ) → scalar c ≡ true → c < 0x11_0000
 scalar_below c h = elim (scalar_cases c h) [
   | inl low ↦ omega arith
   | inr (high) ↦ high.1
 ]
 
-encode_is : (c : ℕ) → encode c ≡ bytes_by (nat_lt c 128) (nat_lt c 2048) (nat_lt c 65536) c
-unfolding encode
-encode_is c = bytes_are (nat_lt c 128) (nat_lt c 2048) (nat_lt c 65536) c
-
 -- no character begins with the highest byte
 pub no_character_255 : (bytes : List ℕ) → NoCharacter (255 ∷ bytes)
 no_character_255 bytes = λ c rest h e.
-    first_below (nat_lt c 128) (nat_lt c 2048) (nat_lt c 65536) c bytes rest (below c 128) (below c 2048) (below c 65536) (scalar_below c h)
-    (e ∙ ap (λ z. z ++ rest) (encode_is c))
+    first_below (nat_lt c 0x80) (nat_lt c 0x800) (nat_lt c 0x1_0000) c bytes rest (below c 0x80) (below c 0x800) (below c 0x1_0000) (scalar_below c h)
+    (e ∙ ap (λ z. z ++ rest) (bytes_of c))
 
 -- bytes that stand for themselves
 pub spelled_plain : (text rest : List ℕ) → Each is_plain text → Spells (text ++ rest) text rest

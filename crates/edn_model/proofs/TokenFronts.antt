@@ -5,7 +5,7 @@ use Rattle.std.proofs.lemmas.Bool.{cases_Bool}
 use Rattle.std.proofs.lemmas.Bool.Decides.{nat_tests}
 use Rattle.std.specs.Prelude.{◌==◌, ◌&&◌, ◌||◌, not}
 use Rattle.edn_model.specs.Form as form
-use Rattle.edn_model.specs.Bytes.{hash, plus, minus, point, slash, colon, backslash, is_digit, is_name_byte, is_token_byte, begins, may_begin_token, begins_no_token, Each}
+use Rattle.edn_model.specs.Bytes.{hash, plus, minus, point, slash, colon, backslash, is_digit, is_name_byte, is_token_byte, may_begin_token, begins_no_token, Each}
 use Rattle.edn_model.specs.Tokens.{IsName, IsSymbol, IsReserved, begins_symbol, IsKeyword, IsAtom}
 use Rattle.edn_model.specs.Faults.{What, char, float, big_int, wide, namespaced_map, tag, DigitsBefore, IsUnsupported, IsNoToken}
 use Rattle.edn_model.proofs.Runs.{heads, both, both_true, Each-tail}
