@@ -1,7 +1,7 @@
 //! Entries as a session records them, and indexes that grow by them.
 ghost use Rattle.std.specs.Prelude.{◌≡◌, [], IfOk};
 ghost use Rattle.fb_values.specs.declared.indexes.Order.{Order};
-ghost use Rattle.fb_search.specs.Lists.{list_in};
+ghost use Rattle.fb_values.specs.Lists.{list_in};
 ghost use Rattle.live_index.specs.Samples.{adds, AreSamples};
 
 use fb_covers::Covers;

@@ -1,7 +1,7 @@
 -- Live indexes and trees whose lists rise, of the samples that the live index's tests take.
 -- This project's own choice.
 use Rattle.fb_values.specs.declared.indexes.Order.{Order}
-use Rattle.fb_search.specs.Lists.{Lists, list_in}
+use Rattle.fb_values.specs.Lists.{Lists, list_in}
 use Rattle.live_index.specs.Samples.{AreRisingSamples}
 use Rattle.seg_tree.specs.Nodes.{tree_datoms}
 use Rattle.seg_tree.specs.Indexes.{tree_in}

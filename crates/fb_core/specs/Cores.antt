@@ -2,7 +2,7 @@
 -- This project's own choice.
 use Rattle.std.specs.Prelude.{◌≡◌, ◌≤◌, ℕ, ◌+◌, List, [], ◌∷◌, ◌++◌, length, fold}
 use Rattle.fb_values.specs.declared.facts.Entry.{Entry}
-use Rattle.fb_search.specs.Lists.{Lists}
+use Rattle.fb_values.specs.Lists.{Lists}
 use Rattle.fb_model.specs.FirstEntry.{first_entry}
 use Rattle.fb_model.specs.History.{basis}
 use Rattle.fb_model.specs.Lawful.{IsLawfulAfter}

@@ -2,7 +2,7 @@
 ghost use Rattle.std.specs.Prelude.{◌≡◌, IfOk};
 ghost use Rattle.fb_model.specs.History.{basis, upto};
 ghost use Rattle.view_model.specs.Stands.{RootStands};
-ghost use Rattle.fb_view.specs.Kept.{trees_of};
+ghost use Rattle.seg_tree.specs.Indexes.{trees_of};
 
 use crate::shared::Core;
 use fb_memory::Memory;

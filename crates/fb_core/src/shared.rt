@@ -3,7 +3,8 @@ ghost use Rattle.std.specs.Prelude.{◌≡◌, [], IfOk, nat_le};
 ghost use Rattle.fb_model.specs.History.{basis};
 ghost use Rattle.fb_model.specs.Lawful.{IsLawful};
 ghost use Rattle.view_model.specs.Stands.{RootStands};
-ghost use Rattle.fb_view.specs.Kept.{Stands, trees_of};
+ghost use Rattle.seg_tree.specs.Indexes.{trees_of};
+ghost use Rattle.fb_view.specs.Kept.{Stands};
 
 use fb_history::{Authors, EntryList};
 use fb_memory::Memory;

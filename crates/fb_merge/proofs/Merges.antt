@@ -8,18 +8,16 @@ use Rattle.fb_model.specs.Facts.{facts}
 use Rattle.fb_model.specs.Schema.{covers}
 use Rattle.fb_model.proofs.Times.{upto-basis}
 use Rattle.fb_schema.specs.Tables.{HasCoverage}
-use Rattle.fb_search.specs.Lists.{list_in}
-use Rattle.live_index.specs.Standing.{lists_of}
-use Rattle.seg_tree.specs.Indexes.{tree_in}
+use Rattle.fb_values.specs.Lists.{list_in}
+use Rattle.seg_tree.specs.Indexes.{tree_in, trees_of}
 use Rattle.seg_tree.specs.Nodes.{tree_datoms}
 use Rattle.seg_merge.specs.Merged.{IsMergeable}
 use Rattle.seg_merge.specs.Standing.{CanMerge}
-use Rattle.view_model.specs.Stands.{list_in as list_of}
-use Rattle.fb_view.specs.Kept.{Kept, Stands, trees_of}
-use Rattle.fb_view.proofs.Standing.{coverage_of, same_list}
-use Rattle.fb_view.proofs.Telling.{same_tree}
+use Rattle.fb_view.specs.Kept.{Kept, Stands}
+use Rattle.fb_view.proofs.Standing.{coverage_of}
+use Rattle.seg_tree.proofs.Indexes.{list_in-trees_of}
 
-pub can_merge : (k : Kept) (coverage : Coverage) → Stands k → HasCoverage coverage k.schema → CanMerge k.entries k.covered (basis k.entries) coverage (trees_of k.roots) (lists_of k.live)
+pub can_merge : (k : Kept) (coverage : Coverage) → Stands k → HasCoverage coverage k.schema → CanMerge k.entries k.covered (basis k.entries) coverage (trees_of k.roots) k.live
 can_merge k coverage stands has = record {
   lawful = stands.history.lawful;
   roots_stand = stands.history.roots_stand;
@@ -32,7 +30,5 @@ can_merge k coverage stands has = record {
   still_covered = λ order d there early. ap (λ (h : List Entry). covers (facts h) order d.a) (upto-basis k.entries stands.history.lawful);
 }
 
-pub mergeable : (k : Kept) (order : Order) → IsMergeable order (list_of (trees_of k.roots) order) (list_of (lists_of k.live) order) → IsMergeable order (tree_datoms (tree_in k.roots order)) (list_in k.live order)
-mergeable k order is =
-    subst (IsMergeable order (tree_datoms (tree_in k.roots order))) (same_list k.live order)
-    (subst (λ ds. IsMergeable order ds (list_of (lists_of k.live) order)) (same_tree k.roots order) is)
+pub mergeable : (k : Kept) (order : Order) → IsMergeable order (list_in (trees_of k.roots) order) (list_in k.live order) → IsMergeable order (tree_datoms (tree_in k.roots order)) (list_in k.live order)
+mergeable k order is = subst (λ ds. IsMergeable order ds (list_in k.live order)) (list_in-trees_of k.roots order) is

@@ -3,8 +3,7 @@ ghost use Rattle.std.specs.Prelude.{◌≡◌, ◌↔◌, ◌<◌, ◌^◌, IfOk
 ghost use Rattle.fb_model.specs.History.{basis};
 ghost use Rattle.view_model.specs.Stands.{RootStands};
 ghost use Rattle.seg_tree.specs.Ids.{next_above, IsInRow};
-ghost use Rattle.seg_tree.specs.Indexes.{root_ids};
-ghost use Rattle.fb_view.specs.Kept.{trees_of};
+ghost use Rattle.seg_tree.specs.Indexes.{root_ids, trees_of};
 ghost use Rattle.fb_merge.specs.declared.stop.MergeStop.{MergeStop};
 
 use crate::stop::MergeStop;

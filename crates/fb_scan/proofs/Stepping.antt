@@ -13,7 +13,7 @@ use Rattle.fb_values.specs.declared.indexes.Probe.{Probe}
 use Rattle.fb_values.specs.Orders.{probe_cmp}
 use Rattle.std.specs.Ordering.{is_lt}
 use Rattle.fb_covers.specs.Coverage.{Coverage, covers as held_by}
-use Rattle.fb_search.specs.Lists.{Lists, list_in}
+use Rattle.fb_values.specs.Lists.{Lists, list_in}
 use Rattle.fb_search.specs.Places.{is_below}
 use Rattle.fb_search.specs.Rising.{IsRising}
 use Rattle.fb_model.specs.Facts.{facts}

@@ -1,3 +1,4 @@
 pub mod Orders
 pub mod OrderLaws
+pub mod Lists
 pub mod Samples

@@ -6,11 +6,11 @@ use Rattle.std.specs.Cmp.Lexicographic.{slice_cmp, lists_total}
 use Rattle.std.specs.declared.cmp.Ordering.TheVariants.{Equal}
 use Rattle.fb_values.specs.declared.facts.Datom.{Datom}
 use Rattle.fb_values.specs.declared.indexes.Order.{Order}
-use Rattle.fb_values.specs.declared.indexes.Order.TheVariants.{Eavt, Aevt, Avet, Vaet}
+use Rattle.fb_values.specs.declared.indexes.Order.TheVariants.{Eavt}
 use Rattle.fb_values.specs.Orders.{key_of, value_cmp}
 use Rattle.fb_values.specs.OrderLaws.{value_cmp_total}
 use Rattle.fb_covers.specs.Coverage.{Coverage}
-use Rattle.fb_search.specs.Lists.{list_in}
+use Rattle.fb_values.specs.Lists.{list_in}
 use Rattle.fb_model.specs.Rising.{IsRisingListOf}
 use Rattle.fb_model.specs.FirstEntry.{first_entry}
 use Rattle.fb_model.specs.History.{basis, upto, said}
@@ -21,15 +21,15 @@ use Rattle.fb_model.proofs.Times.{same_keys, one_for_each_key}
 use Rattle.live_index.specs.Growth.{HasNoTwins, IsOffered, IsGrown, is_held}
 use Rattle.live_index.specs.Standing.{IsCoverageOf}
 use Rattle.live_index.proofs.Members.{contains_none}
-use Rattle.view_model.specs.Stands.{IsIndexed, RootStands, list_in as model_list}
-use Rattle.seg_tree.specs.Indexes.{lists_of}
+use Rattle.view_model.specs.Stands.{IsIndexed, RootStands}
+use Rattle.seg_tree.specs.Indexes.{trees_of}
 use Rattle.seg_tree.specs.declared.roots.Roots.{Roots}
 use Rattle.std.specs.List.{slice_get}
 use Rattle.fb_values.specs.declared.facts.Entry.{Entry}
 use Rattle.fb_schema.specs.Described.{SchemaStands}
 use Rattle.fb_schema.specs.Tables.{HasCoverage}
 use Rattle.fb_view.specs.declared.growth.Older.{Older}
-use Rattle.fb_view.specs.Kept.{trees_of, AreWhole}
+use Rattle.fb_view.specs.Kept.{AreWhole}
 use Rattle.fb_view.proofs.Standing.{coverage_of}
 use Rattle.fb_view.proofs.Rises.{rises_from}
 
@@ -60,38 +60,31 @@ first_twins x y in_x in_y at =
         append-nil [] = refl
         append-nil (x ∷ ds) = ap (λ l. x ∷ l) (append-nil ds)
 
-tree_list : (roots : Roots) (order : Order) → model_list (trees_of roots) order ≡ list_in (lists_of roots) order
-tree_list roots Eavt = refl
-tree_list roots Aevt = refl
-tree_list roots Avet = refl
-tree_list roots Vaet = refl
-
-pub first_roots : (roots : Roots) (coverage : Coverage) → IsCoverageOf coverage (facts (first_entry ∷ [])) → ((order : Order) → IsGrown order coverage [] [] first_entry.datoms (list_in (lists_of roots) order)) → RootStands (trees_of roots) (first_entry ∷ []) 0
+pub first_roots : (roots : Roots) (coverage : Coverage) → IsCoverageOf coverage (facts (first_entry ∷ [])) → ((order : Order) → IsGrown order coverage [] [] first_entry.datoms (list_in (trees_of roots) order)) → RootStands (trees_of roots) (first_entry ∷ []) 0
 first_roots roots coverage is grown = record { bound = omega arith; trees = trees }
   where
     append-nil : (ds : List Datom) → ds ++ [] ≡ ds
     append-nil [] = refl
     append-nil (x ∷ ds) = ap (λ l. x ∷ l) (append-nil ds)
 
-    trees : (order : Order) → IsRisingListOf order (model_list (trees_of roots) order) (IsIndexed (upto (first_entry ∷ []) 0) order)
-    trees order =
-        subst (λ (l : List Datom). IsRisingListOf order l (IsIndexed (first_entry ∷ []) order)) (sym (tree_list roots order)) record {
-          rising = rises_from order (list_in (lists_of roots) order) (grown order).rising;
-          members = λ d. (
-            λ there.
-                let at = (grown_alone order coverage first_entry.datoms (list_in (lists_of roots) order) (grown order) d).0 there in
-                record { is_said = subst (λ (ds : List Datom). Contains ds d) (sym (append-nil first_entry.datoms)) at.0; is_covered = sym (is order d.a) ∙ at.1 },
-            λ given.
-                (grown_alone order coverage first_entry.datoms (list_in (lists_of roots) order) (grown order) d).1
-                (subst (λ (ds : List Datom). Contains ds d) (append-nil first_entry.datoms) given.is_said, is order d.a ∙ given.is_covered),
-          );
-        }
+    trees : (order : Order) → IsRisingListOf order (list_in (trees_of roots) order) (IsIndexed (upto (first_entry ∷ []) 0) order)
+    trees order = record {
+      rising = rises_from order (list_in (trees_of roots) order) (grown order).rising;
+      members = λ d. (
+        λ there.
+            let at = (grown_alone order coverage first_entry.datoms (list_in (trees_of roots) order) (grown order) d).0 there in
+            record { is_said = subst (λ (ds : List Datom). Contains ds d) (sym (append-nil first_entry.datoms)) at.0; is_covered = sym (is order d.a) ∙ at.1 },
+        λ given.
+            (grown_alone order coverage first_entry.datoms (list_in (trees_of roots) order) (grown order) d).1
+            (subst (λ (ds : List Datom). Contains ds d) (append-nil first_entry.datoms) given.is_said, is order d.a ∙ given.is_covered),
+      );
+    }
 
 pub first_is : (h : List Entry) (entry : Entry) → h ≡ first_entry ∷ [] → slice_get h 0 ≡ Some entry → entry ≡ first_entry
 first_is h entry is read = let same : Some first_entry ≡ Some entry = sym (ap (λ (l : List Entry). slice_get l 0) is) ∙ read in cc
 
 whole_first : (older : Older) (coverage : Coverage) → IsCoverageOf coverage (facts (first_entry ∷ [])) → older.held ≡ coverage → older.covered ≡ 0
-    → ((order : Order) → IsGrown order coverage [] [] first_entry.datoms (list_in (lists_of older.roots) order)) → AreWhole (first_entry ∷ []) older
+    → ((order : Order) → IsGrown order coverage [] [] first_entry.datoms (list_in (trees_of older.roots) order)) → AreWhole (first_entry ∷ []) older
 whole_first older coverage is held covered grown = record {
   lawful = IsLawful-first;
   roots_stand = subst (RootStands (trees_of older.roots) (first_entry ∷ [])) (sym covered) (first_roots older.roots coverage is grown);
@@ -101,11 +94,11 @@ whole_first older coverage is held covered grown = record {
 
 -- the trees of the first entry alone hold a whole history
 pub first_whole : (h : List Entry) (entry : Entry) (schema : List Datom) (older : Older) (coverage : Coverage) → h ≡ first_entry ∷ [] → slice_get h 0 ≡ Some entry → SchemaStands schema (entry ∷ []) → HasCoverage coverage schema → older.held ≡ coverage → older.covered ≡ 0
-    → ((order : Order) → IsGrown order coverage [] [] entry.datoms (list_in (lists_of older.roots) order)) → SchemaStands schema h × AreWhole h older
+    → ((order : Order) → IsGrown order coverage [] [] entry.datoms (list_in (trees_of older.roots) order)) → SchemaStands schema h × AreWhole h older
 first_whole h entry schema older coverage is read stands has held covered grown =
     let one = first_is h entry is read in
     let stands_first : SchemaStands schema (first_entry ∷ []) = subst (λ (e : Entry). SchemaStands schema (e ∷ [])) one stands in (
       subst (SchemaStands schema) (sym is) stands_first,
       subst (λ (l : List Entry). AreWhole l older) (sym is)
-          (whole_first older coverage (coverage_of schema (first_entry ∷ []) coverage stands_first has) held covered (subst (λ (e : Entry). (order : Order) → IsGrown order coverage [] [] e.datoms (list_in (lists_of older.roots) order)) one grown)),
+          (whole_first older coverage (coverage_of schema (first_entry ∷ []) coverage stands_first has) held covered (subst (λ (e : Entry). (order : Order) → IsGrown order coverage [] [] e.datoms (list_in (trees_of older.roots) order)) one grown)),
     )

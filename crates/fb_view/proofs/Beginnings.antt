@@ -9,12 +9,14 @@ use Rattle.fb_model.specs.History.{basis, upto}
 use Rattle.fb_model.specs.Facts.{facts}
 use Rattle.fb_model.specs.Lawful.{IsLawful, IsLawfulFrom, IsLawfulAfter}
 use Rattle.fb_model.proofs.LawfulHistories.{IsLawful-length}
-use Rattle.view_model.specs.Stands.{Lists, list_in, IsIndexed, RootStands}
+use Rattle.fb_values.specs.Lists.{Lists, list_in}
+use Rattle.view_model.specs.Stands.{IsIndexed, RootStands}
 use Rattle.fb_values.specs.declared.facts.Datom.{Datom}
 use Rattle.fb_schema.specs.Described.{SchemaStands}
 use Rattle.fb_schema.specs.Tables.{HasCoverage}
 use Rattle.fb_view.specs.declared.growth.Older.{Older}
-use Rattle.fb_view.specs.Kept.{trees_of, AreWhole}
+use Rattle.seg_tree.specs.Indexes.{trees_of}
+use Rattle.fb_view.specs.Kept.{AreWhole}
 use Rattle.fb_view.proofs.Standing.{coverage_of}
 
 next_from : (before rest : List Entry) (t : ℕ) (entry : Entry) → IsLawfulFrom before rest → slice_get rest t ≡ Some entry → IsLawfulAfter (before ++ take t rest) entry

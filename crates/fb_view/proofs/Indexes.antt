@@ -8,7 +8,7 @@ use Rattle.fb_values.specs.declared.facts.Value.{Value}
 use Rattle.fb_values.specs.declared.facts.Value.TheVariants.{Keyword, Str, Bool, Long, Ref, Instant, Uuid, Symbol, Uri}
 use Rattle.fb_values.specs.declared.indexes.Order.{Order}
 use Rattle.fb_values.specs.declared.indexes.Order.TheVariants.{Eavt, Aevt, Avet, Vaet}
-use Rattle.fb_search.specs.Lists.{list_in}
+use Rattle.fb_values.specs.Lists.{list_in}
 use Rattle.fb_model.specs.History.{said, upto}
 use Rattle.fb_model.specs.Numbers.{type_ref}
 use Rattle.fb_model.specs.Facts.{value_eq, facts}

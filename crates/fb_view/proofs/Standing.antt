@@ -5,9 +5,8 @@ use Rattle.std.proofs.lemmas.Bool.{true≢false, leb-true, le-leb, and_parts}
 use Rattle.fb_values.specs.declared.facts.Datom.{Datom}
 use Rattle.fb_values.specs.declared.facts.Entry.{Entry}
 use Rattle.fb_values.specs.declared.indexes.Order.{Order}
-use Rattle.fb_values.specs.declared.indexes.Order.TheVariants.{Eavt, Aevt, Avet, Vaet}
 use Rattle.fb_covers.specs.Coverage.{Coverage, covers as held}
-use Rattle.fb_search.specs.Lists.{Lists, list_in}
+use Rattle.fb_values.specs.Lists.{list_in}
 use Rattle.fb_model.specs.Rising.{rises, IsRisingListOf}
 use Rattle.fb_model.specs.History.{basis, said, upto}
 use Rattle.fb_model.specs.Facts.{facts}
@@ -18,20 +17,15 @@ use Rattle.fb_model.proofs.LawfulHistories.{IsLawful-length, IsLawful-push}
 use Rattle.fb_model.proofs.Members.{member_passes, none_of}
 use Rattle.fb_model.proofs.Times.{next_t, said_t, said-upto, upto-basis}
 use Rattle.live_index.proofs.Members.{from_filter, into_filter}
-use Rattle.view_model.specs.Stands.{IsIndexed, IsLive, LiveStands, RootStands, list_in as model_list}
+use Rattle.view_model.specs.Stands.{IsIndexed, IsLive, LiveStands, RootStands}
 use Rattle.fb_schema.specs.Described.{SchemaStands}
 use Rattle.fb_schema.specs.Tables.{HasCoverage}
 use Rattle.fb_schema.proofs.Lookups.{schema_in-described, covers-described}
-use Rattle.live_index.specs.Standing.{lists_of, IsCoverageOf}
+use Rattle.live_index.specs.Standing.{IsCoverageOf}
 use Rattle.fb_view.specs.declared.growth.Older.{Older}
 use Rattle.fb_view.specs.declared.growth.Recent.{Recent}
-use Rattle.fb_view.specs.Kept.{kept, trees_of, Stands, AreWhole, Follows}
-
-pub same_list : (l : Lists) (order : Order) → model_list (lists_of l) order ≡ list_in l order
-same_list l Eavt = refl
-same_list l Aevt = refl
-same_list l Avet = refl
-same_list l Vaet = refl
+use Rattle.seg_tree.specs.Indexes.{trees_of}
+use Rattle.fb_view.specs.Kept.{kept, Stands, AreWhole, Follows}
 
 -- no datom is later than the last entry
 pub not_later : (h : List Entry) (d : Datom) → IsLawful h → Contains (said h) d → d.t ≤ basis h
@@ -64,9 +58,9 @@ module _ (h : List Entry) (recent : Recent) (older : Older) (schema_is : SchemaS
         | inr bare ↦ true≢false (sym is.is_covered ∙ ap (λ (past : List Entry). covers (facts past) order d.a) (sym whole_past) ∙ bare)
       ]
 
-  none_stands : LiveStands (lists_of recent.live) h older.covered
+  none_stands : LiveStands recent.live h older.covered
   none_stands order =
-      subst (λ (ds : List Datom). IsRisingListOf order ds (λ d. IsIndexed h order d × IsLive h older.covered order d)) (sym (same_list recent.live order ∙ none order)) record {
+      subst (λ (ds : List Datom). IsRisingListOf order ds (λ d. IsIndexed h order d × IsLive h older.covered order d)) (sym (none order)) record {
         rising = refl;
         members = λ d. (λ there. absurd (none_of d there), λ is. absurd (nothing_live order d is.0 is.1));
       }
@@ -102,10 +96,10 @@ module _ (h : List Entry) (recent : Recent) (older : Older) (entry : Entry) (fol
   roots_on : RootStands (trees_of older.roots) after older.covered
   roots_on = record {
     bound = let bound = follows.stands.history.roots_stand.bound in omega (arith, basis-push h entry, next_t h entry follows.next, bound);
-    trees = λ order. subst (λ (past : List Entry). IsRisingListOf order (model_list (trees_of older.roots) order) (IsIndexed past order)) (sym same_past) (follows.stands.history.roots_stand.trees order);
+    trees = λ order. subst (λ (past : List Entry). IsRisingListOf order (list_in (trees_of older.roots) order) (IsIndexed past order)) (sym same_past) (follows.stands.history.roots_stand.trees order);
   }
 
-  pub grown_stands : (new : Recent) → SchemaStands new.schema after → LiveStands (lists_of new.live) after older.covered → Stands (kept after new older)
+  pub grown_stands : (new : Recent) → SchemaStands new.schema after → LiveStands new.live after older.covered → Stands (kept after new older)
   grown_stands new schema_is live_stands = record {
     history = record {
       entries_are = refl;

@@ -13,11 +13,11 @@ use Rattle.fb_values.specs.declared.facts.Entry.{Entry}
 use Rattle.fb_values.specs.declared.facts.Value.{Value}
 use Rattle.fb_values.specs.declared.facts.Value.TheVariants.{Ref}
 use Rattle.fb_values.specs.declared.indexes.Order.{Order}
-use Rattle.fb_values.specs.declared.indexes.Order.TheVariants.{Eavt, Aevt, Avet, Vaet}
+use Rattle.fb_values.specs.declared.indexes.Order.TheVariants.{Eavt, Vaet}
 use Rattle.fb_values.specs.declared.indexes.Probe.{Probe}
 use Rattle.fb_values.specs.Orders.{key_of, value_cmp}
 use Rattle.fb_values.specs.OrderLaws.{value_cmp_total, IsAtOnePlace}
-use Rattle.fb_search.specs.Lists.{Lists, list_in}
+use Rattle.fb_values.specs.Lists.{Lists, list_in}
 use Rattle.fb_search.specs.Rising.{StandsBefore, IsRising}
 use Rattle.fb_model.specs.Numbers.{type_ref}
 use Rattle.fb_model.specs.History.{basis, said, upto}
@@ -31,26 +31,20 @@ use Rattle.fb_model.proofs.Times.{same_keys, one_for_each_key}
 use Rattle.fb_model.proofs.Triples.{IsOf, is_of-true, value_eq-true, holds-facts}
 use Rattle.live_index.specs.Growth.{HasNoTwins}
 use Rattle.live_index.proofs.Members.{from_filter, into_filter, contains-cons, contains_head, contains_tail, contains_none}
-use Rattle.view_model.specs.Stands.{IsIndexed, IsLive, list_in as model_list}
+use Rattle.view_model.specs.Stands.{IsIndexed, IsLive}
 use Rattle.seg_tree.specs.Nodes.{tree_datoms}
-use Rattle.seg_tree.specs.Indexes.{tree_in}
-use Rattle.seg_tree.specs.declared.roots.Roots.{Roots}
+use Rattle.seg_tree.specs.Indexes.{tree_in, trees_of}
+use Rattle.seg_tree.proofs.Indexes.{list_in-trees_of}
 use Rattle.fb_facts.specs.Told.{facts_in}
 use Rattle.fb_facts.proofs.Lists.{facts_in-rising}
 use Rattle.fb_schema.proofs.Lookups.{covers-described}
-use Rattle.fb_view.specs.Kept.{Kept, trees_of, Stands}
+use Rattle.fb_view.specs.Kept.{Kept, Stands}
 use Rattle.fb_view.specs.Ranges.{is_led, led_to}
 use Rattle.fb_view.specs.Merged.{IsPair, merged, ranged, facts_led}
 use Rattle.fb_view.proofs.Rises.{rising_from}
-use Rattle.fb_view.proofs.Standing.{same_list, not_later, said_early, early_said}
+use Rattle.fb_view.proofs.Standing.{not_later, said_early, early_said}
 use Rattle.fb_view.proofs.Merging.{merged_rises, rising-filter, from_merged, into_merged, before_member}
 use Rattle.fb_view.proofs.Lasting.{told_is, entity_upto}
-
-pub same_tree : (roots : Roots) (order : Order) → model_list (trees_of roots) order ≡ tree_datoms (tree_in roots order)
-same_tree roots Eavt = refl
-same_tree roots Aevt = refl
-same_tree roots Avet = refl
-same_tree roots Vaet = refl
 
 module _ (k : Kept) (stands : Stands k) (order : Order) where
   lawful : IsLawful k.entries
@@ -58,12 +52,12 @@ module _ (k : Kept) (stands : Stands k) (order : Order) where
 
   pub from_older : (d : Datom) → Contains (tree_datoms (tree_in k.roots order)) d → Contains (said k.entries) d × (d.t ≤ k.covered) × IsTrue (covers (facts (upto k.entries k.covered)) order d.a)
   from_older d there =
-      let is = ((stands.history.roots_stand.trees order).members d).0 (subst (λ (l : List Datom). Contains l d) (sym (same_tree k.roots order)) there) in
+      let is = ((stands.history.roots_stand.trees order).members d).0 (subst (λ (l : List Datom). Contains l d) (sym (list_in-trees_of k.roots order)) there) in
       let early = said_early k.entries k.covered d lawful is.is_said in
       (early.0, early.1, is.is_covered)
 
   pub from_live : (d : Datom) → Contains (list_in k.live order) d → IsIndexed k.entries order d × IsLive k.entries k.covered order d
-  from_live d there = ((stands.history.live_stands order).members d).0 (subst (λ (l : List Datom). Contains l d) (sym (same_list k.live order)) there)
+  from_live d there = ((stands.history.live_stands order).members d).0 there
 
   pub was_said : (d : Datom) → Contains (tree_datoms (tree_in k.roots order)) d ⊎ Contains (list_in k.live order) d → Contains (said k.entries) d
   was_said d given = elim given [ inl a ↦ (from_older d a).0 | inr b ↦ (from_live d b).0.is_said ]
@@ -71,8 +65,8 @@ module _ (k : Kept) (stands : Stands k) (order : Order) where
   -- the two lists of the order
   pub pair_stands : IsPair order (tree_datoms (tree_in k.roots order)) (list_in k.live order)
   pair_stands = record {
-    older_rises = subst (IsRising order) (same_tree k.roots order) (rising_from order (model_list (trees_of k.roots) order) (stands.history.roots_stand.trees order).rising);
-    live_rises = subst (IsRising order) (same_list k.live order) (rising_from order _ (stands.history.live_stands order).rising);
+    older_rises = subst (IsRising order) (list_in-trees_of k.roots order) (rising_from order (list_in (trees_of k.roots) order) (stands.history.roots_stand.trees order).rising);
+    live_rises = rising_from order (list_in k.live order) (stands.history.live_stands order).rising;
     apart = λ d older live.
         let was = from_older d older in
         let is = from_live d live in
@@ -91,14 +85,14 @@ module _ (k : Kept) (stands : Stands k) (order : Order) where
         | inl later ↦ inr (live (inl later))
         | inr early ↦
             elim (cases_Bool (covers (facts (upto k.entries k.covered)) order d.a)) [
-              | inl was ↦ inl (subst (λ (l : List Datom). Contains l d) (same_tree k.roots order)
+              | inl was ↦ inl (subst (λ (l : List Datom). Contains l d) (list_in-trees_of k.roots order)
                   (((stands.history.roots_stand.trees order).members d).1 (record { is_said = early_said k.entries k.covered d lawful there early; is_covered = was })))
               | inr was_not ↦ inr (live (inr was_not))
             ]
       ]
     where
       live : IsLive k.entries k.covered order d → Contains (list_in k.live order) d
-      live is = subst (λ (l : List Datom). Contains l d) (same_list k.live order) (((stands.history.live_stands order).members d).1 (record { is_said = there; is_covered = covered }, is))
+      live is = ((stands.history.live_stands order).members d).1 (record { is_said = there; is_covered = covered }, is)
 
 -- what a probe leads to, where it leads to what passes and the index holds that
 pub told : (k : Kept) (stands : Stands k) (p : Probe) (passes : Datom → Bool) → ((d : Datom) → is_led p d ≡ passes d) → ((d : Datom) → Contains (said k.entries) d → passes d ≡ true → IsTrue (covers (facts k.entries) p.order d.a))

@@ -6,7 +6,7 @@ use Rattle.std.specs.Option.{option_map}
 use Rattle.std.proofs.lemmas.Bool.{cases_Bool, and_parts}
 use Rattle.fb_values.specs.declared.facts.Datom.{Datom}
 use Rattle.fb_values.specs.declared.indexes.Probe.{Probe}
-use Rattle.fb_search.specs.Lists.{Lists, list_in}
+use Rattle.fb_values.specs.Lists.{Lists, list_in}
 use Rattle.seg_tree.specs.Nodes.{DirectoryNode, tree_datoms}
 use Rattle.fb_view.specs.declared.merged.Spot.{Spot}
 use Rattle.fb_values.specs.declared.facts.Value.{Value}

@@ -4,15 +4,15 @@ use Rattle.std.specs.Prelude.{◌≡◌, ℕ, List}
 use Rattle.fb_values.specs.declared.facts.Datom.{Datom}
 use Rattle.fb_values.specs.declared.facts.Entry.{Entry}
 use Rattle.fb_covers.specs.Coverage.{Coverage}
-use Rattle.fb_search.specs.Lists.{Lists}
+use Rattle.fb_values.specs.Lists.{Lists}
 use Rattle.fb_model.specs.History.{basis, upto}
 use Rattle.fb_model.specs.Facts.{facts}
 use Rattle.fb_model.specs.Schema.{schema_in}
 use Rattle.fb_model.specs.Lawful.{IsLawful, IsLawfulAfter}
-use Rattle.view_model.specs.Stands.{Lists as ModelLists, RootStands, SnapshotStands}
+use Rattle.view_model.specs.Stands.{RootStands, SnapshotStands}
 use Rattle.fb_schema.specs.Described.{SchemaStands}
-use Rattle.live_index.specs.Standing.{lists_of, IsCoverageOf}
-use Rattle.seg_tree.specs.Nodes.{tree_datoms}
+use Rattle.live_index.specs.Standing.{IsCoverageOf}
+use Rattle.seg_tree.specs.Indexes.{trees_of}
 use Rattle.seg_tree.specs.declared.roots.Roots.{Roots}
 use Rattle.fb_view.specs.declared.growth.Older.{Older}
 use Rattle.fb_view.specs.declared.growth.Recent.{Recent}
@@ -39,18 +39,9 @@ kept h recent older = record {
   covered = older.covered;
 }
 
--- what the trees hold, read from left to right
-abbrev pub trees_of : Roots → ModelLists
-trees_of roots = record {
-  eavt = tree_datoms roots.eavt;
-  aevt = tree_datoms roots.aevt;
-  avet = tree_datoms roots.avet;
-  vaet = tree_datoms roots.vaet;
-}
-
 -- the parts stand for the entries
 pub record Stands (k : Kept) : Type 0 where
-  pub history : SnapshotStands k.entries (schema_in k.schema) (trees_of k.roots) (lists_of k.live) k.covered k.entries
+  pub history : SnapshotStands k.entries (schema_in k.schema) (trees_of k.roots) k.live k.covered k.entries
   pub schema_is : SchemaStands k.schema k.entries
   pub held_is : IsCoverageOf k.held (facts (upto k.entries k.covered))
 

@@ -2,7 +2,7 @@
 //! takes a step more for each datom that it is made of.
 ghost use Rattle.std.specs.Prelude.{◌≡◌, map, find, IfOk, IfSome};
 ghost use Rattle.std.specs.Option.{option_map};
-ghost use Rattle.fb_search.specs.Lists.{list_in};
+ghost use Rattle.fb_values.specs.Lists.{list_in};
 ghost use Rattle.fb_model.specs.Facts.{value_eq};
 ghost use Rattle.seg_tree.specs.Indexes.{tree_in};
 ghost use Rattle.seg_tree.specs.Nodes.{tree_datoms};

@@ -2,7 +2,7 @@
 ghost use Rattle.std.specs.Prelude.{◌≡◌, ◌-◌, length};
 ghost use Rattle.std.specs.List.{slice_get};
 ghost use Rattle.std.specs.Option.{option_map_or, option_copied};
-ghost use Rattle.fb_search.specs.Lists.{list_in};
+ghost use Rattle.fb_values.specs.Lists.{list_in};
 ghost use Rattle.fb_model.specs.History.{users_issued};
 ghost use Rattle.fb_model.specs.Numbers.{user_number as model_user_number};
 ghost use Rattle.seg_tree.specs.Nodes.{tree_datoms};

@@ -2,7 +2,7 @@
 ghost use Rattle.std.specs.Prelude.{◌≡◌, filter};
 ghost use Rattle.fb_values.specs.declared.indexes.Order.{Order};
 ghost use Rattle.fb_values.specs.declared.indexes.Order.TheVariants.{Avet};
-ghost use Rattle.fb_search.specs.Lists.{list_in};
+ghost use Rattle.fb_values.specs.Lists.{list_in};
 ghost use Rattle.fb_model.specs.Facts.{facts};
 ghost use Rattle.fb_model.specs.Rising.{IsRisingListOf};
 ghost use Rattle.fb_model.specs.Schema.{covers};

@@ -1,15 +1,15 @@
 //! How snapshots come about: the first one, one with an entry more, one over newer trees, and one of a history that was read.
 ghost use Rattle.std.specs.Prelude.{◌≡◌, [], ◌∷◌, ◌++◌, ◌<◌, IfOk, length};
 ghost use Rattle.std.specs.List.{range_with_len};
-ghost use Rattle.fb_search.specs.Lists.{list_in};
+ghost use Rattle.fb_values.specs.Lists.{list_in};
 ghost use Rattle.fb_values.specs.declared.indexes.Order.{Order};
 ghost use Rattle.fb_model.specs.FirstEntry.{first_entry};
 ghost use Rattle.fb_model.specs.History.{basis, upto};
 ghost use Rattle.fb_model.specs.Lawful.{IsLawful, IsLawfulAfter};
 ghost use Rattle.view_model.specs.Stands.{RootStands};
 ghost use Rattle.fb_schema.specs.Described.{SchemaStands};
-ghost use Rattle.seg_tree.specs.Indexes.{root_ids};
-ghost use Rattle.fb_view.specs.Kept.{Stands, trees_of};
+ghost use Rattle.seg_tree.specs.Indexes.{root_ids, trees_of};
+ghost use Rattle.fb_view.specs.Kept.{Stands};
 
 use crate::growth::{Older, Recent};
 use crate::snapshot::{Parts, Snapshot};

@@ -3,7 +3,7 @@ ghost use Rattle.std.specs.Prelude.{◌≡◌, ◌&&◌, ◌+◌, ◌<◌, ◌�
 ghost use Rattle.std.specs.Option.{option_map, option_copied};
 ghost use Rattle.std.specs.Ordering.{is_lt};
 ghost use Rattle.fb_values.specs.Orders.{key_cmp};
-ghost use Rattle.fb_search.specs.Lists.{list_in};
+ghost use Rattle.fb_values.specs.Lists.{list_in};
 ghost use Rattle.fb_model.specs.Facts.{value_eq};
 ghost use Rattle.seg_tree.specs.Nodes.{tree_datoms};
 ghost use Rattle.seg_tree.specs.Ranks.{rank};

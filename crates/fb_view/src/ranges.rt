@@ -1,6 +1,6 @@
 //! The datoms that a probe leads to, read out of the live index and out of a tree.
 ghost use Rattle.std.specs.Prelude.{◌≡◌, ◌++◌, ◌<◌, IfOk};
-ghost use Rattle.fb_search.specs.Lists.{list_in};
+ghost use Rattle.fb_values.specs.Lists.{list_in};
 ghost use Rattle.fb_search.specs.Places.{place_of};
 ghost use Rattle.fb_search.specs.Rising.{IsRising};
 ghost use Rattle.seg_tree.specs.Nodes.{tree_datoms};

@@ -2,9 +2,9 @@
 ghost use Rattle.std.specs.Prelude.{◌≡◌, [], length, IfOk};
 ghost use Rattle.std.specs.List.{range_with_len};
 ghost use Rattle.fb_values.specs.declared.indexes.Order.{Order};
-ghost use Rattle.fb_search.specs.Lists.{list_in};
+ghost use Rattle.fb_values.specs.Lists.{list_in};
 ghost use Rattle.live_index.specs.Growth.{IsGrown, HasNoTwins};
-ghost use Rattle.seg_tree.specs.Indexes.{lists_of, root_ids};
+ghost use Rattle.seg_tree.specs.Indexes.{trees_of, root_ids};
 ghost use Rattle.fb_view.specs.InAvet.{IsInAvet};
 
 use fb_covers::Covers;
@@ -31,7 +31,7 @@ pub fn in_avet(alloc: Global, datoms: Vec<Datom>, covers: &Covers) -> Result<Dat
 /// The trees of one entry. Their ids are counted from 1 on.
 pub fn trees(alloc: Global, entry: &Entry, covers: &Covers) -> Result<Roots, Memory>
     requires { HasNoTwins entry.now.datoms }
-    ensures grown { IfOk result (λ roots. (order : Order) → IsGrown order covers.now [] [] entry.now.datoms (list_in (lists_of roots) order)) }
+    ensures grown { IfOk result (λ roots. (order : Order) → IsGrown order covers.now [] [] entry.now.datoms (list_in (trees_of roots) order)) }
     ensures ids { IfOk result (λ roots. root_ids roots ≡ range_with_len 1 (length (root_ids roots))) }
 {
     let index = index_of(alloc, entry, covers)?;

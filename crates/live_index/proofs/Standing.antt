@@ -15,10 +15,10 @@ use Rattle.fb_values.specs.declared.indexes.Order.TheVariants.{Eavt, Aevt, Avet,
 use Rattle.fb_values.specs.Orders.{key_of, value_cmp}
 use Rattle.fb_values.specs.OrderLaws.{value_cmp_total}
 use Rattle.fb_covers.specs.Coverage.{Coverage}
-use Rattle.fb_search.specs.Lists.{Lists, list_in}
+use Rattle.fb_values.specs.Lists.{Lists, list_in}
 use Rattle.fb_search.specs.Rising.{IsRising}
 use Rattle.fb_model.specs.Numbers.{ident, value_type, cardinality, unique, is_component, index, type_ref}
-use Rattle.fb_model.specs.Rising.{rises, IsRisingListOf}
+use Rattle.fb_model.specs.Rising.{rises}
 use Rattle.fb_model.specs.History.{basis, said, upto}
 use Rattle.fb_model.specs.Facts.{facts}
 use Rattle.fb_model.specs.Schema.{covers, is_held, attribute_from, is_attribute, keyword_of, entity_of, truth_of, entity_in}
@@ -32,15 +32,9 @@ use Rattle.fb_model.proofs.Untouched.{value_of-untouched}
 use Rattle.fb_model.proofs.Members.{member_passes}
 use Rattle.fb_model.proofs.Times.{own_t, same_keys, one_for_each_key}
 use Rattle.fb_model.proofs.KnownFacts.{said_installed}
-use Rattle.view_model.specs.Stands.{IsIndexed, IsLive, LiveStands, list_in as model_list}
+use Rattle.view_model.specs.Stands.{IsLive, LiveStands}
 use Rattle.live_index.specs.Growth.{HasNoTwins, IsGrown}
-use Rattle.live_index.specs.Standing.{lists_of, IsDemanded, IsNext}
-
-same_list : (l : Lists) (order : Order) → model_list (lists_of l) order ≡ list_in l order
-same_list l Eavt = refl
-same_list l Aevt = refl
-same_list l Avet = refl
-same_list l Vaet = refl
+use Rattle.live_index.specs.Standing.{IsDemanded, IsNext}
 
 rising-rises : (order : Order) (ds : List Datom) → IsRising order ds → rises order ds ≡ true
 rising-rises order [] rising = refl
@@ -101,12 +95,12 @@ module _ (h : List Entry) (c : ℕ) (entry : Entry) (coverage : Coverage) (refil
       let installed : is_attribute (facts h) d.a ≡ true = member_passes (λ x. is_attribute (facts h) x.a) (said h) d (said_installed h is.lawful) there in
       sym (covers-stays h entry d.a is.next installed) ∙ (ap (λ (ds : List Datom). covers ds Vaet d.a) (sym (facts-push h entry)) ∙ covered)
 
-  module _ (old : Lists) (was : LiveStands (lists_of old) h c) where
+  module _ (old : Lists) (was : LiveStands old h c) where
     of_old : (order : Order) (d : Datom) → Contains (list_in old order) d → IsDemanded h c order d
-    of_old order d there = ((was order).members d).0 (subst (λ (ds : List Datom). Contains ds d) (sym (same_list old order)) there)
+    of_old order d there = ((was order).members d).0 there
 
     in_old : (order : Order) (d : Datom) → IsDemanded h c order d → Contains (list_in old order) d
-    in_old order d demanded = subst (λ (ds : List Datom). Contains ds d) (same_list old order) (((was order).members d).1 demanded)
+    in_old order d demanded = ((was order).members d).1 demanded
 
     -- what is offered was said by the history with the entry
     said_by_now : (order : Order) (d : Datom) → Contains (list_in old order ++ refill ++ entry.datoms) d → Contains (said after) d
@@ -160,12 +154,11 @@ module _ (h : List Entry) (c : ℕ) (entry : Entry) (coverage : Coverage) (refil
             is.coverage_is order d.a ∙ demanded.0.is_covered,
           )
 
-      pub stands : LiveStands (lists_of new) after c
-      stands order =
-          subst (λ (ds : List Datom). IsRisingListOf order ds (λ d. IsIndexed after order d × IsLive after c order d)) (sym (same_list new order)) record {
-            rising = rising-rises order (list_in new order) (grown order).rising;
-            members = λ d. (demanded_now order d, listed order d);
-          }
+      pub stands : LiveStands new after c
+      stands order = record {
+        rising = rising-rises order (list_in new order) (grown order).rising;
+        members = λ d. (demanded_now order d, listed order d);
+      }
 
 -- what holds in each of the four orders
 pub in_each : (P : Order → Type 0) → P Eavt → P Aevt → P Avet → P Vaet → (order : Order) → P order

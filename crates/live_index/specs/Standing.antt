@@ -6,17 +6,12 @@ use Rattle.fb_values.specs.declared.facts.Entry.{Entry}
 use Rattle.fb_values.specs.declared.indexes.Order.{Order}
 use Rattle.fb_values.specs.declared.indexes.Order.TheVariants.{Avet}
 use Rattle.fb_covers.specs.Coverage.{Coverage, covers as held}
-use Rattle.fb_search.specs.Lists.{Lists}
 use Rattle.fb_model.specs.Rising.{IsRisingListOf}
 use Rattle.fb_model.specs.History.{basis, said}
 use Rattle.fb_model.specs.Facts.{facts}
 use Rattle.fb_model.specs.Schema.{covers}
 use Rattle.fb_model.specs.Lawful.{IsLawful, IsLawfulAfter}
-use Rattle.view_model.specs.Stands.{Lists as ModelLists, IsIndexed, IsLive}
-
--- the lists, as the model of what is kept has them
-abbrev pub lists_of : Lists → ModelLists
-lists_of l = record { eavt = l.eavt; aevt = l.aevt; avet = l.avet; vaet = l.vaet }
+use Rattle.view_model.specs.Stands.{IsIndexed, IsLive}
 
 -- the datom belongs to the live list of the order, where trees stand for the entries up to c
 abbrev pub IsDemanded : List Entry → ℕ → Order → Datom → Type 0

@@ -6,11 +6,11 @@ ghost use Rattle.fb_values.specs.declared.indexes.Order.{Order};
 ghost use Rattle.fb_search.specs.Rising.{IsRising};
 ghost use Rattle.fb_search.specs.Places.{place_of};
 ghost use Rattle.live_blocks.specs.Trees.{blocks_at_least};
-ghost use Rattle.fb_search.specs.Lists.{list_in};
+ghost use Rattle.fb_values.specs.Lists.{list_in};
 ghost use Rattle.live_index.specs.Growth.{IsGrown, HasNoTwins};
 ghost use Rattle.fb_values.specs.declared.facts.Entry.{Entry};
 ghost use Rattle.view_model.specs.Stands.{LiveStands};
-ghost use Rattle.live_index.specs.Standing.{lists_of, IsNext};
+ghost use Rattle.live_index.specs.Standing.{IsNext};
 
 use crate::growth::{kept, refilled, with_held};
 use fb_covers::Covers;
@@ -35,7 +35,7 @@ pub struct Live {
 
 impl Model for Live {
     ghost use Rattle.fb_values.specs.declared.indexes.Order.{Order};
-    ghost use Rattle.fb_search.specs.Lists.{Lists, list_in};
+    ghost use Rattle.fb_values.specs.Lists.{Lists, list_in};
     ghost use Rattle.live_index.specs.Growth.{IsSound};
 
     ghost Value = { Lists };
@@ -139,7 +139,7 @@ impl Live {
         requires { (order : Order) → HasNoTwins (list_in self.now order ++ refill.now ++ entry.now.datoms) }
         ensures grown { IfOk result (λ live. (order : Order) → IsGrown order covers.now (list_in self.now order) refill.now entry.now.datoms (list_in live order)) }
         // Where the lists stand for a history above c, and the entry comes next in it, the new ones stand for the history with the entry.
-        ensures stands { IfOk result (λ live. (h : List Entry) (c : ℕ) → IsNext h c entry.now covers.now refill.now → LiveStands (lists_of self.now) h c → LiveStands (lists_of live) (h ++ entry.now ∷ []) c) }
+        ensures stands { IfOk result (λ live. (h : List Entry) (c : ℕ) → IsNext h c entry.now covers.now refill.now → LiveStands self.now h c → LiveStands live (h ++ entry.now ∷ []) c) }
     {
         Ok(Live {
             eavt: self.with_entry_in(Order::Eavt, entry, covers, refill)?,

@@ -3,8 +3,9 @@
 use Rattle.std.specs.Prelude.{◌≡◌, ◌⊎◌, ℕ, List, [], ◌∷◌, ◌++◌, filter, fold, flat_map, nat_eq, Contains}
 use Rattle.fb_values.specs.declared.facts.Datom.{Datom}
 use Rattle.fb_values.specs.declared.facts.Entry.{Entry}
+use Rattle.fb_values.specs.Lists.{Lists}
 use Rattle.disk_model.specs.Journal.{segments_mark, JournalStands, JournalBreaks}
-use Rattle.view_model.specs.Stands.{Lists, RootStands}
+use Rattle.view_model.specs.Stands.{RootStands}
 use Rattle.log_model.specs.Nodes.{Nodes, no_nodes, with_leaf, with_directory, MergeRecord}
 use Rattle.log_model.specs.Merges.{MergeSays, merges, bad_from, record_says}
 

@@ -11,10 +11,10 @@ use Rattle.std.proofs.lemmas.List.Elements.{Contains-append_cases}
 use Rattle.fb_values.specs.declared.facts.Datom.{Datom}
 use Rattle.fb_values.specs.declared.facts.Entry.{Entry}
 use Rattle.fb_values.specs.declared.indexes.Order.{Order}
-use Rattle.fb_values.specs.declared.indexes.Order.TheVariants.{Eavt, Aevt, Avet, Vaet}
 use Rattle.fb_values.specs.declared.facts.Value.{Value}
 use Rattle.fb_values.specs.Orders.{key_cmp, key_of, value_cmp}
 use Rattle.fb_values.specs.OrderLaws.{key_cmp_total, value_cmp_total, IsAtOnePlace}
+use Rattle.fb_values.specs.Lists.{Lists, list_in}
 use Rattle.fb_model.specs.Rising.{rises, IsRisingListOf}
 use Rattle.fb_model.specs.History.{upto, said}
 use Rattle.fb_model.specs.Facts.{facts}
@@ -25,9 +25,9 @@ use Rattle.fb_covers.specs.Coverage.{Coverage}
 use Rattle.fb_search.specs.Rising.{StandsBefore, IsRising}
 use Rattle.live_index.specs.Growth.{is_held}
 use Rattle.live_index.proofs.Members.{from_filter, into_filter}
-use Rattle.view_model.specs.Stands.{Lists, list_in, IsIndexed, IsLive, RootStands}
+use Rattle.view_model.specs.Stands.{IsIndexed, IsLive, RootStands}
 use Rattle.seg_merge.specs.Merged.{is_due, IsMerged, IsMergeable}
-use Rattle.seg_merge.specs.Standing.{lists, CanMerge}
+use Rattle.seg_merge.specs.Standing.{CanMerge}
 
 pub rises_from : (order : Order) (ds : List Datom) → IsRising order ds → rises order ds ≡ true
 rises_from order [] rising = refl
@@ -118,14 +118,11 @@ module _ (h : List Entry) (old c : ℕ) (coverage : Coverage) (roots live : List
     members = λ d. (λ there. indexed d ((is.members d).0 there), λ there. (is.members d).1 (merged d there));
   }
 
-pub root_stands : (h : List Entry) (old c : ℕ) (coverage : Coverage) (roots live new : Order → List Datom) → CanMerge h old c coverage (lists roots) (lists live) → ((order : Order) → IsMerged order coverage c (roots order) (live order) (new order)) → RootStands (lists new) h c
-root_stands h old c coverage roots live new can is = record { bound = can.bound; trees = trees }
-  where
-    trees : (order : Order) → IsRisingListOf order (list_in (lists new) order) (IsIndexed (upto h c) order)
-    trees Eavt = tree_stands h old c coverage (lists roots) (lists live) can Eavt (new Eavt) (is Eavt)
-    trees Aevt = tree_stands h old c coverage (lists roots) (lists live) can Aevt (new Aevt) (is Aevt)
-    trees Avet = tree_stands h old c coverage (lists roots) (lists live) can Avet (new Avet) (is Avet)
-    trees Vaet = tree_stands h old c coverage (lists roots) (lists live) can Vaet (new Vaet) (is Vaet)
+pub root_stands : (h : List Entry) (old c : ℕ) (coverage : Coverage) (roots live new : Lists) → CanMerge h old c coverage roots live → ((order : Order) → IsMerged order coverage c (list_in roots order) (list_in live order) (list_in new order)) → RootStands new h c
+root_stands h old c coverage roots live new can is = record {
+  bound = can.bound;
+  trees = λ order. tree_stands h old c coverage roots live can order (list_in new order) (is order);
+}
 
 -- lists that may be merged rise, and hold one datom for each key
 pub can_rise : (h : List Entry) (old c : ℕ) (coverage : Coverage) (roots live : Lists) → CanMerge h old c coverage roots live → (order : Order) → IsMergeable order (list_in roots order) (list_in live order)

@@ -4,17 +4,13 @@ use Rattle.std.specs.Prelude.{◌≡◌, ◌≤◌, ℕ, List, Contains}
 use Rattle.fb_values.specs.declared.facts.Datom.{Datom}
 use Rattle.fb_values.specs.declared.facts.Entry.{Entry}
 use Rattle.fb_values.specs.declared.indexes.Order.{Order}
-use Rattle.fb_values.specs.declared.indexes.Order.TheVariants.{Eavt, Aevt, Avet, Vaet}
+use Rattle.fb_values.specs.Lists.{Lists}
 use Rattle.fb_model.specs.History.{basis, upto, said}
 use Rattle.fb_model.specs.Facts.{facts}
 use Rattle.fb_model.specs.Schema.{covers}
 use Rattle.fb_model.specs.Lawful.{IsLawful}
 use Rattle.fb_covers.specs.Coverage.{Coverage, covers as holds}
-use Rattle.view_model.specs.Stands.{Lists, RootStands, LiveStands}
-
--- a list for each order
-abbrev pub lists : (Order → List Datom) → Lists
-lists f = record { eavt = f Eavt; aevt = f Aevt; avet = f Avet; vaet = f Vaet }
+use Rattle.view_model.specs.Stands.{RootStands, LiveStands}
 
 -- the coverage is that of the schema after the entry c
 abbrev pub IsCoverageAfter : Coverage → List Entry → ℕ → Type 0

@@ -1,6 +1,6 @@
 //! The live datoms that go into the trees.
 ghost use Rattle.std.specs.Prelude.{◌≡◌, ◌∷◌, [], ◌++◌, filter, IfOk, Some};
-ghost use Rattle.fb_search.specs.Lists.{list_in};
+ghost use Rattle.fb_values.specs.Lists.{list_in};
 ghost use Rattle.seg_merge.specs.Merged.{is_due, due_of};
 
 use fb_covers::Covers;

@@ -5,14 +5,14 @@ ghost use Rattle.fb_values.specs.declared.facts.Entry.{Entry};
 ghost use Rattle.fb_values.specs.declared.indexes.Order.{Order};
 ghost use Rattle.fb_values.specs.declared.indexes.Order.TheVariants.{Eavt, Aevt, Avet, Vaet};
 ghost use Rattle.fb_covers.specs.Coverage.{Coverage};
-ghost use Rattle.fb_search.specs.Lists.{list_in};
+ghost use Rattle.fb_values.specs.Lists.{Lists, list_in};
 ghost use Rattle.seg_tree.specs.Nodes.{tree_datoms, tree_leaves};
 ghost use Rattle.seg_tree.specs.Ids.{next_above, AreDistinct, IsInRow, old_leaves};
-ghost use Rattle.seg_tree.specs.Indexes.{tree_in, root_ids};
+ghost use Rattle.seg_tree.specs.Indexes.{tree_in, trees_of, root_ids};
 ghost use Rattle.seg_merge.specs.Merged.{IsMergeable, IsMerged, KeepsLeaves, due_of};
 ghost use Rattle.seg_merge.specs.Merges.{IsPlan, HasOlderLeaves};
-ghost use Rattle.seg_merge.specs.Standing.{lists, CanMerge};
-ghost use Rattle.view_model.specs.Stands.{Lists, RootStands, list_in as list_of};
+ghost use Rattle.seg_merge.specs.Standing.{CanMerge};
+ghost use Rattle.view_model.specs.Stands.{RootStands};
 
 use crate::due::due;
 use crate::order::planned;
@@ -48,7 +48,7 @@ pub fn merge4<R: Threads + Sync>(
     ensures distinct { IfOk result (λ new. AreDistinct (root_ids new)) }
 
     // Where the older trees and the live lists stand for a history, the new trees stand for its entries up to `c`.
-    ensures stand { IfOk result (λ new. (h : List Entry) (old : ℕ) → CanMerge h old c covers.now (lists (λ order. tree_datoms (tree_in roots.now order))) (lists (list_in live.now)) → RootStands (lists (λ order. tree_datoms (tree_in new order))) h c) }
+    ensures stand { IfOk result (λ new. (h : List Entry) (old : ℕ) → CanMerge h old c covers.now (trees_of roots.now) live.now → RootStands (trees_of new) h c) }
 {
     let plans = Plans::of(rt, alloc, roots, live, c, covers)?;
     let merged = plans.build(alloc, first_id)?;
@@ -160,5 +160,5 @@ fn plan_one(
 
 /// Trees and live lists that stand for a history may be merged.
 pub fn what_stands_may_be_merged()
-    ensures { (h : List Entry) (old c : ℕ) (coverage : Coverage) (roots live : Lists) → CanMerge h old c coverage roots live → (order : Order) → IsMergeable order (list_of roots order) (list_of live order) }
+    ensures { (h : List Entry) (old c : ℕ) (coverage : Coverage) (roots live : Lists) → CanMerge h old c coverage roots live → (order : Order) → IsMergeable order (list_in roots order) (list_in live order) }
 {}

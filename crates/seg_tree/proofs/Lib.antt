@@ -5,3 +5,4 @@ pub mod InTrees
 pub mod Making
 pub mod Growing
 pub mod Rows
+pub mod Indexes

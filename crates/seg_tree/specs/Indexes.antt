@@ -3,7 +3,7 @@
 use Rattle.std.specs.Prelude.{ℕ, List}
 use Rattle.fb_values.specs.declared.indexes.Order.{Order}
 use Rattle.fb_values.specs.declared.indexes.Order.TheVariants.{Eavt, Aevt, Avet, Vaet}
-use Rattle.fb_search.specs.Lists.{Lists}
+use Rattle.fb_values.specs.Lists.{Lists}
 use Rattle.seg_tree.specs.Nodes.{DirectoryNode, tree_datoms}
 use Rattle.seg_tree.specs.Ids.{ids_of_four}
 use Rattle.seg_tree.specs.declared.roots.Roots.{Roots}
@@ -15,8 +15,8 @@ tree_in roots Avet = roots.avet
 tree_in roots Vaet = roots.vaet
 
 -- what the trees hold, read from left to right
-abbrev pub lists_of : Roots → Lists
-lists_of roots = record {
+abbrev pub trees_of : Roots → Lists
+trees_of roots = record {
   eavt = tree_datoms roots.eavt;
   aevt = tree_datoms roots.aevt;
   avet = tree_datoms roots.avet;

@@ -21,7 +21,7 @@ pub struct Roots {
 
 impl Roots {
     ghost use Rattle.fb_values.specs.declared.indexes.Order.{Order};
-    ghost use Rattle.seg_tree.specs.Indexes.{tree_in, lists_of, root_ids};
+    ghost use Rattle.seg_tree.specs.Indexes.{tree_in, trees_of, root_ids};
 
     /// Four trees without a datom, as a database begins.
     pub fn empty(alloc: Global) -> Result<Roots, Memory>
@@ -46,7 +46,7 @@ impl Roots {
         first_id: u64,
     ) -> Result<Roots, Memory>
         requires { first_id ≤ 2 ^ 61 }
-        ensures lists { IfOk result (λ roots. lists_of roots ≡ record { eavt = eavt.items; aevt = aevt.items; avet = avet.items; vaet = vaet.items }) }
+        ensures lists { IfOk result (λ roots. trees_of roots ≡ record { eavt = eavt.items; aevt = aevt.items; avet = avet.items; vaet = vaet.items }) }
         ensures ids { IfOk result (λ roots. root_ids roots ≡ range_with_len first_id (length (root_ids roots))) }
         ensures next { IfOk result (λ roots. 0 < length (root_ids roots) → next_above (root_ids roots) ≡ first_id + length (root_ids roots)) }
     {

@@ -4,25 +4,12 @@ use Rattle.std.specs.Prelude.{◌≡◌, ◌≤◌, ◌<◌, ◌⊎◌, ℕ, Lis
 use Rattle.fb_values.specs.declared.facts.Datom.{Datom}
 use Rattle.fb_values.specs.declared.facts.Entry.{Entry}
 use Rattle.fb_values.specs.declared.indexes.Order.{Order}
-use Rattle.fb_values.specs.declared.indexes.Order.TheVariants.{Eavt, Aevt, Avet, Vaet}
+use Rattle.fb_values.specs.Lists.{Lists, list_in}
 use Rattle.fb_model.specs.Rising.{IsRisingListOf}
 use Rattle.fb_model.specs.History.{basis, upto, said}
 use Rattle.fb_model.specs.Facts.{facts}
 use Rattle.fb_model.specs.Schema.{Schema, covers, schema_of}
 use Rattle.fb_model.specs.Lawful.{IsLawful}
-
--- a list for each of the four orders
-pub record Lists : Type 0 where
-  pub eavt : List Datom
-  pub aevt : List Datom
-  pub avet : List Datom
-  pub vaet : List Datom
-
-abbrev pub list_in : Lists → Order → List Datom
-list_in lists Eavt = lists.eavt
-list_in lists Aevt = lists.aevt
-list_in lists Avet = lists.avet
-list_in lists Vaet = lists.vaet
 
 -- the datom is recorded, and the index holds its attribute
 pub record IsIndexed (h : List Entry) (order : Order) (d : Datom) : Type 0 where

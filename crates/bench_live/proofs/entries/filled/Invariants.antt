@@ -1,5 +1,5 @@
 use Rattle.fb_values.specs.declared.indexes.Order.{Order}
-use Rattle.fb_search.specs.Lists.{list_in}
+use Rattle.fb_values.specs.Lists.{list_in}
 use Rattle.live_index.specs.Samples.{AreSamples}
 use Rattle.bench_live.proofs.entries.filled.Given as goal
 

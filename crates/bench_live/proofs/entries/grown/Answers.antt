@@ -1,5 +1,5 @@
 use Rattle.std.proofs.Common.{sym, subst}
-use Rattle.fb_search.specs.Lists.{Lists, list_in}
+use Rattle.fb_values.specs.Lists.{Lists, list_in}
 use Rattle.live_index.specs.Samples.{AreSamples}
 use Rattle.bench_live.proofs.entries.grown.Goals as goal
 

@@ -1,5 +1,5 @@
 use Rattle.std.proofs.Common.{◌≡◌, ◌++◌, ◌≤◌, drop}
-use Rattle.fb_search.specs.Lists.{list_in}
+use Rattle.fb_values.specs.Lists.{list_in}
 use Rattle.fb_search.specs.Places.{place_of}
 use Rattle.fb_view.specs.Ranges.{led_to}
 use Rattle.fb_view.proofs.ranges.push_live.Given as goal

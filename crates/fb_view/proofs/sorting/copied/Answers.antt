@@ -1,6 +1,6 @@
 use Rattle.std.proofs.Common.{◌≡◌, ◌∙◌, ◌<◌, ◌++◌, ◌∷◌, [], ap, arith, sym, length}
 use Rattle.std.specs.Option.{option_copied}
-use Rattle.fb_search.specs.Lists.{list_in}
+use Rattle.fb_values.specs.Lists.{list_in}
 use Rattle.fb_view.proofs.Lists.{take-next, there_is}
 use Rattle.fb_view.proofs.sorting.copied.Goals as goal
 use Rattle.fb_view.proofs.sorting.copied.Goals.{in-Some+in_ok-copy+in_ok-push, in_default}

@@ -1,6 +1,6 @@
 use Rattle.std.proofs.Common.{◌∙◌, [], sym, subst}
 use Rattle.fb_values.specs.declared.indexes.Order.TheVariants.{Avet}
-use Rattle.fb_search.specs.Lists.{list_in}
+use Rattle.fb_values.specs.Lists.{list_in}
 use Rattle.live_index.specs.Growth.{IsGrown}
 use Rattle.fb_view.proofs.Alone.{grown_alone}
 use Rattle.fb_view.proofs.sorting.in_avet.Goals as goal

@@ -1,6 +1,6 @@
 use Rattle.std.proofs.Common.{◌∙◌, [], subst}
 use Rattle.std.proofs.lemmas.Result.{IfOk-weaker}
-use Rattle.fb_search.specs.Lists.{list_in}
+use Rattle.fb_values.specs.Lists.{list_in}
 use Rattle.live_index.specs.Growth.{IsGrown}
 use Rattle.fb_view.proofs.sorting.index_of.Goals as goal
 

@@ -1,5 +1,5 @@
 use Rattle.std.proofs.Common.{◌≡◌, take}
-use Rattle.fb_search.specs.Lists.{list_in}
+use Rattle.fb_values.specs.Lists.{list_in}
 use Rattle.seg_merge.specs.Merged.{due_of}
 use Rattle.seg_merge.proofs.due.due.Given as goal
 

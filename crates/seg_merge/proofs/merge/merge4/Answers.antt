@@ -2,11 +2,12 @@ use Rattle.std.proofs.Common.{List, sym, subst}
 use Rattle.std.specs.Prelude.{Contains}
 use Rattle.std.proofs.lemmas.Bool.{lt-ltb}
 use Rattle.std.proofs.lemmas.List.Elements.{All-contains}
-use Rattle.fb_search.specs.Lists.{list_in}
+use Rattle.fb_values.specs.Lists.{list_in}
 use Rattle.live_index.proofs.Members.{from_filter, into_filter}
 use Rattle.seg_tree.specs.Nodes.{LeafNode, tree_datoms, tree_leaves}
 use Rattle.seg_tree.specs.Ids.{is_old}
-use Rattle.seg_tree.specs.Indexes.{tree_in}
+use Rattle.seg_tree.specs.Indexes.{tree_in, trees_of}
+use Rattle.seg_tree.proofs.Indexes.{list_in-trees_of}
 use Rattle.seg_merge.specs.Merged.{IsMerged}
 use Rattle.seg_merge.specs.Four.{plan_in}
 use Rattle.seg_merge.proofs.Orders.{kept_are_older}
@@ -43,5 +44,5 @@ returns-clause-older g c = λ order leaf there less.
 
 pub returns-clause-stand : goal.returns-clause-stand
 returns-clause-stand g c = λ h old can.
-    root_stands h old c.args.c c.args.covers.now (λ order. tree_datoms (tree_in c.args.roots.now order)) (list_in c.args.live.now) (λ order. tree_datoms (tree_in c.in_ok-merged.merged order)) can
-    (λ order. subst (IsMerged order c.args.covers.now c.args.c (tree_datoms (tree_in c.args.roots.now order)) (list_in c.args.live.now order)) (sym (c.in_ok-merged.ensures.datoms order)) (c.in_ok-plans.ensures order).merged)
+    root_stands h old c.args.c c.args.covers.now (trees_of c.args.roots.now) c.args.live.now (trees_of c.in_ok-merged.merged) can
+    (λ order. rw (list_in-trees_of c.args.roots.now order, list_in-trees_of c.in_ok-merged.merged order, c.in_ok-merged.ensures.datoms order) (c.in_ok-plans.ensures order).merged)

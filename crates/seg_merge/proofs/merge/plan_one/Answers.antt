@@ -2,7 +2,7 @@ use Rattle.std.proofs.Common.{map, ap, ◌∙◌}
 use Rattle.std.specs.Arc.{arc_value}
 use Rattle.std.specs.List.{All}
 use Rattle.std.specs.Prelude.{Contains}
-use Rattle.fb_search.specs.Lists.{list_in}
+use Rattle.fb_values.specs.Lists.{list_in}
 use Rattle.seg_tree.specs.Nodes.{leaf_datoms, tree_leaves}
 use Rattle.seg_tree.specs.Indexes.{tree_in}
 use Rattle.seg_merge.specs.Merged.{KeepsLeaves}

@@ -1,6 +1,6 @@
 use Rattle.std.proofs.Common.{◌-◌, ◌∙◌, ap, length}
 use Rattle.std.specs.List.{slice_get}
-use Rattle.fb_search.specs.Lists.{Lists}
+use Rattle.fb_values.specs.Lists.{Lists}
 use Rattle.seg_tree.specs.Nodes.{tree_datoms}
 use Rattle.seg_tree.specs.declared.roots.Roots.{Roots}
 use Rattle.fb_view.proofs.Users.{user_at, users_answer}

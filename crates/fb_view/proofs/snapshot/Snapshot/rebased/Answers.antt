@@ -1,6 +1,6 @@
 use Rattle.std.proofs.Common.{◌∙◌, subst, sym}
 use Rattle.view_model.specs.Stands.{RootStands}
-use Rattle.fb_view.specs.Kept.{trees_of}
+use Rattle.seg_tree.specs.Indexes.{trees_of}
 use Rattle.fb_view.proofs.Beginnings.{roots_from}
 use Rattle.fb_view.proofs.snapshot.Snapshot.rebased.Goals as goal
 

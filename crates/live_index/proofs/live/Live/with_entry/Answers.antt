@@ -1,4 +1,4 @@
-use Rattle.fb_search.specs.Lists.{Lists, list_in}
+use Rattle.fb_values.specs.Lists.{Lists, list_in}
 use Rattle.live_index.specs.Growth.{IsGrown}
 use Rattle.live_index.proofs.Standing.{stands, in_each}
 use Rattle.live_index.proofs.live.Live.with_entry.Goals as goal

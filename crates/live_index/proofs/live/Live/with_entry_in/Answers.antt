@@ -1,7 +1,7 @@
 use Rattle.std.proofs.Common.{◌∙◌, ap, List}
 use Rattle.std.specs.Prelude.{filter}
 use Rattle.fb_values.specs.declared.facts.Datom.{Datom}
-use Rattle.fb_search.specs.Lists.{list_in}
+use Rattle.fb_values.specs.Lists.{list_in}
 use Rattle.live_index.specs.Growth.{is_held}
 use Rattle.live_index.proofs.Growing.{rising-filter, grown, single_kept, single_refilled, both_ok}
 use Rattle.live_index.proofs.live.Live.with_entry_in.Goals as goal
