@@ -1,6 +1,6 @@
 //! Live indexes and trees of numbered datoms, merges and seeks.
 ghost use Rattle.std.specs.Prelude.{◌≡◌, ◌∷◌, [], ◌++◌, IfOk};
-ghost use Rattle.fb_search.specs.Rising.{IsRising};
+ghost use Rattle.fb_values.specs.Rising.{IsRising};
 ghost use Rattle.live_index.specs.Samples.{adds, AreSamples};
 ghost use Rattle.seg_tree.specs.Nodes.{tree_datoms};
 ghost use Rattle.bench_segments.specs.Rising.{LiveRises, TreesRise};

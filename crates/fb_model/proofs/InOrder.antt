@@ -11,7 +11,8 @@ use Rattle.fb_values.specs.declared.facts.Datom.{Datom}
 use Rattle.fb_values.specs.declared.indexes.Order.{Order}
 use Rattle.fb_values.specs.Orders.{key_cmp}
 use Rattle.fb_values.specs.OrderLaws.{key_cmp_total}
-use Rattle.fb_model.specs.Rising.{rises, put_in_order, in_order}
+use Rattle.fb_values.specs.Rising.{rises}
+use Rattle.fb_model.specs.Rising.{put_in_order, in_order}
 use Rattle.fb_model.proofs.Members.{here, there, cases_of, none_of, in_order_member}
 
 -- ---- what a list in order has

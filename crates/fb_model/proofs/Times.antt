@@ -18,8 +18,8 @@ use Rattle.fb_values.specs.declared.indexes.Order.{Order}
 use Rattle.fb_values.specs.declared.indexes.Order.TheVariants.{Eavt, Aevt, Avet, Vaet}
 use Rattle.fb_values.specs.Orders.{key_cmp, key_of, value_cmp}
 use Rattle.fb_values.specs.OrderLaws.{value_cmp_total, key_cmp_total, key_cmp-Equal, IsAtOnePlace}
+use Rattle.fb_values.specs.Rising.{rises}
 use Rattle.fb_model.specs.FirstEntry.{first_entry}
-use Rattle.fb_model.specs.Rising.{rises}
 use Rattle.fb_model.specs.History.{basis, said, upto}
 use Rattle.fb_model.specs.Lawful.{IsLawful, IsLawfulAfter}
 use Rattle.fb_model.proofs.OneMoreEntry.{basis-push, said-push, upto-append}

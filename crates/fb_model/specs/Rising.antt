@@ -1,16 +1,11 @@
--- Lists of datoms that strictly rise in the order of an index.
--- Datomic, Indexes. That t ascends too is this project's own choice.
-use Rattle.std.specs.Prelude.{◌↔◌, Bool, true, ◌&&◌, List, [], ◌∷◌, cond, IsTrue, Contains}
+-- Datoms put in the order of an index, and the one list that strictly rises and has given datoms.
+-- Restates Indexes of Datomic's documentation.
+use Rattle.std.specs.Prelude.{◌↔◌, List, [], ◌∷◌, cond, IsTrue, Contains}
 use Rattle.std.specs.Ordering.{is_lt}
-use Rattle.fb_values.specs.Orders.{key_cmp}
 use Rattle.fb_values.specs.declared.facts.Datom.{Datom}
 use Rattle.fb_values.specs.declared.indexes.Order.{Order}
-
--- each datom is below the next one
-abbrev pub rises : Order → List Datom → Bool
-rises order [] = true
-rises order (d ∷ []) = true
-rises order (d ∷ next ∷ rest) = is_lt (key_cmp order d next) && rises order (next ∷ rest)
+use Rattle.fb_values.specs.Orders.{key_cmp}
+use Rattle.fb_values.specs.Rising.{rises}
 
 -- the datoms in the order, of those with equal keys the last one alone
 abbrev pub put_in_order : Order → Datom → List Datom → List Datom

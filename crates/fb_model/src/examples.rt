@@ -2,10 +2,11 @@
 ghost use Rattle.std.specs.Prelude.{◌≡◌, [], ◌∷◌, length, IsTrue, IsFalse, pos, ◌-ℤ◌, true, false, Some, None, codes};
 ghost use Rattle.fb_values.specs.declared.facts.Value.TheVariants.{Keyword, Str, Ref, Long, Instant, Bool};
 ghost use Rattle.fb_values.specs.declared.indexes.Order.TheVariants.{Eavt, Avet, Vaet};
+ghost use Rattle.fb_values.specs.Rising.{rises};
 ghost use Rattle.fb_model.specs.Numbers.{user_entity, user_number, transaction_of, ident, cardinality, unique, index, doc, type_long, type_ref, type_symbol, type_uri, unique_value, cardinality_many};
 ghost use Rattle.fb_model.specs.FirstEntry.{first_entry};
 ghost use Rattle.fb_model.specs.Words.{is_keyword_text, is_symbol_text, is_uri_text, is_reserved};
-ghost use Rattle.fb_model.specs.Rising.{rises, in_order};
+ghost use Rattle.fb_model.specs.Rising.{in_order};
 ghost use Rattle.fb_model.specs.History.{next_instant, users_issued, is_issued};
 ghost use Rattle.fb_model.specs.Facts.{facts, holds, value_of};
 ghost use Rattle.fb_model.specs.Types.{is_of_type};

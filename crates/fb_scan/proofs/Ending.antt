@@ -14,7 +14,7 @@ use Rattle.fb_values.specs.declared.indexes.Probe.{Probe}
 use Rattle.fb_values.specs.Orders.{key_cmp, probe_cmp, value_cmp}
 use Rattle.fb_values.specs.OrderLaws.{value_cmp_total}
 use Rattle.fb_search.specs.Places.{is_below}
-use Rattle.fb_search.specs.Rising.{IsRising}
+use Rattle.fb_values.specs.Rising.{IsRising}
 use Rattle.fb_search.proofs.Below.{below_earlier}
 use Rattle.live_index.proofs.Members.{contains-cons}
 use Rattle.fb_view.proofs.Merging.{before_member}

@@ -11,7 +11,7 @@ use Rattle.fb_values.specs.Orders.{key_cmp}
 use Rattle.fb_values.specs.OrderLaws.{key_cmp_total, key_cmp-Equal}
 use Rattle.fb_values.specs.Lists.{list_in}
 use Rattle.fb_search.specs.Places.{is_below}
-use Rattle.fb_search.specs.Rising.{IsRising}
+use Rattle.fb_values.specs.Rising.{IsRising}
 use Rattle.fb_search.proofs.Below.{below_earlier}
 use Rattle.fb_model.specs.History.{said}
 use Rattle.fb_model.specs.Facts.{is_of, facts}

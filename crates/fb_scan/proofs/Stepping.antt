@@ -15,7 +15,7 @@ use Rattle.std.specs.Ordering.{is_lt}
 use Rattle.fb_covers.specs.Coverage.{Coverage, covers as held_by}
 use Rattle.fb_values.specs.Lists.{Lists, list_in}
 use Rattle.fb_search.specs.Places.{is_below}
-use Rattle.fb_search.specs.Rising.{IsRising}
+use Rattle.fb_values.specs.Rising.{IsRising}
 use Rattle.fb_model.specs.Facts.{facts}
 use Rattle.fb_model.specs.Schema.{covers}
 use Rattle.live_index.proofs.Members.{contains_none}
@@ -29,7 +29,7 @@ use Rattle.fb_view.specs.declared.merged.Spot.{Spot}
 use Rattle.fb_view.specs.Kept.{Kept, Stands}
 use Rattle.fb_view.specs.Ranges.{from_probe}
 use Rattle.fb_view.specs.Merged.{merged, ahead}
-use Rattle.fb_view.proofs.Rises.{rises_from}
+use Rattle.fb_values.proofs.Rising.{rises_from}
 use Rattle.fb_view.proofs.Standing.{coverage_of}
 use Rattle.fb_view.proofs.Merging.{merged_rises, rising-filter}
 use Rattle.fb_scan.specs.declared.ends.End.{End}

@@ -9,7 +9,7 @@ use Rattle.fb_values.specs.declared.facts.Datom.{Datom}
 use Rattle.fb_values.specs.declared.indexes.Probe.{Probe}
 use Rattle.fb_values.specs.Orders.{key_of, key_cmp, given}
 use Rattle.fb_values.specs.OrderLaws.{value_cmp_total}
-use Rattle.fb_search.specs.Rising.{StandsBefore, IsRising}
+use Rattle.fb_values.specs.Rising.{StandsBefore, IsRising}
 use Rattle.fb_search.specs.Places.{is_below, place_of}
 
 -- the first components decide, or leave it to the rest

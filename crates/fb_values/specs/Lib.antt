@@ -1,4 +1,5 @@
 pub mod Orders
 pub mod OrderLaws
+pub mod Rising
 pub mod Lists
 pub mod Samples

@@ -31,7 +31,7 @@ use Rattle.fb_schema.specs.Tables.{HasCoverage}
 use Rattle.fb_view.specs.declared.growth.Older.{Older}
 use Rattle.fb_view.specs.Kept.{AreWhole}
 use Rattle.fb_view.proofs.Standing.{coverage_of}
-use Rattle.fb_view.proofs.Rises.{rises_from}
+use Rattle.fb_values.proofs.Rising.{rises_from}
 
 pub grown_alone : (order : Order) (coverage : Coverage) (ds new : List Datom) → IsGrown order coverage [] [] ds new → (d : Datom) → Contains new d ↔ (Contains ds d × IsTrue (is_held coverage order d))
 grown_alone order coverage ds new grown d = (

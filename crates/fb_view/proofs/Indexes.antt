@@ -24,7 +24,7 @@ use Rattle.seg_tree.specs.Nodes.{tree_datoms}
 use Rattle.seg_tree.specs.Indexes.{tree_in}
 use Rattle.fb_view.specs.Kept.{Kept, Stands}
 use Rattle.fb_view.specs.Merged.{merged}
-use Rattle.fb_view.proofs.Rises.{rises_from}
+use Rattle.fb_values.proofs.Rising.{rises_from}
 use Rattle.fb_view.proofs.Beginnings.{upto_lawful}
 use Rattle.fb_view.proofs.Standing.{early_said}
 use Rattle.fb_view.proofs.Merging.{merged_rises, rising-filter, from_merged, into_merged}

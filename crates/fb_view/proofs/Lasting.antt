@@ -19,10 +19,10 @@ use Rattle.fb_values.specs.declared.indexes.Order.TheVariants.{Eavt, Aevt, Avet,
 use Rattle.fb_values.specs.declared.indexes.Probe.{Probe}
 use Rattle.fb_values.specs.Orders.{key_cmp, key_of, value_cmp, given, probe_cmp}
 use Rattle.fb_values.specs.OrderLaws.{value_cmp_total, key_cmp_total, key_cmp-Equal, probe_cmp-Equal, Equal-probe_cmp, IsAtOnePlace}
-use Rattle.fb_search.specs.Rising.{StandsBefore, IsRising}
+use Rattle.fb_values.specs.Rising.{rises, StandsBefore, IsRising}
 use Rattle.fb_search.proofs.Below.{below_earlier}
 use Rattle.fb_model.specs.FirstEntry.{first_entry}
-use Rattle.fb_model.specs.Rising.{rises, IsRisingListOf}
+use Rattle.fb_model.specs.Rising.{IsRisingListOf}
 use Rattle.fb_model.specs.History.{basis, said}
 use Rattle.fb_model.specs.Facts.{is_of, standing, stands_before, facts, value_eq}
 use Rattle.fb_model.specs.Lawful.{IsLawful, IsLawfulAfter}
@@ -39,7 +39,7 @@ use Rattle.live_index.proofs.Members.{from_filter, into_filter, contains-cons, c
 use Rattle.fb_view.specs.Merged.{stands_at}
 use Rattle.fb_view.proofs.Ranging.{above_later}
 use Rattle.fb_view.proofs.Merging.{before_member, before_all}
-use Rattle.fb_view.proofs.Rises.{rises_from, rising_from}
+use Rattle.fb_values.proofs.Rising.{rises_from, rising_from}
 
 -- later in the list is later in time, among the datoms of one triple
 abbrev pub IsByTime : List Datom → Type 0

@@ -1,4 +1,3 @@
-pub mod Rises
 pub mod Ranging
 pub mod Lists
 pub mod Standing

@@ -15,16 +15,16 @@ use Rattle.fb_values.specs.declared.indexes.Order.TheVariants.{Eavt, Aevt, Avet,
 use Rattle.fb_values.specs.declared.indexes.Probe.{Probe}
 use Rattle.fb_values.specs.Orders.{key_of, value_cmp, given, key_cmp, probe_cmp}
 use Rattle.fb_values.specs.OrderLaws.{key_cmp_total, key_cmp-Equal}
-use Rattle.fb_search.specs.Rising.{StandsBefore, IsRising}
+use Rattle.fb_values.specs.Rising.{rises, StandsBefore, IsRising}
 use Rattle.fb_search.specs.Places.{is_below, place_of}
 use Rattle.fb_search.proofs.Below.{below_earlier}
-use Rattle.fb_model.specs.Rising.{rises, put_in_order, in_order}
+use Rattle.fb_model.specs.Rising.{put_in_order, in_order}
 use Rattle.fb_model.proofs.Members.{in_order-rises, in_order_member}
 use Rattle.fb_model.proofs.InOrder.{OneForEachKey, in_order_has, one_rising_list}
 use Rattle.live_index.proofs.Members.{from_filter, into_filter, contains-cons, contains_head, contains_tail, contains_none}
 use Rattle.fb_view.specs.Ranges.{is_led, led_to, from_probe}
 use Rattle.fb_view.specs.Merged.{IsPair, merged}
-use Rattle.fb_view.proofs.Rises.{rises_from, rising_from}
+use Rattle.fb_values.proofs.Rising.{rises_from, rising_from}
 use Rattle.fb_view.proofs.Ranging.{above_later, above_not_led, neither, led_from_place}
 
 pub before_member : (order : Order) (x : Datom) (ds : List Datom) (d : Datom) → StandsBefore order x ds → Contains ds d → key_cmp order x d ≡ Less

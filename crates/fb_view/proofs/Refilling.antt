@@ -13,7 +13,7 @@ use Rattle.fb_values.specs.declared.indexes.Order.TheVariants.{Eavt, Aevt, Avet,
 use Rattle.fb_values.specs.Orders.{key_of, value_cmp}
 use Rattle.fb_values.specs.OrderLaws.{value_cmp_total, IsAtOnePlace}
 use Rattle.fb_covers.specs.Coverage.{Coverage, covers as held}
-use Rattle.fb_search.specs.Rising.{IsRising}
+use Rattle.fb_values.specs.Rising.{IsRising}
 use Rattle.fb_model.specs.Rising.{IsRisingListOf}
 use Rattle.fb_model.specs.History.{basis, said, upto}
 use Rattle.fb_model.specs.Facts.{facts}
@@ -37,7 +37,7 @@ use Rattle.fb_view.specs.declared.growth.Older.{Older}
 use Rattle.fb_view.specs.declared.growth.Recent.{Recent}
 use Rattle.fb_view.specs.Kept.{kept, Follows}
 use Rattle.fb_view.specs.Refills.{missed, all_missed, AreGained}
-use Rattle.fb_view.proofs.Rises.{rises_from}
+use Rattle.fb_values.proofs.Rising.{rises_from}
 use Rattle.fb_view.proofs.Standing.{said_early, early_said, coverage_of, lawful_before, lawful_after, same_past}
 
 -- ---- members of many lists

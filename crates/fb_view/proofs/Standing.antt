@@ -7,7 +7,8 @@ use Rattle.fb_values.specs.declared.facts.Entry.{Entry}
 use Rattle.fb_values.specs.declared.indexes.Order.{Order}
 use Rattle.fb_covers.specs.Coverage.{Coverage, covers as held}
 use Rattle.fb_values.specs.Lists.{list_in}
-use Rattle.fb_model.specs.Rising.{rises, IsRisingListOf}
+use Rattle.fb_values.specs.Rising.{rises}
+use Rattle.fb_model.specs.Rising.{IsRisingListOf}
 use Rattle.fb_model.specs.History.{basis, said, upto}
 use Rattle.fb_model.specs.Facts.{facts}
 use Rattle.fb_model.specs.Schema.{covers, schema_in, schema_of}

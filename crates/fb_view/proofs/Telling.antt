@@ -18,7 +18,7 @@ use Rattle.fb_values.specs.declared.indexes.Probe.{Probe}
 use Rattle.fb_values.specs.Orders.{key_of, value_cmp}
 use Rattle.fb_values.specs.OrderLaws.{value_cmp_total, IsAtOnePlace}
 use Rattle.fb_values.specs.Lists.{Lists, list_in}
-use Rattle.fb_search.specs.Rising.{StandsBefore, IsRising}
+use Rattle.fb_values.specs.Rising.{StandsBefore, IsRising}
 use Rattle.fb_model.specs.Numbers.{type_ref}
 use Rattle.fb_model.specs.History.{basis, said, upto}
 use Rattle.fb_model.specs.Facts.{is_of, value_eq, standing, holds, holder, least, facts}
@@ -41,7 +41,7 @@ use Rattle.fb_schema.proofs.Lookups.{covers-described}
 use Rattle.fb_view.specs.Kept.{Kept, Stands}
 use Rattle.fb_view.specs.Ranges.{is_led, led_to}
 use Rattle.fb_view.specs.Merged.{IsPair, merged, ranged, facts_led}
-use Rattle.fb_view.proofs.Rises.{rising_from}
+use Rattle.fb_values.proofs.Rising.{rising_from}
 use Rattle.fb_view.proofs.Standing.{not_later, said_early, early_said}
 use Rattle.fb_view.proofs.Merging.{merged_rises, rising-filter, from_merged, into_merged, before_member}
 use Rattle.fb_view.proofs.Lasting.{told_is, entity_upto}

@@ -9,7 +9,7 @@ use Rattle.fb_values.specs.declared.facts.Entry.{Entry}
 use Rattle.fb_values.specs.declared.indexes.Order.TheVariants.{Eavt}
 use Rattle.fb_values.specs.Orders.{key_cmp}
 use Rattle.fb_values.specs.Lists.{list_in}
-use Rattle.fb_search.specs.Rising.{StandsBefore, IsRising}
+use Rattle.fb_values.specs.Rising.{StandsBefore, IsRising}
 use Rattle.fb_model.specs.Numbers.{user_number}
 use Rattle.fb_model.specs.History.{said, users_in, users_issued}
 use Rattle.live_index.proofs.Members.{contains-cons, contains_head, contains_tail, contains_none}

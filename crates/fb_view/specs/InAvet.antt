@@ -4,7 +4,7 @@ use Rattle.std.specs.Prelude.{◌↔◌, List, Contains, IsTrue}
 use Rattle.fb_values.specs.declared.facts.Datom.{Datom}
 use Rattle.fb_values.specs.declared.indexes.Order.TheVariants.{Avet}
 use Rattle.fb_covers.specs.Coverage.{Coverage}
-use Rattle.fb_search.specs.Rising.{IsRising}
+use Rattle.fb_values.specs.Rising.{IsRising}
 use Rattle.live_index.specs.Growth.{is_held}
 
 -- the list rises in AVET, and has those of the datoms whose attribute AVET holds

@@ -4,7 +4,7 @@ ghost use Rattle.fb_values.specs.declared.facts.Entry.{Entry};
 ghost use Rattle.fb_values.specs.declared.indexes.Order.{Order};
 ghost use Rattle.fb_values.specs.declared.indexes.Order.TheVariants.{Aevt};
 ghost use Rattle.fb_values.specs.Lists.{list_in};
-ghost use Rattle.fb_search.specs.Rising.{IsRising};
+ghost use Rattle.fb_values.specs.Rising.{IsRising};
 ghost use Rattle.fb_model.specs.History.{upto};
 ghost use Rattle.fb_model.specs.Lawful.{IsLawful};
 ghost use Rattle.fb_schema.specs.Described.{SchemaStands};

@@ -2,7 +2,7 @@
 ghost use Rattle.std.specs.Prelude.{◌≡◌, ◌++◌, ◌<◌, IfOk};
 ghost use Rattle.fb_values.specs.Lists.{list_in};
 ghost use Rattle.fb_search.specs.Places.{place_of};
-ghost use Rattle.fb_search.specs.Rising.{IsRising};
+ghost use Rattle.fb_values.specs.Rising.{IsRising};
 ghost use Rattle.seg_tree.specs.Nodes.{tree_datoms};
 ghost use Rattle.fb_view.specs.Ranges.{is_led, led_to};
 

@@ -4,7 +4,7 @@ ghost use Rattle.std.specs.Arc.{arc_value};
 ghost use Rattle.std.specs.List.{insert};
 ghost use Rattle.std.specs.List.{slice_get};
 ghost use Rattle.std.specs.Option.{option_copied};
-ghost use Rattle.fb_search.specs.Rising.{IsRising};
+ghost use Rattle.fb_values.specs.Rising.{IsRising};
 ghost use Rattle.fb_search.specs.Places.{place_of};
 ghost use Rattle.live_blocks.specs.Trees.{blocks_at_least};
 ghost use Rattle.live_blocks.specs.Newest.{AreNewest, woven};

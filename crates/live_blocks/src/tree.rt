@@ -3,7 +3,7 @@ ghost use Rattle.std.specs.Prelude.{◌≡◌, ℕ, ◌+◌, ◌^◌, ◌<◌, �
 ghost use Rattle.std.specs.List.{insert};
 ghost use Rattle.std.specs.List.{slice_get};
 ghost use Rattle.std.specs.Arc.{arc_value};
-ghost use Rattle.fb_search.specs.Rising.{IsRising};
+ghost use Rattle.fb_values.specs.Rising.{IsRising};
 ghost use Rattle.fb_search.specs.Places.{place_of};
 ghost use Rattle.live_blocks.specs.Newest.{StandWithin, newer_upto, woven};
 ghost use Rattle.live_blocks.specs.Trees.{DifferByAtMost, least_len, IsHeightAfterBalance};

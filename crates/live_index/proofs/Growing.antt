@@ -14,7 +14,7 @@ use Rattle.fb_values.specs.declared.indexes.Order.TheVariants.{Avet}
 use Rattle.fb_values.specs.Orders.{key_cmp}
 use Rattle.fb_values.specs.OrderLaws.{key_cmp-Equal}
 use Rattle.fb_covers.specs.Coverage.{Coverage, StaysIn}
-use Rattle.fb_search.specs.Rising.{StandsBefore, IsRising}
+use Rattle.fb_values.specs.Rising.{StandsBefore, IsRising}
 use Rattle.live_index.specs.Growth.{HasNoTwins, is_held, IsGrown, IsSound, is_twin}
 use Rattle.live_index.proofs.Members.{contains-cons, contains_none, from_filter, into_filter, filter_all, contains-insert}
 

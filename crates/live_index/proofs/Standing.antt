@@ -2,11 +2,10 @@
 use Rattle.std.proofs.Common.{◌≡◌, ◌∙◌, ℕ, ◌+◌, ◌<◌, ◌⊎◌, inl, inr, Bool, true, false, List, [], ◌∷◌, ◌++◌, refl, sym, ap, subst, arith, eqb, Option, Some, None}
 use Rattle.std.specs.Prelude.{Contains, IsTrue, IsFalse, is_some, option_and_then}
 use Rattle.std.specs.Option.{option_map_or}
-use Rattle.std.specs.Ordering.{is_lt}
 use Rattle.std.specs.declared.cmp.Ordering.TheVariants.{Equal}
 use Rattle.std.specs.Cmp.{tied_itself}
 use Rattle.std.specs.Cmp.Lexicographic.{slice_cmp, lists_total}
-use Rattle.std.proofs.lemmas.Bool.{true≢false, and_from, cases_Bool, eqb-true}
+use Rattle.std.proofs.lemmas.Bool.{true≢false, cases_Bool, eqb-true}
 use Rattle.std.proofs.lemmas.List.Elements.{Contains-append_left, Contains-append_right, Contains-append_cases}
 use Rattle.fb_values.specs.declared.facts.Datom.{Datom}
 use Rattle.fb_values.specs.declared.facts.Entry.{Entry}
@@ -16,14 +15,13 @@ use Rattle.fb_values.specs.Orders.{key_of, value_cmp}
 use Rattle.fb_values.specs.OrderLaws.{value_cmp_total}
 use Rattle.fb_covers.specs.Coverage.{Coverage}
 use Rattle.fb_values.specs.Lists.{Lists, list_in}
-use Rattle.fb_search.specs.Rising.{IsRising}
 use Rattle.fb_model.specs.Numbers.{ident, value_type, cardinality, unique, is_component, index, type_ref}
-use Rattle.fb_model.specs.Rising.{rises}
 use Rattle.fb_model.specs.History.{basis, said, upto}
 use Rattle.fb_model.specs.Facts.{facts}
 use Rattle.fb_model.specs.Schema.{covers, is_held, attribute_from, is_attribute, keyword_of, entity_of, truth_of, entity_in}
 use Rattle.fb_model.specs.Laws.{facts_with}
 use Rattle.fb_model.specs.Lawful.{IsLawfulAfter}
+use Rattle.fb_values.proofs.Rising.{rises_from}
 use Rattle.fb_model.proofs.OneMoreEntry.{said-push, upto-append}
 use Rattle.fb_model.proofs.LawfulHistories.{IsLawful-length, IsLawful-push}
 use Rattle.fb_model.proofs.Invariants.{facts-push}
@@ -35,11 +33,6 @@ use Rattle.fb_model.proofs.KnownFacts.{said_installed}
 use Rattle.view_model.specs.Stands.{IsLive, LiveStands}
 use Rattle.live_index.specs.Growth.{HasNoTwins, IsGrown}
 use Rattle.live_index.specs.Standing.{IsDemanded, IsNext}
-
-rising-rises : (order : Order) (ds : List Datom) → IsRising order ds → rises order ds ≡ true
-rising-rises order [] rising = refl
-rising-rises order (d ∷ []) rising = refl
-rising-rises order (d ∷ next ∷ ds) rising = and_from _ _ (ap is_lt rising.0.0) (rising-rises order (next ∷ ds) rising.1)
 
 -- ---- VAET holds an attribute from its beginning
 
@@ -156,7 +149,7 @@ module _ (h : List Entry) (c : ℕ) (entry : Entry) (coverage : Coverage) (refil
 
       pub stands : LiveStands new after c
       stands order = record {
-        rising = rising-rises order (list_in new order) (grown order).rising;
+        rising = rises_from order (list_in new order) (grown order).rising;
         members = λ d. (demanded_now order d, listed order d);
       }
 

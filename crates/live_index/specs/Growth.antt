@@ -10,7 +10,7 @@ use Rattle.fb_values.specs.declared.indexes.Order.TheVariants.{Avet}
 use Rattle.fb_values.specs.Orders.{key_cmp}
 use Rattle.fb_values.specs.OrderLaws.{IsAtOnePlace}
 use Rattle.fb_covers.specs.Coverage.{Coverage, covers}
-use Rattle.fb_search.specs.Rising.{IsRising}
+use Rattle.fb_values.specs.Rising.{IsRising}
 
 -- two datoms of one entity, attribute, value and t are one datom
 abbrev pub HasNoTwins : List Datom → Type 0

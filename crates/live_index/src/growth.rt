@@ -4,7 +4,7 @@ ghost use Rattle.std.specs.List.{slice_get};
 ghost use Rattle.fb_values.specs.declared.facts.Datom.{Datom};
 ghost use Rattle.fb_values.specs.declared.indexes.Order.TheVariants.{Avet};
 ghost use Rattle.fb_covers.specs.Coverage.{StaysIn};
-ghost use Rattle.fb_search.specs.Rising.{IsRising};
+ghost use Rattle.fb_values.specs.Rising.{IsRising};
 ghost use Rattle.fb_search.specs.Places.{probe_of};
 ghost use Rattle.live_index.specs.Growth.{HasNoTwins, IsSound, is_held, is_twin};
 

@@ -3,7 +3,7 @@ ghost use Rattle.std.specs.Prelude.{◌≡◌, ℕ, ◌+◌, ◌*◌, ◌^◌, �
 ghost use Rattle.std.specs.List.{slice_get};
 ghost use Rattle.std.specs.Option.{option_copied};
 ghost use Rattle.fb_values.specs.declared.indexes.Order.{Order};
-ghost use Rattle.fb_search.specs.Rising.{IsRising};
+ghost use Rattle.fb_values.specs.Rising.{IsRising};
 ghost use Rattle.fb_search.specs.Places.{place_of};
 ghost use Rattle.live_blocks.specs.Trees.{blocks_at_least};
 ghost use Rattle.fb_values.specs.Lists.{list_in};

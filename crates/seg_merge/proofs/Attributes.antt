@@ -13,7 +13,7 @@ use Rattle.fb_values.specs.declared.indexes.Order.TheVariants.{Avet}
 use Rattle.fb_values.specs.Orders.{key_cmp}
 use Rattle.fb_covers.specs.Coverage.{Coverage, covers}
 use Rattle.live_index.specs.Growth.{is_held}
-use Rattle.fb_search.specs.Rising.{StandsBefore, IsRising}
+use Rattle.fb_values.specs.Rising.{StandsBefore, IsRising}
 
 less-le : (m n : ℕ) (r : Ordering) → ordering_then (nat_cmp m n) r ≡ Less → m ≤ n
 less-le m n r less = grind (arith, nat_tests)

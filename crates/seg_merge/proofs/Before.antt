@@ -12,7 +12,7 @@ use Rattle.fb_values.specs.declared.indexes.Order.TheVariants.{Eavt, Aevt, Avet,
 use Rattle.fb_values.specs.declared.indexes.Probe.{Probe}
 use Rattle.fb_values.specs.Orders.{key_cmp}
 use Rattle.fb_values.specs.OrderLaws.{key_cmp_total}
-use Rattle.fb_search.specs.Rising.{StandsBefore, IsRising}
+use Rattle.fb_values.specs.Rising.{StandsBefore, IsRising}
 use Rattle.fb_search.specs.Places.{is_below, place_of, probe_of}
 use Rattle.fb_search.proofs.Below.{below_earlier}
 use Rattle.live_index.proofs.Members.{contains-cons, contains_head, contains_tail, contains_none, from_filter}

@@ -4,7 +4,7 @@ use Rattle.std.specs.Prelude.{◌↔◌, Contains}
 use Rattle.std.proofs.lemmas.List.Elements.{Contains-append_left, Contains-append_right, Contains-append_cases}
 use Rattle.fb_values.specs.declared.facts.Datom.{Datom}
 use Rattle.fb_values.specs.declared.indexes.Order.{Order}
-use Rattle.fb_search.specs.Rising.{IsRising}
+use Rattle.fb_values.specs.Rising.{IsRising}
 use Rattle.live_index.proofs.Members.{contains_none}
 use Rattle.seg_merge.proofs.Before.{Before, rising_join}
 

@@ -11,7 +11,7 @@ use Rattle.fb_values.specs.declared.facts.Datom.{Datom}
 use Rattle.fb_values.specs.declared.indexes.Order.{Order}
 use Rattle.fb_values.specs.Orders.{key_cmp}
 use Rattle.fb_values.specs.OrderLaws.{key_cmp_total, key_cmp-Equal}
-use Rattle.fb_search.specs.Rising.{IsRising}
+use Rattle.fb_values.specs.Rising.{IsRising}
 use Rattle.fb_search.specs.Places.{place_of, probe_of}
 use Rattle.fb_search.proofs.Ends.{rising-append_left, rising-append_right}
 use Rattle.live_index.specs.Growth.{HasNoTwins}

@@ -12,7 +12,7 @@ use Rattle.fb_values.specs.declared.indexes.Order.{Order}
 use Rattle.fb_values.specs.Orders.{key_cmp}
 use Rattle.fb_values.specs.OrderLaws.{key_cmp_total}
 use Rattle.fb_covers.specs.Coverage.{Coverage}
-use Rattle.fb_search.specs.Rising.{IsRising}
+use Rattle.fb_values.specs.Rising.{IsRising}
 use Rattle.fb_search.specs.Places.{place_of, probe_of}
 use Rattle.live_index.specs.Growth.{is_held}
 use Rattle.live_index.proofs.Members.{contains_none}

@@ -1,60 +1,31 @@
 -- Merged trees stand for the first entries of a history.
-use Rattle.std.proofs.Common.{◌≡◌, ℕ, ◌≤◌, ◌⊎◌, Bool, true, false, List, [], ◌∷◌, ◌++◌, leb, refl, sym, ◌∙◌, subst, inl, inr, arith}
-use Rattle.std.specs.Prelude.{◌&&◌, Contains, IsTrue}
-use Rattle.std.specs.Ordering.{is_lt}
-use Rattle.std.specs.declared.cmp.Ordering.{Ordering}
-use Rattle.std.specs.declared.cmp.Ordering.TheVariants.{Less, Equal, Greater}
+use Rattle.std.proofs.Common.{◌≡◌, ℕ, ◌≤◌, ◌⊎◌, List, ◌++◌, leb, sym, ◌∙◌, subst, inl, inr, arith}
+use Rattle.std.specs.Prelude.{Contains, IsTrue}
+use Rattle.std.specs.declared.cmp.Ordering.TheVariants.{Equal}
 use Rattle.std.specs.Cmp.{tied_itself}
 use Rattle.std.specs.Cmp.Lexicographic.{slice_cmp, lists_total}
-use Rattle.std.proofs.lemmas.Bool.{cases_Bool, cases_lt, le-leb, leb-true}
+use Rattle.std.proofs.lemmas.Bool.{and_parts, cases_Bool, cases_lt, le-leb, leb-true}
 use Rattle.std.proofs.lemmas.List.Elements.{Contains-append_cases}
 use Rattle.fb_values.specs.declared.facts.Datom.{Datom}
 use Rattle.fb_values.specs.declared.facts.Entry.{Entry}
 use Rattle.fb_values.specs.declared.indexes.Order.{Order}
 use Rattle.fb_values.specs.declared.facts.Value.{Value}
 use Rattle.fb_values.specs.Orders.{key_cmp, key_of, value_cmp}
-use Rattle.fb_values.specs.OrderLaws.{key_cmp_total, value_cmp_total, IsAtOnePlace}
+use Rattle.fb_values.specs.OrderLaws.{value_cmp_total, IsAtOnePlace}
 use Rattle.fb_values.specs.Lists.{Lists, list_in}
-use Rattle.fb_model.specs.Rising.{rises, IsRisingListOf}
+use Rattle.fb_values.proofs.Rising.{rises_from, rising_from}
+use Rattle.fb_model.specs.Rising.{IsRisingListOf}
 use Rattle.fb_model.specs.History.{upto, said}
 use Rattle.fb_model.specs.Facts.{facts}
 use Rattle.fb_model.specs.Schema.{covers}
 use Rattle.fb_model.specs.Lawful.{IsLawful}
 use Rattle.fb_model.proofs.Times.{said-upto, same_keys, one_for_each_key_in}
 use Rattle.fb_covers.specs.Coverage.{Coverage}
-use Rattle.fb_search.specs.Rising.{StandsBefore, IsRising}
 use Rattle.live_index.specs.Growth.{is_held}
 use Rattle.live_index.proofs.Members.{from_filter, into_filter}
 use Rattle.view_model.specs.Stands.{IsIndexed, IsLive, RootStands}
 use Rattle.seg_merge.specs.Merged.{is_due, IsMerged, IsMergeable}
 use Rattle.seg_merge.specs.Standing.{CanMerge}
-
-pub rises_from : (order : Order) (ds : List Datom) → IsRising order ds → rises order ds ≡ true
-rises_from order [] rising = refl
-rises_from order (x ∷ []) rising = refl
-rises_from order (x ∷ y ∷ ds) rising = rw rising.0.0 (rises_from order (y ∷ ds) rising.1)
-
-and_both : (a b : Bool) → (a && b) ≡ true → (a ≡ true) × (b ≡ true)
-and_both true b is = (refl, is)
-and_both false b is = absurd (cc)
-
-less_is : (o : Ordering) → is_lt o ≡ true → o ≡ Less
-less_is Less h = refl
-less_is Equal h = absurd (cc)
-less_is Greater h = absurd (cc)
-
-stands_later : (order : Order) (d x : Datom) (xs : List Datom) → key_cmp order d x ≡ Less → StandsBefore order x xs → StandsBefore order d xs
-stands_later order d x [] less before = tt
-stands_later order d x (y ∷ ys) less before = ((key_cmp_total order).trans d x y less before.0, stands_later order d x ys less before.1)
-
-pub rising_from : (order : Order) (ds : List Datom) → rises order ds ≡ true → IsRising order ds
-rising_from order [] is = tt
-rising_from order (x ∷ []) is = (tt, tt)
-rising_from order (x ∷ y ∷ ds) is =
-    let both = and_both (is_lt (key_cmp order x y)) (rises order (y ∷ ds)) is in
-    let less = less_is (key_cmp order x y) both.0 in
-    let rest = rising_from order (y ∷ ds) both.1 in
-    ((less, stands_later order x y ds less rest.0), rest)
 
 -- what is said up to an entry is what is said with a t up to it
 said_early : (h : List Entry) (c : ℕ) (d : Datom) → IsLawful h → Contains (said (upto h c)) d → Contains (said h) d × (d.t ≤ c)
@@ -74,7 +45,7 @@ module _ (h : List Entry) (old c : ℕ) (coverage : Coverage) (roots live : List
   held_after d is = can.coverage_is order d.a ∙ is
 
   due_parts : (d : Datom) → IsTrue (is_due coverage c order d) → (d.t ≤ c) × IsTrue (is_held coverage order d)
-  due_parts d is = let both = and_both (leb d.t c) (is_held coverage order d) is in (leb-true d.t c both.0, both.1)
+  due_parts d is = let both = and_parts (leb d.t c) (is_held coverage order d) is in (leb-true d.t c both.0, both.1)
 
   due_from : (d : Datom) → d.t ≤ c → IsTrue (is_held coverage order d) → IsTrue (is_due coverage c order d)
   due_from d early is = rw (le-leb d.t c early) is

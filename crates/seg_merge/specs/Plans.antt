@@ -7,7 +7,7 @@ use Rattle.fb_values.specs.declared.facts.Datom.{Datom}
 use Rattle.fb_values.specs.declared.indexes.Order.{Order}
 use Rattle.fb_values.specs.Orders.{key_cmp}
 use Rattle.fb_covers.specs.Coverage.{Coverage}
-use Rattle.fb_search.specs.Rising.{IsRising}
+use Rattle.fb_values.specs.Rising.{IsRising}
 use Rattle.live_index.specs.Growth.{is_held}
 use Rattle.seg_tree.specs.Nodes.{LeafNode}
 use Rattle.seg_tree.specs.Ids.{leaf_ids, count_of}

@@ -1,7 +1,7 @@
 //! What becomes of one leaf.
 ghost use Rattle.std.specs.Prelude.{◌≡◌, ◌<◌, ◌++◌, filter, IfOk, IsTrue, Contains};
 ghost use Rattle.std.specs.List.{All};
-ghost use Rattle.fb_search.specs.Rising.{IsRising};
+ghost use Rattle.fb_values.specs.Rising.{IsRising};
 ghost use Rattle.fb_search.specs.Places.{place_of, probe_of};
 ghost use Rattle.live_index.specs.Growth.{HasNoTwins, is_held};
 ghost use Rattle.seg_merge.specs.Plans.{IsUnion, without_twin};

@@ -4,7 +4,7 @@ ghost use Rattle.std.specs.List.{All, slice_get};
 ghost use Rattle.std.specs.Option.{option_copied};
 ghost use Rattle.std.specs.Arc.{arc_value};
 ghost use Rattle.fb_values.specs.declared.facts.Datom.{Datom};
-ghost use Rattle.fb_search.specs.Rising.{IsRising};
+ghost use Rattle.fb_values.specs.Rising.{IsRising};
 ghost use Rattle.live_index.specs.Growth.{HasNoTwins};
 ghost use Rattle.seg_tree.specs.Nodes.{LeafNode, leaf_datoms};
 ghost use Rattle.seg_merge.specs.Merged.{goes_before, KeepsLeaves};

@@ -3,7 +3,7 @@ ghost use Rattle.std.specs.Prelude.{◌≡◌, ℕ, ◌+◌, ◌^◌, ◌<◌, �
 ghost use Rattle.std.specs.List.{All, slice_get};
 ghost use Rattle.std.specs.Option.{option_copied};
 ghost use Rattle.std.specs.Arc.{arc_value};
-ghost use Rattle.fb_search.specs.Rising.{IsRising};
+ghost use Rattle.fb_values.specs.Rising.{IsRising};
 ghost use Rattle.fb_search.specs.Places.{place_of};
 ghost use Rattle.seg_tree.specs.Chunks.{AreFirsts};
 ghost use Rattle.seg_tree.specs.Nodes.{leaf_datoms, tree_datoms, tree_leaves, StartsFull};

@@ -9,7 +9,8 @@ use Rattle.fb_values.specs.declared.facts.Datom.{Datom}
 use Rattle.fb_values.specs.declared.indexes.Order.{Order}
 use Rattle.fb_values.specs.Orders.{key_cmp}
 use Rattle.fb_values.specs.OrderLaws.{key_cmp_total}
-use Rattle.fb_model.specs.Rising.{rises, put_in_order, in_order}
+use Rattle.fb_values.specs.Rising.{rises}
+use Rattle.fb_model.specs.Rising.{put_in_order, in_order}
 use Rattle.fb_model.specs.Facts.{is_of}
 use Rattle.fb_model.proofs.Members.{member_passes, all_members, kept, in_order_member}
 use Rattle.tx_after.specs.Triples.{triple_cmp, triples_rise, is_untold, is_added, with_changes}

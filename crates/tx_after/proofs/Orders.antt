@@ -13,8 +13,8 @@ use Rattle.fb_values.specs.declared.indexes.Order.{Order}
 use Rattle.fb_values.specs.declared.indexes.Order.TheVariants.{Eavt, Aevt, Avet, Vaet}
 use Rattle.fb_values.specs.Orders.{key_cmp, value_cmp}
 use Rattle.fb_values.specs.OrderLaws.{key_cmp_total, key_cmp-Equal}
+use Rattle.fb_values.specs.Rising.{rises}
 use Rattle.fb_model.specs.Facts.{is_of}
-use Rattle.fb_model.specs.Rising.{rises}
 use Rattle.fb_model.proofs.Members.{here, there, member_passes, all_members, kept}
 use Rattle.fb_model.proofs.InOrder.{first_is_least}
 use Rattle.fb_model.proofs.Triples.{is_of-true, value_eq-refl}

@@ -10,8 +10,8 @@ use Rattle.fb_values.specs.declared.facts.Entry.{Entry}
 use Rattle.fb_values.specs.declared.facts.Value.{Value}
 use Rattle.fb_values.specs.Orders.{key_cmp, value_cmp}
 use Rattle.fb_values.specs.declared.indexes.Order.TheVariants.{Aevt}
+use Rattle.fb_values.specs.Rising.{rises}
 use Rattle.fb_model.specs.History.{said}
-use Rattle.fb_model.specs.Rising.{rises}
 use Rattle.fb_model.specs.Facts.{is_of, value_eq, values_of, standing}
 use Rattle.fb_model.specs.Schema.{is_about}
 use Rattle.fb_model.specs.Laws.{has_no_other_holder}

@@ -11,7 +11,7 @@ use Rattle.fb_values.specs.declared.facts.Value.TheVariants.{Ref}
 use Rattle.std.specs.Cmp.{tied_itself, nat_cmp_total}
 use Rattle.std.specs.Cmp.Lexicographic.{slice_cmp}
 use Rattle.fb_values.specs.Orders.{key_cmp, value_cmp}
-use Rattle.fb_model.specs.Rising.{rises}
+use Rattle.fb_values.specs.Rising.{rises}
 use Rattle.fb_model.proofs.Members.{member_passes, all_members}
 use Rattle.fb_model.proofs.InOrder.{first_is_least}
 use Rattle.fb_facts.specs.Told.{is_of_entity}

@@ -11,7 +11,8 @@ use Rattle.fb_values.specs.declared.facts.Value.{Value}
 use Rattle.fb_values.specs.declared.indexes.Order.{Order}
 use Rattle.fb_values.specs.declared.indexes.Order.TheVariants.{Eavt}
 use Rattle.fb_values.specs.OrderLaws.{key_cmp-Equal}
-use Rattle.fb_model.specs.Rising.{rises, in_order}
+use Rattle.fb_values.specs.Rising.{rises}
+use Rattle.fb_model.specs.Rising.{in_order}
 use Rattle.fb_model.specs.History.{said}
 use Rattle.fb_model.specs.Facts.{is_of, standing, facts, value_eq}
 use Rattle.fb_model.proofs.Members.{here, cases_of, none_of, member_passes, any_member, some_member, IsKept, kept, keep, standing_member, standing_added, standing_has, standing-apart, are_of_other_triples, in_order_member, in_order-rises, filter_twice}

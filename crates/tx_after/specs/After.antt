@@ -6,7 +6,8 @@ use Rattle.fb_values.specs.declared.facts.Datom.{Datom}
 use Rattle.fb_values.specs.declared.facts.Entry.{Entry}
 use Rattle.fb_values.specs.declared.facts.Value.{Value}
 use Rattle.fb_values.specs.declared.indexes.Order.TheVariants.{Eavt, Aevt}
-use Rattle.fb_model.specs.Rising.{rises, in_order}
+use Rattle.fb_values.specs.Rising.{rises}
+use Rattle.fb_model.specs.Rising.{in_order}
 use Rattle.fb_model.specs.History.{said}
 use Rattle.fb_model.specs.Facts.{standing}
 use Rattle.fb_model.specs.Schema.{is_about}

@@ -1,7 +1,7 @@
 //! The changes of one entity.
 ghost use Rattle.std.specs.Prelude.{◌≡◌, ◌≤◌, length, filter, IsTrue};
 ghost use Rattle.fb_values.specs.declared.indexes.Order.TheVariants.{Eavt};
-ghost use Rattle.fb_model.specs.Rising.{rises};
+ghost use Rattle.fb_values.specs.Rising.{rises};
 ghost use Rattle.fb_facts.specs.Told.{is_of_entity};
 ghost use Rattle.tx_after.specs.Places as places;
 

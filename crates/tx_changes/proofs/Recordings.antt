@@ -12,8 +12,9 @@ use Rattle.fb_values.specs.declared.facts.Datom.{Datom}
 use Rattle.fb_values.specs.declared.facts.Value.{Value}
 use Rattle.fb_values.specs.declared.indexes.Order.TheVariants.{Eavt}
 use Rattle.fb_values.specs.Orders.{key_cmp, value_cmp}
+use Rattle.fb_values.specs.Rising.{rises}
 use Rattle.fb_model.specs.History.{basis, said}
-use Rattle.fb_model.specs.Rising.{rises, in_order}
+use Rattle.fb_model.specs.Rising.{in_order}
 use Rattle.fb_model.specs.Facts.{is_of, value_eq, holds_after}
 use Rattle.fb_model.proofs.Members.{kept, keep, in_order-rises, in_order_member}
 use Rattle.fb_model.proofs.InOrder.{one_rising_list, in_order_has}

@@ -4,7 +4,7 @@ use Rattle.std.specs.Ordering.{is_lt}
 use Rattle.fb_values.specs.declared.facts.Datom.{Datom}
 use Rattle.fb_values.specs.declared.indexes.Order.{Order}
 use Rattle.fb_values.specs.Orders.{key_cmp}
-use Rattle.fb_model.specs.Rising.{rises}
+use Rattle.fb_values.specs.Rising.{rises}
 
 pub one_rises : (order : Order) (ds : List Datom) → length ds ≤ 1 → rises order ds ≡ true
 one_rises order [] short = refl

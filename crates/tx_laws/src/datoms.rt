@@ -4,9 +4,9 @@ ghost use Rattle.std.specs.List.{list_all};
 ghost use Rattle.std.specs.Option.{option_map_or};
 ghost use Rattle.fb_values.specs.declared.facts.Entry.{Entry};
 ghost use Rattle.fb_values.specs.declared.indexes.Order.TheVariants.{Eavt};
+ghost use Rattle.fb_values.specs.Rising.{rises as model_rises};
 ghost use Rattle.fb_model.specs.Facts.{holds};
 ghost use Rattle.fb_model.specs.Laws as model;
-ghost use Rattle.fb_model.specs.Rising.{rises as model_rises};
 ghost use Rattle.fb_model.specs.Schema.{attribute_of, is_attribute as model_is_attribute};
 ghost use Rattle.fb_model.specs.Types.{is_of_type as model_is_of_type};
 

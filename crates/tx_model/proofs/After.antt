@@ -13,10 +13,11 @@ use Rattle.fb_values.specs.declared.facts.Entry.{Entry}
 use Rattle.fb_values.specs.declared.indexes.Order.TheVariants.{Eavt}
 use Rattle.fb_values.specs.Orders.{key_cmp, key_of, value_cmp}
 use Rattle.fb_values.specs.OrderLaws.{value_cmp_total}
+use Rattle.fb_values.specs.Rising.{rises}
 use Rattle.std.specs.Cmp.{tied_itself}
 use Rattle.std.specs.Cmp.Lexicographic.{slice_cmp, lists_total}
 use Rattle.fb_model.specs.Numbers.{transaction_of, tx_instant, ident, value_type, cardinality, unique, is_component, index, cardinality_many, greatest_t}
-use Rattle.fb_model.specs.Rising.{rises, in_order, put_in_order}
+use Rattle.fb_model.specs.Rising.{in_order, put_in_order}
 use Rattle.fb_model.specs.History.{basis, said}
 use Rattle.fb_model.specs.Facts.{facts, standing, is_of, values_of, value_of, value_eq}
 use Rattle.fb_model.specs.Schema.{Attribute, attribute_of, attribute_from, is_attribute, is_one, is_unique, is_whole, keyword_of, entity_of, truth_of, is_about, keyword_in, entity_in}

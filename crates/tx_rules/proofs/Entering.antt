@@ -6,7 +6,8 @@ use Rattle.fb_values.specs.declared.facts.Datom.{Datom}
 use Rattle.fb_values.specs.declared.facts.Entry.{Entry}
 use Rattle.fb_values.specs.declared.indexes.Order.TheVariants.{Eavt}
 use Rattle.fb_values.specs.Orders.{key_cmp}
-use Rattle.fb_model.specs.Rising.{rises, in_order, put_in_order}
+use Rattle.fb_values.specs.Rising.{rises}
+use Rattle.fb_model.specs.Rising.{in_order, put_in_order}
 use Rattle.fb_model.specs.History.{basis}
 use Rattle.tx_model.specs.Tempids.{Db, db_of}
 use Rattle.tx_model.specs.Transaction.{Transaction}

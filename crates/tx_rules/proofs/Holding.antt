@@ -10,7 +10,8 @@ use Rattle.fb_values.specs.declared.facts.Datom.{Datom}
 use Rattle.fb_values.specs.declared.facts.Entry.{Entry}
 use Rattle.fb_values.specs.declared.facts.Value.{Value}
 use Rattle.fb_values.specs.declared.indexes.Order.TheVariants.{Eavt}
-use Rattle.fb_model.specs.Rising.{rises, in_order}
+use Rattle.fb_values.specs.Rising.{rises}
+use Rattle.fb_model.specs.Rising.{in_order}
 use Rattle.fb_model.specs.History.{basis, said}
 use Rattle.fb_model.specs.Facts.{is_of, value_eq, holds_after, holds, Holds, stands_before, standing, facts, least, holder}
 use Rattle.fb_model.specs.Schema.{Attribute, attribute_of, is_one, is_unique}

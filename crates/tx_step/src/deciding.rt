@@ -3,9 +3,9 @@ ghost use Rattle.std.specs.Prelude.{◌≡◌, ◌<ℤ◌, IfOk, IfErr, IsTrue, 
 ghost use Rattle.std.specs.Result.{result_err};
 ghost use Rattle.edn_form.specs.View.{form_of, forms_of};
 ghost use Rattle.fb_values.specs.declared.indexes.Order.TheVariants.{Eavt};
+ghost use Rattle.fb_values.specs.Rising.{rises};
 ghost use Rattle.fb_model.specs.Numbers.{greatest_instant};
 ghost use Rattle.fb_model.specs.History as history;
-ghost use Rattle.fb_model.specs.Rising.{rises};
 ghost use Rattle.fb_model.specs.Lawful.{IsLawful};
 ghost use Rattle.fb_schema.specs.Described.{SchemaStands};
 ghost use Rattle.fb_model.specs.Facts.{facts as facts_in};

@@ -4,7 +4,8 @@ use Rattle.std.specs.Prelude.{filter, Contains, IsTrue}
 use Rattle.fb_values.specs.declared.facts.Datom.{Datom}
 use Rattle.fb_values.specs.declared.facts.Entry.{Entry}
 use Rattle.fb_values.specs.declared.indexes.Order.{Order}
-use Rattle.fb_model.specs.Rising.{rises, in_order, IsRisingListOf}
+use Rattle.fb_values.specs.Rising.{rises}
+use Rattle.fb_model.specs.Rising.{in_order, IsRisingListOf}
 use Rattle.fb_model.specs.History.{said}
 use Rattle.fb_model.specs.Facts.{facts}
 use Rattle.fb_model.specs.Lawful.{IsLawful}

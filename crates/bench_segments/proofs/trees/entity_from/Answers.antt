@@ -1,6 +1,6 @@
 use Rattle.std.proofs.Common.{sym, subst}
 use Rattle.fb_values.specs.declared.indexes.Order.TheVariants.{Eavt}
-use Rattle.fb_search.specs.Rising.{IsRising}
+use Rattle.fb_values.specs.Rising.{IsRising}
 use Rattle.seg_tree.specs.Nodes.{tree_datoms}
 use Rattle.bench_segments.specs.Rising.{TreesRise}
 use Rattle.bench_segments.proofs.trees.entity_from.Goals as goal

@@ -3,7 +3,7 @@ use Rattle.fb_values.specs.declared.facts.Datom.{Datom}
 use Rattle.std.specs.Prelude.{IsTrue}
 use Rattle.std.specs.List.{insert, slice_get}
 use Rattle.std.proofs.lemmas.Result.{IfOk-weaker}
-use Rattle.fb_search.specs.Rising.{IsRising}
+use Rattle.fb_values.specs.Rising.{IsRising}
 use Rattle.fb_search.specs.Places.{place_of, probe_of}
 use Rattle.fb_search.proofs.Below.{place_of-le-length}
 use Rattle.live_index.specs.Growth.{is_held, is_twin}

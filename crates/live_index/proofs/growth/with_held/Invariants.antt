@@ -1,7 +1,7 @@
 use Rattle.std.proofs.Common.{take, ◌⊎◌}
 use Rattle.std.specs.Prelude.{◌↔◌, Contains, IsTrue}
 use Rattle.fb_values.specs.declared.facts.Datom.{Datom}
-use Rattle.fb_search.specs.Rising.{IsRising}
+use Rattle.fb_values.specs.Rising.{IsRising}
 use Rattle.live_index.specs.Growth.{is_held}
 use Rattle.live_index.proofs.growth.with_held.Given as goal
 

@@ -6,7 +6,7 @@ use Rattle.std.proofs.lemmas.List.{take_all}
 use Rattle.std.proofs.lemmas.Result.{IfOk-weaker}
 use Rattle.std.proofs.lemmas.List.Elements.{Contains-append_right, Contains-get_or}
 use Rattle.fb_values.specs.declared.facts.Datom.{Datom}
-use Rattle.fb_search.specs.Rising.{IsRising}
+use Rattle.fb_values.specs.Rising.{IsRising}
 use Rattle.live_index.specs.Growth.{HasNoTwins}
 use Rattle.seg_tree.specs.Nodes.{LeafNode, leaf_datoms}
 use Rattle.seg_merge.specs.Merged.{KeepsLeaves}

@@ -5,7 +5,7 @@ use Rattle.std.specs.Arc.{arc_value}
 use Rattle.std.proofs.lemmas.Bool.{eqb-true}
 use Rattle.std.proofs.lemmas.Result.{IfOk-weaker}
 use Rattle.fb_values.specs.declared.facts.Datom.{Datom}
-use Rattle.fb_search.specs.Rising.{IsRising}
+use Rattle.fb_values.specs.Rising.{IsRising}
 use Rattle.live_index.specs.Growth.{HasNoTwins, is_held}
 use Rattle.seg_tree.specs.Nodes.{LeafNode}
 use Rattle.seg_merge.specs.Plans.{Planned, AddsLeaf}

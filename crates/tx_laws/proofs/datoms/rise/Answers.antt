@@ -3,7 +3,7 @@ use Rattle.std.specs.Ordering.{is_lt}
 use Rattle.std.proofs.lemmas.Bool.{not-false}
 use Rattle.std.proofs.lemmas.Cmp.{is_lt_index}
 use Rattle.fb_values.specs.declared.indexes.Order.TheVariants.{Eavt}
-use Rattle.fb_model.specs.Rising.{rises}
+use Rattle.fb_values.specs.Rising.{rises}
 use Rattle.tx_laws.proofs.Drops.{drop_first, drop_before}
 use Rattle.tx_laws.proofs.Neighbours.{one_rises, next_rises}
 use Rattle.tx_laws.proofs.datoms.rise.Goals as goal

@@ -1,6 +1,6 @@
 use Rattle.std.proofs.Common.{◌≡◌, ◌-◌, ◌≤◌, length, drop}
 use Rattle.fb_values.specs.declared.indexes.Order.TheVariants.{Eavt}
-use Rattle.fb_model.specs.Rising.{rises}
+use Rattle.fb_values.specs.Rising.{rises}
 use Rattle.tx_laws.proofs.datoms.rise.Given as goal
 
 abbrev pub invariant-loop-i : goal.invariant-loop-i

@@ -5,7 +5,7 @@ use Rattle.live_index.specs.Growth.{HasNoTwins}
 use Rattle.seg_tree.specs.Nodes.{tree_datoms}
 use Rattle.fb_view.specs.InAvet.{IsInAvet}
 use Rattle.fb_view.specs.Refills.{all_missed}
-use Rattle.fb_view.proofs.Rises.{rising_from}
+use Rattle.fb_values.proofs.Rising.{rising_from}
 use Rattle.fb_view.proofs.Standing.{coverage_of}
 use Rattle.fb_view.proofs.Refilling.{no_twins_missed, refills}
 use Rattle.fb_view.proofs.growth.Recent.refill.Goals as goal

@@ -3,7 +3,7 @@ use Rattle.std.specs.Option.{option_copied}
 use Rattle.fb_values.specs.Lists.{list_in}
 use Rattle.seg_tree.specs.Nodes.{tree_datoms}
 use Rattle.seg_tree.specs.Ranks.{rank}
-use Rattle.fb_view.proofs.Rises.{less_is}
+use Rattle.fb_values.proofs.Rising.{less_is}
 use Rattle.fb_view.proofs.Ranging.{read_at}
 use Rattle.fb_view.proofs.Merging.{next_none, next_older_alone, next_live_alone, next_older, next_live}
 use Rattle.fb_view.proofs.merged.Both.next.Goals as goal

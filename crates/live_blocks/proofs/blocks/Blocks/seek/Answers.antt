@@ -1,5 +1,5 @@
 use Rattle.std.proofs.Common.{◌≡◌, ◌+◌, ◌^◌, ◌<◌, length, arith, subst, ap, ◌∙◌, sym}
-use Rattle.fb_search.specs.Rising.{IsRising}
+use Rattle.fb_values.specs.Rising.{IsRising}
 use Rattle.fb_search.specs.Places.{place_of}
 use Rattle.fb_search.proofs.Below.{place_of-le-length}
 use Rattle.live_blocks.specs.Blocks.{older_of, newest_of}
