@@ -9,7 +9,7 @@ use Rattle.fb_model.specs.History.{basis, upto}
 use Rattle.fb_model.specs.Facts.{facts}
 use Rattle.fb_model.specs.Lawful.{IsLawful, IsLawfulFrom, IsLawfulAfter}
 use Rattle.fb_model.proofs.LawfulHistories.{IsLawful-length}
-use Rattle.fb_values.specs.Lists.{Lists}
+use Rattle.fb_values.specs.Lists.{Lists, list_in}
 use Rattle.view_model.specs.Stands.{IsIndexed, RootStands}
 use Rattle.fb_values.specs.declared.facts.Datom.{Datom}
 use Rattle.fb_schema.specs.Described.{SchemaStands}
