@@ -1,3 +1,4 @@
 pub mod CopiedLogs
 pub mod Plans
+pub mod SameEntries
 pub mod Existence

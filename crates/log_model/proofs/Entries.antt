@@ -249,10 +249,3 @@ pub written-storable : (format : ℕ) (entry : Entry) → is_storable_in format 
 written-storable format entry fits =
     let parts = and_parts (is_u32 entry.t && is_i64 entry.instant && is_u32 (length entry.datoms)) (list_all (is_storable_datom format entry.t) entry.datoms) fits in
     and_from _ _ parts.0 (written_datoms format entry.t entry.datoms parts.1)
-
--- storable entries with the same bytes are the same
-pub same_bytes-entry : (first second : Entry) → is_storable_in written_format first ≡ true → is_storable_in written_format second ≡ true → entry_bytes first ≡ entry_bytes second → first ≡ second
-same_bytes-entry first second one other same =
-    one_entry first second (entry_bytes first)
-    (record { format = written_format; format_is = refl; storable = one; bytes = refl })
-    (record { format = written_format; format_is = refl; storable = other; bytes = same })

@@ -7,4 +7,5 @@ pub mod Logs
 pub mod MergeRecords
 pub mod Numbers
 pub mod Sizes
+pub mod StorableHistories
 pub mod Values

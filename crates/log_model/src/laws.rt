@@ -2,6 +2,7 @@
 ghost use Rattle.std.specs.Prelude.{◌≡◌, ◌≤◌, ◌<◌, ◌^◌, ℕ, ℤ, Bool, List, ◌∷◌, length, All, IsTrue, ◌++◌};
 ghost use Rattle.fb_values.specs.declared.facts.Entry.{Entry};
 ghost use Rattle.fb_values.specs.declared.facts.Value.{Value};
+ghost use Rattle.fb_model.specs.Lawful.{IsLawful, IsLawfulAfter};
 ghost use Rattle.tx_model.specs.Size.{entry_size};
 ghost use Rattle.std.specs.Int.{w32, w64, w128, from_be_bytes};
 ghost use Rattle.log_model.specs.Fields.{found, number_in, u32_bytes, read_u32, u64_bytes, read_u64, u128_bytes, read_u128, i64_bytes, read_i64, truth_bytes, read_truth, text_bytes, read_text};
@@ -53,6 +54,13 @@ pub fn a_payload_is_its_entrys_bytes()
     ensures written { (entry : Entry) (fields : List ℕ) → IsPayloadOf entry (written_format ∷ fields) → written_format ∷ fields ≡ entry_bytes entry }
     ensures value { (format : ℕ) (v : Value) (bytes rest : List ℕ) → All (λ byte. byte < 256) bytes → read_value format bytes ≡ found v rest
         → (bytes ≡ value_bytes v ++ rest) × IsTrue (is_storable_value format v) }
+{}
+
+/// Each entry of a lawful history is storable, and so is each that may follow one: the laws keep its numbers within their ranges,
+/// and its texts in UTF-8.
+pub fn entries_of_lawful_histories_are_storable()
+    ensures each { (h : List Entry) → IsLawful h → All IsStorable h }
+    ensures next { (h : List Entry) (entry : Entry) → IsLawful h → IsLawfulAfter h entry → IsStorable entry }
 {}
 
 /// A payload is that of one entry at most.

@@ -14,7 +14,7 @@ pub use laws::{
     a_fault_lies_in_its_payload, a_field_is_its_bytes, a_field_is_read_back,
     a_file_says_one_thing_as_a_log, a_log_stands_for_one_history, a_payload_holds_one_entry,
     a_payload_is_its_entrys_bytes, an_entry_is_read_back, an_entrys_size_is_that_of_its_bytes,
-    numbers_are_big_endian, what_a_log_says,
+    entries_of_lawful_histories_are_storable, numbers_are_big_endian, what_a_log_says,
 };
 pub use merges::{
     a_file_keeps_one_list_of_roots, a_merge_record_is_read_back, bad_merge_records, merge_records,
