@@ -11,3 +11,4 @@ pub mod Samples
 pub mod Standing
 pub mod Orders
 pub mod Attributes
+pub mod Crossing
