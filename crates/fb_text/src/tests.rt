@@ -1,5 +1,4 @@
 use super::*;
-use std::alloc::Global;
 use std::test::Fail;
 
 // 22 and 23 bytes: the longest text that lies in the value itself, and the shortest that does not. The last character
@@ -8,19 +7,14 @@ const LONGEST_SHORT: &str = "ein Wort mit 22 Byteß";
 
 const SHORTEST_LONG: &str = "ein Wort mit 23 Bytesß";
 
-fn check(rt: &HostRuntime, alloc: Global, s: &str) -> Result<(), Fail> {
-    let text = Text::of(alloc, s)?;
-    let copy = text.copy()?;
-    drop(text);
-    assert_eq!(rt; copy.as_str(), s);
-    assert_eq!(rt; copy.len(), s.len());
-    Ok(())
-}
-
 #[test]
 fn texts_of_any_length_and_their_copies_have_their_bytes(rt: HostRuntime) -> Result<(), Fail> {
     for s in ["", "a", "Zürich", LONGEST_SHORT, SHORTEST_LONG] {
-        check(&rt, rt.alloc(), s)?;
+        let text = Text::of(rt.alloc(), s)?;
+        let copy = text.copy()?;
+        drop(text);
+        assert_eq!(rt; copy.as_str(), s);
+        assert_eq!(rt; copy.len(), s.len());
     }
     Ok(())
 }
