@@ -33,7 +33,7 @@ pub fn union(
     for datom in added {
         let (before, behind) = rest.split_at(place_in(order, rest, datom)?);
         all = with_held(all, order, covers, before)?;
-        datom.copy_into(&mut all)?;
+        all.push(datom.copy()?)?;
         rest = without_twin(order, behind, datom);
     }
     with_held(all, order, covers, rest)
