@@ -26,16 +26,6 @@ fn make_room(commits: &mut Vec<u32>) -> Result<(), Memory>
     Ok(())
 }
 
-/// Adds a commit, for which there is room.
-fn add(commits: &mut Vec<u32>, t: u32)
-    requires { vec_len commits.old < vec_capacity commits.old }
-    ensures { commits.new.items ≡ commits.old.items ++ t ∷ [] }
-{
-    if commits.push(t).is_err() {
-        unreachable!();
-    }
-}
-
 impl CoreDesk {
     ghost use Rattle.core_desk.specs.States.{state_of};
 
@@ -60,7 +50,7 @@ impl CoreDesk {
         let instant = draft.entry().instant;
         let tempids = draft.take_tempids();
         self.core.accept(draft);
-        add(&mut self.commits, t);
+        self.commits.push_reserved(t);
         self.counts.calls += 1;
         Receipt {
             t,

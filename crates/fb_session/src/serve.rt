@@ -229,9 +229,7 @@ impl<P: FilterTable> Session<Picks<'_, P>> {
             return Err(Stop::WriteFault);
         }
         let place = self.place();
-        if self.places.push(place).is_err() {
-            unreachable!();
-        }
+        self.places.push_reserved(place);
         Ok(())
     }
 }

@@ -60,9 +60,7 @@ impl<S: Selector> Session<S> {
             (receipt_reply receipt.t receipt.tempids.items) self.new.line.items) }
     {
         self.see(receipt.snapshot);
-        if self.commits.push(receipt.t).is_err() {
-            unreachable!();
-        }
+        self.commits.push_reserved(receipt.t);
         write_receipt(&mut self.line, receipt.t, receipt.tempids.as_slice())
     }
 

@@ -11,9 +11,11 @@ ghost use Rattle.live_blocks.specs.Newest.{AreNewest, woven};
 ghost use Rattle.live_blocks.specs.Blocks.{older_of, newest_of, below_of};
 
 use crate::newest::{NEWEST, Newest, Stand, stand_of};
+use crate::search::lower_bound;
 use crate::tree::{Tree, block_with, datom_at, place_in, with_datoms};
+use fb_chunks::Shared;
 use fb_memory::Memory;
-use fb_search::{Steps, lower_bound};
+use fb_search::Steps;
 use fb_values::{Datom, Probe};
 use std::alloc::Global;
 use std::marker::{Brand, Model};
@@ -65,14 +67,14 @@ impl Blocks {
         ensures { option_copied result ≡ slice_get self.now place }
     {
         if place < self.len() {
-            Some(self.datom(place))
+            Some(self.datom(place).get())
         } else {
             None
         }
     }
 
-    /// The datom at a place that the list has.
-    pub fn datom(&self, place: usize) -> &Datom
+    /// The datom at a place that the list has, for another list to share.
+    pub fn datom(&self, place: usize) -> &Shared<Datom>
         requires { place < length self.now }
         ensures { slice_get self.now place ≡ Some result.now }
     {
@@ -102,7 +104,7 @@ impl Blocks {
     }
 
     /// The list with a datom more. What another list shares is copied as far as it changes; the rest stays shared.
-    pub fn insert(self, place: usize, datom: Datom) -> Result<Blocks, Memory>
+    pub fn insert(self, place: usize, datom: Shared<Datom>) -> Result<Blocks, Memory>
         requires { place ≤ length self }
         ensures { IfOk result (λ blocks. blocks ≡ insert self place datom) }
     {
@@ -134,6 +136,17 @@ impl Blocks {
         })
     }
 
+    /// Each of the datoms for lists to share, in memory that is taken where this list takes its own.
+    pub fn shared(&self, datoms: &[Datom]) -> Result<Vec<Shared<Datom>>, Memory>
+        ensures { IfOk result (λ shared. shared.items ≡ datoms.now) }
+    {
+        let mut shared = Vec::with_capacity(self.alloc, datoms.len())?;
+        for datom in datoms {
+            shared.push(Shared::new(self.alloc, datom.copy()?)?)?;
+        }
+        Ok(shared)
+    }
+
     /// An empty list that takes its memory where this one does.
     pub fn emptied(&self) -> Blocks
         ensures { result ≡ [] }
@@ -161,7 +174,7 @@ impl Blocks {
     }
 }
 
-fn newest_in(newest: &Option<Arc<Newest>>) -> &[Datom]
+fn newest_in(newest: &Option<Arc<Newest>>) -> &[Shared<Datom>]
     ensures { result.now ≡ newest_of newest.now }
 {
     match newest {
@@ -198,7 +211,7 @@ fn grown(
     alloc: Global,
     root: Option<Arc<Tree>>,
     below: &[usize],
-    newest: &[Datom],
+    newest: &[Shared<Datom>],
 ) -> Result<Arc<Tree>, Memory>
     requires some { 0 < length newest.now }
     requires newest { AreNewest (older_of root) below.now newest.now }
@@ -222,7 +235,7 @@ fn older_len(root: &Option<Arc<Tree>>) -> usize
     }
 }
 
-fn older_at(root: &Option<Arc<Tree>>, place: usize) -> &Datom
+fn older_at(root: &Option<Arc<Tree>>, place: usize) -> &Shared<Datom>
     requires { place < length (older_of root.now) }
     ensures { slice_get (older_of root.now) place ≡ Some result.now }
 {

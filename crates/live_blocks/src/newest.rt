@@ -4,6 +4,7 @@ ghost use Rattle.std.specs.List.{insert, slice_get};
 ghost use Rattle.fb_values.specs.declared.facts.Datom.{Datom};
 ghost use Rattle.live_blocks.specs.Newest.{IsNotFalling, StandWithin, newer_before, read_at, woven};
 
+use fb_chunks::{Share, Shared};
 use fb_memory::Memory;
 use fb_values::Datom;
 use std::alloc::Global;
@@ -14,7 +15,7 @@ pub const NEWEST: usize = 63;
 /// A few datoms in order, and beside each how many of the tree's datoms stand before it.
 #[derive(Drop)]
 pub struct Newest {
-    pub datoms: Vec<Datom>,
+    pub datoms: Vec<Shared<Datom>>,
     pub below: Vec<usize>,
 }
 
@@ -45,7 +46,7 @@ impl Newest {
         let alloc = *self.datoms.allocator();
         let mut datoms = Vec::with_capacity(alloc, NEWEST)?;
         for datom in self.datoms.iter() {
-            datom.copy_into(&mut datoms)?;
+            datoms.push(datom.share()?)?;
         }
         let mut below = Vec::with_capacity(alloc, NEWEST)?;
         below.extend_from_slice(&self.below)?;
@@ -53,7 +54,7 @@ impl Newest {
     }
 
     /// One datom more, at a place of the whole list.
-    pub fn with(self, place: usize, datom: Datom) -> Result<Newest, Memory>
+    pub fn with(self, place: usize, datom: Shared<Datom>) -> Result<Newest, Memory>
         requires rising { IsNotFalling self.below.items }
         requires same { length self.below.items ≡ length self.datoms.items }
         ensures below { IfOk result (λ new. new.below.items ≡ insert self.below.items (newer_before place self.below.items) (place - newer_before place self.below.items)) }

@@ -9,8 +9,10 @@ ghost use Rattle.live_blocks.specs.Newest.{StandWithin, newer_upto, woven};
 ghost use Rattle.live_blocks.specs.Trees.{DifferByAtMost, least_len, IsHeightAfterBalance};
 ghost use Rattle.live_blocks.specs.Tree.{datoms_and_height, IsTree, IsCopy};
 
+use crate::search::lower_bound;
+use fb_chunks::{Share, Shared};
 use fb_memory::Memory;
-use fb_search::{Steps, is_below, lower_bound};
+use fb_search::{Steps, is_below};
 use fb_values::{Datom, Probe};
 use std::alloc::Global;
 use std::marker::Model;
@@ -29,10 +31,19 @@ pub struct Tree {
 #[cycle(tree)]
 #[derive(Drop)]
 enum Node {
-    Leaf(Vec<Datom>),
-    /// The two sides, the datom between them, how many datoms the first side has, how many the whole has, and how
-    /// many forks stand on the longest way down.
-    Fork(Arc<Tree>, Datom, Arc<Tree>, usize, usize, usize),
+    Leaf(Vec<Shared<Datom>>),
+    Fork {
+        left: Arc<Tree>,
+        /// The datom between the two sides.
+        datom: Shared<Datom>,
+        right: Arc<Tree>,
+        /// How many datoms the left side has.
+        before: usize,
+        /// How many datoms the whole has.
+        len: usize,
+        /// How many forks stand on the longest way down.
+        height: usize,
+    },
 }
 
 impl Model for Tree {
@@ -56,7 +67,7 @@ impl Model for Tree {
 
 impl Tree {
     /// A block of its own.
-    pub fn leaf(datoms: Vec<Datom>) -> Tree
+    pub fn leaf(datoms: Vec<Shared<Datom>>) -> Tree
         requires some { 0 < length datoms.items }
         requires few { length datoms.items ≤ BLOCK }
         ensures { result ≡ (datoms.items, 0) }
@@ -71,7 +82,7 @@ impl Tree {
     {
         match &self.node {
             Node::Leaf(datoms) => datoms.len(),
-            Node::Fork(_, _, _, _, len, _) => *len,
+            Node::Fork { len, .. } => *len,
         }
     }
 
@@ -82,7 +93,7 @@ impl Tree {
     {
         match &self.node {
             Node::Leaf(_) => 0,
-            Node::Fork(_, _, _, _, _, height) => *height,
+            Node::Fork { height, .. } => *height,
         }
     }
 }
@@ -95,22 +106,36 @@ impl Node {
     {
         match self {
             Node::Leaf(datoms) => Ok(Node::Leaf(copy_block(datoms)?)),
-            Node::Fork(left, datom, right, before, len, height) => {
+            Node::Fork {
+                left,
+                datom,
+                right,
+                before,
+                len,
+                height,
+            } => {
                 let (left, right) = (left.clone()?, right.clone()?);
-                Ok(Node::Fork(left, datom.copy()?, right, *before, *len, *height))
+                Ok(Node::Fork {
+                    left,
+                    datom: datom.share()?,
+                    right,
+                    before: *before,
+                    len: *len,
+                    height: *height,
+                })
             }
         }
     }
 }
 
 /// The same datoms, with room for one more.
-fn copy_block(datoms: &Vec<Datom>) -> Result<Vec<Datom>, Memory>
+fn copy_block(datoms: &Vec<Shared<Datom>>) -> Result<Vec<Shared<Datom>>, Memory>
     requires { length datoms.now.items ≤ BLOCK }
     ensures { IfOk result (λ block. block.items ≡ datoms.now.items) }
 {
     let mut block = Vec::with_capacity(*datoms.allocator(), datoms.len() + 1)?;
     for datom in datoms.iter() {
-        datom.copy_into(&mut block)?;
+        block.push(datom.share()?)?;
     }
     Ok(block)
 }
@@ -127,13 +152,19 @@ fn take(tree: Arc<Tree>) -> Result<Node, Memory>
 }
 
 /// The datom at a place.
-pub fn datom_at(tree: &Tree, place: usize) -> &Datom
+pub fn datom_at(tree: &Tree, place: usize) -> &Shared<Datom>
     requires { place < length tree.now.0 }
     ensures { slice_get tree.now.0 place ≡ Some result.now }
 {
     match &tree.node {
         Node::Leaf(datoms) => &datoms[place],
-        Node::Fork(left, datom, right, before, _, _) => {
+        Node::Fork {
+            left,
+            datom,
+            right,
+            before,
+            ..
+        } => {
             if place < *before {
                 datom_at(left, place)
             } else if place == *before {
@@ -155,8 +186,14 @@ pub fn place_in<L: Ledger>(tree: &Tree, probe: &Probe, steps: &mut Steps<L>) -> 
 {
     match &tree.node {
         Node::Leaf(datoms) => lower_bound(datoms, probe, steps),
-        Node::Fork(left, datom, right, before, _, _) => {
-            if is_below(probe, datom, steps) {
+        Node::Fork {
+            left,
+            datom,
+            right,
+            before,
+            ..
+        } => {
+            if is_below(probe, datom.get(), steps) {
                 *before + 1 + place_in(right, probe, steps)
             } else {
                 place_in(left, probe, steps)
@@ -171,7 +208,7 @@ pub fn with_datoms(
     tree: Arc<Tree>,
     from: usize,
     below: &[usize],
-    new: &[Datom],
+    new: &[Shared<Datom>],
 ) -> Result<Arc<Tree>, Memory>
     requires same { length below.now ≡ length new.now }
     requires stand { StandWithin from (from + length (arc_value tree).0) below.now }
@@ -186,7 +223,13 @@ pub fn with_datoms(
             let grown = block_with(alloc, datoms, from, below, new)?;
             Ok(Arc::new(alloc, grown)?)
         }
-        Node::Fork(left, datom, right, before, _, _) => {
+        Node::Fork {
+            left,
+            datom,
+            right,
+            before,
+            ..
+        } => {
             let middle = from + before;
             let cut = newer_upto(below, middle);
             let left = with_datoms(alloc, left, from, &below[..cut], &new[..cut])?;
@@ -207,10 +250,10 @@ fn newer_upto(below: &[usize], place: usize) -> usize
 /// The tree of a block with newer datoms woven in.
 pub fn block_with(
     alloc: Global,
-    datoms: Vec<Datom>,
+    datoms: Vec<Shared<Datom>>,
     from: usize,
     below: &[usize],
-    new: &[Datom],
+    new: &[Shared<Datom>],
 ) -> Result<Tree, Memory>
     requires some { 0 < length datoms.items + length new.now }
     requires same { length below.now ≡ length new.now }
@@ -222,13 +265,13 @@ pub fn block_with(
     let mut left = new.len();
     while left > 0 {
         left -= 1;
-        all.insert(below[left] - from, new[left].copy()?)?;
+        all.insert(below[left] - from, new[left].share()?)?;
     }
     built(alloc, all)
 }
 
 /// The tree of some datoms.
-fn built(alloc: Global, mut datoms: Vec<Datom>) -> Result<Tree, Memory>
+fn built(alloc: Global, mut datoms: Vec<Shared<Datom>>) -> Result<Tree, Memory>
     requires { 0 < length datoms.items }
     ensures { IfOk result (λ tree. tree.0 ≡ datoms.items) }
 {
@@ -248,7 +291,12 @@ fn built(alloc: Global, mut datoms: Vec<Datom>) -> Result<Tree, Memory>
 }
 
 /// A tree of two sides of any heights.
-fn join(alloc: Global, left: Arc<Tree>, datom: Datom, right: Arc<Tree>) -> Result<Tree, Memory>
+fn join(
+    alloc: Global,
+    left: Arc<Tree>,
+    datom: Shared<Datom>,
+    right: Arc<Tree>,
+) -> Result<Tree, Memory>
     requires fits { length (arc_value left).0 + length (arc_value right).0 + 1 < 2 ^ 64 }
     ensures { IfOk result (λ new. new.0 ≡ (arc_value left).0 ++ datom ∷ (arc_value right).0) }
 {
@@ -263,7 +311,7 @@ fn join(alloc: Global, left: Arc<Tree>, datom: Datom, right: Arc<Tree>) -> Resul
 fn join_lower_right(
     alloc: Global,
     left: Arc<Tree>,
-    datom: Datom,
+    datom: Shared<Datom>,
     right: Arc<Tree>,
 ) -> Result<Tree, Memory>
     requires lower { (arc_value right).1 ≤ (arc_value left).1 + 1 }
@@ -275,7 +323,13 @@ fn join_lower_right(
     if left.height() <= right.height() + 1 {
         return Ok(fork(left, datom, right));
     }
-    let Node::Fork(outer, first, inner, _, _, _) = take(left)? else {
+    let Node::Fork {
+        left: outer,
+        datom: first,
+        right: inner,
+        ..
+    } = take(left)?
+    else {
         unreachable!()
     };
     let inner = join_lower_right(alloc, inner, datom, right)?;
@@ -286,7 +340,7 @@ fn join_lower_right(
 fn join_lower_left(
     alloc: Global,
     left: Arc<Tree>,
-    datom: Datom,
+    datom: Shared<Datom>,
     right: Arc<Tree>,
 ) -> Result<Tree, Memory>
     requires lower { (arc_value left).1 ≤ (arc_value right).1 + 1 }
@@ -298,7 +352,13 @@ fn join_lower_left(
     if right.height() <= left.height() + 1 {
         return Ok(fork(left, datom, right));
     }
-    let Node::Fork(inner, last, outer, _, _, _) = take(right)? else {
+    let Node::Fork {
+        left: inner,
+        datom: last,
+        right: outer,
+        ..
+    } = take(right)?
+    else {
         unreachable!()
     };
     let inner = join_lower_left(alloc, left, datom, inner)?;
@@ -306,7 +366,7 @@ fn join_lower_left(
 }
 
 /// A tree of two sides that are about as high.
-fn fork(left: Arc<Tree>, datom: Datom, right: Arc<Tree>) -> Tree
+fn fork(left: Arc<Tree>, datom: Shared<Datom>, right: Arc<Tree>) -> Tree
     requires balanced { DifferByAtMost 1 (arc_value left).1 (arc_value right).1 }
     requires fits { length (arc_value left).0 + length (arc_value right).0 + 1 < 2 ^ 64 }
     ensures datoms { result.0 ≡ (arc_value left).0 ++ datom ∷ (arc_value right).0 }
@@ -316,12 +376,24 @@ fn fork(left: Arc<Tree>, datom: Datom, right: Arc<Tree>) -> Tree
     let len = before + 1 + right.len();
     let height = left.height().max(right.height()) + 1;
     Tree {
-        node: Node::Fork(left, datom, right, before, len, height),
+        node: Node::Fork {
+            left,
+            datom,
+            right,
+            before,
+            len,
+            height,
+        },
     }
 }
 
 /// A tree of two sides of which one may be two forks higher.
-fn balance(alloc: Global, left: Arc<Tree>, datom: Datom, right: Arc<Tree>) -> Result<Tree, Memory>
+fn balance(
+    alloc: Global,
+    left: Arc<Tree>,
+    datom: Shared<Datom>,
+    right: Arc<Tree>,
+) -> Result<Tree, Memory>
     requires near { DifferByAtMost 2 (arc_value left).1 (arc_value right).1 }
     requires fits { length (arc_value left).0 + length (arc_value right).0 + 1 < 2 ^ 64 }
     ensures datoms { IfOk result (λ new. new.0 ≡ (arc_value left).0 ++ datom ∷ (arc_value right).0) }
@@ -338,20 +410,37 @@ fn balance(alloc: Global, left: Arc<Tree>, datom: Datom, right: Arc<Tree>) -> Re
 }
 
 /// A tree whose first side is two forks too high.
-fn lean_left(alloc: Global, left: Arc<Tree>, datom: Datom, right: Arc<Tree>) -> Result<Tree, Memory>
+fn lean_left(
+    alloc: Global,
+    left: Arc<Tree>,
+    datom: Shared<Datom>,
+    right: Arc<Tree>,
+) -> Result<Tree, Memory>
     requires two_higher { (arc_value left).1 ≡ (arc_value right).1 + 2 }
     requires fits { length (arc_value left).0 + length (arc_value right).0 + 1 < 2 ^ 64 }
     ensures datoms { IfOk result (λ new. new.0 ≡ (arc_value left).0 ++ datom ∷ (arc_value right).0) }
     ensures height { IfOk result (λ new. IsHeightAfterBalance (arc_value left).1 (arc_value right).1 new.1) }
 {
-    let Node::Fork(outer, first, inner, _, _, _) = take(left)? else {
+    let Node::Fork {
+        left: outer,
+        datom: first,
+        right: inner,
+        ..
+    } = take(left)?
+    else {
         unreachable!()
     };
     if outer.height() >= inner.height() {
         let inner = Arc::new(alloc, fork(inner, datom, right))?;
         return Ok(fork(outer, first, inner));
     }
-    let Node::Fork(near, middle, far, _, _, _) = take(inner)? else {
+    let Node::Fork {
+        left: near,
+        datom: middle,
+        right: far,
+        ..
+    } = take(inner)?
+    else {
         unreachable!()
     };
     let left = Arc::new(alloc, fork(outer, first, near))?;
@@ -363,7 +452,7 @@ fn lean_left(alloc: Global, left: Arc<Tree>, datom: Datom, right: Arc<Tree>) -> 
 fn lean_right(
     alloc: Global,
     left: Arc<Tree>,
-    datom: Datom,
+    datom: Shared<Datom>,
     right: Arc<Tree>,
 ) -> Result<Tree, Memory>
     requires two_higher { (arc_value right).1 ≡ (arc_value left).1 + 2 }
@@ -371,14 +460,26 @@ fn lean_right(
     ensures datoms { IfOk result (λ new. new.0 ≡ (arc_value left).0 ++ datom ∷ (arc_value right).0) }
     ensures height { IfOk result (λ new. IsHeightAfterBalance (arc_value left).1 (arc_value right).1 new.1) }
 {
-    let Node::Fork(inner, last, outer, _, _, _) = take(right)? else {
+    let Node::Fork {
+        left: inner,
+        datom: last,
+        right: outer,
+        ..
+    } = take(right)?
+    else {
         unreachable!()
     };
     if outer.height() >= inner.height() {
         let inner = Arc::new(alloc, fork(left, datom, inner))?;
         return Ok(fork(inner, last, outer));
     }
-    let Node::Fork(far, middle, near, _, _, _) = take(inner)? else {
+    let Node::Fork {
+        left: far,
+        datom: middle,
+        right: near,
+        ..
+    } = take(inner)?
+    else {
         unreachable!()
     };
     let left = Arc::new(alloc, fork(left, datom, far))?;

@@ -8,6 +8,7 @@ ghost use Rattle.fb_values.specs.Rising.{IsRising};
 ghost use Rattle.fb_search.specs.Places.{probe_of};
 ghost use Rattle.live_index.specs.Growth.{HasNoTwins, IsSound, is_held, is_twin};
 
+use fb_chunks::{Share, Shared};
 use fb_covers::Covers;
 use fb_memory::Memory;
 use fb_values::{Datom, Order, Probe, cmp_in};
@@ -56,23 +57,23 @@ fn held(list: &Blocks, order: Order, covers: &Covers) -> Result<Blocks, Memory>
 fn pushed_if_held(
     list: Blocks,
     order: Order,
-    datom: &Datom,
+    datom: &Shared<Datom>,
     covers: &Covers,
 ) -> Result<Blocks, Memory>
     ensures { IfOk result (λ new. new ≡ list ++ filter (is_held covers.now order) (datom.now ∷ [])) }
 {
-    if !covers.holds(order, datom.a) {
+    if !covers.holds(order, datom.get().a) {
         return Ok(list);
     }
     let end = list.len();
-    list.insert(end, datom.copy()?)
+    list.insert(end, datom.share()?)
 }
 
 /// The list with those of the older datoms whose attribute AVET holds, in AVET alone.
 pub fn refilled(
     list: Blocks,
     order: Order,
-    refill: &[Datom],
+    refill: &[Shared<Datom>],
     covers: &Covers,
 ) -> Result<Blocks, Memory>
     requires rising { IsRising order list }
@@ -90,7 +91,7 @@ pub fn refilled(
 pub fn with_held(
     list: Blocks,
     order: Order,
-    datoms: &[Datom],
+    datoms: &[Shared<Datom>],
     covers: &Covers,
 ) -> Result<Blocks, Memory>
     requires rising { IsRising order list }
@@ -106,21 +107,27 @@ pub fn with_held(
 }
 
 /// The list with one datom more, unless it is there or the order's index does not hold its attribute.
-fn with_datom(list: Blocks, order: Order, datom: &Datom, covers: &Covers) -> Result<Blocks, Memory>
+fn with_datom(
+    list: Blocks,
+    order: Order,
+    datom: &Shared<Datom>,
+    covers: &Covers,
+) -> Result<Blocks, Memory>
     requires rising { IsRising order list }
     requires single { HasNoTwins (list ++ datom.now ∷ []) }
     ensures rising { IfOk result (λ new. IsRising order new) }
     ensures members { IfOk result (λ new. (d : Datom) → Contains new d ↔ (Contains list d ⊎ ((datom.now ≡ d) × IsTrue (is_held covers.now order d)))) }
 {
-    if !covers.holds(order, datom.a) {
+    let found = datom.get();
+    if !covers.holds(order, found.a) {
         return Ok(list);
     }
-    let probe = probe_of(order, datom)?;
+    let probe = probe_of(order, found)?;
     let place = list.place(&probe);
-    if is_there(&list, order, place, datom) {
+    if is_there(&list, order, place, found) {
         return Ok(list);
     }
-    list.insert(place, datom.copy()?)
+    list.insert(place, datom.share()?)
 }
 
 /// The probe for a datom's own place.

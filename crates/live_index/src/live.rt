@@ -13,6 +13,7 @@ ghost use Rattle.view_model.specs.Stands.{LiveStands};
 ghost use Rattle.live_index.specs.Standing.{IsNext};
 
 use crate::growth::{kept, refilled, with_held};
+use fb_chunks::Shared;
 use fb_covers::Covers;
 use fb_memory::Memory;
 use fb_search::Steps;
@@ -112,21 +113,6 @@ impl Live {
         })
     }
 
-    fn with_entry_in(
-        &self,
-        order: Order,
-        entry: &Entry,
-        covers: &Covers,
-        refill: &Datoms,
-    ) -> Result<Blocks, Memory>
-        requires { HasNoTwins (list_in self.now order ++ refill.now ++ entry.now.datoms) }
-        ensures { IfOk result (λ list. IsGrown order covers.now (list_in self.now order) refill.now entry.now.datoms list) }
-    {
-        let kept = kept(self.list(order), order, &self.covers, covers)?;
-        let refilled = refilled(kept, order, refill.as_slice(), covers)?;
-        with_held(refilled, order, entry.datoms.as_slice(), covers)
-    }
-
     /// The index with the datoms of an entry. `covers` says what AVET and VAET hold from now on, and `refill` has the
     /// older datoms that AVET is to hold now and has not held before.
     pub fn with_entry(
@@ -141,12 +127,42 @@ impl Live {
         // Where the lists stand for a history above c, and the entry comes next in it, the new ones stand for the history with the entry.
         ensures stands { IfOk result (λ live. (h : List Entry) (c : ℕ) → IsNext h c entry.now covers.now refill.now → LiveStands self.now h c → LiveStands live (h ++ entry.now ∷ []) c) }
     {
+        let datoms = self.eavt.shared(entry.datoms.as_slice())?;
+        let refill = self.eavt.shared(refill.as_slice())?;
+        self.with_shared(&datoms, covers, &refill)
+    }
+
+    /// The index with some datoms, which all orders share.
+    fn with_shared(
+        &self,
+        datoms: &[Shared<Datom>],
+        covers: &Covers,
+        refill: &[Shared<Datom>],
+    ) -> Result<Live, Memory>
+        requires { (order : Order) → HasNoTwins (list_in self.now order ++ refill.now ++ datoms.now) }
+        ensures { IfOk result (λ live. (order : Order) → IsGrown order covers.now (list_in self.now order) refill.now datoms.now (list_in live order)) }
+    {
         Ok(Live {
-            eavt: self.with_entry_in(Order::Eavt, entry, covers, refill)?,
-            aevt: self.with_entry_in(Order::Aevt, entry, covers, refill)?,
-            avet: self.with_entry_in(Order::Avet, entry, covers, refill)?,
-            vaet: self.with_entry_in(Order::Vaet, entry, covers, refill)?,
+            eavt: self.with_shared_in(Order::Eavt, datoms, covers, refill)?,
+            aevt: self.with_shared_in(Order::Aevt, datoms, covers, refill)?,
+            avet: self.with_shared_in(Order::Avet, datoms, covers, refill)?,
+            vaet: self.with_shared_in(Order::Vaet, datoms, covers, refill)?,
             covers: Some(covers.share()?),
         })
+    }
+
+    fn with_shared_in(
+        &self,
+        order: Order,
+        datoms: &[Shared<Datom>],
+        covers: &Covers,
+        refill: &[Shared<Datom>],
+    ) -> Result<Blocks, Memory>
+        requires { HasNoTwins (list_in self.now order ++ refill.now ++ datoms.now) }
+        ensures { IfOk result (λ list. IsGrown order covers.now (list_in self.now order) refill.now datoms.now list) }
+    {
+        let kept = kept(self.list(order), order, &self.covers, covers)?;
+        let refilled = refilled(kept, order, refill, covers)?;
+        with_held(refilled, order, datoms, covers)
     }
 }

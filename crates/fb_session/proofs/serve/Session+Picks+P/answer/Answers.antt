@@ -2,7 +2,7 @@ use Rattle.std.proofs.Common.{refl, ap, ◌∙◌, ◌++◌, [], ◌∷◌, map}
 use Rattle.std.proofs.lemmas.Result.{err_from_is_err_and}
 use Rattle.edn_form.specs.View.{form_of}
 use Rattle.fb_session.specs.Sessions.{fixed}
-use Rattle.fb_session.proofs.Results.{fact_at_err, fact_at_ok, pushed}
+use Rattle.fb_session.proofs.Results.{fact_at_err, fact_at_ok}
 use Rattle.fb_session.proofs.Seeing.{goes_on-nowhere, answered_with_room, unanswered_with_room, answered_behind, place_of_view}
 use Rattle.fb_session.proofs.serve.Session+Picks+P.answer.Goals as goal
 
@@ -46,11 +46,11 @@ returns-clause-ok g c = λ before stands.
     (λ p. fixed (g.K.Clock.may_answer c.args.clock.now) (g.G.Guard.bars c.args.guard.now) (g.P.FilterTable.place_of p.table.now) (g.P.FilterTable.selects_at p.table.now))
     (λ p. map (g.P.FilterTable.name_at p.table.now) p.places.items) (form_of c.args.form.now) (state c.args.desk.now) (state c.reply.new.desk) room.view room.commits _
     c.in_ok-reply.ensures.ok before stands in
-    let behind = answered_behind _ _ c.args.self.now c.reply.new.self (record c.reply.new.self { places = c.push.new.self }) _ _ _ before _ refl refl answered in
+    let behind = answered_behind _ _ c.args.self.now c.reply.new.self (record c.reply.new.self { places = c.push_reserved.new.self }) _ _ _ before _ refl refl answered in
     record {
       line = c.reply.new.self.line.items;
       answered = behind;
-      places = pushed c.push.result c.push.new.self.items c.reply.new.self.places.items c.place-place.result c.if-is_err-2.ensures.value c.push.ensures.items
+      places = c.push_reserved.ensures.items
           ∙ ap (λ ps. ps ++ c.place-place.result ∷ []) (ap (λ v. v.items) c.in_ok-reply.ensures.places ∙ room.places)
           ∙ ap (λ place. c.args.self.now.places.items ++ place ∷ []) (c.place-place.ensures ∙ place_of_view c.reply.new.self.view _ _ _ behind.stands);
       written = rw (← c.as_slice.ensures.value) (fact_at_ok c.write_line.result _ c.if-is_err.ensures.value c.write_line.ensures.whole);

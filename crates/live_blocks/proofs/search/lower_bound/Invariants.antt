@@ -1,0 +1,17 @@
+use Rattle.std.proofs.Common.{◌-◌, ℕ, ◌+◌, ◌^◌, ◌<◌, ◌≤◌, length}
+use Rattle.fb_search.specs.Places.{place_of}
+use Rattle.live_blocks.proofs.search.lower_bound.Given as goal
+
+-- The place lies between the two ends, and what is between them has as many binary digits as comparisons are left.
+abbrev pub invariant-loop-from : goal.invariant-loop-from
+invariant-loop-from g l =
+    record {
+      ends : l.from ≤ l.to;
+      within : l.to ≤ length l.datoms;
+      behind : l.from ≤ place_of l.probe l.datoms;
+      upto : place_of l.probe l.datoms ≤ l.to;
+      left : (digits : ℕ) → length l.datoms < 2 ^ digits → (few : ℕ) × (l.to - l.from < 2 ^ few) × (l.steps + few ≤ l.initial.steps + digits);
+    }
+
+abbrev pub decreases-loop-from : goal.decreases-loop-from
+decreases-loop-from g l = l.to - l.from
