@@ -185,9 +185,7 @@ fn with_one<T: Drop>(mut items: Vec<T>, item: T) -> Vec<T>
     requires room { 0 < vec_capacity items }
     ensures { result.items ≡ item ∷ [] }
 {
-    if items.push(item).is_err() {
-        unreachable!();
-    }
+    items.push_reserved(item);
     items
 }
 
