@@ -2,7 +2,7 @@
 ghost use Rattle.std.specs.Prelude.{◌≡◌, ◌++◌, [], ◌∷◌, take, drop, codes};
 ghost use Rattle.fb_values.specs.declared.facts.Value.TheVariants.{Str};
 ghost use Rattle.fb_model.specs.FirstEntry.{first_entry};
-ghost use Rattle.fb_model.specs.Numbers.{user_entity, doc};
+ghost use Rattle.fb_numbers.specs.Numbers.{user_entity, doc};
 ghost use Rattle.disk_model.specs.Journal.{log_mark, opened, new_journal};
 ghost use Rattle.log_model.specs.Samples.{datom, entry_with, hi_entry, hi_payload, hi_log, with_byte, leaf_merge};
 ghost use Rattle.log_model.specs.Nodes.{no_nodes};

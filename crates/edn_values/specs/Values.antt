@@ -6,7 +6,7 @@ use Rattle.edn_model.specs.Form as edn
 use Rattle.edn_model.specs.Form.{Form}
 use Rattle.fb_values.specs.declared.facts.Value.{Value}
 use Rattle.fb_values.specs.declared.facts.Value.TheVariants.{Keyword, Str, Bool as Boolean, Long, Ref, Instant, Uuid, Symbol, Uri}
-use Rattle.fb_model.specs.Numbers.{type_ref}
+use Rattle.fb_numbers.specs.Numbers.{type_ref}
 use Rattle.tx_model.specs.Values.{value_in}
 
 -- the greatest integer of 64 bits

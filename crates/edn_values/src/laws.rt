@@ -4,7 +4,7 @@ ghost use Rattle.edn_model.specs.Form as edn;
 ghost use Rattle.edn_model.specs.Form.{Form};
 ghost use Rattle.fb_values.specs.declared.facts.Value.{Value};
 ghost use Rattle.fb_values.specs.declared.facts.Value.TheVariants.{Keyword, Str, Long, Ref, Instant, Uri};
-ghost use Rattle.fb_model.specs.Numbers.{type_keyword, type_string, type_long, type_ref, type_instant, type_uri};
+ghost use Rattle.fb_numbers.specs.Numbers.{type_keyword, type_string, type_long, type_ref, type_instant, type_uri};
 ghost use Rattle.fb_model.specs.Types.{type_of, is_of_type};
 ghost use Rattle.tx_model.specs.Values.{value_in};
 ghost use Rattle.edn_values.specs.Values.{value_of_form, form_of_value, is_printed_whole};

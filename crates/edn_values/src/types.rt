@@ -1,6 +1,6 @@
 //! Types of values.
 ghost use Rattle.std.specs.Prelude.{◌≡◌};
-ghost use Rattle.fb_model.specs.Numbers.{is_long as model_is_long, is_reference as model_is_reference, is_uuid as model_is_uuid};
+ghost use Rattle.fb_numbers.specs.Numbers.{is_long as model_is_long, is_reference as model_is_reference, is_uuid as model_is_uuid};
 ghost use Rattle.fb_model.specs.Utf8.{is_utf8_text as model_is_utf8_text};
 ghost use Rattle.fb_model.specs.Types.{type_of as model_type_of, is_of_type as model_is_of_type, is_well_formed as model_is_well_formed, is_short_enough as model_is_short_enough};
 

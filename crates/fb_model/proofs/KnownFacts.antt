@@ -10,7 +10,7 @@ use Rattle.fb_values.specs.declared.facts.Datom.{Datom}
 use Rattle.fb_values.specs.declared.facts.Entry.{Entry}
 use Rattle.fb_values.specs.declared.facts.Value.{Value}
 use Rattle.fb_values.specs.declared.facts.Value.TheVariants.{Keyword, Str, Bool as Boolean, Long, Ref, Instant, Uuid, Symbol, Uri}
-use Rattle.fb_model.specs.Numbers.{transaction_of, user_entity, user_number, is_builtin, ident, value_type, cardinality}
+use Rattle.fb_numbers.specs.Numbers.{transaction_of, user_entity, user_number, is_builtin, ident, value_type, cardinality}
 use Rattle.fb_model.specs.FirstEntry.{first_entry}
 use Rattle.fb_model.specs.History.{basis, said, users_in, users_issued, is_issued}
 use Rattle.fb_model.specs.Facts.{facts, standing, stands_before, value_of, value_eq, holder, least, is_of}

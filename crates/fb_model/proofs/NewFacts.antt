@@ -10,7 +10,7 @@ use Rattle.std.proofs.lemmas.List.{map-append}
 use Rattle.fb_values.specs.declared.facts.Datom.{Datom}
 use Rattle.fb_values.specs.declared.facts.Entry.{Entry}
 use Rattle.fb_values.specs.declared.facts.Value.{Value}
-use Rattle.fb_model.specs.Numbers.{ident, value_type, cardinality, unique, is_component, index, doc, tx_instant, is_builtin, type_string, type_instant}
+use Rattle.fb_numbers.specs.Numbers.{ident, value_type, cardinality, unique, is_component, index, doc, tx_instant, is_builtin, type_string, type_instant}
 use Rattle.fb_model.specs.FirstEntry.{first_entry}
 use Rattle.fb_model.specs.History.{said}
 use Rattle.fb_model.specs.Facts.{facts, standing, stands_before, is_of, values_of, value_eq}

@@ -12,7 +12,7 @@ use Rattle.std.proofs.lemmas.Bool.Decides.{nat_tests}
 use Rattle.fb_values.specs.declared.facts.Datom.{Datom}
 use Rattle.fb_values.specs.declared.facts.Entry.{Entry}
 use Rattle.fb_values.specs.declared.facts.Value.{Value}
-use Rattle.fb_model.specs.Numbers.{user_entity, least_instant, greatest_instant}
+use Rattle.fb_numbers.specs.Numbers.{user_entity, least_instant, greatest_instant}
 use Rattle.fb_model.specs.History.{basis, upto, last_instant, into_range, next_instant, said, users_in, users_issued}
 use Rattle.fb_model.specs.Facts.{is_of, holds_after, holds}
 

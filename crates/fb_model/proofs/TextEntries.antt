@@ -13,7 +13,7 @@ use Rattle.std.specs.Str.{IsUtf8}
 use Rattle.fb_values.specs.declared.facts.Datom.{Datom}
 use Rattle.fb_values.specs.declared.facts.Entry.{Entry}
 use Rattle.fb_values.specs.declared.facts.Value.TheVariants.{Str, Instant}
-use Rattle.fb_model.specs.Numbers.{transaction_of, user_entity, is_builtin, tx_instant, doc, greatest_t, greatest_instant, is_instant}
+use Rattle.fb_numbers.specs.Numbers.{transaction_of, user_entity, is_builtin, tx_instant, doc, greatest_t, greatest_instant, is_instant}
 use Rattle.fb_model.specs.History.{basis, said, users_issued, last_instant, into_range, next_instant}
 use Rattle.fb_model.specs.Laws.{is_asserted, users_behind, users_after, is_known, is_known_value}
 use Rattle.fb_model.specs.Lawful.{IsLawful, IsLawfulAfter}

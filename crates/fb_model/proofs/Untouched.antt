@@ -4,7 +4,7 @@ use Rattle.std.specs.Prelude.{filter}
 use Rattle.std.specs.List.{list_any}
 use Rattle.std.proofs.lemmas.Bool.{true≢false, or_parts}
 use Rattle.fb_values.specs.declared.facts.Datom.{Datom}
-use Rattle.fb_model.specs.Numbers.{ident, value_type, cardinality, unique, is_component, index}
+use Rattle.fb_numbers.specs.Numbers.{ident, value_type, cardinality, unique, is_component, index}
 use Rattle.fb_model.specs.Facts.{is_of, standing, stands_before, value_of}
 use Rattle.fb_model.specs.Schema.{attribute_of, is_about, SaysNothingOf}
 use Rattle.fb_model.proofs.Triples.{is_of-true, standing-append, not_followed, filter-kept}

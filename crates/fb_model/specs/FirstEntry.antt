@@ -5,7 +5,7 @@ use Rattle.fb_values.specs.declared.facts.Datom.{Datom}
 use Rattle.fb_values.specs.declared.facts.Entry.{Entry}
 use Rattle.fb_values.specs.declared.facts.Value.{Value}
 use Rattle.fb_values.specs.declared.facts.Value.TheVariants.{Keyword, Ref, Bool, Instant}
-use Rattle.fb_model.specs.Numbers.{transaction_of, ident, value_type, cardinality, unique, index, tx_instant, type_keyword, type_string, type_boolean, type_ref, type_instant, cardinality_one, unique_identity}
+use Rattle.fb_numbers.specs.Numbers.{transaction_of, ident, value_type, cardinality, unique, index, tx_instant, type_keyword, type_string, type_boolean, type_ref, type_instant, cardinality_one, unique_identity}
 
 -- the first entry records that the entity has the value
 abbrev pub first_datom : ℕ → ℕ → Value → Datom

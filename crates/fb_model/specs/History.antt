@@ -4,7 +4,7 @@ use Rattle.std.specs.Prelude.{ℕ, ◌+◌, ℤ, pos, ◌+ℤ◌, Bool, ◌&&◌
 use Rattle.std.specs.Int.{int_min, int_max}
 use Rattle.fb_values.specs.declared.facts.Datom.{Datom}
 use Rattle.fb_values.specs.declared.facts.Entry.{Entry}
-use Rattle.fb_model.specs.Numbers.{transaction_of, user_entity, user_number, is_builtin, least_instant, greatest_instant}
+use Rattle.fb_numbers.specs.Numbers.{transaction_of, user_entity, user_number, is_builtin, least_instant, greatest_instant}
 
 -- the t of the last entry
 abbrev pub basis : List Entry → ℕ

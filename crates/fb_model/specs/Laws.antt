@@ -9,7 +9,7 @@ use Rattle.fb_values.specs.declared.facts.Value.{Value}
 use Rattle.fb_values.specs.declared.facts.Value.TheVariants.{Keyword, Ref, Instant}
 use Rattle.fb_values.specs.declared.indexes.Order.TheVariants.{Eavt}
 use Rattle.fb_values.specs.Rising.{rises}
-use Rattle.fb_model.specs.Numbers.{transaction_of, user_entity, tx_instant, ident, value_type, cardinality, unique, is_component, index, is_builtin, greatest_t, is_instant, most_datoms}
+use Rattle.fb_numbers.specs.Numbers.{transaction_of, user_entity, tx_instant, ident, value_type, cardinality, unique, is_component, index, is_builtin, greatest_t, is_instant, most_datoms}
 use Rattle.fb_model.specs.Words.{is_reserved}
 use Rattle.fb_model.specs.History.{basis, last_instant, said, users_issued, is_issued}
 use Rattle.fb_model.specs.Facts.{holds, is_of, value_eq, values_of, standing, facts}

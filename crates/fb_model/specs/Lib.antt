@@ -1,4 +1,3 @@
-pub mod Numbers
 pub mod Words
 pub mod Utf8
 pub mod Rising

@@ -9,7 +9,7 @@ use Rattle.fb_values.specs.declared.facts.Value.{Value}
 use Rattle.fb_values.specs.declared.facts.Value.TheVariants.{Keyword, Bool as Boolean, Ref}
 use Rattle.fb_values.specs.declared.indexes.Order.{Order}
 use Rattle.fb_values.specs.declared.indexes.Order.TheVariants.{Eavt, Aevt, Avet, Vaet}
-use Rattle.fb_model.specs.Numbers.{ident, value_type, cardinality, unique, is_component, index, type_ref, cardinality_one, cardinality_many, unique_identity, unique_value, user_entity}
+use Rattle.fb_numbers.specs.Numbers.{ident, value_type, cardinality, unique, is_component, index, type_ref, cardinality_one, cardinality_many, unique_identity, unique_value, user_entity}
 use Rattle.fb_model.specs.Words.{local_name, begins_with_one_of}
 use Rattle.fb_model.specs.Rising.{in_order}
 use Rattle.fb_model.specs.Facts.{value_of, holder, facts}

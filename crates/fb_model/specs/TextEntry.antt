@@ -3,7 +3,7 @@
 use Rattle.std.specs.Prelude.{ℕ, ◌+◌, ℤ, true, List, [], ◌∷◌}
 use Rattle.fb_values.specs.declared.facts.Entry.{Entry}
 use Rattle.fb_values.specs.declared.facts.Value.TheVariants.{Str, Instant}
-use Rattle.fb_model.specs.Numbers.{transaction_of, user_entity, tx_instant, doc}
+use Rattle.fb_numbers.specs.Numbers.{transaction_of, user_entity, tx_instant, doc}
 use Rattle.fb_model.specs.History.{basis, next_instant, users_issued}
 
 -- the next transaction records its instant, and the text of the next user entity

@@ -3,7 +3,8 @@
 use Rattle.std.specs.Prelude.{ℕ, Bool, true, ◌&&◌, nat_eq, nat_le, length}
 use Rattle.fb_values.specs.declared.facts.Value.{Value}
 use Rattle.fb_values.specs.declared.facts.Value.TheVariants.{Keyword, Str, Bool as Boolean, Long, Ref, Instant, Uuid, Symbol, Uri}
-use Rattle.fb_model.specs.Numbers.{type_keyword, type_string, type_boolean, type_long, type_ref, type_instant, type_uuid, type_symbol, type_uri, is_instant, is_long, is_reference, is_uuid}
+use Rattle.fb_numbers.specs.Numbers.{type_keyword, type_string, type_boolean, type_long, type_ref, type_instant, type_uuid, type_symbol, type_uri, is_instant, is_long, is_reference, is_uuid}
+use Rattle.fb_numbers.specs.declared.limits.TheConstants.{LONGEST_NAME, LONGEST_STRING}
 use Rattle.fb_model.specs.Utf8.{is_utf8_text}
 use Rattle.fb_model.specs.Words.{is_keyword_text, is_symbol_text, is_uri_text}
 
@@ -33,10 +34,10 @@ is_well_formed (Symbol text) = is_utf8_text text && is_symbol_text text
 is_well_formed (Uri text) = is_uri_text text
 
 abbrev pub is_short_enough : Value → Bool
-is_short_enough (Keyword text) = nat_le (length text) 65535
-is_short_enough (Str text) = nat_le (length text) 1048576
-is_short_enough (Symbol text) = nat_le (length text) 65535
-is_short_enough (Uri text) = nat_le (length text) 65535
+is_short_enough (Keyword text) = nat_le (length text) LONGEST_NAME
+is_short_enough (Str text) = nat_le (length text) LONGEST_STRING
+is_short_enough (Symbol text) = nat_le (length text) LONGEST_NAME
+is_short_enough (Uri text) = nat_le (length text) LONGEST_NAME
 is_short_enough v = true
 
 -- the value may stand under an attribute of the type

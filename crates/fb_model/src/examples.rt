@@ -3,7 +3,7 @@ ghost use Rattle.std.specs.Prelude.{◌≡◌, ◌-◌, ◌^◌, [], ◌∷◌, 
 ghost use Rattle.fb_values.specs.declared.facts.Value.TheVariants.{Keyword, Str, Ref, Long, Instant, Uuid, Symbol, Uri, Bool};
 ghost use Rattle.fb_values.specs.declared.indexes.Order.TheVariants.{Eavt, Avet, Vaet};
 ghost use Rattle.fb_values.specs.Rising.{rises};
-ghost use Rattle.fb_model.specs.Numbers.{user_entity, user_number, transaction_of, ident, cardinality, unique, index, doc, type_long, type_ref, type_symbol, type_uri, unique_value, cardinality_many};
+ghost use Rattle.fb_numbers.specs.Numbers.{user_entity, user_number, transaction_of, ident, cardinality, unique, index, doc, type_long, type_ref, type_symbol, type_uri, unique_value, cardinality_many};
 ghost use Rattle.fb_model.specs.FirstEntry.{first_entry};
 ghost use Rattle.fb_model.specs.Words.{is_keyword_text, is_symbol_text, is_uri_text, is_reserved};
 ghost use Rattle.fb_model.specs.Rising.{in_order};

@@ -3,7 +3,7 @@ ghost use Rattle.std.specs.Prelude.{◌≡◌, ℕ, ℤ, ◌+◌, ◌<◌, ◌�
 ghost use Rattle.std.specs.List.{list_any};
 ghost use Rattle.fb_values.specs.declared.facts.Entry.{Entry};
 ghost use Rattle.fb_values.specs.declared.facts.Value.{Value};
-ghost use Rattle.fb_model.specs.Numbers.{user_entity, least_instant};
+ghost use Rattle.fb_numbers.specs.Numbers.{user_entity, least_instant};
 ghost use Rattle.fb_model.specs.History.{basis, upto, last_instant, next_instant, said, users_in, users_issued};
 ghost use Rattle.fb_model.specs.Facts.{holds_after, holds};
 

@@ -5,7 +5,7 @@ ghost use Rattle.fb_values.specs.declared.facts.Datom.{Datom};
 ghost use Rattle.fb_values.specs.declared.facts.Entry.{Entry};
 ghost use Rattle.fb_values.specs.declared.indexes.Order.{Order};
 ghost use Rattle.fb_values.specs.Orders.{key_cmp};
-ghost use Rattle.fb_model.specs.Numbers.{is_instant, greatest_t, greatest_instant};
+ghost use Rattle.fb_numbers.specs.Numbers.{is_instant, greatest_t, greatest_instant};
 ghost use Rattle.fb_model.specs.FirstEntry.{first_entry};
 ghost use Rattle.fb_model.specs.History.{basis, last_instant, said};
 ghost use Rattle.fb_model.specs.TextEntry.{text_entry};

@@ -6,7 +6,7 @@ ghost use Rattle.fb_values.specs.declared.facts.Datom.{Datom};
 ghost use Rattle.fb_values.specs.declared.facts.Entry.{Entry};
 ghost use Rattle.fb_values.specs.declared.facts.Value.{Value};
 ghost use Rattle.fb_values.specs.declared.facts.Value.TheVariants.{Ref};
-ghost use Rattle.fb_model.specs.Numbers.{is_builtin};
+ghost use Rattle.fb_numbers.specs.Numbers.{is_builtin};
 ghost use Rattle.fb_model.specs.FirstEntry.{first_entry};
 ghost use Rattle.fb_model.specs.History.{is_issued};
 ghost use Rattle.fb_model.specs.Types.{is_of_type};

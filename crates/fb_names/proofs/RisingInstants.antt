@@ -5,7 +5,7 @@ use Rattle.std.proofs.lemmas.Bool.{true≢false, and_parts}
 use Rattle.std.proofs.lemmas.Int.{ints}
 use Rattle.std.proofs.lemmas.List.Sums.{fold-append}
 use Rattle.fb_values.specs.declared.facts.Entry.{Entry}
-use Rattle.fb_model.specs.Numbers.{is_instant}
+use Rattle.fb_numbers.specs.Numbers.{is_instant}
 use Rattle.fb_model.specs.History.{last_instant}
 use Rattle.fb_model.specs.Lawful.{IsLawful, IsLawfulFrom}
 use Rattle.fb_names.specs.declared.instants.Early.{Early}

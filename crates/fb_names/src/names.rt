@@ -6,7 +6,7 @@ ghost use Rattle.edn_model.specs.Form as edn;
 ghost use Rattle.fb_values.specs.declared.facts.Entry.{Entry};
 ghost use Rattle.fb_values.specs.declared.facts.Value.TheVariants.{Keyword};
 ghost use Rattle.fb_values.specs.declared.indexes.Order.TheVariants.{Avet};
-ghost use Rattle.fb_model.specs.Numbers.{ident as ident_attribute};
+ghost use Rattle.fb_numbers.specs.Numbers.{ident as ident_attribute};
 ghost use Rattle.fb_model.specs.Facts.{facts};
 ghost use Rattle.fb_model.specs.Schema.{covers};
 ghost use Rattle.fb_model.specs.Lawful.{IsLawful};

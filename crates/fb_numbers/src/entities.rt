@@ -1,6 +1,6 @@
 //! The numbers of entities.
 ghost use Rattle.std.specs.Prelude.{◌≡◌, ℕ, ◌+◌, ◌≤◌, ◌<◌, ◌^◌, IfSome, Some};
-ghost use Rattle.fb_model.specs.Numbers.{transaction_of, user_entity as model_user_entity, user_number as model_user_number, is_builtin as model_is_builtin, greatest_t};
+ghost use Rattle.fb_numbers.specs.Numbers.{transaction_of, user_entity as model_user_entity, user_number as model_user_number, is_builtin as model_is_builtin, greatest_t};
 
 use crate::limits::GREATEST_T;
 

@@ -12,10 +12,7 @@ pub use entities::{
     TYPE_SYMBOL, TYPE_URI, TYPE_UUID, UNIQUE, UNIQUE_IDENTITY, UNIQUE_VALUE, USER_ENTITIES,
     VALUE_TYPE, is_builtin, t_of_transaction, transaction_entity, user_entity, user_number,
 };
-pub use laws::{
-    attributes_are_the_models, kinds_are_the_models, limits_are_the_models,
-    partitions_are_the_models, there_and_back,
-};
+pub use laws::{partitions_are_datomics, there_and_back};
 pub use limits::{
     GREATEST_INSTANT, GREATEST_T, LARGEST_ENTRY, LEAST_INSTANT, LONGEST_NAME, LONGEST_STRING,
     MOST_DATOMS, MOST_USERS, is_instant,

@@ -1,6 +1,6 @@
 //! The limits.
 ghost use Rattle.std.specs.Prelude.{◌≡◌};
-ghost use Rattle.fb_model.specs.Numbers.{is_instant as model_is_instant};
+ghost use Rattle.fb_numbers.specs.Numbers.{is_instant as model_is_instant};
 
 /// The greatest t of a transaction.
 pub const GREATEST_T: u32 = 2_147_483_647;

@@ -5,7 +5,7 @@ use Rattle.std.specs.Option.{option_map_or}
 use Rattle.fb_values.specs.declared.facts.Datom.{Datom}
 use Rattle.fb_values.specs.declared.facts.Value.{Value}
 use Rattle.fb_values.specs.declared.facts.Value.TheVariants.{Long}
-use Rattle.fb_model.specs.Numbers.{user_entity, doc}
+use Rattle.fb_numbers.specs.Numbers.{user_entity, doc}
 use Rattle.fb_preds.specs.declared.filters.Filter.{Filter}
 use Rattle.fb_preds.specs.declared.filters.Filter.TheVariants.{Users, NoDoc, Positive, Stored, Closure}
 use Rattle.fb_preds.specs.declared.filters.NamedFilter.{NamedFilter}

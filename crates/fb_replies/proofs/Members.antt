@@ -8,7 +8,7 @@ use Rattle.edn_values.specs.Values.{form_of_value}
 use Rattle.edn_print.specs.Printed.{Appends}
 use Rattle.fb_values.specs.declared.facts.Datom.{Datom}
 use Rattle.fb_values.specs.declared.facts.Entry.{Entry}
-use Rattle.fb_model.specs.Numbers.{transaction_of}
+use Rattle.fb_numbers.specs.Numbers.{transaction_of}
 use Rattle.talk_model.specs.Replies.{entity, attribute, datom_form, datom_forms, transaction_form}
 use Rattle.fb_replies.proofs.Lines.{in_brackets, vector_text, numbered, numbered_text}
 

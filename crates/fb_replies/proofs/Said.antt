@@ -23,7 +23,7 @@ use Rattle.std.proofs.lemmas.List.{get_or_default}
 use Rattle.std.proofs.lemmas.List.Folds.{list_all-append}
 use Rattle.std.proofs.lemmas.List.Sums.{AllPass-from_list_all, list_all-from_AllPass}
 use Rattle.fb_model.specs.Types.{is_well_formed}
-use Rattle.fb_model.specs.Numbers.{transaction_of}
+use Rattle.fb_numbers.specs.Numbers.{transaction_of}
 use Rattle.edn_values.specs.Values.{form_of_value}
 use Rattle.talk_model.specs.Replies.{vector, number, map_of, datom_forms, datoms_reply, transactions_reply}
 

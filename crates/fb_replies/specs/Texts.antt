@@ -6,7 +6,7 @@ use Rattle.fb_values.specs.declared.facts.Datom.{Datom}
 use Rattle.fb_values.specs.declared.facts.Entry.{Entry}
 use Rattle.fb_values.specs.declared.facts.Value.{Value}
 use Rattle.fb_values.specs.declared.facts.Value.TheVariants.{Instant}
-use Rattle.fb_model.specs.Numbers.{is_instant}
+use Rattle.fb_numbers.specs.Numbers.{is_instant}
 
 abbrev pub has_text : Value → Bool
 has_text (Instant z) = is_instant z

@@ -9,7 +9,7 @@ use Rattle.fb_values.specs.declared.facts.Value.{Value}
 use Rattle.fb_values.specs.declared.facts.Value.TheVariants.{Keyword}
 use Rattle.fb_values.specs.declared.indexes.Order.{Order}
 use Rattle.fb_values.specs.declared.indexes.Order.TheVariants.{Eavt, Aevt, Avet, Vaet}
-use Rattle.fb_model.specs.Numbers.{ident, value_type, cardinality, unique, is_component, index}
+use Rattle.fb_numbers.specs.Numbers.{ident, value_type, cardinality, unique, is_component, index}
 use Rattle.fb_model.specs.Facts.{value_eq, values_of, value_of, least, holder}
 use Rattle.fb_model.specs.Schema.{Attribute, Schema, keyword_in, keyword_of, is_attribute, attribute_of, attribute_named, named, covers, is_held, schema_in}
 use Rattle.fb_model.specs.Rising.{in_order}

@@ -9,7 +9,7 @@ use Rattle.fb_values.specs.declared.facts.Datom.{Datom}
 use Rattle.fb_values.specs.declared.indexes.Order.{Order}
 use Rattle.fb_values.specs.declared.indexes.Order.TheVariants.{Eavt, Aevt, Avet, Vaet}
 use Rattle.fb_covers.specs.Coverage.{Coverage, covers as held}
-use Rattle.fb_model.specs.Numbers.{ident}
+use Rattle.fb_numbers.specs.Numbers.{ident}
 use Rattle.fb_model.specs.Schema.{is_about, covers}
 use Rattle.fb_schema.specs.Tables.{is_held_among, names_one, named_where, HasCoverage}
 use Rattle.fb_schema.specs.Change.{is_gained}

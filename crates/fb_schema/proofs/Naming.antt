@@ -11,7 +11,7 @@ use Rattle.std.proofs.lemmas.Map.Text.{is_eq-slice_cmp, btree_map_updates_text}
 use Rattle.fb_values.specs.declared.facts.Datom.{Datom}
 use Rattle.fb_values.specs.declared.facts.Value.{Value}
 use Rattle.fb_values.specs.declared.facts.Value.TheVariants.{Keyword}
-use Rattle.fb_model.specs.Numbers.{ident}
+use Rattle.fb_numbers.specs.Numbers.{ident}
 use Rattle.fb_model.specs.Facts.{value_eq, least}
 use Rattle.fb_model.specs.Schema.{named}
 use Rattle.fb_model.proofs.Triples.{value_eq-true}

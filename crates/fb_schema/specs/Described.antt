@@ -3,7 +3,7 @@
 use Rattle.std.specs.Prelude.{◌≡◌, Bool, ◌&&◌, List, filter, nat_le}
 use Rattle.fb_values.specs.declared.facts.Datom.{Datom}
 use Rattle.fb_values.specs.declared.facts.Entry.{Entry}
-use Rattle.fb_model.specs.Numbers.{ident, index}
+use Rattle.fb_numbers.specs.Numbers.{ident, index}
 use Rattle.fb_model.specs.Facts.{facts}
 
 -- the datom gives an entity its ident, or says what it is as an attribute: it is of one of the attributes from ident to index

@@ -2,7 +2,7 @@
 -- Datomic, Schema.
 use Rattle.std.specs.Prelude.{ℕ, List, nat_eq, Option}
 use Rattle.fb_values.specs.declared.facts.Datom.{Datom}
-use Rattle.fb_model.specs.Numbers.{ident, value_type, cardinality, unique, is_component, index}
+use Rattle.fb_numbers.specs.Numbers.{ident, value_type, cardinality, unique, is_component, index}
 use Rattle.fb_model.specs.Schema as model
 use Rattle.fb_schema.specs.declared.attribute.Attribute.{Attribute}
 use Rattle.fb_schema.specs.declared.description.Description.{Description}

@@ -8,7 +8,7 @@ use Rattle.std.specs.BTreeMap.{BTreeMap, get, get_by_text}
 use Rattle.fb_values.specs.declared.facts.Datom.{Datom}
 use Rattle.fb_values.specs.declared.indexes.Order.{Order}
 use Rattle.fb_covers.specs.Coverage.{Coverage, covers as held}
-use Rattle.fb_model.specs.Numbers.{ident}
+use Rattle.fb_numbers.specs.Numbers.{ident}
 use Rattle.fb_model.specs.Schema.{attribute_of, named, covers, is_held}
 use Rattle.fb_schema.specs.declared.attribute.Attribute.{Attribute}
 use Rattle.fb_schema.specs.declared.description.Description.{Description}

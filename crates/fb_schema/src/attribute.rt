@@ -1,6 +1,6 @@
 //! An installed attribute.
 ghost use Rattle.std.specs.Prelude.{◌≡◌, not, nat_eq};
-ghost use Rattle.fb_model.specs.Numbers.{type_ref, unique_identity};
+ghost use Rattle.fb_numbers.specs.Numbers.{type_ref, unique_identity};
 
 use fb_numbers::{TYPE_REF, UNIQUE_IDENTITY};
 use fb_text::Text;

@@ -19,7 +19,7 @@ use Rattle.fb_values.specs.Orders.{key_of, value_cmp}
 use Rattle.fb_values.specs.OrderLaws.{value_cmp_total, IsAtOnePlace}
 use Rattle.fb_values.specs.Lists.{Lists, list_in}
 use Rattle.fb_values.specs.Rising.{StandsBefore, IsRising}
-use Rattle.fb_model.specs.Numbers.{type_ref, is_reference}
+use Rattle.fb_numbers.specs.Numbers.{type_ref, is_reference}
 use Rattle.fb_model.specs.History.{basis, said, upto}
 use Rattle.fb_model.specs.Facts.{is_of, value_eq, standing, holds, holder, least, facts}
 use Rattle.fb_model.specs.Types.{is_of_type}

@@ -10,7 +10,7 @@ use Rattle.fb_values.specs.declared.indexes.Order.TheVariants.{Eavt}
 use Rattle.fb_values.specs.Orders.{key_cmp}
 use Rattle.fb_values.specs.Lists.{list_in}
 use Rattle.fb_values.specs.Rising.{StandsBefore, IsRising}
-use Rattle.fb_model.specs.Numbers.{user_number}
+use Rattle.fb_numbers.specs.Numbers.{user_number}
 use Rattle.fb_model.specs.History.{said, users_in, users_issued}
 use Rattle.live_index.proofs.Members.{contains-cons, contains_head, contains_tail, contains_none}
 use Rattle.seg_tree.specs.Chunks.{joined}

@@ -4,7 +4,7 @@ ghost use Rattle.std.specs.List.{slice_get};
 ghost use Rattle.std.specs.Option.{option_map_or, option_copied};
 ghost use Rattle.fb_values.specs.Lists.{list_in};
 ghost use Rattle.fb_model.specs.History.{users_issued};
-ghost use Rattle.fb_model.specs.Numbers.{user_number as model_user_number};
+ghost use Rattle.fb_numbers.specs.Numbers.{user_number as model_user_number};
 ghost use Rattle.seg_tree.specs.Nodes.{tree_datoms};
 ghost use Rattle.fb_view.specs.Kept.{Stands};
 

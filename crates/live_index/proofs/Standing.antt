@@ -15,7 +15,7 @@ use Rattle.fb_values.specs.Orders.{key_of, value_cmp}
 use Rattle.fb_values.specs.OrderLaws.{value_cmp_total}
 use Rattle.fb_covers.specs.Coverage.{Coverage}
 use Rattle.fb_values.specs.Lists.{Lists, list_in}
-use Rattle.fb_model.specs.Numbers.{ident, value_type, cardinality, unique, is_component, index, type_ref}
+use Rattle.fb_numbers.specs.Numbers.{ident, value_type, cardinality, unique, is_component, index, type_ref}
 use Rattle.fb_model.specs.History.{basis, said, upto}
 use Rattle.fb_model.specs.Facts.{facts}
 use Rattle.fb_model.specs.Schema.{covers, is_held, attribute_from, is_attribute, keyword_of, entity_of, truth_of, entity_in}

@@ -11,7 +11,7 @@ use Rattle.fb_values.specs.declared.facts.Datom.{Datom}
 use Rattle.fb_values.specs.declared.facts.Entry.{Entry}
 use Rattle.fb_values.specs.declared.facts.Value.{Value}
 use Rattle.fb_values.specs.declared.facts.Value.TheVariants.{Keyword, Str, Bool as Boolean, Long, Ref, Instant, Uuid, Symbol, Uri}
-use Rattle.fb_model.specs.Numbers.{ident, value_type, cardinality, unique, is_component, index, is_instant, is_long, greatest_t, most_datoms}
+use Rattle.fb_numbers.specs.Numbers.{ident, value_type, cardinality, unique, is_component, index, is_instant, is_long, greatest_t, most_datoms}
 use Rattle.fb_model.specs.FirstEntry.{first_entry}
 use Rattle.fb_model.specs.Words.{is_keyword_text, is_symbol_text}
 use Rattle.fb_model.specs.Utf8.{is_utf8_text}

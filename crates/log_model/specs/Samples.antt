@@ -5,7 +5,7 @@ use Rattle.fb_values.specs.declared.facts.Entry.{Entry}
 use Rattle.fb_values.specs.declared.facts.Value.{Value}
 use Rattle.fb_values.specs.declared.facts.Value.TheVariants.{Str, Instant}
 use Rattle.log_model.specs.Nodes.{MergeRecord, record_bytes_in}
-use Rattle.fb_model.specs.Numbers.{transaction_of, user_entity, tx_instant, doc}
+use Rattle.fb_numbers.specs.Numbers.{transaction_of, user_entity, tx_instant, doc}
 
 abbrev pub datom : ℕ → ℕ → Value → Datom
 datom e a v = record { e = e; a = a; v = v; t = 1; added = true }

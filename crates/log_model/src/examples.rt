@@ -2,7 +2,7 @@
 ghost use Rattle.std.specs.Prelude.{◌≡◌, ◌++◌, [], ◌∷◌, length, take, drop, codes, pos, negsuc, true, false, IsTrue};
 ghost use Rattle.fb_values.specs.declared.facts.Value.TheVariants.{Keyword, Str, Bool, Long, Ref, Instant, Uuid, Symbol, Uri};
 ghost use Rattle.fb_model.specs.FirstEntry.{first_entry};
-ghost use Rattle.fb_model.specs.Numbers.{transaction_of, user_entity, tx_instant, doc};
+ghost use Rattle.fb_numbers.specs.Numbers.{transaction_of, user_entity, tx_instant, doc};
 ghost use Rattle.disk_model.specs.Journal.{log_mark, opened, JournalStands, JournalBreaks};
 ghost use Rattle.tx_model.specs.Size.{entry_size};
 ghost use Rattle.log_model.specs.Fields.{u32_bytes, u64_bytes, i64_bytes, truth_bytes};

@@ -2,7 +2,7 @@
 ghost use Rattle.std.specs.Prelude.{◌≡◌, ◌≤◌, ◌<◌, ℕ, List, [], ◌∷◌, ◌++◌, length, map, take, drop, All, codes};
 ghost use Rattle.fb_values.specs.declared.facts.Entry.{Entry};
 ghost use Rattle.fb_values.specs.declared.facts.Value.TheVariants.{Str};
-ghost use Rattle.fb_model.specs.Numbers.{user_entity, doc};
+ghost use Rattle.fb_numbers.specs.Numbers.{user_entity, doc};
 ghost use Rattle.fb_model.specs.History.{basis};
 ghost use Rattle.log_model.specs.Fields.{u32_bytes, u64_bytes};
 ghost use Rattle.log_model.specs.Nodes.{Nodes, no_nodes, MergeRecord, record_bytes_in};

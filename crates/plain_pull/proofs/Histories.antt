@@ -11,7 +11,7 @@ use Rattle.fb_values.specs.declared.facts.Value.{Value}
 use Rattle.fb_values.specs.declared.facts.Value.TheVariants.{Keyword, Str, Bool as Boolean, Long, Ref, Instant, Uuid, Symbol, Uri}
 use Rattle.fb_values.specs.declared.indexes.Order.{Order}
 use Rattle.fb_values.specs.declared.indexes.Order.TheVariants.{Eavt}
-use Rattle.fb_model.specs.Numbers.{transaction_of, user_entity, is_builtin, greatest_t}
+use Rattle.fb_numbers.specs.Numbers.{transaction_of, user_entity, is_builtin, greatest_t}
 use Rattle.fb_model.specs.History.{basis, said, users_issued, is_issued}
 use Rattle.fb_model.specs.Facts.{standing, stands_before}
 use Rattle.fb_model.specs.Lawful.{IsLawful}

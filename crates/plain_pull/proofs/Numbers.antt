@@ -6,7 +6,7 @@ use Rattle.std.proofs.lemmas.List.Elements.{All-nil, All-cons, All-map, All-filt
 use Rattle.fb_values.specs.declared.facts.Datom.{Datom}
 use Rattle.fb_values.specs.declared.facts.Value.{Value}
 use Rattle.fb_values.specs.declared.facts.Value.TheVariants.{Keyword, Str, Bool as Boolean, Long, Ref, Instant, Uuid, Symbol, Uri}
-use Rattle.fb_model.specs.Numbers.{type_ref, ident as ident'}
+use Rattle.fb_numbers.specs.Numbers.{type_ref, ident as ident'}
 use Rattle.fb_model.specs.Facts.{value_eq, values_of, least, holder}
 use Rattle.fb_model.specs.Schema.{Attribute, entity_in}
 use Rattle.view_model.specs.Names.{Id, number, ident, lookup, entity_named}

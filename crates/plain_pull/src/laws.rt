@@ -4,7 +4,7 @@ ghost use Rattle.fb_values.specs.declared.facts.Datom.{Datom};
 ghost use Rattle.fb_values.specs.declared.facts.Entry.{Entry};
 ghost use Rattle.fb_model.specs.History as history;
 ghost use Rattle.fb_model.specs.Lawful.{IsLawful};
-ghost use Rattle.fb_model.specs.Numbers.{greatest_t};
+ghost use Rattle.fb_numbers.specs.Numbers.{greatest_t};
 ghost use Rattle.pull_model.specs.Found.{db_of};
 ghost use Rattle.plain_pull.specs.Numbers.{AreForms};
 ghost use Rattle.view_model.specs.Window.{Window};

@@ -1,7 +1,7 @@
 //! Where a history stands, and which numbers it has issued.
 ghost use Rattle.std.specs.Prelude.{◌≡◌, ◌&&◌, pos, ◌+ℤ◌, ◌<ℤ◌, nat_le, max};
 ghost use Rattle.std.specs.Int.{int_max};
-ghost use Rattle.fb_model.specs.Numbers.{user_number as model_user_number, is_builtin as model_is_builtin, transaction_of, user_entity, greatest_instant};
+ghost use Rattle.fb_numbers.specs.Numbers.{user_number as model_user_number, is_builtin as model_is_builtin, transaction_of, user_entity, greatest_instant};
 ghost use Rattle.fb_model.specs.History.{basis as model_basis, last_instant as model_last_instant, into_range, users_in as model_users_in, users_issued as model_users_issued, is_issued as model_is_issued};
 
 use fb_numbers::{GREATEST_INSTANT, LEAST_INSTANT, TRANSACTIONS, USER_ENTITIES};

@@ -2,7 +2,7 @@
 use Rattle.std.specs.Prelude.{ℕ, suc, ◌+◌, List, [], ◌∷◌, map, cond}
 use Rattle.std.specs.Ordering.{is_lt}
 use Rattle.fb_values.specs.Orders.{text_cmp}
-use Rattle.fb_model.specs.Numbers.{user_entity}
+use Rattle.fb_numbers.specs.Numbers.{user_entity}
 use Rattle.tx_model.specs.Asks as model
 use Rattle.plain_asks.specs.declared.asks.Name.{Name}
 use Rattle.plain_asks.specs.Asked.{name_of}

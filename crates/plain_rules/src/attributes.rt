@@ -1,6 +1,6 @@
 //! What an attribute of the facts says.
 ghost use Rattle.std.specs.Prelude.{◌≡◌, ◌||◌, nat_eq};
-ghost use Rattle.fb_model.specs.Numbers.{cardinality_one, cardinality_many};
+ghost use Rattle.fb_numbers.specs.Numbers.{cardinality_one, cardinality_many};
 ghost use Rattle.fb_model.specs.Schema as schema;
 ghost use Rattle.plain_reads.specs.Attributes.{attribute_in};
 

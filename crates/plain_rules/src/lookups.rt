@@ -3,7 +3,7 @@ ghost use Rattle.std.specs.Prelude.{◌≡◌, is_some, IfOk};
 ghost use Rattle.std.specs.List.{list_any};
 ghost use Rattle.edn_model.specs.Form as edn;
 ghost use Rattle.edn_form.specs.View.{form_of, forms_of, members};
-ghost use Rattle.fb_model.specs.Numbers.{type_ref};
+ghost use Rattle.fb_numbers.specs.Numbers.{type_ref};
 ghost use Rattle.tx_model.specs.Asks as asks;
 ghost use Rattle.tx_model.specs.NameRules as model;
 ghost use Rattle.tx_model.specs.Walk as walk;

@@ -4,7 +4,7 @@ use Rattle.std.specs.Prelude.{is_none, int_lt}
 use Rattle.std.specs.List.{list_all}
 use Rattle.std.proofs.lemmas.Bool.{and_parts, or_parts}
 use Rattle.std.proofs.lemmas.Int.{ints}
-use Rattle.fb_model.specs.Numbers.{greatest_instant}
+use Rattle.fb_numbers.specs.Numbers.{greatest_instant}
 use Rattle.fb_model.specs.History.{last_instant}
 use Rattle.tx_refusals.specs.declared.reasons.Reason.{Reason}
 use Rattle.tx_refusals.specs.declared.reasons.Reason.TheVariants.{NotAForm}

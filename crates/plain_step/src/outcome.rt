@@ -1,6 +1,6 @@
 //! The step of a transaction: the entry that it adds to a history, or why it is refused.
 ghost use Rattle.std.specs.Prelude.{◌≡◌, ◌<ℤ◌, IfOk};
-ghost use Rattle.fb_model.specs.Numbers.{greatest_instant};
+ghost use Rattle.fb_numbers.specs.Numbers.{greatest_instant};
 ghost use Rattle.fb_model.specs.History as history;
 ghost use Rattle.fb_model.specs.Lawful.{IsLawful};
 ghost use Rattle.edn_form.specs.View.{form_of, forms_of};

@@ -5,7 +5,7 @@ use Rattle.std.proofs.lemmas.Bool.{true≢false}
 use Rattle.fb_values.specs.declared.facts.Datom.{Datom}
 use Rattle.fb_values.specs.declared.facts.Value.{Value}
 use Rattle.fb_values.specs.declared.facts.Value.TheVariants.{Ref}
-use Rattle.fb_model.specs.Numbers.{type_ref}
+use Rattle.fb_numbers.specs.Numbers.{type_ref}
 use Rattle.fb_model.specs.Facts.{value_eq, values_of}
 use Rattle.fb_model.specs.Schema.{Attribute, entity_in}
 use Rattle.pull_model.specs.Patterns.{Options, Pattern, attribute, Below, is_reversed, limit_of}

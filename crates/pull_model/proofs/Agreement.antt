@@ -2,7 +2,7 @@
 -- Agreement is down to a depth: what is made is the same, or is deeper than that both ways.
 use Rattle.std.proofs.Common.{◌≡◌, ℕ, suc, ◌+◌, ◌<◌, ◌≤◌, Bool, true, false, List, [], ◌∷◌, ◌++◌, map, filter, filter_map, fold, nat_eq, cond, not, refl, ap, ap₂, sym, subst, arith, inl, inr, ◌⊎◌, Option, Some, None}
 use Rattle.edn_model.specs.Form.{Form}
-use Rattle.fb_model.specs.Numbers.{type_ref}
+use Rattle.fb_numbers.specs.Numbers.{type_ref}
 use Rattle.fb_model.specs.Facts.{values_of}
 use Rattle.fb_model.specs.Schema.{Attribute, entity_in}
 use Rattle.pull_model.specs.Patterns.{Options, Pattern, no_items, item, Item, wildcard, own, attribute, Below, usual, under, times, unlimited, everything, one_less, no_options, is_reversed}

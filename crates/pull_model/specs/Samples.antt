@@ -5,7 +5,7 @@ use Rattle.edn_model.specs.Form.{Form, forms, pairs}
 use Rattle.fb_values.specs.declared.facts.Datom.{Datom}
 use Rattle.fb_values.specs.declared.facts.Entry.{Entry}
 use Rattle.fb_values.specs.declared.facts.Value.TheVariants.{Keyword, Str, Bool as Boolean, Long, Ref, Uri}
-use Rattle.fb_model.specs.Numbers.{user_entity, ident, value_type, cardinality, is_component, type_long, type_string, type_ref, type_uri, cardinality_one, cardinality_many}
+use Rattle.fb_numbers.specs.Numbers.{user_entity, ident, value_type, cardinality, is_component, type_long, type_string, type_ref, type_uri, cardinality_one, cardinality_many}
 use Rattle.fb_model.specs.FirstEntry.{first_entry}
 use Rattle.fb_model.specs.Facts.{facts}
 use Rattle.view_model.specs.Window.{whole}

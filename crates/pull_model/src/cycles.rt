@@ -1,6 +1,6 @@
 //! Examples, by computation: recursion and its path, and parts that are told whole.
 ghost use Rattle.std.specs.Prelude.{◌≡◌, [], ◌∷◌, codes};
-ghost use Rattle.fb_model.specs.Numbers.{user_entity};
+ghost use Rattle.fb_numbers.specs.Numbers.{user_entity};
 ghost use Rattle.fb_model.specs.Lawful.{IsLawful};
 ghost use Rattle.pull_model.specs.Pull.{pulled};
 ghost use Rattle.pull_model.specs.Samples.{text, int, vector, map_of, star, dots, id, below, with, entity, tree_of, name, friend, friend_of, friends, nameless_friend, lines, order_of, sku, orders, part, next, circle};

@@ -1,7 +1,7 @@
 //! Examples, by computation: `*` beside other items, reversed names, defaults, limits and skipped items.
 ghost use Rattle.std.specs.Prelude.{◌≡◌, [], ◌∷◌, codes, not, nat_eq};
 ghost use Rattle.edn_model.specs.Form.{nil};
-ghost use Rattle.fb_model.specs.Numbers.{user_entity};
+ghost use Rattle.fb_numbers.specs.Numbers.{user_entity};
 ghost use Rattle.fb_model.specs.Lawful.{IsLawful};
 ghost use Rattle.view_model.specs.Window.{whole};
 ghost use Rattle.view_model.specs.Names.{number};

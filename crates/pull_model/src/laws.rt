@@ -7,7 +7,7 @@ ghost use Rattle.fb_values.specs.declared.facts.Datom.{Datom};
 ghost use Rattle.fb_values.specs.declared.facts.Entry.{Entry};
 ghost use Rattle.fb_values.specs.declared.indexes.Order.TheVariants.{Eavt};
 ghost use Rattle.fb_values.specs.Rising.{rises};
-ghost use Rattle.fb_model.specs.Numbers.{type_ref};
+ghost use Rattle.fb_numbers.specs.Numbers.{type_ref};
 ghost use Rattle.fb_model.specs.Facts.{values_of};
 ghost use Rattle.fb_model.specs.Schema.{Attribute};
 ghost use Rattle.fb_model.specs.Lawful.{IsLawful};

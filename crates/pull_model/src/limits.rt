@@ -1,7 +1,7 @@
 //! Examples, by computation: refusals, in their order, and the maps that count.
 ghost use Rattle.std.specs.Prelude.{◌≡◌, [], ◌∷◌, codes, not, nat_eq, None, Some, true, false};
 ghost use Rattle.edn_model.specs.Form.{nil};
-ghost use Rattle.fb_model.specs.Numbers.{user_entity, ident as db_ident};
+ghost use Rattle.fb_numbers.specs.Numbers.{user_entity, ident as db_ident};
 ghost use Rattle.view_model.specs.Window.{whole, with_history};
 ghost use Rattle.view_model.specs.Names.{number, ident};
 ghost use Rattle.view_model.specs.Samples.{texts};

@@ -2,7 +2,7 @@
 ghost use Rattle.std.specs.Prelude.{◌≡◌, [], ◌∷◌, map, codes, pos, negsuc, false, not, nat_eq};
 ghost use Rattle.edn_model.specs.Form.{nil};
 ghost use Rattle.fb_values.specs.declared.facts.Value.TheVariants.{Str};
-ghost use Rattle.fb_model.specs.Numbers.{user_entity, doc};
+ghost use Rattle.fb_numbers.specs.Numbers.{user_entity, doc};
 ghost use Rattle.fb_model.specs.Lawful.{IsLawful};
 ghost use Rattle.view_model.specs.Window.{whole, as_of};
 ghost use Rattle.view_model.specs.Names.{number, lookup};

@@ -3,7 +3,7 @@ use Rattle.std.proofs.Common.{◌≡◌, ℕ, ◌+◌, ◌-◌, ℤ, pos, ◌+�
 use Rattle.std.specs.Prelude.{filter, int_le, option_map}
 use Rattle.std.proofs.lemmas.Int.{ints}
 use Rattle.fb_values.specs.declared.facts.Entry.{Entry}
-use Rattle.fb_model.specs.Numbers.{transaction_of, greatest_t}
+use Rattle.fb_numbers.specs.Numbers.{transaction_of, greatest_t}
 use Rattle.view_model.specs.Window.{end_of_number, end_of_instant}
 use Rattle.read_model.specs.Points.{t_of, count_before}
 

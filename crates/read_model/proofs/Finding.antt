@@ -6,7 +6,7 @@ use Rattle.fb_values.specs.declared.facts.Datom.{Datom}
 use Rattle.fb_values.specs.declared.facts.Entry.{Entry}
 use Rattle.fb_values.specs.declared.facts.Value.{Value}
 use Rattle.fb_values.specs.declared.facts.Value.TheVariants.{Keyword}
-use Rattle.fb_model.specs.Numbers.{ident as ident_attribute}
+use Rattle.fb_numbers.specs.Numbers.{ident as ident_attribute}
 use Rattle.fb_model.specs.Facts.{value_eq, least, holder}
 use Rattle.fb_model.proofs.Members.{kept, keep, here, there, cases_of, none_of}
 use Rattle.view_model.specs.Window.{Window, without_history}

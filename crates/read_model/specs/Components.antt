@@ -12,7 +12,7 @@ use Rattle.fb_values.specs.declared.facts.Value.TheVariants.{Ref}
 use Rattle.fb_values.specs.declared.indexes.Order.{Order}
 use Rattle.fb_values.specs.declared.indexes.Order.TheVariants.{Eavt, Aevt, Avet, Vaet}
 use Rattle.fb_values.specs.declared.indexes.Probe.{Probe}
-use Rattle.fb_model.specs.Numbers.{type_ref}
+use Rattle.fb_numbers.specs.Numbers.{type_ref}
 use Rattle.fb_model.specs.Facts.{facts}
 use Rattle.fb_model.specs.Schema.{Attribute, attribute_of, attribute_named, is_held}
 use Rattle.tx_model.specs.Values.{value_in}

@@ -5,7 +5,7 @@ use Rattle.fb_values.specs.declared.facts.Datom.{Datom}
 use Rattle.fb_values.specs.declared.facts.Entry.{Entry}
 use Rattle.fb_values.specs.declared.facts.Value.{Value}
 use Rattle.fb_values.specs.declared.facts.Value.TheVariants.{Keyword}
-use Rattle.fb_model.specs.Numbers.{ident as ident_attribute}
+use Rattle.fb_numbers.specs.Numbers.{ident as ident_attribute}
 use Rattle.fb_model.specs.Facts.{is_of}
 use Rattle.view_model.specs.Window.{Window, without_history}
 use Rattle.view_model.specs.View.{InView}

@@ -5,7 +5,7 @@ use Rattle.std.specs.Option.{ok_or}
 use Rattle.edn_model.specs.Form as edn
 use Rattle.edn_model.specs.Form.{Form}
 use Rattle.fb_values.specs.declared.facts.Entry.{Entry}
-use Rattle.fb_model.specs.Numbers.{transaction_of, greatest_t}
+use Rattle.fb_numbers.specs.Numbers.{transaction_of, greatest_t}
 use Rattle.fb_model.specs.History.{basis}
 use Rattle.view_model.specs.Window.{end_of_number, end_of_instant}
 use Rattle.read_refusals.specs.declared.reasons.Reason.TheVariants.{BadPoint}

@@ -4,7 +4,7 @@ use Rattle.edn_model.specs.Form as edn
 use Rattle.edn_model.specs.Form.{Form, forms}
 use Rattle.fb_values.specs.declared.facts.Entry.{Entry}
 use Rattle.fb_values.specs.declared.facts.Value.TheVariants.{Keyword, Str, Ref}
-use Rattle.fb_model.specs.Numbers.{user_entity, ident, value_type, cardinality, doc, type_ref, cardinality_one}
+use Rattle.fb_numbers.specs.Numbers.{user_entity, ident, value_type, cardinality, doc, type_ref, cardinality_one}
 use Rattle.fb_model.specs.FirstEntry.{first_entry}
 use Rattle.view_model.specs.Samples.{datom, entry_at}
 

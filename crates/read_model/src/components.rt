@@ -3,7 +3,7 @@ ghost use Rattle.std.specs.Prelude.{◌≡◌, [], ◌∷◌, pos, ◌-ℤ◌, c
 ghost use Rattle.edn_model.specs.Form.{nil, integer, instant, keyword, string};
 ghost use Rattle.fb_values.specs.declared.facts.Value.TheVariants.{Str, Long, Ref};
 ghost use Rattle.fb_values.specs.declared.indexes.Order.TheVariants.{Eavt, Aevt, Avet, Vaet};
-ghost use Rattle.fb_model.specs.Numbers.{transaction_of, user_entity, ident as ident_attribute, doc, tx_instant};
+ghost use Rattle.fb_numbers.specs.Numbers.{transaction_of, user_entity, ident as ident_attribute, doc, tx_instant};
 ghost use Rattle.fb_model.specs.Facts.{facts};
 ghost use Rattle.fb_model.specs.Lawful.{IsLawful};
 ghost use Rattle.view_model.specs.Window.{whole, as_of};

@@ -1,7 +1,7 @@
 //! Points in time and ranges of the log, by computation.
 ghost use Rattle.std.specs.Prelude.{◌≡◌, [], ◌∷◌, pos, ◌-ℤ◌, codes, Some, None, Ok, Err};
 ghost use Rattle.edn_model.specs.Form.{nil, integer, instant, keyword, string};
-ghost use Rattle.fb_model.specs.Numbers.{transaction_of, user_entity};
+ghost use Rattle.fb_numbers.specs.Numbers.{transaction_of, user_entity};
 ghost use Rattle.view_model.specs.Scan.{transactions};
 ghost use Rattle.view_model.specs.Samples.{ages, instants, entry_at};
 ghost use Rattle.read_refusals.specs.declared.reasons.Reason.TheVariants.{BadPoint};

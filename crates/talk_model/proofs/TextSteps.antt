@@ -3,7 +3,7 @@ use Rattle.std.proofs.Common.{◌≡◌, [], ◌∷◌, pos, true, refl}
 use Rattle.std.specs.Prelude.{codes}
 use Rattle.fb_values.specs.declared.facts.Entry.{Entry}
 use Rattle.fb_values.specs.declared.facts.Value.TheVariants.{Str}
-use Rattle.fb_model.specs.Numbers.{user_entity, doc}
+use Rattle.fb_numbers.specs.Numbers.{user_entity, doc}
 use Rattle.fb_model.specs.History.{upto}
 use Rattle.view_model.specs.Samples.{datom, entry_at, texts}
 use Rattle.tx_model.specs.Step.{accepted, step, no_guard}

@@ -9,7 +9,7 @@ use Rattle.edn_values.specs.Values.{form_of_value}
 use Rattle.fb_values.specs.declared.facts.Datom.{Datom}
 use Rattle.fb_values.specs.declared.facts.Entry.{Entry}
 use Rattle.fb_values.specs.declared.facts.Value.TheVariants.{Ref}
-use Rattle.fb_model.specs.Numbers.{transaction_of}
+use Rattle.fb_numbers.specs.Numbers.{transaction_of}
 use Rattle.fb_model.specs.Schema.{attribute_of}
 
 -- ---- parts

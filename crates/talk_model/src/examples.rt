@@ -1,7 +1,7 @@
 //! Talks of one session, by computation.
 ghost use Rattle.std.specs.Prelude.{◌≡◌, [], ◌∷◌, codes, Some, None, true, false, nat_eq};
 ghost use Rattle.fb_values.specs.declared.facts.Value.TheVariants.{Str};
-ghost use Rattle.fb_model.specs.Numbers.{user_entity, doc};
+ghost use Rattle.fb_numbers.specs.Numbers.{user_entity, doc};
 ghost use Rattle.fb_model.specs.Facts.{facts};
 ghost use Rattle.view_model.specs.Window.{whole, since};
 ghost use Rattle.view_model.specs.Samples.{datom, texts};

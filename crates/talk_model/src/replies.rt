@@ -3,7 +3,7 @@ ghost use Rattle.std.specs.Prelude.{◌≡◌, [], ◌∷◌, pos, true, false, 
 ghost use Rattle.edn_model.specs.Form as edn;
 ghost use Rattle.edn_model.specs.Form.{forms, pairs};
 ghost use Rattle.fb_values.specs.declared.facts.Value.TheVariants.{Str, Ref, Keyword};
-ghost use Rattle.fb_model.specs.Numbers.{user_entity, doc, value_type, transaction_of, tx_instant, type_long};
+ghost use Rattle.fb_numbers.specs.Numbers.{user_entity, doc, value_type, transaction_of, tx_instant, type_long};
 ghost use Rattle.fb_model.specs.Facts.{facts};
 ghost use Rattle.view_model.specs.Scan.{transactions};
 ghost use Rattle.view_model.specs.Samples.{datom, ages, texts};

@@ -4,7 +4,7 @@ use Rattle.std.specs.List.{list_any}
 use Rattle.fb_values.specs.declared.facts.Datom.{Datom}
 use Rattle.fb_values.specs.declared.facts.Value.{Value}
 use Rattle.fb_values.specs.declared.facts.Value.TheVariants.{Str}
-use Rattle.fb_model.specs.Numbers.{doc}
+use Rattle.fb_numbers.specs.Numbers.{doc}
 use Rattle.tx_refusals.specs.declared.reasons.Bar.{Bar}
 use Rattle.tx_refusals.specs.declared.reasons.Bar.TheVariants.{AttrPred}
 

@@ -4,7 +4,7 @@ use Rattle.fb_values.specs.declared.facts.Datom.{Datom}
 use Rattle.fb_values.specs.declared.facts.Entry.{Entry}
 use Rattle.fb_values.specs.declared.facts.Value.{Value}
 use Rattle.fb_values.specs.declared.facts.Value.TheVariants.{Long}
-use Rattle.fb_model.specs.Numbers.{user_entity, cardinality_one}
+use Rattle.fb_numbers.specs.Numbers.{user_entity, cardinality_one}
 use Rattle.fb_model.specs.FirstEntry.{first_entry}
 use Rattle.fb_model.specs.Samples.{datom, entry_of, makes_attribute}
 use Rattle.tuple_model.specs.Tuples.{Tuple, Row}

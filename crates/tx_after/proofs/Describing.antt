@@ -7,7 +7,7 @@ use Rattle.std.proofs.lemmas.Bool.{and_parts, or_parts, eqb-true, leb-true}
 use Rattle.fb_values.specs.declared.facts.Datom.{Datom}
 use Rattle.fb_values.specs.declared.facts.Entry.{Entry}
 use Rattle.fb_values.specs.declared.indexes.Order.TheVariants.{Eavt}
-use Rattle.fb_model.specs.Numbers.{ident, value_type, cardinality, unique, is_component, index}
+use Rattle.fb_numbers.specs.Numbers.{ident, value_type, cardinality, unique, is_component, index}
 use Rattle.fb_model.specs.History.{said}
 use Rattle.fb_model.specs.Rising.{in_order}
 use Rattle.fb_model.specs.Facts.{facts, standing, values_of, value_of}

@@ -1,7 +1,7 @@
 //! What the facts of one entity say of it as an attribute.
 ghost use Rattle.std.specs.Prelude.{◌≡◌, ◌||◌, nat_eq, IfOk};
 ghost use Rattle.std.specs.Option.{option_copied, option_map};
-ghost use Rattle.fb_model.specs.Numbers.{cardinality_one, cardinality_many};
+ghost use Rattle.fb_numbers.specs.Numbers.{cardinality_one, cardinality_many};
 ghost use Rattle.fb_model.specs.Facts.{value_of as model_value_of};
 ghost use Rattle.fb_model.specs.Schema as schema;
 ghost use Rattle.fb_schema.specs.Parts.{attribute_in};

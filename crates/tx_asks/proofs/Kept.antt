@@ -9,7 +9,7 @@ use Rattle.tx_model.specs.Asks.{Name, Ask, names_of}
 use Rattle.tx_model.specs.Tempids.{Db, tempids_in, met_after, holders, identified, assigned, number_from, number_next}
 use Rattle.tx_model.specs.Transaction.{joined}
 use Rattle.fb_model.specs.History.{users_issued}
-use Rattle.fb_model.specs.Numbers.{user_entity}
+use Rattle.fb_numbers.specs.Numbers.{user_entity}
 use Rattle.tx_asks.specs.Asks.{matters}
 
 pub no_names : (ask : Ask) → matters ask ≡ false → names_of ask ≡ []

@@ -7,7 +7,7 @@ use Rattle.fb_values.specs.declared.facts.Datom.{Datom}
 use Rattle.fb_values.specs.declared.facts.Entry.{Entry}
 use Rattle.fb_values.specs.declared.facts.Value.{Value}
 use Rattle.fb_values.specs.declared.indexes.Order.TheVariants.{Eavt}
-use Rattle.fb_model.specs.Numbers.{user_entity, user_number}
+use Rattle.fb_numbers.specs.Numbers.{user_entity, user_number}
 use Rattle.fb_model.specs.History.{said, users_issued}
 use Rattle.fb_model.specs.Facts.{holds}
 use Rattle.fb_model.specs.Schema.{is_about, is_one}

@@ -1,6 +1,6 @@
 //! What the acts ask as triples, and what additions replace.
 ghost use Rattle.std.specs.Prelude.{◌≡◌, ◌++◌, IfOk, OnOk, flat_map, map, nat_lt};
-ghost use Rattle.fb_model.specs.Numbers.{user_number as model_user_number};
+ghost use Rattle.fb_numbers.specs.Numbers.{user_number as model_user_number};
 ghost use Rattle.fb_model.specs.History.{users_issued};
 ghost use Rattle.fb_model.specs.Schema.{is_one};
 ghost use Rattle.fb_facts.specs.Told.{values_of};

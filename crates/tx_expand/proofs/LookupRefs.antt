@@ -6,7 +6,7 @@ use Rattle.edn_model.specs.Form.{Form, Forms, no_forms, form, forms}
 use Rattle.edn_form.specs.declared.form.Edn.{Edn}
 use Rattle.edn_form.specs.View.{form_of, forms_of}
 use Rattle.fb_values.specs.declared.facts.Datom.{Datom}
-use Rattle.fb_model.specs.Numbers.{type_ref}
+use Rattle.fb_numbers.specs.Numbers.{type_ref}
 use Rattle.fb_model.specs.Schema.{Attribute}
 use Rattle.tx_model.specs.Asks.{Name, Part, plain, entity, lookup_in, name_of_part}
 use Rattle.tx_model.specs.NameRules.{lookups_from, lookups_in, is_wrong_part, is_wrong_lookup}

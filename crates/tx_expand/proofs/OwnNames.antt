@@ -8,10 +8,10 @@ use Rattle.fb_values.specs.declared.facts.Datom.{Datom}
 use Rattle.fb_values.specs.declared.facts.Entry.{Entry}
 use Rattle.fb_values.specs.declared.facts.Value.{Value}
 use Rattle.fb_values.specs.declared.facts.Value.TheVariants.{Keyword, Str, Bool as Boolean, Long, Ref, Instant, Uuid, Symbol, Uri}
-use Rattle.fb_model.specs.Numbers.{ident}
+use Rattle.fb_numbers.specs.Numbers.{ident}
 use Rattle.fb_model.specs.Facts.{value_of, values_of, value_eq, is_of, holds}
 use Rattle.fb_model.specs.Schema.{Attribute, attribute_of, attribute_from, keyword_of, keyword_in, entity_of, truth_of, named}
-use Rattle.fb_model.specs.Numbers.{value_type, cardinality, unique, is_component, index}
+use Rattle.fb_numbers.specs.Numbers.{value_type, cardinality, unique, is_component, index}
 use Rattle.fb_model.proofs.KnownFacts.{holder-HasFact}
 use Rattle.fb_model.proofs.Members.{any_member}
 use Rattle.fb_model.proofs.Invariants.{values_of-is_of}

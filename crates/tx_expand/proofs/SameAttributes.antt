@@ -6,7 +6,7 @@ use Rattle.std.specs.List.{list_any}
 use Rattle.edn_model.specs.Form as edn
 use Rattle.edn_model.specs.Form.{Form, Forms, no_forms, form, Pairs, no_pairs, pair, items}
 use Rattle.fb_values.specs.declared.facts.Datom.{Datom}
-use Rattle.fb_model.specs.Numbers.{type_ref, tx_instant, ident as ident_attribute}
+use Rattle.fb_numbers.specs.Numbers.{type_ref, tx_instant, ident as ident_attribute}
 use Rattle.fb_model.specs.Schema.{attribute_named}
 use Rattle.tx_model.specs.Asks.{Name, number, ident, lookup, tempid, nameless, plain, entity, Ask, adds, retracts, retracts_all, compares, retracts_entity, meets, mentions, lacks_id, lookup_in, Key, own, forward, backward, key_in, names_of, attribute_of_ask}
 use Rattle.tx_model.specs.Shapes.{Verb, add, retract, cas, verb_in}

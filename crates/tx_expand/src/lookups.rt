@@ -2,7 +2,7 @@
 ghost use Rattle.std.specs.Prelude.{◌≡◌, Some, IfOk};
 ghost use Rattle.edn_model.specs.Form as edn;
 ghost use Rattle.edn_form.specs.View.{form_of, forms_of, members};
-ghost use Rattle.fb_model.specs.Numbers.{type_ref};
+ghost use Rattle.fb_numbers.specs.Numbers.{type_ref};
 ghost use Rattle.fb_model.specs.Schema.{attribute_named};
 ghost use Rattle.fb_schema.specs.Parts.{attribute_in};
 ghost use Rattle.tx_model.specs.Asks as asks;

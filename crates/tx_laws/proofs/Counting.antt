@@ -11,7 +11,7 @@ use Rattle.fb_values.specs.declared.facts.Datom.{Datom}
 use Rattle.fb_values.specs.declared.facts.Entry.{Entry}
 use Rattle.fb_values.specs.declared.facts.Value.{Value}
 use Rattle.fb_values.specs.declared.facts.Value.TheVariants.{Ref}
-use Rattle.fb_model.specs.Numbers.{transaction_of, user_entity, user_number, is_builtin}
+use Rattle.fb_numbers.specs.Numbers.{transaction_of, user_entity, user_number, is_builtin}
 use Rattle.fb_model.specs.History.{basis, users_issued}
 use Rattle.fb_model.specs.Laws as model
 use Rattle.tx_laws.specs.declared.numbers.Known.{Known}

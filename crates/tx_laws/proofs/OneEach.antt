@@ -10,7 +10,7 @@ use Rattle.fb_values.specs.declared.facts.Datom.{Datom}
 use Rattle.fb_values.specs.declared.facts.Entry.{Entry}
 use Rattle.fb_values.specs.declared.facts.Value.{Value}
 use Rattle.fb_values.specs.declared.indexes.Order.TheVariants.{Eavt}
-use Rattle.fb_model.specs.Numbers.{ident, value_type, cardinality, unique, is_component, index}
+use Rattle.fb_numbers.specs.Numbers.{ident, value_type, cardinality, unique, is_component, index}
 use Rattle.fb_model.specs.History.{said}
 use Rattle.fb_model.specs.Rising.{in_order}
 use Rattle.fb_model.specs.Facts.{facts, is_of, value_eq, values_of, holds, holder, least}

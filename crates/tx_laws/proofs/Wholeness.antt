@@ -9,7 +9,7 @@ use Rattle.std.proofs.lemmas.Bool.{true≢false, and_parts, and_from, or_left, o
 use Rattle.fb_values.specs.declared.facts.Datom.{Datom}
 use Rattle.fb_values.specs.declared.facts.Entry.{Entry}
 use Rattle.fb_values.specs.declared.indexes.Order.TheVariants.{Eavt}
-use Rattle.fb_model.specs.Numbers.{ident, value_type, cardinality, unique, index}
+use Rattle.fb_numbers.specs.Numbers.{ident, value_type, cardinality, unique, index}
 use Rattle.fb_model.specs.Facts.{facts}
 use Rattle.fb_model.specs.Lawful.{IsLawful}
 use Rattle.fb_model.specs.Laws.{says_attribute, is_alteration, has_reserved_name, are_new_ones_whole, are_altered_ones_whole, keeps_reserved_names, are_allowed, are_typed, has_whole_attributes, has_allowed_changes, has_no_reserved_names, has_own_instant_alone}

@@ -8,7 +8,7 @@ use Rattle.std.specs.BTreeMap.{BTreeMap, get}
 use Rattle.fb_values.specs.declared.facts.Datom.{Datom}
 use Rattle.fb_values.specs.declared.facts.Entry.{Entry}
 use Rattle.fb_model.specs.Laws.{says_attribute, is_alteration, has_reserved_name, are_allowed, is_own_instant}
-use Rattle.fb_model.specs.Numbers.{tx_instant}
+use Rattle.fb_numbers.specs.Numbers.{tx_instant}
 use Rattle.fb_model.specs.Schema.{is_attribute}
 use Rattle.tx_laws.specs.declared.altered.Altered.{Altered}
 

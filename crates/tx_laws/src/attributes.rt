@@ -6,7 +6,7 @@ ghost use Rattle.std.specs.Ordering.{nat_cmp};
 ghost use Rattle.std.specs.BTreeMap.{get};
 ghost use Rattle.std.specs.List.{list_all, list_any};
 ghost use Rattle.fb_model.specs.Laws as model;
-ghost use Rattle.fb_model.specs.Numbers.{tx_instant};
+ghost use Rattle.fb_numbers.specs.Numbers.{tx_instant};
 ghost use Rattle.tx_laws.specs.Changes as changes;
 
 use crate::altered::Altered;

@@ -16,7 +16,7 @@ use Rattle.fb_values.specs.OrderLaws.{value_cmp_total}
 use Rattle.fb_values.specs.Rising.{rises}
 use Rattle.std.specs.Cmp.{tied_itself}
 use Rattle.std.specs.Cmp.Lexicographic.{slice_cmp, lists_total}
-use Rattle.fb_model.specs.Numbers.{transaction_of, tx_instant, ident, value_type, cardinality, unique, is_component, index, cardinality_many, greatest_t}
+use Rattle.fb_numbers.specs.Numbers.{transaction_of, tx_instant, ident, value_type, cardinality, unique, is_component, index, cardinality_many, greatest_t}
 use Rattle.fb_model.specs.Rising.{in_order, put_in_order}
 use Rattle.fb_model.specs.History.{basis, said}
 use Rattle.fb_model.specs.Facts.{facts, standing, is_of, values_of, value_of, value_eq}

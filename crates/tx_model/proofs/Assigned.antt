@@ -10,7 +10,7 @@ use Rattle.fb_values.specs.declared.facts.Datom.{Datom}
 use Rattle.fb_values.specs.declared.facts.Entry.{Entry}
 use Rattle.fb_values.specs.declared.facts.Value.{Value}
 use Rattle.fb_values.specs.declared.facts.Value.TheVariants.{Keyword}
-use Rattle.fb_model.specs.Numbers.{user_entity, ident as ident_attribute}
+use Rattle.fb_numbers.specs.Numbers.{user_entity, ident as ident_attribute}
 use Rattle.fb_model.specs.History.{is_issued}
 use Rattle.fb_model.specs.Facts.{facts, holder}
 use Rattle.fb_model.specs.Schema.{Attribute, attribute_named, is_identity}

@@ -12,7 +12,7 @@ use Rattle.fb_values.specs.declared.facts.Value.TheVariants.{Instant}
 use Rattle.fb_values.specs.declared.indexes.Order.{Order}
 use Rattle.fb_values.specs.declared.indexes.Order.TheVariants.{Eavt}
 use Rattle.fb_values.specs.Orders.{key_cmp}
-use Rattle.fb_model.specs.Numbers.{transaction_of, tx_instant, most_datoms}
+use Rattle.fb_numbers.specs.Numbers.{transaction_of, tx_instant, most_datoms}
 use Rattle.fb_model.specs.Rising.{put_in_order, in_order}
 use Rattle.fb_model.specs.History.{basis, next_instant}
 use Rattle.tx_model.specs.Size.{value_size, entry_size, most_bytes}

@@ -11,7 +11,7 @@ use Rattle.fb_values.specs.declared.facts.Datom.{Datom}
 use Rattle.fb_values.specs.declared.facts.Entry.{Entry}
 use Rattle.fb_values.specs.declared.facts.Value.{Value}
 use Rattle.fb_values.specs.declared.facts.Value.TheVariants.{Keyword, Str, Bool as Boolean, Long, Ref, Instant, Uuid, Symbol, Uri}
-use Rattle.fb_model.specs.Numbers.{transaction_of, user_entity, type_uri}
+use Rattle.fb_numbers.specs.Numbers.{transaction_of, user_entity, type_uri}
 use Rattle.fb_model.specs.History.{basis, said, users_issued, is_issued}
 use Rattle.fb_model.specs.Facts.{facts}
 use Rattle.fb_model.specs.Types.{is_of_type}

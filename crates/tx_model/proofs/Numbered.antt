@@ -4,7 +4,7 @@ use Rattle.std.specs.Prelude.{Contains, flat_map, is_none}
 use Rattle.std.specs.List.{list_any}
 use Rattle.std.specs.Cmp.Lexicographic.{bytes_decides}
 use Rattle.std.proofs.lemmas.Bool.{true≢false, or_cases}
-use Rattle.fb_model.specs.Numbers.{user_entity}
+use Rattle.fb_numbers.specs.Numbers.{user_entity}
 use Rattle.fb_model.specs.History.{users_issued}
 use Rattle.tx_model.specs.Asks.{Name, number, ident, lookup, tempid, nameless, Ask, is_tempid, is_same_tempid, names_of}
 use Rattle.tx_model.specs.Tempids.{Db, met_after, is_among, tempids_in, number_next, number_from, assigned, assigned_to, holders}

@@ -15,7 +15,7 @@ use Rattle.fb_values.specs.declared.indexes.Order.{Order}
 use Rattle.fb_values.specs.declared.indexes.Order.TheVariants.{Eavt}
 use Rattle.fb_values.specs.Orders.{key_cmp}
 use Rattle.fb_values.specs.OrderLaws.{key_cmp-Equal, IsAtOnePlace}
-use Rattle.fb_model.specs.Numbers.{transaction_of, tx_instant, most_datoms, greatest_t, greatest_instant}
+use Rattle.fb_numbers.specs.Numbers.{transaction_of, tx_instant, most_datoms, greatest_t, greatest_instant}
 use Rattle.fb_model.specs.Rising.{put_in_order, in_order}
 use Rattle.fb_model.specs.History.{basis, said, last_instant}
 use Rattle.fb_model.specs.Facts.{facts, holds_after}

@@ -6,7 +6,7 @@ use Rattle.std.specs.Option.{option_map_or}
 use Rattle.fb_values.specs.declared.facts.Datom.{Datom}
 use Rattle.fb_values.specs.declared.facts.Value.{Value}
 use Rattle.fb_values.specs.declared.facts.Value.TheVariants.{Ref}
-use Rattle.fb_model.specs.Numbers.{transaction_of}
+use Rattle.fb_numbers.specs.Numbers.{transaction_of}
 use Rattle.fb_model.specs.History.{basis}
 use Rattle.fb_model.specs.Facts.{value_of}
 use Rattle.fb_model.specs.Schema.{Attribute, attribute_named}

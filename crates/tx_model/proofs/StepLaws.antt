@@ -12,7 +12,7 @@ use Rattle.fb_values.specs.declared.facts.Entry.{Entry}
 use Rattle.fb_values.specs.declared.facts.Value.{Value}
 use Rattle.fb_values.specs.declared.facts.Value.TheVariants.{Keyword, Str, Bool as Boolean, Long, Ref, Instant, Uuid, Symbol, Uri}
 use Rattle.fb_values.specs.declared.indexes.Order.TheVariants.{Eavt}
-use Rattle.fb_model.specs.Numbers.{transaction_of, user_entity, tx_instant, ident, value_type, cardinality, unique, index, is_instant, greatest_t, most_datoms, type_uri}
+use Rattle.fb_numbers.specs.Numbers.{transaction_of, user_entity, tx_instant, ident, value_type, cardinality, unique, index, is_instant, greatest_t, most_datoms, type_uri}
 use Rattle.fb_model.specs.Words.{is_reserved}
 use Rattle.fb_model.specs.History.{basis, said, last_instant, next_instant}
 use Rattle.fb_model.specs.Facts.{facts, is_of, holds, values_of, value_eq}

@@ -5,7 +5,7 @@ use Rattle.std.proofs.lemmas.Bool.{and_parts, eqb-true, leb-true}
 use Rattle.std.proofs.lemmas.Bool.Decides.{nat_tests}
 use Rattle.fb_values.specs.declared.facts.Datom.{Datom}
 use Rattle.fb_values.specs.declared.facts.Entry.{Entry}
-use Rattle.fb_model.specs.Numbers.{transaction_of, user_entity, user_number, is_builtin, greatest_t, most_datoms, is_reference}
+use Rattle.fb_numbers.specs.Numbers.{transaction_of, user_entity, user_number, is_builtin, greatest_t, most_datoms, is_reference}
 use Rattle.fb_model.specs.History.{basis, users_in, users_issued}
 use Rattle.fb_model.specs.Laws.{is_asserted, users_behind, users_after, is_known, is_known_value}
 use Rattle.fb_model.specs.Lawful.{IsLawful, IsLawfulAfter}

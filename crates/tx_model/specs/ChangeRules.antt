@@ -7,7 +7,7 @@ use Rattle.std.specs.Option.{option_map_or}
 use Rattle.edn_model.specs.Form as edn
 use Rattle.fb_values.specs.declared.facts.Datom.{Datom}
 use Rattle.fb_values.specs.declared.facts.Value.{Value}
-use Rattle.fb_model.specs.Numbers.{ident, cardinality, unique, index, greatest_t, greatest_instant, most_datoms}
+use Rattle.fb_numbers.specs.Numbers.{ident, cardinality, unique, index, greatest_t, greatest_instant, most_datoms}
 use Rattle.fb_model.specs.History.{basis, last_instant, said, users_issued, users_in}
 use Rattle.fb_model.specs.Facts.{is_of, value_eq, value_of, values_of}
 use Rattle.fb_model.specs.Schema.{Attribute, attribute_named, is_attribute, is_one, is_unique, is_whole}

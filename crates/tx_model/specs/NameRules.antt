@@ -7,7 +7,7 @@ use Rattle.std.specs.Option.{option_map_or}
 use Rattle.edn_model.specs.Form as edn
 use Rattle.edn_model.specs.Form.{Form, no_forms, form}
 use Rattle.fb_values.specs.declared.facts.Datom.{Datom}
-use Rattle.fb_model.specs.Numbers.{tx_instant, ident as ident_attribute, type_ref}
+use Rattle.fb_numbers.specs.Numbers.{tx_instant, ident as ident_attribute, type_ref}
 use Rattle.fb_model.specs.Words.{is_reserved}
 use Rattle.fb_model.specs.Schema.{Attribute, attribute_named}
 use Rattle.tx_model.specs.Asks.{Name, lookup, tempid, nameless, Part, plain, entity, Ask, adds, compares, lacks_id, is_tempid, is_same_tempid, names_of, parts_of, attribute_of_ask}

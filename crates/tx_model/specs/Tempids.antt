@@ -7,7 +7,7 @@ use Rattle.edn_model.specs.Form.{Form}
 use Rattle.fb_values.specs.declared.facts.Datom.{Datom}
 use Rattle.fb_values.specs.declared.facts.Entry.{Entry}
 use Rattle.fb_values.specs.Orders.{text_cmp}
-use Rattle.fb_model.specs.Numbers.{transaction_of, user_entity}
+use Rattle.fb_numbers.specs.Numbers.{transaction_of, user_entity}
 use Rattle.fb_model.specs.History.{basis, users_issued, is_issued}
 use Rattle.fb_model.specs.Facts.{holder, facts}
 use Rattle.fb_model.specs.Schema.{Attribute, attribute_named, named, is_identity}

@@ -6,7 +6,7 @@ use Rattle.fb_values.specs.declared.facts.Datom.{Datom}
 use Rattle.fb_values.specs.declared.facts.Entry.{Entry}
 use Rattle.fb_values.specs.declared.facts.Value.TheVariants.{Instant}
 use Rattle.fb_values.specs.declared.indexes.Order.TheVariants.{Eavt}
-use Rattle.fb_model.specs.Numbers.{transaction_of, tx_instant}
+use Rattle.fb_numbers.specs.Numbers.{transaction_of, tx_instant}
 use Rattle.fb_model.specs.Rising.{in_order}
 use Rattle.fb_model.specs.History.{basis, said}
 use Rattle.fb_model.specs.Facts.{holds_after, standing}

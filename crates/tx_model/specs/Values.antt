@@ -6,7 +6,7 @@ use Rattle.edn_model.specs.Form as edn
 use Rattle.edn_model.specs.Form.{Form}
 use Rattle.fb_values.specs.declared.facts.Value.{Value}
 use Rattle.fb_values.specs.declared.facts.Value.TheVariants.{Keyword, Str, Bool as Boolean, Long, Instant, Uuid, Symbol, Uri}
-use Rattle.fb_model.specs.Numbers.{type_uri}
+use Rattle.fb_numbers.specs.Numbers.{type_uri}
 use Rattle.fb_model.specs.Types.{is_of_type}
 
 -- the value that the form stands for under the type, of whatever length: a string is a string or a uri; an entity is no

@@ -5,7 +5,7 @@ use Rattle.std.specs.Option.{option_map_or}
 use Rattle.edn_model.specs.Form as edn
 use Rattle.edn_model.specs.Form.{Form, Forms, no_forms, form, Pairs, no_pairs, pair, items}
 use Rattle.fb_values.specs.declared.facts.Datom.{Datom}
-use Rattle.fb_model.specs.Numbers.{type_ref}
+use Rattle.fb_numbers.specs.Numbers.{type_ref}
 use Rattle.fb_model.specs.Schema.{attribute_named}
 use Rattle.tx_model.specs.Asks.{Name, number, ident, lookup, tempid, nameless, Part, plain, entity, Ask, adds, retracts, retracts_all, compares, retracts_entity, meets, mentions, lacks_id, lookup_in, name_in, Key, own, forward, backward, key_in}
 use Rattle.tx_model.specs.Shapes.{Verb, add, retract, cas, retract_entity, verb_in}

@@ -3,7 +3,7 @@ ghost use Rattle.std.specs.Prelude.{◌≡◌, ◌↔◌, ◌*◌, ◌^◌, ◌<
 ghost use Rattle.edn_model.specs.Form.{Form};
 ghost use Rattle.fb_values.specs.declared.facts.Datom.{Datom};
 ghost use Rattle.fb_values.specs.declared.facts.Entry.{Entry};
-ghost use Rattle.fb_model.specs.Numbers.{greatest_t, most_datoms};
+ghost use Rattle.fb_numbers.specs.Numbers.{greatest_t, most_datoms};
 ghost use Rattle.fb_model.specs.History.{basis, users_issued};
 ghost use Rattle.fb_model.specs.Lawful.{IsLawful, IsLawfulAfter};
 ghost use Rattle.tx_model.specs.Transaction.{changes_in};

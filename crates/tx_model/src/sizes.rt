@@ -3,7 +3,7 @@ ghost use Rattle.std.specs.Prelude.{◌≡◌, ◌+◌, ◌<◌, ◌≤◌, ℕ,
 ghost use Rattle.edn_model.specs.Form.{Form};
 ghost use Rattle.fb_values.specs.declared.facts.Entry.{Entry};
 ghost use Rattle.fb_model.specs.FirstEntry.{first_entry};
-ghost use Rattle.fb_model.specs.Numbers.{most_datoms};
+ghost use Rattle.fb_numbers.specs.Numbers.{most_datoms};
 ghost use Rattle.tx_model.specs.Size.{entry_size, most_bytes};
 ghost use Rattle.tx_model.specs.Transaction.{Transaction, transaction, recorded};
 ghost use Rattle.tx_model.specs.ChangeRules.{breaks_too_large};

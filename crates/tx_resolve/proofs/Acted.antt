@@ -5,7 +5,7 @@ use Rattle.edn_model.specs.Form as edn
 use Rattle.edn_form.specs.View.{form_of}
 use Rattle.fb_values.specs.declared.facts.Value.{Value}
 use Rattle.fb_values.specs.declared.facts.Value.TheVariants.{Ref}
-use Rattle.fb_model.specs.Numbers.{transaction_of}
+use Rattle.fb_numbers.specs.Numbers.{transaction_of}
 use Rattle.fb_model.specs.History.{basis}
 use Rattle.fb_model.specs.Schema.{attribute_named}
 use Rattle.fb_model.specs.Schema as schema

@@ -12,7 +12,7 @@ use Rattle.edn_form.specs.View.{form_of}
 use Rattle.fb_values.specs.declared.facts.Value.{Value}
 use Rattle.fb_values.specs.declared.facts.Value.TheVariants.{Ref}
 use Rattle.fb_model.specs.Facts.{holder}
-use Rattle.fb_model.specs.Numbers.{unique_identity}
+use Rattle.fb_numbers.specs.Numbers.{unique_identity}
 use Rattle.fb_model.specs.Schema.{attribute_named, attribute_of, named, is_identity}
 use Rattle.fb_model.specs.Schema as schema
 use Rattle.fb_schema.specs.declared.attribute.Attribute.{Attribute}

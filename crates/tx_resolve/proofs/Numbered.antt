@@ -5,7 +5,7 @@ use Rattle.std.specs.List.{list_any, cons_option}
 use Rattle.std.proofs.lemmas.Bool.{false≢true}
 use Rattle.std.proofs.lemmas.List.{map-append, append-nil}
 use Rattle.std.proofs.lemmas.List.Folds.{list_any-append}
-use Rattle.fb_model.specs.Numbers.{user_entity}
+use Rattle.fb_numbers.specs.Numbers.{user_entity}
 use Rattle.tx_model.specs.Asks.{Name, Ask, is_tempid, is_same_tempid}
 use Rattle.tx_model.specs.Tempids.{Db, is_among, met_after, holders, number_from, with_text, with_texts, by_text, named_tempids}
 use Rattle.tx_model.specs.Tempids as model

@@ -2,7 +2,7 @@
 use Rattle.std.proofs.Common.{◌≡◌, ℕ, Bool, true, false, cond, List, length, refl, sym, ap, ◌∙◌, subst}
 use Rattle.std.specs.Prelude.{Option, Some, None, option_map, option_and_then, bytes_eq, ⊤, ◌+◌}
 use Rattle.edn_form.specs.View.{form_of}
-use Rattle.fb_model.specs.Numbers.{transaction_of}
+use Rattle.fb_numbers.specs.Numbers.{transaction_of}
 use Rattle.fb_model.specs.History.{basis}
 use Rattle.fb_model.specs.Schema.{attribute_named}
 use Rattle.fb_schema.specs.declared.attribute.Attribute.{Attribute}

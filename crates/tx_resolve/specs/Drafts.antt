@@ -3,7 +3,7 @@
 use Rattle.std.specs.Prelude.{◌≡◌, ℕ, Bool, List, map, nat_eq, cond, Option, Some, None, is_none, option_map, option_and_then, Vec}
 use Rattle.std.specs.List.{list_any}
 use Rattle.std.specs.declared.alloc.Global.{Global}
-use Rattle.fb_model.specs.Numbers.{unique_identity}
+use Rattle.fb_numbers.specs.Numbers.{unique_identity}
 use Rattle.fb_model.specs.Facts.{holder}
 use Rattle.fb_schema.specs.declared.attribute.Attribute.{Attribute}
 use Rattle.tx_model.specs.Tempids.{Db}

@@ -4,7 +4,7 @@ use Rattle.std.specs.Prelude.{◌≡◌, ℕ, ◌+◌, List, [], ◌∷◌, filt
 use Rattle.std.specs.BTreeMap.{BTreeMap, get}
 use Rattle.fb_values.specs.declared.facts.Value.{Value}
 use Rattle.fb_values.specs.declared.facts.Value.TheVariants.{Ref}
-use Rattle.fb_model.specs.Numbers.{user_entity}
+use Rattle.fb_numbers.specs.Numbers.{user_entity}
 use Rattle.fb_schema.specs.Parts.{attribute_in}
 use Rattle.tx_model.specs.Tempids.{by_text}
 use Rattle.tx_asks.specs.Acts as acts

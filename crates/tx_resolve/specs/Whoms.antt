@@ -2,7 +2,7 @@
 -- Datomic, Transaction Data (entity identifiers, temporary ids).
 use Rattle.std.specs.Prelude.{◌+◌, bytes_eq, cond, Option, Some, option_map}
 use Rattle.edn_form.specs.View.{form_of}
-use Rattle.fb_model.specs.Numbers.{transaction_of}
+use Rattle.fb_numbers.specs.Numbers.{transaction_of}
 use Rattle.fb_model.specs.History.{basis}
 use Rattle.tx_model.specs.Asks as model
 use Rattle.tx_model.specs.Asks.{own_tempid}

@@ -3,7 +3,7 @@ ghost use Rattle.std.specs.Prelude.{◌≡◌, ◌+◌, IfOk};
 ghost use Rattle.std.specs.Option.{option_map};
 ghost use Rattle.edn_form.specs.View.{form_of};
 ghost use Rattle.fb_model.specs.History.{basis, is_issued as model_is_issued};
-ghost use Rattle.fb_model.specs.Numbers.{transaction_of};
+ghost use Rattle.fb_numbers.specs.Numbers.{transaction_of};
 ghost use Rattle.fb_model.specs.Lawful.{IsLawful};
 ghost use Rattle.fb_schema.specs.Described.{SchemaStands};
 ghost use Rattle.tx_model.specs.Asks as asks;

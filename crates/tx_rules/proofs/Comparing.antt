@@ -15,7 +15,7 @@ use Rattle.fb_values.specs.Orders.{key_cmp}
 use Rattle.fb_model.specs.Rising.{in_order, put_in_order}
 use Rattle.fb_model.specs.Facts.{is_of, value_eq, holds, Holds, facts, values_of, value_of}
 use Rattle.fb_model.specs.Schema.{Attribute, attribute_of, attribute_from, attribute_named, named, keyword_of, entity_of as entity_under, truth_of, is_one, is_about}
-use Rattle.fb_model.specs.Numbers.{ident, value_type, cardinality, unique, is_component, index}
+use Rattle.fb_numbers.specs.Numbers.{ident, value_type, cardinality, unique, is_component, index}
 use Rattle.fb_facts.specs.Told as told
 use Rattle.tx_model.specs.Asks.{Ask, adds, retracts, retracts_all, compares, retracts_entity, meets, mentions, lacks_id}
 use Rattle.tx_model.specs.Tempids.{entity_of}

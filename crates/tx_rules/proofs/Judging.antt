@@ -8,7 +8,7 @@ use Rattle.std.proofs.lemmas.Bool.Decides.{nat_tests}
 use Rattle.std.proofs.lemmas.List.Folds.{list_any-append}
 use Rattle.fb_values.specs.declared.facts.Datom.{Datom}
 use Rattle.fb_model.specs.Facts.{is_of, value_eq}
-use Rattle.fb_model.specs.Numbers.{ident, value_type, cardinality, unique, is_component, index, tx_instant, is_builtin}
+use Rattle.fb_numbers.specs.Numbers.{ident, value_type, cardinality, unique, is_component, index, tx_instant, is_builtin}
 use Rattle.fb_model.specs.Schema.{Attribute, attribute_of, is_attribute, is_one, is_whole}
 use Rattle.fb_model.specs.Laws.{is_forbidden, is_alteration, says_attribute}
 use Rattle.tx_model.specs.Transaction.{Transaction, joined}

@@ -4,7 +4,7 @@ use Rattle.fb_values.specs.declared.facts.Datom.{Datom}
 use Rattle.fb_values.specs.declared.facts.Entry.{Entry}
 use Rattle.fb_values.specs.declared.facts.Value.TheVariants.{Instant}
 use Rattle.fb_values.specs.declared.indexes.Order.TheVariants.{Eavt}
-use Rattle.fb_model.specs.Numbers.{transaction_of, tx_instant}
+use Rattle.fb_numbers.specs.Numbers.{transaction_of, tx_instant}
 use Rattle.fb_model.specs.Rising.{put_in_order}
 
 abbrev pub instant_of : ℕ → ℤ → Datom

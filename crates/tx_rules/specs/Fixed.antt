@@ -1,7 +1,7 @@
 -- Triples that change what stays as it is. Datomic, Schema (what may be altered).
 use Rattle.std.specs.Prelude.{ℕ, Bool, ◌&&◌, ◌||◌, List, nat_eq, nat_le, Option}
 use Rattle.fb_values.specs.declared.facts.Datom.{Datom}
-use Rattle.fb_model.specs.Numbers.{ident, value_type, is_component, index, tx_instant, is_builtin}
+use Rattle.fb_numbers.specs.Numbers.{ident, value_type, is_component, index, tx_instant, is_builtin}
 use Rattle.fb_model.specs.Schema.{is_attribute}
 use Rattle.tx_asks.specs.declared.triples.Triple.{Triple}
 use Rattle.tx_rules.specs.Places.{recorded_at, first_where}

@@ -1,7 +1,7 @@
 -- Attributes whose facts break what is promised anew. Datomic, Schema (altering :db/cardinality and :db/unique).
 use Rattle.std.specs.Prelude.{ℕ, Bool, not, ◌&&◌, ◌||◌, List, nat_eq, is_some, cond, Option, None}
 use Rattle.fb_values.specs.declared.facts.Datom.{Datom}
-use Rattle.fb_model.specs.Numbers.{cardinality, unique}
+use Rattle.fb_numbers.specs.Numbers.{cardinality, unique}
 use Rattle.fb_model.specs.Schema.{is_attribute}
 use Rattle.tx_model.specs.ChangeRules.{keeps_its_promise}
 use Rattle.tx_asks.specs.declared.triples.Triple.{Triple}

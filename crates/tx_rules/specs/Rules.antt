@@ -3,7 +3,7 @@
 use Rattle.std.specs.Prelude.{ℕ, ◌+◌, ◌^◌, Bool, not, ◌||◌, List, [], ◌∷◌, max, length, nat_lt, int_lt, Option, None}
 use Rattle.fb_values.specs.declared.facts.Datom.{Datom}
 use Rattle.fb_values.specs.declared.facts.Entry.{Entry}
-use Rattle.fb_model.specs.Numbers.{greatest_t, greatest_instant, most_datoms}
+use Rattle.fb_numbers.specs.Numbers.{greatest_t, greatest_instant, most_datoms}
 use Rattle.fb_model.specs.History.{basis, last_instant, users_issued, users_in}
 use Rattle.tx_refusals.specs.declared.reasons.Reason.{Reason}
 use Rattle.tx_refusals.specs.declared.reasons.Reason.TheVariants.{CasMany, CasFailed, DatomsConflict, UniqueConflict, IncompleteAttribute, AttributeFixed, TooLarge, Full, AlterationConflict}

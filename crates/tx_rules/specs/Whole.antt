@@ -2,7 +2,7 @@
 use Rattle.std.specs.Prelude.{ℕ, Bool, not, ◌&&◌, ◌||◌, List, nat_eq, nat_le, cond, Option, None}
 use Rattle.std.specs.List.{list_any}
 use Rattle.fb_values.specs.declared.facts.Datom.{Datom}
-use Rattle.fb_model.specs.Numbers.{ident, cardinality, unique, index}
+use Rattle.fb_numbers.specs.Numbers.{ident, cardinality, unique, index}
 use Rattle.fb_model.specs.Schema.{is_attribute, is_whole}
 use Rattle.fb_model.specs.Laws.{says_attribute}
 use Rattle.tx_asks.specs.declared.triples.Triple.{Triple}

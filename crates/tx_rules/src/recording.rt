@@ -4,7 +4,7 @@ ghost use Rattle.std.specs.Int.{int_max};
 ghost use Rattle.fb_values.specs.declared.facts.Entry.{Entry as ModelEntry};
 ghost use Rattle.fb_values.specs.declared.indexes.Order.TheVariants.{Eavt};
 ghost use Rattle.fb_values.specs.Rising.{rises};
-ghost use Rattle.fb_model.specs.Numbers.{greatest_instant};
+ghost use Rattle.fb_numbers.specs.Numbers.{greatest_instant};
 ghost use Rattle.fb_model.specs.History as history;
 ghost use Rattle.fb_model.specs.Rising.{put_in_order};
 ghost use Rattle.tx_model.specs.Tempids.{db_of};

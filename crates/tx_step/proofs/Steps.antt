@@ -11,7 +11,7 @@ use Rattle.fb_values.specs.declared.facts.Entry.{Entry}
 use Rattle.fb_model.specs.Facts.{facts}
 use Rattle.tx_refusals.specs.declared.reasons.Reason.{Reason}
 use Rattle.fb_values.specs.declared.facts.Datom.{Datom}
-use Rattle.fb_model.specs.Numbers.{greatest_instant}
+use Rattle.fb_numbers.specs.Numbers.{greatest_instant}
 use Rattle.fb_model.specs.History.{last_instant}
 use Rattle.fb_schema.specs.Described.{SchemaStands}
 use Rattle.tx_refusals.specs.declared.reasons.Reason.TheVariants.{NotAForm}

@@ -4,7 +4,7 @@ ghost use Rattle.std.specs.Result.{result_err};
 ghost use Rattle.edn_form.specs.View.{form_of, forms_of};
 ghost use Rattle.fb_values.specs.declared.indexes.Order.TheVariants.{Eavt};
 ghost use Rattle.fb_values.specs.Rising.{rises};
-ghost use Rattle.fb_model.specs.Numbers.{greatest_instant};
+ghost use Rattle.fb_numbers.specs.Numbers.{greatest_instant};
 ghost use Rattle.fb_model.specs.History as history;
 ghost use Rattle.fb_model.specs.Lawful.{IsLawful};
 ghost use Rattle.fb_schema.specs.Described.{SchemaStands};

@@ -6,7 +6,7 @@ use Rattle.fb_values.specs.declared.facts.Value.{Value}
 use Rattle.fb_values.specs.declared.facts.Value.TheVariants.{Keyword, Str, Ref, Long, Instant, Bool as Boolean}
 use Rattle.fb_values.specs.declared.indexes.Order.{Order}
 use Rattle.fb_values.specs.declared.indexes.Probe.{Probe}
-use Rattle.fb_model.specs.Numbers.{transaction_of, user_entity, ident, value_type, cardinality, unique, tx_instant, doc, type_long, type_string, cardinality_one, unique_identity}
+use Rattle.fb_numbers.specs.Numbers.{transaction_of, user_entity, ident, value_type, cardinality, unique, tx_instant, doc, type_long, type_string, cardinality_one, unique_identity}
 use Rattle.fb_model.specs.FirstEntry.{first_entry}
 
 abbrev pub datom : ℕ → ℕ → Value → ℕ → Bool → Datom

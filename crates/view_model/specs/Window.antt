@@ -3,7 +3,7 @@
 use Rattle.std.specs.Prelude.{ℕ, ◌+◌, ◌-◌, ℤ, Bool, true, false, ◌&&◌, List, [], ◌∷◌, filter, length, min, max, nat_lt, nat_le, int_le, cond, Option, Some, None}
 use Rattle.fb_values.specs.declared.facts.Datom.{Datom}
 use Rattle.fb_values.specs.declared.facts.Entry.{Entry}
-use Rattle.fb_model.specs.Numbers.{transaction_of, greatest_t}
+use Rattle.fb_numbers.specs.Numbers.{transaction_of, greatest_t}
 
 -- the transactions from t `from` on and before t `to`
 pub record Window : Type 0 where

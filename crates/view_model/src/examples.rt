@@ -2,7 +2,7 @@
 ghost use Rattle.std.specs.Prelude.{◌≡◌, [], ◌∷◌, pos, ◌-ℤ◌, true, false, codes, Some, None, nat_eq, not};
 ghost use Rattle.fb_values.specs.declared.facts.Value.TheVariants.{Str, Long};
 ghost use Rattle.fb_values.specs.declared.indexes.Order.TheVariants.{Eavt, Aevt, Avet, Vaet};
-ghost use Rattle.fb_model.specs.Numbers.{user_entity, doc};
+ghost use Rattle.fb_numbers.specs.Numbers.{user_entity, doc};
 ghost use Rattle.fb_model.specs.Lawful.{IsLawful};
 ghost use Rattle.view_model.specs.Window.{whole, as_of, since, with_history, end_of_number, end_of_instant};
 ghost use Rattle.view_model.specs.View.{view};

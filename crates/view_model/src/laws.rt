@@ -4,7 +4,7 @@ ghost use Rattle.fb_values.specs.declared.facts.Datom.{Datom};
 ghost use Rattle.fb_values.specs.declared.facts.Entry.{Entry};
 ghost use Rattle.fb_values.specs.declared.indexes.Order.{Order};
 ghost use Rattle.fb_values.specs.Rising.{rises};
-ghost use Rattle.fb_model.specs.Numbers.{greatest_t};
+ghost use Rattle.fb_numbers.specs.Numbers.{greatest_t};
 ghost use Rattle.fb_model.specs.History.{basis, said, upto};
 ghost use Rattle.fb_model.specs.Facts.{facts};
 ghost use Rattle.fb_model.specs.Lawful.{IsLawful};

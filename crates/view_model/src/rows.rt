@@ -2,7 +2,7 @@
 ghost use Rattle.std.specs.Prelude.{◌≡◌, [], ◌∷◌, pos, ◌-ℤ◌, true, codes, nat_eq, nat_lt, not};
 ghost use Rattle.fb_values.specs.declared.facts.Value.TheVariants.{Str, Instant};
 ghost use Rattle.fb_values.specs.declared.indexes.Order.TheVariants.{Eavt, Aevt};
-ghost use Rattle.fb_model.specs.Numbers.{transaction_of, user_entity, tx_instant, doc};
+ghost use Rattle.fb_numbers.specs.Numbers.{transaction_of, user_entity, tx_instant, doc};
 ghost use Rattle.fb_model.specs.Lawful.{IsLawful};
 ghost use Rattle.view_model.specs.Window.{whole, as_of, since, end_of_instant};
 ghost use Rattle.view_model.specs.Scan.{scan, transactions, leading};

@@ -5,7 +5,7 @@ use Rattle.edn_model.specs.Form.{Form}
 use Rattle.fb_values.specs.declared.facts.Entry.{Entry}
 use Rattle.std.specs.Int.{int_max}
 use Rattle.std.proofs.lemmas.Bool.{and_parts, leb-true, lt-ltb, le-ltb}
-use Rattle.fb_model.specs.Numbers.{least_instant, is_instant}
+use Rattle.fb_numbers.specs.Numbers.{least_instant, is_instant}
 use Rattle.fb_model.specs.History.{next_instant, last_instant, into_range}
 use Rattle.fb_model.specs.Lawful.{IsLawful, IsLawfulAfter}
 use Rattle.fb_model.proofs.LawfulHistories.{IsLawful-push, IsLawful-instant}

@@ -4,7 +4,7 @@ use Rattle.std.specs.Prelude.{ℕ, Bool, not, ◌&&◌, List, [], ◌∷◌, ◌
 use Rattle.edn_model.specs.Form.{Form}
 use Rattle.fb_values.specs.declared.facts.Datom.{Datom}
 use Rattle.fb_values.specs.declared.facts.Entry.{Entry}
-use Rattle.fb_model.specs.Numbers.{least_instant}
+use Rattle.fb_numbers.specs.Numbers.{least_instant}
 use Rattle.fb_model.specs.History.{basis}
 use Rattle.view_model.specs.Window.{Window, whole}
 use Rattle.tx_model.specs.Step.{Outcome, refused, accepted, Guard, step}

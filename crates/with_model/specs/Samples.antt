@@ -4,7 +4,7 @@ use Rattle.edn_model.specs.Form.{Form}
 use Rattle.fb_values.specs.declared.facts.Entry.{Entry}
 use Rattle.fb_values.specs.declared.facts.Value.{Value}
 use Rattle.fb_values.specs.declared.facts.Value.TheVariants.{Str}
-use Rattle.fb_model.specs.Numbers as numbers
+use Rattle.fb_numbers.specs.Numbers as numbers
 use Rattle.fb_model.specs.History.{basis}
 use Rattle.fb_model.specs.Facts.{facts, value_of}
 use Rattle.tx_model.specs.Samples.{string, number, vector, add, doc, after}

@@ -1,6 +1,6 @@
 //! Examples, by computation.
 ghost use Rattle.std.specs.Prelude.{◌≡◌, [], ◌∷◌, ◌++◌, codes, true, false};
-ghost use Rattle.fb_model.specs.Numbers.{user_entity, least_instant};
+ghost use Rattle.fb_numbers.specs.Numbers.{user_entity, least_instant};
 ghost use Rattle.fb_model.specs.FirstEntry.{first_entry};
 ghost use Rattle.view_model.specs.Window.{whole, as_of, since, with_history};
 ghost use Rattle.tx_model.specs.Step.{no_guard, step};

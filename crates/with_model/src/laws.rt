@@ -2,7 +2,7 @@
 ghost use Rattle.std.specs.Prelude.{◌≡◌, ℕ, ℤ, pos, ◌+ℤ◌, List, [], ◌∷◌, ◌++◌, length};
 ghost use Rattle.edn_model.specs.Form.{Form};
 ghost use Rattle.fb_values.specs.declared.facts.Entry.{Entry};
-ghost use Rattle.fb_model.specs.Numbers.{least_instant};
+ghost use Rattle.fb_numbers.specs.Numbers.{least_instant};
 ghost use Rattle.fb_model.specs.History.{last_instant, next_instant};
 ghost use Rattle.fb_model.specs.Lawful.{IsLawful};
 ghost use Rattle.tx_model.specs.Transaction.{transaction};

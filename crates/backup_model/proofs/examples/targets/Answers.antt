@@ -4,7 +4,7 @@ use Rattle.std.specs.Char.{encode_utf8}
 use Rattle.std.specs.Str.{is_utf8, chars}
 use Rattle.fb_values.specs.declared.facts.Entry.{Entry}
 use Rattle.fb_values.specs.declared.facts.Value.TheVariants.{Str}
-use Rattle.fb_model.specs.Numbers.{user_entity, doc}
+use Rattle.fb_numbers.specs.Numbers.{user_entity, doc}
 use Rattle.disk_model.specs.Journal.{log_mark, JournalStands}
 use Rattle.log_model.specs.Payload.{entry_bytes}
 use Rattle.log_model.specs.Log.{hold, entries_behind}

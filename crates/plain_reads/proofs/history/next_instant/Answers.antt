@@ -1,6 +1,6 @@
 use Rattle.std.proofs.Common.{ℤ, pos, ◌+ℤ◌, ◌<ℤ◌, w64, refl, arith, SFits}
 use Rattle.std.proofs.lemmas.Int.{to_z-of_z, ints}
-use Rattle.fb_model.specs.Numbers.{greatest_instant}
+use Rattle.fb_numbers.specs.Numbers.{greatest_instant}
 use Rattle.plain_reads.proofs.history.next_instant.Goals as goal
 
 later_fits : (last : ℤ) → last <ℤ greatest_instant → SFits w64 last → SFits w64 (last +ℤ pos 1)

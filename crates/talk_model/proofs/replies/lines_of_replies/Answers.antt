@@ -3,7 +3,7 @@ use Rattle.std.proofs.Common.{[], ◌∷◌, true, refl}
 use Rattle.std.specs.Prelude.{codes}
 use Rattle.std.specs.Fmt.{digits}
 use Rattle.fb_values.specs.declared.facts.Value.TheVariants.{Str}
-use Rattle.fb_model.specs.Numbers.{user_entity, doc}
+use Rattle.fb_numbers.specs.Numbers.{user_entity, doc}
 use Rattle.fb_model.specs.Facts.{facts}
 use Rattle.view_model.specs.Samples.{datom, texts}
 use Rattle.talk_model.specs.Replies.{receipt, basis_reply, done_reply, datoms_reply, transactions_reply, refusal_reply, fault_reply}

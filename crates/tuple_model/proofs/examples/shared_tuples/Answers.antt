@@ -1,6 +1,6 @@
 -- The second user entity with 1 and 2, and the first.
 use Rattle.std.proofs.Common.{[], ◌∷◌, codes, refl, arith}
-use Rattle.fb_model.specs.Numbers.{user_entity}
+use Rattle.fb_numbers.specs.Numbers.{user_entity}
 use Rattle.tuple_model.specs.Samples.{a, b, has}
 use Rattle.tuple_model.proofs.examples.shared_tuples.Goals as goal
 

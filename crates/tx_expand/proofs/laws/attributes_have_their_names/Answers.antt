@@ -1,7 +1,7 @@
 use Rattle.std.proofs.Common.{false, not, sym, ◌∙◌, subst, rules}
 use Rattle.std.specs.Prelude.{IsTrue}
 use Rattle.std.specs.Option.{option_map_or}
-use Rattle.fb_model.specs.Numbers.{ident}
+use Rattle.fb_numbers.specs.Numbers.{ident}
 use Rattle.fb_model.specs.Facts.{facts}
 use Rattle.fb_model.specs.Schema.{is_one}
 use Rattle.tx_expand.specs.Known.{HaveOwnNames}

@@ -3,7 +3,7 @@ use Rattle.std.proofs.Common.{◌≡◌, ◌+◌, ap, sym, ◌∙◌, subst}
 use Rattle.std.specs.Prelude.{◌<ℤ◌, IsTrue}
 use Rattle.fb_values.specs.declared.indexes.Order.TheVariants.{Eavt}
 use Rattle.fb_values.specs.Rising.{rises}
-use Rattle.fb_model.specs.Numbers.{greatest_instant}
+use Rattle.fb_numbers.specs.Numbers.{greatest_instant}
 use Rattle.fb_model.specs.History as history
 use Rattle.tx_asks.specs.Triples.{rise, AreTriples}
 use Rattle.tx_after.specs.After.{AreChanges}
