@@ -24,7 +24,7 @@ fn open(alloc: Global, sessions: u32) -> Result<(Board<Fixed, Sheet>, BoardSeat)
     Board::new(alloc, home, 0, Mails::of(sheets(alloc, sessions)?))
 }
 
-// A seat for each session.
+/// A seat for each session.
 fn seats(
     alloc: Global,
     board: &Board<Fixed, Sheet>,
@@ -101,7 +101,7 @@ pub fn turns<R: Threads + Wait + Sync>(
     Ok(())
 }
 
-// Whether the mail had a snapshot.
+/// Whether the mail had a snapshot.
 fn look(board: &Board<Fixed, Sheet>, seat: &mut BoardSeat) -> bool
     requires seat { board_of seat.old ≡ board.now.table.shared.table_id }
     requires idle { IsIdle (view_of seat.old) }

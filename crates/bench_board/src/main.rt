@@ -12,7 +12,7 @@ use std::sync::Wait;
 use std::thread::Threads;
 use std::{env, io};
 
-// As many threads as the board has sessions.
+/// As many threads as the board has sessions.
 const MOST_THREADS: u32 = 64;
 
 enum Task {
@@ -24,7 +24,7 @@ fn number(word: Option<String>) -> Option<u32> {
     word?.as_str().parse::<u32>().ok()
 }
 
-// What the words behind the program's name ask for.
+/// What the words behind the program's name ask for.
 fn task_of(rt: &HostRuntime) -> io::Result<Option<Task>> {
     let mut words = env::args(rt)?.skip(1);
     let Some(kind) = words.next() else {

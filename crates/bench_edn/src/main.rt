@@ -29,7 +29,7 @@ fn main(rt: HostRuntime) -> Result<()> {
     Ok(())
 }
 
-// What the word behind the program's name asks for.
+/// What the word behind the program's name asks for.
 fn task_of(rt: &HostRuntime) -> Result<Task> {
     match env::args(rt)?.nth(1) {
         Some(word) if word.as_str() == "read" => Ok(Task::Read),

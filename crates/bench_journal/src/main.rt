@@ -24,7 +24,7 @@ struct Words {
     count: u32,
 }
 
-// What the words behind the program's name ask for.
+/// What the words behind the program's name ask for.
 fn words_of(rt: &HostRuntime) -> io::Result<Option<Words>> {
     let mut words = env::args(rt)?.skip(1);
     let (Some(task), Some(dir), Some(count)) = (words.next(), words.next(), words.next()) else {

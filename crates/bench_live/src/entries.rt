@@ -11,7 +11,7 @@ use fb_values::{Datom, Datoms, Entry, Value};
 use live_index::Live;
 use std::alloc::Global;
 
-// The entities of the built-in schema that the entries name.
+/// The entities of the built-in schema that the entries name.
 const IDENT: u64 = 1;
 
 const VALUE_TYPE: u64 = 2;
@@ -28,7 +28,7 @@ const ONE: u64 = 20;
 
 const IDENTITY: u64 = 30;
 
-// The two attributes of the entries' facts, and one whose values are entities.
+/// The two attributes of the entries' facts, and one whose values are entities.
 const KEY: u64 = 65;
 
 const NUMBER: u64 = 66;
@@ -81,7 +81,7 @@ fn name(alloc: Global, n: u32) -> Result<Text, Memory> {
     Text::of(alloc, text.as_str())
 }
 
-// The n-th entry's datoms: a transaction's instant, and two facts of a new entity.
+/// The n-th entry's datoms: a transaction's instant, and two facts of a new entity.
 fn facts(alloc: Global, n: u32) -> Result<Vec<Datom>, Memory>
     ensures { IfOk result (λ v. AreSamples v.items) }
 {
@@ -94,7 +94,7 @@ fn facts(alloc: Global, n: u32) -> Result<Vec<Datom>, Memory>
     pushed(two, number)
 }
 
-// The n-th entry's datoms: a transaction's instant, and a new unique attribute.
+/// The n-th entry's datoms: a transaction's instant, and a new unique attribute.
 fn attribute(alloc: Global, n: u32) -> Result<Vec<Datom>, Memory>
     ensures { IfOk result (λ v. AreSamples v.items) }
 {

@@ -11,7 +11,7 @@ use std::alloc::Global;
 use std::env;
 use std::process::ExitCode;
 
-// How many entries a round adds.
+/// How many entries a round adds.
 const ENTRIES: u32 = 250;
 
 /// What the words behind the program's name ask for.

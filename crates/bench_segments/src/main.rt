@@ -44,12 +44,12 @@ struct Words {
 }
 
 impl Words {
-    // A number behind those of the trees' datoms.
+    /// A number behind those of the trees' datoms.
     fn end(&self) -> u32 {
         self.count.saturating_mul(STEP)
     }
 
-    // Numbers between those of the trees' datoms, from the first to the last.
+    /// Numbers between those of the trees' datoms, from the first to the last.
     fn among(&self) -> Numbers {
         numbers_of(1, self.end() / self.merged.max(1), self.merged)
     }
@@ -59,7 +59,7 @@ impl Words {
     }
 }
 
-// What the words behind the program's name ask for.
+/// What the words behind the program's name ask for.
 fn words_of(rt: &HostRuntime) -> Result<Words> {
     let mut words = env::args(rt)?.skip(1);
     let (Some(count), Some(merged), Some(sought)) = (
@@ -80,7 +80,7 @@ fn number(word: Option<String>) -> Option<u32> {
     word?.as_str().parse::<u32>().ok()
 }
 
-// Does a round for each line of standard input, and prints its answer.
+/// Does a round for each line of standard input, and prints its answer.
 fn answer_lines<R: Input + Print + Threads + Sync>(
     rt: &R,
     alloc: Global,

@@ -183,7 +183,7 @@ pub fn sought(roots: &Roots, end: u32, count: u32) -> u64
     sum
 }
 
-// One step of a linear congruence, whose upper half is of an even spread.
+/// One step of a linear congruence, whose upper half is of an even spread.
 fn next_number(at: u64) -> u64 {
     at.wrapping_mul(6_364_136_223_846_793_005)
         .wrapping_add(1_442_695_040_888_963_407)
@@ -193,7 +193,7 @@ fn below(at: u64, end: u32) -> u64 {
     (at >> 33) % (end as u64 + 1)
 }
 
-// The first entity that is not below this one, or 0.
+/// The first entity that is not below this one, or 0.
 fn entity_from(roots: &Roots, e: u64) -> u64
     requires { TreesRise roots.now }
 {

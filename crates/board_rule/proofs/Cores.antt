@@ -5,8 +5,8 @@ use mathlib.Core.Option as maybe
 use lib.ListN.{get_elem?}
 use Rattle.atomic_table.specs.Table.{State, Me, step, takes, gives, Allows}
 use Rattle.atomic_table.proofs.Lists.{set_else}
-use Rattle.board_rule.specs.declared.board.Place.{Place}
-use Rattle.board_rule.specs.declared.board.Place.TheVariants.{Core}
+use Rattle.board_rule.specs.declared.board.SlotValue.{SlotValue}
+use Rattle.board_rule.specs.declared.board.SlotValue.TheVariants.{Core}
 use Rattle.board_rule.specs.declared.view.Marks.{Marks}
 use Rattle.board_rule.specs.declared.view.At.{At}
 use Rattle.board_rule.specs.declared.view.At.TheVariants.{Home, Away, Hand}
@@ -22,10 +22,10 @@ use Rattle.std.proofs.Common.{IfSome}
 
 module _ {H S E : Type 0} (N : Naming H S E) (n start : ℕ) where
   abbrev St : Type 0
-  St = State (Place H S) (View E)
+  St = State (SlotValue H S) (View E)
 
   abbrev M : Type 0
-  M = Me (Place H S) (View E)
+  M = Me (SlotValue H S) (View E)
 
   abbrev Rule : St → Type 0
   Rule = Ruled N n start
@@ -34,14 +34,14 @@ module _ {H S E : Type 0} (N : Naming H S E) (n start : ℕ) where
   FitsIn v h = Fits (N.entries h) (N.authors h) (N.marks h) (N.sound h) v
 
   -- what lies in slot 0, where it is in its place
-  core_lies : (es : List E) (who : List ℕ) (mk : Marks) (c : At) (p : maybe.Option (maybe.Option (Place H S))) → core_rests c ≡ true → CoreIs N es who mk c p
+  core_lies : (es : List E) (who : List ℕ) (mk : Marks) (c : At) (p : maybe.Option (maybe.Option (SlotValue H S))) → core_rests c ≡ true → CoreIs N es who mk c p
       → (o : Option H) × (p ≡ some (some (Core o))) × CoreHas (λ h. (N.entries h ≡ es) × (N.authors h ≡ who) × (N.marks h ≡ mk) × N.sound h) c o
   core_lies es who mk Home p rests is = (Some is.0, is.1, (is.0, refl, (is.2, is.3, is.4, is.5)))
   core_lies es who mk Away p rests is = (None, is, refl)
   core_lies es who mk Hand p rests is = absurd (cc)
 
   -- slot 0 changes, and with it only where its value is
-  moves_core : (s : St) (r : Rule s) (id : ℕ) (v : View E) (has : HasTurn v) (to : At) (h : maybe.Option (Place H S)) → get_elem? s.views id ≡ some v → CoreIs N r.scene.entries r.scene.authors (marked r.scene.shown r.scene.next) to (some h)
+  moves_core : (s : St) (r : Rule s) (id : ℕ) (v : View E) (has : HasTurn v) (to : At) (h : maybe.Option (SlotValue H S)) → get_elem? s.views id ≡ some v → CoreIs N r.scene.entries r.scene.authors (marked r.scene.shown r.scene.next) to (some h)
       → Rule record { words = s.words; homes = set s.homes 0 h; views = set s.views id (record v { core = to }) }
   moves_core s r id v has to h at is =
       let x : Scene E = r.scene in let k = r.each id v at in let hold = holds N n start s r id v at has in let his = hold.2 in let w : View E = record v { core = to } in let x' : Scene E = record x { core = to } in
@@ -74,7 +74,7 @@ module _ {H S E : Type 0} (N : Naming H S E) (n start : ℕ) where
               grab = q.grab;
             });
         core = subst (CoreIs N x.entries x.authors (marked x.shown x.next) to) (sym (set_inside s.homes 0 h inside)) is;
-        mails = λ i l. subst (λ (p : maybe.Option (maybe.Option (Place H S))). MailOk N x.entries (get_or s.words (i + 3) 0) p (x.mail i)) (sym (set_else s.homes 0 (i + 1) h (λ e. omega arith))) (r.mails i l);
+        mails = λ i l. subst (λ (p : maybe.Option (maybe.Option (SlotValue H S))). MailOk N x.entries (get_or s.words (i + 3) 0) p (x.mail i)) (sym (set_else s.homes 0 (i + 1) h (λ e. omega arith))) (r.mails i l);
         owned = λ i l. owned_kept s.views id v w (x.owner i) i (x.mail i) at refl refl (r.owned i l);
         turns = let t = turns_kept x.given x.turn x.core x.shown x.next s.views id v w at (λ z. z) r.turns in record {
           idle = λ e. absurd (omega arith);
@@ -118,4 +118,4 @@ module _ {H S E : Type 0} (N : Naming H S E) (n start : ℕ) where
 
   pub puts_core_on : (slots id : ℕ) (m : M) (o : Option H) → m.1 ≡ (0, Core o) ∷ [] → HasTurn m.0 → IfSome o (FitsIn m.0) → Allows Rule slots id m 1 (λ z. z) (puts_core (step slots 1 0 0 none) m)
   puts_core_on slots id m o e has fits =
-      subst (λ (c : List (ℕ × Place H S)). Allows Rule slots id (m.0, c) 1 (λ z. z) (puts_core (step slots 1 0 0 none) (m.0, c))) (sym e) (puts_back slots id m.0 o has fits)
+      subst (λ (c : List (ℕ × SlotValue H S)). Allows Rule slots id (m.0, c) 1 (λ z. z) (puts_core (step slots 1 0 0 none) (m.0, c))) (sym e) (puts_back slots id m.0 o has fits)

@@ -6,7 +6,7 @@ use mathlib.Core.Option as maybe
 use native.Mathlib.Decide.{ℕ_discrete}
 use lib.ListN.{get_elem?}
 use Rattle.atomic_table.specs.Table.{State, Me, step, keeps, Allows}
-use Rattle.board_rule.specs.declared.board.Place.{Place}
+use Rattle.board_rule.specs.declared.board.SlotValue.{SlotValue}
 use Rattle.board_rule.specs.declared.view.Stop.{Stop}
 use Rattle.board_rule.specs.declared.view.Marks.{Marks}
 use Rattle.board_rule.specs.declared.view.At.{At}
@@ -23,10 +23,10 @@ use Rattle.board_rule.proofs.Turns.{mails_kept, loaded, holds, entries_are, auth
 
 module _ {H S E : Type 0} (N : Naming H S E) (n start : ℕ) where
   abbrev St : Type 0
-  St = State (Place H S) (View E)
+  St = State (SlotValue H S) (View E)
 
   abbrev M : Type 0
-  M = Me (Place H S) (View E)
+  M = Me (SlotValue H S) (View E)
 
   abbrev Rule : St → Type 0
   Rule = Ruled N n start
@@ -77,7 +77,7 @@ module _ {H S E : Type 0} (N : Naming H S E) (n start : ℕ) where
         refl,
       )
 
-  mail_grows : (es more : List E) (w : ℕ) (p : maybe.Option (maybe.Option (Place H S))) (g : Grab E) → MailOk N es w p g → MailOk N (es ++ more) w p g
+  mail_grows : (es more : List E) (w : ℕ) (p : maybe.Option (maybe.Option (SlotValue H S))) (g : Grab E) → MailOk N es w p g → MailOk N (es ++ more) w p g
   mail_grows es more w p Free h = (h.0, (h.1.0, starts_more es more h.1.0 h.1.1, h.1.2))
   mail_grows es more w p Grabbed h = (h.0, (h.1.0, starts_more es more h.1.0 h.1.1, h.1.2))
   mail_grows es more w p (Found l c) h = (h.0, starts_more es more l h.1, h.2)

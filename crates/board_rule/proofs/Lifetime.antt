@@ -6,8 +6,8 @@ use mathlib.Core.Option as maybe
 use native.Mathlib.Decide.{ℕ_discrete}
 use lib.ListN.{get_elem?}
 use Rattle.atomic_table.specs.Table.{State}
-use Rattle.board_rule.specs.declared.board.Place.{Place}
-use Rattle.board_rule.specs.declared.board.Place.TheVariants.{Core}
+use Rattle.board_rule.specs.declared.board.SlotValue.{SlotValue}
+use Rattle.board_rule.specs.declared.board.SlotValue.TheVariants.{Core}
 use Rattle.board_rule.specs.declared.view.Marks.{Marks}
 use Rattle.board_rule.specs.declared.view.At.{At}
 use Rattle.board_rule.specs.declared.view.At.TheVariants.{Home}
@@ -36,7 +36,7 @@ of_all P l all k a e = let t = at_or l k a e in subst P t.1 (all k a t.0)
 
 module _ {H S E : Type 0} (N : Naming H S E) (n start : ℕ) where
   abbrev St : Type 0
-  St = State (Place H S) (View E)
+  St = State (SlotValue H S) (View E)
 
   abbrev Rule : St → Type 0
   Rule = Ruled N n start
@@ -55,14 +55,14 @@ module _ {H S E : Type 0} (N : Naming H S E) (n start : ℕ) where
   there (x ∷ xs) zero h = (x, refl)
   there (x ∷ xs) (suc i) h = there xs i (omega arith)
 
-  pub starts_on : (h : H) (ms : List S) (ws : List ℕ) (xs : List (Place H S)) → ws ≡ set (replicate (n + 3) 0) 2 start → xs ≡ Core (Some h) ∷ map (mailed_as {H = H}) ms → length ms ≡ n
+  pub starts_on : (h : H) (ms : List S) (ws : List ℕ) (xs : List (SlotValue H S)) → ws ≡ set (replicate (n + 3) 0) 2 start → xs ≡ Core (Some h) ∷ map (mailed_as {H = H}) ms → length ms ≡ n
       → ((k : ℕ) (s : S) → get_elem? ms k ≡ some s → N.mailed s ≡ N.entries h) → start + 1 ≡ length (N.entries h) → length (N.entries h) ≤ 4294967296 → N.lawful (N.entries h) → N.authors h ≡ [] → (N.marks h).stop ≡ None → N.sound h
       → Rule (opening ws xs (starting start (N.entries h) (N.marks h).covered))
   starts_on h ms ws xs words slots many same basis narrow lawful who clear sound =
       let es : List E = N.entries h in let v : View E = starting start es (N.marks h).covered in let zeros : List ℕ = replicate (n + 3) 0 in let long : length zeros ≡ n + 3 = length-replicate (n + 3) 0 in
       let x : Scene E = record { drawn = 0; served = 0; given = 0; entries = es; authors = []; turn = 0; core = Home; shown = N.marks h; next = None; mail = λ _. Free; owner = λ _. 0 } in
       let word : (i : ℕ) → i ≢ 2 → get_or ws i 0 ≡ 0 = λ i ne. ap (λ (z : List ℕ). get_or z i 0) words ∙ (get_or-set_other zeros 2 i start 0 ne ∙ zero_at (n + 3) i) in
-      let hs : List (maybe.Option (Place H S)) = map some xs in
+      let hs : List (maybe.Option (SlotValue H S)) = map some xs in
       record {
         scene = x;
         words = record {
@@ -72,7 +72,7 @@ module _ {H S E : Type 0} (N : Naming H S E) (n start : ℕ) where
           basis_is = ap (λ (z : List ℕ). get_or z 2 0 + 1) words ∙ (ap (λ (z : ℕ). z + 1) (get_or-set_same zeros 2 start 0 (omega arith)) ∙ basis);
           behind = omega arith;
         };
-        deep = length-map xs some ∙ (ap (length {A = Place H S}) slots ∙ omega (arith, length-map ms (mailed_as {H = H})));
+        deep = length-map xs some ∙ (ap (length {A = SlotValue H S}) slots ∙ omega (arith, length-map ms (mailed_as {H = H})));
         counts = record {
           room = omega arith;
           made = omega arith;
@@ -97,7 +97,7 @@ module _ {H S E : Type 0} (N : Naming H S E) (n start : ℕ) where
           told = ((λ p z. absurd (none_not p z)), (λ _ p z _. absurd (none_not p (sym clear ∙ z))), λ _ _. refl);
           grab = tt;
         };
-        core = (h, ap (λ (z : List (Place H S)). get_elem? (map some z) 0) slots, refl, who, refl, sound);
+        core = (h, ap (λ (z : List (SlotValue H S)). get_elem? (map some z) 0) slots, refl, who, refl, sound);
         mails = λ k l. let t = there ms k (omega arith) in (
           word (k + 3) (λ e. omega arith),
           (
@@ -105,7 +105,7 @@ module _ {H S E : Type 0} (N : Naming H S E) (n start : ℕ) where
             starts_whole es,
             (
               t.0,
-              at_map some xs (k + 1) (mailed_as {H = H} t.0) (ap (λ (z : List (Place H S)). get_elem? z (k + 1)) slots ∙ next_at (Core (Some h)) (map (mailed_as {H = H}) ms) k ∙ at_map (mailed_as {H = H}) ms k t.0 t.1),
+              at_map some xs (k + 1) (mailed_as {H = H} t.0) (ap (λ (z : List (SlotValue H S)). get_elem? z (k + 1)) slots ∙ next_at (Core (Some h)) (map (mailed_as {H = H}) ms) k ∙ at_map (mailed_as {H = H}) ms k t.0 t.1),
               same k t.0 t.1,
             ),
           ),
@@ -129,7 +129,7 @@ module _ {H S E : Type 0} (N : Naming H S E) (n start : ℕ) where
   whole_at es es' who who' mk mk' v a b c w = subst (λ (q : List E). IsWhole q who mk v) (sym a) (subst (λ (q : List ℕ). IsWhole es' q mk v) (sym b) (subst (λ (q : Marks). IsWhole es' who' q v) (sym c) w))
 
   -- every seat was joined to this one: nobody has the turn, and slot 0 has its value
-  pub ends_on : (id : ℕ) (v : View E) (ws : List ℕ) (xs : List (Place H S)) → v.number ≡ worker → v.seats ≡ v.given + 1 → v.ticket ≡ None → Final (Seen Rule id v) ws xs
+  pub ends_on : (id : ℕ) (v : View E) (ws : List ℕ) (xs : List (SlotValue H S)) → v.number ≡ worker → v.seats ≡ v.given + 1 → v.ticket ≡ None → Final (Seen Rule id v) ws xs
       → (h : H) × (get_elem? xs 0 ≡ some (Core (Some h))) × N.lawful (N.entries h) × N.sound h × IsWhole (N.entries h) (N.authors h) (N.marks h) v
   ends_on id v ws xs first all no_ticket f =
       let s : St = f.0 in let r = f.1.0 in let at = f.1.1 in let x : Scene E = r.scene in let k = r.each id v at in let live : 0 < v.seats = omega arith in

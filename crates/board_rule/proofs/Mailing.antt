@@ -6,7 +6,7 @@ use mathlib.Core.Option as maybe
 use native.Mathlib.Decide.{ℕ_discrete}
 use lib.ListN.{get_elem?}
 use Rattle.atomic_table.specs.Table.{State, Me, Act, Valid, carried_after, stepped}
-use Rattle.board_rule.specs.declared.board.Place.{Place}
+use Rattle.board_rule.specs.declared.board.SlotValue.{SlotValue}
 use Rattle.board_rule.specs.declared.view.Grab.{Grab}
 use Rattle.board_rule.specs.declared.view.Grab.TheVariants.{Free, Grabbed, Found, Writing}
 use Rattle.board_rule.specs.declared.view.View.{View}
@@ -33,22 +33,22 @@ module _ {E : Type 0} (n : ℕ) (mail : ℕ → Grab E) (owner : ℕ → ℕ) (k
 
 module _ {H S E : Type 0} (N : Naming H S E) (n start : ℕ) where
   abbrev St : Type 0
-  St = State (Place H S) (View E)
+  St = State (SlotValue H S) (View E)
 
   abbrev M : Type 0
-  M = Me (Place H S) (View E)
+  M = Me (SlotValue H S) (View E)
 
   abbrev Rule : St → Type 0
   Rule = Ruled N n start
 
   abbrev Slot : Type 0
-  Slot = maybe.Option (maybe.Option (Place H S))
+  Slot = maybe.Option (maybe.Option (SlotValue H S))
 
   abbrev changed : Scene E → ℕ → ℕ → Grab E → Scene E
   changed x k id g = record x { mail = put x.mail k g; owner = put x.owner k id }
 
   -- one session's mail changes, by the seat that holds its word or comes to hold it
-  pub mail_step : (s : St) (r : Rule s) (id : ℕ) (v w : View E) (k y : ℕ) (g : Grab E) (hs : List (maybe.Option (Place H S))) → get_elem? s.views id ≡ some v → k < n → (r.scene.mail k ≡ Free) ⊎ (r.scene.owner k ≡ id)
+  pub mail_step : (s : St) (r : Rule s) (id : ℕ) (v w : View E) (k y : ℕ) (g : Grab E) (hs : List (maybe.Option (SlotValue H S))) → get_elem? s.views id ≡ some v → k < n → (r.scene.mail k ≡ Free) ⊎ (r.scene.owner k ≡ id)
       → (v.grab ≡ Free) ⊎ (session_of v.number v.grab ≡ k) → Alike v w → (HasTurn v → HasTurn w) → Knows n start (changed r.scene k id g) id w → (g ≢ Free → (w.grab ≡ g) × (session_of w.number g ≡ k))
       → MailOk N r.scene.entries y (get_elem? hs (k + 1)) g → length hs ≡ length s.homes → get_elem? hs 0 ≡ get_elem? s.homes 0 → ((i : ℕ) → i ≢ k → get_elem? hs (i + 1) ≡ get_elem? s.homes (i + 1))
       → Rule record { words = set s.words (k + 3) y; homes = hs; views = set s.views id w }
@@ -114,4 +114,4 @@ module _ {H S E : Type 0} (N : Naming H S E) (n start : ℕ) where
   owner_claims s r k l held = let t = r.owned k l held in subst (Claims n r.scene.mail r.scene.owner r.scene.turn (r.scene.owner k) t.0.seats t.0.number) t.2 (r.each (r.scene.owner k) t.0 t.1).grab
 
   abbrev pub Goes : St → ℕ → M → ℕ → (M → Type 0) → ℕ → Type 0
-  Goes s id m i then y = (w : View E) × (a : Act (Place H S)) × Valid s.homes m.1 a × Rule (stepped s i y id m.1 w a) × then (w, carried_after m.1 a)
+  Goes s id m i then y = (w : View E) × (a : Act (SlotValue H S)) × Valid s.homes m.1 a × Rule (stepped s i y id m.1 w a) × then (w, carried_after m.1 a)

@@ -5,8 +5,8 @@ use mathlib.Core.Option as maybe
 use lib.ListN.{get_elem?}
 use Rattle.atomic_table.specs.Table.{State, Me, step, takes, gives, Allows}
 use Rattle.atomic_table.proofs.Lists.{set_else}
-use Rattle.board_rule.specs.declared.board.Place.{Place}
-use Rattle.board_rule.specs.declared.board.Place.TheVariants.{Mail}
+use Rattle.board_rule.specs.declared.board.SlotValue.{SlotValue}
+use Rattle.board_rule.specs.declared.board.SlotValue.TheVariants.{Mail}
 use Rattle.board_rule.specs.declared.view.Content.{Content}
 use Rattle.board_rule.specs.declared.view.Content.TheVariants.{InHand, Empty, Full}
 use Rattle.board_rule.specs.declared.view.Grab.{Grab}
@@ -21,16 +21,16 @@ use Rattle.board_rule.proofs.Mailing.{mail_step}
 
 module _ {H S E : Type 0} (N : Naming H S E) (n start : ℕ) where
   abbrev St : Type 0
-  St = State (Place H S) (View E)
+  St = State (SlotValue H S) (View E)
 
   abbrev M : Type 0
-  M = Me (Place H S) (View E)
+  M = Me (SlotValue H S) (View E)
 
   abbrev Rule : St → Type 0
   Rule = Ruled N n start
 
   abbrev Slot : Type 0
-  Slot = maybe.Option (maybe.Option (Place H S))
+  Slot = maybe.Option (maybe.Option (SlotValue H S))
 
   -- where a seat may move a session's snapshot, it holds its word
   moves_own : (mail : ℕ → Grab E) (owner : ℕ → ℕ) (turn j seats number k : ℕ) (g : Grab E) → MayMove number k g → Claims n mail owner turn j seats number g → (k < n) × (0 < seats) × (mail k ≡ g) × (owner k ≡ j) × (session_of number g ≡ k)
@@ -73,7 +73,7 @@ module _ {H S E : Type 0} (N : Naming H S E) (n start : ℕ) where
   content_is es y p number k (Found l c) may ok = ok.2
   content_is es y p number k (Writing i c) may ok = ok.1
 
-  moves_mail : (s : St) (r : Rule s) (id k : ℕ) (v : View E) (d : Content E) (h : maybe.Option (Place H S)) → get_elem? s.views id ≡ some v → MayMove v.number k v.grab → MailIs N d (some h)
+  moves_mail : (s : St) (r : Rule s) (id k : ℕ) (v : View E) (d : Content E) (h : maybe.Option (SlotValue H S)) → get_elem? s.views id ≡ some v → MayMove v.number k v.grab → MailIs N d (some h)
       → Rule record { words = set s.words (k + 3) (get_or s.words (k + 3) 0); homes = set s.homes (k + 1) h; views = set s.views id (record v { grab = refilled v.grab d }) }
   moves_mail s r id k v d h at may is =
       let x : Scene E = r.scene in let q = r.each id v at in let own = moves_own x.mail x.owner x.turn id v.seats v.number k v.grab may q.grab in let y : ℕ = get_or s.words (k + 3) 0 in let p = get_elem? s.homes (k + 1) in
@@ -111,4 +111,4 @@ module _ {H S E : Type 0} (N : Naming H S E) (n start : ℕ) where
 
   pub puts_mail_on : (slots id k : ℕ) (m : M) (o : Option S) → m.1 ≡ (k + 1, Mail o) ∷ [] → MayMove m.0.number k m.0.grab → Allows Rule slots id m (k + 3) (λ z. z) (puts_mail N.mailed (step slots (k + 3) 0 0 none) m)
   puts_mail_on slots id k m o e may =
-      subst (λ (c : List (ℕ × Place H S)). Allows Rule slots id (m.0, c) (k + 3) (λ z. z) (puts_mail N.mailed (step slots (k + 3) 0 0 none) (m.0, c))) (sym e) (puts_mail_back slots id k m.0 o may)
+      subst (λ (c : List (ℕ × SlotValue H S)). Allows Rule slots id (m.0, c) (k + 3) (λ z. z) (puts_mail N.mailed (step slots (k + 3) 0 0 none) (m.0, c))) (sym e) (puts_mail_back slots id k m.0 o may)

@@ -4,7 +4,7 @@ use mathlib.Core.Option.{some, none, some-injective, some-ne-none}
 use mathlib.Core.Option as maybe
 use lib.ListN.{get_elem?}
 use Rattle.atomic_table.specs.Table.{State, Me, step, keeps, Allows}
-use Rattle.board_rule.specs.declared.board.Place.{Place}
+use Rattle.board_rule.specs.declared.board.SlotValue.{SlotValue}
 use Rattle.board_rule.specs.declared.view.Content.TheVariants.{Full}
 use Rattle.board_rule.specs.declared.view.Grab.{Grab}
 use Rattle.board_rule.specs.declared.view.Grab.TheVariants.{Free, Grabbed, Found, Writing}
@@ -21,16 +21,16 @@ use Rattle.board_rule.proofs.Mailing.{holds_now, mail_step, mail_held, mail_stan
 
 module _ {H S E : Type 0} (N : Naming H S E) (n start : ℕ) where
   abbrev St : Type 0
-  St = State (Place H S) (View E)
+  St = State (SlotValue H S) (View E)
 
   abbrev M : Type 0
-  M = Me (Place H S) (View E)
+  M = Me (SlotValue H S) (View E)
 
   abbrev Rule : St → Type 0
   Rule = Ruled N n start
 
   abbrev Slot : Type 0
-  Slot = maybe.Option (maybe.Option (Place H S))
+  Slot = maybe.Option (maybe.Option (SlotValue H S))
 
   -- the holder of the turn finds a session's word at 0 or 1
   holder_meets : (s : St) (r : Rule s) (id k : ℕ) (v : View E) → get_elem? s.views id ≡ some v → k < n → HasTurn v → v.grab ≡ Free → get_or s.words (k + 3) 0 ≢ 0 → get_or s.words (k + 3) 0 ≡ 1

@@ -7,7 +7,7 @@ use native.Mathlib.Decide.{ℕ_discrete}
 use lib.ListN.{get_elem?}
 use lib.Seq.{set-get_or}
 use Rattle.atomic_table.specs.Table.{State, Me, step, keeps, Allows}
-use Rattle.board_rule.specs.declared.board.Place.{Place}
+use Rattle.board_rule.specs.declared.board.SlotValue.{SlotValue}
 use Rattle.board_rule.specs.declared.view.Content.{Content}
 use Rattle.board_rule.specs.declared.view.Content.TheVariants.{Full}
 use Rattle.board_rule.specs.declared.view.Grab.{Grab}
@@ -26,16 +26,16 @@ use Rattle.board_rule.proofs.Mailing.{holds_now, mail_step, mail_held, mail_stan
 
 module _ {H S E : Type 0} (N : Naming H S E) (n start : ℕ) where
   abbrev St : Type 0
-  St = State (Place H S) (View E)
+  St = State (SlotValue H S) (View E)
 
   abbrev M : Type 0
-  M = Me (Place H S) (View E)
+  M = Me (SlotValue H S) (View E)
 
   abbrev Rule : St → Type 0
   Rule = Ruled N n start
 
   abbrev Slot : Type 0
-  Slot = maybe.Option (maybe.Option (Place H S))
+  Slot = maybe.Option (maybe.Option (SlotValue H S))
 
   -- the reader finds its own word at 0 or 2
   reader_meets : (s : St) (r : Rule s) (id : ℕ) (v : View E) → get_elem? s.views id ≡ some v → v.number < n → 0 < v.seats → v.grab ≡ Free → get_or s.words (v.number + 3) 0 ≢ 0 → get_or s.words (v.number + 3) 0 ≡ 2

@@ -6,7 +6,7 @@ use native.Mathlib.Decide.{ℕ_discrete}
 use lib.ListN.{get_elem?}
 use Rattle.atomic_table.specs.Table.{State}
 use Rattle.atomic_table.proofs.Lists.{set_else}
-use Rattle.board_rule.specs.declared.board.Place.{Place}
+use Rattle.board_rule.specs.declared.board.SlotValue.{SlotValue}
 use Rattle.board_rule.specs.declared.view.Grab.{Grab}
 use Rattle.board_rule.specs.declared.view.Grab.TheVariants.{Free}
 use Rattle.board_rule.specs.declared.view.View.{View}
@@ -23,7 +23,7 @@ use Rattle.board_rule.proofs.Keeps.{at_longer, at_append, longer_begins, longer_
 
 module _ {H S E : Type 0} (N : Naming H S E) (n start : ℕ) where
   abbrev St : Type 0
-  St = State (Place H S) (View E)
+  St = State (SlotValue H S) (View E)
 
   abbrev Rule : St → Type 0
   Rule = Ruled N n start

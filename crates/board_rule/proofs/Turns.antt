@@ -7,7 +7,7 @@ use native.Mathlib.Decide.{ℕ_discrete}
 use lib.ListN.{get_elem?}
 use lib.Seq.{set-get_or}
 use Rattle.atomic_table.specs.Table.{State, Me, step, Act, keeps, Valid, carried_after, stepped, Allows}
-use Rattle.board_rule.specs.declared.board.Place.{Place}
+use Rattle.board_rule.specs.declared.board.SlotValue.{SlotValue}
 use Rattle.board_rule.specs.declared.view.Marks.{Marks}
 use Rattle.board_rule.specs.declared.view.Story.{Story}
 use Rattle.board_rule.specs.declared.view.View.{View}
@@ -19,10 +19,10 @@ use Rattle.board_rule.proofs.Keeps.{set_at, same_at, starts_whole, starts_shorte
 
 module _ {H S E : Type 0} (N : Naming H S E) (n start : ℕ) where
   abbrev St : Type 0
-  St = State (Place H S) (View E)
+  St = State (SlotValue H S) (View E)
 
   abbrev M : Type 0
-  M = Me (Place H S) (View E)
+  M = Me (SlotValue H S) (View E)
 
   abbrev Rule : St → Type 0
   Rule = Ruled N n start
@@ -32,7 +32,7 @@ module _ {H S E : Type 0} (N : Naming H S E) (n start : ℕ) where
   mails_kept s r i y small k l = subst (λ z. MailOk N r.scene.entries z (get_elem? s.homes (k + 1)) (r.scene.mail k)) (sym (get_or-set_other s.words i (k + 3) y 0 (λ e. omega arith))) (r.mails k l)
 
   -- a load of a word leaves it
-  pub loaded : (s : St) (i : ℕ) (hs : List (maybe.Option (Place H S))) (vs : List (View E)) → Rule record { words = s.words; homes = hs; views = vs } → Rule record { words = set s.words i (get_or s.words i 0); homes = hs; views = vs }
+  pub loaded : (s : St) (i : ℕ) (hs : List (maybe.Option (SlotValue H S))) (vs : List (View E)) → Rule record { words = s.words; homes = hs; views = vs } → Rule record { words = set s.words i (get_or s.words i 0); homes = hs; views = vs }
   loaded s i hs vs r = subst (λ (ws : List ℕ). Rule record { words = ws; homes = hs; views = vs }) (sym (set-get_or s.words i 0)) r
 
   -- a seat comes to know other things, and nothing else changes
@@ -175,8 +175,8 @@ module _ {H S E : Type 0} (N : Naming H S E) (n start : ℕ) where
       go (yes e) = yes (ap Some e)
       go (no ne) = no (λ e. ne (same_some a t e))
 
-  abbrev Looked : St → ℕ → View E → List (ℕ × Place H S) → Option (Story E) → Type 0
-  Looked s id v carried o = (w : View E) × (a : Act (Place H S)) × Valid s.homes carried a × Rule (stepped s 1 (get_or s.words 1 0) id carried w a) × (Looks N.lawful o v (get_or s.words 1 0) w × (carried_after carried a ≡ carried))
+  abbrev Looked : St → ℕ → View E → List (ℕ × SlotValue H S) → Option (Story E) → Type 0
+  Looked s id v carried o = (w : View E) × (a : Act (SlotValue H S)) × Valid s.homes carried a × Rule (stepped s 1 (get_or s.words 1 0) id carried w a) × (Looks N.lawful o v (get_or s.words 1 0) w × (carried_after carried a ≡ carried))
 
   -- nobody has the turn while the ticket served is of a seat that has not looked
   turn_free : (s : St) (r : Rule s) (id : ℕ) (v : View E) → get_elem? s.views id ≡ some v → v.turn ≡ None → v.ticket ≡ Some r.scene.served → r.scene.turn ≡ 0
@@ -186,7 +186,7 @@ module _ {H S E : Type 0} (N : Naming H S E) (n start : ℕ) where
       (λ e. absurd (none_not b.2.0 (sym none_yet ∙ (ap (λ (z : View E). z.turn) (same_at s.views id i v b.0 (sym e) at b.1) ∙ b.2.1))))
       (λ other. absurd (r.counts.tickets id i r.scene.served v b.0 (λ e. other (sym e)) at b.1 mine ((r.each i b.0 b.1).turn.0 b.2.0 b.2.1).0)))
 
-  takes_turn : (s : St) (r : Rule s) (id : ℕ) (v : View E) (carried : List (ℕ × Place H S)) → get_elem? s.views id ≡ some v → 0 < v.seats → v.turn ≡ None → v.ticket ≡ Some (get_or s.words 1 0) → Looked s id v carried None
+  takes_turn : (s : St) (r : Rule s) (id : ℕ) (v : View E) (carried : List (ℕ × SlotValue H S)) → get_elem? s.views id ≡ some v → 0 < v.seats → v.turn ≡ None → v.ticket ≡ Some (get_or s.words 1 0) → Looked s id v carried None
   takes_turn s r id v carried at live none_yet mine =
       let x : Scene E = r.scene in let k = r.each id v at in let is = r.words.served_is in let served : v.ticket ≡ Some x.served = mine ∙ ap Some is in
       let free : x.turn ≡ 0 = turn_free s r id v at none_yet served in let idle = r.turns.idle free in
@@ -252,7 +252,7 @@ module _ {H S E : Type 0} (N : Naming H S E) (n start : ℕ) where
         ),
       )
 
-  looks_at : (s : St) (r : Rule s) (id : ℕ) (v : View E) (carried : List (ℕ × Place H S)) → get_elem? s.views id ≡ some v → 0 < v.seats → (o : Option (Story E)) → v.turn ≡ o → Looked s id v carried o
+  looks_at : (s : St) (r : Rule s) (id : ℕ) (v : View E) (carried : List (ℕ × SlotValue H S)) → get_elem? s.views id ≡ some v → 0 < v.seats → (o : Option (Story E)) → v.turn ≡ o → Looked s id v carried o
   looks_at s r id v carried at live (Some h) is = let t = (r.each id v at).turn.0 h is in (v, keeps, tt, unmoved s r id 1 v at, ((refl, t.0 ∙ ap Some (sym r.words.served_is)), refl))
   looks_at s r id v carried at live None is = go (has_ticket v.ticket (get_or s.words 1 0))
     where

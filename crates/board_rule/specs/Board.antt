@@ -8,8 +8,8 @@ use mathlib.Core.Option as maybe
 use lib.ListN.{get_elem?}
 use base.Stored.{Gv}
 use Rattle.atomic_table.specs.Table.{State}
-use Rattle.board_rule.specs.declared.board.Place.{Place}
-use Rattle.board_rule.specs.declared.board.Place.TheVariants.{Core, Mail}
+use Rattle.board_rule.specs.declared.board.SlotValue.{SlotValue}
+use Rattle.board_rule.specs.declared.board.SlotValue.TheVariants.{Core, Mail}
 use Rattle.board_rule.specs.declared.view.Stop.{Stop}
 use Rattle.board_rule.specs.declared.view.Marks.{Marks}
 use Rattle.board_rule.specs.declared.view.Story.{Story}
@@ -169,33 +169,33 @@ module _ {E : Type 0} where
   Owned vs owner s g = g ≢ Free → (u : View E) × (get_elem? vs owner ≡ some u) × (u.grab ≡ g) × (session_of u.number g ≡ s)
 
 -- a mail slot with this snapshot
-abbrev pub mailed_as : {H S : Type 0} → S → Place H S
+abbrev pub mailed_as : {H S : Type 0} → S → SlotValue H S
 mailed_as s = Mail (Some s)
 
 module _ {H S E : Type 0} (N : Naming H S E) where
   -- the value of slot 0, where it is at home, stands for the history, has these marks and is sound
-  abbrev pub CoreIs : List E → List ℕ → Marks → At → maybe.Option (maybe.Option (Place H S)) → Type 0
+  abbrev pub CoreIs : List E → List ℕ → Marks → At → maybe.Option (maybe.Option (SlotValue H S)) → Type 0
   CoreIs es who m Home p = (h : H) × (p ≡ some (some (Core (Some h)))) × (N.entries h ≡ es) × (N.authors h ≡ who) × (N.marks h ≡ m) × N.sound h
   CoreIs es who m Away p = p ≡ some (some (Core None))
   CoreIs es who m Hand p = p ≡ some none
 
-  abbrev pub MailIs : Content E → maybe.Option (maybe.Option (Place H S)) → Type 0
+  abbrev pub MailIs : Content E → maybe.Option (maybe.Option (SlotValue H S)) → Type 0
   MailIs InHand p = p ≡ some none
   MailIs Empty p = p ≡ some (some (Mail None))
   MailIs (Full l) p = (s : S) × (p ≡ some (some (Mail (Some s)))) × (N.mailed s ≡ l)
 
   -- a snapshot of a beginning of the history lies in the slot
-  abbrev pub MailStands : List E → maybe.Option (maybe.Option (Place H S)) → Type 0
+  abbrev pub MailStands : List E → maybe.Option (maybe.Option (SlotValue H S)) → Type 0
   MailStands es p = (l : List E) × StartsWith es l × MailIs (Full l) p
 
-  abbrev pub MailOk : List E → ℕ → maybe.Option (maybe.Option (Place H S)) → Grab E → Type 0
+  abbrev pub MailOk : List E → ℕ → maybe.Option (maybe.Option (SlotValue H S)) → Grab E → Type 0
   MailOk es w p Free = (w ≡ 0) × MailStands es p
   MailOk es w p Grabbed = (w ≡ 1) × MailStands es p
   MailOk es w p (Found l c) = (w ≡ 1) × StartsWith es l × MailIs c p
   MailOk es w p (Writing s c) = (w ≡ 2) × MailIs c p
 
   -- The rule, of a board of n sessions whose history had the basis `start` when it was made.
-  pub record Ruled (n start : ℕ) (s : State (Place H S) (View E)) : Type 0 where
+  pub record Ruled (n start : ℕ) (s : State (SlotValue H S) (View E)) : Type 0 where
     pub scene : Scene E
     pub words : WordsOk n scene.drawn scene.served scene.entries s.words
     pub deep : length s.homes ≡ n + 1

@@ -2,8 +2,8 @@
 -- This project's own choice.
 use Rattle.std.specs.Prelude.{Bool, true, ◌≡◌, ◌≢◌, ℕ, ◌+◌, ◌-◌, ◌<◌, List, [], ◌∷◌, length, Option, Some, None}
 use Rattle.atomic_table.specs.Table.{Me, Step}
-use Rattle.board_rule.specs.declared.board.Place.{Place}
-use Rattle.board_rule.specs.declared.board.Place.TheVariants.{Core, Mail}
+use Rattle.board_rule.specs.declared.board.SlotValue.{SlotValue}
+use Rattle.board_rule.specs.declared.board.SlotValue.TheVariants.{Core, Mail}
 use Rattle.board_rule.specs.declared.view.Marks.{Marks}
 use Rattle.board_rule.specs.declared.view.At.{At}
 use Rattle.board_rule.specs.declared.view.At.TheVariants.{Home, Away, Hand}
@@ -18,7 +18,7 @@ at_of None = Away
 at_of (Some h) = Home
 
 -- where slot 0's value is once the seat gives back the slot that it has in hand
-abbrev pub core_in : {H S : Type 0} → List (ℕ × Place H S) → At
+abbrev pub core_in : {H S : Type 0} → List (ℕ × SlotValue H S) → At
 core_in [] = Hand
 core_in ((k, Core o) ∷ more) = at_of o
 core_in ((k, Mail o) ∷ more) = Hand
@@ -28,7 +28,7 @@ abbrev pub filled_by : {S E : Type 0} → (S → List E) → Option S → Conten
 filled_by mailed None = Empty
 filled_by mailed (Some s) = Full (mailed s)
 
-abbrev pub mail_in : {H S E : Type 0} → (S → List E) → List (ℕ × Place H S) → Content E
+abbrev pub mail_in : {H S E : Type 0} → (S → List E) → List (ℕ × SlotValue H S) → Content E
 mail_in mailed [] = InHand
 mail_in mailed ((k, Core o) ∷ more) = InHand
 mail_in mailed ((k, Mail o) ∷ more) = filled_by mailed o
@@ -46,10 +46,10 @@ CoreHas fits Away o = o ≡ None
 CoreHas fits Hand o = ⊥
 
 abbrev Said : Type 0 → Type 0 → Type 0
-Said H S = Step (Place H S)
+Said H S = Step (SlotValue H S)
 
 abbrev Sat : Type 0 → Type 0 → Type 0 → Type 0
-Sat H S E = Me (Place H S) (View E)
+Sat H S E = Me (SlotValue H S) (View E)
 
 module _ {H S E : Type 0} where
   -- the greatest ticket, that of 2^31 + 1 seats which draw 2^32 times each, is below this

@@ -15,7 +15,7 @@ use std::sync::Wait;
 
 /// What a slot has: slot 0 the value that stands for the history, each other one a snapshot.
 #[derive(Drop)]
-pub enum Place<H, S> {
+pub enum SlotValue<H, S> {
     Core(Option<H>),
     Mail(Option<S>),
 }
@@ -33,7 +33,7 @@ pub struct OneHistory<H, S> {
     of: PhantomData<(H, S)>,
 }
 
-impl<H: Named, S: Mailed + Named<Entry = H::Entry>> TableRule<Place<H, S>, View<Code>, Begun<H>>
+impl<H: Named, S: Mailed + Named<Entry = H::Entry>> TableRule<SlotValue<H, S>, View<Code>, Begun<H>>
     for OneHistory<H, S> {
     ghost use Rattle.board_rule.specs.Views.{codes, starting, IsSoundSince};
     ghost use Rattle.board_rule.specs.Board.{naming, Ruled};
@@ -46,7 +46,7 @@ impl<H: Named, S: Mailed + Named<Entry = H::Entry>> TableRule<Place<H, S>, View<
 /// The table of all seats of one history. `H` is the type of slot 0's value, and `S` that of a mailed snapshot.
 #[derive(Drop)]
 pub struct Board<H: Named, S: Mailed + Named<Entry = H::Entry>> {
-    pub(crate) table: Table<Place<H, S>, View<Code>, Begun<H>, OneHistory<H, S>, Global>,
+    pub(crate) table: Table<SlotValue<H, S>, View<Code>, Begun<H>, OneHistory<H, S>, Global>,
     ghost sized: { (table.shared.table_id.words ≡ table.shared.key.sessions + 3) × (table.shared.table_id.slots ≡ table.shared.key.sessions + 1) × (table.shared.key.sessions < 2147483648) },
 }
 

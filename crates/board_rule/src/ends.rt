@@ -4,10 +4,10 @@ ghost use Rattle.std.specs.List.{All};
 ghost use Rattle.std.specs.Slots.{slots_filled, slots_len};
 ghost use Rattle.board_rule.specs.Views.{worker, IsLawful, codes, starting, IsWhole};
 ghost use Rattle.board_rule.specs.Board.{mailed_as};
-ghost use Rattle.board_rule.specs.declared.board.Place.TheVariants.{Core};
+ghost use Rattle.board_rule.specs.declared.board.SlotValue.TheVariants.{Core};
 ghost use Rattle.board_rule.specs.Calls.{view_of, board_of};
 
-use crate::board::{Begun, Board, Place};
+use crate::board::{Begun, Board, SlotValue};
 use crate::mails::Mails;
 use crate::named::{Mailed, Named};
 use crate::seat::BoardSeat;
@@ -16,18 +16,18 @@ use fb_memory::Memory;
 use std::alloc::Global;
 use std::snapshot::Snapshot;
 
-// Slot 0 with the value, and a mail slot for each snapshot.
+/// Slot 0 with the value, and a mail slot for each snapshot.
 fn lay_slots<H: Drop, S: Drop>(
     alloc: Global,
     home: H,
     mailed: Vec<S>,
-) -> Result<Vec<Place<H, S>>, Memory>
+) -> Result<Vec<SlotValue<H, S>>, Memory>
     ensures { IfOk result (λ v. v.items ≡ Core (Some home) ∷ map mailed_as mailed.items) }
 {
     let mut slots = Vec::new(alloc);
-    slots.push(Place::Core(Some(home)))?;
+    slots.push(SlotValue::Core(Some(home)))?;
     for snapshot in mailed {
-        slots.push(Place::Mail(Some(snapshot)))?;
+        slots.push(SlotValue::Mail(Some(snapshot)))?;
     }
     Ok(slots)
 }
@@ -41,18 +41,18 @@ fn lay_words(alloc: Global, sessions: usize, basis: u32) -> Result<Vec<u64>, Mem
     Ok(words)
 }
 
-fn core_of<H: Drop, S: Drop>(place: Place<H, S>) -> H
+fn core_of<H: Drop, S: Drop>(place: SlotValue<H, S>) -> H
     requires { (h : H) × (place ≡ Core (Some h)) }
     ensures { place ≡ Core (Some result) }
 {
     match place {
-        Place::Core(Some(home)) => home,
-        Place::Core(None) => unreachable!(),
-        Place::Mail(_) => unreachable!(),
+        SlotValue::Core(Some(home)) => home,
+        SlotValue::Core(None) => unreachable!(),
+        SlotValue::Mail(_) => unreachable!(),
     }
 }
 
-// Drops what the mail slots have.
+/// Drops what the mail slots have.
 fn clear<S: Drop>(mut closed: Closed<S, Global>)
     requires full { (k : ℕ) → 1 ≤ k → k < slots_len closed.slots → slice_index_or (slots_filled closed.slots) k false ≡ true }
     requires taken { slice_index_or (slots_filled closed.slots) 0 false ≡ false }

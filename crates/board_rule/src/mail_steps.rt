@@ -7,7 +7,7 @@ ghost use Rattle.board_rule.specs.Views.{StartsWith, codes, HasTurn, history_of,
 ghost use Rattle.board_rule.specs.Plays.{filled_by, MailHas};
 ghost use Rattle.board_rule.specs.Calls.{view_of, board_of};
 
-use crate::board::{Board, Place};
+use crate::board::{Board, SlotValue};
 use crate::named::{Mailed, Named};
 use crate::plays::{GrabMail, GrabOwn, KeepAndLetGo, LetMailGo, LetOwnGo, PutMail, TakeMail};
 use crate::seat::BoardSeat;
@@ -121,7 +121,7 @@ pub fn step_mail<H: Named, S: Mailed + Named<Entry = H::Entry>>(
     let (word, slot) = (session as usize + 3, session as usize + 1);
     let mut opened = open(&mut seat.badge);
     shared.load::<TakeMail<H, S>>(&mut opened, word);
-    let Place::Mail(was) = shared.exchange(&mut opened, slot, Place::Mail(put)) else {
+    let SlotValue::Mail(was) = shared.exchange(&mut opened, slot, SlotValue::Mail(put)) else {
         unreachable!()
     };
     shared.load::<PutMail<H, S>>(&mut opened, word);

@@ -5,7 +5,7 @@ ghost use Rattle.board_rule.specs.declared.view.Marks.{Marks};
 ghost use Rattle.board_rule.specs.Views.{AreLawful, codes, unmarked, Fits, giver, newcomer, both, spent};
 ghost use Rattle.board_rule.specs.Plays.{draws_ticket, looks, notes_marks, notes_found, commits, leaves, counts, takes_core, puts_core, grabs_own, grabs_mail, lets_own_go, lets_mail_go, takes_mail, puts_mail};
 
-use crate::board::Place;
+use crate::board::SlotValue;
 use crate::named::{Mailed, Named};
 use crate::view::{Code, View};
 use atomic_table::{Join, Play, Split};
@@ -13,7 +13,7 @@ use std::marker::{Brand, PhantomData};
 
 pub(crate) struct DrawTicket;
 
-impl<H, S> Play<Place<H, S>, View<Code>> for DrawTicket {
+impl<H, S> Play<SlotValue<H, S>, View<Code>> for DrawTicket {
     ghost then = { draws_ticket };
 }
 
@@ -21,7 +21,7 @@ pub(crate) struct Look<H> {
     of: PhantomData<H>,
 }
 
-impl<H: Named, S> Play<Place<H, S>, View<Code>> for Look<H> {
+impl<H: Named, S> Play<SlotValue<H, S>, View<Code>> for Look<H> {
     ghost then = { looks (AreLawful H.Entry.row.coded.code H.follows) };
 }
 
@@ -38,13 +38,13 @@ pub(crate) struct NoteMarks<B> {
     of: PhantomData<B>,
 }
 
-impl<H, S, B: PickedMarks> Play<Place<H, S>, View<Code>> for NoteMarks<B> {
+impl<H, S, B: PickedMarks> Play<SlotValue<H, S>, View<Code>> for NoteMarks<B> {
     ghost then = { notes_marks B.marks };
 }
 
 pub(crate) struct NoteFound;
 
-impl<H, S> Play<Place<H, S>, View<Code>> for NoteFound {
+impl<H, S> Play<SlotValue<H, S>, View<Code>> for NoteFound {
     ghost then = { notes_found };
 }
 
@@ -65,19 +65,19 @@ pub(crate) struct StoreCount<B> {
     of: PhantomData<B>,
 }
 
-impl<H, S, B: PickedHistory> Play<Place<H, S>, View<Code>> for StoreCount<B> {
+impl<H, S, B: PickedHistory> Play<SlotValue<H, S>, View<Code>> for StoreCount<B> {
     ghost then = { commits B.entries B.authors };
 }
 
 pub(crate) struct ServeNext;
 
-impl<H, S> Play<Place<H, S>, View<Code>> for ServeNext {
+impl<H, S> Play<SlotValue<H, S>, View<Code>> for ServeNext {
     ghost then = { leaves };
 }
 
 pub(crate) struct LoadCount;
 
-impl<H, S> Play<Place<H, S>, View<Code>> for LoadCount {
+impl<H, S> Play<SlotValue<H, S>, View<Code>> for LoadCount {
     ghost then = { counts };
 }
 
@@ -94,43 +94,43 @@ pub(crate) struct TakeCore<H, B> {
     of: PhantomData<(H, B)>,
 }
 
-impl<H: Named, S, B: PickedOrigin<H>> Play<Place<H, S>, View<Code>> for TakeCore<H, B> {
+impl<H: Named, S, B: PickedOrigin<H>> Play<SlotValue<H, S>, View<Code>> for TakeCore<H, B> {
     ghost then = { takes_core (λ h. Fits (codes H.Entry.row.coded.code (H.entries h)) (H.authors h) (H.marks h) (H.sound h × B.kept h)) };
 }
 
 pub(crate) struct PutCore;
 
-impl<H, S> Play<Place<H, S>, View<Code>> for PutCore {
+impl<H, S> Play<SlotValue<H, S>, View<Code>> for PutCore {
     ghost then = { puts_core };
 }
 
 pub(crate) struct GrabOwn;
 
-impl<H, S> Play<Place<H, S>, View<Code>> for GrabOwn {
+impl<H, S> Play<SlotValue<H, S>, View<Code>> for GrabOwn {
     ghost then = { grabs_own };
 }
 
 pub(crate) struct LetOwnGo;
 
-impl<H, S> Play<Place<H, S>, View<Code>> for LetOwnGo {
+impl<H, S> Play<SlotValue<H, S>, View<Code>> for LetOwnGo {
     ghost then = { lets_own_go false };
 }
 
 pub(crate) struct KeepAndLetGo;
 
-impl<H, S> Play<Place<H, S>, View<Code>> for KeepAndLetGo {
+impl<H, S> Play<SlotValue<H, S>, View<Code>> for KeepAndLetGo {
     ghost then = { lets_own_go true };
 }
 
 pub(crate) struct GrabMail;
 
-impl<H, S> Play<Place<H, S>, View<Code>> for GrabMail {
+impl<H, S> Play<SlotValue<H, S>, View<Code>> for GrabMail {
     ghost then = { grabs_mail };
 }
 
 pub(crate) struct LetMailGo;
 
-impl<H, S> Play<Place<H, S>, View<Code>> for LetMailGo {
+impl<H, S> Play<SlotValue<H, S>, View<Code>> for LetMailGo {
     ghost then = { lets_mail_go };
 }
 
@@ -138,7 +138,7 @@ pub(crate) struct TakeMail<H, S> {
     of: PhantomData<(H, S)>,
 }
 
-impl<H: Named, S: Mailed + Named<Entry = H::Entry>> Play<Place<H, S>, View<Code>>
+impl<H: Named, S: Mailed + Named<Entry = H::Entry>> Play<SlotValue<H, S>, View<Code>>
     for TakeMail<H, S> {
     ghost then = { takes_mail (λ s. codes H.Entry.row.coded.code (S.entries s)) };
 }
@@ -147,14 +147,14 @@ pub(crate) struct PutMail<H, S> {
     of: PhantomData<(H, S)>,
 }
 
-impl<H: Named, S: Mailed + Named<Entry = H::Entry>> Play<Place<H, S>, View<Code>>
+impl<H: Named, S: Mailed + Named<Entry = H::Entry>> Play<SlotValue<H, S>, View<Code>>
     for PutMail<H, S> {
     ghost then = { puts_mail (λ s. codes H.Entry.row.coded.code (S.entries s)) };
 }
 
-pub(crate) struct Part;
+pub(crate) struct SplitSeat;
 
-impl Split<View<Code>> for Part {
+impl Split<View<Code>> for SplitSeat {
     ghost left = { giver };
 
     ghost right = { newcomer };

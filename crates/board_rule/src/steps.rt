@@ -9,12 +9,12 @@ ghost use Rattle.board_rule.specs.Plays.{at_of, CoreHas};
 ghost use Rattle.board_rule.specs.Notes.{MayNote, Notes};
 ghost use Rattle.board_rule.specs.Calls.{view_of, board_of};
 
-use crate::board::{Board, Place};
+use crate::board::{Board, SlotValue};
 use crate::named::{Mailed, Named};
 use crate::note::Note;
 use crate::plays::{
-    DrawTicket, LoadCount, Look, NoteFound, NoteMarks, Part, PickedHistory, PickedMarks,
-    PickedOrigin, PutCore, Reunite, ServeNext, StoreCount, TakeCore,
+    DrawTicket, LoadCount, Look, NoteFound, NoteMarks, PickedHistory, PickedMarks, PickedOrigin,
+    PutCore, Reunite, ServeNext, SplitSeat, StoreCount, TakeCore,
 };
 use crate::seat::BoardSeat;
 use crate::view::{Code, View};
@@ -22,8 +22,8 @@ use atomic_table::{Badge, Seat};
 use std::marker::Brand;
 use std::mem;
 
-// The seat of the table, which a badge that stands for no seat replaces.
-pub(crate) fn open<H, S>(badge: &mut Badge<View<Code>>) -> Seat<Place<H, S>, View<Code>>
+/// The seat of the table, which a badge that stands for no seat replaces.
+pub(crate) fn open<H, S>(badge: &mut Badge<View<Code>>) -> Seat<SlotValue<H, S>, View<Code>>
     requires { badge.old.views ≡ first_of badge.old.views ∷ [] }
     ensures { (result.table_id ≡ badge.old.table_id) × (result.id ≡ badge.old.id) × (result.me ≡ (first_of badge.old.views, [])) }
 {
@@ -212,7 +212,7 @@ fn move_core<H: Named, S: Mailed + Named<Entry = H::Entry>, B: PickedOrigin<H>>(
     let shared = &board.table.shared;
     let mut opened = open(&mut seat.badge);
     shared.load::<TakeCore<H, B>>(&mut opened, 1);
-    let Place::Core(was) = shared.exchange(&mut opened, 0, Place::Core(put)) else {
+    let SlotValue::Core(was) = shared.exchange(&mut opened, 0, SlotValue::Core(put)) else {
         unreachable!()
     };
     shared.load::<PutCore>(&mut opened, 1);
@@ -249,7 +249,7 @@ pub fn step_split<H: Named, S: Mailed + Named<Entry = H::Entry>>(
     ensures newcomer { view_of result ≡ newcomer (view_of seat.old) }
 {
     let mut opened = open(&mut seat.badge);
-    let fresh = board.table.shared.split_seat::<Part>(&mut opened);
+    let fresh = board.table.shared.split_seat::<SplitSeat>(&mut opened);
     seat.badge = opened.into_badge();
     let number = seat.given;
     seat.given += 1;

@@ -15,7 +15,7 @@ use board_rule::{
 use std::hint::spin_loop;
 use std::sync::Wait;
 
-// How often a seat looks before it sleeps.
+/// How often a seat looks before it sleeps.
 const LOOKS: u32 = 64;
 
 /// Draws a ticket for a turn.
@@ -32,7 +32,7 @@ pub fn draw<H: Named, S: Mailed + Named<Entry = H::Entry>>(
     step_draw(board, seat);
 }
 
-// Looks once. Where the turn has not come, it answers the ticket served.
+/// Looks once. Where the turn has not come, it answers the ticket served.
 fn look<'a, H: Named, S: Mailed + Named<Entry = H::Entry>>(
     board: &'a Board<H, S>,
     seat: &mut BoardSeat,
@@ -52,7 +52,7 @@ fn look<'a, H: Named, S: Mailed + Named<Entry = H::Entry>>(
     }
 }
 
-// Looks a few times, and says whether the turn has come.
+/// Looks a few times, and says whether the turn has come.
 fn comes_soon<H: Named, S: Mailed + Named<Entry = H::Entry>>(
     board: &Board<H, S>,
     seat: &mut BoardSeat,
@@ -71,7 +71,7 @@ fn comes_soon<H: Named, S: Mailed + Named<Entry = H::Entry>>(
     false
 }
 
-// Sleeps until the turn has come. Whoever leaves wakes it.
+/// Sleeps until the turn has come. Whoever leaves wakes it.
 fn sleep_until_turn<H: Named, S: Mailed + Named<Entry = H::Entry>, R: Wait>(
     board: &Board<H, S>,
     rt: &R,

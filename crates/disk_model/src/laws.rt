@@ -1,4 +1,4 @@
-// Laws about journals.
+//! Laws about journals.
 ghost use Rattle.std.specs.Prelude.{◌≡◌, ◌⊎◌, ◌<◌, ℕ, List, length};
 ghost use Rattle.std.specs.List.{All};
 ghost use Rattle.disk_model.specs.Journal.{JournalStands, JournalBreaks};

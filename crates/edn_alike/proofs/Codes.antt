@@ -13,8 +13,8 @@ use Rattle.edn_model.specs.Form as form
 use Rattle.edn_model.specs.Likeness.{alike, alike_in_order, forms_among, pairs_among, any, any_pair, count, count_pairs, bool_eq, distinct, distinct_from, keys}
 use Rattle.edn_alike.specs.Code.{joined, spelled, IsPairCode, InOrder, IsCode, AreCodes, ArePairCodes}
 use Rattle.edn_alike.specs.Inside.{IsDistinctInside, AreDistinctInside, ArePairsDistinctInside}
-use Rattle.edn_alike.specs.declared.token.Token.{Token}
-use Rattle.edn_alike.specs.declared.token.Token.TheVariants.{Bool as Bool', Int, Str, Sym, Key, Inst, Uuid, Sequence, Map, Set}
+use Rattle.edn_alike.specs.declared.token.CodeToken.{CodeToken}
+use Rattle.edn_alike.specs.declared.token.CodeToken.TheVariants.{Bool as Bool', Int, Str, Sym, Key, Inst, Uuid, Sequence, Map, Set}
 use Rattle.edn_alike.proofs.Likeness.{left_true, right_true, either_right, counts_agree, pair_counts_agree, number_from, any_from, alike_from, pair_parts, has_code}
 use Rattle.edn_alike.proofs.Orders.{has_itself, first_or_later, same_key, Within, one_order}
 
@@ -39,14 +39,14 @@ not_is_true false h = refl
 pub clash : (b : Bool) → b ≡ true → b ≡ false → ⊥
 clash b p q = true≢false (sym p ∙ q)
 
-module _ (cmp : Token → Token → Ordering) (total : IsTotalOrder cmp) (exact : CmpEqualImpliesEq (slice_cmp cmp)) where
-  abbrev apart : List (List Token) → Type 0
+module _ (cmp : CodeToken → CodeToken → Ordering) (total : IsTotalOrder cmp) (exact : CmpEqualImpliesEq (slice_cmp cmp)) where
+  abbrev apart : List (List CodeToken) → Type 0
   apart = IsDistinct (eq_by_cmp (slice_cmp cmp))
 
-  abbrev has : List Token → List (List Token) → Bool
+  abbrev has : List CodeToken → List (List CodeToken) → Bool
   has = has_code cmp total exact
 
-  pub codes_with_last : (seen : form.Forms) (f : form.Form) (old : List (List Token)) (a : List Token) → AreCodes cmp seen old → IsCode cmp f a
+  pub codes_with_last : (seen : form.Forms) (f : form.Form) (old : List (List CodeToken)) (a : List CodeToken) → AreCodes cmp seen old → IsCode cmp f a
       → AreCodes cmp (form.with_last seen f) (old ++ a ∷ [])
   codes_with_last form.no_forms f [] a p c = (c, tt)
   codes_with_last form.no_forms f (b ∷ old) a p c = absurd p
@@ -54,7 +54,7 @@ module _ (cmp : Token → Token → Ordering) (total : IsTotalOrder cmp) (exact 
   codes_with_last (form.form g seen) f (b ∷ old) a p c = (p.0, codes_with_last seen f old a p.1 c)
 
   -- forms of which no two are alike have codes of which no two are one
-  distinct_codes : (seen fs : form.Forms) (old xs : List (List Token)) → AreCodes cmp seen old → AreCodes cmp fs xs → distinct_from seen fs ≡ true
+  distinct_codes : (seen fs : form.Forms) (old xs : List (List CodeToken)) → AreCodes cmp seen old → AreCodes cmp fs xs → distinct_from seen fs ≡ true
       → apart old → apart (old ++ xs)
   distinct_codes seen form.no_forms old [] p q h d = subst apart (sym (append-nil old)) d
   distinct_codes seen form.no_forms old (a ∷ xs) p q h d = absurd q
@@ -68,26 +68,26 @@ module _ (cmp : Token → Token → Ordering) (total : IsTotalOrder cmp) (exact 
       (distinct_codes (form.with_last seen f) fs (old ++ a ∷ []) xs (codes_with_last seen f old a p q.0) q.1
       (right_true (not (any (alike f) seen)) (distinct_from (form.with_last seen f) fs) h) more)
 
-  all_distinct : (fs : form.Forms) (xs : List (List Token)) → AreCodes cmp fs xs → distinct fs ≡ true → apart xs
+  all_distinct : (fs : form.Forms) (xs : List (List CodeToken)) → AreCodes cmp fs xs → distinct fs ≡ true → apart xs
   unfolding IsDistinct
   all_distinct fs xs p h = distinct_codes form.no_forms fs [] xs tt p h tt
 
   -- ---- maps: pairs whose keys' codes are no two one are no two one
 
-  key_codes : (ps : form.Pairs) (xs : List (List Token)) → ArePairCodes cmp ps xs → List (List Token)
+  key_codes : (ps : form.Pairs) (xs : List (List CodeToken)) → ArePairCodes cmp ps xs → List (List CodeToken)
   key_codes form.no_pairs [] h = []
   key_codes form.no_pairs (c ∷ xs) h = absurd h
   key_codes (form.pair k v ps) [] h = absurd h
   key_codes (form.pair k v ps) (c ∷ xs) h = h.0.key ∷ key_codes ps xs h.1
 
-  are_key_codes : (ps : form.Pairs) (xs : List (List Token)) (h : ArePairCodes cmp ps xs) → AreCodes cmp (keys ps) (key_codes ps xs h)
+  are_key_codes : (ps : form.Pairs) (xs : List (List CodeToken)) (h : ArePairCodes cmp ps xs) → AreCodes cmp (keys ps) (key_codes ps xs h)
   unfolding key_codes
   are_key_codes form.no_pairs [] h = tt
   are_key_codes form.no_pairs (c ∷ xs) h = absurd h
   are_key_codes (form.pair k v ps) [] h = absurd h
   are_key_codes (form.pair k v ps) (c ∷ xs) h = (h.0.is_key, are_key_codes ps xs h.1)
 
-  pair_apart : (k v : form.Form) (a : List Token) (p : IsPairCode (IsCode cmp k) (IsCode cmp v) a) (ps : form.Pairs) (xs : List (List Token)) (h : ArePairCodes cmp ps xs)
+  pair_apart : (k v : form.Form) (a : List CodeToken) (p : IsPairCode (IsCode cmp k) (IsCode cmp v) a) (ps : form.Pairs) (xs : List (List CodeToken)) (h : ArePairCodes cmp ps xs)
       → AllByRecursion (λ y. eq_by_cmp (slice_cmp cmp) p.key y ≡ false) (key_codes ps xs h) → AllByRecursion (λ y. eq_by_cmp (slice_cmp cmp) a y ≡ false) xs
   unfolding key_codes
   pair_apart k v a p form.no_pairs [] h d = tt
@@ -100,7 +100,7 @@ module _ (cmp : Token → Token → Ordering) (total : IsTotalOrder cmp) (exact 
     pair_apart k v a p ps xs h.1 d.1,
   )
 
-  pairs_apart : (ps : form.Pairs) (xs : List (List Token)) (h : ArePairCodes cmp ps xs) → apart (key_codes ps xs h) → apart xs
+  pairs_apart : (ps : form.Pairs) (xs : List (List CodeToken)) (h : ArePairCodes cmp ps xs) → apart (key_codes ps xs h) → apart xs
   unfolding key_codes IsDistinct
   pairs_apart form.no_pairs [] h d = tt
   pairs_apart form.no_pairs (c ∷ xs) h d = absurd h
@@ -110,8 +110,8 @@ module _ (cmp : Token → Token → Ordering) (total : IsTotalOrder cmp) (exact 
   -- ---- one code
 
   -- where a form passes, and all that pass have one code, the code is among theirs
-  pub any_same : (test : form.Form → Bool) (a : List Token) → ((g : form.Form) (t : List Token) → test g ≡ true → IsCode cmp g t → a ≡ t)
-      → (gs : form.Forms) (ys : List (List Token)) → AreCodes cmp gs ys → any test gs ≡ true → has a ys ≡ true
+  pub any_same : (test : form.Form → Bool) (a : List CodeToken) → ((g : form.Form) (t : List CodeToken) → test g ≡ true → IsCode cmp g t → a ≡ t)
+      → (gs : form.Forms) (ys : List (List CodeToken)) → AreCodes cmp gs ys → any test gs ≡ true → has a ys ≡ true
   any_same test a each form.no_forms ys q h = absurd (true≢false (sym h))
   any_same test a each (form.form g gs) [] q h = absurd q
   any_same test a each (form.form g gs) (b ∷ ys) q h =
@@ -120,9 +120,9 @@ module _ (cmp : Token → Token → Ordering) (total : IsTotalOrder cmp) (exact 
         | false ↦ λ _ k. either_right (eq_by_cmp (slice_cmp cmp) a b) (has a ys) (any_same test a each gs ys q.1 k)
       ] refl h
 
-  any_pair_same : (test : form.Form → form.Form → Bool) (a : List Token)
-      → ((l u : form.Form) (t : List Token) → test l u ≡ true → IsPairCode (IsCode cmp l) (IsCode cmp u) t → a ≡ t)
-      → (qs : form.Pairs) (ys : List (List Token)) → ArePairCodes cmp qs ys → any_pair test qs ≡ true → has a ys ≡ true
+  any_pair_same : (test : form.Form → form.Form → Bool) (a : List CodeToken)
+      → ((l u : form.Form) (t : List CodeToken) → test l u ≡ true → IsPairCode (IsCode cmp l) (IsCode cmp u) t → a ≡ t)
+      → (qs : form.Pairs) (ys : List (List CodeToken)) → ArePairCodes cmp qs ys → any_pair test qs ≡ true → has a ys ≡ true
   any_pair_same test a each form.no_pairs ys q h = absurd (true≢false (sym h))
   any_pair_same test a each (form.pair l u qs) [] q h = absurd q
   any_pair_same test a each (form.pair l u qs) (b ∷ ys) q h =
@@ -132,7 +132,7 @@ module _ (cmp : Token → Token → Ordering) (total : IsTotalOrder cmp) (exact 
       ] refl h
 
   mutual
-    pub same_code : (f g : form.Form) (s t : List Token) → IsDistinctInside f → alike f g ≡ true → IsCode cmp f s → IsCode cmp g t → s ≡ t
+    pub same_code : (f g : form.Form) (s t : List CodeToken) → IsDistinctInside f → alike f g ≡ true → IsCode cmp f s → IsCode cmp g t → s ≡ t
     same_code form.nil form.nil s t d h p q = p ∙ sym q
     same_code (form.boolean a) (form.boolean b) s t d h p q = p ∙ ap (λ z. Bool' z ∷ []) (bool_from a b h) ∙ sym q
     same_code (form.integer a) (form.integer b) s t d h p q = p ∙ ap (λ z. Int z ∷ []) ((Decides-int_eq a b).0 h) ∙ sym q
@@ -170,7 +170,7 @@ module _ (cmp : Token → Token → Ordering) (total : IsTotalOrder cmp) (exact 
     same_code (form.uuid a) (form.uuid b) s t d h p q = p ∙ ap (λ z. Uuid z ∷ []) (number_from a b h) ∙ sym q
     same_code f g s t d h p q = absurd (true≢false (sym h))
 
-    in_order_same : (fs gs : form.Forms) (xs ys : List (List Token)) → AreDistinctInside fs → alike_in_order fs gs ≡ true → AreCodes cmp fs xs → AreCodes cmp gs ys → xs ≡ ys
+    in_order_same : (fs gs : form.Forms) (xs ys : List (List CodeToken)) → AreDistinctInside fs → alike_in_order fs gs ≡ true → AreCodes cmp fs xs → AreCodes cmp gs ys → xs ≡ ys
     in_order_same form.no_forms form.no_forms [] [] d h p q = refl
     in_order_same form.no_forms form.no_forms [] (b ∷ ys) d h p q = absurd q
     in_order_same form.no_forms form.no_forms (a ∷ xs) ys d h p q = absurd p
@@ -182,8 +182,8 @@ module _ (cmp : Token → Token → Ordering) (total : IsTotalOrder cmp) (exact 
         ap (λ z. z ∷ xs) (same_code f g a b d.0 (left_true (alike f g) (alike_in_order fs gs) h) p.0 q.0)
         ∙ ap (λ zs. b ∷ zs) (in_order_same fs gs xs ys d.1 (right_true (alike f g) (alike_in_order fs gs) h) p.1 q.1)
 
-    forms_among_same : (fs gs : form.Forms) (xs ys : List (List Token)) → AreDistinctInside fs → forms_among fs gs ≡ true → AreCodes cmp fs xs → AreCodes cmp gs ys
-        → (k : List Token) → has k xs ≡ true → has k ys ≡ true
+    forms_among_same : (fs gs : form.Forms) (xs ys : List (List CodeToken)) → AreDistinctInside fs → forms_among fs gs ≡ true → AreCodes cmp fs xs → AreCodes cmp gs ys
+        → (k : List CodeToken) → has k xs ≡ true → has k ys ≡ true
     forms_among_same form.no_forms gs [] ys d h p q k m = absurd (true≢false (sym m))
     forms_among_same form.no_forms gs (a ∷ xs) ys d h p q k m = absurd p
     forms_among_same (form.form f fs) gs [] ys d h p q k m = absurd p
@@ -193,15 +193,15 @@ module _ (cmp : Token → Token → Ordering) (total : IsTotalOrder cmp) (exact 
         (any_same (alike f) a (λ g t r c. same_code f g a t d.0 r p.0 c) gs ys q (left_true (any (alike f) gs) (forms_among fs gs) h)))
         (λ r. forms_among_same fs gs xs ys d.1 (right_true (any (alike f) gs) (forms_among fs gs) h) p.1 q k r)
 
-    pairs_among_same : (ps qs : form.Pairs) (xs ys : List (List Token)) → ArePairsDistinctInside ps → pairs_among ps qs ≡ true → ArePairCodes cmp ps xs → ArePairCodes cmp qs ys
-        → (m : List Token) → has m xs ≡ true → has m ys ≡ true
+    pairs_among_same : (ps qs : form.Pairs) (xs ys : List (List CodeToken)) → ArePairsDistinctInside ps → pairs_among ps qs ≡ true → ArePairCodes cmp ps xs → ArePairCodes cmp qs ys
+        → (m : List CodeToken) → has m xs ≡ true → has m ys ≡ true
     pairs_among_same form.no_pairs qs [] ys d h p q m n = absurd (true≢false (sym n))
     pairs_among_same form.no_pairs qs (a ∷ xs) ys d h p q m n = absurd p
     pairs_among_same (form.pair k v ps) qs [] ys d h p q m n = absurd p
     pairs_among_same (form.pair k v ps) qs (a ∷ xs) ys d h p q m n =
         let here : IsPairCode (IsCode cmp k) (IsCode cmp v) a = p.0 in
         let test : form.Form → form.Form → Bool = λ l u. alike k l && alike v u in
-        let each : (l u : form.Form) (t : List Token) → test l u ≡ true → IsPairCode (IsCode cmp l) (IsCode cmp u) t → a ≡ t =
+        let each : (l u : form.Form) (t : List CodeToken) → test l u ≡ true → IsPairCode (IsCode cmp l) (IsCode cmp u) t → a ≡ t =
         λ l u t r c. here.joins
         ∙ ap (λ z. joined (Sequence 2) (z ∷ here.value ∷ [])) (same_code k l here.key c.key d.0 (left_true (alike k l) (alike v u) r) here.is_key c.is_key)
         ∙ ap (λ z. joined (Sequence 2) (c.key ∷ z ∷ [])) (same_code v u here.value c.value d.1 (right_true (alike k l) (alike v u) r) here.is_value c.is_value)

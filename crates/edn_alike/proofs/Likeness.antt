@@ -12,8 +12,8 @@ use Rattle.std.specs.Ordering.{int_eq, eq_by_cmp}
 use Rattle.edn_model.specs.Form as form
 use Rattle.edn_model.specs.Likeness.{alike, alike_in_order, forms_among, pairs_among, any, any_pair, count, count_pairs, bool_eq}
 use Rattle.edn_alike.specs.Code.{joined, IsPairCode, InOrder, IsCode, AreCodes, ArePairCodes}
-use Rattle.edn_alike.specs.declared.token.Token.{Token}
-use Rattle.edn_alike.specs.declared.token.Token.TheVariants.{Nil, Bool as Bool', Int, Str, Sym, Key, Inst, Uuid, Sequence, Map, Set}
+use Rattle.edn_alike.specs.declared.token.CodeToken.{CodeToken}
+use Rattle.edn_alike.specs.declared.token.CodeToken.TheVariants.{Nil, Bool as Bool', Int, Str, Sym, Key, Inst, Uuid, Sequence, Map, Set}
 use Rattle.edn_alike.proofs.Lists.{each_shuffled}
 use Rattle.edn_alike.proofs.Orders.{has, has_itself, first_or_later}
 use Rattle.edn_alike.proofs.Prefix.{part_count, first_token, later_tokens, apart, all_apart, all_pairs_apart, some_codes, some_pair_codes, same_parts, IsApart, IsSomeCode}
@@ -61,20 +61,20 @@ numbers_apart m n h e = true≢false (sym (subst (λ z. (m == z) ≡ true) e (sa
 
 -- ---- what a token holds
 
-truth_in : Token → Bool
+truth_in : CodeToken → Bool
 truth_in (Bool' b) = b
 truth_in _ = false
 
-number_in : Token → ℤ
+number_in : CodeToken → ℤ
 number_in (Int z) = z
 number_in (Inst z) = z
 number_in _ = pos 0
 
-natural_in : Token → ℕ
+natural_in : CodeToken → ℕ
 natural_in (Uuid n) = n
 natural_in _ = 0
 
-text_in : Token → List ℕ
+text_in : CodeToken → List ℕ
 text_in (Str s) = s.text
 text_in (Sym s) = s.text
 text_in (Key s) = s.text
@@ -82,7 +82,7 @@ text_in _ = []
 
 -- ---- the kinds of forms and of tokens: lists and vectors are of one
 
-token_kind : Token → ℕ
+token_kind : CodeToken → ℕ
 token_kind Nil = 0
 token_kind (Bool' b) = 1
 token_kind (Int z) = 2
@@ -109,8 +109,8 @@ kind (form.set fs) = 8
 kind (form.instant z) = 9
 kind (form.uuid n) = 10
 
-module _ (cmp : Token → Token → Ordering) where
-  kind_is : (f : form.Form) (s : List Token) → IsCode cmp f s → token_kind (first_token s) ≡ kind f
+module _ (cmp : CodeToken → CodeToken → Ordering) where
+  kind_is : (f : form.Form) (s : List CodeToken) → IsCode cmp f s → token_kind (first_token s) ≡ kind f
   unfolding token_kind
   kind_is form.nil s h = ap (λ z. token_kind (first_token z)) h
   kind_is (form.boolean b) s h = ap (λ z. token_kind (first_token z)) h
@@ -126,59 +126,59 @@ module _ (cmp : Token → Token → Ordering) where
   kind_is (form.uuid n) s h = ap (λ z. token_kind (first_token z)) h
 
   -- one code, one kind
-  pub one_kind : (f g : form.Form) (s : List Token) → IsCode cmp f s → IsCode cmp g s → kind f ≡ kind g
+  pub one_kind : (f g : form.Form) (s : List CodeToken) → IsCode cmp f s → IsCode cmp g s → kind f ≡ kind g
   one_kind f g s p q = sym (kind_is f s p) ∙ kind_is g s q
 
   -- the front of one list and of another
-  fronts : (s : List Token) (a b : Token) (xs ys : List Token) → s ≡ a ∷ xs → s ≡ b ∷ ys → a ≡ b
+  fronts : (s : List CodeToken) (a b : CodeToken) (xs ys : List CodeToken) → s ≡ a ∷ xs → s ≡ b ∷ ys → a ≡ b
   fronts s a b xs ys p q = ap first_token (sym p ∙ q)
 
-  pub joined_alike : (s : List Token) (a b : Token) (xs ys : List (List Token)) → s ≡ joined a xs → s ≡ joined b ys
+  pub joined_alike : (s : List CodeToken) (a b : CodeToken) (xs ys : List (List CodeToken)) → s ≡ joined a xs → s ≡ joined b ys
       → part_count a ≡ length xs → part_count b ≡ length ys → AllByRecursion (IsApart cmp) xs → AllByRecursion (IsSomeCode cmp) ys → xs ≡ ys
   joined_alike s a b xs ys p q m n h k =
       same_parts cmp xs ys h k (sym m ∙ ap part_count (ap first_token (sym p ∙ q)) ∙ n) (ap later_tokens (sym p ∙ q))
 
-  count_is : (fs : form.Forms) (cs : List (List Token)) → AreCodes cmp fs cs → count fs ≡ length cs
+  count_is : (fs : form.Forms) (cs : List (List CodeToken)) → AreCodes cmp fs cs → count fs ≡ length cs
   count_is form.no_forms [] h = refl
   count_is form.no_forms (c ∷ cs) h = absurd h
   count_is (form.form f fs) [] h = absurd h
   count_is (form.form f fs) (c ∷ cs) h = ap suc (count_is fs cs h.1)
 
-  pair_count_is : (ps : form.Pairs) (cs : List (List Token)) → ArePairCodes cmp ps cs → count_pairs ps ≡ length cs
+  pair_count_is : (ps : form.Pairs) (cs : List (List CodeToken)) → ArePairCodes cmp ps cs → count_pairs ps ≡ length cs
   pair_count_is form.no_pairs [] h = refl
   pair_count_is form.no_pairs (c ∷ cs) h = absurd h
   pair_count_is (form.pair k v ps) [] h = absurd h
   pair_count_is (form.pair k v ps) (c ∷ cs) h = ap suc (pair_count_is ps cs h.1)
 
-  pub same_count : (fs gs : form.Forms) (xs ys : List (List Token)) → AreCodes cmp fs xs → AreCodes cmp gs ys → length xs ≡ length ys → (count fs == count gs) ≡ true
+  pub same_count : (fs gs : form.Forms) (xs ys : List (List CodeToken)) → AreCodes cmp fs xs → AreCodes cmp gs ys → length xs ≡ length ys → (count fs == count gs) ≡ true
   same_count fs gs xs ys p q e = subst (λ n. (count fs == n) ≡ true) (count_is fs xs p ∙ e ∙ sym (count_is gs ys q)) (same_number (count fs))
 
-  pub same_pair_count : (ps qs : form.Pairs) (xs ys : List (List Token)) → ArePairCodes cmp ps xs → ArePairCodes cmp qs ys → length xs ≡ length ys → (count_pairs ps == count_pairs qs) ≡ true
+  pub same_pair_count : (ps qs : form.Pairs) (xs ys : List (List CodeToken)) → ArePairCodes cmp ps xs → ArePairCodes cmp qs ys → length xs ≡ length ys → (count_pairs ps == count_pairs qs) ≡ true
   same_pair_count ps qs xs ys p q e = subst (λ n. (count_pairs ps == n) ≡ true) (pair_count_is ps xs p ∙ e ∙ sym (pair_count_is qs ys q)) (same_number (count_pairs ps))
 
-  pub counts_agree : (fs gs : form.Forms) (xs ys : List (List Token)) → AreCodes cmp fs xs → AreCodes cmp gs ys → (count fs == count gs) ≡ true → length xs ≡ length ys
+  pub counts_agree : (fs gs : form.Forms) (xs ys : List (List CodeToken)) → AreCodes cmp fs xs → AreCodes cmp gs ys → (count fs == count gs) ≡ true → length xs ≡ length ys
   counts_agree fs gs xs ys p q h =
       sym (count_is fs xs p) ∙ number_from (count fs) (count gs) h ∙ count_is gs ys q
 
-  pub pair_counts_agree : (ps qs : form.Pairs) (xs ys : List (List Token)) → ArePairCodes cmp ps xs → ArePairCodes cmp qs ys → (count_pairs ps == count_pairs qs) ≡ true → length xs ≡ length ys
+  pub pair_counts_agree : (ps qs : form.Pairs) (xs ys : List (List CodeToken)) → ArePairCodes cmp ps xs → ArePairCodes cmp qs ys → (count_pairs ps == count_pairs qs) ≡ true → length xs ≡ length ys
   pair_counts_agree ps qs xs ys p q h =
       sym (pair_count_is ps xs p) ∙ number_from (count_pairs ps) (count_pairs qs) h ∙ pair_count_is qs ys q
 
-first_part : List (List Token) → List Token
+first_part : List (List CodeToken) → List CodeToken
 first_part [] = []
 first_part (x ∷ xs) = x
 
-later_parts : List (List Token) → List (List Token)
+later_parts : List (List CodeToken) → List (List CodeToken)
 later_parts [] = []
 later_parts (x ∷ xs) = xs
 
-module _ (cmp : Token → Token → Ordering) (total : IsTotalOrder cmp) (exact : CmpEqualImpliesEq (slice_cmp cmp)) where
-  abbrev pub has_code : List Token → List (List Token) → Bool
+module _ (cmp : CodeToken → CodeToken → Ordering) (total : IsTotalOrder cmp) (exact : CmpEqualImpliesEq (slice_cmp cmp)) where
+  abbrev pub has_code : List CodeToken → List (List CodeToken) → Bool
   has_code = has (lists_total total) exact
 
   -- a test that every form of a code passes is passed by one of the forms whose codes have it
-  pub any_from : (test : form.Form → Bool) (a : List Token) → ((g : form.Form) → IsCode cmp g a → test g ≡ true)
-      → (gs : form.Forms) (ys : List (List Token)) → AreCodes cmp gs ys → has_code a ys ≡ true → any test gs ≡ true
+  pub any_from : (test : form.Form → Bool) (a : List CodeToken) → ((g : form.Form) → IsCode cmp g a → test g ≡ true)
+      → (gs : form.Forms) (ys : List (List CodeToken)) → AreCodes cmp gs ys → has_code a ys ≡ true → any test gs ≡ true
   any_from test a each form.no_forms [] q h = absurd (true≢false (sym h))
   any_from test a each form.no_forms (b ∷ ys) q h = absurd q
   any_from test a each (form.form g gs) [] q h = absurd q
@@ -187,8 +187,8 @@ module _ (cmp : Token → Token → Ordering) (total : IsTotalOrder cmp) (exact 
       (λ e. either_left (test g) (any test gs) (each g (subst (IsCode cmp g) (sym e) q.0)))
       (λ k. either_right (test g) (any test gs) (any_from test a each gs ys q.1 k))
 
-  any_pair_from : (test : form.Form → form.Form → Bool) (a : List Token) → ((l w : form.Form) → IsPairCode (IsCode cmp l) (IsCode cmp w) a → test l w ≡ true)
-      → (qs : form.Pairs) (ys : List (List Token)) → ArePairCodes cmp qs ys → has_code a ys ≡ true → any_pair test qs ≡ true
+  any_pair_from : (test : form.Form → form.Form → Bool) (a : List CodeToken) → ((l w : form.Form) → IsPairCode (IsCode cmp l) (IsCode cmp w) a → test l w ≡ true)
+      → (qs : form.Pairs) (ys : List (List CodeToken)) → ArePairCodes cmp qs ys → has_code a ys ≡ true → any_pair test qs ≡ true
   any_pair_from test a each form.no_pairs [] q h = absurd (true≢false (sym h))
   any_pair_from test a each form.no_pairs (b ∷ ys) q h = absurd q
   any_pair_from test a each (form.pair l w qs) [] q h = absurd q
@@ -198,7 +198,7 @@ module _ (cmp : Token → Token → Ordering) (total : IsTotalOrder cmp) (exact 
       (λ k. either_right (test l w) (any_pair test qs) (any_pair_from test a each qs ys q.1 k))
 
   -- one code of two pairs: their keys have one code, and their values
-  pub pair_parts : (k v l u : form.Form) (a b : List Token) → a ≡ b → (p : IsPairCode (IsCode cmp k) (IsCode cmp v) a) (q : IsPairCode (IsCode cmp l) (IsCode cmp u) b)
+  pub pair_parts : (k v l u : form.Form) (a b : List CodeToken) → a ≡ b → (p : IsPairCode (IsCode cmp k) (IsCode cmp v) a) (q : IsPairCode (IsCode cmp l) (IsCode cmp u) b)
       → (p.key ≡ q.key) × (p.value ≡ q.value)
   unfolding first_part later_parts
   pair_parts k v l u a b e p q =
@@ -208,23 +208,23 @@ module _ (cmp : Token → Token → Ordering) (total : IsTotalOrder cmp) (exact 
       (ap first_part one, ap (λ z. first_part (later_parts z)) one)
 
   -- one code of two sequences: the parts of the first belong to the members of the second too
-  moved : (fs gs : form.Forms) (s : List Token) (p : IsCode cmp (form.list fs) s) (q : IsCode cmp (form.list gs) s) → AreCodes cmp gs p.parts
+  moved : (fs gs : form.Forms) (s : List CodeToken) (p : IsCode cmp (form.list fs) s) (q : IsCode cmp (form.list gs) s) → AreCodes cmp gs p.parts
   moved fs gs s p q =
       subst (AreCodes cmp gs)
       (sym (joined_alike cmp s (Sequence (length p.parts)) (Sequence (length q.parts)) p.parts q.parts p.joins q.joins refl refl (all_apart cmp fs p.parts p.codes) (some_codes cmp gs q.parts q.codes)))
       q.codes
 
   -- lists that are one in order have as many elements, and the same ones
-  shuffled_within : (xs ys sorted sorted' : List (List Token)) → IsPermutation xs sorted → IsPermutation ys sorted' → sorted ≡ sorted'
-      → (length xs ≡ length ys) × ((k : List Token) → has_code k xs ≡ true → has_code k ys ≡ true)
+  shuffled_within : (xs ys sorted sorted' : List (List CodeToken)) → IsPermutation xs sorted → IsPermutation ys sorted' → sorted ≡ sorted'
+      → (length xs ≡ length ys) × ((k : List CodeToken) → has_code k xs ≡ true → has_code k ys ≡ true)
   shuffled_within xs ys sorted sorted' p q one = (
     sym (length_permutation xs sorted p) ∙ ap length one ∙ length_permutation ys sorted' q,
     λ k h. list_any-IsPermutation (eq_by_cmp (slice_cmp cmp) k) ys sorted' q ∙ ap (λ zs. has_code k zs) (sym one)
         ∙ sym (list_any-IsPermutation (eq_by_cmp (slice_cmp cmp) k) xs sorted p) ∙ h,
   )
 
-  members_within : (fs gs : form.Forms) (s : List Token) (p : IsCode cmp (form.set fs) s) (q : IsCode cmp (form.set gs) s)
-      → (length p.parts ≡ length q.parts) × ((k : List Token) → has_code k p.parts ≡ true → has_code k q.parts ≡ true)
+  members_within : (fs gs : form.Forms) (s : List CodeToken) (p : IsCode cmp (form.set fs) s) (q : IsCode cmp (form.set gs) s)
+      → (length p.parts ≡ length q.parts) × ((k : List CodeToken) → has_code k p.parts ≡ true → has_code k q.parts ≡ true)
   members_within fs gs s p q =
       let i : InOrder cmp Set p.parts s = p.joins in
       let j : InOrder cmp Set q.parts s = q.joins in
@@ -233,8 +233,8 @@ module _ (cmp : Token → Token → Ordering) (total : IsTotalOrder cmp) (exact 
       (each_shuffled (IsApart cmp) p.parts i.sorted i.shuffled (all_apart cmp fs p.parts p.codes))
       (each_shuffled (IsSomeCode cmp) q.parts j.sorted j.shuffled (some_codes cmp gs q.parts q.codes)))
 
-  pairs_within : (ps qs : form.Pairs) (s : List Token) (p : IsCode cmp (form.map ps) s) (q : IsCode cmp (form.map qs) s)
-      → (length p.parts ≡ length q.parts) × ((k : List Token) → has_code k p.parts ≡ true → has_code k q.parts ≡ true)
+  pairs_within : (ps qs : form.Pairs) (s : List CodeToken) (p : IsCode cmp (form.map ps) s) (q : IsCode cmp (form.map qs) s)
+      → (length p.parts ≡ length q.parts) × ((k : List CodeToken) → has_code k p.parts ≡ true → has_code k q.parts ≡ true)
   pairs_within ps qs s p q =
       let i : InOrder cmp Map p.parts s = p.joins in
       let j : InOrder cmp Map q.parts s = q.joins in
@@ -246,7 +246,7 @@ module _ (cmp : Token → Token → Ordering) (total : IsTotalOrder cmp) (exact 
   mutual
     unfolding truth_in number_in natural_in text_in
 
-    pub alike_from : (f g : form.Form) (s : List Token) → IsCode cmp f s → IsCode cmp g s → alike f g ≡ true
+    pub alike_from : (f g : form.Form) (s : List CodeToken) → IsCode cmp f s → IsCode cmp g s → alike f g ≡ true
     alike_from form.nil form.nil s p q = refl
     alike_from (form.boolean a) (form.boolean b) s p q = subst (λ z. bool_eq a z ≡ true) (ap (λ z. truth_in (first_token z)) (sym p ∙ q)) (same_bool a)
     alike_from (form.integer a) (form.integer b) s p q = subst (λ z. int_eq a z ≡ true) (ap (λ z. number_in (first_token z)) (sym p ∙ q)) (same_int a)
@@ -258,18 +258,18 @@ module _ (cmp : Token → Token → Ordering) (total : IsTotalOrder cmp) (exact 
     alike_from (form.vector fs) (form.list gs) s p q = in_order_from fs gs p.parts p.codes (moved fs gs s p q)
     alike_from (form.vector fs) (form.vector gs) s p q = in_order_from fs gs p.parts p.codes (moved fs gs s p q)
     alike_from (form.map ps) (form.map qs) s p q =
-        let w : (length p.parts ≡ length q.parts) × ((k : List Token) → has_code k p.parts ≡ true → has_code k q.parts ≡ true) = pairs_within ps qs s p q in
+        let w : (length p.parts ≡ length q.parts) × ((k : List CodeToken) → has_code k p.parts ≡ true → has_code k q.parts ≡ true) = pairs_within ps qs s p q in
         both_true (count_pairs ps == count_pairs qs) (pairs_among ps qs) (same_pair_count cmp ps qs p.parts q.parts p.codes q.codes w.0)
         (pairs_among_from ps qs p.parts q.parts p.codes q.codes w.1)
     alike_from (form.set fs) (form.set gs) s p q =
-        let w : (length p.parts ≡ length q.parts) × ((k : List Token) → has_code k p.parts ≡ true → has_code k q.parts ≡ true) = members_within fs gs s p q in
+        let w : (length p.parts ≡ length q.parts) × ((k : List CodeToken) → has_code k p.parts ≡ true → has_code k q.parts ≡ true) = members_within fs gs s p q in
         both_true (count fs == count gs) (forms_among fs gs) (same_count cmp fs gs p.parts q.parts p.codes q.codes w.0)
         (forms_among_from fs gs p.parts q.parts p.codes q.codes w.1)
     alike_from (form.instant a) (form.instant b) s p q = subst (λ z. int_eq a z ≡ true) (ap (λ z. number_in (first_token z)) (sym p ∙ q)) (same_int a)
     alike_from (form.uuid a) (form.uuid b) s p q = subst (λ z. (a == z) ≡ true) (ap (λ z. natural_in (first_token z)) (sym p ∙ q)) (same_number a)
     alike_from f g s p q = absurd (numbers_apart (kind f) (kind g) refl (one_kind cmp f g s p q))
 
-    in_order_from : (fs gs : form.Forms) (cs : List (List Token)) → AreCodes cmp fs cs → AreCodes cmp gs cs → alike_in_order fs gs ≡ true
+    in_order_from : (fs gs : form.Forms) (cs : List (List CodeToken)) → AreCodes cmp fs cs → AreCodes cmp gs cs → alike_in_order fs gs ≡ true
     in_order_from form.no_forms form.no_forms cs p q = refl
     in_order_from form.no_forms (form.form g gs) [] p q = absurd q
     in_order_from form.no_forms (form.form g gs) (c ∷ cs) p q = absurd p
@@ -278,16 +278,16 @@ module _ (cmp : Token → Token → Ordering) (total : IsTotalOrder cmp) (exact 
     in_order_from (form.form f fs) (form.form g gs) [] p q = absurd p
     in_order_from (form.form f fs) (form.form g gs) (c ∷ cs) p q = both_true (alike f g) (alike_in_order fs gs) (alike_from f g c p.0 q.0) (in_order_from fs gs cs p.1 q.1)
 
-    forms_among_from : (fs gs : form.Forms) (xs ys : List (List Token)) → AreCodes cmp fs xs → AreCodes cmp gs ys
-        → ((k : List Token) → has_code k xs ≡ true → has_code k ys ≡ true) → forms_among fs gs ≡ true
+    forms_among_from : (fs gs : form.Forms) (xs ys : List (List CodeToken)) → AreCodes cmp fs xs → AreCodes cmp gs ys
+        → ((k : List CodeToken) → has_code k xs ≡ true → has_code k ys ≡ true) → forms_among fs gs ≡ true
     forms_among_from form.no_forms gs xs ys p q w = refl
     forms_among_from (form.form f fs) gs [] ys p q w = absurd p
     forms_among_from (form.form f fs) gs (a ∷ xs) ys p q w =
         both_true (any (alike f) gs) (forms_among fs gs) (any_from (alike f) a (λ g k. alike_from f g a p.0 k) gs ys q (w a (has_itself (lists_total total) exact a xs)))
         (forms_among_from fs gs xs ys p.1 q (λ k h. w k (either_right (eq_by_cmp (slice_cmp cmp) k a) (has_code k xs) h)))
 
-    pairs_among_from : (ps qs : form.Pairs) (xs ys : List (List Token)) → ArePairCodes cmp ps xs → ArePairCodes cmp qs ys
-        → ((k : List Token) → has_code k xs ≡ true → has_code k ys ≡ true) → pairs_among ps qs ≡ true
+    pairs_among_from : (ps qs : form.Pairs) (xs ys : List (List CodeToken)) → ArePairCodes cmp ps xs → ArePairCodes cmp qs ys
+        → ((k : List CodeToken) → has_code k xs ≡ true → has_code k ys ≡ true) → pairs_among ps qs ≡ true
     pairs_among_from form.no_pairs qs xs ys p q w = refl
     pairs_among_from (form.pair k v ps) qs [] ys p q w = absurd p
     pairs_among_from (form.pair k v ps) qs (a ∷ xs) ys p q w =

@@ -3,44 +3,44 @@ use Rattle.std.proofs.Common.{◌≡◌, ℕ, List, [], ◌∷◌, ◌++◌, len
 use Rattle.std.specs.List.{AllByRecursion}
 use Rattle.edn_model.specs.Form as form
 use Rattle.edn_alike.specs.Code.{joined, spelled, IsPairCode, InOrder, IsCode, AreCodes, ArePairCodes}
-use Rattle.edn_alike.specs.declared.token.Token.{Token}
-use Rattle.edn_alike.specs.declared.token.Token.TheVariants.{Nil, Bool as Bool', Int, Str, Sym, Key, Inst, Uuid, Sequence, Map, Set}
+use Rattle.edn_alike.specs.declared.token.CodeToken.{CodeToken}
+use Rattle.edn_alike.specs.declared.token.CodeToken.TheVariants.{Nil, Bool as Bool', Int, Str, Sym, Key, Inst, Uuid, Sequence, Map, Set}
 use Rattle.edn_alike.proofs.Lists.{each_shuffled}
 
 -- how many parts stand behind a token
-abbrev pub part_count : Token → ℕ
+abbrev pub part_count : CodeToken → ℕ
 part_count (Sequence n) = n
 part_count (Map n) = n
 part_count (Set n) = n
 part_count _ = 0
 
-abbrev pub first_token : List Token → Token
+abbrev pub first_token : List CodeToken → CodeToken
 first_token [] = Nil
 first_token (t ∷ ts) = t
 
-abbrev pub later_tokens : List Token → List Token
+abbrev pub later_tokens : List CodeToken → List CodeToken
 later_tokens [] = []
 later_tokens (t ∷ ts) = ts
 
-module _ (cmp : Token → Token → Ordering) where
-  pub record IsSomeCode (code : List Token) : Type 0 where
+module _ (cmp : CodeToken → CodeToken → Ordering) where
+  pub record IsSomeCode (code : List CodeToken) : Type 0 where
     pub of : form.Form
     pub is : IsCode cmp of code
 
   -- a list that is told from every code, whatever stands behind the two
-  pub record IsApart (s : List Token) : Type 0 where
-    pub splits : (t r q : List Token) → IsSomeCode t → s ++ r ≡ t ++ q → (s ≡ t) × (r ≡ q)
+  pub record IsApart (s : List CodeToken) : Type 0 where
+    pub splits : (t r q : List CodeToken) → IsSomeCode t → s ++ r ≡ t ++ q → (s ≡ t) × (r ≡ q)
 
   -- a code is a token and as many codes as this says
-  pub record IsLaid (code : List Token) : Type 0 where
-    pub front : Token
-    pub parts : List (List Token)
+  pub record IsLaid (code : List CodeToken) : Type 0 where
+    pub front : CodeToken
+    pub parts : List (List CodeToken)
     pub is : code ≡ joined front parts
     pub count : part_count front ≡ length parts
     pub codes : AllByRecursion IsSomeCode parts
 
   mutual
-    laid : (f : form.Form) (s : List Token) → IsCode cmp f s → IsLaid s
+    laid : (f : form.Form) (s : List CodeToken) → IsCode cmp f s → IsLaid s
     laid form.nil s h = record { front = Nil; parts = []; is = h; count = refl; codes = tt }
     laid (form.boolean b) s h = record { front = Bool' b; parts = []; is = h; count = refl; codes = tt }
     laid (form.integer z) s h = record { front = Int z; parts = []; is = h; count = refl; codes = tt }
@@ -70,13 +70,13 @@ module _ (cmp : Token → Token → Ordering) where
     laid (form.instant z) s h = record { front = Inst z; parts = []; is = h; count = refl; codes = tt }
     laid (form.uuid n) s h = record { front = Uuid n; parts = []; is = h; count = refl; codes = tt }
 
-    pub some_codes : (fs : form.Forms) (cs : List (List Token)) → AreCodes cmp fs cs → AllByRecursion IsSomeCode cs
+    pub some_codes : (fs : form.Forms) (cs : List (List CodeToken)) → AreCodes cmp fs cs → AllByRecursion IsSomeCode cs
     some_codes form.no_forms [] h = tt
     some_codes form.no_forms (c ∷ cs) h = absurd h
     some_codes (form.form f fs) [] h = absurd h
     some_codes (form.form f fs) (c ∷ cs) h = (record { of = f; is = h.0 }, some_codes fs cs h.1)
 
-    pub some_pair_codes : (ps : form.Pairs) (cs : List (List Token)) → ArePairCodes cmp ps cs → AllByRecursion IsSomeCode cs
+    pub some_pair_codes : (ps : form.Pairs) (cs : List (List CodeToken)) → ArePairCodes cmp ps cs → AllByRecursion IsSomeCode cs
     some_pair_codes form.no_pairs [] h = tt
     some_pair_codes form.no_pairs (c ∷ cs) h = absurd h
     some_pair_codes (form.pair k v ps) [] h = absurd h
@@ -86,7 +86,7 @@ module _ (cmp : Token → Token → Ordering) where
           some_pair_codes ps cs h.1,
         )
 
-  pub parts_split : (xs ys : List (List Token)) (r q : List Token) → AllByRecursion IsApart xs → AllByRecursion IsSomeCode ys → length xs ≡ length ys
+  pub parts_split : (xs ys : List (List CodeToken)) (r q : List CodeToken) → AllByRecursion IsApart xs → AllByRecursion IsSomeCode ys → length xs ≡ length ys
       → flat_map (λ p. p) xs ++ r ≡ flat_map (λ p. p) ys ++ q → (xs ≡ ys) × (r ≡ q)
   parts_split [] [] r q h k n e = (refl, e)
   parts_split [] (b ∷ ys) r q h k n e = absurd (omega arith)
@@ -98,7 +98,7 @@ module _ (cmp : Token → Token → Ordering) where
       (ap (λ z. z ∷ xs) first.0 ∙ ap (λ zs. b ∷ zs) rest.0, rest.1)
 
   -- a token and as many parts as it says, each told from every code
-  whole : (front : Token) (xs : List (List Token)) → part_count front ≡ length xs → AllByRecursion IsApart xs → IsApart (joined front xs)
+  whole : (front : CodeToken) (xs : List (List CodeToken)) → part_count front ≡ length xs → AllByRecursion IsApart xs → IsApart (joined front xs)
   whole front xs n h = record {
     splits = λ t r q some e.
         let k : IsLaid t = laid some.of t some.is in
@@ -110,7 +110,7 @@ module _ (cmp : Token → Token → Ordering) where
   }
 
   mutual
-    pub apart : (f : form.Form) (s : List Token) → IsCode cmp f s → IsApart s
+    pub apart : (f : form.Form) (s : List CodeToken) → IsCode cmp f s → IsApart s
     apart form.nil s h = subst IsApart (sym h) (whole Nil [] refl tt)
     apart (form.boolean b) s h = subst IsApart (sym h) (whole (Bool' b) [] refl tt)
     apart (form.integer z) s h = subst IsApart (sym h) (whole (Int z) [] refl tt)
@@ -128,13 +128,13 @@ module _ (cmp : Token → Token → Ordering) where
     apart (form.instant z) s h = subst IsApart (sym h) (whole (Inst z) [] refl tt)
     apart (form.uuid n) s h = subst IsApart (sym h) (whole (Uuid n) [] refl tt)
 
-    pub all_apart : (fs : form.Forms) (cs : List (List Token)) → AreCodes cmp fs cs → AllByRecursion IsApart cs
+    pub all_apart : (fs : form.Forms) (cs : List (List CodeToken)) → AreCodes cmp fs cs → AllByRecursion IsApart cs
     all_apart form.no_forms [] h = tt
     all_apart form.no_forms (c ∷ cs) h = absurd h
     all_apart (form.form f fs) [] h = absurd h
     all_apart (form.form f fs) (c ∷ cs) h = (apart f c h.0, all_apart fs cs h.1)
 
-    pub all_pairs_apart : (ps : form.Pairs) (cs : List (List Token)) → ArePairCodes cmp ps cs → AllByRecursion IsApart cs
+    pub all_pairs_apart : (ps : form.Pairs) (cs : List (List CodeToken)) → ArePairCodes cmp ps cs → AllByRecursion IsApart cs
     all_pairs_apart form.no_pairs [] h = tt
     all_pairs_apart form.no_pairs (c ∷ cs) h = absurd h
     all_pairs_apart (form.pair k v ps) [] h = absurd h
@@ -143,6 +143,6 @@ module _ (cmp : Token → Token → Ordering) where
         (subst IsApart (sym p.joins) (whole (Sequence 2) (p.key ∷ p.value ∷ []) refl (apart k p.key p.is_key, (apart v p.value p.is_value, tt))), all_pairs_apart ps cs h.1)
 
   -- the same parts, of which there are as many
-  pub same_parts : (xs ys : List (List Token)) → AllByRecursion IsApart xs → AllByRecursion IsSomeCode ys → length xs ≡ length ys
+  pub same_parts : (xs ys : List (List CodeToken)) → AllByRecursion IsApart xs → AllByRecursion IsSomeCode ys → length xs ≡ length ys
       → flat_map (λ p. p) xs ≡ flat_map (λ p. p) ys → xs ≡ ys
   same_parts xs ys h k n e = (parts_split xs ys [] [] h k n (ap (λ z. z ++ []) e)).0

@@ -11,7 +11,7 @@ use Rattle.edn_alike.specs.Code.{IsCode}
 use Rattle.edn_alike.specs.Inside.{IsDistinctInside}
 use Rattle.edn_alike.specs.Said.{AreSaid}
 use Rattle.edn_alike.specs.declared.coded.Coded.{Coded}
-use Rattle.edn_alike.specs.declared.token.Token.{Token}
+use Rattle.edn_alike.specs.declared.token.CodeToken.{CodeToken}
 use Rattle.edn_alike.proofs.Codes.{codes_with_last, any_same, same_code}
 use Rattle.edn_alike.proofs.Likeness.{any_from, alike_from}
 use Rattle.edn_alike.specs.Order.{token_cmp, token_total, tokens_of}
@@ -28,10 +28,10 @@ or_back true false = refl
 or_back false true = refl
 or_back false false = refl
 
-abbrev is_one : List Token → List Token → Bool
+abbrev is_one : List CodeToken → List CodeToken → Bool
 is_one = eq_by_cmp (slice_cmp token_cmp)
 
-has_one_more : (q code : List Token) (xs : List (List Token)) (b : Bool) → b ≡ list_any (is_one q) xs
+has_one_more : (q code : List CodeToken) (xs : List (List CodeToken)) (b : Bool) → b ≡ list_any (is_one q) xs
     → cond (is_eq (slice_cmp token_cmp code q)) true b ≡ list_any (is_one q) (xs ++ code ∷ [])
 has_one_more q code xs b e =
     ap (λ z. cond z true b) ((eq_by_cmp_equiv (lists_total token_total)).symm code q) ∙ ap (λ z. cond (is_one q code) true z) e

@@ -5,8 +5,8 @@ use Rattle.std.specs.Cmp.Lexicographic.{slice_cmp}
 use Rattle.std.specs.Ordering.{ordering_then, bool_cmp}
 use Rattle.edn_alike.specs.Code.{spelled}
 use Rattle.edn_alike.specs.Order.{token_cmp}
-use Rattle.edn_alike.specs.declared.token.Token.{Token}
-use Rattle.edn_alike.specs.declared.token.Token.TheVariants.{Nil, Bool as Bool', Int, Str, Sym, Key, Inst, Uuid, Sequence, Map, Set}
+use Rattle.edn_alike.specs.declared.token.CodeToken.{CodeToken}
+use Rattle.edn_alike.specs.declared.token.CodeToken.TheVariants.{Nil, Bool as Bool', Int, Str, Sym, Key, Inst, Uuid, Sequence, Map, Set}
 
 first_equal : (r s : Ordering) → ordering_then r s ≡ Equal → r ≡ Equal
 first_equal Less s h = h
@@ -19,7 +19,7 @@ one_bool true false h = absurd (true≢false (sym (ap is_eq h)))
 one_bool false true h = absurd (true≢false (sym (ap is_eq h)))
 one_bool false false h = refl
 
-pub token_exact : (a b : Token) → token_cmp a b ≡ Equal → a ≡ b
+pub token_exact : (a b : CodeToken) → token_cmp a b ≡ Equal → a ≡ b
 unfolding token_cmp
 token_exact Nil Nil h = refl
 token_exact (Bool' a) (Bool' b) h = ap Bool' (one_bool a b h)

@@ -7,9 +7,9 @@ use Rattle.edn_alike.specs.contracts.token.TokenOrd.TheImpl as token_ord
 use Rattle.edn_alike.specs.contracts.token.TokenOrd.TheImpl.Laws as laws
 use Rattle.edn_alike.specs.declared.coded.Coded.{Coded}
 use Rattle.edn_alike.specs.declared.coded.Coded.TheVariants.{One, Many}
-use Rattle.edn_alike.specs.declared.token.Token.{Token}
+use Rattle.edn_alike.specs.declared.token.CodeToken.{CodeToken}
 
-unfoldable pub token_cmp : Token → Token → Ordering
+unfoldable pub token_cmp : CodeToken → CodeToken → Ordering
 token_cmp = (token_ord.ghosts).cmp
 
 -- so that the order of lists of them is one too
@@ -18,6 +18,6 @@ unfolding token_cmp
 token_total = laws.total-law
 
 -- a code as a set holds it
-abbrev pub tokens_of : Coded → List Token
+abbrev pub tokens_of : Coded → List CodeToken
 tokens_of (One token) = token ∷ []
 tokens_of (Many tokens) = tokens.items

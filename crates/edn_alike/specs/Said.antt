@@ -9,11 +9,11 @@ use Rattle.edn_alike.specs.Code.{AreCodes}
 use Rattle.edn_alike.specs.Order.{token_cmp, tokens_of}
 use Rattle.edn_alike.specs.declared.coded.Coded.{Coded}
 use Rattle.edn_alike.specs.declared.said.Said.{Said}
-use Rattle.edn_alike.specs.declared.token.Token.{Token}
+use Rattle.edn_alike.specs.declared.token.CodeToken.{CodeToken}
 
 -- the keys are the codes of the forms
 pub record AreSaid (fs : form.Forms) (keys : List Coded) : Type 0 where
-  pub codes : List (List Token)
+  pub codes : List (List CodeToken)
   pub are : AreCodes token_cmp fs codes
   pub same : (q : Coded) → list_any (λ k. is_eq (slice_cmp token_cmp (tokens_of q) (tokens_of k))) keys ≡ list_any (eq_by_cmp (slice_cmp token_cmp) (tokens_of q)) codes
 

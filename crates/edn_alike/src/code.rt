@@ -5,55 +5,55 @@ ghost use Rattle.edn_model.specs.Form as model;
 ghost use Rattle.edn_form.specs.View.{form_of, forms_of, pairs_of};
 ghost use Rattle.edn_alike.specs.Code.{IsCode, AreCodes, ArePairCodes, IsPairCode, joined, InOrder, IsRising};
 ghost use Rattle.edn_alike.specs.Order.{token_cmp};
-ghost use Rattle.edn_alike.specs.declared.token.Token.TheVariants.{Sequence, Map, Set};
+ghost use Rattle.edn_alike.specs.declared.token.CodeToken.TheVariants.{Sequence, Map, Set};
 
 use crate::spelling::spell;
-use crate::token::Token;
+use crate::token::CodeToken;
 use edn_form::Edn;
 use fb_memory::Memory;
 use std::alloc::Global;
 
 /// The recursion is as deep as the form.
 #[cycle(code)]
-pub fn code(alloc: Global, form: &Edn) -> Result<Vec<Token>, Memory>
+pub fn code(alloc: Global, form: &Edn) -> Result<Vec<CodeToken>, Memory>
     ensures { IfOk result (λ c. IsCode token_cmp (form_of form.now) c.items) }
 {
     match form {
-        Edn::Nil => single(alloc, Token::Nil),
-        Edn::Bool(b) => single(alloc, Token::Bool(*b)),
-        Edn::Int(n) => single(alloc, Token::Int(*n)),
-        Edn::Str(text) => single(alloc, Token::Str(spell(text)?)),
-        Edn::Sym(text) => single(alloc, Token::Sym(spell(text)?)),
-        Edn::Key(text) => single(alloc, Token::Key(spell(text)?)),
+        Edn::Nil => single(alloc, CodeToken::Nil),
+        Edn::Bool(b) => single(alloc, CodeToken::Bool(*b)),
+        Edn::Int(n) => single(alloc, CodeToken::Int(*n)),
+        Edn::Str(text) => single(alloc, CodeToken::Str(spell(text)?)),
+        Edn::Sym(text) => single(alloc, CodeToken::Sym(spell(text)?)),
+        Edn::Key(text) => single(alloc, CodeToken::Key(spell(text)?)),
         Edn::List(items) => sequence(alloc, codes(alloc, items.as_slice())?),
         Edn::Vector(items) => sequence(alloc, codes(alloc, items.as_slice())?),
         Edn::Map(pairs) => map(alloc, pair_codes(alloc, pairs.as_slice())?),
         Edn::Set(items) => set(alloc, codes(alloc, items.as_slice())?),
-        Edn::Inst(millis) => single(alloc, Token::Inst(*millis)),
-        Edn::Uuid(uuid) => single(alloc, Token::Uuid(*uuid)),
+        Edn::Inst(millis) => single(alloc, CodeToken::Inst(*millis)),
+        Edn::Uuid(uuid) => single(alloc, CodeToken::Uuid(*uuid)),
     }
 }
 
 /// The one token that is the code of a form which holds no other.
-pub(crate) fn only_token(form: &Edn) -> Result<Option<Token>, Memory>
+pub(crate) fn only_token(form: &Edn) -> Result<Option<CodeToken>, Memory>
     ensures { IfOk result (λ found. IfSome found (λ token. IsCode token_cmp (form_of form.now) (token ∷ []))) }
 {
     Ok(match form {
-        Edn::Nil => Some(Token::Nil),
-        Edn::Bool(b) => Some(Token::Bool(*b)),
-        Edn::Int(n) => Some(Token::Int(*n)),
-        Edn::Str(text) => Some(Token::Str(spell(text)?)),
-        Edn::Sym(text) => Some(Token::Sym(spell(text)?)),
-        Edn::Key(text) => Some(Token::Key(spell(text)?)),
-        Edn::Inst(millis) => Some(Token::Inst(*millis)),
-        Edn::Uuid(uuid) => Some(Token::Uuid(*uuid)),
+        Edn::Nil => Some(CodeToken::Nil),
+        Edn::Bool(b) => Some(CodeToken::Bool(*b)),
+        Edn::Int(n) => Some(CodeToken::Int(*n)),
+        Edn::Str(text) => Some(CodeToken::Str(spell(text)?)),
+        Edn::Sym(text) => Some(CodeToken::Sym(spell(text)?)),
+        Edn::Key(text) => Some(CodeToken::Key(spell(text)?)),
+        Edn::Inst(millis) => Some(CodeToken::Inst(*millis)),
+        Edn::Uuid(uuid) => Some(CodeToken::Uuid(*uuid)),
         _ => None,
     })
 }
 
 /// The codes of forms, in the order of these.
 #[cycle(code)]
-fn codes(alloc: Global, items: &[Edn]) -> Result<Vec<Vec<Token>>, Memory>
+fn codes(alloc: Global, items: &[Edn]) -> Result<Vec<Vec<CodeToken>>, Memory>
     ensures { IfOk result (λ cs. AreCodes token_cmp (model.forms (forms_of items.now)) (map vec_items cs.items)) }
 {
     let mut codes = Vec::with_capacity(alloc, items.len())?;
@@ -65,7 +65,7 @@ fn codes(alloc: Global, items: &[Edn]) -> Result<Vec<Vec<Token>>, Memory>
 
 /// The codes of a map's pairs, each as a sequence of its key and its value.
 #[cycle(code)]
-fn pair_codes(alloc: Global, pairs: &[(Edn, Edn)]) -> Result<Vec<Vec<Token>>, Memory>
+fn pair_codes(alloc: Global, pairs: &[(Edn, Edn)]) -> Result<Vec<Vec<CodeToken>>, Memory>
     ensures { IfOk result (λ cs. ArePairCodes token_cmp (model.pairs (pairs_of pairs.now)) (map vec_items cs.items)) }
 {
     let mut codes = Vec::with_capacity(alloc, pairs.len())?;
@@ -76,10 +76,10 @@ fn pair_codes(alloc: Global, pairs: &[(Edn, Edn)]) -> Result<Vec<Vec<Token>>, Me
 }
 
 /// The code of a key and its value, as a part of a map.
-pub fn pair(alloc: Global, key: Vec<Token>, value: Vec<Token>) -> Result<Vec<Token>, Memory>
+pub fn pair(alloc: Global, key: Vec<CodeToken>, value: Vec<CodeToken>) -> Result<Vec<CodeToken>, Memory>
     ensures { IfOk result (λ c. c.items ≡ joined (Sequence 2) (key.items ∷ value.items ∷ [])) }
 {
-    let mut tokens = single(alloc, Token::Sequence(2))?;
+    let mut tokens = single(alloc, CodeToken::Sequence(2))?;
     let (mut key, mut value) = (key, value);
     tokens.append(&mut key)?;
     tokens.append(&mut value)?;
@@ -87,32 +87,32 @@ pub fn pair(alloc: Global, key: Vec<Token>, value: Vec<Token>) -> Result<Vec<Tok
 }
 
 /// The code of a list or a vector, from its members' codes.
-pub fn sequence(alloc: Global, parts: Vec<Vec<Token>>) -> Result<Vec<Token>, Memory>
+pub fn sequence(alloc: Global, parts: Vec<Vec<CodeToken>>) -> Result<Vec<CodeToken>, Memory>
     ensures { IfOk result (λ c. c.items ≡ joined (Sequence (length (map vec_items parts.items))) (map vec_items parts.items)) }
 {
-    let front = Token::Sequence(parts.len());
+    let front = CodeToken::Sequence(parts.len());
     join(alloc, front, parts)
 }
 
 /// The code of a set, from its members' codes.
-pub fn set(alloc: Global, parts: Vec<Vec<Token>>) -> Result<Vec<Token>, Memory>
+pub fn set(alloc: Global, parts: Vec<Vec<CodeToken>>) -> Result<Vec<CodeToken>, Memory>
     ensures { IfOk result (λ c. InOrder token_cmp Set (map vec_items parts.items) c.items) }
 {
     let parts = sorted(parts)?;
-    let front = Token::Set(parts.len());
+    let front = CodeToken::Set(parts.len());
     join(alloc, front, parts)
 }
 
 /// The code of a map, from its pairs' codes.
-pub fn map(alloc: Global, parts: Vec<Vec<Token>>) -> Result<Vec<Token>, Memory>
+pub fn map(alloc: Global, parts: Vec<Vec<CodeToken>>) -> Result<Vec<CodeToken>, Memory>
     ensures { IfOk result (λ c. InOrder token_cmp Map (map vec_items parts.items) c.items) }
 {
     let parts = sorted(parts)?;
-    let front = Token::Map(parts.len());
+    let front = CodeToken::Map(parts.len());
     join(alloc, front, parts)
 }
 
-fn sorted(parts: Vec<Vec<Token>>) -> Result<Vec<Vec<Token>>, Memory>
+fn sorted(parts: Vec<Vec<CodeToken>>) -> Result<Vec<Vec<CodeToken>>, Memory>
     ensures shuffled { IfOk result (λ s. IsPermutation (map vec_items parts.items) (map vec_items s.items)) }
     ensures rises { IfOk result (λ s. IsRising token_cmp (map vec_items s.items)) }
 {
@@ -121,7 +121,7 @@ fn sorted(parts: Vec<Vec<Token>>) -> Result<Vec<Vec<Token>>, Memory>
     Ok(parts)
 }
 
-fn join(alloc: Global, front: Token, parts: Vec<Vec<Token>>) -> Result<Vec<Token>, Memory>
+fn join(alloc: Global, front: CodeToken, parts: Vec<Vec<CodeToken>>) -> Result<Vec<CodeToken>, Memory>
     ensures { IfOk result (λ c. c.items ≡ joined front (map vec_items parts.items)) }
 {
     let mut tokens = single(alloc, front)?;
@@ -132,7 +132,7 @@ fn join(alloc: Global, front: Token, parts: Vec<Vec<Token>>) -> Result<Vec<Token
     Ok(tokens)
 }
 
-fn single(alloc: Global, token: Token) -> Result<Vec<Token>, Memory>
+fn single(alloc: Global, token: CodeToken) -> Result<Vec<CodeToken>, Memory>
     ensures { IfOk result (λ c. c.items ≡ token ∷ []) }
 {
     let mut tokens = Vec::with_capacity(alloc, 1)?;

@@ -7,19 +7,19 @@ ghost use Rattle.std.specs.Cmp.Lexicographic.{slice_cmp};
 ghost use Rattle.std.specs.Ordering.{on, eq_by_cmp, as_partial_cmp};
 ghost use Rattle.edn_alike.specs.Order.{token_cmp, token_total, tokens_of};
 
-use crate::token::Token;
+use crate::token::CodeToken;
 use std::cmp::Ordering;
 use std::slice::from_ref;
 
 /// A code: one token, which needs no list of its own, or many.
 #[derive(Drop)]
 pub enum Coded {
-    One(Token),
-    Many(Vec<Token>),
+    One(CodeToken),
+    Many(Vec<CodeToken>),
 }
 
 impl Coded {
-    fn as_slice(&self) -> &[Token]
+    fn as_slice(&self) -> &[CodeToken]
         ensures { result.now ≡ tokens_of self.now }
     {
         match self {

@@ -9,18 +9,18 @@ ghost use Rattle.edn_model.specs.Likeness.{alike};
 ghost use Rattle.edn_alike.specs.Code.{IsCode};
 ghost use Rattle.edn_alike.specs.Inside.{IsDistinctInside};
 ghost use Rattle.edn_alike.specs.Order.{token_cmp};
-ghost use Rattle.edn_alike.specs.declared.token.Token.{Token};
+ghost use Rattle.edn_alike.specs.declared.token.CodeToken.{CodeToken};
 
 /// The order of tokens is total, and of two different ones one comes first.
 pub fn tokens_are_ordered()
     ensures total { IsTotalOrder token_cmp }
-    ensures exact { (a b : Token) → token_cmp a b ≡ Equal → a ≡ b }
+    ensures exact { (a b : CodeToken) → token_cmp a b ≡ Equal → a ≡ b }
 {}
 
 /// Forms of one code are alike, and of alike forms, inside the first of which nothing is said twice, the codes are one.
 pub fn alike_forms_have_one_code()
-    ensures are_alike { (f g : Form) (s : List Token) → IsCode token_cmp f s → IsCode token_cmp g s → alike f g ≡ true }
-    ensures one_code { (f g : Form) (s t : List Token) → IsDistinctInside f → alike f g ≡ true
+    ensures are_alike { (f g : Form) (s : List CodeToken) → IsCode token_cmp f s → IsCode token_cmp g s → alike f g ≡ true }
+    ensures one_code { (f g : Form) (s t : List CodeToken) → IsDistinctInside f → alike f g ≡ true
         → IsCode token_cmp f s → IsCode token_cmp g t → s ≡ t }
 {}
 

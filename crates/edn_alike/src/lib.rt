@@ -13,7 +13,7 @@ pub use fb_memory::Memory;
 pub use said::Said;
 pub use search::{first_key_twice, first_twice};
 pub use spelling::Spelling;
-pub use token::Token;
+pub use token::CodeToken;
 
 #[cfg(test)]
 mod tests;

@@ -9,7 +9,7 @@ ghost use Rattle.edn_alike.specs.Order.{token_cmp};
 
 use crate::code::{code, only_token};
 use crate::coded::Coded;
-use crate::token::Token;
+use crate::token::CodeToken;
 use edn_form::Edn;
 use fb_memory::Memory;
 use std::alloc::Global;
@@ -33,7 +33,7 @@ impl Said {
 
     /// Says one more form, by its code, and answers whether none alike to it was said before. After an error the form may
     /// not count as said.
-    pub fn say(&mut self, code: Vec<Token>) -> Result<bool, Memory>
+    pub fn say(&mut self, code: Vec<CodeToken>) -> Result<bool, Memory>
         ensures fresh { (fs : model.Forms) (f : model.Form) → HasSaid fs self.old → IsCode token_cmp f code.items
             → IsDistinctInside f → IfOk result (λ fresh. fresh ≡ not (any (alike f) fs)) }
         ensures said { (fs : model.Forms) (f : model.Form) → HasSaid fs self.old → IsCode token_cmp f code.items
@@ -44,7 +44,7 @@ impl Said {
     }
 
     /// The same of a code of one token, which needs no list.
-    fn say_token(&mut self, token: Token) -> Result<bool, Memory>
+    fn say_token(&mut self, token: CodeToken) -> Result<bool, Memory>
         ensures fresh { (fs : model.Forms) (f : model.Form) → HasSaid fs self.old → IsCode token_cmp f (token ∷ [])
             → IsDistinctInside f → IfOk result (λ fresh. fresh ≡ not (any (alike f) fs)) }
         ensures said { (fs : model.Forms) (f : model.Form) → HasSaid fs self.old → IsCode token_cmp f (token ∷ [])

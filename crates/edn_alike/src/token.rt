@@ -4,7 +4,7 @@ use crate::spelling::Spelling;
 
 /// A form that holds no other, or the front of a collection with the number of its parts.
 #[derive(PartialEq, Eq, PartialOrd, Ord, Drop)]
-pub enum Token {
+pub enum CodeToken {
     Nil,
     Bool(bool),
     Int(i64),

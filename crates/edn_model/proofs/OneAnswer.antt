@@ -3,14 +3,14 @@ use Rattle.std.proofs.Common.{◌≡◌, ℕ, ◌+◌, List, [], length, drop, r
 use Rattle.edn_model.specs.Form as form
 use Rattle.edn_model.specs.Grammar.{FormStands, OnlyGap}
 use Rattle.edn_model.specs.Faults.{Fault, FaultAt}
-use Rattle.edn_model.specs.Steps.{outermost, Outcome, read, nothing, fault, State, going, ended, Step, end, Reaches, stay, next}
+use Rattle.edn_model.specs.Steps.{outermost, Reading, read, nothing, fault, State, going, ended, Step, end, Reaches, stay, next}
 use Rattle.edn_model.proofs.OneStep.{one_step}
 use Rattle.edn_model.proofs.Reached.{joined, one, run_gap, run_text, framed, fails}
 
-no_more : {t : State} {a : Outcome} → Step (ended a) t → ⊥
+no_more : {t : State} {a : Reading} → Step (ended a) t → ⊥
 no_more x = elim x [ ]
 
-pub one_outcome : {s : State} {a b : Outcome} → Reaches s (ended a) → Reaches s (ended b) → ended a ≡ ended b
+pub one_outcome : {s : State} {a b : Reading} → Reaches s (ended a) → Reaches s (ended b) → ended a ≡ ended b
 one_outcome stay stay = refl
 one_outcome stay (next y q) = absurd (no_more y)
 one_outcome (next x r) stay = absurd (no_more x)

@@ -12,7 +12,7 @@ use Rattle.edn_model.specs.Instants.{IsInstant}
 use Rattle.edn_model.specs.Uuids.{IsUuid}
 use Rattle.edn_model.specs.Grammar.{TagStands, CommentStands, LastComment}
 use Rattle.edn_model.specs.Faults.{What, Open, in_list, in_vector, in_map, behind_key, in_set, behind_discard, behind_inst, behind_uuid, is_tag, wants_string, room, closes, opens_discard, begins_no_string, Fault, unsupported, bad, TokenStands, IsNoToken, IsUnsupported, Stuck, ends, closes_nothing, no_string, deep_collection, deep_discard, no_token, bad_character, bad_token, unsupported_token, in_string, in_comment, no_instant, no_uuid}
-use Rattle.edn_model.specs.Steps.{Frames, outermost, frame, opens_of, Outcome, fault, State, going, ended, land, closed, Free, HasRoom, Step, blank, comment, last_comment, discard, list, vector, map, set, inst, uuid, atom, string, close, instant, identifier, stuck, end}
+use Rattle.edn_model.specs.Steps.{Frames, outermost, frame, opens_of, Reading, fault, State, going, ended, land, closed, Free, HasRoom, Step, blank, comment, last_comment, discard, list, vector, map, set, inst, uuid, atom, string, close, instant, identifier, stuck, end}
 use Rattle.edn_model.proofs.Runs.{heads, tails, both, both_true, Each-weaken, one_run}
 use Rattle.edn_model.proofs.Utf8.{one_cut, no_cut}
 use Rattle.edn_model.proofs.Pieces.{is_ascii, ascii_utf8}

@@ -21,14 +21,14 @@ opens_of outermost = []
 opens_of (frame inner at outer) = inner ∷ opens_of outer
 
 -- what a reading comes to: a form and the bytes behind its text, the end, or a fault and the bytes from its place on
-pub data Outcome : Type 0 where
-  read : form.Form → List ℕ → Outcome
-  nothing : Outcome
-  fault : Fault → List ℕ → Outcome
+pub data Reading : Type 0 where
+  read : form.Form → List ℕ → Reading
+  nothing : Reading
+  fault : Fault → List ℕ → Reading
 
 pub data State : Type 0 where
   going : Frames → List ℕ → State
-  ended : Outcome → State
+  ended : Reading → State
 
 -- a whole form, from at to rest, falls to the innermost construct
 abbrev pub land : Frames → form.Form → List ℕ → List ℕ → State

@@ -1,3 +1,4 @@
+//! Tests: values read from forms and printed as forms.
 use super::*;
 use edn_form::Edn;
 use fb_memory::Memory;

@@ -2,7 +2,7 @@
 use Rattle.std.proofs.Common.{◌≡◌, ℕ, false, List, [], ◌∷◌, ◌++◌, Option, Some, None, sym, ◌∙◌, ap, subst}
 use Rattle.std.proofs.lemmas.Bool.{false≢true}
 use Rattle.fb_values.specs.declared.facts.Entry.{Entry}
-use Rattle.tx_model.specs.Step.{Outcome, accepted, refused, Guard, step}
+use Rattle.tx_model.specs.Step.{Decision, accepted, refused, Guard, step}
 use Rattle.event_model.specs.World.{Stop, World}
 use Rattle.event_model.specs.Event.{Event, accept, refuse, fail, stopped, mail, glance, held, sync, begin, keep, adopt, abandon, crash, committed, stopped_at, synced, Happens, is_crash}
 use Rattle.event_model.specs.Runs.{Runs, HaveNoCrash, IsReached}
@@ -11,11 +11,11 @@ use Rattle.event_model.proofs.Growing.{no_crash}
 
 -- ---- one world
 
-abbrev entry_or : Entry → Outcome → Entry
+abbrev entry_or : Entry → Decision → Entry
 entry_or other (accepted entry tempids) = entry
 entry_or other (refused refusal) = other
 
-one_entry : (outcome : Outcome) (entry other : Entry) (tempids others : List (List ℕ × ℕ)) → outcome ≡ accepted entry tempids → outcome ≡ accepted other others → entry ≡ other
+one_entry : (outcome : Decision) (entry other : Entry) (tempids others : List (List ℕ × ℕ)) → outcome ≡ accepted entry tempids → outcome ≡ accepted other others → entry ≡ other
 one_entry outcome entry other tempids others is too = sym (ap (entry_or entry) is) ∙ ap (entry_or entry) too
 
 one_number : (merging : Option ℕ) (c other : ℕ) → merging ≡ Some c → merging ≡ Some other → c ≡ other

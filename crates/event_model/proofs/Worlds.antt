@@ -8,35 +8,35 @@ use Rattle.fb_values.specs.declared.facts.Entry.{Entry}
 use Rattle.fb_model.specs.FirstEntry.{first_entry}
 use Rattle.fb_model.specs.History.{basis}
 use Rattle.tx_refusals.specs.declared.reasons.Refusal.{Refusal}
-use Rattle.tx_model.specs.Step.{Outcome, refused, accepted, step, no_guard, no_list}
+use Rattle.tx_model.specs.Step.{Decision, refused, accepted, step, no_guard, no_list}
 use Rattle.tx_model.specs.Samples.{clock}
 use Rattle.event_model.specs.World.{World, opened, with_session}
 use Rattle.event_model.specs.Event.{accept, refuse, fail, crash, with_mail, committed, stopped_at, synced, IsLogOf, IsFoundIn, Happens}
 use Rattle.event_model.specs.Runs.{Runs}
 use Rattle.event_model.specs.Samples.{start, text}
 
-abbrev pub entry_in : Outcome → Entry
+abbrev pub entry_in : Decision → Entry
 entry_in (accepted entry tempids) = entry
 entry_in (refused refusal) = first_entry
 
-abbrev pub tempids_in : Outcome → List (List ℕ × ℕ)
+abbrev pub tempids_in : Decision → List (List ℕ × ℕ)
 tempids_in (accepted entry tempids) = tempids
 tempids_in (refused refusal) = []
 
-abbrev pub is_accepted : Outcome → Bool
+abbrev pub is_accepted : Decision → Bool
 is_accepted (accepted entry tempids) = true
 is_accepted (refused refusal) = false
 
-accepted_is : (outcome : Outcome) → is_accepted outcome ≡ true → outcome ≡ accepted (entry_in outcome) (tempids_in outcome)
+accepted_is : (outcome : Decision) → is_accepted outcome ≡ true → outcome ≡ accepted (entry_in outcome) (tempids_in outcome)
 accepted_is (accepted entry tempids) is = refl
 accepted_is (refused refusal) is = absurd (false≢true is)
 
 -- what is refused, or the refusal of what is no list
-abbrev pub refusal_in : Outcome → Refusal
+abbrev pub refusal_in : Decision → Refusal
 refusal_in (accepted entry tempids) = no_list
 refusal_in (refused refusal) = refusal
 
-refused_is : (outcome : Outcome) → is_accepted outcome ≡ false → outcome ≡ refused (refusal_in outcome)
+refused_is : (outcome : Decision) → is_accepted outcome ≡ false → outcome ≡ refused (refusal_in outcome)
 refused_is (accepted entry tempids) is = absurd (false≢true (sym is))
 refused_is (refused refusal) is = refl
 

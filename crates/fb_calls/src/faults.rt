@@ -1,4 +1,4 @@
-// A fault of the outside. Which system error it was is not kept: the object's count says that there was one.
+//! A fault of the outside. Which system error it was is not kept: the object's count says that there was one.
 ghost use Rattle.std.specs.Prelude.{◌≡◌};
 ghost use Rattle.fb_calls.specs.Faults.{Rose, raised};
 

@@ -1,4 +1,4 @@
-// Which calls of an object in memory fail: those that its maker numbered.
+//! Which calls of an object in memory fail: those that its maker numbered.
 ghost use Rattle.std.specs.Prelude.{◌≡◌, is_err, OnErr, OnOk};
 ghost use Rattle.fb_calls.specs.Calls.{no_calls, fails_next, after_call, after_fault};
 ghost use Rattle.fb_calls.specs.Faults.{Rose, raised};

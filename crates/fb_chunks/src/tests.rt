@@ -1,3 +1,4 @@
+//! Tests: lists at the lengths where their chunks fill.
 use super::*;
 use std::test::Fail;
 

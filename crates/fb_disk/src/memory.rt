@@ -1,4 +1,4 @@
-// The disk in memory.
+//! The disk in memory.
 mod disks;
 mod place;
 mod record;

@@ -1,8 +1,9 @@
+//! Tests: a disk in memory, its crashes and its faults.
 use super::*;
 use std::alloc::Global;
 use std::test::Fail;
 
-// A disk with `abc` on it, and `defg` written behind and not synced.
+/// A disk with `abc` on it, and `defg` written behind and not synced.
 fn half_synced(alloc: Global) -> Result<MemDisk, Fail> {
     let mut disk = MemDisk::new(alloc, 200, Vec::new(alloc))?;
     disk.write_at(0, b"abc")?;
@@ -50,7 +51,7 @@ fn reads_end_at_the_end(rt: HostRuntime) -> Result<(), Fail> {
     Ok(())
 }
 
-// Of the room of 60 bytes the write takes 27 for the record, and the second call is made to fail.
+/// Of the room of 60 bytes the write takes 27 for the record, and the second call is made to fail.
 #[test]
 fn calls_fail_where_they_are_made_to_and_where_the_record_is_full(
     rt: HostRuntime,

@@ -7,7 +7,7 @@ use fb_text::Text;
 use fb_values::{Datom, Datoms, Entry, Value};
 use std::alloc::Global;
 
-// The built-in entities that others refer to.
+/// The built-in entities that others refer to.
 const IDENT: u64 = 1;
 
 const VALUE_TYPE: u64 = 2;

@@ -1,3 +1,4 @@
+//! Tests: lists of entries, heads and authors.
 use super::*;
 use fb_text::Text;
 use fb_values::Value;

@@ -8,7 +8,7 @@ use Rattle.std.specs.Int.{w64, to_be_bytes, from_be_bytes}
 use Rattle.disk_model.specs.Journal.{framed, opened}
 use Rattle.disk_model.proofs.Journals.{opened-push}
 use Rattle.fb_journal.specs.Payloads.{payload_at, payloads_of, AreWithin}
-use Rattle.fb_journal.specs.declared.payloads.Place.{Place}
+use Rattle.fb_journal.specs.declared.payloads.Span.{Span}
 
 -- the first bytes of what stands from a place on are bytes
 small-front : (file : List ℕ) (at n : ℕ) → ((i : ℕ) → get_or file i 0 < 256) → (i : ℕ) → get_or (take n (drop at file)) i 0 < 256
@@ -58,9 +58,9 @@ module _ (file : List ℕ) (gate n : ℕ) (small : (i : ℕ) → get_or file i 0
       ∙ append_assoc mark (opened records) (1 ∷ framed payload)
       ∙ ap (λ (l : List ℕ). mark ++ l) (sym (opened-push records payload))
 
-pub payloads_of-push : (file : List ℕ) (places : List Place) (place : Place) → payloads_of file (places ++ place ∷ []) ≡ payloads_of file places ++ payload_at file place ∷ []
+pub payloads_of-push : (file : List ℕ) (places : List Span) (place : Span) → payloads_of file (places ++ place ∷ []) ≡ payloads_of file places ++ payload_at file place ∷ []
 payloads_of-push file places place = map-append (payload_at file) places (place ∷ [])
 
-pub within-push : (file : List ℕ) (places : List Place) (place : Place) → AreWithin file places → place.start + place.len ≤ length file → AreWithin file (places ++ place ∷ [])
+pub within-push : (file : List ℕ) (places : List Span) (place : Span) → AreWithin file places → place.start + place.len ≤ length file → AreWithin file (places ++ place ∷ [])
 within-push file [] place so_far ends = (ends, tt)
 within-push file (p ∷ places) place so_far ends = (so_far.0, within-push file places place so_far.1 ends)

@@ -1,4 +1,4 @@
-// A record's bytes.
+//! A record's bytes.
 ghost use Rattle.std.specs.Prelude.{◌≡◌, IfOk};
 ghost use Rattle.disk_model.specs.Journal.{record_of};
 

@@ -1,4 +1,4 @@
-// A journal over a disk.
+//! A journal over a disk.
 ghost use Rattle.std.specs.Prelude.{◌≡◌, ◌≤◌, ◌<◌, ◌+◌, ◌^◌, ◌++◌, [], ◌∷◌, ℕ, List, length, None, Some, OnOk, IsErrOf};
 ghost use Rattle.fb_calls.specs.Faults.{Rose};
 ghost use Rattle.disk_model.specs.Disk.{Only, WhereTold, LeavesOnly};

@@ -1,4 +1,4 @@
-// What a journal begins with.
+//! What a journal begins with.
 ghost use Rattle.std.specs.Prelude.{◌≡◌, length};
 ghost use Rattle.disk_model.specs.Journal.{new_journal};
 ghost use Rattle.fb_journal.specs.Marks.{mark_bytes};
@@ -23,7 +23,7 @@ impl Mark {
         }
     }
 
-    // A journal without a record.
+    /// A journal without a record.
     pub(crate) fn new_journal(self) -> &'static [u8]
         ensures { result.now ≡ new_journal (mark_bytes self) }
     {

@@ -1,4 +1,4 @@
-// The payloads that a start read.
+//! The payloads that a start read.
 ghost use Rattle.std.specs.Prelude.{◌≡◌, ◌<◌, ◌↔◌, [], length, get_or, IsTrue};
 ghost use Rattle.fb_journal.specs.Payloads.{payloads_of, AreWithin};
 
@@ -7,7 +7,7 @@ use std::marker::Model;
 
 /// Where a payload lies in the file.
 #[derive(Clone, Copy)]
-pub(crate) struct Place {
+pub(crate) struct Span {
     pub(crate) start: usize,
     pub(crate) len: usize,
 }
@@ -16,7 +16,7 @@ pub(crate) struct Place {
 #[derive(Drop)]
 pub struct Payloads {
     file: Vec<u8>,
-    places: Vec<Place>,
+    places: Vec<Span>,
 }
 
 impl Model for Payloads {
@@ -31,7 +31,7 @@ impl Model for Payloads {
 }
 
 impl Payloads {
-    pub(crate) fn new(file: Vec<u8>, places: Vec<Place>) -> Payloads
+    pub(crate) fn new(file: Vec<u8>, places: Vec<Span>) -> Payloads
         requires { AreWithin file.items places.items }
         ensures { result ≡ payloads_of file.items places.items }
     {

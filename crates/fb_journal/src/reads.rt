@@ -1,11 +1,11 @@
-// Reading a file in bulk.
+//! Reading a file in bulk.
 ghost use Rattle.std.specs.Prelude.{◌≡◌, ◌≤◌, length, IfOk, OnOk};
 ghost use Rattle.fb_calls.specs.Faults.{Counts};
 ghost use Rattle.disk_model.specs.Disk.{Only, Within, WhereTold, LeavesOnly};
 
 use fb_disk::{Disk, Failed};
 
-// Syncs, so that what a read gives is on the disk, and answers the length of the file.
+/// Syncs, so that what a read gives is on the disk, and answers the length of the file.
 pub(crate) fn settle<D: Disk>(disk: &mut D) -> Result<u64, Failed>
     ensures length { IfOk result (λ n. WhereTold (D.bytes disk.old) (λ file. n ≡ length file)) }
     ensures bytes { OnOk result (D.bytes disk.new ≡ D.bytes disk.old) }
@@ -18,7 +18,7 @@ pub(crate) fn settle<D: Disk>(disk: &mut D) -> Result<u64, Failed>
     disk.len()
 }
 
-// Reads the file from its front until the buffer is full, or a read gives nothing.
+/// Reads the file from its front until the buffer is full, or a read gives nothing.
 pub(crate) fn fill<D: Disk>(disk: &mut D, buf: &mut [u8]) -> Result<usize, Failed>
     ensures within { IfOk result (λ n. n ≤ length buf.old) }
     ensures read { IfOk result (λ n. WhereTold (D.bytes disk.old) (λ file. length buf.old ≡ length file → (n ≡ length file) × (buf.new ≡ file))) }

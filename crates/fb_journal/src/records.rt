@@ -1,4 +1,4 @@
-// Reading the records of a file's bytes.
+//! Reading the records of a file's bytes.
 ghost use Rattle.std.specs.Prelude.{◌≡◌, ◌<◌, ◌≤◌, ◌+◌, [], length, take, vec_len, IfOk, MatchOption};
 ghost use Rattle.std.specs.Int.{w64, from_be_bytes};
 ghost use Rattle.disk_model.specs.Journal.{IsCutShort, HaveLengths};
@@ -7,7 +7,7 @@ ghost use Rattle.fb_journal.specs.Payloads.{payloads_of, AreWithin};
 ghost use Rattle.fb_journal.specs.Walks.{EndsAt};
 
 use crate::marks::MARK;
-use crate::payloads::Place;
+use crate::payloads::Span;
 use crate::{Mark, Payloads};
 use std::alloc::{AllocError, Global};
 
@@ -30,7 +30,7 @@ pub(crate) struct Records {
     pub(crate) end: End,
 }
 
-// Reads a file. One that does not begin with the mark and a gate breaks at its first byte.
+/// Reads a file. One that does not begin with the mark and a gate breaks at its first byte.
 pub(crate) fn read_records(alloc: Global, file: Vec<u8>, mark: Mark) -> Result<Records, AllocError>
     ensures ends { IfOk result (λ r. EndsAt (mark_bytes mark) r.payloads file.items r.end) }
 {
@@ -47,8 +47,8 @@ pub(crate) fn read_records(alloc: Global, file: Vec<u8>, mark: Mark) -> Result<R
     })
 }
 
-// Goes over the records behind the mark.
-fn read_places(alloc: Global, file: &[u8]) -> Result<(Vec<Place>, End), AllocError>
+/// Goes over the records behind the mark.
+fn read_places(alloc: Global, file: &[u8]) -> Result<(Vec<Span>, End), AllocError>
     requires { 15 < length file.now }
     ensures within { IfOk result (λ r. AreWithin file.now r.0.items) }
     ensures ends { IfOk result (λ r. EndsAt (take 15 file.now) (payloads_of file.now r.0.items) file.now r.1) }
@@ -62,13 +62,13 @@ fn read_places(alloc: Global, file: &[u8]) -> Result<(Vec<Place>, End), AllocErr
             return Ok((places, End::Broken { nth, at }));
         };
         let start = at + LENGTH;
-        places.push(Place { start, len })?;
+        places.push(Span { start, len })?;
         gate = start + len;
     }
     Ok((places, End::Closed { gate }))
 }
 
-// The length in front of what stands behind an open gate, where it leaves room for the payload and the next gate.
+/// The length in front of what stands behind an open gate, where it leaves room for the payload and the next gate.
 fn payload_len(rest: &[u8]) -> Option<usize>
     ensures { MatchOption result (IsCutShort rest.now) (λ n. (n ≡ from_be_bytes w64 (take 8 rest.now)) × (8 + n + 1 ≤ length rest.now)) }
 {

@@ -1,4 +1,4 @@
-// Starting a journal: a new one, or what a file holds.
+//! Starting a journal: a new one, or what a file holds.
 ghost use Rattle.std.specs.Prelude.{◌≡◌, ◌⊎◌, ◌≤◌, ◌<◌, ◌+◌, ◌^◌, [], List, ℕ, length, None, IfOk, IfErr, OnOk, MatchResult};
 ghost use Rattle.fb_calls.specs.Faults.{Rose};
 ghost use Rattle.disk_model.specs.Disk.{Only, Within, WhereTold, LeavesOnly};
@@ -125,7 +125,7 @@ impl<D: Disk> Journal<D> {
         }
     }
 
-    // The journal that goes on behind these records, or their fault.
+    /// The journal that goes on behind these records, or their fault.
     fn behind(disk: D, mark: Mark, records: Records) -> Result<(Journal<D>, Payloads), StartStop<D>>
         requires { IsPlace records.payloads records.end }
         ensures { MatchResult result
@@ -156,8 +156,8 @@ impl<D: Disk> Journal<D> {
     }
 }
 
-// Reads what a disk holds, or makes a new journal on it. A file that is longer than what can be read of it is no new
-// journal, and is not written over.
+/// Reads what a disk holds, or makes a new journal on it. A file that is longer than what can be read of it is no new
+/// journal, and is not written over.
 fn open_records<D: Disk>(alloc: Global, disk: &mut D, mark: Mark) -> Result<Records, StartFault>
     ensures reading { IfOk result (λ r. WhereTold (D.bytes disk.old) (λ file. IsReading (mark_bytes mark) r.payloads file r.end)) }
     ensures place { IfOk result (λ r. IsPlace r.payloads r.end) }

@@ -1,4 +1,4 @@
-// What a journal does to its disk. Each call leaves on the disk what it wrote before it answers Ok.
+//! What a journal does to its disk. Each call leaves on the disk what it wrote before it answers Ok.
 ghost use Rattle.std.specs.Prelude.{◌≡◌, ◌⊎◌, ◌<◌, ◌+◌, ◌^◌, [], ◌∷◌, List, ℕ, length, OnOk, option_map};
 ghost use Rattle.fb_calls.specs.Faults.{Counts};
 ghost use Rattle.disk_model.specs.Disk.{written, Torn, Only, WhereTold, LeavesOnly};
@@ -20,7 +20,7 @@ pub(crate) fn store<D: Disk>(disk: &mut D, at: u64, piece: &[u8]) -> Result<(), 
     disk.sync()
 }
 
-// Writes a record behind its closed gate, and then opens the gate.
+/// Writes a record behind its closed gate, and then opens the gate.
 pub(crate) fn add_record<D: Disk>(disk: &mut D, gate: u64, piece: &[u8]) -> Result<(), Failed>
     requires { gate + 1 < 2 ^ 64 }
     ensures within { OnOk result (gate + 1 + length piece.now < 2 ^ 64) }
@@ -34,8 +34,8 @@ pub(crate) fn add_record<D: Disk>(disk: &mut D, gate: u64, piece: &[u8]) -> Resu
     store(disk, gate, &[1])
 }
 
-// Starts the file anew. The cut is on the disk before anything is written: what a torn cut leaves could else stand
-// behind the new journal's bytes.
+/// Starts the file anew. The cut is on the disk before anything is written: what a torn cut leaves could else stand
+/// behind the new journal's bytes.
 pub(crate) fn empty<D: Disk>(disk: &mut D, mark: Mark) -> Result<(), Failed>
     ensures bytes { OnOk result (D.bytes disk.new ≡ option_map (λ _. new_journal (mark_bytes mark)) (D.bytes disk.old)) }
     ensures durable { OnOk result (WhereTold (D.bytes disk.new) (λ file. Only file (D.images disk.new))) }

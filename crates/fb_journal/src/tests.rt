@@ -1,3 +1,4 @@
+//! Tests: a journal over a disk in memory.
 use super::*;
 use fb_disk::{Disk, MemDisk};
 use std::alloc::Global;
@@ -5,12 +6,12 @@ use std::test::Fail;
 
 const PAYLOADS: [&[u8]; 3] = [b"hi", b"", b"x"];
 
-// A journal of these three payloads: its mark, the gate of record 0 at byte 15, the lengths at bytes 16, 27 and 36, the
-// payloads behind them, the gates of records 1 and 2 at bytes 26 and 35, and the last gate, which is closed, at byte 45.
+/// A journal of these three payloads: its mark, the gate of record 0 at byte 15, the lengths at bytes 16, 27 and 36, the
+/// payloads behind them, the gates of records 1 and 2 at bytes 26 and 35, and the last gate, which is closed, at byte 45.
 const FILE: [u8; 46] =
     *b"FACTBASE LOG 1\n\x01\0\0\0\0\0\0\0\x02hi\x01\0\0\0\0\0\0\0\0\x01\0\0\0\0\0\0\0\x01x\0";
 
-// What a start finds: the payloads, each with a comma behind, or the record and the byte of the first fault.
+/// What a start finds: the payloads, each with a comma behind, or the record and the byte of the first fault.
 type Found = Result<&'static [u8], (u64, u64)>;
 
 const WHOLE: Found = Ok(b"hi,,x,");
@@ -39,14 +40,14 @@ fn finds(alloc: Global, disk: MemDisk, want: Found) -> Result<bool, Fail> {
     }
 }
 
-// Whether that is found in a file of these bytes.
+/// Whether that is found in a file of these bytes.
 fn finds_in(alloc: Global, bytes: &[u8], want: Found) -> Result<bool, Fail> {
     let mut disk = MemDisk::new(alloc, 200, Vec::new(alloc))?;
     disk.write_at(0, bytes)?;
     finds(alloc, disk, want)
 }
 
-// Whether that is found in the file above, with another byte at this place.
+/// Whether that is found in the file above, with another byte at this place.
 fn finds_with(alloc: Global, place: usize, byte: u8, want: Found) -> Result<bool, Fail> {
     let mut file = FILE;
     if let Some(changed) = file.get_mut(place) {
@@ -62,7 +63,7 @@ fn emptied(alloc: Global, disk: MemDisk) -> Result<Journal<MemDisk>, StartFault>
     }
 }
 
-// Adds the payloads to a new journal until a call of its disk fails. Answers how many were acknowledged, and the disk.
+/// Adds the payloads to a new journal until a call of its disk fails. Answers how many were acknowledged, and the disk.
 fn added_until(alloc: Global, call: u64) -> Result<(usize, MemDisk), Fail> {
     let disk = MemDisk::new(alloc, 1000, vec![in alloc; call]?)?;
     let (mut journal, _) = started(alloc, disk)?;
@@ -75,9 +76,9 @@ fn added_until(alloc: Global, call: u64) -> Result<(usize, MemDisk), Fail> {
     Ok((PAYLOADS.len(), journal.give_back()))
 }
 
-// A start makes the calls 1 to 4, and each record four more: its write, a sync, the gate's write, a sync. A call that
-// fails leaves the disk as a stop before it does. The records are written with 11, 9 and 10 bytes, and a gate with one:
-// of each write none, one, half and all of them are kept.
+/// A start makes the calls 1 to 4, and each record four more: its write, a sync, the gate's write, a sync. A call that
+/// fails leaves the disk as a stop before it does. The records are written with 11, 9 and 10 bytes, and a gate with one:
+/// of each write none, one, half and all of them are kept.
 #[test]
 fn a_stop_at_each_call_leaves_what_was_acknowledged(rt: HostRuntime) -> Result<(), Fail> {
     let alloc = rt.alloc();
@@ -98,7 +99,7 @@ fn a_stop_at_each_call_leaves_what_was_acknowledged(rt: HostRuntime) -> Result<(
     Ok(())
 }
 
-// Each byte as 0, 1 and 255.
+/// Each byte as 0, 1 and 255.
 #[test]
 fn a_changed_byte_gives_other_records_or_the_first_fault(rt: HostRuntime) -> Result<(), Fail> {
     let alloc = rt.alloc();
@@ -128,7 +129,7 @@ fn a_changed_byte_gives_other_records_or_the_first_fault(rt: HostRuntime) -> Res
     Ok(())
 }
 
-// Each byte of a length at each value that leaves no room for the payload and the gate behind it.
+/// Each byte of a length at each value that leaves no room for the payload and the gate behind it.
 #[test]
 fn a_length_that_leaves_no_room_is_the_first_fault(rt: HostRuntime) -> Result<(), Fail> {
     let alloc = rt.alloc();
@@ -153,7 +154,7 @@ fn a_length_that_leaves_no_room_is_the_first_fault(rt: HostRuntime) -> Result<()
     Ok(())
 }
 
-// The greatest lengths that leave room, and one whose payload ends at a gate that is open.
+/// The greatest lengths that leave room, and one whose payload ends at a gate that is open.
 #[test]
 fn a_length_that_leaves_room_is_taken(rt: HostRuntime) -> Result<(), Fail> {
     let alloc = rt.alloc();
@@ -175,7 +176,7 @@ fn a_length_that_leaves_room_is_taken(rt: HostRuntime) -> Result<(), Fail> {
     Ok(())
 }
 
-// Each length that a file of three records can be cut to.
+/// Each length that a file of three records can be cut to.
 #[test]
 fn a_file_that_is_cut_off_gives_its_first_fault(rt: HostRuntime) -> Result<(), Fail> {
     let alloc = rt.alloc();

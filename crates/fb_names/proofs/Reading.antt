@@ -24,7 +24,7 @@ use Rattle.read_refusals.specs.declared.reasons.Reason.TheVariants.{BadComponent
 use Rattle.read_refusals.specs.declared.reasons.Refusal.{Refusal}
 use Rattle.read_model.specs.Names.{id_in, IsFound}
 use Rattle.read_model.specs.Given.{Given, is, by_name, wrong, refusal, Follows, Reads}
-use Rattle.read_model.specs.Components.{Part, entity_given, attribute_given, plain_given, value_given, attribute_in, end_given, parts_of, no_component, no_command, with_next, AreRead, AreComponents, IsIndexRange}
+use Rattle.read_model.specs.Components.{Component, entity_given, attribute_given, plain_given, value_given, attribute_in, end_given, parts_of, no_component, no_command, with_next, AreRead, AreComponents, IsIndexRange}
 use Rattle.fb_names.specs.declared.given.Typed.{Typed}
 use Rattle.fb_names.specs.declared.stops.NameStop.{NameStop}
 use Rattle.fb_names.specs.declared.stops.NameStop.TheVariants.{Refused, Memory}
@@ -109,7 +109,7 @@ zip_at (a ∷ xs) (b ∷ ys) zero x y at_x at_y = let one : a ≡ x = cc in let 
 zip_at (a ∷ xs) (b ∷ ys) (suc i) x y at_x at_y = zip_at xs ys i x y at_x at_y
 
 -- what is read from a place on comes to the answer, wherever reading began
-module _ (h : List Entry) (w : Window) (Selects : Datom → Type 0) (probe : Probe) (parts : List Part) (fs : List Form) (i : ℕ) (part : Part) (f : Form) (at_part : slice_get parts i ≡ Some part) (at_form : slice_get fs i ≡ Some f) where
+module _ (h : List Entry) (w : Window) (Selects : Datom → Type 0) (probe : Probe) (parts : List Component) (fs : List Form) (i : ℕ) (part : Component) (f : Form) (at_part : slice_get parts i ≡ Some part) (at_form : slice_get fs i ≡ Some f) where
   abbrev Behind : Probe → Result Probe Refusal → Type 0
   Behind more answer = AreRead h w Selects more (i + 2 + 1) (drop (suc i) (zip parts fs)) answer
 

@@ -30,7 +30,7 @@ const FIRST: usize = 2;
 
 /// What a component is.
 #[derive(Clone, Copy)]
-pub enum Part {
+pub enum Component {
     Entity,
     Attribute,
     Value,
@@ -68,7 +68,7 @@ fn no_command() -> Refusal
 }
 
 /// What stands at a place of the components, counted from 0.
-fn part_at(order: Order, place: usize) -> Part
+fn part_at(order: Order, place: usize) -> Component
     requires { place < 4 }
     ensures { slice_get (model_parts_of order) place ≡ Some (part_in result) }
 {
@@ -76,14 +76,14 @@ fn part_at(order: Order, place: usize) -> Part
     parts[place]
 }
 
-fn parts_of(order: Order) -> [Part; 4]
+fn parts_of(order: Order) -> [Component; 4]
     ensures { map part_in result ≡ model_parts_of order }
 {
     match order {
-        Order::Eavt => [Part::Entity, Part::Attribute, Part::Value, Part::T],
-        Order::Aevt => [Part::Attribute, Part::Entity, Part::Value, Part::T],
-        Order::Avet => [Part::Attribute, Part::Value, Part::Entity, Part::T],
-        Order::Vaet => [Part::Value, Part::Attribute, Part::Entity, Part::T],
+        Order::Eavt => [Component::Entity, Component::Attribute, Component::Value, Component::T],
+        Order::Aevt => [Component::Attribute, Component::Entity, Component::Value, Component::T],
+        Order::Avet => [Component::Attribute, Component::Value, Component::Entity, Component::T],
+        Order::Vaet => [Component::Value, Component::Attribute, Component::Entity, Component::T],
     }
 }
 
@@ -104,28 +104,28 @@ fn with_next<S: Selector>(
     alloc: Global,
     db: &Db<S>,
     probe: Probe,
-    part: Part,
+    part: Component,
     form: &Edn,
     at: usize,
 ) -> Result<Probe, NameStop>
     ensures { AnswersAs (IsGiven db.now.snapshot.entries (window_of db.now) (S.selects db.now.filter) at (model_with_next (facts db.now.snapshot.entries) probe (part_in part) (form_of form.now))) result }
 {
     match part {
-        Part::Entity => {
+        Component::Entity => {
             let e = entity(alloc, db, form, at)?;
             Ok(Probe {
                 e: Some(e),
                 ..probe
             })
         }
-        Part::Attribute => {
+        Component::Attribute => {
             let a = attribute(db.snapshot.schema(), probe.order, form, at)?.id;
             Ok(Probe {
                 a: Some(a),
                 ..probe
             })
         }
-        Part::Value => {
+        Component::Value => {
             let kind = kind_behind(db.snapshot.schema(), &probe);
             let v = value(alloc, db, kind, form, at)?;
             Ok(Probe {
@@ -133,7 +133,7 @@ fn with_next<S: Selector>(
                 ..probe
             })
         }
-        Part::T => {
+        Component::T => {
             let t = t(form, at)?;
             Ok(Probe {
                 t: Some(t),

@@ -1,3 +1,4 @@
+//! Tests: names and components of small databases.
 use super::*;
 use edn_form::{Edn, Items};
 use fb_db::Db;

@@ -1,3 +1,4 @@
+//! Tests: entities as they are documented.
 use super::*;
 use std::test::Fail;
 

@@ -1,4 +1,4 @@
-// The time of day.
+//! The time of day.
 ghost use Rattle.std.specs.Prelude.{ℤ};
 
 /// A clock, in milliseconds since 1970 began.

@@ -1,4 +1,4 @@
-// Why a host handed out nothing.
+//! Why a host handed out nothing.
 use fb_memory::Memory;
 use thiserror::Error;
 

@@ -1,4 +1,4 @@
-// What opens sources, sinks and disks by name.
+//! What opens sources, sinks and disks by name.
 ghost use Rattle.std.specs.Prelude.{◌≡◌, ℕ, List, Option, IfOk};
 ghost use Rattle.fb_ports.specs.Faults.{CountsOpening};
 ghost use Rattle.fb_ports.specs.Telling.{Same, SameBut, SameParts, SameButPart, Alike, SameImages, SameImagesBut};

@@ -1,4 +1,4 @@
-// Bytes that come in and bytes that go out. No call of a source or a sink takes memory.
+//! Bytes that come in and bytes that go out. No call of a source or a sink takes memory.
 ghost use Rattle.std.specs.Prelude.{◌≡◌, ◌≤◌, ◌<◌, ℕ, List, length, take, Option, IfOk, OnErr};
 ghost use Rattle.std.specs.Io.KnownBytes.{prepend_known, append_known, IsAtEnd};
 ghost use Rattle.fb_ports.specs.Faults.{Counts};

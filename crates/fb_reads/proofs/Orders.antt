@@ -19,7 +19,7 @@ use Rattle.read_refusals.specs.declared.reasons.Reason.TheVariants.{NotInIndex}
 use Rattle.read_refusals.specs.declared.reasons.Refusal.{Refusal}
 use Rattle.read_model.specs.Names.{id_in}
 use Rattle.read_model.specs.Given.{Given, is, by_name, wrong, Reads, Follows}
-use Rattle.read_model.specs.Components.{Part, an_entity, an_attribute, a_value, a_t, parts_of, entity_given, attribute_given, plain_given, value_given, kind_behind, t_in, attribute_in, with_next, no_component, no_command, AreRead, AreComponents}
+use Rattle.read_model.specs.Components.{Component, an_entity, an_attribute, a_value, a_t, parts_of, entity_given, attribute_given, plain_given, value_given, kind_behind, t_in, attribute_in, with_next, no_component, no_command, AreRead, AreComponents}
 
 -- whatever comes of it has the property
 abbrev AllGiven : {X : Type 0} → (X → Type 0) → Given X → Type 0
@@ -50,7 +50,7 @@ value_keeps : {X : Type 0} (P : X → Type 0) (facts : List Datom) (make : Value
 value_keeps P facts make kind f true all = entity_keeps P (λ e. make (Ref e)) (id_in facts f) (λ e. all (Ref e))
 value_keeps P facts make kind f false all = plain_keeps P make (value_in kind f) all
 
-next_keeps : (facts : List Datom) (probe : Probe) (part : Part) (f : Form) → AllGiven (λ more. more.order ≡ probe.order) (with_next facts probe part f)
+next_keeps : (facts : List Datom) (probe : Probe) (part : Component) (f : Form) → AllGiven (λ more. more.order ≡ probe.order) (with_next facts probe part f)
 next_keeps facts probe an_entity f = entity_keeps (λ (more : Probe). more.order ≡ probe.order) (λ e. record probe { e = Some e }) (id_in facts f) (λ e. refl)
 next_keeps facts probe an_attribute f =
     attribute_keeps (λ (more : Probe). more.order ≡ probe.order) (λ a. record probe { a = Some a.id }) probe.order (attribute_in facts f) (λ a. refl)
@@ -72,7 +72,7 @@ read_on h w Selects at (is x) P Next y all on read = on x all read
 read_on h w Selects at (by_name id make) P Next y all on read = followed at make P Next y read.0 all on read.2
 read_on h w Selects at (wrong reason) P Next y all on refused = absurd (cc)
 
-order_read : (h : List Entry) (w : Window) (Selects : Datom → Type 0) (fs : List (Part × Form)) (probe p : Probe) (at : ℕ) → AreRead h w Selects probe at fs (Ok p) → p.order ≡ probe.order
+order_read : (h : List Entry) (w : Window) (Selects : Datom → Type 0) (fs : List (Component × Form)) (probe p : Probe) (at : ℕ) → AreRead h w Selects probe at fs (Ok p) → p.order ≡ probe.order
 order_read h w Selects [] probe p at read = let same : p ≡ probe = cc in ap (λ (q : Probe). q.order) same
 order_read h w Selects (next ∷ rest) probe p at read =
     read_on h w Selects at (with_next (facts h) probe next.0 next.1) (λ (more : Probe). more.order ≡ probe.order) (λ more. AreRead h w Selects more (at + 1) rest) p

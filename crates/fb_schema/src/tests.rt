@@ -1,3 +1,4 @@
+//! Tests: schemas of small histories.
 use super::*;
 use fb_memory::Memory;
 use fb_text::Text;

@@ -25,8 +25,8 @@ use Rattle.fb_desk.specs.Desks.{State, GoesOn}
 use Rattle.fb_session.specs.declared.outcome.SessionEnd.{SessionEnd}
 use Rattle.fb_session.specs.declared.outcome.SessionEnd.TheVariants as ended
 use Rattle.fb_session.specs.declared.session.Session.{Session}
-use Rattle.fb_session.specs.declared.serve.Stop.{Stop}
-use Rattle.fb_session.specs.declared.serve.Stop.TheVariants.{WriteFault, Memory}
+use Rattle.fb_session.specs.declared.serve.AnswerError.{AnswerError}
+use Rattle.fb_session.specs.declared.serve.AnswerError.TheVariants.{WriteFault, Memory}
 use Rattle.fb_session.specs.Replies.{AnswersAll, AnswersUpTo, SinkCount}
 use Rattle.fb_session.specs.Sessions.{Fixed, over, WentOn, IsOpened, Keeps, Answered, Replied, RepliedPart, StopsAt, end_of, TalkSoFar, NoCommand, Talks}
 use Rattle.fb_session.proofs.KnownBytes.{append_known-none, append_known-append}
@@ -320,7 +320,7 @@ module _ {S : Type 0} (f : Fixed) (names : S → List (List ℕ)) (bytes : List 
           }
 
       -- the form behind was not answered
-      pub talk-stops : (stop : Stop) → StopsAt f form old new names was is so_far.standing mid has stop → Talks f bytes start is new.places.items new.commits.items had has (end_of stop)
+      pub talk-stops : (stop : AnswerError) → StopsAt f form old new names was is so_far.standing mid has stop → Talks f bytes start is new.places.items new.commits.items had has (end_of stop)
       talk-stops WriteFault stopped = talk-breaks_off stopped
       talk-stops Memory stopped =
           elim stopped.unanswered [

@@ -34,8 +34,8 @@ use Rattle.fb_desk.specs.declared.answers.TxFault.TheVariants as fault
 use Rattle.fb_session.specs.declared.outcome.SessionEnd.{SessionEnd}
 use Rattle.fb_session.specs.declared.outcome.SessionEnd.TheVariants as ended
 use Rattle.fb_session.specs.declared.session.Session.{Session}
-use Rattle.fb_session.specs.declared.serve.Stop.{Stop}
-use Rattle.fb_session.specs.declared.serve.Stop.TheVariants.{WriteFault, Memory}
+use Rattle.fb_session.specs.declared.serve.AnswerError.{AnswerError}
+use Rattle.fb_session.specs.declared.serve.AnswerError.TheVariants.{WriteFault, Memory}
 use Rattle.fb_session.specs.Written.{TakesPart}
 use Rattle.fb_session.specs.Replies.{Answers}
 
@@ -173,16 +173,16 @@ pub record RepliedNothing {S : Type 0} (f : Fixed) (form : Form) (old new : Sess
   pub places : new.places.items ≡ old.places.items
   pub written : has ≡ had
 
-abbrev pub StopsAt : {S : Type 0} → Fixed → Form → Session S → Session S → (S → List (List ℕ)) → State → State → Standing → Option (List ℕ) → Option (List ℕ) → Stop → Type 0
+abbrev pub StopsAt : {S : Type 0} → Fixed → Form → Session S → Session S → (S → List (List ℕ)) → State → State → Standing → Option (List ℕ) → Option (List ℕ) → AnswerError → Type 0
 StopsAt f form old new names was is before had has WriteFault = RepliedPart f form old new names was is before had has
 StopsAt f form old new names was is before had has Memory = RepliedNothing f form old new names was is before had has
 
-abbrev pub StopCount : Stop → ℕ → ℕ → Type 0
+abbrev pub StopCount : AnswerError → ℕ → ℕ → Type 0
 StopCount WriteFault old new = Rose old new
 StopCount Memory old new = new ≡ old
 
 -- how a session ends that stops so
-abbrev pub end_of : Stop → SessionEnd
+abbrev pub end_of : AnswerError → SessionEnd
 end_of WriteFault = ended.WriteFault
 end_of Memory = ended.Memory
 

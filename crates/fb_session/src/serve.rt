@@ -30,30 +30,30 @@ const MOST_COMMANDS: usize = 1_000_000;
 
 /// Why a form was not answered.
 #[derive(Drop)]
-pub(crate) enum Stop {
+pub(crate) enum AnswerError {
     WriteFault,
     Memory,
 }
 
-impl Stop {
+impl AnswerError {
     /// How a session ends that stops so.
     fn end(self) -> SessionEnd
         ensures { result ≡ end_of self }
     {
         match self {
-            Stop::WriteFault => SessionEnd::WriteFault,
-            Stop::Memory => SessionEnd::Memory,
+            AnswerError::WriteFault => SessionEnd::WriteFault,
+            AnswerError::Memory => SessionEnd::Memory,
         }
     }
 }
 
-impl From<Memory> for Stop {
-    ghost use Rattle.fb_session.specs.declared.serve.Stop.{Stop};
+impl From<Memory> for AnswerError {
+    ghost use Rattle.fb_session.specs.declared.serve.AnswerError.{AnswerError};
 
-    ghost from_gives = { λ _ stop. stop ≡ Stop.Memory };
+    ghost from_gives = { λ _ stop. stop ≡ AnswerError.Memory };
 
-    fn from(_: Memory) -> Stop {
-        Stop::Memory
+    fn from(_: Memory) -> AnswerError {
+        AnswerError::Memory
     }
 }
 
@@ -204,7 +204,7 @@ impl<P: FilterTable> Session<Picks<'_, P>> {
         clock: &K,
         guard: &G,
         form: &Edn,
-    ) -> Result<(), Stop>
+    ) -> Result<(), AnswerError>
         requires sync { IsSync R.row }
         requires left { 0 < (T.state desk.old).left }
         ensures goes_on { GoesOn (T.state desk.old) (T.state desk.new) }
@@ -226,7 +226,7 @@ impl<P: FilterTable> Session<Picks<'_, P>> {
         self.make_room()?;
         self.reply(rt, alloc, desk, clock, guard, form)?;
         if write_line(sink, self.line.as_slice()).is_err() {
-            return Err(Stop::WriteFault);
+            return Err(AnswerError::WriteFault);
         }
         let place = self.place();
         self.places.push_reserved(place);

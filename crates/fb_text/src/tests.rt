@@ -1,8 +1,9 @@
+//! Tests: texts on both sides of the longest that lies in the value itself.
 use super::*;
 use std::test::Fail;
 
-// 22 and 23 bytes: the longest text that lies in the value itself, and the shortest that does not. The last character
-// of each has two bytes.
+/// 22 and 23 bytes: the longest text that lies in the value itself, and the shortest that does not. The last character
+/// of each has two bytes.
 const LONGEST_SHORT: &str = "ein Wort mit 22 Byteß";
 
 const SHORTEST_LONG: &str = "ein Wort mit 23 Bytesß";

@@ -1,5 +1,5 @@
 //! What the database records: values of nine types, datoms, the entries of a history, and the four orders in which
-//! its indexes keep datoms. Every other crate of the database stands on this one.
+//! its indexes keep datoms.
 #![tactic(auto)]
 
 pub mod examples;

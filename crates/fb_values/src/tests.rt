@@ -1,3 +1,4 @@
+//! Tests: values, datoms and their orders.
 use super::*;
 use fb_text::Text;
 use std::alloc::Global;

@@ -18,7 +18,7 @@ use std::test::Fail;
 
 const SIZES: [u32; 7] = [0, 1, 256, 257, 512, 513, 100_000];
 
-// One of each type, by turns.
+/// One of each type, by turns.
 fn value(alloc: Global, n: u32) -> Result<Value, Memory> {
     Ok(match n % 9 {
         0 => Value::Keyword(Text::of(alloc, "a/b")?),
@@ -33,7 +33,7 @@ fn value(alloc: Global, n: u32) -> Result<Value, Memory> {
     })
 }
 
-// Three datoms of each entity, every fourth t a retraction. No two numbers give the same key.
+/// Three datoms of each entity, every fourth t a retraction. No two numbers give the same key.
 fn sample(alloc: Global, n: u32) -> Result<Datom, Memory>
     ensures { IfOk result (λ d. d.added ≡ adds d.t) }
 {
@@ -47,7 +47,7 @@ fn sample(alloc: Global, n: u32) -> Result<Datom, Memory>
     })
 }
 
-// The n-th number below `size`, in an order that neither rises nor falls.
+/// The n-th number below `size`, in an order that neither rises nor falls.
 fn shuffled(n: u32, size: u32) -> u32
     requires { 0 < size }
 {
@@ -85,7 +85,7 @@ fn one(alloc: Global, n: u32) -> Result<Datoms, Memory>
     Ok(Datoms::of(vec![in alloc; datom]?))
 }
 
-// The index with the n-th sample.
+/// The index with the n-th sample.
 fn with_sample(alloc: Global, live: &Live, covers: &Covers, n: u32) -> Result<Live, Memory>
     requires { (order : Order) → AreSamples (list_in live.now order) }
     ensures { IfOk result (λ new. (order : Order) → AreSamples (list_in new order)) }
@@ -106,7 +106,7 @@ fn filled(alloc: Global, covers: &Covers, size: u32) -> Result<Live, Memory>
     Ok(live)
 }
 
-// The samples below `size` that the order's index holds, in its order.
+/// The samples below `size` that the order's index holds, in its order.
 fn plain(alloc: Global, covers: &Covers, order: Order, size: u32) -> Result<Vec<Datom>, Memory> {
     let mut list = Vec::new(alloc);
     for n in 0..size {
@@ -126,7 +126,7 @@ fn seek<L: Ledger>(live: &Live, probe: &Probe, blank: Blank) -> u64
     live.seek(probe, &mut steps)
 }
 
-// Whether a seek finds the first datom of the list that is not below the probe.
+/// Whether a seek finds the first datom of the list that is not below the probe.
 fn seeks(live: &Live, probe: &Probe, list: &[Datom]) -> bool {
     let mut want = list.len();
     for place in 0..list.len() {
@@ -138,7 +138,7 @@ fn seeks(live: &Live, probe: &Probe, list: &[Datom]) -> bool {
     seek::<Brand>(live, probe, Blank::new(1)) == want as u64
 }
 
-// Whether seeks of the datom's own place, and of its first component alone, are right.
+/// Whether seeks of the datom's own place, and of its first component alone, are right.
 fn is_sought(live: &Live, order: Order, datom: &Datom, list: &[Datom]) -> Result<bool, Memory> {
     let whole = Probe {
         order,
@@ -171,7 +171,7 @@ fn is_at(live: &Live, order: Order, place: usize, datom: &Datom) -> bool {
     }
 }
 
-// Whether the order's list is the plain one. About thirty of its datoms are sought.
+/// Whether the order's list is the plain one. About thirty of its datoms are sought.
 fn agrees(live: &Live, order: Order, list: &[Datom]) -> Result<bool, Memory> {
     let step = list.len() / 32 + 1;
     for (place, datom) in list.iter().enumerate() {
@@ -185,7 +185,7 @@ fn agrees(live: &Live, order: Order, list: &[Datom]) -> Result<bool, Memory> {
     Ok(live.len(order) == list.len() as u64 && live.at(order, live.len(order)).is_none())
 }
 
-// An index, and the coverage that it was made under.
+/// An index, and the coverage that it was made under.
 #[derive(Drop)]
 struct Made {
     live: Live,
@@ -219,7 +219,7 @@ fn pushed(mut list: Vec<Datom>, datom: Datom) -> Result<Vec<Datom>, Memory>
     Ok(list)
 }
 
-// All samples below `size`.
+/// All samples below `size`.
 fn samples(alloc: Global, size: u32) -> Result<Datoms, Memory>
     ensures { IfOk result (λ ds. AreSamples ds) }
 {
@@ -231,7 +231,7 @@ fn samples(alloc: Global, size: u32) -> Result<Datoms, Memory>
     Ok(Datoms::of(samples))
 }
 
-// The index under another coverage, refilled with all samples.
+/// The index under another coverage, refilled with all samples.
 fn recovered(alloc: Global, live: &Live, covers: &Covers, size: u32) -> Result<Live, Memory>
     requires { (order : Order) → AreSamples (list_in live.now order) }
 {
@@ -243,8 +243,8 @@ fn recovered(alloc: Global, live: &Live, covers: &Covers, size: u32) -> Result<L
 
 fn crosses_threads<T: Send + Sync>(_value: &T) {}
 
-// Whether the index of that many samples has the plain lists, also after its successor was made under another coverage,
-// and whether the successor has them.
+/// Whether the index of that many samples has the plain lists, also after its successor was made under another coverage,
+/// and whether the successor has them.
 fn is_plain(alloc: Global, size: u32) -> Result<bool, Memory> {
     let (first, second) = (coverage(alloc, 0)?, coverage(alloc, 3)?);
     let live = filled(alloc, &first, size)?;

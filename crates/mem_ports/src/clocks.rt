@@ -1,4 +1,4 @@
-// Clocks for tests.
+//! Clocks for tests.
 ghost use Rattle.std.specs.Prelude.{◌≡◌};
 ghost use Rattle.mem_ports.specs.Clocks.{reading_at};
 
@@ -56,7 +56,7 @@ impl StepClock {
         }
     }
 
-    // What the call with this number, from 0, reads.
+    /// What the call with this number, from 0, reads.
     fn reading_at(&self, call: u64) -> i64
         ensures { result ≡ reading_at self.now call }
     {

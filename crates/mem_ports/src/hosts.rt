@@ -1,3 +1,4 @@
+//! A host in memory: sources, sinks and disks under the names that its maker gave them.
 ghost use Rattle.std.specs.Prelude.{◌≡◌, ℕ, List, [], None, Some, IfOk, IfErr, OnOk, OnErr};
 ghost use Rattle.std.specs.Result.{result_ok};
 ghost use Rattle.fb_disk.specs.MemDisks.{told_by, images_of, moment_of};
@@ -80,7 +81,7 @@ impl MemHost {
         }
     }
 
-    // The disk that was added for this part, which is then no longer there.
+    /// The disk that was added for this part, which is then no longer there.
     fn take_disk(&mut self, dir: &str, part: Part) -> Option<MemDisk>
         ensures taken { result ≡ disk_at self.old dir.now part }
         ensures others { SameButPart dir.now part (disk_at self.old) (disk_at self.new) }
@@ -181,7 +182,7 @@ impl Host for MemHost {
     }
 }
 
-// The disk that was added, or an empty one.
+/// The disk that was added, or an empty one.
 fn handed_out(alloc: Global, added: Option<MemDisk>) -> Result<MemDisk, OpenFail>
     ensures handed { IfOk result (λ d. d ≡ handed_of added) }
     ensures memory { IfErr result (λ e. e ≡ OpenFail.Memory) }

@@ -1,3 +1,4 @@
+//! A sink in memory, with room for a fixed number of bytes.
 ghost use Rattle.std.specs.Prelude.{◌≡◌, ◌≤◌, ◌<◌, ◌-◌, ◌++◌, [], Some, IfOk, OnErr, is_err, length, take, min};
 ghost use Rattle.std.specs.Io.KnownBytes.{append_known};
 ghost use Rattle.fb_ports.specs.Faults.{Counts};

@@ -1,3 +1,4 @@
+//! A source in memory: bytes that are read once, from front to back.
 ghost use Rattle.std.specs.Prelude.{◌≡◌, ◌≤◌, ◌<◌, Some, IfOk, OnErr, is_err, length, take, drop, min};
 ghost use Rattle.std.specs.Io.KnownBytes.{prepend_known, IsAtEnd};
 ghost use Rattle.fb_ports.specs.Faults.{Counts};
@@ -71,7 +72,7 @@ impl Source for MemSource {
     }
 }
 
-// Copies what fits of `from` to the front of `buf`, and answers how much that was.
+/// Copies what fits of `from` to the front of `buf`, and answers how much that was.
 fn copy_to_front(buf: &mut [u8], from: &[u8]) -> usize
     ensures most { result ≡ min (length buf.old) (length from.now) }
     ensures copied { take result buf.new ≡ take result from.now }

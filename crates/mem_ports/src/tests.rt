@@ -1,17 +1,18 @@
+//! Tests: ports in memory, with faults at numbered calls.
 use super::*;
 use fb_disk::MemDisk;
 use fb_ports::{Clock, Disk, Failed, Host, OpenFail, Part, Sink, Source};
 use std::alloc::Global;
 use std::test::Fail;
 
-// What a read through a buffer of four bytes gives.
+/// What a read through a buffer of four bytes gives.
 fn next_bytes<S: Source>(source: &mut S, alloc: Global) -> Result<Vec<u8>, Fail> {
     let mut buf = [0u8; 4];
     let count = source.read(&mut buf)?;
     Ok(buf[..count].to_vec(alloc)?)
 }
 
-// Hands the first four bytes of a source to a sink, and answers how many it took.
+/// Hands the first four bytes of a source to a sink, and answers how many it took.
 fn copied<H: Host>(host: &mut H, alloc: Global, from: &str, to: &str) -> Result<usize, Fail> {
     let mut source = host.source(alloc, from)?;
     let mut sink = host.sink(alloc, to)?;

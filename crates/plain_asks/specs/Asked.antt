@@ -4,8 +4,8 @@ use Rattle.edn_form.specs.View.{form_of}
 use Rattle.tx_model.specs.Asks as model
 use Rattle.plain_asks.specs.declared.asks.Name.{Name}
 use Rattle.plain_asks.specs.declared.asks.Name.TheVariants.{Number, Ident, Lookup, Tempid, Nameless}
-use Rattle.plain_asks.specs.declared.asks.Part.{Part}
-use Rattle.plain_asks.specs.declared.asks.Part.TheVariants.{Plain, Entity}
+use Rattle.plain_asks.specs.declared.asks.Operand.{Operand}
+use Rattle.plain_asks.specs.declared.asks.Operand.TheVariants.{Plain, Entity}
 use Rattle.plain_asks.specs.declared.asks.Ask.{Ask}
 use Rattle.plain_asks.specs.declared.asks.Ask.TheVariants.{Adds, Retracts, RetractsAll, Compares, RetractsEntity, Meets, Mentions, LacksId}
 
@@ -16,7 +16,7 @@ name_of (Lookup k f) = model.lookup k (form_of f)
 name_of (Tempid s) = model.tempid s
 name_of (Nameless path) = model.nameless path.items
 
-abbrev pub part_of : Part → model.Part
+abbrev pub part_of : Operand → model.Operand
 part_of (Plain f) = model.plain (form_of f)
 part_of (Entity name) = model.entity (name_of name)
 

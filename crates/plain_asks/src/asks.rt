@@ -21,7 +21,7 @@ pub enum Name {
 
 /// What stands in the place of a value.
 #[derive(Drop)]
-pub enum Part {
+pub enum Operand {
     /// A value, to be read by the attribute's type.
     Plain(Edn),
     /// An entity, under an attribute whose values are entities.
@@ -30,12 +30,12 @@ pub enum Part {
 
 #[derive(Drop)]
 pub enum Ask {
-    Adds(Name, Text, Part),
-    Retracts(Name, Text, Part),
+    Adds(Name, Text, Operand),
+    Retracts(Name, Text, Operand),
     /// Every value.
     RetractsAll(Name, Text),
     /// The old value and the new one.
-    Compares(Name, Text, Part, Part),
+    Compares(Name, Text, Operand, Operand),
     RetractsEntity(Name),
     /// A map stands for this entity.
     Meets(Name),
@@ -107,15 +107,15 @@ pub fn one(alloc: Global, ask: Ask) -> Result<Vec<Ask>, Memory>
     Ok(list)
 }
 
-impl Part {
+impl Operand {
     ghost use Rattle.plain_asks.specs.Asked.{part_of};
 
-    pub fn copy(&self) -> Result<Part, Memory>
+    pub fn copy(&self) -> Result<Operand, Memory>
         ensures { IfOk result (λ part. part_of part ≡ part_of self.now) }
     {
         Ok(match self {
-            Part::Plain(f) => Part::Plain(f.copy()?),
-            Part::Entity(name) => Part::Entity(name.copy()?),
+            Operand::Plain(f) => Operand::Plain(f.copy()?),
+            Operand::Entity(name) => Operand::Entity(name.copy()?),
         })
     }
 }

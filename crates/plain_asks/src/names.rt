@@ -4,7 +4,7 @@ ghost use Rattle.std.specs.Option.{option_map};
 ghost use Rattle.tx_model.specs.Asks as model;
 ghost use Rattle.plain_asks.specs.Asked as asked;
 
-use crate::asks::{Ask, Name, Part};
+use crate::asks::{Ask, Name, Operand};
 use fb_memory::Memory;
 use fb_text::Text;
 use std::alloc::Global;
@@ -46,12 +46,12 @@ fn push_name(list: &mut Vec<Name>, name: &Name) -> Result<(), Memory>
     Ok(())
 }
 
-fn push_part(list: &mut Vec<Name>, part: &Part) -> Result<(), Memory>
+fn push_part(list: &mut Vec<Name>, part: &Operand) -> Result<(), Memory>
     ensures { IfOk result (λ _. asked.names_of list.new.items ≡ asked.names_of list.old.items ++ model.name_of_part (asked.part_of part.now)) }
 {
     match part {
-        Part::Plain(_) => Ok(()),
-        Part::Entity(name) => push_name(list, name),
+        Operand::Plain(_) => Ok(()),
+        Operand::Entity(name) => push_name(list, name),
     }
 }
 
@@ -63,7 +63,7 @@ fn name_alone(alloc: Global, name: &Name) -> Result<Vec<Name>, Memory>
     Ok(names)
 }
 
-fn name_and_part(alloc: Global, name: &Name, part: &Part) -> Result<Vec<Name>, Memory>
+fn name_and_part(alloc: Global, name: &Name, part: &Operand) -> Result<Vec<Name>, Memory>
     ensures { IfOk result (λ names. asked.names_of names.items ≡ asked.name_of name.now ∷ model.name_of_part (asked.part_of part.now)) }
 {
     let mut names = name_alone(alloc, name)?;

@@ -1,3 +1,4 @@
+//! Tests: facts of plain histories.
 use super::*;
 use std::process::Abort;
 use std::test::Fail;

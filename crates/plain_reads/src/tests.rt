@@ -1,3 +1,4 @@
+//! Tests: views of plain histories.
 use super::*;
 use fb_values::{Datom, Datoms, Entry, Order, Probe, Value};
 use std::alloc::Global;

@@ -24,7 +24,7 @@ use fb_memory::Memory;
 use fb_numbers::{GREATEST_INSTANT, MOST_DATOMS, MOST_USERS};
 use fb_text::Text;
 use fb_values::{Datom, Value};
-use plain_asks::{Ask, Part, value_in};
+use plain_asks::{Ask, Operand, value_in};
 use plain_reads::{
     Attribute, attribute_named, is_builtin, is_of, last_instant, users_in, value_of,
 };
@@ -102,13 +102,13 @@ fn old_value_in(
 fn old_value(
     tx: &Transaction,
     attribute: &Attribute<'_>,
-    part: &Part,
+    part: &Operand,
 ) -> Result<Option<Value>, Memory>
     ensures { IfOk result (λ v. v ≡ model.old_value (transaction_of tx.now) (attribute_in attribute.now) (part_of part.now)) }
 {
     match part {
-        Part::Plain(f) => old_value_in(tx, attribute, f),
-        Part::Entity(_) => value_of_part(&tx.db, &tx.names, attribute, part),
+        Operand::Plain(f) => old_value_in(tx, attribute, f),
+        Operand::Entity(_) => value_of_part(&tx.db, &tx.names, attribute, part),
     }
 }
 
@@ -126,7 +126,7 @@ fn is_value(present: Option<&Value>, old: &Option<Value>) -> bool
 fn is_present(
     tx: &Transaction,
     e: u64,
-    old: &Part,
+    old: &Operand,
     attribute: &Attribute<'_>,
 ) -> Result<bool, Memory>
     ensures { IfOk result (λ b. b ≡ model.is_present (transaction_of tx.now) e (part_of old.now) (attribute_in attribute.now)) }

@@ -16,7 +16,7 @@ use crate::tempids::entity_of;
 use fb_memory::Memory;
 use fb_text::Text;
 use fb_values::{Datom, Value};
-use plain_asks::{Ask, Name, Part, value_in};
+use plain_asks::{Ask, Name, Operand, value_in};
 use plain_reads::{Attribute, attribute_named};
 use std::alloc::Global;
 
@@ -35,13 +35,13 @@ pub fn value_of_part(
     db: &Db,
     pairs: &[(Name, u64)],
     attribute: &Attribute<'_>,
-    part: &Part,
+    part: &Operand,
 ) -> Result<Option<Value>, Memory>
     ensures { IfOk result (λ v. v ≡ model.value_of_part db.now (pairs_of pairs.now) (attribute_in attribute.now) (part_of part.now)) }
 {
     match part {
-        Part::Plain(f) => value_in(attribute.kind, f),
-        Part::Entity(name) => {
+        Operand::Plain(f) => value_in(attribute.kind, f),
+        Operand::Entity(name) => {
             let Some(e) = entity_of(db, pairs, name)? else {
                 return Ok(None);
             };
@@ -65,7 +65,7 @@ fn change_of(
     added: bool,
     name: &Name,
     k: &Text,
-    part: &Part,
+    part: &Operand,
 ) -> Result<Option<Datom>, Memory>
     ensures { IfOk result (λ d. option_to_list d ≡ model.changes_of db.now (pairs_of pairs.now) added (name_of name.now) k.now (part_of part.now)) }
 {
@@ -88,7 +88,7 @@ fn changes_of(
     added: bool,
     name: &Name,
     k: &Text,
-    part: &Part,
+    part: &Operand,
 ) -> Result<Vec<Datom>, Memory>
     ensures { IfOk result (λ list. list.items ≡ model.changes_of db.now (pairs_of pairs.now) added (name_of name.now) k.now (part_of part.now)) }
 {

@@ -18,7 +18,7 @@ use fb_memory::Memory;
 use fb_numbers::{TX_INSTANT, TYPE_REF};
 use fb_text::Text;
 use plain_asks::{
-    Ask, Name, Part, attribute_of_ask, is_same_tempid, is_tempid, names_of, value_in,
+    Ask, Name, Operand, attribute_of_ask, is_same_tempid, is_tempid, names_of, value_in,
 };
 use plain_reads::{Attribute, attribute_named};
 use std::alloc::Global;
@@ -102,12 +102,12 @@ fn is_reserved_form(f: &Edn) -> bool
     }
 }
 
-fn is_reserved_part(part: &Part) -> bool
+fn is_reserved_part(part: &Operand) -> bool
     ensures { result ≡ model.is_reserved_part (part_of part.now) }
 {
     match part {
-        Part::Plain(f) => is_reserved_form(f),
-        Part::Entity(_) => false,
+        Operand::Plain(f) => is_reserved_form(f),
+        Operand::Entity(_) => false,
     }
 }
 
@@ -129,12 +129,12 @@ pub fn is_of_protected(db: &Db, ask: &Ask) -> bool
 
 // ---- wrong type
 
-fn is_wrong_part(attribute: &Attribute<'_>, part: &Part) -> Result<bool, Memory>
+fn is_wrong_part(attribute: &Attribute<'_>, part: &Operand) -> Result<bool, Memory>
     ensures { IfOk result (λ b. b ≡ model.is_wrong_part (attribute_in attribute.now) (part_of part.now)) }
 {
     match part {
-        Part::Plain(f) => Ok(value_in(attribute.kind, f)?.is_none()),
-        Part::Entity(_) => Ok(attribute.kind != TYPE_REF),
+        Operand::Plain(f) => Ok(value_in(attribute.kind, f)?.is_none()),
+        Operand::Entity(_) => Ok(attribute.kind != TYPE_REF),
     }
 }
 
@@ -147,12 +147,12 @@ fn is_wrong_old_form(attribute: &Attribute<'_>, f: &Edn) -> Result<bool, Memory>
     }
 }
 
-fn is_wrong_old_part(attribute: &Attribute<'_>, part: &Part) -> Result<bool, Memory>
+fn is_wrong_old_part(attribute: &Attribute<'_>, part: &Operand) -> Result<bool, Memory>
     ensures { IfOk result (λ b. b ≡ model.is_wrong_old_part (attribute_in attribute.now) (part_of part.now)) }
 {
     match part {
-        Part::Plain(f) => is_wrong_old_form(attribute, f),
-        Part::Entity(_) => is_wrong_part(attribute, part),
+        Operand::Plain(f) => is_wrong_old_form(attribute, f),
+        Operand::Entity(_) => is_wrong_part(attribute, part),
     }
 }
 

@@ -14,7 +14,7 @@ use edn_form::Edn;
 use fb_memory::Memory;
 use fb_numbers::{TRANSACTIONS, USER_ENTITIES};
 use fb_text::Text;
-use plain_asks::{Ask, Name, OWN_TEMPID, Part, is_same_tempid, is_tempid, names_of, value_in};
+use plain_asks::{Ask, Name, OWN_TEMPID, Operand, is_same_tempid, is_tempid, names_of, value_in};
 use plain_reads::{Attribute, attribute_named, holder, is_issued, named};
 use std::alloc::Global;
 
@@ -132,11 +132,11 @@ fn identified_by(
     name: &Name,
     other: &Name,
     k: &Text,
-    part: &Part,
+    part: &Operand,
 ) -> Result<Option<u64>, Memory>
     ensures { IfOk result (λ e. e ≡ model.identified db.now (name_of name.now) (model_asks.adds (name_of other.now) k.now (part_of part.now))) }
 {
-    let Part::Plain(f) = part else {
+    let Operand::Plain(f) = part else {
         return Ok(None);
     };
     if !is_same_tempid(name, other) {

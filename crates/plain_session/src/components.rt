@@ -12,19 +12,19 @@ use plain_reads::{Attribute, Range, attribute_named, attribute_of, covers};
 const BAD_COMPONENT: &str = "read/bad-component";
 
 #[derive(Clone, Copy)]
-enum Part {
+enum Component {
     Entity,
     Attribute,
     Value,
     T,
 }
 
-fn parts_of(order: Order) -> [Part; 4] {
+fn parts_of(order: Order) -> [Component; 4] {
     match order {
-        Order::Eavt => [Part::Entity, Part::Attribute, Part::Value, Part::T],
-        Order::Aevt => [Part::Attribute, Part::Entity, Part::Value, Part::T],
-        Order::Avet => [Part::Attribute, Part::Value, Part::Entity, Part::T],
-        Order::Vaet => [Part::Value, Part::Attribute, Part::Entity, Part::T],
+        Order::Eavt => [Component::Entity, Component::Attribute, Component::Value, Component::T],
+        Order::Aevt => [Component::Attribute, Component::Entity, Component::Value, Component::T],
+        Order::Avet => [Component::Attribute, Component::Value, Component::Entity, Component::T],
+        Order::Vaet => [Component::Value, Component::Attribute, Component::Entity, Component::T],
     }
 }
 
@@ -47,15 +47,15 @@ impl Sight<'_> {
         Ok(probe)
     }
 
-    fn put(&self, probe: &mut Probe, part: Part, form: &Edn, at: usize) -> Result<(), ReadStop> {
+    fn put(&self, probe: &mut Probe, part: Component, form: &Edn, at: usize) -> Result<(), ReadStop> {
         match part {
-            Part::Entity => probe.e = Some(or_refused(self.entity(form)?, BAD_COMPONENT, at)?),
-            Part::Attribute => probe.a = Some(self.attribute(probe.order, form, at)?.id),
-            Part::Value => {
+            Component::Entity => probe.e = Some(or_refused(self.entity(form)?, BAD_COMPONENT, at)?),
+            Component::Attribute => probe.a = Some(self.attribute(probe.order, form, at)?.id),
+            Component::Value => {
                 let value = self.value(self.kind_behind(probe), form)?;
                 probe.v = Some(or_refused(value, BAD_COMPONENT, at)?);
             }
-            Part::T => probe.t = Some(or_refused(t_in(form), BAD_COMPONENT, at)?),
+            Component::T => probe.t = Some(or_refused(t_in(form), BAD_COMPONENT, at)?),
         }
         Ok(())
     }

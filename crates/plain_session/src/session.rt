@@ -14,7 +14,7 @@ use fb_memory::Memory;
 use fb_model::{first_is_lawful, lawful_entries_make_lawful_histories};
 use fb_values::Entry;
 use plain_reads::{Window, basis};
-use plain_step::{Guard, NoGuard, Outcome, step};
+use plain_step::{Guard, NoGuard, Decision, step};
 use std::alloc::Global;
 use std::marker::Model;
 use tx_model::an_accepted_entry_is_lawful;
@@ -85,11 +85,11 @@ pub fn transact<G: Guard>(
     an_accepted_entry_is_lawful();
     lawful_entries_make_lawful_histories();
     match step(alloc, entries, data, reading, guard)? {
-        Outcome::Refused(refusal) => {
+        Decision::Refused(refusal) => {
             let keyword = refusal.reason.keyword();
             replies::refusal(alloc, keyword, refusal.at, basis(entries))
         }
-        Outcome::Accepted(entry, tempids) => {
+        Decision::Accepted(entry, tempids) => {
             let reply = replies::receipt(alloc, entry.t, tempids)?;
             entries.push(entry)?;
             Ok(reply)

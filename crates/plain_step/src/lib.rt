@@ -7,4 +7,4 @@ mod outcome;
 
 pub use fb_memory::Memory;
 pub use guard::{Guard, NoGuard};
-pub use outcome::{Outcome, step};
+pub use outcome::{Decision, step};

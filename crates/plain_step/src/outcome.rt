@@ -22,19 +22,19 @@ use tx_refusals::{Reason, Refusal};
 
 /// What a transaction comes to.
 #[derive(Drop)]
-pub enum Outcome {
+pub enum Decision {
     Refused(Refusal),
     /// The entry, and the entities of the tempids that have a name, by the bytes of the names.
     Accepted(Entry, Vec<(Text, u64)>),
 }
 
-fn refused(reason: Reason, at: usize) -> Outcome
+fn refused(reason: Reason, at: usize) -> Decision
     ensures { outcome_of result ≡ model.refused (record { reason = reason; at = at }) }
 {
-    Outcome::Refused(Refusal { reason, at })
+    Decision::Refused(Refusal { reason, at })
 }
 
-fn with_entry(alloc: Global, tx: &Transaction, reading: i64) -> Result<Outcome, Memory>
+fn with_entry(alloc: Global, tx: &Transaction, reading: i64) -> Result<Decision, Memory>
     requires { history.last_instant tx.now.db.history <ℤ greatest_instant }
     ensures { IfOk result (λ outcome. outcome_of outcome ≡ model.accepted (model.entry_of tx.now.db.history (transaction_of tx.now) (history.next_instant tx.now.db.history reading)) (tempids.named_tempids (transaction_of tx.now).names)) }
 {
@@ -46,7 +46,7 @@ fn with_entry(alloc: Global, tx: &Transaction, reading: i64) -> Result<Outcome, 
         instant,
         datoms: Datoms::of(datoms),
     };
-    Ok(Outcome::Accepted(entry, tempids))
+    Ok(Decision::Accepted(entry, tempids))
 }
 
 /// The transaction that breaks no rule, unless the guard bars it.
@@ -55,7 +55,7 @@ fn unless_barred<G: Guard>(
     tx: &Transaction,
     reading: i64,
     guard: &G,
-) -> Result<Outcome, Memory>
+) -> Result<Decision, Memory>
     requires { history.last_instant tx.now.db.history <ℤ greatest_instant }
     ensures { IfOk result (λ outcome. outcome_of outcome ≡ model.under_guard tx.now.db.history (transaction_of tx.now) reading (G.bars guard.now tx.now.db.history tx.now.changes.items)) }
 {
@@ -73,7 +73,7 @@ fn step_of_shaped<G: Guard>(
     forms: &[Edn],
     reading: i64,
     guard: &G,
-) -> Result<Outcome, Memory>
+) -> Result<Decision, Memory>
     requires { IsLawful entries.now }
     ensures { IfOk result (λ outcome. outcome_of outcome ≡ shaped_step entries.now (forms_of forms.now) reading (G.bars guard.now)) }
 {
@@ -82,7 +82,7 @@ fn step_of_shaped<G: Guard>(
     let tx = transaction_at(alloc, db, asks)?;
     let refusal = least_refusal(alloc, &tx)?;
     match refusal {
-        Some(refusal) => Ok(Outcome::Refused(refusal)),
+        Some(refusal) => Ok(Decision::Refused(refusal)),
         None => unless_barred(alloc, &tx, reading, guard),
     }
 }
@@ -94,7 +94,7 @@ fn step_of<G: Guard>(
     forms: &[Edn],
     reading: i64,
     guard: &G,
-) -> Result<Outcome, Memory>
+) -> Result<Decision, Memory>
     requires { IsLawful entries.now }
     ensures { IfOk result (λ outcome. outcome_of outcome ≡ model.unless_refused entries.now (forms_of forms.now) reading (G.bars guard.now) (model.refusal_of entries.now (forms_of forms.now))) }
 {
@@ -112,7 +112,7 @@ pub fn step<G: Guard>(
     asked: &Edn,
     reading: i64,
     guard: &G,
-) -> Result<Outcome, Memory>
+) -> Result<Decision, Memory>
     requires { IsLawful entries.now }
     ensures { IfOk result (λ outcome. outcome_of outcome ≡ model.step entries.now (form_of asked.now) reading (G.bars guard.now)) }
 {

@@ -12,7 +12,7 @@ use edn_form::Edn;
 use fb_memory::Memory;
 use fb_numbers::TYPE_REF;
 use fb_values::Datom;
-use plain_asks::{Ask, Name, Part, one};
+use plain_asks::{Ask, Name, Operand, one};
 use plain_reads::attribute_named;
 use std::alloc::Global;
 
@@ -60,30 +60,30 @@ pub fn has_uniqueness(facts: &[Datom], name: &str) -> bool
 // ---- values
 
 /// An entity that a number, an ident or a tempid names, or a plain value.
-fn entity_or_plain(f: &Edn) -> Result<Part, Memory>
+fn entity_or_plain(f: &Edn) -> Result<Operand, Memory>
     ensures { IfOk result (λ part. part_of part ≡ model.scalar true (form_of f.now)) }
 {
     match f {
-        Edn::Int(n) if *n >= 0 => Ok(Part::Entity(Name::Number(*n))),
-        Edn::Key(k) => Ok(Part::Entity(Name::Ident(k.copy()?))),
-        Edn::Str(s) => Ok(Part::Entity(Name::Tempid(s.copy()?))),
-        _ => Ok(Part::Plain(f.copy()?)),
+        Edn::Int(n) if *n >= 0 => Ok(Operand::Entity(Name::Number(*n))),
+        Edn::Key(k) => Ok(Operand::Entity(Name::Ident(k.copy()?))),
+        Edn::Str(s) => Ok(Operand::Entity(Name::Tempid(s.copy()?))),
+        _ => Ok(Operand::Plain(f.copy()?)),
     }
 }
 
 /// A number, an ident or a tempid under an attribute whose values are entities, and else a plain value.
-pub fn scalar(is_ref: bool, f: &Edn) -> Result<Part, Memory>
+pub fn scalar(is_ref: bool, f: &Edn) -> Result<Operand, Memory>
     ensures { IfOk result (λ part. part_of part ≡ model.scalar is_ref (form_of f.now)) }
 {
     if is_ref {
         entity_or_plain(f)
     } else {
-        Ok(Part::Plain(f.copy()?))
+        Ok(Operand::Plain(f.copy()?))
     }
 }
 
 /// The value of a list form: a lookup ref too, and a tempid only where the verb adds.
-fn value_part(is_ref: bool, f: &Edn) -> Result<Part, Memory>
+fn value_part(is_ref: bool, f: &Edn) -> Result<Operand, Memory>
     ensures { IfOk result (λ part. part_of part ≡ model.value_part is_ref (form_of f.now)) }
 {
     if !is_ref {
@@ -91,18 +91,18 @@ fn value_part(is_ref: bool, f: &Edn) -> Result<Part, Memory>
     }
     match f {
         Edn::Vector(items) => match lookup_in(items) {
-            Some((k, value)) => Ok(Part::Entity(Name::Lookup(k.copy()?, value.copy()?))),
-            None => Ok(Part::Plain(f.copy()?)),
+            Some((k, value)) => Ok(Operand::Entity(Name::Lookup(k.copy()?, value.copy()?))),
+            None => Ok(Operand::Plain(f.copy()?)),
         },
         _ => scalar(is_ref, f),
     }
 }
 
-fn old_value_part(is_ref: bool, f: &Edn) -> Result<Part, Memory>
+fn old_value_part(is_ref: bool, f: &Edn) -> Result<Operand, Memory>
     ensures { IfOk result (λ part. part_of part ≡ model.old_value_part is_ref (form_of f.now)) }
 {
     match f {
-        Edn::Str(_) => Ok(Part::Plain(f.copy()?)),
+        Edn::Str(_) => Ok(Operand::Plain(f.copy()?)),
         _ => value_part(is_ref, f),
     }
 }

@@ -13,7 +13,7 @@ use edn_form::{Edn, Items, Pairs};
 use fb_memory::Memory;
 use fb_text::Text;
 use fb_values::Datom;
-use plain_asks::{Ask, Name, Part, append, copy_path, one};
+use plain_asks::{Ask, Name, Operand, append, copy_path, one};
 use std::alloc::Global;
 
 /// The name that a pair of `:db/id` gives.
@@ -61,18 +61,18 @@ fn has_identity(alloc: Global, facts: &[Datom], pairs: &Pairs) -> Result<bool, M
 }
 
 /// One value under a key: the map's entity has it, or the entity that is the value has the map's.
-pub fn links(alloc: Global, this: &Name, key: &Key, part: Part) -> Result<Vec<Ask>, Memory>
+pub fn links(alloc: Global, this: &Name, key: &Key, part: Operand) -> Result<Vec<Ask>, Memory>
     ensures { IfOk result (λ list. asks_of list.items ≡ model.links (name_of this.now) (key_of key.now) (part_of part)) }
 {
     match key {
         Key::Own => Ok(Vec::new(alloc)),
         Key::Forward(name) => one(alloc, Ask::Adds(this.copy()?, name.copy()?, part)),
         Key::Backward(name) => match part {
-            Part::Entity(other) => one(
+            Operand::Entity(other) => one(
                 alloc,
-                Ask::Adds(other, name.copy()?, Part::Entity(this.copy()?)),
+                Ask::Adds(other, name.copy()?, Operand::Entity(this.copy()?)),
             ),
-            Part::Plain(f) => one(alloc, Ask::Adds(this.copy()?, name.copy()?, Part::Plain(f))),
+            Operand::Plain(f) => one(alloc, Ask::Adds(this.copy()?, name.copy()?, Operand::Plain(f))),
         },
     }
 }
@@ -107,15 +107,15 @@ pub fn nested_asks(
         Key::Own => Ok(Vec::new(alloc)),
         Key::Forward(k) => {
             if !has_ref(facts, k.as_str()) {
-                let plain = Part::Plain(Edn::Map(pairs.copy()?));
+                let plain = Operand::Plain(Edn::Map(pairs.copy()?));
                 return one(alloc, Ask::Adds(this.copy()?, k.copy()?, plain));
             }
-            let link = Ask::Adds(this.copy()?, k.copy()?, Part::Entity(name.copy()?));
+            let link = Ask::Adds(this.copy()?, k.copy()?, Operand::Entity(name.copy()?));
             let lacks = !(has_parts(facts, k.as_str()) || has_identity(alloc, facts, pairs)?);
             linked(alloc, link, lacks, inner)
         }
         Key::Backward(k) => {
-            let link = Ask::Adds(name.copy()?, k.copy()?, Part::Entity(this.copy()?));
+            let link = Ask::Adds(name.copy()?, k.copy()?, Operand::Entity(this.copy()?));
             let lacks = !has_identity(alloc, facts, pairs)?;
             linked(alloc, link, lacks, inner)
         }
@@ -136,16 +136,16 @@ pub fn scalar_asks(
         Key::Own => Ok(Vec::new(alloc)),
         Key::Forward(name) => links(alloc, this, key, scalar(has_ref(facts, name.as_str()), f)?),
         Key::Backward(_) => match f {
-            Edn::Int(n) => links(alloc, this, key, Part::Entity(Name::Number(*n))),
+            Edn::Int(n) => links(alloc, this, key, Operand::Entity(Name::Number(*n))),
             _ => links(alloc, this, key, scalar(true, f)?),
         },
     }
 }
 
-fn lookup_part(k: &Text, value: &Edn) -> Result<Part, Memory>
+fn lookup_part(k: &Text, value: &Edn) -> Result<Operand, Memory>
     ensures { IfOk result (λ part. part_of part ≡ asks.entity (asks.lookup k.now (form_of value.now))) }
 {
-    Ok(Part::Entity(Name::Lookup(k.copy()?, value.copy()?)))
+    Ok(Operand::Entity(Name::Lookup(k.copy()?, value.copy()?)))
 }
 
 /// What a vector asks under an attribute of the map's entity.
@@ -171,7 +171,7 @@ fn forward_asks(
     if has_many(facts, name.as_str()) {
         return Ok(inner);
     }
-    let plain = Part::Plain(Edn::Vector(items.copy()?));
+    let plain = Operand::Plain(Edn::Vector(items.copy()?));
     one(alloc, Ask::Adds(this.copy()?, name.copy()?, plain))
 }
 
@@ -217,7 +217,7 @@ pub fn sequence_asks(
             }
             one(
                 alloc,
-                Ask::Adds(this.copy()?, name.copy()?, Part::Plain(f.copy()?)),
+                Ask::Adds(this.copy()?, name.copy()?, Operand::Plain(f.copy()?)),
             )
         }
         Key::Backward(_) => Ok(inner),
@@ -249,7 +249,7 @@ pub fn pair_asks(
             if has_ref(facts, name.as_str()) {
                 return mentioned(alloc, name, values);
             }
-            let fault = Ask::Adds(this.copy()?, name.copy()?, Part::Entity(this.copy()?));
+            let fault = Ask::Adds(this.copy()?, name.copy()?, Operand::Entity(this.copy()?));
             mentioned(alloc, name, one(alloc, fault)?)
         }
     }

@@ -15,7 +15,7 @@ use crate::maps::{
 use edn_form::{Edn, Items, Pairs};
 use fb_memory::Memory;
 use fb_values::Datom;
-use plain_asks::{Ask, Name, Part, append, inside, one};
+use plain_asks::{Ask, Name, Operand, append, inside, one};
 use std::alloc::Global;
 
 /// What the pairs of a map ask, one after another.
@@ -113,7 +113,7 @@ fn member_asks(
             nested_asks(alloc, facts, this, key, &name, pairs, inner)
         }
         Edn::Vector(items) => {
-            let plain = links(alloc, this, key, Part::Plain(f.copy()?))?;
+            let plain = links(alloc, this, key, Operand::Plain(f.copy()?))?;
             vector_asks(alloc, facts, this, key, items, plain)
         }
         _ => scalar_asks(alloc, facts, this, key, f),

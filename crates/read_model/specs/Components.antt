@@ -28,13 +28,13 @@ use Rattle.read_refusals.specs.declared.reasons.Refusal.{Refusal}
 
 -- ---- one component
 
-pub data Part : Type 0 where
-  an_entity : Part
-  an_attribute : Part
-  a_value : Part
-  a_t : Part
+pub data Component : Type 0 where
+  an_entity : Component
+  an_attribute : Component
+  a_value : Component
+  a_t : Component
 
-abbrev pub parts_of : Order → List Part
+abbrev pub parts_of : Order → List Component
 parts_of Eavt = an_entity ∷ an_attribute ∷ a_value ∷ a_t ∷ []
 parts_of Aevt = an_attribute ∷ an_entity ∷ a_value ∷ a_t ∷ []
 parts_of Avet = an_attribute ∷ a_value ∷ an_entity ∷ a_t ∷ []
@@ -75,7 +75,7 @@ abbrev pub kind_behind : List Datom → Probe → ℕ
 kind_behind facts probe = option_map_or (λ attribute. attribute.kind) (option_and_then (attribute_of facts) probe.a) type_ref
 
 -- the probe with one component more
-abbrev pub with_next : List Datom → Probe → Part → Form → Given Probe
+abbrev pub with_next : List Datom → Probe → Component → Form → Given Probe
 with_next facts probe an_entity f = entity_given (λ e. record probe { e = Some e }) (id_in facts f)
 with_next facts probe an_attribute f = attribute_given (λ a. record probe { a = Some a.id }) probe.order (attribute_in facts f)
 with_next facts probe a_value f = value_given facts (λ v. record probe { v = Some v }) (kind_behind facts probe) f
@@ -87,7 +87,7 @@ abbrev pub no_component : Order → Probe
 no_component order = record { order = order; e = None; a = None; v = None; t = None }
 
 -- each form at its place, the first of them at `at`
-abbrev pub AreRead : List Entry → Window → (Datom → Type 0) → Probe → ℕ → List (Part × Form) → Result Probe Refusal → Type 0
+abbrev pub AreRead : List Entry → Window → (Datom → Type 0) → Probe → ℕ → List (Component × Form) → Result Probe Refusal → Type 0
 AreRead h w Selects probe at [] answer = answer ≡ Ok probe
 AreRead h w Selects probe at (next ∷ rest) answer =
     Reads h w Selects at (with_next (facts h) probe next.0 next.1) (λ more. AreRead h w Selects more (at + 1) rest) answer
@@ -120,7 +120,7 @@ IsIndexRange h w Selects a start end answer =
 abbrev pub finds : List Entry → Window → List (Datom → Bool) → Id → Option ℕ
 finds h w filters id = entity_named (facts_seen h w filters) id
 
-abbrev pub read_by : (Id → Option ℕ) → List Datom → Probe → ℕ → List (Part × Form) → Result Probe Refusal
+abbrev pub read_by : (Id → Option ℕ) → List Datom → Probe → ℕ → List (Component × Form) → Result Probe Refusal
 read_by find facts probe at [] = Ok probe
 read_by find facts probe at (next ∷ rest) =
     reads find at (with_next facts probe next.0 next.1) (λ more. read_by find facts more (at + 1) rest)

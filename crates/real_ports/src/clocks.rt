@@ -1,3 +1,4 @@
+//! The clock of the system.
 ghost use Rattle.std.specs.Prelude.{⊤};
 
 use fb_ports::Clock;

@@ -1,4 +1,4 @@
-// Files as disks. Each call is a few calls of the system at an offset, and a sync reaches the disk itself.
+//! Files as disks. Each call is a few calls of the system at an offset, and a sync reaches the disk itself.
 ghost use Rattle.std.specs.Prelude.{◌≡◌, ◌≤◌, ◌<◌, ◌+◌, ◌^◌, ℕ, List, [], length, take, Option, None, Some, is_ok, IfOk, IfErr, IsTrue, OnOk, option_map};
 ghost use Rattle.real_ports.specs.AnyDisks.{faults_of, told_of, is_memory, held_in, opened_in};
 ghost use Rattle.fb_ports.specs.Faults.{Rose, Counts};
@@ -34,8 +34,8 @@ impl Model for FileDisk {
 }
 
 impl FileDisk {
-    // The file of this path in a directory that must be there. A missing file is made empty. Its entry in the directory
-    // is on the disk before this answers, also where an earlier run made the file and broke off.
+    /// The file of this path in a directory that must be there. A missing file is made empty. Its entry in the directory
+    /// is on the disk before this answers, also where an earlier run made the file and broke off.
     fn open(rt: &HostRuntime, dir: &str, path: &str) -> io::Result<FileDisk>
         ensures { IfOk result (λ d. d ≡ 0) }
     {
@@ -49,7 +49,7 @@ impl FileDisk {
         Ok(FileDisk { file, faults: 0 })
     }
 
-    // Answers whether a call of the system was done, and counts it where it was not.
+    /// Answers whether a call of the system was done, and counts it where it was not.
     fn count(&mut self, done: bool) -> Result<(), Failed>
         ensures done { is_ok result ≡ done }
         ensures counted { Counts result self.old self.new }
@@ -135,7 +135,7 @@ pub enum AnyDisk {
 }
 
 impl AnyDisk {
-    // The file of a part of a directory, or an empty disk in memory for `:memory:`.
+    /// The file of a part of a directory, or an empty disk in memory for `:memory:`.
     pub(crate) fn open(
         rt: &HostRuntime,
         alloc: Global,

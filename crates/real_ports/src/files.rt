@@ -1,5 +1,5 @@
-// Files, and the standard streams in their place. Each call is one call of the system, with no buffer in between: what
-// a write took has left the program.
+//! Files, and the standard streams in their place. Each call is one call of the system, with no buffer in between: what
+//! a write took has left the program.
 ghost use Rattle.std.specs.Prelude.{◌≡◌, None, IfOk};
 
 use fb_calls::raise;

@@ -1,3 +1,4 @@
+//! The host that opens real files, standard input and standard output.
 ghost use Rattle.std.specs.Prelude.{◌≡◌, None, IfOk, IfErr, IsTrue};
 ghost use Rattle.fb_ports.specs.Faults.{CountsOpening};
 ghost use Rattle.fb_ports.specs.Telling.{Alike};

@@ -1,9 +1,10 @@
+//! Tests: ports of the system, on files of the test itself.
 use super::*;
 use fb_ports::{Clock, Disk, Failed, Host, OpenFail, Part, Sink, Source};
 use std::alloc::Global;
 use std::test::Fail;
 
-// Hands the first four bytes of a source to a sink, and answers how many it took.
+/// Hands the first four bytes of a source to a sink, and answers how many it took.
 fn copied<H: Host>(host: &mut H, alloc: Global, from: &str, to: &str) -> Result<usize, Fail> {
     let mut source = host.source(alloc, from)?;
     let mut sink = host.sink(alloc, to)?;
@@ -54,7 +55,7 @@ fn the_clock_tells_the_time(rt: HostRuntime) -> Result<(), Fail> {
     Ok(())
 }
 
-// Writes to a host's disk, and closes it.
+/// Writes to a host's disk, and closes it.
 fn written<H: Host>(host: &mut H, alloc: Global, dir: &str) -> Result<(), Fail> {
     let mut disk = host.disk(alloc, dir, Part::Log)?;
     disk.write_at(2, b"cdef")?;
@@ -64,7 +65,7 @@ fn written<H: Host>(host: &mut H, alloc: Global, dir: &str) -> Result<(), Fail> 
     Ok(disk.sync()?)
 }
 
-// What a host's disk reads from its second byte on.
+/// What a host's disk reads from its second byte on.
 fn read_again<H: Host>(host: &mut H, alloc: Global, dir: &str) -> Result<Vec<u8>, Fail> {
     let mut disk = host.disk(alloc, dir, Part::Log)?;
     let mut buf = [0u8; 8];

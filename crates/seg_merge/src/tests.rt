@@ -19,7 +19,7 @@ use std::cmp::Ordering;
 use std::test::Fail;
 use std::thread::Threads;
 
-// The numbers of some datoms: `count` of them from `from` on, each `step` above the one before.
+/// The numbers of some datoms: `count` of them from `from` on, each `step` above the one before.
 #[derive(Clone, Copy)]
 struct Numbers {
     from: u32,
@@ -37,8 +37,8 @@ fn numbers_of(from: u32, step: u32, count: u32) -> Numbers {
     Numbers { from, step, count }
 }
 
-// Older datoms, and those that are merged into them. AVET holds the attributes below `before`, and then those below
-// `after`. So many leaves of EAVT stay.
+/// Older datoms, and those that are merged into them. AVET holds the attributes below `before`, and then those below
+/// `after`. So many leaves of EAVT stay.
 #[derive(Clone, Copy)]
 struct Row {
     name: &'static str,
@@ -122,7 +122,7 @@ fn rows() -> [Row; 15] {
     ]
 }
 
-// One of each type, by turns.
+/// One of each type, by turns.
 fn value(alloc: Global, n: u32) -> Result<Value, Memory> {
     Ok(match n % 9 {
         0 => Value::Keyword(Text::of(alloc, "a/b")?),
@@ -137,7 +137,7 @@ fn value(alloc: Global, n: u32) -> Result<Value, Memory> {
     })
 }
 
-// Nine numbers, one for each type of value, are of one entity. A transaction of t 3 retracts.
+/// Nine numbers, one for each type of value, are of one entity. A transaction of t 3 retracts.
 fn sample(alloc: Global, n: u32, t: u32) -> Result<Datom, Memory>
     ensures { IfOk result (λ d. d.added ≡ adds d.t) }
 {
@@ -168,7 +168,7 @@ fn samples(alloc: Global, numbers: Numbers, t: u32) -> Result<Datoms, Memory>
     Ok(Datoms::of(samples))
 }
 
-// AVET holds the attributes below `count`.
+/// AVET holds the attributes below `count`.
 fn coverage(alloc: Global, count: u64) -> Result<Covers, Memory> {
     let mut avet = Vec::new(alloc);
     for a in 0..count {
@@ -246,7 +246,7 @@ fn with_held(
     Ok(list)
 }
 
-// What the order's tree is to have.
+/// What the order's tree is to have.
 fn plain(alloc: Global, order: Order, covers: &Covers, row: &Row) -> Result<Vec<Datom>, Memory> {
     let older = with_held(Vec::new(alloc), order, covers, row.older, 1)?;
     let mut list = with_held(older, order, covers, row.added, 3)?;
@@ -263,7 +263,7 @@ fn is_at(tree: &Tree, order: Order, place: Place, datom: &Datom) -> bool {
     }
 }
 
-// Whether a seek of the datom's entity finds the first datom of the list that is not below it.
+/// Whether a seek of the datom's entity finds the first datom of the list that is not below it.
 fn is_sought(tree: &Tree, order: Order, e: u64, list: &[Datom]) -> bool
     requires { IsRising order (tree_datoms tree.now) }
 {
@@ -312,7 +312,7 @@ fn has_plain(
     Ok(has(roots.tree(order), order, list.as_slice()))
 }
 
-// How many leaves have an id below this one.
+/// How many leaves have an id below this one.
 fn older_leaves(alloc: Global, tree: &Tree, first: u64) -> Result<usize, Memory> {
     let mut older: usize = 0;
     for leaf in tree.leaves(alloc)? {
@@ -325,8 +325,8 @@ fn older_leaves(alloc: Global, tree: &Tree, first: u64) -> Result<usize, Memory>
 
 fn crosses_threads<T: Send + Sync>(_value: &T) {}
 
-// Whether the merged trees have the plain lists, and as many older leaves as the row says. The live index also has datoms
-// of t 5, which stay out.
+/// Whether the merged trees have the plain lists, and as many older leaves as the row says. The live index also has datoms
+/// of t 5, which stay out.
 fn is_right<R: Threads + Sync>(rt: &R, alloc: Global, row: &Row) -> Result<bool, Memory> {
     let (before, after) = (coverage(alloc, row.before)?, coverage(alloc, row.after)?);
     let none = samples(alloc, numbers_of(0, 0, 0), 1)?;

@@ -1,3 +1,4 @@
+//! Tests: trees at the sizes where their leaves split.
 use super::*;
 use fb_memory::Memory;
 use fb_text::Text;
@@ -6,7 +7,7 @@ use std::alloc::Global;
 use std::cmp::Ordering;
 use std::test::Fail;
 
-// Nine datoms of each entity, one of each type.
+/// Nine datoms of each entity, one of each type.
 fn datom(alloc: Global, n: u32) -> Result<Datom, Memory> {
     let v = match n % 9 {
         0 => Value::Keyword(Text::of(alloc, "a/b")?),
@@ -45,7 +46,7 @@ fn is_at(tree: &Tree, place: Place, datom: &Datom) -> bool {
     }
 }
 
-// Whether the tree, read from left to right, has the datoms below `size` and then its end.
+/// Whether the tree, read from left to right, has the datoms below `size` and then its end.
 fn is_list(alloc: Global, tree: &Tree, size: u32) -> Result<bool, Memory> {
     let mut place = Place::START;
     for n in 0..size {
@@ -57,7 +58,7 @@ fn is_list(alloc: Global, tree: &Tree, size: u32) -> Result<bool, Memory> {
     Ok(tree.at(place).is_none() && tree.next(place) == place)
 }
 
-// A list that is too long for one leaf is halved until it is not.
+/// A list that is too long for one leaf is halved until it is not.
 const SIZES: [(u32, usize); 7] = [
     (0, 0),
     (1, 1),
@@ -90,7 +91,7 @@ fn no_roots_have_no_ids(rt: HostRuntime) -> Result<(), Fail> {
     Ok(())
 }
 
-// Whether the order's tree has the datoms below `size`, and its first leaf the id.
+/// Whether the order's tree has the datoms below `size`, and its first leaf the id.
 fn is_tree_from(
     alloc: Global,
     roots: &Roots,

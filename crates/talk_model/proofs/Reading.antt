@@ -17,7 +17,7 @@ use Rattle.view_model.specs.Scan.{Range, between}
 use Rattle.read_refusals.specs.declared.reasons.Reason.TheVariants.{BadComponent}
 use Rattle.read_refusals.specs.declared.reasons.Refusal.{Refusal}
 use Rattle.read_model.specs.Given.{Given, is, by_name, wrong, refusal, Follows, Reads, reads}
-use Rattle.read_model.specs.Components.{Part, parts_of, with_next, no_component, AreRead, AreComponents, no_command, attribute_given, attribute_in, end_given, IsIndexRange, finds, read_by, components, index_range}
+use Rattle.read_model.specs.Components.{Component, parts_of, with_next, no_component, AreRead, AreComponents, no_command, attribute_given, attribute_in, end_given, IsIndexRange, finds, read_by, components, index_range}
 use Rattle.read_model.proofs.Finding.{named_one, named_by_tests}
 
 -- ---- one answer
@@ -36,7 +36,7 @@ module _ (h : List Entry) (w : Window) (Selects : Datom → Type 0) where
       follows_one at make Next one second.0 p q (subst (λ (o : Option ℕ). Follows at make Next o p) same first.2) second.2
   reads_one at (wrong reason) Next one p q first second = first ∙ sym second
 
-  are_read_one : (fs : List (Part × Form)) (probe : Probe) (at : ℕ) (p q : Result Probe Refusal) → AreRead h w Selects probe at fs p → AreRead h w Selects probe at fs q → p ≡ q
+  are_read_one : (fs : List (Component × Form)) (probe : Probe) (at : ℕ) (p q : Result Probe Refusal) → AreRead h w Selects probe at fs p → AreRead h w Selects probe at fs q → p ≡ q
   are_read_one [] probe at p q first second = first ∙ sym second
   are_read_one (next ∷ rest) probe at p q first second =
       reads_one at (with_next (facts h) probe next.0 next.1) (λ more. AreRead h w Selects more (at + 1) rest)
@@ -73,7 +73,7 @@ module _ (h : List Entry) (w : Window) (filters : List (Datom → Bool)) where
   reads_is at (by_name id make) Next next each = (finds h w filters id, named_by_tests h w filters id, follows_is at make Next next each (finds h w filters id))
   reads_is at (wrong reason) Next next each = refl
 
-  are_read_is : (fs : List (Part × Form)) (probe : Probe) (at : ℕ) → AreRead h w Tests probe at fs (read_by (finds h w filters) (facts h) probe at fs)
+  are_read_is : (fs : List (Component × Form)) (probe : Probe) (at : ℕ) → AreRead h w Tests probe at fs (read_by (finds h w filters) (facts h) probe at fs)
   are_read_is [] probe at = refl
   are_read_is (next ∷ rest) probe at =
       reads_is at (with_next (facts h) probe next.0 next.1) (λ more. AreRead h w Tests more (at + 1) rest)

@@ -29,7 +29,7 @@ pub struct Worker {
     ghost small: { (base + rounds < 1000000) × (added ≤ 1000000) },
 }
 
-// Looks at the mail, and notes how long the book there is.
+/// Looks at the mail, and notes how long the book there is.
 fn read_mail(board: &Board<Book, Page>, worker: &mut Worker) -> Result<(), Memory>
     requires seat { board_of worker.old.seat ≡ board.now.table.shared.table_id }
     requires session { (view_of worker.old.seat).number < board.now.table.shared.key.sessions }
@@ -48,7 +48,7 @@ fn read_mail(board: &Board<Book, Page>, worker: &mut Worker) -> Result<(), Memor
     Ok(())
 }
 
-// One number, and a look at the mail.
+/// One number, and a look at the mail.
 fn work_once<R: Wait>(
     alloc: Global,
     rt: &R,
@@ -89,7 +89,7 @@ fn work<R: Wait>(alloc: Global, rt: &R, board: &Board<Book, Page>, worker: &mut 
     }
 }
 
-// Takes on that many workers, each with numbers of its own.
+/// Takes on that many workers, each with numbers of its own.
 fn hire(
     alloc: Global,
     board: &Board<Book, Page>,
@@ -150,7 +150,7 @@ fn work_all<R: Threads + Wait + Sync>(
     );
 }
 
-// Joins the workers' seats to the first one, and adds up what they did.
+/// Joins the workers' seats to the first one, and adds up what they did.
 fn gather(board: &Board<Book, Page>, first: &mut BoardSeat, mut workers: Vec<Worker>) -> (u64, bool)
     requires seat { board_of first.old ≡ board.now.table.shared.table_id }
     requires idle { IsIdle (view_of first.old) }

@@ -26,7 +26,7 @@ pub fn begin<R: Wait>(rt: &R, board: &Board<Book, Page>, seat: &mut BoardSeat) -
     turn(board, rt, seat)
 }
 
-// Adds a number and mails the book to each session. Where memory is short nothing is added.
+/// Adds a number and mails the book to each session. Where memory is short nothing is added.
 fn add(
     alloc: Global,
     board: &Board<Book, Page>,
@@ -58,7 +58,7 @@ fn add(
     Ok(())
 }
 
-// Adds a number where that is not stopped.
+/// Adds a number where that is not stopped.
 fn offer(
     alloc: Global,
     board: &Board<Book, Page>,
@@ -143,7 +143,7 @@ pub fn round<R: Wait>(
     outcome
 }
 
-// Sets the halt, where none is set. It says whether it did.
+/// Sets the halt, where none is set. It says whether it did.
 fn set_halt(book: &mut Book, author: u32) -> bool
     requires { IsSoundBook book.old.entries.items book.old.halt }
     ensures sound { IsSoundBook book.new.entries.items book.new.halt }

@@ -30,7 +30,7 @@ pub struct Met {
     pub found_by_writer: usize,
 }
 
-// The length of the book in the mail, or 0 where its word was held.
+/// The length of the book in the mail, or 0 where its word was held.
 fn mail_length(mail: &Mail<Page>) -> usize {
     match mail {
         Mail::Fresh(page) => page.entries.len(),
@@ -80,7 +80,7 @@ pub fn stops<R: Wait>(alloc: Global, rt: &R) -> Result<[bool; 5], Memory> {
     ])
 }
 
-// Copies the book in a turn of its own. The seat has then seen what the copy has.
+/// Copies the book in a turn of its own. The seat has then seen what the copy has.
 fn read<R: Wait>(
     alloc: Global,
     rt: &R,

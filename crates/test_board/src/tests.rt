@@ -4,7 +4,7 @@ ghost use Rattle.std.specs.Prelude.{◌<◌};
 use crate::{Book, Met, Readings, Report, reader_holds, run, stops, two_readings};
 use std::test::Fail;
 
-// Each number below `count` times `rounds` stands once behind the first 0, and names its worker as the author.
+/// Each number below `count` times `rounds` stands once behind the first 0, and names its worker as the author.
 fn has_each_number_once(book: Book, rounds: u32) -> Result<bool, Fail>
     requires { 0 < rounds }
 {

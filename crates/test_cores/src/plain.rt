@@ -9,7 +9,7 @@ use anyhow::{Result, bail};
 use fb_history::EntryList;
 use fb_model::{first_is_lawful, lawful_entries_make_lawful_histories};
 use fb_values::Entry;
-use plain_step::{NoGuard, Outcome, step};
+use plain_step::{NoGuard, Decision, step};
 use std::alloc::Global;
 use tx_model::an_accepted_entry_is_lawful;
 
@@ -44,8 +44,8 @@ fn transact(alloc: Global, entries: &mut Vec<Entry>, row: &Row) -> Result<()>
     an_accepted_entry_is_lawful();
     lawful_entries_make_lawful_histories();
     match step(alloc, entries, &row.data, CLOCK, &NoGuard)? {
-        Outcome::Refused(refusal) if row.is_refused_by(refusal) => Ok(()),
-        Outcome::Accepted(entry, _) if row.is_accepted() => Ok(entries.push(entry)?),
+        Decision::Refused(refusal) if row.is_refused_by(refusal) => Ok(()),
+        Decision::Accepted(entry, _) if row.is_accepted() => Ok(entries.push(entry)?),
         _ => bail!("the plain program decides otherwise than the table"),
     }
 }

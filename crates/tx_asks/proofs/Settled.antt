@@ -9,7 +9,7 @@ use Rattle.fb_model.specs.Facts.{value_of}
 use Rattle.fb_model.specs.Schema.{Attribute, attribute_named}
 use Rattle.edn_model.specs.Form as edn
 use Rattle.tx_model.specs.Asks as asks
-use Rattle.tx_model.specs.Asks.{Name, Ask, Part}
+use Rattle.tx_model.specs.Asks.{Name, Ask, Operand}
 use Rattle.tx_model.specs.Tempids.{Db, entity_of}
 use Rattle.tx_model.specs.Changes as changes
 use Rattle.tx_model.specs.Transaction.{Transaction}
@@ -106,7 +106,7 @@ swept db names (asks.meets name) = refl
 swept db names (asks.mentions k) = refl
 swept db names asks.lacks_id = refl
 
-old_same : (tx : Transaction) (a : Attribute) (old : Part) → old_value tx a old ≡ old_value_of tx.db tx.names a old
+old_same : (tx : Transaction) (a : Attribute) (old : Operand) → old_value tx a old ≡ old_value_of tx.db tx.names a old
 old_same tx a (asks.entity name) = refl
 old_same tx a (asks.plain edn.nil) = refl
 old_same tx a (asks.plain (edn.boolean b)) = refl
@@ -147,7 +147,7 @@ many_read : (old : Attribute → Option Value) (e : ℕ) (a : Attribute) (v : Op
 many_read old e a None some = absurd (false≢true some)
 many_read old e a (Some v) some = refl
 
-another_read : (tx : Transaction) (old : Part) (e : ℕ) (a : Attribute) (v : Option Value) → IsTrue (is_some (option_map (acts.compares e a (old_value_of tx.db tx.names a old)) v))
+another_read : (tx : Transaction) (old : Operand) (e : ℕ) (a : Attribute) (v : Option Value) → IsTrue (is_some (option_map (acts.compares e a (old_value_of tx.db tx.names a old)) v))
     → not (is_value (value_of tx.db.facts e a.id) (old_value tx a old))
     ≡ option_map_or (is_cas_of_another tx.db) (option_map (acts.compares e a (old_value_of tx.db tx.names a old)) v) false
 another_read tx old e a None some = absurd (false≢true some)
@@ -161,7 +161,7 @@ many_of old read None a some = absurd (false≢true some)
 many_of old read (Some e) None some = absurd (false≢true some)
 many_of old read (Some e) (Some a) some = many_read old e a (read a) some
 
-another_of : (tx : Transaction) (old : Part) (read : Attribute → Option Value) (e : Option ℕ) (a : Option Attribute)
+another_of : (tx : Transaction) (old : Operand) (read : Attribute → Option Value) (e : Option ℕ) (a : Option Attribute)
     → IsTrue (is_some (option_and_then (λ e. option_and_then (λ (a : Attribute). option_map (acts.compares e a (old_value_of tx.db tx.names a old)) (read a)) a) e))
     → option_map_or (λ e. option_map_or (λ attribute. not (is_value (value_of tx.db.facts e attribute.id) (old_value tx attribute old))) a false) e false
     ≡ option_map_or (is_cas_of_another tx.db) (option_and_then (λ e. option_and_then (λ (a : Attribute). option_map (acts.compares e a (old_value_of tx.db tx.names a old)) (read a)) a) e) false

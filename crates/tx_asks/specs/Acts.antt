@@ -9,7 +9,7 @@ use Rattle.fb_model.specs.Facts.{value_of}
 use Rattle.fb_model.specs.Schema.{Attribute, attribute_named}
 use Rattle.fb_schema.specs.Parts.{attribute_in}
 use Rattle.tx_model.specs.Asks as asks
-use Rattle.tx_model.specs.Asks.{Name, Part, Ask, plain, entity}
+use Rattle.tx_model.specs.Asks.{Name, Operand, Ask, plain, entity}
 use Rattle.tx_model.specs.Tempids.{Db, entity_of}
 use Rattle.tx_model.specs.Changes.{value_of_part, change, values_withdrawn, set_withdrawn}
 use Rattle.tx_model.specs.Transaction.{Transaction, with_names}
@@ -36,7 +36,7 @@ seen (RetractsEntity e) = retracts_entity e
 
 -- ---- the act of an ask, where its names and its attribute are known and its value is read
 
-abbrev pub old_value_of : Db → List (Name × ℕ) → Attribute → Part → Option Value
+abbrev pub old_value_of : Db → List (Name × ℕ) → Attribute → Operand → Option Value
 old_value_of db names attribute (plain edn.nil) = None
 old_value_of db names attribute part = value_of_part db names attribute part
 

@@ -15,8 +15,8 @@ use Rattle.tx_model.specs.NameRules.{is_lacking}
 use Rattle.std.specs.List.{list_any}
 use Rattle.tx_asks.specs.declared.asks.Name.{Name}
 use Rattle.tx_asks.specs.declared.asks.Name.TheVariants.{Number, Ident, Lookup, Tempid, Nameless}
-use Rattle.tx_asks.specs.declared.asks.Part.{Part}
-use Rattle.tx_asks.specs.declared.asks.Part.TheVariants.{Plain, Entity}
+use Rattle.tx_asks.specs.declared.asks.Operand.{Operand}
+use Rattle.tx_asks.specs.declared.asks.Operand.TheVariants.{Plain, Entity}
 use Rattle.tx_asks.specs.declared.asks.Ask.{Ask}
 use Rattle.tx_asks.specs.declared.asks.Ask.TheVariants.{Adds, Retracts, RetractsAll, Compares, RetractsEntity, Meets}
 use Rattle.tx_asks.specs.declared.asks.Flat.{Flat}
@@ -30,12 +30,12 @@ name_of places (Lookup k value) = model.lookup k.now (form_of value.now)
 name_of places (Tempid text) = model.tempid text.now
 name_of places (Nameless n) = model.nameless (slice_index_or places n [])
 
-abbrev pub part_of : List (List ℕ) → Part → model.Part
+abbrev pub part_of : List (List ℕ) → Operand → model.Operand
 part_of places (Plain f v) = model.plain (form_of f.now)
 part_of places (Entity name) = model.entity (name_of places name)
 
 -- nil as the old value of a cas
-abbrev pub old_part_of : List (List ℕ) → Option Part → model.Part
+abbrev pub old_part_of : List (List ℕ) → Option Operand → model.Operand
 old_part_of places None = model.plain edn.nil
 old_part_of places (Some part) = part_of places part
 
@@ -56,11 +56,11 @@ matters ask = true
 
 -- ---- values that are read, and maps that are counted
 
-abbrev pub IsReadPart : Attribute → Part → Type 0
+abbrev pub IsReadPart : Attribute → Operand → Type 0
 IsReadPart attribute (Plain f v) = value_in attribute.kind (form_of f.now) ≡ Some v
 IsReadPart attribute (Entity name) = ⊤
 
-abbrev pub IsReadOldPart : Attribute → Option Part → Type 0
+abbrev pub IsReadOldPart : Attribute → Option Operand → Type 0
 IsReadOldPart attribute None = ⊤
 IsReadOldPart attribute (Some part) = IsReadPart attribute part
 
@@ -82,11 +82,11 @@ abbrev pub IsCounted : ℕ → Name → Type 0
 IsCounted n (Nameless k) = k < n
 IsCounted n name = ⊤
 
-abbrev pub IsCountedPart : ℕ → Part → Type 0
+abbrev pub IsCountedPart : ℕ → Operand → Type 0
 IsCountedPart n (Plain f v) = ⊤
 IsCountedPart n (Entity name) = IsCounted n name
 
-abbrev pub IsCountedOldPart : ℕ → Option Part → Type 0
+abbrev pub IsCountedOldPart : ℕ → Option Operand → Type 0
 IsCountedOldPart n None = ⊤
 IsCountedOldPart n (Some part) = IsCountedPart n part
 

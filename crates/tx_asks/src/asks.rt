@@ -20,7 +20,7 @@ pub enum Name<'a> {
 
 /// What stands in the place of a value.
 #[derive(Drop)]
-pub enum Part<'a> {
+pub enum Operand<'a> {
     /// A value, with the form that it was read from.
     Plain(&'a Edn, Value),
     /// An entity, under an attribute whose values are entities.
@@ -33,12 +33,12 @@ pub enum Ask<'a> {
     Adds {
         on: Name<'a>,
         attribute: &'a Attribute,
-        part: Part<'a>,
+        part: Operand<'a>,
     },
     Retracts {
         on: Name<'a>,
         attribute: &'a Attribute,
-        part: Part<'a>,
+        part: Operand<'a>,
     },
     /// Every value.
     RetractsAll {
@@ -49,8 +49,8 @@ pub enum Ask<'a> {
     Compares {
         on: Name<'a>,
         attribute: &'a Attribute,
-        old: Option<Part<'a>>,
-        new: Part<'a>,
+        old: Option<Operand<'a>>,
+        new: Operand<'a>,
     },
     RetractsEntity {
         on: Name<'a>,

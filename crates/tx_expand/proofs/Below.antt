@@ -3,13 +3,13 @@ use Rattle.std.proofs.Common.{◌≡◌, ℕ, zero, suc, ◌+◌, ◌<◌, ◌�
 use Rattle.std.specs.Prelude.{slice_index_or, filter, Option, Some, None, ⊤}
 use Rattle.std.specs.List.{All}
 use Rattle.std.proofs.lemmas.Bool.{cases_lt, false≢true}
-use Rattle.tx_model.specs.Asks.{Name, number, ident, lookup, tempid, nameless, Part, plain, entity, Ask, adds, retracts, retracts_all, compares, retracts_entity, meets, mentions, lacks_id}
+use Rattle.tx_model.specs.Asks.{Name, number, ident, lookup, tempid, nameless, Operand, plain, entity, Ask, adds, retracts, retracts_all, compares, retracts_entity, meets, mentions, lacks_id}
 use Rattle.tx_asks.specs.declared.asks.Name as program
 use Rattle.tx_asks.specs.Asks.{AreCounted, IsCounted, IsCountedPart, IsCountedOldPart}
 use Rattle.tx_asks.specs.declared.asks.Ask as asks
 use Rattle.tx_asks.specs.declared.asks.Ask.TheVariants.{Adds, Retracts, RetractsAll, Compares, RetractsEntity, Meets}
-use Rattle.tx_asks.specs.declared.asks.Part as parts
-use Rattle.tx_asks.specs.declared.asks.Part.TheVariants.{Plain, Entity}
+use Rattle.tx_asks.specs.declared.asks.Operand as parts
+use Rattle.tx_asks.specs.declared.asks.Operand.TheVariants.{Plain, Entity}
 use Rattle.tx_asks.specs.declared.asks.Name.TheVariants.{Number, Ident, Lookup, Tempid, Nameless}
 use Rattle.tx_expand.specs.Seen.{name_seen}
 use Rattle.tx_expand.specs.Faults.{part_read, old_part_read, ask_read}
@@ -21,7 +21,7 @@ abbrev pub IsBelow : ℕ → Name → Type 0
 IsBelow n (nameless (k ∷ rest)) = k < n
 IsBelow n name = ⊤
 
-abbrev pub IsPartBelow : ℕ → Part → Type 0
+abbrev pub IsPartBelow : ℕ → Operand → Type 0
 IsPartBelow n (plain f) = ⊤
 IsPartBelow n (entity name) = IsBelow n name
 
@@ -82,11 +82,11 @@ name_below ps (nameless (k ∷ rest)) same = by_cases (cases_lt k (length ps))
     by_cases (inr past) =
         no_one (sym (past_places ps k past) ∙ sym (ap path_in (same (ones (k + 1)))) ∙ behind_places ps k (k + 1) past (omega arith))
 
-abbrev name_in_part : Part → Name
+abbrev name_in_part : Operand → Name
 name_in_part (plain f) = nameless []
 name_in_part (entity name) = name
 
-part_below : (ps : List (List ℕ)) (part : Part) → ((more : List (List ℕ)) → part_placed (ps ++ more) part ≡ part_placed ps part) → IsPartBelow (length ps) part
+part_below : (ps : List (List ℕ)) (part : Operand) → ((more : List (List ℕ)) → part_placed (ps ++ more) part ≡ part_placed ps part) → IsPartBelow (length ps) part
 part_below ps (plain f) same = tt
 part_below ps (entity name) same = name_below ps name (λ more. ap name_in_part (same more))
 
@@ -99,13 +99,13 @@ name_in_ask (retracts_entity name) = name
 name_in_ask (meets name) = name
 name_in_ask ask = nameless []
 
-abbrev first_part : Ask → Part
+abbrev first_part : Ask → Operand
 first_part (adds name k part) = part
 first_part (retracts name k part) = part
 first_part (compares name k old new) = old
 first_part ask = entity (nameless [])
 
-abbrev second_part : Ask → Part
+abbrev second_part : Ask → Operand
 second_part (compares name k old new) = new
 second_part ask = entity (nameless [])
 
@@ -167,11 +167,11 @@ counted_name n (Lookup k f) below = tt
 counted_name n (Tempid s) below = tt
 counted_name n (Nameless k) below = below
 
-counted_part : (n : ℕ) (part : parts.Part) → IsPartBelow n (part_read part) → IsCountedPart n part
+counted_part : (n : ℕ) (part : parts.Operand) → IsPartBelow n (part_read part) → IsCountedPart n part
 counted_part n (Plain f v) below = tt
 counted_part n (Entity name) below = counted_name n name below
 
-counted_old : (n : ℕ) (part : Option parts.Part) → IsPartBelow n (old_part_read part) → IsCountedOldPart n part
+counted_old : (n : ℕ) (part : Option parts.Operand) → IsPartBelow n (old_part_read part) → IsCountedOldPart n part
 counted_old n None below = tt
 counted_old n (Some part) below = counted_part n part below
 

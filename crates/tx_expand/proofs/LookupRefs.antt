@@ -8,7 +8,7 @@ use Rattle.edn_form.specs.View.{form_of, forms_of}
 use Rattle.fb_values.specs.declared.facts.Datom.{Datom}
 use Rattle.fb_numbers.specs.Numbers.{type_ref}
 use Rattle.fb_model.specs.Schema.{Attribute}
-use Rattle.tx_model.specs.Asks.{Name, Part, plain, entity, lookup_in, name_of_part}
+use Rattle.tx_model.specs.Asks.{Name, Operand, plain, entity, lookup_in, name_of_part}
 use Rattle.tx_model.specs.NameRules.{lookups_from, lookups_in, is_wrong_part, is_wrong_lookup}
 use Rattle.tx_model.specs.Values.{value_in}
 use Rattle.tx_model.specs.Walk.{has_ref, lookup_or, old_value_part}
@@ -103,7 +103,7 @@ faults_of_others facts k f other = alone facts k f
 
 -- ---- names, one behind the other
 
-pub faults_behind : (facts : List Datom) (part : Part) (names : List Name)
+pub faults_behind : (facts : List Datom) (part : Operand) (names : List Name)
     → names_faults facts (name_of_part part ++ names) ≡ either_name (names_faults facts (name_of_part part)) (names_faults facts names)
 faults_behind facts (plain f) names = refl
 faults_behind facts (entity name) names =

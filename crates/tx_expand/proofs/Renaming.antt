@@ -9,7 +9,7 @@ use Rattle.edn_model.specs.Form.{Form, Forms, Pairs}
 use Rattle.fb_values.specs.declared.facts.Datom.{Datom}
 use Rattle.fb_model.specs.Schema.{Attribute, attribute_named}
 use Rattle.tx_model.specs.Shapes.{Verb, add, retract, cas, retract_entity, verb_in}
-use Rattle.tx_model.specs.Asks.{Name, number, ident, lookup, tempid, nameless, lookup_in, name_of_pair, attribute_of_ask, Part, plain, entity, Ask, adds, retracts, retracts_all, compares, retracts_entity, meets, mentions, lacks_id, Key, own, forward, backward, names_of}
+use Rattle.tx_model.specs.Asks.{Name, number, ident, lookup, tempid, nameless, lookup_in, name_of_pair, attribute_of_ask, Operand, plain, entity, Ask, adds, retracts, retracts_all, compares, retracts_entity, meets, mentions, lacks_id, Key, own, forward, backward, names_of}
 use Rattle.tx_model.specs.Walk.{has_ref, has_many, has_uniqueness, scalar, lookup_or, value_part, old_value_part, keyword_in, entity_in, list_asks, verb_asks, links, need, nested_asks, scalar_asks, vector_asks, sequence_asks, pair_asks}
 use Rattle.tx_model.specs.NameRules.{lookups_in, is_unknown, names_no_attribute, is_protected, is_ident, is_reserved_part, adds_reserved_ident, is_wrong_part, is_wrong_old_part, has_wrong_part, attribute_in, is_wrong_lookup, has_wrong_lookup, has_other_lookup, is_lacking}
 use Rattle.tx_asks.specs.Asks.{matters}
@@ -28,7 +28,7 @@ module _ (places : List (List ℕ)) where
   map_append [] ys = refl
   map_append (x ∷ xs) ys = ap (λ rest. ask_placed places x ∷ rest) (map_append xs ys)
 
-  pub links_placed : (self : Name) (key : Key) (part : Part) → map (ask_placed places) (links self key part) ≡ links (placed places self) key (part_placed places part)
+  pub links_placed : (self : Name) (key : Key) (part : Operand) → map (ask_placed places) (links self key part) ≡ links (placed places self) key (part_placed places part)
   links_placed self own part = refl
   links_placed self (forward k) part = refl
   links_placed self (backward k) (entity other) = refl
@@ -190,11 +190,11 @@ module _ (places : List (List ℕ)) where
   attribute_placed (mentions k) = refl
   attribute_placed lacks_id = refl
 
-  wrong_placed : (attribute : Attribute) (part : Part) → is_wrong_part attribute (part_placed places part) ≡ is_wrong_part attribute part
+  wrong_placed : (attribute : Attribute) (part : Operand) → is_wrong_part attribute (part_placed places part) ≡ is_wrong_part attribute part
   wrong_placed attribute (plain f) = refl
   wrong_placed attribute (entity name) = refl
 
-  wrong_old_placed : (attribute : Attribute) (part : Part) → is_wrong_old_part attribute (part_placed places part) ≡ is_wrong_old_part attribute part
+  wrong_old_placed : (attribute : Attribute) (part : Operand) → is_wrong_old_part attribute (part_placed places part) ≡ is_wrong_old_part attribute part
   wrong_old_placed attribute (plain f) = refl
   wrong_old_placed attribute (entity name) = refl
 
@@ -222,7 +222,7 @@ module _ (places : List (List ℕ)) where
       ap (λ k. option_map_or (has_wrong_part (ask_placed places ask)) (option_map_or (attribute_named facts) k None) false) (attribute_placed ask)
       ∙ by_attribute ask (attribute_in facts ask)
 
-  reserved_part_placed : (part : Part) → is_reserved_part (part_placed places part) ≡ is_reserved_part part
+  reserved_part_placed : (part : Operand) → is_reserved_part (part_placed places part) ≡ is_reserved_part part
   reserved_part_placed (plain f) = refl
   reserved_part_placed (entity name) = refl
 

@@ -16,8 +16,8 @@ use Rattle.tx_model.specs.Walk.{flat}
 use Rattle.tx_asks.specs.Asks.{ask_of, part_of, old_part_of, name_of, matters, IsRead, AreCounted, AreAsks}
 use Rattle.tx_asks.specs.declared.asks.Name.{Name}
 use Rattle.tx_asks.specs.declared.asks.Name.TheVariants.{Number, Ident, Lookup, Tempid, Nameless}
-use Rattle.tx_asks.specs.declared.asks.Part.{Part}
-use Rattle.tx_asks.specs.declared.asks.Part.TheVariants.{Plain, Entity}
+use Rattle.tx_asks.specs.declared.asks.Operand.{Operand}
+use Rattle.tx_asks.specs.declared.asks.Operand.TheVariants.{Plain, Entity}
 use Rattle.tx_asks.specs.declared.asks.Ask.{Ask}
 use Rattle.tx_asks.specs.declared.asks.Ask.TheVariants.{Adds, Retracts, RetractsAll, Compares, RetractsEntity, Meets}
 use Rattle.tx_expand.specs.declared.faults.Faults.{Faults}
@@ -131,11 +131,11 @@ module _ (s facts : List Datom) (same : (k : List ℕ) → attribute_named s k �
   name_is all (Tempid text) = refl
   name_is all (Nameless n) = refl
 
-  part_is : (all : List (List ℕ)) (part : Part) → part_of all part ≡ part_placed all (part_read part)
+  part_is : (all : List (List ℕ)) (part : Operand) → part_of all part ≡ part_placed all (part_read part)
   part_is all (Plain f v) = refl
   part_is all (Entity name) = ap model.entity (name_is all name)
 
-  old_part_is : (all : List (List ℕ)) (part : Option Part) → old_part_of all part ≡ part_placed all (old_part_read part)
+  old_part_is : (all : List (List ℕ)) (part : Option Operand) → old_part_of all part ≡ part_placed all (old_part_read part)
   old_part_is all None = refl
   old_part_is all (Some part) = part_is all part
 

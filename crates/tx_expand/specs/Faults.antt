@@ -12,8 +12,8 @@ use Rattle.fb_model.specs.Schema.{attribute_named}
 use Rattle.tx_model.specs.Asks as model
 use Rattle.tx_model.specs.Asks.{names_of, attribute_of_ask}
 use Rattle.tx_model.specs.NameRules.{lookups_from, is_unknown, has_unknown_lookup, names_no_attribute, is_protected, adds_reserved_ident, has_wrong_part, is_wrong_lookup, has_wrong_lookup, has_other_lookup, attribute_in, is_lacking}
-use Rattle.tx_asks.specs.declared.asks.Part.{Part}
-use Rattle.tx_asks.specs.declared.asks.Part.TheVariants.{Plain, Entity}
+use Rattle.tx_asks.specs.declared.asks.Operand.{Operand}
+use Rattle.tx_asks.specs.declared.asks.Operand.TheVariants.{Plain, Entity}
 use Rattle.tx_asks.specs.declared.asks.Ask.{Ask}
 use Rattle.tx_asks.specs.declared.asks.Ask.TheVariants.{Adds, Retracts, RetractsAll, Compares, RetractsEntity, Meets}
 use Rattle.tx_asks.specs.Asks.{matters, IsRead}
@@ -112,12 +112,12 @@ form_faults facts asks =
 abbrev pub is_kept : List Datom → model.Ask → Bool
 is_kept facts ask = matters ask && not (is_of_unknown facts ask || has_wrong_value facts ask)
 
-abbrev pub part_read : Part → model.Part
+abbrev pub part_read : Operand → model.Operand
 part_read (Plain f v) = model.plain (form_of f.now)
 part_read (Entity name) = model.entity (name_seen name)
 
 -- nil as the old value of a cas
-abbrev pub old_part_read : Option Part → model.Part
+abbrev pub old_part_read : Option Operand → model.Operand
 old_part_read None = model.plain edn.nil
 old_part_read (Some part) = part_read part
 

@@ -1,6 +1,6 @@
 -- Maps without `:db/id` by their places in place of their numbers. This project's own choice.
 use Rattle.std.specs.Prelude.{ℕ, List, [], ◌∷◌, slice_index_or}
-use Rattle.tx_model.specs.Asks.{Name, nameless, Part, plain, entity, Ask, adds, retracts, retracts_all, compares, retracts_entity, meets, mentions, lacks_id}
+use Rattle.tx_model.specs.Asks.{Name, nameless, Operand, plain, entity, Ask, adds, retracts, retracts_all, compares, retracts_entity, meets, mentions, lacks_id}
 
 -- where the map with the number stands, which is alone in the path
 abbrev pub place_of : List (List ℕ) → List ℕ → List ℕ
@@ -11,7 +11,7 @@ abbrev pub placed : List (List ℕ) → Name → Name
 placed places (nameless path) = nameless (place_of places path)
 placed places name = name
 
-abbrev pub part_placed : List (List ℕ) → Part → Part
+abbrev pub part_placed : List (List ℕ) → Operand → Operand
 part_placed places (plain f) = plain f
 part_placed places (entity name) = entity (placed places name)
 

@@ -36,7 +36,7 @@ abbrev pub key_seen : Option Link → model.Key
 key_seen None = model.own
 key_seen (Some link) = link_seen link
 
-abbrev pub part_seen : RawPart → model.Part
+abbrev pub part_seen : RawPart → model.Operand
 part_seen (Plain f) = model.plain (form_of f.now)
 part_seen (Entity name) = model.entity (name_seen name)
 

@@ -16,7 +16,7 @@ use crate::raw::{Attr, RawAsk, RawPart};
 use edn_form::Edn;
 use fb_memory::Memory;
 use fb_schema::{Attribute, Schema};
-use tx_asks::{Ask, Name, Part};
+use tx_asks::{Ask, Name, Operand};
 
 /// What becomes of an ask.
 #[derive(Drop)]
@@ -31,20 +31,20 @@ pub enum Settled<'a> {
 }
 
 /// The part with its value read, if it is one of the attribute.
-fn read_part<'a>(attribute: &Attribute, part: RawPart<'a>) -> Result<Option<Part<'a>>, Memory>
+fn read_part<'a>(attribute: &Attribute, part: RawPart<'a>) -> Result<Option<Operand<'a>>, Memory>
     ensures { IfOk result (λ read. MatchOption read (model.is_wrong_part (attribute_in attribute.now) (part_seen part.entry) ≡ true)
         (λ r. (model.is_wrong_part (attribute_in attribute.now) (part_seen part.entry) ≡ false) × (part_read r ≡ part_seen part.entry) × IsReadPart attribute.now r)) }
 {
     match part {
         RawPart::Plain(f) => match plain_value(attribute, f)? {
-            Some(v) => Ok(Some(Part::Plain(f, v))),
+            Some(v) => Ok(Some(Operand::Plain(f, v))),
             None => Ok(None),
         },
         RawPart::Entity(name) => {
             if !attribute.is_ref() {
                 return Ok(None);
             }
-            Ok(Some(Part::Entity(name)))
+            Ok(Some(Operand::Entity(name)))
         }
     }
 }
@@ -53,7 +53,7 @@ fn read_part<'a>(attribute: &Attribute, part: RawPart<'a>) -> Result<Option<Part
 fn read_old<'a>(
     attribute: &Attribute,
     part: RawPart<'a>,
-) -> Result<Option<Option<Part<'a>>>, Memory>
+) -> Result<Option<Option<Operand<'a>>>, Memory>
     ensures { IfOk result (λ read. MatchOption read (model.is_wrong_old_part (attribute_in attribute.now) (part_seen part.entry) ≡ true)
         (λ r. (model.is_wrong_old_part (attribute_in attribute.now) (part_seen part.entry) ≡ false) × (old_part_read r ≡ part_seen part.entry) × IsReadOldPart attribute.now r)) }
 {
@@ -64,7 +64,7 @@ fn read_old<'a>(
 }
 
 /// A part as an old value that there is.
-fn known_old<'a>(part: Option<Part<'a>>) -> Option<Option<Part<'a>>>
+fn known_old<'a>(part: Option<Operand<'a>>) -> Option<Option<Operand<'a>>>
     ensures { result ≡ option_map Some part.entry }
 {
     match part {
@@ -73,14 +73,14 @@ fn known_old<'a>(part: Option<Part<'a>>) -> Option<Option<Part<'a>>>
     }
 }
 
-fn read_old_form<'a>(attribute: &Attribute, f: &'a Edn) -> Result<Option<Option<Part<'a>>>, Memory>
+fn read_old_form<'a>(attribute: &Attribute, f: &'a Edn) -> Result<Option<Option<Operand<'a>>>, Memory>
     ensures { IfOk result (λ read. MatchOption read (model.is_wrong_old_part (attribute_in attribute.now) (asks.plain (form_of f.now)) ≡ true)
         (λ r. (model.is_wrong_old_part (attribute_in attribute.now) (asks.plain (form_of f.now)) ≡ false) × (old_part_read r ≡ asks.plain (form_of f.now)) × IsReadOldPart attribute.now r)) }
 {
     match f {
         Edn::Nil => Ok(Some(None)),
         _ => match plain_value(attribute, f)? {
-            Some(v) => Ok(Some(Some(Part::Plain(f, v)))),
+            Some(v) => Ok(Some(Some(Operand::Plain(f, v)))),
             None => Ok(None),
         },
     }

@@ -1,3 +1,4 @@
+//! Tests: forms of transactions and what is wrong with them.
 use super::*;
 use edn_form::{Edn, Items};
 use fb_text::Text;

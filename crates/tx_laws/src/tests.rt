@@ -1,3 +1,4 @@
+//! Tests: entries that break a law, one for each.
 use super::lawful;
 use fb_history::EntryList;
 use fb_memory::Memory;

@@ -17,7 +17,7 @@ use Rattle.fb_model.specs.Facts.{facts}
 use Rattle.fb_model.specs.Types.{is_of_type}
 use Rattle.fb_model.specs.Schema.{Attribute, attribute_from, attribute_named, attribute_of, named, is_one}
 use Rattle.fb_model.proofs.Members.{kept, in_order_member}
-use Rattle.tx_model.specs.Asks.{Name, Part, plain, entity, Ask, adds, retracts, retracts_all, compares, retracts_entity, meets, mentions, lacks_id, names_of, attribute_of_ask}
+use Rattle.tx_model.specs.Asks.{Name, Operand, plain, entity, Ask, adds, retracts, retracts_all, compares, retracts_entity, meets, mentions, lacks_id, names_of, attribute_of_ask}
 use Rattle.tx_model.specs.Values.{read_as, value_in, if_of_type}
 use Rattle.tx_model.specs.Tempids.{Db, db_of, entity_of}
 use Rattle.tx_model.specs.Changes.{value_of_part, change, changes_of, withdrawn, additions, retractions, values_withdrawn, set_withdrawn, sweeps, implied, is_replaced}
@@ -32,7 +32,7 @@ some_is x y same = cc
 -- ---- one change
 
 -- a change of an ask, of an entity, an attribute and a value
-pub record IsMade (db : Db) (names : List (Name × ℕ)) (added : Bool) (name : Name) (k : List ℕ) (part : Part) (d : Datom) : Type 0 where
+pub record IsMade (db : Db) (names : List (Name × ℕ)) (added : Bool) (name : Name) (k : List ℕ) (part : Operand) (d : Datom) : Type 0 where
   pub attribute : Attribute
   pub entity_is : entity_of db names name ≡ Some d.e
   pub attribute_is : attribute_named db.facts k ≡ Some attribute
@@ -41,7 +41,7 @@ pub record IsMade (db : Db) (names : List (Name × ℕ)) (added : Bool) (name : 
   pub added_is : d.added ≡ added
   pub t_is : d.t ≡ basis db.history + 1
 
-pub made_of : (db : Db) (names : List (Name × ℕ)) (added : Bool) (name : Name) (k : List ℕ) (part : Part) (d : Datom) → Contains (changes_of db names added name k part) d → IsMade db names added name k part d
+pub made_of : (db : Db) (names : List (Name × ℕ)) (added : Bool) (name : Name) (k : List ℕ) (part : Operand) (d : Datom) → Contains (changes_of db names added name k part) d → IsMade db names added name k part d
 made_of db names added name k part d member =
     by_entity (entity_of db names name) refl (in_option (option_and_then (λ e. option_and_then (λ (a : Attribute). option_map (change db added e a.id) (value_of_part db names a part)) (attribute_named db.facts k)) (entity_of db names name)) d member)
   where
@@ -75,7 +75,7 @@ made_of db names added name k part d member =
 pub record IsAskedBy (db : Db) (names : List (Name × ℕ)) (added : Bool) (ask : Ask) (d : Datom) : Type 0 where
   pub name : Name
   pub k : List ℕ
-  pub part : Part
+  pub part : Operand
   pub made : IsMade db names added name k part d
   pub keyword_is : attribute_of_ask ask ≡ Some k
   pub right_part : is_wrong_part made.attribute part ≡ false
@@ -191,7 +191,7 @@ plain_typed kind f v is = by_option (read_as kind f) is
     by_option (Some w) is = if_typed w (is_of_type kind w) refl is
 
 -- an entity that there is has a number in the range of references
-pub part_typed : (db : Db) (names : List (Name × ℕ)) (a : Attribute) (part : Part) (v : Value) → is_wrong_part a part ≡ false → value_of_part db names a part ≡ Some v
+pub part_typed : (db : Db) (names : List (Name × ℕ)) (a : Attribute) (part : Operand) (v : Value) → is_wrong_part a part ≡ false → value_of_part db names a part ≡ Some v
     → ((n : ℕ) → v ≡ Ref n → is_reference n ≡ true) → is_of_type a.kind v ≡ true
 part_typed db names a (plain f) v right is small = plain_typed a.kind f v is
 part_typed db names a (entity name) v right is small = by_option (entity_of db names name) is

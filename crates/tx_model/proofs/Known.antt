@@ -21,7 +21,7 @@ use Rattle.fb_model.specs.Lawful.{IsLawful}
 use Rattle.fb_model.proofs.OneMoreEntry.{holds-unused}
 use Rattle.fb_model.proofs.Members.{any_member}
 use Rattle.fb_model.proofs.KnownFacts.{is_issued_value, facts_issued, facts_typed, is_typed}
-use Rattle.tx_model.specs.Asks.{Name, number, ident, lookup, tempid, nameless, Part, plain, entity, Ask, adds, retracts, retracts_all, compares, retracts_entity, meets, mentions, lacks_id, own_tempid, is_tempid, is_same_tempid, names_of, attribute_of_ask}
+use Rattle.tx_model.specs.Asks.{Name, number, ident, lookup, tempid, nameless, Operand, plain, entity, Ask, adds, retracts, retracts_all, compares, retracts_entity, meets, mentions, lacks_id, own_tempid, is_tempid, is_same_tempid, names_of, attribute_of_ask}
 use Rattle.tx_model.specs.Values.{value_in, if_of_type}
 use Rattle.tx_model.specs.Tempids.{Db, db_of, found, tempids_in, assigned_to, entity_of}
 use Rattle.tx_model.specs.Changes.{value_of_part, change, changes_of, additions}
@@ -69,7 +69,7 @@ plain_known h entry kind f v is = by_form f is
 record AddsTo (name : Name) (ask : Ask) : Type 0 where
   other : Name
   k : List ℕ
-  part : Part
+  part : Operand
   ask_is : ask ≡ adds other k part
   same : is_same_tempid name other ≡ true
 
@@ -83,7 +83,7 @@ adding name (meets other) is = absurd (true≢false (sym is))
 adding name (mentions k) is = absurd (true≢false (sym is))
 adding name lacks_id is = absurd (true≢false (sym is))
 
-made_change : (db : Db) (names : List (Name × ℕ)) (name : Name) (k : List ℕ) (part : Part) (e : ℕ) (a : Attribute) (v : Value)
+made_change : (db : Db) (names : List (Name × ℕ)) (name : Name) (k : List ℕ) (part : Operand) (e : ℕ) (a : Attribute) (v : Value)
     → entity_of db names name ≡ Some e → attribute_named db.facts k ≡ Some a → value_of_part db names a part ≡ Some v → Contains (changes_of db names true name k part) (change db true e a.id v)
 made_change db names name k part e a v e_is a_is v_is =
     subst (λ o. Contains (option_to_list o) (change db true e a.id v)) (sym chain) (first_of (change db true e a.id v) [])
@@ -196,7 +196,7 @@ module _ (h : List Entry) (fs : List Form) (lawful : IsLawful h) (none : NoneBro
           in_first : (a b c e : List Datom) (d : Datom) → Contains a d → Contains (a ++ b ++ c ++ e) d
           in_first a b c e d member = Contains-append_left (a ++ b ++ c) e d (Contains-append_left (a ++ b) c d (Contains-append_left a b d member))
 
-          part_some : (name : Name) (k : List ℕ) (part : Part) (group : List Ask) → Contains group (adds name k part) → Contains (transaction h fs).asks group → (a : Attribute) → is_wrong_part a part ≡ false → IsThere (value_of_part (db_of h) (transaction h fs).names a part)
+          part_some : (name : Name) (k : List ℕ) (part : Operand) (group : List Ask) → Contains group (adds name k part) → Contains (transaction h fs).asks group → (a : Attribute) → is_wrong_part a part ≡ false → IsThere (value_of_part (db_of h) (transaction h fs).names a part)
           part_some name k (plain f) group ask_here group_among a right = there_is (value_in a.kind f) right
           part_some name k (entity other) group ask_here group_among a right =
               let there = name_some group (adds name k (entity other)) other group_among ask_here (later_of name other (other ∷ []) (first_of other [])) in
@@ -231,7 +231,7 @@ module _ (h : List Entry) (fs : List Form) (lawful : IsLawful h) (none : NoneBro
       go true is = or_left _ _ (or_right _ _ (eq-eqb n (transaction_of (basis h + 1)) (sym (some_is (transaction_of (basis h + 1)) n is))))
       go false is = given_known instant n (assigned_given h (joined (transaction h fs).asks) (tempids_in (joined (transaction h fs).asks)) (users_issued h) (tempid s) n lawful is)
 
-  part_known : (instant : ℤ) (a : Attribute) (part : Part) (v : Value) → value_of_part (db_of h) (transaction h fs).names a part ≡ Some v → is_known_value h (entry_of h (transaction h fs) instant) v ≡ true
+  part_known : (instant : ℤ) (a : Attribute) (part : Operand) (v : Value) → value_of_part (db_of h) (transaction h fs).names a part ≡ Some v → is_known_value h (entry_of h (transaction h fs) instant) v ≡ true
   part_known instant a (plain f) v is = plain_known h (entry_of h (transaction h fs) instant) a.kind f v is
   part_known instant a (entity name) v is = go (entity_of (db_of h) (transaction h fs).names name) refl is
     where

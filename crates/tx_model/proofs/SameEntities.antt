@@ -10,7 +10,7 @@ use Rattle.fb_numbers.specs.Numbers.{transaction_of}
 use Rattle.fb_model.specs.History.{basis}
 use Rattle.fb_model.specs.Facts.{value_of}
 use Rattle.fb_model.specs.Schema.{Attribute, attribute_named}
-use Rattle.tx_model.specs.Asks.{Name, number, ident, lookup, tempid, nameless, Part, plain, entity, Ask, adds, retracts, retracts_all, compares, retracts_entity, meets, mentions, lacks_id, own_tempid}
+use Rattle.tx_model.specs.Asks.{Name, number, ident, lookup, tempid, nameless, Operand, plain, entity, Ask, adds, retracts, retracts_all, compares, retracts_entity, meets, mentions, lacks_id, own_tempid}
 use Rattle.tx_model.specs.Tempids.{Db, assigned_to, assigned, entity_of}
 use Rattle.tx_model.specs.Changes.{value_of_part, change, changes_of, additions, retractions, sweeps, implied, values_withdrawn, set_withdrawn}
 use Rattle.tx_model.specs.Transaction.{Transaction, joined, with_changes, with_names, with_asks}
@@ -39,7 +39,7 @@ module _ (db : Db) (names others : List (Name × ℕ)) (same : (name : Name) →
   abbrev made : Bool → List ℕ → Option ℕ → (Attribute → Option Value) → List Datom
   made added k e value = option_to_list (option_and_then (λ e. option_and_then (λ (a : Attribute). option_map (change db added e a.id) (value a)) (attribute_named db.facts k)) e)
 
-  same_made : (added : Bool) (name : Name) (k : List ℕ) (part : Part) → changes_of db names added name k part ≡ changes_of db others added name k part
+  same_made : (added : Bool) (name : Name) (k : List ℕ) (part : Operand) → changes_of db names added name k part ≡ changes_of db others added name k part
   same_made added name k (plain f) = ap (λ e. made added k e (λ a. value_of_part db names a (plain f))) (same_entity name)
   same_made added name k (entity other) =
       ap (λ e. made added k e (λ a. option_map Ref (entity_of db names other))) (same_entity name)

@@ -27,7 +27,7 @@ use Rattle.fb_model.proofs.SchemaHistories.{builtin_stays, described_ones, reser
 use Rattle.fb_model.proofs.KnownFacts.{is_typed}
 use Rattle.fb_model.proofs.Members.{keep, member_passes, all_members, any_member, some_member, in_order-rises}
 use Rattle.fb_model.proofs.TextEntries.{unused_transaction, in_range}
-use Rattle.tx_model.specs.Asks.{Part, plain, entity, Ask, attribute_of_ask}
+use Rattle.tx_model.specs.Asks.{Operand, plain, entity, Ask, attribute_of_ask}
 use Rattle.tx_model.specs.Values.{value_in, if_of_type}
 use Rattle.tx_model.specs.Tempids.{db_of, entity_of}
 use Rattle.tx_model.specs.Changes.{value_of_part, withdrawn, implied, is_replaced}
@@ -418,7 +418,7 @@ module _ (h : List Entry) (fs : List Form) (instant : ℤ) (lawful : IsLawful h)
                   ap (λ o. option_map_or (λ (attribute : Attribute). eqb attribute.id ident) o false) asked_by.made.attribute_is
                   ∙ ap (λ x. eqb x ident) (sym asked_by.made.a_is) ∙ is_name
 
-              by_part : (part : Part) → asked_by.part ≡ part → is_reserved text ≡ false
+              by_part : (part : Operand) → asked_by.part ≡ part → is_reserved text ≡ false
               by_part (plain f) part_is =
                   sym (keyword_form asked_by.made.attribute.kind f text (sym (ap (value_of_part (db_of h) (transaction h fs).names asked_by.made.attribute) part_is) ∙ asked_by.made.value_is ∙ ap Some v_is))
                   ∙ second (is_ident (facts h) asked_by.k) (is_reserved_part (plain f)) is_ident_here (ap (λ p. is_ident (facts h) asked_by.k && is_reserved_part p) (sym part_is) ∙ sym (asked_by.reserved refl) ∙ fine)

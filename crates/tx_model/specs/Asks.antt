@@ -17,19 +17,19 @@ pub data Name : Type 0 where
   nameless : List ℕ → Name
 
 -- what stands in the place of a value
-pub data Part : Type 0 where
+pub data Operand : Type 0 where
   -- a value, to be read by the attribute's type
-  plain : Form → Part
+  plain : Form → Operand
   -- an entity, under an attribute whose values are entities
-  entity : Name → Part
+  entity : Name → Operand
 
 pub data Ask : Type 0 where
-  adds : Name → List ℕ → Part → Ask
-  retracts : Name → List ℕ → Part → Ask
+  adds : Name → List ℕ → Operand → Ask
+  retracts : Name → List ℕ → Operand → Ask
   -- every value
   retracts_all : Name → List ℕ → Ask
   -- the old value and the new one
-  compares : Name → List ℕ → Part → Part → Ask
+  compares : Name → List ℕ → Operand → Operand → Ask
   retracts_entity : Name → Ask
   -- a map stands for this entity
   meets : Name → Ask
@@ -90,7 +90,7 @@ key_in f = forward []
 
 -- ---- what is read from an ask
 
-abbrev pub name_of_part : Part → List Name
+abbrev pub name_of_part : Operand → List Name
 name_of_part (plain f) = []
 name_of_part (entity name) = name ∷ []
 
@@ -114,7 +114,7 @@ attribute_of_ask (compares name attribute old new) = Some attribute
 attribute_of_ask (mentions attribute) = Some attribute
 attribute_of_ask ask = None
 
-abbrev pub parts_of : Ask → List Part
+abbrev pub parts_of : Ask → List Operand
 parts_of (adds name attribute part) = part ∷ []
 parts_of (retracts name attribute part) = part ∷ []
 parts_of (compares name attribute old new) = old ∷ new ∷ []

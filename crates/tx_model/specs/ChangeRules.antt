@@ -12,7 +12,7 @@ use Rattle.fb_model.specs.History.{basis, last_instant, said, users_issued, user
 use Rattle.fb_model.specs.Facts.{is_of, value_eq, value_of, values_of}
 use Rattle.fb_model.specs.Schema.{Attribute, attribute_named, is_attribute, is_one, is_unique, is_whole}
 use Rattle.fb_model.specs.Laws.{has_no_other_holder, says_attribute, is_alteration, is_forbidden}
-use Rattle.tx_model.specs.Asks.{Part, plain, Ask, compares}
+use Rattle.tx_model.specs.Asks.{Operand, plain, Ask, compares}
 use Rattle.tx_model.specs.Tempids.{Db, entity_of}
 use Rattle.tx_model.specs.Changes.{value_of_part}
 use Rattle.tx_model.specs.Size.{entry_size, most_bytes}
@@ -51,11 +51,11 @@ is_value (Some v) (Some w) = value_eq v w
 is_value None (Some w) = false
 is_value (Some v) None = false
 
-abbrev pub old_value : Transaction → Attribute → Part → Option Value
+abbrev pub old_value : Transaction → Attribute → Operand → Option Value
 old_value tx attribute (plain edn.nil) = None
 old_value tx attribute part = value_of_part tx.db tx.names attribute part
 
-abbrev pub is_present : Transaction → ℕ → Part → Attribute → Bool
+abbrev pub is_present : Transaction → ℕ → Operand → Attribute → Bool
 is_present tx e old attribute = is_value (value_of tx.db.facts e attribute.id) (old_value tx attribute old)
 
 abbrev pub compares_another : Transaction → Ask → Bool

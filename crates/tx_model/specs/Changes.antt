@@ -9,12 +9,12 @@ use Rattle.fb_values.specs.declared.facts.Value.TheVariants.{Ref}
 use Rattle.fb_model.specs.History.{basis}
 use Rattle.fb_model.specs.Facts.{value_eq}
 use Rattle.fb_model.specs.Schema.{Attribute, attribute_named, is_one, is_part}
-use Rattle.tx_model.specs.Asks.{Name, Part, plain, entity, Ask, adds, retracts, retracts_all, compares, retracts_entity}
+use Rattle.tx_model.specs.Asks.{Name, Operand, plain, entity, Ask, adds, retracts, retracts_all, compares, retracts_entity}
 use Rattle.tx_model.specs.Tempids.{Db, entity_of}
 use Rattle.tx_model.specs.Values.{value_in}
 
 -- the value in a value's place
-abbrev pub value_of_part : Db → List (Name × ℕ) → Attribute → Part → Option Value
+abbrev pub value_of_part : Db → List (Name × ℕ) → Attribute → Operand → Option Value
 value_of_part db names attribute (plain f) = value_in attribute.kind f
 value_of_part db names attribute (entity name) = option_map Ref (entity_of db names name)
 
@@ -23,7 +23,7 @@ abbrev pub change : Db → Bool → ℕ → ℕ → Value → Datom
 change db added e a v = record { e = e; a = a; v = v; t = basis db.history + 1; added = added }
 
 -- the datom of an entity, an attribute and a value, where each of them is found
-abbrev pub changes_of : Db → List (Name × ℕ) → Bool → Name → List ℕ → Part → List Datom
+abbrev pub changes_of : Db → List (Name × ℕ) → Bool → Name → List ℕ → Operand → List Datom
 changes_of db names added name attribute part =
     option_to_list (option_and_then (λ e. option_and_then (λ (a : Attribute).
     option_map (change db added e a.id) (value_of_part db names a part)) (attribute_named db.facts attribute)) (entity_of db names name))

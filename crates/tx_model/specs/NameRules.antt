@@ -10,7 +10,7 @@ use Rattle.fb_values.specs.declared.facts.Datom.{Datom}
 use Rattle.fb_numbers.specs.Numbers.{tx_instant, ident as ident_attribute, type_ref}
 use Rattle.fb_model.specs.Words.{is_reserved}
 use Rattle.fb_model.specs.Schema.{Attribute, attribute_named}
-use Rattle.tx_model.specs.Asks.{Name, lookup, tempid, nameless, Part, plain, entity, Ask, adds, compares, lacks_id, is_tempid, is_same_tempid, names_of, parts_of, attribute_of_ask}
+use Rattle.tx_model.specs.Asks.{Name, lookup, tempid, nameless, Operand, plain, entity, Ask, adds, compares, lacks_id, is_tempid, is_same_tempid, names_of, parts_of, attribute_of_ask}
 use Rattle.tx_model.specs.Values.{value_in}
 use Rattle.tx_model.specs.Walk.{has_ref, old_value_part}
 use Rattle.tx_model.specs.Tempids.{Db, found, identified, holders}
@@ -50,7 +50,7 @@ is_protected facts k = option_map_or (λ attribute. nat_eq attribute.id tx_insta
 abbrev pub is_ident : List Datom → List ℕ → Bool
 is_ident facts k = option_map_or (λ attribute. nat_eq attribute.id ident_attribute) (attribute_named facts k) false
 
-abbrev pub is_reserved_part : Part → Bool
+abbrev pub is_reserved_part : Operand → Bool
 is_reserved_part (plain (edn.keyword k)) = is_reserved k
 is_reserved_part part = false
 
@@ -65,12 +65,12 @@ breaks_protected_attribute db asks =
 
 -- ---- wrong type: a value is not of its attribute's type, or too long; an entity stands under an attribute that is no ref
 
-abbrev pub is_wrong_part : Attribute → Part → Bool
+abbrev pub is_wrong_part : Attribute → Operand → Bool
 is_wrong_part attribute (plain f) = is_none (value_in attribute.kind f)
 is_wrong_part attribute (entity name) = not (nat_eq attribute.kind type_ref)
 
 -- nil is the old value of an entity that has none
-abbrev pub is_wrong_old_part : Attribute → Part → Bool
+abbrev pub is_wrong_old_part : Attribute → Operand → Bool
 is_wrong_old_part attribute (plain edn.nil) = false
 is_wrong_old_part attribute part = is_wrong_part attribute part
 

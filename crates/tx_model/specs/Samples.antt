@@ -9,7 +9,7 @@ use Rattle.fb_values.specs.declared.facts.Value.TheVariants.{Str}
 use Rattle.fb_model.specs.FirstEntry.{first_entry}
 use Rattle.tx_model.specs.Transaction.{transaction}
 use Rattle.tx_refusals.specs.declared.reasons.Reason.{Reason}
-use Rattle.tx_model.specs.Step.{Outcome, refused, accepted, step, no_guard}
+use Rattle.tx_model.specs.Step.{Decision, refused, accepted, step, no_guard}
 
 -- ---- forms
 
@@ -68,10 +68,10 @@ install name kind count more =
 abbrev pub clock : ℤ
 clock = pos 1704067200000
 
-abbrev pub outcome : List Entry → List Form → Outcome
+abbrev pub outcome : List Entry → List Form → Decision
 outcome h fs = step h (vector fs) clock no_guard
 
-abbrev with_outcome : List Entry → Outcome → List Entry
+abbrev with_outcome : List Entry → Decision → List Entry
 with_outcome h (accepted entry tempids) = h ++ entry ∷ []
 with_outcome h (refused refusal) = h
 
@@ -84,14 +84,14 @@ abbrev pub after : List (List Form) → List Entry
 after txs = after_from (first_entry ∷ []) txs
 
 -- what is answered of an accepted transaction: its t, and the entities of its tempids
-abbrev told_of : Outcome → Option (ℕ × List (List ℕ × ℕ))
+abbrev told_of : Decision → Option (ℕ × List (List ℕ × ℕ))
 told_of (accepted entry tempids) = Some (entry.t, tempids)
 told_of (refused refusal) = None
 
 abbrev pub told : List Entry → List Form → Option (ℕ × List (List ℕ × ℕ))
 told h fs = told_of (outcome h fs)
 
-abbrev pub refusal_at : Reason → ℕ → Outcome
+abbrev pub refusal_at : Reason → ℕ → Decision
 refusal_at reason place = refused (record { reason = reason; at = place })
 
 -- the changes of a transaction, each as its entity, its text, if it has one, and whether it is added

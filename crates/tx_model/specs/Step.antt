@@ -93,10 +93,10 @@ refusal h asked = option_map_or (refusal_of h) (forms_of asked) (Some no_list)
 
 -- ---- the step
 
-pub data Outcome : Type 0 where
-  refused : Refusal → Outcome
+pub data Decision : Type 0 where
+  refused : Refusal → Decision
   -- the entry, and the entities of the tempids that have a name
-  accepted : Entry → List (List ℕ × ℕ) → Outcome
+  accepted : Entry → List (List ℕ × ℕ) → Decision
 
 -- by what a guard bars these changes after the history, if it does: it has no other answers than these three
 abbrev pub Guard : Type 0
@@ -109,18 +109,18 @@ abbrev pub entry_of : List Entry → Transaction → ℤ → Entry
 entry_of h tx instant = record { t = basis h + 1; instant = instant; datoms = recorded tx instant }
 
 -- a guard judges the transaction as a whole, and is asked where no rule is broken
-abbrev pub under_guard : List Entry → Transaction → ℤ → Option Bar → Outcome
+abbrev pub under_guard : List Entry → Transaction → ℤ → Option Bar → Decision
 under_guard h tx reading (Some bar) = refused (record { reason = Barred bar; at = 0 })
 under_guard h tx reading None = accepted (entry_of h tx (next_instant h reading)) (named_tempids tx.names)
 
-abbrev pub unless_refused : List Entry → List Form → ℤ → Guard → Option Refusal → Outcome
+abbrev pub unless_refused : List Entry → List Form → ℤ → Guard → Option Refusal → Decision
 unless_refused h fs reading guard (Some refusal) = refused refusal
 unless_refused h fs reading guard None =
     let tx = transaction h fs in
     under_guard h tx reading (guard h tx.changes)
 
 -- what the transaction does at the history, where the clock reads this
-abbrev pub step : List Entry → Form → ℤ → Guard → Outcome
+abbrev pub step : List Entry → Form → ℤ → Guard → Decision
 step h asked reading guard = option_map_or (λ fs. unless_refused h fs reading guard (refusal_of h fs)) (forms_of asked) (refused no_list)
 
 -- The entry and the tempids are those of the forms, which break no rule, and of the clock only the instant tells: the entry

@@ -7,7 +7,7 @@ use Rattle.edn_model.specs.Form.{Form, Forms, no_forms, form, Pairs, no_pairs, p
 use Rattle.fb_values.specs.declared.facts.Datom.{Datom}
 use Rattle.fb_numbers.specs.Numbers.{type_ref}
 use Rattle.fb_model.specs.Schema.{attribute_named}
-use Rattle.tx_model.specs.Asks.{Name, number, ident, lookup, tempid, nameless, Part, plain, entity, Ask, adds, retracts, retracts_all, compares, retracts_entity, meets, mentions, lacks_id, lookup_in, name_in, Key, own, forward, backward, key_in}
+use Rattle.tx_model.specs.Asks.{Name, number, ident, lookup, tempid, nameless, Operand, plain, entity, Ask, adds, retracts, retracts_all, compares, retracts_entity, meets, mentions, lacks_id, lookup_in, name_in, Key, own, forward, backward, key_in}
 use Rattle.tx_model.specs.Shapes.{Verb, add, retract, cas, retract_entity, verb_in}
 
 -- ---- what the facts before say of a keyword in an attribute's place
@@ -27,22 +27,22 @@ has_uniqueness facts name = option_map_or (λ attribute. not (nat_eq attribute.u
 -- ---- values
 
 -- a number, an ident or a tempid under an attribute whose values are entities, and else a plain value
-abbrev pub scalar : Bool → Form → Part
+abbrev pub scalar : Bool → Form → Operand
 scalar true (edn.integer (pos n)) = entity (number (pos n))
 scalar true (edn.keyword k) = entity (ident k)
 scalar true (edn.string s) = entity (tempid s)
 scalar is_ref f = plain f
 
-abbrev pub lookup_or : Option (List ℕ × Form) → Part → Part
+abbrev pub lookup_or : Option (List ℕ × Form) → Operand → Operand
 lookup_or None part = part
 lookup_or (Some found) part = entity (lookup found.0 found.1)
 
 -- the value of a list form: a lookup ref too, and a tempid only where the verb adds
-abbrev pub value_part : Bool → Form → Part
+abbrev pub value_part : Bool → Form → Operand
 value_part true (edn.vector fs) = lookup_or (lookup_in fs) (plain (edn.vector fs))
 value_part is_ref f = scalar is_ref f
 
-abbrev pub old_value_part : Bool → Form → Part
+abbrev pub old_value_part : Bool → Form → Operand
 old_value_part is_ref (edn.string s) = plain (edn.string s)
 old_value_part is_ref f = value_part is_ref f
 
@@ -90,7 +90,7 @@ has_identity facts no_pairs = false
 has_identity facts (pair key value rest) = identifies facts (key_in key) || has_identity facts rest
 
 -- one value under a key: the map's entity has it, or the entity that is the value has the map's
-abbrev pub links : Name → Key → Part → List Ask
+abbrev pub links : Name → Key → Operand → List Ask
 links self own part = []
 links self (forward name) part = adds self name part ∷ []
 links self (backward name) (entity other) = adds other name (entity self) ∷ []

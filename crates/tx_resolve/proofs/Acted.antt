@@ -16,8 +16,8 @@ use Rattle.tx_model.specs.Asks.{own_tempid}
 use Rattle.tx_model.specs.Tempids.{Db, entity_of, assigned_to}
 use Rattle.tx_model.specs.Values.{value_in}
 use Rattle.tx_model.specs.Changes.{value_of_part}
-use Rattle.tx_asks.specs.declared.asks.Part as asks
-use Rattle.tx_asks.specs.declared.asks.Part.TheVariants as part
+use Rattle.tx_asks.specs.declared.asks.Operand as asks
+use Rattle.tx_asks.specs.declared.asks.Operand.TheVariants as part
 use Rattle.tx_asks.specs.declared.asks.Ask.{Ask}
 use Rattle.tx_asks.specs.declared.asks.Ask.TheVariants as ask
 use Rattle.tx_asks.specs.Asks.{name_of, part_of, old_part_of, ask_of, AreApart}
@@ -27,8 +27,8 @@ use Rattle.tx_resolve.specs.declared.whom.Tempid.{Tempid}
 use Rattle.tx_resolve.specs.declared.whom.Tempid.TheVariants.{Named, Nameless}
 use Rattle.tx_resolve.specs.declared.whom.Whom.{Whom}
 use Rattle.tx_resolve.specs.declared.whom.Whom.TheVariants.{Known, New}
-use Rattle.tx_resolve.specs.declared.drafts.Part.{Part}
-use Rattle.tx_resolve.specs.declared.drafts.Part.TheVariants.{Plain, Entity}
+use Rattle.tx_resolve.specs.declared.drafts.Operand.{Operand}
+use Rattle.tx_resolve.specs.declared.drafts.Operand.TheVariants.{Plain, Entity}
 use Rattle.tx_resolve.specs.declared.drafts.Draft.{Draft}
 use Rattle.tx_resolve.specs.declared.drafts.Draft.TheVariants as draft
 use Rattle.tx_resolve.specs.Tempids.{is_same}
@@ -80,12 +80,12 @@ module _ (places : List (List ℕ)) (apart : AreApart places) (db : Db) (pairs :
   whom_entity n (Known e) is = is.1 (names_in places pairs)
   whom_entity n (New t) is = ap (entity_of db (names_in places pairs)) is.0 ∙ tempid_entity t is.1
 
-  part_value : (a : Attribute) (p : asks.Part) (q : Part) → IsPart places db a p q → value_of_part db (names_in places pairs) (attribute_in a) (part_of places p) ≡ drafts.value_of pairs q
+  part_value : (a : Attribute) (p : asks.Operand) (q : Operand) → IsPart places db a p q → value_of_part db (names_in places pairs) (attribute_in a) (part_of places p) ≡ drafts.value_of pairs q
   part_value a (part.Plain f v) (Plain w) is = is
   part_value a (part.Entity x) (Entity w) is = ap (option_map Ref) (whom_entity (name_of places x) w is)
   part_value a p q is = absurd is
 
-  old_part_value : (a : Attribute) (p : Option asks.Part) (q : Option Part) → IsOldPart places db a p q
+  old_part_value : (a : Attribute) (p : Option asks.Operand) (q : Option Operand) → IsOldPart places db a p q
       → old_value_of db (names_in places pairs) (attribute_in a) (old_part_of places p) ≡ drafts.old_value_of pairs q
   old_part_value a None None is = refl
   old_part_value a (Some (part.Plain f v)) (Some (Plain w)) is = old_value_read db (names_in places pairs) (attribute_in a) (form_of f.now) w is
@@ -93,7 +93,7 @@ module _ (places : List (List ℕ)) (apart : AreApart places) (db : Db) (pairs :
   old_part_value a p q is = absurd is
 
   -- an act with a value
-  valued : (act : ℕ → schema.Attribute → Value → acts.Act) (n : model.Name) (w : Whom) (asked : List ℕ) (a : Attribute) (p : asks.Part) (q : Part)
+  valued : (act : ℕ → schema.Attribute → Value → acts.Act) (n : model.Name) (w : Whom) (asked : List ℕ) (a : Attribute) (p : asks.Operand) (q : Operand)
       → IsWhom places db n w → attribute_named db.facts asked ≡ Some (attribute_in a) → IsPart places db a p q
       → option_and_then (λ e. option_and_then (λ (b : schema.Attribute). option_map (act e b) (value_of_part db (names_in places pairs) b (part_of places p))) (attribute_named db.facts asked)) (entity_of db (names_in places pairs) n)
       ≡ option_and_then (λ e. option_map (act e (attribute_in a)) (drafts.value_of pairs q)) (drafts.entity_of pairs w)
@@ -130,7 +130,7 @@ module _ (places : List (List ℕ)) (apart : AreApart places) (db : Db) (pairs :
   is_some_map f None have = have
   is_some_map f (Some x) have = refl
 
-  part_has : (q : Part) → Have pairs (tempid_in_part q) → is_some (drafts.value_of pairs q) ≡ true
+  part_has : (q : Operand) → Have pairs (tempid_in_part q) → is_some (drafts.value_of pairs q) ≡ true
   part_has (Plain v) have = refl
   part_has (Entity w) have = is_some_map Ref (drafts.entity_of pairs w) (whom_has w have)
 

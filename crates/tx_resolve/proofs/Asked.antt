@@ -22,8 +22,8 @@ use Rattle.tx_model.specs.Asks.{own_tempid, is_tempid, is_same_tempid, names_of,
 use Rattle.tx_model.specs.Tempids.{Db, entity_of, identified, identity_holder, find_by}
 use Rattle.tx_model.specs.NameRules.{adds_to}
 use Rattle.tx_model.specs.Values.{value_in}
-use Rattle.tx_asks.specs.declared.asks.Part as asks
-use Rattle.tx_asks.specs.declared.asks.Part.TheVariants as part
+use Rattle.tx_asks.specs.declared.asks.Operand as asks
+use Rattle.tx_asks.specs.declared.asks.Operand.TheVariants as part
 use Rattle.tx_asks.specs.declared.asks.Ask.{Ask}
 use Rattle.tx_asks.specs.declared.asks.Ask.TheVariants as ask
 use Rattle.tx_asks.specs.Asks.{name_of, part_of, old_part_of, ask_of, AreApart}
@@ -31,8 +31,8 @@ use Rattle.tx_resolve.specs.declared.whom.Tempid.{Tempid}
 use Rattle.tx_resolve.specs.declared.whom.Tempid.TheVariants.{Named, Nameless}
 use Rattle.tx_resolve.specs.declared.whom.Whom.{Whom}
 use Rattle.tx_resolve.specs.declared.whom.Whom.TheVariants.{Known, New}
-use Rattle.tx_resolve.specs.declared.drafts.Part.{Part}
-use Rattle.tx_resolve.specs.declared.drafts.Part.TheVariants.{Plain, Entity}
+use Rattle.tx_resolve.specs.declared.drafts.Operand.{Operand}
+use Rattle.tx_resolve.specs.declared.drafts.Operand.TheVariants.{Plain, Entity}
 use Rattle.tx_resolve.specs.declared.drafts.Draft.{Draft}
 use Rattle.tx_resolve.specs.declared.drafts.Draft.TheVariants as draft
 use Rattle.tx_resolve.specs.Tempids.{is_same}
@@ -101,22 +101,22 @@ module _ (places : List (List ℕ)) (apart : AreApart places) (db : Db) where
   whom_meant n (Known e) is = tt
   whom_meant n (New t) is = (is.1, tt)
 
-  part_tempids : (a : Attribute) (p : asks.Part) (q : Part) → IsPart places db a p q → filter is_tempid (name_of_part (part_of places p)) ≡ map (name_in places) (tempid_in_part q)
+  part_tempids : (a : Attribute) (p : asks.Operand) (q : Operand) → IsPart places db a p q → filter is_tempid (name_of_part (part_of places p)) ≡ map (name_in places) (tempid_in_part q)
   part_tempids a (part.Plain f v) (Plain w) is = refl
   part_tempids a (part.Entity x) (Entity w) is = whom_tempids (name_of places x) w is
   part_tempids a p q is = absurd is
 
-  part_meant : (a : Attribute) (p : asks.Part) (q : Part) → IsPart places db a p q → AreMeant places (tempid_in_part q)
+  part_meant : (a : Attribute) (p : asks.Operand) (q : Operand) → IsPart places db a p q → AreMeant places (tempid_in_part q)
   part_meant a (part.Plain f v) (Plain w) is = tt
   part_meant a (part.Entity x) (Entity w) is = whom_meant (name_of places x) w is
   part_meant a p q is = absurd is
 
-  old_part_tempids : (a : Attribute) (p : Option asks.Part) (q : Option Part) → IsOldPart places db a p q → filter is_tempid (name_of_part (old_part_of places p)) ≡ map (name_in places) (tempid_in_old_part q)
+  old_part_tempids : (a : Attribute) (p : Option asks.Operand) (q : Option Operand) → IsOldPart places db a p q → filter is_tempid (name_of_part (old_part_of places p)) ≡ map (name_in places) (tempid_in_old_part q)
   old_part_tempids a None None is = refl
   old_part_tempids a (Some p) (Some q) is = part_tempids a p q is
   old_part_tempids a p q is = absurd is
 
-  old_part_meant : (a : Attribute) (p : Option asks.Part) (q : Option Part) → IsOldPart places db a p q → AreMeant places (tempid_in_old_part q)
+  old_part_meant : (a : Attribute) (p : Option asks.Operand) (q : Option Operand) → IsOldPart places db a p q → AreMeant places (tempid_in_old_part q)
   old_part_meant a None None is = tt
   old_part_meant a (Some p) (Some q) is = part_meant a p q is
   old_part_meant a p q is = absurd is

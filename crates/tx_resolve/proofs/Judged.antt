@@ -13,15 +13,15 @@ use Rattle.tx_model.specs.Tempids.{Db, found, identified, holders}
 use Rattle.tx_model.specs.NameRules.{adds_to, finds_none, gives_one_of_two, is_added_to_by_none}
 use Rattle.tx_asks.specs.declared.asks.Name.{Name}
 use Rattle.tx_asks.specs.declared.asks.Name.TheVariants as name
-use Rattle.tx_asks.specs.declared.asks.Part as asks
-use Rattle.tx_asks.specs.declared.asks.Part.TheVariants as part
+use Rattle.tx_asks.specs.declared.asks.Operand as asks
+use Rattle.tx_asks.specs.declared.asks.Operand.TheVariants as part
 use Rattle.tx_asks.specs.declared.asks.Ask.{Ask}
 use Rattle.tx_asks.specs.declared.asks.Ask.TheVariants as ask
 use Rattle.tx_asks.specs.Asks.{name_of, part_of, old_part_of, ask_of, AreApart}
 use Rattle.tx_resolve.specs.declared.whom.Tempid.{Tempid}
 use Rattle.tx_resolve.specs.declared.whom.Tempid.TheVariants.{Named}
 use Rattle.tx_resolve.specs.declared.whom.Whom.TheVariants.{Known, New}
-use Rattle.tx_resolve.specs.declared.drafts.Part.TheVariants.{Plain, Entity}
+use Rattle.tx_resolve.specs.declared.drafts.Operand.TheVariants.{Plain, Entity}
 use Rattle.tx_resolve.specs.declared.drafts.Draft.{Draft}
 use Rattle.tx_resolve.specs.declared.drafts.Draft.TheVariants as draft
 use Rattle.tx_resolve.specs.Tempids.{is_same}
@@ -56,11 +56,11 @@ module _ (places : List (List ℕ)) (db : Db) where
   whom_lost (name.Tempid text) = some_either (bytes_eq text.now own_tempid) (Known (transaction_of (basis db.history + 1))) (New (Named text.now))
   whom_lost (name.Nameless n) = refl
 
-  part_lost : (p : asks.Part) → is_none (drafts.part_of db p) ≡ list_any (finds_none db) (name_of_part (part_of places p))
+  part_lost : (p : asks.Operand) → is_none (drafts.part_of db p) ≡ list_any (finds_none db) (name_of_part (part_of places p))
   part_lost (part.Plain f v) = refl
   part_lost (part.Entity x) = is_none-map Entity (whom_of db x) ∙ whom_lost x ∙ sym (or-false (finds_none db (name_of places x)))
 
-  old_part_lost : (p : Option asks.Part) → is_none (drafts.old_part_of db p) ≡ list_any (finds_none db) (name_of_part (old_part_of places p))
+  old_part_lost : (p : Option asks.Operand) → is_none (drafts.old_part_of db p) ≡ list_any (finds_none db) (name_of_part (old_part_of places p))
   old_part_lost None = refl
   old_part_lost (Some p) = is_none-map Some (drafts.part_of db p) ∙ part_lost p
 

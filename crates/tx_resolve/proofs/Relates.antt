@@ -13,16 +13,16 @@ use Rattle.tx_model.specs.Tempids.{Db, found, entity_of, assigned_to}
 use Rattle.tx_model.specs.Values.{value_in}
 use Rattle.tx_asks.specs.declared.asks.Name.{Name}
 use Rattle.tx_asks.specs.declared.asks.Name.TheVariants as name
-use Rattle.tx_asks.specs.declared.asks.Part as asks
-use Rattle.tx_asks.specs.declared.asks.Part.TheVariants as part
+use Rattle.tx_asks.specs.declared.asks.Operand as asks
+use Rattle.tx_asks.specs.declared.asks.Operand.TheVariants as part
 use Rattle.tx_asks.specs.declared.asks.Ask.{Ask}
 use Rattle.tx_asks.specs.declared.asks.Ask.TheVariants as ask
 use Rattle.tx_asks.specs.Asks.{name_of, IsRead, IsReadPart, IsReadOldPart, IsCounted, IsCountedPart, IsCountedOldPart, AreCounted}
 use Rattle.tx_resolve.specs.declared.whom.Tempid.TheVariants.{Named, Nameless}
 use Rattle.tx_resolve.specs.declared.whom.Whom.{Whom}
 use Rattle.tx_resolve.specs.declared.whom.Whom.TheVariants.{Known, New}
-use Rattle.tx_resolve.specs.declared.drafts.Part.{Part}
-use Rattle.tx_resolve.specs.declared.drafts.Part.TheVariants.{Plain, Entity}
+use Rattle.tx_resolve.specs.declared.drafts.Operand.{Operand}
+use Rattle.tx_resolve.specs.declared.drafts.Operand.TheVariants.{Plain, Entity}
 use Rattle.tx_resolve.specs.declared.drafts.Draft.{Draft}
 use Rattle.tx_resolve.specs.declared.drafts.Draft.TheVariants as draft
 use Rattle.tx_resolve.specs.Whoms.{whom_of}
@@ -55,23 +55,23 @@ module _ (places : List (List ℕ)) (db : Db) where
   whom_is (name.Tempid text) w counted is = text_is text.now w (bytes_eq text.now own_tempid) refl is
   whom_is (name.Nameless n) w counted is = subst (IsWhom (name_of places (name.Nameless n))) (same_some is) (refl, counted)
 
-  abbrev pub IsPart : Attribute → asks.Part → Part → Type 0
+  abbrev pub IsPart : Attribute → asks.Operand → Operand → Type 0
   IsPart a (part.Plain f v) (Plain w) = value_in a.kind (form_of f.now) ≡ Some w
   IsPart a (part.Entity x) (Entity w) = IsWhom (name_of places x) w
   IsPart a p q = ⊥
 
-  abbrev pub IsOldPart : Attribute → Option asks.Part → Option Part → Type 0
+  abbrev pub IsOldPart : Attribute → Option asks.Operand → Option Operand → Type 0
   IsOldPart a None None = ⊤
   IsOldPart a (Some p) (Some q) = IsPart a p q
   IsOldPart a p q = ⊥
 
-  part_is : (a : Attribute) (p : asks.Part) (q : Part) → IsReadPart a p → IsCountedPart (length places) p → part_of db p ≡ Some q → IsPart a p q
+  part_is : (a : Attribute) (p : asks.Operand) (q : Operand) → IsReadPart a p → IsCountedPart (length places) p → part_of db p ≡ Some q → IsPart a p q
   part_is a (part.Plain f v) q read counted is = subst (IsPart a (part.Plain f v)) (same_some is) read
   part_is a (part.Entity x) q read counted is =
       let w = map_some Entity (whom_of db x) q is in
       subst (IsPart a (part.Entity x)) w.gives (whom_is x w.from counted w.is)
 
-  old_part_is : (a : Attribute) (p : Option asks.Part) (q : Option Part) → IsReadOldPart a p → IsCountedOldPart (length places) p → old_part_of db p ≡ Some q → IsOldPart a p q
+  old_part_is : (a : Attribute) (p : Option asks.Operand) (q : Option Operand) → IsReadOldPart a p → IsCountedOldPart (length places) p → old_part_of db p ≡ Some q → IsOldPart a p q
   old_part_is a None q read counted is = subst (IsOldPart a None) (same_some is) tt
   old_part_is a (Some p) q read counted is =
       let found = map_some Some (part_of db p) q is in

@@ -8,28 +8,28 @@ use Rattle.fb_model.specs.Facts.{holder}
 use Rattle.fb_schema.specs.declared.attribute.Attribute.{Attribute}
 use Rattle.tx_model.specs.Tempids.{Db}
 use Rattle.tx_model.specs.Step.{first_yes}
-use Rattle.tx_asks.specs.declared.asks.Part as asks
-use Rattle.tx_asks.specs.declared.asks.Part.TheVariants as part
+use Rattle.tx_asks.specs.declared.asks.Operand as asks
+use Rattle.tx_asks.specs.declared.asks.Operand.TheVariants as part
 use Rattle.tx_asks.specs.declared.asks.Ask.{Ask}
 use Rattle.tx_asks.specs.declared.asks.Ask.TheVariants as ask
 use Rattle.tx_resolve.specs.declared.whom.Whom.{Whom}
 use Rattle.tx_resolve.specs.declared.whom.Whom.TheVariants.{Known, New}
-use Rattle.tx_resolve.specs.declared.drafts.Part.{Part}
-use Rattle.tx_resolve.specs.declared.drafts.Part.TheVariants.{Plain, Entity}
+use Rattle.tx_resolve.specs.declared.drafts.Operand.{Operand}
+use Rattle.tx_resolve.specs.declared.drafts.Operand.TheVariants.{Plain, Entity}
 use Rattle.tx_resolve.specs.declared.drafts.Draft.{Draft}
 use Rattle.tx_resolve.specs.declared.drafts.Draft.TheVariants as draft
 use Rattle.tx_resolve.specs.Whoms.{whom_of}
 
-abbrev pub part_of : Db → asks.Part → Option Part
+abbrev pub part_of : Db → asks.Operand → Option Operand
 part_of db (part.Plain f v) = Some (Plain v)
 part_of db (part.Entity name) = option_map Entity (whom_of db name)
 
-abbrev pub old_part_of : Db → Option asks.Part → Option (Option Part)
+abbrev pub old_part_of : Db → Option asks.Operand → Option (Option Operand)
 old_part_of db None = Some None
 old_part_of db (Some p) = option_map Some (part_of db p)
 
 -- the holder of the identity value that an addition gives to a tempid
-abbrev pub holder_for : Db → Whom → Attribute → Part → Option ℕ
+abbrev pub holder_for : Db → Whom → Attribute → Operand → Option ℕ
 holder_for db (New tempid) attribute (Plain v) = cond (nat_eq attribute.unique unique_identity) (holder db.facts attribute.id v) None
 holder_for db whom attribute p = None
 

@@ -6,8 +6,8 @@ use Rattle.std.specs.declared.alloc.Global.{Global}
 use Rattle.tx_resolve.specs.declared.whom.Tempid.{Tempid}
 use Rattle.tx_resolve.specs.declared.whom.Whom.{Whom}
 use Rattle.tx_resolve.specs.declared.whom.Whom.TheVariants.{Known, New}
-use Rattle.tx_resolve.specs.declared.drafts.Part.{Part}
-use Rattle.tx_resolve.specs.declared.drafts.Part.TheVariants.{Plain, Entity}
+use Rattle.tx_resolve.specs.declared.drafts.Operand.{Operand}
+use Rattle.tx_resolve.specs.declared.drafts.Operand.TheVariants.{Plain, Entity}
 use Rattle.tx_resolve.specs.declared.drafts.Draft.{Draft}
 use Rattle.tx_resolve.specs.declared.drafts.Draft.TheVariants as draft
 use Rattle.tx_resolve.specs.Tempids.{is_same}
@@ -18,11 +18,11 @@ abbrev pub tempid_in : Whom → List Tempid
 tempid_in (Known e) = []
 tempid_in (New tempid) = tempid ∷ []
 
-abbrev pub tempid_in_part : Part → List Tempid
+abbrev pub tempid_in_part : Operand → List Tempid
 tempid_in_part (Plain v) = []
 tempid_in_part (Entity whom) = tempid_in whom
 
-abbrev pub tempid_in_old_part : Option Part → List Tempid
+abbrev pub tempid_in_old_part : Option Operand → List Tempid
 tempid_in_old_part None = []
 tempid_in_old_part (Some part) = tempid_in_part part
 

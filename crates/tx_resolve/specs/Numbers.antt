@@ -12,8 +12,8 @@ use Rattle.tx_resolve.specs.declared.whom.Tempid.{Tempid}
 use Rattle.tx_resolve.specs.declared.whom.Tempid.TheVariants.{Named, Nameless}
 use Rattle.tx_resolve.specs.declared.whom.Whom.{Whom}
 use Rattle.tx_resolve.specs.declared.whom.Whom.TheVariants.{Known, New}
-use Rattle.tx_resolve.specs.declared.drafts.Part.{Part}
-use Rattle.tx_resolve.specs.declared.drafts.Part.TheVariants.{Plain, Entity}
+use Rattle.tx_resolve.specs.declared.drafts.Operand.{Operand}
+use Rattle.tx_resolve.specs.declared.drafts.Operand.TheVariants.{Plain, Entity}
 use Rattle.tx_resolve.specs.declared.drafts.Draft.{Draft}
 use Rattle.tx_resolve.specs.declared.drafts.Draft.TheVariants as draft
 use Rattle.tx_resolve.specs.Tempids.{tempid_cmp, is_same}
@@ -67,11 +67,11 @@ abbrev pub entity_of : List (Tempid × ℕ) → Whom → Option ℕ
 entity_of pairs (Known e) = Some e
 entity_of pairs (New t) = entity_for pairs t
 
-abbrev pub value_of : List (Tempid × ℕ) → Part → Option Value
+abbrev pub value_of : List (Tempid × ℕ) → Operand → Option Value
 value_of pairs (Plain v) = Some v
 value_of pairs (Entity whom) = option_map Ref (entity_of pairs whom)
 
-abbrev pub old_value_of : List (Tempid × ℕ) → Option Part → Option Value
+abbrev pub old_value_of : List (Tempid × ℕ) → Option Operand → Option Value
 old_value_of pairs None = None
 old_value_of pairs (Some part) = value_of pairs part
 

@@ -5,7 +5,7 @@ ghost use Rattle.tx_asks.specs.Acts.{seen};
 ghost use Rattle.tx_resolve.specs.declared.whom.Tempid.{Tempid as model_Tempid};
 ghost use Rattle.tx_resolve.specs.Numbers.{HasEntities, entity_of, value_of, old_value_of, act_of};
 
-use crate::drafts::{Draft, Part};
+use crate::drafts::{Draft, Operand};
 use crate::numbers::Entities;
 use crate::whom::Whom;
 use fb_memory::Memory;
@@ -114,19 +114,19 @@ fn entity(entities: &Entities, whom: &Whom) -> Option<u64>
     }
 }
 
-fn value(entities: &Entities, part: Part) -> Option<Value>
+fn value(entities: &Entities, part: Operand) -> Option<Value>
     ensures { (pairs : List (model_Tempid × ℕ)) → HasEntities entities.now pairs → result ≡ value_of pairs part }
 {
     match part {
-        Part::Plain(v) => Some(v),
-        Part::Entity(whom) => {
+        Operand::Plain(v) => Some(v),
+        Operand::Entity(whom) => {
             let e = entity(entities, &whom)?;
             Some(Value::Ref(e))
         }
     }
 }
 
-fn old_value(entities: &Entities, part: Option<Part>) -> Option<Value>
+fn old_value(entities: &Entities, part: Option<Operand>) -> Option<Value>
     ensures { (pairs : List (model_Tempid × ℕ)) → HasEntities entities.now pairs → result ≡ old_value_of pairs part }
 {
     match part {

@@ -15,11 +15,11 @@ use fb_memory::Memory;
 use fb_schema::{Attribute, Schema};
 use fb_values::Value;
 use std::alloc::Global;
-use tx_asks::{Ask, Name, Part as AskPart};
+use tx_asks::{Ask, Name, Operand as AskPart};
 
 /// What stands in the place of a value.
 #[derive(Drop)]
-pub enum Part {
+pub enum Operand {
     Plain(Value),
     Entity(Whom),
 }
@@ -30,14 +30,14 @@ pub enum Draft<'a> {
     Adds {
         on: Whom,
         attribute: &'a Attribute,
-        part: Part,
+        part: Operand,
         /// The entity that a tempid becomes by it: that which has the identity value.
         holder: Option<u64>,
     },
     Retracts {
         on: Whom,
         attribute: &'a Attribute,
-        part: Part,
+        part: Operand,
     },
     RetractsAll {
         on: Whom,
@@ -46,8 +46,8 @@ pub enum Draft<'a> {
     Compares {
         on: Whom,
         attribute: &'a Attribute,
-        old: Option<Part>,
-        new: Part,
+        old: Option<Operand>,
+        new: Operand,
     },
     RetractsEntity {
         on: Whom,
@@ -183,11 +183,11 @@ fn addition<'a, F: Facts>(
 }
 
 /// The holder of the identity value that an addition gives to a tempid.
-fn holder_for<F: Facts>(facts: &F, on: &Whom, attribute: &Attribute, part: &Part) -> Option<u64>
+fn holder_for<F: Facts>(facts: &F, on: &Whom, attribute: &Attribute, part: &Operand) -> Option<u64>
     ensures { result ≡ model.holder_for (db_of (F.history facts.now)) on.now attribute.now part.now }
 {
     match (on, part) {
-        (Whom::New(_), Part::Plain(v)) if attribute.is_identity() => facts.holder(attribute.id, v),
+        (Whom::New(_), Operand::Plain(v)) if attribute.is_identity() => facts.holder(attribute.id, v),
         _ => None,
     }
 }
@@ -247,18 +247,18 @@ fn comparison<'a, F: Facts>(
     }))
 }
 
-fn part_of<F: Facts>(facts: &F, schema: &Schema, part: &AskPart<'_>) -> Result<Option<Part>, Memory>
+fn part_of<F: Facts>(facts: &F, schema: &Schema, part: &AskPart<'_>) -> Result<Option<Operand>, Memory>
     requires schema { SchemaStands schema.now (F.history facts.now) }
     requires lawful { IsLawful (F.history facts.now) }
     ensures { IfOk result (λ found. found ≡ model.part_of (db_of (F.history facts.now)) part.now) }
 {
     match part {
-        AskPart::Plain(_, v) => Ok(Some(Part::Plain(v.copy()?))),
+        AskPart::Plain(_, v) => Ok(Some(Operand::Plain(v.copy()?))),
         AskPart::Entity(name) => {
             let Some(whom) = whom(facts, schema, name)? else {
                 return Ok(None);
             };
-            Ok(Some(Part::Entity(whom)))
+            Ok(Some(Operand::Entity(whom)))
         }
     }
 }
@@ -267,7 +267,7 @@ fn old_part_of<F: Facts>(
     facts: &F,
     schema: &Schema,
     old: &Option<AskPart<'_>>,
-) -> Result<Option<Option<Part>>, Memory>
+) -> Result<Option<Option<Operand>>, Memory>
     requires schema { SchemaStands schema.now (F.history facts.now) }
     requires lawful { IsLawful (F.history facts.now) }
     ensures { IfOk result (λ found. found ≡ model.old_part_of (db_of (F.history facts.now)) old.now) }

@@ -3,7 +3,7 @@ ghost use Rattle.std.specs.Prelude.{◌≡◌, ◌∷◌, [], flat_map, IfOk};
 ghost use Rattle.std.specs.List.{list_any};
 ghost use Rattle.tx_resolve.specs.Meeting.{tempid_in, tempid_in_part, tempid_in_old_part, tempids_of, met_with, drafts_in};
 
-use crate::drafts::{Draft, Part};
+use crate::drafts::{Draft, Operand};
 use crate::whom::{Tempid, Whom};
 use fb_memory::Memory;
 use std::alloc::Global;
@@ -72,16 +72,16 @@ impl Met {
         Ok(Met { seen, tempids })
     }
 
-    fn with_part(self, part: &Part) -> Result<Met, Memory>
+    fn with_part(self, part: &Operand) -> Result<Met, Memory>
         ensures { IfOk result (λ met. met ≡ met_with self (tempid_in_part part.now)) }
     {
         match part {
-            Part::Plain(_) => Ok(self),
-            Part::Entity(whom) => self.with(whom),
+            Operand::Plain(_) => Ok(self),
+            Operand::Entity(whom) => self.with(whom),
         }
     }
 
-    fn with_old_part(self, part: &Option<Part>) -> Result<Met, Memory>
+    fn with_old_part(self, part: &Option<Operand>) -> Result<Met, Memory>
         ensures { IfOk result (λ met. met ≡ met_with self (tempid_in_old_part part.now)) }
     {
         match part {

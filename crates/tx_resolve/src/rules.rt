@@ -7,7 +7,7 @@ ghost use Rattle.tx_resolve.specs.Holders.{AreHolders, holders, has_another};
 ghost use Rattle.tx_resolve.specs.Meeting.{tempid_in, tempid_in_part, tempid_in_old_part};
 ghost use Rattle.tx_resolve.specs.Breaks.{gives_one_of_two as model_gives_one_of_two, is_added_to_by_none, uses_one_of_none as model_uses_one_of_none, first_form};
 
-use crate::drafts::{Draft, Part};
+use crate::drafts::{Draft, Operand};
 use crate::holders::{Holders, addition, held_by};
 use crate::whom::{Tempid, Whom};
 
@@ -109,16 +109,16 @@ fn is_of_none(kept: &Holders, whom: &Whom) -> bool
     }
 }
 
-fn is_part_of_none(kept: &Holders, part: &Part) -> bool
+fn is_part_of_none(kept: &Holders, part: &Operand) -> bool
     ensures { (all : List model_Draft) → AreHolders kept.now all → result ≡ list_any (is_added_to_by_none all) (tempid_in_part part.now) }
 {
     match part {
-        Part::Plain(_) => false,
-        Part::Entity(whom) => is_of_none(kept, whom),
+        Operand::Plain(_) => false,
+        Operand::Entity(whom) => is_of_none(kept, whom),
     }
 }
 
-fn is_old_part_of_none(kept: &Holders, part: &Option<Part>) -> bool
+fn is_old_part_of_none(kept: &Holders, part: &Option<Operand>) -> bool
     ensures { (all : List model_Draft) → AreHolders kept.now all → result ≡ list_any (is_added_to_by_none all) (tempid_in_old_part part.now) }
 {
     match part {

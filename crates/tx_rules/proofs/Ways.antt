@@ -11,7 +11,7 @@ use Rattle.fb_values.specs.declared.facts.Value.{Value}
 use Rattle.fb_model.specs.History.{basis}
 use Rattle.fb_model.specs.Facts.{is_of, value_eq}
 use Rattle.fb_model.specs.Schema.{Attribute, attribute_named}
-use Rattle.tx_model.specs.Asks.{Name, Part, Ask, adds, retracts, retracts_all, compares, retracts_entity, meets, mentions, lacks_id}
+use Rattle.tx_model.specs.Asks.{Name, Operand, Ask, adds, retracts, retracts_all, compares, retracts_entity, meets, mentions, lacks_id}
 use Rattle.tx_model.specs.Tempids.{Db, entity_of}
 use Rattle.tx_model.specs.Changes.{change, changes_of, value_of_part, withdrawn, additions, retractions, sweeps, values_withdrawn, set_withdrawn, implied}
 use Rattle.tx_model.specs.Transaction.{Transaction, with_names}
@@ -51,7 +51,7 @@ chain-own db added (Some e) (Some a) ov d member = go (ov a) member
         let is = sym (only (change db added e a.id v) d (in_option (Some (change db added e a.id v)) d member)) in
         record { flag = ap (λ (x : Datom). x.added) is; own_t = ap (λ (x : Datom). x.t) is }
 
-changes_of-own : (db : Db) (names : List (Name × ℕ)) (added : Bool) (name : Name) (k : List ℕ) (part : Part) (d : Datom) → Contains (changes_of db names added name k part) d → IsOwn db added d
+changes_of-own : (db : Db) (names : List (Name × ℕ)) (added : Bool) (name : Name) (k : List ℕ) (part : Operand) (d : Datom) → Contains (changes_of db names added name k part) d → IsOwn db added d
 changes_of-own db names added name k part d member = chain-own db added (entity_of db names name) (attribute_named db.facts k) (λ a. value_of_part db names a part) d member
 
 withdrawn-own : (db : Db) (ds : List Datom) (d : Datom) → Contains (map (withdrawn db) ds) d → IsOwn db false d

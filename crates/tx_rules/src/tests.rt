@@ -1,3 +1,4 @@
+//! Tests: rules that are judged by the facts, on small databases.
 ghost use Rattle.std.specs.Prelude.{◌≡◌, [], Some, None, false};
 
 use crate::cas::{first_failed, first_of_many};

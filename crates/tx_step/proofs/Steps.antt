@@ -24,7 +24,7 @@ use Rattle.tx_model.specs.Asks.{Ask}
 use Rattle.tx_model.specs.Walk.{flat}
 use Rattle.tx_model.specs.Tempids.{db_of}
 use Rattle.tx_model.specs.Transaction.{Transaction, transaction}
-use Rattle.tx_model.specs.Step.{Outcome, refused, Guard, step, under_guard, unless_refused, first_refusal, first_without_shape, refusal_of, broken_rules, no_list, by_whole}
+use Rattle.tx_model.specs.Step.{Decision, refused, Guard, step, under_guard, unless_refused, first_refusal, first_without_shape, refusal_of, broken_rules, no_list, by_whole}
 use Rattle.tx_forms.specs.Shaped.{place_without_shape}
 use Rattle.tx_expand.specs.Rules.{schema_rules, IfRefused}
 use Rattle.tx_resolve.specs.Rules.{resolve_rules, IsToldAs}

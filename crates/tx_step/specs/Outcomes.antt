@@ -7,25 +7,25 @@ use Rattle.tx_forms.specs.declared.read.TxStop.{TxStop}
 use Rattle.tx_forms.specs.declared.read.TxStop.TheVariants.{Refused, Memory}
 use Rattle.tx_model.specs.Tempids.{db_of}
 use Rattle.tx_model.specs.Transaction.{Transaction, transaction}
-use Rattle.tx_model.specs.Step.{Outcome, refused, accepted, Guard, broken_rules, first_refusal, unless_refused}
+use Rattle.tx_model.specs.Step.{Decision, refused, accepted, Guard, broken_rules, first_refusal, unless_refused}
 use Rattle.tx_step.specs.declared.deciding.Accepted.{Accepted}
 use Rattle.tx_asks.specs.Acts.{Act, AreActs}
 
-abbrev pub Tells : TxStop → Outcome → Type 0
+abbrev pub Tells : TxStop → Decision → Type 0
 Tells (Refused refusal) outcome = outcome ≡ refused refusal
 Tells Memory outcome = ⊤
 
 -- an answer as an outcome
-abbrev pub outcome_of : Result Accepted Refusal → Outcome
+abbrev pub outcome_of : Result Accepted Refusal → Decision
 outcome_of (Ok done) = accepted done.entry done.tempids.items
 outcome_of (Err refusal) = refused refusal
 
 -- the refusal, or what there is without one
-abbrev pub told_or : Option Refusal → Outcome → Outcome
+abbrev pub told_or : Option Refusal → Decision → Decision
 told_or (Some refusal) outcome = refused refusal
 told_or None outcome = outcome
 
-abbrev pub shaped_step : List Entry → List Form → ℤ → Guard → Outcome
+abbrev pub shaped_step : List Entry → List Form → ℤ → Guard → Decision
 shaped_step h fs reading guard = unless_refused h fs reading guard (first_refusal (broken_rules (transaction h fs)))
 
 -- the acts are those of a transaction at the history

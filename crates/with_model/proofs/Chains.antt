@@ -11,7 +11,7 @@ use Rattle.fb_model.specs.Lawful.{IsLawful, IsLawfulAfter}
 use Rattle.fb_model.proofs.LawfulHistories.{IsLawful-push, IsLawful-instant}
 use Rattle.tx_model.specs.Tempids.{named_tempids}
 use Rattle.tx_model.specs.Transaction.{transaction}
-use Rattle.tx_model.specs.Step.{Outcome, refused, accepted, Guard, step, entry_of}
+use Rattle.tx_model.specs.Step.{Decision, refused, accepted, Guard, step, entry_of}
 use Rattle.tx_model.proofs.Steps.{accepted_at, refused_always}
 use Rattle.tx_model.proofs.StepLaws.{step-lawful}
 use Rattle.with_model.specs.Chain.{Told, Chain, reaches, refused_at, with_told, chained, chain, continued}
@@ -29,7 +29,7 @@ Reaches (reaches h told) = Unit {0}
 Reaches (refused_at refusal at) = ⊥
 
 -- the first transaction is accepted, and the others reach the same
-record ReachesBy (h reached : List Entry) (told : List Told) (outcome : Outcome) (behind : List Entry → Chain) : Type 0 where
+record ReachesBy (h reached : List Entry) (told : List Told) (outcome : Decision) (behind : List Entry → Chain) : Type 0 where
   entry : Entry
   tempids : List (List ℕ × ℕ)
   others : List Told
@@ -37,7 +37,7 @@ record ReachesBy (h reached : List Entry) (told : List Told) (outcome : Outcome)
   behind_is : behind (h ++ entry ∷ []) ≡ reaches reached others
   told_is : told ≡ record { t = entry.t; tempids = tempids } ∷ others
 
-reaches_by : (h reached : List Entry) (told : List Told) (outcome : Outcome) (behind : List Entry → Chain) → chained h outcome behind ≡ reaches reached told → ReachesBy h reached told outcome behind
+reaches_by : (h reached : List Entry) (told : List Told) (outcome : Decision) (behind : List Entry → Chain) → chained h outcome behind ≡ reaches reached told → ReachesBy h reached told outcome behind
 reaches_by h reached told (refused refusal) behind is = absurd (subst Reaches (sym is) tt)
 reaches_by h reached told (accepted entry tempids) behind is = go (behind (h ++ entry ∷ [])) refl is
   where
@@ -90,7 +90,7 @@ pub chain-append : (guard : Guard) (h : List Entry) (first more : List Form) →
 chain-append guard h [] more = sym (with_none (chain guard h more))
 chain-append guard h (asked ∷ first) more = go (step h asked least_instant guard) (λ next. chain-append guard next first more)
   where
-    go : (outcome : Outcome) → ((next : List Entry) → chain guard next (first ++ more) ≡ continued guard (chain guard next first) more)
+    go : (outcome : Decision) → ((next : List Entry) → chain guard next (first ++ more) ≡ continued guard (chain guard next first) more)
         → chained h outcome (λ next. chain guard next (first ++ more)) ≡ continued guard (chained h outcome (λ next. chain guard next first)) more
     go (refused refusal) each = refl
     go (accepted entry tempids) each =
@@ -121,7 +121,7 @@ abbrev forms_from : List Form → Option (List Form) → List Form
 forms_from other (Some forms) = forms
 forms_from other None = other
 
-abbrev IsAccepted : Outcome → Type 0
+abbrev IsAccepted : Decision → Type 0
 IsAccepted (refused refusal) = ⊥
 IsAccepted (accepted entry tempids) = Unit {0}
 
@@ -132,7 +132,7 @@ at_any_clock h asked guard tried tempids reading is =
     let at = accepted_at h asked guard least_instant tried tempids is in
     (at.forms, at.entry_is, go (step h asked reading guard) refl)
   where
-    go : (outcome : Outcome) → step h asked reading guard ≡ outcome
+    go : (outcome : Decision) → step h asked reading guard ≡ outcome
         → step h asked reading guard ≡ accepted (entry_of h (transaction h (accepted_at h asked guard least_instant tried tempids is).forms) (next_instant h reading)) tempids
     go (refused refusal) same = absurd (subst IsAccepted (sym is ∙ refused_always h asked guard refusal reading least_instant same) tt)
     go (accepted entry others) same =

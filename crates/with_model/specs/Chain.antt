@@ -7,7 +7,7 @@ use Rattle.fb_values.specs.declared.facts.Entry.{Entry}
 use Rattle.fb_numbers.specs.Numbers.{least_instant}
 use Rattle.fb_model.specs.History.{basis}
 use Rattle.view_model.specs.Window.{Window, whole}
-use Rattle.tx_model.specs.Step.{Outcome, refused, accepted, Guard, step}
+use Rattle.tx_model.specs.Step.{Decision, refused, accepted, Guard, step}
 
 -- what is told of one of the transactions: its t, and the entities of its tempids
 pub record Told : Type 0 where
@@ -18,14 +18,14 @@ pub data Chain : Type 0 where
   -- the history with the entries of all of them, and what is told of each
   reaches : List Entry → List Told → Chain
   -- the refusal of the first that is refused, and the basis at which it was judged
-  refused_at : Outcome → ℕ → Chain
+  refused_at : Decision → ℕ → Chain
 
 abbrev pub with_told : List Told → Chain → Chain
 with_told before (reaches h told) = reaches h (before ++ told)
 with_told before (refused_at refusal at) = refused_at refusal at
 
 -- what comes of a transaction at the history, and of those behind it
-abbrev pub chained : List Entry → Outcome → (List Entry → Chain) → Chain
+abbrev pub chained : List Entry → Decision → (List Entry → Chain) → Chain
 chained h (refused refusal) behind = refused_at (refused refusal) (basis h)
 chained h (accepted entry tempids) behind = with_told (record { t = entry.t; tempids = tempids } ∷ []) (behind (h ++ entry ∷ []))
 

@@ -1,3 +1,4 @@
+//! The disk in memory as a disk: each call, with what it leaves and when it fails.
 ghost use Rattle.std.specs.Prelude.{◌≡◌, ◌≤◌, ◌<◌, ◌+◌, ◌-◌, ◌^◌, ◌++◌, [], ◌∷◌, Some, IfOk, OnOk, OnErr, is_err, length, nat_le, take, drop, min, option_map};
 ghost use Rattle.fb_calls.specs.Calls.{no_calls, fails_next, after_call, after_fault};
 ghost use Rattle.fb_calls.specs.Faults.{Counts};
@@ -203,7 +204,7 @@ impl Disk for MemDisk {
 }
 
 impl MemDisk {
-    // Whether a write of so many bytes at a place ends within the room.
+    /// Whether a write of so many bytes at a place ends within the room.
     fn has_room(&self, at: usize, len: usize) -> bool
         ensures { result ≡ nat_le (at + len) self.now.room }
     {
@@ -212,7 +213,7 @@ impl MemDisk {
     }
 }
 
-// Copies what fits of `from` to the front of `buf`, and answers how much that was.
+/// Copies what fits of `from` to the front of `buf`, and answers how much that was.
 fn copy_to_front(buf: &mut [u8], from: &[u8]) -> usize
     ensures most { result ≡ min (length buf.old) (length from.now) }
     ensures copied { take result buf.new ≡ take result from.now }

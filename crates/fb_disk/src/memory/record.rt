@@ -1,4 +1,4 @@
-// What was done to a disk in memory since its record began, in memory that was reserved for it.
+//! What was done to a disk in memory since its record began, in memory that was reserved for it.
 ghost use Rattle.std.specs.Prelude.{◌≡◌, ◌≤◌, ◌+◌, ◌++◌, [], ◌∷◌, length, nat_le, vec_len, vec_capacity, IfOk, OnOk};
 ghost use Rattle.disk_model.specs.Record.{wrote, cut_to, synced};
 ghost use Rattle.fb_disk.specs.Images.{image_from, kept_of, torn_to};
@@ -56,7 +56,7 @@ impl Record {
         self.room
     }
 
-    // Whether there is room for one more entry that writes so many bytes.
+    /// Whether there is room for one more entry that writes so many bytes.
     #[tactic(auto, using(crate::proofs::StepLists::room_laws))]
     pub(crate) fn fits(&self, bytes: usize) -> bool
         ensures { result ≡ nat_le (room_taken self.now.changes + 24 + bytes) self.now.room }
@@ -95,7 +95,7 @@ impl Record {
         self.steps.push(Step::Synced).unwrap();
     }
 
-    // Puts what was done onto a file and onto an image of it, in which the writes since the last sync are cut short.
+    /// Puts what was done onto a file and onto an image of it, in which the writes since the last sync are cut short.
     pub(crate) fn replay(
         &self,
         alloc: Global,
@@ -137,7 +137,7 @@ impl Record {
     }
 }
 
-// How much of the n-th write since the last sync is kept, from its front.
+/// How much of the n-th write since the last sync is kept, from its front.
 fn kept_len(cuts: &[u64], n: usize, len: usize) -> usize
     ensures value { result ≡ kept_of cuts.now n len }
     ensures within { result ≤ len }
@@ -148,7 +148,7 @@ fn kept_len(cuts: &[u64], n: usize, len: usize) -> usize
     }
 }
 
-// The front of a piece, and zeros behind.
+/// The front of a piece, and zeros behind.
 fn torn_piece(alloc: Global, piece: &[u8], kept: usize) -> Result<Vec<u8>, AllocError>
     requires { kept ≤ length piece.now }
     ensures { IfOk result (λ torn. torn.items ≡ torn_to kept piece.now) }

@@ -1,5 +1,5 @@
 use Rattle.std.proofs.Common.{◌≡◌, ◌∷◌, map, Some}
-use Rattle.board_rule.specs.declared.board.Place.TheVariants.{Core}
+use Rattle.board_rule.specs.declared.board.SlotValue.TheVariants.{Core}
 use Rattle.board_rule.specs.Board.{mailed_as}
 use Rattle.board_rule.proofs.ends.lay_slots.Given as goal
 

@@ -1,6 +1,6 @@
 use Rattle.std.proofs.Common.{rules, ◌≡◌, ◌+◌, ◌-◌, ℕ, [], ◌∷◌, true, ap, sym, subst, ◌∙◌, arith}
 use Rattle.atomic_table.specs.Table.{rest}
-use Rattle.board_rule.specs.declared.board.Place.TheVariants.{Mail}
+use Rattle.board_rule.specs.declared.board.SlotValue.TheVariants.{Mail}
 use Rattle.board_rule.specs.declared.view.Code.{Code}
 use Rattle.board_rule.specs.declared.view.Content.TheVariants.{InHand}
 use Rattle.board_rule.specs.declared.view.Grab.{Grab}

@@ -1,6 +1,6 @@
 use Rattle.std.proofs.Common.{rules, ◌≡◌, [], ◌∷◌, ap, sym, subst, ◌∙◌, IfSome}
 use Rattle.atomic_table.specs.Table.{rest}
-use Rattle.board_rule.specs.declared.board.Place.TheVariants.{Core}
+use Rattle.board_rule.specs.declared.board.SlotValue.TheVariants.{Core}
 use Rattle.board_rule.specs.declared.view.Code.{Code}
 use Rattle.board_rule.specs.declared.view.At.TheVariants.{Hand}
 use Rattle.board_rule.specs.declared.view.View.{View}

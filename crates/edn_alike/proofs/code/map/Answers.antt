@@ -2,13 +2,13 @@ use Rattle.std.proofs.Common.{◌≡◌, map, vec_items, Vec, Global, ◌∙◌}
 use Rattle.std.proofs.lemmas.Result.{IfOk-weaker}
 use Rattle.edn_alike.specs.Code.{joined, InOrder}
 use Rattle.edn_alike.specs.Order.{token_cmp}
-use Rattle.edn_alike.specs.declared.token.Token.{Token}
-use Rattle.edn_alike.specs.declared.token.Token.TheVariants.{Map}
+use Rattle.edn_alike.specs.declared.token.CodeToken.{CodeToken}
+use Rattle.edn_alike.specs.declared.token.CodeToken.TheVariants.{Map}
 use Rattle.edn_alike.proofs.Steps.{in_order}
 use Rattle.edn_alike.proofs.code.map.Goals as goal
 
 pub returns : goal.returns
 returns c =
     let sorted = c.in_ok-parts.parts in
-    IfOk-weaker c.join.result (λ (r : Vec Token Global). r.items ≡ joined (Map c.len.result) (map vec_items sorted.items)) (λ (r : Vec Token Global). InOrder token_cmp Map (map vec_items c.args.parts.items) r.items)
+    IfOk-weaker c.join.result (λ (r : Vec CodeToken Global). r.items ≡ joined (Map c.len.result) (map vec_items sorted.items)) (λ (r : Vec CodeToken Global). InOrder token_cmp Map (map vec_items c.args.parts.items) r.items)
     (λ r j. in_order Map c.args.parts.items sorted.items c.len.result r.items c.in_ok-parts.ensures.shuffled c.in_ok-parts.ensures.rises (c.len.ensures ∙ sorted.ok.0) j) c.join.ensures

@@ -13,5 +13,5 @@ returns-in-None g c =
     let fs = forms_of c.args.forms.now in
     let none : first_without_shape fs ≡ None = sym c.in_ok-place.ensures ∙ c.in-None.is in
     let said : IfOk c.step_of_shaped.result (λ made. outcome_of made ≡ shaped_step h fs c.args.reading (g.G.Guard.bars c.args.guard.now)) = search rules in
-    subst (λ (outcome : model.Outcome). IfOk c.step_of_shaped.result (λ made. outcome_of made ≡ outcome))
+    subst (λ (outcome : model.Decision). IfOk c.step_of_shaped.result (λ made. outcome_of made ≡ outcome))
     (step_where_shaped h fs c.args.reading (g.G.Guard.bars c.args.guard.now) none) said

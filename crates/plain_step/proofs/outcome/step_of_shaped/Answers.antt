@@ -41,5 +41,5 @@ returns g c =
     ∙ ap (λ (db : Db). with_asks db (flat db.facts fs)) c.in_ok-db.ensures in
     let none : first_refusal (broken_rules tx) ≡ None = sym c.in_ok-refusal.ensures ∙ c.in-None.is in
     let said : IfOk c.unless_barred.result (λ made. outcome_of made ≡ model.under_guard tx.db.history tx c.args.reading (g.G.Guard.bars c.args.guard.now tx.db.history tx.changes)) = search rules in
-    subst (λ (outcome : model.Outcome). IfOk c.unless_barred.result (λ made. outcome_of made ≡ outcome))
+    subst (λ (outcome : model.Decision). IfOk c.unless_barred.result (λ made. outcome_of made ≡ outcome))
     (step_where_unbroken h fs c.args.reading (g.G.Guard.bars c.args.guard.now) tx tx_is none) said

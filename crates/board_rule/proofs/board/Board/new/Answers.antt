@@ -1,6 +1,6 @@
 use Rattle.std.proofs.Common.{rules, ◌≡◌, ◌+◌, ◌∷◌, map, length, ap, sym, subst, ◌∙◌, refl, arith, Some}
 use lib.ListN.{length-map}
-use Rattle.board_rule.specs.declared.board.Place.TheVariants.{Core}
+use Rattle.board_rule.specs.declared.board.SlotValue.TheVariants.{Core}
 use Rattle.board_rule.specs.Views.{IsLawful, code, codes}
 use Rattle.board_rule.specs.Board.{mailed_as}
 use Rattle.board_rule.proofs.Lifetime.{starts_on, of_all}
