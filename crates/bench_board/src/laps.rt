@@ -17,7 +17,8 @@ use std::thread::Threads;
 
 fn open(alloc: Global, sessions: u32) -> Result<(Board<Fixed, Sheet>, BoardSeat), Memory>
     requires { sessions ≤ 64 }
-    ensures board { IfOk result (λ r. (board_of r.1 ≡ r.0.table.shared.table_id) × (r.0.table.shared.key.sessions ≡ sessions)) }
+    ensures board { IfOk result (λ r. (board_of r.1 ≡ r.0.table.shared.table_id)
+        × (r.0.table.shared.key.sessions ≡ sessions)) }
     ensures seat { IfOk result (λ r. ((view_of r.1).number ≡ worker) × ((view_of r.1).given ≡ 0)) }
 {
     let home = Fixed { counter: 0 };
@@ -34,7 +35,8 @@ fn seats(
     requires seat { board_of first.old ≡ board.now.table.shared.table_id }
     requires first { ((view_of first.old).number ≡ worker) × ((view_of first.old).given ≡ 0) }
     requires few { count ≤ 64 }
-    ensures { IfOk result (λ v. All (λ s. (board_of s ≡ board.now.table.shared.table_id) × IsFresh (view_of s)) v.items) }
+    ensures { IfOk result (λ v. All
+        (λ s. (board_of s ≡ board.now.table.shared.table_id) × IsFresh (view_of s)) v.items) }
 {
     let mut seats = Vec::new(alloc);
     for _ in 0..count {
@@ -74,14 +76,16 @@ fn run_each<R: Threads + Wait + Sync>(
     count: u32,
 )
     requires threads { 0 < threads }
-    requires seats { All (λ s. (board_of s ≡ board.now.table.shared.table_id) × IsFresh (view_of s)) seats.old }
+    requires seats { All (λ s. (board_of s ≡ board.now.table.shared.table_id) × IsFresh (view_of s))
+        seats.old }
 {
     thread::for_each_mut(
         rt,
         seats,
         threads as usize,
         &|_, seat: &mut BoardSeat|
-            requires { (board_of seat.old ≡ board.now.table.shared.table_id) × IsFresh (view_of seat.old) }
+            requires { (board_of seat.old ≡ board.now.table.shared.table_id)
+                × IsFresh (view_of seat.old) }
         { run(rt, board, seat, count) },
     );
 }

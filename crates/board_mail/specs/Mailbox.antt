@@ -16,4 +16,6 @@ module _ {E : Type 0} where
 
   -- the same, and it has a copy of that snapshot
   abbrev pub took : View E → List E → View E
-  took v l = record v { grab = Free; grabs = v.grabs + 1; met = 0; last_found = Some l; seen = longer v.seen l }
+  took v l =
+      record v
+      { grab = Free; grabs = v.grabs + 1; met = 0; last_found = Some l; seen = longer v.seen l }

@@ -38,7 +38,8 @@ pub fn put<H: Named, S: Mailed + Named<Entry = H::Entry>>(
     requires whole { codes H.Entry.row.coded.code (S.entries s) ≡ history_of (view_of seat.old) }
     ensures seat { board_of seat.new ≡ board_of seat.old }
     ensures held { _held.new ≡ _held.old }
-    ensures mailed { MatchBool result (view_of seat.new ≡ mailed (view_of seat.old) session) (view_of seat.new ≡ skipped (view_of seat.old) session) }
+    ensures mailed { MatchBool result (view_of seat.new ≡ mailed (view_of seat.old) session)
+        (view_of seat.new ≡ skipped (view_of seat.old) session) }
 {
     if !step_holder_grab(board, seat, session) {
         return false;
@@ -59,10 +60,17 @@ pub fn put_each<H: Named, S: Mailed + Named<Entry = H::Entry>>(
     requires turn { HasTurn (view_of seat.old) }
     requires free { (view_of seat.old).grab ≡ Free }
     requires sessions { length snapshots.items ≡ board.now.table.shared.key.sessions }
-    requires whole { All (λ s. codes H.Entry.row.coded.code (S.entries s) ≡ history_of (view_of seat.old)) snapshots.items }
+    requires whole { All
+        (λ s. codes H.Entry.row.coded.code (S.entries s) ≡ history_of (view_of seat.old))
+        snapshots.items }
     ensures seat { board_of seat.new ≡ board_of seat.old }
     ensures held { held.new ≡ held.old }
-    ensures mailed { view_of seat.new ≡ record (view_of seat.old) { grab = Free; tried = tried_down board.now.table.shared.key.sessions (view_of seat.old).tried; met = (view_of seat.new).met } }
+    ensures mailed { view_of seat.new
+        ≡ record (view_of seat.old) {
+          grab = Free;
+          tried = tried_down board.now.table.shared.key.sessions (view_of seat.old).tried;
+          met = (view_of seat.new).met;
+        } }
     ensures tried { IsTried board.now.table.shared.key.sessions (view_of seat.new).tried }
 {
     while let Some(snapshot) = snapshots.pop() {
@@ -92,7 +100,8 @@ pub fn peek<H: Named, S: Mailed + Named<Entry = H::Entry>>(
     requires session { (view_of seat.old).number < board.now.table.shared.key.sessions }
     requires free { (view_of seat.old).grab ≡ Free }
     ensures seat { board_of seat.new ≡ board_of seat.old }
-    ensures peeks { Peeks (λ s. codes H.Entry.row.coded.code (S.entries s)) (view_of seat.old) result (view_of seat.new) }
+    ensures peeks { Peeks (λ s. codes H.Entry.row.coded.code (S.entries s)) (view_of seat.old)
+        result (view_of seat.new) }
 {
     if !step_reader_grab(board, seat) {
         return Ok(Mail::Held);

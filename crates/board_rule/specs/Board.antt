@@ -34,7 +34,8 @@ pub record Naming (H S E : Type 0) : Type 1 where
   pub lawful : List E → Type 0
 
 -- the same, of a type that says which entry may follow a list, over the entries' codes
-abbrev pub naming : {H S A : Type 0} → (A → Gv) → (H → List A) → (H → List ℕ) → (H → Marks) → (List A → A → Type 0) → (H → Type 0) → (S → List A) → Naming H S Code
+abbrev pub naming : {H S A : Type 0} → (A → Gv) → (H → List A) → (H → List ℕ) → (H → Marks)
+    → (List A → A → Type 0) → (H → Type 0) → (S → List A) → Naming H S Code
 naming {H} {S} {A} f entries authors marks follows sound mailed = record {
   entries = λ h. codes f (entries h);
   authors = authors;
@@ -83,7 +84,9 @@ module _ {E : Type 0} where
 
   -- no two seats have one ticket
   abbrev pub Apart : List (View E) → Type 0
-  Apart vs = (i j t : ℕ) (v u : View E) → i ≢ j → get_elem? vs i ≡ some v → get_elem? vs j ≡ some u → v.ticket ≡ Some t → u.ticket ≢ Some t
+  Apart vs =
+      (i j t : ℕ) (v u : View E) → i ≢ j → get_elem? vs i ≡ some v → get_elem? vs j ≡ some u
+      → v.ticket ≡ Some t → u.ticket ≢ Some t
 
   -- Tickets. A seat draws at most 2^32, so word 0 never wraps.
   pub record CountsOk (drawn given : ℕ) (vs : List (View E)) : Type 0 where
@@ -95,7 +98,8 @@ module _ {E : Type 0} where
     pub tickets : Apart vs
 
   -- The history is lawful, and each entry above `start` has its author.
-  pub record HistoryOk (lawful : List E → Type 0) (start given : ℕ) (entries : List E) (authors : List ℕ) : Type 0 where
+  pub record HistoryOk (lawful : List E → Type 0) (start given : ℕ) (entries : List E)
+      (authors : List ℕ) : Type 0 where
     pub lawful_now : lawful entries
     pub counted : start + 1 + length authors ≡ length entries
     pub narrow : length entries ≤ 4294967296
@@ -116,35 +120,56 @@ module _ {E : Type 0} where
   abbrev pub Claims : ℕ → (ℕ → Grab E) → (ℕ → ℕ) → ℕ → ℕ → ℕ → ℕ → Grab E → Type 0
   Claims n mail owner turn j seats number Free = Unit {0}
   Claims n mail owner turn j seats number Grabbed = Holds n mail owner j seats number Grabbed
-  Claims n mail owner turn j seats number (Found l c) = Holds n mail owner j seats number (Found l c)
-  Claims n mail owner turn j seats number (Writing s c) = Holds n mail owner j seats s (Writing s c) × (turn ≡ j + 1)
+  Claims n mail owner turn j seats number (Found l c) =
+      Holds n mail owner j seats number (Found l c)
+  Claims n mail owner turn j seats number (Writing s c) =
+      Holds n mail owner j seats s (Writing s c) × (turn ≡ j + 1)
 
   -- a ticket is drawn and not yet served
   abbrev pub HasTicket : Scene E → View E → Type 0
-  HasTicket x v = ((t : ℕ) → v.ticket ≡ Some t → (x.served ≤ t) × (t < x.drawn) × (0 < v.seats)) × (v.draws ≤ 4294967296)
+  HasTicket x v =
+      ((t : ℕ) → v.ticket ≡ Some t → (x.served ≤ t) × (t < x.drawn) × (0 < v.seats))
+      × (v.draws ≤ 4294967296)
 
   -- what was seen is a beginning of the history, and the commits are where the authors say
   abbrev pub Recalls : ℕ → Scene E → View E → Type 0
-  Recalls start x v = (0 < v.seats → v.start ≡ start) × StartsWith x.entries v.seen × (0 < v.seats → v.commits ≡ commits_of v.number (start + 1) x.authors) × (0 < v.seats → AllBelow (length v.seen) v.commits)
+  Recalls start x v =
+      (0 < v.seats → v.start ≡ start)
+      × StartsWith x.entries v.seen
+      × (0 < v.seats → v.commits ≡ commits_of v.number (start + 1) x.authors)
+      × (0 < v.seats → AllBelow (length v.seen) v.commits)
 
   -- the same of a seat that was joined to another, and what it was told of a stop
   abbrev pub IsNote : ℕ → Scene E → Joined E → Type 0
-  IsNote start x p = (StartsWith x.entries p.seen × StartsWith x.entries p.beside) × (p.commits ≡ commits_of p.number (start + 1) x.authors)
-      × ((q : Stop) → p.stop ≡ Some q → x.shown.stop ≡ Some q) × ((q : Stop) → x.shown.stop ≡ Some q → p.number ≡ q.author → p.stop ≡ Some q)
+  IsNote start x p =
+      (StartsWith x.entries p.seen × StartsWith x.entries p.beside)
+      × (p.commits ≡ commits_of p.number (start + 1) x.authors)
+      × ((q : Stop) → p.stop ≡ Some q → x.shown.stop ≡ Some q)
+      × ((q : Stop) → x.shown.stop ≡ Some q → p.number ≡ q.author → p.stop ≡ Some q)
 
   abbrev pub KeepsNotes : ℕ → Scene E → View E → Type 0
   KeepsNotes start x v = (k : ℕ) (p : Joined E) → get_elem? v.joined k ≡ some p → IsNote start x p
 
   abbrev pub HasNumber : Scene E → View E → Type 0
-  HasNumber x v = (0 < v.seats → (v.number < x.given) ⊎ (v.number ≡ worker)) × (0 < v.seats → v.number ≡ worker → v.given ≡ x.given)
+  HasNumber x v =
+      (0 < v.seats → (v.number < x.given) ⊎ (v.number ≡ worker))
+      × (0 < v.seats → v.number ≡ worker → v.given ≡ x.given)
 
   -- the holder of the turn, the seat j, knows the whole history and where slot 0's value is
   abbrev pub KnowsTurn : Scene E → ℕ → View E → Type 0
-  KnowsTurn x j v = ((y : Story E) → v.turn ≡ Some y → (v.ticket ≡ Some x.served) × (y ≡ story x.entries x.authors x.shown) × (x.turn ≡ j + 1) × (v.core ≡ x.core) × (v.next ≡ x.next))
+  KnowsTurn x j v =
+      ((y : Story E) → v.turn ≡ Some y
+      → (v.ticket ≡ Some x.served)
+      × (y ≡ story x.entries x.authors x.shown)
+      × (x.turn ≡ j + 1)
+      × (v.core ≡ x.core)
+      × (v.next ≡ x.next))
       × (HasTurn v → (m : Marks) → v.next ≡ Some m → MayMark v.number x.shown m)
 
   abbrev pub KnowsMarks : Scene E → View E → Type 0
-  KnowsMarks x v = ((p : Stop) → v.stop ≡ Some p → x.shown.stop ≡ Some p) × (0 < v.seats → (p : Stop) → x.shown.stop ≡ Some p → v.number ≡ p.author → v.stop ≡ Some p)
+  KnowsMarks x v =
+      ((p : Stop) → v.stop ≡ Some p → x.shown.stop ≡ Some p)
+      × (0 < v.seats → (p : Stop) → x.shown.stop ≡ Some p → v.number ≡ p.author → v.stop ≡ Some p)
       × (0 < v.seats → v.number ≡ worker → v.covered ≡ x.shown.covered)
 
   -- What the seat j knows is so. Of one that was joined away little is said: its notes are with the seat that stays.
@@ -159,14 +184,18 @@ module _ {E : Type 0} where
     pub grab : Claims n x.mail x.owner x.turn j v.seats v.number v.grab
 
   -- Slot 0 is out of its place only in a turn, and so are next marks. A number that no seat was given is the author of no stop.
-  pub record TurnOk (given turn : ℕ) (core : At) (shown : Marks) (next : Option Marks) (vs : List (View E)) : Type 0 where
+  pub record TurnOk (given turn : ℕ) (core : At) (shown : Marks) (next : Option Marks)
+      (vs : List (View E)) : Type 0 where
     pub idle : turn ≡ 0 → (core ≡ Home) × (next ≡ None)
     pub busy : (i : ℕ) → turn ≡ i + 1 → (v : View E) × (get_elem? vs i ≡ some v) × HasTurn v
-    pub unstopped : (z : ℕ) → given ≤ z → z ≢ worker → (p : Stop) → shown.stop ≡ Some p → p.author ≢ z
+    pub unstopped : (z : ℕ) → given ≤ z → z ≢ worker → (p : Stop) → shown.stop ≡ Some p
+        → p.author ≢ z
 
   -- a mail word that is not free is held by a seat, whose view says how
   abbrev pub Owned : List (View E) → ℕ → ℕ → Grab E → Type 0
-  Owned vs owner s g = g ≢ Free → (u : View E) × (get_elem? vs owner ≡ some u) × (u.grab ≡ g) × (session_of u.number g ≡ s)
+  Owned vs owner s g =
+      g ≢ Free
+      → (u : View E) × (get_elem? vs owner ≡ some u) × (u.grab ≡ g) × (session_of u.number g ≡ s)
 
 -- a mail slot with this snapshot
 abbrev pub mailed_as : {H S : Type 0} → S → SlotValue H S
@@ -174,8 +203,15 @@ mailed_as s = Mail (Some s)
 
 module _ {H S E : Type 0} (N : Naming H S E) where
   -- the value of slot 0, where it is at home, stands for the history, has these marks and is sound
-  abbrev pub CoreIs : List E → List ℕ → Marks → At → maybe.Option (maybe.Option (SlotValue H S)) → Type 0
-  CoreIs es who m Home p = (h : H) × (p ≡ some (some (Core (Some h)))) × (N.entries h ≡ es) × (N.authors h ≡ who) × (N.marks h ≡ m) × N.sound h
+  abbrev pub CoreIs : List E → List ℕ → Marks → At → maybe.Option (maybe.Option (SlotValue H S))
+      → Type 0
+  CoreIs es who m Home p =
+      (h : H)
+      × (p ≡ some (some (Core (Some h))))
+      × (N.entries h ≡ es)
+      × (N.authors h ≡ who)
+      × (N.marks h ≡ m)
+      × N.sound h
   CoreIs es who m Away p = p ≡ some (some (Core None))
   CoreIs es who m Hand p = p ≡ some none
 
@@ -202,7 +238,10 @@ module _ {H S E : Type 0} (N : Naming H S E) where
     pub counts : CountsOk scene.drawn scene.given s.views
     pub history : HistoryOk N.lawful start scene.given scene.entries scene.authors
     pub each : (j : ℕ) (v : View E) → get_elem? s.views j ≡ some v → Knows n start scene j v
-    pub core : CoreIs scene.entries scene.authors (marked scene.shown scene.next) scene.core (get_elem? s.homes 0)
-    pub mails : (k : ℕ) → k < n → MailOk scene.entries (slice_index s.words (k + 3)) (get_elem? s.homes (k + 1)) (scene.mail k)
+    pub core : CoreIs scene.entries scene.authors (marked scene.shown scene.next) scene.core
+        (get_elem? s.homes 0)
+    pub mails : (k : ℕ) → k < n
+        → MailOk scene.entries (slice_index s.words (k + 3)) (get_elem? s.homes (k + 1))
+        (scene.mail k)
     pub owned : (k : ℕ) → k < n → Owned s.views (scene.owner k) k (scene.mail k)
     pub turns : TurnOk scene.given scene.turn scene.core scene.shown scene.next s.views

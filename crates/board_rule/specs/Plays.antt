@@ -72,28 +72,48 @@ module _ {H S E : Type 0} where
   leaves st m n m' = m' ≡ (ended m.0, m.1)
 
   abbrev pub counts : Said H S → Sat H S E → ℕ → Sat H S E → Type 0
-  counts st m n m' = (l : List E) × (m' ≡ (counted m.0 l, m.1)) × (n + 1 ≡ length l) × (n < 4294967296) × StartsWith l m.0.seen × (HasTurn m.0 → l ≡ history_of m.0)
+  counts st m n m' =
+      (l : List E)
+      × (m' ≡ (counted m.0 l, m.1))
+      × (n + 1 ≡ length l)
+      × (n < 4294967296)
+      × StartsWith l m.0.seen
+      × (HasTurn m.0 → l ≡ history_of m.0)
 
   abbrev pub puts_core : Said H S → Sat H S E → ℕ → Sat H S E → Type 0
   puts_core st m n m' = m' ≡ (record m.0 { core = core_in m.1 }, [])
 
   abbrev pub grabs_own : Said H S → Sat H S E → ℕ → Sat H S E → Type 0
-  grabs_own st m n m' = (m'.0.met ≡ n) × (n ≡ 0 → m' ≡ (grabbed m.0, m.1)) × (n ≢ 0 → m' ≡ (passed m.0, m.1))
+  grabs_own st m n m' =
+      (m'.0.met ≡ n) × (n ≡ 0 → m' ≡ (grabbed m.0, m.1)) × (n ≢ 0 → m' ≡ (passed m.0, m.1))
 
   abbrev pub lets_own_go : Bool → Said H S → Sat H S E → ℕ → Sat H S E → Type 0
-  lets_own_go kept st m n m' = (m' ≡ (let_go m.0 kept, m.1)) × StartsWith m'.0.seen m.0.seen × (kept ≡ true → StartsWith m'.0.seen (found_of m.0.grab))
+  lets_own_go kept st m n m' =
+      (m' ≡ (let_go m.0 kept, m.1))
+      × StartsWith m'.0.seen m.0.seen
+      × (kept ≡ true → StartsWith m'.0.seen (found_of m.0.grab))
 
   abbrev pub grabs_mail : Said H S → Sat H S E → ℕ → Sat H S E → Type 0
-  grabs_mail st m n m' = (m'.0.met ≡ n) × (n ≡ 0 → (l : List E) × (m' ≡ (writing m.0 (st.word - 3) l, m.1))) × (n ≢ 0 → m' ≡ (skipped m.0 (st.word - 3), m.1))
+  grabs_mail st m n m' =
+      (m'.0.met ≡ n)
+      × (n ≡ 0 → (l : List E) × (m' ≡ (writing m.0 (st.word - 3) l, m.1)))
+      × (n ≢ 0 → m' ≡ (skipped m.0 (st.word - 3), m.1))
 
   abbrev pub lets_mail_go : Said H S → Sat H S E → ℕ → Sat H S E → Type 0
   lets_mail_go st m n m' = m' ≡ (record m.0 { grab = Free }, m.1)
 
   abbrev pub puts_mail : (S → List E) → Said H S → Sat H S E → ℕ → Sat H S E → Type 0
-  puts_mail mailed st m n m' = m' ≡ (record m.0 { grab = refilled m.0.grab (mail_in mailed m.1) }, [])
+  puts_mail mailed st m n m' =
+      m' ≡ (record m.0 { grab = refilled m.0.grab (mail_in mailed m.1) }, [])
 
   abbrev pub takes_mail : (S → List E) → Said H S → Sat H S E → ℕ → Sat H S E → Type 0
-  takes_mail mailed st m n m' = (o : Option S) × (m' ≡ (record m.0 { grab = refilled m.0.grab InHand }, (st.word - 2, Mail o) ∷ [])) × MailHas mailed (content_of m.0.grab) o
+  takes_mail mailed st m n m' =
+      (o : Option S)
+      × (m' ≡ (record m.0 { grab = refilled m.0.grab InHand }, (st.word - 2, Mail o) ∷ []))
+      × MailHas mailed (content_of m.0.grab) o
 
   abbrev pub takes_core : (H → View E → Type 0) → Said H S → Sat H S E → ℕ → Sat H S E → Type 0
-  takes_core fits st m n m' = (o : Option H) × (m' ≡ (record m.0 { core = Hand }, (0, Core o) ∷ [])) × CoreHas (λ h. fits h m.0) m.0.core o
+  takes_core fits st m n m' =
+      (o : Option H)
+      × (m' ≡ (record m.0 { core = Hand }, (0, Core o) ∷ []))
+      × CoreHas (λ h. fits h m.0) m.0.core o

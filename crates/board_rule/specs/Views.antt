@@ -50,7 +50,8 @@ AreLawful {A} f follows es = (l : List A) × (es ≡ codes f l) × IsLawful foll
 -- of the entries from t on, whose authors these are, those of n
 abbrev pub commits_of : ℕ → ℕ → List ℕ → List ℕ
 commits_of n t [] = []
-commits_of n t (a ∷ more) = cond (eqb a n) (t ∷ commits_of n (t + 1) more) (commits_of n (t + 1) more)
+commits_of n t (a ∷ more) =
+    cond (eqb a n) (t ∷ commits_of n (t + 1) more) (commits_of n (t + 1) more)
 
 abbrev pub AllBelow : ℕ → List ℕ → Type 0
 AllBelow n ts = (k t : ℕ) → get_elem? ts k ≡ some t → t < n
@@ -65,7 +66,10 @@ marked m (Some k) = k
 
 -- The seat of this number may note k as the next marks, where m are named: it keeps a named stop, a new one is its own, and only the worker changes `covered`
 abbrev pub MayMark : ℕ → Marks → Marks → Type 0
-MayMark number m k = ((p : Stop) → m.stop ≡ Some p → k.stop ≡ Some p) × ((p : Stop) → k.stop ≡ Some p → (m.stop ≡ Some p) ⊎ (p.author ≡ number)) × ((k.covered ≡ m.covered) ⊎ (number ≡ worker))
+MayMark number m k =
+    ((p : Stop) → m.stop ≡ Some p → k.stop ≡ Some p)
+    × ((p : Stop) → k.stop ≡ Some p → (m.stop ≡ Some p) ⊎ (p.author ≡ number))
+    × ((k.covered ≡ m.covered) ⊎ (number ≡ worker))
 
 abbrev pub core_rests : At → Bool
 core_rests Home = true
@@ -84,7 +88,8 @@ tried_down (suc n) tried = tried_down n (tried_too n tried)
 
 -- each of n sessions was tried, if there was a commit in this turn
 abbrev pub IsTried : ℕ → Option (List ℕ) → Type 0
-IsTried n tried = (ts : List ℕ) → tried ≡ Some ts → (s : ℕ) → s < n → (k : ℕ) × (get_elem? ts k ≡ some s)
+IsTried n tried =
+    (ts : List ℕ) → tried ≡ Some ts → (s : ℕ) → s < n → (k : ℕ) × (get_elem? ts k ≡ some s)
 
 module _ {E : Type 0} where
   abbrev pub story : List E → List ℕ → Marks → Story E
@@ -120,7 +125,8 @@ module _ {E : Type 0} where
 
   -- these are the list, authors and marks of a value that may lie in slot 0, and the rest holds of it
   abbrev pub Fits : List E → List ℕ → Marks → Type 0 → View E → Type 0
-  Fits entries authors marks sound v = (entries ≡ history_of v) × (authors ≡ authors_of v) × (marks ≡ marks_of v) × sound
+  Fits entries authors marks sound v =
+      (entries ≡ history_of v) × (authors ≡ authors_of v) × (marks ≡ marks_of v) × sound
 
   abbrev pub session_of : ℕ → Grab E → ℕ
   session_of number Free = number
@@ -209,11 +215,23 @@ module _ {E : Type 0} where
 
   -- what v keeps of u, which is joined to it
   abbrev pub note_of : View E → View E → Joined E
-  note_of v u = record { number = u.number; seen = u.seen; beside = v.seen; commits = u.commits; stop = u.stop }
+  note_of v u =
+      record {
+        number = u.number;
+        seen = u.seen;
+        beside = v.seen;
+        commits = u.commits;
+        stop = u.stop;
+      }
 
   -- the two views after a join
   abbrev pub both : View E → View E → View E
-  both v u = record v { seats = v.seats + u.seats; seen = longer v.seen u.seen; joined = v.joined ++ note_of v u ∷ u.joined }
+  both v u =
+      record v {
+        seats = v.seats + u.seats;
+        seen = longer v.seen u.seen;
+        joined = v.joined ++ note_of v u ∷ u.joined;
+      }
 
   abbrev pub spent : View E
   spent = record (starting 0 [] 0) { seats = 0 }
@@ -229,10 +247,24 @@ module _ {E : Type 0} where
   noted v m = record v { next = Some m }
 
   abbrev pub added : View E → List E → List ℕ → ℕ → View E
-  added v entries authors t = record v { turn = Some (story entries authors (named_of v)); seen = entries; commits = v.commits ++ t ∷ []; tried = Some [] }
+  added v entries authors t =
+      record v {
+        turn = Some (story entries authors (named_of v));
+        seen = entries;
+        commits = v.commits ++ t ∷ [];
+        tried = Some [];
+      }
 
   abbrev pub ended : View E → View E
-  ended v = record v { ticket = None; turn = None; next = None; tried = None; stop = (marks_of v).stop; covered = (marks_of v).covered }
+  ended v =
+      record v {
+        ticket = None;
+        turn = None;
+        next = None;
+        tried = None;
+        stop = (marks_of v).stop;
+        covered = (marks_of v).covered;
+      }
 
   abbrev pub counted : View E → List E → View E
   counted v l = record v { seen = l; loads = v.loads + 1 }
@@ -249,7 +281,8 @@ module _ {E : Type 0} where
   found v l = record v { grab = Found l (Full l); last_found = Some l }
 
   abbrev pub let_go : View E → Bool → View E
-  let_go v kept = record v { grab = Free; seen = cond kept (longer v.seen (found_of v.grab)) v.seen }
+  let_go v kept =
+      record v { grab = Free; seen = cond kept (longer v.seen (found_of v.grab)) v.seen }
 
   -- the session's mail word was grabbed by the holder of the turn, or found at 1
   abbrev pub writing : View E → ℕ → List E → View E
@@ -274,19 +307,26 @@ module _ {E : Type 0} where
 
   -- what a look tells, by whether the seat had the turn: w is the view after it, and n the word
   abbrev pub Looks : (List E → Type 0) → Option (Story E) → View E → ℕ → View E → Type 0
-  Looks lawful None v n w = (v.ticket ≡ Some n → (y : Story E) × (w ≡ began v y) × IsTold lawful v y) × (v.ticket ≢ Some n → w ≡ v)
+  Looks lawful None v n w =
+      (v.ticket ≡ Some n → (y : Story E) × (w ≡ began v y) × IsTold lawful v y)
+      × (v.ticket ≢ Some n → w ≡ v)
   Looks lawful (Some h) v n w = (w ≡ v) × (v.ticket ≡ Some n)
 
   -- What holds of slot 0's value as the board is closed, beside that its history is lawful and that it is sound: v is the last view of the first seat, to which all others were joined
-  pub record IsWhole (entries : List E) (authors : List ℕ) (marks : Marks) (v : View E) : Type 0 where
+  pub record IsWhole (entries : List E) (authors : List ℕ) (marks : Marks) (v : View E)
+      : Type 0 where
     pub seen : StartsWith entries v.seen
     pub counted : v.start + 1 + length authors ≡ length entries
     pub commits : v.commits ≡ commits_of v.number (v.start + 1) authors
-    pub joined_seen : (k : ℕ) (p : Joined E) → get_elem? v.joined k ≡ some p → StartsWith entries p.seen × StartsWith entries p.beside
-    pub joined : (k : ℕ) (p : Joined E) → get_elem? v.joined k ≡ some p → p.commits ≡ commits_of p.number (v.start + 1) authors
+    pub joined_seen : (k : ℕ) (p : Joined E) → get_elem? v.joined k ≡ some p
+        → StartsWith entries p.seen × StartsWith entries p.beside
+    pub joined : (k : ℕ) (p : Joined E) → get_elem? v.joined k ≡ some p
+        → p.commits ≡ commits_of p.number (v.start + 1) authors
     pub unwritten : (z : ℕ) → v.given ≤ z → z ≢ worker → commits_of z (v.start + 1) authors ≡ []
     pub stop : (p : Stop) → v.stop ≡ Some p → marks.stop ≡ Some p
     pub own_stop : (p : Stop) → marks.stop ≡ Some p → v.number ≡ p.author → v.stop ≡ Some p
-    pub joined_stop : (k : ℕ) (p : Joined E) (q : Stop) → get_elem? v.joined k ≡ some p → p.stop ≡ Some q → marks.stop ≡ Some q
-    pub joined_own_stop : (k : ℕ) (p : Joined E) (q : Stop) → get_elem? v.joined k ≡ some p → marks.stop ≡ Some q → p.number ≡ q.author → p.stop ≡ Some q
+    pub joined_stop : (k : ℕ) (p : Joined E) (q : Stop) → get_elem? v.joined k ≡ some p
+        → p.stop ≡ Some q → marks.stop ≡ Some q
+    pub joined_own_stop : (k : ℕ) (p : Joined E) (q : Stop) → get_elem? v.joined k ≡ some p
+        → marks.stop ≡ Some q → p.number ≡ q.author → p.stop ≡ Some q
     pub covered : v.covered ≡ marks.covered

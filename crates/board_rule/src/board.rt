@@ -38,9 +38,13 @@ impl<H: Named, S: Mailed + Named<Entry = H::Entry>> TableRule<SlotValue<H, S>, V
     ghost use Rattle.board_rule.specs.Views.{codes, starting, IsSoundSince};
     ghost use Rattle.board_rule.specs.Board.{naming, Ruled};
 
-    ghost holds = { λ k. Ruled (naming H.Entry.row.coded.code H.entries H.authors H.marks H.follows (IsSoundSince H.sound H.origin k.home.value) S.entries) k.sessions k.start };
+    ghost holds = { λ k. Ruled
+        (naming H.Entry.row.coded.code H.entries H.authors H.marks H.follows
+        (IsSoundSince H.sound H.origin k.home.value) S.entries)
+        k.sessions k.start };
 
-    ghost first = { λ k. starting k.start (codes H.Entry.row.coded.code (H.entries k.home.value)) (H.marks k.home.value).covered };
+    ghost first = { λ k. starting k.start (codes H.Entry.row.coded.code (H.entries k.home.value))
+        (H.marks k.home.value).covered };
 }
 
 /// The table of all seats of one history. `H` is the type of slot 0's value, and `S` that of a mailed snapshot.

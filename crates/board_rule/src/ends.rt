@@ -54,7 +54,8 @@ fn core_of<H: Drop, S: Drop>(place: SlotValue<H, S>) -> H
 
 /// Drops what the mail slots have.
 fn clear<S: Drop>(mut closed: Closed<S, Global>)
-    requires full { (k : ℕ) → 1 ≤ k → k < slots_len closed.slots → slice_index_or (slots_filled closed.slots) k false ≡ true }
+    requires full { (k : ℕ) → 1 ≤ k → k < slots_len closed.slots
+        → slice_index_or (slots_filled closed.slots) k false ≡ true }
     requires taken { slice_index_or (slots_filled closed.slots) 0 false ≡ false }
 {
     let mut i = 1;
@@ -73,12 +74,18 @@ impl<H: Named, S: Mailed + Named<Entry = H::Entry>> Board<H, S> {
         basis: u32,
         mailed: Mails<S>,
     ) -> Result<(Board<H, S>, BoardSeat), Memory>
-        requires history { (basis + 1 ≡ length (H.entries home)) × IsLawful H.follows (H.entries home) }
+        requires history { (basis + 1 ≡ length (H.entries home))
+            × IsLawful H.follows (H.entries home) }
         requires home { (H.authors home ≡ []) × ((H.marks home).stop ≡ None) × H.sound home }
-        requires mailed { All (λ s. S.entries s ≡ H.entries home) mailed × (length mailed < 2147483648) }
-        ensures board { IfOk result (λ r. (board_of r.1 ≡ r.0.table.shared.table_id) × (r.0.table.shared.key.sessions ≡ length mailed) × (r.0.table.shared.key.start ≡ basis)) }
+        requires mailed { All (λ s. S.entries s ≡ H.entries home) mailed
+            × (length mailed < 2147483648) }
+        ensures board { IfOk result (λ r. (board_of r.1 ≡ r.0.table.shared.table_id)
+            × (r.0.table.shared.key.sessions ≡ length mailed)
+            × (r.0.table.shared.key.start ≡ basis)) }
         ensures home { IfOk result (λ r. r.0.table.shared.key.home.value ≡ home) }
-        ensures seat { IfOk result (λ r. view_of r.1 ≡ starting basis (codes H.Entry.row.coded.code (H.entries home)) (H.marks home).covered) }
+        ensures seat { IfOk result (λ r. view_of r.1
+            ≡ starting basis (codes H.Entry.row.coded.code (H.entries home))
+            (H.marks home).covered) }
     {
         let mailed = mailed.into_vec();
         let sessions = mailed.len();
@@ -113,7 +120,8 @@ impl<H: Named, S: Mailed + Named<Entry = H::Entry>> Board<H, S> {
         ensures lawful { IsLawful H.follows (H.entries result) }
         ensures sound { H.sound result }
         ensures origin { H.origin result ≡ H.origin self.table.shared.key.home.value }
-        ensures whole { IsWhole (codes H.Entry.row.coded.code (H.entries result)) (H.authors result) (H.marks result) (view_of seat) }
+        ensures whole { IsWhole (codes H.Entry.row.coded.code (H.entries result)) (H.authors result)
+            (H.marks result) (view_of seat) }
     {
         let Board { table } = self;
         let BoardSeat {

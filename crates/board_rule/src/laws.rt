@@ -15,7 +15,9 @@ pub fn equal_codes_are_of_equal_lists<A>()
 
 /// And a list of entries begins with another where its codes begin with those of the other.
 pub fn a_beginning_in_codes_is_one_in_entries<A>()
-    ensures { (l first : List A) → StartsWith (codes A.row.coded.code l) (codes A.row.coded.code first) → StartsWith l first }
+    ensures { (l first : List A)
+        → StartsWith (codes A.row.coded.code l) (codes A.row.coded.code first)
+        → StartsWith l first }
 {}
 
 /// What a beginning of a list begins with, the list does.
@@ -25,24 +27,30 @@ pub fn a_beginning_of_a_beginning_is_one<A>()
 
 /// A join writes its note behind those that the seat has, and the notes of the other seat behind it.
 pub fn a_join_adds_its_note_behind_the_others()
-    ensures stay { (v u : View Code) (k : ℕ) (p : Joined Code) → get_elem? v.joined k ≡ some p → get_elem? (both v u).joined k ≡ some p }
-    ensures added { (v u : View Code) → get_elem? (both v u).joined (length v.joined) ≡ some (note_of v u) }
-    ensures taken { (v u : View Code) (k : ℕ) (p : Joined Code) → get_elem? u.joined k ≡ some p → get_elem? (both v u).joined (length v.joined + 1 + k) ≡ some p }
+    ensures stay { (v u : View Code) (k : ℕ) (p : Joined Code) → get_elem? v.joined k ≡ some p
+        → get_elem? (both v u).joined k ≡ some p }
+    ensures added { (v u : View Code)
+        → get_elem? (both v u).joined (length v.joined) ≡ some (note_of v u) }
+    ensures taken { (v u : View Code) (k : ℕ) (p : Joined Code) → get_elem? u.joined k ≡ some p
+        → get_elem? (both v u).joined (length v.joined + 1 + k) ≡ some p }
 {}
 
 /// An entry's t is among its author's commits.
 pub fn each_entry_is_a_commit_of_its_author()
-    ensures { (n t i : ℕ) (who : List ℕ) → get_elem? who i ≡ some n → (k : ℕ) × (get_elem? (commits_of n t who) k ≡ some (t + i)) }
+    ensures { (n t i : ℕ) (who : List ℕ) → get_elem? who i ≡ some n
+        → (k : ℕ) × (get_elem? (commits_of n t who) k ≡ some (t + i)) }
 {}
 
 /// And a commit is an entry of that author.
 pub fn each_commit_is_an_entry_of_that_author()
-    ensures { (n t k u : ℕ) (who : List ℕ) → get_elem? (commits_of n t who) k ≡ some u → (i : ℕ) × (u ≡ t + i) × (get_elem? who i ≡ some n) }
+    ensures { (n t k u : ℕ) (who : List ℕ) → get_elem? (commits_of n t who) k ≡ some u
+        → (i : ℕ) × (u ≡ t + i) × (get_elem? who i ≡ some n) }
 {}
 
 /// A seat's commits strictly rise.
 pub fn commits_rise()
-    ensures { (n t k u w : ℕ) (who : List ℕ) → get_elem? (commits_of n t who) k ≡ some u → get_elem? (commits_of n t who) (k + 1) ≡ some w → u < w }
+    ensures { (n t k u w : ℕ) (who : List ℕ) → get_elem? (commits_of n t who) k ≡ some u
+        → get_elem? (commits_of n t who) (k + 1) ≡ some w → u < w }
 {}
 
 /// Trying the sessions from the last down to the first tries each of them.

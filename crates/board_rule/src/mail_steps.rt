@@ -22,7 +22,8 @@ pub fn step_reader_grab<H: Named, S: Mailed + Named<Entry = H::Entry>>(
     requires session { (view_of seat.old).number < board.now.table.shared.key.sessions }
     requires free { (view_of seat.old).grab ≡ Free }
     ensures seat { board_of seat.new ≡ board_of seat.old }
-    ensures won { MatchBool result (view_of seat.new ≡ grabbed (view_of seat.old)) (view_of seat.new ≡ passed (view_of seat.old)) }
+    ensures won { MatchBool result (view_of seat.new ≡ grabbed (view_of seat.old))
+        (view_of seat.new ≡ passed (view_of seat.old)) }
 {
     let word = seat.number as usize + 3;
     let mut opened = open(&mut seat.badge);
@@ -45,7 +46,8 @@ pub fn step_reader_let_go<H: Named, S: Mailed + Named<Entry = H::Entry>>(
     requires may { MayLetGo (view_of seat.old).grab }
     ensures seat { board_of seat.new ≡ board_of seat.old }
     ensures let_go { view_of seat.new ≡ let_go (view_of seat.old) kept }
-    ensures seen { StartsWith (view_of seat.new).seen (view_of seat.old).seen × (IsTrue kept → StartsWith (view_of seat.new).seen (found_of (view_of seat.old).grab)) }
+    ensures seen { StartsWith (view_of seat.new).seen (view_of seat.old).seen
+        × (IsTrue kept → StartsWith (view_of seat.new).seen (found_of (view_of seat.old).grab)) }
 {
     let word = seat.number as usize + 3;
     let mut opened = open(&mut seat.badge);
@@ -71,7 +73,9 @@ pub fn step_holder_grab<H: Named, S: Mailed + Named<Entry = H::Entry>>(
     requires session { session < board.now.table.shared.key.sessions }
     requires free { (view_of seat.old).grab ≡ Free }
     ensures seat { board_of seat.new ≡ board_of seat.old }
-    ensures won { MatchBool result ((l : List Code) × (view_of seat.new ≡ writing (view_of seat.old) session l)) (view_of seat.new ≡ skipped (view_of seat.old) session) }
+    ensures won { MatchBool result
+        ((l : List Code) × (view_of seat.new ≡ writing (view_of seat.old) session l))
+        (view_of seat.new ≡ skipped (view_of seat.old) session) }
 {
     let mut opened = open(&mut seat.badge);
     let met = board
@@ -91,7 +95,8 @@ pub fn step_holder_let_go<H: Named, S: Mailed + Named<Entry = H::Entry>>(
     requires seat { board_of seat.old ≡ board.now.table.shared.table_id }
     requires turn { HasTurn (view_of seat.old) }
     requires session { session < board.now.table.shared.key.sessions }
-    requires whole { (view_of seat.old).grab ≡ Writing session (Full (history_of (view_of seat.old))) }
+    requires whole { (view_of seat.old).grab
+        ≡ Writing session (Full (history_of (view_of seat.old))) }
     ensures seat { board_of seat.new ≡ board_of seat.old }
     ensures free { view_of seat.new ≡ record (view_of seat.old) { grab = Free } }
 {
@@ -114,8 +119,13 @@ pub fn step_mail<H: Named, S: Mailed + Named<Entry = H::Entry>>(
     requires session { session < board.now.table.shared.key.sessions }
     requires may { MayMove (view_of seat.old).number session (view_of seat.old).grab }
     ensures seat { board_of seat.new ≡ board_of seat.old }
-    ensures put { view_of seat.new ≡ record (view_of seat.old) { grab = refilled (view_of seat.old).grab (filled_by (λ s. codes H.Entry.row.coded.code (S.entries s)) put) } }
-    ensures was { MailHas (λ s. codes H.Entry.row.coded.code (S.entries s)) (content_of (view_of seat.old).grab) result }
+    ensures put { view_of seat.new
+        ≡ record (view_of seat.old) {
+          grab = refilled (view_of seat.old).grab
+              (filled_by (λ s. codes H.Entry.row.coded.code (S.entries s)) put);
+        } }
+    ensures was { MailHas (λ s. codes H.Entry.row.coded.code (S.entries s))
+        (content_of (view_of seat.old).grab) result }
 {
     let shared = &board.table.shared;
     let (word, slot) = (session as usize + 3, session as usize + 1);

@@ -95,7 +95,8 @@ pub(crate) struct TakeCore<H, B> {
 }
 
 impl<H: Named, S, B: PickedOrigin<H>> Play<SlotValue<H, S>, View<Code>> for TakeCore<H, B> {
-    ghost then = { takes_core (λ h. Fits (codes H.Entry.row.coded.code (H.entries h)) (H.authors h) (H.marks h) (H.sound h × B.kept h)) };
+    ghost then = { takes_core (λ h. Fits (codes H.Entry.row.coded.code (H.entries h)) (H.authors h)
+        (H.marks h) (H.sound h × B.kept h)) };
 }
 
 pub(crate) struct PutCore;

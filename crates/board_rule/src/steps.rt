@@ -25,7 +25,9 @@ use std::mem;
 /// The seat of the table, which a badge that stands for no seat replaces.
 pub(crate) fn open<H, S>(badge: &mut Badge<View<Code>>) -> Seat<SlotValue<H, S>, View<Code>>
     requires { badge.old.views ≡ first_of badge.old.views ∷ [] }
-    ensures { (result.table_id ≡ badge.old.table_id) × (result.id ≡ badge.old.id) × (result.me ≡ (first_of badge.old.views, [])) }
+    ensures { (result.table_id ≡ badge.old.table_id)
+        × (result.id ≡ badge.old.id)
+        × (result.me ≡ (first_of badge.old.views, [])) }
 {
     mem::replace(badge, Badge::blank()).into_seat()
 }
@@ -57,7 +59,8 @@ fn look<H: Named, S: Mailed + Named<Entry = H::Entry>>(
 ) -> u64
     requires { board_of seat.old ≡ board.now.table.shared.table_id }
     ensures seat { board_of seat.new ≡ board_of seat.old }
-    ensures looks { Looks (AreLawful H.Entry.row.coded.code H.follows) (view_of seat.old).turn (view_of seat.old) result (view_of seat.new) }
+    ensures looks { Looks (AreLawful H.Entry.row.coded.code H.follows) (view_of seat.old).turn
+        (view_of seat.old) result (view_of seat.new) }
 {
     let mut opened = open(&mut seat.badge);
     let served = board.table.shared.load::<Look<H>>(&mut opened, 1);
@@ -72,7 +75,9 @@ fn note_marks<H: Named, S: Mailed + Named<Entry = H::Entry>, B: PickedMarks>(
 ) -> u64
     requires picked { B.marks ≡ H.marks _home.now }
     requires seat { board_of seat.old ≡ board.now.table.shared.table_id }
-    requires may { HasTurn (view_of seat.old) × ((view_of seat.old).core ≡ Away) × MayMark (view_of seat.old).number (named_of (view_of seat.old)) (H.marks _home.now) }
+    requires may { HasTurn (view_of seat.old)
+        × ((view_of seat.old).core ≡ Away)
+        × MayMark (view_of seat.old).number (named_of (view_of seat.old)) (H.marks _home.now) }
     ensures seat { board_of seat.new ≡ board_of seat.old }
     ensures noted { view_of seat.new ≡ noted (view_of seat.old) (H.marks _home.now) }
 {
@@ -106,7 +111,8 @@ pub fn step_look<H: Named, S: Mailed + Named<Entry = H::Entry>>(
     requires seat { board_of seat.old ≡ board.now.table.shared.table_id }
     requires may { MayNote H.marks note (view_of seat.old) }
     ensures seat { board_of seat.new ≡ board_of seat.old }
-    ensures notes { Notes (AreLawful H.Entry.row.coded.code H.follows) H.marks note.entry (view_of seat.old) result (view_of seat.new) }
+    ensures notes { Notes (AreLawful H.Entry.row.coded.code H.follows) H.marks note.entry
+        (view_of seat.old) result (view_of seat.new) }
 {
     match note {
         Note::Nothing => look(board, seat),
@@ -121,14 +127,22 @@ fn store_count<H: Named, S: Mailed + Named<Entry = H::Entry>, B: PickedHistory>(
     _home: &H,
     basis: u32,
 )
-    requires picked { (B.entries ≡ codes H.Entry.row.coded.code (H.entries _home.now)) × (B.authors ≡ H.authors _home.now) }
+    requires picked { (B.entries ≡ codes H.Entry.row.coded.code (H.entries _home.now))
+        × (B.authors ≡ H.authors _home.now) }
     requires seat { board_of seat.old ≡ board.now.table.shared.table_id }
     requires turn { HasTurn (view_of seat.old) × ((view_of seat.old).core ≡ Away) }
-    requires entry { (l : List H.Entry) × (e : H.Entry) × (codes H.Entry.row.coded.code l ≡ history_of (view_of seat.old)) × (H.entries _home.now ≡ l ++ e ∷ []) × H.follows l e }
-    requires author { H.authors _home.now ≡ authors_of (view_of seat.old) ++ (view_of seat.old).number ∷ [] }
+    requires entry { (l : List H.Entry)
+        × (e : H.Entry)
+        × (codes H.Entry.row.coded.code l ≡ history_of (view_of seat.old))
+        × (H.entries _home.now ≡ l ++ e ∷ [])
+        × H.follows l e }
+    requires author { H.authors _home.now
+        ≡ authors_of (view_of seat.old) ++ (view_of seat.old).number ∷ [] }
     requires basis { basis + 1 ≡ length (H.entries _home.now) }
     ensures seat { board_of seat.new ≡ board_of seat.old }
-    ensures added { view_of seat.new ≡ added (view_of seat.old) (codes H.Entry.row.coded.code (H.entries _home.now)) (H.authors _home.now) basis }
+    ensures added { view_of seat.new
+        ≡ added (view_of seat.old) (codes H.Entry.row.coded.code (H.entries _home.now))
+        (H.authors _home.now) basis }
 {
     let mut opened = open(&mut seat.badge);
     board
@@ -146,11 +160,21 @@ pub fn step_commit<H: Named, S: Mailed + Named<Entry = H::Entry>>(
 )
     requires seat { board_of seat.old ≡ board.now.table.shared.table_id }
     requires turn { HasTurn (view_of seat.old) × ((view_of seat.old).core ≡ Away) }
-    requires entry { (l : List H.Entry) × (e : H.Entry) × (codes H.Entry.row.coded.code l ≡ history_of (view_of seat.old)) × (H.entries home.now ≡ l ++ e ∷ []) × H.follows l e }
-    requires author { H.authors home.now ≡ authors_of (view_of seat.old) ++ (view_of seat.old).number ∷ [] }
-    requires open { ((named_of (view_of seat.old)).stop ≡ None) × ((marks_of (view_of seat.old)).stop ≡ None) }
+    requires entry { (l : List H.Entry)
+        × (e : H.Entry)
+        × (codes H.Entry.row.coded.code l ≡ history_of (view_of seat.old))
+        × (H.entries home.now ≡ l ++ e ∷ [])
+        × H.follows l e }
+    requires author { H.authors home.now
+        ≡ authors_of (view_of seat.old) ++ (view_of seat.old).number ∷ [] }
+    requires open { ((named_of (view_of seat.old)).stop ≡ None)
+        × ((marks_of (view_of seat.old)).stop ≡ None) }
     ensures seat { board_of seat.new ≡ board_of seat.old }
-    ensures added { (t : ℕ) × (t + 1 ≡ length (H.entries home.now)) × (view_of seat.new ≡ added (view_of seat.old) (codes H.Entry.row.coded.code (H.entries home.now)) (H.authors home.now) t) }
+    ensures added { (t : ℕ)
+        × (t + 1 ≡ length (H.entries home.now))
+        × (view_of seat.new
+        ≡ added (view_of seat.old) (codes H.Entry.row.coded.code (H.entries home.now))
+        (H.authors home.now) t) }
 {
     let basis = home.basis();
     store_count::<H, S, Brand>(board, seat, home, basis);
@@ -188,7 +212,11 @@ pub fn step_count<H: Named, S: Mailed + Named<Entry = H::Entry>>(
 ) -> u32
     requires { board_of seat.old ≡ board.now.table.shared.table_id }
     ensures seat { board_of seat.new ≡ board_of seat.old }
-    ensures counted { (l : List Code) × (view_of seat.new ≡ counted (view_of seat.old) l) × (result + 1 ≡ length l) × StartsWith l (view_of seat.old).seen × (HasTurn (view_of seat.old) → l ≡ history_of (view_of seat.old)) }
+    ensures counted { (l : List Code)
+        × (view_of seat.new ≡ counted (view_of seat.old) l)
+        × (result + 1 ≡ length l)
+        × StartsWith l (view_of seat.old).seen
+        × (HasTurn (view_of seat.old) → l ≡ history_of (view_of seat.old)) }
 {
     let mut opened = open(&mut seat.badge);
     let count = board.table.shared.load::<LoadCount>(&mut opened, 2);
@@ -201,13 +229,19 @@ fn move_core<H: Named, S: Mailed + Named<Entry = H::Entry>, B: PickedOrigin<H>>(
     seat: &mut BoardSeat,
     put: Option<H>,
 ) -> Option<H>
-    requires picked { (h : H) → H.origin h ≡ H.origin board.now.table.shared.key.home.value → B.kept h }
+    requires picked { (h : H) → H.origin h ≡ H.origin board.now.table.shared.key.home.value
+        → B.kept h }
     requires seat { board_of seat.old ≡ board.now.table.shared.table_id }
     requires turn { HasTurn (view_of seat.old) }
-    requires fits { IfSome put (λ h. Fits (codes H.Entry.row.coded.code (H.entries h)) (H.authors h) (H.marks h) (IsSoundSince H.sound H.origin board.now.table.shared.key.home.value h) (view_of seat.old)) }
+    requires fits { IfSome put (λ h. Fits (codes H.Entry.row.coded.code (H.entries h)) (H.authors h)
+        (H.marks h) (IsSoundSince H.sound H.origin board.now.table.shared.key.home.value h)
+        (view_of seat.old)) }
     ensures seat { board_of seat.new ≡ board_of seat.old }
     ensures put { view_of seat.new ≡ record (view_of seat.old) { core = at_of put } }
-    ensures was { CoreHas (λ h. Fits (codes H.Entry.row.coded.code (H.entries h)) (H.authors h) (H.marks h) (H.sound h × B.kept h) (view_of seat.old)) (view_of seat.old).core result }
+    ensures was { CoreHas
+        (λ h. Fits (codes H.Entry.row.coded.code (H.entries h)) (H.authors h) (H.marks h)
+        (H.sound h × B.kept h) (view_of seat.old))
+        (view_of seat.old).core result }
 {
     let shared = &board.table.shared;
     let mut opened = open(&mut seat.badge);
@@ -228,10 +262,15 @@ pub fn step_core<H: Named, S: Mailed + Named<Entry = H::Entry>>(
 ) -> Option<H>
     requires seat { board_of seat.old ≡ board.now.table.shared.table_id }
     requires turn { HasTurn (view_of seat.old) }
-    requires fits { IfSome put (λ h. Fits (codes H.Entry.row.coded.code (H.entries h)) (H.authors h) (H.marks h) (IsSoundSince H.sound H.origin board.now.table.shared.key.home.value h) (view_of seat.old)) }
+    requires fits { IfSome put (λ h. Fits (codes H.Entry.row.coded.code (H.entries h)) (H.authors h)
+        (H.marks h) (IsSoundSince H.sound H.origin board.now.table.shared.key.home.value h)
+        (view_of seat.old)) }
     ensures seat { board_of seat.new ≡ board_of seat.old }
     ensures put { view_of seat.new ≡ record (view_of seat.old) { core = at_of put } }
-    ensures was { CoreHas (λ h. Fits (codes H.Entry.row.coded.code (H.entries h)) (H.authors h) (H.marks h) (IsSoundSince H.sound H.origin board.now.table.shared.key.home.value h) (view_of seat.old)) (view_of seat.old).core result }
+    ensures was { CoreHas
+        (λ h. Fits (codes H.Entry.row.coded.code (H.entries h)) (H.authors h) (H.marks h)
+        (IsSoundSince H.sound H.origin board.now.table.shared.key.home.value h) (view_of seat.old))
+        (view_of seat.old).core result }
 {
     move_core::<H, S, Brand>(board, seat, put)
 }
@@ -268,7 +307,8 @@ pub fn step_join<H: Named, S: Mailed + Named<Entry = H::Entry>>(
     seat: &mut BoardSeat,
     other: BoardSeat,
 )
-    requires seat { (board_of seat.old ≡ board.now.table.shared.table_id) × (board_of other ≡ board.now.table.shared.table_id) }
+    requires seat { (board_of seat.old ≡ board.now.table.shared.table_id)
+        × (board_of other ≡ board.now.table.shared.table_id) }
     requires tickets { ((view_of seat.old).ticket ≡ None) × ((view_of other).ticket ≡ None) }
     requires free { ((view_of seat.old).grab ≡ Free) × ((view_of other).grab ≡ Free) }
     ensures seat { board_of seat.new ≡ board_of seat.old }

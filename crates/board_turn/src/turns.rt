@@ -40,7 +40,11 @@ fn look<'a, H: Named, S: Mailed + Named<Entry = H::Entry>>(
     requires seat { board_of seat.old ≡ board.now.table.shared.table_id }
     requires waits { (view_of seat.old).turn ≡ None }
     ensures seat { board_of seat.new ≡ board_of seat.old }
-    ensures turn { MatchOption result ((y : Story Code) × (view_of seat.new ≡ began (view_of seat.old) y) × IsTold (AreLawful H.Entry.row.coded.code H.follows) (view_of seat.old) y) (λ _. view_of seat.new ≡ view_of seat.old) }
+    ensures turn { MatchOption result
+        ((y : Story Code)
+        × (view_of seat.new ≡ began (view_of seat.old) y)
+        × IsTold (AreLawful H.Entry.row.coded.code H.follows) (view_of seat.old) y)
+        (λ _. view_of seat.new ≡ view_of seat.old) }
 {
     let ticket = seat.ticket();
     let nothing: Note<'a, H> = Note::Nothing;
@@ -60,7 +64,11 @@ fn comes_soon<H: Named, S: Mailed + Named<Entry = H::Entry>>(
     requires seat { board_of seat.old ≡ board.now.table.shared.table_id }
     requires waits { (view_of seat.old).turn ≡ None }
     ensures seat { board_of seat.new ≡ board_of seat.old }
-    ensures turn { MatchBool result ((y : Story Code) × (view_of seat.new ≡ began (view_of seat.old) y) × IsTold (AreLawful H.Entry.row.coded.code H.follows) (view_of seat.old) y) (view_of seat.new ≡ view_of seat.old) }
+    ensures turn { MatchBool result
+        ((y : Story Code)
+        × (view_of seat.new ≡ began (view_of seat.old) y)
+        × IsTold (AreLawful H.Entry.row.coded.code H.follows) (view_of seat.old) y)
+        (view_of seat.new ≡ view_of seat.old) }
 {
     for _ in 0..LOOKS {
         if look(board, seat).is_none() {
@@ -80,7 +88,9 @@ fn sleep_until_turn<H: Named, S: Mailed + Named<Entry = H::Entry>, R: Wait>(
     requires seat { board_of seat.old ≡ board.now.table.shared.table_id }
     requires waits { (view_of seat.old).turn ≡ None }
     ensures seat { board_of seat.new ≡ board_of seat.old }
-    ensures turn { (y : Story Code) × (view_of seat.new ≡ began (view_of seat.old) y) × IsTold (AreLawful H.Entry.row.coded.code H.follows) (view_of seat.old) y }
+    ensures turn { (y : Story Code)
+        × (view_of seat.new ≡ began (view_of seat.old) y)
+        × IsTold (AreLawful H.Entry.row.coded.code H.follows) (view_of seat.old) y }
 {
     for _ in rt.forever() {
         match look(board, seat) {
@@ -99,7 +109,9 @@ fn wait_for_turn<H: Named, S: Mailed + Named<Entry = H::Entry>, R: Wait>(
     requires seat { board_of seat.old ≡ board.now.table.shared.table_id }
     requires waits { (view_of seat.old).turn ≡ None }
     ensures seat { board_of seat.new ≡ board_of seat.old }
-    ensures turn { (y : Story Code) × (view_of seat.new ≡ began (view_of seat.old) y) × IsTold (AreLawful H.Entry.row.coded.code H.follows) (view_of seat.old) y }
+    ensures turn { (y : Story Code)
+        × (view_of seat.new ≡ began (view_of seat.old) y)
+        × IsTold (AreLawful H.Entry.row.coded.code H.follows) (view_of seat.old) y }
 {
     if comes_soon(board, seat) {
         return;
@@ -118,8 +130,12 @@ pub fn turn<H: Named, S: Mailed + Named<Entry = H::Entry>, R: Wait>(
     requires ticket { (t : ℕ) × ((view_of seat.old).ticket ≡ Some t) }
     requires waits { (view_of seat.old).turn ≡ None }
     ensures seat { board_of seat.new ≡ board_of seat.old }
-    ensures holding { view_of seat.new ≡ holding (view_of seat.old) (codes H.Entry.row.coded.code (H.entries result.home)) (H.authors result.home) (H.marks result.home) }
-    ensures told { IsTold (AreLawful H.Entry.row.coded.code H.follows) (view_of seat.old) (story (codes H.Entry.row.coded.code (H.entries result.home)) (H.authors result.home) (H.marks result.home)) }
+    ensures holding { view_of seat.new
+        ≡ holding (view_of seat.old) (codes H.Entry.row.coded.code (H.entries result.home))
+        (H.authors result.home) (H.marks result.home) }
+    ensures told { IsTold (AreLawful H.Entry.row.coded.code H.follows) (view_of seat.old)
+        (story (codes H.Entry.row.coded.code (H.entries result.home)) (H.authors result.home)
+        (H.marks result.home)) }
     ensures lawful { IsLawful H.follows (H.entries result.home) }
     ensures sound { H.sound result.home }
     ensures origin { H.origin result.home ≡ H.origin board.now.table.shared.key.home.value }
@@ -139,12 +155,23 @@ pub fn commit<H: Named, S: Mailed + Named<Entry = H::Entry>>(
 )
     requires seat { board_of seat.old ≡ board.now.table.shared.table_id }
     requires turn { HasTurn (view_of seat.old) × ((view_of seat.old).core ≡ Away) }
-    requires entry { (l : List H.Entry) × (e : H.Entry) × (codes H.Entry.row.coded.code l ≡ history_of (view_of seat.old)) × (H.entries held.old.home ≡ l ++ e ∷ []) × H.follows l e }
-    requires author { H.authors held.old.home ≡ authors_of (view_of seat.old) ++ (view_of seat.old).number ∷ [] }
-    requires open { ((named_of (view_of seat.old)).stop ≡ None) × ((marks_of (view_of seat.old)).stop ≡ None) × ((H.marks held.old.home).stop ≡ None) }
+    requires entry { (l : List H.Entry)
+        × (e : H.Entry)
+        × (codes H.Entry.row.coded.code l ≡ history_of (view_of seat.old))
+        × (H.entries held.old.home ≡ l ++ e ∷ [])
+        × H.follows l e }
+    requires author { H.authors held.old.home
+        ≡ authors_of (view_of seat.old) ++ (view_of seat.old).number ∷ [] }
+    requires open { ((named_of (view_of seat.old)).stop ≡ None)
+        × ((marks_of (view_of seat.old)).stop ≡ None)
+        × ((H.marks held.old.home).stop ≡ None) }
     ensures seat { board_of seat.new ≡ board_of seat.old }
     ensures held { held.new ≡ held.old }
-    ensures added { (t : ℕ) × (t + 1 ≡ length (H.entries held.old.home)) × (view_of seat.new ≡ added (view_of seat.old) (codes H.Entry.row.coded.code (H.entries held.old.home)) (H.authors held.old.home) t) }
+    ensures added { (t : ℕ)
+        × (t + 1 ≡ length (H.entries held.old.home))
+        × (view_of seat.new
+        ≡ added (view_of seat.old) (codes H.Entry.row.coded.code (H.entries held.old.home))
+        (H.authors held.old.home) t) }
 {
     step_commit(board, seat, &held.home);
 }
@@ -157,8 +184,11 @@ pub fn leave<H: Named, S: Mailed + Named<Entry = H::Entry>>(
 )
     requires seat { board_of seat.old ≡ board.now.table.shared.table_id }
     requires turn { HasTurn (view_of seat.old) × ((view_of seat.old).core ≡ Away) }
-    requires history { (codes H.Entry.row.coded.code (H.entries held.home) ≡ history_of (view_of seat.old)) × (H.authors held.home ≡ authors_of (view_of seat.old)) }
-    requires marks { MayMark (view_of seat.old).number (named_of (view_of seat.old)) (H.marks held.home) }
+    requires history { (codes H.Entry.row.coded.code (H.entries held.home)
+        ≡ history_of (view_of seat.old))
+        × (H.authors held.home ≡ authors_of (view_of seat.old)) }
+    requires marks { MayMark (view_of seat.old).number (named_of (view_of seat.old))
+        (H.marks held.home) }
     requires sound { H.sound held.home }
     requires origin { H.origin held.home ≡ H.origin board.now.table.shared.key.home.value }
     requires free { (view_of seat.old).grab ≡ Free }
@@ -180,7 +210,11 @@ pub fn count<H: Named, S: Mailed + Named<Entry = H::Entry>>(
 ) -> u32
     requires { board_of seat.old ≡ board.now.table.shared.table_id }
     ensures seat { board_of seat.new ≡ board_of seat.old }
-    ensures counted { (l : List Code) × (view_of seat.new ≡ counted (view_of seat.old) l) × (result + 1 ≡ length l) × StartsWith l (view_of seat.old).seen × (HasTurn (view_of seat.old) → l ≡ history_of (view_of seat.old)) }
+    ensures counted { (l : List Code)
+        × (view_of seat.new ≡ counted (view_of seat.old) l)
+        × (result + 1 ≡ length l)
+        × StartsWith l (view_of seat.old).seen
+        × (HasTurn (view_of seat.old) → l ≡ history_of (view_of seat.old)) }
 {
     step_count(board, seat)
 }

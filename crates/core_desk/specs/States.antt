@@ -12,7 +12,8 @@ abbrev pub most_calls : ℕ
 most_calls = 2 ^ 32
 
 abbrev pub tally_of : Counts → Tally
-tally_of counts = record { glances = counts.glances; syncs = counts.syncs; unaccepted = counts.unaccepted }
+tally_of counts =
+    record { glances = counts.glances; syncs = counts.syncs; unaccepted = counts.unaccepted }
 
 -- it sees the core's latest value, and is never told of a log that stopped
 abbrev pub state_of : CoreDesk → State

@@ -61,9 +61,11 @@ impl CoreDesk {
     /// The core, in which the session wrote each entry since the opening. It takes no memory.
     pub fn close(self) -> Core
         ensures entries { result.snapshot.entries ≡ (state_of self).entries }
-        ensures each_t { (state_of self).opening + length result.authors ≡ basis result.snapshot.entries }
+        ensures each_t { (state_of self).opening + length result.authors
+            ≡ basis result.snapshot.entries }
         ensures by_session { AllByRecursion (λ author. author ≡ 0) result.authors }
-        ensures commits { (state_of self).commits ≡ commits_behind (state_of self).opening 0 result.authors }
+        ensures commits { (state_of self).commits
+            ≡ commits_behind (state_of self).opening 0 result.authors }
         ensures stands { CoreStands result }
     {
         // A core that is asked tells that it stands for its history.

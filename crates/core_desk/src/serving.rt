@@ -36,8 +36,10 @@ impl CoreDesk {
         requires room { vec_len self.old.commits < vec_capacity self.old.commits }
         requires snapshot { snapshot ≡ draft.after }
         ensures goes_on { GoesOn (state_of self.old) (state_of self.new) }
-        ensures entries { (state_of self.new).entries ≡ (state_of self.old).entries ++ entry_of draft ∷ [] }
-        ensures commits { (state_of self.new).commits ≡ (state_of self.old).commits ++ result.t ∷ [] }
+        ensures entries { (state_of self.new).entries
+            ≡ (state_of self.old).entries ++ entry_of draft ∷ [] }
+        ensures commits { (state_of self.new).commits
+            ≡ (state_of self.old).commits ++ result.t ∷ [] }
         ensures tally { (state_of self.new).tally ≡ (state_of self.old).tally }
         ensures t { result.t ≡ basis (state_of self.new).entries }
         ensures instant { result.instant ≡ (entry_of draft).instant }

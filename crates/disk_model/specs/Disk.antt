@@ -4,7 +4,8 @@ use Rattle.std.specs.Prelude.{◌≡◌, ◌⊎◌, ◌<◌, ◌≤◌, ◌+◌,
 
 -- A write puts its bytes at this place, over what is there and past the end. A gap behind the old end reads as zeros.
 abbrev pub written : ℕ → List ℕ → List ℕ → List ℕ
-written at piece file = take at file ++ replicate (at - length file) 0 ++ piece ++ drop (at + length piece) file
+written at piece file =
+    take at file ++ replicate (at - length file) 0 ++ piece ++ drop (at + length piece) file
 
 -- What a crash may make of an image while n bytes are written at this place, and until a sync: any bytes in the
 -- written range and past the old end, some length between, and every other byte as it was.
@@ -45,14 +46,18 @@ pub record Reads (file : List ℕ) (at room count : ℕ) (placed : List ℕ) : T
 
 -- Time goes on over a call: a crash since a moment before it leaves what a crash since then could leave before the
 -- call, or what a crash may leave after it.
-pub record Elapses (before now : ℕ) (past since : ℕ → List ℕ → Type 0) (images : List ℕ → Type 0) : Type 0 where
+pub record Elapses (before now : ℕ) (past since : ℕ → List ℕ → Type 0) (images : List ℕ → Type 0)
+    : Type 0 where
   pub later : before ≤ now
-  pub nothing_else : (t : ℕ) (image : List ℕ) → t ≤ before → since t image → past t image ⊎ images image
+  pub nothing_else : (t : ℕ) (image : List ℕ) → t ≤ before → since t image
+      → past t image ⊎ images image
   pub keeps : (t : ℕ) (image : List ℕ) → t ≤ before → past t image → since t image
 
 -- Over any number of calls: a crash at any moment since the old state leaves an image that has P.
-pub record LeavesOnly {D : Type 0} (moment : D → ℕ) (since : D → ℕ → List ℕ → Type 0) (old new : D) (P : List ℕ → Type 0) : Type 0 where
+pub record LeavesOnly {D : Type 0} (moment : D → ℕ) (since : D → ℕ → List ℕ → Type 0) (old new : D)
+    (P : List ℕ → Type 0) : Type 0 where
   pub later : moment old ≤ moment new
   pub each : (image : List ℕ) → since new (moment old) image → P image
   -- for a run that began earlier
-  pub before : (t : ℕ) (image : List ℕ) → t ≤ moment old → since new t image → since old t image ⊎ P image
+  pub before : (t : ℕ) (image : List ℕ) → t ≤ moment old → since new t image
+      → since old t image ⊎ P image

@@ -17,7 +17,9 @@ pub written-past : written 3 (9 ∷ []) (1 ∷ []) ≡ 1 ∷ 0 ∷ 0 ∷ 9 ∷ [
 written-past = refl
 
 -- what a read gives after a write, a cut, a sync and a write
-pub replayed-four : replayed (wrote 0 (1 ∷ 2 ∷ 3 ∷ []) ∷ cut_to 1 ∷ synced ∷ wrote 2 (9 ∷ []) ∷ []) [] ≡ 1 ∷ 0 ∷ 9 ∷ []
+pub replayed-four : replayed (wrote 0 (1 ∷ 2 ∷ 3 ∷ []) ∷ cut_to 1 ∷ synced ∷ wrote 2 (9 ∷ []) ∷ [])
+    []
+    ≡ 1 ∷ 0 ∷ 9 ∷ []
 replayed-four = refl
 
 pub length-log_mark : length log_mark ≡ 15
@@ -35,7 +37,8 @@ record_of-hi = refl
 
 -- a log with this record alone, as bytes
 pub log-hi : log_mark ++ opened (hi ∷ []) ++ 0 ∷ []
-    ≡ 0x46 ∷ 0x41 ∷ 0x43 ∷ 0x54 ∷ 0x42 ∷ 0x41 ∷ 0x53 ∷ 0x45 ∷ 0x20 ∷ 0x4c ∷ 0x4f ∷ 0x47 ∷ 0x20 ∷ 0x31 ∷ 0x0a ∷ 1 ∷ 0 ∷ 0 ∷ 0 ∷ 0 ∷ 0 ∷ 0 ∷ 0 ∷ 2 ∷ 104 ∷ 105 ∷ 0 ∷ []
+    ≡ 0x46 ∷ 0x41 ∷ 0x43 ∷ 0x54 ∷ 0x42 ∷ 0x41 ∷ 0x53 ∷ 0x45 ∷ 0x20 ∷ 0x4c ∷ 0x4f ∷ 0x47 ∷ 0x20
+    ∷ 0x31 ∷ 0x0a ∷ 1 ∷ 0 ∷ 0 ∷ 0 ∷ 0 ∷ 0 ∷ 0 ∷ 0 ∷ 2 ∷ 104 ∷ 105 ∷ 0 ∷ []
 log-hi = refl
 
 pub length-new_journal : length (new_journal log_mark) ≡ 16

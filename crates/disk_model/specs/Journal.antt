@@ -42,7 +42,8 @@ pub record Holds (mark : List ℕ) (records : List (List ℕ)) (file : List ℕ)
 
 -- What a file stands for: at most sixteen bytes are a new journal.
 abbrev pub JournalStands : List ℕ → List (List ℕ) → List ℕ → Type 0
-JournalStands mark records file = ((length file ≤ 16) × (records ≡ [])) ⊎ ((16 < length file) × Holds mark records file)
+JournalStands mark records file =
+    ((length file ≤ 16) × (records ≡ [])) ⊎ ((16 < length file) × Holds mark records file)
 
 -- Behind an open gate there is no length, or one that leaves no room for the payload and the next gate.
 abbrev pub IsCutShort : List ℕ → Type 0
@@ -50,7 +51,8 @@ IsCutShort rest = (length rest < 8) ⊎ (length rest < 8 + from_be_bytes w64 (ta
 
 -- The first fault lies behind these records. The records are counted from 0, as bytes are, and the fault is at the first
 -- byte of the length.
-pub record BreaksBehind (mark : List ℕ) (records : List (List ℕ)) (file : List ℕ) (nth at : ℕ) : Type 0 where
+pub record BreaksBehind (mark : List ℕ) (records : List (List ℕ)) (file : List ℕ) (nth at : ℕ)
+    : Type 0 where
   pub rest : List ℕ
   pub bytes : file ≡ mark ++ opened records ++ 1 ∷ rest
   pub short : IsCutShort rest
@@ -61,4 +63,5 @@ pub record BreaksBehind (mark : List ℕ) (records : List (List ℕ)) (file : Li
 -- What a file that stands for no records breaks: another mark is record 0, at byte 0.
 abbrev pub JournalBreaks : List ℕ → List (List ℕ) → List ℕ → ℕ → ℕ → Type 0
 JournalBreaks mark records file nth at = (16 < length file)
-    × (((take (length mark) file ≢ mark) × (records ≡ []) × (nth ≡ 0) × (at ≡ 0)) ⊎ BreaksBehind mark records file nth at)
+    × (((take (length mark) file ≢ mark) × (records ≡ []) × (nth ≡ 0) × (at ≡ 0))
+    ⊎ BreaksBehind mark records file nth at)

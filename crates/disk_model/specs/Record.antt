@@ -31,7 +31,9 @@ MayMake synced file old new = new ≡ file
 abbrev pub MayLeaveFrom : List Change → List ℕ → List ℕ → List ℕ → Type 0
 MayLeaveFrom [] file from image = image ≡ from
 MayLeaveFrom (change ∷ changes) file from image =
-    (next : List ℕ) × MayMake change file from next × MayLeaveFrom changes (changed change file) next image
+    (next : List ℕ)
+    × MayMake change file from next
+    × MayLeaveFrom changes (changed change file) next image
 
 -- What a crash after these changes may leave of a file that was on the disk before them.
 abbrev pub MayLeave : List ℕ → List Change → List ℕ → Type 0
@@ -40,4 +42,7 @@ MayLeave file changes image = MayLeaveFrom changes file file image
 -- What a crash may have left at some moment since there were so many changes.
 abbrev pub MayHaveLeft : List ℕ → List Change → ℕ → List ℕ → Type 0
 MayHaveLeft file changes since image =
-    (moment : ℕ) × (since ≤ moment) × (moment ≤ length changes) × MayLeave file (take moment changes) image
+    (moment : ℕ)
+    × (since ≤ moment)
+    × (moment ≤ length changes)
+    × MayLeave file (take moment changes) image

@@ -30,7 +30,8 @@ pub record Parts (Are Join : List (List CodeToken) → Type 0) : Type 0 where
   pub joins : Join parts
 
 -- a key's code and a value's, joined
-pub record IsPairCode (IsKey IsValue : List CodeToken → Type 0) (code : List CodeToken) : Type 0 where
+pub record IsPairCode (IsKey IsValue : List CodeToken → Type 0) (code : List CodeToken)
+    : Type 0 where
   pub key : List CodeToken
   pub value : List CodeToken
   pub is_key : IsKey key
@@ -42,7 +43,8 @@ module _ (cmp : CodeToken → CodeToken → Ordering) where
   IsRising = Rises (λ a b. is_lt (slice_cmp cmp a b))
 
   -- the parts in the order of tokens, joined
-  pub record InOrder (front : ℕ → CodeToken) (parts : List (List CodeToken)) (code : List CodeToken) : Type 0 where
+  pub record InOrder (front : ℕ → CodeToken) (parts : List (List CodeToken)) (code : List CodeToken)
+      : Type 0 where
     pub sorted : List (List CodeToken)
     pub shuffled : IsPermutation parts sorted
     pub rises : IsRising sorted
@@ -56,8 +58,10 @@ module _ (cmp : CodeToken → CodeToken → Ordering) where
     IsCode (form.string s) code = code ≡ Str (spelled s) ∷ []
     IsCode (form.symbol s) code = code ≡ Sym (spelled s) ∷ []
     IsCode (form.keyword k) code = code ≡ Key (spelled k) ∷ []
-    IsCode (form.list fs) code = Parts (AreCodes fs) (λ parts. code ≡ joined (Sequence (length parts)) parts)
-    IsCode (form.vector fs) code = Parts (AreCodes fs) (λ parts. code ≡ joined (Sequence (length parts)) parts)
+    IsCode (form.list fs) code =
+        Parts (AreCodes fs) (λ parts. code ≡ joined (Sequence (length parts)) parts)
+    IsCode (form.vector fs) code =
+        Parts (AreCodes fs) (λ parts. code ≡ joined (Sequence (length parts)) parts)
     IsCode (form.map ps) code = Parts (ArePairCodes ps) (λ parts. InOrder Map parts code)
     IsCode (form.set fs) code = Parts (AreCodes fs) (λ parts. InOrder Set parts code)
     IsCode (form.instant z) code = code ≡ Inst z ∷ []
@@ -73,4 +77,5 @@ module _ (cmp : CodeToken → CodeToken → Ordering) where
     ArePairCodes form.no_pairs [] = Unit {0}
     ArePairCodes form.no_pairs (c ∷ cs) = ⊥
     ArePairCodes (form.pair k v ps) [] = ⊥
-    ArePairCodes (form.pair k v ps) (c ∷ cs) = IsPairCode (IsCode k) (IsCode v) c × ArePairCodes ps cs
+    ArePairCodes (form.pair k v ps) (c ∷ cs) =
+        IsPairCode (IsCode k) (IsCode v) c × ArePairCodes ps cs

@@ -12,4 +12,6 @@ keys_of = map (λ p. form_of p.0)
 abbrev pub IsFirstTwice : List form.Form → Option ℕ → Type 0
 IsFirstTwice fs None = IsTrue (distinct (form.forms fs))
 IsFirstTwice fs (Some i) =
-    (i < length fs) × IsTrue (distinct (form.forms (take i fs))) × (any (alike (get_or fs i form.nil)) (form.forms (take i fs)) ≡ true)
+    (i < length fs)
+    × IsTrue (distinct (form.forms (take i fs)))
+    × (any (alike (get_or fs i form.nil)) (form.forms (take i fs)) ≡ true)

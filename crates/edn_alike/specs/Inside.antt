@@ -25,4 +25,5 @@ abbrev mutual
 
   pub ArePairsDistinctInside : form.Pairs → Type 0
   ArePairsDistinctInside form.no_pairs = Unit {0}
-  ArePairsDistinctInside (form.pair k v ps) = IsDistinctInside k × IsDistinctInside v × ArePairsDistinctInside ps
+  ArePairsDistinctInside (form.pair k v ps) =
+      IsDistinctInside k × IsDistinctInside v × ArePairsDistinctInside ps

@@ -15,7 +15,9 @@ use Rattle.edn_alike.specs.declared.token.CodeToken.{CodeToken}
 pub record AreSaid (fs : form.Forms) (keys : List Coded) : Type 0 where
   pub codes : List (List CodeToken)
   pub are : AreCodes token_cmp fs codes
-  pub same : (q : Coded) → list_any (λ k. is_eq (slice_cmp token_cmp (tokens_of q) (tokens_of k))) keys ≡ list_any (eq_by_cmp (slice_cmp token_cmp) (tokens_of q)) codes
+  pub same : (q : Coded)
+      → list_any (λ k. is_eq (slice_cmp token_cmp (tokens_of q) (tokens_of k))) keys
+      ≡ list_any (eq_by_cmp (slice_cmp token_cmp) (tokens_of q)) codes
 
 abbrev pub HasSaid : form.Forms → Said → Type 0
 HasSaid fs said = AreSaid fs said.codes.keys

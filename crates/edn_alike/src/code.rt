@@ -36,7 +36,8 @@ pub fn code(alloc: Global, form: &Edn) -> Result<Vec<CodeToken>, Memory>
 
 /// The one token that is the code of a form which holds no other.
 pub(crate) fn only_token(form: &Edn) -> Result<Option<CodeToken>, Memory>
-    ensures { IfOk result (λ found. IfSome found (λ token. IsCode token_cmp (form_of form.now) (token ∷ []))) }
+    ensures { IfOk result
+        (λ found. IfSome found (λ token. IsCode token_cmp (form_of form.now) (token ∷ []))) }
 {
     Ok(match form {
         Edn::Nil => Some(CodeToken::Nil),
@@ -54,7 +55,8 @@ pub(crate) fn only_token(form: &Edn) -> Result<Option<CodeToken>, Memory>
 /// The codes of forms, in the order of these.
 #[cycle(code)]
 fn codes(alloc: Global, items: &[Edn]) -> Result<Vec<Vec<CodeToken>>, Memory>
-    ensures { IfOk result (λ cs. AreCodes token_cmp (model.forms (forms_of items.now)) (map vec_items cs.items)) }
+    ensures { IfOk result
+        (λ cs. AreCodes token_cmp (model.forms (forms_of items.now)) (map vec_items cs.items)) }
 {
     let mut codes = Vec::with_capacity(alloc, items.len())?;
     for item in items.iter() {
@@ -66,7 +68,8 @@ fn codes(alloc: Global, items: &[Edn]) -> Result<Vec<Vec<CodeToken>>, Memory>
 /// The codes of a map's pairs, each as a sequence of its key and its value.
 #[cycle(code)]
 fn pair_codes(alloc: Global, pairs: &[(Edn, Edn)]) -> Result<Vec<Vec<CodeToken>>, Memory>
-    ensures { IfOk result (λ cs. ArePairCodes token_cmp (model.pairs (pairs_of pairs.now)) (map vec_items cs.items)) }
+    ensures { IfOk result
+        (λ cs. ArePairCodes token_cmp (model.pairs (pairs_of pairs.now)) (map vec_items cs.items)) }
 {
     let mut codes = Vec::with_capacity(alloc, pairs.len())?;
     for (key, value) in pairs.iter() {
@@ -76,7 +79,11 @@ fn pair_codes(alloc: Global, pairs: &[(Edn, Edn)]) -> Result<Vec<Vec<CodeToken>>
 }
 
 /// The code of a key and its value, as a part of a map.
-pub fn pair(alloc: Global, key: Vec<CodeToken>, value: Vec<CodeToken>) -> Result<Vec<CodeToken>, Memory>
+pub fn pair(
+    alloc: Global,
+    key: Vec<CodeToken>,
+    value: Vec<CodeToken>,
+) -> Result<Vec<CodeToken>, Memory>
     ensures { IfOk result (λ c. c.items ≡ joined (Sequence 2) (key.items ∷ value.items ∷ [])) }
 {
     let mut tokens = single(alloc, CodeToken::Sequence(2))?;
@@ -88,7 +95,8 @@ pub fn pair(alloc: Global, key: Vec<CodeToken>, value: Vec<CodeToken>) -> Result
 
 /// The code of a list or a vector, from its members' codes.
 pub fn sequence(alloc: Global, parts: Vec<Vec<CodeToken>>) -> Result<Vec<CodeToken>, Memory>
-    ensures { IfOk result (λ c. c.items ≡ joined (Sequence (length (map vec_items parts.items))) (map vec_items parts.items)) }
+    ensures { IfOk result (λ c. c.items
+        ≡ joined (Sequence (length (map vec_items parts.items))) (map vec_items parts.items)) }
 {
     let front = CodeToken::Sequence(parts.len());
     join(alloc, front, parts)
@@ -113,7 +121,8 @@ pub fn map(alloc: Global, parts: Vec<Vec<CodeToken>>) -> Result<Vec<CodeToken>, 
 }
 
 fn sorted(parts: Vec<Vec<CodeToken>>) -> Result<Vec<Vec<CodeToken>>, Memory>
-    ensures shuffled { IfOk result (λ s. IsPermutation (map vec_items parts.items) (map vec_items s.items)) }
+    ensures shuffled { IfOk result
+        (λ s. IsPermutation (map vec_items parts.items) (map vec_items s.items)) }
     ensures rises { IfOk result (λ s. IsRising token_cmp (map vec_items s.items)) }
 {
     let mut parts = parts;
@@ -121,7 +130,11 @@ fn sorted(parts: Vec<Vec<CodeToken>>) -> Result<Vec<Vec<CodeToken>>, Memory>
     Ok(parts)
 }
 
-fn join(alloc: Global, front: CodeToken, parts: Vec<Vec<CodeToken>>) -> Result<Vec<CodeToken>, Memory>
+fn join(
+    alloc: Global,
+    front: CodeToken,
+    parts: Vec<Vec<CodeToken>>,
+) -> Result<Vec<CodeToken>, Memory>
     ensures { IfOk result (λ c. c.items ≡ joined front (map vec_items parts.items)) }
 {
     let mut tokens = single(alloc, front)?;

@@ -46,7 +46,8 @@ impl Eq for Coded {
 impl PartialOrd for Coded {
     ghost partial_cmp = { as_partial_cmp (on tokens_of (slice_cmp token_cmp)) };
 
-    ghost laws = { partial_order_from_own_ties (Prim.search (comparing, rules, token_total)) (Prim.search (comparing, rules, token_total)) };
+    ghost laws = { partial_order_from_own_ties (Prim.search (comparing, rules, token_total))
+        (Prim.search (comparing, rules, token_total)) };
 
     fn partial_cmp(&self, other: &Coded) -> Option<Ordering> {
         Some(self.cmp(other))

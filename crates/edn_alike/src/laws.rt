@@ -19,12 +19,14 @@ pub fn tokens_are_ordered()
 
 /// Forms of one code are alike, and of alike forms, inside the first of which nothing is said twice, the codes are one.
 pub fn alike_forms_have_one_code()
-    ensures are_alike { (f g : Form) (s : List CodeToken) → IsCode token_cmp f s → IsCode token_cmp g s → alike f g ≡ true }
+    ensures are_alike { (f g : Form) (s : List CodeToken) → IsCode token_cmp f s
+        → IsCode token_cmp g s → alike f g ≡ true }
     ensures one_code { (f g : Form) (s t : List CodeToken) → IsDistinctInside f → alike f g ≡ true
         → IsCode token_cmp f s → IsCode token_cmp g t → s ≡ t }
 {}
 
 /// In a form that has a text nothing is said twice.
 pub fn texts_say_nothing_twice()
-    ensures { (depth : ℕ) (f : Form) (here rest : List ℕ) → Text depth f here rest → IsDistinctInside f }
+    ensures { (depth : ℕ) (f : Form) (here rest : List ℕ) → Text depth f here rest
+        → IsDistinctInside f }
 {}

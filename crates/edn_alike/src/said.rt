@@ -34,9 +34,11 @@ impl Said {
     /// Says one more form, by its code, and answers whether none alike to it was said before. After an error the form may
     /// not count as said.
     pub fn say(&mut self, code: Vec<CodeToken>) -> Result<bool, Memory>
-        ensures fresh { (fs : model.Forms) (f : model.Form) → HasSaid fs self.old → IsCode token_cmp f code.items
-            → IsDistinctInside f → IfOk result (λ fresh. fresh ≡ not (any (alike f) fs)) }
-        ensures said { (fs : model.Forms) (f : model.Form) → HasSaid fs self.old → IsCode token_cmp f code.items
+        ensures fresh { (fs : model.Forms) (f : model.Form) → HasSaid fs self.old
+            → IsCode token_cmp f code.items → IsDistinctInside f
+            → IfOk result (λ fresh. fresh ≡ not (any (alike f) fs)) }
+        ensures said { (fs : model.Forms) (f : model.Form) → HasSaid fs self.old
+            → IsCode token_cmp f code.items
             → IfOk result (λ fresh. HasSaid (model.with_last fs f) self.new) }
     {
         let fresh = self.codes.insert(Coded::Many(code))?;
@@ -45,9 +47,11 @@ impl Said {
 
     /// The same of a code of one token, which needs no list.
     fn say_token(&mut self, token: CodeToken) -> Result<bool, Memory>
-        ensures fresh { (fs : model.Forms) (f : model.Form) → HasSaid fs self.old → IsCode token_cmp f (token ∷ [])
-            → IsDistinctInside f → IfOk result (λ fresh. fresh ≡ not (any (alike f) fs)) }
-        ensures said { (fs : model.Forms) (f : model.Form) → HasSaid fs self.old → IsCode token_cmp f (token ∷ [])
+        ensures fresh { (fs : model.Forms) (f : model.Form) → HasSaid fs self.old
+            → IsCode token_cmp f (token ∷ []) → IsDistinctInside f
+            → IfOk result (λ fresh. fresh ≡ not (any (alike f) fs)) }
+        ensures said { (fs : model.Forms) (f : model.Form) → HasSaid fs self.old
+            → IsCode token_cmp f (token ∷ [])
             → IfOk result (λ fresh. HasSaid (model.with_last fs f) self.new) }
     {
         let fresh = self.codes.insert(Coded::One(token))?;
@@ -56,7 +60,8 @@ impl Said {
 
     /// Says one more form, and answers whether none alike to it was said before. After an error it may not count as said.
     pub fn say_form(&mut self, alloc: Global, form: &Edn) -> Result<bool, Memory>
-        ensures fresh { (fs : model.Forms) → HasSaid fs self.old → IsDistinctInside (form_of form.now)
+        ensures fresh { (fs : model.Forms) → HasSaid fs self.old
+            → IsDistinctInside (form_of form.now)
             → IfOk result (λ fresh. fresh ≡ not (any (alike (form_of form.now)) fs)) }
         ensures said { (fs : model.Forms) → HasSaid fs self.old
             → IfOk result (λ fresh. HasSaid (model.with_last fs (form_of form.now)) self.new) }

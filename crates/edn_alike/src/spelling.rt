@@ -41,7 +41,8 @@ impl Eq for Spelling {
 impl PartialOrd for Spelling {
     ghost partial_cmp = { as_partial_cmp (on (λ s. s.text) (slice_cmp nat_cmp)) };
 
-    ghost laws = { partial_order_from_own_ties (Prim.search (comparing, rules)) (Prim.search (comparing, rules)) };
+    ghost laws = { partial_order_from_own_ties (Prim.search (comparing, rules))
+        (Prim.search (comparing, rules)) };
 
     fn partial_cmp(&self, other: &Spelling) -> Option<Ordering> {
         Some(self.cmp(other))

@@ -24,7 +24,8 @@ MatchFault None fault = Unit {0}
 
 -- a fact of the form and the place behind its text, one where there is none, and one of a fault and its byte; want of
 -- memory says nothing
-abbrev pub MatchAnswer : Result (Option (Edn × ℕ)) EdnFault → (Form → ℕ → Type 0) → Type 0 → (model.Fault → ℕ → Type 0) → Type 0
+abbrev pub MatchAnswer : Result (Option (Edn × ℕ)) EdnFault → (Form → ℕ → Type 0) → Type 0
+    → (model.Fault → ℕ → Type 0) → Type 0
 MatchAnswer (Ok (Some p)) read end fault = read (form_of p.0) p.1
 MatchAnswer (Ok None) read end fault = end
 MatchAnswer (Err e) read end fault = MatchFault (fault_of e) fault
@@ -34,14 +35,18 @@ MatchAnswer (Err e) read end fault = MatchFault (fault_of e) fault
 pub record ReadsTo (bytes : List ℕ) (at : ℕ) (f : Form) (next : ℕ) : Type 0 where
   pub ahead : at < next
   pub within : next ≤ length bytes
-  pub runs : steps.Reaches (steps.going steps.outermost (drop at bytes)) (steps.ended (steps.read f (drop next bytes)))
+  pub runs : steps.Reaches (steps.going steps.outermost (drop at bytes))
+      (steps.ended (steps.read f (drop next bytes)))
 
 pub record FailsAt (bytes : List ℕ) (at : ℕ) (why : model.Fault) (byte : ℕ) : Type 0 where
   pub ahead : at ≤ byte
   pub within : byte ≤ length bytes
-  pub runs : steps.Reaches (steps.going steps.outermost (drop at bytes)) (steps.ended (steps.fault why (drop byte bytes)))
+  pub runs : steps.Reaches (steps.going steps.outermost (drop at bytes))
+      (steps.ended (steps.fault why (drop byte bytes)))
 
 -- what the steps from a place on come to
 abbrev pub Answers : List ℕ → ℕ → Result (Option (Edn × ℕ)) EdnFault → Type 0
 Answers bytes at result =
-    MatchAnswer result (ReadsTo bytes at) (steps.Reaches (steps.going steps.outermost (drop at bytes)) (steps.ended steps.nothing)) (FailsAt bytes at)
+    MatchAnswer result (ReadsTo bytes at)
+    (steps.Reaches (steps.going steps.outermost (drop at bytes)) (steps.ended steps.nothing))
+    (FailsAt bytes at)

@@ -41,14 +41,16 @@ abbrev pub KeptOpen : Construct → Type 0
 KeptOpen (List' v) = AreDistinctInside (model.forms (forms_of v.items))
 KeptOpen (Vector v) = AreDistinctInside (model.forms (forms_of v.items))
 KeptOpen (Map v None said) =
-    HasSaid (keys (model.pairs (pairs_of v.items))) said × IsTrue (distinct (keys (model.pairs (pairs_of v.items))))
+    HasSaid (keys (model.pairs (pairs_of v.items))) said
+    × IsTrue (distinct (keys (model.pairs (pairs_of v.items))))
     × ArePairsDistinctInside (model.pairs (pairs_of v.items))
 KeptOpen (Map v (Some key) said) =
     HasSaid (model.with_last (keys (model.pairs (pairs_of v.items))) (form_of key)) said
     × IsTrue (distinct (model.with_last (keys (model.pairs (pairs_of v.items))) (form_of key)))
     × ArePairsDistinctInside (model.pairs (pairs_of v.items)) × IsDistinctInside (form_of key)
 KeptOpen (Set v said) =
-    HasSaid (model.forms (forms_of v.items)) said × IsTrue (distinct (model.forms (forms_of v.items)))
+    HasSaid (model.forms (forms_of v.items)) said
+    × IsTrue (distinct (model.forms (forms_of v.items)))
     × AreDistinctInside (model.forms (forms_of v.items))
 KeptOpen Discard = Unit {0}
 KeptOpen Inst = Unit {0}
@@ -68,11 +70,14 @@ Kept start last (f ∷ fs) = KeptFrame start last f × Kept start last fs
 abbrev pub Becomes : Construct → model.Form → Construct → Type 0
 Becomes o f p =
     KeptOpen p
-    × ((outer : Frames) (opened at rest : List ℕ) → land (frame (open_of o) opened outer) f at rest ≡ going (frame (open_of p) opened outer) rest)
+    × ((outer : Frames) (opened at rest : List ℕ)
+    → land (frame (open_of o) opened outer) f at rest ≡ going (frame (open_of p) opened outer) rest)
 
 -- a form alike to it was said before
 abbrev pub IsAgain : Construct → model.Form → Type 0
-IsAgain o f = (outer : Frames) (opened at rest : List ℕ) → land (frame (open_of o) opened outer) f at rest ≡ ended (fault faults.bad at)
+IsAgain o f =
+    (outer : Frames) (opened at rest : List ℕ)
+    → land (frame (open_of o) opened outer) f at rest ≡ ended (fault faults.bad at)
 
 -- a whole form, from one place up to the next, makes the one construct of the other, or is said again; want of memory
 -- says nothing
@@ -90,10 +95,14 @@ IsRead form next _ = ⊥
 
 -- a discard has its form, and is over; so would be a tag
 abbrev pub EndsWith : Construct → model.Form → Type 0
-EndsWith o f = (outer : Frames) (opened at rest : List ℕ) → land (frame (open_of o) opened outer) f at rest ≡ going outer rest
+EndsWith o f =
+    (outer : Frames) (opened at rest : List ℕ)
+    → land (frame (open_of o) opened outer) f at rest ≡ going outer rest
 
 abbrev pub ClosesAs : Construct → ℕ → model.Form → Type 0
-ClosesAs o b f = ((outer : List faults.Open) → faults.closes (open_of o ∷ outer) b ≡ true) × (f ≡ closed (open_of o))
+ClosesAs o b f =
+    ((outer : List faults.Open) → faults.closes (open_of o ∷ outer) b ≡ true)
+    × (f ≡ closed (open_of o))
 
 abbrev pub ClosesNothing : Construct → ℕ → Type 0
 ClosesNothing o b = (outer : List faults.Open) → faults.closes (open_of o ∷ outer) b ≡ false
@@ -101,18 +110,21 @@ ClosesNothing o b = (outer : List faults.Open) → faults.closes (open_of o ∷ 
 -- ---- what steps come to
 
 -- steps lead further, and what is open is kept
-pub record LeadsOn (bytes : List ℕ) (start here : ℕ) (begun : State) (next : ℕ) (frames : List Frame) : Type 0 where
+pub record LeadsOn (bytes : List ℕ) (start here : ℕ) (begun : State) (next : ℕ)
+    (frames : List Frame) : Type 0 where
   pub ahead : here < next
   pub within : next ≤ length bytes
   pub kept : Kept start (length bytes) frames
   pub runs : Reaches begun (going (frames_of bytes frames) (drop next bytes))
 
-pub record LeadsTo (bytes : List ℕ) (here : ℕ) (begun : State) (f : model.Form) (next : ℕ) : Type 0 where
+pub record LeadsTo (bytes : List ℕ) (here : ℕ) (begun : State) (f : model.Form) (next : ℕ)
+    : Type 0 where
   pub ahead : here < next
   pub within : next ≤ length bytes
   pub runs : Reaches begun (ended (read f (drop next bytes)))
 
-pub record LeadsAstray (bytes : List ℕ) (start : ℕ) (begun : State) (why : faults.Fault) (byte : ℕ) : Type 0 where
+pub record LeadsAstray (bytes : List ℕ) (start : ℕ) (begun : State) (why : faults.Fault) (byte : ℕ)
+    : Type 0 where
   pub ahead : start ≤ byte
   pub within : byte ≤ length bytes
   pub runs : Reaches begun (ended (fault why (drop byte bytes)))
@@ -120,9 +132,11 @@ pub record LeadsAstray (bytes : List ℕ) (start : ℕ) (begun : State) (why : f
 -- the steps from a state on come to this answer, behind a place, and leave these open
 abbrev pub Leads : List ℕ → ℕ → ℕ → State → Result Progress EdnFault → List Frame → Type 0
 Leads bytes start here begun (Ok (Further next)) frames = LeadsOn bytes start here begun next frames
-Leads bytes start here begun (Ok (Read form next)) frames = LeadsTo bytes here begun (form_of form.value) next
+Leads bytes start here begun (Ok (Read form next)) frames =
+    LeadsTo bytes here begun (form_of form.value) next
 Leads bytes start here begun (Ok End) frames = Reaches begun (ended nothing)
-Leads bytes start here begun (Err e) frames = MatchFault (fault_of e) (LeadsAstray bytes start begun)
+Leads bytes start here begun (Err e) frames =
+    MatchFault (fault_of e) (LeadsAstray bytes start begun)
 
 -- the same from a place on, with what is open there
 abbrev pub LeadsFrom : List ℕ → ℕ → List Frame → Result Progress EdnFault → List Frame → Type 0
@@ -133,7 +147,8 @@ LeadsFrom bytes at old result new =
 -- ---- what one step asks for
 
 -- a whole form, from a place up to the next
-pub record Whole (bytes : List ℕ) (start here at next : ℕ) (frames : List Frame) (form : model.Form) : Type 0 where
+pub record Whole (bytes : List ℕ) (start here at next : ℕ) (frames : List Frame) (form : model.Form)
+    : Type 0 where
   pub inside : IsDistinctInside form
   pub after : start ≤ at
   pub before : at ≤ length bytes
@@ -142,11 +157,13 @@ pub record Whole (bytes : List ℕ) (start here at next : ℕ) (frames : List Fr
   pub kept : Kept start (length bytes) frames
 
 -- a construct opens by a step, and its inside begins at the next place
-pub record Enters (bytes : List ℕ) (frames : List Frame) (o : Construct) (at next : ℕ) : Type 0 where
+pub record Enters (bytes : List ℕ) (frames : List Frame) (o : Construct) (at next : ℕ)
+    : Type 0 where
   pub ahead : at < next
   pub within : next ≤ length bytes
   pub kept : KeptOpen o
-  pub step : Step (going (frames_of bytes frames) (drop at bytes)) (going (frame (open_of o) (drop at bytes) (frames_of bytes frames)) (drop next bytes))
+  pub step : Step (going (frames_of bytes frames) (drop at bytes))
+      (going (frame (open_of o) (drop at bytes) (frames_of bytes frames)) (drop next bytes))
 
 -- the same, or nothing can go on where too many are open
 pub record Opens (bytes : List ℕ) (frames : List Frame) (o : Construct) (at next : ℕ) : Type 0 where

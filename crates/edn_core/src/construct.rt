@@ -34,7 +34,8 @@ pub(crate) struct Frame {
 
 /// Whether a form that is no string can't stand next, since the innermost construct is a tag.
 pub(crate) fn wants_string(frames: &[Frame]) -> bool
-    ensures { (bytes : List ℕ) → result ≡ faults.wants_string (opens_of (frames_of bytes frames.now)) }
+    ensures { (bytes : List ℕ)
+        → result ≡ faults.wants_string (opens_of (frames_of bytes frames.now)) }
 {
     match frames.split_last() {
         None => false,

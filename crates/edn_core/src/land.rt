@@ -28,8 +28,12 @@ pub(crate) fn put(
     at: usize,
     next: usize,
 ) -> Result<Progress, EdnFault>
-    ensures { (bytes : List ℕ) (start here : ℕ) → Whole bytes start here at next frames.old.items (form_of form)
-        → Leads bytes start here (steps.land (frames_of bytes frames.old.items) (form_of form) (drop at bytes) (drop next bytes)) result frames.new.items }
+    ensures { (bytes : List ℕ) (start here : ℕ)
+        → Whole bytes start here at next frames.old.items (form_of form)
+        → Leads bytes start here
+        (steps.land (frames_of bytes frames.old.items) (form_of form) (drop at bytes)
+        (drop next bytes))
+        result frames.new.items }
 {
     let Some(innermost) = frames.last_mut() else {
         return whole(alloc, form, next);
@@ -48,7 +52,8 @@ pub(crate) fn put(
 
 /// One more item stands behind the others.
 pub(crate) fn grow<T: Drop>(items: &mut Vec<T>, item: T, next: usize) -> Result<Progress, EdnFault>
-    ensures ok { IfOk result (λ p. (p ≡ Further next) × (items.new.items ≡ items.old.items ++ item ∷ [])) }
+    ensures ok { IfOk result
+        (λ p. (p ≡ Further next) × (items.new.items ≡ items.old.items ++ item ∷ [])) }
     ensures err { OnErr result (result ≡ Err EdnFault.Memory) }
 {
     match items.push(item) {
@@ -68,7 +73,8 @@ fn entry(
     next: usize,
 ) -> Result<Progress, EdnFault>
     ensures { KeptOpen (Map pairs.old waiting.old said.old) → IsDistinctInside (form_of form)
-        → LandsAs (Map pairs.old waiting.old said.old) (form_of form) at next result (Map pairs.new waiting.new said.new) }
+        → LandsAs (Map pairs.old waiting.old said.old) (form_of form) at next result
+        (Map pairs.new waiting.new said.new) }
 {
     match waiting.take() {
         Some(key) => grow(pairs, (key, form), next),
@@ -85,8 +91,10 @@ fn key(
     at: usize,
     next: usize,
 ) -> Result<Progress, EdnFault>
-    ensures { (pairs : Vec (Edn × Edn) Global) → KeptOpen (Map pairs None said.old) → IsDistinctInside (form_of form)
-        → LandsAs (Map pairs None said.old) (form_of form) at next result (Map pairs waiting.new said.new) }
+    ensures { (pairs : Vec (Edn × Edn) Global) → KeptOpen (Map pairs None said.old)
+        → IsDistinctInside (form_of form)
+        → LandsAs (Map pairs None said.old) (form_of form) at next result
+        (Map pairs waiting.new said.new) }
 {
     if said.say_form(alloc, &form)? {
         *waiting = Some(form);
@@ -117,7 +125,8 @@ fn member(
 
 /// The innermost construct is over, and the form goes.
 fn over(frames: &mut Vec<Frame>, form: Edn, next: usize) -> Result<Progress, EdnFault>
-    ensures { (result ≡ Ok (Further next)) × (frames.new.items ≡ take (vec_len frames.old - 1) frames.old.items) }
+    ensures { (result ≡ Ok (Further next))
+        × (frames.new.items ≡ take (vec_len frames.old - 1) frames.old.items) }
 {
     drop(form);
     drop(frames.pop());
@@ -142,7 +151,8 @@ pub(crate) fn close(
     at: usize,
     next: usize,
 ) -> Result<Progress, EdnFault>
-    ensures { (bytes : List ℕ) → at < next → next ≤ length bytes → drop at bytes ≡ bracket ∷ drop next bytes → is_closing bracket ≡ true
+    ensures { (bytes : List ℕ) → at < next → next ≤ length bytes
+        → drop at bytes ≡ bracket ∷ drop next bytes → is_closing bracket ≡ true
         → LeadsFrom bytes at frames.old.items result frames.new.items }
 {
     let Some(innermost) = frames.pop() else {
@@ -156,7 +166,9 @@ pub(crate) fn close(
 
 /// That a collection may open at a place: no tag wants a string there, and there is room.
 pub(crate) fn may_open(frames: &[Frame], at: usize) -> Result<(), EdnFault>
-    ensures free { (bytes : List ℕ) → IfOk result (λ _. Free (frames_of bytes frames.now) × HasRoom (frames_of bytes frames.now)) }
+    ensures free { (bytes : List ℕ)
+        → IfOk result
+        (λ _. Free (frames_of bytes frames.now) × HasRoom (frames_of bytes frames.now)) }
     ensures refused { (bytes : List ℕ) → IfErr result (RefusedAt at (frames_of bytes frames.now)) }
 {
     if wants_string(frames) {
@@ -175,7 +187,8 @@ pub(crate) fn begin(
     at: usize,
     next: usize,
 ) -> Result<Progress, EdnFault>
-    ensures { (bytes : List ℕ) → Opens bytes frames.old.items construct at next → LeadsFrom bytes at frames.old.items result frames.new.items }
+    ensures { (bytes : List ℕ) → Opens bytes frames.old.items construct at next
+        → LeadsFrom bytes at frames.old.items result frames.new.items }
 {
     if !has_room(frames.as_slice()) {
         return Err(EdnFault::Deep { at });

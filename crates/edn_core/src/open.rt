@@ -30,7 +30,8 @@ pub(crate) fn vector(
     at: usize,
     next: usize,
 ) -> Result<Progress, EdnFault>
-    ensures { (bytes : List ℕ) → next ≡ at + 1 → drop at bytes ≡ open_bracket ∷ drop 1 (drop at bytes)
+    ensures { (bytes : List ℕ) → next ≡ at + 1
+        → drop at bytes ≡ open_bracket ∷ drop 1 (drop at bytes)
         → LeadsFrom bytes at frames.old.items result frames.new.items }
 {
     may_open(frames.as_slice(), at)?;
@@ -58,7 +59,8 @@ pub(crate) fn set(
     at: usize,
     next: usize,
 ) -> Result<Progress, EdnFault>
-    ensures { (bytes : List ℕ) → next ≡ at + 2 → drop at bytes ≡ hash ∷ open_brace ∷ drop 2 (drop at bytes)
+    ensures { (bytes : List ℕ) → next ≡ at + 2
+        → drop at bytes ≡ hash ∷ open_brace ∷ drop 2 (drop at bytes)
         → LeadsFrom bytes at frames.old.items result frames.new.items }
 {
     may_open(frames.as_slice(), at)?;

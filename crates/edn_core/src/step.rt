@@ -56,7 +56,8 @@ fn take(
 
 /// The text ends here.
 fn end(frames: &[Frame], at: usize) -> Result<Progress, EdnFault>
-    ensures { (bytes : List ℕ) → drop at bytes ≡ [] → LeadsFrom bytes at frames.now result frames.now }
+    ensures { (bytes : List ℕ) → drop at bytes ≡ []
+        → LeadsFrom bytes at frames.now result frames.now }
 {
     if frames.is_empty() {
         Ok(Progress::End)

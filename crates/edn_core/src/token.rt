@@ -48,8 +48,10 @@ fn judged(
     at: usize,
     next: usize,
 ) -> Result<Progress, EdnFault>
-    ensures { (bytes : List ℕ) → at < next → next ≤ length bytes → TokenStands (drop at bytes) token.now (drop next bytes) → TokenEnds (drop next bytes)
-        → 0 < length token.now → Free (frames_of bytes frames.old.items) → LeadsFrom bytes at frames.old.items result frames.new.items }
+    ensures { (bytes : List ℕ) → at < next → next ≤ length bytes
+        → TokenStands (drop at bytes) token.now (drop next bytes) → TokenEnds (drop next bytes)
+        → 0 < length token.now → Free (frames_of bytes frames.old.items)
+        → LeadsFrom bytes at frames.old.items result frames.new.items }
 {
     match judge(token) {
         Token::Nil => put(alloc, frames, Edn::Nil, at, next),
@@ -73,9 +75,10 @@ fn symbol(
     at: usize,
     next: usize,
 ) -> Result<Progress, EdnFault>
-    ensures { (bytes : List ℕ) → IsAtom (model.symbol token.now) token.now → at < next → next ≤ length bytes
-        → TokenStands (drop at bytes) token.now (drop next bytes) → TokenEnds (drop next bytes)
-        → Free (frames_of bytes frames.old.items) → LeadsFrom bytes at frames.old.items result frames.new.items }
+    ensures { (bytes : List ℕ) → IsAtom (model.symbol token.now) token.now → at < next
+        → next ≤ length bytes → TokenStands (drop at bytes) token.now (drop next bytes)
+        → TokenEnds (drop next bytes) → Free (frames_of bytes frames.old.items)
+        → LeadsFrom bytes at frames.old.items result frames.new.items }
 {
     put(alloc, frames, Edn::Sym(Text::of(alloc, token)?), at, next)
 }
@@ -88,9 +91,10 @@ fn keyword(
     at: usize,
     next: usize,
 ) -> Result<Progress, EdnFault>
-    ensures { (bytes : List ℕ) → IsAtom (model.keyword (drop 1 token.now)) token.now → at < next → next ≤ length bytes
-        → TokenStands (drop at bytes) token.now (drop next bytes) → TokenEnds (drop next bytes)
-        → Free (frames_of bytes frames.old.items) → LeadsFrom bytes at frames.old.items result frames.new.items }
+    ensures { (bytes : List ℕ) → IsAtom (model.keyword (drop 1 token.now)) token.now → at < next
+        → next ≤ length bytes → TokenStands (drop at bytes) token.now (drop next bytes)
+        → TokenEnds (drop next bytes) → Free (frames_of bytes frames.old.items)
+        → LeadsFrom bytes at frames.old.items result frames.new.items }
 {
     let name = Text::of(alloc, keyword_name(token))?;
     put(alloc, frames, Edn::Key(name), at, next)
@@ -102,7 +106,8 @@ fn tag(
     at: usize,
     next: usize,
 ) -> Result<Progress, EdnFault>
-    ensures { (bytes : List ℕ) → Enters bytes frames.old.items construct at next → LeadsFrom bytes at frames.old.items result frames.new.items }
+    ensures { (bytes : List ℕ) → Enters bytes frames.old.items construct at next
+        → LeadsFrom bytes at frames.old.items result frames.new.items }
 {
     grow(frames, Frame { construct, at }, next)
 }
@@ -135,7 +140,8 @@ fn whole_string(
     at: usize,
     next: usize,
 ) -> Result<Progress, EdnFault>
-    ensures { (bytes : List ℕ) → at < next → next ≤ length bytes → StringStands text (drop at bytes) (drop next bytes)
+    ensures { (bytes : List ℕ) → at < next → next ≤ length bytes
+        → StringStands text (drop at bytes) (drop next bytes)
         → LeadsFrom bytes at frames.old.items result frames.new.items }
 {
     if wants_string(frames.as_slice()) {
@@ -153,9 +159,11 @@ fn tagged(
     at: usize,
     next: usize,
 ) -> Result<Progress, EdnFault>
-    requires { (bytes : List ℕ) → faults.wants_string (opens_of (frames_of bytes frames.now.items)) ≡ true }
+    requires { (bytes : List ℕ)
+        → faults.wants_string (opens_of (frames_of bytes frames.now.items)) ≡ true }
     ensures { (bytes : List ℕ) → at < next → next ≤ length bytes
-        → StringStands text (drop at bytes) (drop next bytes) → LeadsFrom bytes at frames.old.items result frames.new.items }
+        → StringStands text (drop at bytes) (drop next bytes)
+        → LeadsFrom bytes at frames.old.items result frames.new.items }
 {
     let Some(innermost) = frames.pop() else {
         unreachable!()

@@ -9,7 +9,8 @@ use jiff_core::civil::Date;
 
 /// The day number of a date, and what follows.
 pub fn date(bytes: &[u8]) -> Option<(i32, &[u8])>
-    ensures value { MatchOption result ((day : ℤ) → NoFront (IsDate day) bytes.now) (λ r. Front (IsDate r.0) bytes.now r.1.now) }
+    ensures value { MatchOption result ((day : ℤ) → NoFront (IsDate day) bytes.now)
+        (λ r. Front (IsDate r.0) bytes.now r.1.now) }
     ensures bound { MatchOption result ⊤ (λ r. IsEpochDay r.0) }
 {
     let (year, rest) = four(bytes)?;
@@ -23,7 +24,8 @@ fn day_number(year: u32, month: u32, day: u32) -> Option<i32>
     requires year { year < 10000 }
     requires month { month < 100 }
     requires day { day < 100 }
-    ensures value { MatchOption result (¬ IsDay year month day) (λ n. IsDay year month day × (n ≡ days_from_civil (pos year) month day)) }
+    ensures value { MatchOption result (¬ IsDay year month day)
+        (λ n. IsDay year month day × (n ≡ days_from_civil (pos year) month day)) }
     ensures bound { MatchOption result ⊤ IsEpochDay }
 {
     if year == 0 {

@@ -13,7 +13,8 @@ fn is_digit(b: u8) -> bool
 
 /// Two digits as a number, and what follows.
 pub fn two(bytes: &[u8]) -> Option<(u32, &[u8])>
-    ensures { MatchOption result ((n : ℕ) → NoFront (IsTwo n) bytes.now) (λ r. Front (IsTwo r.0) bytes.now r.1.now) }
+    ensures { MatchOption result ((n : ℕ) → NoFront (IsTwo n) bytes.now)
+        (λ r. Front (IsTwo r.0) bytes.now r.1.now) }
 {
     let (tens, rest) = bytes.split_first()?;
     let (ones, rest) = rest.split_first()?;
@@ -25,7 +26,8 @@ pub fn two(bytes: &[u8]) -> Option<(u32, &[u8])>
 
 /// Four digits as a number, and what follows.
 pub fn four(bytes: &[u8]) -> Option<(u32, &[u8])>
-    ensures { MatchOption result ((n : ℕ) → NoFront (IsFour n) bytes.now) (λ r. Front (IsFour r.0) bytes.now r.1.now) }
+    ensures { MatchOption result ((n : ℕ) → NoFront (IsFour n) bytes.now)
+        (λ r. Front (IsFour r.0) bytes.now r.1.now) }
 {
     let (high, rest) = two(bytes)?;
     let (low, rest) = two(rest)?;
@@ -34,7 +36,8 @@ pub fn four(bytes: &[u8]) -> Option<(u32, &[u8])>
 
 /// What follows the mark.
 pub fn behind(mark: u8, bytes: &[u8]) -> Option<&[u8]>
-    ensures { MatchOption result ((rest : List ℕ) → bytes.now ≢ mark ∷ rest) (λ rest. bytes.now ≡ mark ∷ rest.now) }
+    ensures { MatchOption result ((rest : List ℕ) → bytes.now ≢ mark ∷ rest)
+        (λ rest. bytes.now ≡ mark ∷ rest.now) }
 {
     let (first, rest) = bytes.split_first()?;
     if *first == mark { Some(rest) } else { None }

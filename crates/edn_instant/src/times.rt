@@ -18,7 +18,9 @@ const LAST_SECOND: u32 = 59;
 /// A time of day and its offset from UTC, up to the end: its milliseconds from midnight, and how many minutes its clock is
 /// ahead.
 pub fn time(bytes: &[u8]) -> Option<(u32, i32)>
-    ensures value { MatchOption result ((millis : ℕ) (ahead : ℤ) → ¬ IsTimeOf millis ahead bytes.now) (λ r. IsTimeOf r.0 r.1 bytes.now) }
+    ensures value { MatchOption result
+        ((millis : ℕ) (ahead : ℤ) → ¬ IsTimeOf millis ahead bytes.now)
+        (λ r. IsTimeOf r.0 r.1 bytes.now) }
     ensures bound { MatchOption result ⊤ (λ r. IsBetween (neg_ℤ (pos 1439)) (pos 1439) r.1) }
 {
     let (seconds, rest) = seconds(bytes)?;
@@ -28,7 +30,8 @@ pub fn time(bytes: &[u8]) -> Option<(u32, i32)>
 
 /// The minutes of `hh:mm`, and what follows.
 fn clock(bytes: &[u8]) -> Option<(u32, &[u8])>
-    ensures { MatchOption result ((minutes : ℕ) → NoFront (IsClock minutes) bytes.now) (λ r. Front (IsClock r.0) bytes.now r.1.now) }
+    ensures { MatchOption result ((minutes : ℕ) → NoFront (IsClock minutes) bytes.now)
+        (λ r. Front (IsClock r.0) bytes.now r.1.now) }
 {
     let (hour, rest) = two(bytes)?;
     let (minute, rest) = two(behind(b':', rest)?)?;
@@ -40,7 +43,8 @@ fn clock(bytes: &[u8]) -> Option<(u32, &[u8])>
 
 /// The seconds of `hh:mm:ss`, and what follows.
 fn seconds(bytes: &[u8]) -> Option<(u32, &[u8])>
-    ensures { MatchOption result ((seconds : ℕ) → NoFront (IsSeconds seconds) bytes.now) (λ r. Front (IsSeconds r.0) bytes.now r.1.now) }
+    ensures { MatchOption result ((seconds : ℕ) → NoFront (IsSeconds seconds) bytes.now)
+        (λ r. Front (IsSeconds r.0) bytes.now r.1.now) }
 {
     let (minutes, rest) = clock(bytes)?;
     let (second, rest) = two(behind(b':', rest)?)?;
@@ -52,8 +56,11 @@ fn seconds(bytes: &[u8]) -> Option<(u32, &[u8])>
 
 /// A fraction of a second, in milliseconds, and an offset.
 fn ending(bytes: &[u8]) -> Option<(u32, i32)>
-    ensures value { MatchOption result ((millis : ℕ) (ahead : ℤ) → ¬ IsEnding millis ahead bytes.now) (λ r. IsEnding r.0 r.1 bytes.now) }
-    ensures bound { MatchOption result ⊤ (λ r. (r.0 ≤ 999) × IsBetween (neg_ℤ (pos 1439)) (pos 1439) r.1) }
+    ensures value { MatchOption result
+        ((millis : ℕ) (ahead : ℤ) → ¬ IsEnding millis ahead bytes.now)
+        (λ r. IsEnding r.0 r.1 bytes.now) }
+    ensures bound { MatchOption result ⊤
+        (λ r. (r.0 ≤ 999) × IsBetween (neg_ℤ (pos 1439)) (pos 1439) r.1) }
 {
     let Some(rest) = behind(b'.', bytes) else {
         return Some((0, offset(bytes)?));
@@ -98,7 +105,8 @@ fn power_of_ten(exponent: usize) -> u64
 
 /// How many minutes a clock with this offset is ahead of UTC.
 fn offset(bytes: &[u8]) -> Option<i32>
-    ensures value { MatchOption result ((ahead : ℤ) → ¬ IsOffset ahead bytes.now) (λ ahead. IsOffset ahead bytes.now) }
+    ensures value { MatchOption result ((ahead : ℤ) → ¬ IsOffset ahead bytes.now)
+        (λ ahead. IsOffset ahead bytes.now) }
     ensures bound { MatchOption result ⊤ (λ ahead. IsBetween (neg_ℤ (pos 1439)) (pos 1439) ahead) }
 {
     let Some((mark, rest)) = bytes.split_first() else {
@@ -114,7 +122,8 @@ fn offset(bytes: &[u8]) -> Option<i32>
 
 /// The minutes of `hh:mm` with nothing behind it.
 fn whole_clock(bytes: &[u8]) -> Option<u32>
-    ensures { MatchOption result ((minutes : ℕ) → ¬ IsClock minutes bytes.now) (λ minutes. IsClock minutes bytes.now) }
+    ensures { MatchOption result ((minutes : ℕ) → ¬ IsClock minutes bytes.now)
+        (λ minutes. IsClock minutes bytes.now) }
 {
     let (minutes, rest) = clock(bytes)?;
     if rest.is_empty() { Some(minutes) } else { None }

@@ -78,12 +78,14 @@ abbrev pub is_digit : ℕ → Bool
 is_digit b = nat_le (byte "0") b && nat_le b (byte "9")
 
 abbrev pub is_letter : ℕ → Bool
-is_letter b = (nat_le (byte "A") b && nat_le b (byte "Z")) || (nat_le (byte "a") b && nat_le b (byte "z"))
+is_letter b =
+    (nat_le (byte "A") b && nat_le b (byte "Z")) || (nat_le (byte "a") b && nat_le b (byte "z"))
 
 -- . * + ! - _ ? $ % & = < > : #
 abbrev pub is_sign : ℕ → Bool
 is_sign b =
-    ((b == point || (b == byte "*" || b == plus)) || (b == byte "!" || (b == minus || b == underscore)))
+    ((b == point || (b == byte "*" || b == plus))
+    || (b == byte "!" || (b == minus || b == underscore)))
     || (((b == byte "?" || b == byte "$") || (b == byte "%" || (b == byte "&" || b == byte "=")))
     || ((b == byte "<" || b == byte ">") || (b == colon || b == hash)))
 

@@ -64,16 +64,34 @@ room opens = max_depth - depth_of opens
 
 -- the construct opens at a place, inside others, and its whole forms stand up to here
 abbrev pub Opened : ℕ → Open → List ℕ → List ℕ → Type 0
-Opened depth (in_list fs) at here = (inside : List ℕ) × (at ≡ open_paren ∷ inside) × Members depth fs inside here
-Opened depth (in_vector fs) at here = (inside : List ℕ) × (at ≡ open_bracket ∷ inside) × Members depth fs inside here
-Opened depth (in_map ps) at here = (inside : List ℕ) × (at ≡ open_brace ∷ inside) × Entries depth ps inside here × IsTrue (distinct (keys ps))
+Opened depth (in_list fs) at here =
+    (inside : List ℕ) × (at ≡ open_paren ∷ inside) × Members depth fs inside here
+Opened depth (in_vector fs) at here =
+    (inside : List ℕ) × (at ≡ open_bracket ∷ inside) × Members depth fs inside here
+Opened depth (in_map ps) at here =
+    (inside : List ℕ)
+    × (at ≡ open_brace ∷ inside)
+    × Entries depth ps inside here
+    × IsTrue (distinct (keys ps))
 Opened depth (behind_key ps k) at here =
-    (inside : List ℕ) × (to : List ℕ) × (after : List ℕ) × (at ≡ open_brace ∷ inside) × Entries depth ps inside to × Text depth k to after
+    (inside : List ℕ)
+    × (to : List ℕ)
+    × (after : List ℕ)
+    × (at ≡ open_brace ∷ inside)
+    × Entries depth ps inside to
+    × Text depth k to after
     × Gap depth after here × IsTrue (distinct (form.with_last (keys ps) k))
-Opened depth (in_set fs) at here = (inside : List ℕ) × (at ≡ hash ∷ open_brace ∷ inside) × Members depth fs inside here × IsTrue (distinct fs)
-Opened depth behind_discard at here = (inside : List ℕ) × (at ≡ hash ∷ underscore ∷ inside) × Gap depth inside here
-Opened depth behind_inst at here = (inside : List ℕ) × TagStands (codes "inst") at inside × Gap depth inside here
-Opened depth behind_uuid at here = (inside : List ℕ) × TagStands (codes "uuid") at inside × Gap depth inside here
+Opened depth (in_set fs) at here =
+    (inside : List ℕ)
+    × (at ≡ hash ∷ open_brace ∷ inside)
+    × Members depth fs inside here
+    × IsTrue (distinct fs)
+Opened depth behind_discard at here =
+    (inside : List ℕ) × (at ≡ hash ∷ underscore ∷ inside) × Gap depth inside here
+Opened depth behind_inst at here =
+    (inside : List ℕ) × TagStands (codes "inst") at inside × Gap depth inside here
+Opened depth behind_uuid at here =
+    (inside : List ℕ) × TagStands (codes "uuid") at inside × Gap depth inside here
 
 abbrev pub is_discard : Open → Bool
 is_discard behind_discard = true
@@ -106,12 +124,18 @@ is_float_mark b = (b == point || b == byte "M") || (b == byte "e" || b == byte "
 abbrev pub IsUnsupported : What → List ℕ → Type 0
 IsUnsupported char token = (more : List ℕ) × (token ≡ backslash ∷ more)
 IsUnsupported float token =
-    ((mark : ℕ) × IsTrue (is_float_mark mark) × DigitsBefore mark token) ⊎ ((more : List ℕ) × (token ≡ hash ∷ hash ∷ more))
+    ((mark : ℕ) × IsTrue (is_float_mark mark) × DigitsBefore mark token)
+    ⊎ ((more : List ℕ) × (token ≡ hash ∷ hash ∷ more))
 IsUnsupported big_int token = DigitsBefore (byte "N") token
 IsUnsupported wide token = (z : ℤ) × IsNumeral z token × (¬ IsLong z)
 IsUnsupported namespaced_map token = (more : List ℕ) × (token ≡ hash ∷ colon ∷ more)
 IsUnsupported tag token =
-    (b : ℕ) × (more : List ℕ) × (token ≡ hash ∷ b ∷ more) × IsTrue (is_letter b) × (token ≢ codes "#inst") × (token ≢ codes "#uuid")
+    (b : ℕ)
+    × (more : List ℕ)
+    × (token ≡ hash ∷ b ∷ more)
+    × IsTrue (is_letter b)
+    × (token ≢ codes "#inst")
+    × (token ≢ codes "#uuid")
 
 -- a token that is none of the language
 pub record IsNoToken (token : List ℕ) : Type 0 where
@@ -133,23 +157,30 @@ pub record TokenStands (here token rest : List ℕ) : Type 0 where
 -- the bytes behind a backslash, and no escape begins with them
 pub data IsBadEscape : List ℕ → Type 0 where
   unknown : {b : ℕ} {more : List ℕ} → escape_of b ≡ None → b ≢ byte "u" → IsBadEscape (b ∷ more)
-  no_digit : {bytes : List ℕ} → (digits : List ℕ) (b : ℕ) (more : List ℕ) → bytes ≡ byte "u" ∷ (digits ++ b ∷ more) → length digits < 4
+  no_digit : {bytes : List ℕ} → (digits : List ℕ) (b : ℕ) (more : List ℕ)
+      → bytes ≡ byte "u" ∷ (digits ++ b ∷ more) → length digits < 4
       → Each is_hex_digit digits → is_hex_digit b ≡ false → IsBadEscape bytes
-  surrogate : {a b c d : ℕ} {bytes more : List ℕ} → bytes ≡ byte "u" ∷ a ∷ b ∷ c ∷ d ∷ more → Each is_hex_digit (a ∷ b ∷ c ∷ d ∷ [])
+  surrogate : {a b c d : ℕ} {bytes more : List ℕ} → bytes ≡ byte "u" ∷ a ∷ b ∷ c ∷ d ∷ more
+      → Each is_hex_digit (a ∷ b ∷ c ∷ d ∷ [])
       → ((n : ℕ) → ¬ IsCode a b c d n) → IsBadEscape bytes
 
 -- the bytes behind a backslash, which end within an escape
 pub data IsCutEscape : List ℕ → Type 0 where
   no_letter : IsCutEscape []
-  few_digits : {digits : List ℕ} → length digits < 4 → Each is_hex_digit digits → IsCutEscape (byte "u" ∷ digits)
+  few_digits : {digits : List ℕ} → length digits < 4 → Each is_hex_digit digits
+      → IsCutEscape (byte "u" ∷ digits)
 
 -- the bytes behind the quote of a string, which is not whole
 pub data StringFault : List ℕ → Fault → List ℕ → Type 0 where
-  no_quote : {inside text : List ℕ} → Spells inside text [] → IsUtf8 text → StringFault inside cut []
-  cut_escape : {inside text more : List ℕ} → Spells inside text (backslash ∷ more) → IsUtf8 text → IsCutEscape more → StringFault inside cut []
-  bad_escape : {inside text more : List ℕ} → Spells inside text (backslash ∷ more) → IsUtf8 text → IsBadEscape more
+  no_quote : {inside text : List ℕ} → Spells inside text [] → IsUtf8 text
+      → StringFault inside cut []
+  cut_escape : {inside text more : List ℕ} → Spells inside text (backslash ∷ more) → IsUtf8 text
+      → IsCutEscape more → StringFault inside cut []
+  bad_escape : {inside text more : List ℕ} → Spells inside text (backslash ∷ more) → IsUtf8 text
+      → IsBadEscape more
       → StringFault inside bad (backslash ∷ more)
-  no_character : {inside text here : List ℕ} → Spells inside text here → IsUtf8 text → NoCharacter here → StringFault inside bad here
+  no_character : {inside text here : List ℕ} → Spells inside text here → IsUtf8 text
+      → NoCharacter here → StringFault inside bad here
 
 -- ---- what can't go on
 
@@ -179,36 +210,53 @@ opens_discard (b ∷ c ∷ bytes) = b == hash && c == underscore
 -- no gap goes on here, and no string begins
 abbrev pub begins_no_string : List ℕ → Bool
 begins_no_string [] = false
-begins_no_string (b ∷ bytes) = not (is_blank b) && (not (b == semicolon) && (not (b == quote) && not (opens_discard (b ∷ bytes))))
+begins_no_string (b ∷ bytes) =
+    not (is_blank b)
+    && (not (b == semicolon) && (not (b == quote) && not (opens_discard (b ∷ bytes))))
 
 -- In these constructs nothing can go on here: the fault, and the place where the last bytes begin.
 pub data Stuck : List Open → List ℕ → Fault → List ℕ → Type 0 where
   ends : {inner : Open} {outer : List Open} → Stuck (inner ∷ outer) [] cut []
-  closes_nothing : {opens : List Open} {b : ℕ} {rest : List ℕ} → is_closing b ≡ true → closes opens b ≡ false → Stuck opens (b ∷ rest) bad (b ∷ rest)
-  no_string : {opens : List Open} {here : List ℕ} → wants_string opens ≡ true → begins_no_string here ≡ true → Stuck opens here bad here
-  deep_collection : {opens : List Open} {here : List ℕ} → wants_string opens ≡ false → room opens ≡ 0 → opens_collection here ≡ true
+  closes_nothing : {opens : List Open} {b : ℕ} {rest : List ℕ} → is_closing b ≡ true
+      → closes opens b ≡ false → Stuck opens (b ∷ rest) bad (b ∷ rest)
+  no_string : {opens : List Open} {here : List ℕ} → wants_string opens ≡ true
+      → begins_no_string here ≡ true → Stuck opens here bad here
+  deep_collection : {opens : List Open} {here : List ℕ} → wants_string opens ≡ false
+      → room opens ≡ 0 → opens_collection here ≡ true
       → Stuck opens here deep here
-  deep_discard : {opens : List Open} {here : List ℕ} → room opens ≡ 0 → opens_discard here ≡ true → Stuck opens here deep here
+  deep_discard : {opens : List Open} {here : List ℕ} → room opens ≡ 0 → opens_discard here ≡ true
+      → Stuck opens here deep here
   -- whatever follows the byte
-  no_token : {opens : List Open} {here : List ℕ} → wants_string opens ≡ false → begins_no_token here ≡ true → Stuck opens here bad here
-  bad_character : {opens : List Open} {here token rest : List ℕ} → wants_string opens ≡ false → begins_no_token here ≡ false
+  no_token : {opens : List Open} {here : List ℕ} → wants_string opens ≡ false
+      → begins_no_token here ≡ true → Stuck opens here bad here
+  bad_character : {opens : List Open} {here token rest : List ℕ} → wants_string opens ≡ false
+      → begins_no_token here ≡ false
       → TokenStands here token rest → NoCharacter rest → Stuck opens here bad rest
-  bad_token : {opens : List Open} {here token rest : List ℕ} → wants_string opens ≡ false → TokenStands here token rest → TokenEnds rest
+  bad_token : {opens : List Open} {here token rest : List ℕ} → wants_string opens ≡ false
+      → TokenStands here token rest → TokenEnds rest
       → 0 < length token → IsNoToken token → Stuck opens here bad here
-  unsupported_token : {opens : List Open} {what : What} {here token rest : List ℕ} → wants_string opens ≡ false → TokenStands here token rest
+  unsupported_token : {opens : List Open} {what : What} {here token rest : List ℕ}
+      → wants_string opens ≡ false → TokenStands here token rest
       → TokenEnds rest → IsUnsupported what token → Stuck opens here (unsupported what) here
-  in_string : {opens : List Open} {fault : Fault} {bytes place : List ℕ} → StringFault bytes fault place → Stuck opens (quote ∷ bytes) fault place
-  in_comment : {opens : List Open} {text place : List ℕ} → Each is_line_byte text → IsUtf8 text → NoCharacter place
+  in_string : {opens : List Open} {fault : Fault} {bytes place : List ℕ}
+      → StringFault bytes fault place → Stuck opens (quote ∷ bytes) fault place
+  in_comment : {opens : List Open} {text place : List ℕ} → Each is_line_byte text → IsUtf8 text
+      → NoCharacter place
       → Stuck opens (semicolon ∷ (text ++ place)) bad place
-  no_instant : {outer : List Open} {s here rest : List ℕ} → StringStands s here rest → ((z : ℤ) → ¬ IsInstant z s) → Stuck (behind_inst ∷ outer) here bad here
-  no_uuid : {outer : List Open} {s here rest : List ℕ} → StringStands s here rest → ((n : ℕ) → ¬ IsUuid n s) → Stuck (behind_uuid ∷ outer) here bad here
+  no_instant : {outer : List Open} {s here rest : List ℕ} → StringStands s here rest
+      → ((z : ℤ) → ¬ IsInstant z s) → Stuck (behind_inst ∷ outer) here bad here
+  no_uuid : {outer : List Open} {s here rest : List ℕ} → StringStands s here rest
+      → ((n : ℕ) → ¬ IsUuid n s) → Stuck (behind_uuid ∷ outer) here bad here
 
 -- In these constructs what stands here is at fault: nothing can go on, or what stands here was said before.
 pub data FaultIn : List Open → List ℕ → Fault → List ℕ → Type 0 where
-  stuck : {opens : List Open} {fault : Fault} {here place : List ℕ} → Stuck opens here fault place → FaultIn opens here fault place
-  key_again : {ps : form.Pairs} {outer : List Open} {k : form.Form} {here rest : List ℕ} → Text (room (in_map ps ∷ outer)) k here rest
+  stuck : {opens : List Open} {fault : Fault} {here place : List ℕ} → Stuck opens here fault place
+      → FaultIn opens here fault place
+  key_again : {ps : form.Pairs} {outer : List Open} {k : form.Form} {here rest : List ℕ}
+      → Text (room (in_map ps ∷ outer)) k here rest
       → any (alike k) (keys ps) ≡ true → FaultIn (in_map ps ∷ outer) here bad here
-  member_again : {fs : form.Forms} {outer : List Open} {f : form.Form} {here rest : List ℕ} → Text (room (in_set fs ∷ outer)) f here rest
+  member_again : {fs : form.Forms} {outer : List Open} {f : form.Form} {here rest : List ℕ}
+      → Text (room (in_set fs ∷ outer)) f here rest
       → any (alike f) fs ≡ true → FaultIn (in_set fs ∷ outer) here bad here
 
 -- the first fault from a place on, and its byte

@@ -37,40 +37,57 @@ mutual
   -- what may stand between forms: white space, comments, and discarded forms
   pub data Gap : ℕ → List ℕ → List ℕ → Type 0 where
     no_gap : {depth : ℕ} {here : List ℕ} → Gap depth here here
-    blank : {depth b : ℕ} {here rest : List ℕ} → is_blank b ≡ true → Gap depth here rest → Gap depth (b ∷ here) rest
-    comment : {depth : ℕ} {here after rest : List ℕ} → CommentStands here after → Gap depth after rest → Gap depth here rest
+    blank : {depth b : ℕ} {here rest : List ℕ} → is_blank b ≡ true → Gap depth here rest
+        → Gap depth (b ∷ here) rest
+    comment : {depth : ℕ} {here after rest : List ℕ} → CommentStands here after
+        → Gap depth after rest → Gap depth here rest
     last_comment : {depth : ℕ} {here : List ℕ} → LastComment here → Gap depth here []
-    discard : {depth : ℕ} {f : form.Form} {here inside at after rest : List ℕ} → here ≡ hash ∷ underscore ∷ inside → Gap depth inside at
+    discard : {depth : ℕ} {f : form.Form} {here inside at after rest : List ℕ}
+        → here ≡ hash ∷ underscore ∷ inside → Gap depth inside at
         → Text depth f at after → Gap (suc depth) after rest → Gap (suc depth) here rest
 
   pub data Text : ℕ → form.Form → List ℕ → List ℕ → Type 0 where
-    atom : {depth : ℕ} {f : form.Form} {here rest : List ℕ} → (token : List ℕ) → IsAtom f token → here ≡ token ++ rest → TokenEnds rest
+    atom : {depth : ℕ} {f : form.Form} {here rest : List ℕ} → (token : List ℕ) → IsAtom f token
+        → here ≡ token ++ rest → TokenEnds rest
         → Text depth f here rest
-    string : {depth : ℕ} {s here rest : List ℕ} → StringStands s here rest → Text depth (form.string s) here rest
+    string : {depth : ℕ} {s here rest : List ℕ} → StringStands s here rest
+        → Text depth (form.string s) here rest
     list : {depth : ℕ} {fs : form.Forms} {here inside rest : List ℕ} → here ≡ open_paren ∷ inside
         → Members depth fs inside (close_paren ∷ rest) → Text (suc depth) (form.list fs) here rest
-    vector : {depth : ℕ} {fs : form.Forms} {here inside rest : List ℕ} → here ≡ open_bracket ∷ inside
-        → Members depth fs inside (close_bracket ∷ rest) → Text (suc depth) (form.vector fs) here rest
+    vector : {depth : ℕ} {fs : form.Forms} {here inside rest : List ℕ}
+        → here ≡ open_bracket ∷ inside
+        → Members depth fs inside (close_bracket ∷ rest)
+        → Text (suc depth) (form.vector fs) here rest
     map : {depth : ℕ} {ps : form.Pairs} {here inside rest : List ℕ} → here ≡ open_brace ∷ inside
-        → Entries depth ps inside (close_brace ∷ rest) → IsTrue (distinct (keys ps)) → Text (suc depth) (form.map ps) here rest
-    set : {depth : ℕ} {fs : form.Forms} {here inside rest : List ℕ} → here ≡ hash ∷ open_brace ∷ inside
-        → Members depth fs inside (close_brace ∷ rest) → IsTrue (distinct fs) → Text (suc depth) (form.set fs) here rest
-    instant : {depth : ℕ} {z : ℤ} {s here after at rest : List ℕ} → TagStands (codes "inst") here after → Gap depth after at
+        → Entries depth ps inside (close_brace ∷ rest) → IsTrue (distinct (keys ps))
+        → Text (suc depth) (form.map ps) here rest
+    set : {depth : ℕ} {fs : form.Forms} {here inside rest : List ℕ}
+        → here ≡ hash ∷ open_brace ∷ inside
+        → Members depth fs inside (close_brace ∷ rest) → IsTrue (distinct fs)
+        → Text (suc depth) (form.set fs) here rest
+    instant : {depth : ℕ} {z : ℤ} {s here after at rest : List ℕ}
+        → TagStands (codes "inst") here after → Gap depth after at
         → StringStands s at rest → IsInstant z s → Text depth (form.instant z) here rest
-    uuid : {depth n : ℕ} {s here after at rest : List ℕ} → TagStands (codes "uuid") here after → Gap depth after at
+    uuid : {depth n : ℕ} {s here after at rest : List ℕ} → TagStands (codes "uuid") here after
+        → Gap depth after at
         → StringStands s at rest → IsUuid n s → Text depth (form.uuid n) here rest
 
   -- forms with gaps round them
   pub data Members : ℕ → form.Forms → List ℕ → List ℕ → Type 0 where
-    no_members : {depth : ℕ} {here rest : List ℕ} → Gap depth here rest → Members depth form.no_forms here rest
-    member : {depth : ℕ} {f : form.Form} {fs : form.Forms} {here at after rest : List ℕ} → Gap depth here at → Text depth f at after
+    no_members : {depth : ℕ} {here rest : List ℕ} → Gap depth here rest
+        → Members depth form.no_forms here rest
+    member : {depth : ℕ} {f : form.Form} {fs : form.Forms} {here at after rest : List ℕ}
+        → Gap depth here at → Text depth f at after
         → Members depth fs after rest → Members depth (form.form f fs) here rest
 
   -- keys, each with its value behind it
   pub data Entries : ℕ → form.Pairs → List ℕ → List ℕ → Type 0 where
-    no_entries : {depth : ℕ} {here rest : List ℕ} → Gap depth here rest → Entries depth form.no_pairs here rest
-    entry : {depth : ℕ} {k v : form.Form} {ps : form.Pairs} {here at between to after rest : List ℕ} → Gap depth here at → Text depth k at between
-        → Gap depth between to → Text depth v to after → Entries depth ps after rest → Entries depth (form.pair k v ps) here rest
+    no_entries : {depth : ℕ} {here rest : List ℕ} → Gap depth here rest
+        → Entries depth form.no_pairs here rest
+    entry : {depth : ℕ} {k v : form.Form} {ps : form.Pairs} {here at between to after rest : List ℕ}
+        → Gap depth here at → Text depth k at between
+        → Gap depth between to → Text depth v to after → Entries depth ps after rest
+        → Entries depth (form.pair k v ps) here rest
 
 abbrev pub IsWholeTextOf : form.Form → List ℕ → Type 0
 IsWholeTextOf f bytes = Text max_depth f bytes []

@@ -37,7 +37,8 @@ second_text hour minute second = minute_text hour minute ++ colon ∷ digits 2 s
 -- the milliseconds of a fraction of a second: its digits past the third are dropped
 pub data IsFraction : ℕ → List ℕ → Type 0 where
   whole : {millis : ℕ} {bytes : List ℕ} → bytes ≡ [] → millis ≡ 0 → IsFraction millis bytes
-  part : {millis : ℕ} {bytes digits : List ℕ} → bytes ≡ point ∷ digits → Each is_digit digits → (1 ≤ length digits) × (length digits ≤ 9)
+  part : {millis : ℕ} {bytes digits : List ℕ} → bytes ≡ point ∷ digits → Each is_digit digits
+      → (1 ≤ length digits) × (length digits ≤ 9)
       → millis ≡ number digits * 1000 / 10 ^ length digits → IsFraction millis bytes
 
 -- a time of day, and its milliseconds from midnight
@@ -56,9 +57,11 @@ pub record IsTime (millis : ℕ) (bytes : List ℕ) : Type 0 where
 pub data IsOffset : ℤ → List ℕ → Type 0 where
   unsaid : {ahead : ℤ} {bytes : List ℕ} → bytes ≡ [] → ahead ≡ pos 0 → IsOffset ahead bytes
   utc : {ahead : ℤ} {bytes : List ℕ} → bytes ≡ codes "Z" → ahead ≡ pos 0 → IsOffset ahead bytes
-  east : {ahead : ℤ} {bytes : List ℕ} → (hours minutes : ℕ) → bytes ≡ plus ∷ minute_text hours minutes → (hours < 24) × (minutes < 60)
+  east : {ahead : ℤ} {bytes : List ℕ} → (hours minutes : ℕ)
+      → bytes ≡ plus ∷ minute_text hours minutes → (hours < 24) × (minutes < 60)
       → ahead ≡ pos (hours * 60 + minutes) → IsOffset ahead bytes
-  west : {ahead : ℤ} {bytes : List ℕ} → (hours minutes : ℕ) → bytes ≡ minus ∷ minute_text hours minutes → (hours < 24) × (minutes < 60)
+  west : {ahead : ℤ} {bytes : List ℕ} → (hours minutes : ℕ)
+      → bytes ≡ minus ∷ minute_text hours minutes → (hours < 24) × (minutes < 60)
       → ahead ≡ neg_ℤ (pos (hours * 60 + minutes)) → IsOffset ahead bytes
 
 -- ---- instants
@@ -72,6 +75,9 @@ instant_of day millis offset = (day *ℤ pos 86400000 +ℤ pos millis) -ℤ offs
 
 -- a date, and the letter T and a time of day behind it or none, where it is midnight UTC
 pub data IsInstant : ℤ → List ℕ → Type 0 where
-  at_midnight : {z day : ℤ} {bytes : List ℕ} → IsDate day bytes → z ≡ instant_of day 0 (pos 0) → IsInstant z bytes
-  at_time : {z day offset : ℤ} {millis : ℕ} {date time ending bytes : List ℕ} → bytes ≡ date ++ byte "T" ∷ (time ++ ending)
-      → IsDate day date → IsTime millis time → IsOffset offset ending → z ≡ instant_of day millis offset → IsTrue (in_range z) → IsInstant z bytes
+  at_midnight : {z day : ℤ} {bytes : List ℕ} → IsDate day bytes → z ≡ instant_of day 0 (pos 0)
+      → IsInstant z bytes
+  at_time : {z day offset : ℤ} {millis : ℕ} {date time ending bytes : List ℕ}
+      → bytes ≡ date ++ byte "T" ∷ (time ++ ending)
+      → IsDate day date → IsTime millis time → IsOffset offset ending
+      → z ≡ instant_of day millis offset → IsTrue (in_range z) → IsInstant z bytes

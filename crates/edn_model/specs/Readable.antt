@@ -17,7 +17,8 @@ abbrev mutual
   IsReadable depth (form.keyword k) = IsKeyword k
   IsReadable depth (form.list fs) = (0 < depth) × AreReadable (depth - 1) fs
   IsReadable depth (form.vector fs) = (0 < depth) × AreReadable (depth - 1) fs
-  IsReadable depth (form.map ps) = (0 < depth) × ArePairsReadable (depth - 1) ps × IsTrue (distinct (keys ps))
+  IsReadable depth (form.map ps) =
+      (0 < depth) × ArePairsReadable (depth - 1) ps × IsTrue (distinct (keys ps))
   IsReadable depth (form.set fs) = (0 < depth) × AreReadable (depth - 1) fs × IsTrue (distinct fs)
   IsReadable depth (form.instant z) = IsTrue (in_range z)
   IsReadable depth (form.uuid n) = n < 2 ^ 128
@@ -28,4 +29,5 @@ abbrev mutual
 
   pub ArePairsReadable : ℕ → form.Pairs → Type 0
   ArePairsReadable depth form.no_pairs = Unit {0}
-  ArePairsReadable depth (form.pair k v ps) = IsReadable depth k × IsReadable depth v × ArePairsReadable depth ps
+  ArePairsReadable depth (form.pair k v ps) =
+      IsReadable depth k × IsReadable depth v × ArePairsReadable depth ps

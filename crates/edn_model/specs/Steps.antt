@@ -33,13 +33,20 @@ pub data State : Type 0 where
 -- a whole form, from at to rest, falls to the innermost construct
 abbrev pub land : Frames → form.Form → List ℕ → List ℕ → State
 land outermost f at rest = ended (read f rest)
-land (frame (in_list fs) opened outer) f at rest = going (frame (in_list (form.with_last fs f)) opened outer) rest
-land (frame (in_vector fs) opened outer) f at rest = going (frame (in_vector (form.with_last fs f)) opened outer) rest
+land (frame (in_list fs) opened outer) f at rest =
+    going (frame (in_list (form.with_last fs f)) opened outer) rest
+land (frame (in_vector fs) opened outer) f at rest =
+    going (frame (in_vector (form.with_last fs f)) opened outer) rest
 land (frame (in_map ps) opened outer) f at rest =
-    if any (alike f) (keys ps) then ended (fault bad at) else going (frame (behind_key ps f) opened outer) rest
-land (frame (behind_key ps k) opened outer) f at rest = going (frame (in_map (form.with_last_pair ps k f)) opened outer) rest
+    if any (alike f) (keys ps)
+    then ended (fault bad at)
+    else going (frame (behind_key ps f) opened outer) rest
+land (frame (behind_key ps k) opened outer) f at rest =
+    going (frame (in_map (form.with_last_pair ps k f)) opened outer) rest
 land (frame (in_set fs) opened outer) f at rest =
-    if any (alike f) fs then ended (fault bad at) else going (frame (in_set (form.with_last fs f)) opened outer) rest
+    if any (alike f) fs
+    then ended (fault bad at)
+    else going (frame (in_set (form.with_last fs f)) opened outer) rest
 land (frame behind_discard opened outer) f at rest = going outer rest
 land (frame behind_inst opened outer) f at rest = going outer rest
 land (frame behind_uuid opened outer) f at rest = going outer rest
@@ -61,34 +68,49 @@ abbrev pub HasRoom : Frames → Type 0
 HasRoom frames = 0 < room (opens_of frames)
 
 pub data Step : State → State → Type 0 where
-  blank : {frames : Frames} {b : ℕ} {here rest : List ℕ} → here ≡ b ∷ rest → is_blank b ≡ true → Step (going frames here) (going frames rest)
-  comment : {frames : Frames} {here rest : List ℕ} → CommentStands here rest → Step (going frames here) (going frames rest)
-  last_comment : {frames : Frames} {here : List ℕ} → LastComment here → Step (going frames here) (going frames [])
-  discard : {frames : Frames} {here inside : List ℕ} → here ≡ hash ∷ underscore ∷ inside → HasRoom frames
+  blank : {frames : Frames} {b : ℕ} {here rest : List ℕ} → here ≡ b ∷ rest → is_blank b ≡ true
+      → Step (going frames here) (going frames rest)
+  comment : {frames : Frames} {here rest : List ℕ} → CommentStands here rest
+      → Step (going frames here) (going frames rest)
+  last_comment : {frames : Frames} {here : List ℕ} → LastComment here
+      → Step (going frames here) (going frames [])
+  discard : {frames : Frames} {here inside : List ℕ} → here ≡ hash ∷ underscore ∷ inside
+      → HasRoom frames
       → Step (going frames here) (going (frame behind_discard here frames) inside)
-  list : {frames : Frames} {here inside : List ℕ} → here ≡ open_paren ∷ inside → Free frames → HasRoom frames
+  list : {frames : Frames} {here inside : List ℕ} → here ≡ open_paren ∷ inside → Free frames
+      → HasRoom frames
       → Step (going frames here) (going (frame (in_list form.no_forms) here frames) inside)
-  vector : {frames : Frames} {here inside : List ℕ} → here ≡ open_bracket ∷ inside → Free frames → HasRoom frames
+  vector : {frames : Frames} {here inside : List ℕ} → here ≡ open_bracket ∷ inside → Free frames
+      → HasRoom frames
       → Step (going frames here) (going (frame (in_vector form.no_forms) here frames) inside)
-  map : {frames : Frames} {here inside : List ℕ} → here ≡ open_brace ∷ inside → Free frames → HasRoom frames
+  map : {frames : Frames} {here inside : List ℕ} → here ≡ open_brace ∷ inside → Free frames
+      → HasRoom frames
       → Step (going frames here) (going (frame (in_map form.no_pairs) here frames) inside)
-  set : {frames : Frames} {here inside : List ℕ} → here ≡ hash ∷ open_brace ∷ inside → Free frames → HasRoom frames
+  set : {frames : Frames} {here inside : List ℕ} → here ≡ hash ∷ open_brace ∷ inside → Free frames
+      → HasRoom frames
       → Step (going frames here) (going (frame (in_set form.no_forms) here frames) inside)
-  inst : {frames : Frames} {here inside : List ℕ} → TagStands (codes "inst") here inside → Free frames
+  inst : {frames : Frames} {here inside : List ℕ} → TagStands (codes "inst") here inside
+      → Free frames
       → Step (going frames here) (going (frame behind_inst here frames) inside)
-  uuid : {frames : Frames} {here inside : List ℕ} → TagStands (codes "uuid") here inside → Free frames
+  uuid : {frames : Frames} {here inside : List ℕ} → TagStands (codes "uuid") here inside
+      → Free frames
       → Step (going frames here) (going (frame behind_uuid here frames) inside)
-  atom : {frames : Frames} {here : List ℕ} → (f : form.Form) (token rest : List ℕ) → IsAtom f token → here ≡ token ++ rest → TokenEnds rest → Free frames
+  atom : {frames : Frames} {here : List ℕ} → (f : form.Form) (token rest : List ℕ) → IsAtom f token
+      → here ≡ token ++ rest → TokenEnds rest → Free frames
       → Step (going frames here) (land frames f here rest)
   string : {frames : Frames} {s here rest : List ℕ} → StringStands s here rest → Free frames
       → Step (going frames here) (land frames (form.string s) here rest)
-  close : {inner : Open} {outer : Frames} {b : ℕ} {at here rest : List ℕ} → here ≡ b ∷ rest → closes (inner ∷ opens_of outer) b ≡ true
+  close : {inner : Open} {outer : Frames} {b : ℕ} {at here rest : List ℕ} → here ≡ b ∷ rest
+      → closes (inner ∷ opens_of outer) b ≡ true
       → Step (going (frame inner at outer) here) (land outer (closed inner) at rest)
-  instant : {outer : Frames} {z : ℤ} {s at here rest : List ℕ} → StringStands s here rest → IsInstant z s
+  instant : {outer : Frames} {z : ℤ} {s at here rest : List ℕ} → StringStands s here rest
+      → IsInstant z s
       → Step (going (frame behind_inst at outer) here) (land outer (form.instant z) at rest)
-  identifier : {outer : Frames} {n : ℕ} {s at here rest : List ℕ} → StringStands s here rest → IsUuid n s
+  identifier : {outer : Frames} {n : ℕ} {s at here rest : List ℕ} → StringStands s here rest
+      → IsUuid n s
       → Step (going (frame behind_uuid at outer) here) (land outer (form.uuid n) at rest)
-  stuck : {frames : Frames} {why : Fault} {here place : List ℕ} → Stuck (opens_of frames) here why place → Step (going frames here) (ended (fault why place))
+  stuck : {frames : Frames} {why : Fault} {here place : List ℕ}
+      → Stuck (opens_of frames) here why place → Step (going frames here) (ended (fault why place))
   end : Step (going outermost []) (ended nothing)
 
 -- some steps lead from one state to another

@@ -12,7 +12,12 @@ IsName bytes = (0 < length bytes) × Each is_name_byte bytes
 
 -- two texts joined by a slash
 abbrev pub Joined : (List ℕ → Type 0) → (List ℕ → Type 0) → List ℕ → Type 0
-Joined First Second bytes = (first : List ℕ) × (second : List ℕ) × (bytes ≡ first ++ slash ∷ second) × First first × Second second
+Joined First Second bytes =
+    (first : List ℕ)
+    × (second : List ℕ)
+    × (bytes ≡ first ++ slash ∷ second)
+    × First first
+    × Second second
 
 -- ---- keywords
 
@@ -40,7 +45,10 @@ abbrev pub IsReserved : List ℕ → Type 0
 IsReserved bytes = (bytes ≡ codes "nil") ⊎ ((bytes ≡ codes "true") ⊎ (bytes ≡ codes "false"))
 
 abbrev pub IsLongSymbol : List ℕ → Type 0
-IsLongSymbol bytes = IsTrue (begins_symbol bytes) × (¬ IsReserved bytes) × (IsName bytes ⊎ Joined IsName IsName bytes)
+IsLongSymbol bytes =
+    IsTrue (begins_symbol bytes)
+    × (¬ IsReserved bytes)
+    × (IsName bytes ⊎ Joined IsName IsName bytes)
 
 abbrev pub IsSymbol : List ℕ → Type 0
 IsSymbol bytes = IsUtf8 bytes × ((bytes ≡ slash ∷ []) ⊎ IsLongSymbol bytes)
@@ -61,8 +69,10 @@ pub record IsDecimal (n : ℕ) (digits : List ℕ) : Type 0 where
 -- a numeral, with a sign or without
 pub data IsNumeral : ℤ → List ℕ → Type 0 where
   unsigned : {z : ℤ} {n : ℕ} {bytes : List ℕ} → IsDecimal n bytes → z ≡ pos n → IsNumeral z bytes
-  positive : {z : ℤ} {n : ℕ} {bytes digits : List ℕ} → bytes ≡ plus ∷ digits → IsDecimal n digits → z ≡ pos n → IsNumeral z bytes
-  negative : {z : ℤ} {n : ℕ} {bytes digits : List ℕ} → bytes ≡ minus ∷ digits → IsDecimal n digits → z ≡ neg_ℤ (pos n) → IsNumeral z bytes
+  positive : {z : ℤ} {n : ℕ} {bytes digits : List ℕ} → bytes ≡ plus ∷ digits → IsDecimal n digits
+      → z ≡ pos n → IsNumeral z bytes
+  negative : {z : ℤ} {n : ℕ} {bytes digits : List ℕ} → bytes ≡ minus ∷ digits → IsDecimal n digits
+      → z ≡ neg_ℤ (pos n) → IsNumeral z bytes
 
 -- an integer of 64 bits
 abbrev pub is_long : ℤ → Bool
@@ -93,15 +103,25 @@ IsAtom (form.uuid n) bytes = ⊥
 -- backspace, form feed
 abbrev pub escape_of : ℕ → Option ℕ
 escape_of b =
-    if b == byte "t" then Some tab else (if b == byte "r" then Some carriage_return else (if b == byte "n" then Some line_feed
-    else (if b == backslash then Some backslash else (if b == quote then Some quote
-    else (if b == byte "b" then Some backspace else (if b == byte "f" then Some form_feed else None))))))
+    if b == byte "t" then Some tab
+    else (if b == byte "r" then Some carriage_return
+    else (if b == byte "n" then Some line_feed
+    else (if b == backslash then Some backslash
+    else (if b == quote then Some quote
+    else (if b == byte "b" then Some backspace
+    else (if b == byte "f" then Some form_feed else None))))))
 
 abbrev pub is_hex_digit : ℕ → Bool
-is_hex_digit b = is_digit b || ((nat_le (byte "a") b && nat_le b (byte "f")) || (nat_le (byte "A") b && nat_le b (byte "F")))
+is_hex_digit b =
+    is_digit b
+    || ((nat_le (byte "a") b && nat_le b (byte "f"))
+    || (nat_le (byte "A") b && nat_le b (byte "F")))
 
 abbrev pub hex_value : ℕ → ℕ
-hex_value b = if is_digit b then b - byte "0" else (if nat_le (byte "a") b then b - byte "a" + 10 else b - byte "A" + 10)
+hex_value b =
+    if is_digit b
+    then b - byte "0"
+    else (if nat_le (byte "a") b then b - byte "a" + 10 else b - byte "A" + 10)
 
 -- four hexadecimal digits, and the character that they number, which is no surrogate
 pub record IsCode (a b c d code : ℕ) : Type 0 where
@@ -112,10 +132,13 @@ pub record IsCode (a b c d code : ℕ) : Type 0 where
 -- from one place to a later one stand characters and escapes that spell the text
 pub data Spells : List ℕ → List ℕ → List ℕ → Type 0 where
   nothing : {here : List ℕ} → Spells here [] here
-  plain : {b : ℕ} {here text rest : List ℕ} → is_plain b ≡ true → Spells here text rest → Spells (b ∷ here) (b ∷ text) rest
-  escape : {b e : ℕ} {here after text rest : List ℕ} → here ≡ backslash ∷ b ∷ after → escape_of b ≡ Some e → Spells after text rest
+  plain : {b : ℕ} {here text rest : List ℕ} → is_plain b ≡ true → Spells here text rest
+      → Spells (b ∷ here) (b ∷ text) rest
+  escape : {b e : ℕ} {here after text rest : List ℕ} → here ≡ backslash ∷ b ∷ after
+      → escape_of b ≡ Some e → Spells after text rest
       → Spells here (e ∷ text) rest
-  code : {a b c d n : ℕ} {here after text all rest : List ℕ} → here ≡ backslash ∷ byte "u" ∷ a ∷ b ∷ c ∷ d ∷ after → IsCode a b c d n
+  code : {a b c d n : ℕ} {here after text all rest : List ℕ}
+      → here ≡ backslash ∷ byte "u" ∷ a ∷ b ∷ c ∷ d ∷ after → IsCode a b c d n
       → Spells after text rest → all ≡ encode_utf8 n ++ text → Spells here all rest
 
 -- from one place to a later one stands a string between its quotes

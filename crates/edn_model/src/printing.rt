@@ -16,16 +16,17 @@ pub fn strings()
 pub fn words()
     ensures nil { (depth : ℕ) (bytes rest : List ℕ) → Canon form.nil bytes → TokenEnds rest
         → Text depth form.nil (bytes ++ rest) rest }
-    ensures boolean { (depth : ℕ) (b : Bool) (bytes rest : List ℕ) → Canon (form.boolean b) bytes → TokenEnds rest
-        → Text depth (form.boolean b) (bytes ++ rest) rest }
-    ensures symbol { (depth : ℕ) (s bytes rest : List ℕ) → IsSymbol s → Canon (form.symbol s) bytes → TokenEnds rest
-        → Text depth (form.symbol s) (bytes ++ rest) rest }
-    ensures keyword { (depth : ℕ) (k bytes rest : List ℕ) → IsKeyword k → Canon (form.keyword k) bytes → TokenEnds rest
+    ensures boolean { (depth : ℕ) (b : Bool) (bytes rest : List ℕ) → Canon (form.boolean b) bytes
+        → TokenEnds rest → Text depth (form.boolean b) (bytes ++ rest) rest }
+    ensures symbol { (depth : ℕ) (s bytes rest : List ℕ) → IsSymbol s → Canon (form.symbol s) bytes
+        → TokenEnds rest → Text depth (form.symbol s) (bytes ++ rest) rest }
+    ensures keyword { (depth : ℕ) (k bytes rest : List ℕ) → IsKeyword k
+        → Canon (form.keyword k) bytes → TokenEnds rest
         → Text depth (form.keyword k) (bytes ++ rest) rest }
 {}
 
 /// An integer of 64 bits.
 pub fn integers()
-    ensures { (depth : ℕ) (z : ℤ) (bytes rest : List ℕ) → IsLong z → Canon (form.integer z) bytes → TokenEnds rest
-        → Text depth (form.integer z) (bytes ++ rest) rest }
+    ensures { (depth : ℕ) (z : ℤ) (bytes rest : List ℕ) → IsLong z → Canon (form.integer z) bytes
+        → TokenEnds rest → Text depth (form.integer z) (bytes ++ rest) rest }
 {}

@@ -8,7 +8,8 @@ ghost use Rattle.edn_model.specs.Faults.{Fault, IsNoToken, FaultAt};
 
 /// A text is the text of one form.
 pub fn one_form()
-    ensures { (bytes : List ℕ) (f g : Form) → IsWholeTextOf f bytes → IsWholeTextOf g bytes → f ≡ g }
+    ensures { (bytes : List ℕ) (f g : Form) → IsWholeTextOf f bytes → IsWholeTextOf g bytes
+        → f ≡ g }
 {}
 
 /// Behind a place stands one form at most, and its text ends at one place.
@@ -19,7 +20,8 @@ pub fn one_next()
 
 /// No form stands where white space, comments and discards alone remain.
 pub fn no_form_in_a_gap()
-    ensures { (bytes : List ℕ) (at : ℕ) (f : Form) (next : ℕ) → OnlyGap bytes at → ¬ FormStands bytes at f next }
+    ensures { (bytes : List ℕ) (at : ℕ) (f : Form) (next : ℕ) → OnlyGap bytes at
+        → ¬ FormStands bytes at f next }
 {}
 
 /// Each form is alike to itself.
@@ -35,7 +37,8 @@ pub fn no_fault_at_a_form()
 
 /// No fault stands where white space, comments and discards alone remain.
 pub fn no_fault_in_a_gap()
-    ensures { (bytes : List ℕ) (at : ℕ) (fault : Fault) (byte : ℕ) → OnlyGap bytes at → ¬ FaultAt bytes at fault byte }
+    ensures { (bytes : List ℕ) (at : ℕ) (fault : Fault) (byte : ℕ) → OnlyGap bytes at
+        → ¬ FaultAt bytes at fault byte }
 {}
 
 /// Behind a place stands one fault at most, and it is at one byte.
@@ -47,6 +50,7 @@ pub fn one_fault()
 /// With each byte of ASCII that may begin a token one begins, whether it is a form's or unsupported; with no other byte does
 /// one, whatever follows.
 pub fn tokens_begin()
-    ensures some { (b : ℕ) → b < 128 → may_begin_token b ≡ true → (more : List ℕ) × ¬ IsNoToken (b ∷ more) }
+    ensures some { (b : ℕ) → b < 128 → may_begin_token b ≡ true
+        → (more : List ℕ) × ¬ IsNoToken (b ∷ more) }
     ensures none { (b : ℕ) (more : List ℕ) → may_begin_token b ≡ false → IsNoToken (b ∷ more) }
 {}

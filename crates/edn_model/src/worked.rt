@@ -15,13 +15,15 @@ pub fn integers()
 /// Commas are white space, and a code stands for its character.
 pub fn vectors()
     ensures { IsWholeTextOf
-        (form.vector (form.forms (form.integer (pos 7) ∷ form.integer (pos 0) ∷ form.string (codes "aA") ∷ [])))
+        (form.vector
+        (form.forms (form.integer (pos 7) ∷ form.integer (pos 0) ∷ form.string (codes "aA") ∷ [])))
         (codes "[+7,-0 \"a\\u0041\"]") }
 {}
 
 /// Digits past the third of a fraction are dropped, and an offset is taken off.
 pub fn instants()
-    ensures { IsWholeTextOf (form.instant (pos 1709245799999)) (codes "#inst \"2024-02-29T23:59:59.9999+01:30\"") }
+    ensures { IsWholeTextOf (form.instant (pos 1709245799999))
+        (codes "#inst \"2024-02-29T23:59:59.9999+01:30\"") }
 {}
 
 /// An identifier's digits may be in either case.
@@ -38,12 +40,21 @@ pub fn gaps()
 
 /// Lists and vectors are alike, sets in any order, maps in any order; an integer and a string are not.
 pub fn likeness()
-    ensures sequences { alike (form.vector (form.forms (form.integer (pos 1) ∷ []))) (form.list (form.forms (form.integer (pos 1) ∷ []))) ≡ true }
-    ensures order { alike (form.vector (form.forms (form.integer (pos 1) ∷ form.nil ∷ []))) (form.list (form.forms (form.nil ∷ form.integer (pos 1) ∷ []))) ≡ false }
-    ensures sets { alike (form.set (form.forms (form.integer (pos 1) ∷ form.nil ∷ []))) (form.set (form.forms (form.nil ∷ form.integer (pos 1) ∷ []))) ≡ true }
+    ensures sequences { alike (form.vector (form.forms (form.integer (pos 1) ∷ [])))
+        (form.list (form.forms (form.integer (pos 1) ∷ [])))
+        ≡ true }
+    ensures order { alike (form.vector (form.forms (form.integer (pos 1) ∷ form.nil ∷ [])))
+        (form.list (form.forms (form.nil ∷ form.integer (pos 1) ∷ [])))
+        ≡ false }
+    ensures sets { alike (form.set (form.forms (form.integer (pos 1) ∷ form.nil ∷ [])))
+        (form.set (form.forms (form.nil ∷ form.integer (pos 1) ∷ [])))
+        ≡ true }
     ensures maps { alike
-        (form.map (form.pairs ((form.nil, form.integer (pos 1)) ∷ (form.keyword (codes "a"), form.nil) ∷ [])))
-        (form.map (form.pairs ((form.keyword (codes "a"), form.nil) ∷ (form.nil, form.integer (pos 1)) ∷ []))) ≡ true }
+        (form.map
+        (form.pairs ((form.nil, form.integer (pos 1)) ∷ (form.keyword (codes "a"), form.nil) ∷ [])))
+        (form.map
+        (form.pairs ((form.keyword (codes "a"), form.nil) ∷ (form.nil, form.integer (pos 1)) ∷ [])))
+        ≡ true }
     ensures kinds { alike (form.string (codes "a")) (form.symbol (codes "a")) ≡ false }
 {}
 
@@ -70,9 +81,14 @@ pub fn token_faults()
 
 /// What is printed of the forms above.
 pub fn printed()
-    ensures vector { Canon (form.vector (form.forms (form.integer (pos 7) ∷ form.integer (pos 0) ∷ form.string (codes "aA") ∷ []))) (codes "[7 0 \"aA\"]") }
-    ensures instant { Canon (form.instant (pos 1709245799999)) (codes "#inst \"2024-02-29T22:29:59.999-00:00\"") }
-    ensures uuid { Canon (form.uuid 329800735698586629295641978511506172918) (codes "#uuid \"f81d4fae-7dec-11d0-a765-00a0c91e6bf6\"") }
+    ensures vector { Canon
+        (form.vector
+        (form.forms (form.integer (pos 7) ∷ form.integer (pos 0) ∷ form.string (codes "aA") ∷ [])))
+        (codes "[7 0 \"aA\"]") }
+    ensures instant { Canon (form.instant (pos 1709245799999))
+        (codes "#inst \"2024-02-29T22:29:59.999-00:00\"") }
+    ensures uuid { Canon (form.uuid 329800735698586629295641978511506172918)
+        (codes "#uuid \"f81d4fae-7dec-11d0-a765-00a0c91e6bf6\"") }
 {}
 
 /// Faults of a bracket, of a tag with no string behind it, and of strings that the end cuts off.

@@ -12,14 +12,20 @@ pub record Appends (IsSuch : List ℕ → Type 0) (old new : List ℕ) : Type 0 
   pub behind : new ≡ old ++ text
 
 -- the members' texts between their brackets
-pub record Encloses (opening : List ℕ) (closing : ℕ) (IsInside : List ℕ → Type 0) (bytes : List ℕ) : Type 0 where
+pub record Encloses (opening : List ℕ) (closing : ℕ) (IsInside : List ℕ → Type 0) (bytes : List ℕ)
+    : Type 0 where
   pub inside : List ℕ
   pub is : IsInside inside
   pub text : bytes ≡ opening ++ (inside ++ closing ∷ [])
 
 -- stands in a printed string for itself
 abbrev pub is_unescaped : ℕ → Bool
-is_unescaped b = not (b == tab) && not (b == line_feed) && not (b == carriage_return) && not (b == quote) && not (b == backslash)
+is_unescaped b =
+    not (b == tab)
+    && not (b == line_feed)
+    && not (b == carriage_return)
+    && not (b == quote)
+    && not (b == backslash)
 
 -- a space stands before each member but the first
 abbrev pub space_before : ℕ → List ℕ

@@ -60,7 +60,8 @@ fn print_byte(out: &mut Vec<u8>, b: u8) -> Result<(), Memory>
 
 /// The letter that stands behind a backslash for the byte, where it is escaped.
 fn escape_letter(b: u8) -> Option<u8>
-    ensures { MatchOption result (escaped b ≡ b ∷ []) (λ letter. escaped b ≡ backslash ∷ letter ∷ []) }
+    ensures { MatchOption result (escaped b ≡ b ∷ [])
+        (λ letter. escaped b ≡ backslash ∷ letter ∷ []) }
 {
     match b {
         b'\t' => Some(b't'),

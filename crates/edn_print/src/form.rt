@@ -17,7 +17,8 @@ use fb_memory::Memory;
 /// Appends the canonical text of the form. An instant that no text names, which no reader gives, is printed as the
 /// nearest one that has a text. The recursion is as deep as the form.
 pub fn print(form: &Edn, out: &mut Vec<u8>) -> Result<(), Memory>
-    ensures text { OnOk result (Appends (Canon (printable (form_of form.now))) out.old.items out.new.items) }
+    ensures text { OnOk result
+        (Appends (Canon (printable (form_of form.now))) out.old.items out.new.items) }
     // A form that a reader can give is printed as it is.
     ensures readable { OnOk result ((depth : ℕ) → IsReadable depth (form_of form.now)
         → Appends (Canon (form_of form.now)) out.old.items out.new.items) }
@@ -34,7 +35,8 @@ pub fn print(form: &Edn, out: &mut Vec<u8>) -> Result<(), Memory>
 /// On an error part of the text may stand there.
 #[cycle(print)]
 fn print_form(form: &Edn, out: &mut Vec<u8>) -> Result<(), Memory>
-    ensures ok { OnOk result (Appends (Canon (printable (form_of form.now))) out.old.items out.new.items) }
+    ensures ok { OnOk result
+        (Appends (Canon (printable (form_of form.now))) out.old.items out.new.items) }
     ensures kept { Keeps out.old.items out.new.items }
 {
     match form {

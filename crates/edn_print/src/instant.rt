@@ -23,7 +23,8 @@ const DAYS_BEFORE: u32 = 3_652_425;
 
 /// An instant in milliseconds from 1970-01-01T00:00:00Z. One that has no text is printed as the nearest that has.
 pub(crate) fn print_instant(out: &mut Vec<u8>, millis: i64) -> Result<(), Memory>
-    ensures ok { OnOk result (Appends (Canon (model.instant (nearest millis))) out.old.items out.new.items) }
+    ensures ok { OnOk result
+        (Appends (Canon (model.instant (nearest millis))) out.old.items out.new.items) }
     ensures kept { Keeps out.old.items out.new.items }
 {
     let since_first = millis.clamp(FIRST, LAST).abs_diff(FIRST);
@@ -37,7 +38,8 @@ pub(crate) fn print_instant(out: &mut Vec<u8>, millis: i64) -> Result<(), Memory
 /// The date that many days after 0001-01-01.
 fn print_date(out: &mut Vec<u8>, days: u32) -> Result<(), Memory>
     requires { days ≤ 3652058 }
-    ensures ok { OnOk result (Appends (IsDate (pos days -ℤ pos 719162)) out.old.items out.new.items) }
+    ensures ok { OnOk result
+        (Appends (IsDate (pos days -ℤ pos 719162)) out.old.items out.new.items) }
     ensures kept { Keeps out.old.items out.new.items }
 {
     let date = Date::from_days_since_min(days + DAYS_BEFORE);

@@ -15,16 +15,20 @@ pub fn one_canonical_text()
 
 /// It is a text of the form and of no other, wherever a token may end behind it.
 pub fn text_of_one_form()
-    ensures text { (depth : ℕ) (f : Form) (text rest : List ℕ) → IsReadable depth f → Canon f text → TokenEnds rest
-        → Text depth f (text ++ rest) rest }
-    ensures no_other { (depth other : ℕ) (f g : Form) (text rest after : List ℕ) → IsReadable depth f → Canon f text → TokenEnds rest
-        → Text other g (text ++ rest) after → (g ≡ f) × (after ≡ rest) }
+    ensures text { (depth : ℕ) (f : Form) (text rest : List ℕ) → IsReadable depth f → Canon f text
+        → TokenEnds rest → Text depth f (text ++ rest) rest }
+    ensures no_other { (depth other : ℕ) (f g : Form) (text rest after : List ℕ)
+        → IsReadable depth f → Canon f text → TokenEnds rest → Text other g (text ++ rest) after
+        → (g ≡ f) × (after ≡ rest) }
 {}
 
 /// Read from where it stands, it gives the form and the place behind it.
 pub fn reads_as_printed()
-    ensures stands { (f : Form) (before text rest : List ℕ) → IsReadable max_depth f → Canon f text → TokenEnds rest
+    ensures stands { (f : Form) (before text rest : List ℕ) → IsReadable max_depth f → Canon f text
+        → TokenEnds rest
         → FormStands (before ++ (text ++ rest)) (length before) f (length before + length text) }
-    ensures alone { (f g : Form) (before text rest : List ℕ) (next : ℕ) → IsReadable max_depth f → Canon f text → TokenEnds rest
-        → FormStands (before ++ (text ++ rest)) (length before) g next → (g ≡ f) × (next ≡ length before + length text) }
+    ensures alone { (f g : Form) (before text rest : List ℕ) (next : ℕ) → IsReadable max_depth f
+        → Canon f text → TokenEnds rest
+        → FormStands (before ++ (text ++ rest)) (length before) g next
+        → (g ≡ f) × (next ≡ length before + length text) }
 {}

@@ -66,7 +66,8 @@ pub(crate) fn print_key(out: &mut Vec<u8>, k: &str) -> Result<(), Memory>
 
 pub(crate) fn print_uuid(out: &mut Vec<u8>, n: u128) -> Result<(), Memory>
     ensures ok { OnOk result (out.new.items
-        ≡ out.old.items ++ (codes "#uuid " ++ string_text (hyphenated_text lower (to_be_bytes w128 n)))) }
+        ≡ out.old.items
+        ++ (codes "#uuid " ++ string_text (hyphenated_text lower (to_be_bytes w128 n)))) }
     ensures kept { Keeps out.old.items out.new.items }
 {
     append(out, b"#uuid ")?;

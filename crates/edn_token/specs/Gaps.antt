@@ -7,8 +7,10 @@ use Rattle.edn_model.specs.Grammar.{CommentStands, LastComment}
 -- from one place to a later one: a gap without discards
 pub data Blanks : List ℕ → List ℕ → Type 0 where
   no_blanks : {here : List ℕ} → Blanks here here
-  blank : {b : ℕ} {here rest : List ℕ} → is_blank b ≡ true → Blanks here rest → Blanks (b ∷ here) rest
-  comment : {here after rest : List ℕ} → CommentStands here after → Blanks after rest → Blanks here rest
+  blank : {b : ℕ} {here rest : List ℕ} → is_blank b ≡ true → Blanks here rest
+      → Blanks (b ∷ here) rest
+  comment : {here after rest : List ℕ} → CommentStands here after → Blanks after rest
+      → Blanks here rest
   last_comment : {here : List ℕ} → LastComment here → Blanks here []
 
 -- neither white space nor a comment stands here
@@ -27,7 +29,9 @@ pub record BrokenComment (here place : List ℕ) : Type 0 where
 -- how far white space and comments go, or where one of the comments is broken
 abbrev pub SkippedTo : List ℕ → Result ℕ ℕ → Type 0
 SkippedTo here (Ok n) = (n ≤ length here) × Blanks here (drop n here) × GoesNoFurther (drop n here)
-SkippedTo here (Err n) = (n < length here) × ((comment : List ℕ) × Blanks here comment × BrokenComment comment (drop n here))
+SkippedTo here (Err n) =
+    (n < length here)
+    × ((comment : List ℕ) × Blanks here comment × BrokenComment comment (drop n here))
 
 -- where a comment ends whose semicolon stands before these bytes, or where it is broken
 abbrev pub LineIs : List ℕ → Result ℕ ℕ → Type 0

@@ -56,9 +56,12 @@ pub record NoWord (token : List ℕ) : Type 0 where
 pub data Unsigned (token : List ℕ) : List ℕ → Type 0 where
   behind_plus : {body : List ℕ} → token ≡ plus ∷ body → Unsigned token body
   behind_minus : {body : List ℕ} → token ≡ minus ∷ body → Unsigned token body
-  without_sign : ((more : List ℕ) → token ≢ plus ∷ more) → ((more : List ℕ) → token ≢ minus ∷ more) → Unsigned token token
+  without_sign : ((more : List ℕ) → token ≢ plus ∷ more) → ((more : List ℕ) → token ≢ minus ∷ more)
+      → Unsigned token token
 
 -- the one byte, itself no digit, behind an optional sign and digits
 abbrev pub MarkIs : List ℕ → Option ℕ → Type 0
-MarkIs token (Some mark) = DigitsBefore mark token × ((other : ℕ) → is_digit other ≡ false → DigitsBefore other token → other ≡ mark)
+MarkIs token (Some mark) =
+    DigitsBefore mark token
+    × ((other : ℕ) → is_digit other ≡ false → DigitsBefore other token → other ≡ mark)
 MarkIs token None = (mark : ℕ) → is_digit mark ≡ false → ¬ DigitsBefore mark token

@@ -6,4 +6,6 @@ use Rattle.edn_model.specs.Tokens.{IsName, Joined, begins_symbol}
 
 -- a symbol, or one of the words that are tokens of their own
 abbrev pub IsSymbolOrWord : List ℕ → Type 0
-IsSymbolOrWord bytes = (bytes ≡ slash ∷ []) ⊎ (IsTrue (begins_symbol bytes) × (IsName bytes ⊎ Joined IsName IsName bytes))
+IsSymbolOrWord bytes =
+    (bytes ≡ slash ∷ [])
+    ⊎ (IsTrue (begins_symbol bytes) × (IsName bytes ⊎ Joined IsName IsName bytes))

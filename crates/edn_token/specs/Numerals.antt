@@ -8,8 +8,10 @@ use Rattle.edn_token.specs.declared.number.Number.TheVariants.{Long, Wide}
 -- the integer that the sign makes of their number, where they are digits without a leading zero
 abbrev pub DigitsAre : (ℕ → ℤ) → List ℕ → Option Number → Type 0
 DigitsAre sign digits None = ¬ IsDecimal (number digits) digits
-DigitsAre sign digits (Some (Long z)) = IsDecimal (number digits) digits × (z ≡ sign (number digits))
-DigitsAre sign digits (Some Wide) = IsDecimal (number digits) digits × (is_long (sign (number digits)) ≡ false)
+DigitsAre sign digits (Some (Long z)) =
+    IsDecimal (number digits) digits × (z ≡ sign (number digits))
+DigitsAre sign digits (Some Wide) =
+    IsDecimal (number digits) digits × (is_long (sign (number digits)) ≡ false)
 
 -- the integer that a token is
 abbrev pub NumeralIs : List ℕ → Option Number → Type 0

@@ -21,7 +21,10 @@ pub record Spelled (here text rest : List ℕ) : Type 0 where
 
 -- what stands next within a string
 abbrev pub PieceIs : List ℕ → Piece → Type 0
-PieceIs here (Plain s) = (0 < length s.now) × (length s.now ≤ length here) × Spelled here s.now (drop (length s.now) here)
+PieceIs here (Plain s) =
+    (0 < length s.now)
+    × (length s.now ≤ length here)
+    × Spelled here s.now (drop (length s.now) here)
 PieceIs here (Char c n) = (0 < n) × (n ≤ length here) × Spelled here (encode_utf8 c) (drop n here)
 PieceIs here Quote = here ≡ quote ∷ drop 1 here
 PieceIs here (BadPiece n) = (n < length here) × StringFault here bad (drop n here)
@@ -29,7 +32,8 @@ PieceIs here CutPiece = StringFault here cut []
 
 -- the string and the place behind its second quote, or why there is none; want of memory says nothing
 abbrev pub StringIs : List ℕ → Result (Text × ℕ) StringStop → Type 0
-StringIs inside (Ok p) = (0 < p.1) × (p.1 ≤ length inside) × StringStands p.0 (quote ∷ inside) (drop p.1 inside)
+StringIs inside (Ok p) =
+    (0 < p.1) × (p.1 ≤ length inside) × StringStands p.0 (quote ∷ inside) (drop p.1 inside)
 StringIs inside (Err (Bad n)) = (n < length inside) × StringFault inside bad (drop n inside)
 StringIs inside (Err Cut) = StringFault inside cut []
 StringIs inside (Err Memory) = Unit {0}

@@ -9,7 +9,8 @@ use std::str;
 
 /// The bytes as a text, or how many of them are whole characters before the first that begins none.
 pub(crate) fn characters(bytes: &[u8]) -> Result<&str, usize>
-    ensures { MatchResult result (λ s. (s.now ≡ bytes.now) × IsUtf8 bytes.now) (IsValidUpTo bytes.now) }
+    ensures { MatchResult result (λ s. (s.now ≡ bytes.now) × IsUtf8 bytes.now)
+        (IsValidUpTo bytes.now) }
 {
     match str::from_utf8(bytes) {
         Ok(s) => Ok(s),

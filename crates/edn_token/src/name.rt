@@ -39,7 +39,8 @@ fn is_reserved(s: &str) -> bool
 
 /// Whether the bytes are one name of a keyword, or two joined by a slash.
 pub(crate) fn are_keyword_names(text: &[u8]) -> bool
-    ensures { IsTrue result ↔ (IsKeywordName text.now ⊎ Joined IsKeywordName IsKeywordName text.now) }
+    ensures { IsTrue result
+        ↔ (IsKeywordName text.now ⊎ Joined IsKeywordName IsKeywordName text.now) }
 {
     let (first, rest) = split_name(text);
     let Some((b, second)) = rest.split_first() else {

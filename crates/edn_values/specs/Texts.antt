@@ -6,7 +6,8 @@ use Rattle.fb_model.specs.Words.{is_digit, is_slash, has_namespace, begins_with_
 
 -- the parts before and behind the first slash
 abbrev pub cut_at_slash : List ℕ → Option (List ℕ × List ℕ)
-cut_at_slash text = cond (has_namespace text) (Some (before_first is_slash text, after_first is_slash text)) None
+cut_at_slash text =
+    cond (has_namespace text) (Some (before_first is_slash text, after_first is_slash text)) None
 
 abbrev pub is_symbol_start : List ℕ → Bool
 is_symbol_start [] = false

@@ -21,7 +21,8 @@ entity_of (negsuc n) = None
 -- the value that the form is under the type: an integer may be an entity, and under every other type a form is the plain
 -- value that it is in a transaction
 abbrev pub value_of_form : ℕ → Form → Option Value
-value_of_form kind (edn.integer z) = cond (nat_eq kind type_ref) (entity_of z) (value_in kind (edn.integer z))
+value_of_form kind (edn.integer z) =
+    cond (nat_eq kind type_ref) (entity_of z) (value_in kind (edn.integer z))
 value_of_form kind f = value_in kind f
 
 -- the integer of an entity's number; no entity of a history has one above the greatest integer

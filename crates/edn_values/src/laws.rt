@@ -11,12 +11,14 @@ ghost use Rattle.edn_values.specs.Values.{value_of_form, form_of_value, is_print
 
 /// What is read of a value's form under the value's type is the value.
 pub fn read_as_printed()
-    ensures { (v : Value) → IsTrue (is_of_type (type_of v) v) → IsTrue (is_printed_whole v) → value_of_form (type_of v) (form_of_value v) ≡ Some v }
+    ensures { (v : Value) → IsTrue (is_of_type (type_of v) v) → IsTrue (is_printed_whole v)
+        → value_of_form (type_of v) (form_of_value v) ≡ Some v }
 {}
 
 /// But for entities, a form is the value that it is in a transaction.
 pub fn forms_of_other_types()
-    ensures other { (kind : ℕ) (f : Form) → kind ≢ type_ref → value_of_form kind f ≡ value_in kind f }
+    ensures other { (kind : ℕ) (f : Form) → kind ≢ type_ref
+        → value_of_form kind f ≡ value_in kind f }
     ensures entity { (e : ℕ) → value_of_form type_ref (edn.integer (pos e)) ≡ Some (Ref e) }
     ensures below { (n : ℕ) → value_of_form type_ref (edn.integer (negsuc n)) ≡ None }
 {}
@@ -28,12 +30,15 @@ pub fn forms_of_values()
     ensures no_entity { value_of_form type_ref (edn.integer (negsuc 0)) ≡ None }
     ensures no_long { value_of_form type_long (edn.string (codes "5")) ≡ None }
     ensures no_type { value_of_form 9 (edn.integer (pos 5)) ≡ None }
-    ensures string { value_of_form type_string (edn.string (codes "http://a")) ≡ Some (Str (codes "http://a")) }
-    ensures uri { value_of_form type_uri (edn.string (codes "http://a")) ≡ Some (Uri (codes "http://a")) }
+    ensures string { value_of_form type_string (edn.string (codes "http://a"))
+        ≡ Some (Str (codes "http://a")) }
+    ensures uri { value_of_form type_uri (edn.string (codes "http://a"))
+        ≡ Some (Uri (codes "http://a")) }
     ensures no_uri { value_of_form type_uri (edn.string (codes "a b")) ≡ None }
     ensures nil { value_of_form type_string edn.nil ≡ None }
     ensures late { value_of_form type_instant (edn.instant (pos 253402300800000)) ≡ None }
-    ensures keyword { value_of_form type_keyword (edn.keyword (codes "a/b")) ≡ Some (Keyword (codes "a/b")) }
+    ensures keyword { value_of_form type_keyword (edn.keyword (codes "a/b"))
+        ≡ Some (Keyword (codes "a/b")) }
     ensures no_keyword { value_of_form type_keyword (edn.keyword (codes "a b")) ≡ None }
     ensures printed_entity { form_of_value (Ref 17) ≡ edn.integer (pos 17) }
     ensures printed_uri { form_of_value (Uri (codes "http://a")) ≡ edn.string (codes "http://a") }

@@ -64,7 +64,8 @@ fn is_keyword_name(text: &str) -> bool
 
 /// The parts before and behind the first slash, where there is one.
 pub fn split(text: &str) -> Option<(&str, &str)>
-    ensures { option_map {U = List ℕ × List ℕ} (λ parts. (parts.0.now, parts.1.now)) result ≡ cut_at_slash text.now }
+    ensures { option_map {U = List ℕ × List ℕ} (λ parts. (parts.0.now, parts.1.now)) result
+        ≡ cut_at_slash text.now }
 {
     text.split_once('/')
 }
@@ -116,7 +117,8 @@ fn is_symbol_start(text: &[u8]) -> bool
 }
 
 fn is_word_of_a_value(text: &str) -> bool
-    ensures { result ≡ list_any (bytes_eq text.now) (codes "nil" ∷ codes "true" ∷ codes "false" ∷ []) }
+    ensures { result
+        ≡ list_any (bytes_eq text.now) (codes "nil" ∷ codes "true" ∷ codes "false" ∷ []) }
 {
     text == "nil" || text == "true" || text == "false"
 }

@@ -43,18 +43,21 @@ IsOutOfMemory outcome = OutOfMemory outcome.status (string_bytes outcome.line)
 -- of which there is something to say
 abbrev pub EndsAs : List ℕ → SessionEnd → ℕ → List ℕ → Type 0
 EndsAs name ended.Done status line = (status ≡ 0) × (line ≡ [])
-EndsAs name how status line = ((status ≡ status_of how) × (line ≡ line_of name how)) ⊎ OutOfMemory status line
+EndsAs name how status line =
+    ((status ≡ status_of how) × (line ≡ line_of name how)) ⊎ OutOfMemory status line
 
 -- ---- how far it came
 
 -- the host could not open the script's source or its sink
-pub record CannotOpen {I O D : Type 0} (told : Told) (new : ℕ) (name : List ℕ) (outcome : Outcome I O D) : Type 0 where
+pub record CannotOpen {I O D : Type 0} (told : Told) (new : ℕ) (name : List ℕ)
+    (outcome : Outcome I O D) : Type 0 where
   pub says : Says outcome 2 (cannot_open name)
   pub host : Rose told.faults new
 
 -- The script was opened, its source and sink with these counts of faults, and its session ended so. No count rose but that of the
 -- object whose fault ended it.
-pub record HasRun {I O D : Type 0} (tells : Tells I O) (source_had sink_had : ℕ) (name : List ℕ) (outcome : Outcome I O D) : Type 0 where
+pub record HasRun {I O D : Type 0} (tells : Tells I O) (source_had sink_had : ℕ) (name : List ℕ)
+    (outcome : Outcome I O D) : Type 0 where
   pub session : SessionOut I O
   pub alone : outcome.sessions.items ≡ session ∷ []
   pub last : IsSome outcome.last
@@ -70,8 +73,11 @@ HasBegun tells source_had sink_had name outcome =
 
 -- Where the words are no command nothing is done; where they are one, its script is opened and its session runs. Only want of memory
 -- may come in between, at any place.
-abbrev pub Causes : {I O D : Type 0} → Told → Tells I O → ℕ → Option Command → Outcome I O D → Type 0
-Causes told tells new None outcome = NoSession outcome × (Says outcome 1 usage ⊎ IsOutOfMemory outcome) × (new ≡ told.faults)
+abbrev pub Causes : {I O D : Type 0} → Told → Tells I O → ℕ → Option Command → Outcome I O D
+    → Type 0
+Causes told tells new None outcome =
+    NoSession outcome × (Says outcome 1 usage ⊎ IsOutOfMemory outcome) × (new ≡ told.faults)
 Causes told tells new (Some (run name)) outcome =
     (NoSession outcome × (CannotOpen told new name outcome ⊎ IsOutOfMemory outcome))
-    ⊎ (HasBegun tells (told.source_faults name) (told.sink_faults (sink_of name)) name outcome × (new ≡ told.faults))
+    ⊎ (HasBegun tells (told.source_faults name) (told.sink_faults (sink_of name)) name outcome
+    × (new ≡ told.faults))

@@ -25,31 +25,41 @@ pub record HoldsForms (held : Option (List ℕ)) (forms : List Form) : Type 0 wh
   pub read : Script script forms whole
 
 -- no count of faults rose: not the host's, nor that of a session's source or sink
-pub record NoneRose {I O D : Type 0} (told : Told) (tells : Tells I O) (new : ℕ) (name : List ℕ) (outcome : Outcome I O D) : Type 0 where
+pub record NoneRose {I O D : Type 0} (told : Told) (tells : Tells I O) (new : ℕ) (name : List ℕ)
+    (outcome : Outcome I O D) : Type 0 where
   pub host : ¬ Rose told.faults new
-  pub sources : AllByRecursion (λ (s : SessionOut I O). ¬ Rose (told.source_faults name) (tells.source_faults s.source)) outcome.sessions.items
-  pub sinks : AllByRecursion (λ (s : SessionOut I O). ¬ Rose (told.sink_faults (sink_of name)) (tells.sink_faults s.sink)) outcome.sessions.items
+  pub sources : AllByRecursion
+      (λ (s : SessionOut I O). ¬ Rose (told.source_faults name) (tells.source_faults s.source))
+      outcome.sessions.items
+  pub sinks : AllByRecursion
+      (λ (s : SessionOut I O). ¬ Rose (told.sink_faults (sink_of name)) (tells.sink_faults s.sink))
+      outcome.sessions.items
 
 -- each of the forms has its line, and the sink gained nothing else
-pub record EachHasItsLine (s : Setting) (forms : List Form) (had has : Option (List ℕ)) (places commits : List ℕ) : Type 0 where
+pub record EachHasItsLine (s : Setting) (forms : List Form) (had has : Option (List ℕ))
+    (places commits : List ℕ) : Type 0 where
   pub lines : List (List ℕ)
   pub after : Standing
   pub talk : Talk s (opened_at 0) forms places commits lines after
   pub gained : has ≡ append_known had (concat lines)
 
 -- the run succeeded, and its one session answered all forms; the log, of which there is none, has not stopped
-pub record AnsweredWhole {I O D : Type 0} (terms : Fixed) (told : Told) (tells : Tells I O) (name : List ℕ) (forms : List Form) (outcome : Outcome I O D) : Type 0 where
+pub record AnsweredWhole {I O D : Type 0} (terms : Fixed) (told : Told) (tells : Tells I O)
+    (name : List ℕ) (forms : List Form) (outcome : Outcome I O D) : Type 0 where
   pub succeeded : outcome.status ≡ 0
   pub session : SessionOut I O
   pub alone : outcome.sessions.items ≡ session ∷ []
   pub last : Kept
   pub kept : outcome.last ≡ Some last
-  pub each : EachHasItsLine (setting_of terms last.entries None false) forms (told.sinks (sink_of name)) (tells.contents session.sink) session.places session.commits
+  pub each : EachHasItsLine (setting_of terms last.entries None false) forms
+      (told.sinks (sink_of name)) (tells.contents session.sink) session.places session.commits
 
 -- Where the words are a command, its script is forms within the limits, and no count of faults rises, each form is
 -- answered, or memory was refused.
-abbrev pub Complete : {I O D : Type 0} → Fixed → Told → Tells I O → ℕ → Option Command → Outcome I O D → Type 0
+abbrev pub Complete : {I O D : Type 0} → Fixed → Told → Tells I O → ℕ → Option Command
+    → Outcome I O D → Type 0
 Complete terms told tells new None outcome = Unit {0}
 Complete terms told tells new (Some (run name)) outcome =
-    (forms : List Form) → HoldsForms (told.sources name) forms → NoneRose told tells new name outcome
+    (forms : List Form) → HoldsForms (told.sources name) forms
+    → NoneRose told tells new name outcome
     → AnsweredWhole terms told tells name forms outcome ⊎ IsOutOfMemory outcome

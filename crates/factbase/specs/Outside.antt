@@ -27,7 +27,8 @@ pub record Tells (I O : Type 0) : Type 0 where
 
 -- what a session is answered by on these terms, over a history that may have a stop
 abbrev pub setting_of : Fixed → List Entry → Option ℕ → Bool → Setting
-setting_of terms h stop teller = setting terms.may terms.Selects terms.guard terms.is_filter h stop teller
+setting_of terms h stop teller =
+    setting terms.may terms.Selects terms.guard terms.is_filter h stop teller
 
 -- ---- its scripts
 

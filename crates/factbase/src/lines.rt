@@ -75,7 +75,8 @@ fn fault_line(alloc: Global, name: &str, fault: EdnFault) -> Result<String, Memo
 }
 
 fn at_byte(alloc: Global, name: &str, what: &str, at: usize) -> Result<String, Memory>
-    ensures { IfOk result (λ line. string_bytes line ≡ script_line name.now (what.now ++ (codes " at byte " ++ decimal at))) }
+    ensures { IfOk result (λ line. string_bytes line
+        ≡ script_line name.now (what.now ++ (codes " at byte " ++ decimal at))) }
 {
     Ok(format!(in alloc; "factbase: script {name}: {what} at byte {at}")?)
 }

@@ -37,29 +37,75 @@ pub fn run<R: Threads + Wait + Sync, H: Host, K: Clock, G: Guard<Snapshot>, P: F
     guard: &G,
 ) -> Outcome<H::In, H::Out, H::Disk>
     // The accepted transactions form one lawful history, in which each has one author.
-    ensures one_history { IfSome result.last (λ last. OneHistory last.entries result.recovered (unwrap_or result.authors []) (map (λ s. s.commits) result.sessions.items)) }
+    ensures one_history { IfSome result.last (λ last. OneHistory last.entries result.recovered
+        (unwrap_or result.authors []) (map (λ s. s.commits) result.sessions.items)) }
 
     // Each line answers its form as a database with one thread would at its place in the history.
     ensures replies { IfSome result.last (λ last. EachReplies
-        (record { may = K.may_answer clock.now; guard = G.bars guard.now; is_filter = λ name. is_some (P.place_of preds.now name); Selects = selected_by (P.place_of preds.now) (P.selects_at preds.now) })
-        (record { sources = H.sources host.old; source_faults = H.source_faults host.old; sinks = H.sinks host.old; sink_faults = H.sink_faults host.old; faults = H.faults host.old })
-        (record { left = H.In.left; source_faults = H.In.faults; contents = H.Out.contents; sink_faults = H.Out.faults })
+        (record {
+          may = K.may_answer clock.now;
+          guard = G.bars guard.now;
+          is_filter = λ name. is_some (P.place_of preds.now name);
+          Selects = selected_by (P.place_of preds.now) (P.selects_at preds.now);
+        })
+        (record {
+          sources = H.sources host.old;
+          source_faults = H.source_faults host.old;
+          sinks = H.sinks host.old;
+          sink_faults = H.sink_faults host.old;
+          faults = H.faults host.old;
+        })
+        (record {
+          left = H.In.left;
+          source_faults = H.In.faults;
+          contents = H.Out.contents;
+          sink_faults = H.Out.faults;
+        })
         (command_of (map string_bytes words.now.items)) result last.entries) }
 
     // Each line rests on a prefix of the history that has all that its session had seen.
-    ensures prefixes { IfSome result.last (λ last. AllByRecursion (λ s. Prefixes result.recovered (basis last.entries) s.places s.commits) result.sessions.items) }
+    ensures prefixes { IfSome result.last (λ last. AllByRecursion
+        (λ s. Prefixes result.recovered (basis last.entries) s.places s.commits)
+        result.sessions.items) }
 
     // Each status and its line have their cause.
     ensures causes { Causes
-        (record { sources = H.sources host.old; source_faults = H.source_faults host.old; sinks = H.sinks host.old; sink_faults = H.sink_faults host.old; faults = H.faults host.old })
-        (record { left = H.In.left; source_faults = H.In.faults; contents = H.Out.contents; sink_faults = H.Out.faults })
+        (record {
+          sources = H.sources host.old;
+          source_faults = H.source_faults host.old;
+          sinks = H.sinks host.old;
+          sink_faults = H.sink_faults host.old;
+          faults = H.faults host.old;
+        })
+        (record {
+          left = H.In.left;
+          source_faults = H.In.faults;
+          contents = H.Out.contents;
+          sink_faults = H.Out.faults;
+        })
         (H.faults host.new) (command_of (map string_bytes words.now.items)) result }
 
     // A script that is forms within the limits is answered whole where no count of faults rises, unless memory is refused.
     ensures complete { Complete
-        (record { may = K.may_answer clock.now; guard = G.bars guard.now; is_filter = λ name. is_some (P.place_of preds.now name); Selects = selected_by (P.place_of preds.now) (P.selects_at preds.now) })
-        (record { sources = H.sources host.old; source_faults = H.source_faults host.old; sinks = H.sinks host.old; sink_faults = H.sink_faults host.old; faults = H.faults host.old })
-        (record { left = H.In.left; source_faults = H.In.faults; contents = H.Out.contents; sink_faults = H.Out.faults })
+        (record {
+          may = K.may_answer clock.now;
+          guard = G.bars guard.now;
+          is_filter = λ name. is_some (P.place_of preds.now name);
+          Selects = selected_by (P.place_of preds.now) (P.selects_at preds.now);
+        })
+        (record {
+          sources = H.sources host.old;
+          source_faults = H.source_faults host.old;
+          sinks = H.sinks host.old;
+          sink_faults = H.sink_faults host.old;
+          faults = H.faults host.old;
+        })
+        (record {
+          left = H.In.left;
+          source_faults = H.In.faults;
+          contents = H.Out.contents;
+          sink_faults = H.Out.faults;
+        })
         (H.faults host.new) (command_of (map string_bytes words.now.items)) result }
 
     // What the history stands on, and the parts that nothing fills yet.
@@ -83,10 +129,14 @@ fn open<'a, H: Host>(
     name: &'a str,
 ) -> Result<Opened<'a, H::In, H::Out>, OpenFail>
     ensures name { IfOk result (λ (opened : _). opened.name.now ≡ name.now) }
-    ensures source { IfOk result (λ (opened : _). H.In.left opened.source ≡ H.sources host.old name.now) }
-    ensures source_count { IfOk result (λ (opened : _). H.In.faults opened.source ≡ H.source_faults host.old name.now) }
-    ensures sink { IfOk result (λ (opened : _). H.Out.contents opened.sink ≡ H.sinks host.old (sink_of name.now)) }
-    ensures sink_count { IfOk result (λ (opened : _). H.Out.faults opened.sink ≡ H.sink_faults host.old (sink_of name.now)) }
+    ensures source { IfOk result
+        (λ (opened : _). H.In.left opened.source ≡ H.sources host.old name.now) }
+    ensures source_count { IfOk result
+        (λ (opened : _). H.In.faults opened.source ≡ H.source_faults host.old name.now) }
+    ensures sink { IfOk result
+        (λ (opened : _). H.Out.contents opened.sink ≡ H.sinks host.old (sink_of name.now)) }
+    ensures sink_count { IfOk result
+        (λ (opened : _). H.Out.faults opened.sink ≡ H.sink_faults host.old (sink_of name.now)) }
     ensures counted { CountsOpening result (H.faults host.old) (H.faults host.new) }
 {
     let source = host.source(alloc, name)?;
@@ -120,12 +170,34 @@ fn run_session<
     preds: &P,
     guard: &G,
 ) -> Outcome<I, O, D>
-    ensures one_history { IfSome result.last (λ last. OneHistory last.entries result.recovered (unwrap_or result.authors []) (map (λ s. s.commits) result.sessions.items)) }
+    ensures one_history { IfSome result.last (λ last. OneHistory last.entries result.recovered
+        (unwrap_or result.authors []) (map (λ s. s.commits) result.sessions.items)) }
     ensures replies { IfSome result.last (λ last. RepliesAlone
-        (record { may = K.may_answer clock.now; guard = G.bars guard.now; is_filter = λ name. is_some (P.place_of preds.now name); Selects = selected_by (P.place_of preds.now) (P.selects_at preds.now) })
-        (I.left script.entry.source) (O.contents script.entry.sink) (record { left = I.left; source_faults = I.faults; contents = O.contents; sink_faults = O.faults }) result last.entries) }
-    ensures prefixes { IfSome result.last (λ last. AllByRecursion (λ s. Prefixes result.recovered (basis last.entries) s.places s.commits) result.sessions.items) }
-    ensures causes { HasBegun (record { left = I.left; source_faults = I.faults; contents = O.contents; sink_faults = O.faults }) (I.faults script.entry.source) (O.faults script.entry.sink) script.entry.name.now result }
+        (record {
+          may = K.may_answer clock.now;
+          guard = G.bars guard.now;
+          is_filter = λ name. is_some (P.place_of preds.now name);
+          Selects = selected_by (P.place_of preds.now) (P.selects_at preds.now);
+        })
+        (I.left script.entry.source) (O.contents script.entry.sink)
+        (record {
+          left = I.left;
+          source_faults = I.faults;
+          contents = O.contents;
+          sink_faults = O.faults;
+        })
+        result last.entries) }
+    ensures prefixes { IfSome result.last (λ last. AllByRecursion
+        (λ s. Prefixes result.recovered (basis last.entries) s.places s.commits)
+        result.sessions.items) }
+    ensures causes { HasBegun
+        (record {
+          left = I.left;
+          source_faults = I.faults;
+          contents = O.contents;
+          sink_faults = O.faults;
+        })
+        (I.faults script.entry.source) (O.faults script.entry.sink) script.entry.name.now result }
     ensures covered { IfSome result.last (λ last. result.covered ≡ last.covered) }
     ensures no_device { HasNoDevice result }
 {

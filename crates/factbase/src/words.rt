@@ -8,7 +8,8 @@ use std::alloc::Global;
 
 /// The script that is to be run, where the words behind the program's name are a command.
 pub(crate) fn script_in(words: &[String]) -> Option<&str>
-    ensures { option_map (λ script. run script.now) result ≡ command_of (map string_bytes words.now) }
+    ensures { option_map (λ script. run script.now) result
+        ≡ command_of (map string_bytes words.now) }
 {
     let [verb, directory, script] = words else {
         return None;

@@ -17,6 +17,7 @@ asked Unfilter = model.unfilter
 asked RequestIndex = model.request_index
 asked (Datoms order components) = model.datoms order (forms_of components.now)
 asked (Seek order components) = model.seek order (forms_of components.now)
-asked (IndexRange a start end) = model.index_range (form_of a.now) (form_of start.now) (form_of end.now)
+asked (IndexRange a start end) =
+    model.index_range (form_of a.now) (form_of start.now) (form_of end.now)
 asked (TxRange start end) = model.tx_range (form_of start.now) (form_of end.now)
 asked (Pull pattern entity) = model.pull (form_of pattern.now) (form_of entity.now)

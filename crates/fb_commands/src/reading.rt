@@ -22,7 +22,8 @@ pub fn command_in(form: &Edn) -> Option<Command<'_>>
 }
 
 fn command_of(members: &[Edn]) -> Option<Command<'_>>
-    ensures { option_map (λ command. asked command) result ≡ model.command_of (forms_of members.now) }
+    ensures { option_map (λ command. asked command) result
+        ≡ model.command_of (forms_of members.now) }
 {
     match members.split_first()? {
         (Edn::Key(word), behind) => command_named(word.as_str(), behind),
@@ -33,7 +34,8 @@ fn command_of(members: &[Edn]) -> Option<Command<'_>>
 /// The command that the word begins, where these forms stand behind it.
 fn command_named<'a>(word: &str, behind: &'a [Edn]) -> Option<Command<'a>>
     ensures { option_map (λ command. asked command) result
-        ≡ option_and_then (λ command. command) (model.beside word.now (model.before (forms_of behind.now))) }
+        ≡ option_and_then (λ command. command)
+        (model.beside word.now (model.before (forms_of behind.now))) }
 {
     match behind {
         [] => alone(word),
@@ -45,7 +47,8 @@ fn command_named<'a>(word: &str, behind: &'a [Edn]) -> Option<Command<'a>>
 }
 
 fn alone<'a>(word: &str) -> Option<Command<'a>>
-    ensures { option_map (λ command. asked command) result ≡ option_and_then (λ command. command) (model.beside word.now (model.before [])) }
+    ensures { option_map (λ command. asked command) result
+        ≡ option_and_then (λ command. command) (model.beside word.now (model.before [])) }
 {
     match word {
         "db" => Some(Command::Db),
@@ -59,7 +62,8 @@ fn alone<'a>(word: &str) -> Option<Command<'a>>
 
 fn before_one<'a>(word: &str, x: &'a Edn) -> Option<Command<'a>>
     ensures { option_map (λ command. asked command) result
-        ≡ option_and_then (λ command. command) (model.beside word.now (model.before (form_of x.now ∷ []))) }
+        ≡ option_and_then (λ command. command)
+        (model.beside word.now (model.before (form_of x.now ∷ []))) }
 {
     match word {
         "transact" => Some(Command::Transact(x)),
@@ -73,7 +77,8 @@ fn before_one<'a>(word: &str, x: &'a Edn) -> Option<Command<'a>>
 fn before_two<'a>(word: &str, x: &'a Edn, y: &'a Edn, rest: &'a [Edn]) -> Option<Command<'a>>
     requires { forms_of rest.now ≡ form_of y.now ∷ [] }
     ensures { option_map (λ command. asked command) result
-        ≡ option_and_then (λ command. command) (model.beside word.now (model.before (form_of x.now ∷ form_of y.now ∷ []))) }
+        ≡ option_and_then (λ command. command)
+        (model.beside word.now (model.before (form_of x.now ∷ form_of y.now ∷ []))) }
 {
     match word {
         "tx-range" => Some(Command::TxRange(x, y)),
@@ -91,7 +96,8 @@ fn before_three<'a>(
 ) -> Option<Command<'a>>
     requires { forms_of rest.now ≡ form_of y.now ∷ form_of z.now ∷ [] }
     ensures { option_map (λ command. asked command) result
-        ≡ option_and_then (λ command. command) (model.beside word.now (model.before (form_of x.now ∷ form_of y.now ∷ form_of z.now ∷ []))) }
+        ≡ option_and_then (λ command. command) (model.beside word.now
+        (model.before (form_of x.now ∷ form_of y.now ∷ form_of z.now ∷ []))) }
 {
     match word {
         "index-range" => Some(Command::IndexRange(x, y, z)),
@@ -102,7 +108,8 @@ fn before_three<'a>(
 /// A command that begins with an index.
 fn of_an_index<'a>(word: &str, index: &'a Edn, components: &'a [Edn]) -> Option<Command<'a>>
     ensures { option_map (λ command. asked command) result
-        ≡ option_and_then (λ command. command) (model.beside word.now (model.of_an_index (form_of index.now) (forms_of components.now))) }
+        ≡ option_and_then (λ command. command)
+        (model.beside word.now (model.of_an_index (form_of index.now) (forms_of components.now))) }
 {
     match word {
         "datoms" => Some(Command::Datoms(order_in(index)?, components)),

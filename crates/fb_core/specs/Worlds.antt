@@ -9,7 +9,8 @@ use Rattle.fb_core.specs.declared.shared.CoreParts.{CoreParts}
 abbrev pub commits_behind : ℕ → ℕ → List ℕ → List ℕ
 commits_behind t s [] = []
 commits_behind t s (author ∷ authors) =
-    cond (nat_eq s author) ((t + 1) ∷ commits_behind (t + 1) s authors) (commits_behind (t + 1) s authors)
+    cond (nat_eq s author) ((t + 1) ∷ commits_behind (t + 1) s authors)
+    (commits_behind (t + 1) s authors)
 
 pub record IsCoreOf (core : CoreParts) (world : World) : Type 0 where
   pub history : world.history ≡ core.snapshot.entries

@@ -73,9 +73,12 @@ impl Core {
         author: u32,
         guard: &G,
     ) -> Result<Draft, TxStop>
-        ensures accepted { IfOk result (λ draft. model.step self.now.snapshot.entries (form_of asked.now) now (G.bars guard.now) ≡ model.accepted (entry_of draft) draft.tempids.items) }
+        ensures accepted { IfOk result (λ draft. model.step self.now.snapshot.entries
+            (form_of asked.now) now (G.bars guard.now)
+            ≡ model.accepted (entry_of draft) draft.tempids.items) }
         ensures draft { IfOk result (λ draft. IsDraftOf self.now author draft) }
-        ensures refused { IfErr result (λ stop. Tells stop (model.step self.now.snapshot.entries (form_of asked.now) now (G.bars guard.now))) }
+        ensures refused { IfErr result (λ stop. Tells stop
+            (model.step self.now.snapshot.entries (form_of asked.now) now (G.bars guard.now))) }
     {
         an_accepted_entry_is_lawful();
         let accepted = self.accepted(asked, now, guard)?;
@@ -92,8 +95,11 @@ impl Core {
         now: i64,
         guard: &G,
     ) -> Result<Accepted, TxStop>
-        ensures accepted { IfOk result (λ done. model.step self.now.snapshot.entries (form_of asked.now) now (G.bars guard.now) ≡ model.accepted done.entry done.tempids.items) }
-        ensures refused { IfErr result (λ stop. Tells stop (model.step self.now.snapshot.entries (form_of asked.now) now (G.bars guard.now))) }
+        ensures accepted { IfOk result (λ done. model.step self.now.snapshot.entries
+            (form_of asked.now) now (G.bars guard.now)
+            ≡ model.accepted done.entry done.tempids.items) }
+        ensures refused { IfErr result (λ stop. Tells stop
+            (model.step self.now.snapshot.entries (form_of asked.now) now (G.bars guard.now))) }
         ensures stands { CoreStands self.now }
     {
         let snapshot = self.snapshot();

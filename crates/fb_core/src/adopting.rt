@@ -20,11 +20,13 @@ impl Core {
 
     /// Its latest value over trees that were made of those of an older one. What came since is live.
     pub fn rebase(&self, begin: &Snapshot, roots: Roots) -> Result<Rebased, Memory>
-        requires begins { upto self.now.snapshot.entries (basis begin.now.entries) ≡ begin.now.entries }
+        requires begins { upto self.now.snapshot.entries (basis begin.now.entries)
+            ≡ begin.now.entries }
         requires roots { RootStands (trees_of roots) begin.now.entries (basis begin.now.entries) }
         ensures rebase { IfOk result (λ rebased. IsRebaseOf self.now rebased) }
         ensures roots { IfOk result (λ rebased. rebased.snapshot.roots ≡ roots) }
-        ensures covered { IfOk result (λ rebased. rebased.snapshot.covered ≡ basis begin.now.entries) }
+        ensures covered { IfOk result
+            (λ rebased. rebased.snapshot.covered ≡ basis begin.now.entries) }
     {
         let snapshot = self.snapshot().rebased(begin, roots)?;
         Ok(Rebased { snapshot })

@@ -27,16 +27,22 @@ impl Model for Covers {
 
     ghost Value = { Coverage };
 
-    ghost view = { λ c. record { avet = (arc_value c.avet).items; vaet = (arc_value c.vaet).items } };
+    ghost view = { λ c. record {
+      avet = (arc_value c.avet).items;
+      vaet = (arc_value c.vaet).items;
+    } };
 
-    ghost invariant = { λ c. IsNonDecreasing (arc_value c.avet).items × IsNonDecreasing (arc_value c.vaet).items };
+    ghost invariant = { λ c. IsNonDecreasing (arc_value c.avet).items
+        × IsNonDecreasing (arc_value c.vaet).items };
 }
 
 impl Covers {
     /// The attributes in any order.
     pub fn of(alloc: Global, avet: Vec<u64>, vaet: Vec<u64>) -> Result<Covers, Memory>
-        ensures avet { IfOk result (λ c. (a : ℕ) → IsTrue (covers c Avet a) ↔ Contains avet.items a) }
-        ensures vaet { IfOk result (λ c. (a : ℕ) → IsTrue (covers c Vaet a) ↔ Contains vaet.items a) }
+        ensures avet { IfOk result
+            (λ c. (a : ℕ) → IsTrue (covers c Avet a) ↔ Contains avet.items a) }
+        ensures vaet { IfOk result
+            (λ c. (a : ℕ) → IsTrue (covers c Vaet a) ↔ Contains vaet.items a) }
     {
         let (mut avet, mut vaet) = (avet, vaet);
         avet.sort_unstable();

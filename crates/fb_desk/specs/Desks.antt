@@ -55,12 +55,14 @@ pub record GoesOn (old new : State) : Type 0 where
 
 -- The transaction is the last of the history that is seen now: its entry is what the step gives after the entries before
 -- it, which have all that was seen, at a number that the clock may read.
-pub record IsReceipt (may : ℤ → Type 0) (guard : Guard) (asked : Form) (old new : State) (receipt : Receipt) : Type 0 where
+pub record IsReceipt (may : ℤ → Type 0) (guard : Guard) (asked : Form) (old new : State)
+    (receipt : Receipt) : Type 0 where
   pub others : List Entry
   pub reading : ℤ
   pub may_be : may reading
   pub entry : Entry
-  pub step_is : step (old.entries ++ others) asked reading guard ≡ accepted entry receipt.tempids.items
+  pub step_is : step (old.entries ++ others) asked reading guard
+      ≡ accepted entry receipt.tempids.items
   pub entries : new.entries ≡ (old.entries ++ others) ++ entry ∷ []
   pub t : receipt.t ≡ basis new.entries
   pub instant : receipt.instant ≡ entry.instant
@@ -75,12 +77,14 @@ pub record IsNotAccepted (old new : State) (snapshot : Kept) : Type 0 where
   pub snapshot_is : snapshot.entries ≡ new.entries
 
 -- it is refused at the history that is seen now, whatever the clock reads
-pub record IsRefusal (guard : Guard) (asked : Form) (old new : State) (refusal : Refusal) (snapshot : Kept) : Type 0 where
+pub record IsRefusal (guard : Guard) (asked : Form) (old new : State) (refusal : Refusal)
+    (snapshot : Kept) : Type 0 where
   pub step_is : (reading : ℤ) → step new.entries asked reading guard ≡ refused refusal
   pub rest : IsNotAccepted old new snapshot
 
 -- it is accepted at the history that is seen now, and the log did not take its entry, of which the desk is told for the first time
-pub record IsLogFault (may : ℤ → Type 0) (guard : Guard) (asked : Form) (old new : State) (at : ℕ) (snapshot : Kept) : Type 0 where
+pub record IsLogFault (may : ℤ → Type 0) (guard : Guard) (asked : Form) (old new : State) (at : ℕ)
+    (snapshot : Kept) : Type 0 where
   pub reading : ℤ
   pub may_be : may reading
   pub entry : Entry
@@ -105,8 +109,10 @@ pub record IsOutOfMemory (old new : State) : Type 0 where
   pub tally : new.tally ≡ old.tally
 
 abbrev pub IsFault : (ℤ → Type 0) → Guard → Form → State → State → TxFault → Type 0
-IsFault may guard asked old new (Refused refusal snapshot) = IsRefusal guard asked old new refusal snapshot
-IsFault may guard asked old new (LogFault at snapshot) = IsLogFault may guard asked old new at snapshot
+IsFault may guard asked old new (Refused refusal snapshot) =
+    IsRefusal guard asked old new refusal snapshot
+IsFault may guard asked old new (LogFault at snapshot) =
+    IsLogFault may guard asked old new at snapshot
 IsFault may guard asked old new (Stopped at snapshot) = IsStopped old new at snapshot
 IsFault may guard asked old new Memory = IsOutOfMemory old new
 

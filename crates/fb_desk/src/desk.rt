@@ -32,8 +32,10 @@ pub trait Desk: Drop {
     ) -> Result<Receipt, TxFault>
         requires { 0 < (state self.old).left }
         ensures goes_on { GoesOn (state self.old) (state self.new) }
-        ensures receipt { IfOk result (IsReceipt (K.may_answer clock.now) (G.bars guard.now) (form_of asked.now) (state self.old) (state self.new)) }
-        ensures fault { IfErr result (IsFault (K.may_answer clock.now) (G.bars guard.now) (form_of asked.now) (state self.old) (state self.new)) };
+        ensures receipt { IfOk result (IsReceipt (K.may_answer clock.now) (G.bars guard.now)
+            (form_of asked.now) (state self.old) (state self.new)) }
+        ensures fault { IfErr result (IsFault (K.may_answer clock.now) (G.bars guard.now)
+            (form_of asked.now) (state self.old) (state self.new)) };
 
     /// Looks at what was mailed, and waits for nobody.
     fn db(&mut self) -> Result<Glance, Memory>
@@ -41,7 +43,8 @@ pub trait Desk: Drop {
         ensures goes_on { GoesOn (state self.old) (state self.new) }
         ensures commits { (state self.new).commits ≡ (state self.old).commits }
         ensures tally { (state self.new).tally ≡ glanced (state self.old).tally }
-        ensures sees { IfOk result (λ glance. (snapshot_of glance).entries ≡ (state self.new).entries) };
+        ensures sees { IfOk result
+            (λ glance. (snapshot_of glance).entries ≡ (state self.new).entries) };
 
     /// The latest value of the database. It waits for a turn.
     fn sync<R: Threads + Wait + Sync>(&mut self, rt: &R) -> Result<Snapshot, Memory>

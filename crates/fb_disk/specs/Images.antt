@@ -18,6 +18,8 @@ torn_to kept piece = take kept piece ++ replicate (length piece - kept) 0
 abbrev pub image_from : List ℕ → ℕ → List Change → List ℕ → List ℕ → List ℕ
 image_from cuts n [] file image = image
 image_from cuts n (wrote at piece ∷ changes) file image =
-    image_from cuts (n + 1) changes (written at piece file) (written at (torn_to (kept_of cuts n (length piece)) piece) image)
-image_from cuts n (cut_to len ∷ changes) file image = image_from cuts n changes (take len file) (take len image)
+    image_from cuts (n + 1) changes (written at piece file)
+    (written at (torn_to (kept_of cuts n (length piece)) piece) image)
+image_from cuts n (cut_to len ∷ changes) file image =
+    image_from cuts n changes (take len file) (take len image)
 image_from cuts n (synced ∷ changes) file image = image_from cuts 0 changes file file

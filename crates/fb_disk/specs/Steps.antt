@@ -7,7 +7,8 @@ use Rattle.fb_disk.specs.declared.memory.record.Step.TheVariants.{Wrote, Cut, Sy
 
 abbrev pub changes_of : List Step → List ℕ → List Change
 changes_of [] bytes = []
-changes_of (Wrote at len ∷ steps) bytes = wrote at (take len bytes) ∷ changes_of steps (drop len bytes)
+changes_of (Wrote at len ∷ steps) bytes =
+    wrote at (take len bytes) ∷ changes_of steps (drop len bytes)
 changes_of (Cut len ∷ steps) bytes = cut_to len ∷ changes_of steps bytes
 changes_of (Synced ∷ steps) bytes = synced ∷ changes_of steps bytes
 

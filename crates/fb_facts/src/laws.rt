@@ -9,5 +9,7 @@ ghost use Rattle.fb_facts.specs.Told.{facts_in};
 
 /// Each is the one rising list that has exactly the facts that pass, whatever the history.
 pub fn told_lists_are_the_rising_ones()
-    ensures { (h : List Entry) (order : Order) (passes : Datom → Bool) → IsRisingListOf order (facts_in order passes h) (λ d. Contains (facts h) d × IsTrue (passes d)) }
+    ensures { (h : List Entry) (order : Order) (passes : Datom → Bool)
+        → IsRisingListOf order (facts_in order passes h)
+        (λ d. Contains (facts h) d × IsTrue (passes d)) }
 {}

@@ -23,15 +23,18 @@ abbrev pub count_of : {D : Type 0} {g : _} → Journal D g → ℕ
 count_of j = j.records
 
 -- The journal goes on and has these records. Where its disk tells its bytes, they are in its file, and a crash leaves nothing else.
-pub record Keeps {D : Type 0} {g : _} (bytes : D → Option (List ℕ)) (images : D → List ℕ → Type 0) (records : List (List ℕ)) (j : Journal D g) : Type 0 where
+pub record Keeps {D : Type 0} {g : _} (bytes : D → Option (List ℕ)) (images : D → List ℕ → Type 0)
+    (records : List (List ℕ)) (j : Journal D g) : Type 0 where
   pub goes_on : j.stopped ≡ None
   pub count : j.records ≡ length records
   pub gate : j.gate ≡ length (mark_bytes j.mark) + length (opened records)
-  pub file : WhereTold (bytes j.disk) (λ file. Holds (mark_bytes j.mark) records file × Only file (images j.disk))
+  pub file : WhereTold (bytes j.disk)
+      (λ file. Holds (mark_bytes j.mark) records file × Only file (images j.disk))
 
 -- a file stands for these records, or for them with one more
 abbrev pub IsBeforeOrAfter : List ℕ → List (List ℕ) → List ℕ → List ℕ → Type 0
-IsBeforeOrAfter mark records payload image = JournalStands mark records image ⊎ JournalStands mark (records ++ payload ∷ []) image
+IsBeforeOrAfter mark records payload image =
+    JournalStands mark records image ⊎ JournalStands mark (records ++ payload ∷ []) image
 
 -- a disk that told its bytes tells them still
 abbrev pub StaysTold : Option (List ℕ) → Option (List ℕ) → Type 0

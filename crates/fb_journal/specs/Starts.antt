@@ -19,7 +19,8 @@ CountsStart Memory old new = new ≡ old
 
 -- The file's first fault, where that is why, with the payloads of the records before it. Else there are none.
 abbrev pub IsWhyNot : List ℕ → Option (List ℕ) → StartFault → List (List ℕ) → Type 0
-IsWhyNot mark told (BadLog nth at) before = WhereTold told (λ file. JournalBreaks mark before file nth at)
+IsWhyNot mark told (BadLog nth at) before =
+    WhereTold told (λ file. JournalBreaks mark before file nth at)
 IsWhyNot mark told Disk before = before ≡ []
 IsWhyNot mark told Memory before = before ≡ []
 
@@ -39,12 +40,15 @@ abbrev pub IsFaultOf : End → StartFault → Type 0
 IsFaultOf end fault = (nth : ℕ) × (at : ℕ) × (end ≡ Broken nth at) × (fault ≡ BadLog nth at)
 
 -- the disk after a start
-abbrev pub disk_after : {D : Type 0} {g : _} → Result (Journal D g × List (List ℕ)) (StartStop D) → D
+abbrev pub disk_after : {D : Type 0} {g : _} → Result (Journal D g × List (List ℕ)) (StartStop D)
+    → D
 disk_after (Ok r) = r.0.disk
 disk_after (Err s) = s.disk
 
 -- Behind these records a gate is closed, and they are on the disk.
-abbrev pub IsKept : {D : Type 0} → (D → Option (List ℕ)) → (D → List ℕ → Type 0) → List ℕ → List (List ℕ) → D → End → Type 0
+abbrev pub IsKept : {D : Type 0} → (D → Option (List ℕ)) → (D → List ℕ → Type 0) → List ℕ
+    → List (List ℕ) → D → End → Type 0
 IsKept bytes images mark records disk (Closed gate) =
-    (gate ≡ length mark + length (opened records)) × WhereTold (bytes disk) (λ file. Holds mark records file × Only file (images disk))
+    (gate ≡ length mark + length (opened records))
+    × WhereTold (bytes disk) (λ file. Holds mark records file × Only file (images disk))
 IsKept bytes images mark records disk (Broken nth at) = ⊤

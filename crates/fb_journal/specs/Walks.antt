@@ -7,7 +7,8 @@ use Rattle.fb_journal.specs.declared.records.End.TheVariants.{Closed, Broken}
 
 -- behind these records, at a closed gate or at the first fault
 abbrev pub EndsAt : List ℕ → List (List ℕ) → List ℕ → End → Type 0
-EndsAt mark records file (Closed gate) = Holds mark records file × (gate ≡ length mark + length (opened records))
+EndsAt mark records file (Closed gate) =
+    Holds mark records file × (gate ≡ length mark + length (opened records))
 EndsAt mark records file (Broken nth at) = 16 < length file → JournalBreaks mark records file nth at
 
 -- what a file stands for, or its first fault

@@ -39,24 +39,33 @@ impl<D: Disk> Journal<D> {
 
     /// Adds a record. At Ok it is on the disk: from then on each crash leaves a file that has it. It takes no memory.
     pub fn append(&mut self, framed: &Framed) -> Result<(), JournalFault>
-        ensures acknowledged { OnOk result ((records : List (List ℕ)) → Keeps D.bytes D.images records self.old
+        ensures acknowledged { OnOk result ((records : List (List ℕ))
+            → Keeps D.bytes D.images records self.old
             → Keeps D.bytes D.images (records ++ framed.now ∷ []) self.new) }
 
         // A crash at any moment of the call leaves the records from before it, or those with the new one.
         ensures any_moment { (records : List (List ℕ)) → Keeps D.bytes D.images records self.old
-            → WhereTold (D.bytes (disk_of self.old)) (λ _. LeavesOnly D.moment D.images_since (disk_of self.old) (disk_of self.new) (IsBeforeOrAfter (mark_of self.old) records framed.now)) }
-        ensures told { OnOk result (StaysTold (D.bytes (disk_of self.old)) (D.bytes (disk_of self.new))) }
+            → WhereTold (D.bytes (disk_of self.old)) (λ _. LeavesOnly D.moment D.images_since
+            (disk_of self.old) (disk_of self.new)
+            (IsBeforeOrAfter (mark_of self.old) records framed.now)) }
+        ensures told { OnOk result
+            (StaysTold (D.bytes (disk_of self.old)) (D.bytes (disk_of self.new))) }
         ensures mark { mark_of self.new ≡ mark_of self.old }
 
         // It fails only where the disk did, and then stops at this record.
         ensures counted { OnOk result (D.faults (disk_of self.new) ≡ D.faults (disk_of self.old)) }
-        ensures cause { IsErrOf result JournalFault.Disk → Rose (D.faults (disk_of self.old)) (D.faults (disk_of self.new)) }
-        ensures stops { IsErrOf result JournalFault.Disk → stop_of self.new ≡ Some (count_of self.old) }
+        ensures cause { IsErrOf result JournalFault.Disk
+            → Rose (D.faults (disk_of self.old)) (D.faults (disk_of self.new)) }
+        ensures stops { IsErrOf result JournalFault.Disk
+            → stop_of self.new ≡ Some (count_of self.old) }
 
         // A stopped journal says so, and at which record, and does nothing.
-        ensures stopped { (at : ℕ) → stop_of self.old ≡ Some at → result ≡ Err (JournalFault.Stopped at) }
-        ensures going { stop_of self.old ≡ None → (at : ℕ) → IsErrOf result (JournalFault.Stopped at) → ⊥ }
-        ensures unchanged { (at : ℕ) → IsErrOf result (JournalFault.Stopped at) → self.new ≡ self.old }
+        ensures stopped { (at : ℕ) → stop_of self.old ≡ Some at
+            → result ≡ Err (JournalFault.Stopped at) }
+        ensures going { stop_of self.old ≡ None → (at : ℕ)
+            → IsErrOf result (JournalFault.Stopped at) → ⊥ }
+        ensures unchanged { (at : ℕ) → IsErrOf result (JournalFault.Stopped at)
+            → self.new ≡ self.old }
     {
         if let Some(at) = self.stopped {
             return Err(JournalFault::Stopped { at });
@@ -74,18 +83,23 @@ impl<D: Disk> Journal<D> {
     /// memory.
     pub fn reset(&mut self) -> Result<(), JournalFault>
         ensures emptied { OnOk result (Keeps D.bytes D.images [] self.new) }
-        ensures told { OnOk result (StaysTold (D.bytes (disk_of self.old)) (D.bytes (disk_of self.new))) }
+        ensures told { OnOk result
+            (StaysTold (D.bytes (disk_of self.old)) (D.bytes (disk_of self.new))) }
         ensures mark { mark_of self.new ≡ mark_of self.old }
 
         // It fails only where the disk did, and then stops at record 0.
         ensures counted { OnOk result (D.faults (disk_of self.new) ≡ D.faults (disk_of self.old)) }
-        ensures cause { IsErrOf result JournalFault.Disk → Rose (D.faults (disk_of self.old)) (D.faults (disk_of self.new)) }
+        ensures cause { IsErrOf result JournalFault.Disk
+            → Rose (D.faults (disk_of self.old)) (D.faults (disk_of self.new)) }
         ensures stops { IsErrOf result JournalFault.Disk → stop_of self.new ≡ Some 0 }
 
         // A stopped journal says so, and at which record, and does nothing.
-        ensures stopped { (at : ℕ) → stop_of self.old ≡ Some at → result ≡ Err (JournalFault.Stopped at) }
-        ensures going { stop_of self.old ≡ None → (at : ℕ) → IsErrOf result (JournalFault.Stopped at) → ⊥ }
-        ensures unchanged { (at : ℕ) → IsErrOf result (JournalFault.Stopped at) → self.new ≡ self.old }
+        ensures stopped { (at : ℕ) → stop_of self.old ≡ Some at
+            → result ≡ Err (JournalFault.Stopped at) }
+        ensures going { stop_of self.old ≡ None → (at : ℕ)
+            → IsErrOf result (JournalFault.Stopped at) → ⊥ }
+        ensures unchanged { (at : ℕ) → IsErrOf result (JournalFault.Stopped at)
+            → self.new ≡ self.old }
     {
         if let Some(at) = self.stopped {
             return Err(JournalFault::Stopped { at });

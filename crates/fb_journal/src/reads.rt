@@ -9,7 +9,8 @@ use fb_disk::{Disk, Failed};
 pub(crate) fn settle<D: Disk>(disk: &mut D) -> Result<u64, Failed>
     ensures length { IfOk result (λ n. WhereTold (D.bytes disk.old) (λ file. n ≡ length file)) }
     ensures bytes { OnOk result (D.bytes disk.new ≡ D.bytes disk.old) }
-    ensures durable { OnOk result (WhereTold (D.bytes disk.old) (λ file. Only file (D.images disk.new))) }
+    ensures durable { OnOk result
+        (WhereTold (D.bytes disk.old) (λ file. Only file (D.images disk.new))) }
     ensures crash { Within (D.images disk.old) (D.images disk.new) }
     ensures any_moment { LeavesOnly D.moment D.images_since disk.old disk.new (D.images disk.old) }
     ensures counted { Counts result (D.faults disk.old) (D.faults disk.new) }
@@ -21,7 +22,8 @@ pub(crate) fn settle<D: Disk>(disk: &mut D) -> Result<u64, Failed>
 /// Reads the file from its front until the buffer is full, or a read gives nothing.
 pub(crate) fn fill<D: Disk>(disk: &mut D, buf: &mut [u8]) -> Result<usize, Failed>
     ensures within { IfOk result (λ n. n ≤ length buf.old) }
-    ensures read { IfOk result (λ n. WhereTold (D.bytes disk.old) (λ file. length buf.old ≡ length file → (n ≡ length file) × (buf.new ≡ file))) }
+    ensures read { IfOk result (λ n. WhereTold (D.bytes disk.old)
+        (λ file. length buf.old ≡ length file → (n ≡ length file) × (buf.new ≡ file))) }
     ensures bytes { D.bytes disk.new ≡ D.bytes disk.old }
     ensures crash { Within (D.images disk.old) (D.images disk.new) }
     ensures any_moment { LeavesOnly D.moment D.images_since disk.old disk.new (D.images disk.old) }

@@ -51,7 +51,8 @@ pub(crate) fn read_records(alloc: Global, file: Vec<u8>, mark: Mark) -> Result<R
 fn read_places(alloc: Global, file: &[u8]) -> Result<(Vec<Span>, End), AllocError>
     requires { 15 < length file.now }
     ensures within { IfOk result (λ r. AreWithin file.now r.0.items) }
-    ensures ends { IfOk result (λ r. EndsAt (take 15 file.now) (payloads_of file.now r.0.items) file.now r.1) }
+    ensures ends { IfOk result
+        (λ r. EndsAt (take 15 file.now) (payloads_of file.now r.0.items) file.now r.1) }
 {
     let mut places = Vec::new(alloc);
     let mut gate = MARK;
@@ -70,7 +71,8 @@ fn read_places(alloc: Global, file: &[u8]) -> Result<(Vec<Span>, End), AllocErro
 
 /// The length in front of what stands behind an open gate, where it leaves room for the payload and the next gate.
 fn payload_len(rest: &[u8]) -> Option<usize>
-    ensures { MatchOption result (IsCutShort rest.now) (λ n. (n ≡ from_be_bytes w64 (take 8 rest.now)) × (8 + n + 1 ≤ length rest.now)) }
+    ensures { MatchOption result (IsCutShort rest.now)
+        (λ n. (n ≡ from_be_bytes w64 (take 8 rest.now)) × (8 + n + 1 ≤ length rest.now)) }
 {
     let (front, behind) = rest.split_first_chunk::<LENGTH>()?;
     let len = u64::from_be_bytes(*front);

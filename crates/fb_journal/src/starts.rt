@@ -72,21 +72,26 @@ impl<D: Disk> Journal<D> {
     /// Starts the journal of a disk, with a sync first. Of at most 16 bytes it makes a new journal; of more it reads what
     /// they stand for, or their first fault.
     pub fn start(alloc: Global, disk: D, mark: Mark) -> Result<(Journal<D>, Payloads), StartStop<D>>
-        ensures stands { IfOk result (λ r. WhereTold (D.bytes disk) (λ file. JournalStands (mark_bytes mark) r.1 file)) }
+        ensures stands { IfOk result
+            (λ r. WhereTold (D.bytes disk) (λ file. JournalStands (mark_bytes mark) r.1 file)) }
         ensures keeps { IfOk result (λ r. Keeps D.bytes D.images r.1 r.0) }
         ensures mark { IfOk result (λ r. mark_of r.0 ≡ mark_bytes mark) }
         ensures told { IfOk result (λ r. StaysTold (D.bytes disk) (D.bytes (disk_of r.0))) }
 
         // A fault of the file is its first, and the disk's is counted.
-        ensures why_not { IfErr result (λ s. IsWhyNot (mark_bytes mark) (D.bytes disk) s.fault s.before) }
-        ensures counted { MatchResult result (λ r. D.faults (disk_of r.0) ≡ D.faults disk) (λ s. CountsStart s.fault (D.faults disk) (D.faults s.disk)) }
+        ensures why_not { IfErr result
+            (λ s. IsWhyNot (mark_bytes mark) (D.bytes disk) s.fault s.before) }
+        ensures counted { MatchResult result (λ r. D.faults (disk_of r.0) ≡ D.faults disk)
+            (λ s. CountsStart s.fault (D.faults disk) (D.faults s.disk)) }
 
         // A crash at any moment leaves an image from before, or at most 16 bytes where there were no more: a new journal.
-        ensures any_moment { WhereTold (D.bytes disk) (λ file. LeavesOnly D.moment D.images_since disk (disk_after result)
+        ensures any_moment { WhereTold (D.bytes disk) (λ file. LeavesOnly D.moment D.images_since
+            disk (disk_after result)
             (λ image. D.images disk image ⊎ ((length file ≤ 16) × (length image ≤ 16)))) }
 
         // So it leaves an image from before, or a file that stands for the same records.
-        ensures any_moment_stands { IfOk result (λ r. WhereTold (D.bytes disk) (λ _. LeavesOnly D.moment D.images_since disk (disk_of r.0)
+        ensures any_moment_stands { IfOk result (λ r. WhereTold (D.bytes disk) (λ _. LeavesOnly
+            D.moment D.images_since disk (disk_of r.0)
             (λ image. D.images disk image ⊎ JournalStands (mark_bytes mark) r.1 image))) }
     {
         let mut disk = disk;
@@ -106,7 +111,8 @@ impl<D: Disk> Journal<D> {
         ensures mark { IfOk result (λ j. mark_of j ≡ mark_bytes mark) }
         ensures told { IfOk result (λ j. StaysTold (D.bytes disk) (D.bytes (disk_of j))) }
         ensures why_not { IfErr result (λ s. (s.fault ≡ StartFault.Disk) × (s.before ≡ [])) }
-        ensures counted { MatchResult result (λ j. D.faults (disk_of j) ≡ D.faults disk) (λ s. Rose (D.faults disk) (D.faults s.disk)) }
+        ensures counted { MatchResult result (λ j. D.faults (disk_of j) ≡ D.faults disk)
+            (λ s. Rose (D.faults disk) (D.faults s.disk)) }
     {
         let mut disk = disk;
         match empty(&mut disk, mark) {
@@ -129,7 +135,12 @@ impl<D: Disk> Journal<D> {
     fn behind(disk: D, mark: Mark, records: Records) -> Result<(Journal<D>, Payloads), StartStop<D>>
         requires { IsPlace records.payloads records.end }
         ensures { MatchResult result
-            (λ r. (r.0.disk ≡ disk) × (r.0.mark ≡ mark) × (r.0.records ≡ length records.payloads) × (r.0.stopped ≡ None) × (r.1 ≡ records.payloads) × (records.end ≡ Closed r.0.gate))
+            (λ r. (r.0.disk ≡ disk)
+            × (r.0.mark ≡ mark)
+            × (r.0.records ≡ length records.payloads)
+            × (r.0.stopped ≡ None)
+            × (r.1 ≡ records.payloads)
+            × (records.end ≡ Closed r.0.gate))
             (λ s. (s.disk ≡ disk) × (s.before ≡ records.payloads) × IsFaultOf records.end s.fault) }
     {
         let payloads = records.payloads;
@@ -159,13 +170,17 @@ impl<D: Disk> Journal<D> {
 /// Reads what a disk holds, or makes a new journal on it. A file that is longer than what can be read of it is no new
 /// journal, and is not written over.
 fn open_records<D: Disk>(alloc: Global, disk: &mut D, mark: Mark) -> Result<Records, StartFault>
-    ensures reading { IfOk result (λ r. WhereTold (D.bytes disk.old) (λ file. IsReading (mark_bytes mark) r.payloads file r.end)) }
+    ensures reading { IfOk result (λ r. WhereTold (D.bytes disk.old)
+        (λ file. IsReading (mark_bytes mark) r.payloads file r.end)) }
     ensures place { IfOk result (λ r. IsPlace r.payloads r.end) }
-    ensures kept { IfOk result (λ r. IsKept D.bytes D.images (mark_bytes mark) r.payloads disk.new r.end) }
+    ensures kept { IfOk result
+        (λ r. IsKept D.bytes D.images (mark_bytes mark) r.payloads disk.new r.end) }
     ensures told { OnOk result (StaysTold (D.bytes disk.old) (D.bytes disk.new)) }
     ensures not_bad { IfErr result IsNotBad }
-    ensures counted { MatchResult result (λ _. D.faults disk.new ≡ D.faults disk.old) (λ e. CountsStart e (D.faults disk.old) (D.faults disk.new)) }
-    ensures any_moment { WhereTold (D.bytes disk.old) (λ file. LeavesOnly D.moment D.images_since disk.old disk.new
+    ensures counted { MatchResult result (λ _. D.faults disk.new ≡ D.faults disk.old)
+        (λ e. CountsStart e (D.faults disk.old) (D.faults disk.new)) }
+    ensures any_moment { WhereTold (D.bytes disk.old) (λ file. LeavesOnly D.moment D.images_since
+        disk.old disk.new
         (λ image. D.images disk.old image ⊎ ((length file ≤ 16) × (length image ≤ 16)))) }
 {
     let len = settle(disk)?;

@@ -11,9 +11,12 @@ use fb_disk::Disk;
 
 pub(crate) fn store<D: Disk>(disk: &mut D, at: u64, piece: &[u8]) -> Result<(), Failed>
     ensures within { OnOk result (at + length piece.now < 2 ^ 64) }
-    ensures bytes { OnOk result (D.bytes disk.new ≡ option_map (written at piece.now) (D.bytes disk.old)) }
-    ensures durable { OnOk result (WhereTold (D.bytes disk.new) (λ file. Only file (D.images disk.new))) }
-    ensures any_moment { (file : List ℕ) → Only file (D.images disk.old) → LeavesOnly D.moment D.images_since disk.old disk.new (Torn at (length piece.now) file) }
+    ensures bytes { OnOk result
+        (D.bytes disk.new ≡ option_map (written at piece.now) (D.bytes disk.old)) }
+    ensures durable { OnOk result
+        (WhereTold (D.bytes disk.new) (λ file. Only file (D.images disk.new))) }
+    ensures any_moment { (file : List ℕ) → Only file (D.images disk.old)
+        → LeavesOnly D.moment D.images_since disk.old disk.new (Torn at (length piece.now) file) }
     ensures counted { Counts result (D.faults disk.old) (D.faults disk.new) }
 {
     disk.write_at(at, piece)?;
@@ -24,10 +27,15 @@ pub(crate) fn store<D: Disk>(disk: &mut D, at: u64, piece: &[u8]) -> Result<(), 
 pub(crate) fn add_record<D: Disk>(disk: &mut D, gate: u64, piece: &[u8]) -> Result<(), Failed>
     requires { gate + 1 < 2 ^ 64 }
     ensures within { OnOk result (gate + 1 + length piece.now < 2 ^ 64) }
-    ensures bytes { OnOk result (D.bytes disk.new ≡ option_map (λ file. written gate (1 ∷ []) (written (gate + 1) piece.now file)) (D.bytes disk.old)) }
-    ensures durable { OnOk result (WhereTold (D.bytes disk.new) (λ file. Only file (D.images disk.new))) }
-    ensures any_moment { WhereTold (D.bytes disk.old) (λ file. Only file (D.images disk.old) → LeavesOnly D.moment D.images_since disk.old disk.new
-        (λ image. Torn (gate + 1) (length piece.now) file image ⊎ Torn gate 1 (written (gate + 1) piece.now file) image)) }
+    ensures bytes { OnOk result (D.bytes disk.new
+        ≡ option_map (λ file. written gate (1 ∷ []) (written (gate + 1) piece.now file))
+        (D.bytes disk.old)) }
+    ensures durable { OnOk result
+        (WhereTold (D.bytes disk.new) (λ file. Only file (D.images disk.new))) }
+    ensures any_moment { WhereTold (D.bytes disk.old) (λ file. Only file (D.images disk.old)
+        → LeavesOnly D.moment D.images_since disk.old disk.new (λ image. Torn (gate + 1)
+        (length piece.now) file image
+        ⊎ Torn gate 1 (written (gate + 1) piece.now file) image)) }
     ensures counted { Counts result (D.faults disk.old) (D.faults disk.new) }
 {
     store(disk, gate + 1, piece)?;
@@ -37,8 +45,10 @@ pub(crate) fn add_record<D: Disk>(disk: &mut D, gate: u64, piece: &[u8]) -> Resu
 /// Starts the file anew. The cut is on the disk before anything is written: what a torn cut leaves could else stand
 /// behind the new journal's bytes.
 pub(crate) fn empty<D: Disk>(disk: &mut D, mark: Mark) -> Result<(), Failed>
-    ensures bytes { OnOk result (D.bytes disk.new ≡ option_map (λ _. new_journal (mark_bytes mark)) (D.bytes disk.old)) }
-    ensures durable { OnOk result (WhereTold (D.bytes disk.new) (λ file. Only file (D.images disk.new))) }
+    ensures bytes { OnOk result
+        (D.bytes disk.new ≡ option_map (λ _. new_journal (mark_bytes mark)) (D.bytes disk.old)) }
+    ensures durable { OnOk result
+        (WhereTold (D.bytes disk.new) (λ file. Only file (D.images disk.new))) }
     ensures counted { Counts result (D.faults disk.old) (D.faults disk.new) }
 {
     disk.cut(0)?;

@@ -22,9 +22,12 @@ pub fn merged<R: Threads + Sync>(
     alloc: Global,
     begin: &Snapshot,
 ) -> Result<Roots, MergeStop>
-    ensures stand { IfOk result (λ roots. RootStands (trees_of roots) begin.now.entries (basis begin.now.entries)) }
-    ensures ids { IfOk result (λ roots. IsInRow (next_above (root_ids begin.now.roots)) (root_ids roots)) }
-    ensures spent { IsErrOf result MergeStop.Spent ↔ (2 ^ 61 < next_above (root_ids begin.now.roots)) }
+    ensures stand { IfOk result
+        (λ roots. RootStands (trees_of roots) begin.now.entries (basis begin.now.entries)) }
+    ensures ids { IfOk result
+        (λ roots. IsInRow (next_above (root_ids begin.now.roots)) (root_ids roots)) }
+    ensures spent { IsErrOf result MergeStop.Spent
+        ↔ (2 ^ 61 < next_above (root_ids begin.now.roots)) }
 {
     what_stands_may_be_merged();
     let roots = begin.roots();

@@ -62,4 +62,5 @@ least e (Some other) = Some (min e other)
 
 abbrev pub holder : List Datom → ℕ → Value → Option ℕ
 holder [] a v = None
-holder (d ∷ facts) a v = cond (nat_eq d.a a && value_eq d.v v) (least d.e (holder facts a v)) (holder facts a v)
+holder (d ∷ facts) a v =
+    cond (nat_eq d.a a && value_eq d.v v) (least d.e (holder facts a v)) (holder facts a v)

@@ -18,7 +18,8 @@ named e name = first_datom e ident (Keyword name) ∷ []
 -- the entity is an attribute of this name and type, and an entity has one value of it
 abbrev pub attribute : ℕ → List ℕ → ℕ → List Datom
 attribute e name kind =
-    named e name ++ first_datom e value_type (Ref kind) ∷ first_datom e cardinality (Ref cardinality_one) ∷ []
+    named e name ++ first_datom e value_type (Ref kind)
+    ∷ first_datom e cardinality (Ref cardinality_one) ∷ []
 
 abbrev pub first_attributes : List Datom
 first_attributes =
@@ -53,5 +54,6 @@ first_entry =
     record {
       t = 0;
       instant = pos 0;
-      datoms = first_attributes ++ first_names ++ first_datom (transaction_of 0) tx_instant (Instant (pos 0)) ∷ [];
+      datoms = first_attributes ++ first_names ++ first_datom (transaction_of 0) tx_instant
+          (Instant (pos 0)) ∷ [];
     }

@@ -42,7 +42,10 @@ laws_kept h entry =
     ∷ has_changes_alone h entry
     ∷ has_one_value_each h entry
     ∷ has_one_holder_each h entry
-    ∷ (has_whole_attributes h entry && has_allowed_changes h entry && has_no_reserved_names h entry && has_own_instant_alone h entry)
+    ∷ (has_whole_attributes h entry
+    && has_allowed_changes h entry
+    && has_no_reserved_names h entry
+    && has_own_instant_alone h entry)
     ∷ []
 
 -- the number of the first of them that is not kept, where the first one has the number n

@@ -40,7 +40,8 @@ is_asserted ds e = list_any (λ d. nat_eq d.e e && d.added) ds
 -- and only bounds how many are looked for
 abbrev pub users_behind : List Datom → List Datom → ℕ → ℕ
 users_behind [] ds n = n
-users_behind (_ ∷ more) ds n = cond (is_asserted ds (user_entity (n + 1))) (users_behind more ds (n + 1)) n
+users_behind (_ ∷ more) ds n =
+    cond (is_asserted ds (user_entity (n + 1))) (users_behind more ds (n + 1)) n
 
 -- the greatest user number in use after the entry
 abbrev pub users_after : List Entry → Entry → ℕ
@@ -58,7 +59,8 @@ is_known_value h entry (Ref n) = is_known h entry n
 is_known_value h entry _ = true
 
 abbrev pub has_known_numbers : List Entry → Entry → Bool
-has_known_numbers h entry = list_all (λ d. is_known h entry d.e && is_known_value h entry d.v) entry.datoms
+has_known_numbers h entry =
+    list_all (λ d. is_known h entry d.e && is_known_value h entry d.v) entry.datoms
 
 -- the attributes of the datoms are among the facts before
 abbrev pub are_installed : List Datom → List Datom → Bool
@@ -70,7 +72,10 @@ has_installed_attributes h entry = are_installed (facts h) entry.datoms
 -- ---- 4: each value is of its attribute's type, and not too long
 
 abbrev pub are_typed : List Datom → List Datom → Bool
-are_typed facts ds = list_all (λ d. option_map_or (λ attribute. is_of_type attribute.kind d.v) (attribute_of facts d.a) false) ds
+are_typed facts ds =
+    list_all
+    (λ d. option_map_or (λ attribute. is_of_type attribute.kind d.v) (attribute_of facts d.a) false)
+    ds
 
 abbrev pub has_typed_values : List Entry → Entry → Bool
 has_typed_values h entry = are_typed (facts h) entry.datoms
@@ -79,17 +84,21 @@ has_typed_values h entry = are_typed (facts h) entry.datoms
 
 abbrev pub has_datoms_in_order : List Entry → Entry → Bool
 has_datoms_in_order h entry =
-    list_all (λ d. nat_eq d.t entry.t) entry.datoms && rises Eavt entry.datoms && nat_le (length entry.datoms) most_datoms
+    list_all (λ d. nat_eq d.t entry.t) entry.datoms
+    && rises Eavt entry.datoms
+    && nat_le (length entry.datoms) most_datoms
 
 -- ---- 6: each addition is of a triple that did not hold, and each retraction of one that held
 
 abbrev pub has_changes_alone : List Entry → Entry → Bool
-has_changes_alone h entry = list_all (λ d. cond d.added (not (holds h d.e d.a d.v)) (holds h d.e d.a d.v)) entry.datoms
+has_changes_alone h entry =
+    list_all (λ d. cond d.added (not (holds h d.e d.a d.v)) (holds h d.e d.a d.v)) entry.datoms
 
 -- ---- 7: an entity has at most one value of an attribute of cardinality one
 
 abbrev pub keeps_one_value : List Datom → Bool
-keeps_one_value facts = list_all (λ d. not (is_one facts d.a) || nat_le (length (values_of facts d.e d.a)) 1) facts
+keeps_one_value facts =
+    list_all (λ d. not (is_one facts d.a) || nat_le (length (values_of facts d.e d.a)) 1) facts
 
 abbrev pub has_one_value_each : List Entry → Entry → Bool
 has_one_value_each h entry = keeps_one_value (facts_with h entry)
@@ -97,10 +106,12 @@ has_one_value_each h entry = keeps_one_value (facts_with h entry)
 -- ---- 8: at most one entity has a value of a unique attribute
 
 abbrev pub has_no_other_holder : List Datom → Datom → Bool
-has_no_other_holder facts d = list_all (λ other. not (nat_eq other.a d.a && value_eq other.v d.v) || nat_eq other.e d.e) facts
+has_no_other_holder facts d =
+    list_all (λ other. not (nat_eq other.a d.a && value_eq other.v d.v) || nat_eq other.e d.e) facts
 
 abbrev pub keeps_one_holder : List Datom → Bool
-keeps_one_holder facts = list_all (λ d. not (is_unique facts d.a) || has_no_other_holder facts d) facts
+keeps_one_holder facts =
+    list_all (λ d. not (is_unique facts d.a) || has_no_other_holder facts d) facts
 
 abbrev pub has_one_holder_each : List Entry → Entry → Bool
 has_one_holder_each h entry = keeps_one_holder (facts_with h entry)
@@ -117,21 +128,25 @@ is_alteration d = nat_eq d.a cardinality || nat_eq d.a unique || nat_eq d.a inde
 
 -- an entity that is described as an attribute, and was none before, is whole
 abbrev pub are_new_ones_whole : List Datom → List Datom → Bool
-are_new_ones_whole before after = list_all (λ d. not (says_attribute d) || is_attribute before d.e || is_whole after d.e) after
+are_new_ones_whole before after =
+    list_all (λ d. not (says_attribute d) || is_attribute before d.e || is_whole after d.e) after
 
 -- an attribute that is altered is whole afterwards
 abbrev pub are_altered_ones_whole : List Datom → List Datom → List Datom → Bool
-are_altered_ones_whole before after ds = list_all (λ d. not (is_alteration d && is_attribute before d.e) || is_whole after d.e) ds
+are_altered_ones_whole before after ds =
+    list_all (λ d. not (is_alteration d && is_attribute before d.e) || is_whole after d.e) ds
 
 abbrev pub has_whole_attributes : List Entry → Entry → Bool
 has_whole_attributes h entry =
-    are_new_ones_whole (facts h) (facts_with h entry) && are_altered_ones_whole (facts h) (facts_with h entry) entry.datoms
+    are_new_ones_whole (facts h) (facts_with h entry)
+    && are_altered_ones_whole (facts h) (facts_with h entry) entry.datoms
 
 -- the datom changes what stays as it is: the name, the type or the part of an attribute, a built-in entity, or the instant of a
 -- transaction
 abbrev pub is_forbidden : List Datom → Datom → Bool
 is_forbidden before d =
-    ((nat_eq d.a ident || nat_eq d.a value_type || nat_eq d.a is_component) && is_attribute before d.e)
+    ((nat_eq d.a ident || nat_eq d.a value_type || nat_eq d.a is_component)
+    && is_attribute before d.e)
     || (nat_le ident d.a && nat_le d.a index && is_builtin d.e)
     || (nat_eq d.a tx_instant && not d.added)
 
@@ -157,7 +172,8 @@ has_no_reserved_names h entry = keeps_reserved_names (facts_with h entry)
 
 -- the datom records the entry's instant on its transaction
 abbrev pub is_own_instant : Entry → Datom → Bool
-is_own_instant entry d = is_of (transaction_of entry.t) tx_instant (Instant entry.instant) d && d.added
+is_own_instant entry d =
+    is_of (transaction_of entry.t) tx_instant (Instant entry.instant) d && d.added
 
 -- the entry records its own instant, and no other one
 abbrev pub has_own_instant_alone : List Entry → Entry → Bool

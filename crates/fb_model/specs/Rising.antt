@@ -19,6 +19,7 @@ in_order order [] = []
 in_order order (d ∷ ds) = put_in_order order d (in_order order ds)
 
 -- the one list that strictly rises and has exactly these datoms
-pub record IsRisingListOf (order : Order) (ds : List Datom) (IsMember : Datom → Type 0) : Type 0 where
+pub record IsRisingListOf (order : Order) (ds : List Datom) (IsMember : Datom → Type 0)
+    : Type 0 where
   pub rising : IsTrue (rises order ds)
   pub members : (d : Datom) → Contains ds d ↔ IsMember d

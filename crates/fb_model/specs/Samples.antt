@@ -14,7 +14,11 @@ datom e a v t added = record { e = e; a = a; v = v; t = t; added = added }
 abbrev pub entry_of : ℕ → List Datom → Entry
 entry_of t ds =
     let instant = pos (1704067200000 + t) in
-    record { t = t; instant = instant; datoms = datom (transaction_of t) tx_instant (Instant instant) t true ∷ ds }
+    record {
+      t = t;
+      instant = instant;
+      datoms = datom (transaction_of t) tx_instant (Instant instant) t true ∷ ds;
+    }
 
 -- a text about an entity
 abbrev pub hi : ℕ → ℕ → Datom
@@ -40,7 +44,8 @@ abbrev pub ages : List Entry
 ages =
     first_entry
     ∷ entry_of 1 (makes_attribute 1 age (codes "p/age") cardinality_one)
-    ∷ entry_of 2 (datom (user_entity 2) age (Long (pos 5)) 2 true ∷ datom (user_entity 3) age (Long (pos 5)) 2 true ∷ [])
+    ∷ entry_of 2 (datom (user_entity 2) age (Long (pos 5)) 2 true
+    ∷ datom (user_entity 3) age (Long (pos 5)) 2 true ∷ [])
     ∷ []
 
 -- a built-in attribute is to be indexed
@@ -50,5 +55,6 @@ altered_doc =
     record {
       t = 3;
       instant = instant;
-      datoms = datom doc index (Boolean true) 3 true ∷ datom (transaction_of 3) tx_instant (Instant instant) 3 true ∷ [];
+      datoms = datom doc index (Boolean true) 3 true ∷ datom (transaction_of 3) tx_instant
+          (Instant instant) 3 true ∷ [];
     }

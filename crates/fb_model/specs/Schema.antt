@@ -56,7 +56,8 @@ abbrev pub truth_of : List Datom → ℕ → ℕ → Bool
 truth_of facts e a = option_map_or truth_in (value_of facts e a) false
 
 -- from an entity's ident, type and cardinality, without which it is no attribute, and what else is said of it
-abbrev pub attribute_from : ℕ → Option (List ℕ) → Option ℕ → Option ℕ → Option ℕ → Bool → Bool → Option Attribute
+abbrev pub attribute_from : ℕ → Option (List ℕ) → Option ℕ → Option ℕ → Option ℕ → Bool → Bool
+    → Option Attribute
 attribute_from e (Some name) (Some kind) (Some count) uniqueness component indexed =
     Some (record {
       id = e;
@@ -72,7 +73,8 @@ attribute_from e name kind count uniqueness component indexed = None
 -- the entity as an attribute
 abbrev pub attribute_of : List Datom → ℕ → Option Attribute
 attribute_of facts e =
-    attribute_from e (keyword_of facts e ident) (entity_of facts e value_type) (entity_of facts e cardinality)
+    attribute_from e (keyword_of facts e ident) (entity_of facts e value_type)
+    (entity_of facts e cardinality)
     (entity_of facts e unique) (truth_of facts e is_component) (truth_of facts e index)
 
 abbrev pub is_attribute : List Datom → ℕ → Bool
@@ -95,13 +97,17 @@ abbrev pub is_one : List Datom → ℕ → Bool
 is_one facts a = option_map_or (λ attribute. not attribute.many) (attribute_of facts a) false
 
 abbrev pub is_unique : List Datom → ℕ → Bool
-is_unique facts a = option_map_or (λ attribute. not (nat_eq attribute.uniqueness 0)) (attribute_of facts a) false
+is_unique facts a =
+    option_map_or (λ attribute. not (nat_eq attribute.uniqueness 0)) (attribute_of facts a) false
 
 abbrev pub is_identity : List Datom → ℕ → Bool
-is_identity facts a = option_map_or (λ attribute. nat_eq attribute.uniqueness unique_identity) (attribute_of facts a) false
+is_identity facts a =
+    option_map_or (λ attribute. nat_eq attribute.uniqueness unique_identity) (attribute_of facts a)
+    false
 
 abbrev pub is_ref : List Datom → ℕ → Bool
-is_ref facts a = option_map_or (λ attribute. nat_eq attribute.kind type_ref) (attribute_of facts a) false
+is_ref facts a =
+    option_map_or (λ attribute. nat_eq attribute.kind type_ref) (attribute_of facts a) false
 
 abbrev pub is_part : List Datom → ℕ → Bool
 is_part facts a = option_map_or (λ attribute. attribute.component) (attribute_of facts a) false
@@ -145,7 +151,8 @@ pub record Schema : Type 0 where
 
 abbrev name_of_no_attribute : List Datom → ℕ → Option (ℕ × List ℕ)
 name_of_no_attribute facts e =
-    cond (is_attribute facts e) None (option_map (λ (name : List ℕ). (e, name)) (keyword_of facts e ident))
+    cond (is_attribute facts e) None
+    (option_map (λ (name : List ℕ). (e, name)) (keyword_of facts e ident))
 
 abbrev pub schema_in : List Datom → Schema
 schema_in facts =
@@ -167,13 +174,17 @@ is_whole_attribute attribute =
     nat_le (user_entity 1) attribute.id
     && not (begins_with_one_of (95 ∷ []) (local_name attribute.name))
     && nat_le 10 attribute.kind && nat_le attribute.kind 18
-    && (nat_eq attribute.uniqueness 0 || ((nat_eq attribute.uniqueness unique_identity || nat_eq attribute.uniqueness unique_value) && not (nat_eq attribute.kind type_ref)))
+    && (nat_eq attribute.uniqueness 0
+    || ((nat_eq attribute.uniqueness unique_identity || nat_eq attribute.uniqueness unique_value)
+    && not (nat_eq attribute.kind type_ref)))
     && (not attribute.component || nat_eq attribute.kind type_ref)
 
 -- so is its cardinality one of the two
 abbrev has_a_cardinality : List Datom → ℕ → Bool
 has_a_cardinality facts e =
-    option_map_or (λ count. nat_eq count cardinality_one || nat_eq count cardinality_many) (entity_of facts e cardinality) false
+    option_map_or (λ count. nat_eq count cardinality_one || nat_eq count cardinality_many)
+    (entity_of facts e cardinality) false
 
 abbrev pub is_whole : List Datom → ℕ → Bool
-is_whole facts e = option_map_or is_whole_attribute (attribute_of facts e) false && has_a_cardinality facts e
+is_whole facts e =
+    option_map_or is_whole_attribute (attribute_of facts e) false && has_a_cardinality facts e

@@ -16,6 +16,12 @@ text_entry h reading text =
       instant = instant;
       datoms =
           record { e = transaction_of t; a = tx_instant; v = Instant instant; t = t; added = true }
-          ∷ record { e = user_entity (users_issued h + 1); a = doc; v = Str text; t = t; added = true }
+          ∷ record {
+            e = user_entity (users_issued h + 1);
+            a = doc;
+            v = Str text;
+            t = t;
+            added = true;
+          }
           ∷ [];
     }

@@ -11,7 +11,8 @@ begins_character b = nat_lt b 0x80 || is_in_range 0xC2 0xF4 b
 -- n bytes of a character are due, the first of them from low to high and the others from 0x80 to 0xBF; then characters follow
 abbrev pub goes_on : ℕ → ℕ → ℕ → List ℕ → Bool
 goes_on zero low high [] = true
-goes_on zero low high (b ∷ rest) = begins_character b && goes_on (continuation_len b) (second_byte_min b) (second_byte_max b) rest
+goes_on zero low high (b ∷ rest) =
+    begins_character b && goes_on (continuation_len b) (second_byte_min b) (second_byte_max b) rest
 goes_on (suc n) low high [] = false
 goes_on (suc n) low high (b ∷ rest) = is_in_range low high b && goes_on n 0x80 0xBF rest
 

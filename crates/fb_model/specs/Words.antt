@@ -14,7 +14,8 @@ is_digit b = nat_le 48 b && nat_le b 57
 
 -- a letter, a digit, one of . * + ! - _ ? $ % & = < > : # or a byte of a character past ASCII
 abbrev pub is_name_byte : ℕ → Bool
-is_name_byte b = is_letter b || is_digit b || nat_le 128 b || list_any (nat_eq b) (codes ".*+!-_?$%&=<>:#")
+is_name_byte b =
+    is_letter b || is_digit b || nat_le 128 b || list_any (nat_eq b) (codes ".*+!-_?$%&=<>:#")
 
 abbrev pub is_name : List ℕ → Bool
 is_name [] = false
@@ -40,7 +41,9 @@ local_name text = cond (has_namespace text) (after_first is_slash text) text
 
 -- the text of a keyword, without its colon: a name, or two that a slash joins
 abbrev pub is_keyword_text : List ℕ → Bool
-is_keyword_text text = is_keyword_name (local_name text) && (not (has_namespace text) || is_keyword_name (namespace text))
+is_keyword_text text =
+    is_keyword_name (local_name text)
+    && (not (has_namespace text) || is_keyword_name (namespace text))
 
 -- a symbol is no number, and no name of a value
 abbrev is_symbol_start : List ℕ → Bool
@@ -66,4 +69,5 @@ is_uri_text text = nat_le 1 (length text) && list_all (λ b. nat_le 33 b && nat_
 -- an ident that is kept for the database itself
 abbrev pub is_reserved : List ℕ → Bool
 is_reserved text =
-    has_namespace text && (bytes_eq (namespace text) (codes "db") || starts_with nat_eq (namespace text) (codes "db."))
+    has_namespace text
+    && (bytes_eq (namespace text) (codes "db") || starts_with nat_eq (namespace text) (codes "db."))

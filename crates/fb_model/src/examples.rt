@@ -37,7 +37,8 @@ pub fn first_user_entity()
 /// Two transactions at one reading of the clock, and readings outside the range of instants.
 pub fn instants_rise_under_a_clock_that_stands_still()
     ensures first { next_instant (first_entry ∷ []) (pos 1704067200001) ≡ pos 1704067200001 }
-    ensures second { next_instant (first_entry ∷ hi_entry ∷ []) (pos 1704067200001) ≡ pos 1704067200002 }
+    ensures second { next_instant (first_entry ∷ hi_entry ∷ []) (pos 1704067200001)
+        ≡ pos 1704067200002 }
     ensures early { next_instant (first_entry ∷ []) (pos 0 -ℤ pos 99999999999999) ≡ pos 1 }
     ensures late { next_instant (first_entry ∷ []) (pos 253402300800000) ≡ pos 253402300799999 }
 {}
@@ -105,7 +106,16 @@ pub fn schemas()
     ensures many { is_many (facts (first_entry ∷ [])) ident ≡ false }
     ensures unique { is_unique (facts (first_entry ∷ [])) ident ≡ true }
     ensures installed { named (facts ages) (codes "p/age") ≡ Some age }
-    ensures attribute { attribute_named (facts ages) (codes "p/age") ≡ Some (record { id = age; name = codes "p/age"; kind = type_long; many = false; uniqueness = 0; component = false; indexed = false }) }
+    ensures attribute { attribute_named (facts ages) (codes "p/age")
+        ≡ Some (record {
+          id = age;
+          name = codes "p/age";
+          kind = type_long;
+          many = false;
+          uniqueness = 0;
+          component = false;
+          indexed = false;
+        }) }
     ensures no_attribute { attribute_of (facts ages) type_long ≡ None }
     ensures value { value_of (facts ages) (user_entity 2) age ≡ Some (Long (pos 5)) }
     ensures holds { holds ages (user_entity 3) age (Long (pos 5)) ≡ true }
@@ -117,27 +127,55 @@ pub fn later_entries()
     ensures history { IsLawful ages }
     ensures none_broken { least_law (first_entry ∷ []) hi_entry ≡ None }
     ensures indexed { least_law ages (entry_of 3 (datom age index (Bool true) 3 true ∷ [])) ≡ None }
-    ensures altered { least_law ages (entry_of 3 (datom age cardinality (Ref 20) 3 false ∷ datom age cardinality (Ref 21) 3 true ∷ [])) ≡ None }
+    ensures altered { least_law ages (entry_of 3
+        (datom age cardinality (Ref 20) 3 false ∷ datom age cardinality (Ref 21) 3 true ∷ []))
+        ≡ None }
 {}
 
 /// For each law an entry that breaks it and none before it.
 pub fn unlawful_entries()
     ensures t { least_law ages (entry_of 2 []) ≡ Some 1 }
-    ensures instant { least_law ages (record { t = 3; instant = pos 1704067200002; datoms = [] }) ≡ Some 2 }
+    ensures instant { least_law ages (record { t = 3; instant = pos 1704067200002; datoms = [] })
+        ≡ Some 2 }
     ensures gap { least_law ages (entry_of 3 (hi 3 (user_entity 5) ∷ [])) ≡ Some 3 }
-    ensures not_installed { least_law ages (entry_of 3 (datom (user_entity 2) (user_entity 3) (Long (pos 1)) 3 true ∷ [])) ≡ Some 3 }
-    ensures not_asserted { least_law ages (entry_of 3 (datom (user_entity 4) doc (Str (codes "hi")) 3 false ∷ [])) ≡ Some 3 }
-    ensures value_type { least_law ages (entry_of 3 (datom (user_entity 2) age (Str (codes "6")) 3 true ∷ [])) ≡ Some 4 }
-    ensures order { least_law ages (entry_of 3 (hi 3 (user_entity 3) ∷ hi 3 (user_entity 2) ∷ [])) ≡ Some 5 }
+    ensures not_installed { least_law ages
+        (entry_of 3 (datom (user_entity 2) (user_entity 3) (Long (pos 1)) 3 true ∷ []))
+        ≡ Some 3 }
+    ensures not_asserted { least_law ages
+        (entry_of 3 (datom (user_entity 4) doc (Str (codes "hi")) 3 false ∷ []))
+        ≡ Some 3 }
+    ensures value_type { least_law ages
+        (entry_of 3 (datom (user_entity 2) age (Str (codes "6")) 3 true ∷ []))
+        ≡ Some 4 }
+    ensures order { least_law ages (entry_of 3 (hi 3 (user_entity 3) ∷ hi 3 (user_entity 2) ∷ []))
+        ≡ Some 5 }
     ensures other_t { least_law ages (entry_of 3 (hi 2 (user_entity 3) ∷ [])) ≡ Some 5 }
-    ensures said_again { least_law ages (entry_of 3 (datom (user_entity 2) age (Long (pos 5)) 3 true ∷ [])) ≡ Some 6 }
-    ensures never_said { least_law ages (entry_of 3 (datom (user_entity 2) age (Long (pos 6)) 3 false ∷ [])) ≡ Some 6 }
-    ensures two_values { least_law ages (entry_of 3 (datom (user_entity 2) age (Long (pos 6)) 3 true ∷ [])) ≡ Some 7 }
-    ensures two_holders { least_law ages (entry_of 3 (datom age unique (Ref unique_value) 3 true ∷ [])) ≡ Some 8 }
-    ensures not_whole { least_law ages (entry_of 3 (makes_attribute 3 (user_entity 4) (codes "p/_x") cardinality_many)) ≡ Some 9 }
-    ensures half_an_attribute { least_law ages (entry_of 3 (datom (user_entity 4) cardinality (Ref cardinality_many) 3 true ∷ [])) ≡ Some 9 }
-    ensures renamed { least_law ages (entry_of 3 (datom age ident (Keyword (codes "p/age")) 3 false ∷ datom age ident (Keyword (codes "p/years")) 3 true ∷ [])) ≡ Some 9 }
+    ensures said_again { least_law ages
+        (entry_of 3 (datom (user_entity 2) age (Long (pos 5)) 3 true ∷ []))
+        ≡ Some 6 }
+    ensures never_said { least_law ages
+        (entry_of 3 (datom (user_entity 2) age (Long (pos 6)) 3 false ∷ []))
+        ≡ Some 6 }
+    ensures two_values { least_law ages
+        (entry_of 3 (datom (user_entity 2) age (Long (pos 6)) 3 true ∷ []))
+        ≡ Some 7 }
+    ensures two_holders { least_law ages
+        (entry_of 3 (datom age unique (Ref unique_value) 3 true ∷ []))
+        ≡ Some 8 }
+    ensures not_whole { least_law ages
+        (entry_of 3 (makes_attribute 3 (user_entity 4) (codes "p/_x") cardinality_many))
+        ≡ Some 9 }
+    ensures half_an_attribute { least_law ages
+        (entry_of 3 (datom (user_entity 4) cardinality (Ref cardinality_many) 3 true ∷ []))
+        ≡ Some 9 }
+    ensures renamed { least_law ages (entry_of 3 (datom age ident (Keyword (codes "p/age")) 3 false
+        ∷ datom age ident (Keyword (codes "p/years")) 3 true ∷ []))
+        ≡ Some 9 }
     ensures built_in { least_law ages altered_doc ≡ Some 9 }
-    ensures reserved { least_law ages (entry_of 3 (datom (user_entity 4) ident (Keyword (codes "db/x")) 3 true ∷ [])) ≡ Some 9 }
-    ensures no_instant { least_law ages (record { t = 3; instant = pos 1704067200003; datoms = hi 3 (user_entity 2) ∷ [] }) ≡ Some 9 }
+    ensures reserved { least_law ages
+        (entry_of 3 (datom (user_entity 4) ident (Keyword (codes "db/x")) 3 true ∷ []))
+        ≡ Some 9 }
+    ensures no_instant { least_law ages
+        (record { t = 3; instant = pos 1704067200003; datoms = hi 3 (user_entity 2) ∷ [] })
+        ≡ Some 9 }
 {}

@@ -17,8 +17,11 @@ pub fn first_is_lawful()
 
 /// A lawful history with an entry that may follow it is lawful, and there are no others.
 pub fn lawful_entries_make_lawful_histories()
-    ensures made { (h : List Entry) (entry : Entry) → IsLawful h → IsLawfulAfter h entry → IsLawful (h ++ entry ∷ []) }
-    ensures taken_apart { (first : Entry) (rest : List Entry) (entry : Entry) → IsLawful ((first ∷ rest) ++ entry ∷ []) → IsLawful (first ∷ rest) × IsLawfulAfter (first ∷ rest) entry }
+    ensures made { (h : List Entry) (entry : Entry) → IsLawful h → IsLawfulAfter h entry
+        → IsLawful (h ++ entry ∷ []) }
+    ensures taken_apart { (first : Entry) (rest : List Entry) (entry : Entry)
+        → IsLawful ((first ∷ rest) ++ entry ∷ [])
+        → IsLawful (first ∷ rest) × IsLawfulAfter (first ∷ rest) entry }
 {}
 
 /// Entry t stands at place t, and the last instant is in its range.
@@ -29,15 +32,19 @@ pub fn lawful_histories_are_counted_by_t()
 
 /// In a lawful history datoms with equal keys are one datom: none is recorded as added and as retracted by the same transaction.
 pub fn equal_keys_are_one_datom()
-    ensures { (h : List Entry) → IsLawful h → (order : Order) (x y : Datom) → Contains (said h) x → Contains (said h) y → key_cmp order x y ≡ Equal → x ≡ y }
+    ensures { (h : List Entry) → IsLawful h → (order : Order) (x y : Datom) → Contains (said h) x
+        → Contains (said h) y → key_cmp order x y ≡ Equal → x ≡ y }
 {}
 
 /// An entry may follow a history where it breaks no law.
 pub fn the_least_law_is_none_where_all_are_kept()
-    ensures { (h : List Entry) (entry : Entry) → (least_law h entry ≡ None) ↔ IsLawfulAfter h entry }
+    ensures { (h : List Entry) (entry : Entry)
+        → (least_law h entry ≡ None) ↔ IsLawfulAfter h entry }
 {}
 
 /// A new entity may be given a text in UTF-8, where there is room for one more transaction and the text is not too long.
 pub fn a_text_of_a_new_entity_is_lawful()
-    ensures { (h : List Entry) (reading : ℤ) (text : List ℕ) → IsLawful h → basis h < greatest_t → IsTrue (int_lt (last_instant h) greatest_instant) → IsUtf8 text → length text ≤ 1048576 → IsLawfulAfter h (text_entry h reading text) }
+    ensures { (h : List Entry) (reading : ℤ) (text : List ℕ) → IsLawful h → basis h < greatest_t
+        → IsTrue (int_lt (last_instant h) greatest_instant) → IsUtf8 text → length text ≤ 1048576
+        → IsLawfulAfter h (text_entry h reading text) }
 {}

@@ -10,7 +10,8 @@ use Rattle.fb_names.specs.declared.stops.NameStop.{NameStop}
 use Rattle.fb_names.specs.declared.stops.NameStop.TheVariants.{Refused, Memory}
 
 -- what is given at a place comes to this, or is refused
-abbrev pub IsGiven : {X : Type 0} → List Entry → Window → (Datom → Type 0) → ℕ → Given X → Result X Refusal → Type 0
+abbrev pub IsGiven : {X : Type 0} → List Entry → Window → (Datom → Type 0) → ℕ → Given X
+    → Result X Refusal → Type 0
 IsGiven h w Selects at given answer = Reads h w Selects at given (λ x done. done ≡ Ok x) answer
 
 -- the answer is one of these, or memory ran out

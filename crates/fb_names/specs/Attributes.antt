@@ -14,4 +14,5 @@ typed attribute = record { id = attribute.id; kind = attribute.kind }
 -- the attribute with its type, if there is one and the index holds it
 abbrev pub typed_or : Order → ℕ → Option Attribute → Result Typed Refusal
 typed_or order at None = Err (refusal BadComponent at)
-typed_or order at (Some attribute) = cond (is_held order attribute) (Ok (typed attribute)) (Err (refusal NotInIndex at))
+typed_or order at (Some attribute) =
+    cond (is_held order attribute) (Ok (typed attribute)) (Err (refusal NotInIndex at))

@@ -50,7 +50,10 @@ pub fn entity<S: Selector>(
     form: &Edn,
     at: usize,
 ) -> Result<u64, NameStop>
-    ensures { AnswersAs (IsGiven db.now.snapshot.entries (window_of db.now) (S.selects db.now.filter) at (entity_given (λ e. e) (id_in (facts db.now.snapshot.entries) (form_of form.now)))) result }
+    ensures { AnswersAs
+        (IsGiven db.now.snapshot.entries (window_of db.now) (S.selects db.now.filter) at
+        (entity_given (λ e. e) (id_in (facts db.now.snapshot.entries) (form_of form.now))))
+        result }
 {
     match entid(alloc, db, form)? {
         Some(e) => Ok(e),
@@ -60,7 +63,8 @@ pub fn entity<S: Selector>(
 
 /// An attribute by its keyword, which the index has to hold.
 pub fn attribute(schema: &Schema, order: Order, form: &Edn, at: usize) -> Result<Typed, Refusal>
-    ensures { (h : List Entry) → SchemaStands schema.now h → result ≡ typed_or order at (attribute_in (facts h) (form_of form.now)) }
+    ensures { (h : List Entry) → SchemaStands schema.now h
+        → result ≡ typed_or order at (attribute_in (facts h) (form_of form.now)) }
 {
     schemas_tell_of_attributes();
     let Edn::Key(keyword) = form else {
@@ -100,7 +104,10 @@ pub fn value<S: Selector>(
     form: &Edn,
     at: usize,
 ) -> Result<Value, NameStop>
-    ensures { AnswersAs (IsGiven db.now.snapshot.entries (window_of db.now) (S.selects db.now.filter) at (value_given (facts db.now.snapshot.entries) (λ v. v) kind (form_of form.now))) result }
+    ensures { AnswersAs
+        (IsGiven db.now.snapshot.entries (window_of db.now) (S.selects db.now.filter) at
+        (value_given (facts db.now.snapshot.entries) (λ v. v) kind (form_of form.now)))
+        result }
 {
     if kind == TYPE_REF {
         return Ok(Value::Ref(entity(alloc, db, form, at)?));

@@ -5,5 +5,6 @@ ghost use Rattle.fb_model.specs.Lawful.{IsLawful};
 
 /// In a lawful history each entry's instant is above those of the entries before it.
 pub fn instants_rise()
-    ensures { (h : List Entry) (i j : ℕ) (x y : Entry) → IsLawful h → i < j → slice_get h i ≡ Some x → slice_get h j ≡ Some y → IsTrue (int_lt x.instant y.instant) }
+    ensures { (h : List Entry) (i j : ℕ) (x y : Entry) → IsLawful h → i < j → slice_get h i ≡ Some x
+        → slice_get h j ≡ Some y → IsTrue (int_lt x.instant y.instant) }
 {}

@@ -42,7 +42,8 @@ pub struct Lookup {
 
 /// The entity that the form names in the view: none where it is no name, or finds no entity. A number names itself.
 pub fn entid<S: Selector>(alloc: Global, db: &Db<S>, form: &Edn) -> Result<Option<u64>, Memory>
-    ensures { IfOk result (λ e. IsEntityOf db.now.snapshot.entries (window_of db.now) (S.selects db.now.filter) (form_of form.now) e) }
+    ensures { IfOk result (λ e. IsEntityOf db.now.snapshot.entries (window_of db.now)
+        (S.selects db.now.filter) (form_of form.now) e) }
 {
     match form {
         Edn::Int(n) => Ok(numbered(*n)),
@@ -59,7 +60,8 @@ fn numbered(n: i64) -> Option<u64>
 }
 
 fn named<S: Selector>(alloc: Global, db: &Db<S>, name: &Text) -> Result<Option<u64>, Memory>
-    ensures { IfOk result (λ e. IsHolder db.now.snapshot.entries (window_of db.now) (S.selects db.now.filter) ident_attribute (Keyword name.now) e) }
+    ensures { IfOk result (λ e. IsHolder db.now.snapshot.entries (window_of db.now)
+        (S.selects db.now.filter) ident_attribute (Keyword name.now) e) }
 {
     idents_are_indexed();
     let _ = db.snapshot.entries();
@@ -74,7 +76,11 @@ fn idents_are_indexed()
 }
 
 fn looked_up<S: Selector>(alloc: Global, db: &Db<S>, items: &Items) -> Result<Option<u64>, Memory>
-    ensures { IfOk result (λ e. IsFound db.now.snapshot.entries (window_of db.now) (S.selects db.now.filter) (lookup_of (facts db.now.snapshot.entries) (model_lookup_in (edn.forms (forms_of (members items.now))))) e) }
+    ensures { IfOk result (λ e. IsFound db.now.snapshot.entries (window_of db.now)
+        (S.selects db.now.filter)
+        (lookup_of (facts db.now.snapshot.entries)
+        (model_lookup_in (edn.forms (forms_of (members items.now)))))
+        e) }
 {
     let Some((keyword, value)) = lookup_in(items) else {
         return Ok(None);
@@ -87,8 +93,12 @@ fn looked_up<S: Selector>(alloc: Global, db: &Db<S>, items: &Items) -> Result<Op
 
 /// The unique attribute that the keyword names, and the value that the form is under it.
 fn unique_value(schema: &Schema, keyword: &Text, form: &Edn) -> Result<Option<Lookup>, Memory>
-    ensures lookup { (h : List Entry) → SchemaStands schema.now h → IfOk result (λ found. option_map id_of found ≡ lookup_of (facts h) (Some (keyword.now, form_of form.now))) }
-    ensures held { (h : List Entry) → SchemaStands schema.now h → IfOk result (λ found. option_map_or (λ l. covers (facts h) Avet l.attribute) found true ≡ true) }
+    ensures lookup { (h : List Entry) → SchemaStands schema.now h
+        → IfOk result (λ found. option_map id_of found
+        ≡ lookup_of (facts h) (Some (keyword.now, form_of form.now))) }
+    ensures held { (h : List Entry) → SchemaStands schema.now h
+        → IfOk result
+        (λ found. option_map_or (λ l. covers (facts h) Avet l.attribute) found true ≡ true) }
 {
     schemas_tell_of_attributes();
     let Some(attribute) = schema.named(keyword) else {
@@ -120,7 +130,8 @@ pub fn plain_value(kind: u64, form: &Edn) -> Result<Option<Value>, Memory>
 /// The least entity that has the value. AVET has the value's datoms by their entities, so it is that of the first one.
 fn holder<S: Selector>(alloc: Global, db: &Db<S>, a: u64, v: Value) -> Result<Option<u64>, Memory>
     requires { covers (facts db.now.snapshot.entries) Avet a ≡ true }
-    ensures { IfOk result (λ e. IsHolder db.now.snapshot.entries (window_of db.now) (S.selects db.now.filter) a v e) }
+    ensures { IfOk result
+        (λ e. IsHolder db.now.snapshot.entries (window_of db.now) (S.selects db.now.filter) a v e) }
 {
     let probe = Probe {
         order: Order::Avet,

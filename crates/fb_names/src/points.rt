@@ -32,8 +32,10 @@ pub fn point(snapshot: &Snapshot, form: &Edn) -> Result<u32, Refusal>
 /// The range of the log that the two forms behind the command's word give.
 pub fn log_range(snapshot: &Snapshot, start: &Edn, stop: &Edn) -> Result<LogRange, Refusal>
     ensures { MatchResult result
-        (λ range. model_log_range snapshot.now.entries (form_of start.now) (form_of stop.now) ≡ Ok (range.start, range.stop))
-        (λ refusal. model_log_range snapshot.now.entries (form_of start.now) (form_of stop.now) ≡ Err refusal) }
+        (λ range. model_log_range snapshot.now.entries (form_of start.now) (form_of stop.now)
+        ≡ Ok (range.start, range.stop))
+        (λ refusal. model_log_range snapshot.now.entries (form_of start.now) (form_of stop.now)
+        ≡ Err refusal) }
 {
     let start = start_of(snapshot, start).ok_or(bad_point(1))?;
     let stop = stop_of(snapshot, stop).ok_or(bad_point(2))?;

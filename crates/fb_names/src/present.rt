@@ -26,7 +26,8 @@ impl<S: Selector> Selector for Lent<'_, S> {
 /// The same value without its history.
 pub fn present<S: Selector>(db: &Db<S>) -> Result<Db<Lent<'_, S>>, Memory>
     ensures snapshot { IfOk result (λ present. present.snapshot ≡ db.now.snapshot) }
-    ensures window { IfOk result (λ present. window_of present ≡ without_history (window_of db.now)) }
+    ensures window { IfOk result
+        (λ present. window_of present ≡ without_history (window_of db.now)) }
     ensures filter { IfOk result (λ present. present.filter.filter.now ≡ db.now.filter) }
 {
     Ok(Db {

@@ -45,7 +45,10 @@ pub fn components<S: Selector>(
     order: Order,
     given: &[Edn],
 ) -> Result<Probe, NameStop>
-    ensures { AnswersAs (AreComponents db.now.snapshot.entries (window_of db.now) (S.selects db.now.filter) order (forms_of given.now)) result }
+    ensures { AnswersAs
+        (AreComponents db.now.snapshot.entries (window_of db.now) (S.selects db.now.filter) order
+        (forms_of given.now))
+        result }
 {
     if given.len() > COMPONENTS {
         return Err(NameStop::Refused(no_command()));
@@ -80,10 +83,30 @@ fn parts_of(order: Order) -> [Component; 4]
     ensures { map part_in result ≡ model_parts_of order }
 {
     match order {
-        Order::Eavt => [Component::Entity, Component::Attribute, Component::Value, Component::T],
-        Order::Aevt => [Component::Attribute, Component::Entity, Component::Value, Component::T],
-        Order::Avet => [Component::Attribute, Component::Value, Component::Entity, Component::T],
-        Order::Vaet => [Component::Value, Component::Attribute, Component::Entity, Component::T],
+        Order::Eavt => [
+            Component::Entity,
+            Component::Attribute,
+            Component::Value,
+            Component::T,
+        ],
+        Order::Aevt => [
+            Component::Attribute,
+            Component::Entity,
+            Component::Value,
+            Component::T,
+        ],
+        Order::Avet => [
+            Component::Attribute,
+            Component::Value,
+            Component::Entity,
+            Component::T,
+        ],
+        Order::Vaet => [
+            Component::Value,
+            Component::Attribute,
+            Component::Entity,
+            Component::T,
+        ],
     }
 }
 
@@ -108,7 +131,10 @@ fn with_next<S: Selector>(
     form: &Edn,
     at: usize,
 ) -> Result<Probe, NameStop>
-    ensures { AnswersAs (IsGiven db.now.snapshot.entries (window_of db.now) (S.selects db.now.filter) at (model_with_next (facts db.now.snapshot.entries) probe (part_in part) (form_of form.now))) result }
+    ensures { AnswersAs
+        (IsGiven db.now.snapshot.entries (window_of db.now) (S.selects db.now.filter) at
+        (model_with_next (facts db.now.snapshot.entries) probe (part_in part) (form_of form.now)))
+        result }
 {
     match part {
         Component::Entity => {
@@ -145,7 +171,8 @@ fn with_next<S: Selector>(
 
 /// The type of the value that is next: that of the attribute before it. In VAET, where none is, the value is an entity.
 fn kind_behind(schema: &Schema, probe: &Probe) -> u64
-    ensures { (h : List Entry) → SchemaStands schema.now h → result ≡ model_kind_behind (facts h) probe.now }
+    ensures { (h : List Entry) → SchemaStands schema.now h
+        → result ≡ model_kind_behind (facts h) probe.now }
 {
     schemas_tell_of_attributes();
     let Some(a) = probe.a else {

@@ -32,7 +32,10 @@ pub fn index_range<S: Selector>(
     start: &Edn,
     end: &Edn,
 ) -> Result<ValueRange, NameStop>
-    ensures { AnswersAs (λ answer. IsIndexRange db.now.snapshot.entries (window_of db.now) (S.selects db.now.filter) (form_of a.now) (form_of start.now) (form_of end.now) (range_of answer)) result }
+    ensures { AnswersAs
+        (λ answer. IsIndexRange db.now.snapshot.entries (window_of db.now) (S.selects db.now.filter)
+        (form_of a.now) (form_of start.now) (form_of end.now) (range_of answer))
+        result }
 {
     let attribute = attribute(db.snapshot.schema(), Order::Avet, a, 1)?;
     let start = range_end(alloc, db, attribute.kind, start, 2)?;
@@ -52,7 +55,10 @@ fn range_end<S: Selector>(
     form: &Edn,
     at: usize,
 ) -> Result<Option<Value>, NameStop>
-    ensures { AnswersAs (IsGiven db.now.snapshot.entries (window_of db.now) (S.selects db.now.filter) at (end_given (facts db.now.snapshot.entries) kind (form_of form.now))) result }
+    ensures { AnswersAs
+        (IsGiven db.now.snapshot.entries (window_of db.now) (S.selects db.now.filter) at
+        (end_given (facts db.now.snapshot.entries) kind (form_of form.now)))
+        result }
 {
     if is_nil(form) {
         return Ok(None);

@@ -88,7 +88,10 @@ unique_value = UNIQUE_VALUE
 -- an entity of the first entry: 1 to 8, 10 to 18, 20, 21, 30 and 31
 abbrev pub is_builtin : ℕ → Bool
 is_builtin e =
-    (nat_le 1 e && nat_le e 8) || (nat_le 10 e && nat_le e 18) || (nat_le 20 e && nat_le e 21) || (nat_le 30 e && nat_le e 31)
+    (nat_le 1 e && nat_le e 8)
+    || (nat_le 10 e && nat_le e 18)
+    || (nat_le 20 e && nat_le e 21)
+    || (nat_le 30 e && nat_le e 31)
 
 -- the greatest t of a transaction
 abbrev pub greatest_t : ℕ

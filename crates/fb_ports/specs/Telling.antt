@@ -16,17 +16,23 @@ abbrev pub SameParts : {A : Type 0} → (List ℕ → Part → A) → (List ℕ 
 SameParts old new = (dir : List ℕ) (part : Part) → new dir part ≡ old dir part
 
 -- what is told of every other part is as it was, and of the same part of every other directory
-abbrev pub SameButPart : {A : Type 0} → List ℕ → Part → (List ℕ → Part → A) → (List ℕ → Part → A) → Type 0
-SameButPart dir part old new = (other : List ℕ) (its : Part) → (other ≡ dir → its ≡ part → ⊥) → new other its ≡ old other its
+abbrev pub SameButPart : {A : Type 0} → List ℕ → Part → (List ℕ → Part → A) → (List ℕ → Part → A)
+    → Type 0
+SameButPart dir part old new =
+    (other : List ℕ) (its : Part) → (other ≡ dir → its ≡ part → ⊥) → new other its ≡ old other its
 
 -- a crash may leave the same images
 abbrev pub Alike : (List ℕ → Type 0) → (List ℕ → Type 0) → Type 0
 Alike old new = (image : List ℕ) → new image ↔ old image
 
 -- the images that are told of every part of every directory are as they were
-abbrev pub SameImages : (List ℕ → Part → List ℕ → Type 0) → (List ℕ → Part → List ℕ → Type 0) → Type 0
+abbrev pub SameImages : (List ℕ → Part → List ℕ → Type 0) → (List ℕ → Part → List ℕ → Type 0)
+    → Type 0
 SameImages old new = (dir : List ℕ) (part : Part) → Alike (old dir part) (new dir part)
 
 -- the images that are told of every other part are as they were, and of the same part of every other directory
-abbrev pub SameImagesBut : List ℕ → Part → (List ℕ → Part → List ℕ → Type 0) → (List ℕ → Part → List ℕ → Type 0) → Type 0
-SameImagesBut dir part old new = (other : List ℕ) (its : Part) → (other ≡ dir → its ≡ part → ⊥) → Alike (old other its) (new other its)
+abbrev pub SameImagesBut : List ℕ → Part → (List ℕ → Part → List ℕ → Type 0)
+    → (List ℕ → Part → List ℕ → Type 0) → Type 0
+SameImagesBut dir part old new =
+    (other : List ℕ) (its : Part) → (other ≡ dir → its ≡ part → ⊥)
+    → Alike (old other its) (new other its)

@@ -79,12 +79,16 @@ pub trait Host {
     fn disk(&mut self, alloc: Global, dir: &str, part: Part) -> Result<Self::Disk, OpenFail>
         ensures bytes { IfOk result (λ d. Self.Disk.bytes d ≡ disks self.old dir.now part) }
         ensures count { IfOk result (λ d. Self.Disk.faults d ≡ disk_faults self.old dir.now part) }
-        ensures images { IfOk result (λ d. Alike (disk_images self.old dir.now part) (Self.Disk.images d)) }
+        ensures images { IfOk result
+            (λ d. Alike (disk_images self.old dir.now part) (Self.Disk.images d)) }
         ensures moment { IfOk result (λ d. Self.Disk.moment d ≡ disk_moment self.old dir.now part) }
         ensures others { SameButPart dir.now part (disks self.old) (disks self.new) }
-        ensures other_counts { SameButPart dir.now part (disk_faults self.old) (disk_faults self.new) }
-        ensures other_images { SameImagesBut dir.now part (disk_images self.old) (disk_images self.new) }
-        ensures other_moments { SameButPart dir.now part (disk_moment self.old) (disk_moment self.new) }
+        ensures other_counts { SameButPart dir.now part (disk_faults self.old)
+            (disk_faults self.new) }
+        ensures other_images { SameImagesBut dir.now part (disk_images self.old)
+            (disk_images self.new) }
+        ensures other_moments { SameButPart dir.now part (disk_moment self.old)
+            (disk_moment self.new) }
         ensures sources { Same (sources self.old) (sources self.new) }
         ensures source_counts { Same (source_faults self.old) (source_faults self.new) }
         ensures sinks { Same (sinks self.old) (sinks self.new) }

@@ -20,7 +20,8 @@ pub trait Source: Drop {
     /// It takes no memory.
     fn read(&mut self, buf: &mut [u8]) -> Result<usize, Failed>
         ensures within { IfOk result (λ n. n ≤ length buf.old) }
-        ensures taken { IfOk result (λ n. left self.old ≡ prepend_known (take n buf.new) (left self.new)) }
+        ensures taken { IfOk result
+            (λ n. left self.old ≡ prepend_known (take n buf.new) (left self.new)) }
 
         // A read of nothing, with room for a byte, is the end.
         ensures end { IfOk result (λ n. n ≡ 0 → 0 < length buf.old → IsAtEnd (left self.new)) }
@@ -46,7 +47,8 @@ pub trait Sink: Drop {
 
         // To take nothing of a piece is to fail.
         ensures some { IfOk result (λ n. 0 < length piece.now → 0 < n) }
-        ensures taken { IfOk result (λ n. contents self.new ≡ append_known (contents self.old) (take n piece.now)) }
+        ensures taken { IfOk result
+            (λ n. contents self.new ≡ append_known (contents self.old) (take n piece.now)) }
         ensures kept { OnErr result (contents self.new ≡ contents self.old) }
         ensures counted { Counts result (faults self.old) (faults self.new) };
 }

@@ -12,11 +12,14 @@ IsFound place_of name_at place = place_of (name_at place) ≡ Some place
 abbrev pub AreFound : (List ℕ → Option ℕ) → (ℕ → List ℕ) → List ℕ → Type 0
 AreFound place_of name_at places = AllByRecursion (IsFound place_of name_at) places
 
-pub IsFound-prop : (place_of : List ℕ → Option ℕ) (name_at : ℕ → List ℕ) (place : ℕ) → IsProp (IsFound place_of name_at place)
+pub IsFound-prop : (place_of : List ℕ → Option ℕ) (name_at : ℕ → List ℕ) (place : ℕ)
+    → IsProp (IsFound place_of name_at place)
 IsFound-prop place_of name_at place = hlevel props
 
-pub AreFound-prop : (place_of : List ℕ → Option ℕ) (name_at : ℕ → List ℕ) (places : List ℕ) → IsProp (AreFound place_of name_at places)
-AreFound-prop place_of name_at places = AllByRecursion-prop (IsFound place_of name_at) (IsFound-prop place_of name_at) places
+pub AreFound-prop : (place_of : List ℕ → Option ℕ) (name_at : ℕ → List ℕ) (places : List ℕ)
+    → IsProp (AreFound place_of name_at places)
+AreFound-prop place_of name_at places =
+    AllByRecursion-prop (IsFound place_of name_at) (IsFound-prop place_of name_at) places
 
 -- the filter that the name finds selects the datom
 abbrev pub selected_by : (List ℕ → Option ℕ) → (ℕ → Datom → Type 0) → List ℕ → Datom → Type 0

@@ -14,7 +14,8 @@ use Rattle.fb_preds.specs.declared.filters.NamedFilter.{NamedFilter}
 abbrev pub last_place : {S K : Type 0} → List ℕ → List (NamedFilter S K) → Option ℕ
 last_place name [] = None
 last_place name (named ∷ rest) =
-    option_map_or (λ place. Some (place + 1)) (last_place name rest) (cond (bytes_eq named.name name) (Some 0) None)
+    option_map_or (λ place. Some (place + 1)) (last_place name rest)
+    (cond (bytes_eq named.name name) (Some 0) None)
 
 -- the name at a place
 abbrev pub name_at : {S K : Type 0} → List (NamedFilter S K) → ℕ → List ℕ
@@ -26,7 +27,8 @@ is_negative (Long (negsuc n)) = true
 is_negative v = false
 
 -- what a filter selects, where it is given of what callers have stored and of closures
-abbrev pub Selects : {S K : Type 0} → (S → Datom → Type 0) → (K → Datom → Type 0) → Filter S K → Datom → Type 0
+abbrev pub Selects : {S K : Type 0} → (S → Datom → Type 0) → (K → Datom → Type 0) → Filter S K
+    → Datom → Type 0
 Selects stored kept Users d = IsTrue (nat_lt (user_entity 0) d.e)
 Selects stored kept NoDoc d = IsTrue (not (nat_eq d.a doc))
 Selects stored kept Positive d = IsTrue (not (is_negative d.v))
@@ -34,8 +36,10 @@ Selects stored kept (Stored s) d = stored s d
 Selects stored kept (Closure k) d = kept k d
 
 -- the filter at the place selects the datom
-abbrev pub selected_at : {S K : Type 0} → (S → Datom → Type 0) → (K → Datom → Type 0) → List (NamedFilter S K) → ℕ → Datom → Type 0
-selected_at stored kept filters place d = MatchOption (slice_get filters place) ⊥ (λ named. Selects stored kept named.filter d)
+abbrev pub selected_at : {S K : Type 0} → (S → Datom → Type 0) → (K → Datom → Type 0)
+    → List (NamedFilter S K) → ℕ → Datom → Type 0
+selected_at stored kept filters place d =
+    MatchOption (slice_get filters place) ⊥ (λ named. Selects stored kept named.filter d)
 
 -- the filters that a table begins with
 abbrev pub shipped_filters : {S K : Type 0} → List (NamedFilter S K)

@@ -21,7 +21,8 @@ impl Kept {
     /// Takes no memory: the caller has boxed the closure.
     pub fn new(answers: BoxedTest) -> Kept
         requires callable { (x : _) → IsDatom x.now → BoxedTest.pre answers x }
-        requires one_answer { (x y : _) → x.now ≡ y.now → IsDatom x.now → BoxedTest.post answers x true → BoxedTest.post answers y false → ⊥ }
+        requires one_answer { (x y : _) → x.now ≡ y.now → IsDatom x.now
+            → BoxedTest.post answers x true → BoxedTest.post answers y false → ⊥ }
         ensures { result.answers ≡ answers }
     {
         Kept { answers }

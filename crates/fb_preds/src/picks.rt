@@ -33,7 +33,8 @@ impl<'p, T: FilterTable> Picks<'p, T> {
     /// One filter more, at the place that its name finds.
     pub fn add(&mut self, place: usize) -> Result<(), Memory>
         requires { IsFound (T.place_of self.old.table.now) (T.name_at self.old.table.now) place }
-        ensures added { IfOk result (λ _. self.new.places.items ≡ self.old.places.items ++ place ∷ []) }
+        ensures added { IfOk result
+            (λ _. self.new.places.items ≡ self.old.places.items ++ place ∷ []) }
         ensures unchanged { IfErr result (λ _. self.new.places.items ≡ self.old.places.items) }
         ensures table { self.new.table ≡ self.old.table }
     {
@@ -50,7 +51,8 @@ impl<'p, T: FilterTable> Picks<'p, T> {
     }
 
     fn all_select(&self, d: &Datom) -> bool
-        ensures { IsTrue result ↔ SelectedByAll (T.selects_at self.now.table.now) self.now.places.items d.now }
+        ensures { IsTrue result
+            ↔ SelectedByAll (T.selects_at self.now.table.now) self.now.places.items d.now }
     {
         for place in &self.places {
             if !self.table.select(*place, d) {
@@ -65,7 +67,9 @@ impl<T: FilterTable> Selector for Picks<'_, T> {
     ghost use Rattle.std.specs.Prelude.{map};
     ghost use Rattle.fb_preds.specs.Naming.{selected_by};
 
-    ghost selects = { λ picks d. SelectedByAll (selected_by (T.place_of picks.table.now) (T.selects_at picks.table.now)) (map (T.name_at picks.table.now) picks.places.items) d };
+    ghost selects = { λ picks d. SelectedByAll
+        (selected_by (T.place_of picks.table.now) (T.selects_at picks.table.now))
+        (map (T.name_at picks.table.now) picks.places.items) d };
 
     fn test(&self, d: &Datom) -> bool {
         self.all_select(d)

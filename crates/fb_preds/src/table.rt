@@ -31,7 +31,8 @@ impl PredTable {
 
     /// Adds a filter under a name. Where another one has the name, that one is found no longer.
     pub fn add(&mut self, name: Text, s: BoxedSelector) -> Result<(), Memory>
-        ensures added { IfOk result (λ _. self.new.filters.items ≡ self.old.filters.items ++ record { name = name; filter = Filter.Stored s } ∷ []) }
+        ensures added { IfOk result (λ _. self.new.filters.items
+            ≡ self.old.filters.items ++ record { name = name; filter = Filter.Stored s } ∷ []) }
         ensures unchanged { IfErr result (λ _. self.new.filters.items ≡ self.old.filters.items) }
     {
         self.filters.push(NamedFilter {
@@ -43,7 +44,8 @@ impl PredTable {
 
     /// The same of a closure.
     pub fn keep(&mut self, name: Text, kept: Kept) -> Result<(), Memory>
-        ensures added { IfOk result (λ _. self.new.filters.items ≡ self.old.filters.items ++ record { name = name; filter = Filter.Closure kept } ∷ []) }
+        ensures added { IfOk result (λ _. self.new.filters.items
+            ≡ self.old.filters.items ++ record { name = name; filter = Filter.Closure kept } ∷ []) }
         ensures unchanged { IfErr result (λ _. self.new.filters.items ≡ self.old.filters.items) }
     {
         self.filters.push(NamedFilter {
@@ -64,7 +66,9 @@ impl PredTable {
     /// Whether the filter at the place selects the datom.
     pub fn test(&self, place: usize, d: &Datom) -> bool
         requires { place < length self.now.filters.items }
-        ensures { IsTrue result ↔ selected_at (λ s. selects s) (λ kept. ⟦<Kept as Selector>⟧.selects kept) self.now.filters.items place d.now }
+        ensures { IsTrue result
+            ↔ selected_at (λ s. selects s) (λ kept. ⟦<Kept as Selector>⟧.selects kept)
+            self.now.filters.items place d.now }
     {
         is_selected(&self.filters[place].filter, d)
     }
@@ -78,7 +82,9 @@ impl FilterTable for PredTable {
 
     ghost name_at = { λ table place. name_at table.filters.items place };
 
-    ghost selects_at = { λ table place d. selected_at (λ s. (Selector-box s).selects s.value) (λ kept e. (x : _) × (x.now ≡ e) × BoxedTest.post kept.answers x true) table.filters.items place d };
+    ghost selects_at = { λ table place d. selected_at (λ s. (Selector-box s).selects s.value)
+        (λ kept e. (x : _) × (x.now ≡ e) × BoxedTest.post kept.answers x true) table.filters.items
+        place d };
 
     fn place(&self, name: &Text) -> Option<usize> {
         self.find(name)
@@ -91,7 +97,8 @@ impl FilterTable for PredTable {
 
 /// Whether the filter selects the datom.
 fn is_selected(filter: &Filter<BoxedSelector, Kept>, d: &Datom) -> bool
-    ensures { IsTrue result ↔ Selects (λ s. selects s) (λ kept. ⟦<Kept as Selector>⟧.selects kept) filter.now d.now }
+    ensures { IsTrue result
+        ↔ Selects (λ s. selects s) (λ kept. ⟦<Kept as Selector>⟧.selects kept) filter.now d.now }
 {
     match filter {
         Filter::Users => d.e > USER_ENTITIES,

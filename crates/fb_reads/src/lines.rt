@@ -42,7 +42,8 @@ pub fn not_a_command(line: &mut Vec<u8>, basis: u32) -> Result<(), Memory>
 
 /// The line of a Pull.
 pub fn not_built(line: &mut Vec<u8>, basis: u32) -> Result<(), Memory>
-    ensures { OnOk result (IsLineOf (refusal_reply (codes "read/not-built") 0 basis) line.new.items) }
+    ensures { OnOk result
+        (IsLineOf (refusal_reply (codes "read/not-built") 0 basis) line.new.items) }
 {
     write_refusal(line, NOT_BUILT, 0, basis)
 }

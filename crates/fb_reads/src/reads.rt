@@ -30,12 +30,24 @@ pub fn answer_read<T: FilterTable>(
     line: &mut Vec<u8>,
 ) -> Result<(), Memory>
     requires { IsTrue (is_read (option_map (λ asks. asked asks) command)) }
-    ensures line { let table = view.old.filter.table.now in OnOk result (Says (IsReply view.old.snapshot.entries (basis view.old.snapshot.entries)
-        (λ name. is_some (T.place_of table name)) (window_of view.old) (SelectedBy (selected_by (T.place_of table) (T.selects_at table)) (map (T.name_at table) view.old.filter.places.items))
-        (option_map (λ asks. asked asks) command.entry)) line.new.items) }
-    ensures stands { let table = view.old.filter.table.now in OnOk result ((place : ℕ) (told : Bool) → standing_at place told (window_of view.new) (map (T.name_at table) view.new.filter.places.items)
-        ≡ behind view.old.snapshot.entries (λ name. is_some (T.place_of table name)) (standing_at place told (window_of view.old) (map (T.name_at table) view.old.filter.places.items)) (option_map (λ asks. asked asks) command.entry)) }
-    ensures unchanged { OnErr result ((window_of view.new ≡ window_of view.old) × (view.new.filter.places.items ≡ view.old.filter.places.items)) }
+    ensures line { let table = view.old.filter.table.now in OnOk result
+        (Says
+        (IsReply view.old.snapshot.entries (basis view.old.snapshot.entries)
+        (λ name. is_some (T.place_of table name)) (window_of view.old)
+        (SelectedBy (selected_by (T.place_of table) (T.selects_at table))
+        (map (T.name_at table) view.old.filter.places.items))
+        (option_map (λ asks. asked asks) command.entry))
+        line.new.items) }
+    ensures stands { let table = view.old.filter.table.now in OnOk result
+        ((place : ℕ) (told : Bool)
+        → standing_at place told (window_of view.new)
+        (map (T.name_at table) view.new.filter.places.items)
+        ≡ behind view.old.snapshot.entries (λ name. is_some (T.place_of table name))
+        (standing_at place told (window_of view.old)
+        (map (T.name_at table) view.old.filter.places.items))
+        (option_map (λ asks. asked asks) command.entry)) }
+    ensures unchanged { OnErr result ((window_of view.new ≡ window_of view.old)
+        × (view.new.filter.places.items ≡ view.old.filter.places.items)) }
     ensures snapshot { view.new.snapshot ≡ view.old.snapshot }
     ensures table { view.new.filter.table ≡ view.old.filter.table }
 {

@@ -35,7 +35,10 @@ pub fn answer_datoms<S: Selector>(
     given: &[Edn],
     line: &mut Vec<u8>,
 ) -> Result<(), Memory>
-    ensures { OnOk result (Says (HasDatomsAt view.now.snapshot.entries (window_of view.now) (S.selects view.now.filter) (basis view.now.snapshot.entries) order leading (forms_of given.now)) line.new.items) }
+    ensures { OnOk result (Says
+        (HasDatomsAt view.now.snapshot.entries (window_of view.now) (S.selects view.now.filter)
+        (basis view.now.snapshot.entries) order leading (forms_of given.now))
+        line.new.items) }
 {
     match components(alloc, view, order, given) {
         Ok(probe) => {
@@ -54,7 +57,10 @@ pub fn answer_seek<S: Selector>(
     given: &[Edn],
     line: &mut Vec<u8>,
 ) -> Result<(), Memory>
-    ensures { OnOk result (Says (HasDatomsAt view.now.snapshot.entries (window_of view.now) (S.selects view.now.filter) (basis view.now.snapshot.entries) order not_below (forms_of given.now)) line.new.items) }
+    ensures { OnOk result (Says
+        (HasDatomsAt view.now.snapshot.entries (window_of view.now) (S.selects view.now.filter)
+        (basis view.now.snapshot.entries) order not_below (forms_of given.now))
+        line.new.items) }
 {
     match components(alloc, view, order, given) {
         Ok(probe) => {
@@ -74,7 +80,10 @@ pub fn answer_index_range<S: Selector>(
     end: &Edn,
     line: &mut Vec<u8>,
 ) -> Result<(), Memory>
-    ensures { OnOk result (Says (HasDatomsBetween view.now.snapshot.entries (window_of view.now) (S.selects view.now.filter) (basis view.now.snapshot.entries) (form_of a.now) (form_of start.now) (form_of end.now)) line.new.items) }
+    ensures { OnOk result (Says
+        (HasDatomsBetween view.now.snapshot.entries (window_of view.now) (S.selects view.now.filter)
+        (basis view.now.snapshot.entries) (form_of a.now) (form_of start.now) (form_of end.now))
+        line.new.items) }
 {
     match fb_names::index_range(alloc, view, a, start, end) {
         Ok(range) => {
@@ -91,8 +100,13 @@ pub fn answer_index_range<S: Selector>(
 
 /// The line of what a scan of the view found.
 fn write_found<S: Selector>(line: &mut Vec<u8>, view: &Db<S>, found: &Datoms) -> Result<(), Memory>
-    requires { (order : Order) × (range : Range) × IsScan view.now.snapshot.entries (window_of view.now) (S.selects view.now.filter) order range found.now }
-    ensures { OnOk result (IsLineOf (datoms_reply (basis view.now.snapshot.entries) (facts view.now.snapshot.entries) found.now) line.new.items) }
+    requires { (order : Order)
+        × (range : Range)
+        × IsScan view.now.snapshot.entries (window_of view.now) (S.selects view.now.filter) order
+        range found.now }
+    ensures { OnOk result (IsLineOf
+        (datoms_reply (basis view.now.snapshot.entries) (facts view.now.snapshot.entries) found.now)
+        line.new.items) }
 {
     what_is_seen_was_said();
     what_is_said_has_a_text();
@@ -109,7 +123,11 @@ pub fn answer_tx_range(
     end: &Edn,
     line: &mut Vec<u8>,
 ) -> Result<(), Memory>
-    ensures { OnOk result (Says (Shows (basis snapshot.now.entries) (HasTransactions snapshot.now.entries (basis snapshot.now.entries)) (model_log_range snapshot.now.entries (form_of start.now) (form_of end.now))) line.new.items) }
+    ensures { OnOk result (Says
+        (Shows (basis snapshot.now.entries)
+        (HasTransactions snapshot.now.entries (basis snapshot.now.entries))
+        (model_log_range snapshot.now.entries (form_of start.now) (form_of end.now)))
+        line.new.items) }
 {
     match log_range(snapshot, start, end) {
         Ok(range) => write_log(alloc, line, snapshot, range),
@@ -124,7 +142,10 @@ fn write_log(
     snapshot: &Snapshot,
     range: LogRange,
 ) -> Result<(), Memory>
-    ensures { OnOk result (IsLineOf (transactions_reply (basis snapshot.now.entries) (facts snapshot.now.entries) (transactions snapshot.now.entries range.start range.stop)) line.new.items) }
+    ensures { OnOk result (IsLineOf
+        (transactions_reply (basis snapshot.now.entries) (facts snapshot.now.entries)
+        (transactions snapshot.now.entries range.start range.stop))
+        line.new.items) }
 {
     what_is_said_has_a_text();
     a_schema_tells_its_history();

@@ -26,8 +26,13 @@ pub fn see_as_of<S: Selector>(
     form: &Edn,
     line: &mut Vec<u8>,
 ) -> Result<(), Memory>
-    ensures line { OnOk result (Says (Shows (basis view.old.snapshot.entries) (IsDone (basis view.old.snapshot.entries)) (point_in view.old.snapshot.entries (form_of form.now))) line.new.items) }
-    ensures window { OnOk result (window_of view.new ≡ narrowed window.as_of (point_in view.old.snapshot.entries (form_of form.now)) (window_of view.old)) }
+    ensures line { OnOk result (Says
+        (Shows (basis view.old.snapshot.entries) (IsDone (basis view.old.snapshot.entries))
+        (point_in view.old.snapshot.entries (form_of form.now)))
+        line.new.items) }
+    ensures window { OnOk result (window_of view.new
+        ≡ narrowed window.as_of (point_in view.old.snapshot.entries (form_of form.now))
+        (window_of view.old)) }
     ensures unchanged { OnErr result (window_of view.new ≡ window_of view.old) }
     ensures snapshot { view.new.snapshot ≡ view.old.snapshot }
     ensures filter { view.new.filter ≡ view.old.filter }
@@ -49,8 +54,13 @@ pub fn see_since<S: Selector>(
     form: &Edn,
     line: &mut Vec<u8>,
 ) -> Result<(), Memory>
-    ensures line { OnOk result (Says (Shows (basis view.old.snapshot.entries) (IsDone (basis view.old.snapshot.entries)) (point_in view.old.snapshot.entries (form_of form.now))) line.new.items) }
-    ensures window { OnOk result (window_of view.new ≡ narrowed window.since (point_in view.old.snapshot.entries (form_of form.now)) (window_of view.old)) }
+    ensures line { OnOk result (Says
+        (Shows (basis view.old.snapshot.entries) (IsDone (basis view.old.snapshot.entries))
+        (point_in view.old.snapshot.entries (form_of form.now)))
+        line.new.items) }
+    ensures window { OnOk result (window_of view.new
+        ≡ narrowed window.since (point_in view.old.snapshot.entries (form_of form.now))
+        (window_of view.old)) }
     ensures unchanged { OnErr result (window_of view.new ≡ window_of view.old) }
     ensures snapshot { view.new.snapshot ≡ view.old.snapshot }
     ensures filter { view.new.filter ≡ view.old.filter }
@@ -68,7 +78,8 @@ pub fn see_since<S: Selector>(
 
 /// `[:history]`
 pub fn see_history<S: Selector>(view: &mut Db<S>, line: &mut Vec<u8>) -> Result<(), Memory>
-    ensures line { OnOk result (IsLineOf (done_reply (basis view.old.snapshot.entries)) line.new.items) }
+    ensures line { OnOk result
+        (IsLineOf (done_reply (basis view.old.snapshot.entries)) line.new.items) }
     ensures window { OnOk result (window_of view.new ≡ window.with_history (window_of view.old)) }
     ensures unchanged { OnErr result (window_of view.new ≡ window_of view.old) }
     ensures snapshot { view.new.snapshot ≡ view.old.snapshot }
@@ -85,10 +96,16 @@ pub fn add_filter<T: FilterTable>(
     name: &Text,
     line: &mut Vec<u8>,
 ) -> Result<(), Memory>
-    ensures line { let basis = basis view.old.snapshot.entries in
-        OnOk result (IsLineOf (cond (is_some (T.place_of view.old.filter.table.now name.now)) (done_reply basis) (refused basis model_no_filter)) line.new.items) }
-    ensures names { let names = map (T.name_at view.old.filter.table.now) view.old.filter.places.items in
-        OnOk result (map (T.name_at view.old.filter.table.now) view.new.filter.places.items ≡ cond (is_some (T.place_of view.old.filter.table.now name.now)) (names ++ name.now ∷ []) names) }
+    ensures line { let basis = basis view.old.snapshot.entries in OnOk result
+        (IsLineOf
+        (cond (is_some (T.place_of view.old.filter.table.now name.now)) (done_reply basis)
+        (refused basis model_no_filter))
+        line.new.items) }
+    ensures names { let names = map (T.name_at view.old.filter.table.now)
+        view.old.filter.places.items in OnOk result
+        (map (T.name_at view.old.filter.table.now) view.new.filter.places.items
+        ≡ cond (is_some (T.place_of view.old.filter.table.now name.now)) (names ++ name.now ∷ [])
+        names) }
     ensures unchanged { OnErr result (view.new.filter.places.items ≡ view.old.filter.places.items) }
     ensures window { window_of view.new ≡ window_of view.old }
     ensures snapshot { view.new.snapshot ≡ view.old.snapshot }
@@ -116,10 +133,12 @@ pub fn see_whole<T: FilterTable>(
     view: &mut Db<Picks<'_, T>>,
     line: &mut Vec<u8>,
 ) -> Result<(), Memory>
-    ensures line { OnOk result (IsLineOf (done_reply (basis view.old.snapshot.entries)) line.new.items) }
+    ensures line { OnOk result
+        (IsLineOf (done_reply (basis view.old.snapshot.entries)) line.new.items) }
     ensures window { OnOk result (window_of view.new ≡ window.whole) }
     ensures places { OnOk result (view.new.filter.places.items ≡ []) }
-    ensures unchanged { OnErr result ((window_of view.new ≡ window_of view.old) × (view.new.filter.places.items ≡ view.old.filter.places.items)) }
+    ensures unchanged { OnErr result ((window_of view.new ≡ window_of view.old)
+        × (view.new.filter.places.items ≡ view.old.filter.places.items)) }
     ensures snapshot { view.new.snapshot ≡ view.old.snapshot }
     ensures table { view.new.filter.table ≡ view.old.filter.table }
 {

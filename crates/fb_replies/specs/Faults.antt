@@ -11,4 +11,5 @@ word_of Stopped = codes "log-stopped"
 
 -- behind the first field
 abbrev pub place_text : ℕ → ℕ → List ℕ
-place_text at basis = codes " :at " ++ (decimal at ++ (codes " :basis " ++ (decimal basis ++ codes "}\n")))
+place_text at basis =
+    codes " :at " ++ (decimal at ++ (codes " :basis " ++ (decimal basis ++ codes "}\n")))

@@ -24,7 +24,8 @@ pub(crate) fn append_transactions(
 ) -> Result<(), Memory>
     requires { IsTrue (entries_have_texts (map (λ entry. entry.now) entries.now)) }
     ensures { OnOk result (Appends
-        (CanonAll (forms (map (transaction_form schema.now) (map (λ entry. entry.now) entries.now))))
+        (CanonAll
+        (forms (map (transaction_form schema.now) (map (λ entry. entry.now) entries.now))))
         line.old.items line.new.items) }
 {
     for (index, entry) in entries.iter().enumerate() {
@@ -67,7 +68,8 @@ pub(crate) fn append_datoms(
 /// `[17592186044417 :db/doc "hi" 13194139533313 true]`
 fn append_datom(line: &mut Vec<u8>, schema: &Schema, d: &Datom) -> Result<(), Memory>
     requires { IsTrue (has_text d.now.v) }
-    ensures { OnOk result (Appends (Canon (datom_form schema.now d.now)) line.old.items line.new.items) }
+    ensures { OnOk result
+        (Appends (Canon (datom_form schema.now d.now)) line.old.items line.new.items) }
 {
     append(line, b"[")?;
     append_entity(line, d.e)?;

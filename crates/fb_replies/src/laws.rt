@@ -14,9 +14,10 @@ use fb_schema::schemas_tell_of_attributes;
 
 /// A reply that a history's schema names the attributes of is the one that all facts of the history name them of.
 pub fn a_schema_tells_its_history()
-    ensures datoms { (basis : ℕ) (schema : List Datom) (h : List Entry) (ds : List Datom) → SchemaStands schema h
-        → datoms_reply basis schema ds ≡ datoms_reply basis (facts h) ds }
-    ensures transactions { (basis : ℕ) (schema : List Datom) (h entries : List Entry) → SchemaStands schema h
+    ensures datoms { (basis : ℕ) (schema : List Datom) (h : List Entry) (ds : List Datom)
+        → SchemaStands schema h → datoms_reply basis schema ds ≡ datoms_reply basis (facts h) ds }
+    ensures transactions { (basis : ℕ) (schema : List Datom) (h entries : List Entry)
+        → SchemaStands schema h
         → transactions_reply basis schema entries ≡ transactions_reply basis (facts h) entries }
 {
     schemas_tell_of_attributes();
@@ -28,5 +29,6 @@ pub fn what_is_said_has_a_text()
     ensures some { (h : List Entry) (ds : List Datom) → IsLawful h
         → ((d : Datom) → Contains ds d → Contains (said h) d) → IsTrue (have_texts ds) }
     ensures entries { (h entries : List Entry) → IsLawful h
-        → ((entry : Entry) → Contains entries entry → Contains h entry) → IsTrue (entries_have_texts entries) }
+        → ((entry : Entry) → Contains entries entry → Contains h entry)
+        → IsTrue (entries_have_texts entries) }
 {}

@@ -88,7 +88,8 @@ pub fn write_transactions(
 ) -> Result<(), Memory>
     requires { IsTrue (entries_have_texts (map (λ entry. entry.now) entries.now)) }
     ensures { OnOk result (IsLineOf
-        (transactions_reply basis schema.now (map (λ entry. entry.now) entries.now)) line.new.items) }
+        (transactions_reply basis schema.now (map (λ entry. entry.now) entries.now))
+        line.new.items) }
 {
     begin(line, b"{:basis ")?;
     append_count(line, u64::from(basis))?;

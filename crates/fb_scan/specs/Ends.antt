@@ -32,7 +32,8 @@ IsIn order (Before probe) = probe.now.order ≡ order
 
 -- the index holds the datom, and it lies from the probe on and not beyond the end
 abbrev pub is_met : List Datom → Probe → End → Datom → Bool
-is_met facts from end d = covers facts from.order d.a && (not (is_below from d) && not (is_past end d))
+is_met facts from end d =
+    covers facts from.order d.a && (not (is_below from d) && not (is_past end d))
 
 -- the one rising list of the datoms of a view that a walk meets
 abbrev pub IsWalk : List Entry → Window → (Datom → Type 0) → Probe → End → List Datom → Type 0

@@ -16,14 +16,16 @@ use std::alloc::Global;
 
 /// The datoms that have the probe's leading components.
 pub fn datoms<S: Selector>(alloc: Global, db: &Db<S>, probe: &Probe) -> Result<Datoms, Memory>
-    ensures { IfOk result (λ ds. IsScan db.now.snapshot.entries (window_of db.now) (S.selects db.now.filter) probe.now.order (leading probe.now) ds) }
+    ensures { IfOk result (λ ds. IsScan db.now.snapshot.entries (window_of db.now)
+        (S.selects db.now.filter) probe.now.order (leading probe.now) ds) }
 {
     collect(alloc, db, probe, End::Behind(probe))
 }
 
 /// The datoms from the first one that is not below the probe to the end of the index.
 pub fn seek<S: Selector>(alloc: Global, db: &Db<S>, probe: &Probe) -> Result<Datoms, Memory>
-    ensures { IfOk result (λ ds. IsScan db.now.snapshot.entries (window_of db.now) (S.selects db.now.filter) probe.now.order (not_below probe.now) ds) }
+    ensures { IfOk result (λ ds. IsScan db.now.snapshot.entries (window_of db.now)
+        (S.selects db.now.filter) probe.now.order (not_below probe.now) ds) }
 {
     collect(alloc, db, probe, End::Never)
 }
@@ -42,7 +44,8 @@ pub fn index_range<S: Selector>(
     attr: u64,
     bounds: Bounds,
 ) -> Result<Datoms, Memory>
-    ensures { IfOk result (λ ds. IsScan db.now.snapshot.entries (window_of db.now) (S.selects db.now.filter) Avet (between attr bounds.start bounds.end) ds) }
+    ensures { IfOk result (λ ds. IsScan db.now.snapshot.entries (window_of db.now)
+        (S.selects db.now.filter) Avet (between attr bounds.start bounds.end) ds) }
 {
     let from = valued(attr, bounds.start);
     let to = valued(attr, bounds.end);
@@ -64,7 +67,8 @@ fn valued(attr: u64, v: Option<Value>) -> Probe
 
 /// Before the value, or behind all of the attribute's datoms where the probe has none.
 fn end_at(probe: &Probe) -> End<'_>
-    ensures { MatchOption probe.now.v (result ≡ End.Behind probe.entry) (λ _. result ≡ End.Before probe.entry) }
+    ensures { MatchOption probe.now.v (result ≡ End.Behind probe.entry)
+        (λ _. result ≡ End.Before probe.entry) }
 {
     if probe.v.is_some() {
         End::Before(probe)

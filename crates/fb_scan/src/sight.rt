@@ -18,7 +18,10 @@ pub fn take<S: Selector>(
     d: &Datom,
     next: Option<&Datom>,
 ) -> Result<(), Memory>
-    ensures { IfOk result (λ _. Takes (IsTrue (held && is_shown (window_of db.now) d.now (option_copied next.entry)) × S.selects db.now.filter d.now) found.old.items d.now found.new.items) }
+    ensures { IfOk result (λ _. Takes
+        (IsTrue (held && is_shown (window_of db.now) d.now (option_copied next.entry))
+        × S.selects db.now.filter d.now)
+        found.old.items d.now found.new.items) }
 {
     if held && sees(db, d, next) {
         d.copy_into(found)?;
@@ -28,7 +31,9 @@ pub fn take<S: Selector>(
 
 /// Whether the window shows the datom beside the next one, and the filter selects it.
 fn sees<S: Selector>(db: &Db<S>, d: &Datom, next: Option<&Datom>) -> bool
-    ensures { IsTrue result ↔ (IsTrue (is_shown (window_of db.now) d.now (option_copied next.entry)) × S.selects db.now.filter d.now) }
+    ensures { IsTrue result
+        ↔ (IsTrue (is_shown (window_of db.now) d.now (option_copied next.entry))
+        × S.selects db.now.filter d.now) }
 {
     shows(db, d, next) && db.filter.test(d)
 }

@@ -30,7 +30,8 @@ impl<'a> Model for Txs<'a> {
 impl<'a> Txs<'a> {
     /// The next entry, until there is none.
     pub fn next(&mut self) -> Option<&'a Entry>
-        ensures { MatchOption result ((self.old ≡ []) × (self.new ≡ [])) (λ entry. self.old ≡ entry.now ∷ self.new) }
+        ensures { MatchOption result ((self.old ≡ []) × (self.new ≡ []))
+            (λ entry. self.old ≡ entry.now ∷ self.new) }
     {
         if self.from >= self.to {
             return None;

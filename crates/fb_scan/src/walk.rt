@@ -21,7 +21,8 @@ pub fn collect<S: Selector>(
     end: End<'_>,
 ) -> Result<Datoms, Memory>
     requires { IsIn from.now.order end }
-    ensures { IfOk result (λ ds. IsWalk db.now.snapshot.entries (window_of db.now) (S.selects db.now.filter) from.now end.entry ds) }
+    ensures { IfOk result (λ ds. IsWalk db.now.snapshot.entries (window_of db.now)
+        (S.selects db.now.filter) from.now end.entry ds) }
 {
     let covers = db.snapshot.schema().covers();
     let both = db.snapshot.both(from.order);

@@ -34,4 +34,5 @@ description_of facts e =
 
 -- the attribute that it describes
 abbrev pub attribute_from : ℕ → Description → Option model.Attribute
-attribute_from e said = model.attribute_from e said.name said.kind said.count said.unique said.component said.indexed
+attribute_from e said =
+    model.attribute_from e said.name said.kind said.count said.unique said.component said.indexed

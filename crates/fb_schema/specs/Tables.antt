@@ -16,11 +16,13 @@ use Rattle.fb_schema.specs.Parts.{attribute_in, description_of}
 
 -- what is said of each entity, by its number
 abbrev pub HasDescriptions : BTreeMap ℕ Description → List Datom → Type 0
-HasDescriptions descriptions facts = (e : ℕ) → unwrap_or (get nat_cmp descriptions e) (description_of [] e) ≡ description_of facts e
+HasDescriptions descriptions facts =
+    (e : ℕ) → unwrap_or (get nat_cmp descriptions e) (description_of [] e) ≡ description_of facts e
 
 -- the attributes by their numbers
 abbrev pub HasAttributes : BTreeMap ℕ Attribute → List Datom → Type 0
-HasAttributes attributes facts = (e : ℕ) → option_map attribute_in (get nat_cmp attributes e) ≡ attribute_of facts e
+HasAttributes attributes facts =
+    (e : ℕ) → option_map attribute_in (get nat_cmp attributes e) ≡ attribute_of facts e
 
 -- the least entity of each ident
 abbrev pub HasNames : BTreeMap (String Global) ℕ → List Datom → Type 0
@@ -37,7 +39,8 @@ names_one passes d = nat_eq d.a ident && passes d.e
 -- the named entities that pass it
 abbrev pub named_where : (ℕ → Bool) → List Datom → List ℕ
 named_where passes [] = []
-named_where passes (d ∷ ds) = cond (names_one passes d) (d.e ∷ named_where passes ds) (named_where passes ds)
+named_where passes (d ∷ ds) =
+    cond (names_one passes d) (d.e ∷ named_where passes ds) (named_where passes ds)
 
 -- the attributes that each index holds
 abbrev pub HasCoverage : Coverage → List Datom → Type 0

@@ -40,7 +40,8 @@ impl Description {
 
     /// With a datom that stands before all others.
     pub fn with(mut self, d: &Datom) -> Result<Description, Memory>
-        ensures { (facts : List Datom) → self ≡ description_of facts d.now.e → IfOk result (λ said. said ≡ description_of (d.now ∷ facts) d.now.e) }
+        ensures { (facts : List Datom) → self ≡ description_of facts d.now.e
+            → IfOk result (λ said. said ≡ description_of (d.now ∷ facts) d.now.e) }
     {
         match d.a {
             IDENT => self.name = keyword_in(&d.v)?,
@@ -56,7 +57,8 @@ impl Description {
 
     /// The entity as an attribute, if it has an ident, a type and a cardinality.
     pub fn attribute(&self, id: u64) -> Result<Option<Attribute>, Memory>
-        ensures { IfOk result (λ found. option_map attribute_in found ≡ attribute_from id self.now) }
+        ensures { IfOk result
+            (λ found. option_map attribute_in found ≡ attribute_from id self.now) }
     {
         let (Some(name), Some(kind), Some(count)) = (&self.name, self.kind, self.count) else {
             return Ok(None);

@@ -42,7 +42,9 @@ impl Model for Tables {
 
     ghost view = { λ t. t.facts.items };
 
-    ghost invariant = { λ t. HasAttributes t.attributes t.facts.items × HasNames t.names t.facts.items × HasCoverage t.covers t.facts.items };
+    ghost invariant = { λ t. HasAttributes t.attributes t.facts.items
+        × HasNames t.names t.facts.items
+        × HasCoverage t.covers t.facts.items };
 }
 
 /// The schema: the facts that name entities and describe attributes, in tables. It is shared as a whole.
@@ -132,7 +134,8 @@ impl Schema {
 
     /// The attribute with this ident.
     pub fn named(&self, ident: &Text) -> Option<&Attribute>
-        ensures { option_map attribute_in (option_copied result) ≡ attribute_named self.now ident.now }
+        ensures { option_map attribute_in (option_copied result)
+            ≡ attribute_named self.now ident.now }
     {
         self.attribute(self.entity_named(ident)?)
     }
@@ -147,8 +150,8 @@ impl Schema {
     /// The attributes that AVET holds under the later schema and not under this one. The other way round: those that it
     /// loses.
     pub fn gained(&self, after: &Schema) -> Result<Vec<u64>, Memory>
-        ensures { IfOk result (λ gained. (a : ℕ) → IsTrue (model_is_gained Avet self.now after.now a)
-            ↔ Contains gained.items a) }
+        ensures { IfOk result (λ gained. (a : ℕ)
+            → IsTrue (model_is_gained Avet self.now after.now a) ↔ Contains gained.items a) }
     {
         let (held_before, held_after) = (self.covers(), after.covers());
         let mut gained = Vec::new(self.alloc);
@@ -164,7 +167,8 @@ impl Schema {
 /// Whether the datom names an attribute that AVET holds under the later coverage and not under the earlier one.
 fn names_gained(before: &Covers, after: &Covers, d: &Datom) -> bool
     ensures { (facts facts_after : List Datom) → HasCoverage before.now facts
-        → HasCoverage after.now facts_after → result ≡ names_one (model_is_gained Avet facts facts_after) d.now }
+        → HasCoverage after.now facts_after
+        → result ≡ names_one (model_is_gained Avet facts facts_after) d.now }
 {
     d.a == IDENT && is_gained(before, after, d.e)
 }
@@ -213,7 +217,8 @@ fn copy_of(alloc: Global, datoms: &[Datom]) -> Result<Vec<Datom>, Memory>
 
 /// Adds copies of the datoms that name or describe.
 fn push_described(said: &mut Vec<Datom>, datoms: &[Datom]) -> Result<(), Memory>
-    ensures { IfOk result (λ _. said.new.items ≡ said.old.items ++ filter model_describes datoms.now) }
+    ensures { IfOk result
+        (λ _. said.new.items ≡ said.old.items ++ filter model_describes datoms.now) }
 {
     for d in datoms {
         if describes(d) {

@@ -32,8 +32,10 @@ pub fn standing(alloc: Global, datoms: &[Datom]) -> Result<Vec<Datom>, Memory>
 
 /// Whether the datom's triple is met for the first time.
 fn meet(met: &mut BTreeSet<(u64, u64, Value)>, d: &Datom) -> Result<bool, Memory>
-    ensures first { (ds : List Datom) → HasMet met.old ds → IfOk result (λ first. first ≡ not (list_any (is_of d.now.e d.now.a d.now.v) ds)) }
-    ensures met { (ds : List Datom) → HasMet met.old ds → IfOk result (λ _. HasMet met.new (d.now ∷ ds)) }
+    ensures first { (ds : List Datom) → HasMet met.old ds
+        → IfOk result (λ first. first ≡ not (list_any (is_of d.now.e d.now.a d.now.v) ds)) }
+    ensures met { (ds : List Datom) → HasMet met.old ds
+        → IfOk result (λ _. HasMet met.new (d.now ∷ ds)) }
 {
     Ok(met.insert((d.e, d.a, d.v.copy()?))?)
 }

@@ -39,7 +39,8 @@ fn describe(
 ) -> Result<(), Memory>
     ensures descriptions { (facts : List Datom) → HasDescriptions descriptions.old facts
         → IfOk result (λ _. HasDescriptions descriptions.new (d.now ∷ facts)) }
-    ensures attributes { (facts : List Datom) → HasDescriptions descriptions.old facts → HasAttributes attributes.old facts
+    ensures attributes { (facts : List Datom) → HasDescriptions descriptions.old facts
+        → HasAttributes attributes.old facts
         → IfOk result (λ _. HasAttributes attributes.new (d.now ∷ facts)) }
 {
     let known = descriptions.remove(&d.e).unwrap_or(Description::empty());
@@ -56,7 +57,8 @@ fn set_attribute(
     e: u64,
     attribute: Option<Attribute>,
 ) -> Result<(), Memory>
-    ensures { IfOk result (λ _. UpdatesBy nat_cmp (nat_cmp e) attributes.old attributes.new attribute) }
+    ensures { IfOk result
+        (λ _. UpdatesBy nat_cmp (nat_cmp e) attributes.old attributes.new attribute) }
 {
     match attribute {
         Some(attribute) => {
@@ -84,7 +86,8 @@ pub fn names_of(alloc: Global, facts: &[Datom]) -> Result<BTreeMap<String, u64>,
 
 /// Adds what the datom says of names.
 fn put_name(alloc: Global, names: &mut BTreeMap<String, u64>, d: &Datom) -> Result<(), Memory>
-    ensures { (facts : List Datom) → HasNames names.old facts → IfOk result (λ _. HasNames names.new (d.now ∷ facts)) }
+    ensures { (facts : List Datom) → HasNames names.old facts
+        → IfOk result (λ _. HasNames names.new (d.now ∷ facts)) }
 {
     if d.a != IDENT {
         return Ok(());
@@ -124,7 +127,8 @@ fn held_in(
     order: Order,
 ) -> Result<Vec<u64>, Memory>
     requires { HasAttributes attributes.now facts.now }
-    ensures { IfOk result (λ held. held.items ≡ named_where (is_held_among facts.now order) facts.now) }
+    ensures { IfOk result
+        (λ held. held.items ≡ named_where (is_held_among facts.now order) facts.now) }
 {
     let mut held = Vec::new(alloc);
     for d in facts {
@@ -137,13 +141,15 @@ fn held_in(
 
 /// Whether the datom names an attribute that the order's index holds.
 fn names_held(attributes: &BTreeMap<u64, Attribute>, order: Order, d: &Datom) -> bool
-    ensures { (facts : List Datom) → HasAttributes attributes.now facts → result ≡ names_one (is_held_among facts order) d.now }
+    ensures { (facts : List Datom) → HasAttributes attributes.now facts
+        → result ≡ names_one (is_held_among facts order) d.now }
 {
     d.a == IDENT && is_held_entity(attributes, order, d.e)
 }
 
 fn is_held_entity(attributes: &BTreeMap<u64, Attribute>, order: Order, e: u64) -> bool
-    ensures { (facts : List Datom) → HasAttributes attributes.now facts → result ≡ is_held_among facts order e }
+    ensures { (facts : List Datom) → HasAttributes attributes.now facts
+        → result ≡ is_held_among facts order e }
 {
     match attributes.get(&e) {
         Some(attribute) => is_held(order, attribute),

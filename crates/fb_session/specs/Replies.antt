@@ -18,7 +18,8 @@ use Rattle.fb_session.specs.Taken.{longest_script}
 -- ---- replies
 
 -- every form of the script was answered, and its lines are all that was written
-pub record AnswersAll (s : Setting) (opening : ℕ) (script : List ℕ) (ending : Ending) (written : List ℕ) (places commits : List ℕ) : Type 0 where
+pub record AnswersAll (s : Setting) (opening : ℕ) (script : List ℕ) (ending : Ending)
+    (written : List ℕ) (places commits : List ℕ) : Type 0 where
   pub forms : List Form
   pub lines : List (List ℕ)
   pub after : Standing
@@ -27,7 +28,8 @@ pub record AnswersAll (s : Setting) (opening : ℕ) (script : List ℕ) (ending 
   pub whole_lines : written ≡ concat lines
 
 -- the script's first forms were answered, and their lines are all that was written
-pub record AnswersSome (s : Setting) (opening : ℕ) (script written places commits : List ℕ) : Type 0 where
+pub record AnswersSome (s : Setting) (opening : ℕ) (script written places commits : List ℕ)
+    : Type 0 where
   pub forms : List Form
   pub lines : List (List ℕ)
   pub after : Standing
@@ -37,18 +39,21 @@ pub record AnswersSome (s : Setting) (opening : ℕ) (script written places comm
 
 -- Behind the lines that were written whole, one more form was decided, and may have committed: its t is the last commit
 -- then, and the talk of the forms before it is that of the commits without it. Of its line this much was written.
-pub record AnswersPart (s : Setting) (opening : ℕ) (script written places commits : List ℕ) (line out : List ℕ) : Type 0 where
+pub record AnswersPart (s : Setting) (opening : ℕ) (script written places commits : List ℕ)
+    (line out : List ℕ) : Type 0 where
   pub forms : List Form
   pub lines : List (List ℕ)
   pub next : Form
   pub place : ℕ
   pub after : Standing
   pub read : Begins script (forms ++ next ∷ [])
-  pub talk : Talk s (opened_at opening) (forms ++ next ∷ []) (places ++ place ∷ []) commits (lines ++ line ∷ []) after
+  pub talk : Talk s (opened_at opening) (forms ++ next ∷ []) (places ++ place ∷ []) commits
+      (lines ++ line ∷ []) after
   pub whole_lines : written ≡ concat lines ++ out
 
 -- the line of the form behind broke off, short of its whole
-pub record BreaksOff (s : Setting) (opening : ℕ) (script written places commits : List ℕ) : Type 0 where
+pub record BreaksOff (s : Setting) (opening : ℕ) (script written places commits : List ℕ)
+    : Type 0 where
   pub line : List ℕ
   pub out : List ℕ
   pub missing : List ℕ
@@ -63,18 +68,24 @@ pub record AnswersNone (written places commits : List ℕ) : Type 0 where
   pub no_commit : commits ≡ []
 
 -- the script's forms up to its fault were answered
-abbrev pub AnswersUpTo : Setting → ℕ → List ℕ → Option (Fault × ℕ) → List ℕ → List ℕ → List ℕ → Type 0
-AnswersUpTo s opening script (Some p) written places commits = AnswersAll s opening script (fault p.0 p.1) written places commits
+abbrev pub AnswersUpTo : Setting → ℕ → List ℕ → Option (Fault × ℕ) → List ℕ → List ℕ → List ℕ
+    → Type 0
+AnswersUpTo s opening script (Some p) written places commits =
+    AnswersAll s opening script (fault p.0 p.1) written places commits
 AnswersUpTo s opening script None written places commits = ⊥
 
 -- what the end of a session says of its answers to the script
 abbrev pub Answers : Setting → ℕ → List ℕ → List ℕ → List ℕ → List ℕ → SessionEnd → Type 0
-Answers s opening script written places commits ended.Done = AnswersAll s opening script whole written places commits
-Answers s opening script written places commits (ended.Script why) = AnswersUpTo s opening script (fault_of why) written places commits
-Answers s opening script written places commits ended.TooMany = AnswersAll s opening script too_many written places commits
+Answers s opening script written places commits ended.Done =
+    AnswersAll s opening script whole written places commits
+Answers s opening script written places commits (ended.Script why) =
+    AnswersUpTo s opening script (fault_of why) written places commits
+Answers s opening script written places commits ended.TooMany =
+    AnswersAll s opening script too_many written places commits
 Answers s opening script written places commits ended.TooLong = AnswersNone written places commits
 Answers s opening script written places commits ended.ReadFault = AnswersNone written places commits
-Answers s opening script written places commits ended.WriteFault = BreaksOff s opening script written places commits
+Answers s opening script written places commits ended.WriteFault =
+    BreaksOff s opening script written places commits
 Answers s opening script written places commits ended.Memory =
     AnswersSome s opening script written places commits
     ⊎ ((line : List ℕ) × AnswersPart s opening script written places commits line [])
@@ -90,7 +101,8 @@ rests_on_whole ended.WriteFault = true
 rests_on_whole ended.Memory = false
 
 -- A session took these bytes of its source and wrote these into its sink, where they tell what they hold.
-pub record Replies (s : Setting) (opening : ℕ) (held left : Option (List ℕ)) (had has : Option (List ℕ)) (places commits : List ℕ) (how : SessionEnd) : Type 0 where
+pub record Replies (s : Setting) (opening : ℕ) (held left : Option (List ℕ))
+    (had has : Option (List ℕ)) (places commits : List ℕ) (how : SessionEnd) : Type 0 where
   pub script : List ℕ
   pub written : List ℕ
   pub taken : held ≡ prepend_known script left
@@ -99,7 +111,8 @@ pub record Replies (s : Setting) (opening : ℕ) (held left : Option (List ℕ))
   -- more than the longest script was taken exactly where it is too long
   pub too_long : (how ≡ ended.TooLong) ↔ (longest_script < length script)
   -- where there is a line, a commit, or an end that rests on the whole script, all that the source held was taken
-  pub all : IsTrue (rests_on_whole how || (nat_lt 0 (length places) || nat_lt 0 (length commits))) → IsAtEnd left
+  pub all : IsTrue (rests_on_whole how || (nat_lt 0 (length places) || nat_lt 0 (length commits)))
+      → IsAtEnd left
 
 -- ---- causes
 

@@ -51,7 +51,12 @@ pub record Fixed : Type 1 where
 -- where a name finds the filter at a place of a table, if it finds one, and this is what the filter at a place selects
 abbrev pub fixed : (ℤ → Type 0) → Guard → (List ℕ → Option ℕ) → (ℕ → Datom → Type 0) → Fixed
 fixed may guard place_of SelectsAt =
-    record { may = may; guard = guard; is_filter = λ name. is_some (place_of name); Selects = selected_by place_of SelectsAt }
+    record {
+      may = may;
+      guard = guard;
+      is_filter = λ name. is_some (place_of name);
+      Selects = selected_by place_of SelectsAt;
+    }
 
 -- with what its desk was answered by now
 abbrev pub over : Fixed → State → Setting
@@ -68,7 +73,8 @@ pub record WentOn (old new : State) : Type 0 where
 -- ---- between two commands
 
 -- Its reads see what the desk was answered last, and here it stands. The view's filter is made of filters with these names.
-pub record StandsAt {S : Type 0} (view : Db S) (names : S → List (List ℕ)) (desk : State) (standing : Standing) : Type 0 where
+pub record StandsAt {S : Type 0} (view : Db S) (names : S → List (List ℕ)) (desk : State)
+    (standing : Standing) : Type 0 where
   pub lawful : IsLawful desk.entries
   pub sees : view.snapshot.entries ≡ desk.entries
   pub place : standing.place ≡ basis desk.entries
@@ -77,13 +83,15 @@ pub record StandsAt {S : Type 0} (view : Db S) (names : S → List (List ℕ)) (
   pub told : standing.told ≡ true → desk.stop ≢ None
 
 -- it has seen what there was as the desk was opened, and nothing was done
-pub record IsOpened {S : Type 0} (session : Session S) (names : S → List (List ℕ)) (desk : State) : Type 0 where
+pub record IsOpened {S : Type 0} (session : Session S) (names : S → List (List ℕ)) (desk : State)
+    : Type 0 where
   pub stands : StandsAt session.view names desk (opened_at (basis desk.entries))
   pub places : session.places.items ≡ []
   pub commits : session.commits.items ≡ []
 
 -- this was committed through the desk, and the session keeps it
-pub record Keeps {S : Type 0} (old new : Session S) (was is : State) (commit : Option ℕ) : Type 0 where
+pub record Keeps {S : Type 0} (old new : Session S) (was is : State) (commit : Option ℕ)
+    : Type 0 where
   pub commits : new.commits.items ≡ old.commits.items ++ option_to_list commit
   pub desk : is.commits ≡ was.commits ++ option_to_list commit
 
@@ -96,33 +104,43 @@ pub record Sees {S : Type 0} (old new : Session S) (desk : State) : Type 0 where
   pub filter : new.view.filter ≡ old.view.filter
 
 -- it was accepted
-pub record Received {S : Type 0} (may : ℤ → Type 0) (guard : Guard) (asked : Form) (old new : Session S) (was is : State) (receipt : Receipt) : Type 0 where
+pub record Received {S : Type 0} (may : ℤ → Type 0) (guard : Guard) (asked : Form)
+    (old new : Session S) (was is : State) (receipt : Receipt) : Type 0 where
   pub is_receipt : IsReceipt may guard asked was is receipt
   pub sees : Sees old new is
   pub keeps : Keeps old new was is (Some receipt.t)
 
 -- the line that says why it was not
 abbrev pub SaysFault : TxFault → ℕ → List ℕ → Type 0
-SaysFault (fault.Refused refusal snapshot) place line = IsLineOf (reply.refusal_reply (keyword_of refusal.reason) refusal.at place) line
-SaysFault (fault.LogFault at snapshot) place line = IsLineOf (reply.fault_reply (codes "log") at place) line
-SaysFault (fault.Stopped at snapshot) place line = IsLineOf (reply.fault_reply (codes "log-stopped") at place) line
+SaysFault (fault.Refused refusal snapshot) place line =
+    IsLineOf (reply.refusal_reply (keyword_of refusal.reason) refusal.at place) line
+SaysFault (fault.LogFault at snapshot) place line =
+    IsLineOf (reply.fault_reply (codes "log") at place) line
+SaysFault (fault.Stopped at snapshot) place line =
+    IsLineOf (reply.fault_reply (codes "log-stopped") at place) line
 SaysFault fault.Memory place line = ⊥
 
-pub record Denied {S : Type 0} (may : ℤ → Type 0) (guard : Guard) (asked : Form) (old new : Session S) (was is : State) (why : TxFault) : Type 0 where
+pub record Denied {S : Type 0} (may : ℤ → Type 0) (guard : Guard) (asked : Form)
+    (old new : Session S) (was is : State) (why : TxFault) : Type 0 where
   pub is_fault : IsFault may guard asked was is why
   pub sees : Sees old new is
   pub keeps : Keeps old new was is None
   pub says : SaysFault why (basis is.entries) new.line.items
 
-abbrev pub Transacts : {S : Type 0} → (ℤ → Type 0) → Guard → Form → Session S → Session S → State → State → Type 0
+abbrev pub Transacts : {S : Type 0} → (ℤ → Type 0) → Guard → Form → Session S → Session S → State
+    → State → Type 0
 Transacts may guard asked old new was is =
-    ((receipt : Receipt) × Received may guard asked old new was is receipt × IsLineOf (reply.receipt receipt.t receipt.tempids.items) new.line.items)
+    ((receipt : Receipt)
+    × Received may guard asked old new was is receipt
+    × IsLineOf (reply.receipt receipt.t receipt.tempids.items) new.line.items)
     ⊎ ((why : TxFault) × Denied may guard asked old new was is why)
 
 -- memory was refused, also where it was accepted and its line could not be built
-abbrev pub Stalls : {S : Type 0} → (ℤ → Type 0) → Guard → Form → Session S → Session S → State → State → Type 0
+abbrev pub Stalls : {S : Type 0} → (ℤ → Type 0) → Guard → Form → Session S → Session S → State
+    → State → Type 0
 Stalls may guard asked old new was is =
-    ((receipt : Receipt) × Received may guard asked old new was is receipt) ⊎ Keeps old new was is None
+    ((receipt : Receipt) × Received may guard asked old new was is receipt)
+    ⊎ Keeps old new was is None
 
 -- ---- other commands
 
@@ -132,16 +150,23 @@ pub record Shows {S : Type 0} (old new : Session S) (is : State) : Type 0 where
   pub says : IsLineOf (reply.basis_reply (basis is.entries)) new.line.items
 
 -- the command is answered of what was seen before, and the view changes as it says
-pub record Reads {S : Type 0} (old new : Db S) (names : S → List (List ℕ)) (is_filter : List ℕ → Bool) (Selects : List ℕ → Datom → Type 0) (command : Option Command) (line : List ℕ) : Type 0 where
-  pub says : Says (IsReply old.snapshot.entries (basis old.snapshot.entries) is_filter (window_of old) (SelectedBy Selects (names old.filter)) command) line
+pub record Reads {S : Type 0} (old new : Db S) (names : S → List (List ℕ))
+    (is_filter : List ℕ → Bool) (Selects : List ℕ → Datom → Type 0) (command : Option Command)
+    (line : List ℕ) : Type 0 where
+  pub says : Says
+      (IsReply old.snapshot.entries (basis old.snapshot.entries) is_filter (window_of old)
+      (SelectedBy Selects (names old.filter)) command)
+      line
   pub stands : (place : ℕ) (told : Bool) → standing_at place told (window_of new) (names new.filter)
-      ≡ behind old.snapshot.entries is_filter (standing_at place told (window_of old) (names old.filter)) command
+      ≡ behind old.snapshot.entries is_filter
+      (standing_at place told (window_of old) (names old.filter)) command
   pub snapshot : new.snapshot ≡ old.snapshot
 
 -- ---- a form
 
 -- it is answered with this line, and the session stands behind it
-pub record Answered {S : Type 0} (f : Fixed) (form : Form) (old new : Session S) (names : S → List (List ℕ)) (was is : State) (before : Standing) (line : List ℕ) : Type 0 where
+pub record Answered {S : Type 0} (f : Fixed) (form : Form) (old new : Session S)
+    (names : S → List (List ℕ)) (was is : State) (before : Standing) (line : List ℕ) : Type 0 where
   pub after : Standing
   pub commit : Option ℕ
   pub answered : IsAnswered (over f is) before form after line commit
@@ -149,33 +174,43 @@ pub record Answered {S : Type 0} (f : Fixed) (form : Form) (old new : Session S)
   pub keeps : Keeps old new was is commit
 
 -- memory was refused: it was not answered, or its line was not built
-abbrev pub Unanswered : {S : Type 0} → Fixed → Form → Session S → Session S → (S → List (List ℕ)) → State → State → Standing → Type 0
+abbrev pub Unanswered : {S : Type 0} → Fixed → Form → Session S → Session S → (S → List (List ℕ))
+    → State → State → Standing → Type 0
 Unanswered f form old new names was is before =
     Keeps old new was is None ⊎ ((line : List ℕ) × Answered f form old new names was is before line)
 
 -- it was answered, and its line was written whole
-pub record Replied {S : Type 0} (f : Fixed) (form : Form) (old new : Session S) (names : S → List (List ℕ)) (was is : State) (before : Standing) (had has : Option (List ℕ)) : Type 0 where
+pub record Replied {S : Type 0} (f : Fixed) (form : Form) (old new : Session S)
+    (names : S → List (List ℕ)) (was is : State) (before : Standing) (had has : Option (List ℕ))
+    : Type 0 where
   pub line : List ℕ
   pub answered : Answered f form old new names was is before line
   pub places : new.places.items ≡ old.places.items ++ answered.after.place ∷ []
   pub written : has ≡ append_known had line
 
 -- it was answered, and the sink failed before it had taken the whole line
-pub record RepliedPart {S : Type 0} (f : Fixed) (form : Form) (old new : Session S) (names : S → List (List ℕ)) (was is : State) (before : Standing) (had has : Option (List ℕ)) : Type 0 where
+pub record RepliedPart {S : Type 0} (f : Fixed) (form : Form) (old new : Session S)
+    (names : S → List (List ℕ)) (was is : State) (before : Standing) (had has : Option (List ℕ))
+    : Type 0 where
   pub line : List ℕ
   pub answered : Answered f form old new names was is before line
   pub places : new.places.items ≡ old.places.items
   pub written : TakesPart line had has
 
 -- and where memory was refused nothing was written
-pub record RepliedNothing {S : Type 0} (f : Fixed) (form : Form) (old new : Session S) (names : S → List (List ℕ)) (was is : State) (before : Standing) (had has : Option (List ℕ)) : Type 0 where
+pub record RepliedNothing {S : Type 0} (f : Fixed) (form : Form) (old new : Session S)
+    (names : S → List (List ℕ)) (was is : State) (before : Standing) (had has : Option (List ℕ))
+    : Type 0 where
   pub unanswered : Unanswered f form old new names was is before
   pub places : new.places.items ≡ old.places.items
   pub written : has ≡ had
 
-abbrev pub StopsAt : {S : Type 0} → Fixed → Form → Session S → Session S → (S → List (List ℕ)) → State → State → Standing → Option (List ℕ) → Option (List ℕ) → AnswerError → Type 0
-StopsAt f form old new names was is before had has WriteFault = RepliedPart f form old new names was is before had has
-StopsAt f form old new names was is before had has Memory = RepliedNothing f form old new names was is before had has
+abbrev pub StopsAt : {S : Type 0} → Fixed → Form → Session S → Session S → (S → List (List ℕ))
+    → State → State → Standing → Option (List ℕ) → Option (List ℕ) → AnswerError → Type 0
+StopsAt f form old new names was is before had has WriteFault =
+    RepliedPart f form old new names was is before had has
+StopsAt f form old new names was is before had has Memory =
+    RepliedNothing f form old new names was is before had has
 
 abbrev pub StopCount : AnswerError → ℕ → ℕ → Type 0
 StopCount WriteFault old new = Rose old new
@@ -189,13 +224,15 @@ end_of Memory = ended.Memory
 -- ---- a script
 
 -- The bytes up to this place are forms, and this is the session's talk over them so far: its lines are what the sink gained.
-pub record TalkSoFar {S : Type 0} (f : Fixed) (bytes : List ℕ) (at : ℕ) (session : Session S) (names : S → List (List ℕ)) (start now : State) (had has : Option (List ℕ)) : Type 0 where
+pub record TalkSoFar {S : Type 0} (f : Fixed) (bytes : List ℕ) (at : ℕ) (session : Session S)
+    (names : S → List (List ℕ)) (start now : State) (had has : Option (List ℕ)) : Type 0 where
   pub forms : List Form
   pub lines : List (List ℕ)
   pub standing : Standing
   pub read : FormsBetween bytes 0 forms at
   pub few_forms : length forms ≤ most_commands
-  pub talk : Talk (over f now) (opened_at (basis start.entries)) forms session.places.items session.commits.items lines standing
+  pub talk : Talk (over f now) (opened_at (basis start.entries)) forms session.places.items
+      session.commits.items lines standing
   pub written : has ≡ append_known had (concat lines)
   pub stands : StandsAt session.view names now standing
   pub went_on : WentOn start now
@@ -213,9 +250,11 @@ pub record IsCommand (bytes : List ℕ) (at count : ℕ) (f : Form) (next : ℕ)
 -- how a session ends where no command follows behind so many
 abbrev pub NoCommand : List ℕ → ℕ → ℕ → SessionEnd → Type 0
 NoCommand bytes at count ended.Done = OnlyGap bytes at
-NoCommand bytes at count (ended.Script why) = (why ≢ edn.Memory) × MatchFault (fault_of why) (FaultAt bytes at)
+NoCommand bytes at count (ended.Script why) =
+    (why ≢ edn.Memory) × MatchFault (fault_of why) (FaultAt bytes at)
 NoCommand bytes at count ended.TooLong = ⊥
-NoCommand bytes at count ended.TooMany = (most_commands ≤ count) × (f : Form) × (next : ℕ) × FormStands bytes at f next
+NoCommand bytes at count ended.TooMany =
+    (most_commands ≤ count) × (f : Form) × (next : ℕ) × FormStands bytes at f next
 NoCommand bytes at count ended.ReadFault = ⊥
 NoCommand bytes at count ended.WriteFault = ⊥
 NoCommand bytes at count ended.Memory = Unit {0}
@@ -231,7 +270,8 @@ IsPastReading ended.WriteFault = Unit {0}
 IsPastReading ended.Memory = Unit {0}
 
 -- the session's answers to a script, whatever it wrote
-pub record Talks (f : Fixed) (script : List ℕ) (start now : State) (places commits : List ℕ) (had has : Option (List ℕ)) (how : SessionEnd) : Type 0 where
+pub record Talks (f : Fixed) (script : List ℕ) (start now : State) (places commits : List ℕ)
+    (had has : Option (List ℕ)) (how : SessionEnd) : Type 0 where
   pub written : List ℕ
   pub gained : has ≡ append_known had written
   pub answers : Answers (over f now) (basis start.entries) script written places commits how

@@ -31,10 +31,13 @@ impl From<AllocError> for ReadStop {
 
 /// All bytes of the source. Where they are too many it stops at once, without reading on.
 pub(crate) fn read_script<I: Source>(alloc: Global, source: &mut I) -> Result<Vec<u8>, ReadStop>
-    ensures whole { IfOk result (λ bytes. TakesAll bytes.items (I.left source.old) (I.left source.new)) }
-    ensures stopped { IfErr result (λ stop. TakesSome stop (I.left source.old) (I.left source.new)) }
+    ensures whole { IfOk result
+        (λ bytes. TakesAll bytes.items (I.left source.old) (I.left source.new)) }
+    ensures stopped { IfErr result
+        (λ stop. TakesSome stop (I.left source.old) (I.left source.new)) }
     ensures count { OnOk result (I.faults source.new ≡ I.faults source.old) }
-    ensures stop_count { IfErr result (λ stop. CountsStop stop (I.faults source.old) (I.faults source.new)) }
+    ensures stop_count { IfErr result
+        (λ stop. CountsStop stop (I.faults source.old) (I.faults source.new)) }
 {
     let mut piece = vec![in alloc; 0; PIECE]?;
     let mut bytes = Vec::new(alloc);

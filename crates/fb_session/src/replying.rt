@@ -42,14 +42,24 @@ impl<P: FilterTable> Session<Picks<'_, P>> {
         requires left { 0 < (T.state desk.old).left }
         requires room { vec_len self.old.commits < vec_capacity self.old.commits }
         ensures goes_on { GoesOn (T.state desk.old) (T.state desk.new) }
-        ensures ok { let table = self.old.view.filter.table.now in OnOk result ((before : Standing)
-            → StandsAt self.old.view (λ p. map (P.name_at p.table.now) p.places.items) (T.state desk.old) before
-            → Answered (fixed (K.may_answer clock.now) (G.bars guard.now) (P.place_of table) (P.selects_at table))
-            (form_of form.now) self.old self.new (λ p. map (P.name_at p.table.now) p.places.items) (T.state desk.old) (T.state desk.new) before self.new.line.items) }
-        ensures err { let table = self.old.view.filter.table.now in OnErr result ((before : Standing)
-            → StandsAt self.old.view (λ p. map (P.name_at p.table.now) p.places.items) (T.state desk.old) before
-            → Unanswered (fixed (K.may_answer clock.now) (G.bars guard.now) (P.place_of table) (P.selects_at table))
-            (form_of form.now) self.old self.new (λ p. map (P.name_at p.table.now) p.places.items) (T.state desk.old) (T.state desk.new) before) }
+        ensures ok { let table = self.old.view.filter.table.now in OnOk result
+            ((before : Standing)
+            → StandsAt self.old.view (λ p. map (P.name_at p.table.now) p.places.items)
+            (T.state desk.old) before
+            → Answered
+            (fixed (K.may_answer clock.now) (G.bars guard.now) (P.place_of table)
+            (P.selects_at table))
+            (form_of form.now) self.old self.new (λ p. map (P.name_at p.table.now) p.places.items)
+            (T.state desk.old) (T.state desk.new) before self.new.line.items) }
+        ensures err { let table = self.old.view.filter.table.now in OnErr result
+            ((before : Standing)
+            → StandsAt self.old.view (λ p. map (P.name_at p.table.now) p.places.items)
+            (T.state desk.old) before
+            → Unanswered
+            (fixed (K.may_answer clock.now) (G.bars guard.now) (P.place_of table)
+            (P.selects_at table))
+            (form_of form.now) self.old self.new (λ p. map (P.name_at p.table.now) p.places.items)
+            (T.state desk.old) (T.state desk.new) before) }
         ensures table { self.new.view.filter.table ≡ self.old.view.filter.table }
         ensures places { self.new.places ≡ self.old.places }
     {
@@ -69,9 +79,11 @@ impl<P: FilterTable> Session<Picks<'_, P>> {
     fn read(&mut self, alloc: Global, command: Option<Command<'_>>) -> Result<(), Memory>
         requires { IsTrue (is_read (option_map (λ asks. asked asks) command)) }
         ensures is_read { IsTrue (is_read (option_map (λ asks. asked asks) command.entry)) }
-        ensures ok { let table = self.old.view.filter.table.now in OnOk result (Reads self.old.view self.new.view
-            (λ p. map (P.name_at p.table.now) p.places.items) (λ name. is_some (P.place_of table name))
-            (selected_by (P.place_of table) (P.selects_at table)) (option_map (λ asks. asked asks) command.entry) self.new.line.items) }
+        ensures ok { let table = self.old.view.filter.table.now in OnOk result
+            (Reads self.old.view self.new.view (λ p. map (P.name_at p.table.now) p.places.items)
+            (λ name. is_some (P.place_of table name))
+            (selected_by (P.place_of table) (P.selects_at table))
+            (option_map (λ asks. asked asks) command.entry) self.new.line.items) }
         ensures table { self.new.view.filter.table ≡ self.old.view.filter.table }
         ensures rest { self.new ≡ record self.old { view = self.new.view; line = self.new.line } }
     {
@@ -115,7 +127,8 @@ impl<S: Selector> Session<S> {
     fn show(&mut self, snapshot: Snapshot) -> Result<(), Memory>
         ensures view { self.new.view ≡ record self.old.view { snapshot = snapshot } }
         ensures rest { self.new ≡ record self.old { view = self.new.view; line = self.new.line } }
-        ensures line { OnOk result (IsLineOf (basis_reply (basis snapshot.entries)) self.new.line.items) }
+        ensures line { OnOk result
+            (IsLineOf (basis_reply (basis snapshot.entries)) self.new.line.items) }
     {
         self.see(snapshot);
         let basis = self.place();

@@ -79,11 +79,13 @@ pub fn serve_desk<
     requires sync { IsSync R.row }
     requires left { 1_000_000 ≤ (T.state desk.old).left }
     ensures replies { let table = preds.now in let now = T.state desk.new in Replies
-        (setting (K.may_answer clock.now) (selected_by (P.place_of table) (P.selects_at table)) (G.bars guard.now)
-        (λ name. is_some (P.place_of table name)) now.entries now.stop now.teller)
+        (setting (K.may_answer clock.now) (selected_by (P.place_of table) (P.selects_at table))
+        (G.bars guard.now) (λ name. is_some (P.place_of table name)) now.entries now.stop
+        now.teller)
         (basis (T.state desk.old).entries) (I.left source.old) (I.left source.new)
         (O.contents sink.old) (O.contents sink.new) result.places result.commits result.end }
-    ensures prefixes { Prefixes (basis (T.state desk.old).entries) (basis (T.state desk.new).entries) result.places result.commits }
+    ensures prefixes { Prefixes (basis (T.state desk.old).entries)
+        (basis (T.state desk.new).entries) result.places result.commits }
     ensures commits { (T.state desk.new).commits ≡ (T.state desk.old).commits ++ result.commits }
     ensures went_on { WentOn (T.state desk.old) (T.state desk.new) }
     ensures source_count { SourceCount result.end (I.faults source.old) (I.faults source.new) }
@@ -127,8 +129,10 @@ fn serve_script<
     requires sync { IsSync R.row }
     requires left { 1_000_000 ≤ (T.state desk.old).left }
     ensures answers { Talks
-        (fixed (K.may_answer clock.now) (G.bars guard.now) (P.place_of preds.now) (P.selects_at preds.now)) script.now
-        (T.state desk.old) (T.state desk.new) result.places result.commits (O.contents sink.old) (O.contents sink.new) result.end }
+        (fixed (K.may_answer clock.now) (G.bars guard.now) (P.place_of preds.now)
+        (P.selects_at preds.now))
+        script.now (T.state desk.old) (T.state desk.new) result.places result.commits
+        (O.contents sink.old) (O.contents sink.new) result.end }
     ensures count { SinkCount result.end (O.faults sink.old) (O.faults sink.new) }
 {
     let Ok(mut session) = Session::open(alloc, desk, preds) else {
@@ -151,12 +155,14 @@ impl<P: FilterTable> Session<Picks<'_, P>> {
         guard: &G,
     ) -> SessionEnd
         requires sync { IsSync R.row }
-        requires opened { IsOpened self.old (λ p. map (P.name_at p.table.now) p.places.items) (T.state desk.old) }
+        requires opened { IsOpened self.old (λ p. map (P.name_at p.table.now) p.places.items)
+            (T.state desk.old) }
         requires left { 1_000_000 ≤ (T.state desk.old).left }
         ensures answers { let table = self.old.view.filter.table.now in Talks
-            (fixed (K.may_answer clock.now) (G.bars guard.now) (P.place_of table) (P.selects_at table)) script.now
-            (T.state desk.old) (T.state desk.new) self.new.places.items self.new.commits.items
-            (O.contents sink.old) (O.contents sink.new) result }
+            (fixed (K.may_answer clock.now) (G.bars guard.now) (P.place_of table)
+            (P.selects_at table))
+            script.now (T.state desk.old) (T.state desk.new) self.new.places.items
+            self.new.commits.items (O.contents sink.old) (O.contents sink.new) result }
         ensures count { SinkCount result (O.faults sink.old) (O.faults sink.new) }
     {
         let mut at = 0;
@@ -182,7 +188,8 @@ impl<P: FilterTable> Session<Picks<'_, P>> {
         script: &[u8],
         at: usize,
     ) -> Result<(Edn, usize), SessionEnd>
-        ensures ok { IfOk result (λ r. IsCommand script.now at (length self.now.places.items) (form_of r.0) r.1) }
+        ensures ok { IfOk result
+            (λ r. IsCommand script.now at (length self.now.places.items) (form_of r.0) r.1) }
         ensures err { IfErr result (NoCommand script.now at (length self.now.places.items)) }
     {
         match read_form(alloc, script, at) {
@@ -208,20 +215,32 @@ impl<P: FilterTable> Session<Picks<'_, P>> {
         requires sync { IsSync R.row }
         requires left { 0 < (T.state desk.old).left }
         ensures goes_on { GoesOn (T.state desk.old) (T.state desk.new) }
-        ensures ok { let table = self.old.view.filter.table.now in OnOk result ((before : Standing)
-            → StandsAt self.old.view (λ p. map (P.name_at p.table.now) p.places.items) (T.state desk.old) before
-            → Replied (fixed (K.may_answer clock.now) (G.bars guard.now) (P.place_of table) (P.selects_at table))
-            (form_of form.now) self.old self.new (λ p. map (P.name_at p.table.now) p.places.items) (T.state desk.old) (T.state desk.new) before
-            (O.contents sink.old) (O.contents sink.new)) }
-        ensures err { let table = self.old.view.filter.table.now in IfErr result (λ stop. (before : Standing)
-            → StandsAt self.old.view (λ p. map (P.name_at p.table.now) p.places.items) (T.state desk.old) before
-            → StopsAt (fixed (K.may_answer clock.now) (G.bars guard.now) (P.place_of table) (P.selects_at table))
-            (form_of form.now) self.old self.new (λ p. map (P.name_at p.table.now) p.places.items) (T.state desk.old) (T.state desk.new) before
-            (O.contents sink.old) (O.contents sink.new) stop) }
+        ensures ok { let table = self.old.view.filter.table.now in OnOk result
+            ((before : Standing)
+            → StandsAt self.old.view (λ p. map (P.name_at p.table.now) p.places.items)
+            (T.state desk.old) before
+            → Replied
+            (fixed (K.may_answer clock.now) (G.bars guard.now) (P.place_of table)
+            (P.selects_at table))
+            (form_of form.now) self.old self.new (λ p. map (P.name_at p.table.now) p.places.items)
+            (T.state desk.old) (T.state desk.new) before (O.contents sink.old)
+            (O.contents sink.new)) }
+        ensures err { let table = self.old.view.filter.table.now in IfErr result
+            (λ stop. (before : Standing)
+            → StandsAt self.old.view (λ p. map (P.name_at p.table.now) p.places.items)
+            (T.state desk.old) before
+            → StopsAt
+            (fixed (K.may_answer clock.now) (G.bars guard.now) (P.place_of table)
+            (P.selects_at table))
+            (form_of form.now) self.old self.new (λ p. map (P.name_at p.table.now) p.places.items)
+            (T.state desk.old) (T.state desk.new) before (O.contents sink.old) (O.contents sink.new)
+            stop) }
         ensures table { self.new.view.filter.table ≡ self.old.view.filter.table }
-        ensures places { OnOk result (length self.new.places.items ≡ length self.old.places.items + 1) }
+        ensures places { OnOk result
+            (length self.new.places.items ≡ length self.old.places.items + 1) }
         ensures count { OnOk result (O.faults sink.new ≡ O.faults sink.old) }
-        ensures stop_count { IfErr result (λ stop. StopCount stop (O.faults sink.old) (O.faults sink.new)) }
+        ensures stop_count { IfErr result
+            (λ stop. StopCount stop (O.faults sink.old) (O.faults sink.new)) }
     {
         self.make_room()?;
         self.reply(rt, alloc, desk, clock, guard, form)?;

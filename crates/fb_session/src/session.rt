@@ -31,7 +31,8 @@ impl<'p, P: FilterTable> Session<Picks<'p, P>> {
         desk: &T,
         preds: &'p P,
     ) -> Result<Session<Picks<'p, P>>, Memory>
-        ensures opened { IfOk result (λ session. IsOpened session (λ p. map (P.name_at p.table.now) p.places.items) (T.state desk.now)) }
+        ensures opened { IfOk result (λ session. IsOpened session
+            (λ p. map (P.name_at p.table.now) p.places.items) (T.state desk.now)) }
         ensures table { IfOk result (λ session. session.view.filter.table.now ≡ preds.now) }
     {
         let snapshot = desk.snapshot().share()?;

@@ -35,10 +35,10 @@ impl<S: Selector> Session<S> {
         requires left { 0 < (T.state desk.old).left }
         requires room { vec_len self.old.commits < vec_capacity self.old.commits }
         ensures goes_on { GoesOn (T.state desk.old) (T.state desk.new) }
-        ensures ok { OnOk result (Transacts (K.may_answer clock.now) (G.bars guard.now) (form_of asked.now)
-            self.old self.new (T.state desk.old) (T.state desk.new)) }
-        ensures err { OnErr result (Stalls (K.may_answer clock.now) (G.bars guard.now) (form_of asked.now)
-            self.old self.new (T.state desk.old) (T.state desk.new)) }
+        ensures ok { OnOk result (Transacts (K.may_answer clock.now) (G.bars guard.now)
+            (form_of asked.now) self.old self.new (T.state desk.old) (T.state desk.new)) }
+        ensures err { OnErr result (Stalls (K.may_answer clock.now) (G.bars guard.now)
+            (form_of asked.now) self.old self.new (T.state desk.old) (T.state desk.new)) }
         ensures filter { self.new.view.filter ≡ self.old.view.filter }
         ensures places { self.new.places ≡ self.old.places }
     {
@@ -68,7 +68,8 @@ impl<S: Selector> Session<S> {
         ensures view { self.new.view ≡ record self.old.view { snapshot = snapshot } }
         ensures rest { self.new ≡ record self.old { view = self.new.view; line = self.new.line } }
         ensures line { OnOk result (IsLineOf
-            (refusal_reply (keyword_of refusal.reason) refusal.at (basis snapshot.entries)) self.new.line.items) }
+            (refusal_reply (keyword_of refusal.reason) refusal.at (basis snapshot.entries))
+            self.new.line.items) }
     {
         self.see(snapshot);
         let basis = self.place();

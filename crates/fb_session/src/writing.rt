@@ -8,7 +8,8 @@ use fb_ports::{Failed, Sink};
 
 /// Writes the line. A sink that fails has taken less than the whole.
 pub(crate) fn write_line<O: Sink>(sink: &mut O, line: &[u8]) -> Result<(), Failed>
-    ensures whole { OnOk result (O.contents sink.new ≡ append_known (O.contents sink.old) line.now) }
+    ensures whole { OnOk result
+        (O.contents sink.new ≡ append_known (O.contents sink.old) line.now) }
     ensures part { OnErr result (TakesPart line.now (O.contents sink.old) (O.contents sink.new)) }
     ensures counted { Counts result (O.faults sink.old) (O.faults sink.new) }
 {

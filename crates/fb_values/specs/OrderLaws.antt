@@ -38,7 +38,9 @@ signed_in (Instant n) = n
 signed_in v = pos 0
 
 abbrev by_parts : Value → Value → Ordering
-by_parts = then_cmp (on type_place nat_cmp) (then_cmp (on text_in text_cmp) (then_cmp (on number_in nat_cmp) (on signed_in int_cmp)))
+by_parts =
+    then_cmp (on type_place nat_cmp)
+    (then_cmp (on text_in text_cmp) (then_cmp (on number_in nat_cmp) (on signed_in int_cmp)))
 
 then-Equal : (r : Ordering) → r ≡ ordering_then r Equal
 then-Equal Less = refl
@@ -103,25 +105,54 @@ pub record IsAtOnePlace (x y : Datom) : Type 0 where
   pub t : x.t ≡ y.t
 
 -- a component of two equal keys
-component : {x y : List Value} → x ≡ y → (place : ℕ) → get_or x place (Ref 0) ≡ get_or y place (Ref 0)
+component : {x y : List Value} → x ≡ y → (place : ℕ)
+    → get_or x place (Ref 0) ≡ get_or y place (Ref 0)
 component e place = ap (λ key. get_or key place (Ref 0)) e
 
 number : {m n : ℕ} → Ref m ≡ Ref n → m ≡ n
 number e = ap number_in e
 
 at_one_place : (order : Order) (x y : Datom) → key_of order x ≡ key_of order y → IsAtOnePlace x y
-at_one_place Eavt x y k = record { e = number (component k 0); a = number (component k 1); v = component k 2; t = number (component k 3) }
-at_one_place Aevt x y k = record { e = number (component k 1); a = number (component k 0); v = component k 2; t = number (component k 3) }
-at_one_place Avet x y k = record { e = number (component k 2); a = number (component k 0); v = component k 1; t = number (component k 3) }
-at_one_place Vaet x y k = record { e = number (component k 2); a = number (component k 1); v = component k 0; t = number (component k 3) }
+at_one_place Eavt x y k =
+    record {
+      e = number (component k 0);
+      a = number (component k 1);
+      v = component k 2;
+      t = number (component k 3);
+    }
+at_one_place Aevt x y k =
+    record {
+      e = number (component k 1);
+      a = number (component k 0);
+      v = component k 2;
+      t = number (component k 3);
+    }
+at_one_place Avet x y k =
+    record {
+      e = number (component k 2);
+      a = number (component k 0);
+      v = component k 1;
+      t = number (component k 3);
+    }
+at_one_place Vaet x y k =
+    record {
+      e = number (component k 2);
+      a = number (component k 1);
+      v = component k 0;
+      t = number (component k 3);
+    }
 
 pub key_cmp-Equal : (order : Order) (x y : Datom) → key_cmp order x y ≡ Equal → IsAtOnePlace x y
 key_cmp-Equal order x y e =
-    at_one_place order x y (slice_cmp-IsAntisymmetric value_cmp-IsAntisymmetric (key_of order x) (key_of order y) e)
+    at_one_place order x y
+    (slice_cmp-IsAntisymmetric value_cmp-IsAntisymmetric (key_of order x) (key_of order y) e)
 
 -- the key begins with what the probe gives
-pub probe_cmp-Equal : (p : Probe) (d : Datom) → probe_cmp p d ≡ Equal → take (length (given p)) (key_of p.order d) ≡ given p
+pub probe_cmp-Equal : (p : Probe) (d : Datom) → probe_cmp p d ≡ Equal
+    → take (length (given p)) (key_of p.order d) ≡ given p
 probe_cmp-Equal p d e = sym (slice_cmp-IsAntisymmetric value_cmp-IsAntisymmetric (given p) _ e)
 
-pub Equal-probe_cmp : (p : Probe) (d : Datom) → take (length (given p)) (key_of p.order d) ≡ given p → probe_cmp p d ≡ Equal
-Equal-probe_cmp p d e = ap (slice_cmp value_cmp (given p)) e ∙ tied_itself (lists_total value_cmp_total) (given p)
+pub Equal-probe_cmp : (p : Probe) (d : Datom) → take (length (given p)) (key_of p.order d) ≡ given p
+    → probe_cmp p d ≡ Equal
+Equal-probe_cmp p d e =
+    ap (slice_cmp value_cmp (given p)) e ∙ tied_itself (lists_total value_cmp_total) (given p)

@@ -35,22 +35,37 @@ pub fn values_of_one_type()
 
 /// The entities and the values of these two datoms rise, their attributes fall.
 pub fn first_component_that_differs()
-    ensures eavt { key_cmp Order.Eavt (datom 1 20 (Value.Long (pos 5)) 3) (datom 2 10 (Value.Long (pos 6)) 3) ≡ Less }
-    ensures aevt { key_cmp Order.Aevt (datom 1 20 (Value.Long (pos 5)) 3) (datom 2 10 (Value.Long (pos 6)) 3) ≡ Greater }
-    ensures avet { key_cmp Order.Avet (datom 1 20 (Value.Long (pos 5)) 3) (datom 2 10 (Value.Long (pos 6)) 3) ≡ Greater }
-    ensures vaet { key_cmp Order.Vaet (datom 1 20 (Value.Long (pos 5)) 3) (datom 2 10 (Value.Long (pos 6)) 3) ≡ Less }
+    ensures eavt { key_cmp Order.Eavt (datom 1 20 (Value.Long (pos 5)) 3)
+        (datom 2 10 (Value.Long (pos 6)) 3)
+        ≡ Less }
+    ensures aevt { key_cmp Order.Aevt (datom 1 20 (Value.Long (pos 5)) 3)
+        (datom 2 10 (Value.Long (pos 6)) 3)
+        ≡ Greater }
+    ensures avet { key_cmp Order.Avet (datom 1 20 (Value.Long (pos 5)) 3)
+        (datom 2 10 (Value.Long (pos 6)) 3)
+        ≡ Greater }
+    ensures vaet { key_cmp Order.Vaet (datom 1 20 (Value.Long (pos 5)) 3)
+        (datom 2 10 (Value.Long (pos 6)) 3)
+        ≡ Less }
 {}
 
 /// Behind the attribute AEVT goes by the entity and AVET by the value.
 pub fn second_component()
-    ensures aevt { key_cmp Order.Aevt (datom 1 10 (Value.Long (pos 6)) 3) (datom 2 10 (Value.Long (pos 5)) 3) ≡ Less }
-    ensures avet { key_cmp Order.Avet (datom 1 10 (Value.Long (pos 6)) 3) (datom 2 10 (Value.Long (pos 5)) 3) ≡ Greater }
-    ensures vaet { key_cmp Order.Vaet (datom 1 20 (Value.Ref 7) 3) (datom 2 10 (Value.Ref 7) 3) ≡ Greater }
+    ensures aevt { key_cmp Order.Aevt (datom 1 10 (Value.Long (pos 6)) 3)
+        (datom 2 10 (Value.Long (pos 5)) 3)
+        ≡ Less }
+    ensures avet { key_cmp Order.Avet (datom 1 10 (Value.Long (pos 6)) 3)
+        (datom 2 10 (Value.Long (pos 5)) 3)
+        ≡ Greater }
+    ensures vaet { key_cmp Order.Vaet (datom 1 20 (Value.Ref 7) 3) (datom 2 10 (Value.Ref 7) 3)
+        ≡ Greater }
 {}
 
 pub fn t_ascends()
-    ensures eavt { key_cmp Order.Eavt (datom 1 10 (Value.Ref 7) 3) (datom 1 10 (Value.Ref 7) 4) ≡ Less }
-    ensures vaet { key_cmp Order.Vaet (datom 1 10 (Value.Ref 7) 4) (datom 1 10 (Value.Ref 7) 3) ≡ Greater }
+    ensures eavt { key_cmp Order.Eavt (datom 1 10 (Value.Ref 7) 3) (datom 1 10 (Value.Ref 7) 4)
+        ≡ Less }
+    ensures vaet { key_cmp Order.Vaet (datom 1 10 (Value.Ref 7) 4) (datom 1 10 (Value.Ref 7) 3)
+        ≡ Greater }
 {}
 
 /// A probe of an entity and a value without an attribute.
@@ -58,12 +73,21 @@ pub fn probes_with_a_gap()
     ensures eavt { given (probe Order.Eavt (Some 1) None (Some (Value.Ref 9))) ≡ Value.Ref 1 ∷ [] }
     ensures aevt { given (probe Order.Aevt (Some 1) None (Some (Value.Ref 9))) ≡ [] }
     ensures vaet { given (probe Order.Vaet (Some 1) None (Some (Value.Ref 9))) ≡ Value.Ref 9 ∷ [] }
-    ensures behind_the_gap { probe_cmp (probe Order.Eavt (Some 1) None (Some (Value.Ref 9))) (datom 1 10 (Value.Ref 7) 3) ≡ Equal }
-    ensures before_the_gap { probe_cmp (probe Order.Eavt (Some 1) None (Some (Value.Ref 9))) (datom 2 10 (Value.Ref 9) 3) ≡ Less }
+    ensures behind_the_gap { probe_cmp (probe Order.Eavt (Some 1) None (Some (Value.Ref 9)))
+        (datom 1 10 (Value.Ref 7) 3)
+        ≡ Equal }
+    ensures before_the_gap { probe_cmp (probe Order.Eavt (Some 1) None (Some (Value.Ref 9)))
+        (datom 2 10 (Value.Ref 9) 3)
+        ≡ Less }
 {}
 
 pub fn probes_without_a_gap()
-    ensures equal { probe_cmp (probe Order.Avet None (Some 10) (Some (Value.Ref 7))) (datom 1 10 (Value.Ref 7) 3) ≡ Equal }
-    ensures above { probe_cmp (probe Order.Avet None (Some 10) (Some (Value.Ref 9))) (datom 1 10 (Value.Ref 7) 3) ≡ Greater }
-    ensures of_nothing { probe_cmp (probe Order.Vaet None None None) (datom 1 10 (Value.Ref 7) 3) ≡ Equal }
+    ensures equal { probe_cmp (probe Order.Avet None (Some 10) (Some (Value.Ref 7)))
+        (datom 1 10 (Value.Ref 7) 3)
+        ≡ Equal }
+    ensures above { probe_cmp (probe Order.Avet None (Some 10) (Some (Value.Ref 9)))
+        (datom 1 10 (Value.Ref 7) 3)
+        ≡ Greater }
+    ensures of_nothing { probe_cmp (probe Order.Vaet None None None) (datom 1 10 (Value.Ref 7) 3)
+        ≡ Equal }
 {}

@@ -59,7 +59,8 @@ pub fn cmp_probe(probe: &Probe, d: &Datom) -> Ordering
 
 /// Compares component by component up to the first that decides, which it fails with.
 fn all_equal(probe: &Probe, d: &Datom) -> Result<(), Ordering>
-    ensures { MatchResult result (λ _. probe_cmp probe.now d.now ≡ Equal) (λ decided. probe_cmp probe.now d.now ≡ decided) }
+    ensures { MatchResult result (λ _. probe_cmp probe.now d.now ≡ Equal)
+        (λ decided. probe_cmp probe.now d.now ≡ decided) }
 {
     match probe.order {
         Order::Eavt => {
@@ -88,7 +89,8 @@ fn all_equal(probe: &Probe, d: &Datom) -> Result<(), Ordering>
 
 /// A component against a datom's. One that is not given decides that the probe is equal, whatever comes after it.
 fn equal<T: Ord>(given: &Option<T>, held: &T) -> Result<(), Ordering>
-    ensures { MatchOption given.now (result ≡ Err Equal) (λ x. MatchOrdering (T.cmp x held.now) (result ≡ Err Less) (result ≡ Ok tt) (result ≡ Err Greater)) }
+    ensures { MatchOption given.now (result ≡ Err Equal) (λ x. MatchOrdering (T.cmp x held.now)
+        (result ≡ Err Less) (result ≡ Ok tt) (result ≡ Err Greater)) }
 {
     match given {
         None => Err(Ordering::Equal),

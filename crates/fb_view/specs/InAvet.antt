@@ -10,4 +10,5 @@ use Rattle.live_index.specs.Growth.{is_held}
 -- the list rises in AVET, and has those of the datoms whose attribute AVET holds
 pub record IsInAvet (coverage : Coverage) (datoms list : List Datom) : Type 0 where
   pub rising : IsRising Avet list
-  pub members : (d : Datom) → Contains list d ↔ (Contains datoms d × IsTrue (is_held coverage Avet d))
+  pub members : (d : Datom)
+      → Contains list d ↔ (Contains datoms d × IsTrue (is_held coverage Avet d))

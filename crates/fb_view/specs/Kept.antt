@@ -41,7 +41,8 @@ kept h recent older = record {
 
 -- the parts stand for the entries
 pub record Stands (k : Kept) : Type 0 where
-  pub history : SnapshotStands k.entries (schema_in k.schema) (trees_of k.roots) k.live k.covered k.entries
+  pub history : SnapshotStands k.entries (schema_in k.schema) (trees_of k.roots) k.live k.covered
+      k.entries
   pub schema_is : SchemaStands k.schema k.entries
   pub held_is : IsCoverageOf k.held (facts (upto k.entries k.covered))
 

@@ -29,7 +29,9 @@ merged order older live = in_order order (older ++ live)
 
 -- those from a spot on
 abbrev pub ahead : Order → List DirectoryNode → Lists → Spot → List Datom
-ahead order tree live spot = merged order (drop (rank tree spot.older) (tree_datoms tree)) (drop spot.live (list_in live order))
+ahead order tree live spot =
+    merged order (drop (rank tree spot.older) (tree_datoms tree))
+    (drop spot.live (list_in live order))
 
 -- those from a spot on as long as the probe leads to them
 abbrev pub run : Probe → List DirectoryNode → Lists → Spot → List Datom
@@ -37,7 +39,8 @@ run probe tree live spot = take_while (is_led probe) (ahead probe.order tree liv
 
 -- all those that the probe leads to
 abbrev pub ranged : Probe → List DirectoryNode → Lists → List Datom
-ranged probe tree live = led_to probe (merged probe.order (tree_datoms tree) (list_in live probe.order))
+ranged probe tree live =
+    led_to probe (merged probe.order (tree_datoms tree) (list_in live probe.order))
 
 -- the facts among them: the last datom of each triple, where that is an addition
 abbrev pub facts_led : Probe → List DirectoryNode → Lists → List Datom

@@ -22,4 +22,5 @@ all_missed recent older attributes = flat_map (missed recent older) attributes
 
 -- they are the attributes that AVET holds by the second facts and not by the first
 abbrev pub AreGained : List Datom → List Datom → List ℕ → Type 0
-AreGained before after attributes = (a : ℕ) → IsTrue (is_gained Avet before after a) ↔ Contains attributes a
+AreGained before after attributes =
+    (a : ℕ) → IsTrue (is_gained Avet before after a) ↔ Contains attributes a

@@ -100,7 +100,8 @@ impl Snapshot {
     pub fn both(&self, order: Order) -> Both<'_>
         ensures tree { result.tree.now ≡ tree_in self.now.roots order }
         ensures live { result.live.now ≡ self.now.live }
-        ensures pair { IsPair order (tree_datoms (tree_in self.now.roots order)) (list_in self.now.live order) }
+        ensures pair { IsPair order (tree_datoms (tree_in self.now.roots order))
+            (list_in self.now.live order) }
         ensures stands { Stands self.now }
     {
         Both {
@@ -111,7 +112,8 @@ impl Snapshot {
 
     /// The facts that a probe leads to, in the probe's order.
     fn facts_led(&self, probe: &Probe) -> Result<Vec<Datom>, Memory>
-        ensures facts { IfOk result (λ facts. facts.items ≡ facts_led probe.now (tree_in self.now.roots probe.now.order) self.now.live) }
+        ensures facts { IfOk result (λ facts. facts.items
+            ≡ facts_led probe.now (tree_in self.now.roots probe.now.order) self.now.live) }
         ensures stands { Stands self.now }
     {
         let both = self.both(probe.order);
@@ -120,7 +122,9 @@ impl Snapshot {
 
     /// The entity of the first fact that a probe leads to and that has the value.
     fn first_with(&self, probe: &Probe, v: &Value) -> Option<u64>
-        ensures first { result ≡ option_map (λ d. d.e) (find (λ d. value_eq d.v v.now) (facts_led probe.now (tree_in self.now.roots probe.now.order) self.now.live)) }
+        ensures first { result
+            ≡ option_map (λ d. d.e) (find (λ d. value_eq d.v v.now)
+            (facts_led probe.now (tree_in self.now.roots probe.now.order) self.now.live)) }
         ensures stands { Stands self.now }
     {
         let both = self.both(probe.order);

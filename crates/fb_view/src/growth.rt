@@ -116,8 +116,9 @@ impl Recent {
         requires follows { (h : List Entry) × Follows h self.now older.now entry.now }
         requires schema { (h : List Entry) → SchemaStands self.now.schema h
             → SchemaStands after.now (h ++ entry.now ∷ []) }
-        ensures { IfOk result (λ refill. (h : List Entry) (coverage : Coverage) → Follows h self.now older.now entry.now
-            → HasCoverage coverage after.now → IsNext h older.now.covered entry.now coverage refill) }
+        ensures { IfOk result (λ refill. (h : List Entry) (coverage : Coverage)
+            → Follows h self.now older.now entry.now → HasCoverage coverage after.now
+            → IsNext h older.now.covered entry.now coverage refill) }
     {
         let gained = self.gained(alloc, entry, after)?;
         let missed = self.missed(alloc, older, &gained)?;
@@ -128,7 +129,8 @@ impl Recent {
     /// schema.
     fn gained(&self, alloc: Global, entry: &Entry, after: &Schema) -> Result<Vec<u64>, Memory>
         ensures { IfOk result (λ gained. (h : List Entry) → SchemaStands self.now.schema h
-            → SchemaStands after.now (h ++ entry.now ∷ []) → AreGained self.now.schema after.now gained.items) }
+            → SchemaStands after.now (h ++ entry.now ∷ [])
+            → AreGained self.now.schema after.now gained.items) }
     {
         if !changes_schema(entry) {
             return Ok(Vec::new(alloc));
@@ -139,7 +141,8 @@ impl Recent {
     /// The attributes' datoms that no tree of AVET has.
     fn missed(&self, alloc: Global, older: &Older, attributes: &[u64]) -> Result<Vec<Datom>, Memory>
         requires { IsRising Aevt (tree_datoms older.now.roots.aevt) }
-        ensures { IfOk result (λ found. found.items ≡ all_missed self.now older.now attributes.now) }
+        ensures { IfOk result
+            (λ found. found.items ≡ all_missed self.now older.now attributes.now) }
     {
         let mut found = Vec::new(alloc);
         for a in attributes {
@@ -150,7 +153,8 @@ impl Recent {
 
     fn push_missed(&self, found: &mut Vec<Datom>, older: &Older, a: u64) -> Result<(), Memory>
         requires { IsRising Aevt (tree_datoms older.now.roots.aevt) }
-        ensures { IfOk result (λ _. found.new.items ≡ found.old.items ++ missed self.now older.now a) }
+        ensures { IfOk result
+            (λ _. found.new.items ≡ found.old.items ++ missed self.now older.now a) }
     {
         let probe = Probe {
             order: Order::Aevt,

@@ -37,7 +37,8 @@ fn user_of(datom: Option<&Datom>) -> u64
 }
 
 fn last_older(tree: &Tree) -> Option<&Datom>
-    ensures { option_copied result ≡ slice_get (tree_datoms tree.now) (length (tree_datoms tree.now) - 1) }
+    ensures { option_copied result
+        ≡ slice_get (tree_datoms tree.now) (length (tree_datoms tree.now) - 1) }
 {
     let directory = tree.directories().last()?;
     let leaf = directory.leaves().last()?;
@@ -45,7 +46,8 @@ fn last_older(tree: &Tree) -> Option<&Datom>
 }
 
 fn last_live(live: &Live, order: Order) -> Option<&Datom>
-    ensures { option_copied result ≡ slice_get (list_in live.now order) (length (list_in live.now order) - 1) }
+    ensures { option_copied result
+        ≡ slice_get (list_in live.now order) (length (list_in live.now order) - 1) }
 {
     live.at(order, live.len(order).saturating_sub(1))
 }

@@ -16,7 +16,12 @@ ghost use Rattle.fb_view.specs.Merged.{merged};
 /// attribute whose index has been switched off since: without those.
 pub fn the_two_lists_are_the_index()
     ensures whole { (k : Kept) (order : Order) → Stands k → (order ≡ Avet → ⊥)
-        → IsRisingListOf order (merged order (tree_datoms (tree_in k.roots order)) (list_in k.live order)) (IsIndexed k.entries order) }
+        → IsRisingListOf order
+        (merged order (tree_datoms (tree_in k.roots order)) (list_in k.live order))
+        (IsIndexed k.entries order) }
     ensures held { (k : Kept) (order : Order) → Stands k
-        → IsRisingListOf order (filter (λ d. covers (facts k.entries) order d.a) (merged order (tree_datoms (tree_in k.roots order)) (list_in k.live order))) (IsIndexed k.entries order) }
+        → IsRisingListOf order
+        (filter (λ d. covers (facts k.entries) order d.a)
+        (merged order (tree_datoms (tree_in k.roots order)) (list_in k.live order)))
+        (IsIndexed k.entries order) }
 {}

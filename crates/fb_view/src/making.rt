@@ -26,7 +26,8 @@ impl Snapshot {
     pub fn first(alloc: Global) -> Result<Snapshot, Memory>
         ensures entries { IfOk result (λ s. s.entries ≡ first_entry ∷ []) }
         ensures covered { IfOk result (λ s. s.covered ≡ 0) }
-        ensures ids { IfOk result (λ s. root_ids s.roots ≡ range_with_len 1 (length (root_ids s.roots))) }
+        ensures ids { IfOk result
+            (λ s. root_ids s.roots ≡ range_with_len 1 (length (root_ids s.roots))) }
         ensures live { IfOk result (λ s. (order : Order) → list_in s.live order ≡ []) }
         ensures stands { IfOk result (λ s. Stands s) }
     {

@@ -37,10 +37,13 @@ impl<'a> Both<'a> {
 
     /// From where on the datoms stand that are not below the probe: first those that it leads to, then those above it.
     pub fn start(&self, probe: &Probe) -> Spot
-        requires { IsPair probe.now.order (tree_datoms self.now.tree.now) (list_in self.now.live.now probe.now.order) }
-        ensures run { run probe.now self.now.tree.now self.now.live.now result ≡ ranged probe.now self.now.tree.now self.now.live.now }
+        requires { IsPair probe.now.order (tree_datoms self.now.tree.now)
+            (list_in self.now.live.now probe.now.order) }
+        ensures run { run probe.now self.now.tree.now self.now.live.now result
+            ≡ ranged probe.now self.now.tree.now self.now.live.now }
         ensures ahead { ahead probe.now.order self.now.tree.now self.now.live.now result
-            ≡ from_probe probe.now (merged probe.now.order (tree_datoms self.now.tree.now) (list_in self.now.live.now probe.now.order)) }
+            ≡ from_probe probe.now (merged probe.now.order (tree_datoms self.now.tree.now)
+            (list_in self.now.live.now probe.now.order)) }
     {
         Spot {
             older: self.tree.place(probe),
@@ -65,9 +68,11 @@ impl<'a> Both<'a> {
 
     /// The next datom that the probe leads to, and the spot behind it.
     pub fn next_led(&self, probe: &Probe, spot: Spot) -> Option<(&'a Datom, Spot)>
-        requires { IsPair probe.now.order (tree_datoms self.now.tree.now) (list_in self.now.live.now probe.now.order) }
+        requires { IsPair probe.now.order (tree_datoms self.now.tree.now)
+            (list_in self.now.live.now probe.now.order) }
         ensures { MatchOption result (run probe.now self.now.tree.now self.now.live.now spot ≡ [])
-            (λ next. run probe.now self.now.tree.now self.now.live.now spot ≡ next.0.now ∷ run probe.now self.now.tree.now self.now.live.now next.1) }
+            (λ next. run probe.now self.now.tree.now self.now.live.now spot
+            ≡ next.0.now ∷ run probe.now self.now.tree.now self.now.live.now next.1) }
     {
         let (datom, behind) = self.next(probe.order, spot)?;
         if is_led(probe, datom) {
@@ -81,7 +86,8 @@ impl<'a> Both<'a> {
     pub fn next(&self, order: Order, spot: Spot) -> Option<(&'a Datom, Spot)>
         requires { IsPair order (tree_datoms self.now.tree.now) (list_in self.now.live.now order) }
         ensures { MatchOption result (ahead order self.now.tree.now self.now.live.now spot ≡ [])
-            (λ next. ahead order self.now.tree.now self.now.live.now spot ≡ next.0.now ∷ ahead order self.now.tree.now self.now.live.now next.1) }
+            (λ next. ahead order self.now.tree.now self.now.live.now spot
+            ≡ next.0.now ∷ ahead order self.now.tree.now self.now.live.now next.1) }
     {
         match (self.tree.at(spot.older), self.live.at(order, spot.live)) {
             (None, None) => None,
@@ -98,7 +104,8 @@ impl<'a> Both<'a> {
     }
 
     fn behind_older(&self, spot: Spot) -> Spot
-        ensures older { rank self.now.tree.now result.older ≡ min (rank self.now.tree.now spot.older + 1) (length (tree_datoms self.now.tree.now)) }
+        ensures older { rank self.now.tree.now result.older
+            ≡ min (rank self.now.tree.now spot.older + 1) (length (tree_datoms self.now.tree.now)) }
         ensures live { result.live ≡ spot.live }
     {
         Spot {
@@ -120,8 +127,10 @@ impl<'a> Both<'a> {
 
     /// The facts that the probe leads to, in its order.
     pub fn facts(&self, alloc: Global, probe: &Probe) -> Result<Vec<Datom>, Memory>
-        requires { IsPair probe.now.order (tree_datoms self.now.tree.now) (list_in self.now.live.now probe.now.order) }
-        ensures { IfOk result (λ facts. facts.items ≡ facts_led probe.now self.now.tree.now self.now.live.now) }
+        requires { IsPair probe.now.order (tree_datoms self.now.tree.now)
+            (list_in self.now.live.now probe.now.order) }
+        ensures { IfOk result
+            (λ facts. facts.items ≡ facts_led probe.now self.now.tree.now self.now.live.now) }
     {
         let mut facts = Vec::new(alloc);
         let mut next = self.next_led(probe, self.start(probe));
@@ -136,8 +145,11 @@ impl<'a> Both<'a> {
 
     /// The entity of the first fact that the probe leads to and that has the value.
     pub fn first_with(&self, probe: &Probe, v: &Value) -> Option<u64>
-        requires { IsPair probe.now.order (tree_datoms self.now.tree.now) (list_in self.now.live.now probe.now.order) }
-        ensures { result ≡ option_map (λ d. d.e) (find (λ d. value_eq d.v v.now) (facts_led probe.now self.now.tree.now self.now.live.now)) }
+        requires { IsPair probe.now.order (tree_datoms self.now.tree.now)
+            (list_in self.now.live.now probe.now.order) }
+        ensures { result
+            ≡ option_map (λ d. d.e) (find (λ d. value_eq d.v v.now)
+            (facts_led probe.now self.now.tree.now self.now.live.now)) }
     {
         let mut next = self.next_led(probe, self.start(probe));
         while let Some((datom, spot)) = next {

@@ -17,7 +17,8 @@ use std::sync::ledger::{Blank, Ledger};
 
 /// Adds copies of the live datoms that the probe leads to.
 pub fn push_live(found: &mut Vec<Datom>, live: &Live, probe: &Probe) -> Result<(), Memory>
-    ensures { IfOk result (λ _. found.new.items ≡ found.old.items ++ led_to probe.now (list_in live.now probe.now.order)) }
+    ensures { IfOk result (λ _. found.new.items
+        ≡ found.old.items ++ led_to probe.now (list_in live.now probe.now.order)) }
 {
     let from = live_place(live, probe);
     for place in from..live.len(probe.order) {
@@ -32,7 +33,8 @@ pub fn push_live(found: &mut Vec<Datom>, live: &Live, probe: &Probe) -> Result<(
 /// Adds copies of the tree's datoms that the probe leads to.
 pub fn push_older(found: &mut Vec<Datom>, tree: &Tree, probe: &Probe) -> Result<(), Memory>
     requires { IsRising probe.now.order (tree_datoms tree.now) }
-    ensures { IfOk result (λ _. found.new.items ≡ found.old.items ++ led_to probe.now (tree_datoms tree.now)) }
+    ensures { IfOk result
+        (λ _. found.new.items ≡ found.old.items ++ led_to probe.now (tree_datoms tree.now)) }
 {
     let mut place = tree.place(probe);
     while let Some(d) = tree.at(place) {

@@ -128,7 +128,11 @@ impl Snapshot {
 
     /// How many datoms the four live lists have together, or the greatest number that there is.
     pub fn live_len(&self) -> u64
-        ensures { result ≡ min (((length self.now.live.eavt + length self.now.live.aevt) + length self.now.live.avet) + length self.now.live.vaet) u64.MAX }
+        ensures { result
+            ≡ min
+            (((length self.now.live.eavt + length self.now.live.aevt) + length self.now.live.avet)
+            + length self.now.live.vaet)
+            u64.MAX }
     {
         let live = self.live();
         let by_entity = live.len(Order::Eavt).saturating_add(live.len(Order::Aevt));

@@ -151,7 +151,8 @@ impl Host for MemHost {
     }
 
     fn sink(&mut self, alloc: Global, _name: &str) -> Result<MemSink, OpenFail>
-        ensures empty { IfOk result (λ s. s ≡ record { bytes = []; room = 67_108_864; calls = no_calls [] }) }
+        ensures empty { IfOk result
+            (λ s. s ≡ record { bytes = []; room = 67_108_864; calls = no_calls [] }) }
         ensures unchanged { self.new ≡ self.old }
         ensures memory { IfErr result (λ e. e ≡ OpenFail.Memory) }
     {
@@ -165,8 +166,10 @@ impl Host for MemHost {
         ensures images { IfOk result (λ d. Alike (images_at self.old dir.now part) (images_of d)) }
         ensures moment { IfOk result (λ d. moment_of d ≡ moment_at self.old dir.now part) }
         ensures others { SameButPart dir.now part (held_at self.old) (held_at self.new) }
-        ensures other_counts { SameButPart dir.now part (disk_faults_at self.old) (disk_faults_at self.new) }
-        ensures other_images { SameImagesBut dir.now part (images_at self.old) (images_at self.new) }
+        ensures other_counts { SameButPart dir.now part (disk_faults_at self.old)
+            (disk_faults_at self.new) }
+        ensures other_images { SameImagesBut dir.now part (images_at self.old)
+            (images_at self.new) }
         ensures other_moments { SameButPart dir.now part (moment_at self.old) (moment_at self.new) }
         ensures sources { Same (left_at self.old) (left_at self.new) }
         ensures source_counts { Same (faults_at self.old) (faults_at self.new) }

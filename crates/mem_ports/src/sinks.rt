@@ -34,7 +34,8 @@ impl MemSink {
     /// An empty sink for `room` bytes, whose memory is taken here. The writes that are numbered in `fails`, from 1,
     /// fail and leave it as it was.
     pub fn new(alloc: Global, room: usize, fails: Vec<u64>) -> Result<MemSink, Memory>
-        ensures { IfOk result (λ s. s ≡ record { bytes = []; room = room; calls = no_calls fails.items }) }
+        ensures { IfOk result
+            (λ s. s ≡ record { bytes = []; room = room; calls = no_calls fails.items }) }
     {
         Ok(MemSink {
             bytes: Vec::with_capacity(alloc, room)?,
@@ -63,14 +64,19 @@ impl Sink for MemSink {
     fn write(&mut self, piece: &[u8]) -> Result<usize, Failed>
         ensures within { IfOk result (λ n. n ≤ length piece.now) }
         ensures some { IfOk result (λ n. 0 < length piece.now → 0 < n) }
-        ensures taken { IfOk result (λ n. Some self.new.bytes ≡ append_known (Some self.old.bytes) (take n piece.now)) }
+        ensures taken { IfOk result
+            (λ n. Some self.new.bytes ≡ append_known (Some self.old.bytes) (take n piece.now)) }
         ensures kept { OnErr result (Some self.new.bytes ≡ Some self.old.bytes) }
         ensures counted { Counts result self.old.calls.faults self.new.calls.faults }
 
         ensures fails { is_err result ≡ fails_write self.old (length piece.now) }
-        ensures most { IfOk result (λ n. n ≡ min (length piece.now) (self.old.room - length self.old.bytes)) }
-        ensures ok { IfOk result (λ n. self.new ≡ record self.old { bytes = self.old.bytes ++ take n piece.now; calls = after_call self.old.calls }) }
-        ensures fault { OnErr result (self.new ≡ record self.old { calls = after_fault self.old.calls }) }
+        ensures most { IfOk result
+            (λ n. n ≡ min (length piece.now) (self.old.room - length self.old.bytes)) }
+        ensures ok { IfOk result (λ n. self.new
+            ≡ record self.old
+            { bytes = self.old.bytes ++ take n piece.now; calls = after_call self.old.calls }) }
+        ensures fault { OnErr result
+            (self.new ≡ record self.old { calls = after_fault self.old.calls }) }
     {
         self.plan.begin()?;
         let count = piece.len().min(self.room - self.bytes.len());

@@ -52,7 +52,8 @@ impl Source for MemSource {
 
     fn read(&mut self, buf: &mut [u8]) -> Result<usize, Failed>
         ensures within { IfOk result (λ n. n ≤ length buf.old) }
-        ensures taken { IfOk result (λ n. Some self.old.left ≡ prepend_known (take n buf.new) (Some self.new.left)) }
+        ensures taken { IfOk result
+            (λ n. Some self.old.left ≡ prepend_known (take n buf.new) (Some self.new.left)) }
         ensures end { IfOk result (λ n. n ≡ 0 → 0 < length buf.old → IsAtEnd (Some self.new.left)) }
         ensures kept { OnErr result (Some self.new.left ≡ Some self.old.left) }
         ensures counted { Counts result self.old.calls.faults self.new.calls.faults }
@@ -61,8 +62,10 @@ impl Source for MemSource {
         ensures fails { is_err result ≡ fails_next self.old.calls }
         ensures most { IfOk result (λ n. n ≡ min (length buf.old) (length self.old.left)) }
         ensures placed { IfOk result (λ n. take n buf.new ≡ take n self.old.left) }
-        ensures ok { IfOk result (λ n. self.new ≡ record { left = drop n self.old.left; calls = after_call self.old.calls }) }
-        ensures fault { OnErr result (self.new ≡ record self.old { calls = after_fault self.old.calls }) }
+        ensures ok { IfOk result (λ n. self.new
+            ≡ record { left = drop n self.old.left; calls = after_call self.old.calls }) }
+        ensures fault { OnErr result
+            (self.new ≡ record self.old { calls = after_fault self.old.calls }) }
     {
         self.plan.begin()?;
         let rest = &self.bytes[self.next..];

@@ -40,14 +40,16 @@ pub fn is_same_tempid(name: &Name, other: &Name) -> bool
 }
 
 fn push_name(list: &mut Vec<Name>, name: &Name) -> Result<(), Memory>
-    ensures { IfOk result (λ _. asked.names_of list.new.items ≡ asked.names_of list.old.items ++ asked.name_of name.now ∷ []) }
+    ensures { IfOk result (λ _. asked.names_of list.new.items
+        ≡ asked.names_of list.old.items ++ asked.name_of name.now ∷ []) }
 {
     list.push(name.copy()?)?;
     Ok(())
 }
 
 fn push_part(list: &mut Vec<Name>, part: &Operand) -> Result<(), Memory>
-    ensures { IfOk result (λ _. asked.names_of list.new.items ≡ asked.names_of list.old.items ++ model.name_of_part (asked.part_of part.now)) }
+    ensures { IfOk result (λ _. asked.names_of list.new.items
+        ≡ asked.names_of list.old.items ++ model.name_of_part (asked.part_of part.now)) }
 {
     match part {
         Operand::Plain(_) => Ok(()),
@@ -64,7 +66,8 @@ fn name_alone(alloc: Global, name: &Name) -> Result<Vec<Name>, Memory>
 }
 
 fn name_and_part(alloc: Global, name: &Name, part: &Operand) -> Result<Vec<Name>, Memory>
-    ensures { IfOk result (λ names. asked.names_of names.items ≡ asked.name_of name.now ∷ model.name_of_part (asked.part_of part.now)) }
+    ensures { IfOk result (λ names. asked.names_of names.items
+        ≡ asked.name_of name.now ∷ model.name_of_part (asked.part_of part.now)) }
 {
     let mut names = name_alone(alloc, name)?;
     push_part(&mut names, part)?;
@@ -73,7 +76,8 @@ fn name_and_part(alloc: Global, name: &Name, part: &Operand) -> Result<Vec<Name>
 
 /// The names of an ask in the order in which it meets them.
 pub fn names_of(alloc: Global, ask: &Ask) -> Result<Vec<Name>, Memory>
-    ensures { IfOk result (λ names. asked.names_of names.items ≡ model.names_of (asked.ask_of ask.now)) }
+    ensures { IfOk result
+        (λ names. asked.names_of names.items ≡ model.names_of (asked.ask_of ask.now)) }
 {
     match ask {
         Ask::Adds(name, _, part) => name_and_part(alloc, name, part),

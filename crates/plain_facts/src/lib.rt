@@ -33,7 +33,8 @@ impl Model for PlainFacts {
 
     ghost view = { λ p. p.entries.items };
 
-    ghost invariant = { λ p. (p.said.items ≡ model_said p.entries.items) × (p.facts.items ≡ model_facts p.entries.items) };
+    ghost invariant = { λ p. (p.said.items ≡ model_said p.entries.items)
+        × (p.facts.items ≡ model_facts p.entries.items) };
 }
 
 impl PlainFacts {

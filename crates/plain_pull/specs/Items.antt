@@ -10,5 +10,6 @@ placed_in = map (λ p. (p.0, item_in p.1))
 
 -- nothing, where the number is used up
 abbrev pub less : model.Item → List model.Item
-less (attribute name options (times n)) = cond (nat_le n 1) [] (attribute name options (times (n - 1)) ∷ [])
+less (attribute name options (times n)) =
+    cond (nat_le n 1) [] (attribute name options (times (n - 1)) ∷ [])
 less i = i ∷ []

@@ -13,4 +13,5 @@ abbrev pub mades_in : List Made → List model.Made
 mades_in = map made_in
 
 abbrev pub inside_in : Inside → model.Inside
-inside_in inside = record { pairs = pairs_of inside.pairs.items; maps = inside.maps; depth = inside.depth }
+inside_in inside =
+    record { pairs = pairs_of inside.pairs.items; maps = inside.maps; depth = inside.depth }

@@ -145,7 +145,8 @@ fn referring(alloc: Global, facts: &[Datom], e: u64, a: u64) -> Result<Vec<u64>,
 // ---- what is found
 
 fn found_forward(alloc: Global, db: &Db<'_>, e: u64, name: &str) -> Result<Found, Memory>
-    ensures { IfOk result (λ f. found_in f ≡ model.found_forward (db_in db.now) e (model_attribute_named db.now.schema.now name.now)) }
+    ensures { IfOk result (λ f. found_in f
+        ≡ model.found_forward (db_in db.now) e (model_attribute_named db.now.schema.now name.now)) }
 {
     let Some(attribute) = attribute_named(db.schema, name) else {
         return Ok(Found::Absent);
@@ -159,7 +160,9 @@ fn found_forward(alloc: Global, db: &Db<'_>, e: u64, name: &str) -> Result<Found
 }
 
 fn found_backward(alloc: Global, db: &Db<'_>, e: u64, name: &str) -> Result<Found, Memory>
-    ensures { IfOk result (λ f. found_in f ≡ model.found_backward (db_in db.now) e (model_attribute_named db.now.schema.now name.now)) }
+    ensures { IfOk result (λ f. found_in f
+        ≡ model.found_backward (db_in db.now) e
+        (model_attribute_named db.now.schema.now name.now)) }
 {
     let Some(attribute) = attribute_named(db.schema, name) else {
         return Ok(Found::Absent);
@@ -231,7 +234,9 @@ fn in_order(alloc: Global, names: &[Text]) -> Result<Vec<Text>, Memory>
 
 /// The names of the attributes of the entity's facts.
 fn names_in(alloc: Global, db: &Db<'_>, e: u64) -> Result<Vec<Text>, Memory>
-    ensures { IfOk result (λ list. list.items ≡ filter_map (model.name_in_schema (db_in db.now)) (filter (λ d. nat_eq d.e e) db.now.seen.now)) }
+    ensures { IfOk result (λ list. list.items
+        ≡ filter_map (model.name_in_schema (db_in db.now))
+        (filter (λ d. nat_eq d.e e) db.now.seen.now)) }
 {
     let mut list = Vec::new(alloc);
     for d in db.seen {

@@ -29,7 +29,10 @@ fn has_item_for(name: &str, items: &[Item]) -> bool
 
 /// Adds an item for each of the names for which there is none.
 fn add_others(list: &mut Vec<Item>, items: &[Item], names: &[Text]) -> Result<(), Memory>
-    ensures { IfOk result (λ _. items_in list.new.items ≡ items_in list.old.items ++ map (λ name. patterns.attribute name patterns.no_options patterns.usual) (filter (λ name. not (model.has_item_for name (pattern_of items.now))) names.now)) }
+    ensures { IfOk result (λ _. items_in list.new.items
+        ≡ items_in list.old.items
+        ++ map (λ name. patterns.attribute name patterns.no_options patterns.usual)
+        (filter (λ name. not (model.has_item_for name (pattern_of items.now))) names.now)) }
 {
     for name in names {
         if !has_item_for(name.as_str(), items) {
@@ -42,7 +45,8 @@ fn add_others(list: &mut Vec<Item>, items: &[Item], names: &[Text]) -> Result<()
 
 /// `*` is `:db/id`, and the attributes of the entity for which there is no item.
 fn wildcard_items(alloc: Global, db: &Db<'_>, e: u64, items: &[Item]) -> Result<Vec<Item>, Memory>
-    ensures { IfOk result (λ list. items_in list.items ≡ model.wildcard_items (db_in db.now) e (pattern_of items.now)) }
+    ensures { IfOk result (λ list. items_in list.items
+        ≡ model.wildcard_items (db_in db.now) e (pattern_of items.now)) }
 {
     let mut list = one(alloc, Item::Own(Options::none()))?;
     let names = names_of_entity(alloc, db, e)?;
@@ -52,7 +56,8 @@ fn wildcard_items(alloc: Global, db: &Db<'_>, e: u64, items: &[Item]) -> Result<
 
 /// Adds copies of the items, all with the place.
 fn add_at(list: &mut Vec<(usize, Item)>, place: usize, items: &[Item]) -> Result<(), Memory>
-    ensures { IfOk result (λ _. placed_in list.new.items ≡ placed_in list.old.items ++ map (λ i. (place, i)) (items_in items.now)) }
+    ensures { IfOk result (λ _. placed_in list.new.items
+        ≡ placed_in list.old.items ++ map (λ i. (place, i)) (items_in items.now)) }
 {
     for i in items {
         list.push((place, i.copy()?))?;
@@ -67,7 +72,8 @@ pub fn placed_items(
     e: u64,
     items: &[Item],
 ) -> Result<Vec<(usize, Item)>, Memory>
-    ensures { IfOk result (λ list. placed_in list.items ≡ model.items_from (db_in db.now) e (pattern_of items.now) 0 (pattern_of items.now)) }
+    ensures { IfOk result (λ list. placed_in list.items
+        ≡ model.items_from (db_in db.now) e (pattern_of items.now) 0 (pattern_of items.now)) }
 {
     let mut list = Vec::new(alloc);
     let mut place = 0;
@@ -84,7 +90,8 @@ pub fn placed_items(
 // ---- one less
 
 fn add_copies(list: &mut Vec<Item>, items: &[Item]) -> Result<(), Memory>
-    ensures { IfOk result (λ _. items_in list.new.items ≡ items_in list.old.items ++ items_in items.now) }
+    ensures { IfOk result
+        (λ _. items_in list.new.items ≡ items_in list.old.items ++ items_in items.now) }
 {
     for i in items {
         list.push(i.copy()?)?;
@@ -94,7 +101,8 @@ fn add_copies(list: &mut Vec<Item>, items: &[Item]) -> Result<(), Memory>
 
 /// Adds the item with one less for its number, and nothing where that is used up.
 fn add_lessened(list: &mut Vec<Item>, i: &Item) -> Result<(), Memory>
-    ensures { IfOk result (λ _. items_in list.new.items ≡ items_in list.old.items ++ less (item_in i.now)) }
+    ensures { IfOk result
+        (λ _. items_in list.new.items ≡ items_in list.old.items ++ less (item_in i.now)) }
 {
     match i {
         Item::Attribute(name, options, Below::Times(n)) => {
@@ -110,7 +118,8 @@ fn add_lessened(list: &mut Vec<Item>, i: &Item) -> Result<(), Memory>
 
 /// The items with one less for the number of the one at the place.
 pub fn one_less(alloc: Global, place: usize, items: &[Item]) -> Result<Vec<Item>, Memory>
-    ensures { IfOk result (λ list. pattern_of list.items ≡ patterns.one_less place (pattern_of items.now)) }
+    ensures { IfOk result
+        (λ list. pattern_of list.items ≡ patterns.one_less place (pattern_of items.now)) }
 {
     let mut list = Vec::new(alloc);
     if place < items.len() {

@@ -13,7 +13,8 @@ use fb_text::Text;
 use std::alloc::Global;
 
 fn key_of(name: &Text, options: &Options) -> Result<Label, Memory>
-    ensures { IfOk result (λ key. label_in key ≡ patterns.key_of name.now (options_in options.now)) }
+    ensures { IfOk result
+        (λ key. label_in key ≡ patterns.key_of name.now (options_in options.now)) }
 {
     match &options.renamed {
         Some(label) => label.copy(),

@@ -11,6 +11,7 @@ ghost use Rattle.view_model.specs.Window.{Window};
 
 /// In each view of a lawful history, of at most 2^40 user entities, every entity has an integer of a form.
 pub fn entities_are_integers_of_forms()
-    ensures { (h : List Entry) (w : Window) (filters : List (Datom → Bool)) → IsLawful h → history.basis h ≤ greatest_t
-        → history.users_issued h ≤ 2 ^ 40 → AreForms (db_of h w filters).seen }
+    ensures { (h : List Entry) (w : Window) (filters : List (Datom → Bool)) → IsLawful h
+        → history.basis h ≤ greatest_t → history.users_issued h ≤ 2 ^ 40
+        → AreForms (db_of h w filters).seen }
 {}

@@ -125,7 +125,8 @@ fn depth_made(list: &[Made]) -> u64
 
 /// A vector, where there may be several, and else the one form.
 fn collected(several: bool, forms: Vec<Edn>) -> Result<Option<Edn>, Memory>
-    ensures { IfOk result (λ f. option_map form_of f ≡ model.collected several (forms_of forms.items)) }
+    ensures { IfOk result
+        (λ f. option_map form_of f ≡ model.collected several (forms_of forms.items)) }
 {
     match forms.as_slice() {
         [] => Ok(None),
@@ -147,7 +148,8 @@ pub fn gathered(alloc: Global, several: bool, list: &[Made]) -> Result<Made, Mem
 }
 
 pub fn or_default(default: &Option<Edn>, made: Made) -> Result<Made, Memory>
-    ensures { IfOk result (λ m. made_in m ≡ model.or_default (option_map form_of default.now) (made_in made)) }
+    ensures { IfOk result
+        (λ m. made_in m ≡ model.or_default (option_map form_of default.now) (made_in made)) }
 {
     if made.form.is_some() {
         return Ok(made);
@@ -173,7 +175,8 @@ pub fn no_pairs_yet(alloc: Global) -> Inside
 
 /// Adds a pair, where there is a value.
 fn add_pair(pairs: &mut Vec<(Edn, Edn)>, key: Edn, value: Option<Edn>) -> Result<(), Memory>
-    ensures { IfOk result (λ _. pairs_of pairs.new.items ≡ pairs_of pairs.old.items ++ model.pair_of (form_of key) (option_map form_of value)) }
+    ensures { IfOk result (λ _. pairs_of pairs.new.items
+        ≡ pairs_of pairs.old.items ++ model.pair_of (form_of key) (option_map form_of value)) }
 {
     if let Some(value) = value {
         pairs.push((key, value))?;
@@ -183,7 +186,8 @@ fn add_pair(pairs: &mut Vec<(Edn, Edn)>, key: Edn, value: Option<Edn>) -> Result
 
 /// A pair more, where there is a value.
 pub fn with_pair(inside: Inside, key: Edn, made: Made) -> Result<Inside, Memory>
-    ensures { IfOk result (λ i. inside_in i ≡ model.with_pair (inside_in inside) (form_of key) (made_in made)) }
+    ensures { IfOk result
+        (λ i. inside_in i ≡ model.with_pair (inside_in inside) (form_of key) (made_in made)) }
 {
     let mut pairs = inside.pairs;
     add_pair(&mut pairs, key, made.form)?;

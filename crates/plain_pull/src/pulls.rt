@@ -70,7 +70,8 @@ fn answered(made: Made) -> Answer
 fn made_by(alloc: Global, db: &Db<'_>, pattern: &Pattern, e: u64) -> Result<Made, Memory>
     requires seen { AreForms db.now.seen.now }
     requires number { IsInteger e }
-    ensures { IfOk result (λ made. made_in made ≡ model.made_by (db_in db.now) (pattern_of (items_of_pattern pattern.now)) e) }
+    ensures { IfOk result (λ made. made_in made
+        ≡ model.made_by (db_in db.now) (pattern_of (items_of_pattern pattern.now)) e) }
 {
     tree(alloc, MOST_AROUND, db, pattern.as_slice(), &[], e)
 }
@@ -86,7 +87,9 @@ fn pull_unless(
 ) -> Result<Answer, Memory>
     requires seen { AreForms db.now.seen.now }
     requires number { IsSomeInteger entity }
-    ensures { IfOk result (λ answer. answer_in answer ≡ model.pull_unless bad (option_map (λ p. pattern_of (items_of_pattern p)) pattern) entity in_history (db_in db.now)) }
+    ensures { IfOk result (λ answer. answer_in answer
+        ≡ model.pull_unless bad (option_map (λ p. pattern_of (items_of_pattern p)) pattern) entity
+        in_history (db_in db.now)) }
 {
     if let Some(place) = bad {
         return Ok(Answer::Refused(Refusal::BadPattern(place)));
@@ -113,7 +116,8 @@ pub fn pull_in(
 ) -> Result<Answer, Memory>
     requires seen { AreForms db.now.seen.now }
     requires id { IsFormId (id_in id.now) }
-    ensures { IfOk result (λ answer. answer_in answer ≡ model.pull_in (db_in db.now) in_history (form_of form.now) (id_in id.now)) }
+    ensures { IfOk result (λ answer. answer_in answer
+        ≡ model.pull_in (db_in db.now) in_history (form_of form.now) (id_in id.now)) }
 {
     let bad = first_bad_item(alloc, form)?;
     let pattern = read_pattern(alloc, form)?;
@@ -136,7 +140,9 @@ fn facts_seen(
     window: Window,
     filters: &[Filter],
 ) -> Result<Vec<Datom>, Memory>
-    ensures { IfOk result (λ list. list.items ≡ model_in_order Eavt (model_facts_seen entries.now (window_of window) (tests filters.now))) }
+    ensures { IfOk result (λ list. list.items
+        ≡ model_in_order Eavt
+        (model_facts_seen entries.now (window_of window) (tests filters.now))) }
 {
     let without_history = Window {
         from: window.from,
@@ -161,7 +167,9 @@ pub fn pull(
 ) -> Result<Answer, Memory>
     requires seen { AreForms (found.db_of entries.now (window_of window) (tests filters.now)).seen }
     requires id { IsFormId (id_in id.now) }
-    ensures { IfOk result (λ answer. answer_in answer ≡ model.pull entries.now (window_of window) (tests filters.now) (form_of form.now) (id_in id.now)) }
+    ensures { IfOk result (λ answer. answer_in answer
+        ≡ model.pull entries.now (window_of window) (tests filters.now) (form_of form.now)
+        (id_in id.now)) }
 {
     let schema = facts(alloc, entries)?;
     let seen = facts_seen(alloc, entries, window, filters)?;

@@ -87,7 +87,8 @@ fn limit_of(f: &Edn) -> Option<Limit>
 }
 
 fn with_label(options: Options, value: &Edn) -> Result<Option<Options>, Memory>
-    ensures { IfOk result (λ o. option_map options_in o ≡ reading.with_option (options_in options) (Some reading.as_name) (form_of value.now)) }
+    ensures { IfOk result (λ o. option_map options_in o
+        ≡ reading.with_option (options_in options) (Some reading.as_name) (form_of value.now)) }
 {
     if options.renamed.is_some() {
         return Ok(None);
@@ -103,7 +104,9 @@ fn with_label(options: Options, value: &Edn) -> Result<Option<Options>, Memory>
 }
 
 fn with_default(options: Options, value: &Edn) -> Result<Option<Options>, Memory>
-    ensures { IfOk result (λ o. option_map options_in o ≡ reading.with_option (options_in options) (Some reading.default_name) (form_of value.now)) }
+    ensures { IfOk result (λ o. option_map options_in o
+        ≡ reading.with_option (options_in options) (Some reading.default_name)
+        (form_of value.now)) }
 {
     if options.default.is_some() {
         return Ok(None);
@@ -116,7 +119,8 @@ fn with_default(options: Options, value: &Edn) -> Result<Option<Options>, Memory
 }
 
 fn with_limit(options: Options, value: &Edn) -> Option<Options>
-    ensures { option_map options_in result ≡ reading.with_option (options_in options) (Some reading.limit_name) (form_of value.now) }
+    ensures { option_map options_in result
+        ≡ reading.with_option (options_in options) (Some reading.limit_name) (form_of value.now) }
 {
     if options.limit.is_some() {
         return None;
@@ -130,7 +134,9 @@ fn with_limit(options: Options, value: &Edn) -> Option<Options>
 }
 
 fn with_option(options: Options, name: &Edn, value: &Edn) -> Result<Option<Options>, Memory>
-    ensures { IfOk result (λ o. option_map options_in o ≡ reading.with_option (options_in options) (reading.option_name_in (form_of name.now)) (form_of value.now)) }
+    ensures { IfOk result (λ o. option_map options_in o
+        ≡ reading.with_option (options_in options) (reading.option_name_in (form_of name.now))
+        (form_of value.now)) }
 {
     match option_name_in(name) {
         Some(OptionName::As) => with_label(options, value),
@@ -143,7 +149,8 @@ fn with_option(options: Options, name: &Edn, value: &Edn) -> Result<Option<Optio
 /// Names and values in turn.
 #[cycle(turns)]
 fn options_from(options: Options, fs: &[Edn]) -> Result<Option<Options>, Memory>
-    ensures { IfOk result (λ o. option_map options_in o ≡ reading.options_from (options_in options) (forms_of fs.now)) }
+    ensures { IfOk result (λ o. option_map options_in o
+        ≡ reading.options_from (options_in options) (forms_of fs.now)) }
 {
     match fs {
         [] => Ok(Some(options)),
@@ -154,7 +161,9 @@ fn options_from(options: Options, fs: &[Edn]) -> Result<Option<Options>, Memory>
 
 #[cycle(turns)]
 fn options_behind(options: Option<Options>, rest: &[Edn]) -> Result<Option<Options>, Memory>
-    ensures { IfOk result (λ o. option_map options_in o ≡ option_and_then (λ more. reading.options_from more (forms_of rest.now)) (option_map options_in options)) }
+    ensures { IfOk result (λ o. option_map options_in o
+        ≡ option_and_then (λ more. reading.options_from more (forms_of rest.now))
+        (option_map options_in options)) }
 {
     match options {
         Some(more) => options_from(more, rest),
@@ -175,7 +184,8 @@ fn plain_item(name: &Text, options: Options) -> Result<Item, Memory>
 
 /// A name with one option or more.
 fn item_with_options(fs: &[Edn]) -> Result<Option<Item>, Memory>
-    ensures { IfOk result (λ i. option_map item_in i ≡ reading.item_with_options (forms_of fs.now)) }
+    ensures { IfOk result
+        (λ i. option_map item_in i ≡ reading.item_with_options (forms_of fs.now)) }
 {
     let [Edn::Key(name), _, ..] = fs else {
         return Ok(None);
@@ -239,7 +249,8 @@ pub fn append(list: &mut Vec<Item>, more: Vec<Item>) -> Result<(), Memory>
 /// The items, where there is at least one.
 #[tactic(auto, using(crate::proofs::Joined::any_of_some))]
 fn if_any(list: Option<Vec<Item>>) -> Option<Vec<Item>>
-    ensures { option_map (λ l. pattern_of l.items) result ≡ reading.if_any (option_map (λ l. pattern_of l.items) list) }
+    ensures { option_map (λ l. pattern_of l.items) result
+        ≡ reading.if_any (option_map (λ l. pattern_of l.items) list) }
 {
     let list = list?;
     match list.as_slice() {
@@ -251,7 +262,9 @@ fn if_any(list: Option<Vec<Item>>) -> Option<Vec<Item>>
 /// The items of both, where both are items.
 #[tactic(auto, using(crate::proofs::Joined::of_append))]
 fn both(list: Option<Vec<Item>>, more: Option<Vec<Item>>) -> Result<Option<Vec<Item>>, Memory>
-    ensures { IfOk result (λ r. option_map (λ l. pattern_of l.items) r ≡ reading.both (option_map (λ l. pattern_of l.items) list) (option_map (λ l. pattern_of l.items) more)) }
+    ensures { IfOk result (λ r. option_map (λ l. pattern_of l.items) r
+        ≡ reading.both (option_map (λ l. pattern_of l.items) list)
+        (option_map (λ l. pattern_of l.items) more)) }
 {
     match list {
         Some(mut list) => match more {
@@ -267,7 +280,8 @@ fn both(list: Option<Vec<Item>>, more: Option<Vec<Item>>) -> Result<Option<Vec<I
 
 /// The one item, where there is one.
 fn listed(alloc: Global, i: Option<Item>) -> Result<Option<Vec<Item>>, Memory>
-    ensures { IfOk result (λ r. option_map (λ l. pattern_of l.items) r ≡ option_map model.one (option_map item_in i)) }
+    ensures { IfOk result (λ r. option_map (λ l. pattern_of l.items) r
+        ≡ option_map model.one (option_map item_in i)) }
 {
     match i {
         Some(i) => Ok(Some(one(alloc, i)?)),
@@ -276,7 +290,8 @@ fn listed(alloc: Global, i: Option<Item>) -> Result<Option<Vec<Item>>, Memory>
 }
 
 fn symbol_item(alloc: Global, s: &str) -> Result<Option<Vec<Item>>, Memory>
-    ensures { IfOk result (λ r. option_map (λ l. pattern_of l.items) r ≡ reading.item_of (edn.symbol s.now)) }
+    ensures { IfOk result
+        (λ r. option_map (λ l. pattern_of l.items) r ≡ reading.item_of (edn.symbol s.now)) }
 {
     if s == "*" {
         return Ok(Some(one(alloc, Item::Wildcard)?));
@@ -287,7 +302,8 @@ fn symbol_item(alloc: Global, s: &str) -> Result<Option<Vec<Item>>, Memory>
 /// The items of a vector.
 #[cycle(read)]
 fn items_of(alloc: Global, items: &Items) -> Result<Option<Vec<Item>>, Memory>
-    ensures { IfOk result (λ list. option_map (λ l. pattern_of l.items) list ≡ reading.items_of (edn.forms (forms_of (members items.now)))) }
+    ensures { IfOk result (λ list. option_map (λ l. pattern_of l.items) list
+        ≡ reading.items_of (edn.forms (forms_of (members items.now)))) }
 {
     let mut list = Some(Vec::new(alloc));
     for f in items.as_slice() {
@@ -299,7 +315,8 @@ fn items_of(alloc: Global, items: &Items) -> Result<Option<Vec<Item>>, Memory>
 /// The items of a form: a map is one for each of its pairs.
 #[cycle(read)]
 fn item_of(alloc: Global, f: &Edn) -> Result<Option<Vec<Item>>, Memory>
-    ensures { IfOk result (λ list. option_map (λ l. pattern_of l.items) list ≡ reading.item_of (form_of f.now)) }
+    ensures { IfOk result
+        (λ list. option_map (λ l. pattern_of l.items) list ≡ reading.item_of (form_of f.now)) }
 {
     match f {
         Edn::Key(name) => Ok(Some(one(alloc, plain_item(name, Options::none())?)?)),
@@ -313,7 +330,8 @@ fn item_of(alloc: Global, f: &Edn) -> Result<Option<Vec<Item>>, Memory>
 /// The items of a map's pairs.
 #[cycle(read)]
 fn specifications_of(alloc: Global, pairs: &Pairs) -> Result<Option<Vec<Item>>, Memory>
-    ensures { IfOk result (λ list. option_map (λ l. pattern_of l.items) list ≡ reading.specifications_of (edn.pairs (pairs_of (entries pairs.now)))) }
+    ensures { IfOk result (λ list. option_map (λ l. pattern_of l.items) list
+        ≡ reading.specifications_of (edn.pairs (pairs_of (entries pairs.now)))) }
 {
     let mut list = Some(Vec::new(alloc));
     for (key, value) in pairs.as_slice() {
@@ -324,7 +342,9 @@ fn specifications_of(alloc: Global, pairs: &Pairs) -> Result<Option<Vec<Item>>, 
 
 #[cycle(read)]
 fn specification(alloc: Global, value: &Edn, key: &Edn) -> Result<Option<Item>, Memory>
-    ensures { IfOk result (λ i. option_map item_in i ≡ reading.specification (reading.specified (form_of key.now)) (reading.below_of (form_of value.now))) }
+    ensures { IfOk result (λ i. option_map item_in i
+        ≡ reading.specification (reading.specified (form_of key.now))
+        (reading.below_of (form_of value.now))) }
 {
     match below_of(alloc, value)? {
         Some(below) => match specified(key)? {
@@ -350,7 +370,8 @@ fn below_of(alloc: Global, f: &Edn) -> Result<Option<Below>, Memory>
 
 /// The pattern that the form is.
 pub fn read_pattern(alloc: Global, f: &Edn) -> Result<Option<Pattern>, Memory>
-    ensures { IfOk result (λ pattern. option_map (λ p. pattern_of (items_of_pattern p)) pattern ≡ reading.pattern_of (form_of f.now)) }
+    ensures { IfOk result (λ pattern. option_map (λ p. pattern_of (items_of_pattern p)) pattern
+        ≡ reading.pattern_of (form_of f.now)) }
 {
     match f {
         Edn::Vector(items) => match if_any(items_of(alloc, items)?) {
@@ -363,7 +384,8 @@ pub fn read_pattern(alloc: Global, f: &Edn) -> Result<Option<Pattern>, Memory>
 
 /// The place of the first form that is no item.
 fn first_bad_from(alloc: Global, items: &Items) -> Result<Option<usize>, Memory>
-    ensures { IfOk result (λ place. place ≡ reading.first_bad_from 0 (edn.forms (forms_of (members items.now)))) }
+    ensures { IfOk result
+        (λ place. place ≡ reading.first_bad_from 0 (edn.forms (forms_of (members items.now)))) }
 {
     let mut place = 0;
     for f in items.as_slice() {

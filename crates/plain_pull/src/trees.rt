@@ -80,7 +80,8 @@ fn limit_for(several: bool, options: &Options) -> Limit
 /// Plain values stand as they are.
 fn plain_values(alloc: Global, values: &[Value]) -> Result<Vec<Made>, Memory>
     requires { All IsForm values.now }
-    ensures { IfOk result (λ list. mades_in list.items ≡ map (λ v. made.plain (found.form_of_value v)) values.now) }
+    ensures { IfOk result
+        (λ list. mades_in list.items ≡ map (λ v. made.plain (found.form_of_value v)) values.now) }
 {
     let mut list = Vec::new(alloc);
     for v in values {
@@ -96,7 +97,9 @@ fn plain_values(alloc: Global, values: &[Value]) -> Result<Vec<Made>, Memory>
 fn unless_met(alloc: Global, at: &Stand<'_>, items: &[Item], n: u64) -> Result<Made, Memory>
     requires seen { AreForms at.now.db.seen.now }
     requires number { IsInteger n }
-    ensures { IfOk result (λ made. made_in made ≡ model.unless_met (model.is_on at.now.path.now n) (trees_in at.now) (pattern_of items.now) at.now.path.now n) }
+    ensures { IfOk result (λ made. made_in made
+        ≡ model.unless_met (model.is_on at.now.path.now n) (trees_in at.now) (pattern_of items.now)
+        at.now.path.now n) }
 {
     if is_on(at.path, n) {
         return stub(alloc, n);
@@ -116,7 +119,9 @@ fn told(
 ) -> Result<Made, Memory>
     requires seen { AreForms at.now.db.seen.now }
     requires number { IsInteger n }
-    ensures { IfOk result (λ made. made_in made ≡ model.told (trees_in at.now) (pattern_at at.now) place at.now.path.now parts (below_in below.now) n) }
+    ensures { IfOk result (λ made. made_in made
+        ≡ model.told (trees_in at.now) (pattern_at at.now) place at.now.path.now parts
+        (below_in below.now) n) }
 {
     match below {
         Below::Usual => {
@@ -147,7 +152,11 @@ fn all_told(
 ) -> Result<Vec<Made>, Memory>
     requires seen { AreForms at.now.db.seen.now }
     requires numbers { All IsInteger entities.now }
-    ensures { IfOk result (λ list. mades_in list.items ≡ map (model.told (trees_in at.now) (pattern_at at.now) place at.now.path.now parts (below_in below.now)) entities.now) }
+    ensures { IfOk result (λ list. mades_in list.items
+        ≡ map
+        (model.told (trees_in at.now) (pattern_at at.now) place at.now.path.now parts
+        (below_in below.now))
+        entities.now) }
 {
     let mut list = Vec::new(alloc);
     for n in entities {
@@ -170,7 +179,9 @@ fn value_of(
 ) -> Result<Made, Memory>
     requires seen { AreForms at.now.db.seen.now }
     requires found { IsFoundForm (found_in found.now) }
-    ensures { IfOk result (λ made. made_in made ≡ model.value_of (trees_in at.now) (pattern_at at.now) place at.now.path.now (options_in options.now) (below_in below.now) (found_in found.now)) }
+    ensures { IfOk result (λ made. made_in made
+        ≡ model.value_of (trees_in at.now) (pattern_at at.now) place at.now.path.now
+        (options_in options.now) (below_in below.now) (found_in found.now)) }
 {
     match found {
         Found::Absent => Ok(nothing()),
@@ -191,7 +202,9 @@ fn value_of(
 fn made_of(alloc: Global, above: &Stand<'_>, e: u64, place: usize, i: &Item) -> Result<Made, Memory>
     requires seen { AreForms above.now.db.seen.now }
     requires number { IsInteger e }
-    ensures { IfOk result (λ made. made_in made ≡ model.made_of (trees_in above.now) (db_in above.now.db) (pattern_at above.now) above.now.path.now e place (item_in i.now)) }
+    ensures { IfOk result (λ made. made_in made
+        ≡ model.made_of (trees_in above.now) (db_in above.now.db) (pattern_at above.now)
+        above.now.path.now e place (item_in i.now)) }
 {
     match i {
         Item::Wildcard => Ok(nothing()),
@@ -225,7 +238,11 @@ fn with_item(
 ) -> Result<Inside, Memory>
     requires seen { AreForms above.now.db.seen.now }
     requires number { IsInteger e }
-    ensures { IfOk result (λ more. inside_in more ≡ model.with_item (model.made_of (trees_in above.now) (db_in above.now.db) (pattern_at above.now) above.now.path.now e) (inside_in inside) (place, item_in i.now)) }
+    ensures { IfOk result (λ more. inside_in more
+        ≡ model.with_item
+        (model.made_of (trees_in above.now) (db_in above.now.db) (pattern_at above.now)
+        above.now.path.now e)
+        (inside_in inside) (place, item_in i.now)) }
 {
     let key = key_of_item(alloc, i)?;
     if has_key(&inside.pairs, &key) {
@@ -244,7 +261,11 @@ fn with_items(
 ) -> Result<Inside, Memory>
     requires seen { AreForms above.now.db.seen.now }
     requires number { IsInteger e }
-    ensures { IfOk result (λ inside. inside_in inside ≡ fold (model.with_item (model.made_of (trees_in above.now) (db_in above.now.db) (pattern_at above.now) above.now.path.now e)) made.no_pairs_yet (placed_in list.now)) }
+    ensures { IfOk result (λ inside. inside_in inside
+        ≡ fold
+        (model.with_item (model.made_of (trees_in above.now) (db_in above.now.db)
+        (pattern_at above.now) above.now.path.now e))
+        made.no_pairs_yet (placed_in list.now)) }
 {
     let mut inside = no_pairs_yet(alloc);
     for (place, i) in list {
@@ -257,7 +278,9 @@ fn with_items(
 fn pairs_of_entity(alloc: Global, above: &Stand<'_>, e: u64) -> Result<Inside, Memory>
     requires seen { AreForms above.now.db.seen.now }
     requires number { IsInteger e }
-    ensures { IfOk result (λ inside. inside_in inside ≡ model.inside (trees_in above.now) (db_in above.now.db) (pattern_at above.now) above.now.path.now e) }
+    ensures { IfOk result (λ inside. inside_in inside
+        ≡ model.inside (trees_in above.now) (db_in above.now.db) (pattern_at above.now)
+        above.now.path.now e) }
 {
     let list = placed_items(alloc, &above.db, e, above.items)?;
     with_items(alloc, above, e, &list)
@@ -289,7 +312,8 @@ pub fn tree(
 ) -> Result<Made, Memory>
     requires seen { AreForms db.now.seen.now }
     requires number { IsInteger e }
-    ensures { IfOk result (λ made. made_in made ≡ model.tree room (db_in db.now) (pattern_of items.now) above.now e) }
+    ensures { IfOk result
+        (λ made. made_in made ≡ model.tree room (db_in db.now) (pattern_of items.now) above.now e) }
 {
     if room == 0 {
         return Ok(too_deep());

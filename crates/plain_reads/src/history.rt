@@ -87,13 +87,15 @@ pub fn is_issued(entries: &[Entry], n: u64) -> bool
 }
 
 fn is_transaction(entries: &[Entry], n: u64) -> bool
-    ensures { result ≡ (nat_le (transaction_of 0) n && nat_le n (transaction_of (model_basis entries.now))) }
+    ensures { result
+        ≡ (nat_le (transaction_of 0) n && nat_le n (transaction_of (model_basis entries.now))) }
 {
     TRANSACTIONS <= n && n <= TRANSACTIONS + u64::from(basis(entries))
 }
 
 fn is_user(entries: &[Entry], n: u64) -> bool
-    ensures { result ≡ (nat_le (user_entity 1) n && nat_le n (user_entity (model_users_issued entries.now))) }
+    ensures { result
+        ≡ (nat_le (user_entity 1) n && nat_le n (user_entity (model_users_issued entries.now))) }
 {
     USER_ENTITIES < n && n - USER_ENTITIES <= users_issued(entries)
 }

@@ -67,7 +67,8 @@ fn scanned(
     range: &Range,
     datoms: &[Datom],
 ) -> Result<Vec<Datom>, Memory>
-    ensures { IfOk result (λ list. list.items ≡ filter (model_is_scanned facts.now order (range_in range.now)) datoms.now) }
+    ensures { IfOk result (λ list. list.items
+        ≡ filter (model_is_scanned facts.now order (range_in range.now)) datoms.now) }
 {
     let mut list = Vec::new(alloc);
     for d in datoms {
@@ -87,7 +88,9 @@ pub fn scan(
     order: Order,
     range: &Range,
 ) -> Result<Vec<Datom>, Memory>
-    ensures { IfOk result (λ list. list.items ≡ model_scan entries.now (window_of window) (tests filters.now) order (range_in range.now)) }
+    ensures { IfOk result (λ list. list.items
+        ≡ model_scan entries.now (window_of window) (tests filters.now) order
+        (range_in range.now)) }
 {
     let all = said(alloc, entries)?;
     let facts = standing(alloc, &all)?;

@@ -93,7 +93,8 @@ fn is_selected_by_all(filters: &[Filter], d: &Datom) -> bool
 
 /// Copies of the datoms that every filter selects.
 fn selected(alloc: Global, filters: &[Filter], datoms: &[Datom]) -> Result<Vec<Datom>, Memory>
-    ensures { IfOk result (λ list. list.items ≡ filter (is_selected_by (tests filters.now)) datoms.now) }
+    ensures { IfOk result
+        (λ list. list.items ≡ filter (is_selected_by (tests filters.now)) datoms.now) }
 {
     let mut list = Vec::new(alloc);
     for d in datoms {
@@ -111,7 +112,8 @@ pub fn view(
     window: Window,
     filters: &[Filter],
 ) -> Result<Vec<Datom>, Memory>
-    ensures { IfOk result (λ list. list.items ≡ model_view entries.now (window_of window) (tests filters.now)) }
+    ensures { IfOk result
+        (λ list. list.items ≡ model_view entries.now (window_of window) (tests filters.now)) }
 {
     let list = seen(alloc, entries, window)?;
     selected(alloc, filters, &list)

@@ -16,11 +16,15 @@ use Rattle.plain_rules.specs.declared.name_rules.NameFault.TheVariants.{Lookup, 
 -- of a lookup ref: an attribute and a value
 abbrev pub is_faulty_lookup : LookupFault → List Datom → List ℕ × Form → Bool
 is_faulty_lookup Unknown facts = λ ref. names.is_unknown facts ref.0
-is_faulty_lookup Wrong facts = λ ref. option_map_or (names.is_wrong_lookup ref.1) (attribute_named facts ref.0) false
-is_faulty_lookup NotUnique facts = λ ref. option_map_or (λ attribute. nat_eq attribute.uniqueness 0) (attribute_named facts ref.0) false
+is_faulty_lookup Wrong facts =
+    λ ref. option_map_or (names.is_wrong_lookup ref.1) (attribute_named facts ref.0) false
+is_faulty_lookup NotUnique facts =
+    λ ref. option_map_or (λ attribute. nat_eq attribute.uniqueness 0) (attribute_named facts ref.0)
+    false
 
 abbrev pub has_fault : NameFault → Db → Name → Bool
-has_fault (Lookup fault) db = λ name. list_any (is_faulty_lookup fault db.facts) (names.lookups_in db.facts name)
+has_fault (Lookup fault) db =
+    λ name. list_any (is_faulty_lookup fault db.facts) (names.lookups_in db.facts name)
 has_fault FindsNone db = names.finds_none db
 
 -- those of a lookup ref that stands as a value, if there is one

@@ -22,4 +22,5 @@ next_after n (e ∷ es) = n
 -- the place of the first text that is not less
 abbrev pub place_of_text : List ℕ → List (List ℕ × ℕ) → ℕ
 place_of_text text [] = 0
-place_of_text text (first ∷ rest) = cond (is_lt (text_cmp first.0 text)) (suc (place_of_text text rest)) 0
+place_of_text text (first ∷ rest) =
+    cond (is_lt (text_cmp first.0 text)) (suc (place_of_text text rest)) 0

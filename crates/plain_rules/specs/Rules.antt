@@ -15,14 +15,17 @@ use Rattle.tx_refusals.specs.declared.reasons.Reason.TheVariants.{NotAnAttribute
 abbrev pub ask_breaks : Reason → Transaction → List Ask → Ask → Bool
 ask_breaks NotAnAttribute tx all = names.names_no_attribute tx.db.facts
 ask_breaks ProtectedAttribute tx all =
-    λ ask. option_map_or (names.is_protected tx.db.facts) (attribute_of_ask ask) false || names.adds_reserved_ident tx.db.facts ask
+    λ ask. option_map_or (names.is_protected tx.db.facts) (attribute_of_ask ask) false
+    || names.adds_reserved_ident tx.db.facts ask
 ask_breaks WrongType tx all =
     λ ask. option_map_or (names.has_wrong_part ask) (names.attribute_in tx.db.facts ask) false
     || list_any (names.has_wrong_lookup tx.db.facts) (names_of ask)
-ask_breaks NotUniqueLookup tx all = λ ask. list_any (names.has_other_lookup tx.db.facts) (names_of ask)
+ask_breaks NotUniqueLookup tx all =
+    λ ask. list_any (names.has_other_lookup tx.db.facts) (names_of ask)
 ask_breaks NotAnEntity tx all = λ ask. list_any (names.finds_none tx.db) (names_of ask)
 ask_breaks NestedWithoutId tx all = names.is_lacking
-ask_breaks TempidConflict tx all = λ ask. list_any (names.gives_one_of_two tx.db all ask) (names_of ask)
+ask_breaks TempidConflict tx all =
+    λ ask. list_any (names.gives_one_of_two tx.db all ask) (names_of ask)
 ask_breaks TempidNotAnEntity tx all = λ ask. list_any (names.is_added_to_by_none all) (names_of ask)
 ask_breaks CasMany tx all = changes.compares_many tx.db
 ask_breaks CasFailed tx all = changes.compares_another tx
@@ -37,7 +40,8 @@ breaks_at AttributeFixed tx = changes.breaks_attribute_fixed tx
 breaks_at AlterationConflict tx = changes.breaks_alteration_conflict tx
 breaks_at TooLarge tx = λ place. changes.breaks_too_large tx
 breaks_at Full tx = λ place. changes.breaks_full tx
-breaks_at rule tx = λ place. list_any (ask_breaks rule tx (joined tx.asks)) (changes.at tx.asks place)
+breaks_at rule tx =
+    λ place. list_any (ask_breaks rule tx (joined tx.asks)) (changes.at tx.asks place)
 
 -- the first form that breaks the rule: what is said of a transaction as a whole is said at its first one
 abbrev pub first_of : Transaction → Reason → Option ℕ
@@ -52,6 +56,8 @@ with_first tx rule = (rule, first_of tx rule)
 -- the rules on forms that have a shape
 abbrev pub all_rules : List Reason
 all_rules =
-    NotAnAttribute ∷ ProtectedAttribute ∷ WrongType ∷ NotUniqueLookup ∷ NotAnEntity ∷ NestedWithoutId ∷ TempidConflict
-    ∷ TempidNotAnEntity ∷ CasMany ∷ CasFailed ∷ DatomsConflict ∷ UniqueConflict ∷ IncompleteAttribute ∷ AttributeFixed
+    NotAnAttribute ∷ ProtectedAttribute ∷ WrongType ∷ NotUniqueLookup ∷ NotAnEntity
+    ∷ NestedWithoutId ∷ TempidConflict
+    ∷ TempidNotAnEntity ∷ CasMany ∷ CasFailed ∷ DatomsConflict ∷ UniqueConflict
+    ∷ IncompleteAttribute ∷ AttributeFixed
     ∷ TooLarge ∷ Full ∷ AlterationConflict ∷ []

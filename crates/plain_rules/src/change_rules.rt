@@ -67,7 +67,8 @@ fn asked(alloc: Global, tx: &Transaction, place: usize) -> Result<Vec<Datom>, Me
 // ---- cas of many
 
 fn is_many(tx: &Transaction, k: &Text) -> bool
-    ensures { result ≡ option_map_or (λ a. a.many) (schema.attribute_named tx.now.db.facts k.now) false }
+    ensures { result
+        ≡ option_map_or (λ a. a.many) (schema.attribute_named tx.now.db.facts k.now) false }
 {
     match attribute_named(tx.db.facts(), k.as_str()) {
         Some(attribute) => attribute.many,
@@ -91,7 +92,9 @@ fn old_value_in(
     attribute: &Attribute<'_>,
     f: &Edn,
 ) -> Result<Option<Value>, Memory>
-    ensures { IfOk result (λ v. v ≡ model.old_value (transaction_of tx.now) (attribute_in attribute.now) (asks.plain (form_of f.now))) }
+    ensures { IfOk result (λ v. v
+        ≡ model.old_value (transaction_of tx.now) (attribute_in attribute.now)
+        (asks.plain (form_of f.now))) }
 {
     match f {
         Edn::Nil => Ok(None),
@@ -104,7 +107,8 @@ fn old_value(
     attribute: &Attribute<'_>,
     part: &Operand,
 ) -> Result<Option<Value>, Memory>
-    ensures { IfOk result (λ v. v ≡ model.old_value (transaction_of tx.now) (attribute_in attribute.now) (part_of part.now)) }
+    ensures { IfOk result (λ v. v
+        ≡ model.old_value (transaction_of tx.now) (attribute_in attribute.now) (part_of part.now)) }
 {
     match part {
         Operand::Plain(f) => old_value_in(tx, attribute, f),
@@ -129,14 +133,17 @@ fn is_present(
     old: &Operand,
     attribute: &Attribute<'_>,
 ) -> Result<bool, Memory>
-    ensures { IfOk result (λ b. b ≡ model.is_present (transaction_of tx.now) e (part_of old.now) (attribute_in attribute.now)) }
+    ensures { IfOk result (λ b. b
+        ≡ model.is_present (transaction_of tx.now) e (part_of old.now)
+        (attribute_in attribute.now)) }
 {
     let old = old_value(tx, attribute, old)?;
     Ok(is_value(value_of(tx.db.facts(), e, attribute.id), &old))
 }
 
 pub fn compares_another(tx: &Transaction, ask: &Ask) -> Result<bool, Memory>
-    ensures { IfOk result (λ b. b ≡ model.compares_another (transaction_of tx.now) (ask_of ask.now)) }
+    ensures { IfOk result
+        (λ b. b ≡ model.compares_another (transaction_of tx.now) (ask_of ask.now)) }
 {
     let Ask::Compares(name, k, old, _) = ask else {
         return Ok(false);
@@ -199,7 +206,9 @@ fn has_no_other_holder(facts: &[Datom], d: &Datom) -> bool
 }
 
 fn shares_a_unique_value(tx: &Transaction, d: &Datom) -> bool
-    ensures { result ≡ (schema.is_unique tx.now.db.facts d.now.a && not (laws.has_no_other_holder tx.now.after.items d.now)) }
+    ensures { result
+        ≡ (schema.is_unique tx.now.db.facts d.now.a
+        && not (laws.has_no_other_holder tx.now.after.items d.now)) }
 {
     is_unique(tx.db.facts(), d.a) && !has_no_other_holder(&tx.after, d)
 }
@@ -393,7 +402,9 @@ pub fn asks_faulty(
     tx: &Transaction,
     place: usize,
 ) -> Result<bool, Memory>
-    ensures { IfOk result (λ b. b ≡ list_any (has_fault fault (transaction_of tx.now)) (model.asked (transaction_of tx.now) place)) }
+    ensures { IfOk result (λ b. b
+        ≡ list_any (has_fault fault (transaction_of tx.now))
+        (model.asked (transaction_of tx.now) place)) }
 {
     let datoms = asked(alloc, tx, place)?;
     has_faulty(alloc, fault, tx, &datoms)
@@ -415,7 +426,8 @@ pub fn breaks_incomplete_attribute(
     tx: &Transaction,
     place: usize,
 ) -> Result<bool, Memory>
-    ensures { IfOk result (λ b. b ≡ model.breaks_incomplete_attribute (transaction_of tx.now) place) }
+    ensures { IfOk result
+        (λ b. b ≡ model.breaks_incomplete_attribute (transaction_of tx.now) place) }
 {
     let triples = asked_triples(alloc, tx, place)?;
     Ok(

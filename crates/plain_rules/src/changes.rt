@@ -37,7 +37,9 @@ pub fn value_of_part(
     attribute: &Attribute<'_>,
     part: &Operand,
 ) -> Result<Option<Value>, Memory>
-    ensures { IfOk result (λ v. v ≡ model.value_of_part db.now (pairs_of pairs.now) (attribute_in attribute.now) (part_of part.now)) }
+    ensures { IfOk result (λ v. v
+        ≡ model.value_of_part db.now (pairs_of pairs.now) (attribute_in attribute.now)
+        (part_of part.now)) }
 {
     match part {
         Operand::Plain(f) => value_in(attribute.kind, f),
@@ -67,7 +69,9 @@ fn change_of(
     k: &Text,
     part: &Operand,
 ) -> Result<Option<Datom>, Memory>
-    ensures { IfOk result (λ d. option_to_list d ≡ model.changes_of db.now (pairs_of pairs.now) added (name_of name.now) k.now (part_of part.now)) }
+    ensures { IfOk result (λ d. option_to_list d
+        ≡ model.changes_of db.now (pairs_of pairs.now) added (name_of name.now) k.now
+        (part_of part.now)) }
 {
     let Some(e) = entity_of(db, pairs, name)? else {
         return Ok(None);
@@ -90,7 +94,9 @@ fn changes_of(
     k: &Text,
     part: &Operand,
 ) -> Result<Vec<Datom>, Memory>
-    ensures { IfOk result (λ list. list.items ≡ model.changes_of db.now (pairs_of pairs.now) added (name_of name.now) k.now (part_of part.now)) }
+    ensures { IfOk result (λ list. list.items
+        ≡ model.changes_of db.now (pairs_of pairs.now) added (name_of name.now) k.now
+        (part_of part.now)) }
 {
     let mut list = Vec::new(alloc);
     match change_of(db, pairs, added, name, k, part)? {
@@ -112,7 +118,8 @@ fn withdrawn(db: &Db, d: &Datom) -> Result<Datom, Memory>
 // ---- asked by one ask
 
 fn additions(alloc: Global, db: &Db, pairs: &[(Name, u64)], ask: &Ask) -> Result<Vec<Datom>, Memory>
-    ensures { IfOk result (λ list. list.items ≡ model.additions db.now (pairs_of pairs.now) (ask_of ask.now)) }
+    ensures { IfOk result
+        (λ list. list.items ≡ model.additions db.now (pairs_of pairs.now) (ask_of ask.now)) }
 {
     match ask {
         Ask::Adds(name, k, part) => changes_of(alloc, db, pairs, true, name, k, part),
@@ -127,7 +134,8 @@ fn retractions(
     pairs: &[(Name, u64)],
     ask: &Ask,
 ) -> Result<Vec<Datom>, Memory>
-    ensures { IfOk result (λ list. list.items ≡ model.retractions db.now (pairs_of pairs.now) (ask_of ask.now)) }
+    ensures { IfOk result
+        (λ list. list.items ≡ model.retractions db.now (pairs_of pairs.now) (ask_of ask.now)) }
 {
     match ask {
         Ask::Retracts(name, k, part) => changes_of(alloc, db, pairs, false, name, k, part),
@@ -137,7 +145,8 @@ fn retractions(
 
 /// Every value of an attribute.
 fn values_withdrawn(alloc: Global, db: &Db, e: u64, a: u64) -> Result<Vec<Datom>, Memory>
-    ensures { IfOk result (λ list. list.items ≡ map (model.withdrawn db.now) (filter (λ d. nat_eq d.e e && nat_eq d.a a) db.now.facts)) }
+    ensures { IfOk result (λ list. list.items
+        ≡ map (model.withdrawn db.now) (filter (λ d. nat_eq d.e e && nat_eq d.a a) db.now.facts)) }
 {
     let mut list = Vec::new(alloc);
     for d in db.facts() {
@@ -160,7 +169,8 @@ fn is_about_set(set: &[u64], d: &Datom) -> bool
 
 /// All that is said of a set of entities.
 fn set_withdrawn(alloc: Global, db: &Db, set: &[u64]) -> Result<Vec<Datom>, Memory>
-    ensures { IfOk result (λ list. list.items ≡ map (model.withdrawn db.now) (filter (model.is_about_set set.now) db.now.facts)) }
+    ensures { IfOk result (λ list. list.items
+        ≡ map (model.withdrawn db.now) (filter (model.is_about_set set.now) db.now.facts)) }
 {
     let mut list = Vec::new(alloc);
     for d in db.facts() {
@@ -181,7 +191,8 @@ fn entity_withdrawn(alloc: Global, db: &Db, e: u64) -> Result<Vec<Datom>, Memory
 
 /// What is found in the database: every value of an attribute, or all that is said of a closed set.
 fn sweeps(alloc: Global, db: &Db, pairs: &[(Name, u64)], ask: &Ask) -> Result<Vec<Datom>, Memory>
-    ensures { IfOk result (λ list. list.items ≡ model.sweeps db.now (pairs_of pairs.now) (ask_of ask.now)) }
+    ensures { IfOk result
+        (λ list. list.items ≡ model.sweeps db.now (pairs_of pairs.now) (ask_of ask.now)) }
 {
     match ask {
         Ask::RetractsAll(name, k) => {
@@ -210,7 +221,8 @@ fn of_ask(
     pairs: &[(Name, u64)],
     ask: &Ask,
 ) -> Result<Vec<Datom>, Memory>
-    ensures { IfOk result (λ list. list.items ≡ asked_by kind db.now (pairs_of pairs.now) (ask_of ask.now)) }
+    ensures { IfOk result
+        (λ list. list.items ≡ asked_by kind db.now (pairs_of pairs.now) (ask_of ask.now)) }
 {
     match kind {
         Kind::Additions => additions(alloc, db, pairs, ask),
@@ -236,7 +248,8 @@ fn of_form(
     pairs: &[(Name, u64)],
     asks: &[Ask],
 ) -> Result<Vec<Datom>, Memory>
-    ensures { IfOk result (λ list. list.items ≡ flat_map (asked_by kind db.now (pairs_of pairs.now)) (asks_of asks.now)) }
+    ensures { IfOk result (λ list. list.items
+        ≡ flat_map (asked_by kind db.now (pairs_of pairs.now)) (asks_of asks.now)) }
 {
     let mut list = Vec::new(alloc);
     for ask in asks {
@@ -253,7 +266,8 @@ pub fn of_forms(
     pairs: &[(Name, u64)],
     forms: &[Vec<Ask>],
 ) -> Result<Vec<Vec<Datom>>, Memory>
-    ensures { IfOk result (λ lists. datom_lists lists.items ≡ map (flat_map (asked_by kind db.now (pairs_of pairs.now))) (ask_lists forms.now)) }
+    ensures { IfOk result (λ lists. datom_lists lists.items
+        ≡ map (flat_map (asked_by kind db.now (pairs_of pairs.now))) (ask_lists forms.now)) }
 {
     let mut lists = Vec::new(alloc);
     for asks in forms {
@@ -277,14 +291,16 @@ fn is_replaced_by(added: &[Datom], d: &Datom) -> bool
 }
 
 fn goes_with(db: &Db, added: &[Datom], d: &Datom) -> bool
-    ensures { result ≡ (schema.is_one db.now.facts d.now.a && list_any (model.is_replaced d.now) added.now) }
+    ensures { result
+        ≡ (schema.is_one db.now.facts d.now.a && list_any (model.is_replaced d.now) added.now) }
 {
     is_one(db.facts(), d.a) && is_replaced_by(added, d)
 }
 
 /// Adds the retraction of the fact, where it is to be.
 fn push_if(list: &mut Vec<Datom>, db: &Db, d: &Datom, goes: bool) -> Result<(), Memory>
-    ensures { IfOk result (λ _. list.new.items ≡ cond goes (list.old.items ++ model.withdrawn db.now d.now ∷ []) list.old.items) }
+    ensures { IfOk result (λ _. list.new.items
+        ≡ cond goes (list.old.items ++ model.withdrawn db.now d.now ∷ []) list.old.items) }
 {
     if goes {
         list.push(withdrawn(db, d)?)?;
@@ -308,7 +324,8 @@ pub fn implied_by_forms(
     db: &Db,
     added: &[Vec<Datom>],
 ) -> Result<Vec<Vec<Datom>>, Memory>
-    ensures { IfOk result (λ lists. datom_lists lists.items ≡ map (model.implied db.now) (datom_lists added.now)) }
+    ensures { IfOk result
+        (λ lists. datom_lists lists.items ≡ map (model.implied db.now) (datom_lists added.now)) }
 {
     let mut lists = Vec::new(alloc);
     for additions in added {

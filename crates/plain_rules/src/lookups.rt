@@ -75,7 +75,8 @@ fn is_no_old_entity(attribute: &Attribute<'_>, value: &Edn) -> bool
 }
 
 fn is_wrong_lookup(attribute: &Attribute<'_>, value: &Edn) -> Result<bool, Memory>
-    ensures { IfOk result (λ b. b ≡ model.is_wrong_lookup (form_of value.now) (attribute_in attribute.now)) }
+    ensures { IfOk result
+        (λ b. b ≡ model.is_wrong_lookup (form_of value.now) (attribute_in attribute.now)) }
 {
     if attribute.kind == TYPE_REF {
         Ok(is_no_old_entity(attribute, value))
@@ -85,7 +86,8 @@ fn is_wrong_lookup(attribute: &Attribute<'_>, value: &Edn) -> Result<bool, Memor
 }
 
 fn is_faulty(fault: LookupFault, db: &Db, k: &Text, value: &Edn) -> Result<bool, Memory>
-    ensures { IfOk result (λ b. b ≡ is_faulty_lookup fault db.now.facts (k.now, form_of value.now)) }
+    ensures { IfOk result
+        (λ b. b ≡ is_faulty_lookup fault db.now.facts (k.now, form_of value.now)) }
 {
     let Some(attribute) = attribute_named(db.facts(), k.as_str()) else {
         return Ok(match fault {
@@ -103,7 +105,9 @@ fn is_faulty(fault: LookupFault, db: &Db, k: &Text, value: &Edn) -> Result<bool,
 /// Whether the lookup ref has the fault, or one that is its value.
 #[cycle(inside)]
 fn has_fault_inside(fault: LookupFault, db: &Db, k: &Text, value: &Edn) -> Result<bool, Memory>
-    ensures { IfOk result (λ b. b ≡ list_any (is_faulty_lookup fault db.now.facts) (model.lookups_from db.now.facts k.now (form_of value.now))) }
+    ensures { IfOk result (λ b. b
+        ≡ list_any (is_faulty_lookup fault db.now.facts)
+        (model.lookups_from db.now.facts k.now (form_of value.now))) }
 {
     if is_faulty(fault, db, k, value)? {
         return Ok(true);
@@ -121,7 +125,9 @@ fn has_fault_inside(fault: LookupFault, db: &Db, k: &Text, value: &Edn) -> Resul
 #[cycle(inside)]
 #[tactic(auto, using(crate::proofs::PlainVectors::lookup_of_others))]
 fn is_faulty_pair(fault: LookupFault, db: &Db, items: &Items) -> Result<bool, Memory>
-    ensures { IfOk result (λ b. b ≡ list_any (is_faulty_lookup fault db.now.facts) (lookups_inside db.now.facts (asks.lookup_in (edn.forms (forms_of (members items.now)))))) }
+    ensures { IfOk result (λ b. b
+        ≡ list_any (is_faulty_lookup fault db.now.facts)
+        (lookups_inside db.now.facts (asks.lookup_in (edn.forms (forms_of (members items.now)))))) }
 {
     let [first, value] = items.as_slice() else {
         return Ok(false);
@@ -134,7 +140,9 @@ fn is_faulty_pair(fault: LookupFault, db: &Db, items: &Items) -> Result<bool, Me
 
 /// Whether a lookup ref in the name has the fault.
 pub fn has_faulty_lookup(fault: LookupFault, db: &Db, name: &Name) -> Result<bool, Memory>
-    ensures { IfOk result (λ b. b ≡ list_any (is_faulty_lookup fault db.now.facts) (model.lookups_in db.now.facts (name_of name.now))) }
+    ensures { IfOk result (λ b. b
+        ≡ list_any (is_faulty_lookup fault db.now.facts)
+        (model.lookups_in db.now.facts (name_of name.now))) }
 {
     match name {
         Name::Lookup(k, value) => has_fault_inside(fault, db, k, value),

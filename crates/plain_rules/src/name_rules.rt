@@ -53,7 +53,8 @@ fn is_faulty(fault: NameFault, db: &Db, name: &Name) -> Result<bool, Memory>
 
 /// Whether one of the ask's names has the fault.
 pub fn names_with_fault(alloc: Global, fault: NameFault, db: &Db, ask: &Ask) -> Result<bool, Memory>
-    ensures { IfOk result (λ b. b ≡ list_any (has_fault fault db.now) (asks.names_of (ask_of ask.now))) }
+    ensures { IfOk result
+        (λ b. b ≡ list_any (has_fault fault db.now) (asks.names_of (ask_of ask.now))) }
 {
     let names = names_of(alloc, ask)?;
     for name in &names {
@@ -122,7 +123,10 @@ fn adds_reserved_ident(db: &Db, ask: &Ask) -> bool
 }
 
 pub fn is_of_protected(db: &Db, ask: &Ask) -> bool
-    ensures { result ≡ (option_map_or (model.is_protected db.now.facts) (asks.attribute_of_ask (ask_of ask.now)) false || model.adds_reserved_ident db.now.facts (ask_of ask.now)) }
+    ensures { result
+        ≡ (option_map_or (model.is_protected db.now.facts) (asks.attribute_of_ask (ask_of ask.now))
+        false
+        || model.adds_reserved_ident db.now.facts (ask_of ask.now)) }
 {
     attribute_of_ask(ask).is_some_and(|k| is_protected(db, k)) || adds_reserved_ident(db, ask)
 }
@@ -130,7 +134,8 @@ pub fn is_of_protected(db: &Db, ask: &Ask) -> bool
 // ---- wrong type
 
 fn is_wrong_part(attribute: &Attribute<'_>, part: &Operand) -> Result<bool, Memory>
-    ensures { IfOk result (λ b. b ≡ model.is_wrong_part (attribute_in attribute.now) (part_of part.now)) }
+    ensures { IfOk result
+        (λ b. b ≡ model.is_wrong_part (attribute_in attribute.now) (part_of part.now)) }
 {
     match part {
         Operand::Plain(f) => Ok(value_in(attribute.kind, f)?.is_none()),
@@ -139,7 +144,8 @@ fn is_wrong_part(attribute: &Attribute<'_>, part: &Operand) -> Result<bool, Memo
 }
 
 fn is_wrong_old_form(attribute: &Attribute<'_>, f: &Edn) -> Result<bool, Memory>
-    ensures { IfOk result (λ b. b ≡ model.is_wrong_old_part (attribute_in attribute.now) (asks.plain (form_of f.now))) }
+    ensures { IfOk result (λ b. b
+        ≡ model.is_wrong_old_part (attribute_in attribute.now) (asks.plain (form_of f.now))) }
 {
     match f {
         Edn::Nil => Ok(false),
@@ -148,7 +154,8 @@ fn is_wrong_old_form(attribute: &Attribute<'_>, f: &Edn) -> Result<bool, Memory>
 }
 
 fn is_wrong_old_part(attribute: &Attribute<'_>, part: &Operand) -> Result<bool, Memory>
-    ensures { IfOk result (λ b. b ≡ model.is_wrong_old_part (attribute_in attribute.now) (part_of part.now)) }
+    ensures { IfOk result
+        (λ b. b ≡ model.is_wrong_old_part (attribute_in attribute.now) (part_of part.now)) }
 {
     match part {
         Operand::Plain(f) => is_wrong_old_form(attribute, f),
@@ -157,7 +164,8 @@ fn is_wrong_old_part(attribute: &Attribute<'_>, part: &Operand) -> Result<bool, 
 }
 
 fn has_wrong_part(ask: &Ask, attribute: &Attribute<'_>) -> Result<bool, Memory>
-    ensures { IfOk result (λ b. b ≡ model.has_wrong_part (ask_of ask.now) (attribute_in attribute.now)) }
+    ensures { IfOk result
+        (λ b. b ≡ model.has_wrong_part (ask_of ask.now) (attribute_in attribute.now)) }
 {
     match ask {
         Ask::Adds(_, _, part) => is_wrong_part(attribute, part),
@@ -170,7 +178,9 @@ fn has_wrong_part(ask: &Ask, attribute: &Attribute<'_>) -> Result<bool, Memory>
 }
 
 fn has_wrong_value(db: &Db, ask: &Ask) -> Result<bool, Memory>
-    ensures { IfOk result (λ b. b ≡ option_map_or (model.has_wrong_part (ask_of ask.now)) (model.attribute_in db.now.facts (ask_of ask.now)) false) }
+    ensures { IfOk result (λ b. b
+        ≡ option_map_or (model.has_wrong_part (ask_of ask.now))
+        (model.attribute_in db.now.facts (ask_of ask.now)) false) }
 {
     let Some(k) = attribute_of_ask(ask) else {
         return Ok(false);
@@ -182,7 +192,10 @@ fn has_wrong_value(db: &Db, ask: &Ask) -> Result<bool, Memory>
 }
 
 pub fn has_wrong_type(alloc: Global, db: &Db, ask: &Ask) -> Result<bool, Memory>
-    ensures { IfOk result (λ b. b ≡ (option_map_or (model.has_wrong_part (ask_of ask.now)) (model.attribute_in db.now.facts (ask_of ask.now)) false || list_any (model.has_wrong_lookup db.now.facts) (asks.names_of (ask_of ask.now)))) }
+    ensures { IfOk result (λ b. b
+        ≡ (option_map_or (model.has_wrong_part (ask_of ask.now))
+        (model.attribute_in db.now.facts (ask_of ask.now)) false
+        || list_any (model.has_wrong_lookup db.now.facts) (asks.names_of (ask_of ask.now)))) }
 {
     Ok(
         has_wrong_value(db, ask)?
@@ -216,7 +229,8 @@ fn gives_one_of_two(
     ask: &Ask,
     name: &Name,
 ) -> Result<bool, Memory>
-    ensures { IfOk result (λ b. b ≡ model.gives_one_of_two db.now (asks_of all.now) (ask_of ask.now) (name_of name.now)) }
+    ensures { IfOk result (λ b. b
+        ≡ model.gives_one_of_two db.now (asks_of all.now) (ask_of ask.now) (name_of name.now)) }
 {
     if !is_tempid(name) {
         return Ok(false);
@@ -229,7 +243,9 @@ fn gives_one_of_two(
 }
 
 pub fn has_tempid_of_two(alloc: Global, db: &Db, all: &[Ask], ask: &Ask) -> Result<bool, Memory>
-    ensures { IfOk result (λ b. b ≡ list_any (model.gives_one_of_two db.now (asks_of all.now) (ask_of ask.now)) (asks.names_of (ask_of ask.now))) }
+    ensures { IfOk result (λ b. b
+        ≡ list_any (model.gives_one_of_two db.now (asks_of all.now) (ask_of ask.now))
+        (asks.names_of (ask_of ask.now))) }
 {
     let names = names_of(alloc, ask)?;
     for name in &names {
@@ -263,7 +279,8 @@ fn is_added_to(all: &[Ask], name: &Name) -> bool
 }
 
 pub fn has_tempid_of_none(alloc: Global, all: &[Ask], ask: &Ask) -> Result<bool, Memory>
-    ensures { IfOk result (λ b. b ≡ list_any (model.is_added_to_by_none (asks_of all.now)) (asks.names_of (ask_of ask.now))) }
+    ensures { IfOk result (λ b. b
+        ≡ list_any (model.is_added_to_by_none (asks_of all.now)) (asks.names_of (ask_of ask.now))) }
 {
     let names = names_of(alloc, ask)?;
     for name in &names {

@@ -55,7 +55,8 @@ fn is_broken_by(
     all: &[Ask],
     ask: &Ask,
 ) -> Result<bool, Memory>
-    ensures { IfOk result (λ b. b ≡ ask_breaks rule (transaction_of tx.now) (asks_of all.now) (ask_of ask.now)) }
+    ensures { IfOk result
+        (λ b. b ≡ ask_breaks rule (transaction_of tx.now) (asks_of all.now) (ask_of ask.now)) }
 {
     let db = &tx.db;
     match rule {
@@ -82,7 +83,8 @@ fn has_breaking_ask(
     all: &[Ask],
     asks: &[Ask],
 ) -> Result<bool, Memory>
-    ensures { IfOk result (λ b. b ≡ list_any (ask_breaks rule (transaction_of tx.now) (asks_of all.now)) (asks_of asks.now)) }
+    ensures { IfOk result (λ b. b
+        ≡ list_any (ask_breaks rule (transaction_of tx.now) (asks_of all.now)) (asks_of asks.now)) }
 {
     for ask in asks {
         if is_broken_by(alloc, rule, tx, all, ask)? {
@@ -103,7 +105,9 @@ fn asks_at(tx: &Transaction, place: usize) -> &[Ask]
 }
 
 fn asks_break(alloc: Global, rule: Reason, tx: &Transaction, place: usize) -> Result<bool, Memory>
-    ensures { IfOk result (λ b. b ≡ list_any (ask_breaks rule (transaction_of tx.now) (joined (ask_lists tx.now.asks.items))) (at (ask_lists tx.now.asks.items) place)) }
+    ensures { IfOk result (λ b. b
+        ≡ list_any (ask_breaks rule (transaction_of tx.now) (joined (ask_lists tx.now.asks.items)))
+        (at (ask_lists tx.now.asks.items) place)) }
 {
     let all = joined_asks(alloc, &tx.asks)?;
     has_breaking_ask(alloc, rule, tx, &all, asks_at(tx, place))
@@ -128,7 +132,8 @@ fn breaks(alloc: Global, rule: Reason, tx: &Transaction, place: usize) -> Result
 // ---- the first form, and the least rule
 
 fn first_form(alloc: Global, rule: Reason, tx: &Transaction) -> Result<Option<usize>, Memory>
-    ensures { IfOk result (λ place. place ≡ by_place (transaction_of tx.now) (breaks_at rule (transaction_of tx.now))) }
+    ensures { IfOk result (λ place. place
+        ≡ by_place (transaction_of tx.now) (breaks_at rule (transaction_of tx.now))) }
 {
     for place in 0..tx.asks.len() {
         if breaks(alloc, rule, tx, place)? {
@@ -151,7 +156,8 @@ fn first_place(alloc: Global, rule: Reason, tx: &Transaction) -> Result<Option<u
 
 /// The first of the rules that is broken, with the first form that breaks it.
 fn least_of(alloc: Global, tx: &Transaction, rules: &[Reason]) -> Result<Option<Refusal>, Memory>
-    ensures { IfOk result (λ refusal. refusal ≡ first_refusal (map (with_first (transaction_of tx.now)) rules.now)) }
+    ensures { IfOk result
+        (λ refusal. refusal ≡ first_refusal (map (with_first (transaction_of tx.now)) rules.now)) }
 {
     for rule in rules {
         if let Some(at) = first_place(alloc, *rule, tx)? {
@@ -163,7 +169,8 @@ fn least_of(alloc: Global, tx: &Transaction, rules: &[Reason]) -> Result<Option<
 
 /// Why the transaction is refused, if it is, where each of its forms has a shape.
 pub fn least_refusal(alloc: Global, tx: &Transaction) -> Result<Option<Refusal>, Memory>
-    ensures { IfOk result (λ refusal. refusal ≡ first_refusal (broken_rules (transaction_of tx.now))) }
+    ensures { IfOk result
+        (λ refusal. refusal ≡ first_refusal (broken_rules (transaction_of tx.now))) }
 {
     least_of(alloc, tx, &RULES)
 }

@@ -35,7 +35,8 @@ fn numbered(db: &Db, n: i64) -> Option<u64>
 }
 
 fn looked_up(db: &Db, k: &Text, value: &Edn) -> Result<Option<u64>, Memory>
-    ensures { IfOk result (λ e. e ≡ model.found db.now (model_asks.lookup k.now (form_of value.now))) }
+    ensures { IfOk result
+        (λ e. e ≡ model.found db.now (model_asks.lookup k.now (form_of value.now))) }
 {
     let Some(attribute) = attribute_named(db.facts(), k.as_str()) else {
         return Ok(None);
@@ -72,7 +73,8 @@ fn append(list: &mut Vec<Name>, more: Vec<Name>) -> Result<(), Memory>
 }
 
 fn all_names(alloc: Global, asks: &[Ask]) -> Result<Vec<Name>, Memory>
-    ensures { IfOk result (λ names. names_in names.items ≡ flat_map model_asks.names_of (asks_of asks.now)) }
+    ensures { IfOk result
+        (λ names. names_in names.items ≡ flat_map model_asks.names_of (asks_of asks.now)) }
 {
     let mut names = Vec::new(alloc);
     for ask in asks {
@@ -116,7 +118,8 @@ fn tempids_in(alloc: Global, asks: &[Ask]) -> Result<Vec<Name>, Memory>
 
 /// The holder of the value, where the attribute identifies entities.
 fn identity_holder(db: &Db, f: &Edn, attribute: &Attribute<'_>) -> Result<Option<u64>, Memory>
-    ensures { IfOk result (λ e. e ≡ model.identity_holder db.now (form_of f.now) (attribute_in attribute.now)) }
+    ensures { IfOk result
+        (λ e. e ≡ model.identity_holder db.now (form_of f.now) (attribute_in attribute.now)) }
 {
     if !is_identity(db.facts(), attribute.id) {
         return Ok(None);
@@ -134,7 +137,9 @@ fn identified_by(
     k: &Text,
     part: &Operand,
 ) -> Result<Option<u64>, Memory>
-    ensures { IfOk result (λ e. e ≡ model.identified db.now (name_of name.now) (model_asks.adds (name_of other.now) k.now (part_of part.now))) }
+    ensures { IfOk result (λ e. e
+        ≡ model.identified db.now (name_of name.now)
+        (model_asks.adds (name_of other.now) k.now (part_of part.now))) }
 {
     let Operand::Plain(f) = part else {
         return Ok(None);
@@ -159,7 +164,8 @@ pub fn identified(db: &Db, name: &Name, ask: &Ask) -> Result<Option<u64>, Memory
 }
 
 pub fn holders(alloc: Global, db: &Db, asks: &[Ask], name: &Name) -> Result<Vec<u64>, Memory>
-    ensures { IfOk result (λ es. es.items ≡ model.holders db.now (asks_of asks.now) (name_of name.now)) }
+    ensures { IfOk result
+        (λ es. es.items ≡ model.holders db.now (asks_of asks.now) (name_of name.now)) }
 {
     let mut es = Vec::new(alloc);
     for ask in asks {
@@ -175,7 +181,8 @@ pub fn holders(alloc: Global, db: &Db, asks: &[Ask], name: &Name) -> Result<Vec<
 fn push_next(pairs: &mut Vec<(Name, u64)>, name: &Name, n: u64, held: &[u64]) -> Result<u64, Memory>
     requires { n < 2 ^ 63 }
     ensures next { IfOk result (λ next. next ≡ next_after n held.now) }
-    ensures pair { IfOk result (λ _. pairs_of pairs.new.items ≡ pairs_of pairs.old.items ++ (name_of name.now, entity_for n held.now) ∷ []) }
+    ensures pair { IfOk result (λ _. pairs_of pairs.new.items
+        ≡ pairs_of pairs.old.items ++ (name_of name.now, entity_for n held.now) ∷ []) }
 {
     match held {
         [] => {
@@ -195,7 +202,9 @@ fn numbered_from(
     asks: &[Ask],
     names: &[Name],
 ) -> Result<Vec<(Name, u64)>, Memory>
-    ensures { IfOk result (λ pairs. pairs_of pairs.items ≡ model.number_from db.now (asks_of asks.now) (names_in names.now) (users_issued db.now.history)) }
+    ensures { IfOk result (λ pairs. pairs_of pairs.items
+        ≡ model.number_from db.now (asks_of asks.now) (names_in names.now)
+        (users_issued db.now.history)) }
 {
     let mut pairs = Vec::new(alloc);
     let mut n = db.users();
@@ -207,7 +216,8 @@ fn numbered_from(
 }
 
 pub fn assigned(alloc: Global, db: &Db, asks: &[Ask]) -> Result<Vec<(Name, u64)>, Memory>
-    ensures { IfOk result (λ pairs. pairs_of pairs.items ≡ model.assigned db.now (asks_of asks.now)) }
+    ensures { IfOk result
+        (λ pairs. pairs_of pairs.items ≡ model.assigned db.now (asks_of asks.now)) }
 {
     let names = tempids_in(alloc, asks)?;
     numbered_from(alloc, db, asks, &names)
@@ -226,7 +236,8 @@ fn assigned_to(pairs: &[(Name, u64)], name: &Name) -> Option<u64>
 
 /// The entity of a name under an assignment.
 pub fn entity_of(db: &Db, pairs: &[(Name, u64)], name: &Name) -> Result<Option<u64>, Memory>
-    ensures { IfOk result (λ e. e ≡ model.entity_of db.now (pairs_of pairs.now) (name_of name.now)) }
+    ensures { IfOk result
+        (λ e. e ≡ model.entity_of db.now (pairs_of pairs.now) (name_of name.now)) }
 {
     match name {
         Name::Tempid(s) if s.as_str() == OWN_TEMPID => {

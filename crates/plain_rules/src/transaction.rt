@@ -69,7 +69,8 @@ pub fn joined_asks(alloc: Global, lists: &[Vec<Ask>]) -> Result<Vec<Ask>, Memory
 }
 
 fn extend_asks(list: &mut Vec<Ask>, asks: &[Ask]) -> Result<(), Memory>
-    ensures { IfOk result (λ _. asks_of list.new.items ≡ asks_of list.old.items ++ asks_of asks.now) }
+    ensures { IfOk result
+        (λ _. asks_of list.new.items ≡ asks_of list.old.items ++ asks_of asks.now) }
 {
     for ask in asks {
         list.push(ask.copy()?)?;
@@ -122,7 +123,11 @@ fn all_asked(
     swept: &[Vec<Datom>],
     replaced: &[Vec<Datom>],
 ) -> Result<Vec<Datom>, Memory>
-    ensures { IfOk result (λ all. all.items ≡ model.joined (datom_lists added.now) ++ model.joined (datom_lists retracted.now) ++ model.joined (datom_lists swept.now) ++ model.joined (datom_lists replaced.now)) }
+    ensures { IfOk result (λ all. all.items
+        ≡ model.joined (datom_lists added.now)
+        ++ model.joined (datom_lists retracted.now)
+        ++ model.joined (datom_lists swept.now)
+        ++ model.joined (datom_lists replaced.now)) }
 {
     let mut asked = joined(alloc, added)?;
     append(&mut asked, joined(alloc, retracted)?)?;
@@ -142,7 +147,10 @@ fn with_changes(
     swept: Vec<Vec<Datom>>,
     replaced: Vec<Vec<Datom>>,
 ) -> Result<Transaction, Memory>
-    ensures { IfOk result (λ tx. transaction_of tx ≡ model.with_changes db (ask_lists asks.items) (pairs_of names.items) (datom_lists added.items) (datom_lists retracted.items) (datom_lists swept.items) (datom_lists replaced.items)) }
+    ensures { IfOk result (λ tx. transaction_of tx
+        ≡ model.with_changes db (ask_lists asks.items) (pairs_of names.items)
+        (datom_lists added.items) (datom_lists retracted.items) (datom_lists swept.items)
+        (datom_lists replaced.items)) }
 {
     let asked = all_asked(alloc, &added, &retracted, &swept, &replaced)?;
     let changes = changes_in(alloc, db.said(), &asked)?;
@@ -167,7 +175,8 @@ fn with_names(
     asks: Vec<Vec<Ask>>,
     names: Vec<(Name, u64)>,
 ) -> Result<Transaction, Memory>
-    ensures { IfOk result (λ tx. transaction_of tx ≡ model.with_names db (ask_lists asks.items) (pairs_of names.items)) }
+    ensures { IfOk result (λ tx. transaction_of tx
+        ≡ model.with_names db (ask_lists asks.items) (pairs_of names.items)) }
 {
     let added = of_forms(alloc, Kind::Additions, &db, &names, &asks)?;
     let retracted = of_forms(alloc, Kind::Retractions, &db, &names, &asks)?;

@@ -21,10 +21,30 @@ enum Component {
 
 fn parts_of(order: Order) -> [Component; 4] {
     match order {
-        Order::Eavt => [Component::Entity, Component::Attribute, Component::Value, Component::T],
-        Order::Aevt => [Component::Attribute, Component::Entity, Component::Value, Component::T],
-        Order::Avet => [Component::Attribute, Component::Value, Component::Entity, Component::T],
-        Order::Vaet => [Component::Value, Component::Attribute, Component::Entity, Component::T],
+        Order::Eavt => [
+            Component::Entity,
+            Component::Attribute,
+            Component::Value,
+            Component::T,
+        ],
+        Order::Aevt => [
+            Component::Attribute,
+            Component::Entity,
+            Component::Value,
+            Component::T,
+        ],
+        Order::Avet => [
+            Component::Attribute,
+            Component::Value,
+            Component::Entity,
+            Component::T,
+        ],
+        Order::Vaet => [
+            Component::Value,
+            Component::Attribute,
+            Component::Entity,
+            Component::T,
+        ],
     }
 }
 
@@ -47,7 +67,13 @@ impl Sight<'_> {
         Ok(probe)
     }
 
-    fn put(&self, probe: &mut Probe, part: Component, form: &Edn, at: usize) -> Result<(), ReadStop> {
+    fn put(
+        &self,
+        probe: &mut Probe,
+        part: Component,
+        form: &Edn,
+        at: usize,
+    ) -> Result<(), ReadStop> {
         match part {
             Component::Entity => probe.e = Some(or_refused(self.entity(form)?, BAD_COMPONENT, at)?),
             Component::Attribute => probe.a = Some(self.attribute(probe.order, form, at)?.id),

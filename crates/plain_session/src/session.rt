@@ -14,7 +14,7 @@ use fb_memory::Memory;
 use fb_model::{first_is_lawful, lawful_entries_make_lawful_histories};
 use fb_values::Entry;
 use plain_reads::{Window, basis};
-use plain_step::{Guard, NoGuard, Decision, step};
+use plain_step::{Decision, Guard, NoGuard, step};
 use std::alloc::Global;
 use std::marker::Model;
 use tx_model::an_accepted_entry_is_lawful;

@@ -13,4 +13,6 @@ outcome_of (Accepted entry tempids) = model.accepted entry tempids.items
 
 -- the step of forms of which each has a shape
 abbrev pub shaped_step : List Entry → List Form → ℤ → model.Guard → model.Decision
-shaped_step h fs reading guard = model.unless_refused h fs reading guard (model.first_refusal (model.broken_rules (transaction h fs)))
+shaped_step h fs reading guard =
+    model.unless_refused h fs reading guard
+    (model.first_refusal (model.broken_rules (transaction h fs)))

@@ -36,7 +36,11 @@ fn refused(reason: Reason, at: usize) -> Decision
 
 fn with_entry(alloc: Global, tx: &Transaction, reading: i64) -> Result<Decision, Memory>
     requires { history.last_instant tx.now.db.history <ℤ greatest_instant }
-    ensures { IfOk result (λ outcome. outcome_of outcome ≡ model.accepted (model.entry_of tx.now.db.history (transaction_of tx.now) (history.next_instant tx.now.db.history reading)) (tempids.named_tempids (transaction_of tx.now).names)) }
+    ensures { IfOk result (λ outcome. outcome_of outcome
+        ≡ model.accepted
+        (model.entry_of tx.now.db.history (transaction_of tx.now)
+        (history.next_instant tx.now.db.history reading))
+        (tempids.named_tempids (transaction_of tx.now).names)) }
 {
     let instant = next_instant(last_instant(tx.db.history()), reading);
     let datoms = recorded(alloc, tx, instant)?;
@@ -57,7 +61,9 @@ fn unless_barred<G: Guard>(
     guard: &G,
 ) -> Result<Decision, Memory>
     requires { history.last_instant tx.now.db.history <ℤ greatest_instant }
-    ensures { IfOk result (λ outcome. outcome_of outcome ≡ model.under_guard tx.now.db.history (transaction_of tx.now) reading (G.bars guard.now tx.now.db.history tx.now.changes.items)) }
+    ensures { IfOk result (λ outcome. outcome_of outcome
+        ≡ model.under_guard tx.now.db.history (transaction_of tx.now) reading
+        (G.bars guard.now tx.now.db.history tx.now.changes.items)) }
 {
     let barred = guard.judge(tx.db.history(), &tx.changes)?;
     match barred {
@@ -75,7 +81,8 @@ fn step_of_shaped<G: Guard>(
     guard: &G,
 ) -> Result<Decision, Memory>
     requires { IsLawful entries.now }
-    ensures { IfOk result (λ outcome. outcome_of outcome ≡ shaped_step entries.now (forms_of forms.now) reading (G.bars guard.now)) }
+    ensures { IfOk result (λ outcome. outcome_of outcome
+        ≡ shaped_step entries.now (forms_of forms.now) reading (G.bars guard.now)) }
 {
     let db = Db::of(alloc, entries)?;
     let asks = flat(alloc, db.facts(), forms)?;
@@ -96,7 +103,9 @@ fn step_of<G: Guard>(
     guard: &G,
 ) -> Result<Decision, Memory>
     requires { IsLawful entries.now }
-    ensures { IfOk result (λ outcome. outcome_of outcome ≡ model.unless_refused entries.now (forms_of forms.now) reading (G.bars guard.now) (model.refusal_of entries.now (forms_of forms.now))) }
+    ensures { IfOk result (λ outcome. outcome_of outcome
+        ≡ model.unless_refused entries.now (forms_of forms.now) reading (G.bars guard.now)
+        (model.refusal_of entries.now (forms_of forms.now))) }
 {
     let place = first_without_shape(alloc, forms)?;
     match place {
@@ -114,7 +123,8 @@ pub fn step<G: Guard>(
     guard: &G,
 ) -> Result<Decision, Memory>
     requires { IsLawful entries.now }
-    ensures { IfOk result (λ outcome. outcome_of outcome ≡ model.step entries.now (form_of asked.now) reading (G.bars guard.now)) }
+    ensures { IfOk result (λ outcome. outcome_of outcome
+        ≡ model.step entries.now (form_of asked.now) reading (G.bars guard.now)) }
 {
     match forms_in(asked) {
         Some(forms) => step_of(alloc, entries, forms, reading, guard),

@@ -83,7 +83,8 @@ pub fn is_string(f: &Edn) -> bool
 /// The keyword and the value of a vector of two whose first member is a keyword.
 #[tactic(auto, using(crate::proofs::FormMembers::lookup_of_others))]
 pub fn lookup_in(items: &Items) -> Option<(&Text, &Edn)>
-    ensures { option_map (λ pair. (pair.0.now, form_of pair.1.now)) result ≡ asks.lookup_in (edn.forms (forms_of (members items.now))) }
+    ensures { option_map (λ pair. (pair.0.now, form_of pair.1.now)) result
+        ≡ asks.lookup_in (edn.forms (forms_of (members items.now))) }
 {
     let [first, value] = items.as_slice() else {
         return None;

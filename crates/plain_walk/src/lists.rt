@@ -110,7 +110,9 @@ fn old_value_part(is_ref: bool, f: &Edn) -> Result<Operand, Memory>
 // ---- list forms
 
 fn add(alloc: Global, facts: &[Datom], e: &Edn, a: &Edn, v: &Edn) -> Result<Vec<Ask>, Memory>
-    ensures { IfOk result (λ list. asks_of list.items ≡ model.list_asks facts.now (Some shapes.add) (form_of e.now ∷ form_of a.now ∷ form_of v.now ∷ [])) }
+    ensures { IfOk result (λ list. asks_of list.items
+        ≡ model.list_asks facts.now (Some shapes.add)
+        (form_of e.now ∷ form_of a.now ∷ form_of v.now ∷ [])) }
 {
     let k = keyword_in(alloc, a)?;
     let part = value_part(has_ref(facts, k.as_str()), v)?;
@@ -118,7 +120,9 @@ fn add(alloc: Global, facts: &[Datom], e: &Edn, a: &Edn, v: &Edn) -> Result<Vec<
 }
 
 fn retract(alloc: Global, facts: &[Datom], e: &Edn, a: &Edn, v: &Edn) -> Result<Vec<Ask>, Memory>
-    ensures { IfOk result (λ list. asks_of list.items ≡ model.list_asks facts.now (Some shapes.retract) (form_of e.now ∷ form_of a.now ∷ form_of v.now ∷ [])) }
+    ensures { IfOk result (λ list. asks_of list.items
+        ≡ model.list_asks facts.now (Some shapes.retract)
+        (form_of e.now ∷ form_of a.now ∷ form_of v.now ∷ [])) }
 {
     let k = keyword_in(alloc, a)?;
     let part = old_value_part(has_ref(facts, k.as_str()), v)?;
@@ -126,7 +130,9 @@ fn retract(alloc: Global, facts: &[Datom], e: &Edn, a: &Edn, v: &Edn) -> Result<
 }
 
 fn retract_all(alloc: Global, e: &Edn, a: &Edn) -> Result<Vec<Ask>, Memory>
-    ensures { IfOk result (λ list. asks_of list.items ≡ asks.retracts_all (model.entity_in (form_of e.now)) (model.keyword_in (form_of a.now)) ∷ []) }
+    ensures { IfOk result (λ list. asks_of list.items
+        ≡ asks.retracts_all (model.entity_in (form_of e.now)) (model.keyword_in (form_of a.now))
+        ∷ []) }
 {
     let k = keyword_in(alloc, a)?;
     one(alloc, Ask::RetractsAll(entity_in(alloc, e)?, k))
@@ -140,7 +146,9 @@ fn compare(
     old: &Edn,
     new: &Edn,
 ) -> Result<Vec<Ask>, Memory>
-    ensures { IfOk result (λ list. asks_of list.items ≡ model.list_asks facts.now (Some shapes.cas) (form_of e.now ∷ form_of a.now ∷ form_of old.now ∷ form_of new.now ∷ [])) }
+    ensures { IfOk result (λ list. asks_of list.items
+        ≡ model.list_asks facts.now (Some shapes.cas)
+        (form_of e.now ∷ form_of a.now ∷ form_of old.now ∷ form_of new.now ∷ [])) }
 {
     let k = keyword_in(alloc, a)?;
     let old = old_value_part(has_ref(facts, k.as_str()), old)?;
@@ -150,7 +158,8 @@ fn compare(
 
 #[tactic(auto, using(crate::proofs::ListAsks::retract_of_others))]
 fn retract_asks(alloc: Global, facts: &[Datom], arguments: &[Edn]) -> Result<Vec<Ask>, Memory>
-    ensures { IfOk result (λ list. asks_of list.items ≡ model.list_asks facts.now (Some shapes.retract) (forms_of arguments.now)) }
+    ensures { IfOk result (λ list. asks_of list.items
+        ≡ model.list_asks facts.now (Some shapes.retract) (forms_of arguments.now)) }
 {
     match arguments {
         [e, a, v] => retract(alloc, facts, e, a, v),
@@ -166,7 +175,8 @@ fn list_asks(
     verb: Verb,
     arguments: &[Edn],
 ) -> Result<Vec<Ask>, Memory>
-    ensures { IfOk result (λ list. asks_of list.items ≡ model.list_asks facts.now (Some (verb_of verb)) (forms_of arguments.now)) }
+    ensures { IfOk result (λ list. asks_of list.items
+        ≡ model.list_asks facts.now (Some (verb_of verb)) (forms_of arguments.now)) }
 {
     match verb {
         Verb::Add => match arguments {
@@ -187,7 +197,8 @@ fn list_asks(
 
 /// What the list form asks.
 pub fn verb_asks(alloc: Global, facts: &[Datom], members: &[Edn]) -> Result<Vec<Ask>, Memory>
-    ensures { IfOk result (λ list. asks_of list.items ≡ model.verb_asks facts.now (forms_of members.now)) }
+    ensures { IfOk result
+        (λ list. asks_of list.items ≡ model.verb_asks facts.now (forms_of members.now)) }
 {
     let [first, arguments @ ..] = members else {
         return Ok(Vec::new(alloc));

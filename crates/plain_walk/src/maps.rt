@@ -18,7 +18,9 @@ use std::alloc::Global;
 
 /// The name that a pair of `:db/id` gives.
 fn named_by(alloc: Global, key: &Edn, value: &Edn) -> Result<Option<Name>, Memory>
-    ensures { IfOk result (λ name. (other : asks.Name) → unwrap_or (option_map name_of name) other ≡ model.named_by (asks.key_in (form_of key.now)) (form_of value.now) other) }
+    ensures { IfOk result (λ name. (other : asks.Name)
+        → unwrap_or (option_map name_of name) other
+        ≡ model.named_by (asks.key_in (form_of key.now)) (form_of value.now) other) }
 {
     match key_in(alloc, key)? {
         Key::Own => name_in(value),
@@ -28,7 +30,8 @@ fn named_by(alloc: Global, key: &Edn, value: &Edn) -> Result<Option<Name>, Memor
 
 /// The entity that the map names by `:db/id`, or its place.
 pub fn name_of_map(alloc: Global, path: &[usize], pairs: &Pairs) -> Result<Name, Memory>
-    ensures { IfOk result (λ name. name_of name ≡ model.name_of_map path.now (edn.pairs (pairs_of (entries pairs.now)))) }
+    ensures { IfOk result (λ name. name_of name
+        ≡ model.name_of_map path.now (edn.pairs (pairs_of (entries pairs.now)))) }
 {
     for (key, value) in pairs.as_slice() {
         if let Some(name) = named_by(alloc, key, value)? {
@@ -50,7 +53,8 @@ fn identifies(alloc: Global, facts: &[Datom], key: &Edn) -> Result<bool, Memory>
 
 /// Whether the map has `:db/id` or a unique attribute among its keys.
 fn has_identity(alloc: Global, facts: &[Datom], pairs: &Pairs) -> Result<bool, Memory>
-    ensures { IfOk result (λ b. b ≡ model.has_identity facts.now (edn.pairs (pairs_of (entries pairs.now)))) }
+    ensures { IfOk result
+        (λ b. b ≡ model.has_identity facts.now (edn.pairs (pairs_of (entries pairs.now)))) }
 {
     for (key, _) in pairs.as_slice() {
         if identifies(alloc, facts, key)? {
@@ -62,7 +66,8 @@ fn has_identity(alloc: Global, facts: &[Datom], pairs: &Pairs) -> Result<bool, M
 
 /// One value under a key: the map's entity has it, or the entity that is the value has the map's.
 pub fn links(alloc: Global, this: &Name, key: &Key, part: Operand) -> Result<Vec<Ask>, Memory>
-    ensures { IfOk result (λ list. asks_of list.items ≡ model.links (name_of this.now) (key_of key.now) (part_of part)) }
+    ensures { IfOk result (λ list. asks_of list.items
+        ≡ model.links (name_of this.now) (key_of key.now) (part_of part)) }
 {
     match key {
         Key::Own => Ok(Vec::new(alloc)),
@@ -72,14 +77,18 @@ pub fn links(alloc: Global, this: &Name, key: &Key, part: Operand) -> Result<Vec
                 alloc,
                 Ask::Adds(other, name.copy()?, Operand::Entity(this.copy()?)),
             ),
-            Operand::Plain(f) => one(alloc, Ask::Adds(this.copy()?, name.copy()?, Operand::Plain(f))),
+            Operand::Plain(f) => one(
+                alloc,
+                Ask::Adds(this.copy()?, name.copy()?, Operand::Plain(f)),
+            ),
         },
     }
 }
 
 /// A map inside another: the link, what it lacks, and then its own pairs.
 fn linked(alloc: Global, link: Ask, lacks: bool, inner: Vec<Ask>) -> Result<Vec<Ask>, Memory>
-    ensures { IfOk result (λ list. asks_of list.items ≡ ask_of link ∷ (model.need lacks ++ asks_of inner.items)) }
+    ensures { IfOk result
+        (λ list. asks_of list.items ≡ ask_of link ∷ (model.need lacks ++ asks_of inner.items)) }
 {
     let mut list = one(alloc, link)?;
     if lacks {
@@ -101,7 +110,9 @@ pub fn nested_asks(
     pairs: &Pairs,
     inner: Vec<Ask>,
 ) -> Result<Vec<Ask>, Memory>
-    ensures { IfOk result (λ list. asks_of list.items ≡ model.nested_asks facts.now (name_of this.now) (key_of key.now) (name_of name.now) (edn.pairs (pairs_of (entries pairs.now))) (asks_of inner.items)) }
+    ensures { IfOk result (λ list. asks_of list.items
+        ≡ model.nested_asks facts.now (name_of this.now) (key_of key.now) (name_of name.now)
+        (edn.pairs (pairs_of (entries pairs.now))) (asks_of inner.items)) }
 {
     match key {
         Key::Own => Ok(Vec::new(alloc)),
@@ -130,7 +141,8 @@ pub fn scalar_asks(
     key: &Key,
     f: &Edn,
 ) -> Result<Vec<Ask>, Memory>
-    ensures { IfOk result (λ list. asks_of list.items ≡ model.scalar_asks facts.now (name_of this.now) (key_of key.now) (form_of f.now)) }
+    ensures { IfOk result (λ list. asks_of list.items
+        ≡ model.scalar_asks facts.now (name_of this.now) (key_of key.now) (form_of f.now)) }
 {
     match key {
         Key::Own => Ok(Vec::new(alloc)),
@@ -143,7 +155,8 @@ pub fn scalar_asks(
 }
 
 fn lookup_part(k: &Text, value: &Edn) -> Result<Operand, Memory>
-    ensures { IfOk result (λ part. part_of part ≡ asks.entity (asks.lookup k.now (form_of value.now))) }
+    ensures { IfOk result
+        (λ part. part_of part ≡ asks.entity (asks.lookup k.now (form_of value.now))) }
 {
     Ok(Operand::Entity(Name::Lookup(k.copy()?, value.copy()?)))
 }
@@ -157,7 +170,10 @@ fn forward_asks(
     items: &Items,
     inner: Vec<Ask>,
 ) -> Result<Vec<Ask>, Memory>
-    ensures { IfOk result (λ list. asks_of list.items ≡ model.vector_asks facts.now (name_of this.now) (asks.forward name.now) (edn.forms (forms_of (members items.now))) (asks.lookup_in (edn.forms (forms_of (members items.now)))) (asks_of inner.items)) }
+    ensures { IfOk result (λ list. asks_of list.items
+        ≡ model.vector_asks facts.now (name_of this.now) (asks.forward name.now)
+        (edn.forms (forms_of (members items.now)))
+        (asks.lookup_in (edn.forms (forms_of (members items.now)))) (asks_of inner.items)) }
 {
     let is_ref = has_ref(facts, name.as_str());
     if let Some((k, value)) = lookup_in(items) {
@@ -184,7 +200,10 @@ pub fn vector_asks(
     items: &Items,
     inner: Vec<Ask>,
 ) -> Result<Vec<Ask>, Memory>
-    ensures { IfOk result (λ list. asks_of list.items ≡ model.vector_asks facts.now (name_of this.now) (key_of key.now) (edn.forms (forms_of (members items.now))) (asks.lookup_in (edn.forms (forms_of (members items.now)))) (asks_of inner.items)) }
+    ensures { IfOk result (λ list. asks_of list.items
+        ≡ model.vector_asks facts.now (name_of this.now) (key_of key.now)
+        (edn.forms (forms_of (members items.now)))
+        (asks.lookup_in (edn.forms (forms_of (members items.now)))) (asks_of inner.items)) }
 {
     match key {
         Key::Own => Ok(Vec::new(alloc)),
@@ -207,7 +226,9 @@ pub fn sequence_asks(
     f: &Edn,
     inner: Vec<Ask>,
 ) -> Result<Vec<Ask>, Memory>
-    ensures { IfOk result (λ list. asks_of list.items ≡ model.sequence_asks facts.now (name_of this.now) (key_of key.now) (form_of f.now) (asks_of inner.items)) }
+    ensures { IfOk result (λ list. asks_of list.items
+        ≡ model.sequence_asks facts.now (name_of this.now) (key_of key.now) (form_of f.now)
+        (asks_of inner.items)) }
 {
     match key {
         Key::Own => Ok(Vec::new(alloc)),
@@ -225,7 +246,8 @@ pub fn sequence_asks(
 }
 
 fn mentioned(alloc: Global, name: &Text, values: Vec<Ask>) -> Result<Vec<Ask>, Memory>
-    ensures { IfOk result (λ list. asks_of list.items ≡ asks.mentions name.now ∷ asks_of values.items) }
+    ensures { IfOk result
+        (λ list. asks_of list.items ≡ asks.mentions name.now ∷ asks_of values.items) }
 {
     let mut list = one(alloc, Ask::Mentions(name.copy()?))?;
     append(&mut list, values)?;
@@ -240,7 +262,8 @@ pub fn pair_asks(
     key: &Key,
     values: Vec<Ask>,
 ) -> Result<Vec<Ask>, Memory>
-    ensures { IfOk result (λ list. asks_of list.items ≡ model.pair_asks facts.now (name_of this.now) (key_of key.now) (asks_of values.items)) }
+    ensures { IfOk result (λ list. asks_of list.items
+        ≡ model.pair_asks facts.now (name_of this.now) (key_of key.now) (asks_of values.items)) }
 {
     match key {
         Key::Own => Ok(Vec::new(alloc)),

@@ -67,7 +67,8 @@ fn has_pair_shape(alloc: Global, key: &Edn, value: &Edn) -> Result<bool, Memory>
 #[cycle(shape)]
 #[tactic(auto, using(crate::proofs::ShapeRules::empty_map_shape))]
 fn has_map_shape(alloc: Global, pairs: &Pairs) -> Result<bool, Memory>
-    ensures { IfOk result (λ b. b ≡ model.has_map_shape (edn.pairs (pairs_of (entries pairs.now)))) }
+    ensures { IfOk result
+        (λ b. b ≡ model.has_map_shape (edn.pairs (pairs_of (entries pairs.now)))) }
 {
     if pairs.is_empty() {
         return Ok(false);
@@ -99,7 +100,8 @@ fn has_value_shape(alloc: Global, f: &Edn) -> Result<bool, Memory>
 
 #[cycle(shape)]
 fn have_member_shape(alloc: Global, items: &Items) -> Result<bool, Memory>
-    ensures { IfOk result (λ b. b ≡ model.have_member_shape (edn.forms (forms_of (members items.now)))) }
+    ensures { IfOk result
+        (λ b. b ≡ model.have_member_shape (edn.forms (forms_of (members items.now)))) }
 {
     for f in items.as_slice() {
         if !has_member_shape(alloc, f)? {

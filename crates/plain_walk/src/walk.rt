@@ -27,7 +27,9 @@ fn map_asks(
     path: &[usize],
     pairs: &Pairs,
 ) -> Result<Vec<Ask>, Memory>
-    ensures { IfOk result (λ list. asks_of list.items ≡ model.map_asks facts.now (name_of this.now) path.now 0 (edn.pairs (pairs_of (entries pairs.now)))) }
+    ensures { IfOk result (λ list. asks_of list.items
+        ≡ model.map_asks facts.now (name_of this.now) path.now 0
+        (edn.pairs (pairs_of (entries pairs.now)))) }
 {
     let mut list = Vec::new(alloc);
     let mut n = 0;
@@ -51,7 +53,8 @@ fn value_asks(
     path: &[usize],
     f: &Edn,
 ) -> Result<Vec<Ask>, Memory>
-    ensures { IfOk result (λ list. asks_of list.items ≡ model.value_asks facts.now (name_of this.now) (key_of key.now) path.now (form_of f.now)) }
+    ensures { IfOk result (λ list. asks_of list.items
+        ≡ model.value_asks facts.now (name_of this.now) (key_of key.now) path.now (form_of f.now)) }
 {
     match f {
         Edn::Map(pairs) => {
@@ -82,7 +85,9 @@ fn members_asks(
     path: &[usize],
     items: &Items,
 ) -> Result<Vec<Ask>, Memory>
-    ensures { IfOk result (λ list. asks_of list.items ≡ model.members_asks facts.now (name_of this.now) (key_of key.now) path.now 0 (edn.forms (forms_of (members items.now)))) }
+    ensures { IfOk result (λ list. asks_of list.items
+        ≡ model.members_asks facts.now (name_of this.now) (key_of key.now) path.now 0
+        (edn.forms (forms_of (members items.now)))) }
 {
     let mut list = Vec::new(alloc);
     let mut n = 0;
@@ -104,7 +109,9 @@ fn member_asks(
     path: &[usize],
     f: &Edn,
 ) -> Result<Vec<Ask>, Memory>
-    ensures { IfOk result (λ list. asks_of list.items ≡ model.member_asks facts.now (name_of this.now) (key_of key.now) path.now (form_of f.now)) }
+    ensures { IfOk result (λ list. asks_of list.items
+        ≡ model.member_asks facts.now (name_of this.now) (key_of key.now) path.now
+        (form_of f.now)) }
 {
     match f {
         Edn::Map(pairs) => {
@@ -123,7 +130,8 @@ fn member_asks(
 /// What the form at the place asks, by the facts before the transaction.
 #[tactic(auto, using(crate::proofs::FormMembers::items_forms))]
 fn form_asks(alloc: Global, facts: &[Datom], place: usize, f: &Edn) -> Result<Vec<Ask>, Memory>
-    ensures { IfOk result (λ list. asks_of list.items ≡ model.form_asks facts.now place (form_of f.now)) }
+    ensures { IfOk result
+        (λ list. asks_of list.items ≡ model.form_asks facts.now place (form_of f.now)) }
 {
     match f {
         Edn::Vector(items) => verb_asks(alloc, facts, items.as_slice()),
@@ -141,7 +149,8 @@ fn form_asks(alloc: Global, facts: &[Datom], place: usize, f: &Edn) -> Result<Ve
 
 /// What each form of a transaction asks.
 pub fn flat(alloc: Global, facts: &[Datom], forms: &[Edn]) -> Result<Vec<Vec<Ask>>, Memory>
-    ensures { IfOk result (λ lists. ask_lists lists.items ≡ model.flat facts.now (forms_of forms.now)) }
+    ensures { IfOk result
+        (λ lists. ask_lists lists.items ≡ model.flat facts.now (forms_of forms.now)) }
 {
     let mut lists = Vec::new(alloc);
     let mut place = 0;

@@ -11,10 +11,12 @@ pub told_is_left : (d : AnyDisk) → WhereTold (told_of d) (may_leave d)
 told_is_left (File faults) = λ file told. tt
 told_is_left (InMemory d) = leaves_told d.changes d.first
 
-pub left_at_moment : (d : AnyDisk) (t : ℕ) (image : List ℕ) → t ≤ moment_at d → may_leave d image → may_have_left d t image
+pub left_at_moment : (d : AnyDisk) (t : ℕ) (image : List ℕ) → t ≤ moment_at d → may_leave d image
+    → may_have_left d t image
 left_at_moment (File faults) t image le left = tt
 left_at_moment (InMemory d) t image le left = left_since-now d.first d.changes t image le left
 
-pub left_no_later : (d : AnyDisk) (image : List ℕ) → may_have_left d (moment_at d) image → may_leave d image
+pub left_no_later : (d : AnyDisk) (image : List ℕ) → may_have_left d (moment_at d) image
+    → may_leave d image
 left_no_later (File faults) image left = tt
 left_no_later (InMemory d) image left = left_now d.first d.changes image left

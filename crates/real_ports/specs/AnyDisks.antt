@@ -39,7 +39,10 @@ held_in dir part = if is_memory dir then Some [] else None
 
 -- what it hands out: there an empty disk with 128 MiB of room, and a file elsewhere
 abbrev pub opened_in : List ℕ → AnyDisk
-opened_in dir = if is_memory dir then InMemory (record { first = []; changes = []; room = 134217728; calls = no_calls [] }) else File 0
+opened_in dir =
+    if is_memory dir
+    then InMemory (record { first = []; changes = []; room = 134217728; calls = no_calls [] })
+    else File 0
 
 -- and which images it tells: those of the disk that it hands out
 abbrev pub may_leave_in : List ℕ → Part → List ℕ → Type 0

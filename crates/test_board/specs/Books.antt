@@ -24,7 +24,11 @@ IsSoundBook entries halt = (h : Halt) → halt ≡ Some h → h.at ≡ length en
 
 -- the seat has the turn, and this book out of its slot
 abbrev pub HasBook : View Code → List ℕ → List ℕ → Option Halt → Type 0
-HasBook v entries authors halt = (v.turn ≡ Some (story (codes coded_ℕ.code entries) authors (marks_of_book halt))) × (v.core ≡ Away) × (v.next ≡ None) × (v.grab ≡ Free)
+HasBook v entries authors halt =
+    (v.turn ≡ Some (story (codes coded_ℕ.code entries) authors (marks_of_book halt)))
+    × (v.core ≡ Away)
+    × (v.next ≡ None)
+    × (v.grab ≡ Free)
 
 -- the seat has the number that it had, and counts for as many seats
 abbrev pub IsSameSeat : View Code → View Code → Type 0

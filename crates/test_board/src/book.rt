@@ -93,7 +93,10 @@ impl Mailed for Page {
 
 impl Book {
     pub fn new(alloc: Global, serial: u32, first: u32) -> Result<Book, Memory>
-        ensures { IfOk result (λ b. (b.serial ≡ serial) × (b.entries.items ≡ first ∷ []) × (b.authors.items ≡ []) × (b.halt ≡ None)) }
+        ensures { IfOk result (λ b. (b.serial ≡ serial)
+            × (b.entries.items ≡ first ∷ [])
+            × (b.authors.items ≡ [])
+            × (b.halt ≡ None)) }
     {
         let mut entries = Vec::new(alloc);
         entries.push(first)?;
@@ -108,8 +111,11 @@ impl Book {
     /// Adds a number of this author. Where memory is short the book is as it was.
     pub fn add(&mut self, value: u32, author: u32) -> Result<(), Memory>
         requires room { length self.old.entries.items < 4294967296 }
-        ensures added { IfOk result (λ _. (self.new.entries.items ≡ self.old.entries.items ++ value ∷ []) × (self.new.authors.items ≡ self.old.authors.items ++ author ∷ [])) }
-        ensures same { IfErr result (λ _. (self.new.entries.items ≡ self.old.entries.items) × (self.new.authors.items ≡ self.old.authors.items)) }
+        ensures added { IfOk result (λ _. (self.new.entries.items
+            ≡ self.old.entries.items ++ value ∷ [])
+            × (self.new.authors.items ≡ self.old.authors.items ++ author ∷ [])) }
+        ensures same { IfErr result (λ _. (self.new.entries.items ≡ self.old.entries.items)
+            × (self.new.authors.items ≡ self.old.authors.items)) }
         ensures rest { (self.new.halt ≡ self.old.halt) × (self.new.serial ≡ self.old.serial) }
     {
         let before = self.entries.len();
@@ -137,7 +143,8 @@ impl Page {
     /// That many pages of these numbers.
     pub fn copies(alloc: Global, count: usize, entries: &[u32]) -> Result<Vec<Page>, Memory>
         requires { (0 < length entries.now) × (length entries.now ≤ 4294967296) }
-        ensures { IfOk result (λ ps. (length ps.items ≡ count) × All (λ p. p.entries.items ≡ entries.now) ps.items) }
+        ensures { IfOk result
+            (λ ps. (length ps.items ≡ count) × All (λ p. p.entries.items ≡ entries.now) ps.items) }
     {
         let mut pages = Vec::new(alloc);
         for _ in 0..count {
@@ -154,7 +161,8 @@ impl Page {
         more: u32,
     ) -> Result<Vec<Page>, Memory>
         requires { length entries.now < 4294967296 }
-        ensures { IfOk result (λ ps. (length ps.items ≡ count) × All (λ p. p.entries.items ≡ entries.now ++ more ∷ []) ps.items) }
+        ensures { IfOk result (λ ps. (length ps.items ≡ count)
+            × All (λ p. p.entries.items ≡ entries.now ++ more ∷ []) ps.items) }
     {
         let mut all = Vec::from_slice(alloc, entries)?;
         all.push(more)?;

@@ -36,7 +36,10 @@ fn read_mail(board: &Board<Book, Page>, worker: &mut Worker) -> Result<(), Memor
     requires idle { IsIdle (view_of worker.old.seat) }
     ensures seat { board_of worker.new.seat ≡ board_of worker.old.seat }
     ensures idle { IsIdle (view_of worker.new.seat) }
-    ensures rest { ((view_of worker.new.seat).draws ≡ (view_of worker.old.seat).draws) × IsSameSeat (view_of worker.old.seat) (view_of worker.new.seat) × (worker.new.base ≡ worker.old.base) × (worker.new.rounds ≡ worker.old.rounds) }
+    ensures rest { ((view_of worker.new.seat).draws ≡ (view_of worker.old.seat).draws)
+        × IsSameSeat (view_of worker.old.seat) (view_of worker.new.seat)
+        × (worker.new.base ≡ worker.old.base)
+        × (worker.new.rounds ≡ worker.old.rounds) }
 {
     if let Mail::Fresh(page) = peek(board, &mut worker.seat)? {
         let length = page.entries.len();
@@ -63,7 +66,10 @@ fn work_once<R: Wait>(
     requires value { value < 1000000 }
     ensures seat { board_of worker.new.seat ≡ board_of worker.old.seat }
     ensures idle { IsIdle (view_of worker.new.seat) }
-    ensures rest { ((view_of worker.new.seat).draws ≡ (view_of worker.old.seat).draws + 1) × IsSameSeat (view_of worker.old.seat) (view_of worker.new.seat) × (worker.new.base ≡ worker.old.base) × (worker.new.rounds ≡ worker.old.rounds) }
+    ensures rest { ((view_of worker.new.seat).draws ≡ (view_of worker.old.seat).draws + 1)
+        × IsSameSeat (view_of worker.old.seat) (view_of worker.new.seat)
+        × (worker.new.base ≡ worker.old.base)
+        × (worker.new.rounds ≡ worker.old.rounds) }
 {
     let outcome = round(alloc, rt, board, &mut worker.seat, value);
     if let Ok(true) = outcome
@@ -101,8 +107,12 @@ fn hire(
     requires first { ((view_of first.old).number ≡ worker) × ((view_of first.old).given ≡ 0) }
     requires few { (count ≤ 16) × (rounds ≤ 10000) }
     ensures seat { board_of first.new ≡ board_of first.old }
-    ensures given { IfOk result (λ ws. view_of first.new ≡ record (view_of first.old) { given = count }) }
-    ensures workers { IfOk result (λ ws. (length ws.items ≡ count) × All (λ w. (board_of w.seat ≡ board.now.table.shared.table_id) × IsHired count (view_of w.seat)) ws.items) }
+    ensures given { IfOk result
+        (λ ws. view_of first.new ≡ record (view_of first.old) { given = count }) }
+    ensures workers { IfOk result (λ ws. (length ws.items ≡ count)
+        × All
+        (λ w. (board_of w.seat ≡ board.now.table.shared.table_id) × IsHired count (view_of w.seat))
+        ws.items) }
 {
     let mut workers = Vec::new(alloc);
     for i in 0..count {
@@ -136,16 +146,23 @@ fn work_all<R: Threads + Wait + Sync>(
     threads: usize,
 )
     requires threads { 0 < threads }
-    requires workers { All (λ w. (board_of w.seat ≡ board.now.table.shared.table_id) × IsHired board.now.table.shared.key.sessions (view_of w.seat)) workers.old }
-    ensures { All (λ w. (board_of w.seat ≡ board.now.table.shared.table_id) × IsDone (view_of w.seat)) workers.new }
+    requires workers { All
+        (λ w. (board_of w.seat ≡ board.now.table.shared.table_id)
+        × IsHired board.now.table.shared.key.sessions (view_of w.seat))
+        workers.old }
+    ensures { All
+        (λ w. (board_of w.seat ≡ board.now.table.shared.table_id) × IsDone (view_of w.seat))
+        workers.new }
 {
     thread::for_each_mut(
         rt,
         workers,
         threads,
         &|_, worker: &mut Worker|
-            requires { (board_of worker.old.seat ≡ board.now.table.shared.table_id) × IsHired board.now.table.shared.key.sessions (view_of worker.old.seat) }
-            ensures { (board_of worker.new.seat ≡ board.entry.now.table.shared.table_id) × IsDone (view_of worker.new.seat) }
+            requires { (board_of worker.old.seat ≡ board.now.table.shared.table_id)
+                × IsHired board.now.table.shared.key.sessions (view_of worker.old.seat) }
+            ensures { (board_of worker.new.seat ≡ board.entry.now.table.shared.table_id)
+                × IsDone (view_of worker.new.seat) }
         { work(alloc, rt, board, worker) },
     );
 }
@@ -154,10 +171,14 @@ fn work_all<R: Threads + Wait + Sync>(
 fn gather(board: &Board<Book, Page>, first: &mut BoardSeat, mut workers: Vec<Worker>) -> (u64, bool)
     requires seat { board_of first.old ≡ board.now.table.shared.table_id }
     requires idle { IsIdle (view_of first.old) }
-    requires workers { All (λ w. (board_of w.seat ≡ board.now.table.shared.table_id) × IsDone (view_of w.seat)) workers.items }
+    requires workers { All
+        (λ w. (board_of w.seat ≡ board.now.table.shared.table_id) × IsDone (view_of w.seat))
+        workers.items }
     ensures seat { board_of first.new ≡ board_of first.old }
     ensures idle { IsIdle (view_of first.new) }
-    ensures rest { ((view_of first.new).number ≡ (view_of first.old).number) × ((view_of first.new).given ≡ (view_of first.old).given) × ((view_of first.new).seats ≡ (view_of first.old).seats + length workers.items) }
+    ensures rest { ((view_of first.new).number ≡ (view_of first.old).number)
+        × ((view_of first.new).given ≡ (view_of first.old).given)
+        × ((view_of first.new).seats ≡ (view_of first.old).seats + length workers.items) }
 {
     let (mut added, mut fell) = (0u64, false);
     while let Some(worker) = workers.pop() {
@@ -183,9 +204,13 @@ pub fn open(
     sessions: u32,
 ) -> Result<(Board<Book, Page>, BoardSeat), Memory>
     requires { sessions ≤ 16 }
-    ensures board { IfOk result (λ r. (board_of r.1 ≡ r.0.table.shared.table_id) × (r.0.table.shared.key.sessions ≡ sessions)) }
+    ensures board { IfOk result (λ r. (board_of r.1 ≡ r.0.table.shared.table_id)
+        × (r.0.table.shared.key.sessions ≡ sessions)) }
     ensures serial { IfOk result (λ r. r.0.table.shared.key.home.value.serial ≡ serial) }
-    ensures seat { IfOk result (λ r. IsIdle (view_of r.1) × ((view_of r.1).number ≡ worker) × ((view_of r.1).given ≡ 0) × ((view_of r.1).seats ≡ 1)) }
+    ensures seat { IfOk result (λ r. IsIdle (view_of r.1)
+        × ((view_of r.1).number ≡ worker)
+        × ((view_of r.1).given ≡ 0)
+        × ((view_of r.1).seats ≡ 1)) }
 {
     let pages = Page::copies(alloc, sessions as usize, &[0])?;
     Board::new(alloc, Book::new(alloc, serial, 0)?, 0, Mails::of(pages))
@@ -200,7 +225,9 @@ pub fn run<R: Threads + Wait + Sync>(
     rounds: u32,
 ) -> Result<Report, Memory>
     requires { (0 < count) × (count ≤ 16) × (rounds ≤ 10000) }
-    ensures { IfOk result (λ r. IsLawful (λ l e. e < 1000000) r.book.entries.items × IsSoundBook r.book.entries.items r.book.halt × (r.book.serial ≡ serial)) }
+    ensures { IfOk result (λ r. IsLawful (λ l e. e < 1000000) r.book.entries.items
+        × IsSoundBook r.book.entries.items r.book.halt
+        × (r.book.serial ≡ serial)) }
 {
     let (board, mut first) = open(alloc, serial, count)?;
     let mut workers = hire(alloc, &board, &mut first, count, rounds)?;

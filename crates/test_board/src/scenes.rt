@@ -93,7 +93,8 @@ fn read<R: Wait>(
     ensures seat { board_of seat.new ≡ board_of seat.old }
     ensures idle { IsIdle (view_of seat.new) }
     ensures seen { IfOk result (λ p. (view_of seat.new).seen ≡ codes coded_ℕ.code p.entries.items) }
-    ensures rest { ((view_of seat.new).draws ≡ (view_of seat.old).draws + 1) × IsSameSeat (view_of seat.old) (view_of seat.new) }
+    ensures rest { ((view_of seat.new).draws ≡ (view_of seat.old).draws + 1)
+        × IsSameSeat (view_of seat.old) (view_of seat.new) }
 {
     let held = begin(rt, board, seat);
     let page = Page::of(alloc, held.home.entries.as_slice());
@@ -113,7 +114,8 @@ pub struct Readings {
 /// Each of two seats adds a number, reads the book, and is joined to the first one, before the other begins.
 pub fn two_readings<R: Wait>(alloc: Global, rt: &R, serial: u32) -> Result<Readings, Memory>
     ensures serial { IfOk result (λ r. r.book.serial ≡ serial) }
-    ensures readings { IfOk result (λ r. StartsWith r.book.entries.items r.first.entries.items × StartsWith r.book.entries.items r.second.entries.items) }
+    ensures readings { IfOk result (λ r. StartsWith r.book.entries.items r.first.entries.items
+        × StartsWith r.book.entries.items r.second.entries.items) }
 {
     let (board, mut keeper) = open(alloc, serial, 2)?;
     let mut one = step_split(&board, &mut keeper);

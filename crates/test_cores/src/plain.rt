@@ -9,7 +9,7 @@ use anyhow::{Result, bail};
 use fb_history::EntryList;
 use fb_model::{first_is_lawful, lawful_entries_make_lawful_histories};
 use fb_values::Entry;
-use plain_step::{NoGuard, Decision, step};
+use plain_step::{Decision, NoGuard, step};
 use std::alloc::Global;
 use tx_model::an_accepted_entry_is_lawful;
 

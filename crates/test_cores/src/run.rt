@@ -30,7 +30,8 @@ impl Model for Run {
 
     ghost view = { λ run. run.core };
 
-    ghost invariant = { λ run. upto run.core.snapshot.entries (basis run.begin.entries) ≡ run.begin.entries };
+    ghost invariant = { λ run. upto run.core.snapshot.entries (basis run.begin.entries)
+        ≡ run.begin.entries };
 }
 
 impl Run {

@@ -11,7 +11,8 @@ use Rattle.fb_model.specs.Laws.{has_no_other_holder}
 
 -- each entity has one value of the attribute at most
 abbrev pub gives_one_value : List Datom → ℕ → Bool
-gives_one_value facts a = list_all (λ d. not (nat_eq d.a a) || nat_le (length (values_of facts d.e d.a)) 1) facts
+gives_one_value facts a =
+    list_all (λ d. not (nat_eq d.a a) || nat_le (length (values_of facts d.e d.a)) 1) facts
 
 -- each value of the attribute has one entity at most
 abbrev pub gives_one_holder : List Datom → ℕ → Bool
@@ -20,12 +21,14 @@ gives_one_holder facts a = list_all (λ d. not (nat_eq d.a a) || has_no_other_ho
 -- no two of the facts of an attribute are of one entity
 abbrev pub are_of_other_entities : List Datom → Bool
 are_of_other_entities [] = true
-are_of_other_entities (d ∷ ds) = not (list_any (λ other. nat_eq other.e d.e) ds) && are_of_other_entities ds
+are_of_other_entities (d ∷ ds) =
+    not (list_any (λ other. nat_eq other.e d.e) ds) && are_of_other_entities ds
 
 -- no two have one value
 abbrev pub are_of_other_values : List Datom → Bool
 are_of_other_values [] = true
-are_of_other_values (d ∷ ds) = not (list_any (λ other. value_eq other.v d.v) ds) && are_of_other_values ds
+are_of_other_values (d ∷ ds) =
+    not (list_any (λ other. value_eq other.v d.v) ds) && are_of_other_values ds
 
 -- the set has the values of the datoms
 abbrev pub HasValues : BTreeSet Value → List Datom → Type 0

@@ -20,7 +20,8 @@ triple_cmp order x y = key_cmp order (without_t x) (without_t y)
 -- each triple is below all triples behind it
 abbrev pub triples_rise : Order → List Datom → Bool
 triples_rise order [] = true
-triples_rise order (d ∷ ds) = list_all (λ other. is_lt (triple_cmp order d other)) ds && triples_rise order ds
+triples_rise order (d ∷ ds) =
+    list_all (λ other. is_lt (triple_cmp order d other)) ds && triples_rise order ds
 
 -- none of the datoms is of the triple of the one
 abbrev pub is_untold : List Datom → Datom → Bool
@@ -31,4 +32,5 @@ is_added d = d.added
 
 -- the facts before of which no change tells, and the additions
 abbrev pub with_changes : Order → List Datom → List Datom → List Datom
-with_changes order before changes = in_order order (filter (is_untold changes) before ++ filter is_added changes)
+with_changes order before changes =
+    in_order order (filter (is_untold changes) before ++ filter is_added changes)

@@ -18,7 +18,8 @@ use fb_values::{Datom, Value};
 
 /// The entity as an attribute, if it has an ident, a type and a cardinality.
 pub fn attribute_of(facts: &[Datom], e: u64) -> Result<Option<Attribute>, Memory>
-    ensures { IfOk result (λ found. option_map attribute_in found ≡ schema.attribute_of facts.now e) }
+    ensures { IfOk result
+        (λ found. option_map attribute_in found ≡ schema.attribute_of facts.now e) }
 {
     let (Some(name), Some(kind), Some(count)) = (
         keyword_of(facts, e, IDENT),

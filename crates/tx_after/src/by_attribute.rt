@@ -38,7 +38,8 @@ impl ByAttribute {
 
 /// Puts the change behind those of its attribute.
 fn put(alloc: Global, parts: &mut BTreeMap<u64, Vec<Datom>>, d: Datom) -> Result<(), Memory>
-    ensures { OnOk result ((a : ℕ) → part_at parts.new a ≡ part_at parts.old a ++ cond (nat_eq d.a a) (d ∷ []) []) }
+    ensures { OnOk result
+        ((a : ℕ) → part_at parts.new a ≡ part_at parts.old a ++ cond (nat_eq d.a a) (d ∷ []) []) }
 {
     let a = d.a;
     let mut part = parts.remove(&a).unwrap_or(Vec::new(alloc));

@@ -27,7 +27,8 @@ pub fn attribute_after<F: Facts>(
 ) -> Result<Option<Attribute>, Memory>
     requires lawful { IsLawful (F.history facts.now) }
     requires changes { model.AreChanges changes.now }
-    ensures { IfOk result (λ found. option_map attribute_in found ≡ schema.attribute_of (model.after (F.history facts.now) changes.now) e) }
+    ensures { IfOk result (λ found. option_map attribute_in found
+        ≡ schema.attribute_of (model.after (F.history facts.now) changes.now) e) }
 {
     let said = said_of(alloc, facts, changes, e)?;
     attribute_of(&said, e)
@@ -42,7 +43,8 @@ pub fn is_whole_after<F: Facts>(
 ) -> Result<bool, Memory>
     requires lawful { IsLawful (F.history facts.now) }
     requires changes { model.AreChanges changes.now }
-    ensures { IfOk result (λ whole. whole ≡ schema.is_whole (model.after (F.history facts.now) changes.now) e) }
+    ensures { IfOk result
+        (λ whole. whole ≡ schema.is_whole (model.after (F.history facts.now) changes.now) e) }
 {
     let said = said_of(alloc, facts, changes, e)?;
     is_whole(&said, e)
@@ -57,7 +59,9 @@ fn said_of<F: Facts>(
     e: u64,
 ) -> Result<Vec<Datom>, Memory>
     requires { model.AreChanges changes.now }
-    ensures { IfOk result (λ said. said.items ≡ filter (is_untold changes.now) (told.facts_of (F.history facts.now) e) ++ filter is_added (filter (told.is_of_entity e) changes.now)) }
+    ensures { IfOk result (λ said. said.items
+        ≡ filter (is_untold changes.now) (told.facts_of (F.history facts.now) e)
+        ++ filter is_added (filter (told.is_of_entity e) changes.now)) }
 {
     let before = facts.facts_of(e)?;
     let mut said = untold(alloc, before.as_slice(), changes)?;

@@ -22,7 +22,8 @@ pub fn facts_of<F: Facts>(
     e: u64,
 ) -> Result<Vec<Datom>, Memory>
     requires { model.AreChanges changes.now }
-    ensures { IfOk result (λ list. list.items ≡ model.facts_of (F.history facts.now) changes.now e) }
+    ensures { IfOk result
+        (λ list. list.items ≡ model.facts_of (F.history facts.now) changes.now e) }
 {
     let before = facts.facts_of(e)?;
     merged(alloc, Order::Eavt, before.as_slice(), part_of(changes, e))
@@ -38,7 +39,8 @@ pub fn facts_under<F: Facts>(
 ) -> Result<Vec<Datom>, Memory>
     requires changes { model.AreChanges changes.now }
     requires parts { AreByAttribute by_attribute.now.parts changes.now }
-    ensures { IfOk result (λ list. list.items ≡ model.facts_under (F.history facts.now) changes.now a) }
+    ensures { IfOk result
+        (λ list. list.items ≡ model.facts_under (F.history facts.now) changes.now a) }
 {
     let before = facts.facts_under(a)?;
     merged(alloc, Order::Aevt, before.as_slice(), by_attribute.under(a))
@@ -53,14 +55,16 @@ pub fn values_of<F: Facts>(
     a: u64,
 ) -> Result<Vec<Value>, Memory>
     requires { model.AreChanges changes.now }
-    ensures { IfOk result (λ values. values.items ≡ model.values_of (F.history facts.now) changes.now e a) }
+    ensures { IfOk result
+        (λ values. values.items ≡ model.values_of (F.history facts.now) changes.now e a) }
 {
     let of_entity = facts_of(alloc, facts, changes, e)?;
     values_under(alloc, &of_entity, a)
 }
 
 fn values_under(alloc: Global, facts: &[Datom], a: u64) -> Result<Vec<Value>, Memory>
-    ensures { IfOk result (λ values. values.items ≡ map (λ d. d.v) (filter (is_under a) facts.now)) }
+    ensures { IfOk result
+        (λ values. values.items ≡ map (λ d. d.v) (filter (is_under a) facts.now)) }
 {
     let mut values = Vec::new(alloc);
     for d in facts {

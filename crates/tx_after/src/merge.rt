@@ -76,7 +76,8 @@ pub fn push_additions(list: &mut Vec<Datom>, changes: &[Datom]) -> Result<(), Me
 
 /// Pushes the change if it is an addition.
 fn push_addition(list: &mut Vec<Datom>, d: &Datom) -> Result<(), Memory>
-    ensures { IfOk result (λ _. list.new.items ≡ list.old.items ++ cond d.now.added (d.now ∷ []) []) }
+    ensures { IfOk result
+        (λ _. list.new.items ≡ list.old.items ++ cond d.now.added (d.now ∷ []) []) }
 {
     if d.added {
         list.push(d.copy()?)?;

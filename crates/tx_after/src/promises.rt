@@ -26,7 +26,8 @@ pub fn gives_one_value<F: Facts>(
 ) -> Result<bool, Memory>
     requires changes { model.AreChanges changes.now }
     requires parts { AreByAttribute by_attribute.now.parts changes.now }
-    ensures { IfOk result (λ is. is ≡ promises.gives_one_value (model.after (F.history facts.now) changes.now) a) }
+    ensures { IfOk result
+        (λ is. is ≡ promises.gives_one_value (model.after (F.history facts.now) changes.now) a) }
 {
     let under = facts_under(alloc, facts, changes, by_attribute, a)?;
     Ok(are_of_other_entities(&under))
@@ -42,7 +43,8 @@ pub fn gives_one_holder<F: Facts>(
 ) -> Result<bool, Memory>
     requires changes { model.AreChanges changes.now }
     requires parts { AreByAttribute by_attribute.now.parts changes.now }
-    ensures { IfOk result (λ is. is ≡ promises.gives_one_holder (model.after (F.history facts.now) changes.now) a) }
+    ensures { IfOk result
+        (λ is. is ≡ promises.gives_one_holder (model.after (F.history facts.now) changes.now) a) }
 {
     let under = facts_under(alloc, facts, changes, by_attribute, a)?;
     are_of_other_values(alloc, &under)
@@ -81,8 +83,10 @@ fn are_of_other_values(alloc: Global, facts: &[Datom]) -> Result<bool, Memory>
 
 /// Whether the datom's value is met for the first time.
 fn meet(met: &mut BTreeSet<Value>, d: &Datom) -> Result<bool, Memory>
-    ensures first { (ds : List Datom) → promises.HasValues met.old ds → IfOk result (λ first. first ≡ not (list_any (λ other. value_eq other.v d.now.v) ds)) }
-    ensures met { (ds : List Datom) → promises.HasValues met.old ds → IfOk result (λ _. promises.HasValues met.new (d.now ∷ ds)) }
+    ensures first { (ds : List Datom) → promises.HasValues met.old ds
+        → IfOk result (λ first. first ≡ not (list_any (λ other. value_eq other.v d.now.v) ds)) }
+    ensures met { (ds : List Datom) → promises.HasValues met.old ds
+        → IfOk result (λ _. promises.HasValues met.new (d.now ∷ ds)) }
 {
     Ok(met.insert(d.v.copy()?)?)
 }

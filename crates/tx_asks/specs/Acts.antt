@@ -42,12 +42,26 @@ old_value_of db names attribute part = value_of_part db names attribute part
 
 abbrev pub act_of : Db → List (Name × ℕ) → Ask → Option Act
 act_of db names (asks.adds name k part) =
-    option_and_then (λ e. option_and_then (λ (a : Attribute). option_map (adds e a) (value_of_part db names a part)) (attribute_named db.facts k)) (entity_of db names name)
+    option_and_then
+    (λ e. option_and_then (λ (a : Attribute). option_map (adds e a) (value_of_part db names a part))
+    (attribute_named db.facts k))
+    (entity_of db names name)
 act_of db names (asks.retracts name k part) =
-    option_and_then (λ e. option_and_then (λ (a : Attribute). option_map (retracts e a) (value_of_part db names a part)) (attribute_named db.facts k)) (entity_of db names name)
-act_of db names (asks.retracts_all name k) = option_and_then (λ e. option_map (retracts_all e) (attribute_named db.facts k)) (entity_of db names name)
+    option_and_then
+    (λ e. option_and_then
+    (λ (a : Attribute). option_map (retracts e a) (value_of_part db names a part))
+    (attribute_named db.facts k))
+    (entity_of db names name)
+act_of db names (asks.retracts_all name k) =
+    option_and_then (λ e. option_map (retracts_all e) (attribute_named db.facts k))
+    (entity_of db names name)
 act_of db names (asks.compares name k old new) =
-    option_and_then (λ e. option_and_then (λ (a : Attribute). option_map (compares e a (old_value_of db names a old)) (value_of_part db names a new)) (attribute_named db.facts k)) (entity_of db names name)
+    option_and_then
+    (λ e. option_and_then
+    (λ (a : Attribute). option_map (compares e a (old_value_of db names a old))
+    (value_of_part db names a new))
+    (attribute_named db.facts k))
+    (entity_of db names name)
 act_of db names (asks.retracts_entity name) = option_map retracts_entity (entity_of db names name)
 act_of db names ask = None
 

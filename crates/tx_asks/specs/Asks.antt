@@ -40,11 +40,15 @@ old_part_of places None = model.plain edn.nil
 old_part_of places (Some part) = part_of places part
 
 abbrev pub ask_of : List (List ℕ) → Ask → model.Ask
-ask_of places (Adds on attribute part) = model.adds (name_of places on) attribute.now.ident (part_of places part)
-ask_of places (Retracts on attribute part) = model.retracts (name_of places on) attribute.now.ident (part_of places part)
-ask_of places (RetractsAll on attribute) = model.retracts_all (name_of places on) attribute.now.ident
+ask_of places (Adds on attribute part) =
+    model.adds (name_of places on) attribute.now.ident (part_of places part)
+ask_of places (Retracts on attribute part) =
+    model.retracts (name_of places on) attribute.now.ident (part_of places part)
+ask_of places (RetractsAll on attribute) =
+    model.retracts_all (name_of places on) attribute.now.ident
 ask_of places (Compares on attribute old new) =
-    model.compares (name_of places on) attribute.now.ident (old_part_of places old) (part_of places new)
+    model.compares (name_of places on) attribute.now.ident (old_part_of places old)
+    (part_of places new)
 ask_of places (RetractsEntity on) = model.retracts_entity (name_of places on)
 ask_of places (Meets on) = model.meets (name_of places on)
 
@@ -70,10 +74,13 @@ IsInstalled facts attribute = attribute_named facts attribute.ident ≡ Some (at
 
 -- attributes are installed, and plain values are those of their forms under the attribute's type
 abbrev pub IsRead : List Datom → Ask → Type 0
-IsRead facts (Adds on attribute part) = IsInstalled facts attribute.now × IsReadPart attribute.now part
-IsRead facts (Retracts on attribute part) = IsInstalled facts attribute.now × IsReadPart attribute.now part
+IsRead facts (Adds on attribute part) =
+    IsInstalled facts attribute.now × IsReadPart attribute.now part
+IsRead facts (Retracts on attribute part) =
+    IsInstalled facts attribute.now × IsReadPart attribute.now part
 IsRead facts (RetractsAll on attribute) = IsInstalled facts attribute.now
-IsRead facts (Compares on attribute old new) = IsInstalled facts attribute.now × IsReadOldPart attribute.now old × IsReadPart attribute.now new
+IsRead facts (Compares on attribute old new) =
+    IsInstalled facts attribute.now × IsReadOldPart attribute.now old × IsReadPart attribute.now new
 IsRead facts (RetractsEntity on) = ⊤
 IsRead facts (Meets on) = ⊤
 
@@ -94,14 +101,16 @@ abbrev pub AreCounted : ℕ → Ask → Type 0
 AreCounted n (Adds on attribute part) = IsCounted n on × IsCountedPart n part
 AreCounted n (Retracts on attribute part) = IsCounted n on × IsCountedPart n part
 AreCounted n (RetractsAll on attribute) = IsCounted n on
-AreCounted n (Compares on attribute old new) = IsCounted n on × IsCountedOldPart n old × IsCountedPart n new
+AreCounted n (Compares on attribute old new) =
+    IsCounted n on × IsCountedOldPart n old × IsCountedPart n new
 AreCounted n (RetractsEntity on) = IsCounted n on
 AreCounted n (Meets on) = IsCounted n on
 
 -- no two of the places are alike
 abbrev pub AreApart : List (List ℕ) → Type 0
 AreApart places =
-    (i j : ℕ) → i < length places → j < length places → slice_index_or places i [] ≡ slice_index_or places j [] → i ≡ j
+    (i j : ℕ) → i < length places → j < length places
+    → slice_index_or places i [] ≡ slice_index_or places j [] → i ≡ j
 
 -- ---- what expanding promises
 
@@ -112,7 +121,8 @@ pub record AreAsks (flat : Flat) (facts : List Datom) (asks : List (List model.A
   pub places : List (List ℕ)
   pub apart : AreApart places
   pub counted : length places ≡ flat.nameless
-  pub same : map (λ form. map (ask_of places) form.items) flat.forms.items ≡ map (filter matters) asks
+  pub same : map (λ form. map (ask_of places) form.items) flat.forms.items
+      ≡ map (filter matters) asks
   pub read : All (λ form. All (IsRead facts) form.items) flat.forms.items
   pub names_counted : All (λ form. All (AreCounted flat.nameless) form.items) flat.forms.items
   pub lacking : flat.lacking ≡ first_yes 0 (map (list_any is_lacking) asks)

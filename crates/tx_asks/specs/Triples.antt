@@ -26,7 +26,8 @@ IsAsked lists asking = IsTrue (list_any (is_of asking.e asking.a asking.v) (at l
 -- each is asked by its form, and of each triple that a form asks one is there of this form or of an earlier one
 pub record AreAskings (lists : List (List Datom)) (askings : List Asking) : Type 0 where
   pub asked : All (IsAsked lists) askings
-  pub whole : (place : ℕ) (d : Datom) → Contains (at lists place) d → IsTrue (list_any (λ asking. is_asking_of d asking && nat_le asking.place place) askings)
+  pub whole : (place : ℕ) (d : Datom) → Contains (at lists place) d
+      → IsTrue (list_any (λ asking. is_asking_of d asking && nat_le asking.place place) askings)
 
 -- ---- triples
 
@@ -39,7 +40,8 @@ is_triple e a v triple = nat_eq triple.e e && nat_eq triple.a a && value_eq trip
 
 -- by entity, attribute and value
 abbrev pub is_below : Triple → Triple → Bool
-is_below x y = is_lt (ordering_then (ordering_then (nat_cmp x.e y.e) (nat_cmp x.a y.a)) (value_cmp x.v y.v))
+is_below x y =
+    is_lt (ordering_then (ordering_then (nat_cmp x.e y.e) (nat_cmp x.a y.a)) (value_cmp x.v y.v))
 
 abbrev pub rise : List Triple → Bool
 rise [] = true
@@ -64,4 +66,5 @@ is_asked tx e a v =
 pub record AreTriples (tx : Transaction) (triples : List Triple) : Type 0 where
   pub rising : IsTrue (rise triples)
   pub told : All (IsTold tx) triples
-  pub whole : (e a : ℕ) (v : Value) → IsTrue (is_asked tx e a v) → IsTrue (list_any (is_triple e a v) triples)
+  pub whole : (e a : ℕ) (v : Value) → IsTrue (is_asked tx e a v)
+      → IsTrue (list_any (is_triple e a v) triples)

@@ -26,22 +26,30 @@ asked_by way place act = []
 -- by forms, of which the first is at the place
 abbrev pub asked_from : Way → ℕ → List (List Act) → List Asking
 asked_from way place [] = []
-asked_from way place (acts ∷ forms) = flat_map (asked_by way place) acts ++ asked_from way (place + 1) forms
+asked_from way place (acts ∷ forms) =
+    flat_map (asked_by way place) acts ++ asked_from way (place + 1) forms
 
 -- the value, where it is not the one that is added
 abbrev pub other_of : Asking → Value → List Asking
-other_of addition v = cond (value_eq addition.v v) [] (value_at addition.place addition.e addition.a v ∷ [])
+other_of addition v =
+    cond (value_eq addition.v v) [] (value_at addition.place addition.e addition.a v ∷ [])
 
 abbrev pub others_of : Asking → List Value → List Asking
 others_of addition values = flat_map (other_of addition) values
 
 abbrev pub replaced_of : List Entry → List Datom → Asking → List Asking
-replaced_of h schema addition = cond (is_one schema addition.a) (others_of addition (values_of h addition.e addition.a)) []
+replaced_of h schema addition =
+    cond (is_one schema addition.a) (others_of addition (values_of h addition.e addition.a)) []
 
 -- the values that a map has of entities under attributes
 abbrev pub known_values : BTreeMap (ℕ × ℕ) (Vec Value Global) → ℕ → ℕ → List Value
-known_values known e a = option_map_or (λ (values : Vec Value Global). values.items) (get pair_cmp known (e, a)) []
+known_values known e a =
+    option_map_or (λ (values : Vec Value Global). values.items) (get pair_cmp known (e, a)) []
 
 -- where it has any, they are those of the history
 abbrev pub KnowsValues : List Entry → BTreeMap (ℕ × ℕ) (Vec Value Global) → Type 0
-KnowsValues h known = (e a : ℕ) → option_map_or (λ (values : Vec Value Global). values.items) (get pair_cmp known (e, a)) (values_of h e a) ≡ values_of h e a
+KnowsValues h known =
+    (e a : ℕ)
+    → option_map_or (λ (values : Vec Value Global). values.items) (get pair_cmp known (e, a))
+    (values_of h e a)
+    ≡ values_of h e a

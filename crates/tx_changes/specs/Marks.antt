@@ -55,7 +55,8 @@ abbrev pub is_found : Marks → Bool
 is_found marks = is_some marks.swept || is_some marks.replaced
 
 abbrev pub HoldsFound : List Entry → BTreeMap (ℕ × ℕ × Value) Marks → Type 0
-HoldsFound h marks = (e a : ℕ) (v : Value) → IsTrue (is_found (marks_at marks e a v)) → Holds h e a v
+HoldsFound h marks =
+    (e a : ℕ) (v : Value) → IsTrue (is_found (marks_at marks e a v)) → Holds h e a v
 
 abbrev pub IsHeld : List Entry → (ℕ × ℕ × Value) × Marks → Type 0
 IsHeld h entry = IsTrue (is_found entry.1) → Holds h entry.0.0 entry.0.1 entry.0.2

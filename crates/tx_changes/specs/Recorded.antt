@@ -6,7 +6,10 @@ use Rattle.tx_asks.specs.declared.triples.Triple.{Triple}
 
 -- it is added and does not hold, or is retracted in some way and holds
 abbrev pub is_change : Triple → Bool
-is_change triple = cond triple.holds (is_some triple.retracted || is_some triple.swept || is_some triple.replaced) (is_some triple.added)
+is_change triple =
+    cond triple.holds (is_some triple.retracted || is_some triple.swept || is_some triple.replaced)
+    (is_some triple.added)
 
 abbrev pub datom_of : ℕ → Triple → Datom
-datom_of t triple = record { e = triple.e; a = triple.a; v = triple.v; t = t; added = not triple.holds }
+datom_of t triple =
+    record { e = triple.e; a = triple.a; v = triple.v; t = t; added = not triple.holds }

@@ -36,7 +36,8 @@ fn push_form(
     place: usize,
     acts: &[Act<'_>],
 ) -> Result<(), Memory>
-    ensures { OnOk result (askings.new.items ≡ askings.old.items ++ flat_map (asked_by way place) (map seen acts.now)) }
+    ensures { OnOk result (askings.new.items
+        ≡ askings.old.items ++ flat_map (asked_by way place) (map seen acts.now)) }
 {
     for act in acts {
         push_act(askings, way, place, act)?;
@@ -45,7 +46,8 @@ fn push_form(
 }
 
 fn push_act(askings: &mut Vec<Asking>, way: Way, place: usize, act: &Act<'_>) -> Result<(), Memory>
-    ensures { OnOk result (askings.new.items ≡ askings.old.items ++ asked_by way place (seen act.now)) }
+    ensures { OnOk result
+        (askings.new.items ≡ askings.old.items ++ asked_by way place (seen act.now)) }
 {
     let (e, a, v) = match (way, act) {
         (Way::Added, Act::Adds { e, attribute, v }) => (*e, attribute.id, v.copy()?),
@@ -73,7 +75,8 @@ pub fn replaced<F: Facts>(
     facts: &F,
     schema: &Schema,
 ) -> Result<Vec<Asking>, Memory>
-    ensures { IfOk result (λ askings. askings.items ≡ flat_map (replaced_of (F.history facts.now) schema.now) added.now) }
+    ensures { IfOk result (λ askings. askings.items
+        ≡ flat_map (replaced_of (F.history facts.now) schema.now) added.now) }
 {
     let mut askings = Vec::new(alloc);
     let mut known = BTreeMap::new(alloc);
@@ -90,9 +93,11 @@ fn push_replaced<F: Facts>(
     facts: &F,
     schema: &Schema,
 ) -> Result<(), Memory>
-    ensures known { KnowsValues (F.history facts.now) known.old → OnOk result (KnowsValues (F.history facts.now) known.new) }
+    ensures known { KnowsValues (F.history facts.now) known.old
+        → OnOk result (KnowsValues (F.history facts.now) known.new) }
     ensures askings { KnowsValues (F.history facts.now) known.old
-        → OnOk result (askings.new.items ≡ askings.old.items ++ replaced_of (F.history facts.now) schema.now addition.now) }
+        → OnOk result (askings.new.items
+        ≡ askings.old.items ++ replaced_of (F.history facts.now) schema.now addition.now) }
 {
     told_lists_are_the_rising_ones();
     new_users_have_no_facts();
@@ -113,8 +118,10 @@ fn learn_values<F: Facts>(
     e: u64,
     a: u64,
 ) -> Result<(), Memory>
-    ensures known { KnowsValues (F.history facts.now) known.old → OnOk result (KnowsValues (F.history facts.now) known.new) }
-    ensures learnt { KnowsValues (F.history facts.now) known.old → OnOk result (known_values known.new e a ≡ values_of (F.history facts.now) e a) }
+    ensures known { KnowsValues (F.history facts.now) known.old
+        → OnOk result (KnowsValues (F.history facts.now) known.new) }
+    ensures learnt { KnowsValues (F.history facts.now) known.old
+        → OnOk result (known_values known.new e a ≡ values_of (F.history facts.now) e a) }
 {
     let pair = (e, a);
     if known.contains_key(&pair) {
@@ -130,7 +137,9 @@ fn push_others(
     addition: &Asking,
     known: &BTreeMap<(u64, u64), Vec<Value>>,
 ) -> Result<(), Memory>
-    ensures { OnOk result (askings.new.items ≡ askings.old.items ++ others_of addition.now (known_values known.now addition.now.e addition.now.a)) }
+    ensures { OnOk result (askings.new.items
+        ≡ askings.old.items
+        ++ others_of addition.now (known_values known.now addition.now.e addition.now.a)) }
 {
     match known.get(&(addition.e, addition.a)) {
         Some(values) => push_values(askings, addition, values),
@@ -139,7 +148,8 @@ fn push_others(
 }
 
 fn push_values(askings: &mut Vec<Asking>, addition: &Asking, values: &[Value]) -> Result<(), Memory>
-    ensures { OnOk result (askings.new.items ≡ askings.old.items ++ others_of addition.now values.now) }
+    ensures { OnOk result
+        (askings.new.items ≡ askings.old.items ++ others_of addition.now values.now) }
 {
     for v in values {
         push_other(askings, addition, v)?;

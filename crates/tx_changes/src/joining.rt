@@ -30,8 +30,8 @@ pub fn triples<F: Facts>(
     schema: &Schema,
 ) -> Result<Vec<Triple>, Memory>
     requires { SchemaStands schema.now (F.history facts.now) }
-    ensures { IfOk result (λ triples. (tx : Transaction) → tx.db ≡ db_of (F.history facts.now) → AreActs (acts_of forms.now) tx
-        → AreTriples tx triples.items) }
+    ensures { IfOk result (λ triples. (tx : Transaction) → tx.db ≡ db_of (F.history facts.now)
+        → AreActs (acts_of forms.now) tx → AreTriples tx triples.items) }
 {
     let marks = marks_of(alloc, forms, facts, schema)?;
     triples_of(alloc, facts, marks)
@@ -45,7 +45,8 @@ fn marks_of<F: Facts>(
     schema: &Schema,
 ) -> Result<BTreeMap<(u64, u64, Value), Marks>, Memory>
     requires { SchemaStands schema.now (F.history facts.now) }
-    ensures marks { IfOk result (λ marks. (tx : Transaction) → tx.db ≡ db_of (F.history facts.now) → AreActs (acts_of forms.now) tx → AreMarks tx marks) }
+    ensures marks { IfOk result (λ marks. (tx : Transaction) → tx.db ≡ db_of (F.history facts.now)
+        → AreActs (acts_of forms.now) tx → AreMarks tx marks) }
     ensures held { IfOk result (HoldsFound (F.history facts.now)) }
 {
     acts_ask_what_asks_do();
@@ -70,7 +71,8 @@ fn triples_of<F: Facts>(
     marks: BTreeMap<(u64, u64, Value), Marks>,
 ) -> Result<Vec<Triple>, Memory>
     requires { HoldsFound (F.history facts.now) marks }
-    ensures { IfOk result (λ triples. (tx : Transaction) → tx.db ≡ db_of (F.history facts.now) → AreMarks tx marks → AreTriples tx triples.items) }
+    ensures { IfOk result (λ triples. (tx : Transaction) → tx.db ≡ db_of (F.history facts.now)
+        → AreMarks tx marks → AreTriples tx triples.items) }
 {
     let mut triples = Vec::with_capacity(alloc, marks.len())?;
     for (triple, marks) in marks {

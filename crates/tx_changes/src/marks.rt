@@ -73,7 +73,8 @@ pub fn mark(
     way: Way,
     askings: Vec<Asking>,
 ) -> Result<(), Memory>
-    ensures { OnOk result ((e a : ℕ) (v : AnyValue) → marks_at marks.new e a v ≡ noted way e a v (marks_at marks.old e a v) askings.items) }
+    ensures { OnOk result ((e a : ℕ) (v : AnyValue)
+        → marks_at marks.new e a v ≡ noted way e a v (marks_at marks.old e a v) askings.items) }
 {
     for asking in askings {
         mark_one(marks, way, asking)?;
@@ -86,7 +87,8 @@ fn mark_one(
     way: Way,
     asking: Asking,
 ) -> Result<(), Memory>
-    ensures { OnOk result ((e a : ℕ) (v : AnyValue) → marks_at marks.new e a v ≡ noted_one way e a v (marks_at marks.old e a v) asking) }
+    ensures { OnOk result ((e a : ℕ) (v : AnyValue)
+        → marks_at marks.new e a v ≡ noted_one way e a v (marks_at marks.old e a v) asking) }
 {
     let Asking { e, a, v, place } = asking;
     let triple = (e, a, v);

@@ -12,15 +12,16 @@ use tx_asks::Triple;
 
 /// The changes of a transaction of this t: what is added and does not hold, and what is retracted in some way and holds.
 pub fn changes(alloc: Global, triples: &[Triple], t: u32) -> Result<Datoms, Memory>
-    ensures { IfOk result (λ changes. (tx : Transaction) → tx ≡ with_names tx.db tx.asks tx.names → AreTriples tx triples.now
-        → t ≡ basis tx.db.history + 1 → changes ≡ tx.changes) }
+    ensures { IfOk result (λ changes. (tx : Transaction) → tx ≡ with_names tx.db tx.asks tx.names
+        → AreTriples tx triples.now → t ≡ basis tx.db.history + 1 → changes ≡ tx.changes) }
 {
     let changes = changes_of(alloc, triples, t)?;
     Ok(Datoms::of(changes))
 }
 
 fn changes_of(alloc: Global, triples: &[Triple], t: u32) -> Result<Vec<Datom>, Memory>
-    ensures { IfOk result (λ changes. changes.items ≡ map (datom_of t) (filter model_is_change triples.now)) }
+    ensures { IfOk result
+        (λ changes. changes.items ≡ map (datom_of t) (filter model_is_change triples.now)) }
 {
     let mut changes = Vec::new(alloc);
     for triple in triples {

@@ -30,7 +30,12 @@ no_name_faults = record { unknown = false; wrong = false; not_unique = false }
 
 -- of either
 abbrev pub either_name : NameFaults → NameFaults → NameFaults
-either_name x y = record { unknown = x.unknown || y.unknown; wrong = x.wrong || y.wrong; not_unique = x.not_unique || y.not_unique }
+either_name x y =
+    record {
+      unknown = x.unknown || y.unknown;
+      wrong = x.wrong || y.wrong;
+      not_unique = x.not_unique || y.not_unique;
+    }
 
 -- of one lookup ref: an attribute and a value
 abbrev pub lookup_faults : List Datom → List ℕ × Form → NameFaults
@@ -38,15 +43,22 @@ lookup_faults facts ref =
     record {
       unknown = is_unknown facts ref.0;
       wrong = option_map_or (is_wrong_lookup ref.1) (attribute_named facts ref.0) false;
-      not_unique = option_map_or (λ attribute. nat_eq attribute.uniqueness 0) (attribute_named facts ref.0) false;
+      not_unique = option_map_or (λ attribute. nat_eq attribute.uniqueness 0)
+          (attribute_named facts ref.0) false;
     }
 
 abbrev pub lookups_faults : List Datom → List (List ℕ × Form) → NameFaults
 lookups_faults facts refs =
     record {
       unknown = list_any (λ (ref : List ℕ × Form). is_unknown facts ref.0) refs;
-      wrong = list_any (λ (ref : List ℕ × Form). option_map_or (is_wrong_lookup ref.1) (attribute_named facts ref.0) false) refs;
-      not_unique = list_any (λ (ref : List ℕ × Form). option_map_or (λ attribute. nat_eq attribute.uniqueness 0) (attribute_named facts ref.0) false) refs;
+      wrong = list_any
+          (λ (ref : List ℕ × Form). option_map_or (is_wrong_lookup ref.1) (attribute_named facts ref.0)
+          false)
+          refs;
+      not_unique = list_any
+          (λ (ref : List ℕ × Form). option_map_or (λ attribute. nat_eq attribute.uniqueness 0)
+          (attribute_named facts ref.0) false)
+          refs;
     }
 
 -- those of a lookup ref that stands as a value, if there is one
@@ -68,13 +80,21 @@ abbrev pub is_of_unknown : List Datom → model.Ask → Bool
 is_of_unknown facts ask = option_map_or (is_unknown facts) (attribute_of_ask ask) false
 
 abbrev pub is_of_protected : List Datom → model.Ask → Bool
-is_of_protected facts ask = option_map_or (is_protected facts) (attribute_of_ask ask) false || adds_reserved_ident facts ask
+is_of_protected facts ask =
+    option_map_or (is_protected facts) (attribute_of_ask ask) false || adds_reserved_ident facts ask
 
 abbrev pub has_wrong_value : List Datom → model.Ask → Bool
 has_wrong_value facts ask = option_map_or (has_wrong_part ask) (attribute_in facts ask) false
 
 abbrev pub no_faults : Faults
-no_faults = record { unknown = false; protected = false; wrong = false; not_unique = false; lacking = false }
+no_faults =
+    record {
+      unknown = false;
+      protected = false;
+      wrong = false;
+      not_unique = false;
+      lacking = false;
+    }
 
 abbrev pub either : Faults → Faults → Faults
 either x y =
@@ -102,7 +122,8 @@ form_faults facts asks =
     record {
       unknown = list_any (names_no_attribute facts) asks;
       protected = list_any (is_of_protected facts) asks;
-      wrong = list_any (λ ask. has_wrong_value facts ask || list_any (has_wrong_lookup facts) (names_of ask)) asks;
+      wrong = list_any
+          (λ ask. has_wrong_value facts ask || list_any (has_wrong_lookup facts) (names_of ask)) asks;
       not_unique = list_any (λ ask. list_any (has_other_lookup facts) (names_of ask)) asks;
       lacking = list_any is_lacking asks;
     }
@@ -123,16 +144,23 @@ old_part_read (Some part) = part_read part
 
 abbrev pub ask_read : Ask → model.Ask
 ask_read (Adds on attribute part) = model.adds (name_seen on) attribute.now.ident (part_read part)
-ask_read (Retracts on attribute part) = model.retracts (name_seen on) attribute.now.ident (part_read part)
+ask_read (Retracts on attribute part) =
+    model.retracts (name_seen on) attribute.now.ident (part_read part)
 ask_read (RetractsAll on attribute) = model.retracts_all (name_seen on) attribute.now.ident
-ask_read (Compares on attribute old new) = model.compares (name_seen on) attribute.now.ident (old_part_read old) (part_read new)
+ask_read (Compares on attribute old new) =
+    model.compares (name_seen on) attribute.now.ident (old_part_read old) (part_read new)
 ask_read (RetractsEntity on) = model.retracts_entity (name_seen on)
 ask_read (Meets on) = model.meets (name_seen on)
 
 -- what became of an ask
 abbrev pub Settles : List Datom → model.Ask → Settled → Type 0
 Settles facts m (Stands ask) =
-    (matters m ≡ true) × (is_of_unknown facts m ≡ false) × (has_wrong_value facts m ≡ false) × (ask_read ask ≡ m) × IsRead facts ask
+    (matters m ≡ true)
+    × (is_of_unknown facts m ≡ false)
+    × (has_wrong_value facts m ≡ false)
+    × (ask_read ask ≡ m)
+    × IsRead facts ask
 Settles facts m Wrong = (is_of_unknown facts m ≡ false) × (has_wrong_value facts m ≡ true)
 Settles facts m Unknown = (is_of_unknown facts m ≡ true) × (has_wrong_value facts m ≡ false)
-Settles facts m Mere = (matters m ≡ false) × (is_of_unknown facts m ≡ false) × (has_wrong_value facts m ≡ false)
+Settles facts m Mere =
+    (matters m ≡ false) × (is_of_unknown facts m ≡ false) × (has_wrong_value facts m ≡ false)

@@ -21,11 +21,14 @@ IsLawfulSchema schema = (h : List Entry) × (IsLawful h × SchemaStands schema h
 
 -- an attribute that a keyword names has that keyword as its name
 abbrev pub HaveOwnNames : List Datom → Type 0
-HaveOwnNames facts = (k : List ℕ) (attribute : Attribute) → attribute_named facts k ≡ Some attribute → attribute.name ≡ k
+HaveOwnNames facts =
+    (k : List ℕ) (attribute : Attribute) → attribute_named facts k ≡ Some attribute
+    → attribute.name ≡ k
 
 -- an attribute is known where it is installed
 abbrev pub IsLookedUp : List Datom → Attr → Type 0
-IsLookedUp facts (Known attribute) = attribute_named facts attribute.now.ident ≡ Some (attribute_in attribute.now)
+IsLookedUp facts (Known attribute) =
+    attribute_named facts attribute.now.ident ≡ Some (attribute_in attribute.now)
 IsLookedUp facts (Unknown k) = attribute_named facts k ≡ None
 
 abbrev pub IsLinkLookedUp : List Datom → Link → Type 0

@@ -17,7 +17,8 @@ told asks next = record { asks = asks; next = next }
 
 -- one after the other
 abbrev pub then_told : Told → (ℕ → Told) → Told
-then_told first rest = record { asks = first.asks ++ (rest first.next).asks; next = (rest first.next).next }
+then_told first rest =
+    record { asks = first.asks ++ (rest first.next).asks; next = (rest first.next).next }
 
 -- the map's entity, where the next map without `:db/id` has the number n, and the number of the next one behind it
 abbrev pub name_at : ℕ → Pairs → Name
@@ -39,7 +40,8 @@ takes_maps facts (backward name) = true
 abbrev pub is_collection : List Datom → Key → Option (List ℕ × Form) → Bool
 is_collection facts own found = false
 is_collection facts (forward name) None = has_many facts name
-is_collection facts (forward name) (Some found) = has_many facts name && not (has_ref facts name && has_uniqueness facts found.0)
+is_collection facts (forward name) (Some found) =
+    has_many facts name && not (has_ref facts name && has_uniqueness facts found.0)
 is_collection facts (backward name) None = true
 is_collection facts (backward name) (Some found) = not (has_uniqueness facts found.0)
 
@@ -63,40 +65,50 @@ entry_asks facts self key n ps = links self key (entity (name_at n ps)) ++ need 
 
 abbrev pub nested_told : List Datom → Name → Key → ℕ → Pairs → Told → Told
 nested_told facts self key n ps inner =
-    cond (takes_maps facts key) (told (nested_asks facts self key (name_at n ps) ps inner.asks) inner.next)
+    cond (takes_maps facts key)
+    (told (nested_asks facts self key (name_at n ps) ps inner.asks) inner.next)
     (told (nested_asks facts self key (name_at n ps) ps []) n)
 
 abbrev pub vector_told : List Datom → Name → Key → ℕ → Forms → Told → Told
 vector_told facts self key n fs members =
-    cond (is_collection facts key (lookup_in fs)) members (told (vector_asks facts self key fs (lookup_in fs) []) n)
+    cond (is_collection facts key (lookup_in fs)) members
+    (told (vector_asks facts self key fs (lookup_in fs) []) n)
 
 abbrev pub list_told : List Datom → Name → Key → ℕ → Forms → Told → Told
 list_told facts self key n fs members =
-    cond (is_collection facts key None) members (told (sequence_asks facts self key (edn.list fs) []) n)
+    cond (is_collection facts key None) members
+    (told (sequence_asks facts self key (edn.list fs) []) n)
 
 abbrev pub pair_told : List Datom → Name → Key → ℕ → Told → Told
 pair_told facts self key n values =
-    cond (takes_values facts key) (told (pair_asks facts self key values.asks) values.next) (told (pair_asks facts self key []) n)
+    cond (takes_values facts key) (told (pair_asks facts self key values.asks) values.next)
+    (told (pair_asks facts self key []) n)
 
 abbrev mutual
   pub map_told : List Datom → Name → ℕ → Pairs → Told
   map_told facts self n no_pairs = told [] n
   map_told facts self n (pair key value rest) =
-      then_told (pair_told facts self (key_in key) n (value_told facts self (key_in key) n value)) (λ m. map_told facts self m rest)
+      then_told (pair_told facts self (key_in key) n (value_told facts self (key_in key) n value))
+      (λ m. map_told facts self m rest)
 
   pub value_told : List Datom → Name → Key → ℕ → Form → Told
-  value_told facts self key n (edn.map ps) = nested_told facts self key n ps (map_told facts (name_at n ps) (behind (name_at n ps) n) ps)
+  value_told facts self key n (edn.map ps) =
+      nested_told facts self key n ps (map_told facts (name_at n ps) (behind (name_at n ps) n) ps)
   value_told facts self key n (edn.set fs) = members_told facts self key n fs
-  value_told facts self key n (edn.vector fs) = vector_told facts self key n fs (members_told facts self key n fs)
-  value_told facts self key n (edn.list fs) = list_told facts self key n fs (members_told facts self key n fs)
+  value_told facts self key n (edn.vector fs) =
+      vector_told facts self key n fs (members_told facts self key n fs)
+  value_told facts self key n (edn.list fs) =
+      list_told facts self key n fs (members_told facts self key n fs)
   value_told facts self key n f = told (scalar_asks facts self key f) n
 
   pub members_told : List Datom → Name → Key → ℕ → Forms → Told
   members_told facts self key n no_forms = told [] n
-  members_told facts self key n (form f fs) = then_told (member_told facts self key n f) (λ m. members_told facts self key m fs)
+  members_told facts self key n (form f fs) =
+      then_told (member_told facts self key n f) (λ m. members_told facts self key m fs)
 
   pub member_told : List Datom → Name → Key → ℕ → Form → Told
-  member_told facts self key n (edn.map ps) = nested_told facts self key n ps (map_told facts (name_at n ps) (behind (name_at n ps) n) ps)
+  member_told facts self key n (edn.map ps) =
+      nested_told facts self key n ps (map_told facts (name_at n ps) (behind (name_at n ps) n) ps)
   member_told facts self key n (edn.vector fs) =
       told (vector_asks facts self key fs (lookup_in fs) (links self key (plain (edn.vector fs)))) n
   member_told facts self key n f = told (scalar_asks facts self key f) n
@@ -107,13 +119,15 @@ abbrev pub form_told : List Datom → ℕ → Form → Told
 form_told facts n (edn.vector fs) = told (verb_asks facts (items fs)) n
 form_told facts n (edn.list fs) = told (verb_asks facts (items fs)) n
 form_told facts n (edn.map ps) =
-    then_told (told (meets (name_at n ps) ∷ []) (behind (name_at n ps) n)) (λ m. map_told facts (name_at n ps) m ps)
+    then_told (told (meets (name_at n ps) ∷ []) (behind (name_at n ps) n))
+    (λ m. map_told facts (name_at n ps) m ps)
 form_told facts n f = told [] n
 
 -- what each form asks, and the number behind them all
 abbrev pub forms_told : List Datom → ℕ → List Form → List (List Ask)
 forms_told facts n [] = []
-forms_told facts n (f ∷ fs) = (form_told facts n f).asks ∷ forms_told facts (form_told facts n f).next fs
+forms_told facts n (f ∷ fs) =
+    (form_told facts n f).asks ∷ forms_told facts (form_told facts n f).next fs
 
 abbrev pub next_behind : List Datom → ℕ → List Form → ℕ
 next_behind facts n [] = n

@@ -19,7 +19,8 @@ abbrev pub ask_placed : List (List ℕ) → Ask → Ask
 ask_placed places (adds name k part) = adds (placed places name) k (part_placed places part)
 ask_placed places (retracts name k part) = retracts (placed places name) k (part_placed places part)
 ask_placed places (retracts_all name k) = retracts_all (placed places name) k
-ask_placed places (compares name k old new) = compares (placed places name) k (part_placed places old) (part_placed places new)
+ask_placed places (compares name k old new) =
+    compares (placed places name) k (part_placed places old) (part_placed places new)
 ask_placed places (retracts_entity name) = retracts_entity (placed places name)
 ask_placed places (meets name) = meets (placed places name)
 ask_placed places (mentions k) = mentions k

@@ -74,4 +74,6 @@ no_firsts = record { protected = None; wrong = None; not_unique = None; lacking 
 
 -- the rules but for the least one
 abbrev pub rules_of : Firsts → List (Reason × Option ℕ)
-rules_of firsts = (ProtectedAttribute, firsts.protected) ∷ (WrongType, firsts.wrong) ∷ (NotUniqueLookup, firsts.not_unique) ∷ []
+rules_of firsts =
+    (ProtectedAttribute, firsts.protected) ∷ (WrongType, firsts.wrong)
+    ∷ (NotUniqueLookup, firsts.not_unique) ∷ []

@@ -44,7 +44,8 @@ abbrev pub raw_seen : RawAsk → model.Ask
 raw_seen (Adds name attr part) = model.adds (name_seen name) (word_of attr) (part_seen part)
 raw_seen (Retracts name attr part) = model.retracts (name_seen name) (word_of attr) (part_seen part)
 raw_seen (RetractsAll name attr) = model.retracts_all (name_seen name) (word_of attr)
-raw_seen (Compares name attr old new) = model.compares (name_seen name) (word_of attr) (part_seen old) (part_seen new)
+raw_seen (Compares name attr old new) =
+    model.compares (name_seen name) (word_of attr) (part_seen old) (part_seen new)
 raw_seen (RetractsEntity name) = model.retracts_entity (name_seen name)
 raw_seen (Meets name) = model.meets (name_seen name)
 raw_seen (Mentions attr) = model.mentions (word_of attr)

@@ -7,8 +7,10 @@ use Rattle.tx_model.specs.Asks.{Key, forward, backward, without_underscore}
 
 -- the parts before and behind the first slash
 abbrev pub cut_at_slash : List ℕ → Option (List ℕ × List ℕ)
-cut_at_slash text = cond (has_namespace text) (Some (before_first is_slash text, after_first is_slash text)) None
+cut_at_slash text =
+    cond (has_namespace text) (Some (before_first is_slash text, after_first is_slash text)) None
 
 -- an attribute, or one that is reversed
 abbrev pub other_key : List ℕ → Key
-other_key k = cond (begins_with_one_of (95 ∷ []) (local_name k)) (backward (without_underscore k)) (forward k)
+other_key k =
+    cond (begins_with_one_of (95 ∷ []) (local_name k)) (backward (without_underscore k)) (forward k)

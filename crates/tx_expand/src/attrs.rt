@@ -79,7 +79,8 @@ pub fn has_uniqueness(schema: &Schema, k: &Text) -> bool
 pub fn push<'a>(schema: &Schema, out: &mut Out<'a>, raw: RawAsk<'a>) -> Result<(), Memory>
     requires known { AreLookedUp schema.now out.old }
     requires raw_known { IsAskLookedUp schema.now raw }
-    ensures asks { IfOk result (λ _. out_seen out.new ≡ out_seen out.old ++ raw_seen raw.entry ∷ []) }
+    ensures asks { IfOk result
+        (λ _. out_seen out.new ≡ out_seen out.old ++ raw_seen raw.entry ∷ []) }
     ensures next { IfOk result (λ _. out.new.next ≡ out.old.next) }
     ensures known { IfOk result (λ _. AreLookedUp schema.now out.new) }
 {

@@ -26,9 +26,15 @@ use tx_refusals::{Reason, Refusal};
 /// first form that breaks it.
 pub fn expand<'a>(alloc: Global, forms: Forms<'a>, schema: &'a Schema) -> Result<Flat<'a>, TxStop>
     requires lawful { IsLawfulSchema schema.now }
-    ensures asks { IfOk result (λ found. (h : List Entry) → SchemaStands schema.now h → AreAsks found (facts h) (flat (facts h) (forms_of forms.entry.forms.now))) }
-    ensures unbroken { IfOk result (λ _. (h : List Entry) → SchemaStands schema.now h → first_refusal (schema_rules (db_of h) (flat (facts h) (forms_of forms.entry.forms.now))) ≡ None) }
-    ensures refused { IfErr result (λ stop. IfRefused stop (λ refusal. (h : List Entry) → SchemaStands schema.now h → first_refusal (schema_rules (db_of h) (flat (facts h) (forms_of forms.entry.forms.now))) ≡ Some refusal)) }
+    ensures asks { IfOk result (λ found. (h : List Entry) → SchemaStands schema.now h
+        → AreAsks found (facts h) (flat (facts h) (forms_of forms.entry.forms.now))) }
+    ensures unbroken { IfOk result (λ _. (h : List Entry) → SchemaStands schema.now h
+        → first_refusal (schema_rules (db_of h) (flat (facts h) (forms_of forms.entry.forms.now)))
+        ≡ None) }
+    ensures refused { IfErr result (λ stop. IfRefused stop (λ refusal. (h : List Entry)
+        → SchemaStands schema.now h
+        → first_refusal (schema_rules (db_of h) (flat (facts h) (forms_of forms.entry.forms.now)))
+        ≡ Some refusal)) }
 {
     attributes_have_their_names();
     schemas_tell_of_attributes();

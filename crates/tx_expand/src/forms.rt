@@ -45,10 +45,13 @@ fn expand_form<'a>(
 ) -> Result<Judged<'a>, Memory>
     requires own { HaveOwnNames schema.now }
     requires shape { has_shape (form_of f.now) ≡ true }
-    ensures faults { IfOk result (λ judged. judged.faults ≡ form_faults schema.now (form_told schema.now out.old.next (form_of f.now)).asks) }
-    ensures asks { IfOk result (λ judged. map ask_read judged.asks.items ≡ filter (is_kept schema.now) (form_told schema.now out.old.next (form_of f.now)).asks) }
+    ensures faults { IfOk result (λ judged. judged.faults
+        ≡ form_faults schema.now (form_told schema.now out.old.next (form_of f.now)).asks) }
+    ensures asks { IfOk result (λ judged. map ask_read judged.asks.items
+        ≡ filter (is_kept schema.now) (form_told schema.now out.old.next (form_of f.now)).asks) }
     ensures read { IfOk result (λ judged. All (IsRead schema.now) judged.asks.items) }
-    ensures next { IfOk result (λ _. out.new.next ≡ (form_told schema.now out.old.next (form_of f.now)).next) }
+    ensures next { IfOk result
+        (λ _. out.new.next ≡ (form_told schema.now out.old.next (form_of f.now)).next) }
 {
     out.raws.clear();
     form_asks(alloc, schema, out, f)?;

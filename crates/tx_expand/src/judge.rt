@@ -33,7 +33,8 @@ pub struct Judged<'a> {
 
 #[tactic(auto, using(crate::proofs::LookupRefs::either_none))]
 fn part_faults(schema: &Schema, part: RawPart<'_>) -> Result<NameFaults, Memory>
-    ensures { IfOk result (λ found. found ≡ faults.names_faults schema.now (asks.name_of_part (part_seen part.entry))) }
+    ensures { IfOk result (λ found. found
+        ≡ faults.names_faults schema.now (asks.name_of_part (part_seen part.entry))) }
 {
     match part {
         RawPart::Plain(_) => Ok(NameFaults::NONE),
@@ -44,7 +45,8 @@ fn part_faults(schema: &Schema, part: RawPart<'_>) -> Result<NameFaults, Memory>
 /// What is wrong with the lookup refs in the names of the ask.
 #[tactic(auto, using(crate::proofs::LookupRefs::either_none, crate::proofs::LookupRefs::faults_behind))]
 fn names_faults(schema: &Schema, raw: &RawAsk<'_>) -> Result<NameFaults, Memory>
-    ensures { IfOk result (λ found. found ≡ faults.names_faults schema.now (asks.names_of (raw_seen raw.now))) }
+    ensures { IfOk result
+        (λ found. found ≡ faults.names_faults schema.now (asks.names_of (raw_seen raw.now))) }
 {
     match raw {
         RawAsk::Adds(on, _, part) => Ok(name_faults(schema, *on)?.or(part_faults(schema, *part)?)),
@@ -166,7 +168,8 @@ fn keep<'a>(
 ) -> Result<(), Memory>
     requires settled { Settles _schema.now (raw_seen _raw.now) settled }
     requires read { All (IsRead _schema.now) asks.old.items }
-    ensures asks { IfOk result (λ _. map ask_read asks.new.items ≡ map ask_read asks.old.items ++ filter (is_kept _schema.now) (raw_seen _raw.now ∷ [])) }
+    ensures asks { IfOk result (λ _. map ask_read asks.new.items
+        ≡ map ask_read asks.old.items ++ filter (is_kept _schema.now) (raw_seen _raw.now ∷ [])) }
     ensures read { IfOk result (λ _. All (IsRead _schema.now) asks.new.items) }
 {
     match settled {
@@ -183,8 +186,10 @@ fn keep<'a>(
 fn judge<'a>(schema: &Schema, raw: &RawAsk<'a>, asks: &mut Vec<Ask<'a>>) -> Result<Faults, Memory>
     requires known { IsAskLookedUp schema.now raw.now }
     requires read { All (IsRead schema.now) asks.old.items }
-    ensures faults { IfOk result (λ found. found ≡ faults.ask_faults schema.now (raw_seen raw.now)) }
-    ensures asks { IfOk result (λ _. map ask_read asks.new.items ≡ map ask_read asks.old.items ++ filter (is_kept schema.now) (raw_seen raw.now ∷ [])) }
+    ensures faults { IfOk result
+        (λ found. found ≡ faults.ask_faults schema.now (raw_seen raw.now)) }
+    ensures asks { IfOk result (λ _. map ask_read asks.new.items
+        ≡ map ask_read asks.old.items ++ filter (is_kept schema.now) (raw_seen raw.now ∷ [])) }
     ensures read { IfOk result (λ _. All (IsRead schema.now) asks.new.items) }
 {
     let names = names_faults(schema, raw)?;
@@ -209,8 +214,10 @@ pub fn judge_all<'a>(
     raws: &[RawAsk<'a>],
 ) -> Result<Judged<'a>, Memory>
     requires known { All (IsAskLookedUp schema.now) raws.now }
-    ensures faults { IfOk result (λ judged. judged.faults ≡ faults.form_faults schema.now (map raw_seen raws.now)) }
-    ensures asks { IfOk result (λ judged. map ask_read judged.asks.items ≡ filter (is_kept schema.now) (map raw_seen raws.now)) }
+    ensures faults { IfOk result
+        (λ judged. judged.faults ≡ faults.form_faults schema.now (map raw_seen raws.now)) }
+    ensures asks { IfOk result (λ judged. map ask_read judged.asks.items
+        ≡ filter (is_kept schema.now) (map raw_seen raws.now)) }
     ensures read { IfOk result (λ judged. All (IsRead schema.now) judged.asks.items) }
 {
     let mut asks = Vec::with_capacity(alloc, raws.len())?;

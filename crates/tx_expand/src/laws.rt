@@ -21,8 +21,12 @@ use fb_schema::schemas_tell_of_attributes;
 /// What a transaction asks, and which of the rules it breaks that need the schema alone, is told by the attributes that
 /// keywords name.
 pub fn attributes_decide_what_is_asked()
-    ensures asks { (one other : List Datom) (fs : List Form) → ((k : List ℕ) → attribute_named one k ≡ attribute_named other k) → flat one fs ≡ flat other fs }
-    ensures rules { (one other : Db) (asks : List (List Ask)) → ((k : List ℕ) → attribute_named one.facts k ≡ attribute_named other.facts k) → schema_rules one asks ≡ schema_rules other asks }
+    ensures asks { (one other : List Datom) (fs : List Form)
+        → ((k : List ℕ) → attribute_named one k ≡ attribute_named other k)
+        → flat one fs ≡ flat other fs }
+    ensures rules { (one other : Db) (asks : List (List Ask))
+        → ((k : List ℕ) → attribute_named one.facts k ≡ attribute_named other.facts k)
+        → schema_rules one asks ≡ schema_rules other asks }
 {}
 
 /// In a lawful history an attribute that a keyword names has that keyword as its name.
@@ -39,5 +43,9 @@ pub fn attributes_have_their_names()
 /// No two maps of a transaction stand at one place: where they are numbered in the order in which a reader meets them,
 /// each number has a place of its own.
 pub fn maps_have_places_of_their_own()
-    ensures { (facts : List Datom) (fs : List Form) → (places : List (List ℕ)) × (AreApart places × (length places ≡ next_behind facts 0 fs) × (map (map (ask_placed places)) (forms_told facts 0 fs) ≡ flat facts fs)) }
+    ensures { (facts : List Datom) (fs : List Form)
+        → (places : List (List ℕ))
+        × (AreApart places
+        × (length places ≡ next_behind facts 0 fs)
+        × (map (map (ask_placed places)) (forms_told facts 0 fs) ≡ flat facts fs)) }
 {}

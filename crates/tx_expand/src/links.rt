@@ -29,7 +29,9 @@ pub fn link<'a>(
 ) -> Result<(), Memory>
     requires link_known { IsLinkLookedUp schema.now link.now }
     requires known { AreLookedUp schema.now out.old }
-    ensures asks { IfOk result (λ _. out_seen out.new ≡ out_seen out.old ++ model.links (name_seen this.entry) (link_seen link.now) (part_seen part.entry)) }
+    ensures asks { IfOk result (λ _. out_seen out.new
+        ≡ out_seen out.old
+        ++ model.links (name_seen this.entry) (link_seen link.now) (part_seen part.entry)) }
     ensures next { IfOk result (λ _. out.new.next ≡ out.old.next) }
     ensures known { IfOk result (λ _. AreLookedUp schema.now out.new) }
 {
@@ -55,7 +57,10 @@ pub fn scalar_link<'a>(
 ) -> Result<(), Memory>
     requires link_known { IsLinkLookedUp schema.now key.now }
     requires known { AreLookedUp schema.now out.old }
-    ensures asks { IfOk result (λ _. out_seen out.new ≡ out_seen out.old ++ model.scalar_asks schema.now (name_seen this.entry) (link_seen key.now) (form_of f.now)) }
+    ensures asks { IfOk result (λ _. out_seen out.new
+        ≡ out_seen out.old
+        ++ model.scalar_asks schema.now (name_seen this.entry) (link_seen key.now)
+        (form_of f.now)) }
     ensures next { IfOk result (λ _. out.new.next ≡ out.old.next) }
     ensures known { IfOk result (λ _. AreLookedUp schema.now out.new) }
 {
@@ -74,7 +79,9 @@ pub fn scalar_link<'a>(
 /// ref of a unique attribute.
 pub fn is_collection<'a>(schema: &Schema, key: &Link<'a>, items: &Items) -> bool
     requires { IsLinkLookedUp schema.now key.now }
-    ensures { result ≡ is_model_collection schema.now (link_seen key.now) (asks.lookup_in (edn.forms (forms_of (members items.now)))) }
+    ensures { result
+        ≡ is_model_collection schema.now (link_seen key.now)
+        (asks.lookup_in (edn.forms (forms_of (members items.now)))) }
 {
     match lookup_in(items) {
         Some((k, _)) => match key {
@@ -108,10 +115,16 @@ pub fn vector_link<'a>(
     items: &'a Items,
 ) -> Result<(), Memory>
     requires vector { form_of f.now ≡ edn.vector (edn.forms (forms_of (members items.now))) }
-    requires alone { is_model_collection schema.now (link_seen key.now) (asks.lookup_in (edn.forms (forms_of (members items.now)))) ≡ false }
+    requires alone { is_model_collection schema.now (link_seen key.now)
+        (asks.lookup_in (edn.forms (forms_of (members items.now))))
+        ≡ false }
     requires link_known { IsLinkLookedUp schema.now key.now }
     requires known { AreLookedUp schema.now out.old }
-    ensures asks { IfOk result (λ _. out_seen out.new ≡ out_seen out.old ++ model.vector_asks schema.now (name_seen this.entry) (link_seen key.now) (edn.forms (forms_of (members items.now))) (asks.lookup_in (edn.forms (forms_of (members items.now)))) []) }
+    ensures asks { IfOk result (λ _. out_seen out.new
+        ≡ out_seen out.old
+        ++ model.vector_asks schema.now (name_seen this.entry) (link_seen key.now)
+        (edn.forms (forms_of (members items.now)))
+        (asks.lookup_in (edn.forms (forms_of (members items.now)))) []) }
     ensures next { IfOk result (λ _. out.new.next ≡ out.old.next) }
     ensures known { IfOk result (λ _. AreLookedUp schema.now out.new) }
 {
@@ -146,7 +159,13 @@ pub fn member_link<'a>(
     requires vector { form_of f.now ≡ edn.vector (edn.forms (forms_of (members items.now))) }
     requires link_known { IsLinkLookedUp schema.now key.now }
     requires known { AreLookedUp schema.now out.old }
-    ensures asks { IfOk result (λ _. out_seen out.new ≡ out_seen out.old ++ model.vector_asks schema.now (name_seen this.entry) (link_seen key.now) (edn.forms (forms_of (members items.now))) (asks.lookup_in (edn.forms (forms_of (members items.now)))) (model.links (name_seen this.entry) (link_seen key.now) (asks.plain (edn.vector (edn.forms (forms_of (members items.now))))))) }
+    ensures asks { IfOk result (λ _. out_seen out.new
+        ≡ out_seen out.old
+        ++ model.vector_asks schema.now (name_seen this.entry) (link_seen key.now)
+        (edn.forms (forms_of (members items.now)))
+        (asks.lookup_in (edn.forms (forms_of (members items.now))))
+        (model.links (name_seen this.entry) (link_seen key.now)
+        (asks.plain (edn.vector (edn.forms (forms_of (members items.now))))))) }
     ensures next { IfOk result (λ _. out.new.next ≡ out.old.next) }
     ensures known { IfOk result (λ _. AreLookedUp schema.now out.new) }
 {
@@ -173,7 +192,8 @@ fn identifies<'a>(alloc: Global, schema: &'a Schema, key: &Edn) -> Result<bool, 
 /// Whether the map has `:db/id` or a unique attribute among its keys.
 fn has_identity<'a>(alloc: Global, schema: &'a Schema, pairs: &Pairs) -> Result<bool, Memory>
     requires { HaveOwnNames schema.now }
-    ensures { IfOk result (λ b. b ≡ model.has_identity schema.now (edn.pairs (pairs_of (entries pairs.now)))) }
+    ensures { IfOk result
+        (λ b. b ≡ model.has_identity schema.now (edn.pairs (pairs_of (entries pairs.now)))) }
 {
     for (key, _) in pairs.as_slice() {
         if identifies(alloc, schema, key)? {
@@ -192,7 +212,8 @@ pub fn lacks_id<'a>(
 ) -> Result<bool, Memory>
     requires own { HaveOwnNames schema.now }
     requires link_known { IsLinkLookedUp schema.now key.now }
-    ensures { IfOk result (λ b. b ≡ lacks schema.now (link_seen key.now) (edn.pairs (pairs_of (entries pairs.now)))) }
+    ensures { IfOk result
+        (λ b. b ≡ lacks schema.now (link_seen key.now) (edn.pairs (pairs_of (entries pairs.now)))) }
 {
     if let Link::Forward(attr) = key {
         if has_parts(schema, attr) {
@@ -215,8 +236,10 @@ fn number_behind(name: Name<'_>, next: usize) -> Result<usize, Memory>
 
 /// The map's entity: the one that it names by `:db/id`, or the next of those that have none.
 pub fn enter<'a>(out: &mut Out<'a>, pairs: &'a Pairs) -> Result<Name<'a>, Memory>
-    ensures name { IfOk result (λ name. name_seen name ≡ name_at out.old.next (edn.pairs (pairs_of (entries pairs.now)))) }
-    ensures next { IfOk result (λ _. out.new.next ≡ behind (name_at out.old.next (edn.pairs (pairs_of (entries pairs.now)))) out.old.next) }
+    ensures name { IfOk result
+        (λ name. name_seen name ≡ name_at out.old.next (edn.pairs (pairs_of (entries pairs.now)))) }
+    ensures next { IfOk result (λ _. out.new.next
+        ≡ behind (name_at out.old.next (edn.pairs (pairs_of (entries pairs.now)))) out.old.next) }
     ensures raws { IfOk result (λ _. out.new.raws ≡ out.old.raws) }
 {
     let name = name_of_map(pairs, out.next);
@@ -260,9 +283,14 @@ pub fn enter_nested<'a>(
     requires own { HaveOwnNames schema.now }
     requires link_known { IsLinkLookedUp schema.now key.now }
     requires known { AreLookedUp schema.now out.old }
-    ensures name { IfOk result (λ name. name_seen name ≡ name_at out.old.next (edn.pairs (pairs_of (entries pairs.now)))) }
-    ensures next { IfOk result (λ _. out.new.next ≡ behind (name_at out.old.next (edn.pairs (pairs_of (entries pairs.now)))) out.old.next) }
-    ensures asks { IfOk result (λ _. out_seen out.new ≡ out_seen out.old ++ entry_asks schema.now (name_seen this.entry) (link_seen key.now) out.old.next (edn.pairs (pairs_of (entries pairs.now)))) }
+    ensures name { IfOk result
+        (λ name. name_seen name ≡ name_at out.old.next (edn.pairs (pairs_of (entries pairs.now)))) }
+    ensures next { IfOk result (λ _. out.new.next
+        ≡ behind (name_at out.old.next (edn.pairs (pairs_of (entries pairs.now)))) out.old.next) }
+    ensures asks { IfOk result (λ _. out_seen out.new
+        ≡ out_seen out.old
+        ++ entry_asks schema.now (name_seen this.entry) (link_seen key.now) out.old.next
+        (edn.pairs (pairs_of (entries pairs.now)))) }
     ensures known { IfOk result (λ _. AreLookedUp schema.now out.new) }
 {
     let lacks = lacks_id(alloc, schema, key, pairs)?;

@@ -74,7 +74,9 @@ fn add<'a>(schema: &'a Schema, e: &'a Edn, a: &Edn, v: &'a Edn) -> Result<RawAsk
     requires own { HaveOwnNames schema.now }
     requires entity { shapes.names_an_entity (form_of e.now) ≡ true }
     requires keyword { shapes.is_keyword (form_of a.now) ≡ true }
-    ensures ask { IfOk result (λ raw. raw_seen raw ∷ [] ≡ model.list_asks schema.now (Some shapes.add) (form_of e.now ∷ form_of a.now ∷ form_of v.now ∷ [])) }
+    ensures ask { IfOk result (λ raw. raw_seen raw ∷ []
+        ≡ model.list_asks schema.now (Some shapes.add)
+        (form_of e.now ∷ form_of a.now ∷ form_of v.now ∷ [])) }
     ensures known { IfOk result (λ raw. IsAskLookedUp schema.now raw) }
 {
     let attr = attribute_in(schema, a)?;
@@ -86,7 +88,9 @@ fn retract<'a>(schema: &'a Schema, e: &'a Edn, a: &Edn, v: &'a Edn) -> Result<Ra
     requires own { HaveOwnNames schema.now }
     requires entity { shapes.names_an_entity (form_of e.now) ≡ true }
     requires keyword { shapes.is_keyword (form_of a.now) ≡ true }
-    ensures ask { IfOk result (λ raw. raw_seen raw ∷ [] ≡ model.list_asks schema.now (Some shapes.retract) (form_of e.now ∷ form_of a.now ∷ form_of v.now ∷ [])) }
+    ensures ask { IfOk result (λ raw. raw_seen raw ∷ []
+        ≡ model.list_asks schema.now (Some shapes.retract)
+        (form_of e.now ∷ form_of a.now ∷ form_of v.now ∷ [])) }
     ensures known { IfOk result (λ raw. IsAskLookedUp schema.now raw) }
 {
     let attr = attribute_in(schema, a)?;
@@ -98,7 +102,8 @@ fn retract_all<'a>(schema: &'a Schema, e: &'a Edn, a: &Edn) -> Result<RawAsk<'a>
     requires own { HaveOwnNames schema.now }
     requires entity { shapes.names_an_entity (form_of e.now) ≡ true }
     requires keyword { shapes.is_keyword (form_of a.now) ≡ true }
-    ensures ask { IfOk result (λ raw. raw_seen raw ∷ [] ≡ model.list_asks schema.now (Some shapes.retract) (form_of e.now ∷ form_of a.now ∷ [])) }
+    ensures ask { IfOk result (λ raw. raw_seen raw ∷ []
+        ≡ model.list_asks schema.now (Some shapes.retract) (form_of e.now ∷ form_of a.now ∷ [])) }
     ensures known { IfOk result (λ raw. IsAskLookedUp schema.now raw) }
 {
     let attr = attribute_in(schema, a)?;
@@ -115,7 +120,9 @@ fn compare<'a>(
     requires own { HaveOwnNames schema.now }
     requires entity { shapes.names_an_entity (form_of e.now) ≡ true }
     requires keyword { shapes.is_keyword (form_of a.now) ≡ true }
-    ensures ask { IfOk result (λ raw. raw_seen raw ∷ [] ≡ model.list_asks schema.now (Some shapes.cas) (form_of e.now ∷ form_of a.now ∷ form_of old.now ∷ form_of new.now ∷ [])) }
+    ensures ask { IfOk result (λ raw. raw_seen raw ∷ []
+        ≡ model.list_asks schema.now (Some shapes.cas)
+        (form_of e.now ∷ form_of a.now ∷ form_of old.now ∷ form_of new.now ∷ [])) }
     ensures known { IfOk result (λ raw. IsAskLookedUp schema.now raw) }
 {
     let attr = attribute_in(schema, a)?;
@@ -126,7 +133,8 @@ fn compare<'a>(
 
 fn retract_entity<'a>(e: &'a Edn) -> RawAsk<'a>
     requires { shapes.names_an_entity (form_of e.now) ≡ true }
-    ensures ask { raw_seen result ∷ [] ≡ model.list_asks [] (Some shapes.retract_entity) (form_of e.now ∷ []) }
+    ensures ask { raw_seen result ∷ []
+        ≡ model.list_asks [] (Some shapes.retract_entity) (form_of e.now ∷ []) }
     ensures known { (facts : List Datom) → IsAskLookedUp facts result }
 {
     RawAsk::RetractsEntity(entity_in(e))
@@ -136,7 +144,8 @@ fn retract_entity<'a>(e: &'a Edn) -> RawAsk<'a>
 fn ask_of<'a>(schema: &'a Schema, verb: Verb, arguments: &'a [Edn]) -> Result<RawAsk<'a>, Memory>
     requires own { HaveOwnNames schema.now }
     requires shape { shapes.has_arguments (Some (verb_of verb)) (forms_of arguments.now) ≡ true }
-    ensures ask { IfOk result (λ raw. raw_seen raw ∷ [] ≡ model.list_asks schema.now (Some (verb_of verb)) (forms_of arguments.now)) }
+    ensures ask { IfOk result (λ raw. raw_seen raw ∷ []
+        ≡ model.list_asks schema.now (Some (verb_of verb)) (forms_of arguments.now)) }
     ensures known { IfOk result (λ raw. IsAskLookedUp schema.now raw) }
 {
     match verb {
@@ -164,7 +173,8 @@ fn ask_of<'a>(schema: &'a Schema, verb: Verb, arguments: &'a [Edn]) -> Result<Ra
 pub fn list_ask<'a>(schema: &'a Schema, members: &'a [Edn]) -> Result<RawAsk<'a>, Memory>
     requires own { HaveOwnNames schema.now }
     requires shape { shapes.has_list_shape (forms_of members.now) ≡ true }
-    ensures ask { IfOk result (λ raw. raw_seen raw ∷ [] ≡ model.verb_asks schema.now (forms_of members.now)) }
+    ensures ask { IfOk result
+        (λ raw. raw_seen raw ∷ [] ≡ model.verb_asks schema.now (forms_of members.now)) }
     ensures known { IfOk result (λ raw. IsAskLookedUp schema.now raw) }
 {
     let [first, arguments @ ..] = members else {

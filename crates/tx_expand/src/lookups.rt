@@ -49,7 +49,8 @@ fn is_no_old_entity(attribute: &Attribute, value: &Edn) -> bool
 
 /// Whether the value is none that the attribute may have already.
 fn is_wrong_lookup(attribute: &Attribute, value: &Edn) -> Result<bool, Memory>
-    ensures { IfOk result (λ b. b ≡ model.is_wrong_lookup (form_of value.now) (attribute_in attribute.now)) }
+    ensures { IfOk result
+        (λ b. b ≡ model.is_wrong_lookup (form_of value.now) (attribute_in attribute.now)) }
 {
     if attribute.is_ref() {
         return Ok(is_no_old_entity(attribute, value));
@@ -65,7 +66,8 @@ fn lookup_faults(
     value: &Edn,
 ) -> Result<NameFaults, Memory>
     requires { attribute_named _schema.now _k.now ≡ Some (attribute_in attribute.now) }
-    ensures { IfOk result (λ faults. faults ≡ lookup_faults _schema.now (_k.now, form_of value.now)) }
+    ensures { IfOk result
+        (λ faults. faults ≡ lookup_faults _schema.now (_k.now, form_of value.now)) }
 {
     Ok(NameFaults {
         unknown: false,
@@ -77,7 +79,8 @@ fn lookup_faults(
 /// What is wrong with the lookup ref, or with one that is its value.
 #[cycle(inside)]
 fn faults_from(schema: &Schema, k: &Text, value: &Edn) -> Result<NameFaults, Memory>
-    ensures { IfOk result (λ faults. faults ≡ lookups_faults schema.now (model.lookups_from schema.now k.now (form_of value.now))) }
+    ensures { IfOk result (λ faults. faults
+        ≡ lookups_faults schema.now (model.lookups_from schema.now k.now (form_of value.now))) }
 {
     let Some(attribute) = schema.named(k) else {
         return Ok(NameFaults {
@@ -100,7 +103,9 @@ fn faults_from(schema: &Schema, k: &Text, value: &Edn) -> Result<NameFaults, Mem
 #[cycle(inside)]
 #[tactic(auto, using(crate::proofs::LookupRefs::lookup_of_others))]
 fn faults_of_pair(schema: &Schema, items: &Items) -> Result<NameFaults, Memory>
-    ensures { IfOk result (λ faults. faults ≡ lookups_faults schema.now (lookups_inside schema.now (asks.lookup_in (edn.forms (forms_of (members items.now)))))) }
+    ensures { IfOk result (λ faults. faults
+        ≡ lookups_faults schema.now
+        (lookups_inside schema.now (asks.lookup_in (edn.forms (forms_of (members items.now)))))) }
 {
     let [first, value] = items.as_slice() else {
         return Ok(NameFaults::NONE);
@@ -113,7 +118,8 @@ fn faults_of_pair(schema: &Schema, items: &Items) -> Result<NameFaults, Memory>
 
 /// What is wrong with the lookup refs in the name.
 pub fn name_faults(schema: &Schema, name: Name<'_>) -> Result<NameFaults, Memory>
-    ensures { IfOk result (λ faults. faults ≡ lookups_faults schema.now (model.lookups_in schema.now (name_seen name.entry))) }
+    ensures { IfOk result (λ faults. faults
+        ≡ lookups_faults schema.now (model.lookups_in schema.now (name_seen name.entry))) }
 {
     match name {
         Name::Lookup(k, value) => faults_from(schema, k, value),

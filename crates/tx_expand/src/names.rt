@@ -67,7 +67,9 @@ pub fn attribute_in<'a>(schema: &'a Schema, f: &Edn) -> Result<Attr<'a>, Memory>
 
 /// The name that a pair of `:db/id` gives.
 fn named_by<'a>(key: &Edn, value: &'a Edn) -> Option<Name<'a>>
-    ensures { (other : asks.Name) → unwrap_or (option_map name_seen result) other ≡ walk.named_by (asks.key_in (form_of key.now)) (form_of value.now) other }
+    ensures { (other : asks.Name)
+        → unwrap_or (option_map name_seen result) other
+        ≡ walk.named_by (asks.key_in (form_of key.now)) (form_of value.now) other }
 {
     if is_id(key) { name_in(value) } else { None }
 }
@@ -88,7 +90,8 @@ pub fn name_of_map<'a>(pairs: &'a Pairs, next: usize) -> Name<'a>
 
 /// The parts before and behind the first slash, where there is one.
 fn split(text: &str) -> Option<(&str, &str)>
-    ensures { option_map {U = List ℕ × List ℕ} (λ parts. (parts.0.now, parts.1.now)) result ≡ cut_at_slash text.now }
+    ensures { option_map {U = List ℕ × List ℕ} (λ parts. (parts.0.now, parts.1.now)) result
+        ≡ cut_at_slash text.now }
 {
     text.split_once('/')
 }

@@ -32,8 +32,11 @@ pub enum Settled<'a> {
 
 /// The part with its value read, if it is one of the attribute.
 fn read_part<'a>(attribute: &Attribute, part: RawPart<'a>) -> Result<Option<Operand<'a>>, Memory>
-    ensures { IfOk result (λ read. MatchOption read (model.is_wrong_part (attribute_in attribute.now) (part_seen part.entry) ≡ true)
-        (λ r. (model.is_wrong_part (attribute_in attribute.now) (part_seen part.entry) ≡ false) × (part_read r ≡ part_seen part.entry) × IsReadPart attribute.now r)) }
+    ensures { IfOk result (λ read. MatchOption read
+        (model.is_wrong_part (attribute_in attribute.now) (part_seen part.entry) ≡ true)
+        (λ r. (model.is_wrong_part (attribute_in attribute.now) (part_seen part.entry) ≡ false)
+        × (part_read r ≡ part_seen part.entry)
+        × IsReadPart attribute.now r)) }
 {
     match part {
         RawPart::Plain(f) => match plain_value(attribute, f)? {
@@ -54,8 +57,11 @@ fn read_old<'a>(
     attribute: &Attribute,
     part: RawPart<'a>,
 ) -> Result<Option<Option<Operand<'a>>>, Memory>
-    ensures { IfOk result (λ read. MatchOption read (model.is_wrong_old_part (attribute_in attribute.now) (part_seen part.entry) ≡ true)
-        (λ r. (model.is_wrong_old_part (attribute_in attribute.now) (part_seen part.entry) ≡ false) × (old_part_read r ≡ part_seen part.entry) × IsReadOldPart attribute.now r)) }
+    ensures { IfOk result (λ read. MatchOption read
+        (model.is_wrong_old_part (attribute_in attribute.now) (part_seen part.entry) ≡ true)
+        (λ r. (model.is_wrong_old_part (attribute_in attribute.now) (part_seen part.entry) ≡ false)
+        × (old_part_read r ≡ part_seen part.entry)
+        × IsReadOldPart attribute.now r)) }
 {
     match part {
         RawPart::Plain(f) => read_old_form(attribute, f),
@@ -73,9 +79,16 @@ fn known_old<'a>(part: Option<Operand<'a>>) -> Option<Option<Operand<'a>>>
     }
 }
 
-fn read_old_form<'a>(attribute: &Attribute, f: &'a Edn) -> Result<Option<Option<Operand<'a>>>, Memory>
-    ensures { IfOk result (λ read. MatchOption read (model.is_wrong_old_part (attribute_in attribute.now) (asks.plain (form_of f.now)) ≡ true)
-        (λ r. (model.is_wrong_old_part (attribute_in attribute.now) (asks.plain (form_of f.now)) ≡ false) × (old_part_read r ≡ asks.plain (form_of f.now)) × IsReadOldPart attribute.now r)) }
+fn read_old_form<'a>(
+    attribute: &Attribute,
+    f: &'a Edn,
+) -> Result<Option<Option<Operand<'a>>>, Memory>
+    ensures { IfOk result (λ read. MatchOption read
+        (model.is_wrong_old_part (attribute_in attribute.now) (asks.plain (form_of f.now)) ≡ true)
+        (λ r. (model.is_wrong_old_part (attribute_in attribute.now) (asks.plain (form_of f.now))
+        ≡ false)
+        × (old_part_read r ≡ asks.plain (form_of f.now))
+        × IsReadOldPart attribute.now r)) }
 {
     match f {
         Edn::Nil => Ok(Some(None)),
@@ -93,7 +106,8 @@ fn settle_addition<'a>(
     part: RawPart<'a>,
 ) -> Result<Settled<'a>, Memory>
     requires { IsLookedUp _schema.now attr.now }
-    ensures { IfOk result (λ settled. Settles _schema.now (asks.adds (name_seen on.entry) (word_of attr.now) (part_seen part.entry)) settled) }
+    ensures { IfOk result (λ settled. Settles _schema.now
+        (asks.adds (name_seen on.entry) (word_of attr.now) (part_seen part.entry)) settled) }
 {
     let Attr::Known(attribute) = attr else {
         return Ok(Settled::Unknown);
@@ -115,7 +129,8 @@ fn settle_retraction<'a>(
     part: RawPart<'a>,
 ) -> Result<Settled<'a>, Memory>
     requires { IsLookedUp _schema.now attr.now }
-    ensures { IfOk result (λ settled. Settles _schema.now (asks.retracts (name_seen on.entry) (word_of attr.now) (part_seen part.entry)) settled) }
+    ensures { IfOk result (λ settled. Settles _schema.now
+        (asks.retracts (name_seen on.entry) (word_of attr.now) (part_seen part.entry)) settled) }
 {
     let Attr::Known(attribute) = attr else {
         return Ok(Settled::Unknown);
@@ -138,7 +153,10 @@ fn settle_comparison<'a>(
     new: RawPart<'a>,
 ) -> Result<Settled<'a>, Memory>
     requires { IsLookedUp _schema.now attr.now }
-    ensures { IfOk result (λ settled. Settles _schema.now (asks.compares (name_seen on.entry) (word_of attr.now) (part_seen old.entry) (part_seen new.entry)) settled) }
+    ensures { IfOk result (λ settled. Settles _schema.now
+        (asks.compares (name_seen on.entry) (word_of attr.now) (part_seen old.entry)
+        (part_seen new.entry))
+        settled) }
 {
     let Attr::Known(attribute) = attr else {
         return Ok(Settled::Unknown);

@@ -33,8 +33,13 @@ fn map_asks<'a>(
 ) -> Result<(), Memory>
     requires own { HaveOwnNames schema.now }
     requires known { AreLookedUp schema.now out.old }
-    ensures asks { IfOk result (λ _. out_seen out.new ≡ out_seen out.old ++ (map_told schema.now (name_seen this.entry) out.old.next (edn.pairs (pairs_of (entries pairs.now)))).asks) }
-    ensures next { IfOk result (λ _. out.new.next ≡ (map_told schema.now (name_seen this.entry) out.old.next (edn.pairs (pairs_of (entries pairs.now)))).next) }
+    ensures asks { IfOk result (λ _. out_seen out.new
+        ≡ out_seen out.old
+        ++ (map_told schema.now (name_seen this.entry) out.old.next
+        (edn.pairs (pairs_of (entries pairs.now)))).asks) }
+    ensures next { IfOk result (λ _. out.new.next
+        ≡ (map_told schema.now (name_seen this.entry) out.old.next
+        (edn.pairs (pairs_of (entries pairs.now)))).next) }
     ensures known { IfOk result (λ _. AreLookedUp schema.now out.new) }
 {
     for (key, value) in pairs.as_slice() {
@@ -58,8 +63,15 @@ fn pair_asks<'a>(
     requires own { HaveOwnNames schema.now }
     requires link_known { IsLinkLookedUp schema.now key.now }
     requires known { AreLookedUp schema.now out.old }
-    ensures asks { IfOk result (λ _. out_seen out.new ≡ out_seen out.old ++ (pair_told schema.now (name_seen this.entry) (link_seen key.now) out.old.next (value_told schema.now (name_seen this.entry) (link_seen key.now) out.old.next (form_of value.now))).asks) }
-    ensures next { IfOk result (λ _. out.new.next ≡ (pair_told schema.now (name_seen this.entry) (link_seen key.now) out.old.next (value_told schema.now (name_seen this.entry) (link_seen key.now) out.old.next (form_of value.now))).next) }
+    ensures asks { IfOk result (λ _. out_seen out.new
+        ≡ out_seen out.old
+        ++ (pair_told schema.now (name_seen this.entry) (link_seen key.now) out.old.next
+        (value_told schema.now (name_seen this.entry) (link_seen key.now) out.old.next
+        (form_of value.now))).asks) }
+    ensures next { IfOk result (λ _. out.new.next
+        ≡ (pair_told schema.now (name_seen this.entry) (link_seen key.now) out.old.next
+        (value_told schema.now (name_seen this.entry) (link_seen key.now) out.old.next
+        (form_of value.now))).next) }
     ensures known { IfOk result (λ _. AreLookedUp schema.now out.new) }
 {
     match key {
@@ -91,8 +103,13 @@ fn value_asks<'a>(
     requires own { HaveOwnNames schema.now }
     requires link_known { IsLinkLookedUp schema.now key.now }
     requires known { AreLookedUp schema.now out.old }
-    ensures asks { IfOk result (λ _. out_seen out.new ≡ out_seen out.old ++ (value_told schema.now (name_seen this.entry) (link_seen key.now) out.old.next (form_of f.now)).asks) }
-    ensures next { IfOk result (λ _. out.new.next ≡ (value_told schema.now (name_seen this.entry) (link_seen key.now) out.old.next (form_of f.now)).next) }
+    ensures asks { IfOk result (λ _. out_seen out.new
+        ≡ out_seen out.old
+        ++ (value_told schema.now (name_seen this.entry) (link_seen key.now) out.old.next
+        (form_of f.now)).asks) }
+    ensures next { IfOk result (λ _. out.new.next
+        ≡ (value_told schema.now (name_seen this.entry) (link_seen key.now) out.old.next
+        (form_of f.now)).next) }
     ensures known { IfOk result (λ _. AreLookedUp schema.now out.new) }
 {
     match f {
@@ -133,8 +150,13 @@ fn members_asks<'a>(
     requires own { HaveOwnNames schema.now }
     requires link_known { IsLinkLookedUp schema.now key.now }
     requires known { AreLookedUp schema.now out.old }
-    ensures asks { IfOk result (λ _. out_seen out.new ≡ out_seen out.old ++ (members_told schema.now (name_seen this.entry) (link_seen key.now) out.old.next (edn.forms (forms_of (members items.now)))).asks) }
-    ensures next { IfOk result (λ _. out.new.next ≡ (members_told schema.now (name_seen this.entry) (link_seen key.now) out.old.next (edn.forms (forms_of (members items.now)))).next) }
+    ensures asks { IfOk result (λ _. out_seen out.new
+        ≡ out_seen out.old
+        ++ (members_told schema.now (name_seen this.entry) (link_seen key.now) out.old.next
+        (edn.forms (forms_of (members items.now)))).asks) }
+    ensures next { IfOk result (λ _. out.new.next
+        ≡ (members_told schema.now (name_seen this.entry) (link_seen key.now) out.old.next
+        (edn.forms (forms_of (members items.now)))).next) }
     ensures known { IfOk result (λ _. AreLookedUp schema.now out.new) }
 {
     for f in items.as_slice() {
@@ -156,8 +178,13 @@ fn member_asks<'a>(
     requires own { HaveOwnNames schema.now }
     requires link_known { IsLinkLookedUp schema.now key.now }
     requires known { AreLookedUp schema.now out.old }
-    ensures asks { IfOk result (λ _. out_seen out.new ≡ out_seen out.old ++ (member_told schema.now (name_seen this.entry) (link_seen key.now) out.old.next (form_of f.now)).asks) }
-    ensures next { IfOk result (λ _. out.new.next ≡ (member_told schema.now (name_seen this.entry) (link_seen key.now) out.old.next (form_of f.now)).next) }
+    ensures asks { IfOk result (λ _. out_seen out.new
+        ≡ out_seen out.old
+        ++ (member_told schema.now (name_seen this.entry) (link_seen key.now) out.old.next
+        (form_of f.now)).asks) }
+    ensures next { IfOk result (λ _. out.new.next
+        ≡ (member_told schema.now (name_seen this.entry) (link_seen key.now) out.old.next
+        (form_of f.now)).next) }
     ensures known { IfOk result (λ _. AreLookedUp schema.now out.new) }
 {
     match f {
@@ -177,9 +204,12 @@ fn member_asks<'a>(
 #[tactic(auto, using(crate::proofs::FormMembers::items_forms))]
 fn list_asks<'a>(schema: &'a Schema, out: &mut Out<'a>, items: &'a Items) -> Result<(), Memory>
     requires own { HaveOwnNames schema.now }
-    requires shape { shapes.has_list_shape (edn.items (edn.forms (forms_of (members items.now)))) ≡ true }
+    requires shape { shapes.has_list_shape (edn.items (edn.forms (forms_of (members items.now))))
+        ≡ true }
     requires known { AreLookedUp schema.now out.old }
-    ensures asks { IfOk result (λ _. out_seen out.new ≡ out_seen out.old ++ model.verb_asks schema.now (edn.items (edn.forms (forms_of (members items.now))))) }
+    ensures asks { IfOk result (λ _. out_seen out.new
+        ≡ out_seen out.old
+        ++ model.verb_asks schema.now (edn.items (edn.forms (forms_of (members items.now))))) }
     ensures next { IfOk result (λ _. out.new.next ≡ out.old.next) }
     ensures known { IfOk result (λ _. AreLookedUp schema.now out.new) }
 {
@@ -197,8 +227,10 @@ pub fn form_asks<'a>(
     requires own { HaveOwnNames schema.now }
     requires shape { shapes.has_shape (form_of f.now) ≡ true }
     requires known { AreLookedUp schema.now out.old }
-    ensures asks { IfOk result (λ _. out_seen out.new ≡ out_seen out.old ++ (form_told schema.now out.old.next (form_of f.now)).asks) }
-    ensures next { IfOk result (λ _. out.new.next ≡ (form_told schema.now out.old.next (form_of f.now)).next) }
+    ensures asks { IfOk result (λ _. out_seen out.new
+        ≡ out_seen out.old ++ (form_told schema.now out.old.next (form_of f.now)).asks) }
+    ensures next { IfOk result
+        (λ _. out.new.next ≡ (form_told schema.now out.old.next (form_of f.now)).next) }
     ensures known { IfOk result (λ _. AreLookedUp schema.now out.new) }
 {
     match f {

@@ -71,8 +71,10 @@ fn not_a_form(at: usize) -> TxStop
 
 /// Reads which forms a transaction is made of. What is no vector and no list is refused at place 0. It takes no memory.
 pub fn read_forms(asked: &Edn) -> Result<Forms<'_>, TxStop>
-    ensures ok { IfOk result (λ read. model.forms_of (form_of asked.now) ≡ Some (forms_of read.forms.now)) }
-    ensures refused { IfErr result (λ stop. (at : ℕ) × (stop ≡ Refused (record { reason = NotAForm; at = at }))
+    ensures ok { IfOk result
+        (λ read. model.forms_of (form_of asked.now) ≡ Some (forms_of read.forms.now)) }
+    ensures refused { IfErr result (λ stop. (at : ℕ)
+        × (stop ≡ Refused (record { reason = NotAForm; at = at }))
         × (place_without_shape (form_of asked.now) ≡ Some at)) }
 {
     let Some(forms) = forms_in(asked) else {

@@ -20,7 +20,8 @@ abbrev pub keeps_values : List Datom → List Datom → ℕ → Bool
 keeps_values before after e = is_one before e || not (is_one after e) || gives_one_value after e
 
 abbrev pub keeps_holders : List Datom → List Datom → ℕ → Bool
-keeps_holders before after e = is_unique before e || not (is_unique after e) || gives_one_holder after e
+keeps_holders before after e =
+    is_unique before e || not (is_unique after e) || gives_one_holder after e
 
 -- the entity under the facts before and after
 abbrev pub altered : List Datom → List Datom → ℕ → Altered
@@ -35,4 +36,5 @@ altered before after e =
 
 -- the entities that the datoms describe, and no others
 abbrev pub HasAltered : BTreeMap ℕ Altered → List Datom → List Datom → List Datom → Type 0
-HasAltered map before after ds = (e : ℕ) → get nat_cmp map e ≡ cond (is_described e ds) (Some (altered before after e)) None
+HasAltered map before after ds =
+    (e : ℕ) → get nat_cmp map e ≡ cond (is_described e ds) (Some (altered before after e)) None

@@ -48,7 +48,8 @@ pub fn altered_by<F: Facts>(
     requires stands { SchemaStands schema.now (F.history facts.now) }
     requires lawful { IsLawful (F.history facts.now) }
     requires changes { AreChanges datoms.now }
-    ensures { IfOk result (λ map. HasAltered map (facts_in (F.history facts.now)) (after (F.history facts.now) datoms.now) datoms.now) }
+    ensures { IfOk result (λ map. HasAltered map (facts_in (F.history facts.now))
+        (after (F.history facts.now) datoms.now) datoms.now) }
 {
     if !describe(datoms) {
         return Ok(BTreeMap::new(alloc));
@@ -69,7 +70,8 @@ fn altered_among<F: Facts>(
     requires lawful { IsLawful (F.history facts.now) }
     requires changes { AreChanges datoms.now }
     requires parts { AreByAttribute by_attribute.now.parts datoms.now }
-    ensures { IfOk result (λ map. HasAltered map (facts_in (F.history facts.now)) (after (F.history facts.now) datoms.now) datoms.now) }
+    ensures { IfOk result (λ map. HasAltered map (facts_in (F.history facts.now))
+        (after (F.history facts.now) datoms.now) datoms.now) }
 {
     let mut map = BTreeMap::new(alloc);
     let mut i = datoms.len();
@@ -102,8 +104,11 @@ fn alter<F: Facts>(
     requires lawful { IsLawful (F.history facts.now) }
     requires changes { AreChanges datoms.now }
     requires parts { AreByAttribute by_attribute.now.parts datoms.now }
-    ensures { (ds : List Datom) → HasAltered map.old (facts_in (F.history facts.now)) (after (F.history facts.now) datoms.now) ds
-        → IfOk result (λ _. HasAltered map.new (facts_in (F.history facts.now)) (after (F.history facts.now) datoms.now) (d.now ∷ ds)) }
+    ensures { (ds : List Datom)
+        → HasAltered map.old (facts_in (F.history facts.now))
+        (after (F.history facts.now) datoms.now) ds
+        → IfOk result (λ _. HasAltered map.new (facts_in (F.history facts.now))
+        (after (F.history facts.now) datoms.now) (d.now ∷ ds)) }
 {
     if !describes(d) || map.get(&d.e).is_some() {
         return Ok(());
@@ -139,7 +144,9 @@ fn look_at<F: Facts>(
     requires lawful { IsLawful (F.history facts.now) }
     requires changes { AreChanges datoms.now }
     requires parts { AreByAttribute by_attribute.now.parts datoms.now }
-    ensures { IfOk result (λ altered. altered ≡ model_altered (facts_in (F.history facts.now)) (after (F.history facts.now) datoms.now) e) }
+    ensures { IfOk result (λ altered. altered
+        ≡ model_altered (facts_in (F.history facts.now)) (after (F.history facts.now) datoms.now)
+        e) }
 {
     let attribute = attribute_after(alloc, facts, datoms, e)?;
     let one = is_one_value(&attribute);
@@ -173,7 +180,9 @@ fn look_at<F: Facts>(
 }
 
 fn is_one_value(attribute: &Option<Attribute>) -> bool
-    ensures { result ≡ option_map_or (λ attribute. not attribute.many) (option_map attribute_in attribute.now) false }
+    ensures { result
+        ≡ option_map_or (λ attribute. not attribute.many) (option_map attribute_in attribute.now)
+        false }
 {
     match attribute {
         Some(attribute) => !attribute.many,
@@ -182,7 +191,9 @@ fn is_one_value(attribute: &Option<Attribute>) -> bool
 }
 
 fn has_one_holder(attribute: &Option<Attribute>) -> bool
-    ensures { result ≡ option_map_or (λ attribute. not (nat_eq attribute.uniqueness 0)) (option_map attribute_in attribute.now) false }
+    ensures { result
+        ≡ option_map_or (λ attribute. not (nat_eq attribute.uniqueness 0))
+        (option_map attribute_in attribute.now) false }
 {
     match attribute {
         Some(attribute) => attribute.is_unique(),
@@ -222,7 +233,10 @@ fn keeps_values<F: Facts>(
 ) -> Result<bool, Memory>
     requires changes { AreChanges datoms.now }
     requires parts { AreByAttribute by_attribute.now.parts datoms.now }
-    ensures { IfOk result (λ keeps. keeps ≡ (was_one || not one || promises.gives_one_value (after (F.history facts.now) datoms.now) a)) }
+    ensures { IfOk result (λ keeps. keeps
+        ≡ (was_one
+        || not one
+        || promises.gives_one_value (after (F.history facts.now) datoms.now) a)) }
 {
     if was_one || !one {
         return Ok(true);
@@ -242,7 +256,10 @@ fn keeps_holders<F: Facts>(
 ) -> Result<bool, Memory>
     requires changes { AreChanges datoms.now }
     requires parts { AreByAttribute by_attribute.now.parts datoms.now }
-    ensures { IfOk result (λ keeps. keeps ≡ (was_unique || not unique || promises.gives_one_holder (after (F.history facts.now) datoms.now) a)) }
+    ensures { IfOk result (λ keeps. keeps
+        ≡ (was_unique
+        || not unique
+        || promises.gives_one_holder (after (F.history facts.now) datoms.now) a)) }
 {
     if was_unique || !unique {
         return Ok(true);

@@ -150,7 +150,9 @@ fn has_own_instant(entry: &Entry, datoms: &[Datom]) -> bool
 }
 
 fn has_no_other_instant(entry: &Entry, datoms: &[Datom]) -> bool
-    ensures { result ≡ list_all (λ d. not (nat_eq d.a tx_instant) || model.is_own_instant entry.now d) datoms.now }
+    ensures { result
+        ≡ list_all (λ d. not (nat_eq d.a tx_instant) || model.is_own_instant entry.now d)
+        datoms.now }
 {
     for d in datoms {
         if d.a == TX_INSTANT && !is_own_instant(entry, d) {

@@ -62,7 +62,9 @@ pub fn are_typed(schema: &Schema, datoms: &[Datom]) -> bool
 }
 
 fn is_typed(schema: &Schema, d: &Datom) -> bool
-    ensures { result ≡ option_map_or (λ attribute. model_is_of_type attribute.kind d.now.v) (attribute_of schema.now d.now.a) false }
+    ensures { result
+        ≡ option_map_or (λ attribute. model_is_of_type attribute.kind d.now.v)
+        (attribute_of schema.now d.now.a) false }
 {
     match schema.attribute(d.a) {
         Some(attribute) => is_of_type(attribute.kind, &d.v),
@@ -104,7 +106,11 @@ fn rise(datoms: &[Datom]) -> bool
 
 /// Law 6: whether each datom changes something.
 pub fn has_changes_alone<F: Facts>(facts: &F, datoms: &[Datom]) -> bool
-    ensures { result ≡ list_all (λ d. cond d.added (not (holds (F.history facts.now) d.e d.a d.v)) (holds (F.history facts.now) d.e d.a d.v)) datoms.now }
+    ensures { result
+        ≡ list_all
+        (λ d. cond d.added (not (holds (F.history facts.now) d.e d.a d.v))
+        (holds (F.history facts.now) d.e d.a d.v))
+        datoms.now }
 {
     for d in datoms {
         if facts.holds(d.e, d.a, &d.v) == d.added {

@@ -56,7 +56,9 @@ fn are_known<F: Facts>(
     schema: &Schema,
 ) -> Result<bool, Memory>
     requires { SchemaStands schema.now (F.history facts.now) }
-    ensures { IfOk result (λ are. are ≡ (model.has_known_numbers (F.history facts.now) entry.now && model.has_installed_attributes (F.history facts.now) entry.now)) }
+    ensures { IfOk result (λ are. are
+        ≡ (model.has_known_numbers (F.history facts.now) entry.now
+        && model.has_installed_attributes (F.history facts.now) entry.now)) }
 {
     let are_known = has_known_numbers(alloc, entry, facts)?;
     Ok(are_known && are_installed(schema, entry.datoms.as_slice()))
@@ -72,10 +74,14 @@ fn lawful_in_order<F: Facts>(
     requires stands { SchemaStands schema.now (F.history facts.now) }
     requires lawful { IsLawful (F.history facts.now) }
     requires changes { AreChanges entry.now.datoms }
-    ensures { IfOk result (λ law. law ≡ first_broken 6 (model.has_changes_alone (F.history facts.now) entry.now
+    ensures { IfOk result (λ law. law
+        ≡ first_broken 6 (model.has_changes_alone (F.history facts.now) entry.now
         ∷ model.has_one_value_each (F.history facts.now) entry.now
         ∷ model.has_one_holder_each (F.history facts.now) entry.now
-        ∷ (model.has_whole_attributes (F.history facts.now) entry.now && model.has_allowed_changes (F.history facts.now) entry.now && model.has_no_reserved_names (F.history facts.now) entry.now && model.has_own_instant_alone (F.history facts.now) entry.now)
+        ∷ (model.has_whole_attributes (F.history facts.now) entry.now
+        && model.has_allowed_changes (F.history facts.now) entry.now
+        && model.has_no_reserved_names (F.history facts.now) entry.now
+        && model.has_own_instant_alone (F.history facts.now) entry.now)
         ∷ [])) }
 {
     let datoms = entry.datoms.as_slice();

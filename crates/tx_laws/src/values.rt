@@ -35,8 +35,10 @@ pub fn has_one_value_each<F: Facts>(
     requires stands { SchemaStands schema.now (F.history facts.now) }
     requires lawful { IsLawful (F.history facts.now) }
     requires changes { AreChanges datoms.now }
-    requires altered { HasAltered altered.now (facts_in (F.history facts.now)) (after (F.history facts.now) datoms.now) datoms.now }
-    ensures { IfOk result (λ has. has ≡ model.keeps_one_value (after (F.history facts.now) datoms.now)) }
+    requires altered { HasAltered altered.now (facts_in (F.history facts.now))
+        (after (F.history facts.now) datoms.now) datoms.now }
+    ensures { IfOk result
+        (λ has. has ≡ model.keeps_one_value (after (F.history facts.now) datoms.now)) }
 {
     if !keep_values(altered, datoms) {
         return Ok(false);
@@ -59,8 +61,10 @@ pub fn has_one_holder_each<F: Facts>(
     requires stands { SchemaStands schema.now (F.history facts.now) }
     requires lawful { IsLawful (F.history facts.now) }
     requires changes { AreChanges datoms.now }
-    requires altered { HasAltered altered.now (facts_in (F.history facts.now)) (after (F.history facts.now) datoms.now) datoms.now }
-    ensures { IfOk result (λ has. has ≡ model.keeps_one_holder (after (F.history facts.now) datoms.now)) }
+    requires altered { HasAltered altered.now (facts_in (F.history facts.now))
+        (after (F.history facts.now) datoms.now) datoms.now }
+    ensures { IfOk result
+        (λ has. has ≡ model.keeps_one_holder (after (F.history facts.now) datoms.now)) }
 {
     if !keep_holders(altered, datoms) {
         return Ok(false);
@@ -74,7 +78,9 @@ pub fn has_one_holder_each<F: Facts>(
 
 /// Whether each attribute that comes to have one value of each entity has so.
 fn keep_values(altered: &BTreeMap<u64, Altered>, datoms: &[Datom]) -> bool
-    ensures { result ≡ list_all (λ d. option_map_or (λ a. a.keeps_values) (get nat_cmp altered.now d.e) true) datoms.now }
+    ensures { result
+        ≡ list_all (λ d. option_map_or (λ a. a.keeps_values) (get nat_cmp altered.now d.e) true)
+        datoms.now }
 {
     for d in datoms {
         if !keeps_values(altered, d.e) {
@@ -100,7 +106,8 @@ fn singles_are_apart(
     altered: &BTreeMap<u64, Altered>,
     datoms: &[Datom],
 ) -> Result<bool, Memory>
-    ensures { IfOk result (λ are. are ≡ additions.are_apart (additions.is_single schema.now altered.now) datoms.now) }
+    ensures { IfOk result
+        (λ are. are ≡ additions.are_apart (additions.is_single schema.now altered.now) datoms.now) }
 {
     let mut met = BTreeSet::new(alloc);
     let mut i = datoms.len();
@@ -118,9 +125,14 @@ fn singles_are_apart(
 
 /// Whether the entity and the attribute are met for the first time, if the datom counts.
 fn meet_place(met: &mut BTreeSet<(u64, u64)>, counts: bool, d: &Datom) -> Result<bool, Memory>
-    ensures first { (test : Datom → Bool) (ds : List Datom) → test d.now ≡ counts → additions.HasPlaces met.old test ds
-        → IfOk result (λ first. first ≡ not (counts && list_any (λ other. test other && (nat_eq other.e d.now.e && nat_eq other.a d.now.a)) ds)) }
-    ensures met { (test : Datom → Bool) (ds : List Datom) → test d.now ≡ counts → additions.HasPlaces met.old test ds
+    ensures first { (test : Datom → Bool) (ds : List Datom) → test d.now ≡ counts
+        → additions.HasPlaces met.old test ds
+        → IfOk result (λ first. first
+        ≡ not (counts
+        && list_any (λ other. test other && (nat_eq other.e d.now.e && nat_eq other.a d.now.a))
+        ds)) }
+    ensures met { (test : Datom → Bool) (ds : List Datom) → test d.now ≡ counts
+        → additions.HasPlaces met.old test ds
         → IfOk result (λ _. additions.HasPlaces met.new test (d.now ∷ ds)) }
 {
     if !counts {
@@ -137,7 +149,11 @@ fn singles_meet_none<F: Facts>(
     datoms: &[Datom],
 ) -> Result<bool, Memory>
     requires { AreChanges datoms.now }
-    ensures { IfOk result (λ none. none ≡ list_all (λ d. not (additions.is_single schema.now altered.now d && additions.meets_value (F.history facts.now) datoms.now d)) datoms.now) }
+    ensures { IfOk result (λ none. none
+        ≡ list_all
+        (λ d. not (additions.is_single schema.now altered.now d
+        && additions.meets_value (F.history facts.now) datoms.now d))
+        datoms.now) }
 {
     for d in datoms {
         let meets = is_single(schema, altered, d) && meets_value(facts, datoms, d)?;
@@ -165,7 +181,8 @@ fn stays_one(altered: &BTreeMap<u64, Altered>, a: u64) -> bool
 
 fn meets_value<F: Facts>(facts: &F, datoms: &[Datom], d: &Datom) -> Result<bool, Memory>
     requires { AreChanges datoms.now }
-    ensures { IfOk result (λ meets. meets ≡ additions.meets_value (F.history facts.now) datoms.now d.now) }
+    ensures { IfOk result
+        (λ meets. meets ≡ additions.meets_value (F.history facts.now) datoms.now d.now) }
 {
     let values = facts.values_of(d.e, d.a)?;
     Ok(one_stays(&values, datoms, d))
@@ -174,7 +191,8 @@ fn meets_value<F: Facts>(facts: &F, datoms: &[Datom], d: &Datom) -> Result<bool,
 /// Whether one of the values from before is not told of.
 fn one_stays(values: &[Value], datoms: &[Datom], d: &Datom) -> bool
     requires { AreChanges datoms.now }
-    ensures { result ≡ list_any (λ v. not (list_any (is_of d.now.e d.now.a v) datoms.now)) values.now }
+    ensures { result
+        ≡ list_any (λ v. not (list_any (is_of d.now.e d.now.a v) datoms.now)) values.now }
 {
     for v in values {
         if !tells_of(datoms, d.e, d.a, v) {
@@ -186,7 +204,9 @@ fn one_stays(values: &[Value], datoms: &[Datom], d: &Datom) -> bool
 
 /// Whether each attribute that comes to be unique has one holder of each value.
 fn keep_holders(altered: &BTreeMap<u64, Altered>, datoms: &[Datom]) -> bool
-    ensures { result ≡ list_all (λ d. option_map_or (λ a. a.keeps_holders) (get nat_cmp altered.now d.e) true) datoms.now }
+    ensures { result
+        ≡ list_all (λ d. option_map_or (λ a. a.keeps_holders) (get nat_cmp altered.now d.e) true)
+        datoms.now }
 {
     for d in datoms {
         if !keeps_holders(altered, d.e) {
@@ -212,7 +232,8 @@ fn soles_are_alone(
     altered: &BTreeMap<u64, Altered>,
     datoms: &[Datom],
 ) -> Result<bool, Memory>
-    ensures { IfOk result (λ are. are ≡ additions.are_alone (additions.is_sole schema.now altered.now) datoms.now) }
+    ensures { IfOk result
+        (λ are. are ≡ additions.are_alone (additions.is_sole schema.now altered.now) datoms.now) }
 {
     let mut met = BTreeSet::new(alloc);
     let mut i = datoms.len();
@@ -230,9 +251,14 @@ fn soles_are_alone(
 
 /// Whether the attribute and the value are met for the first time, if the datom counts.
 fn meet_content(met: &mut BTreeSet<(u64, Value)>, counts: bool, d: &Datom) -> Result<bool, Memory>
-    ensures first { (test : Datom → Bool) (ds : List Datom) → test d.now ≡ counts → additions.HasContents met.old test ds
-        → IfOk result (λ first. first ≡ not (counts && list_any (λ other. test other && (nat_eq other.a d.now.a && value_eq other.v d.now.v)) ds)) }
-    ensures met { (test : Datom → Bool) (ds : List Datom) → test d.now ≡ counts → additions.HasContents met.old test ds
+    ensures first { (test : Datom → Bool) (ds : List Datom) → test d.now ≡ counts
+        → additions.HasContents met.old test ds
+        → IfOk result (λ first. first
+        ≡ not (counts
+        && list_any (λ other. test other && (nat_eq other.a d.now.a && value_eq other.v d.now.v))
+        ds)) }
+    ensures met { (test : Datom → Bool) (ds : List Datom) → test d.now ≡ counts
+        → additions.HasContents met.old test ds
         → IfOk result (λ _. additions.HasContents met.new test (d.now ∷ ds)) }
 {
     if !counts {
@@ -249,7 +275,11 @@ fn soles_meet_none<F: Facts>(
     datoms: &[Datom],
 ) -> bool
     requires { AreChanges datoms.now }
-    ensures { result ≡ list_all (λ d. not (additions.is_sole schema.now altered.now d && additions.meets_holder (F.history facts.now) datoms.now d)) datoms.now }
+    ensures { result
+        ≡ list_all
+        (λ d. not (additions.is_sole schema.now altered.now d
+        && additions.meets_holder (F.history facts.now) datoms.now d))
+        datoms.now }
 {
     for d in datoms {
         if is_sole(schema, altered, d) && meets_holder(facts, datoms, d) {

@@ -13,7 +13,10 @@ use Rattle.tx_resolve.specs.Holders.{addition_of, adds_to, holders, has_another}
 -- it gives a holder to a tempid that has another one too
 abbrev pub gives_one_of_two : List Draft → Draft → Bool
 gives_one_of_two all asked =
-    option_map_or (λ (addition : Tempid × Option ℕ). option_map_or (has_another (holders all addition.0)) addition.1 false) (addition_of asked) false
+    option_map_or
+    (λ (addition : Tempid × Option ℕ). option_map_or (has_another (holders all addition.0))
+    addition.1 false)
+    (addition_of asked) false
 
 -- no draft adds to the tempid
 abbrev pub is_added_to_by_none : List Draft → Tempid → Bool

@@ -30,16 +30,27 @@ old_part_of db (Some p) = option_map Some (part_of db p)
 
 -- the holder of the identity value that an addition gives to a tempid
 abbrev pub holder_for : Db → Whom → Attribute → Operand → Option ℕ
-holder_for db (New tempid) attribute (Plain v) = cond (nat_eq attribute.unique unique_identity) (holder db.facts attribute.id v) None
+holder_for db (New tempid) attribute (Plain v) =
+    cond (nat_eq attribute.unique unique_identity) (holder db.facts attribute.id v) None
 holder_for db whom attribute p = None
 
 abbrev pub draft_of : Db → Ask → Option Draft
 draft_of db (ask.Adds on attribute p) =
-    option_and_then (λ whom. option_map (λ read. draft.Adds whom attribute read (holder_for db whom attribute.now read)) (part_of db p)) (whom_of db on)
-draft_of db (ask.Retracts on attribute p) = option_and_then (λ whom. option_map (draft.Retracts whom attribute) (part_of db p)) (whom_of db on)
-draft_of db (ask.RetractsAll on attribute) = option_map (λ whom. draft.RetractsAll whom attribute) (whom_of db on)
+    option_and_then
+    (λ whom. option_map
+    (λ read. draft.Adds whom attribute read (holder_for db whom attribute.now read)) (part_of db p))
+    (whom_of db on)
+draft_of db (ask.Retracts on attribute p) =
+    option_and_then (λ whom. option_map (draft.Retracts whom attribute) (part_of db p))
+    (whom_of db on)
+draft_of db (ask.RetractsAll on attribute) =
+    option_map (λ whom. draft.RetractsAll whom attribute) (whom_of db on)
 draft_of db (ask.Compares on attribute old new) =
-    option_and_then (λ whom. option_and_then (λ before. option_map (draft.Compares whom attribute before) (part_of db new)) (old_part_of db old)) (whom_of db on)
+    option_and_then
+    (λ whom. option_and_then
+    (λ before. option_map (draft.Compares whom attribute before) (part_of db new))
+    (old_part_of db old))
+    (whom_of db on)
 draft_of db (ask.RetractsEntity on) = option_map draft.RetractsEntity (whom_of db on)
 draft_of db (ask.Meets on) = option_map draft.Meets (whom_of db on)
 
@@ -55,4 +66,5 @@ lost_at db forms = first_yes 0 (map (λ form. list_any (is_lost db) form.items) 
 
 -- the asks are these drafts, and none is lost
 abbrev pub AreFound : Db → List (Vec Ask Global) → List (Vec Draft Global) → Type 0
-AreFound db forms drafts = map (λ form. map Some form.items) drafts ≡ map (λ form. map (draft_of db) form.items) forms
+AreFound db forms drafts =
+    map (λ form. map Some form.items) drafts ≡ map (λ form. map (draft_of db) form.items) forms

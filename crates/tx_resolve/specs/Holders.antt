@@ -18,11 +18,16 @@ addition_of asked = None
 
 -- it adds to the tempid
 abbrev pub adds_to : Tempid → Draft → Bool
-adds_to tempid asked = option_map_or (λ (addition : Tempid × Option ℕ). is_same tempid addition.0) (addition_of asked) false
+adds_to tempid asked =
+    option_map_or (λ (addition : Tempid × Option ℕ). is_same tempid addition.0) (addition_of asked)
+    false
 
 -- the holder that it gives to the tempid
 abbrev pub given : Tempid → Draft → Option ℕ
-given tempid asked = option_and_then (λ (addition : Tempid × Option ℕ). cond (is_same tempid addition.0) addition.1 None) (addition_of asked)
+given tempid asked =
+    option_and_then
+    (λ (addition : Tempid × Option ℕ). cond (is_same tempid addition.0) addition.1 None)
+    (addition_of asked)
 
 abbrev pub holders : List Draft → Tempid → List ℕ
 holders drafts tempid = filter_map (given tempid) drafts
@@ -40,5 +45,6 @@ held_of (e ∷ es) = record { first = Some e; differ = has_another es e }
 
 -- what is kept of each tempid that is added to
 pub record AreHolders (kept : BTreeMap Tempid Held) (drafts : List Draft) : Type 0 where
-  pub holders_are : (t : Tempid) → unwrap_or (get tempid_cmp kept t) (held_of []) ≡ held_of (holders drafts t)
+  pub holders_are : (t : Tempid)
+      → unwrap_or (get tempid_cmp kept t) (held_of []) ≡ held_of (holders drafts t)
   pub added_to : (t : Tempid) → is_some (get tempid_cmp kept t) ≡ list_any (adds_to t) drafts

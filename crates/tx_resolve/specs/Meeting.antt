@@ -30,7 +30,8 @@ abbrev pub tempids_of : Draft → List Tempid
 tempids_of (draft.Adds on attribute part holder) = tempid_in on ++ tempid_in_part part
 tempids_of (draft.Retracts on attribute part) = tempid_in on ++ tempid_in_part part
 tempids_of (draft.RetractsAll on attribute) = tempid_in on
-tempids_of (draft.Compares on attribute old new) = tempid_in on ++ (tempid_in_old_part old ++ tempid_in_part new)
+tempids_of (draft.Compares on attribute old new) =
+    tempid_in on ++ (tempid_in_old_part old ++ tempid_in_part new)
 tempids_of (draft.RetractsEntity on) = tempid_in on
 tempids_of (draft.Meets on) = tempid_in on
 
@@ -39,7 +40,8 @@ tempids_of (draft.Meets on) = tempid_in on
 -- those that were met, and then those that are met now and were not yet
 abbrev pub met_with : List Tempid → List Tempid → List Tempid
 met_with met [] = met
-met_with met (tempid ∷ tempids) = met_with (cond (list_any (is_same tempid) met) met (met ++ tempid ∷ [])) tempids
+met_with met (tempid ∷ tempids) =
+    met_with (cond (list_any (is_same tempid) met) met (met ++ tempid ∷ [])) tempids
 
 -- the drafts of all forms, one after another
 abbrev pub drafts_in : List (Vec Draft Global) → List Draft

@@ -77,11 +77,19 @@ old_value_of pairs (Some part) = value_of pairs part
 
 abbrev pub act_of : List (Tempid × ℕ) → Draft → Option acts.Act
 act_of pairs (draft.Adds on attribute part holder) =
-    option_and_then (λ e. option_map (acts.adds e (attribute_in attribute.now)) (value_of pairs part)) (entity_of pairs on)
+    option_and_then
+    (λ e. option_map (acts.adds e (attribute_in attribute.now)) (value_of pairs part))
+    (entity_of pairs on)
 act_of pairs (draft.Retracts on attribute part) =
-    option_and_then (λ e. option_map (acts.retracts e (attribute_in attribute.now)) (value_of pairs part)) (entity_of pairs on)
-act_of pairs (draft.RetractsAll on attribute) = option_map (λ e. acts.retracts_all e (attribute_in attribute.now)) (entity_of pairs on)
+    option_and_then
+    (λ e. option_map (acts.retracts e (attribute_in attribute.now)) (value_of pairs part))
+    (entity_of pairs on)
+act_of pairs (draft.RetractsAll on attribute) =
+    option_map (λ e. acts.retracts_all e (attribute_in attribute.now)) (entity_of pairs on)
 act_of pairs (draft.Compares on attribute old new) =
-    option_and_then (λ e. option_map (acts.compares e (attribute_in attribute.now) (old_value_of pairs old)) (value_of pairs new)) (entity_of pairs on)
+    option_and_then
+    (λ e. option_map (acts.compares e (attribute_in attribute.now) (old_value_of pairs old))
+    (value_of pairs new))
+    (entity_of pairs on)
 act_of pairs (draft.RetractsEntity on) = option_map acts.retracts_entity (entity_of pairs on)
 act_of pairs (draft.Meets on) = None

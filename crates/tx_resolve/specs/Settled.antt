@@ -16,7 +16,8 @@ use Rattle.tx_resolve.specs.Breaks.{conflict_at, none_at}
 
 -- the tempids with their entities
 abbrev pub pairs_in : List (Vec Draft Global) → ℕ → List (Tempid × ℕ)
-pairs_in forms users = numbered (drafts_in forms) (met_with [] (flat_map tempids_of (drafts_in forms))) users
+pairs_in forms users =
+    numbered (drafts_in forms) (met_with [] (flat_map tempids_of (drafts_in forms))) users
 
 -- the acts of each form
 abbrev pub drafted_acts : List (Vec Draft Global) → ℕ → List (List Act)

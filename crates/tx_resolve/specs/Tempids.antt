@@ -38,14 +38,17 @@ tempid_cmp-as_list (Nameless n) (Named x) = refl
 tempid_cmp-as_list (Nameless m) (Nameless n) = then-Equal (nat_cmp m n)
 
 pub tempid_cmp_total : IsTotalOrder tempid_cmp
-tempid_cmp_total = subst IsTotalOrder (λ i x y. sym (tempid_cmp-as_list x y) i) (on_total as_list nat_list_cmp_total)
+tempid_cmp_total =
+    subst IsTotalOrder (λ i x y. sym (tempid_cmp-as_list x y) i)
+    (on_total as_list nat_list_cmp_total)
 
 different : {A : Type 0} (r : Ordering) → T (is_eq r) ≡ ⊥ → r ≡ Equal → A
 different r e is = absurd (subst (λ a. a) e (subst (λ q. T (is_eq q)) (sym is) tt))
 
 -- equal tempids are the same
 pub tempid_cmp-IsAntisymmetric : IsAntisymmetric tempid_cmp
-tempid_cmp-IsAntisymmetric (Named x) (Named y) e = ap Named (slice_cmp-IsAntisymmetric nat_cmp-IsAntisymmetric x y e)
+tempid_cmp-IsAntisymmetric (Named x) (Named y) e =
+    ap Named (slice_cmp-IsAntisymmetric nat_cmp-IsAntisymmetric x y e)
 tempid_cmp-IsAntisymmetric (Named x) (Nameless n) e = different Greater refl e
 tempid_cmp-IsAntisymmetric (Nameless n) (Named x) e = different Less refl e
 tempid_cmp-IsAntisymmetric (Nameless m) (Nameless n) e = ap Nameless (nat_cmp-IsAntisymmetric m n e)

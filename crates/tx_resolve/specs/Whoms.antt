@@ -17,6 +17,9 @@ use Rattle.tx_resolve.specs.declared.whom.Tempid.TheVariants.{Named, Nameless}
 abbrev pub whom_of : Db → Name → Option Whom
 whom_of db (name.Number n) = option_map Known (found db (model.number n))
 whom_of db (name.Ident k) = option_map Known (found db (model.ident k.now))
-whom_of db (name.Lookup k value) = option_map Known (found db (model.lookup k.now (form_of value.now)))
-whom_of db (name.Tempid text) = cond (bytes_eq text.now own_tempid) (Some (Known (transaction_of (basis db.history + 1)))) (Some (New (Named text.now)))
+whom_of db (name.Lookup k value) =
+    option_map Known (found db (model.lookup k.now (form_of value.now)))
+whom_of db (name.Tempid text) =
+    cond (bytes_eq text.now own_tempid) (Some (Known (transaction_of (basis db.history + 1))))
+    (Some (New (Named text.now)))
 whom_of db (name.Nameless n) = Some (New (Nameless n))

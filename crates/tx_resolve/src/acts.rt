@@ -20,7 +20,8 @@ pub fn acts_of_forms<'a>(
     forms: Vec<Vec<Draft<'a>>>,
 ) -> Result<Vec<Vec<Act<'a>>>, Memory>
     ensures { (pairs : List (model_Tempid × ℕ)) → HasEntities entities.now pairs
-        → IfOk result (λ list. map (λ acts. map seen acts.items) list.items ≡ map (λ form. filter_map (act_of pairs) form.items) forms.entry.items) }
+        → IfOk result (λ list. map (λ acts. map seen acts.items) list.items
+        ≡ map (λ form. filter_map (act_of pairs) form.items) forms.entry.items) }
 {
     let mut list = Vec::with_capacity(alloc, forms.len())?;
     for drafts in forms {
@@ -55,7 +56,8 @@ fn push_some<'a>(acts: &mut Vec<Act<'a>>, act: Option<Act<'a>>) -> Result<(), Me
 
 /// None where a map only stands for its entity.
 fn act<'a>(entities: &Entities, draft: Draft<'a>) -> Option<Act<'a>>
-    ensures { (pairs : List (model_Tempid × ℕ)) → HasEntities entities.now pairs → option_map seen result ≡ act_of pairs draft.entry }
+    ensures { (pairs : List (model_Tempid × ℕ)) → HasEntities entities.now pairs
+        → option_map seen result ≡ act_of pairs draft.entry }
 {
     match draft {
         Draft::Adds {
@@ -106,7 +108,8 @@ fn act<'a>(entities: &Entities, draft: Draft<'a>) -> Option<Act<'a>>
 }
 
 fn entity(entities: &Entities, whom: &Whom) -> Option<u64>
-    ensures { (pairs : List (model_Tempid × ℕ)) → HasEntities entities.now pairs → result ≡ entity_of pairs whom.now }
+    ensures { (pairs : List (model_Tempid × ℕ)) → HasEntities entities.now pairs
+        → result ≡ entity_of pairs whom.now }
 {
     match whom {
         Whom::Known(e) => Some(*e),
@@ -115,7 +118,8 @@ fn entity(entities: &Entities, whom: &Whom) -> Option<u64>
 }
 
 fn value(entities: &Entities, part: Operand) -> Option<Value>
-    ensures { (pairs : List (model_Tempid × ℕ)) → HasEntities entities.now pairs → result ≡ value_of pairs part }
+    ensures { (pairs : List (model_Tempid × ℕ)) → HasEntities entities.now pairs
+        → result ≡ value_of pairs part }
 {
     match part {
         Operand::Plain(v) => Some(v),
@@ -127,7 +131,8 @@ fn value(entities: &Entities, part: Operand) -> Option<Value>
 }
 
 fn old_value(entities: &Entities, part: Option<Operand>) -> Option<Value>
-    ensures { (pairs : List (model_Tempid × ℕ)) → HasEntities entities.now pairs → result ≡ old_value_of pairs part }
+    ensures { (pairs : List (model_Tempid × ℕ)) → HasEntities entities.now pairs
+        → result ≡ old_value_of pairs part }
 {
     match part {
         None => None,

@@ -68,7 +68,8 @@ pub fn drafts_of_forms<'a, F: Facts>(
     requires lawful { IsLawful (F.history facts.now) }
     ensures found { IfOk result (λ r. IfOk r (λ drafts.
         AreFound (db_of (F.history facts.now)) forms.now drafts.items)) }
-    ensures lost { IfOk result (λ r. result_err r ≡ lost_at (db_of (F.history facts.now)) forms.now) }
+    ensures lost { IfOk result
+        (λ r. result_err r ≡ lost_at (db_of (F.history facts.now)) forms.now) }
 {
     let mut found = Vec::new(alloc);
     let mut place = 0;
@@ -91,9 +92,10 @@ fn drafts_of<'a, F: Facts>(
 ) -> Result<Option<Vec<Draft<'a>>>, Memory>
     requires schema { SchemaStands schema.now (F.history facts.now) }
     requires lawful { IsLawful (F.history facts.now) }
-    ensures found { IfOk result (λ drafts. IfSome drafts
-        (λ list. map Some list.items ≡ map (model.draft_of (db_of (F.history facts.now))) asks.now)) }
-    ensures lost { IfOk result (λ drafts. is_none drafts ≡ list_any (is_lost (db_of (F.history facts.now))) asks.now) }
+    ensures found { IfOk result (λ drafts. IfSome drafts (λ list. map Some list.items
+        ≡ map (model.draft_of (db_of (F.history facts.now))) asks.now)) }
+    ensures lost { IfOk result
+        (λ drafts. is_none drafts ≡ list_any (is_lost (db_of (F.history facts.now))) asks.now) }
 {
     let mut drafts = Vec::new(alloc);
     for ask in asks {
@@ -184,10 +186,14 @@ fn addition<'a, F: Facts>(
 
 /// The holder of the identity value that an addition gives to a tempid.
 fn holder_for<F: Facts>(facts: &F, on: &Whom, attribute: &Attribute, part: &Operand) -> Option<u64>
-    ensures { result ≡ model.holder_for (db_of (F.history facts.now)) on.now attribute.now part.now }
+    ensures { result
+        ≡ model.holder_for (db_of (F.history facts.now)) on.now attribute.now part.now }
 {
     match (on, part) {
-        (Whom::New(_), Operand::Plain(v)) if attribute.is_identity() => facts.holder(attribute.id, v),
+        (Whom::New(_), Operand::Plain(v)) if attribute.is_identity() => facts.holder(
+            attribute.id,
+            v,
+        ),
         _ => None,
     }
 }
@@ -202,7 +208,8 @@ fn retraction<'a, F: Facts>(
     requires schema { SchemaStands schema.now (F.history facts.now) }
     requires lawful { IsLawful (F.history facts.now) }
     ensures { IfOk result (λ draft. draft
-        ≡ model.draft_of (db_of (F.history facts.now)) (Ask.Retracts on.now attribute.entry part.now)) }
+        ≡ model.draft_of (db_of (F.history facts.now))
+        (Ask.Retracts on.now attribute.entry part.now)) }
 {
     let Some(on) = whom(facts, schema, on)? else {
         return Ok(None);
@@ -228,7 +235,8 @@ fn comparison<'a, F: Facts>(
     requires schema { SchemaStands schema.now (F.history facts.now) }
     requires lawful { IsLawful (F.history facts.now) }
     ensures { IfOk result (λ draft. draft
-        ≡ model.draft_of (db_of (F.history facts.now)) (Ask.Compares on.now attribute.entry old.now new.now)) }
+        ≡ model.draft_of (db_of (F.history facts.now))
+        (Ask.Compares on.now attribute.entry old.now new.now)) }
 {
     let Some(on) = whom(facts, schema, on)? else {
         return Ok(None);
@@ -247,7 +255,11 @@ fn comparison<'a, F: Facts>(
     }))
 }
 
-fn part_of<F: Facts>(facts: &F, schema: &Schema, part: &AskPart<'_>) -> Result<Option<Operand>, Memory>
+fn part_of<F: Facts>(
+    facts: &F,
+    schema: &Schema,
+    part: &AskPart<'_>,
+) -> Result<Option<Operand>, Memory>
     requires schema { SchemaStands schema.now (F.history facts.now) }
     requires lawful { IsLawful (F.history facts.now) }
     ensures { IfOk result (λ found. found ≡ model.part_of (db_of (F.history facts.now)) part.now) }
@@ -270,7 +282,8 @@ fn old_part_of<F: Facts>(
 ) -> Result<Option<Option<Operand>>, Memory>
     requires schema { SchemaStands schema.now (F.history facts.now) }
     requires lawful { IsLawful (F.history facts.now) }
-    ensures { IfOk result (λ found. found ≡ model.old_part_of (db_of (F.history facts.now)) old.now) }
+    ensures { IfOk result
+        (λ found. found ≡ model.old_part_of (db_of (F.history facts.now)) old.now) }
 {
     match old {
         None => Ok(Some(None)),

@@ -42,7 +42,8 @@ impl Held {
 
     /// With one more before them, if there is one.
     fn before(&self, e: Option<u64>) -> Held
-        ensures { (es : List ℕ) → self.now ≡ held_of es → result ≡ held_of (option_to_list e ++ es) }
+        ensures { (es : List ℕ) → self.now ≡ held_of es
+            → result ≡ held_of (option_to_list e ++ es) }
     {
         match e {
             Some(e) => Held {
@@ -70,7 +71,8 @@ pub fn addition<'a>(draft: &'a Draft<'_>) -> Option<(&'a Tempid, Option<u64>)>
 
 /// What is kept of a tempid.
 pub fn held_by(kept: &Holders, tempid: &Tempid) -> Held
-    ensures { (drafts : List model_Draft) → AreHolders kept.now drafts → result ≡ held_of (holders drafts tempid.now) }
+    ensures { (drafts : List model_Draft) → AreHolders kept.now drafts
+        → result ≡ held_of (holders drafts tempid.now) }
 {
     kept.get(tempid).copied().unwrap_or(Held::NONE)
 }
@@ -89,7 +91,8 @@ pub fn holders_in(alloc: Global, forms: &[Vec<Draft<'_>>]) -> Result<Holders, Me
 }
 
 fn keep_form(kept: &mut Holders, drafts: &[Draft<'_>]) -> Result<(), Memory>
-    ensures { (later : List model_Draft) → AreHolders kept.old later → IfOk result (λ _. AreHolders kept.new (drafts.now ++ later)) }
+    ensures { (later : List model_Draft) → AreHolders kept.old later
+        → IfOk result (λ _. AreHolders kept.new (drafts.now ++ later)) }
 {
     let mut i = drafts.len();
     while i > 0 {
@@ -101,7 +104,8 @@ fn keep_form(kept: &mut Holders, drafts: &[Draft<'_>]) -> Result<(), Memory>
 
 /// Puts a draft before those that were kept.
 fn keep(kept: &mut Holders, draft: &Draft<'_>) -> Result<(), Memory>
-    ensures { (later : List model_Draft) → AreHolders kept.old later → IfOk result (λ _. AreHolders kept.new (draft.now ∷ later)) }
+    ensures { (later : List model_Draft) → AreHolders kept.old later
+        → IfOk result (λ _. AreHolders kept.new (draft.now ∷ later)) }
 {
     match addition(draft) {
         Some((tempid, holder)) => keep_holder(kept, tempid, holder),
@@ -110,8 +114,10 @@ fn keep(kept: &mut Holders, draft: &Draft<'_>) -> Result<(), Memory>
 }
 
 fn keep_holder(kept: &mut Holders, tempid: &Tempid, holder: Option<u64>) -> Result<(), Memory>
-    ensures { (es : List ℕ) → unwrap_or (get tempid_cmp kept.old tempid.now) (held_of []) ≡ held_of es
-        → IfOk result (λ _. Updates tempid_cmp kept.old kept.new tempid.now (Some (held_of (option_to_list holder ++ es)))) }
+    ensures { (es : List ℕ)
+        → unwrap_or (get tempid_cmp kept.old tempid.now) (held_of []) ≡ held_of es
+        → IfOk result (λ _. Updates tempid_cmp kept.old kept.new tempid.now
+        (Some (held_of (option_to_list holder ++ es)))) }
 {
     let later = kept.get(tempid).copied().unwrap_or(Held::NONE);
     kept.insert(tempid.copy()?, later.before(holder))?;

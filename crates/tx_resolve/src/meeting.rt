@@ -28,7 +28,8 @@ impl Model for Met {
 
     ghost view = { λ m. m.tempids.items };
 
-    ghost invariant = { λ m. (t : Tempid) → contains tempid_cmp m.seen t ≡ list_any (is_same t) m.tempids.items };
+    ghost invariant = { λ m. (t : Tempid)
+        → contains tempid_cmp m.seen t ≡ list_any (is_same t) m.tempids.items };
 }
 
 impl Met {

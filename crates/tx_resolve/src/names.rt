@@ -91,7 +91,8 @@ fn looked_up<F: Facts>(
     value: &Edn,
 ) -> Result<Option<u64>, Memory>
     requires { SchemaStands schema.now (F.history facts.now) }
-    ensures { IfOk result (λ e. e ≡ found (db_of (F.history facts.now)) (asks.lookup k.now (form_of value.now))) }
+    ensures { IfOk result
+        (λ e. e ≡ found (db_of (F.history facts.now)) (asks.lookup k.now (form_of value.now))) }
 {
     schemas_tell_of_attributes();
     let Some(attribute) = schema.named(k) else {

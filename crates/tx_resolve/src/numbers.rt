@@ -41,7 +41,8 @@ fn push_next(
 ) -> Result<u64, Memory>
     requires { n < 2 ^ 63 }
     ensures next { IfOk result (λ next. next ≡ number_next holder n) }
-    ensures pair { IfOk result (λ _. pairs.new.items ≡ pairs.old.items ++ (tempid.now, entity_next holder n) ∷ []) }
+    ensures pair { IfOk result
+        (λ _. pairs.new.items ≡ pairs.old.items ++ (tempid.now, entity_next holder n) ∷ []) }
 {
     match holder {
         None => {

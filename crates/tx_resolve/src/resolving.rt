@@ -35,7 +35,8 @@ pub fn resolve<'a, F: Facts>(
     requires schema { SchemaStands schema.now (F.history facts.now) }
     requires lawful { IsLawful (F.history facts.now) }
     ensures acts { IfOk result (λ r. OfAsks flat.entry (F.history facts.now)
-        (λ db asks. AreActs (acts_in (lists_of r.forms.items)) (with_names db asks (assigned db (joined asks))))) }
+        (λ db asks. AreActs (acts_in (lists_of r.forms.items))
+        (with_names db asks (assigned db (joined asks))))) }
     ensures tempids { IfOk result (λ r. OfAsks flat.entry (F.history facts.now)
         (λ db asks. r.tempids.items ≡ named_tempids (assigned db (joined asks)))) }
     ensures unbroken { IfOk result (λ _. OfAsks flat.entry (F.history facts.now)
@@ -59,7 +60,8 @@ fn resolved<'a, F: Facts>(
     requires schema { SchemaStands schema.now (F.history facts.now) }
     requires lawful { IsLawful (F.history facts.now) }
     ensures acts { IfOk result (λ r. IfOk r (λ answer. OfAsks flat.now (F.history facts.now)
-        (λ db asks. AreActs (acts_in (lists_of answer.forms.items)) (with_names db asks (assigned db (joined asks)))))) }
+        (λ db asks. AreActs (acts_in (lists_of answer.forms.items))
+        (with_names db asks (assigned db (joined asks)))))) }
     ensures tempids { IfOk result (λ r. IfOk r (λ answer. OfAsks flat.now (F.history facts.now)
         (λ db asks. answer.tempids.items ≡ named_tempids (assigned db (joined asks))))) }
     ensures refused { IfOk result (λ r. OfAsks flat.now (F.history facts.now)
@@ -84,9 +86,12 @@ fn unless_lacking<'a>(
     users: u64,
 ) -> Result<Result<Resolved<'a>, Refusal>, Memory>
     requires { users < 2 ^ 47 }
-    ensures acts { IfOk result (λ r. IfOk r (λ answer. acts_of answer ≡ drafted_acts drafts.entry.items users)) }
-    ensures tempids { IfOk result (λ r. IfOk r (λ answer. answer.tempids.items ≡ names_told (pairs_in drafts.entry.items users))) }
-    ensures refused { IfOk result (λ r. result_err r ≡ first_refusal ((NestedWithoutId, lacking) ∷ tempid_rules drafts.entry.items)) }
+    ensures acts { IfOk result
+        (λ r. IfOk r (λ answer. acts_of answer ≡ drafted_acts drafts.entry.items users)) }
+    ensures tempids { IfOk result (λ r. IfOk r
+        (λ answer. answer.tempids.items ≡ names_told (pairs_in drafts.entry.items users))) }
+    ensures refused { IfOk result (λ r. result_err r
+        ≡ first_refusal ((NestedWithoutId, lacking) ∷ tempid_rules drafts.entry.items)) }
 {
     match lacking {
         Some(at) => Ok(Err(Refusal {

@@ -15,7 +15,8 @@ use crate::whom::{Tempid, Whom};
 
 /// The first form that gives a holder to a tempid which has another one too.
 pub fn first_conflict(kept: &Holders, forms: &[Vec<Draft<'_>>]) -> Option<usize>
-    ensures { (all : List model_Draft) → AreHolders kept.now all → result ≡ first_form (model_gives_one_of_two all) forms.now }
+    ensures { (all : List model_Draft) → AreHolders kept.now all
+        → result ≡ first_form (model_gives_one_of_two all) forms.now }
 {
     let mut place = 0;
     for drafts in forms {
@@ -28,7 +29,8 @@ pub fn first_conflict(kept: &Holders, forms: &[Vec<Draft<'_>>]) -> Option<usize>
 }
 
 fn has_conflict(kept: &Holders, drafts: &[Draft<'_>]) -> bool
-    ensures { (all : List model_Draft) → AreHolders kept.now all → result ≡ list_any (model_gives_one_of_two all) drafts.now }
+    ensures { (all : List model_Draft) → AreHolders kept.now all
+        → result ≡ list_any (model_gives_one_of_two all) drafts.now }
 {
     for draft in drafts {
         if gives_one_of_two(kept, draft) {
@@ -39,7 +41,8 @@ fn has_conflict(kept: &Holders, drafts: &[Draft<'_>]) -> bool
 }
 
 fn gives_one_of_two(kept: &Holders, draft: &Draft<'_>) -> bool
-    ensures { (all : List model_Draft) → AreHolders kept.now all → result ≡ model_gives_one_of_two all draft.now }
+    ensures { (all : List model_Draft) → AreHolders kept.now all
+        → result ≡ model_gives_one_of_two all draft.now }
 {
     match addition(draft) {
         Some((tempid, holder)) => is_one_of_two(kept, tempid, holder),
@@ -49,7 +52,8 @@ fn gives_one_of_two(kept: &Holders, draft: &Draft<'_>) -> bool
 
 /// Whether the tempid has another holder than this one.
 fn is_one_of_two(kept: &Holders, tempid: &Tempid, holder: Option<u64>) -> bool
-    ensures { (all : List model_Draft) → AreHolders kept.now all → result ≡ option_map_or (has_another (holders all tempid.now)) holder false }
+    ensures { (all : List model_Draft) → AreHolders kept.now all
+        → result ≡ option_map_or (has_another (holders all tempid.now)) holder false }
 {
     match holder {
         Some(e) => held_by(kept, tempid).has_another(e),
@@ -61,7 +65,8 @@ fn is_one_of_two(kept: &Holders, tempid: &Tempid, holder: Option<u64>) -> bool
 
 /// The first form that uses a tempid to which no form adds.
 pub fn first_of_none(kept: &Holders, forms: &[Vec<Draft<'_>>]) -> Option<usize>
-    ensures { (all : List model_Draft) → AreHolders kept.now all → result ≡ first_form (model_uses_one_of_none all) forms.now }
+    ensures { (all : List model_Draft) → AreHolders kept.now all
+        → result ≡ first_form (model_uses_one_of_none all) forms.now }
 {
     let mut place = 0;
     for drafts in forms {
@@ -74,7 +79,8 @@ pub fn first_of_none(kept: &Holders, forms: &[Vec<Draft<'_>>]) -> Option<usize>
 }
 
 fn has_one_of_none(kept: &Holders, drafts: &[Draft<'_>]) -> bool
-    ensures { (all : List model_Draft) → AreHolders kept.now all → result ≡ list_any (model_uses_one_of_none all) drafts.now }
+    ensures { (all : List model_Draft) → AreHolders kept.now all
+        → result ≡ list_any (model_uses_one_of_none all) drafts.now }
 {
     for draft in drafts {
         if uses_one_of_none(kept, draft) {
@@ -85,7 +91,8 @@ fn has_one_of_none(kept: &Holders, drafts: &[Draft<'_>]) -> bool
 }
 
 fn uses_one_of_none(kept: &Holders, draft: &Draft<'_>) -> bool
-    ensures { (all : List model_Draft) → AreHolders kept.now all → result ≡ model_uses_one_of_none all draft.now }
+    ensures { (all : List model_Draft) → AreHolders kept.now all
+        → result ≡ model_uses_one_of_none all draft.now }
 {
     match draft {
         Draft::Adds { on, part, .. } | Draft::Retracts { on, part, .. } => {
@@ -101,7 +108,8 @@ fn uses_one_of_none(kept: &Holders, draft: &Draft<'_>) -> bool
 }
 
 fn is_of_none(kept: &Holders, whom: &Whom) -> bool
-    ensures { (all : List model_Draft) → AreHolders kept.now all → result ≡ list_any (is_added_to_by_none all) (tempid_in whom.now) }
+    ensures { (all : List model_Draft) → AreHolders kept.now all
+        → result ≡ list_any (is_added_to_by_none all) (tempid_in whom.now) }
 {
     match whom {
         Whom::Known(_) => false,
@@ -110,7 +118,8 @@ fn is_of_none(kept: &Holders, whom: &Whom) -> bool
 }
 
 fn is_part_of_none(kept: &Holders, part: &Operand) -> bool
-    ensures { (all : List model_Draft) → AreHolders kept.now all → result ≡ list_any (is_added_to_by_none all) (tempid_in_part part.now) }
+    ensures { (all : List model_Draft) → AreHolders kept.now all
+        → result ≡ list_any (is_added_to_by_none all) (tempid_in_part part.now) }
 {
     match part {
         Operand::Plain(_) => false,
@@ -119,7 +128,8 @@ fn is_part_of_none(kept: &Holders, part: &Operand) -> bool
 }
 
 fn is_old_part_of_none(kept: &Holders, part: &Option<Operand>) -> bool
-    ensures { (all : List model_Draft) → AreHolders kept.now all → result ≡ list_any (is_added_to_by_none all) (tempid_in_old_part part.now) }
+    ensures { (all : List model_Draft) → AreHolders kept.now all
+        → result ≡ list_any (is_added_to_by_none all) (tempid_in_old_part part.now) }
 {
     match part {
         None => false,

@@ -26,9 +26,12 @@ pub fn settled<'a>(
     users: u64,
 ) -> Result<Result<Resolved<'a>, Refusal>, Memory>
     requires { users < 2 ^ 47 }
-    ensures acts { IfOk result (λ r. IfOk r (λ answer. acts_of answer ≡ drafted_acts forms.entry.items users)) }
-    ensures tempids { IfOk result (λ r. IfOk r (λ answer. answer.tempids.items ≡ names_told (model_pairs_in forms.entry.items users))) }
-    ensures refused { IfOk result (λ r. result_err r ≡ first_refusal (tempid_rules forms.entry.items)) }
+    ensures acts { IfOk result
+        (λ r. IfOk r (λ answer. acts_of answer ≡ drafted_acts forms.entry.items users)) }
+    ensures tempids { IfOk result (λ r. IfOk r
+        (λ answer. answer.tempids.items ≡ names_told (model_pairs_in forms.entry.items users))) }
+    ensures refused { IfOk result
+        (λ r. result_err r ≡ first_refusal (tempid_rules forms.entry.items)) }
 {
     let kept = holders_in(alloc, &forms)?;
     match tempid_refusal(&kept, &forms) {
@@ -44,8 +47,11 @@ fn answer<'a>(
     users: u64,
 ) -> Result<Resolved<'a>, Memory>
     requires { users < 2 ^ 47 }
-    ensures acts { AreHolders kept.now (drafts_in forms.entry.items) → IfOk result (λ answer. acts_of answer ≡ drafted_acts forms.entry.items users) }
-    ensures tempids { AreHolders kept.now (drafts_in forms.entry.items) → IfOk result (λ answer. answer.tempids.items ≡ names_told (model_pairs_in forms.entry.items users)) }
+    ensures acts { AreHolders kept.now (drafts_in forms.entry.items)
+        → IfOk result (λ answer. acts_of answer ≡ drafted_acts forms.entry.items users) }
+    ensures tempids { AreHolders kept.now (drafts_in forms.entry.items)
+        → IfOk result
+        (λ answer. answer.tempids.items ≡ names_told (model_pairs_in forms.entry.items users)) }
 {
     let pairs = pairs_in(alloc, kept, &forms, users)?;
     let entities = entities_of(alloc, &pairs)?;
@@ -55,7 +61,8 @@ fn answer<'a>(
 }
 
 fn tempid_refusal(kept: &Holders, forms: &[Vec<Draft<'_>>]) -> Option<Refusal>
-    ensures { AreHolders kept.now (drafts_in forms.now) → result ≡ first_refusal (tempid_rules forms.now) }
+    ensures { AreHolders kept.now (drafts_in forms.now)
+        → result ≡ first_refusal (tempid_rules forms.now) }
 {
     if let Some(at) = first_conflict(kept, forms) {
         return Some(Refusal {
@@ -80,8 +87,10 @@ fn pairs_in(
     users: u64,
 ) -> Result<Vec<(Tempid, u64)>, Memory>
     requires { users < 2 ^ 47 }
-    ensures pairs { AreHolders kept.now (drafts_in forms.now) → IfOk result (λ pairs. pairs.items ≡ model_pairs_in forms.now users) }
-    ensures apart { AreHolders kept.now (drafts_in forms.now) → IfOk result (λ pairs. AreApart pairs.items) }
+    ensures pairs { AreHolders kept.now (drafts_in forms.now)
+        → IfOk result (λ pairs. pairs.items ≡ model_pairs_in forms.now users) }
+    ensures apart { AreHolders kept.now (drafts_in forms.now)
+        → IfOk result (λ pairs. AreApart pairs.items) }
 {
     let met = met_in(alloc, forms)?;
     numbered(alloc, met.tempids(), kept, users)

@@ -17,11 +17,13 @@ is_withdrawn t = is_some t.retracted || is_some t.swept
 
 -- the other one is an addition of another value of the same entity and attribute
 abbrev pub is_another_value : Triple → Triple → Bool
-is_another_value t other = is_addition other && nat_eq other.e t.e && nat_eq other.a t.a && not (value_eq other.v t.v)
+is_another_value t other =
+    is_addition other && nat_eq other.e t.e && nat_eq other.a t.a && not (value_eq other.v t.v)
 
 -- it is added beside another value of cardinality one, or added and retracted
 abbrev pub conflicts : List Datom → List Triple → Triple → Bool
-conflicts facts triples t = is_addition t && ((is_one facts t.a && list_any (is_another_value t) triples) || is_withdrawn t)
+conflicts facts triples t =
+    is_addition t && ((is_one facts t.a && list_any (is_another_value t) triples) || is_withdrawn t)
 
 abbrev pub conflict_at : List Datom → List Triple → Triple → Option ℕ
 conflict_at facts triples t = cond (conflicts facts triples t) (asked_at t) None

@@ -8,8 +8,10 @@ use Rattle.fb_numbers.specs.Numbers.{transaction_of, tx_instant}
 use Rattle.fb_model.specs.Rising.{put_in_order}
 
 abbrev pub instant_of : ℕ → ℤ → Datom
-instant_of t instant = record { e = transaction_of t; a = tx_instant; v = Instant instant; t = t; added = true }
+instant_of t instant =
+    record { e = transaction_of t; a = tx_instant; v = Instant instant; t = t; added = true }
 
 -- changes that are in order
 abbrev pub entry_at : ℕ → ℤ → List Datom → Entry
-entry_at t instant changes = record { t = t; instant = instant; datoms = put_in_order Eavt (instant_of t instant) changes }
+entry_at t instant changes =
+    record { t = t; instant = instant; datoms = put_in_order Eavt (instant_of t instant) changes }

@@ -9,7 +9,8 @@ use Rattle.tx_rules.specs.Places.{recorded_at, first_where}
 -- to record it is to change the name, the type or the part of an attribute, a built-in entity, or the instant of a transaction
 abbrev pub is_fixed : List Datom → Triple → Bool
 is_fixed facts t =
-    ((nat_eq t.a ident || nat_eq t.a value_type || nat_eq t.a is_component) && is_attribute facts t.e)
+    ((nat_eq t.a ident || nat_eq t.a value_type || nat_eq t.a is_component)
+    && is_attribute facts t.e)
     || (nat_le ident t.a && nat_le t.a index && is_builtin t.e)
     || (nat_eq t.a tx_instant && t.holds)
 

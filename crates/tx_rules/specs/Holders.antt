@@ -21,18 +21,22 @@ is_taker schema t = is_addition t && is_unique schema t.a
 
 -- the other one gives the same value to another entity
 abbrev pub is_other_taker : Triple → Triple → Bool
-is_other_taker t other = is_addition other && nat_eq other.a t.a && value_eq other.v t.v && not (nat_eq other.e t.e)
+is_other_taker t other =
+    is_addition other && nat_eq other.a t.a && value_eq other.v t.v && not (nat_eq other.e t.e)
 
 -- another entity has the value, and no change takes it away
 abbrev pub is_held_by_another : List Entry → List Datom → Triple → Bool
 is_held_by_another h changes t =
-    option_map_or (λ e. not (nat_eq e t.e) && not (list_any (is_of e t.a t.v) changes)) (holder (facts h) t.a t.v) false
+    option_map_or (λ e. not (nat_eq e t.e) && not (list_any (is_of e t.a t.v) changes))
+    (holder (facts h) t.a t.v) false
 
 abbrev pub is_shared : List Entry → List Datom → List Triple → Triple → Bool
-is_shared h changes triples t = list_any (is_other_taker t) triples || is_held_by_another h changes t
+is_shared h changes triples t =
+    list_any (is_other_taker t) triples || is_held_by_another h changes t
 
 abbrev pub first_shared : List Datom → List Entry → List Datom → List Triple → Option ℕ
-first_shared schema h changes triples = first_where (λ t. is_taker schema t && is_shared h changes triples t) (λ t. t.added) triples
+first_shared schema h changes triples =
+    first_where (λ t. is_taker schema t && is_shared h changes triples t) (λ t. t.added) triples
 
 -- ---- by attribute and value
 
@@ -47,4 +51,6 @@ abbrev pub is_taken_twice : List Triple → Triple → Bool
 is_taken_twice takers t = nat_le 2 (length (filter (are_of_one_value t) takers))
 
 abbrev pub first_among : List Entry → List Datom → List Triple → Option ℕ
-first_among h changes takers = first_where (λ t. is_taken_twice takers t || is_held_by_another h changes t) (λ t. t.added) takers
+first_among h changes takers =
+    first_where (λ t. is_taken_twice takers t || is_held_by_another h changes t) (λ t. t.added)
+    takers

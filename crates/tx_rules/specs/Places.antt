@@ -22,4 +22,5 @@ recorded_at t = cond t.holds (earlier t.retracted (earlier t.swept t.replaced)) 
 -- the first place of the triples that pass a test
 abbrev pub first_where : (Triple → Bool) → (Triple → Option ℕ) → List Triple → Option ℕ
 first_where passes place [] = None
-first_where passes place (t ∷ ts) = earlier (cond (passes t) (place t) None) (first_where passes place ts)
+first_where passes place (t ∷ ts) =
+    earlier (cond (passes t) (place t) None) (first_where passes place ts)

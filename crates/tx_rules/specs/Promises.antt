@@ -13,10 +13,12 @@ abbrev pub promises_anew : Triple → Bool
 promises_anew t = (nat_eq t.a cardinality || nat_eq t.a unique) && is_some (recorded_at t)
 
 abbrev pub verdict_of : List Datom → List Datom → ℕ → Verdict
-verdict_of schema after e = record { e = e; broken = is_attribute schema e && not (keeps_its_promise after e) }
+verdict_of schema after e =
+    record { e = e; broken = is_attribute schema e && not (keeps_its_promise after e) }
 
 abbrev pub broken_at : Verdict → Triple → Option ℕ
 broken_at verdict t = cond verdict.broken (recorded_at t) None
 
 abbrev pub first_broken : List Datom → List Datom → List Triple → Option ℕ
-first_broken schema after triples = first_where promises_anew (λ t. broken_at (verdict_of schema after t.e) t) triples
+first_broken schema after triples =
+    first_where promises_anew (λ t. broken_at (verdict_of schema after t.e) t) triples

@@ -38,11 +38,14 @@ change_rules tx =
 -- ---- by acts, triples and changes
 
 abbrev pub is_too_large : List Datom → Bool
-is_too_large changes = nat_lt most_datoms (length changes + 1) || nat_lt most_bytes (entry_size changes + 26)
+is_too_large changes =
+    nat_lt most_datoms (length changes + 1) || nat_lt most_bytes (entry_size changes + 26)
 
 abbrev pub is_full : List Entry → List Datom → Bool
 is_full h changes =
-    nat_lt greatest_t (basis h + 1) || nat_lt (2 ^ 40) (max (users_issued h) (users_in changes)) || not (int_lt (last_instant h) greatest_instant)
+    nat_lt greatest_t (basis h + 1)
+    || nat_lt (2 ^ 40) (max (users_issued h) (users_in changes))
+    || not (int_lt (last_instant h) greatest_instant)
 
 -- what a transaction asks at a history, as far as the rules look at it
 pub record Asked : Type 0 where
@@ -56,12 +59,15 @@ abbrev pub first_place : Asked → Reason → Option ℕ
 first_place asked CasMany = first_of_many asked.forms
 first_place asked CasFailed = first_failed asked.history asked.forms
 first_place asked DatomsConflict = first_conflict asked.schema asked.triples
-first_place asked UniqueConflict = first_shared asked.schema asked.history asked.changes asked.triples
-first_place asked IncompleteAttribute = first_incomplete asked.schema (after asked.history asked.changes) asked.triples
+first_place asked UniqueConflict =
+    first_shared asked.schema asked.history asked.changes asked.triples
+first_place asked IncompleteAttribute =
+    first_incomplete asked.schema (after asked.history asked.changes) asked.triples
 first_place asked AttributeFixed = first_fixed asked.schema asked.triples
 first_place asked TooLarge = by_whole (is_too_large asked.changes)
 first_place asked Full = by_whole (is_full asked.history asked.changes)
-first_place asked AlterationConflict = first_broken asked.schema (after asked.history asked.changes) asked.triples
+first_place asked AlterationConflict =
+    first_broken asked.schema (after asked.history asked.changes) asked.triples
 first_place asked rule = None
 
 abbrev pub with_first : Asked → Reason → Reason × Option ℕ
@@ -69,4 +75,5 @@ with_first asked rule = (rule, first_place asked rule)
 
 abbrev pub all_rules : List Reason
 all_rules =
-    CasMany ∷ CasFailed ∷ DatomsConflict ∷ UniqueConflict ∷ IncompleteAttribute ∷ AttributeFixed ∷ TooLarge ∷ Full ∷ AlterationConflict ∷ []
+    CasMany ∷ CasFailed ∷ DatomsConflict ∷ UniqueConflict ∷ IncompleteAttribute ∷ AttributeFixed
+    ∷ TooLarge ∷ Full ∷ AlterationConflict ∷ []

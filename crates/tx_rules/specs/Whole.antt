@@ -18,7 +18,8 @@ abbrev pub alters : Triple → Bool
 alters t = nat_eq t.a cardinality || nat_eq t.a unique || nat_eq t.a index
 
 abbrev pub is_of_new_attribute : List Datom → List Datom → ℕ → Bool
-is_of_new_attribute schema after e = not (is_attribute schema e) && list_any (λ d. nat_eq d.e e && says_attribute d) after
+is_of_new_attribute schema after e =
+    not (is_attribute schema e) && list_any (λ d. nat_eq d.e e && says_attribute d) after
 
 abbrev pub lack_of : List Datom → List Datom → ℕ → Lack
 lack_of schema after e =
@@ -30,7 +31,10 @@ lack_of schema after e =
 
 -- the first form that asks something of an attribute which lacks something
 abbrev pub lack_at : Lack → Triple → Option ℕ
-lack_at lack t = earlier (cond lack.as_new (named_at t) None) (cond (alters t && lack.as_altered) (recorded_at t) None)
+lack_at lack t =
+    earlier (cond lack.as_new (named_at t) None)
+    (cond (alters t && lack.as_altered) (recorded_at t) None)
 
 abbrev pub first_incomplete : List Datom → List Datom → List Triple → Option ℕ
-first_incomplete schema after triples = first_where describes (λ t. lack_at (lack_of schema after t.e) t) triples
+first_incomplete schema after triples =
+    first_where describes (λ t. lack_at (lack_of schema after t.e) t) triples

@@ -45,7 +45,8 @@ fn is_cas_of_many(act: &Act<'_>) -> bool
 
 /// The first form with a cas that finds another value than its old one.
 pub fn first_failed<F: Facts>(forms: &[Vec<Act<'_>>], facts: &F) -> Result<Option<usize>, Memory>
-    ensures { IfOk result (λ place. place ≡ model.first_failed (F.history facts.now) (model.acts_of forms.now)) }
+    ensures { IfOk result
+        (λ place. place ≡ model.first_failed (F.history facts.now) (model.acts_of forms.now)) }
 {
     for (place, form) in forms.iter().enumerate() {
         if has_failed(form, facts)? {
@@ -56,7 +57,8 @@ pub fn first_failed<F: Facts>(forms: &[Vec<Act<'_>>], facts: &F) -> Result<Optio
 }
 
 fn has_failed<F: Facts>(form: &[Act<'_>], facts: &F) -> Result<bool, Memory>
-    ensures { IfOk result (λ b. b ≡ list_any (model.finds_another (F.history facts.now)) (map seen form.now)) }
+    ensures { IfOk result
+        (λ b. b ≡ list_any (model.finds_another (F.history facts.now)) (map seen form.now)) }
 {
     for act in form {
         if finds_another(act, facts)? {

@@ -53,7 +53,9 @@ fn first_among(added: &[&Triple], schema: &Schema) -> Option<usize>
 fn conflict_at(added: &[&Triple], i: usize, schema: &Schema) -> Option<usize>
     requires within { i < length added.now }
     requires additions { model.AreAdditions (behind added.now) }
-    ensures { (d : Triple) → result ≡ model.conflict_at schema.now (behind added.now) (slice_index_or (behind added.now) i d) }
+    ensures { (d : Triple)
+        → result
+        ≡ model.conflict_at schema.now (behind added.now) (slice_index_or (behind added.now) i d) }
 {
     if conflicts(added, i, schema) {
         asked_at(added[i])
@@ -65,7 +67,9 @@ fn conflict_at(added: &[&Triple], i: usize, schema: &Schema) -> Option<usize>
 fn conflicts(added: &[&Triple], i: usize, schema: &Schema) -> bool
     requires within { i < length added.now }
     requires additions { model.AreAdditions (behind added.now) }
-    ensures { (d : Triple) → result ≡ model.conflicts schema.now (behind added.now) (slice_index_or (behind added.now) i d) }
+    ensures { (d : Triple)
+        → result
+        ≡ model.conflicts schema.now (behind added.now) (slice_index_or (behind added.now) i d) }
 {
     let triple = added[i];
     is_withdrawn(triple) || (is_crowded(added, i) && is_one(schema, triple.a))

@@ -26,7 +26,8 @@ pub fn first_shared<F: Facts>(
 ) -> Result<Option<usize>, Memory>
     requires rising { IsTrue (rise triples.now) }
     requires changes { AreChanges changes.now }
-    ensures { IfOk result (λ place. place ≡ model.first_shared schema.now (F.history facts.now) changes.now triples.now) }
+    ensures { IfOk result (λ place. place
+        ≡ model.first_shared schema.now (F.history facts.now) changes.now triples.now) }
 {
     let mut takers = takers(alloc, triples, schema)?;
     takers.sort_unstable_by(|x, y| cmp_values(x, y));
@@ -39,7 +40,8 @@ fn takers<'a>(
     triples: &'a [Triple],
     schema: &Schema,
 ) -> Result<Vec<&'a Triple>, Memory>
-    ensures { IfOk result (λ takers. behind takers.items ≡ filter (model.is_taker schema.now) triples.now) }
+    ensures { IfOk result
+        (λ takers. behind takers.items ≡ filter (model.is_taker schema.now) triples.now) }
 {
     let mut takers = Vec::new(alloc);
     for triple in triples {
@@ -88,7 +90,12 @@ fn shared_at<F: Facts>(takers: &[&Triple], i: usize, changes: &[Datom], facts: &
     requires within { i < length takers.now }
     requires sorted { model.AreByValue (behind takers.now) }
     requires changes { AreChanges changes.now }
-    ensures { (d : Triple) → let t = slice_index_or (behind takers.now) i d in result ≡ cond (model_is_beside are_of_one_value (behind takers.now) i d || model.is_held_by_another (F.history facts.now) changes.now t) t.added None }
+    ensures { (d : Triple)
+        → let t = slice_index_or (behind takers.now) i d in result
+        ≡ cond
+        (model_is_beside are_of_one_value (behind takers.now) i d
+        || model.is_held_by_another (F.history facts.now) changes.now t)
+        t.added None }
 {
     let triple = takers[i];
     if is_crowded(takers, i) || is_held_by_another(triple, changes, facts) {

@@ -41,7 +41,8 @@ pub fn recorded_at(triple: &Triple) -> Option<usize>
 }
 
 fn withdrawn_at(triple: &Triple) -> Option<usize>
-    ensures { result ≡ model.earlier triple.now.retracted (model.earlier triple.now.swept triple.now.replaced) }
+    ensures { result
+        ≡ model.earlier triple.now.retracted (model.earlier triple.now.swept triple.now.replaced) }
 {
     earlier(triple.retracted, earlier(triple.swept, triple.replaced))
 }

@@ -41,7 +41,8 @@ pub fn first_broken<F: Facts>(
 ) -> Result<Option<usize>, Memory>
     requires lawful { IsLawful (F.history facts.now) }
     requires changes { AreChanges changes.now }
-    ensures { IfOk result (λ place. place ≡ model.first_broken schema.now (after (F.history facts.now) changes.now) triples.now) }
+    ensures { IfOk result (λ place. place
+        ≡ model.first_broken schema.now (after (F.history facts.now) changes.now) triples.now) }
 {
     if !promise_anew(triples) {
         return Ok(None);
@@ -62,7 +63,8 @@ fn first_broken_by<F: Facts>(
     requires lawful { IsLawful (F.history facts.now) }
     requires changes { AreChanges changes.now }
     requires parts { AreByAttribute by_attribute.now.parts changes.now }
-    ensures { IfOk result (λ place. place ≡ model.first_broken schema.now (after (F.history facts.now) changes.now) triples.now) }
+    ensures { IfOk result (λ place. place
+        ≡ model.first_broken schema.now (after (F.history facts.now) changes.now) triples.now) }
 {
     let mut first = None;
     let mut last = None;
@@ -122,8 +124,10 @@ fn known_or_found<F: Facts>(
     requires lawful { IsLawful (F.history facts.now) }
     requires changes { AreChanges changes.now }
     requires parts { AreByAttribute by_attribute.now.parts changes.now }
-    requires known { IfSome last (λ verdict. verdict ≡ model.verdict_of schema.now (after (F.history facts.now) changes.now) verdict.e) }
-    ensures { IfOk result (λ verdict. verdict ≡ model.verdict_of schema.now (after (F.history facts.now) changes.now) e) }
+    requires known { IfSome last (λ verdict. verdict
+        ≡ model.verdict_of schema.now (after (F.history facts.now) changes.now) verdict.e) }
+    ensures { IfOk result (λ verdict. verdict
+        ≡ model.verdict_of schema.now (after (F.history facts.now) changes.now) e) }
 {
     match last {
         Some(verdict) if verdict.e == e => Ok(verdict),
@@ -142,7 +146,8 @@ fn verdict_of<F: Facts>(
     requires lawful { IsLawful (F.history facts.now) }
     requires changes { AreChanges changes.now }
     requires parts { AreByAttribute by_attribute.now.parts changes.now }
-    ensures { IfOk result (λ verdict. verdict ≡ model.verdict_of schema.now (after (F.history facts.now) changes.now) e) }
+    ensures { IfOk result (λ verdict. verdict
+        ≡ model.verdict_of schema.now (after (F.history facts.now) changes.now) e) }
 {
     if !is_attribute(schema, e) {
         return Ok(Verdict { e, broken: false });
@@ -161,7 +166,8 @@ fn keeps_its_promise<F: Facts>(
     requires lawful { IsLawful (F.history facts.now) }
     requires changes { AreChanges changes.now }
     requires parts { AreByAttribute by_attribute.now.parts changes.now }
-    ensures { IfOk result (λ kept. kept ≡ rules.keeps_its_promise (after (F.history facts.now) changes.now) a) }
+    ensures { IfOk result
+        (λ kept. kept ≡ rules.keeps_its_promise (after (F.history facts.now) changes.now) a) }
 {
     let attribute = attribute_after(alloc, facts, changes, a)?;
     let has_one_value = keeps_one_value(alloc, &attribute, a, changes, by_attribute, facts)?;
@@ -181,8 +187,11 @@ fn keeps_one_value<F: Facts>(
 ) -> Result<bool, Memory>
     requires changes { AreChanges changes.now }
     requires parts { AreByAttribute by_attribute.now.parts changes.now }
-    requires attribute { option_map attribute_in attribute.now ≡ schema.attribute_of (after (F.history facts.now) changes.now) a }
-    ensures { IfOk result (λ kept. kept ≡ (not (schema.is_one (after (F.history facts.now) changes.now) a) || promised.gives_one_value (after (F.history facts.now) changes.now) a)) }
+    requires attribute { option_map attribute_in attribute.now
+        ≡ schema.attribute_of (after (F.history facts.now) changes.now) a }
+    ensures { IfOk result (λ kept. kept
+        ≡ (not (schema.is_one (after (F.history facts.now) changes.now) a)
+        || promised.gives_one_value (after (F.history facts.now) changes.now) a)) }
 {
     if !is_one(attribute) {
         return Ok(true);
@@ -200,8 +209,11 @@ fn keeps_one_holder<F: Facts>(
 ) -> Result<bool, Memory>
     requires changes { AreChanges changes.now }
     requires parts { AreByAttribute by_attribute.now.parts changes.now }
-    requires attribute { option_map attribute_in attribute.now ≡ schema.attribute_of (after (F.history facts.now) changes.now) a }
-    ensures { IfOk result (λ kept. kept ≡ (not (schema.is_unique (after (F.history facts.now) changes.now) a) || promised.gives_one_holder (after (F.history facts.now) changes.now) a)) }
+    requires attribute { option_map attribute_in attribute.now
+        ≡ schema.attribute_of (after (F.history facts.now) changes.now) a }
+    ensures { IfOk result (λ kept. kept
+        ≡ (not (schema.is_unique (after (F.history facts.now) changes.now) a)
+        || promised.gives_one_holder (after (F.history facts.now) changes.now) a)) }
 {
     if !is_unique(attribute) {
         return Ok(true);
@@ -210,7 +222,9 @@ fn keeps_one_holder<F: Facts>(
 }
 
 fn is_one(attribute: &Option<Attribute>) -> bool
-    ensures { (facts : List Datom) (a : ℕ) → option_map attribute_in attribute.now ≡ schema.attribute_of facts a → result ≡ schema.is_one facts a }
+    ensures { (facts : List Datom) (a : ℕ)
+        → option_map attribute_in attribute.now ≡ schema.attribute_of facts a
+        → result ≡ schema.is_one facts a }
 {
     match attribute {
         Some(attribute) => !attribute.many,
@@ -219,7 +233,9 @@ fn is_one(attribute: &Option<Attribute>) -> bool
 }
 
 fn is_unique(attribute: &Option<Attribute>) -> bool
-    ensures { (facts : List Datom) (a : ℕ) → option_map attribute_in attribute.now ≡ schema.attribute_of facts a → result ≡ schema.is_unique facts a }
+    ensures { (facts : List Datom) (a : ℕ)
+        → option_map attribute_in attribute.now ≡ schema.attribute_of facts a
+        → result ≡ schema.is_unique facts a }
 {
     match attribute {
         Some(attribute) => attribute.is_unique(),

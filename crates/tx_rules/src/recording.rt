@@ -22,7 +22,8 @@ use std::cmp::Ordering;
 /// The entry that records the changes and, among them, the instant of their transaction.
 pub fn entry(alloc: Global, changes: &[Datom], t: u32, instant: i64) -> Result<Entry, Memory>
     requires { IsTrue (rises Eavt changes.now) }
-    ensures { (h : List ModelEntry) (tx : Transaction) → tx.db ≡ db_of h → t ≡ history.basis h + 1 → changes.now ≡ tx.changes → IfOk result (λ entry. entry ≡ entry_of h tx instant) }
+    ensures { (h : List ModelEntry) (tx : Transaction) → tx.db ≡ db_of h → t ≡ history.basis h + 1
+        → changes.now ≡ tx.changes → IfOk result (λ entry. entry ≡ entry_of h tx instant) }
 {
     entry_at(alloc, changes, t, instant)
 }

@@ -54,7 +54,9 @@ pub fn least_refusal<F: Facts>(
     requires lawful { IsLawful (F.history facts.now) }
     requires rising { IsTrue (rise triples.now) }
     requires changes { AreChanges changes.now }
-    ensures { (tx : model.Transaction) → tx.db ≡ db_of (F.history facts.now) → AreActs (acts_of forms.now) tx → AreTriples tx triples.now → changes.now ≡ tx.changes → IfOk result (λ refusal. refusal ≡ first_refusal (change_rules tx)) }
+    ensures { (tx : model.Transaction) → tx.db ≡ db_of (F.history facts.now)
+        → AreActs (acts_of forms.now) tx → AreTriples tx triples.now → changes.now ≡ tx.changes
+        → IfOk result (λ refusal. refusal ≡ first_refusal (change_rules tx)) }
 {
     schemas_tell_of_attributes();
     facts_are_what_holds();
@@ -76,7 +78,16 @@ fn least_of<F: Facts>(
     requires lawful { IsLawful (F.history facts.now) }
     requires rising { IsTrue (rise triples.now) }
     requires changes { AreChanges changes.now }
-    ensures { IfOk result (λ refusal. refusal ≡ first_refusal (map (with_first (record { history = F.history facts.now; schema = schema.now; forms = acts_of forms.now; triples = triples.now; changes = changes.now })) rules.now)) }
+    ensures { IfOk result (λ refusal. refusal
+        ≡ first_refusal (map
+        (with_first (record {
+          history = F.history facts.now;
+          schema = schema.now;
+          forms = acts_of forms.now;
+          triples = triples.now;
+          changes = changes.now;
+        }))
+        rules.now)) }
 {
     for rule in rules {
         if let Some(at) = first_place(alloc, *rule, forms, triples, changes, facts, schema)? {
@@ -99,7 +110,16 @@ fn first_place<F: Facts>(
     requires lawful { IsLawful (F.history facts.now) }
     requires rising { IsTrue (rise triples.now) }
     requires changes { AreChanges changes.now }
-    ensures { IfOk result (λ place. place ≡ model_first_place (record { history = F.history facts.now; schema = schema.now; forms = acts_of forms.now; triples = triples.now; changes = changes.now }) rule) }
+    ensures { IfOk result (λ place. place
+        ≡ model_first_place
+        (record {
+          history = F.history facts.now;
+          schema = schema.now;
+          forms = acts_of forms.now;
+          triples = triples.now;
+          changes = changes.now;
+        })
+        rule) }
 {
     match rule {
         Reason::CasMany => Ok(first_of_many(forms)),

@@ -38,7 +38,8 @@ pub fn first_incomplete<F: Facts>(
 ) -> Result<Option<usize>, Memory>
     requires lawful { IsLawful (F.history facts.now) }
     requires changes { AreChanges changes.now }
-    ensures { IfOk result (λ place. place ≡ model.first_incomplete schema.now (after (F.history facts.now) changes.now) triples.now) }
+    ensures { IfOk result (λ place. place
+        ≡ model.first_incomplete schema.now (after (F.history facts.now) changes.now) triples.now) }
 {
     let mut first = None;
     let mut last = None;
@@ -75,7 +76,9 @@ fn lack_as_new_at(lack: &Lack, triple: &Triple) -> Option<usize>
 }
 
 fn lack_as_altered_at(lack: &Lack, triple: &Triple) -> Option<usize>
-    ensures { result ≡ cond (model.alters triple.now && lack.now.as_altered) (places.recorded_at triple.now) None }
+    ensures { result
+        ≡ cond (model.alters triple.now && lack.now.as_altered) (places.recorded_at triple.now)
+        None }
 {
     if alters(triple) && lack.as_altered {
         recorded_at(triple)
@@ -101,8 +104,10 @@ fn known_or_found<F: Facts>(
 ) -> Result<Lack, Memory>
     requires lawful { IsLawful (F.history facts.now) }
     requires changes { AreChanges changes.now }
-    requires known { IfSome last (λ lack. lack ≡ model.lack_of schema.now (after (F.history facts.now) changes.now) lack.e) }
-    ensures { IfOk result (λ lack. lack ≡ model.lack_of schema.now (after (F.history facts.now) changes.now) e) }
+    requires known { IfSome last
+        (λ lack. lack ≡ model.lack_of schema.now (after (F.history facts.now) changes.now) lack.e) }
+    ensures { IfOk result
+        (λ lack. lack ≡ model.lack_of schema.now (after (F.history facts.now) changes.now) e) }
 {
     match last {
         Some(lack) if lack.e == e => Ok(lack),
@@ -119,7 +124,8 @@ fn lack_of<F: Facts>(
 ) -> Result<Lack, Memory>
     requires lawful { IsLawful (F.history facts.now) }
     requires changes { AreChanges changes.now }
-    ensures { IfOk result (λ lack. lack ≡ model.lack_of schema.now (after (F.history facts.now) changes.now) e) }
+    ensures { IfOk result
+        (λ lack. lack ≡ model.lack_of schema.now (after (F.history facts.now) changes.now) e) }
 {
     let is_new = is_of_new_attribute(alloc, e, changes, facts, schema)?;
     let was_one = is_attribute(schema, e);
@@ -140,7 +146,8 @@ fn is_of_new_attribute<F: Facts>(
     schema: &Schema,
 ) -> Result<bool, Memory>
     requires { AreChanges changes.now }
-    ensures { IfOk result (λ is. is ≡ model.is_of_new_attribute schema.now (after (F.history facts.now) changes.now) e) }
+    ensures { IfOk result (λ is. is
+        ≡ model.is_of_new_attribute schema.now (after (F.history facts.now) changes.now) e) }
 {
     if is_attribute(schema, e) {
         return Ok(false);

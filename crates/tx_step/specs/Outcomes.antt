@@ -26,7 +26,8 @@ told_or (Some refusal) outcome = refused refusal
 told_or None outcome = outcome
 
 abbrev pub shaped_step : List Entry → List Form → ℤ → Guard → Decision
-shaped_step h fs reading guard = unless_refused h fs reading guard (first_refusal (broken_rules (transaction h fs)))
+shaped_step h fs reading guard =
+    unless_refused h fs reading guard (first_refusal (broken_rules (transaction h fs)))
 
 -- the acts are those of a transaction at the history
 pub record IsSomeTransaction (h : List Entry) (acts : List (List Act)) : Type 0 where

@@ -57,8 +57,11 @@ pub fn decide<F: Facts, G: Guard<F>>(
 ) -> Result<Accepted, TxStop>
     requires stands { SchemaStands schema.now (F.history facts.now) }
     requires lawful { IsLawful (F.history facts.now) }
-    ensures accepted { IfOk result (λ done. model.step (F.history facts.now) (form_of asked.now) reading (G.bars guard.now) ≡ model.accepted done.entry done.tempids.items) }
-    ensures refused { IfErr result (λ stop. Tells stop (model.step (F.history facts.now) (form_of asked.now) reading (G.bars guard.now))) }
+    ensures accepted { IfOk result (λ done. model.step (F.history facts.now) (form_of asked.now)
+        reading (G.bars guard.now)
+        ≡ model.accepted done.entry done.tempids.items) }
+    ensures refused { IfErr result (λ stop. Tells stop
+        (model.step (F.history facts.now) (form_of asked.now) reading (G.bars guard.now))) }
 {
     match read_forms(asked) {
         Ok(forms) => decide_shaped(alloc, forms, facts, schema, reading, guard),
@@ -77,8 +80,11 @@ fn decide_shaped<F: Facts, G: Guard<F>>(
 ) -> Result<Accepted, TxStop>
     requires stands { SchemaStands schema.now (F.history facts.now) }
     requires lawful { IsLawful (F.history facts.now) }
-    ensures accepted { IfOk result (λ done. shaped_step (F.history facts.now) (forms_of forms.entry.forms.now) reading (G.bars guard.now) ≡ model.accepted done.entry done.tempids.items) }
-    ensures refused { IfErr result (λ stop. Tells stop (shaped_step (F.history facts.now) (forms_of forms.entry.forms.now) reading (G.bars guard.now))) }
+    ensures accepted { IfOk result (λ done. shaped_step (F.history facts.now)
+        (forms_of forms.entry.forms.now) reading (G.bars guard.now)
+        ≡ model.accepted done.entry done.tempids.items) }
+    ensures refused { IfErr result (λ stop. Tells stop (shaped_step (F.history facts.now)
+        (forms_of forms.entry.forms.now) reading (G.bars guard.now))) }
 {
     match expand(alloc, forms, schema) {
         Ok(flat) => decide_flat(alloc, forms, flat, facts, schema, reading, guard),
@@ -98,10 +104,16 @@ fn decide_flat<F: Facts, G: Guard<F>>(
 ) -> Result<Accepted, TxStop>
     requires stands { SchemaStands schema.now (F.history facts.now) }
     requires lawful { IsLawful (F.history facts.now) }
-    requires asks { AreAsks flat (facts_in (F.history facts.now)) (walk.flat (facts_in (F.history facts.now)) (forms_of _forms.forms.now)) }
-    requires unbroken { model.first_refusal (schema_rules (db_of (F.history facts.now)) (walk.flat (facts_in (F.history facts.now)) (forms_of _forms.forms.now))) ≡ None }
-    ensures accepted { IfOk result (λ done. shaped_step (F.history facts.now) (forms_of _forms.entry.forms.now) reading (G.bars guard.now) ≡ model.accepted done.entry done.tempids.items) }
-    ensures refused { IfErr result (λ stop. Tells stop (shaped_step (F.history facts.now) (forms_of _forms.entry.forms.now) reading (G.bars guard.now))) }
+    requires asks { AreAsks flat (facts_in (F.history facts.now))
+        (walk.flat (facts_in (F.history facts.now)) (forms_of _forms.forms.now)) }
+    requires unbroken { model.first_refusal (schema_rules (db_of (F.history facts.now))
+        (walk.flat (facts_in (F.history facts.now)) (forms_of _forms.forms.now)))
+        ≡ None }
+    ensures accepted { IfOk result (λ done. shaped_step (F.history facts.now)
+        (forms_of _forms.entry.forms.now) reading (G.bars guard.now)
+        ≡ model.accepted done.entry done.tempids.items) }
+    ensures refused { IfErr result (λ stop. Tells stop (shaped_step (F.history facts.now)
+        (forms_of _forms.entry.forms.now) reading (G.bars guard.now))) }
 {
     let resolved = match resolve(alloc, flat, facts, schema) {
         Ok(resolved) => resolved,
@@ -128,8 +140,11 @@ fn judged<F: Facts, G: Guard<F>>(
     requires stands { SchemaStands schema.now (F.history facts.now) }
     requires lawful { IsLawful (F.history facts.now) }
     requires acts { IsSomeTransaction (F.history facts.now) (acts_of forms.now) }
-    ensures { IfOk result (λ r. OfTransactions (F.history facts.now) (acts_of forms.now) (λ tx. tempids.items ≡ named_tempids tx.names
-        → outcome_of r ≡ told_or (model.first_refusal (change_rules tx)) (model.under_guard (F.history facts.now) tx reading (G.bars guard.now (F.history facts.now) tx.changes)))) }
+    ensures { IfOk result (λ r. OfTransactions (F.history facts.now) (acts_of forms.now)
+        (λ tx. tempids.items ≡ named_tempids tx.names
+        → outcome_of r
+        ≡ told_or (model.first_refusal (change_rules tx)) (model.under_guard (F.history facts.now)
+        tx reading (G.bars guard.now (F.history facts.now) tx.changes)))) }
 {
     match changes_or_refusal(alloc, forms, facts, schema)? {
         Ok(changes) => recorded(alloc, changes.as_slice(), tempids, facts, reading, guard),
@@ -147,10 +162,13 @@ fn changes_or_refusal<F: Facts>(
     requires stands { SchemaStands schema.now (F.history facts.now) }
     requires lawful { IsLawful (F.history facts.now) }
     requires acts { IsSomeTransaction (F.history facts.now) (acts_of forms.now) }
-    ensures changes { IfOk result (λ r. IfOk r (λ changes. OfTransactions (F.history facts.now) (acts_of forms.now) (λ tx. changes ≡ tx.changes))) }
-    ensures refusal { IfOk result (λ r. OfTransactions (F.history facts.now) (acts_of forms.now) (λ tx. result_err r ≡ model.first_refusal (change_rules tx))) }
+    ensures changes { IfOk result (λ r. IfOk r (λ changes. OfTransactions (F.history facts.now)
+        (acts_of forms.now) (λ tx. changes ≡ tx.changes))) }
+    ensures refusal { IfOk result (λ r. OfTransactions (F.history facts.now) (acts_of forms.now)
+        (λ tx. result_err r ≡ model.first_refusal (change_rules tx))) }
     ensures rising { IfOk result (λ r. IfOk r (λ changes. IsTrue (rises Eavt changes))) }
-    ensures room { IfOk result (λ r. IfOk r (λ _. history.last_instant (F.history facts.now) <ℤ greatest_instant)) }
+    ensures room { IfOk result
+        (λ r. IfOk r (λ _. history.last_instant (F.history facts.now) <ℤ greatest_instant)) }
 {
     changes_are_of_one_entry();
     lawful_histories_are_small();
@@ -174,8 +192,12 @@ fn recorded<F: Facts, G: Guard<F>>(
     requires lawful { IsLawful (F.history facts.now) }
     requires rising { IsTrue (rises Eavt changes.now) }
     requires room { history.last_instant (F.history facts.now) <ℤ greatest_instant }
-    ensures { IfOk result (λ r. (tx : transactions.Transaction) → tx.db ≡ db_of (F.history facts.now) → changes.now ≡ tx.changes → tempids.items ≡ named_tempids tx.names
-        → outcome_of r ≡ model.under_guard (F.history facts.now) tx reading (G.bars guard.now (F.history facts.now) tx.changes)) }
+    ensures { IfOk result (λ r. (tx : transactions.Transaction)
+        → tx.db ≡ db_of (F.history facts.now) → changes.now ≡ tx.changes
+        → tempids.items ≡ named_tempids tx.names
+        → outcome_of r
+        ≡ model.under_guard (F.history facts.now) tx reading
+        (G.bars guard.now (F.history facts.now) tx.changes)) }
 {
     match guard.judge(facts, changes)? {
         Some(bar) => Ok(Err(barred(bar))),
@@ -193,8 +215,11 @@ fn with_entry<F: Facts>(
     requires lawful { IsLawful (F.history facts.now) }
     requires rising { IsTrue (rises Eavt changes.now) }
     requires room { history.last_instant (F.history facts.now) <ℤ greatest_instant }
-    ensures { IfOk result (λ done. (tx : transactions.Transaction) → tx.db ≡ db_of (F.history facts.now) → changes.now ≡ tx.changes → tempids.items ≡ named_tempids tx.names
-        → model.accepted done.entry done.tempids.items ≡ model.under_guard (F.history facts.now) tx reading None) }
+    ensures { IfOk result (λ done. (tx : transactions.Transaction)
+        → tx.db ≡ db_of (F.history facts.now) → changes.now ≡ tx.changes
+        → tempids.items ≡ named_tempids tx.names
+        → model.accepted done.entry done.tempids.items
+        ≡ model.under_guard (F.history facts.now) tx reading None) }
 {
     lawful_histories_are_small();
     let instant = next_instant(facts, reading);

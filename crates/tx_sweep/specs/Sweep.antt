@@ -42,7 +42,8 @@ said_of h place e = map (asking_at place) (facts_of h e) ++ map (asking_at place
 
 -- the triple is asked by the form at the place, or by an earlier one
 abbrev pub is_told : ℕ → List Asking → Datom → Bool
-is_told place askings d = list_any (λ asking. is_asking_of d asking && nat_le asking.place place) askings
+is_told place askings d =
+    list_any (λ asking. is_asking_of d asking && nat_le asking.place place) askings
 
 -- ---- parts
 
@@ -75,14 +76,18 @@ is_about_one has d = has d.e || is_ref_to_one has d.v
 -- the visited entities are visited with their parts, and what they and the pairs stand for was found, up to the form at the place
 pub record AreSwept (facts : List Datom) (place : ℕ) (found : Found) : Type 0 where
   pub closed : IsTrue (keeps (has_visited found) (component_links facts))
-  pub about : (d : Datom) → Contains facts d → IsTrue (is_about_one (has_visited found) d) → IsTrue (is_told place found.askings.items d)
-  pub paired : (d : Datom) → Contains facts d → IsTrue (has_pair found d.e d.a) → IsTrue (is_told place found.askings.items d)
+  pub about : (d : Datom) → Contains facts d → IsTrue (is_about_one (has_visited found) d)
+      → IsTrue (is_told place found.askings.items d)
+  pub paired : (d : Datom) → Contains facts d → IsTrue (has_pair found d.e d.a)
+      → IsTrue (is_told place found.askings.items d)
 
 abbrev pub IsAskedOf : ℕ → List Datom → Asking → Type 0
-IsAskedOf place asked asking = (asking.place ≡ place) × IsTrue (list_any (is_of asking.e asking.a asking.v) asked)
+IsAskedOf place asked asking =
+    (asking.place ≡ place) × IsTrue (list_any (is_of asking.e asking.a asking.v) asked)
 
 -- from what was found to what is found then, where the form at the place asks these triples
-pub record Sweeps (facts : List Datom) (place : ℕ) (asked : List Datom) (before after : Found) : Type 0 where
+pub record Sweeps (facts : List Datom) (place : ℕ) (asked : List Datom) (before after : Found)
+    : Type 0 where
   pub more : List Asking
   pub grown : after.askings.items ≡ before.askings.items ++ more
   pub asks : All (IsAskedOf place asked) more
@@ -90,8 +95,11 @@ pub record Sweeps (facts : List Datom) (place : ℕ) (asked : List Datom) (befor
   pub kept : AreSwept facts place after
 
 -- a visit of one entity
-pub record Visits (h : List Entry) (schema : List Datom) (place e : ℕ) (stack rest : List ℕ) (before after : Found) : Type 0 where
+pub record Visits (h : List Entry) (schema : List Datom) (place e : ℕ) (stack rest : List ℕ)
+    (before after : Found) : Type 0 where
   pub visited : (x : ℕ) → has_visited after x ≡ (nat_eq e x || has_visited before x)
   pub pairs : (x a : ℕ) → has_pair after x a ≡ has_pair before x a
-  pub askings : after.askings.items ≡ cond (has_visited before e) before.askings.items (before.askings.items ++ said_of h place e)
-  pub parts : rest ≡ cond (has_visited before e) stack (stack ++ filter_map (part_to schema) (facts_of h e))
+  pub askings : after.askings.items
+      ≡ cond (has_visited before e) before.askings.items (before.askings.items ++ said_of h place e)
+  pub parts : rest
+      ≡ cond (has_visited before e) stack (stack ++ filter_map (part_to schema) (facts_of h e))

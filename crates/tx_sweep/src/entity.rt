@@ -26,7 +26,8 @@ pub fn sweep_entity<F: Facts>(
 ) -> Result<(), Memory>
     requires { SchemaStands schema.now (F.history facts.now) }
     ensures { AreSwept (facts_in (F.history facts.now)) place found.old
-        → OnOk result (Sweeps (facts_in (F.history facts.now)) place (set_withdrawn (db_of (F.history facts.now)) e) found.old found.new) }
+        → OnOk result (Sweeps (facts_in (F.history facts.now)) place
+        (set_withdrawn (db_of (F.history facts.now)) e) found.old found.new) }
 {
     told_lists_are_the_rising_ones();
     schemas_tell_of_attributes();
@@ -47,7 +48,8 @@ fn visit<F: Facts>(
     facts: &F,
     schema: &Schema,
 ) -> Result<(), Memory>
-    ensures { OnOk result (Visits (F.history facts.now) schema.now place e stack.old.items stack.new.items found.old found.new) }
+    ensures { OnOk result (Visits (F.history facts.now) schema.now place e stack.old.items
+        stack.new.items found.old found.new) }
 {
     if !found.visited.insert(e)? {
         return Ok(());
@@ -63,8 +65,10 @@ fn push_said<F: Facts>(
     facts: &F,
     schema: &Schema,
 ) -> Result<(), Memory>
-    ensures askings { OnOk result (askings.new.items ≡ askings.old.items ++ said_of (F.history facts.now) place e) }
-    ensures stack { OnOk result (stack.new.items ≡ stack.old.items ++ filter_map (part_to schema.now) (facts_of (F.history facts.now) e)) }
+    ensures askings { OnOk result
+        (askings.new.items ≡ askings.old.items ++ said_of (F.history facts.now) place e) }
+    ensures stack { OnOk result (stack.new.items
+        ≡ stack.old.items ++ filter_map (part_to schema.now) (facts_of (F.history facts.now) e)) }
 {
     let said = facts.facts_of(e)?;
     push_parts(stack, schema, said.as_slice())?;

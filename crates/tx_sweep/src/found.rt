@@ -22,7 +22,8 @@ pub struct Found {
 
 /// Adds an asking for each fact.
 pub fn push_facts(askings: &mut Vec<Asking>, place: usize, facts: &[Datom]) -> Result<(), Memory>
-    ensures { OnOk result (askings.new.items ≡ askings.old.items ++ map (asking_at place) facts.now) }
+    ensures { OnOk result
+        (askings.new.items ≡ askings.old.items ++ map (asking_at place) facts.now) }
 {
     for d in facts {
         let v = d.v.copy()?;
@@ -44,7 +45,8 @@ pub fn push_values(
     a: u64,
     values: Vec<Value>,
 ) -> Result<(), Memory>
-    ensures { OnOk result (askings.new.items ≡ askings.old.items ++ map (value_at place e a) values.items) }
+    ensures { OnOk result
+        (askings.new.items ≡ askings.old.items ++ map (value_at place e a) values.items) }
 {
     for v in values {
         askings.push(Asking { e, a, v, place })?;
@@ -54,7 +56,8 @@ pub fn push_values(
 
 /// Adds the parts that the facts tell of.
 pub fn push_parts(stack: &mut Vec<u64>, schema: &Schema, facts: &[Datom]) -> Result<(), Memory>
-    ensures { OnOk result (stack.new.items ≡ stack.old.items ++ filter_map (part_to schema.now) facts.now) }
+    ensures { OnOk result
+        (stack.new.items ≡ stack.old.items ++ filter_map (part_to schema.now) facts.now) }
 {
     for d in facts {
         if let Some(part) = part_in(schema, d) {

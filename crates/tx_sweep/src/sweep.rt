@@ -29,8 +29,8 @@ pub fn swept<F: Facts>(
     schema: &Schema,
 ) -> Result<Vec<Asking>, Memory>
     requires { SchemaStands schema.now (F.history facts.now) }
-    ensures all { IfOk result (λ askings. (tx : Transaction) → tx.db ≡ db_of (F.history facts.now) → AreActs (acts_of forms.now) tx
-        → AreAskings tx.swept askings.items) }
+    ensures all { IfOk result (λ askings. (tx : Transaction) → tx.db ≡ db_of (F.history facts.now)
+        → AreActs (acts_of forms.now) tx → AreAskings tx.swept askings.items) }
     ensures held { IfOk result (λ askings. All (IsHeld (F.history facts.now)) askings.items) }
 {
     acts_ask_what_asks_do();
@@ -46,7 +46,9 @@ fn sweep_forms<F: Facts>(
     schema: &Schema,
 ) -> Result<Found, Memory>
     requires { SchemaStands schema.now (F.history facts.now) }
-    ensures { IfOk result (λ found. AreAskings (map (flat_map (sweeps_of (db_of (F.history facts.now)))) (acts_of forms.now)) found.askings.items) }
+    ensures { IfOk result (λ found. AreAskings
+        (map (flat_map (sweeps_of (db_of (F.history facts.now)))) (acts_of forms.now))
+        found.askings.items) }
 {
     let mut found = Found {
         visited: BTreeSet::new(alloc),
@@ -69,7 +71,9 @@ fn sweep_form<F: Facts>(
 ) -> Result<(), Memory>
     requires { SchemaStands schema.now (F.history facts.now) }
     ensures { AreSwept (facts_in (F.history facts.now)) place found.old
-        → OnOk result (Sweeps (facts_in (F.history facts.now)) place (flat_map (sweeps_of (db_of (F.history facts.now))) (map seen acts.now)) found.old found.new) }
+        → OnOk result (Sweeps (facts_in (F.history facts.now)) place
+        (flat_map (sweeps_of (db_of (F.history facts.now))) (map seen acts.now)) found.old
+        found.new) }
 {
     for act in acts {
         sweep_act(alloc, found, place, act, facts, schema)?;
@@ -87,7 +91,8 @@ fn sweep_act<F: Facts>(
 ) -> Result<(), Memory>
     requires { SchemaStands schema.now (F.history facts.now) }
     ensures { AreSwept (facts_in (F.history facts.now)) place found.old
-        → OnOk result (Sweeps (facts_in (F.history facts.now)) place (sweeps_of (db_of (F.history facts.now)) (seen act.now)) found.old found.new) }
+        → OnOk result (Sweeps (facts_in (F.history facts.now)) place
+        (sweeps_of (db_of (F.history facts.now)) (seen act.now)) found.old found.new) }
 {
     match act {
         Act::RetractsAll { e, attribute } => sweep_values(found, place, *e, attribute.id, facts),
@@ -105,7 +110,10 @@ fn sweep_values<F: Facts>(
     facts: &F,
 ) -> Result<(), Memory>
     ensures { AreSwept (facts_in (F.history facts.now)) place found.old
-        → OnOk result (Sweeps (facts_in (F.history facts.now)) place (map (withdrawn (db_of (F.history facts.now))) (filter (λ d. nat_eq d.e e && nat_eq d.a a) (facts_in (F.history facts.now)))) found.old found.new) }
+        → OnOk result (Sweeps (facts_in (F.history facts.now)) place
+        (map (withdrawn (db_of (F.history facts.now)))
+        (filter (λ d. nat_eq d.e e && nat_eq d.a a) (facts_in (F.history facts.now))))
+        found.old found.new) }
 {
     told_lists_are_the_rising_ones();
     if !found.pairs.insert((e, a))? {

@@ -32,10 +32,17 @@ impl Model for MemDisk {
 
     ghost Value = { Past };
 
-    ghost view = { λ d. record { first = d.first.items; changes = d.record.changes; room = d.record.room; calls = d.plan } };
+    ghost view = { λ d. record {
+      first = d.first.items;
+      changes = d.record.changes;
+      room = d.record.room;
+      calls = d.plan;
+    } };
 
-    ghost invariant = { λ d. (d.file.items ≡ replayed d.record.changes d.first.items) × (vec_len d.file ≤ d.record.room)
-        × (d.record.room ≤ vec_capacity d.file) × (vec_len d.first ≤ d.record.room) };
+    ghost invariant = { λ d. (d.file.items ≡ replayed d.record.changes d.first.items)
+        × (vec_len d.file ≤ d.record.room)
+        × (d.record.room ≤ vec_capacity d.file)
+        × (vec_len d.first ≤ d.record.room) };
 }
 
 impl MemDisk {
@@ -43,7 +50,8 @@ impl MemDisk {
     /// takes 24 bytes of the record, and a write those that it writes. The calls that are numbered in `fails`, from 1
     /// over all calls but `faults`, fail and leave it as it was.
     pub fn new(alloc: Global, room: usize, fails: Vec<u64>) -> Result<MemDisk, Memory>
-        ensures { IfOk result (λ d. d ≡ record { first = []; changes = []; room = room; calls = no_calls fails.items }) }
+        ensures { IfOk result (λ d. d
+            ≡ record { first = []; changes = []; room = room; calls = no_calls fails.items }) }
     {
         Ok(MemDisk {
             file: Vec::with_capacity(alloc, room)?,
@@ -63,7 +71,13 @@ impl MemDisk {
     /// An image that a crash now may leave: of the writes since the last sync, the n-th, counted from 0, holds its first
     /// `cuts[n]` bytes, and zeros behind. One without a number, or with a number above its length, is whole.
     pub fn image(&self, alloc: Global, cuts: &[u64]) -> Result<MemDisk, Memory>
-        ensures value { IfOk result (λ d. d ≡ record { first = image_from cuts.now 0 self.now.changes self.now.first self.now.first; changes = []; room = self.now.room; calls = no_calls [] }) }
+        ensures value { IfOk result (λ d. d
+            ≡ record {
+              first = image_from cuts.now 0 self.now.changes self.now.first self.now.first;
+              changes = [];
+              room = self.now.room;
+              calls = no_calls [];
+            }) }
         ensures left { IfOk result (λ d. images_of self.now d.first) }
     {
         let room = self.record.room();
@@ -111,13 +125,16 @@ impl Disk for MemDisk {
         ensures length { IfOk result (λ n. WhereTold (told_by self.old) (λ file. n ≡ length file)) }
         ensures bytes { told_by self.new ≡ told_by self.old }
         ensures crash { Within (images_of self.old) (images_of self.new) }
-        ensures time { Elapses (moment_of self.old) (moment_of self.new) (images_since_of self.old) (images_since_of self.new) (images_of self.new) }
+        ensures time { Elapses (moment_of self.old) (moment_of self.new) (images_since_of self.old)
+            (images_since_of self.new) (images_of self.new) }
         ensures counted { Counts result self.old.calls.faults self.new.calls.faults }
 
         ensures fails { is_err result ≡ fails_next self.old.calls }
         ensures value { IfOk result (λ n. n ≡ length (file_of self.old)) }
-        ensures ok { OnOk result (self.new ≡ record self.old { calls = after_call self.old.calls }) }
-        ensures fault { OnErr result (self.new ≡ record self.old { calls = after_fault self.old.calls }) }
+        ensures ok { OnOk result
+            (self.new ≡ record self.old { calls = after_call self.old.calls }) }
+        ensures fault { OnErr result
+            (self.new ≡ record self.old { calls = after_fault self.old.calls }) }
     {
         self.plan.begin()?;
         Ok(self.file.len() as u64)
@@ -125,18 +142,23 @@ impl Disk for MemDisk {
 
     fn read_at(&mut self, at: u64, buf: &mut [u8]) -> Result<usize, Failed>
         ensures within { IfOk result (λ n. n ≤ length buf.old) }
-        ensures read { IfOk result (λ n. WhereTold (told_by self.old) (λ file. Reads file at (length buf.old) n (take n buf.new))) }
+        ensures read { IfOk result (λ n. WhereTold (told_by self.old)
+            (λ file. Reads file at (length buf.old) n (take n buf.new))) }
         ensures bytes { told_by self.new ≡ told_by self.old }
         ensures crash { Within (images_of self.old) (images_of self.new) }
-        ensures time { Elapses (moment_of self.old) (moment_of self.new) (images_since_of self.old) (images_since_of self.new) (images_of self.new) }
+        ensures time { Elapses (moment_of self.old) (moment_of self.new) (images_since_of self.old)
+            (images_since_of self.new) (images_of self.new) }
         ensures counted { Counts result self.old.calls.faults self.new.calls.faults }
 
         // It fails where it was made to, and else reads all that is there and fits.
         ensures fails { is_err result ≡ fails_next self.old.calls }
-        ensures most { IfOk result (λ n. n ≡ min (length buf.old) (length (file_of self.old) - at)) }
+        ensures most { IfOk result
+            (λ n. n ≡ min (length buf.old) (length (file_of self.old) - at)) }
         ensures placed { IfOk result (λ n. take n buf.new ≡ take n (drop at (file_of self.old))) }
-        ensures ok { OnOk result (self.new ≡ record self.old { calls = after_call self.old.calls }) }
-        ensures fault { OnErr result (self.new ≡ record self.old { calls = after_fault self.old.calls }) }
+        ensures ok { OnOk result
+            (self.new ≡ record self.old { calls = after_call self.old.calls }) }
+        ensures fault { OnErr result
+            (self.new ≡ record self.old { calls = after_fault self.old.calls }) }
     {
         self.plan.begin()?;
         let start = self.file.len().min(at as usize);
@@ -145,14 +167,22 @@ impl Disk for MemDisk {
 
     fn write_at(&mut self, at: u64, piece: &[u8]) -> Result<(), Failed>
         ensures within { OnOk result (at + length piece.now < 2 ^ 64) }
-        ensures written { OnOk result (told_by self.new ≡ option_map (written at piece.now) (told_by self.old)) }
-        ensures crash { Follows (Torn at (length piece.now)) (images_of self.old) (images_of self.new) }
-        ensures time { Elapses (moment_of self.old) (moment_of self.new) (images_since_of self.old) (images_since_of self.new) (images_of self.new) }
+        ensures written { OnOk result
+            (told_by self.new ≡ option_map (written at piece.now) (told_by self.old)) }
+        ensures crash { Follows (Torn at (length piece.now)) (images_of self.old)
+            (images_of self.new) }
+        ensures time { Elapses (moment_of self.old) (moment_of self.new) (images_since_of self.old)
+            (images_since_of self.new) (images_of self.new) }
         ensures counted { Counts result self.old.calls.faults self.new.calls.faults }
 
         ensures fails { is_err result ≡ fails_write self.old at (length piece.now) }
-        ensures ok { OnOk result (self.new ≡ record self.old { changes = self.old.changes ++ wrote at piece.now ∷ []; calls = after_call self.old.calls }) }
-        ensures fault { OnErr result (self.new ≡ record self.old { calls = after_fault self.old.calls }) }
+        ensures ok { OnOk result (self.new
+            ≡ record self.old {
+              changes = self.old.changes ++ wrote at piece.now ∷ [];
+              calls = after_call self.old.calls;
+            }) }
+        ensures fault { OnErr result
+            (self.new ≡ record self.old { calls = after_fault self.old.calls }) }
     {
         self.plan.begin()?;
         let at = at as usize;
@@ -167,12 +197,16 @@ impl Disk for MemDisk {
     fn cut(&mut self, len: u64) -> Result<(), Failed>
         ensures cut { OnOk result (told_by self.new ≡ option_map (take len) (told_by self.old)) }
         ensures crash { Follows (TornCut len) (images_of self.old) (images_of self.new) }
-        ensures time { Elapses (moment_of self.old) (moment_of self.new) (images_since_of self.old) (images_since_of self.new) (images_of self.new) }
+        ensures time { Elapses (moment_of self.old) (moment_of self.new) (images_since_of self.old)
+            (images_since_of self.new) (images_of self.new) }
         ensures counted { Counts result self.old.calls.faults self.new.calls.faults }
 
         ensures fails { is_err result ≡ fails_change self.old }
-        ensures ok { OnOk result (self.new ≡ record self.old { changes = self.old.changes ++ cut_to len ∷ []; calls = after_call self.old.calls }) }
-        ensures fault { OnErr result (self.new ≡ record self.old { calls = after_fault self.old.calls }) }
+        ensures ok { OnOk result (self.new
+            ≡ record self.old
+            { changes = self.old.changes ++ cut_to len ∷ []; calls = after_call self.old.calls }) }
+        ensures fault { OnErr result
+            (self.new ≡ record self.old { calls = after_fault self.old.calls }) }
     {
         self.plan.begin()?;
         if !self.record.fits(0) {
@@ -185,14 +219,19 @@ impl Disk for MemDisk {
 
     fn sync(&mut self) -> Result<(), Failed>
         ensures bytes { OnOk result (told_by self.new ≡ told_by self.old) }
-        ensures durable { OnOk result (WhereTold (told_by self.old) (λ file. Only file (images_of self.new))) }
+        ensures durable { OnOk result
+            (WhereTold (told_by self.old) (λ file. Only file (images_of self.new))) }
         ensures crash { Within (images_of self.old) (images_of self.new) }
-        ensures time { Elapses (moment_of self.old) (moment_of self.new) (images_since_of self.old) (images_since_of self.new) (images_of self.new) }
+        ensures time { Elapses (moment_of self.old) (moment_of self.new) (images_since_of self.old)
+            (images_since_of self.new) (images_of self.new) }
         ensures counted { Counts result self.old.calls.faults self.new.calls.faults }
 
         ensures fails { is_err result ≡ fails_change self.old }
-        ensures ok { OnOk result (self.new ≡ record self.old { changes = self.old.changes ++ synced ∷ []; calls = after_call self.old.calls }) }
-        ensures fault { OnErr result (self.new ≡ record self.old { calls = after_fault self.old.calls }) }
+        ensures ok { OnOk result (self.new
+            ≡ record self.old
+            { changes = self.old.changes ++ synced ∷ []; calls = after_call self.old.calls }) }
+        ensures fault { OnErr result
+            (self.new ≡ record self.old { calls = after_fault self.old.calls }) }
     {
         self.plan.begin()?;
         if !self.record.fits(0) {

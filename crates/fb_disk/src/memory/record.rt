@@ -33,10 +33,16 @@ impl Model for Record {
 
     ghost Value = { Kept };
 
-    ghost view = { λ r. record { changes = changes_of r.steps.items r.written.items; room = r.room } };
+    ghost view = { λ r. record {
+      changes = changes_of r.steps.items r.written.items;
+      room = r.room;
+    } };
 
-    ghost invariant = { λ r. (bytes_written r.steps.items ≡ vec_len r.written) × (vec_len r.written + 24 * vec_len r.steps ≤ r.room)
-        × (r.room ≤ vec_capacity r.written) × (r.room / 24 ≤ vec_capacity r.steps) × (furthest_end r.steps.items ≤ r.room) };
+    ghost invariant = { λ r. (bytes_written r.steps.items ≡ vec_len r.written)
+        × (vec_len r.written + 24 * vec_len r.steps ≤ r.room)
+        × (r.room ≤ vec_capacity r.written)
+        × (r.room / 24 ≤ vec_capacity r.steps)
+        × (furthest_end r.steps.items ≤ r.room) };
 }
 
 impl Record {
@@ -69,7 +75,8 @@ impl Record {
     pub(crate) fn wrote(&mut self, at: usize, piece: &[u8])
         requires fits { room_taken self.old.changes + 24 + length piece.now ≤ self.old.room }
         requires ends { at + length piece.now ≤ self.old.room }
-        ensures { self.new ≡ record self.old { changes = self.old.changes ++ wrote at piece.now ∷ [] } }
+        ensures { self.new
+            ≡ record self.old { changes = self.old.changes ++ wrote at piece.now ∷ [] } }
     {
         let step = Step::Wrote {
             at,
@@ -103,10 +110,14 @@ impl Record {
         file: &mut Vec<u8>,
         image: &mut Vec<u8>,
     ) -> Result<(), AllocError>
-        requires file { (vec_len file.old ≤ self.now.room) × (self.now.room ≤ vec_capacity file.old) }
-        requires image { (vec_len image.old ≤ self.now.room) × (self.now.room ≤ vec_capacity image.old) }
-        ensures image { OnOk result (image.new.items ≡ image_from cuts.now 0 self.now.changes file.old.items image.old.items) }
-        ensures image_room { OnOk result ((vec_len image.new ≤ self.now.room) × (self.now.room ≤ vec_capacity image.new)) }
+        requires file { (vec_len file.old ≤ self.now.room)
+            × (self.now.room ≤ vec_capacity file.old) }
+        requires image { (vec_len image.old ≤ self.now.room)
+            × (self.now.room ≤ vec_capacity image.old) }
+        ensures image { OnOk result (image.new.items
+            ≡ image_from cuts.now 0 self.now.changes file.old.items image.old.items) }
+        ensures image_room { OnOk result
+            ((vec_len image.new ≤ self.now.room) × (self.now.room ≤ vec_capacity image.new)) }
         ensures file_room { OnOk result (self.now.room ≤ vec_capacity file.new) }
     {
         let mut next = 0;
