@@ -1,5 +1,5 @@
 -- Numbers: those of entities and of the built-in attributes, and the ranges of t, of instants and of the other numbers in values.
--- The attributes' meaning is that of Datomic, Schema; the numbers themselves are this project's own choice.
+-- The attributes' meaning and the partitions are those of Datomic, Schema; the built-in numbers are this project's own choice.
 use Rattle.std.specs.Prelude.{ℕ, ◌+◌, ◌-◌, ◌^◌, ℤ, pos, negsuc, Bool, ◌&&◌, ◌||◌, nat_le, nat_lt, int_le}
 use Rattle.fb_numbers.specs.declared.entities.TheConstants.{CARDINALITY, CARDINALITY_MANY, CARDINALITY_ONE, DOC, IDENT, INDEX, IS_COMPONENT, TRANSACTIONS, TX_INSTANT, TYPE_BOOLEAN, TYPE_INSTANT, TYPE_KEYWORD, TYPE_LONG, TYPE_REF, TYPE_STRING, TYPE_SYMBOL, TYPE_URI, TYPE_UUID, UNIQUE, UNIQUE_IDENTITY, UNIQUE_VALUE, USER_ENTITIES, VALUE_TYPE}
 use Rattle.fb_numbers.specs.declared.limits.TheConstants.{GREATEST_T, LEAST_INSTANT, GREATEST_INSTANT, MOST_DATOMS}
