@@ -75,8 +75,8 @@ abbrev pub two_ids : List Entry
 two_ids =
     after (install_ids
     ∷ (map_of ((keyword id_string, string (codes "p")) ∷ [])
-        ∷ map_of ((keyword id_number, number 1) ∷ [])
-        ∷ [])
+    ∷ map_of ((keyword id_number, number 1) ∷ [])
+    ∷ [])
     ∷ [])
 
 -- they lose them, and another entity gets both

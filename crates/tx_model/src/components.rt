@@ -13,34 +13,34 @@ pub fn nested_maps()
         ∷ (codes "o", user_entity 4)
         ∷ []) }
     ensures reversed { told with_orders_installed
-            (map_of ((keyword line_sku, string (codes "A"))
-            ∷ (keyword (codes "order/_lines"), map_of ((id, tempid (codes "o")) ∷ []))
-            ∷ [])
-            ∷ [])
+        (map_of ((keyword line_sku, string (codes "A"))
+        ∷ (keyword (codes "order/_lines"), map_of ((id, tempid (codes "o")) ∷ []))
+        ∷ [])
+        ∷ [])
         ≡ accepted_at 2 ((codes "o", user_entity 5) ∷ []) }
     ensures reversed_no_ref { decision with_orders_installed
-            (map_of ((keyword (codes "line/_sku"), string (codes "A"))
-            ∷ (keyword line_sku, string (codes "A"))
-            ∷ [])
-            ∷ [])
+        (map_of ((keyword (codes "line/_sku"), string (codes "A"))
+        ∷ (keyword line_sku, string (codes "A"))
+        ∷ [])
+        ∷ [])
         ≡ refusal_at WrongType 0 }
     ensures reversed_without_id { decision with_orders_installed
-            (map_of ((keyword line_sku, string (codes "A"))
-            ∷ (keyword (codes "order/_lines"), map_of ((keyword doc, string (codes "o")) ∷ []))
-            ∷ [])
-            ∷ [])
+        (map_of ((keyword line_sku, string (codes "A"))
+        ∷ (keyword (codes "order/_lines"), map_of ((keyword doc, string (codes "o")) ∷ []))
+        ∷ [])
+        ∷ [])
         ≡ refusal_at NestedWithoutId 0 }
     ensures empty_collection { told with_orders_installed
-            (map_of ((keyword line_sku, string (codes "A"))
-            ∷ (keyword order_lines, vector [])
-            ∷ [])
-            ∷ [])
+        (map_of ((keyword line_sku, string (codes "A"))
+        ∷ (keyword order_lines, vector [])
+        ∷ [])
+        ∷ [])
         ≡ accepted_at 2 [] }
     ensures nested_collection { decision with_orders_installed
-            (map_of ((keyword line_sku, string (codes "A"))
-            ∷ (keyword order_lines, vector (vector [] ∷ []))
-            ∷ [])
-            ∷ [])
+        (map_of ((keyword line_sku, string (codes "A"))
+        ∷ (keyword order_lines, vector (vector [] ∷ []))
+        ∷ [])
+        ∷ [])
         ≡ refusal_at WrongType 0 }
 {}
 

@@ -10,15 +10,15 @@ ghost use Rattle.tx_model.specs.SamplePeople.{age, with_age_installed, one_witho
 /// Numbers of 64 bits.
 pub fn greatest_and_least_numbers()
     ensures both { told with_age_installed
-            (add (tempid (codes "a")) age (integer least_long)
-            ∷ add (tempid (codes "b")) age (integer greatest_long)
-            ∷ [])
+        (add (tempid (codes "a")) age (integer least_long)
+        ∷ add (tempid (codes "b")) age (integer greatest_long)
+        ∷ [])
         ≡ accepted_at 2 ((codes "a", user_entity 2) ∷ (codes "b", user_entity 3) ∷ []) }
     ensures past_greatest { decision with_age_installed
-            (add (tempid (codes "a")) age past_greatest_long ∷ [])
+        (add (tempid (codes "a")) age past_greatest_long ∷ [])
         ≡ refusal_at WrongType 0 }
     ensures before_least { decision with_age_installed
-            (add (tempid (codes "a")) age before_least_long ∷ [])
+        (add (tempid (codes "a")) age before_least_long ∷ [])
         ≡ refusal_at WrongType 0 }
 {}
 

@@ -10,31 +10,31 @@ ghost use Rattle.tx_model.specs.SamplePeople.{age, with_age_installed, two_aged,
 /// An attribute by list forms, and what it does not admit.
 pub fn attributes()
     ensures by_list_forms { told new_database
-            (add (tempid (codes "a")) ident (keyword age)
-            ∷ add (tempid (codes "a")) value_type type_long
-            ∷ add (tempid (codes "a")) cardinality cardinality_one
-            ∷ [])
+        (add (tempid (codes "a")) ident (keyword age)
+        ∷ add (tempid (codes "a")) value_type type_long
+        ∷ add (tempid (codes "a")) cardinality cardinality_one
+        ∷ [])
         ≡ accepted_at 1 ((codes "a", user_entity 1) ∷ []) }
     ensures two_values { decision with_age_installed
-            (add (tempid (codes "b")) age (number 5)
-            ∷ add (tempid (codes "b")) age (number 6)
-            ∷ [])
+        (add (tempid (codes "b")) age (number 5)
+        ∷ add (tempid (codes "b")) age (number 6)
+        ∷ [])
         ≡ refusal_at DatomsConflict 0 }
     ensures no_number { decision with_age_installed
-            (add (tempid (codes "b")) age (string (codes "x")) ∷ [])
+        (add (tempid (codes "b")) age (string (codes "x")) ∷ [])
         ≡ refusal_at WrongType 0 }
     ensures no_entity { decision with_age_installed (add (number 99) age (number 1) ∷ [])
         ≡ refusal_at NotAnEntity 0 }
     ensures protected { decision with_age_installed (add (number 99) tx_instant (number 1) ∷ [])
         ≡ refusal_at ProtectedAttribute 0 }
     ensures incomplete { decision with_age_installed
-            (add (tempid (codes "z")) ident (keyword (codes "q/z"))
-            ∷ add (tempid (codes "z")) value_type type_long
-            ∷ [])
+        (add (tempid (codes "z")) ident (keyword (codes "q/z"))
+        ∷ add (tempid (codes "z")) value_type type_long
+        ∷ [])
         ≡ refusal_at IncompleteAttribute 0 }
     ensures many { told with_age_installed (allow_many_ages ∷ []) ≡ accepted_at 2 [] }
     ensures text_alone { told with_age_installed
-            (map_of ((keyword doc, string (codes "m")) ∷ []) ∷ [])
+        (map_of ((keyword doc, string (codes "m")) ∷ []) ∷ [])
         ≡ accepted_at 2 [] }
 {}
 
@@ -66,9 +66,9 @@ pub fn cardinality_there_and_back()
 pub fn other_types()
     ensures installed { told new_database install_home ≡ accepted_at 1 [] }
     ensures uri { told with_home_installed
-            (add (tempid (codes "x")) home (string (codes "http://a")) ∷ [])
+        (add (tempid (codes "x")) home (string (codes "http://a")) ∷ [])
         ≡ accepted_at 2 ((codes "x", user_entity 2) ∷ []) }
     ensures no_uri { decision with_home_installed
-            (add (tempid (codes "x")) home (string (codes "a b")) ∷ [])
+        (add (tempid (codes "x")) home (string (codes "a b")) ∷ [])
         ≡ refusal_at WrongType 0 }
 {}

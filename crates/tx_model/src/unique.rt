@@ -22,7 +22,7 @@ pub fn texts()
 /// two.
 pub fn unique_emails()
     ensures not_yet { decision new_database
-            (install_email ++ add (tempid (codes "p")) email (string (codes "a@x")) ∷ [])
+        (install_email ++ add (tempid (codes "p")) email (string (codes "a@x")) ∷ [])
         ≡ refusal_at NotAnAttribute 1 }
     ensures installed { told new_database install_email ≡ accepted_at 1 [] }
     ensures first { told with_email_installed (person (codes "p") (codes "a@x") ∷ [])
@@ -32,7 +32,7 @@ pub fn unique_emails()
     ensures nothing_new { changed one_person (person (codes "p") (codes "a@x") ∷ []) ≡ [] }
     ensures two { decision with_email_installed one_address_for_two ≡ refusal_at UniqueConflict 0 }
     ensures no_number_is_used { told after_a_refusal
-            (add (tempid (codes "r")) doc (string (codes "d")) ∷ [])
+        (add (tempid (codes "r")) doc (string (codes "d")) ∷ [])
         ≡ accepted_at 2 ((codes "r", user_entity 2) ∷ []) }
 {}
 
@@ -49,10 +49,10 @@ pub fn moved_values()
 /// Maps without a name get the next numbers in their order.
 pub fn nameless_maps()
     ensures three { changed with_email_installed
-            (nameless_person (codes "a@x")
-            ∷ nameless_person (codes "b@x")
-            ∷ nameless_person (codes "c@x")
-            ∷ [])
+        (nameless_person (codes "a@x")
+        ∷ nameless_person (codes "b@x")
+        ∷ nameless_person (codes "c@x")
+        ∷ [])
         ≡ addition (user_entity 2) (codes "a@x")
         ∷ addition (user_entity 3) (codes "b@x")
         ∷ addition (user_entity 4) (codes "c@x")
@@ -64,26 +64,26 @@ pub fn nameless_maps()
 /// Tempids and lookup refs, after an entity has an address.
 pub fn lookup_refs()
     ensures two_holders { decision one_person
-            (add (tempid (codes "p")) email (string (codes "a@x"))
-            ∷ add (tempid (codes "p")) ident (keyword email)
-            ∷ [])
+        (add (tempid (codes "p")) email (string (codes "a@x"))
+        ∷ add (tempid (codes "p")) ident (keyword email)
+        ∷ [])
         ≡ refusal_at TempidConflict 0 }
     ensures not_added_to { decision one_person
-            (add (tempid (codes "x")) value_type (tempid (codes "y")) ∷ [])
+        (add (tempid (codes "x")) value_type (tempid (codes "y")) ∷ [])
         ≡ refusal_at TempidNotAnEntity 0 }
     ensures no_id { decision one_person
-            (map_of ((id, tempid (codes "x"))
-            ∷ (keyword value_type, map_of ((keyword doc, string (codes "d")) ∷ []))
-            ∷ [])
-            ∷ [])
+        (map_of ((id, tempid (codes "x"))
+        ∷ (keyword value_type, map_of ((keyword doc, string (codes "d")) ∷ []))
+        ∷ [])
+        ∷ [])
         ≡ refusal_at NestedWithoutId 0 }
     ensures not_unique { decision one_person (describe (lookup_ref doc (string (codes "hi"))))
         ≡ refusal_at NotUniqueLookup 0 }
     ensures found { told one_person
-            (add (lookup_ref email (string (codes "a@x"))) doc (string (codes "d")) ∷ [])
+        (add (lookup_ref email (string (codes "a@x"))) doc (string (codes "d")) ∷ [])
         ≡ accepted_at 3 [] }
     ensures not_found { decision one_person
-            (add (lookup_ref email (string (codes "b@x"))) doc (string (codes "d")) ∷ [])
+        (add (lookup_ref email (string (codes "b@x"))) doc (string (codes "d")) ∷ [])
         ≡ refusal_at NotAnEntity 0 }
 {}
 
@@ -91,12 +91,12 @@ pub fn lookup_refs()
 /// still have them.
 pub fn the_transaction_is_no_tempid()
     ensures two_holders { decision one_person
-            (add this_transaction email (string (codes "a@x"))
-            ∷ add this_transaction ident (keyword email)
-            ∷ [])
+        (add this_transaction email (string (codes "a@x"))
+        ∷ add this_transaction ident (keyword email)
+        ∷ [])
         ≡ refusal_at UniqueConflict 0 }
     ensures one_holder { decision one_person
-            (add this_transaction email (string (codes "a@x")) ∷ [])
+        (add this_transaction email (string (codes "a@x")) ∷ [])
         ≡ refusal_at UniqueConflict 0 }
     ensures freed { told two_ids (both_ids_for this_transaction) ≡ accepted_at 3 [] }
     ensures freed_for_a_tempid { decision two_ids (both_ids_for (tempid (codes "x")))
@@ -112,31 +112,31 @@ pub fn lookup_refs_by_an_entity()
     ensures by_number { decision one_person (describe (lookup_ref value_type (number 99)))
         ≡ refusal_at NotUniqueLookup 0 }
     ensures by_no_number { decision one_person
-            (describe (lookup_ref value_type (integer (negsuc 0))))
+        (describe (lookup_ref value_type (integer (negsuc 0))))
         ≡ refusal_at WrongType 0 }
     ensures by_tempid { decision one_person (describe (lookup_ref value_type (tempid (codes "x"))))
         ≡ refusal_at WrongType 0 }
     ensures by_lookup_ref { decision one_person
-            (describe (lookup_ref value_type (lookup_ref email (string (codes "a@x")))))
+        (describe (lookup_ref value_type (lookup_ref email (string (codes "a@x")))))
         ≡ refusal_at NotUniqueLookup 0 }
     ensures by_other_lookup_ref { decision one_person
-            (describe (lookup_ref value_type (lookup_ref doc (string (codes "x")))))
+        (describe (lookup_ref value_type (lookup_ref doc (string (codes "x")))))
         ≡ refusal_at NotUniqueLookup 0 }
     ensures by_wrong_lookup_ref { decision one_person
-            (describe (lookup_ref value_type (lookup_ref email (number 5))))
+        (describe (lookup_ref value_type (lookup_ref email (number 5))))
         ≡ refusal_at WrongType 0 }
     ensures by_unknown_lookup_ref { decision one_person
-            (describe (lookup_ref value_type (lookup_ref (codes "no/attr") (number 1))))
+        (describe (lookup_ref value_type (lookup_ref (codes "no/attr") (number 1))))
         ≡ refusal_at NotAnAttribute 0 }
     ensures deeper { decision one_person
-            (describe (lookup_ref value_type
-                (lookup_ref cardinality (lookup_ref (codes "no/attr") (number 1)))))
+        (describe (lookup_ref value_type
+        (lookup_ref cardinality (lookup_ref (codes "no/attr") (number 1)))))
         ≡ refusal_at NotAnAttribute 0 }
     ensures under_no_entity { decision one_person
-            (describe (lookup_ref doc (lookup_ref (codes "no/attr") (number 1))))
+        (describe (lookup_ref doc (lookup_ref (codes "no/attr") (number 1))))
         ≡ refusal_at WrongType 0 }
     ensures as_a_value { decision one_person
-            (add (tempid (codes "x")) value_type (lookup_ref value_type type_string) ∷ [])
+        (add (tempid (codes "x")) value_type (lookup_ref value_type type_string) ∷ [])
         ≡ refusal_at NotUniqueLookup 0 }
 {}
 
