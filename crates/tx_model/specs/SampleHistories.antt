@@ -56,6 +56,14 @@ install_orders =
     ∷ install note_line type_ref cardinality_one []
     ∷ []
 
+-- `:order/_lines`, by which a line names its order
+abbrev pub order_of : List ℕ
+order_of = codes "order/_lines"
+
+-- `:line/sku "A"`, in a map
+abbrev pub sku_a : Form × Form
+sku_a = (keyword line_sku, string (codes "A"))
+
 -- {:line/sku sku}
 abbrev pub line : List ℕ → Form
 line sku = map_of ((keyword line_sku, string sku) ∷ [])

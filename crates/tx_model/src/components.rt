@@ -3,7 +3,7 @@ ghost use Rattle.std.specs.Prelude.{◌≡◌, [], ◌∷◌, codes};
 ghost use Rattle.fb_numbers.specs.Numbers.{user_entity};
 ghost use Rattle.tx_refusals.specs.declared.reasons.Reason.TheVariants.{WrongType, NestedWithoutId};
 ghost use Rattle.tx_model.specs.Samples.{keyword, string, vector, map_of, tempid, user, retract_entity, id, doc, decision, refusal_at, told, accepted_at, changed, retraction};
-ghost use Rattle.tx_model.specs.SampleHistories.{order_lines, line_sku, order_and_note, with_orders_installed, order_with_lines};
+ghost use Rattle.tx_model.specs.SampleHistories.{order_lines, order_of, sku_a, order_and_note, with_orders_installed, order_with_lines};
 
 /// Nested maps are numbered as a reader meets them, and told by the bytes of their names.
 pub fn nested_maps()
@@ -13,34 +13,20 @@ pub fn nested_maps()
         ∷ (codes "o", user_entity 4)
         ∷ []) }
     ensures reversed { told with_orders_installed
-        (map_of ((keyword line_sku, string (codes "A"))
-        ∷ (keyword (codes "order/_lines"), map_of ((id, tempid (codes "o")) ∷ []))
-        ∷ [])
-        ∷ [])
+        (map_of (sku_a ∷ (keyword order_of, map_of ((id, tempid (codes "o")) ∷ [])) ∷ []) ∷ [])
         ≡ accepted_at 2 ((codes "o", user_entity 5) ∷ []) }
     ensures reversed_no_ref { decision with_orders_installed
-        (map_of ((keyword (codes "line/_sku"), string (codes "A"))
-        ∷ (keyword line_sku, string (codes "A"))
-        ∷ [])
-        ∷ [])
+        (map_of ((keyword (codes "line/_sku"), string (codes "A")) ∷ sku_a ∷ []) ∷ [])
         ≡ refusal_at WrongType 0 }
     ensures reversed_without_id { decision with_orders_installed
-        (map_of ((keyword line_sku, string (codes "A"))
-        ∷ (keyword (codes "order/_lines"), map_of ((keyword doc, string (codes "o")) ∷ []))
-        ∷ [])
+        (map_of (sku_a ∷ (keyword order_of, map_of ((keyword doc, string (codes "o")) ∷ [])) ∷ [])
         ∷ [])
         ≡ refusal_at NestedWithoutId 0 }
     ensures empty_collection { told with_orders_installed
-        (map_of ((keyword line_sku, string (codes "A"))
-        ∷ (keyword order_lines, vector [])
-        ∷ [])
-        ∷ [])
+        (map_of (sku_a ∷ (keyword order_lines, vector []) ∷ []) ∷ [])
         ≡ accepted_at 2 [] }
     ensures nested_collection { decision with_orders_installed
-        (map_of ((keyword line_sku, string (codes "A"))
-        ∷ (keyword order_lines, vector (vector [] ∷ []))
-        ∷ [])
-        ∷ [])
+        (map_of (sku_a ∷ (keyword order_lines, vector (vector [] ∷ [])) ∷ []) ∷ [])
         ≡ refusal_at WrongType 0 }
 {}
 
