@@ -32,7 +32,9 @@ pub fn a_chain_goes_on()
 
 /// At the least instant that a clock may read, the next instant is the last one and a millisecond.
 pub fn instants_of_a_chain_follow_one_another()
-    ensures { (h : List Entry) → IsLawful h → next_instant h least_instant ≡ last_instant h +ℤ pos 1 }
+    ensures { (h : List Entry)
+        → IsLawful h
+        → next_instant h least_instant ≡ last_instant h +ℤ pos 1 }
 {}
 
 /// A transaction that was tried is accepted at the same history whatever the clock reads, with the
