@@ -24,11 +24,11 @@ after_an_empty_transaction = after ([] ∷ [])
 abbrev pub one_text : List Entry
 one_text = after ((add (tempid (codes "x")) doc (string (codes "hi")) ∷ []) ∷ [])
 
--- an entity is to have the text `a`
+-- [[:db/add e :db/doc "a"]]
 abbrev pub describe : Form → List Form
 describe e = add e doc (string (codes "a")) ∷ []
 
--- a keyword of as many letters
+-- a keyword of so many letters
 abbrev pub keyword_of_length : ℕ → Form
 keyword_of_length n = keyword (replicate n 97)
 

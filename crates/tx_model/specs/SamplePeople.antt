@@ -41,7 +41,7 @@ two_people =
     ∷ (person (codes "p") (codes "b@x") ∷ person (codes "q") (codes "c@x") ∷ [])
     ∷ [])
 
--- of two people, the second gets the address of the first
+-- where there are two people, the second gets the address of the first
 abbrev pub move_address : List Form
 move_address =
     retract (user 2) email (string (codes "b@x"))

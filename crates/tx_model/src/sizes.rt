@@ -17,7 +17,7 @@ pub fn the_bytes_of_an_entry()
         ≡ 67 }
 {}
 
-/// With its instant an entry may have so many datoms and so many bytes, and no more.
+/// With its instant an entry may have `MOST_DATOMS` datoms and `LARGEST_ENTRY` bytes, and no more.
 pub fn entries_that_are_too_large()
     ensures fits { (tx : Transaction)
         → length tx.changes + 1 ≤ most_datoms
