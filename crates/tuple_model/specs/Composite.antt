@@ -1,5 +1,6 @@
 -- Composites: lists of attributes whose values together are told as tuples.
--- Datomic, Schema (Composite tuples). That a composite is named by whoever asks, and is no attribute, is this project's own choice.
+-- Datomic, Schema (Composite tuples). That a composite is named by whoever asks, and is no
+-- attribute, is this project's own choice.
 use Rattle.std.specs.Prelude.{ℕ, Bool, true, false, not, ◌&&◌, List, [], ◌∷◌, ◌++◌, length, nat_eq, nat_le, cond, Option, Some, None, option_and_then, option_map}
 use Rattle.std.specs.List.{list_any}
 use Rattle.std.specs.Option.{option_map_or}
@@ -9,15 +10,19 @@ use Rattle.fb_model.specs.Schema.{is_one, attribute_named}
 abbrev pub is_among : List ℕ → ℕ → Bool
 is_among attrs a = list_any (nat_eq a) attrs
 
--- the place of the first attribute that is not installed, has several values, or stands before already
+-- the place of the first attribute that is not installed, has several values, or stands before
+-- already
 abbrev pub first_unfit : List Datom → List ℕ → List ℕ → Option ℕ
 first_unfit facts before [] = None
 first_unfit facts before (a ∷ rest) =
-    cond (is_one facts a && not (is_among before a)) (first_unfit facts (before ++ a ∷ []) rest) (Some (length before))
+    cond (is_one facts a && not (is_among before a)) (first_unfit facts (before ++ a ∷ []) rest)
+    (Some (length before))
 
--- the first place that is no composite's, counted from 0, and place 0 where there are not 2 to 8 attributes
+-- the first place that is no composite's, counted from 0, and place 0 where there are not 2 to 8
+-- attributes
 abbrev pub bad_place : List Datom → List ℕ → Option ℕ
-bad_place facts attrs = cond (nat_le 2 (length attrs) && nat_le (length attrs) 8) (first_unfit facts [] attrs) (Some 0)
+bad_place facts attrs =
+    cond (nat_le 2 (length attrs) && nat_le (length attrs) 8) (first_unfit facts [] attrs) (Some 0)
 
 abbrev pub is_composite : List Datom → List ℕ → Bool
 is_composite facts attrs = option_map_or (λ place. false) (bad_place facts attrs) true
@@ -26,4 +31,6 @@ is_composite facts attrs = option_map_or (λ place. false) (bad_place facts attr
 abbrev pub attributes_named : List Datom → List (List ℕ) → Option (List ℕ)
 attributes_named facts [] = Some []
 attributes_named facts (name ∷ names) =
-    option_and_then (λ attribute. option_map (λ rest. attribute.id ∷ rest) (attributes_named facts names)) (attribute_named facts name)
+    option_and_then
+    (λ attribute. option_map (λ rest. attribute.id ∷ rest) (attributes_named facts names))
+    (attribute_named facts name)

@@ -1,5 +1,6 @@
 -- Tuples: what a composite is of each entity, and the list of them in order.
--- Datomic, Schema (Composite tuples) and Indexes. They are derived from facts and never recorded, which is this project's own choice.
+-- Datomic, Schema (Composite tuples) and Indexes. They are derived from facts and never recorded,
+-- which is this project's own choice.
 use Rattle.std.specs.Prelude.{◌≡◌, ◌↔◌, ℕ, Bool, true, false, not, ◌&&◌, List, [], ◌∷◌, map, filter, nat_eq, cond, Option, Some, None, IsTrue, Contains}
 use Rattle.std.specs.List.{list_any}
 use Rattle.std.specs.Option.{option_map_or}
@@ -49,10 +50,12 @@ rows_rise (x ∷ y ∷ rows) = is_lt (row_cmp x y) && rows_rise (y ∷ rows)
 
 -- ---- the tuple of an entity
 
--- the least of the values: an attribute that has one value now may have several in a view of the past
+-- the least of the values: an attribute that has one value now may have several in a view of the
+-- past
 abbrev pub least_value : List Value → Option Value
 least_value [] = None
-least_value (v ∷ vs) = option_map_or (λ w. cond (is_lt (value_cmp w v)) (Some w) (Some v)) (least_value vs) (Some v)
+least_value (v ∷ vs) =
+    option_map_or (λ w. cond (is_lt (value_cmp w v)) (Some w) (Some v)) (least_value vs) (Some v)
 
 abbrev pub tuple_of : List Datom → List ℕ → ℕ → Tuple
 tuple_of facts attrs e = map (λ a. least_value (values_of facts e a)) attrs
@@ -75,7 +78,9 @@ pub record AreTuples (facts : List Datom) (attrs : List ℕ) (rows : List Row) :
 -- the same, computed: of equal rows one alone
 abbrev pub put_row : Row → List Row → List Row
 put_row x [] = x ∷ []
-put_row x (y ∷ rows) = cond (is_lt (row_cmp x y)) (x ∷ y ∷ rows) (cond (is_lt (row_cmp y x)) (y ∷ put_row x rows) (y ∷ rows))
+put_row x (y ∷ rows) =
+    cond (is_lt (row_cmp x y)) (x ∷ y ∷ rows)
+    (cond (is_lt (row_cmp y x)) (y ∷ put_row x rows) (y ∷ rows))
 
 abbrev pub rows_in_order : List Row → List Row
 rows_in_order [] = []
@@ -85,7 +90,8 @@ abbrev pub row_of : List Datom → List ℕ → Datom → Row
 row_of facts attrs d = record { tuple = tuple_of facts attrs d.e; e = d.e }
 
 abbrev pub tuples : List Datom → List ℕ → List Row
-tuples facts attrs = rows_in_order (map (row_of facts attrs) (filter (λ d. is_among attrs d.a) facts))
+tuples facts attrs =
+    rows_in_order (map (row_of facts attrs) (filter (λ d. is_among attrs d.a) facts))
 
 -- those of a view, whose facts are those without history
 abbrev pub tuples_seen : List Entry → Window → List (Datom → Bool) → List ℕ → List Row
@@ -95,18 +101,21 @@ tuples_seen h w filters attrs = tuples (facts_seen h w filters) attrs
 
 abbrev pub is_member_of_type : List Datom → ℕ → Option Value → Bool
 is_member_of_type facts a None = true
-is_member_of_type facts a (Some v) = option_map_or (λ attribute. is_of_type attribute.kind v) (attribute_of facts a) false
+is_member_of_type facts a (Some v) =
+    option_map_or (λ attribute. is_of_type attribute.kind v) (attribute_of facts a) false
 
 -- as many members as the composite has attributes, each nil or of its attribute's type
 abbrev pub is_bound : List Datom → List ℕ → Tuple → Bool
 is_bound facts [] [] = true
 is_bound facts [] (member ∷ members) = false
 is_bound facts (a ∷ attrs) [] = false
-is_bound facts (a ∷ attrs) (member ∷ members) = is_member_of_type facts a member && is_bound facts attrs members
+is_bound facts (a ∷ attrs) (member ∷ members) =
+    is_member_of_type facts a member && is_bound facts attrs members
 
 abbrev pub is_in_range : Option Tuple → Option Tuple → Row → Bool
 is_in_range start end row =
-    option_map_or (λ bound. not (is_lt (tuple_cmp row.tuple bound))) start true && option_map_or (λ bound. is_lt (tuple_cmp row.tuple bound)) end true
+    option_map_or (λ bound. not (is_lt (tuple_cmp row.tuple bound))) start true
+    && option_map_or (λ bound. is_lt (tuple_cmp row.tuple bound)) end true
 
 abbrev pub range : Option Tuple → Option Tuple → List Row → List Row
 range start end rows = filter (is_in_range start end) rows

@@ -81,11 +81,15 @@ pub data Key : Type 0 where
   backward : List ℕ → Key
 
 abbrev pub without_underscore : List ℕ → List ℕ
-without_underscore k = cond (has_namespace k) (namespace k ++ (47 ∷ drop 1 (local_name k))) (drop 1 (local_name k))
+without_underscore k =
+    cond (has_namespace k) (namespace k ++ (47 ∷ drop 1 (local_name k))) (drop 1 (local_name k))
 
 abbrev pub key_in : Form → Key
 key_in (edn.keyword k) =
-    cond (bytes_eq k (codes "db/id")) own (cond (begins_with_one_of (95 ∷ []) (local_name k)) (backward (without_underscore k)) (forward k))
+    cond (bytes_eq k (codes "db/id")) own
+    (cond (begins_with_one_of (95 ∷ []) (local_name k))
+    (backward (without_underscore k))
+    (forward k))
 key_in f = forward []
 
 -- ---- what is read from an ask

@@ -1,5 +1,6 @@
 -- What a transaction asks to add and to retract, as datoms over entity numbers.
--- Datomic, Transaction Data (:db/add, :db/retract, :db/cas, :db/retractEntity, cardinality one) and Schema (:db/isComponent).
+-- Datomic, Transaction Data (:db/add, :db/retract, :db/cas, :db/retractEntity, cardinality one) and
+-- Schema (:db/isComponent).
 use Rattle.std.specs.Prelude.{ℕ, ◌+◌, Bool, true, false, not, ◌&&◌, ◌||◌, List, [], ◌∷◌, map, filter, filter_map, nat_eq, cond, Option, Some, None, option_and_then, option_map, option_to_list}
 use Rattle.std.specs.List.{list_any}
 use Rattle.std.specs.Option.{option_map_or}
@@ -25,8 +26,12 @@ change db added e a v = record { e = e; a = a; v = v; t = basis db.history + 1; 
 -- the datom of an entity, an attribute and a value, where each of them is found
 abbrev pub changes_of : Db → List (Name × ℕ) → Bool → Name → List ℕ → Operand → List Datom
 changes_of db names added name attribute part =
-    option_to_list (option_and_then (λ e. option_and_then (λ (a : Attribute).
-    option_map (change db added e a.id) (value_of_part db names a part)) (attribute_named db.facts attribute)) (entity_of db names name))
+    option_to_list
+    (option_and_then (λ e.
+    option_and_then (λ (a : Attribute).
+    option_map (change db added e a.id) (value_of_part db names a part))
+    (attribute_named db.facts attribute))
+    (entity_of db names name))
 
 -- the retraction of a fact
 abbrev pub withdrawn : Db → Datom → Datom
@@ -61,9 +66,11 @@ is_in set e = list_any (nat_eq e) set
 abbrev pub added_parts : List (ℕ × ℕ) → List ℕ → List ℕ
 added_parts [] set = set
 added_parts (link ∷ links) set =
-    cond (is_in set link.0 && not (is_in set link.1)) (added_parts links (link.1 ∷ set)) (added_parts links set)
+    cond (is_in set link.0 && not (is_in set link.1)) (added_parts links (link.1 ∷ set))
+    (added_parts links set)
 
--- an entity with its parts, their parts and so on: once for each link, after which none is left to add
+-- an entity with its parts, their parts and so on: once for each link, after which none is left to
+-- add
 abbrev pub closed_under : List (ℕ × ℕ) → List (ℕ × ℕ) → List ℕ → List ℕ
 closed_under [] links set = set
 closed_under (_ ∷ more) links set = closed_under more links (added_parts links set)
@@ -81,22 +88,29 @@ is_about_set set d = is_in set d.e || is_value_in set d.v
 
 -- found in the database: every value of an attribute, or all that is said of a closed set
 abbrev pub values_withdrawn : Db → ℕ → Attribute → List Datom
-values_withdrawn db e a = map (withdrawn db) (filter (λ d. nat_eq d.e e && nat_eq d.a a.id) db.facts)
+values_withdrawn db e a =
+    map (withdrawn db) (filter (λ d. nat_eq d.e e && nat_eq d.a a.id) db.facts)
 
 abbrev pub set_withdrawn : Db → ℕ → List Datom
 set_withdrawn db e = map (withdrawn db) (filter (is_about_set (closed_set db.facts e)) db.facts)
 
 abbrev pub sweeps : Db → List (Name × ℕ) → Ask → List Datom
 sweeps db names (retracts_all name attribute) =
-    option_map_or (λ e. option_map_or (values_withdrawn db e) (attribute_named db.facts attribute) []) (entity_of db names name) []
-sweeps db names (retracts_entity name) = option_map_or (set_withdrawn db) (entity_of db names name) []
+    option_map_or
+    (λ e. option_map_or (values_withdrawn db e) (attribute_named db.facts attribute) [])
+    (entity_of db names name) []
+sweeps db names (retracts_entity name) =
+    option_map_or (set_withdrawn db) (entity_of db names name) []
 sweeps db names ask = []
 
 -- ---- implied by additions
 
 -- another value that holds under an attribute of cardinality one goes
 abbrev pub is_replaced : Datom → Datom → Bool
-is_replaced d addition = nat_eq addition.e d.e && nat_eq addition.a d.a && not (value_eq addition.v d.v)
+is_replaced d addition =
+    nat_eq addition.e d.e && nat_eq addition.a d.a && not (value_eq addition.v d.v)
 
 abbrev pub implied : Db → List Datom → List Datom
-implied db added = map (withdrawn db) (filter (λ d. is_one db.facts d.a && list_any (is_replaced d) added) db.facts)
+implied db added =
+    map (withdrawn db)
+    (filter (λ d. is_one db.facts d.a && list_any (is_replaced d) added) db.facts)

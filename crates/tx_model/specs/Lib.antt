@@ -10,3 +10,5 @@ pub mod Size
 pub mod ChangeRules
 pub mod Step
 pub mod Samples
+pub mod SampleHistories
+pub mod SamplePeople

@@ -1,11 +1,12 @@
--- Transactions for the examples. This project's own choice.
-use Rattle.std.specs.Prelude.{ℕ, ℤ, pos, Bool, true, map, List, [], ◌∷◌, ◌++◌, codes, Option, Some, None}
+-- How the examples write a transaction, and what they say of it. This project's own choice.
+use Rattle.std.specs.Prelude.{ℕ, ℤ, pos, Bool, true, false, map, List, [], ◌∷◌, ◌++◌, codes, Option, Some, None}
 use Rattle.edn_model.specs.Form as edn
 use Rattle.edn_model.specs.Form.{Form, forms, pairs}
 use Rattle.fb_values.specs.declared.facts.Datom.{Datom}
 use Rattle.fb_values.specs.declared.facts.Entry.{Entry}
 use Rattle.fb_values.specs.declared.facts.Value.{Value}
 use Rattle.fb_values.specs.declared.facts.Value.TheVariants.{Str}
+use Rattle.fb_numbers.specs.Numbers as numbers
 use Rattle.fb_model.specs.FirstEntry.{first_entry}
 use Rattle.tx_model.specs.Transaction.{transaction}
 use Rattle.tx_refusals.specs.declared.reasons.Reason.{Reason}
@@ -28,81 +29,53 @@ vector fs = edn.vector (forms fs)
 abbrev pub list_of : List Form → Form
 list_of fs = edn.list (forms fs)
 
-abbrev pub set_of : List Form → Form
-set_of fs = edn.set (forms fs)
-
 abbrev pub map_of : List (Form × Form) → Form
 map_of ps = edn.map (pairs ps)
+
+-- ---- how a form names an entity
+
+-- a string in an entity's place
+abbrev pub tempid : List ℕ → Form
+tempid name = string name
+
+-- the transaction itself
+abbrev pub this_transaction : Form
+this_transaction = tempid (codes "datomic.tx")
+
+-- the n-th user entity, and the entity of transaction t, by their numbers
+abbrev pub user : ℕ → Form
+user n = number (numbers.user_entity n)
+
+abbrev pub recorded_transaction : ℕ → Form
+recorded_transaction t = number (numbers.transaction_of t)
 
 -- [attribute value]
 abbrev pub lookup_ref : List ℕ → Form → Form
 lookup_ref attribute value = vector (keyword attribute ∷ value ∷ [])
 
+-- ---- what a form asks
+
 -- [:db/add e a v]
 abbrev pub add : Form → List ℕ → Form → Form
 add e a v = vector (keyword (codes "db/add") ∷ e ∷ keyword a ∷ v ∷ [])
 
+-- [:db/retract e a v]
 abbrev pub retract : Form → List ℕ → Form → Form
 retract e a v = vector (keyword (codes "db/retract") ∷ e ∷ keyword a ∷ v ∷ [])
 
+-- [:db/retract e a]
 abbrev pub retract_all : Form → List ℕ → Form
 retract_all e a = vector (keyword (codes "db/retract") ∷ e ∷ keyword a ∷ [])
 
+-- [:db/cas e a old new]
 abbrev pub cas : Form → List ℕ → Form → Form → Form
 cas e a old new = vector (keyword (codes "db/cas") ∷ e ∷ keyword a ∷ old ∷ new ∷ [])
 
+-- [:db/retractEntity e]
 abbrev pub retract_entity : Form → Form
 retract_entity e = vector (keyword (codes "db/retractEntity") ∷ e ∷ [])
 
--- a new attribute
-abbrev pub install : List ℕ → List ℕ → List ℕ → List (Form × Form) → Form
-install name kind count more =
-    map_of ((keyword (codes "db/ident"), keyword name)
-    ∷ (keyword (codes "db/valueType"), keyword (codes "db.type/" ++ kind))
-    ∷ (keyword (codes "db/cardinality"), keyword (codes "db.cardinality/" ++ count))
-    ∷ more)
-
--- ---- histories
-
--- the clock stands still at the beginning of 2024
-abbrev pub clock : ℤ
-clock = pos 1704067200000
-
-abbrev pub outcome : List Entry → List Form → Decision
-outcome h fs = step h (vector fs) clock no_guard
-
-abbrev with_outcome : List Entry → Decision → List Entry
-with_outcome h (accepted entry tempids) = h ++ entry ∷ []
-with_outcome h (refused refusal) = h
-
--- the history after these transactions
-abbrev pub after_from : List Entry → List (List Form) → List Entry
-after_from h [] = h
-after_from h (fs ∷ rest) = after_from (with_outcome h (outcome h fs)) rest
-
-abbrev pub after : List (List Form) → List Entry
-after txs = after_from (first_entry ∷ []) txs
-
--- what is answered of an accepted transaction: its t, and the entities of its tempids
-abbrev told_of : Decision → Option (ℕ × List (List ℕ × ℕ))
-told_of (accepted entry tempids) = Some (entry.t, tempids)
-told_of (refused refusal) = None
-
-abbrev pub told : List Entry → List Form → Option (ℕ × List (List ℕ × ℕ))
-told h fs = told_of (outcome h fs)
-
-abbrev pub refusal_at : Reason → ℕ → Decision
-refusal_at reason place = refused (record { reason = reason; at = place })
-
--- the changes of a transaction, each as its entity, its text, if it has one, and whether it is added
-abbrev text_in : Value → List ℕ
-text_in (Str text) = text
-text_in v = []
-
-abbrev pub changed : List Entry → List Form → List (ℕ × List ℕ × Bool)
-changed h fs = map (λ (d : Datom). (d.e, text_in d.v, d.added)) (transaction h fs).changes
-
--- ---- attributes
+-- ---- the built-in attributes, and the entities that are their values
 
 abbrev pub id : Form
 id = keyword (codes "db/id")
@@ -110,87 +83,113 @@ id = keyword (codes "db/id")
 abbrev pub doc : List ℕ
 doc = codes "db/doc"
 
--- `:person/email`, a unique string
-abbrev pub email : List ℕ
-email = codes "person/email"
+abbrev pub ident : List ℕ
+ident = codes "db/ident"
 
-abbrev pub install_email : List Form
-install_email = install email (codes "string") (codes "one") ((keyword (codes "db/unique"), keyword (codes "db.unique/identity")) ∷ []) ∷ []
+abbrev pub value_type : List ℕ
+value_type = codes "db/valueType"
 
--- `:p/age`, a number
-abbrev pub age : List ℕ
-age = codes "p/age"
+abbrev pub cardinality : List ℕ
+cardinality = codes "db/cardinality"
 
-abbrev pub install_age : List Form
-install_age = install age (codes "long") (codes "one") [] ∷ []
+abbrev pub unique : List ℕ
+unique = codes "db/unique"
 
-abbrev pub with_email : List ℕ → List ℕ → Form
-with_email name address = map_of ((id, string name) ∷ (keyword email, string address) ∷ [])
+abbrev pub index : List ℕ
+index = codes "db/index"
 
--- `:id/s` and `:id/l`: two attributes that identify entities
-abbrev pub install_ids : List Form
-install_ids =
-    install (codes "id/s") (codes "string") (codes "one") ((keyword (codes "db/unique"), keyword (codes "db.unique/identity")) ∷ [])
-    ∷ install (codes "id/l") (codes "long") (codes "one") ((keyword (codes "db/unique"), keyword (codes "db.unique/identity")) ∷ [])
-    ∷ []
+abbrev pub is_component : List ℕ
+is_component = codes "db/isComponent"
 
--- two entities have one each
-abbrev pub two_ids : List Entry
-two_ids =
-    after (install_ids
-    ∷ (map_of ((keyword (codes "id/s"), string (codes "p")) ∷ []) ∷ map_of ((keyword (codes "id/l"), number 1) ∷ []) ∷ [])
-    ∷ [])
+abbrev pub tx_instant : List ℕ
+tx_instant = codes "db/txInstant"
 
--- they lose them, and another entity gets both
-abbrev pub both_ids_for : List ℕ → List Form
-both_ids_for name =
-    retract (number 17592186044419) (codes "id/s") (string (codes "p"))
-    ∷ retract (number 17592186044420) (codes "id/l") (number 1)
-    ∷ add (string name) (codes "id/s") (string (codes "p"))
-    ∷ add (string name) (codes "id/l") (number 1)
-    ∷ []
+abbrev pub type_string : Form
+type_string = keyword (codes "db.type/string")
 
--- orders with lines that are parts of them, and notes about lines
-abbrev pub orders : List Form
-orders =
-    install (codes "order/lines") (codes "ref") (codes "many") ((keyword (codes "db/isComponent"), edn.boolean true) ∷ [])
-    ∷ install (codes "line/sku") (codes "string") (codes "one") []
-    ∷ install (codes "note/line") (codes "ref") (codes "one") []
-    ∷ []
+abbrev pub type_long : Form
+type_long = keyword (codes "db.type/long")
 
--- two entities are 5
-abbrev pub two_aged : List Entry
-two_aged =
-    after (install_age
-    ∷ (map_of ((id, string (codes "a")) ∷ (keyword age, number 5) ∷ []) ∷ map_of ((id, string (codes "b")) ∷ (keyword age, number 5) ∷ []) ∷ [])
-    ∷ [])
+abbrev pub type_ref : Form
+type_ref = keyword (codes "db.type/ref")
 
--- then a person may have several ages
-abbrev pub many_aged : List Entry
-many_aged = after_from two_aged ((add (keyword age) (codes "db/cardinality") (keyword (codes "db.cardinality/many")) ∷ []) ∷ [])
+abbrev pub type_symbol : Form
+type_symbol = keyword (codes "db.type/symbol")
 
--- the first entry as if it were a later one
-abbrev first_at : ℕ → ℤ → List Entry
-first_at t instant = record { t = t; instant = instant; datoms = first_entry.datoms } ∷ []
+abbrev pub type_uri : Form
+type_uri = keyword (codes "db.type/uri")
 
-abbrev pub full : List Entry
-full = first_at 2147483647 (pos 0)
+abbrev pub cardinality_one : Form
+cardinality_one = keyword (codes "db.cardinality/one")
 
-abbrev pub nearly_full : List Entry
-nearly_full = first_at 2147483646 (pos 0)
+abbrev pub cardinality_many : Form
+cardinality_many = keyword (codes "db.cardinality/many")
 
-abbrev pub too_late : List Entry
-too_late = first_at 1 (pos 253402300799999)
+abbrev pub unique_identity : Form
+unique_identity = keyword (codes "db.unique/identity")
 
-abbrev pub nearly_late : List Entry
-nearly_late = first_at 1 (pos 253402300799998)
+abbrev pub unique_value : Form
+unique_value = keyword (codes "db.unique/value")
 
--- the last user entity has a text
-abbrev pub last_user : List Entry
-last_user =
-    record {
-      t = 0;
-      instant = pos 0;
-      datoms = first_entry.datoms ++ record { e = 18691697672192; a = 7; v = Str (codes "last"); t = 0; added = true } ∷ [];
-    }
-    ∷ []
+-- {:db/ident name :db/valueType type :db/cardinality count}, and what else is said of the attribute
+abbrev pub install : List ℕ → Form → Form → List (Form × Form) → Form
+install name type count more =
+    map_of ((keyword ident, keyword name)
+    ∷ (keyword value_type, type)
+    ∷ (keyword cardinality, count)
+    ∷ more)
+
+-- ---- what is decided
+
+-- the clock stands still at the beginning of 2024
+abbrev pub clock : ℤ
+clock = pos 1704067200000
+
+-- what is decided of the transaction of these forms
+abbrev pub decision : List Entry → List Form → Decision
+decision h fs = step h (vector fs) clock no_guard
+
+abbrev with_decision : List Entry → Decision → List Entry
+with_decision h (accepted entry tempids) = h ++ entry ∷ []
+with_decision h (refused refusal) = h
+
+-- the history with these transactions, as far as they are accepted
+abbrev pub after_from : List Entry → List (List Form) → List Entry
+after_from h [] = h
+after_from h (fs ∷ rest) = after_from (with_decision h (decision h fs)) rest
+
+abbrev pub after : List (List Form) → List Entry
+after txs = after_from (first_entry ∷ []) txs
+
+-- refused for the reason, at the form of this place, counted from 0
+abbrev pub refusal_at : Reason → ℕ → Decision
+refusal_at reason place = refused (record { reason = reason; at = place })
+
+-- what is told of an accepted transaction: its t, and the entities of its tempids
+abbrev told_of : Decision → Option (ℕ × List (List ℕ × ℕ))
+told_of (accepted entry tempids) = Some (entry.t, tempids)
+told_of (refused refusal) = None
+
+abbrev pub told : List Entry → List Form → Option (ℕ × List (List ℕ × ℕ))
+told h fs = told_of (decision h fs)
+
+-- accepted as transaction t, with these entities for its tempids
+abbrev pub accepted_at : ℕ → List (List ℕ × ℕ) → Option (ℕ × List (List ℕ × ℕ))
+accepted_at t tempids = Some (t, tempids)
+
+-- the changes of a transaction, each as its entity, its text, if it has one, and whether it is
+-- added
+abbrev text_in : Value → List ℕ
+text_in (Str text) = text
+text_in v = []
+
+abbrev pub changed : List Entry → List Form → List (ℕ × List ℕ × Bool)
+changed h fs =
+    map (λ (d : Datom). (d.e, text_in d.v, d.added)) (transaction h fs).changes
+
+-- a text is added to an entity, or retracted
+abbrev pub addition : ℕ → List ℕ → ℕ × List ℕ × Bool
+addition e text = (e, text, true)
+
+abbrev pub retraction : ℕ → List ℕ → ℕ × List ℕ × Bool
+retraction e text = (e, text, false)

@@ -17,7 +17,9 @@ verb_of k =
     cond (bytes_eq k (codes "db/add")) (Some add)
     (cond (bytes_eq k (codes "db/retract")) (Some retract)
     (cond (bytes_eq k (codes "db/cas") || bytes_eq k (codes "db.fn/cas")) (Some cas)
-    (cond (bytes_eq k (codes "db/retractEntity") || bytes_eq k (codes "db.fn/retractEntity")) (Some retract_entity) None)))
+    (cond (bytes_eq k (codes "db/retractEntity") || bytes_eq k (codes "db.fn/retractEntity"))
+    (Some retract_entity)
+    None)))
 
 abbrev pub verb_in : Form → Option Verb
 verb_in (edn.keyword k) = verb_of k
@@ -31,14 +33,16 @@ abbrev pub is_string : Form → Bool
 is_string (edn.string s) = true
 is_string f = false
 
--- an integer, a keyword, a vector of two whose first member is a keyword, or, where a tempid may stand, a string
+-- an integer, a keyword, a vector of two whose first member is a keyword, or, where a tempid may
+-- stand, a string
 abbrev pub names_an_entity : Form → Bool
 names_an_entity f = is_some (name_in f)
 
 abbrev pub names_an_old_entity : Form → Bool
 names_an_old_entity f = names_an_entity f && not (is_string f)
 
--- [:db/add e a v], [:db/retract e a v], [:db/retract e a], [:db/cas e a old new] or [:db/retractEntity e], without the verb
+-- [:db/add e a v], [:db/retract e a v], [:db/retract e a], [:db/cas e a old new] or
+-- [:db/retractEntity e], without the verb
 abbrev pub has_arguments : Option Verb → List Form → Bool
 has_arguments (Some add) (e ∷ a ∷ v ∷ []) = names_an_entity e && is_keyword a
 has_arguments (Some retract) (e ∷ a ∷ v ∷ []) = names_an_old_entity e && is_keyword a
@@ -64,7 +68,8 @@ abbrev mutual
   pub has_map_shape : Pairs → Bool
   has_map_shape no_pairs = false
   has_map_shape (pair key value no_pairs) = has_pair_shape key value && has_value_shape value
-  has_map_shape (pair key value (pair k v rest)) = has_pair_shape key value && has_value_shape value && has_map_shape (pair k v rest)
+  has_map_shape (pair key value (pair k v rest)) =
+      has_pair_shape key value && has_value_shape value && has_map_shape (pair k v rest)
 
   -- a map that is a value, or a member of a value, has the shape of a map form
   pub has_value_shape : Form → Bool

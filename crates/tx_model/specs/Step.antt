@@ -1,7 +1,7 @@
 -- The step of a transaction: the entry that it adds to a history, or why it is refused.
--- Datomic, Transaction Data. Which of several faults is told is this project's own choice: that of the least rule, and of the
--- forms that break it the first.
-use Rattle.std.specs.Prelude.{◌≡◌, ℕ, ◌+◌, ℤ, Bool, not, List, [], ◌∷◌, map, cond, is_some, Option, Some, None}
+-- Datomic, Transaction Data. Which of several faults is told is this project's own choice: that of
+-- the least rule, and of the forms that break it the first.
+use Rattle.std.specs.Prelude.{◌≡◌, ℕ, ◌+◌, ℤ, Bool, not, List, [], ◌∷◌, map, cond, is_some, option_map, Option, Some, None}
 use Rattle.std.specs.Option.{option_map_or}
 use Rattle.edn_model.specs.Form.{Form}
 use Rattle.fb_values.specs.declared.facts.Datom.{Datom}
@@ -41,7 +41,8 @@ by_place tx test = first_yes 0 (tests_from test 0 tx.asks)
 abbrev pub by_whole : Bool → Option ℕ
 by_whole broken = cond broken (Some 0) None
 
--- the rules on forms that have a shape, each with the first form that breaks it: the least rule first
+-- the rules on forms that have a shape, each with the first form that breaks it: the least rule
+-- first
 abbrev pub broken_rules : Transaction → List (Reason × Option ℕ)
 broken_rules tx =
     (NotAnAttribute, by_asks tx (breaks_not_an_attribute tx.db))
@@ -80,6 +81,10 @@ first_refusal ((reason, Some place) ∷ rest) = Some (record { reason = reason; 
 abbrev pub are_broken : List (Reason × Option ℕ) → List (Reason × Bool)
 are_broken rules = map (λ (rule : Reason × Option ℕ). (rule.0, is_some rule.1)) rules
 
+-- the reason of the least rule that a form breaks
+abbrev pub least_broken : Transaction → Option Reason
+least_broken tx = option_map (λ (r : Refusal). r.reason) (first_refusal (broken_rules tx))
+
 abbrev pub refusal_of : List Entry → List Form → Option Refusal
 refusal_of h fs = first_refusal (all_rules h fs)
 
@@ -98,7 +103,8 @@ pub data Decision : Type 0 where
   -- the entry, and the entities of the tempids that have a name
   accepted : Entry → List (List ℕ × ℕ) → Decision
 
--- by what a guard bars these changes after the history, if it does: it has no other answers than these three
+-- by what a guard bars these changes after the history, if it does: it has no other answers than
+-- these three
 abbrev pub Guard : Type 0
 Guard = List Entry → List Datom → Option Bar
 
@@ -111,7 +117,8 @@ entry_of h tx instant = record { t = basis h + 1; instant = instant; datoms = re
 -- a guard judges the transaction as a whole, and is asked where no rule is broken
 abbrev pub under_guard : List Entry → Transaction → ℤ → Option Bar → Decision
 under_guard h tx reading (Some bar) = refused (record { reason = Barred bar; at = 0 })
-under_guard h tx reading None = accepted (entry_of h tx (next_instant h reading)) (named_tempids tx.names)
+under_guard h tx reading None =
+    accepted (entry_of h tx (next_instant h reading)) (named_tempids tx.names)
 
 abbrev pub unless_refused : List Entry → List Form → ℤ → Guard → Option Refusal → Decision
 unless_refused h fs reading guard (Some refusal) = refused refusal
@@ -121,11 +128,15 @@ unless_refused h fs reading guard None =
 
 -- what the transaction does at the history, where the clock reads this
 abbrev pub step : List Entry → Form → ℤ → Guard → Decision
-step h asked reading guard = option_map_or (λ fs. unless_refused h fs reading guard (refusal_of h fs)) (forms_of asked) (refused no_list)
+step h asked reading guard =
+    option_map_or (λ fs. unless_refused h fs reading guard (refusal_of h fs))
+    (forms_of asked) (refused no_list)
 
--- The entry and the tempids are those of the forms, which break no rule, and of the clock only the instant tells: the entry
--- records the instant beside changes that no clock has a part in. Of a guard it says nothing.
-pub record IsAcceptedAt (h : List Entry) (asked : Form) (instant : ℤ) (entry : Entry) (tempids : List (List ℕ × ℕ)) : Type 0 where
+-- The entry and the tempids are those of the forms, which break no rule, and of the clock only the
+-- instant tells: the entry records the instant beside changes that no clock has a part in. Of a
+-- guard it says nothing.
+pub record IsAcceptedAt (h : List Entry) (asked : Form) (instant : ℤ) (entry : Entry)
+    (tempids : List (List ℕ × ℕ)) : Type 0 where
   pub forms : List Form
   pub forms_are : forms_of asked ≡ Some forms
   pub is_not_refused : refusal_of h forms ≡ None

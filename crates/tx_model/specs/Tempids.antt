@@ -1,5 +1,6 @@
 -- Names of entities in a transaction, and the entities that tempids stand for.
--- Datomic, Transaction Data (temporary ids, unique identities). That user numbers have no gap is this project's own choice.
+-- Datomic, Transaction Data (temporary ids, unique identities). That user numbers have no gap is
+-- this project's own choice.
 use Rattle.std.specs.Prelude.{ℕ, ◌+◌, pos, Bool, true, ◌&&◌, not, List, [], ◌∷◌, flat_map, filter_map, bytes_eq, cond, Option, Some, None, option_and_then}
 use Rattle.std.specs.List.{list_any}
 use Rattle.std.specs.Ordering.{is_lt}
@@ -26,10 +27,11 @@ db_of h = record { history = h; facts = facts h }
 
 -- the holder of the value, read by the type of the attribute
 abbrev pub find_by : Db → Form → Attribute → Option ℕ
-find_by db value attribute = option_and_then (holder db.facts attribute.id) (value_in attribute.kind value)
+find_by db value attribute =
+    option_and_then (holder db.facts attribute.id) (value_in attribute.kind value)
 
--- the entity that a name has in the database: a number has to be issued; a lookup ref finds one by a plain value alone, since no
--- attribute whose values are entities is unique; a tempid has none
+-- the entity that a name has in the database: a number has to be issued; a lookup ref finds one by
+-- a plain value alone, since no attribute whose values are entities is unique; a tempid has none
 abbrev pub found : Db → Name → Option ℕ
 found db (number (pos n)) = cond (is_issued db.history n) (Some n) None
 found db (ident k) = named db.facts k
@@ -45,19 +47,22 @@ is_among names name = list_any (is_same_tempid name) names
 abbrev pub met_after : List Name → List Name → List Name
 met_after before [] = []
 met_after before (name ∷ names) =
-    cond (is_tempid name && not (is_among before name)) (name ∷ met_after (name ∷ before) names) (met_after before names)
+    cond (is_tempid name && not (is_among before name)) (name ∷ met_after (name ∷ before) names)
+    (met_after before names)
 
 abbrev pub tempids_in : List Ask → List Name
 tempids_in asks = met_after [] (flat_map names_of asks)
 
 -- the holder of the value, where the attribute identifies entities
 abbrev pub identity_holder : Db → Form → Attribute → Option ℕ
-identity_holder db f attribute = cond (is_identity db.facts attribute.id) (find_by db f attribute) None
+identity_holder db f attribute =
+    cond (is_identity db.facts attribute.id) (find_by db f attribute) None
 
 -- the entity that an addition makes of the tempid: the holder of the identity value that it gives
 abbrev pub identified : Db → Name → Ask → Option ℕ
 identified db name (adds other attribute (plain f)) =
-    cond (is_same_tempid name other) (option_and_then (identity_holder db f) (attribute_named db.facts attribute)) None
+    cond (is_same_tempid name other)
+    (option_and_then (identity_holder db f) (attribute_named db.facts attribute)) None
 identified db name ask = None
 
 abbrev pub holders : Db → List Ask → Name → List ℕ
@@ -70,7 +75,8 @@ number_next name n (e ∷ es) rest = (name, e) ∷ rest n
 
 abbrev pub number_from : Db → List Ask → List Name → ℕ → List (Name × ℕ)
 number_from db asks [] n = []
-number_from db asks (name ∷ names) n = number_next name n (holders db asks name) (λ next. number_from db asks names next)
+number_from db asks (name ∷ names) n =
+    number_next name n (holders db asks name) (λ next. number_from db asks names next)
 
 abbrev pub assigned : Db → List Ask → List (Name × ℕ)
 assigned db asks = number_from db asks (tempids_in asks) (users_issued db.history)
@@ -78,10 +84,13 @@ assigned db asks = number_from db asks (tempids_in asks) (users_issued db.histor
 -- the entity of a name under an assignment
 abbrev pub assigned_to : List (Name × ℕ) → Name → Option ℕ
 assigned_to [] name = None
-assigned_to (pair ∷ pairs) name = cond (is_same_tempid pair.0 name) (Some pair.1) (assigned_to pairs name)
+assigned_to (pair ∷ pairs) name =
+    cond (is_same_tempid pair.0 name) (Some pair.1) (assigned_to pairs name)
 
 abbrev pub entity_of : Db → List (Name × ℕ) → Name → Option ℕ
-entity_of db names (tempid s) = cond (bytes_eq s own_tempid) (Some (transaction_of (basis db.history + 1))) (assigned_to names (tempid s))
+entity_of db names (tempid s) =
+    cond (bytes_eq s own_tempid) (Some (transaction_of (basis db.history + 1)))
+    (assigned_to names (tempid s))
 entity_of db names (nameless path) = assigned_to names (nameless path)
 entity_of db names name = found db name
 
@@ -98,7 +107,8 @@ with_texts pairs = filter_map (λ (pair : Name × ℕ). with_text pair.0 pair.1)
 -- by the bytes of the texts
 abbrev pub put_by_text : List ℕ × ℕ → List (List ℕ × ℕ) → List (List ℕ × ℕ)
 put_by_text pair [] = pair ∷ []
-put_by_text pair (first ∷ rest) = cond (is_lt (text_cmp first.0 pair.0)) (first ∷ put_by_text pair rest) (pair ∷ first ∷ rest)
+put_by_text pair (first ∷ rest) =
+    cond (is_lt (text_cmp first.0 pair.0)) (first ∷ put_by_text pair rest) (pair ∷ first ∷ rest)
 
 abbrev pub by_text : List (List ℕ × ℕ) → List (List ℕ × ℕ)
 by_text [] = []

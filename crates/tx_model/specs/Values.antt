@@ -9,8 +9,8 @@ use Rattle.fb_values.specs.declared.facts.Value.TheVariants.{Keyword, Str, Bool 
 use Rattle.fb_numbers.specs.Numbers.{type_uri}
 use Rattle.fb_model.specs.Types.{is_of_type}
 
--- the value that the form stands for under the type, of whatever length: a string is a string or a uri; an entity is no
--- plain value
+-- the value that the form stands for under the type, of whatever length: a string is a string or a
+-- uri; an entity is no plain value
 abbrev pub read_as : ℕ → Form → Option Value
 read_as kind (edn.keyword k) = Some (Keyword k)
 read_as kind (edn.string s) = cond (nat_eq kind type_uri) (Some (Uri s)) (Some (Str s))

@@ -1,5 +1,6 @@
 -- The walk over a transaction: what each form asks, in the order in which a reader meets it.
--- Datomic, Transaction Data (list forms, map forms, nested maps, cardinality-many values, reverse attribute names).
+-- Datomic, Transaction Data (list forms, map forms, nested maps, cardinality-many values, reverse
+-- attribute names).
 use Rattle.std.specs.Prelude.{ℕ, ◌+◌, pos, Bool, true, false, not, ◌&&◌, ◌||◌, List, [], ◌∷◌, ◌++◌, cond, Option, Some, None, unwrap_or, nat_eq}
 use Rattle.std.specs.Option.{option_map_or}
 use Rattle.edn_model.specs.Form as edn
@@ -13,20 +14,25 @@ use Rattle.tx_model.specs.Shapes.{Verb, add, retract, cas, retract_entity, verb_
 -- ---- what the facts before say of a keyword in an attribute's place
 
 abbrev pub has_ref : List Datom → List ℕ → Bool
-has_ref facts name = option_map_or (λ attribute. nat_eq attribute.kind type_ref) (attribute_named facts name) false
+has_ref facts name =
+    option_map_or (λ attribute. nat_eq attribute.kind type_ref) (attribute_named facts name) false
 
 abbrev pub has_many : List Datom → List ℕ → Bool
 has_many facts name = option_map_or (λ attribute. attribute.many) (attribute_named facts name) false
 
 abbrev pub has_parts : List Datom → List ℕ → Bool
-has_parts facts name = option_map_or (λ attribute. attribute.component) (attribute_named facts name) false
+has_parts facts name =
+    option_map_or (λ attribute. attribute.component) (attribute_named facts name) false
 
 abbrev pub has_uniqueness : List Datom → List ℕ → Bool
-has_uniqueness facts name = option_map_or (λ attribute. not (nat_eq attribute.uniqueness 0)) (attribute_named facts name) false
+has_uniqueness facts name =
+    option_map_or (λ attribute. not (nat_eq attribute.uniqueness 0))
+    (attribute_named facts name) false
 
 -- ---- values
 
--- a number, an ident or a tempid under an attribute whose values are entities, and else a plain value
+-- a number, an ident or a tempid under an attribute whose values are entities, and else a plain
+-- value
 abbrev pub scalar : Bool → Form → Operand
 scalar true (edn.integer (pos n)) = entity (number (pos n))
 scalar true (edn.keyword k) = entity (ident k)
@@ -56,11 +62,16 @@ abbrev pub entity_in : Form → Name
 entity_in f = unwrap_or (name_in f) (nameless [])
 
 abbrev pub list_asks : List Datom → Option Verb → List Form → List Ask
-list_asks facts (Some add) (e ∷ a ∷ v ∷ []) = adds (entity_in e) (keyword_in a) (value_part (has_ref facts (keyword_in a)) v) ∷ []
-list_asks facts (Some retract) (e ∷ a ∷ v ∷ []) = retracts (entity_in e) (keyword_in a) (old_value_part (has_ref facts (keyword_in a)) v) ∷ []
+list_asks facts (Some add) (e ∷ a ∷ v ∷ []) =
+    adds (entity_in e) (keyword_in a) (value_part (has_ref facts (keyword_in a)) v) ∷ []
+list_asks facts (Some retract) (e ∷ a ∷ v ∷ []) =
+    retracts (entity_in e) (keyword_in a) (old_value_part (has_ref facts (keyword_in a)) v) ∷ []
 list_asks facts (Some retract) (e ∷ a ∷ []) = retracts_all (entity_in e) (keyword_in a) ∷ []
 list_asks facts (Some cas) (e ∷ a ∷ old ∷ new ∷ []) =
-    compares (entity_in e) (keyword_in a) (old_value_part (has_ref facts (keyword_in a)) old) (old_value_part (has_ref facts (keyword_in a)) new) ∷ []
+    compares (entity_in e) (keyword_in a)
+    (old_value_part (has_ref facts (keyword_in a)) old)
+    (old_value_part (has_ref facts (keyword_in a)) new)
+    ∷ []
 list_asks facts (Some retract_entity) (e ∷ []) = retracts_entity (entity_in e) ∷ []
 list_asks facts verb arguments = []
 
@@ -104,7 +115,8 @@ abbrev pub nested_asks : List Datom → Name → Key → Name → Pairs → List
 nested_asks facts self own name ps inner = []
 nested_asks facts self (forward attribute) name ps inner =
     cond (has_ref facts attribute)
-    (adds self attribute (entity name) ∷ (need (not (has_parts facts attribute || has_identity facts ps)) ++ inner))
+    (adds self attribute (entity name)
+    ∷ (need (not (has_parts facts attribute || has_identity facts ps)) ++ inner))
     (adds self attribute (plain (edn.map ps)) ∷ [])
 nested_asks facts self (backward attribute) name ps inner =
     adds name attribute (entity self) ∷ (need (not (has_identity facts ps)) ++ inner)
@@ -113,30 +125,39 @@ nested_asks facts self (backward attribute) name ps inner =
 abbrev pub scalar_asks : List Datom → Name → Key → Form → List Ask
 scalar_asks facts self own f = []
 scalar_asks facts self (forward name) f = links self (forward name) (scalar (has_ref facts name) f)
-scalar_asks facts self (backward name) (edn.integer z) = links self (backward name) (entity (number z))
+scalar_asks facts self (backward name) (edn.integer z) =
+    links self (backward name) (entity (number z))
 scalar_asks facts self (backward name) f = links self (backward name) (scalar true f)
 
--- a vector is a lookup ref where its first member names a unique attribute and values are entities; else it is a
--- collection, where there may be several values; else it stands for a lookup ref that finds no unique attribute, or for no value
-abbrev pub vector_asks : List Datom → Name → Key → Forms → Option (List ℕ × Form) → List Ask → List Ask
+-- a vector is a lookup ref where its first member names a unique attribute and values are entities;
+-- else it is a collection, where there may be several values; else it stands for a lookup ref that
+-- finds no unique attribute, or for no value
+abbrev pub vector_asks : List Datom → Name → Key → Forms → Option (List ℕ × Form) → List Ask
+    → List Ask
 vector_asks facts self own fs found members = []
-vector_asks facts self (forward name) fs None members = cond (has_many facts name) members (adds self name (plain (edn.vector fs)) ∷ [])
+vector_asks facts self (forward name) fs None members =
+    cond (has_many facts name) members (adds self name (plain (edn.vector fs)) ∷ [])
 vector_asks facts self (forward name) fs (Some found) members =
-    cond (has_ref facts name && has_uniqueness facts found.0) (adds self name (entity (lookup found.0 found.1)) ∷ [])
+    cond (has_ref facts name && has_uniqueness facts found.0)
+    (adds self name (entity (lookup found.0 found.1)) ∷ [])
     (cond (has_many facts name) members
-    (adds self name (cond (has_ref facts name) (entity (lookup found.0 found.1)) (plain (edn.vector fs))) ∷ []))
+    (adds self name
+    (cond (has_ref facts name) (entity (lookup found.0 found.1)) (plain (edn.vector fs)))
+    ∷ []))
 vector_asks facts self (backward name) fs None members = members
 vector_asks facts self (backward name) fs (Some found) members =
-    cond (has_uniqueness facts found.0) (links self (backward name) (entity (lookup found.0 found.1))) members
+    cond (has_uniqueness facts found.0)
+    (links self (backward name) (entity (lookup found.0 found.1))) members
 
 -- a list is a collection, where there may be several values
 abbrev pub sequence_asks : List Datom → Name → Key → Form → List Ask → List Ask
 sequence_asks facts self own f members = []
-sequence_asks facts self (forward name) f members = cond (has_many facts name) members (adds self name (plain f) ∷ [])
+sequence_asks facts self (forward name) f members =
+    cond (has_many facts name) members (adds self name (plain f) ∷ [])
 sequence_asks facts self (backward name) f members = members
 
--- what a pair asks beside its values: it mentions the attribute; under a reversed name the values of the attribute have to be
--- entities
+-- what a pair asks beside its values: it mentions the attribute; under a reversed name the values
+-- of the attribute have to be entities
 abbrev pub pair_asks : List Datom → Name → Key → List Ask → List Ask
 pair_asks facts self own values = []
 pair_asks facts self (forward name) values = mentions name ∷ values
@@ -152,10 +173,14 @@ abbrev mutual
 
   -- a set is a collection
   pub value_asks : List Datom → Name → Key → List ℕ → Form → List Ask
-  value_asks facts self key path (edn.map ps) = nested_asks facts self key (name_of_map path ps) ps (map_asks facts (name_of_map path ps) path 0 ps)
+  value_asks facts self key path (edn.map ps) =
+      nested_asks facts self key (name_of_map path ps) ps
+      (map_asks facts (name_of_map path ps) path 0 ps)
   value_asks facts self key path (edn.set fs) = members_asks facts self key path 0 fs
-  value_asks facts self key path (edn.vector fs) = vector_asks facts self key fs (lookup_in fs) (members_asks facts self key path 0 fs)
-  value_asks facts self key path (edn.list fs) = sequence_asks facts self key (edn.list fs) (members_asks facts self key path 0 fs)
+  value_asks facts self key path (edn.vector fs) =
+      vector_asks facts self key fs (lookup_in fs) (members_asks facts self key path 0 fs)
+  value_asks facts self key path (edn.list fs) =
+      sequence_asks facts self key (edn.list fs) (members_asks facts self key path 0 fs)
   value_asks facts self key path f = scalar_asks facts self key f
 
   pub members_asks : List Datom → Name → Key → List ℕ → ℕ → Forms → List Ask
@@ -165,8 +190,11 @@ abbrev mutual
 
   -- a collection in a collection is no value
   pub member_asks : List Datom → Name → Key → List ℕ → Form → List Ask
-  member_asks facts self key path (edn.map ps) = nested_asks facts self key (name_of_map path ps) ps (map_asks facts (name_of_map path ps) path 0 ps)
-  member_asks facts self key path (edn.vector fs) = vector_asks facts self key fs (lookup_in fs) (links self key (plain (edn.vector fs)))
+  member_asks facts self key path (edn.map ps) =
+      nested_asks facts self key (name_of_map path ps) ps
+      (map_asks facts (name_of_map path ps) path 0 ps)
+  member_asks facts self key path (edn.vector fs) =
+      vector_asks facts self key fs (lookup_in fs) (links self key (plain (edn.vector fs)))
   member_asks facts self key path f = scalar_asks facts self key f
 
 -- ---- forms
@@ -175,7 +203,9 @@ abbrev mutual
 abbrev pub form_asks : List Datom → ℕ → Form → List Ask
 form_asks facts place (edn.vector fs) = verb_asks facts (items fs)
 form_asks facts place (edn.list fs) = verb_asks facts (items fs)
-form_asks facts place (edn.map ps) = meets (name_of_map (place ∷ []) ps) ∷ map_asks facts (name_of_map (place ∷ []) ps) (place ∷ []) 0 ps
+form_asks facts place (edn.map ps) =
+    meets (name_of_map (place ∷ []) ps)
+    ∷ map_asks facts (name_of_map (place ∷ []) ps) (place ∷ []) 0 ps
 form_asks facts place f = []
 
 -- the same for each form of a transaction, of which the first has the place n

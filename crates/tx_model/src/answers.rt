@@ -13,7 +13,10 @@ ghost use Rattle.tx_model.specs.Step.{all_rules, refusal_of};
 
 /// Of the rules that forms break the one that is told has the least number.
 pub fn the_least_rule_is_told()
-    ensures { (h : List Entry) (fs : List Form) (refusal : Refusal) (reason : Reason) (at : ℕ) → refusal_of h fs ≡ Some refusal → Contains (all_rules h fs) (reason, Some at) → number_of refusal.reason ≤ number_of reason }
+    ensures { (h : List Entry) (fs : List Form) (refusal : Refusal) (reason : Reason) (at : ℕ)
+        → refusal_of h fs ≡ Some refusal
+        → Contains (all_rules h fs) (reason, Some at)
+        → number_of refusal.reason ≤ number_of reason }
 {}
 
 /// A reason is told by a keyword.
@@ -21,13 +24,19 @@ pub fn reasons_have_keywords()
     ensures { (reason : Reason) → is_keyword_text (keyword_of reason) ≡ true }
 {}
 
-/// The tempids that are told rise by the bytes of their names, and are exactly those that have one.
+/// The tempids that are told rise by the bytes of their names, and are exactly those with a name.
 pub fn named_tempids_rise_by_their_bytes()
-    ensures rising { (h : List Entry) (fs : List Form) → rises_by_text (named_tempids (transaction h fs).names) ≡ true }
-    ensures members { (pairs : List (Name × ℕ)) (text : List ℕ) (e : ℕ) → Contains (named_tempids pairs) (text, e) ↔ Contains pairs (tempid text, e) }
+    ensures rising { (h : List Entry) (fs : List Form)
+        → rises_by_text (named_tempids (transaction h fs).names) ≡ true }
+    ensures members { (pairs : List (Name × ℕ)) (text : List ℕ) (e : ℕ)
+        → Contains (named_tempids pairs) (text, e) ↔ Contains pairs (tempid text, e) }
 {}
 
 /// There is no other such list.
 pub fn one_list_of_named_tempids()
-    ensures { (h : List Entry) (fs : List Form) (list : List (List ℕ × ℕ)) → rises_by_text list ≡ true → ((text : List ℕ) (e : ℕ) → Contains list (text, e) ↔ Contains (transaction h fs).names (tempid text, e)) → list ≡ named_tempids (transaction h fs).names }
+    ensures { (h : List Entry) (fs : List Form) (list : List (List ℕ × ℕ))
+        → rises_by_text list ≡ true
+        → ((text : List ℕ) (e : ℕ)
+        → Contains list (text, e) ↔ Contains (transaction h fs).names (tempid text, e))
+        → list ≡ named_tempids (transaction h fs).names }
 {}

@@ -1,21 +1,42 @@
 //! Examples, by computation: nested maps, components, and retracting entities.
-ghost use Rattle.std.specs.Prelude.{◌≡◌, ◌++◌, [], ◌∷◌, codes, pos, negsuc, true, false, Some, None};
-ghost use Rattle.edn_model.specs.Form.{nil, boolean, integer};
-ghost use Rattle.fb_model.specs.FirstEntry.{first_entry};
+ghost use Rattle.std.specs.Prelude.{◌≡◌, [], ◌∷◌, codes};
+ghost use Rattle.fb_numbers.specs.Numbers.{user_entity};
 ghost use Rattle.tx_refusals.specs.declared.reasons.Reason.TheVariants.{WrongType, NestedWithoutId};
-ghost use Rattle.tx_model.specs.Samples.{keyword, string, number, vector, list_of, set_of, map_of, add, retract, retract_all, cas, retract_entity, install, outcome, after, told, changed, refusal_at, id, email, install_email, with_email, age, install_age, doc, orders, two_aged};
+ghost use Rattle.tx_model.specs.Samples.{keyword, string, vector, map_of, tempid, user, retract_entity, id, doc, decision, refusal_at, told, accepted_at, changed, retraction};
+ghost use Rattle.tx_model.specs.SampleHistories.{order_lines, order_of, sku_a, order_and_note, with_orders_installed, order_with_lines};
 
 /// Nested maps are numbered as a reader meets them, and told by the bytes of their names.
 pub fn nested_maps()
-    ensures told { told (after (orders ∷ [])) (map_of ((id, string (codes "o")) ∷ (keyword (codes "order/lines"), vector (map_of ((keyword (codes "line/sku"), string (codes "A")) ∷ []) ∷ map_of ((id, string (codes "b")) ∷ (keyword (codes "line/sku"), string (codes "B")) ∷ []) ∷ [])) ∷ []) ∷ map_of ((id, string (codes "n")) ∷ (keyword (codes "note/line"), string (codes "b")) ∷ []) ∷ []) ≡ Some (2, (codes "b", 17592186044422) ∷ (codes "n", 17592186044423) ∷ (codes "o", 17592186044420) ∷ []) }
-    ensures reversed { told (after (orders ∷ [])) (map_of ((keyword (codes "line/sku"), string (codes "A")) ∷ (keyword (codes "order/_lines"), map_of ((id, string (codes "o")) ∷ [])) ∷ []) ∷ []) ≡ Some (2, (codes "o", 17592186044421) ∷ []) }
-    ensures reversed_no_ref { outcome (after (orders ∷ [])) (map_of ((keyword (codes "line/_sku"), string (codes "A")) ∷ (keyword (codes "line/sku"), string (codes "A")) ∷ []) ∷ []) ≡ refusal_at WrongType 0 }
-    ensures reversed_without_id { outcome (after (orders ∷ [])) (map_of ((keyword (codes "line/sku"), string (codes "A")) ∷ (keyword (codes "order/_lines"), map_of ((keyword doc, string (codes "o")) ∷ [])) ∷ []) ∷ []) ≡ refusal_at NestedWithoutId 0 }
-    ensures empty_collection { told (after (orders ∷ [])) (map_of ((keyword (codes "line/sku"), string (codes "A")) ∷ (keyword (codes "order/lines"), vector []) ∷ []) ∷ []) ≡ Some (2, []) }
-    ensures nested_collection { outcome (after (orders ∷ [])) (map_of ((keyword (codes "line/sku"), string (codes "A")) ∷ (keyword (codes "order/lines"), vector (vector [] ∷ [])) ∷ []) ∷ []) ≡ refusal_at WrongType 0 }
+    ensures told { told with_orders_installed order_and_note
+        ≡ accepted_at 2 ((codes "b", user_entity 6)
+        ∷ (codes "n", user_entity 7)
+        ∷ (codes "o", user_entity 4)
+        ∷ []) }
+    ensures reversed { told with_orders_installed
+        (map_of (sku_a ∷ (keyword order_of, map_of ((id, tempid (codes "o")) ∷ [])) ∷ []) ∷ [])
+        ≡ accepted_at 2 ((codes "o", user_entity 5) ∷ []) }
+    ensures reversed_no_ref { decision with_orders_installed
+        (map_of ((keyword (codes "line/_sku"), string (codes "A")) ∷ sku_a ∷ []) ∷ [])
+        ≡ refusal_at WrongType 0 }
+    ensures reversed_without_id { decision with_orders_installed
+        (map_of (sku_a ∷ (keyword order_of, map_of ((keyword doc, string (codes "o")) ∷ [])) ∷ [])
+        ∷ [])
+        ≡ refusal_at NestedWithoutId 0 }
+    ensures empty_collection { told with_orders_installed
+        (map_of (sku_a ∷ (keyword order_lines, vector []) ∷ []) ∷ [])
+        ≡ accepted_at 2 [] }
+    ensures nested_collection { decision with_orders_installed
+        (map_of (sku_a ∷ (keyword order_lines, vector (vector [] ∷ [])) ∷ []) ∷ [])
+        ≡ refusal_at WrongType 0 }
 {}
 
 /// With an entity go its parts, and the references of others to each of them.
 pub fn components_and_references()
-    ensures gone { changed (after (orders ∷ (map_of ((id, string (codes "o")) ∷ (keyword (codes "order/lines"), vector (map_of ((keyword (codes "line/sku"), string (codes "A")) ∷ []) ∷ map_of ((id, string (codes "b")) ∷ (keyword (codes "line/sku"), string (codes "B")) ∷ []) ∷ [])) ∷ []) ∷ map_of ((id, string (codes "n")) ∷ (keyword (codes "note/line"), string (codes "b")) ∷ []) ∷ []) ∷ [])) (retract_entity (number 17592186044420) ∷ []) ≡ (17592186044420, [], false) ∷ (17592186044420, [], false) ∷ (17592186044421, codes "A", false) ∷ (17592186044422, codes "B", false) ∷ (17592186044423, [], false) ∷ [] }
+    ensures gone { changed order_with_lines (retract_entity (user 4) ∷ [])
+        ≡ retraction (user_entity 4) []
+        ∷ retraction (user_entity 4) []
+        ∷ retraction (user_entity 5) (codes "A")
+        ∷ retraction (user_entity 6) (codes "B")
+        ∷ retraction (user_entity 7) []
+        ∷ [] }
 {}

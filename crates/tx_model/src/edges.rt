@@ -1,70 +1,137 @@
-//! Examples, by computation: beside what breaks a rule what just does not, and which of several faults is told.
-ghost use Rattle.std.specs.Prelude.{◌≡◌, ◌++◌, [], ◌∷◌, codes, true, false, Some, None};
+//! Examples, by computation: beside what breaks a rule what just does not, and which of several
+//! faults is told.
+ghost use Rattle.std.specs.Prelude.{◌≡◌, ◌++◌, [], ◌∷◌, codes, false};
 ghost use Rattle.edn_model.specs.Form.{nil, boolean, symbol};
-ghost use Rattle.fb_model.specs.FirstEntry.{first_entry};
+ghost use Rattle.fb_numbers.specs.Numbers.{user_entity};
 ghost use Rattle.tx_refusals.specs.declared.reasons.Reason.TheVariants.{NotAForm, NotAnAttribute, ProtectedAttribute, WrongType, NotAnEntity, NestedWithoutId, TempidNotAnEntity, CasMany, AttributeFixed, Full};
-ghost use Rattle.tx_model.specs.Samples.{keyword, string, number, vector, list_of, map_of, add, retract, retract_all, cas, retract_entity, install, outcome, after, after_from, told, changed, refusal_at, id, email, install_email, with_email, age, install_age, doc, orders, two_aged, many_aged, last_user, nearly_late};
+ghost use Rattle.tx_model.specs.Samples.{keyword, string, number, vector, map_of, tempid, this_transaction, user, recorded_transaction, add, cas, doc, ident, value_type, index, tx_instant, type_string, type_long, decision, refusal_at, told, accepted_at};
+ghost use Rattle.tx_model.specs.SampleHistories.{new_database, after_an_empty_transaction, order_lines, line_sku, note_line, line, named_line, with_orders_installed, symbol_attribute, with_symbol_installed, nearly_late, last_user_entity, last_user};
+ghost use Rattle.tx_model.specs.SamplePeople.{person, one_person, age, install_age, with_age_installed, two_aged, many_aged, index_ages, with_ages_indexed, rename_age};
 
 /// Names: an attribute that was installed before, a value of the type, an entity that is issued.
 pub fn names_that_are_known()
-    ensures installed_before { told (after (install_age ∷ [])) (add (string (codes "x")) age (number 1) ∷ []) ≡ Some (2, (codes "x", 17592186044418) ∷ []) }
-    ensures installed_at_once { outcome (first_entry ∷ []) (install_age ++ add (string (codes "x")) age (number 1) ∷ []) ≡ refusal_at NotAnAttribute 1 }
-    ensures instant { outcome (first_entry ∷ []) (add (string (codes "datomic.tx")) (codes "db/txInstant") (number 0) ∷ []) ≡ refusal_at ProtectedAttribute 0 }
-    ensures other_of_own { told (first_entry ∷ []) (add (string (codes "datomic.tx")) doc (string (codes "why")) ∷ []) ≡ Some (1, []) }
-    ensures cas_from_nil { told (after (install_age ∷ [])) (cas (number 17592186044417) age nil (number 1) ∷ []) ≡ Some (2, []) }
-    ensures cas_to_nil { outcome (after (install_age ∷ [])) (cas (number 17592186044417) age nil nil ∷ []) ≡ refusal_at WrongType 0 }
-    ensures by_ident { told (first_entry ∷ []) (add (string (codes "x")) (codes "db/ident") (keyword (codes "p/x")) ∷ []) ≡ Some (1, (codes "x", 17592186044417) ∷ []) }
-    ensures own_transaction { told (after ([] ∷ [])) (add (number 13194139533313) doc (string (codes "late")) ∷ []) ≡ Some (2, []) }
-    ensures next_transaction { outcome (after ([] ∷ [])) (add (number 13194139533314) doc (string (codes "early")) ∷ []) ≡ refusal_at NotAnEntity 0 }
+    ensures installed_before { told with_age_installed
+        (add (tempid (codes "x")) age (number 1) ∷ [])
+        ≡ accepted_at 2 ((codes "x", user_entity 2) ∷ []) }
+    ensures installed_at_once { decision new_database
+        (install_age ++ add (tempid (codes "x")) age (number 1) ∷ [])
+        ≡ refusal_at NotAnAttribute 1 }
+    ensures instant { decision new_database (add this_transaction tx_instant (number 0) ∷ [])
+        ≡ refusal_at ProtectedAttribute 0 }
+    ensures other_of_own { told new_database
+        (add this_transaction doc (string (codes "why")) ∷ [])
+        ≡ accepted_at 1 [] }
+    ensures cas_from_nil { told with_age_installed (cas (user 1) age nil (number 1) ∷ [])
+        ≡ accepted_at 2 [] }
+    ensures cas_to_nil { decision with_age_installed (cas (user 1) age nil nil ∷ [])
+        ≡ refusal_at WrongType 0 }
+    ensures by_ident { told new_database
+        (add (tempid (codes "x")) ident (keyword (codes "p/x")) ∷ [])
+        ≡ accepted_at 1 ((codes "x", user_entity 1) ∷ []) }
+    ensures own_transaction { told after_an_empty_transaction
+        (add (recorded_transaction 1) doc (string (codes "late")) ∷ [])
+        ≡ accepted_at 2 [] }
+    ensures next_transaction { decision after_an_empty_transaction
+        (add (recorded_transaction 2) doc (string (codes "early")) ∷ [])
+        ≡ refusal_at NotAnEntity 0 }
 {}
 
 /// What a nested map needs, and what a tempid may be.
 pub fn tempids_that_are_known()
-    ensures component { told (after (orders ∷ [])) (map_of ((keyword (codes "order/lines"), vector (map_of ((keyword (codes "line/sku"), string (codes "A")) ∷ []) ∷ [])) ∷ []) ∷ []) ≡ Some (2, []) }
-    ensures no_component { outcome (after (orders ∷ [])) (map_of ((keyword (codes "note/line"), map_of ((keyword (codes "line/sku"), string (codes "A")) ∷ [])) ∷ []) ∷ []) ≡ refusal_at NestedWithoutId 0 }
-    ensures with_id { told (after (orders ∷ [])) (map_of ((keyword (codes "note/line"), map_of ((id, string (codes "l")) ∷ (keyword (codes "line/sku"), string (codes "A")) ∷ [])) ∷ []) ∷ []) ≡ Some (2, (codes "l", 17592186044421) ∷ []) }
-    ensures one_holder_twice { told (after (install_email ∷ (with_email (codes "p") (codes "a@x") ∷ []) ∷ [])) (with_email (codes "q") (codes "a@x") ∷ with_email (codes "q") (codes "a@x") ∷ []) ≡ Some (3, (codes "q", 17592186044418) ∷ []) }
-    ensures used_and_added_to { told (after (orders ∷ [])) (add (string (codes "n")) (codes "note/line") (string (codes "l")) ∷ add (string (codes "l")) (codes "line/sku") (string (codes "A")) ∷ []) ≡ Some (2, (codes "l", 17592186044421) ∷ (codes "n", 17592186044420) ∷ []) }
-    ensures used_alone { outcome (after (orders ∷ [])) (add (string (codes "n")) (codes "note/line") (string (codes "l")) ∷ []) ≡ refusal_at TempidNotAnEntity 0 }
+    ensures component { told with_orders_installed
+        (map_of ((keyword order_lines, vector (line (codes "A") ∷ [])) ∷ []) ∷ [])
+        ≡ accepted_at 2 [] }
+    ensures no_component { decision with_orders_installed
+        (map_of ((keyword note_line, line (codes "A")) ∷ []) ∷ [])
+        ≡ refusal_at NestedWithoutId 0 }
+    ensures with_id { told with_orders_installed
+        (map_of ((keyword note_line, named_line (codes "l") (codes "A")) ∷ []) ∷ [])
+        ≡ accepted_at 2 ((codes "l", user_entity 5) ∷ []) }
+    ensures one_holder_twice { told one_person
+        (person (codes "q") (codes "a@x") ∷ person (codes "q") (codes "a@x") ∷ [])
+        ≡ accepted_at 3 ((codes "q", user_entity 2) ∷ []) }
+    ensures used_and_added_to { told with_orders_installed
+        (add (tempid (codes "n")) note_line (tempid (codes "l"))
+        ∷ add (tempid (codes "l")) line_sku (string (codes "A"))
+        ∷ [])
+        ≡ accepted_at 2 ((codes "l", user_entity 5) ∷ (codes "n", user_entity 4) ∷ []) }
+    ensures used_alone { decision with_orders_installed
+        (add (tempid (codes "n")) note_line (tempid (codes "l")) ∷ [])
+        ≡ refusal_at TempidNotAnEntity 0 }
 {}
 
 /// A cas of one value, values beside another, what may be said of the database's own entities.
 pub fn changes_that_are_allowed()
-    ensures cas_of_one { told two_aged (cas (number 17592186044418) age (number 5) (number 6) ∷ []) ≡ Some (3, []) }
-    ensures cas_of_many { outcome many_aged (cas (number 17592186044418) age (number 5) (number 6) ∷ []) ≡ refusal_at CasMany 0 }
-    ensures same_twice { told two_aged (add (number 17592186044418) age (number 6) ∷ add (number 17592186044418) age (number 6) ∷ []) ≡ Some (3, []) }
-    ensures two_of_many { told many_aged (add (number 17592186044418) age (number 6) ∷ add (number 17592186044418) age (number 7) ∷ []) ≡ Some (4, []) }
-    ensures text_of_built_in { told (first_entry ∷ []) (add (keyword doc) doc (string (codes "a text")) ∷ []) ≡ Some (1, []) }
-    ensures same_name { told (after (install_age ∷ [])) (add (keyword age) (codes "db/ident") (keyword age) ∷ []) ≡ Some (2, []) }
-    ensures same_type { told (after (install_age ∷ [])) (add (keyword age) (codes "db/valueType") (keyword (codes "db.type/long")) ∷ []) ≡ Some (2, []) }
-    ensures other_type { outcome (after (install_age ∷ [])) (add (keyword age) (codes "db/valueType") (keyword (codes "db.type/string")) ∷ []) ≡ refusal_at AttributeFixed 0 }
+    ensures cas_of_one { told two_aged (cas (user 2) age (number 5) (number 6) ∷ [])
+        ≡ accepted_at 3 [] }
+    ensures cas_of_many { decision many_aged (cas (user 2) age (number 5) (number 6) ∷ [])
+        ≡ refusal_at CasMany 0 }
+    ensures same_twice { told two_aged
+        (add (user 2) age (number 6) ∷ add (user 2) age (number 6) ∷ [])
+        ≡ accepted_at 3 [] }
+    ensures two_of_many { told many_aged
+        (add (user 2) age (number 6) ∷ add (user 2) age (number 7) ∷ [])
+        ≡ accepted_at 4 [] }
+    ensures text_of_built_in { told new_database
+        (add (keyword doc) doc (string (codes "a text")) ∷ [])
+        ≡ accepted_at 1 [] }
+    ensures same_name { told with_age_installed (add (keyword age) ident (keyword age) ∷ [])
+        ≡ accepted_at 2 [] }
+    ensures same_type { told with_age_installed (add (keyword age) value_type type_long ∷ [])
+        ≡ accepted_at 2 [] }
+    ensures other_type { decision with_age_installed
+        (add (keyword age) value_type type_string ∷ [])
+        ≡ refusal_at AttributeFixed 0 }
 {}
 
 /// The last user entity, and the last instant.
 pub fn room_that_is_left()
-    ensures no_user { outcome last_user (add (string (codes "x")) doc (string (codes "hi")) ∷ []) ≡ refusal_at Full 0 }
-    ensures no_new_user { told last_user (add (number 18691697672192) doc (string (codes "hi")) ∷ []) ≡ Some (1, []) }
-    ensures last_instant { told nearly_late [] ≡ Some (2, []) }
+    ensures no_user { decision last_user (add (tempid (codes "x")) doc (string (codes "hi")) ∷ [])
+        ≡ refusal_at Full 0 }
+    ensures no_new_user { told last_user
+        (add (number last_user_entity) doc (string (codes "hi")) ∷ [])
+        ≡ accepted_at 1 [] }
+    ensures last_instant { told nearly_late [] ≡ accepted_at 2 [] }
 {}
 
 /// The index of an attribute there and back, and what is refused then as before.
 pub fn index_there_and_back()
-    ensures there { told two_aged (add (keyword age) (codes "db/index") (boolean true) ∷ []) ≡ Some (3, []) }
-    ensures back { told (after_from two_aged ((add (keyword age) (codes "db/index") (boolean true) ∷ []) ∷ [])) (add (keyword age) (codes "db/index") (boolean false) ∷ []) ≡ Some (4, []) }
-    ensures renamed { outcome (after_from two_aged ((add (keyword age) (codes "db/index") (boolean true) ∷ []) ∷ [])) (add (keyword age) (codes "db/ident") (keyword (codes "p/years")) ∷ []) ≡ refusal_at AttributeFixed 0 }
+    ensures there { told two_aged index_ages ≡ accepted_at 3 [] }
+    ensures back { told with_ages_indexed (add (keyword age) index (boolean false) ∷ [])
+        ≡ accepted_at 4 [] }
+    ensures renamed { decision with_ages_indexed rename_age ≡ refusal_at AttributeFixed 0 }
 {}
 
 /// Symbols: neither keywords nor strings are.
 pub fn symbols()
-    ensures symbol { told (after ((install (codes "s/is") (codes "symbol") (codes "one") [] ∷ []) ∷ [])) (add (string (codes "x")) (codes "s/is") (symbol (codes "a.b/c")) ∷ []) ≡ Some (2, (codes "x", 17592186044418) ∷ []) }
-    ensures keyword { outcome (after ((install (codes "s/is") (codes "symbol") (codes "one") [] ∷ []) ∷ [])) (add (string (codes "x")) (codes "s/is") (keyword (codes "a.b/c")) ∷ []) ≡ refusal_at WrongType 0 }
-    ensures string { outcome (after ((install (codes "s/is") (codes "symbol") (codes "one") [] ∷ []) ∷ [])) (add (string (codes "x")) (codes "s/is") (string (codes "a.b/c")) ∷ []) ≡ refusal_at WrongType 0 }
+    ensures symbol { told with_symbol_installed
+        (add (tempid (codes "x")) symbol_attribute (symbol (codes "a.b/c")) ∷ [])
+        ≡ accepted_at 2 ((codes "x", user_entity 2) ∷ []) }
+    ensures keyword { decision with_symbol_installed
+        (add (tempid (codes "x")) symbol_attribute (keyword (codes "a.b/c")) ∷ [])
+        ≡ refusal_at WrongType 0 }
+    ensures string { decision with_symbol_installed
+        (add (tempid (codes "x")) symbol_attribute (string (codes "a.b/c")) ∷ [])
+        ≡ refusal_at WrongType 0 }
 {}
 
 /// Of two rules the lesser is told, wherever its form stands, and of two forms the first.
 pub fn what_is_told_of_several_faults()
-    ensures lesser_rule_behind { outcome two_aged (cas (number 17592186044418) age (number 4) (number 6) ∷ add (string (codes "x")) (codes "no/such") (number 1) ∷ []) ≡ refusal_at NotAnAttribute 1 }
-    ensures lesser_rule_in_one { outcome two_aged (cas (number 99) age (number 4) (string (codes "six")) ∷ []) ≡ refusal_at WrongType 0 }
-    ensures first_form { outcome two_aged (add (number 17592186044418) age (number 6) ∷ add (number 98) age (number 6) ∷ add (number 99) age (number 6) ∷ []) ≡ refusal_at NotAnEntity 1 }
-    ensures no_shape_behind { outcome two_aged (add (string (codes "x")) (codes "no/such") (number 1) ∷ map_of [] ∷ []) ≡ refusal_at NotAForm 1 }
+    ensures lesser_rule_behind { decision two_aged
+        (cas (user 2) age (number 4) (number 6)
+        ∷ add (tempid (codes "x")) (codes "no/such") (number 1)
+        ∷ [])
+        ≡ refusal_at NotAnAttribute 1 }
+    ensures lesser_rule_in_one { decision two_aged
+        (cas (number 99) age (number 4) (string (codes "six")) ∷ [])
+        ≡ refusal_at WrongType 0 }
+    ensures first_form { decision two_aged
+        (add (user 2) age (number 6)
+        ∷ add (number 98) age (number 6)
+        ∷ add (number 99) age (number 6)
+        ∷ [])
+        ≡ refusal_at NotAnEntity 1 }
+    ensures no_shape_behind { decision two_aged
+        (add (tempid (codes "x")) (codes "no/such") (number 1) ∷ map_of [] ∷ [])
+        ≡ refusal_at NotAForm 1 }
 {}

@@ -1,5 +1,5 @@
-//! What a transaction is, and what it does to a history, as definitions in `specs/`. The functions here are laws about
-//! them, and examples: each has an empty body, and its contract is the law.
+//! What a transaction is, and what it does to a history, as definitions in `specs/`. The functions
+//! here are laws about them, and examples: each has an empty body, and its contract is the law.
 #![tactic(auto)]
 
 mod answers;

@@ -1,4 +1,5 @@
-//! Which texts are keywords and symbols: those of well-formed values are those of the grammar of EDN.
+//! Which texts are keywords and symbols: those of well-formed values are those of the grammar of
+//! EDN.
 ghost use Rattle.std.specs.Prelude.{◌≡◌, ◌↔◌, ℕ, true, List};
 ghost use Rattle.edn_model.specs.Tokens.{IsKeyword, IsSymbol};
 ghost use Rattle.fb_values.specs.declared.facts.Value.TheVariants.{Keyword, Symbol};

@@ -12,18 +12,18 @@ use Rattle.tx_step.specs.declared.deciding.Accepted.{Accepted}
 use Rattle.tx_asks.specs.Acts.{Act, AreActs}
 
 abbrev pub Tells : TxStop → Decision → Type 0
-Tells (Refused refusal) outcome = outcome ≡ refused refusal
-Tells Memory outcome = ⊤
+Tells (Refused refusal) decision = decision ≡ refused refusal
+Tells Memory decision = ⊤
 
--- an answer as an outcome
-abbrev pub outcome_of : Result Accepted Refusal → Decision
-outcome_of (Ok done) = accepted done.entry done.tempids.items
-outcome_of (Err refusal) = refused refusal
+-- an answer as a decision
+abbrev pub decision_of : Result Accepted Refusal → Decision
+decision_of (Ok done) = accepted done.entry done.tempids.items
+decision_of (Err refusal) = refused refusal
 
 -- the refusal, or what there is without one
 abbrev pub told_or : Option Refusal → Decision → Decision
-told_or (Some refusal) outcome = refused refusal
-told_or None outcome = outcome
+told_or (Some refusal) decision = refused refusal
+told_or None decision = decision
 
 abbrev pub shaped_step : List Entry → List Form → ℤ → Guard → Decision
 shaped_step h fs reading guard =

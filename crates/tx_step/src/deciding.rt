@@ -18,7 +18,7 @@ ghost use Rattle.tx_model.specs.Transaction as transactions;
 ghost use Rattle.tx_refusals.specs.declared.reasons.Reason.TheVariants.{Barred};
 ghost use Rattle.tx_rules.specs.Cas.{acts_of};
 ghost use Rattle.tx_rules.specs.Rules.{change_rules};
-ghost use Rattle.tx_step.specs.Outcomes.{Tells, IsSomeTransaction, OfTransactions, shaped_step, outcome_of, told_or};
+ghost use Rattle.tx_step.specs.Outcomes.{Tells, IsSomeTransaction, OfTransactions, shaped_step, decision_of, told_or};
 
 use crate::guard::Guard;
 use edn_form::Edn;
@@ -142,7 +142,7 @@ fn judged<F: Facts, G: Guard<F>>(
     requires acts { IsSomeTransaction (F.history facts.now) (acts_of forms.now) }
     ensures { IfOk result (λ r. OfTransactions (F.history facts.now) (acts_of forms.now)
         (λ tx. tempids.items ≡ named_tempids tx.names
-        → outcome_of r
+        → decision_of r
         ≡ told_or (model.first_refusal (change_rules tx)) (model.under_guard (F.history facts.now)
         tx reading (G.bars guard.now (F.history facts.now) tx.changes)))) }
 {
@@ -195,7 +195,7 @@ fn recorded<F: Facts, G: Guard<F>>(
     ensures { IfOk result (λ r. (tx : transactions.Transaction)
         → tx.db ≡ db_of (F.history facts.now) → changes.now ≡ tx.changes
         → tempids.items ≡ named_tempids tx.names
-        → outcome_of r
+        → decision_of r
         ≡ model.under_guard (F.history facts.now) tx reading
         (G.bars guard.now (F.history facts.now) tx.changes)) }
 {

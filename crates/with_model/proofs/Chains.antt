@@ -29,15 +29,15 @@ Reaches (reaches h told) = Unit {0}
 Reaches (refused_at refusal at) = ⊥
 
 -- the first transaction is accepted, and the others reach the same
-record ReachesBy (h reached : List Entry) (told : List Told) (outcome : Decision) (behind : List Entry → Chain) : Type 0 where
+record ReachesBy (h reached : List Entry) (told : List Told) (decision : Decision) (behind : List Entry → Chain) : Type 0 where
   entry : Entry
   tempids : List (List ℕ × ℕ)
   others : List Told
-  outcome_is : outcome ≡ accepted entry tempids
+  decision_is : decision ≡ accepted entry tempids
   behind_is : behind (h ++ entry ∷ []) ≡ reaches reached others
   told_is : told ≡ record { t = entry.t; tempids = tempids } ∷ others
 
-reaches_by : (h reached : List Entry) (told : List Told) (outcome : Decision) (behind : List Entry → Chain) → chained h outcome behind ≡ reaches reached told → ReachesBy h reached told outcome behind
+reaches_by : (h reached : List Entry) (told : List Told) (decision : Decision) (behind : List Entry → Chain) → chained h decision behind ≡ reaches reached told → ReachesBy h reached told decision behind
 reaches_by h reached told (refused refusal) behind is = absurd (subst Reaches (sym is) tt)
 reaches_by h reached told (accepted entry tempids) behind is = go (behind (h ++ entry ∷ [])) refl is
   where
@@ -47,7 +47,7 @@ reaches_by h reached told (accepted entry tempids) behind is = go (behind (h ++ 
           entry = entry;
           tempids = tempids;
           others = others;
-          outcome_is = refl;
+          decision_is = refl;
           behind_is = behind_is ∙ ap (λ l. reaches l others) (ap (reached_in reached) same);
           told_is = sym (ap told_of same);
         }
@@ -62,7 +62,7 @@ pub chain-IsLawful : (guard : Guard) (h reached : List Entry) (asked : List Form
 chain-IsLawful guard h reached [] told lawful is = subst IsLawful (ap (reached_in reached) is) lawful
 chain-IsLawful guard h reached (first ∷ rest) told lawful is =
     let by = reaches_by h reached told (step h first least_instant guard) (λ next. chain guard next rest) is in
-    chain-IsLawful guard (h ++ by.entry ∷ []) reached rest by.others (step-IsLawful h first guard least_instant by.entry by.tempids lawful by.outcome_is) by.behind_is
+    chain-IsLawful guard (h ++ by.entry ∷ []) reached rest by.others (step-IsLawful h first guard least_instant by.entry by.tempids lawful by.decision_is) by.behind_is
 
 pub chain-begins : (guard : Guard) (h reached : List Entry) (asked : List Form) (told : List Told) → chain guard h asked ≡ reaches reached told
     → (entries : List Entry) × (reached ≡ h ++ entries) × (length entries ≡ length asked) × (length told ≡ length asked)
@@ -90,8 +90,8 @@ pub chain-append : (guard : Guard) (h : List Entry) (first more : List Form) →
 chain-append guard h [] more = sym (with_none (chain guard h more))
 chain-append guard h (asked ∷ first) more = go (step h asked least_instant guard) (λ next. chain-append guard next first more)
   where
-    go : (outcome : Decision) → ((next : List Entry) → chain guard next (first ++ more) ≡ continued guard (chain guard next first) more)
-        → chained h outcome (λ next. chain guard next (first ++ more)) ≡ continued guard (chained h outcome (λ next. chain guard next first)) more
+    go : (decision : Decision) → ((next : List Entry) → chain guard next (first ++ more) ≡ continued guard (chain guard next first) more)
+        → chained h decision (λ next. chain guard next (first ++ more)) ≡ continued guard (chained h decision (λ next. chain guard next first)) more
     go (refused refusal) each = refl
     go (accepted entry tempids) each =
         ap (with_told (record { t = entry.t; tempids = tempids } ∷ [])) (each (h ++ entry ∷ []))
@@ -132,7 +132,7 @@ at_any_clock h asked guard tried tempids reading is =
     let at = accepted_at h asked guard least_instant tried tempids is in
     (at.forms, at.entry_is, go (step h asked reading guard) refl)
   where
-    go : (outcome : Decision) → step h asked reading guard ≡ outcome
+    go : (decision : Decision) → step h asked reading guard ≡ decision
         → step h asked reading guard ≡ accepted (entry_of h (transaction h (accepted_at h asked guard least_instant tried tempids is).forms) (next_instant h reading)) tempids
     go (refused refusal) same = absurd (subst IsAccepted (sym is ∙ refused_always h asked guard refusal reading least_instant same) tt)
     go (accepted entry others) same =

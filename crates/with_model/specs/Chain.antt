@@ -1,4 +1,5 @@
--- Chains of speculative transactions: what transactions would make of a history, one after another, none of which is recorded.
+-- Chains of speculative transactions: what transactions would make of a history, one after another,
+-- none of which is recorded.
 -- Datomic, Transactions (d/with). That a filtered value has none is this project's own choice.
 use Rattle.std.specs.Prelude.{ℕ, Bool, not, ◌&&◌, List, [], ◌∷◌, ◌++◌, length, nat_eq}
 use Rattle.edn_model.specs.Form.{Form}
@@ -27,12 +28,15 @@ with_told before (refused_at refusal at) = refused_at refusal at
 -- what comes of a transaction at the history, and of those behind it
 abbrev pub chained : List Entry → Decision → (List Entry → Chain) → Chain
 chained h (refused refusal) behind = refused_at (refused refusal) (basis h)
-chained h (accepted entry tempids) behind = with_told (record { t = entry.t; tempids = tempids } ∷ []) (behind (h ++ entry ∷ []))
+chained h (accepted entry tempids) behind =
+    with_told (record { t = entry.t; tempids = tempids } ∷ []) (behind (h ++ entry ∷ []))
 
--- each at the least instant that a clock may read, so that its own instant is the last one and a millisecond
+-- each at the least instant that a clock may read, so that its own instant is the last one and a
+-- millisecond
 abbrev pub chain : Guard → List Entry → List Form → Chain
 chain guard h [] = reaches h []
-chain guard h (asked ∷ rest) = chained h (step h asked least_instant guard) (λ next. chain guard next rest)
+chain guard h (asked ∷ rest) =
+    chained h (step h asked least_instant guard) (λ next. chain guard next rest)
 
 -- more transactions behind a chain
 abbrev pub continued : Guard → Chain → List Form → Chain
@@ -43,4 +47,5 @@ continued guard (refused_at refusal at) more = refused_at refusal at
 
 -- the value is the whole database, as it is handed out
 abbrev pub is_unfiltered : Window → List (Datom → Bool) → Bool
-is_unfiltered w filters = nat_eq w.from whole.from && nat_eq w.to whole.to && not w.history && nat_eq (length filters) 0
+is_unfiltered w filters =
+    nat_eq w.from whole.from && nat_eq w.to whole.to && not w.history && nat_eq (length filters) 0

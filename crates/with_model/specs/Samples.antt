@@ -1,22 +1,40 @@
--- What is read off a chain, and a history with one text, for the examples. This project's own choice.
+-- What is read off a chain, and transactions on a history with one text, for the examples.
+-- This project's own choice.
 use Rattle.std.specs.Prelude.{ℕ, Bool, true, false, map, List, [], ◌∷◌, codes, Option, Some}
 use Rattle.edn_model.specs.Form.{Form}
-use Rattle.fb_values.specs.declared.facts.Entry.{Entry}
 use Rattle.fb_values.specs.declared.facts.Value.{Value}
 use Rattle.fb_values.specs.declared.facts.Value.TheVariants.{Str}
 use Rattle.fb_numbers.specs.Numbers as numbers
 use Rattle.fb_model.specs.History.{basis}
 use Rattle.fb_model.specs.Facts.{facts, value_of}
-use Rattle.tx_model.specs.Samples.{string, number, vector, add, doc, after}
-use Rattle.with_model.specs.Chain.{Told, Chain, reaches, refused_at}
-
--- the first user entity has the text `hi`
-abbrev pub hi : List Entry
-hi = after ((add (string (codes "x")) doc (string (codes "hi")) ∷ []) ∷ [])
+use Rattle.tx_model.specs.Samples.{string, number, vector, tempid, user, add, doc}
+use Rattle.tx_model.specs.SampleHistories.{one_text}
+use Rattle.tx_model.specs.Step.{no_guard}
+use Rattle.with_model.specs.Chain.{Told, Chain, reaches, refused_at, chain}
 
 -- a transaction that gives an entity a text
-abbrev pub text_of : ℕ → List ℕ → Form
-text_of e text = vector (add (number e) doc (string text) ∷ [])
+abbrev pub says : Form → List ℕ → Form
+says e text = vector (add e doc (string text) ∷ [])
+
+-- one that makes a second user entity
+abbrev pub new_text : Form
+new_text = says (tempid (codes "y")) (codes "1")
+
+-- one that gives the first user entity another text
+abbrev pub other_text : Form
+other_text = says (user 1) (codes "ho")
+
+-- one that gives the second user entity a text
+abbrev pub second_text : Form
+second_text = says (user 2) (codes "2")
+
+-- one that is refused, since there is no such entity
+abbrev pub no_entity_text : Form
+no_entity_text = says (number 99) (codes "2")
+
+-- what comes of these transactions where the first user entity has the text `hi`
+abbrev pub tried : List Form → Chain
+tried asked = chain no_guard one_text asked
 
 abbrev pub told_in : Chain → List (ℕ × List (List ℕ × ℕ))
 told_in (reaches h told) = map (λ (one : Told). (one.t, one.tempids)) told

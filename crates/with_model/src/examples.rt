@@ -1,28 +1,26 @@
 //! Examples, by computation.
-ghost use Rattle.std.specs.Prelude.{◌≡◌, [], ◌∷◌, ◌++◌, codes, true, false};
-ghost use Rattle.fb_numbers.specs.Numbers.{user_entity, least_instant};
-ghost use Rattle.fb_model.specs.FirstEntry.{first_entry};
+ghost use Rattle.std.specs.Prelude.{◌≡◌, [], ◌∷◌, codes, true, false};
+ghost use Rattle.fb_numbers.specs.Numbers.{user_entity};
 ghost use Rattle.view_model.specs.Window.{whole, as_of, since, with_history};
-ghost use Rattle.tx_model.specs.Step.{no_guard, step};
-ghost use Rattle.tx_model.specs.Samples.{string, number, vector, add, doc, after};
-ghost use Rattle.with_model.specs.Chain.{chain, is_unfiltered};
-ghost use Rattle.with_model.specs.Samples.{text_of, told_in, text_in, basis_in, is_refused, hi};
+ghost use Rattle.with_model.specs.Chain.{is_unfiltered};
+ghost use Rattle.with_model.specs.Samples.{told_in, text_in, basis_in, is_refused, tried, new_text, other_text, second_text, no_entity_text};
 
-/// Another text is tried: it is told, and the history that it comes to has it, while the history has its own.
+/// Another text is tried: it is told, and the history that it comes to has it, while the history
+/// has its own.
 pub fn tried_texts()
-    ensures told { told_in (chain no_guard hi (text_of 17592186044417 (codes "ho") ∷ [])) ≡ (2, []) ∷ [] }
-    ensures tried { text_in (chain no_guard hi (text_of 17592186044417 (codes "ho") ∷ [])) ≡ codes "ho" }
-    ensures none { text_in (chain no_guard hi []) ≡ codes "hi" }
-    ensures two { told_in (chain no_guard hi (vector (add (string (codes "y")) doc (string (codes "1")) ∷ []) ∷ text_of 17592186044418 (codes "2") ∷ []))
-        ≡ (2, (codes "y", 17592186044418) ∷ []) ∷ (3, []) ∷ [] }
+    ensures told { told_in (tried (other_text ∷ [])) ≡ (2, []) ∷ [] }
+    ensures tried { text_in (tried (other_text ∷ [])) ≡ codes "ho" }
+    ensures none { text_in (tried []) ≡ codes "hi" }
+    ensures two { told_in (tried (new_text ∷ second_text ∷ []))
+        ≡ (2, (codes "y", user_entity 2) ∷ []) ∷ (3, []) ∷ [] }
 {}
 
 /// The first transaction that is refused ends a chain, at the basis that the others had come to.
 pub fn refused_chains()
-    ensures second { basis_in (chain no_guard hi (vector (add (string (codes "y")) doc (string (codes "1")) ∷ []) ∷ text_of 99 (codes "2") ∷ [])) ≡ 2 }
-    ensures is_refused { is_refused (chain no_guard hi (vector (add (string (codes "y")) doc (string (codes "1")) ∷ []) ∷ text_of 99 (codes "2") ∷ [])) ≡ true }
-    ensures first { basis_in (chain no_guard hi (text_of 99 (codes "2") ∷ text_of 17592186044417 (codes "ho") ∷ [])) ≡ 1 }
-    ensures alone { is_refused (chain no_guard hi (text_of 17592186044418 (codes "2") ∷ [])) ≡ true }
+    ensures second { basis_in (tried (new_text ∷ no_entity_text ∷ [])) ≡ 2 }
+    ensures is_refused { is_refused (tried (new_text ∷ no_entity_text ∷ [])) ≡ true }
+    ensures first { basis_in (tried (no_entity_text ∷ other_text ∷ [])) ≡ 1 }
+    ensures alone { is_refused (tried (second_text ∷ [])) ≡ true }
 {}
 
 /// Which values transactions may be tried on.

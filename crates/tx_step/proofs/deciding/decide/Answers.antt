@@ -13,11 +13,11 @@ returns-in-Ok-clause-accepted g c =
     let h = g.F.Facts.history c.args.facts.now in
     let same = steps.shaped h (form_of c.args.asked.now) (forms_of c.in-Ok.forms.forms.now) c.args.reading (g.G.Guard.bars c.args.guard.now) c.in-Ok.ensures.ok c.in-Ok.forms.shaped
     ∙ ap (λ reading. shaped_step h (forms_of c.in-Ok.forms.forms.now) reading (g.G.Guard.bars c.args.guard.now)) (sym (to_z-of_z w64 c.args.reading c.ranges.reading)) in
-    subst (λ outcome. IfOk c.decide_shaped.result (λ done. outcome ≡ model.accepted done.entry done.tempids.items)) (sym same) c.decide_shaped.ensures.accepted
+    subst (λ decision. IfOk c.decide_shaped.result (λ done. decision ≡ model.accepted done.entry done.tempids.items)) (sym same) c.decide_shaped.ensures.accepted
 
 pub returns-in-Ok-clause-refused : goal.returns-in-Ok-clause-refused
 returns-in-Ok-clause-refused g c =
     let h = g.F.Facts.history c.args.facts.now in
     let same = steps.shaped h (form_of c.args.asked.now) (forms_of c.in-Ok.forms.forms.now) c.args.reading (g.G.Guard.bars c.args.guard.now) c.in-Ok.ensures.ok c.in-Ok.forms.shaped
     ∙ ap (λ reading. shaped_step h (forms_of c.in-Ok.forms.forms.now) reading (g.G.Guard.bars c.args.guard.now)) (sym (to_z-of_z w64 c.args.reading c.ranges.reading)) in
-    subst (λ outcome. IfErr c.decide_shaped.result (λ stop. Tells stop outcome)) (sym same) c.decide_shaped.ensures.refused
+    subst (λ decision. IfErr c.decide_shaped.result (λ stop. Tells stop decision)) (sym same) c.decide_shaped.ensures.refused

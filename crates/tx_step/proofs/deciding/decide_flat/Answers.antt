@@ -9,7 +9,7 @@ use Rattle.tx_asks.specs.Acts.{AreActs}
 use Rattle.tx_rules.specs.Cas.{acts_of}
 use Rattle.tx_model.specs.Step.{first_refusal, under_guard}
 use Rattle.tx_rules.specs.Rules.{change_rules}
-use Rattle.tx_step.specs.Outcomes.{IsSomeTransaction, told_or, outcome_of}
+use Rattle.tx_step.specs.Outcomes.{IsSomeTransaction, told_or, decision_of}
 use Rattle.tx_step.proofs.Steps as steps
 use Rattle.tx_step.proofs.deciding.decide_flat.Goals as goal
 
@@ -37,7 +37,7 @@ returns-in-Ok-Ok-clause-accepted g c =
     steps.judged_by_changes h fs c.args.reading (g.G.Guard.bars c.args.guard.now) c.requires.unbroken (c.in-Ok.ensures.unbroken asks c.requires.asks)
     ∙ ap (λ reading. told_or (first_refusal (change_rules (transaction h fs))) (under_guard h (transaction h fs) reading (g.G.Guard.bars c.args.guard.now h (transaction h fs).changes))) (sym read)
     ∙ sym (c.in-Ok-Ok.ensures (transaction h fs) refl acts (c.in-Ok.ensures.tempids asks c.requires.asks))
-    ∙ ap outcome_of c.in-Ok-Ok.field-0-is
+    ∙ ap decision_of c.in-Ok-Ok.field-0-is
 
 pub returns-in-Ok-Err-clause-refused : goal.returns-in-Ok-Err-clause-refused
 returns-in-Ok-Err-clause-refused g c =
@@ -49,4 +49,4 @@ returns-in-Ok-Err-clause-refused g c =
     steps.judged_by_changes h fs c.args.reading (g.G.Guard.bars c.args.guard.now) c.requires.unbroken (c.in-Ok.ensures.unbroken asks c.requires.asks)
     ∙ ap (λ reading. told_or (first_refusal (change_rules (transaction h fs))) (under_guard h (transaction h fs) reading (g.G.Guard.bars c.args.guard.now h (transaction h fs).changes))) (sym read)
     ∙ sym (c.in-Ok-Err.ensures (transaction h fs) refl acts (c.in-Ok.ensures.tempids asks c.requires.asks))
-    ∙ ap outcome_of c.in-Ok-Err.field-0-is
+    ∙ ap decision_of c.in-Ok-Err.field-0-is
