@@ -20,15 +20,19 @@ lookup a v = edn.vector (forms (a ∷ v ∷ []))
 
 -- ---- names of attributes, and entities named by an email
 
+-- :p/age
 abbrev pub age_word : Form
 age_word = edn.keyword (codes "p/age")
 
+-- :person/email
 abbrev pub email_word : Form
 email_word = edn.keyword (codes "person/email")
 
+-- :p/friend
 abbrev pub friend_word : Form
 friend_word = edn.keyword (codes "p/friend")
 
+-- :db/doc
 abbrev pub doc_word : Form
 doc_word = edn.keyword (codes "db/doc")
 
@@ -36,10 +40,11 @@ doc_word = edn.keyword (codes "db/doc")
 abbrev pub unknown_word : Form
 unknown_word = edn.keyword (codes "no/such")
 
--- [:person/email "b@x"]
+-- [:person/email address]
 abbrev pub by_email_form : List ℕ → Form
 by_email_form address = lookup email_word (edn.string address)
 
+-- -1
 abbrev pub minus_one_form : Form
 minus_one_form = edn.integer minus_one
 
@@ -49,10 +54,11 @@ idents_hidden = hides_attribute ident ∷ []
 
 -- ---- probes
 
+-- no component is given
 abbrev pub whole_index : Order → Probe
 whole_index order = record { order = order; e = None; a = None; v = None; t = None }
 
--- what is said of an entity, an attribute and a value
+-- an entity, an attribute and a value are given
 abbrev pub probe_of_three : Order → ℕ → ℕ → Value → Probe
 probe_of_three order e a v = record { order = order; e = Some e; a = Some a; v = Some v; t = None }
 
@@ -62,9 +68,11 @@ probe_of_three order e a v = record { order = order; e = Some e; a = Some a; v =
 abbrev pub friend : ℕ
 friend = user_entity 1
 
+-- who has a friend
 abbrev pub somebody : ℕ
 somebody = user_entity 2
 
+-- who is that friend
 abbrev pub the_friend : ℕ
 the_friend = user_entity 3
 

@@ -23,6 +23,7 @@ key k = edn.keyword k
 abbrev pub number : ℕ → Form
 number n = edn.integer (pos n)
 
+-- -1
 abbrev pub minus_one_form : Form
 minus_one_form = edn.integer minus_one
 

@@ -43,14 +43,15 @@ installs name kind =
 abbrev pub age : ℕ
 age = user_entity 1
 
+-- who has the age
 abbrev pub person : ℕ
 person = user_entity 2
 
--- the person is so many years old from transaction t on
+-- transaction t adds that the person is so many years old
 abbrev pub age_added : ℕ → ℕ → Datom
 age_added years t = datom person age (Long (pos years)) t true
 
--- and no longer
+-- transaction t retracts it
 abbrev pub age_retracted : ℕ → ℕ → Datom
 age_retracted years t = datom person age (Long (pos years)) t false
 
@@ -70,15 +71,19 @@ ages =
 abbrev pub email : ℕ
 email = user_entity 1
 
+-- who has `a@x`
 abbrev pub ann : ℕ
 ann = user_entity 2
 
+-- who has `b@x`
 abbrev pub ben : ℕ
 ben = user_entity 3
 
+-- who has `c@x`
 abbrev pub cleo : ℕ
 cleo = user_entity 4
 
+-- the entity has the email
 abbrev pub has_email : ℕ → List ℕ → Datom
 has_email e address = datom e email (Str address) 2 true
 
@@ -113,13 +118,15 @@ minus_one = pos 0 -ℤ pos 1
 
 -- ---- filters
 
--- no datom of the attribute, none of the entity, and those of the entity alone
+-- no datom of the attribute
 abbrev pub hides_attribute : ℕ → Datom → Bool
 hides_attribute a = λ d. not (nat_eq d.a a)
 
+-- no datom of the entity
 abbrev pub hides_entity : ℕ → Datom → Bool
 hides_entity e = λ d. not (nat_eq d.e e)
 
+-- the datoms of the entity alone
 abbrev pub shows_entity : ℕ → Datom → Bool
 shows_entity e = λ d. nat_eq d.e e
 
