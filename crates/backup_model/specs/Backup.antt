@@ -27,7 +27,8 @@ pub record IsLogWith (file : List ℕ) (entries : List Entry) : Type 0 where
 -- The journal's first fault, or the first record that holds no entry.
 pub record IsBadLog (file : List ℕ) (nth at : ℕ) : Type 0 where
   pub records : List (List ℕ)
-  pub fault : JournalBreaks log_mark records file nth at ⊎ (JournalStands log_mark records file × (entries_behind [] records ≡ bad_at nth at))
+  pub fault : JournalBreaks log_mark records file nth at
+      ⊎ (JournalStands log_mark records file × (entries_behind [] records ≡ bad_at nth at))
 
 -- The first of the entries that is not one of ours stands behind these, and its t is t.
 pub record Differs (entries ours : List Entry) (t : ℕ) : Type 0 where
@@ -36,13 +37,20 @@ pub record Differs (entries ours : List Entry) (t : ℕ) : Type 0 where
   pub behind : List Entry
   pub entries_are : entries ≡ before ++ entry ∷ behind
   pub t_is : t ≡ length before + 1
-  pub other : (ours ≡ before) ⊎ ((instead : Entry) × (more : List Entry) × (ours ≡ before ++ instead ∷ more) × (entry ≢ instead))
+  pub other : (ours ≡ before)
+      ⊎ (
+      (instead : Entry)
+      × (more : List Entry)
+      × (ours ≡ before ++ instead ∷ more)
+      × (entry ≢ instead))
 
 -- the log of a history has its entries 1 to the basis
 abbrev pub BackupSays : List ℕ → List Entry → Plan → Type 0
-BackupSays file h (appends lacking) = (entries : List Entry) × IsLogWith file entries × (drop 1 h ≡ entries ++ lacking)
+BackupSays file h (appends lacking) =
+    (entries : List Entry) × IsLogWith file entries × (drop 1 h ≡ entries ++ lacking)
 BackupSays file h (bad_target nth at) = IsBadLog file nth at
-BackupSays file h (differs_at t) = (entries : List Entry) × IsLogWith file entries × Differs entries (drop 1 h) t
+BackupSays file h (differs_at t) =
+    (entries : List Entry) × IsLogWith file entries × Differs entries (drop 1 h) t
 
 -- the records of the target with these entries behind them
 abbrev pub with_entries : List (List ℕ) → List Entry → List (List ℕ)
@@ -52,10 +60,13 @@ with_entries records entries = records ++ map entry_bytes entries
 
 -- the ids that a record's roots reach
 abbrev pub reached_ids : MergeRecord → List ℕ
-reached_ids merge = flat_map (flat_map (ids_below (with_nodes no_nodes merge))) (in_order_of_indexes merge.roots)
+reached_ids merge =
+    flat_map (flat_map (ids_below (with_nodes no_nodes merge))) (in_order_of_indexes merge.roots)
 
--- A record that may begin a file, whose one root is this one, and which has the nodes that the root reaches and no others.
+-- A record that may begin a file, whose one root is this one, and which has the nodes that the root
+-- reaches and no others.
 pub record IsCopyOf (merge : MergeRecord) (root : KeptRoot) : Type 0 where
   pub may_begin : IsTrue (is_record_over written_format no_nodes merge)
   pub root_is : kept_root (with_nodes no_nodes merge) merge ≡ root
-  pub no_others : (id : ℕ) → Contains (ids_in (with_nodes no_nodes merge)) id → Contains (reached_ids merge) id
+  pub no_others : (id : ℕ)
+      → Contains (ids_in (with_nodes no_nodes merge)) id → Contains (reached_ids merge) id

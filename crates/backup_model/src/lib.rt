@@ -1,5 +1,5 @@
-//! Backups, as definitions in `specs/`. The functions here are laws about them, and examples: each has an empty body, and
-//! its contract is the law.
+//! Backups, as definitions in `specs/`. The functions here are laws about them, and examples: each
+//! has an empty body, and its contract is the law.
 #![tactic(auto)]
 
 mod examples;

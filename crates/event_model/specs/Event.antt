@@ -8,7 +8,8 @@ use Rattle.tx_refusals.specs.declared.reasons.Refusal.{Refusal}
 use Rattle.tx_model.specs.Step.{Guard, refused, accepted, step}
 use Rattle.event_model.specs.World.{Session, Stop, World, opened, with_session}
 
--- sessions are numbered, and a form is the data of a transaction, with the reading of the clock behind it
+-- sessions are numbered, and a form is the data of a transaction, with the reading of the clock
+-- behind it
 pub data Event : Type 0 where
   -- a transaction is recorded, is refused, or its append to the log fails
   accept : ℕ → Form → ℤ → Event
@@ -53,17 +54,21 @@ synced s world = with_session s (with_snap (basis world.history)) world
 
 -- the session's transaction is recorded
 abbrev pub committed : ℕ → Entry → World → World
-committed s entry world = with_session s (with_commit entry.t) (record world { history = world.history ++ entry ∷ [] })
+committed s entry world =
+    with_session s (with_commit entry.t) (record world { history = world.history ++ entry ∷ [] })
 
 -- the append of the next entry failed
 abbrev pub stopped_at : Entry → World → World
-stopped_at entry world = record world { stop = Some (record { t = basis world.history + 1; torn = entry }) }
+stopped_at entry world =
+    record world { stop = Some (record { t = basis world.history + 1; torn = entry }) }
 
 -- ---- crashes
 
 -- what the log has after a crash: the history, and perhaps the entry whose append failed
 abbrev pub IsLogOf : World → List Entry → Type 0
-IsLogOf world h = (h ≡ world.history) ⊎ ((stop : Stop) × (world.stop ≡ Some stop) × (h ≡ world.history ++ stop.torn ∷ []))
+IsLogOf world h =
+    (h ≡ world.history)
+    ⊎ ((stop : Stop) × (world.stop ≡ Some stop) × (h ≡ world.history ++ stop.torn ∷ []))
 
 -- the trees of a root that is kept and agrees with the history, or none
 abbrev pub IsFoundIn : List ℕ → List Entry → ℕ → Type 0
@@ -78,7 +83,8 @@ pub record Crashes (before after : World) : Type 0 where
 
 -- ---- events
 
--- the event may happen to the one world, and makes the other of it: no clock tells in a refusal, so any reading will do
+-- the event may happen to the one world, and makes the other of it: no clock tells in a refusal, so
+-- any reading will do
 abbrev pub Happens : Guard → World → Event → World → Type 0
 Happens guard before (accept s asked reading) after =
     (entry : Entry) × (tempids : List (List ℕ × ℕ)) × (before.stop ≡ None)
@@ -92,16 +98,24 @@ Happens guard before (fail s asked reading) after =
     (entry : Entry) × (tempids : List (List ℕ × ℕ)) × (before.stop ≡ None)
     × (step before.history asked reading guard ≡ accepted entry tempids)
     × (after ≡ stopped_at entry (synced s before))
-Happens guard before (stopped s) after = (stop : Stop) × (before.stop ≡ Some stop) × (after ≡ synced s before)
-Happens guard before (mail s) after = after ≡ with_session s (with_mail (basis before.history)) before
+Happens guard before (stopped s) after =
+    (stop : Stop) × (before.stop ≡ Some stop) × (after ≡ synced s before)
+Happens guard before (mail s) after =
+    after ≡ with_session s (with_mail (basis before.history)) before
 Happens guard before (glance s) after = after ≡ with_session s at_its_mail before
 Happens guard before (held s) after = after ≡ before
 Happens guard before (sync s) after = after ≡ synced s before
-Happens guard before begin after = (before.merging ≡ None) × (after ≡ record before { merging = Some (basis before.history) })
-Happens guard before keep after = (c : ℕ) × (before.merging ≡ Some c) × (after ≡ record before { kept = before.kept ++ c ∷ [] })
+Happens guard before begin after =
+    (before.merging ≡ None) × (after ≡ record before { merging = Some (basis before.history) })
+Happens guard before keep after =
+    (c : ℕ) × (before.merging ≡ Some c) × (after ≡ record before { kept = before.kept ++ c ∷ [] })
 Happens guard before adopt after =
-    (c : ℕ) × (before.merging ≡ Some c) × Contains before.kept c × (after ≡ record before { adopted = c; merging = None })
-Happens guard before abandon after = (c : ℕ) × (before.merging ≡ Some c) × (after ≡ record before { merging = None })
+    (c : ℕ)
+    × (before.merging ≡ Some c)
+    × Contains before.kept c
+    × (after ≡ record before { adopted = c; merging = None })
+Happens guard before abandon after =
+    (c : ℕ) × (before.merging ≡ Some c) × (after ≡ record before { merging = None })
 Happens guard before crash after = Crashes before after
 
 -- ---- kinds of events

@@ -9,7 +9,8 @@ use Rattle.event_model.specs.Event.{Event, Happens, is_crash}
 -- the events may happen to the one world in this order, and make the other of it
 abbrev pub Runs : Guard → World → List Event → World → Type 0
 Runs guard before [] after = after ≡ before
-Runs guard before (event ∷ events) after = (between : World) × Happens guard before event between × Runs guard between events after
+Runs guard before (event ∷ events) after =
+    (between : World) × Happens guard before event between × Runs guard between events after
 
 abbrev pub HaveNoCrash : List Event → Type 0
 HaveNoCrash events = IsTrue (list_all (λ event. not (is_crash event)) events)

@@ -20,13 +20,42 @@ text bytes = vector (add (string (codes "x")) doc (string bytes) ∷ [])
 abbrev pub no_attribute : Form
 no_attribute = vector (add (string (codes "x")) (codes "no/such") (string (codes "x")) ∷ [])
 
+-- the text `a`, and the text `b`
+abbrev pub text_a : Form
+text_a = text (codes "a")
+
+abbrev pub text_b : Form
+text_b = text (codes "b")
+
+-- three sessions
+abbrev pub first : ℕ
+first = 0
+
+abbrev pub second : ℕ
+second = 1
+
+abbrev pub third : ℕ
+third = 2
+
+-- a session has the text recorded
+abbrev pub a_from : ℕ → Event
+a_from session = accept session text_a clock
+
+abbrev pub b_from : ℕ → Event
+b_from session = accept session text_b clock
+
+-- the append of a session's text fails
+abbrev pub b_fails_from : ℕ → Event
+b_fails_from session = fail session text_b clock
+
 -- two sessions have a transaction each, and of two the one fails
 abbrev pub two_accepted : List Event
-two_accepted = accept 0 (text (codes "a")) clock ∷ accept 1 (text (codes "b")) clock ∷ []
+two_accepted = a_from first ∷ b_from second ∷ []
 
 abbrev pub failed_and_crashed : List Event
-failed_and_crashed = accept 0 (text (codes "a")) clock ∷ fail 1 (text (codes "b")) clock ∷ stopped 0 ∷ crash ∷ []
+failed_and_crashed = a_from first ∷ b_fails_from second ∷ stopped first ∷ crash ∷ []
 
+-- the basis of its mail and of its snapshot, and the t of its own transactions
 abbrev pub session : ℕ → ℕ → List ℕ → Session
 session mailed snap commits = record { mailed = mailed; snap = snap; commits = commits }
 

@@ -7,7 +7,8 @@ use Rattle.fb_model.specs.History.{basis}
 use Rattle.fb_model.specs.Lawful.{IsLawful, IsLawfulAfter}
 use Rattle.event_model.specs.World.{Session, Stop, World}
 
--- the session knows of no more than there is, has seen its own transactions, and made them since the opening, one after another
+-- the session knows of no more than there is, has seen its own transactions, and made them since
+-- the opening, one after another
 pub record IsSoundSession (opening last : ℕ) (session : Session) : Type 0 where
   pub mailed : session.mailed ≤ last
   pub snap : session.snap ≤ last
@@ -34,4 +35,5 @@ pub record IsSound (world : World) : Type 0 where
   pub kept : All (λ c. c ≤ basis world.history) world.kept
   pub merging : (c : ℕ) → world.merging ≡ Some c → c ≤ basis world.history
   pub sessions : (s : ℕ) → IsSoundSession world.opening (basis world.history) (world.sessions s)
-  pub authors : (t : ℕ) → world.opening < t → t ≤ basis world.history → HasOneAuthor world.sessions t
+  pub authors : (t : ℕ)
+      → world.opening < t → t ≤ basis world.history → HasOneAuthor world.sessions t

@@ -1,4 +1,5 @@
--- A database that many sessions share, at one moment: its history, what each session has of it, and how far its trees are.
+-- A database that many sessions share, at one moment: its history, what each session has of it, and
+-- how far its trees are.
 -- This project's own choice.
 use Rattle.std.specs.Prelude.{◌≡◌, ℕ, ◌≤◌, cond, nat_eq, List, [], Option, None, All}
 use Rattle.fb_values.specs.declared.facts.Entry.{Entry}

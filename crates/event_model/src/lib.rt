@@ -1,5 +1,6 @@
-//! What may happen to a database that many sessions share, as definitions in `specs/`: a small machine of worlds and events. The
-//! functions here are laws about it, and examples: each has an empty body, and its contract is the law.
+//! What may happen to a database that many sessions share, as definitions in `specs/`: a small
+//! machine of worlds and events. The functions here are laws about it, and examples: each has an
+//! empty body, and its contract is the law.
 #![tactic(auto)]
 
 mod examples;

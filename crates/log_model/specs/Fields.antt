@@ -1,8 +1,13 @@
--- Fields: numbers, truths and texts as bytes, and what is read where one is due: a value, or the first field that does not fit.
+-- Fields: numbers, truths and texts as bytes, and what is read where one is due: a value, or the
+-- first field that does not fit.
 -- This project's own choice.
-use Rattle.std.specs.Prelude.{ℕ, zero, suc, ◌+◌, ◌*◌, ℤ, Bool, ◌&&◌, List, [], ◌∷◌, ◌++◌, length, take, drop, fold, nat_eq, nat_le, cond}
+use Rattle.std.specs.Prelude.{ℕ, ◌<◌, All, zero, suc, ◌+◌, ◌*◌, ℤ, Bool, ◌&&◌, List, [], ◌∷◌, ◌++◌, length, take, drop, fold, nat_eq, nat_le, cond}
 use Rattle.std.specs.Int.{w32, w64, w128, to_be_bytes, cast_signed, cast_unsigned, from_bool}
 use Rattle.std.specs.Str.{is_utf8}
+
+-- each is a byte
+abbrev pub AreAllBytes : List ℕ → Type 0
+AreAllBytes bytes = All (λ byte. byte < 256) bytes
 
 pub data Reading (A : Type 0) : Type 0 where
   -- a value, and the bytes behind it
@@ -21,7 +26,8 @@ mapped f (misfit rest) = misfit rest
 
 -- a field whose value passes the test: one that does not is at fault from its first byte on
 abbrev pub that_fits : {A : Type 0} → (A → Bool) → (List ℕ → Reading A) → List ℕ → Reading A
-that_fits test read bytes = and_then (read bytes) (λ a rest. cond (test a) (found a rest) (misfit bytes))
+that_fits test read bytes =
+    and_then (read bytes) (λ a rest. cond (test a) (found a rest) (misfit bytes))
 
 -- so many bytes
 abbrev pub piece : ℕ → List ℕ → Reading (List ℕ)
@@ -30,7 +36,8 @@ piece n bytes = cond (nat_le n (length bytes)) (found (take n bytes) (drop n byt
 -- so many of a kind, one behind another
 abbrev pub several : {A : Type 0} → (List ℕ → Reading A) → ℕ → List ℕ → Reading (List A)
 several read zero bytes = found [] bytes
-several read (suc n) bytes = and_then (read bytes) (λ a rest. mapped (λ more. a ∷ more) (several read n rest))
+several read (suc n) bytes =
+    and_then (read bytes) (λ a rest. mapped (λ more. a ∷ more) (several read n rest))
 
 -- nothing stands behind
 abbrev pub at_end : {A : Type 0} → Reading A → Reading A

@@ -1,4 +1,5 @@
--- Kept roots: the trees of a file of segments after each of its merges, and the newest of them that a history agrees with.
+-- Kept roots: the trees of a file of segments after each of its merges, and the newest of them that
+-- a history agrees with.
 -- This project's own choice; Datomic, Indexes, tells of the merging.
 use Rattle.std.specs.Prelude.{◌≡◌, ◌⊎◌, ℕ, List, [], ◌∷◌, ◌++◌, filter, fold, flat_map, nat_eq, Contains}
 use Rattle.fb_values.specs.declared.facts.Datom.{Datom}
@@ -19,11 +20,14 @@ abbrev pub with_nodes : Nodes → MergeRecord → Nodes
 with_nodes nodes merge = fold with_directory (fold with_leaf nodes merge.leaves) merge.directories
 
 abbrev pub leaf_datoms : Nodes → ℕ → List Datom
-leaf_datoms nodes id = flat_map (λ leaf. leaf.datoms) (filter (λ leaf. nat_eq leaf.id id) nodes.leaves)
+leaf_datoms nodes id =
+    flat_map (λ leaf. leaf.datoms) (filter (λ leaf. nat_eq leaf.id id) nodes.leaves)
 
 abbrev pub directory_datoms : Nodes → ℕ → List Datom
 directory_datoms nodes id =
-    flat_map (leaf_datoms nodes) (flat_map (λ directory. directory.leaves) (filter (λ directory. nat_eq directory.id id) nodes.directories))
+    flat_map (leaf_datoms nodes)
+    (flat_map (λ directory. directory.leaves)
+    (filter (λ directory. nat_eq directory.id id) nodes.directories))
 
 abbrev pub tree_datoms : Nodes → List ℕ → List Datom
 tree_datoms nodes ids = flat_map (directory_datoms nodes) ids
@@ -43,11 +47,13 @@ kept_root nodes merge =
 -- a bad record keeps no root, and nothing behind it counts
 abbrev pub kept_by : Nodes → MergeSays → (Nodes → List KeptRoot) → List KeptRoot
 kept_by nodes (bad_from byte) behind = []
-kept_by nodes (merges merge) behind = kept_root (with_nodes nodes merge) merge ∷ behind (with_nodes nodes merge)
+kept_by nodes (merges merge) behind =
+    kept_root (with_nodes nodes merge) merge ∷ behind (with_nodes nodes merge)
 
 abbrev pub kept_behind : Nodes → List (List ℕ) → List KeptRoot
 kept_behind nodes [] = []
-kept_behind nodes (payload ∷ records) = kept_by nodes (record_says nodes payload) (λ next. kept_behind next records)
+kept_behind nodes (payload ∷ records) =
+    kept_by nodes (record_says nodes payload) (λ next. kept_behind next records)
 
 -- the roots of a file with these records, the oldest first
 abbrev pub kept_roots : List (List ℕ) → List KeptRoot
@@ -69,14 +75,21 @@ pub record IsNewestAgreeing (h : List Entry) (kept : List KeptRoot) (root : Kept
   pub agrees : Agrees h root
   pub newest : NoneAgrees h newer
 
--- how far the trees go that the history is opened with: the newest root that agrees, or the first entry alone
+-- how far the trees go that the history is opened with: the newest root that agrees, or the first
+-- entry alone
 abbrev pub IsCoverage : List Entry → List KeptRoot → ℕ → Type 0
-IsCoverage h kept c = ((root : KeptRoot) × IsNewestAgreeing h kept root × (c ≡ root.c)) ⊎ (NoneAgrees h kept × (c ≡ 0))
+IsCoverage h kept c =
+    ((root : KeptRoot) × IsNewestAgreeing h kept root × (c ≡ root.c))
+    ⊎ (NoneAgrees h kept × (c ≡ 0))
 
 -- ---- a file
 
--- The roots that a file keeps: those of its journal's records, up to the journal's first fault where it has one.
+-- The roots that a file keeps: those of its journal's records, up to the journal's first fault
+-- where it has one.
 abbrev pub FileKeeps : List ℕ → List KeptRoot → Type 0
 FileKeeps file kept =
-    (records : List (List ℕ)) × (JournalStands segments_mark records file ⊎ ((nth : ℕ) × (at : ℕ) × JournalBreaks segments_mark records file nth at))
+    (records : List (List ℕ))
+    × (
+    JournalStands segments_mark records file
+    ⊎ ((nth : ℕ) × (at : ℕ) × JournalBreaks segments_mark records file nth at))
     × (kept ≡ kept_roots records)

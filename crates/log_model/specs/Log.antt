@@ -1,5 +1,7 @@
--- Logs: when the records of a log stand for a history, and what is wrong with them first where they stand for none.
--- Datomic, Log API (the log is the transactions in the order of t). What is told of a bad log is this project's own choice.
+-- Logs: when the records of a log stand for a history, and what is wrong with them first where they
+-- stand for none.
+-- Datomic, Log API (the log is the transactions in the order of t). What is told of a bad log is
+-- this project's own choice.
 use Rattle.std.specs.Prelude.{◌≡◌, ◌⊎◌, ℕ, ◌+◌, List, [], ◌∷◌, ◌++◌, length, drop, ⊤, Option, Some, None}
 use Rattle.std.specs.Option.{option_map_or}
 use Rattle.fb_values.specs.declared.facts.Entry.{Entry}
@@ -14,22 +16,26 @@ abbrev pub ArePayloadsOf : List Entry → List (List ℕ) → Type 0
 ArePayloadsOf [] [] = ⊤
 ArePayloadsOf [] (payload ∷ records) = ⊥
 ArePayloadsOf (entry ∷ entries) [] = ⊥
-ArePayloadsOf (entry ∷ entries) (payload ∷ records) = IsPayloadOf entry payload × ArePayloadsOf entries records
+ArePayloadsOf (entry ∷ entries) (payload ∷ records) =
+    IsPayloadOf entry payload × ArePayloadsOf entries records
 
--- The records are those of the entries 1 to the basis, each in one of the two formats: the first entry is on no log.
+-- The records are those of the entries 1 to the basis, each in one of the two formats: the first
+-- entry is on no log.
 pub record LogStands (records : List (List ℕ)) (h : List Entry) : Type 0 where
   pub lawful : IsLawful h
   pub payloads : ArePayloadsOf (drop 1 h) records
 
 -- ---- what is wrong first
 
--- the byte of the log at which a payload behind these records has its byte: mark, records, gate and length stand before it
+-- the byte of the log at which a payload behind these records has its byte: mark, records, gate and
+-- length stand before it
 abbrev pub byte_in_log : List (List ℕ) → ℕ → ℕ
 byte_in_log before byte = length log_mark + length (opened before) + 1 + 8 + byte
 
 pub data RecordsSay : Type 0 where
   hold : List Entry → RecordsSay
-  -- the first record that holds no entry, counted from 0, and the byte of the log at which its first misfit begins
+  -- the first record that holds no entry, counted from 0, and the byte of the log at which its
+  -- first misfit begins
   bad_at : ℕ → ℕ → RecordsSay
 
 abbrev pub with_entry : Entry → RecordsSay → RecordsSay
@@ -46,11 +52,13 @@ entries_behind before [] = hold []
 entries_behind before (payload ∷ records) =
     with_record before (payload_says payload) (entries_behind (before ++ payload ∷ []) records)
 
--- the t of the first entry that may not follow those before it, counted from 0, and the least law that it breaks
+-- the t of the first entry that may not follow those before it, counted from 0, and the least law
+-- that it breaks
 abbrev pub first_unlawful : List Entry → List Entry → Option (ℕ × ℕ)
 first_unlawful h [] = None
 first_unlawful h (entry ∷ rest) =
-    option_map_or (λ (law : ℕ). Some (length h, law)) (least_law h entry) (first_unlawful (h ++ entry ∷ []) rest)
+    option_map_or (λ (law : ℕ). Some (length h, law)) (least_law h entry)
+    (first_unlawful (h ++ entry ∷ []) rest)
 
 pub data LogSays : Type 0 where
   stands_for : List Entry → LogSays
@@ -81,5 +89,8 @@ pub record IsLogOf (file : List ℕ) (h : List Entry) : Type 0 where
 -- What a file says: its journal is judged before any record of it.
 abbrev pub FileSays : List ℕ → LogSays → Type 0
 FileSays file said =
-    (records : List (List ℕ)) × ((JournalStands log_mark records file × (said ≡ log_says records))
-    ⊎ ((nth : ℕ) × (at : ℕ) × JournalBreaks log_mark records file nth at × (said ≡ bad_record nth at)))
+    (records : List (List ℕ))
+    × (
+    (JournalStands log_mark records file × (said ≡ log_says records))
+    ⊎ (
+    (nth : ℕ) × (at : ℕ) × JournalBreaks log_mark records file nth at × (said ≡ bad_record nth at)))

@@ -1,4 +1,5 @@
--- Nodes of trees: leaves, directories, roots, and merge records of them, as bytes; and which ids may stand where.
+-- Nodes of trees: leaves, directories, roots, and merge records of them, as bytes; and which ids
+-- may stand where.
 -- This project's own choice.
 use Rattle.std.specs.Prelude.{ℕ, ◌^◌, Bool, not, ◌&&◌, List, [], ◌∷◌, ◌++◌, length, map, filter, flat_map, nat_eq, nat_lt, nat_le}
 use Rattle.std.specs.List.{list_all, list_any}
@@ -60,13 +61,18 @@ in_order_of_indexes roots = roots.eavt ∷ roots.aevt ∷ roots.avet ∷ roots.v
 -- the format, c, the new leaves, the new directories, and the roots
 abbrev pub record_bytes_in : ℕ → MergeRecord → List ℕ
 record_bytes_in format merge =
-    format ∷ (u32_bytes merge.c ++ list_bytes leaf_bytes merge.leaves ++ list_bytes directory_bytes merge.directories
+    format
+    ∷ (
+    u32_bytes merge.c
+    ++ list_bytes leaf_bytes merge.leaves
+    ++ list_bytes directory_bytes merge.directories
     ++ flat_map (list_bytes u64_bytes) (in_order_of_indexes merge.roots))
 
 -- ---- the nodes that a file has
 
 abbrev pub ids_in : Nodes → List ℕ
-ids_in nodes = map (λ leaf. leaf.id) nodes.leaves ++ map (λ directory. directory.id) nodes.directories
+ids_in nodes =
+    map (λ leaf. leaf.id) nodes.leaves ++ map (λ directory. directory.id) nodes.directories
 
 abbrev pub is_among : List ℕ → ℕ → Bool
 is_among ids id = list_any (nat_eq id) ids
@@ -76,23 +82,31 @@ abbrev pub is_new_id : Nodes → ℕ → Bool
 is_new_id nodes id = nat_lt id (2 ^ 62) && not (is_among (ids_in nodes) id)
 
 abbrev pub with_leaf : Nodes → Leaf → Nodes
-with_leaf nodes leaf = record { leaves = nodes.leaves ++ leaf ∷ []; directories = nodes.directories }
+with_leaf nodes leaf =
+    record { leaves = nodes.leaves ++ leaf ∷ []; directories = nodes.directories }
 
 abbrev pub with_directory : Nodes → Directory → Nodes
-with_directory nodes directory = record { leaves = nodes.leaves; directories = nodes.directories ++ directory ∷ [] }
+with_directory nodes directory =
+    record { leaves = nodes.leaves; directories = nodes.directories ++ directory ∷ [] }
 
 -- a leaf of the file that the directory does not have yet
 abbrev pub is_leaf_id : Nodes → List ℕ → ℕ → Bool
-is_leaf_id nodes before id = is_among (map (λ leaf. leaf.id) nodes.leaves) id && not (is_among before id)
+is_leaf_id nodes before id =
+    is_among (map (λ leaf. leaf.id) nodes.leaves) id && not (is_among before id)
 
 -- the directory of this id and its leaves
 abbrev pub ids_below : Nodes → ℕ → List ℕ
-ids_below nodes id = id ∷ flat_map (λ directory. directory.leaves) (filter (λ directory. nat_eq directory.id id) nodes.directories)
+ids_below nodes id =
+    id
+    ∷ flat_map (λ directory. directory.leaves)
+    (filter (λ directory. nat_eq directory.id id) nodes.directories)
 
--- a directory of the file, none of whose ids is reached from the roots yet: no two nodes of four trees have one id
+-- a directory of the file, none of whose ids is reached from the roots yet: no two nodes of four
+-- trees have one id
 abbrev pub is_directory_id : Nodes → List ℕ → ℕ → Bool
 is_directory_id nodes reached id =
-    is_among (map (λ directory. directory.id) nodes.directories) id && list_all (λ below. not (is_among reached below)) (ids_below nodes id)
+    is_among (map (λ directory. directory.id) nodes.directories) id
+    && list_all (λ below. not (is_among reached below)) (ids_below nodes id)
 
 abbrev pub reaching : Nodes → List ℕ → ℕ → List ℕ
 reaching nodes reached id = reached ++ ids_below nodes id

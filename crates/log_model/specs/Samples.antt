@@ -1,22 +1,55 @@
 -- A log with one transaction, byte by byte, for the examples. This project's own choice.
-use Rattle.std.specs.Prelude.{ℕ, ◌+◌, pos, true, List, [], ◌∷◌, ◌++◌, take, drop, codes}
+use Rattle.std.specs.Prelude.{ℕ, ◌+◌, ℤ, pos, true, List, [], ◌∷◌, ◌++◌, take, drop, codes}
 use Rattle.fb_values.specs.declared.facts.Datom.{Datom}
 use Rattle.fb_values.specs.declared.facts.Entry.{Entry}
 use Rattle.fb_values.specs.declared.facts.Value.{Value}
-use Rattle.fb_values.specs.declared.facts.Value.TheVariants.{Str, Instant}
+use Rattle.fb_values.specs.declared.facts.Value.TheVariants.{Keyword, Str, Instant, Symbol, Uri}
+use Rattle.fb_model.specs.FirstEntry.{first_entry}
 use Rattle.log_model.specs.Nodes.{MergeRecord, record_bytes_in}
 use Rattle.fb_numbers.specs.Numbers.{transaction_of, user_entity, tx_instant, doc}
+
+-- the beginning of 2024
+abbrev pub new_year : ℤ
+new_year = pos 1704067200000
 
 abbrev pub datom : ℕ → ℕ → Value → Datom
 datom e a v = record { e = e; a = a; v = v; t = 1; added = true }
 
--- transaction 1, at the beginning of 2024, with one datom of its own
+-- transaction 1, at that instant, with one datom of its own
 abbrev pub entry_with : Datom → Entry
-entry_with d = record { t = 1; instant = pos 1704067200000; datoms = datom (transaction_of 1) tx_instant (Instant (pos 1704067200000)) ∷ d ∷ [] }
+entry_with d =
+    record {
+      t = 1;
+      instant = new_year;
+      datoms = datom (transaction_of 1) tx_instant (Instant new_year) ∷ d ∷ [];
+    }
 
 -- the first user entity has the text `hi`
+abbrev pub hi : Datom
+hi = datom (user_entity 1) doc (Str (codes "hi"))
+
 abbrev pub hi_entry : Entry
-hi_entry = entry_with (datom (user_entity 1) doc (Str (codes "hi")))
+hi_entry = entry_with hi
+
+-- the history of that one transaction
+abbrev pub hi_history : List Entry
+hi_history = first_entry ∷ hi_entry ∷ []
+
+-- the same with a keyword in place of the text
+abbrev pub keyword_entry : Entry
+keyword_entry = entry_with (datom (user_entity 1) doc (Keyword (codes "hi")))
+
+-- with a text past ASCII
+abbrev pub accented_entry : Entry
+accented_entry = entry_with (datom (user_entity 1) doc (Str (0xc3 ∷ 0xa9 ∷ [])))
+
+-- with a symbol, of whatever attribute
+abbrev pub symbol_entry : Entry
+symbol_entry = entry_with (datom (user_entity 1) 9 (Symbol (codes "a.b/c")))
+
+-- with a uri
+abbrev pub uri_entry : Entry
+uri_entry = entry_with (datom (user_entity 1) 9 (Uri (codes "http://a")))
 
 abbrev pub entry_head : List ℕ
 entry_head =
@@ -51,7 +84,8 @@ hi_payload = entry_head ++ instant_datom ++ hi_datom
 -- the mark, an open gate, the length, the payload, and a closed gate: 92 bytes
 abbrev pub hi_log : List ℕ
 hi_log =
-    0x46 ∷ 0x41 ∷ 0x43 ∷ 0x54 ∷ 0x42 ∷ 0x41 ∷ 0x53 ∷ 0x45 ∷ 0x20 ∷ 0x4c ∷ 0x4f ∷ 0x47 ∷ 0x20 ∷ 0x31 ∷ 0x0a
+    0x46 ∷ 0x41 ∷ 0x43 ∷ 0x54 ∷ 0x42 ∷ 0x41 ∷ 0x53 ∷ 0x45
+    ∷ 0x20 ∷ 0x4c ∷ 0x4f ∷ 0x47 ∷ 0x20 ∷ 0x31 ∷ 0x0a
     ∷ 0x01
     ∷ 0x00 ∷ 0x00 ∷ 0x00 ∷ 0x00 ∷ 0x00 ∷ 0x00 ∷ 0x00 ∷ 0x43
     ∷ (hi_payload ++ 0x00 ∷ [])
@@ -64,7 +98,7 @@ with_byte place byte bytes = take place bytes ++ byte ∷ drop (place + 1) bytes
 abbrev pub record_with : ℕ → ℕ → List (List ℕ)
 record_with place byte = take 67 (drop 24 (with_byte place byte hi_log)) ∷ []
 
--- ---- a merge record with one leaf, which has the text `hi`, and one directory, which is the EAVT tree
+-- ---- a merge record with one leaf, which has the text `hi`, and one directory, the EAVT tree
 
 abbrev pub leaf_record : List ℕ
 leaf_record =
@@ -89,7 +123,7 @@ abbrev pub leaf_merge : MergeRecord
 leaf_merge =
     record {
       c = 1;
-      leaves = record { id = 1; datoms = datom (user_entity 1) doc (Str (codes "hi")) ∷ [] } ∷ [];
+      leaves = record { id = 1; datoms = hi ∷ [] } ∷ [];
       directories = record { id = 2; leaves = 1 ∷ [] } ∷ [];
       roots = record { eavt = 2 ∷ []; aevt = []; avet = []; vaet = [] };
     }

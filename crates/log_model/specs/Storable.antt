@@ -1,4 +1,5 @@
--- Storable entries: numbers within the ranges of their types, and texts in UTF-8 that are not too long for their lengths.
+-- Storable entries: numbers within the ranges of their types, and texts in UTF-8 that are not too
+-- long for their lengths.
 -- This project's own choice; EDN, edn-format, says which texts are keywords and symbols.
 use Rattle.std.specs.Prelude.{◌≡◌, ℕ, ◌^◌, ℤ, pos, negsuc, Bool, true, ◌&&◌, List, length, nat_eq, nat_lt, IsTrue}
 use Rattle.std.specs.List.{list_all}
@@ -43,11 +44,15 @@ abbrev pub is_storable_value : ℕ → Value → Bool
 is_storable_value format v = is_tag format (tag_of v) && is_storable_content v
 
 abbrev pub is_storable_datom : ℕ → ℕ → Datom → Bool
-is_storable_datom format t d = is_u64 d.e && is_u64 d.a && is_storable_value format d.v && nat_eq d.t t
+is_storable_datom format t d =
+    is_u64 d.e && is_u64 d.a && is_storable_value format d.v && nat_eq d.t t
 
 abbrev pub is_storable_in : ℕ → Entry → Bool
 is_storable_in format entry =
-    is_u32 entry.t && is_i64 entry.instant && is_u32 (length entry.datoms) && list_all (is_storable_datom format entry.t) entry.datoms
+    is_u32 entry.t
+    && is_i64 entry.instant
+    && is_u32 (length entry.datoms)
+    && list_all (is_storable_datom format entry.t) entry.datoms
 
 -- in the format that is written
 abbrev pub IsStorable : Entry → Type 0

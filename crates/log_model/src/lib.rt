@@ -1,5 +1,5 @@
-//! The bytes of a log and of kept roots, as definitions in `specs/`. The functions here are laws about them, and examples:
-//! each has an empty body, and its contract is the law.
+//! The bytes of a log and of kept roots, as definitions in `specs/`. The functions here are laws
+//! about them, and examples: each has an empty body, and its contract is the law.
 #![tactic(auto)]
 
 mod examples;

@@ -1,4 +1,5 @@
--- What a view has of an entity: the values of its attributes, the entities that refer to it, and its attributes' names.
+-- What a view has of an entity: the values of its attributes, the entities that refer to it, and
+-- its attributes' names.
 -- Datomic, Pull and Indexes. The order of values and of names is this project's own choice.
 use Rattle.std.specs.Prelude.{◌≡◌, ℕ, pos, Bool, false, not, ◌&&◌, List, [], ◌∷◌, map, filter, filter_map, nat_eq, cond, option_map, Option, Some, None}
 use Rattle.std.specs.Ordering.{is_lt}
@@ -48,7 +49,8 @@ abbrev pub found_forward : Db → ℕ → Option Attribute → Found
 found_forward db e None = absent
 found_forward db e (Some attribute) =
     cond (nat_eq attribute.kind type_ref)
-    (entities attribute.many attribute.component (filter_map entity_in (values_of db.seen e attribute.id)))
+    (entities attribute.many attribute.component
+    (filter_map entity_in (values_of db.seen e attribute.id)))
     (values attribute.many (values_of db.seen e attribute.id))
 
 -- the entities that refer to the entity
@@ -59,14 +61,17 @@ referring seen e a = map (λ d. d.e) (filter (λ d. nat_eq d.a a && value_eq d.v
 abbrev pub found_backward : Db → ℕ → Option Attribute → Found
 found_backward db e None = absent
 found_backward db e (Some attribute) =
-    cond (nat_eq attribute.kind type_ref) (entities (not attribute.component) false (referring db.seen e attribute.id)) absent
+    cond (nat_eq attribute.kind type_ref)
+    (entities (not attribute.component) false (referring db.seen e attribute.id)) absent
 
 -- the attribute that a name means, forward or reversed
 abbrev pub meant : Db → List ℕ → Option Attribute
 meant db name = attribute_named db.schema (cond (is_reversed name) (forward_name name) name)
 
 abbrev pub found : Db → ℕ → List ℕ → Found
-found db e name = cond (is_reversed name) (found_backward db e (meant db name)) (found_forward db e (meant db name))
+found db e name =
+    cond (is_reversed name) (found_backward db e (meant db name))
+    (found_forward db e (meant db name))
 
 -- ---- values as forms
 
@@ -88,7 +93,8 @@ form_of_value (Uri s) = edn.string s
 abbrev pub put_name : List ℕ → List (List ℕ) → List (List ℕ)
 put_name k [] = k ∷ []
 put_name k (l ∷ ls) =
-    cond (is_lt (text_cmp k l)) (k ∷ l ∷ ls) (cond (is_lt (text_cmp l k)) (l ∷ put_name k ls) (l ∷ ls))
+    cond (is_lt (text_cmp k l)) (k ∷ l ∷ ls)
+    (cond (is_lt (text_cmp l k)) (l ∷ put_name k ls) (l ∷ ls))
 
 abbrev pub names_in_order : List (List ℕ) → List (List ℕ)
 names_in_order [] = []
@@ -99,4 +105,5 @@ name_in_schema db d = option_map (λ attribute. attribute.name) (attribute_of db
 
 -- the names of the attributes that the entity has in the view
 abbrev pub names_of_entity : Db → ℕ → List (List ℕ)
-names_of_entity db e = names_in_order (filter_map (name_in_schema db) (filter (λ d. nat_eq d.e e) db.seen))
+names_of_entity db e =
+    names_in_order (filter_map (name_in_schema db) (filter (λ d. nat_eq d.e e) db.seen))

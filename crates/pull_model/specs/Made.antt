@@ -54,10 +54,12 @@ collected false (f ∷ fs) = Some f
 -- what came to nothing is left out; where none is left there is nothing
 abbrev pub gathered : Bool → List Made → Made
 gathered several list =
-    record { form = collected several (forms_made list); maps = maps_made list; depth = depth_made list }
+    record
+    { form = collected several (forms_made list); maps = maps_made list; depth = depth_made list }
 
 abbrev pub or_default : Option Form → Made → Made
-or_default default made = record { form = option_or made.form default; maps = made.maps; depth = made.depth }
+or_default default made =
+    record { form = option_or made.form default; maps = made.maps; depth = made.depth }
 
 -- ---- a map
 
@@ -77,7 +79,11 @@ pair_of key (Some value) = (key, value) ∷ []
 -- a pair more, where there is a value
 abbrev pub with_pair : Inside → Form → Made → Inside
 with_pair inside key made =
-    record { pairs = inside.pairs ++ pair_of key made.form; maps = inside.maps + made.maps; depth = max inside.depth made.depth }
+    record {
+      pairs = inside.pairs ++ pair_of key made.form;
+      maps = inside.maps + made.maps;
+      depth = max inside.depth made.depth;
+    }
 
 -- a map without a pair is nothing, but it was made
 abbrev pub map_of : List (Form × Form) → Option Form
@@ -85,4 +91,5 @@ map_of [] = None
 map_of (p ∷ ps) = Some (edn.map (pairs (p ∷ ps)))
 
 abbrev pub enclosed : Inside → Made
-enclosed inside = record { form = map_of inside.pairs; maps = inside.maps + 1; depth = inside.depth + 1 }
+enclosed inside =
+    record { form = map_of inside.pairs; maps = inside.maps + 1; depth = inside.depth + 1 }

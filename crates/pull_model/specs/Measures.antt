@@ -12,7 +12,8 @@ use Rattle.pull_model.specs.Tree.{is_on}
 abbrev pub AreInOrder : List Form → List Form → Type 0
 AreInOrder [] others = ⊤
 AreInOrder (k ∷ ks) [] = ⊥
-AreInOrder (k ∷ ks) (other ∷ others) = ((k ≡ other) × AreInOrder ks others) ⊎ AreInOrder (k ∷ ks) others
+AreInOrder (k ∷ ks) (other ∷ others) =
+    ((k ≡ other) × AreInOrder ks others) ⊎ AreInOrder (k ∷ ks) others
 
 -- no entity stands on the path twice
 abbrev pub is_path : List ℕ → Bool
@@ -21,7 +22,8 @@ is_path (n ∷ path) = not (is_on path n) && is_path path
 
 -- the database value without the facts of an attribute
 abbrev pub without_attribute : ℕ → Db → Db
-without_attribute a db = record { schema = db.schema; seen = filter (λ d. not (nat_eq d.a a)) db.seen }
+without_attribute a db =
+    record { schema = db.schema; seen = filter (λ d. not (nat_eq d.a a)) db.seen }
 
 -- ---- how far a tree can go
 

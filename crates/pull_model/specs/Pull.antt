@@ -66,4 +66,5 @@ pull h w filters form id = pull_in (db_of h w filters) w.history form id
 
 -- where `Selects` says which datoms all filters select
 abbrev pub IsPull : List Entry → Window → (Datom → Type 0) → Form → Id → Answer → Type 0
-IsPull h w Selects form id answer = (db : Db) × IsDb h w Selects db × (answer ≡ pull_in db w.history form id)
+IsPull h w Selects form id answer =
+    (db : Db) × IsDb h w Selects db × (answer ≡ pull_in db w.history form id)

@@ -47,18 +47,21 @@ limit_in f = option_map first (count_in f)
 abbrev pub with_option : Options → Option OptionName → Form → Option Options
 with_option options None value = None
 with_option options (Some as_name) value =
-    cond (is_none options.renamed) (option_map (λ (key : Form). record options { renamed = Some key }) (key_in value)) None
+    cond (is_none options.renamed)
+    (option_map (λ (key : Form). record options { renamed = Some key }) (key_in value)) None
 with_option options (Some default_name) value =
     cond (is_none options.default) (Some (record options { default = Some value })) None
 with_option options (Some limit_name) value =
-    cond (is_none options.limit) (option_map (λ (limit : Limit). record options { limit = Some limit }) (limit_in value)) None
+    cond (is_none options.limit)
+    (option_map (λ (limit : Limit). record options { limit = Some limit }) (limit_in value)) None
 
 -- names and values in turn
 abbrev pub options_from : Options → List Form → Option Options
 options_from options [] = Some options
 options_from options (name ∷ []) = None
 options_from options (name ∷ value ∷ rest) =
-    option_and_then (λ more. options_from more rest) (with_option options (option_name_in name) value)
+    option_and_then (λ more. options_from more rest)
+    (with_option options (option_name_in name) value)
 
 -- ---- items
 
@@ -67,7 +70,8 @@ plain_item name options = cond (is_own name) (own options) (attribute name optio
 
 -- a name with one option or more
 abbrev pub item_with_options : List Form → Option Item
-item_with_options (keyword name ∷ option ∷ rest) = option_map (plain_item name) (options_from no_options (option ∷ rest))
+item_with_options (keyword name ∷ option ∷ rest) =
+    option_map (plain_item name) (options_from no_options (option ∷ rest))
 item_with_options fs = None
 
 -- the key of a map specification: a name, or one with options
@@ -117,7 +121,9 @@ abbrev mutual
 
   pub specifications_of : Pairs → Option Pattern
   specifications_of no_pairs = Some no_items
-  specifications_of (pair key value rest) = both (option_map one (specification (specified key) (below_of value))) (specifications_of rest)
+  specifications_of (pair key value rest) =
+      both (option_map one (specification (specified key) (below_of value)))
+      (specifications_of rest)
 
   pub below_of : Form → Option Below
   below_of (vector fs) = option_map under (if_any (items_of fs))
@@ -127,9 +133,11 @@ abbrev mutual
 
 abbrev pub first_bad_from : ℕ → Forms → Option ℕ
 first_bad_from place no_forms = None
-first_bad_from place (form f fs) = cond (is_some (item_of f)) (first_bad_from (place + 1) fs) (Some place)
+first_bad_from place (form f fs) =
+    cond (is_some (item_of f)) (first_bad_from (place + 1) fs) (Some place)
 
--- the place of the first item of another form, a map counting once; 0 where the pattern is no vector, or is empty
+-- the place of the first item of another form, a map counting once; 0 where the pattern is no
+-- vector, or is empty
 abbrev pub first_bad_item : Form → Option ℕ
 first_bad_item (vector no_forms) = Some 0
 first_bad_item (vector fs) = first_bad_from 0 fs

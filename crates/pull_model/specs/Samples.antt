@@ -1,5 +1,5 @@
 -- Histories and forms for the examples. This project's own choice.
-use Rattle.std.specs.Prelude.{ℕ, zero, suc, ◌+◌, ℤ, pos, negsuc, true, false, List, [], ◌∷◌, ◌++◌, map, codes}
+use Rattle.std.specs.Prelude.{ℕ, zero, suc, ◌+◌, ℤ, pos, negsuc, true, false, List, [], ◌∷◌, ◌++◌, map, codes, Some, None}
 use Rattle.edn_model.specs.Form as edn
 use Rattle.edn_model.specs.Form.{Form, forms, pairs}
 use Rattle.fb_values.specs.declared.facts.Datom.{Datom}
@@ -11,8 +11,10 @@ use Rattle.fb_model.specs.Facts.{facts}
 use Rattle.view_model.specs.Window.{whole}
 use Rattle.view_model.specs.Names.{number}
 use Rattle.view_model.specs.Samples.{datom, entry_at, texts}
-use Rattle.pull_model.specs.Found.{Db}
-use Rattle.pull_model.specs.Pull.{Answer, pull}
+use Rattle.pull_model.specs.Found.{Db, db_of}
+use Rattle.pull_model.specs.Pull.{Answer, pull, made_by}
+use Rattle.pull_model.specs.Patterns.{Options, no_options, Limit, Pattern, no_items, item, Item, own, attribute, Below, usual, unlimited}
+use Rattle.pull_model.specs.Made.{Made}
 
 -- ---- forms
 
@@ -49,13 +51,50 @@ below k v = map_of ((k, v) ∷ [])
 abbrev pub with : Form → List ℕ → Form → Form
 with name option value = vector (name ∷ key option ∷ value ∷ [])
 
--- {:db/id n} of a user entity
-abbrev pub entity : ℕ → Form
-entity n = below id (int (user_entity n))
+-- [name :as new]
+abbrev pub renamed : Form → Form → Form
+renamed name new = with name (codes "as") new
 
--- what a pull of a user entity gives in the whole database
+-- [name :default value]
+abbrev pub with_default : Form → Form → Form
+with_default name value = with name (codes "default") value
+
+-- [name :limit count]
+abbrev pub with_limit : Form → Form → Form
+with_limit name count = with name (codes "limit") count
+
+-- a vector of one
+abbrev pub only : Form → Form
+only f = vector (f ∷ [])
+
+-- {:db/id n}
+abbrev pub entity : ℕ → Form
+entity n = below id (int n)
+
+-- what a pull of an entity gives in the whole database
 abbrev pub tree_of : List Entry → List Form → ℕ → Answer
-tree_of h pattern n = pull h whole [] (vector pattern) (number (user_entity n))
+tree_of h pattern n = pull h whole [] (vector pattern) (number n)
+
+-- ---- patterns as they are read
+
+-- the pattern of these items
+abbrev pub pattern_with : List Item → Pattern
+pattern_with [] = no_items
+pattern_with (i ∷ rest) = item i (pattern_with rest)
+
+-- an attribute without options
+abbrev pub bare : List ℕ → Below → Item
+bare name below = attribute name no_options below
+
+-- options of which one alone is given
+abbrev pub as_alone : Form → Options
+as_alone key = record { renamed = Some key; default = None; limit = None }
+
+abbrev pub default_alone : Form → Options
+default_alone value = record { renamed = None; default = Some value; limit = None }
+
+abbrev pub limit_alone : Limit → Options
+limit_alone limit = record { renamed = None; default = None; limit = Some limit }
 
 -- ---- attributes, installed by the first transaction
 
@@ -68,7 +107,8 @@ installed n name kind count =
 
 -- one whose values are parts
 abbrev pub installed_part : ℕ → List ℕ → ℕ → List Datom
-installed_part n name count = installed n name type_ref count ++ datom (user_entity n) is_component (Boolean true) 1 true ∷ []
+installed_part n name count =
+    installed n name type_ref count ++ datom (user_entity n) is_component (Boolean true) 1 true ∷ []
 
 -- ---- names and friends
 
@@ -83,22 +123,73 @@ friend_of = key (codes "f/_friend")
 
 abbrev pub friend_schema : List Entry
 friend_schema =
-    first_entry ∷ entry_at 1 1000 (installed 1 (codes "f/name") type_string cardinality_one ++ installed 2 (codes "f/friend") type_ref cardinality_many) ∷ []
+    first_entry
+    ∷ entry_at 1 1000 (
+    installed 1 (codes "f/name") type_string cardinality_one
+    ++ installed 2 (codes "f/friend") type_ref cardinality_many)
+    ∷ []
+
+-- three people
+abbrev pub ann : ℕ
+ann = user_entity 3
+
+abbrev pub ben : ℕ
+ben = user_entity 4
+
+abbrev pub cleo : ℕ
+cleo = user_entity 5
 
 abbrev pub has_name : ℕ → List ℕ → Datom
-has_name n s = datom (user_entity n) (user_entity 1) (Str s) 2 true
+has_name e s = datom e (user_entity 1) (Str s) 2 true
 
 abbrev pub has_friend : ℕ → ℕ → Datom
-has_friend n other = datom (user_entity n) (user_entity 2) (Ref (user_entity other)) 2 true
+has_friend e other = datom e (user_entity 2) (Ref other) 2 true
 
--- A and B are friends
+-- Ann and Ben are friends, and have the names `A` and `B`
 abbrev pub friends : List Entry
-friends = friend_schema ++ entry_at 2 2000 (has_name 3 (codes "A") ∷ has_friend 3 4 ∷ has_name 4 (codes "B") ∷ has_friend 4 3 ∷ []) ∷ []
+friends =
+    friend_schema
+    ++ entry_at 2 2000
+    (has_name ann (codes "A") ∷ has_friend ann ben
+    ∷ has_name ben (codes "B") ∷ has_friend ben ann
+    ∷ [])
+    ∷ []
 
--- A has two friends, of whom only the second has a name
+-- Ann has two friends, of whom only Cleo has a name, `C`
 abbrev pub nameless_friend : List Entry
 nameless_friend =
-    friend_schema ++ entry_at 2 2000 (has_name 3 (codes "A") ∷ has_friend 3 4 ∷ has_friend 3 5 ∷ has_friend 4 3 ∷ has_name 5 (codes "C") ∷ []) ∷ []
+    friend_schema
+    ++ entry_at 2 2000
+    (has_name ann (codes "A") ∷ has_friend ann ben ∷ has_friend ann cleo
+    ∷ has_friend ben ann
+    ∷ has_name cleo (codes "C")
+    ∷ [])
+    ∷ []
+
+-- the pair that tells a name
+abbrev pub name_is : List ℕ → Form × Form
+name_is s = (name, text s)
+
+-- the pair that tells the one friend
+abbrev pub friend_is : Form → Form × Form
+friend_is f = (friend, only f)
+
+-- the pair that tells the one whose friend it is
+abbrev pub friend_of_is : Form → Form × Form
+friend_of_is f = (friend_of, only f)
+
+-- {:f/name s}
+abbrev pub named : List ℕ → Form
+named s = map_of (name_is s ∷ [])
+
+-- the names of somebody and of all friends
+abbrev pub names_of_friends : Pattern
+names_of_friends =
+    pattern_with (bare (codes "f/name") usual ∷ bare (codes "f/friend") unlimited ∷ [])
+
+-- what a pattern makes of Ann
+abbrev pub made_for_ann : Pattern → Made
+made_for_ann pattern = made_by (db_of friends whole []) pattern ann
 
 -- ---- orders, whose lines are their parts, and a note on a line
 
@@ -111,14 +202,35 @@ order_of = key (codes "order/_lines")
 abbrev pub sku : Form
 sku = key (codes "line/sku")
 
+-- an order of two lines, and a note on the second of them
+abbrev pub the_order : ℕ
+the_order = user_entity 4
+
+abbrev pub first_line : ℕ
+first_line = user_entity 5
+
+abbrev pub second_line : ℕ
+second_line = user_entity 6
+
+abbrev pub the_note : ℕ
+the_note = user_entity 7
+
 abbrev pub order_facts : List Datom
 order_facts =
-    datom (user_entity 4) (user_entity 1) (Ref (user_entity 5)) 2 true
-    ∷ datom (user_entity 4) (user_entity 1) (Ref (user_entity 6)) 2 true
-    ∷ datom (user_entity 5) (user_entity 2) (Str (codes "A")) 2 true
-    ∷ datom (user_entity 6) (user_entity 2) (Str (codes "B")) 2 true
-    ∷ datom (user_entity 7) (user_entity 3) (Ref (user_entity 6)) 2 true
+    datom the_order (user_entity 1) (Ref first_line) 2 true
+    ∷ datom the_order (user_entity 1) (Ref second_line) 2 true
+    ∷ datom first_line (user_entity 2) (Str (codes "A")) 2 true
+    ∷ datom second_line (user_entity 2) (Str (codes "B")) 2 true
+    ∷ datom the_note (user_entity 3) (Ref second_line) 2 true
     ∷ []
+
+-- {:db/id n :line/sku s}
+abbrev pub line_form : ℕ → List ℕ → Form
+line_form n s = map_of ((id, int n) ∷ (sku, text s) ∷ [])
+
+-- both lines as they are told whole
+abbrev pub both_lines : Form
+both_lines = vector (line_form first_line (codes "A") ∷ line_form second_line (codes "B") ∷ [])
 
 abbrev pub retraction : Datom → Datom
 retraction d = record d { t = 3; added = false }
@@ -130,7 +242,10 @@ retractions (d ∷ ds) = retraction d ∷ retractions ds
 abbrev pub orders : List Entry
 orders =
     first_entry
-    ∷ entry_at 1 1000 (installed_part 1 (codes "order/lines") cardinality_many ++ installed 2 (codes "line/sku") type_string cardinality_one ++ installed 3 (codes "note/line") type_ref cardinality_one)
+    ∷ entry_at 1 1000 (
+    installed_part 1 (codes "order/lines") cardinality_many
+    ++ installed 2 (codes "line/sku") type_string cardinality_one
+    ++ installed 3 (codes "note/line") type_ref cardinality_one)
     ∷ entry_at 2 2000 order_facts
     ∷ []
 
@@ -150,33 +265,84 @@ abbrev pub next : Form
 next = key (codes "c/next")
 
 abbrev pub has_part : ℕ → ℕ → Datom
-has_part n other = datom (user_entity n) (user_entity 1) (Ref (user_entity other)) 2 true
+has_part e other = datom e (user_entity 1) (Ref other) 2 true
 
 abbrev pub is_next_to : ℕ → ℕ → Datom
-is_next_to n other = datom (user_entity n) (user_entity 2) (Ref (user_entity other)) 2 true
+is_next_to e other = datom e (user_entity 2) (Ref other) 2 true
 
 abbrev pub part_schema : List Entry
 part_schema =
-    first_entry ∷ entry_at 1 1000 (installed_part 1 (codes "c/part") cardinality_many ++ installed 2 (codes "c/next") type_ref cardinality_one) ∷ []
+    first_entry
+    ∷ entry_at 1 1000 (
+    installed_part 1 (codes "c/part") cardinality_many
+    ++ installed 2 (codes "c/next") type_ref cardinality_one)
+    ∷ []
 
--- 3 and 4 are parts of each other, and 4 is next to 3
+-- three entities
+abbrev pub left : ℕ
+left = user_entity 3
+
+abbrev pub right : ℕ
+right = user_entity 4
+
+abbrev pub middle : ℕ
+middle = user_entity 5
+
+-- the left and the right are parts of each other, and the right is next to the left
 abbrev pub circle : List Entry
-circle = part_schema ++ entry_at 2 2000 (has_part 3 4 ∷ is_next_to 3 4 ∷ has_part 4 3 ∷ []) ∷ []
+circle =
+    part_schema
+    ++ entry_at 2 2000 (has_part left right ∷ is_next_to left right ∷ has_part right left ∷ [])
+    ∷ []
 
--- 5 is a part of 3 and of 4, and 4 and 5 are next to each other
+-- the right, which is told inside the left, with the left in it again
+abbrev pub right_in_left : Form
+right_in_left = map_of ((id, int right) ∷ (part, only (entity left)) ∷ [])
+
+-- the middle is a part of the left and of the right, and the right and the middle are next to each
+-- other
 abbrev pub two_wholes : List Entry
-two_wholes = part_schema ++ entry_at 2 2000 (has_part 3 5 ∷ has_part 4 5 ∷ is_next_to 4 5 ∷ is_next_to 5 4 ∷ []) ∷ []
+two_wholes =
+    part_schema
+    ++ entry_at 2 2000
+    (has_part left middle ∷ has_part right middle
+    ∷ is_next_to right middle ∷ is_next_to middle right
+    ∷ [])
+    ∷ []
 
 -- ---- two names of which the later attribute's is the first by its bytes
+
+-- the entity of both names
+abbrev pub twice_named : ℕ
+twice_named = user_entity 3
 
 abbrev pub two_names : List Entry
 two_names =
     first_entry
-    ∷ entry_at 1 1000 (installed 1 (codes "a/b") type_string cardinality_one ++ installed 2 (codes "a.b/c") type_string cardinality_one)
-    ∷ entry_at 2 2000 (datom (user_entity 3) (user_entity 1) (Str (codes "1")) 2 true ∷ datom (user_entity 3) (user_entity 2) (Str (codes "2")) 2 true ∷ [])
+    ∷ entry_at 1 1000 (
+    installed 1 (codes "a/b") type_string cardinality_one
+    ++ installed 2 (codes "a.b/c") type_string cardinality_one)
+    ∷ entry_at 2 2000 (
+    datom twice_named (user_entity 1) (Str (codes "1")) 2 true
+    ∷ datom twice_named (user_entity 2) (Str (codes "2")) 2 true
+    ∷ [])
     ∷ []
 
+-- the pairs `:a/b "1"` and `:a.b/c "2"`
+abbrev pub one_is_told : Form × Form
+one_is_told = (key (codes "a/b"), text (codes "1"))
+
+abbrev pub two_is_told : Form × Form
+two_is_told = (key (codes "a.b/c"), text (codes "2"))
+
 -- ---- a text, and a uri
+
+abbrev pub doc_word : Form
+doc_word = key (codes "db/doc")
+
+-- the name of no attribute
+abbrev pub unknown : Form
+unknown = key (codes "x/y")
 
 abbrev pub home : Form
 home = key (codes "u/home")
@@ -204,26 +370,38 @@ abbrev pub some_number : Form
 some_number = key (codes "x/n")
 
 abbrev number_schema : List Datom
-number_schema = facts (first_entry ∷ entry_at 1 1000 (installed 1 (codes "x/n") type_long cardinality_many) ∷ [])
+number_schema =
+    facts
+    (first_entry ∷ entry_at 1 1000 (installed 1 (codes "x/n") type_long cardinality_many) ∷ [])
+
+-- the entity that has the numbers
+abbrev pub numbered : ℕ
+numbered = user_entity 2
 
 abbrev pub has_number : ℤ → Datom
-has_number z = datom (user_entity 2) (user_entity 1) (Long z) 2 true
+has_number z = datom numbered (user_entity 1) (Long z) 2 true
 
 -- -1, and so many from 0 on
 abbrev pub numbers : ℕ → Db
-numbers n = record { schema = number_schema; seen = map has_number (negsuc 0 ∷ map pos (counted 0 n)) }
+numbers n =
+    record { schema = number_schema; seen = map has_number (negsuc 0 ∷ map pos (counted 0 n)) }
 
 -- so many from 0 on, as a filter that hides negative numbers leaves them
 abbrev pub numbers_hidden_below_0 : ℕ → Db
-numbers_hidden_below_0 n = record { schema = number_schema; seen = map has_number (map pos (counted 0 n)) }
+numbers_hidden_below_0 n =
+    record { schema = number_schema; seen = map has_number (map pos (counted 0 n)) }
 
 abbrev pub number_forms : List ℤ → List Form
 number_forms zs = map (λ z. edn.integer z) zs
 
--- the entities from the third on, each next to the one behind it, so many
+-- the user entities from the third on, each next to the one behind it, so many
 abbrev pub chain : ℕ → Db
 chain n =
     record {
       schema = facts part_schema;
-      seen = map (λ k. is_next_to k (k + 1)) (counted 3 n);
+      seen = map (λ k. is_next_to (user_entity k) (user_entity (k + 1))) (counted 3 n);
     }
+
+-- the entities of a chain, each inside the one before
+abbrev pub all_behind : Pattern
+all_behind = pattern_with (bare (codes "c/next") unlimited ∷ own no_options ∷ [])

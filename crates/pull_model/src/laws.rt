@@ -29,44 +29,78 @@ pub fn a_pattern_has_no_bad_item()
 
 /// The keys of a tree stand in the order of the items, and no two are alike.
 pub fn keys_stand_once_and_in_the_order_of_items()
-    ensures once { (trees : Pattern → List ℕ → ℕ → Made) (db : Db) (pattern : Pattern) (above : List ℕ) (e : ℕ) → distinct (keys (pairs (inside trees db pattern above e).pairs)) ≡ true }
-    ensures in_order { (trees : Pattern → List ℕ → ℕ → Made) (db : Db) (pattern : Pattern) (above : List ℕ) (e : ℕ) → AreInOrder (map (λ p. p.0) (inside trees db pattern above e).pairs) (map (λ p. key_of_item p.1) (items_from db e pattern 0 pattern)) }
+    ensures once { (trees : Pattern → List ℕ → ℕ → Made) (db : Db) (pattern : Pattern)
+        (above : List ℕ) (e : ℕ)
+        → distinct (keys (pairs (inside trees db pattern above e).pairs)) ≡ true }
+    ensures in_order { (trees : Pattern → List ℕ → ℕ → Made) (db : Db) (pattern : Pattern)
+        (above : List ℕ) (e : ℕ)
+        → AreInOrder (map (λ p. p.0) (inside trees db pattern above e).pairs)
+        (map (λ p. key_of_item p.1) (items_from db e pattern 0 pattern)) }
 {}
 
-/// An attribute whose facts a filter hides is told as the name of no attribute is: by its default or not at all.
+/// An attribute whose facts a filter hides is told as the name of no attribute is: by its default
+/// or not at all.
 pub fn a_hidden_attribute_is_absent()
-    ensures hidden { (trees : Pattern → List ℕ → ℕ → Made) (db : Db) (pattern : Pattern) (above : List ℕ) (e place : ℕ) (name : List ℕ) (options : Options) (below : Below) (a : Attribute)
-        → meant db name ≡ Some a → made_of trees (without_attribute a.id db) pattern above e place (attribute name options below) ≡ or_default options.default nothing }
-    ensures no_attribute { (trees : Pattern → List ℕ → ℕ → Made) (db : Db) (pattern : Pattern) (above : List ℕ) (e place : ℕ) (name : List ℕ) (options : Options) (below : Below)
-        → meant db name ≡ None → made_of trees db pattern above e place (attribute name options below) ≡ or_default options.default nothing }
+    ensures hidden { (trees : Pattern → List ℕ → ℕ → Made) (db : Db) (pattern : Pattern)
+        (above : List ℕ) (e place : ℕ) (name : List ℕ) (options : Options) (below : Below)
+        (a : Attribute)
+        → meant db name ≡ Some a
+        → made_of trees (without_attribute a.id db) pattern above e place
+        (attribute name options below)
+        ≡ or_default options.default nothing }
+    ensures no_attribute { (trees : Pattern → List ℕ → ℕ → Made) (db : Db) (pattern : Pattern)
+        (above : List ℕ) (e place : ℕ) (name : List ℕ) (options : Options) (below : Below)
+        → meant db name ≡ None
+        → made_of trees db pattern above e place (attribute name options below)
+        ≡ or_default options.default nothing }
 {}
 
 /// A limit counts the values that the view shows.
 pub fn a_limit_counts_after_the_filters()
-    ensures { (trees : Pattern → List ℕ → ℕ → Made) (db : Db) (pattern : Pattern) (above : List ℕ) (e place : ℕ) (name : List ℕ) (options : Options) (below : Below) (a : Attribute)
-        → is_reversed name ≡ false → meant db name ≡ Some a → nat_eq a.kind type_ref ≡ false → a.many ≡ true
-        → (made_of trees db pattern above e place (attribute name options below)).form ≡ option_or (collected true (map form_of_value (limited (limit_of options) (values_of db.seen e a.id)))) options.default }
+    ensures { (trees : Pattern → List ℕ → ℕ → Made) (db : Db) (pattern : Pattern) (above : List ℕ)
+        (e place : ℕ) (name : List ℕ) (options : Options) (below : Below) (a : Attribute)
+        → is_reversed name ≡ false → meant db name ≡ Some a → nat_eq a.kind type_ref ≡ false
+        → a.many ≡ true
+        → (made_of trees db pattern above e place (attribute name options below)).form
+        ≡ option_or
+        (collected true (map form_of_value (limited (limit_of options) (values_of db.seen e a.id))))
+        options.default }
 {}
 
 /// No entity stands twice on a path: how trees are made where one does tells in nothing.
 pub fn no_entity_is_twice_on_a_path()
-    ensures { (trees others : Pattern → List ℕ → ℕ → Made) (db : Db) (pattern : Pattern) (above : List ℕ) (e : ℕ)
-        → ((inner : Pattern) (path : List ℕ) (n : ℕ) → is_path (n ∷ path) ≡ true → others inner path n ≡ trees inner path n) → is_path (e ∷ above) ≡ true
+    ensures { (trees others : Pattern → List ℕ → ℕ → Made) (db : Db) (pattern : Pattern)
+        (above : List ℕ) (e : ℕ)
+        → (
+        (inner : Pattern) (path : List ℕ) (n : ℕ) → is_path (n ∷ path) ≡ true
+        → others inner path n ≡ trees inner path n) → is_path (e ∷ above) ≡ true
         → inside others db pattern above e ≡ inside trees db pattern above e }
 {}
 
-/// A tree ends, whatever refers to what: with more room than its pattern and its facts call for it is the same.
+/// A tree ends, whatever refers to what: with more room than its pattern and its facts call for it
+/// is the same.
 pub fn a_tree_is_finite()
-    ensures { (db : Db) (pattern : Pattern) (e more : ℕ) → tree (most_levels db pattern + more) db pattern [] e ≡ tree (most_levels db pattern) db pattern [] e }
+    ensures { (db : Db) (pattern : Pattern) (e more : ℕ)
+        → tree (most_levels db pattern + more) db pattern [] e
+        ≡ tree (most_levels db pattern) db pattern [] e }
 {}
 
 /// What a map inside 256 others holds tells in nothing: with more room the answer is the same.
 pub fn the_room_is_enough()
-    ensures { (db : Db) (pattern : Pattern) (e more : ℕ) → answered (tree (most_around + more) db pattern [] e) ≡ answered (tree most_around db pattern [] e) }
+    ensures { (db : Db) (pattern : Pattern) (e more : ℕ)
+        → answered (tree (most_around + more) db pattern [] e)
+        ≡ answered (tree most_around db pattern [] e) }
 {}
 
-/// The computed answer is one that a pull is to give, and there is no other: the schema and the facts in view decide it.
+/// The computed answer is one that a pull is to give, and there is no other: the schema and the
+/// facts in view decide it.
 pub fn a_pull_has_one_answer()
-    ensures is_pull { (h : List Entry) (w : Window) (filters : List (Datom → Bool)) (form : Form) (id : Id) → IsLawful h → IsPull h w (λ d. IsTrue (is_selected_by filters d)) form id (pull h w filters form id) }
-    ensures one { (a b : Db) (in_history : Bool) (form : Form) (id : Id) → a.schema ≡ b.schema → IsTrue (rises Eavt a.seen) → IsTrue (rises Eavt b.seen) → ((d : Datom) → Contains a.seen d ↔ Contains b.seen d) → pull_in a in_history form id ≡ pull_in b in_history form id }
+    ensures is_pull { (h : List Entry) (w : Window) (filters : List (Datom → Bool)) (form : Form)
+        (id : Id)
+        → IsLawful h
+        → IsPull h w (λ d. IsTrue (is_selected_by filters d)) form id (pull h w filters form id) }
+    ensures one { (a b : Db) (in_history : Bool) (form : Form) (id : Id)
+        → a.schema ≡ b.schema → IsTrue (rises Eavt a.seen) → IsTrue (rises Eavt b.seen)
+        → ((d : Datom) → Contains a.seen d ↔ Contains b.seen d)
+        → pull_in a in_history form id ≡ pull_in b in_history form id }
 {}

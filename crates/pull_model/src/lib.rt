@@ -1,5 +1,6 @@
-//! What a pull is, as definitions in `specs/`: patterns, the tree that a pattern gives of an entity in a view, and what is
-//! refused. The functions here are laws about them, and examples: each has an empty body, and its contract is the law.
+//! What a pull is, as definitions in `specs/`: patterns, the tree that a pattern gives of an entity
+//! in a view, and what is refused. The functions here are laws about them, and examples: each has
+//! an empty body, and its contract is the law.
 #![tactic(auto)]
 
 mod cycles;

@@ -1,4 +1,5 @@
--- Which entity a name finds in a view, where filters are predicates: a filter may not tell by any test what it selects.
+-- Which entity a name finds in a view, where filters are predicates: a filter may not tell by any
+-- test what it selects.
 -- Datomic, Schema (entity identifiers) and Database Filters.
 use Rattle.std.specs.Prelude.{◌≡◌, ◌≤◌, ℕ, List, IsTrue, Option, Some, None}
 use Rattle.fb_values.specs.declared.facts.Datom.{Datom}
@@ -12,7 +13,8 @@ use Rattle.view_model.specs.View.{InView}
 use Rattle.view_model.specs.Names.{Id, number, ident, lookup}
 
 -- the entity has the value in the view without history
-pub record Has (h : List Entry) (w : Window) (Selects : Datom → Type 0) (a : ℕ) (v : Value) (e : ℕ) : Type 0 where
+pub record Has (h : List Entry) (w : Window) (Selects : Datom → Type 0) (a : ℕ) (v : Value)
+    (e : ℕ) : Type 0 where
   pub datom : Datom
   pub in_view : InView h (without_history w) Selects datom
   pub says : IsTrue (is_of e a v datom)
@@ -20,7 +22,8 @@ pub record Has (h : List Entry) (w : Window) (Selects : Datom → Type 0) (a : �
 -- the least entity that has the value; none where no entity has it
 abbrev pub IsHolder : List Entry → Window → (Datom → Type 0) → ℕ → Value → Option ℕ → Type 0
 IsHolder h w Selects a v None = (e : ℕ) → Has h w Selects a v e → ⊥
-IsHolder h w Selects a v (Some e) = Has h w Selects a v e × ((other : ℕ) → Has h w Selects a v other → e ≤ other)
+IsHolder h w Selects a v (Some e) =
+    Has h w Selects a v e × ((other : ℕ) → Has h w Selects a v other → e ≤ other)
 
 -- the entity that a name finds: a number is itself
 abbrev pub IsNamed : List Entry → Window → (Datom → Type 0) → Id → Option ℕ → Type 0

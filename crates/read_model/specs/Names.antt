@@ -20,14 +20,15 @@ greatest_number = 9223372036854775807
 -- a unique attribute and a value of its type
 abbrev pub lookup_by : Form → Attribute → Option Id
 lookup_by f attribute =
-    cond (nat_eq attribute.uniqueness 0) None (option_map (lookup attribute.id) (value_in attribute.kind f))
+    cond (nat_eq attribute.uniqueness 0) None
+    (option_map (lookup attribute.id) (value_in attribute.kind f))
 
 abbrev pub lookup_of : List Datom → Option (List ℕ × Form) → Option Id
 lookup_of facts None = None
 lookup_of facts (Some pair) = option_and_then (lookup_by pair.1) (attribute_named facts pair.0)
 
--- the name that a form is, by the facts of the whole history, which no filter hides: an integer, a keyword, or a vector of a
--- unique attribute's keyword and a value
+-- the name that a form is, by the facts of the whole history, which no filter hides: an integer, a
+-- keyword, or a vector of a unique attribute's keyword and a value
 abbrev pub id_in : List Datom → Form → Option Id
 id_in facts (edn.integer (pos n)) = cond (nat_le n greatest_number) (Some (number n)) None
 id_in facts (edn.keyword k) = Some (ident k)

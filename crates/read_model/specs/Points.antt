@@ -1,5 +1,7 @@
--- Points in time as a command gives them: the ends that as-of and since take, and the two ends of a range of the log.
--- Datomic, Database Filters (a t, a transaction or an instant) and Log API (tx-range: from the start on, before the end).
+-- Points in time as a command gives them: the ends that as-of and since take, and the two ends of a
+-- range of the log.
+-- Datomic, Database Filters (a t, a transaction or an instant) and Log API (tx-range: from the
+-- start on, before the end).
 use Rattle.std.specs.Prelude.{ℕ, ◌+◌, ◌-◌, ℤ, pos, not, ◌&&◌, List, filter, length, max, nat_le, int_le, cond, Option, Some, None, option_map, Result, Ok, Err}
 use Rattle.std.specs.Option.{ok_or}
 use Rattle.edn_model.specs.Form as edn
@@ -16,7 +18,8 @@ bad_point at = record { reason = BadPoint; at = at }
 
 -- ---- as-of and since
 
--- the end of the point that a form is: an integer is a t or the entity of a transaction; another form is no point
+-- the end of the point that a form is: an integer is a t or the entity of a transaction; another
+-- form is no point
 abbrev pub end_of : List Entry → Form → Option ℕ
 end_of h (edn.integer (pos n)) = end_of_number n
 end_of h (edn.instant z) = Some (end_of_instant h z)
@@ -32,13 +35,15 @@ point_in h f = ok_or (end_of h f) (bad_point 1)
 abbrev pub t_of : ℕ → Option ℕ
 t_of n =
     cond (nat_le n greatest_t) (Some n)
-    (cond (nat_le (transaction_of 0) n && nat_le n (transaction_of greatest_t)) (Some (n - transaction_of 0)) None)
+    (cond (nat_le (transaction_of 0) n && nat_le n (transaction_of greatest_t))
+    (Some (n - transaction_of 0)) None)
 
 -- how many transactions were recorded before an instant, the first entry among them
 abbrev pub count_before : List Entry → ℤ → ℕ
 count_before h instant = length (filter (λ entry. not (int_le instant entry.instant)) h)
 
--- an integer is a t or the entity of a transaction; an instant stands for the first t that is not before it
+-- an integer is a t or the entity of a transaction; an instant stands for the first t that is not
+-- before it
 abbrev pub bound_of : List Entry → Form → Option ℕ
 bound_of h (edn.integer (pos n)) = t_of n
 bound_of h (edn.instant z) = Some (count_before h z)

@@ -19,7 +19,8 @@ pub trait Selection {
     ghost selects: { Datom → Type 0 };
 }
 
-/// The end of a point is behind the t that the log's range takes it for: behind a t, and behind the last instant up to one.
+/// The end of a point is behind the t that the log's range takes it for: behind a t, and behind the
+/// last instant up to one.
 pub fn points_agree()
     ensures numbers { (n : ℕ) → end_of_number n ≡ option_map (λ t. t + 1) (t_of n) }
     ensures instants { (h : List Entry) (z : ℤ) → end_of_instant h z ≡ count_before h (z +ℤ pos 1) }
@@ -27,27 +28,43 @@ pub fn points_agree()
 
 /// Under filters that are any predicates a name finds one entity or none.
 pub fn a_name_finds_one_entity<S: Selection>()
-    ensures { (h : List Entry) (w : Window) (id : Id) (x y : Option ℕ) → IsNamed h w S.selects id x → IsNamed h w S.selects id y → x ≡ y }
+    ensures { (h : List Entry) (w : Window) (id : Id) (x y : Option ℕ)
+        → IsNamed h w S.selects id x → IsNamed h w S.selects id y → x ≡ y }
 {}
 
 /// Where filters are tests, a name finds the entity that it has by the facts seen.
 pub fn names_are_found_by_tests()
-    ensures { (h : List Entry) (w : Window) (filters : List (Datom → Bool)) (id : Id) → IsNamed h w (λ d. IsTrue (is_selected_by filters d)) id (entity_named (facts_seen h w filters) id) }
+    ensures { (h : List Entry) (w : Window) (filters : List (Datom → Bool)) (id : Id)
+        → IsNamed h w (λ d. IsTrue (is_selected_by filters d)) id
+        (entity_named (facts_seen h w filters) id) }
 {}
 
-/// Each list of forms comes to one probe or one refusal, and where filters are tests to the computed one.
+/// Each list of forms comes to one probe or one refusal, and where filters are tests to the
+/// computed one.
 pub fn components_are_read_in_one_way<S: Selection>()
-    ensures one { (h : List Entry) (w : Window) (order : Order) (fs : List Form) (x y : Result Probe Refusal) → AreComponents h w S.selects order fs x → AreComponents h w S.selects order fs y → x ≡ y }
-    ensures computed { (h : List Entry) (w : Window) (filters : List (Datom → Bool)) (order : Order) (fs : List Form) → AreComponents h w (λ d. IsTrue (is_selected_by filters d)) order fs (components h w filters order fs) }
+    ensures one { (h : List Entry) (w : Window) (order : Order) (fs : List Form)
+        (x y : Result Probe Refusal)
+        → AreComponents h w S.selects order fs x → AreComponents h w S.selects order fs y → x ≡ y }
+    ensures computed { (h : List Entry) (w : Window) (filters : List (Datom → Bool)) (order : Order)
+        (fs : List Form)
+        → AreComponents h w (λ d. IsTrue (is_selected_by filters d)) order fs
+        (components h w filters order fs) }
 {}
 
 /// The same of a range of values.
 pub fn ranges_are_read_in_one_way<S: Selection>()
-    ensures one { (h : List Entry) (w : Window) (a start end : Form) (x y : Result Range Refusal) → IsIndexRange h w S.selects a start end x → IsIndexRange h w S.selects a start end y → x ≡ y }
-    ensures computed { (h : List Entry) (w : Window) (filters : List (Datom → Bool)) (a start end : Form) → IsIndexRange h w (λ d. IsTrue (is_selected_by filters d)) a start end (index_range h w filters a start end) }
+    ensures one { (h : List Entry) (w : Window) (a start end : Form) (x y : Result Range Refusal)
+        → IsIndexRange h w S.selects a start end x → IsIndexRange h w S.selects a start end y
+        → x ≡ y }
+    ensures computed { (h : List Entry) (w : Window) (filters : List (Datom → Bool))
+        (a start end : Form)
+        → IsIndexRange h w (λ d. IsTrue (is_selected_by filters d)) a start end
+        (index_range h w filters a start end) }
 {}
 
 /// Components are read from left to right: what follows a place that fails does not tell.
 pub fn what_follows_a_refusal_does_not_tell<S: Selection>()
-    ensures { (h : List Entry) (w : Window) (order : Order) (fs more : List Form) (r : Refusal) → length (fs ++ more) ≤ 4 → AreComponents h w S.selects order fs (Err r) → AreComponents h w S.selects order (fs ++ more) (Err r) }
+    ensures { (h : List Entry) (w : Window) (order : Order) (fs more : List Form) (r : Refusal)
+        → length (fs ++ more) ≤ 4 → AreComponents h w S.selects order fs (Err r)
+        → AreComponents h w S.selects order (fs ++ more) (Err r) }
 {}

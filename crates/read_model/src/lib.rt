@@ -1,6 +1,7 @@
-//! What a read takes from the forms of a command: points in time, ranges of the log, names of entities, components of an index and
-//! ranges of values, as definitions in `specs/`, with the first place that fails. The functions here are laws about them, and
-//! examples: each has an empty body, and its contract is the law.
+//! What a read takes from the forms of a command: points in time, ranges of the log, names of
+//! entities, components of an index and ranges of values, as definitions in `specs/`, with the
+//! first place that fails. The functions here are laws about them, and examples: each has an empty
+//! body, and its contract is the law.
 #![tactic(auto)]
 
 mod components;

@@ -1,6 +1,7 @@
--- A script: the forms that its bytes are, up to the end of the input, the first fault or the greatest number of commands,
--- and which of the three it is.
--- EDN, edn-format: "General considerations". Where a script ends early is this project's own choice.
+-- A script: the forms that its bytes are, up to the end of the input, the first fault or the
+-- greatest number of commands, and which of the three it is.
+-- EDN, edn-format: "General considerations". Where a script ends early is this project's own
+-- choice.
 use Rattle.std.specs.Prelude.{ℕ, ◌≡◌, ◌≤◌, List, [], ◌∷◌, length}
 use Rattle.edn_model.specs.Form.{Form}
 use Rattle.edn_model.specs.Grammar.{FormStands, OnlyGap}
@@ -23,12 +24,14 @@ pub data Ending : Type 0 where
 abbrev pub EndsAt : List ℕ → ℕ → ℕ → Ending → Type 0
 EndsAt bytes count at whole = OnlyGap bytes at
 EndsAt bytes count at (fault what byte) = FaultAt bytes at what byte
-EndsAt bytes count at too_many = (count ≡ most_commands) × (f : Form) × (next : ℕ) × FormStands bytes at f next
+EndsAt bytes count at too_many =
+    (count ≡ most_commands) × (f : Form) × (next : ℕ) × FormStands bytes at f next
 
 -- from one place on the bytes are these forms, the last of which ends at another place
 abbrev pub FormsBetween : List ℕ → ℕ → List Form → ℕ → Type 0
 FormsBetween bytes at [] end = end ≡ at
-FormsBetween bytes at (f ∷ fs) end = (next : ℕ) × FormStands bytes at f next × FormsBetween bytes next fs end
+FormsBetween bytes at (f ∷ fs) end =
+    (next : ℕ) × FormStands bytes at f next × FormsBetween bytes next fs end
 
 pub record Script (bytes : List ℕ) (fs : List Form) (ending : Ending) : Type 0 where
   pub end : ℕ

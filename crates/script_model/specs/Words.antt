@@ -20,7 +20,9 @@ is_name (c ∷ d ∷ rest) = not (c == 45)
 -- the command that the words behind the program's name are, or none
 abbrev pub command_of : List (List ℕ) → Option Command
 command_of (verb ∷ directory ∷ script ∷ []) =
-    if bytes_eq verb (codes "run") && bytes_eq directory (codes ":memory:") && is_name script then Some (run script) else None
+    if bytes_eq verb (codes "run") && bytes_eq directory (codes ":memory:") && is_name script
+    then Some (run script)
+    else None
 command_of _ = None
 
 -- where a script's lines go

@@ -5,10 +5,13 @@ ghost use Rattle.script_model.specs.Script.{whole, Script};
 
 /// One name behind `run :memory:` is a command. Nothing else is.
 pub fn words()
-    ensures standard_input { command_of (codes "run" ∷ codes ":memory:" ∷ codes "-" ∷ []) ≡ Some (run (codes "-")) }
-    ensures file { command_of (codes "run" ∷ codes ":memory:" ∷ codes "a.edn" ∷ []) ≡ Some (run (codes "a.edn")) }
+    ensures standard_input { command_of (codes "run" ∷ codes ":memory:" ∷ codes "-" ∷ [])
+        ≡ Some (run (codes "-")) }
+    ensures file { command_of (codes "run" ∷ codes ":memory:" ∷ codes "a.edn" ∷ [])
+        ≡ Some (run (codes "a.edn")) }
     ensures no_script { command_of (codes "run" ∷ codes ":memory:" ∷ []) ≡ None }
-    ensures two_scripts { command_of (codes "run" ∷ codes ":memory:" ∷ codes "a" ∷ codes "b" ∷ []) ≡ None }
+    ensures two_scripts { command_of (codes "run" ∷ codes ":memory:" ∷ codes "a" ∷ codes "b" ∷ [])
+        ≡ None }
     ensures option { command_of (codes "run" ∷ codes ":memory:" ∷ codes "-a" ∷ []) ≡ None }
     ensures directory { command_of (codes "run" ∷ codes "data" ∷ codes "-" ∷ []) ≡ None }
     ensures verb { command_of (codes "check" ∷ codes ":memory:" ∷ codes "-" ∷ []) ≡ None }

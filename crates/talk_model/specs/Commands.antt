@@ -1,5 +1,6 @@
 -- The commands of a session: a vector whose first member is a keyword, the command's word.
--- Datomic, Transactions, Database Filters, Indexes, Log API and Pull. The words are this project's own choice.
+-- Datomic, Transactions, Database Filters, Indexes, Log API and Pull. The words are this project's
+-- own choice.
 use Rattle.std.specs.Prelude.{ℕ, Bool, true, false, List, [], ◌∷◌, cond, bytes_eq, codes, Option, Some, None, option_map, option_and_then}
 use Rattle.edn_model.specs.Form as edn
 use Rattle.edn_model.specs.Form.{Form, items}
@@ -12,7 +13,8 @@ pub data Command : Type 0 where
   -- [:db] and [:sync]: what the session sees, and what there is to see
   db : Command
   sync : Command
-  -- [:as-of point], [:since point] and [:history] narrow or widen the window of the reads behind them
+  -- [:as-of point], [:since point] and [:history] narrow or widen the window of the reads behind
+  -- them
   as_of : Form → Command
   since : Form → Command
   history : Command
@@ -41,12 +43,15 @@ name_in (edn.keyword k) = Some k
 name_in f = None
 
 abbrev pub order_of : List ℕ → Option Order
-order_of word = beside word ((codes "eavt", Eavt) ∷ (codes "aevt", Aevt) ∷ (codes "avet", Avet) ∷ (codes "vaet", Vaet) ∷ [])
+order_of word =
+    beside word
+    ((codes "eavt", Eavt) ∷ (codes "aevt", Aevt) ∷ (codes "avet", Avet) ∷ (codes "vaet", Vaet) ∷ [])
 
 abbrev pub order_in : Form → Option Order
 order_in f = option_and_then order_of (name_in f)
 
--- the commands whose word stands before these forms: those that begin with an index, and all of them
+-- the commands whose word stands before these forms: those that begin with an index, and all of
+-- them
 abbrev pub of_an_index : Form → List Form → List (List ℕ × Option Command)
 of_an_index index components =
     (codes "datoms", option_map (λ order. datoms order components) (order_in index))
@@ -67,12 +72,17 @@ before (x ∷ []) =
     ∷ (codes "since", Some (since x))
     ∷ (codes "filter", option_map filter (name_in x))
     ∷ of_an_index x []
-before (x ∷ y ∷ []) = (codes "tx-range", Some (tx_range x y)) ∷ (codes "pull", Some (pull x y)) ∷ of_an_index x (y ∷ [])
-before (x ∷ y ∷ z ∷ []) = (codes "index-range", Some (index_range x y z)) ∷ of_an_index x (y ∷ z ∷ [])
+before (x ∷ y ∷ []) =
+    (codes "tx-range", Some (tx_range x y))
+    ∷ (codes "pull", Some (pull x y))
+    ∷ of_an_index x (y ∷ [])
+before (x ∷ y ∷ z ∷ []) =
+    (codes "index-range", Some (index_range x y z)) ∷ of_an_index x (y ∷ z ∷ [])
 before (x ∷ more) = of_an_index x more
 
 abbrev pub command_of : List Form → Option Command
-command_of (edn.keyword word ∷ behind) = option_and_then (λ command. command) (beside word (before behind))
+command_of (edn.keyword word ∷ behind) =
+    option_and_then (λ command. command) (beside word (before behind))
 command_of fs = None
 
 -- the command that the form is, if it is one

@@ -4,14 +4,19 @@ use Rattle.std.specs.Prelude.{◌≡◌, ℕ, ◌<◌, ◌≤◌, ◌⊎◌, Lis
 use Rattle.std.specs.List.{AllByRecursion}
 use Rattle.std.specs.List.Sorted.{IsNonDecreasing}
 
--- The lines and the commits of a session in the order in which they came. Each line rests on a place at least what had
--- been seen, and that of a commit on the t committed, above it. Its place is seen from then on. Behind the last line the
--- session may have committed once more, without a line.
+-- The lines and the commits of a session in the order in which they came. Each line rests on a
+-- place at least what had been seen, and that of a commit on the t committed, above it. Its place
+-- is seen from then on. Behind the last line the session may have committed once more, without a
+-- line.
 abbrev pub SeesAll : ℕ → ℕ → List ℕ → List ℕ → Type 0
-SeesAll basis seen [] commits = (commits ≡ []) ⊎ ((t : ℕ) × (commits ≡ t ∷ []) × (seen < t) × (t ≤ basis))
+SeesAll basis seen [] commits =
+    (commits ≡ []) ⊎ ((t : ℕ) × (commits ≡ t ∷ []) × (seen < t) × (t ≤ basis))
 SeesAll basis seen (p ∷ ps) commits =
-    (seen ≤ p) × (p ≤ basis)
-    × (SeesAll basis p ps commits ⊎ ((seen < p) × (rest : List ℕ) × (commits ≡ p ∷ rest) × SeesAll basis p ps rest))
+    (seen ≤ p)
+    × (p ≤ basis)
+    × (
+    SeesAll basis p ps commits
+    ⊎ ((seen < p) × (rest : List ℕ) × (commits ≡ p ∷ rest) × SeesAll basis p ps rest))
 
 -- the places of a session's lines, between the t at which the history was opened and the last one
 pub record Prefixes (opening basis : ℕ) (places commits : List ℕ) : Type 0 where

@@ -31,13 +31,22 @@ field part = (edn.keyword part.0, part.1)
 abbrev pub map_of : List (List ℕ × Form) → Form
 map_of parts = edn.map (pairs (map field parts))
 
--- an attribute by its keyword, as the facts of the whole history have it; what is no attribute by its number
+-- an attribute by its keyword, as the facts of the whole history have it; what is no attribute by
+-- its number
 abbrev pub attribute : List Datom → ℕ → Form
-attribute facts a = option_map_or (λ known. edn.keyword known.name) (attribute_of facts a) (entity a)
+attribute facts a =
+    option_map_or (λ known. edn.keyword known.name) (attribute_of facts a) (entity a)
 
 -- [17592186044417 :db/doc "hi" 13194139533313 true]
 abbrev pub datom_form : List Datom → Datom → Form
-datom_form facts d = vector (entity d.e ∷ attribute facts d.a ∷ form_of_value d.v ∷ entity (transaction_of d.t) ∷ edn.boolean d.added ∷ [])
+datom_form facts d =
+    vector (
+    entity d.e
+    ∷ attribute facts d.a
+    ∷ form_of_value d.v
+    ∷ entity (transaction_of d.t)
+    ∷ edn.boolean d.added
+    ∷ [])
 
 abbrev pub datom_forms : List Datom → List Datom → Form
 datom_forms facts ds = vector (map (datom_form facts) ds)
@@ -48,13 +57,16 @@ tempid_pair tempid = (edn.string tempid.0, entity tempid.1)
 
 -- {:t 1 :data [..]}
 abbrev pub transaction_form : List Datom → Entry → Form
-transaction_form facts entry = map_of ((codes "t", number entry.t) ∷ (codes "data", datom_forms facts entry.datoms) ∷ [])
+transaction_form facts entry =
+    map_of ((codes "t", number entry.t) ∷ (codes "data", datom_forms facts entry.datoms) ∷ [])
 
 -- ---- replies
 
 -- {:t 1 :tempids {"x" 17592186044417}}
 abbrev pub receipt : ℕ → List (List ℕ × ℕ) → Form
-receipt t tempids = map_of ((codes "t", number t) ∷ (codes "tempids", edn.map (pairs (map tempid_pair tempids))) ∷ [])
+receipt t tempids =
+    map_of
+    ((codes "t", number t) ∷ (codes "tempids", edn.map (pairs (map tempid_pair tempids))) ∷ [])
 
 -- {:basis 3}
 abbrev pub basis_reply : ℕ → Form
@@ -66,22 +78,34 @@ done_reply basis = map_of ((codes "ok", edn.boolean true) ∷ (codes "basis", nu
 
 -- {:basis 3 :datoms [..]}
 abbrev pub datoms_reply : ℕ → List Datom → List Datom → Form
-datoms_reply basis facts ds = map_of ((codes "basis", number basis) ∷ (codes "datoms", datom_forms facts ds) ∷ [])
+datoms_reply basis facts ds =
+    map_of ((codes "basis", number basis) ∷ (codes "datoms", datom_forms facts ds) ∷ [])
 
 -- {:basis 3 :txs [..]}
 abbrev pub transactions_reply : ℕ → List Datom → List Entry → Form
 transactions_reply basis facts entries =
-    map_of ((codes "basis", number basis) ∷ (codes "txs", vector (map (transaction_form facts) entries)) ∷ [])
+    map_of (
+    (codes "basis", number basis)
+    ∷ (codes "txs", vector (map (transaction_form facts) entries))
+    ∷ [])
 
 -- {:refused :read/not-a-command :at 0 :basis 3}
 abbrev pub refusal_reply : List ℕ → ℕ → ℕ → Form
 refusal_reply reason at basis =
-    map_of ((codes "refused", edn.keyword reason) ∷ (codes "at", number at) ∷ (codes "basis", number basis) ∷ [])
+    map_of (
+    (codes "refused", edn.keyword reason)
+    ∷ (codes "at", number at)
+    ∷ (codes "basis", number basis)
+    ∷ [])
 
 -- {:fault :log :at 4 :basis 3}
 abbrev pub fault_reply : List ℕ → ℕ → ℕ → Form
 fault_reply fault at basis =
-    map_of ((codes "fault", edn.keyword fault) ∷ (codes "at", number at) ∷ (codes "basis", number basis) ∷ [])
+    map_of (
+    (codes "fault", edn.keyword fault)
+    ∷ (codes "at", number at)
+    ∷ (codes "basis", number basis)
+    ∷ [])
 
 -- ---- lines
 

@@ -1,11 +1,17 @@
 -- Commands for the examples. This project's own choice.
-use Rattle.std.specs.Prelude.{◌≡◌, ◌⊎◌, ℕ, pos, Bool, true, List, [], ◌∷◌, codes, bytes_eq, Option}
+use Rattle.std.specs.Prelude.{◌≡◌, ◌⊎◌, ℕ, pos, Bool, true, false, List, [], ◌∷◌, codes, bytes_eq, Option}
 use Rattle.edn_model.specs.Form as edn
-use Rattle.edn_model.specs.Form.{Form, forms}
+use Rattle.edn_model.specs.Form.{Form, forms, pairs}
+use Rattle.fb_values.specs.declared.facts.Datom.{Datom}
 use Rattle.fb_values.specs.declared.facts.Entry.{Entry}
+use Rattle.fb_numbers.specs.Numbers.{transaction_of, user_entity}
+use Rattle.view_model.specs.Window.{Window, whole}
+use Rattle.view_model.specs.Samples.{ages, texts, minus_one}
 use Rattle.tx_model.specs.Step.{no_guard}
 use Rattle.tx_model.specs.Samples.{string, vector, add, doc}
-use Rattle.talk_model.specs.Session.{Setting, setting}
+use Rattle.talk_model.specs.Commands.{command_in}
+use Rattle.talk_model.specs.Session.{Setting, setting, Standing, opened_at}
+use Rattle.talk_model.specs.Reads.{IsReply, reply, behind}
 
 -- a vector of a word and what stands behind it
 abbrev pub said : List ℕ → List Form → Form
@@ -17,6 +23,10 @@ key k = edn.keyword k
 abbrev pub number : ℕ → Form
 number n = edn.integer (pos n)
 
+-- -1
+abbrev pub minus_one_form : Form
+minus_one_form = edn.integer minus_one
+
 -- `users` is the name of a filter, and no other name is
 abbrev pub users_alone : List ℕ → Bool
 users_alone name = bytes_eq name (codes "users")
@@ -27,4 +37,52 @@ text = vector (add (string (codes "x")) doc (string (codes "hi")) ∷ [])
 
 -- one session alone, over a history, under a clock that reads a second or two
 abbrev pub alone : List Entry → Option ℕ → Bool → Setting
-alone h stop teller = setting (λ reading. (reading ≡ pos 1000) ⊎ (reading ≡ pos 2000)) (λ name d. d.added ≡ true) no_guard users_alone h stop teller
+alone h stop teller =
+    setting (λ reading. (reading ≡ pos 1000) ⊎ (reading ≡ pos 2000)) (λ name d. d.added ≡ true)
+    no_guard users_alone h stop teller
+
+-- ---- replies over the histories of the examples
+
+-- the reply to a command at t 4, with all ages in view, where a filter selects additions
+abbrev pub IsReplyOverAges : Form → Form → Type 0
+IsReplyOverAges form reply =
+    IsReply ages 4 users_alone whole (λ d. d.added ≡ true) (command_in form) reply
+
+-- where a session that was opened at t 4 of the ages stands behind a command
+abbrev pub standing_behind : Form → Standing
+standing_behind form = behind ages users_alone (opened_at 4) (command_in form)
+
+-- at t 4, with a window and the names of filters
+abbrev pub standing_with : Window → List (List ℕ) → Standing
+standing_with w filters = record { place = 4; window = w; filters = filters; told = false }
+
+-- the reply to a command at t 1 of the texts, under a window and filters
+abbrev pub reply_over_texts : Window → List (Datom → Bool) → Form → Form
+reply_over_texts w filters form = reply texts 1 users_alone w filters (command_in form)
+
+-- [:datoms :eavt e], where e is the first user entity
+abbrev pub datoms_of_first : Form
+datoms_of_first = said (codes "datoms") (key (codes "eavt") ∷ number (user_entity 1) ∷ [])
+
+-- ---- replies as forms
+
+-- [e a v tx added]
+abbrev pub datom_vector : ℕ → List ℕ → Form → ℕ → Bool → Form
+datom_vector e a v tx added =
+    edn.vector (forms (number e ∷ key a ∷ v ∷ number tx ∷ edn.boolean added ∷ []))
+
+-- {:t t :data [datom ..]}
+abbrev pub transaction_map : ℕ → List Form → Form
+transaction_map t datoms =
+    edn.map
+    (pairs ((key (codes "t"), number t) ∷ (key (codes "data"), edn.vector (forms datoms)) ∷ []))
+
+-- the transaction of the texts: its instant, and the text
+abbrev pub text_transaction : Form
+text_transaction =
+    transaction_map 1 (
+    datom_vector (transaction_of 1) (codes "db/txInstant") (edn.instant (pos 1000))
+    (transaction_of 1) true
+    ∷ datom_vector (user_entity 1) (codes "db/doc") (edn.string (codes "hi")) (transaction_of 1)
+    true
+    ∷ [])

@@ -1,5 +1,7 @@
--- What a session is answered by: what it shares with others, and where it stands itself between two commands.
--- This project's own choice. Of two filters with one name the later one counts: what is selected by a name is told here.
+-- What a session is answered by: what it shares with others, and where it stands itself between two
+-- commands.
+-- This project's own choice. Of two filters with one name the later one counts: what is selected by
+-- a name is told here.
 use Rattle.std.specs.Prelude.{◌≡◌, ◌⊎◌, ℕ, ℤ, Bool, false, List, [], ◌∷◌, ◌++◌, Option, None}
 use Rattle.fb_values.specs.declared.facts.Datom.{Datom}
 use Rattle.fb_values.specs.declared.facts.Entry.{Entry}
@@ -51,6 +53,15 @@ abbrev pub Stays : Setting → Option ℕ → Bool → Type 0
 Stays s stop teller = (s.stop ≡ None) ⊎ ((stop ≡ s.stop) × (teller ≡ s.teller))
 
 -- of what no clause can range over, and the rest
-abbrev pub setting : (ℤ → Type 0) → (List ℕ → Datom → Type 0) → Guard → (List ℕ → Bool) → List Entry → Option ℕ → Bool → Setting
+abbrev pub setting : (ℤ → Type 0) → (List ℕ → Datom → Type 0) → Guard → (List ℕ → Bool) → List Entry
+    → Option ℕ → Bool → Setting
 setting may Selects guard is_filter history stop teller =
-    record { may = may; guard = guard; is_filter = is_filter; Selects = Selects; history = history; stop = stop; teller = teller }
+    record {
+      may = may;
+      guard = guard;
+      is_filter = is_filter;
+      Selects = Selects;
+      history = history;
+      stop = stop;
+      teller = teller;
+    }

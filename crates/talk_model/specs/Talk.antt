@@ -1,4 +1,5 @@
--- The talk of a session: how each form of its script is answered, over a history that it may share with other sessions.
+-- The talk of a session: how each form of its script is answered, over a history that it may share
+-- with other sessions.
 -- This project's own choice.
 use Rattle.std.specs.Prelude.{◌≡◌, ℕ, ◌+◌, ◌-◌, ◌<◌, ◌≤◌, ◌⊎◌, ℤ, true, false, List, [], ◌∷◌, ◌++◌, codes, slice_get, option_to_list, Option, Some, None}
 use Rattle.edn_model.specs.Form.{Form}
@@ -14,9 +15,11 @@ use Rattle.talk_model.specs.Reads.{IsReply, behind}
 
 -- ---- transactions
 
--- The transaction is accepted at a place above what its session had seen: the entry there is what the step gives after the
--- entries before it, at a number that the clock may read, and the line is that of its receipt.
-pub record IsAccepted (s : Setting) (before : Standing) (asked : Form) (after : Standing) (line : List ℕ) (commit : Option ℕ) : Type 0 where
+-- The transaction is accepted at a place above what its session had seen: the entry there is what
+-- the step gives after the entries before it, at a number that the clock may read, and the line is
+-- that of its receipt.
+pub record IsAccepted (s : Setting) (before : Standing) (asked : Form) (after : Standing)
+    (line : List ℕ) (commit : Option ℕ) : Type 0 where
   pub place : ℕ
   pub above : before.place < place
   pub within : place ≤ basis s.history
@@ -31,7 +34,8 @@ pub record IsAccepted (s : Setting) (before : Standing) (asked : Form) (after : 
   pub stands : after ≡ moved before place
 
 -- It is refused at a place that the session sees from then on, whatever the clock reads.
-pub record IsRefused (s : Setting) (before : Standing) (asked : Form) (after : Standing) (line : List ℕ) (commit : Option ℕ) : Type 0 where
+pub record IsRefused (s : Setting) (before : Standing) (asked : Form) (after : Standing)
+    (line : List ℕ) (commit : Option ℕ) : Type 0 where
   pub place : ℕ
   pub from : before.place ≤ place
   pub within : place ≤ basis s.history
@@ -41,8 +45,10 @@ pub record IsRefused (s : Setting) (before : Standing) (asked : Form) (after : S
   pub commits : commit ≡ None
   pub stands : after ≡ moved before place
 
--- The log did not take the entry that the step gives at the end of the history: this session's, which is told so once.
-pub record IsNotTaken (s : Setting) (before : Standing) (asked : Form) (after : Standing) (line : List ℕ) (commit : Option ℕ) : Type 0 where
+-- The log did not take the entry that the step gives at the end of the history: this session's,
+-- which is told so once.
+pub record IsNotTaken (s : Setting) (before : Standing) (asked : Form) (after : Standing)
+    (line : List ℕ) (commit : Option ℕ) : Type 0 where
   pub place : ℕ
   pub from : before.place ≤ place
   pub within : place ≤ basis s.history
@@ -59,7 +65,8 @@ pub record IsNotTaken (s : Setting) (before : Standing) (asked : Form) (after : 
   pub stands : after ≡ record before { place = place; told = true }
 
 -- The log has stopped at the end of the history, and no transaction is looked at.
-pub record IsStopped (s : Setting) (before : Standing) (after : Standing) (line : List ℕ) (commit : Option ℕ) : Type 0 where
+pub record IsStopped (s : Setting) (before : Standing) (after : Standing) (line : List ℕ)
+    (commit : Option ℕ) : Type 0 where
   pub place : ℕ
   pub from : before.place ≤ place
   pub within : place ≤ basis s.history
@@ -71,7 +78,8 @@ pub record IsStopped (s : Setting) (before : Standing) (after : Standing) (line 
 -- ---- other commands
 
 -- What there is to see is shown, and seen from then on.
-pub record IsShown (s : Setting) (before : Standing) (after : Standing) (line : List ℕ) (commit : Option ℕ) : Type 0 where
+pub record IsShown (s : Setting) (before : Standing) (after : Standing) (line : List ℕ)
+    (commit : Option ℕ) : Type 0 where
   pub place : ℕ
   pub from : before.place ≤ place
   pub within : place ≤ basis s.history
@@ -80,16 +88,19 @@ pub record IsShown (s : Setting) (before : Standing) (after : Standing) (line : 
   pub stands : after ≡ moved before place
 
 -- The command, or what is none, is answered of what its session has seen.
-pub record IsRead (s : Setting) (before : Standing) (command : Option Command) (after : Standing) (line : List ℕ) (commit : Option ℕ) : Type 0 where
+pub record IsRead (s : Setting) (before : Standing) (command : Option Command) (after : Standing)
+    (line : List ℕ) (commit : Option ℕ) : Type 0 where
   pub reply : Form
-  pub answers : IsReply (upto s.history before.place) before.place s.is_filter before.window (SelectedBy s.Selects before.filters) command reply
+  pub answers : IsReply (upto s.history before.place) before.place s.is_filter before.window
+      (SelectedBy s.Selects before.filters) command reply
   pub says : IsLineOf reply line
   pub commits : commit ≡ None
   pub stands : after ≡ behind (upto s.history before.place) s.is_filter before command
 
 -- ---- each form
 
-abbrev pub AnswersCommand : Setting → Standing → Option Command → Standing → List ℕ → Option ℕ → Type 0
+abbrev pub AnswersCommand : Setting → Standing → Option Command → Standing → List ℕ → Option ℕ
+    → Type 0
 AnswersCommand s before (Some (transact asked)) after line commit =
     IsAccepted s before asked after line commit ⊎ (IsRefused s before asked after line commit
     ⊎ (IsNotTaken s before asked after line commit ⊎ IsStopped s before after line commit))
@@ -97,14 +108,22 @@ AnswersCommand s before (Some db) after line commit = IsShown s before after lin
 AnswersCommand s before (Some sync) after line commit = IsShown s before after line commit
 AnswersCommand s before command after line commit = IsRead s before command after line commit
 
--- In the setting the form takes the session from one standing to another, with this line, and commits a t or none.
+-- In the setting the form takes the session from one standing to another, with this line, and
+-- commits a t or none.
 abbrev pub IsAnswered : Setting → Standing → Form → Standing → List ℕ → Option ℕ → Type 0
 IsAnswered s before f after line commit = AnswersCommand s before (command_in f) after line commit
 
--- The forms have these places and lines, one each in order, and the commits of those that were accepted, in order.
-abbrev pub Talk : Setting → Standing → List Form → List ℕ → List ℕ → List (List ℕ) → Standing → Type 0
+-- The forms have these places and lines, one each in order, and the commits of those that were
+-- accepted, in order.
+abbrev pub Talk : Setting → Standing → List Form → List ℕ → List ℕ → List (List ℕ) → Standing
+    → Type 0
 Talk s before [] [] commits [] after = (commits ≡ []) × (after ≡ before)
 Talk s before (f ∷ fs) (p ∷ ps) commits (line ∷ lines) after =
-    (next : Standing) × (commit : Option ℕ) × (rest : List ℕ) × IsAnswered s before f next line commit
-    × (next.place ≡ p) × (commits ≡ option_to_list commit ++ rest) × Talk s next fs ps rest lines after
+    (next : Standing)
+    × (commit : Option ℕ)
+    × (rest : List ℕ)
+    × IsAnswered s before f next line commit
+    × (next.place ≡ p)
+    × (commits ≡ option_to_list commit ++ rest)
+    × Talk s next fs ps rest lines after
 Talk s before _ _ commits _ after = ⊥

@@ -1,6 +1,7 @@
-//! How each form of a session is answered, as definitions in `specs/`: its commands, its replies, what a read sees, and the
-//! talk of a session over a history that it shares with others. The functions here are laws about them, and examples: each
-//! has an empty body, and its contract is the law.
+//! How each form of a session is answered, as definitions in `specs/`: its commands, its replies,
+//! what a read sees, and the talk of a session over a history that it shares with others. The
+//! functions here are laws about them, and examples: each has an empty body, and its contract is
+//! the law.
 #![tactic(auto)]
 
 mod answers;

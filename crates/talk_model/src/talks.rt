@@ -11,7 +11,8 @@ ghost use Rattle.talk_model.specs.Talk.{IsAccepted, IsRefused, IsNotTaken, IsSho
 ghost use Rattle.talk_model.specs.Prefixes.{SeesAll, Prefixes};
 ghost use Rattle.std.specs.List.Sorted.{IsStrictlyIncreasing};
 
-/// What a clock may read, and what the filter of a name selects: a law that speaks of any of them is generic in this.
+/// What a clock may read, and what the filter of a name selects: a law that speaks of any of them
+/// is generic in this.
 pub trait Surroundings {
     ghost may: { Self → ℤ → Type 0 };
 
@@ -20,70 +21,97 @@ pub trait Surroundings {
 
 /// A longer lawful history keeps a talk, also where the log has stopped behind it meanwhile.
 pub fn a_longer_history_keeps_a_talk<S: Surroundings>()
-    ensures { (s : S) (guard : Guard) (is_filter : List ℕ → Bool) (h more : List Entry) (stop later : Option ℕ) (teller is_teller : Bool)
-        (before after : Standing) (fs : List Form) (ps cs : List ℕ) (ls : List (List ℕ)) → IsLawful h → IsLawful (h ++ more) → before.place ≤ basis h
-        → Stays (setting (S.may s) (S.selects s) guard is_filter h stop teller) later is_teller
-        → Talk (setting (S.may s) (S.selects s) guard is_filter h stop teller) before fs ps cs ls after
-        → Talk (setting (S.may s) (S.selects s) guard is_filter (h ++ more) later is_teller) before fs ps cs ls after }
+    ensures { (s : S) (guard : Guard) (is_filter : List ℕ → Bool) (h more : List Entry)
+        (stop later : Option ℕ) (teller is_teller : Bool) (before after : Standing) (fs : List Form)
+        (ps cs : List ℕ) (ls : List (List ℕ))
+        → let here = setting (S.may s) (S.selects s) guard is_filter h stop teller in
+        let there = setting (S.may s) (S.selects s) guard is_filter (h ++ more) later is_teller in
+        IsLawful h → IsLawful (h ++ more) → before.place ≤ basis h → Stays here later is_teller
+        → Talk here before fs ps cs ls after → Talk there before fs ps cs ls after }
 {}
 
 /// A talk goes on by one form more, with its place, its line and its commit.
 pub fn a_talk_goes_on<S: Surroundings>()
-    ensures { (s : S) (guard : Guard) (is_filter : List ℕ → Bool) (h : List Entry) (stop : Option ℕ) (teller : Bool)
-        (before middle after : Standing) (fs : List Form) (ps cs : List ℕ) (ls : List (List ℕ)) (f : Form) (line : List ℕ) (commit : Option ℕ)
-        → Talk (setting (S.may s) (S.selects s) guard is_filter h stop teller) before fs ps cs ls middle
-        → IsAnswered (setting (S.may s) (S.selects s) guard is_filter h stop teller) middle f after line commit
-        → Talk (setting (S.may s) (S.selects s) guard is_filter h stop teller) before (fs ++ f ∷ []) (ps ++ after.place ∷ []) (cs ++ option_to_list commit) (ls ++ line ∷ []) after }
+    ensures { (s : S) (guard : Guard) (is_filter : List ℕ → Bool) (h : List Entry) (stop : Option ℕ)
+        (teller : Bool) (before middle after : Standing) (fs : List Form) (ps cs : List ℕ)
+        (ls : List (List ℕ)) (f : Form) (line : List ℕ) (commit : Option ℕ)
+        → let here = setting (S.may s) (S.selects s) guard is_filter h stop teller in
+        Talk here before fs ps cs ls middle → IsAnswered here middle f after line commit
+        → Talk here before (fs ++ f ∷ []) (ps ++ after.place ∷ []) (cs ++ option_to_list commit)
+        (ls ++ line ∷ []) after }
 {}
 
-/// And it is the talk of the forms before the last one, gone on by that. So where the last line did not come out, the talk of
-/// the forms before it has the same commits, or those without the last.
+/// And it is the talk of the forms before the last one, gone on by that. So where the last line did
+/// not come out, the talk of the forms before it has the same commits, or those without the last.
 pub fn a_talk_ends_with_its_last_form<S: Surroundings>()
-    ensures { (s : S) (guard : Guard) (is_filter : List ℕ → Bool) (h : List Entry) (stop : Option ℕ) (teller : Bool)
-        (before after : Standing) (fs : List Form) (ps cs : List ℕ) (ls : List (List ℕ)) (f : Form) (p : ℕ) (line : List ℕ)
-        → Talk (setting (S.may s) (S.selects s) guard is_filter h stop teller) before (fs ++ f ∷ []) (ps ++ p ∷ []) cs (ls ++ line ∷ []) after
-        → (middle : Standing) × (commit : Option ℕ) × (earlier : List ℕ) × (cs ≡ earlier ++ option_to_list commit) × (after.place ≡ p)
-        × Talk (setting (S.may s) (S.selects s) guard is_filter h stop teller) before fs ps earlier ls middle
-        × IsAnswered (setting (S.may s) (S.selects s) guard is_filter h stop teller) middle f after line commit }
+    ensures { (s : S) (guard : Guard) (is_filter : List ℕ → Bool) (h : List Entry) (stop : Option ℕ)
+        (teller : Bool) (before after : Standing) (fs : List Form) (ps cs : List ℕ)
+        (ls : List (List ℕ)) (f : Form) (p : ℕ) (line : List ℕ)
+        → let here = setting (S.may s) (S.selects s) guard is_filter h stop teller in
+        Talk here before (fs ++ f ∷ []) (ps ++ p ∷ []) cs (ls ++ line ∷ []) after
+        → (middle : Standing)
+        × (commit : Option ℕ)
+        × (earlier : List ℕ)
+        × (cs ≡ earlier ++ option_to_list commit)
+        × (after.place ≡ p)
+        × Talk here before fs ps earlier ls middle
+        × IsAnswered here middle f after line commit }
 {}
 
-/// The places of a talk never fall, lie between the opening's t and the basis, and each is at least every t that was committed
-/// before. So it is where the form behind the lines was answered too, and its line did not come out.
+/// The places of a talk never fall, lie between the opening's t and the basis, and each is at least
+/// every t that was committed before. So it is where the form behind the lines was answered too,
+/// and its line did not come out.
 pub fn a_talk_rests_on_what_was_seen<S: Surroundings>()
-    ensures whole { (s : S) (guard : Guard) (is_filter : List ℕ → Bool) (h : List Entry) (stop : Option ℕ) (teller : Bool)
-        (before after : Standing) (fs : List Form) (ps cs : List ℕ) (ls : List (List ℕ)) → before.place ≤ basis h
-        → Talk (setting (S.may s) (S.selects s) guard is_filter h stop teller) before fs ps cs ls after → Prefixes before.place (basis h) ps cs }
-    ensures unfinished { (s : S) (guard : Guard) (is_filter : List ℕ → Bool) (h : List Entry) (stop : Option ℕ) (teller : Bool)
-        (before after : Standing) (fs : List Form) (ps cs : List ℕ) (ls : List (List ℕ)) (f : Form) (p : ℕ) (line : List ℕ) → before.place ≤ basis h
-        → Talk (setting (S.may s) (S.selects s) guard is_filter h stop teller) before (fs ++ f ∷ []) (ps ++ p ∷ []) cs (ls ++ line ∷ []) after → Prefixes before.place (basis h) ps cs }
+    ensures whole { (s : S) (guard : Guard) (is_filter : List ℕ → Bool) (h : List Entry)
+        (stop : Option ℕ) (teller : Bool) (before after : Standing) (fs : List Form)
+        (ps cs : List ℕ) (ls : List (List ℕ))
+        → let here = setting (S.may s) (S.selects s) guard is_filter h stop teller in
+        before.place ≤ basis h → Talk here before fs ps cs ls after
+        → Prefixes before.place (basis h) ps cs }
+    ensures unfinished { (s : S) (guard : Guard) (is_filter : List ℕ → Bool) (h : List Entry)
+        (stop : Option ℕ) (teller : Bool) (before after : Standing) (fs : List Form)
+        (ps cs : List ℕ) (ls : List (List ℕ)) (f : Form) (p : ℕ) (line : List ℕ)
+        → let here = setting (S.may s) (S.selects s) guard is_filter h stop teller in
+        before.place ≤ basis h
+        → Talk here before (fs ++ f ∷ []) (ps ++ p ∷ []) cs (ls ++ line ∷ []) after
+        → Prefixes before.place (basis h) ps cs }
 {}
 
 /// Commits strictly rise.
 pub fn commits_strictly_rise()
-    ensures { (basis opening : ℕ) (ps cs : List ℕ) → SeesAll basis opening ps cs → IsStrictlyIncreasing cs }
+    ensures { (basis opening : ℕ) (ps cs : List ℕ)
+        → SeesAll basis opening ps cs → IsStrictlyIncreasing cs }
 {}
 
 /// A session is told once at most that the log did not take its transaction.
 pub fn a_session_is_told_once<S: Surroundings>()
-    ensures { (s : S) (guard : Guard) (is_filter : List ℕ → Bool) (h : List Entry) (stop : Option ℕ) (teller : Bool)
-        (one two three four : Standing) (fs : List Form) (ps cs : List ℕ) (ls : List (List ℕ)) (f g : Form) (line other : List ℕ) (commit last : Option ℕ)
-        → IsNotTaken (setting (S.may s) (S.selects s) guard is_filter h stop teller) one f two line commit
-        → Talk (setting (S.may s) (S.selects s) guard is_filter h stop teller) two fs ps cs ls three
-        → ¬ IsNotTaken (setting (S.may s) (S.selects s) guard is_filter h stop teller) three g four other last }
+    ensures { (s : S) (guard : Guard) (is_filter : List ℕ → Bool) (h : List Entry) (stop : Option ℕ)
+        (teller : Bool) (one two three four : Standing) (fs : List Form) (ps cs : List ℕ)
+        (ls : List (List ℕ)) (f g : Form) (line other : List ℕ) (commit last : Option ℕ)
+        → let here = setting (S.may s) (S.selects s) guard is_filter h stop teller in
+        IsNotTaken here one f two line commit → Talk here two fs ps cs ls three
+        → ¬ IsNotTaken here three g four other last }
 {}
 
-/// At one place a transaction that is accepted, or refused, has one line, and so have `:db` and `:sync`.
+/// At one place a transaction that is accepted, or refused, has one line, and so have `:db` and
+/// `:sync`.
 pub fn one_line_at_a_place<S: Surroundings>()
-    ensures accepted { (s : S) (guard : Guard) (is_filter : List ℕ → Bool) (h : List Entry) (stop : Option ℕ) (teller : Bool)
-        (before after other : Standing) (asked : Form) (line that : List ℕ) (commit last : Option ℕ) → after.place ≡ other.place
-        → IsAccepted (setting (S.may s) (S.selects s) guard is_filter h stop teller) before asked after line commit
-        → IsAccepted (setting (S.may s) (S.selects s) guard is_filter h stop teller) before asked other that last → line ≡ that }
-    ensures refused { (s : S) (guard : Guard) (is_filter : List ℕ → Bool) (h : List Entry) (stop : Option ℕ) (teller : Bool)
-        (before after other : Standing) (asked : Form) (line that : List ℕ) (commit last : Option ℕ) → after.place ≡ other.place
-        → IsRefused (setting (S.may s) (S.selects s) guard is_filter h stop teller) before asked after line commit
-        → IsRefused (setting (S.may s) (S.selects s) guard is_filter h stop teller) before asked other that last → line ≡ that }
-    ensures shown { (s : S) (guard : Guard) (is_filter : List ℕ → Bool) (h : List Entry) (stop : Option ℕ) (teller : Bool)
-        (before after other : Standing) (line that : List ℕ) (commit last : Option ℕ) → after.place ≡ other.place
-        → IsShown (setting (S.may s) (S.selects s) guard is_filter h stop teller) before after line commit
-        → IsShown (setting (S.may s) (S.selects s) guard is_filter h stop teller) before other that last → line ≡ that }
+    ensures accepted { (s : S) (guard : Guard) (is_filter : List ℕ → Bool) (h : List Entry)
+        (stop : Option ℕ) (teller : Bool) (before after other : Standing) (asked : Form)
+        (line that : List ℕ) (commit last : Option ℕ)
+        → let here = setting (S.may s) (S.selects s) guard is_filter h stop teller in
+        after.place ≡ other.place → IsAccepted here before asked after line commit
+        → IsAccepted here before asked other that last → line ≡ that }
+    ensures refused { (s : S) (guard : Guard) (is_filter : List ℕ → Bool) (h : List Entry)
+        (stop : Option ℕ) (teller : Bool) (before after other : Standing) (asked : Form)
+        (line that : List ℕ) (commit last : Option ℕ)
+        → let here = setting (S.may s) (S.selects s) guard is_filter h stop teller in
+        after.place ≡ other.place → IsRefused here before asked after line commit
+        → IsRefused here before asked other that last → line ≡ that }
+    ensures shown { (s : S) (guard : Guard) (is_filter : List ℕ → Bool) (h : List Entry)
+        (stop : Option ℕ) (teller : Bool) (before after other : Standing) (line that : List ℕ)
+        (commit last : Option ℕ)
+        → let here = setting (S.may s) (S.selects s) guard is_filter h stop teller in
+        after.place ≡ other.place → IsShown here before after line commit
+        → IsShown here before other that last → line ≡ that }
 {}

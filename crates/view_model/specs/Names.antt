@@ -13,7 +13,8 @@ pub data Id : Type 0 where
   -- a unique attribute and a value
   lookup : ℕ → Value → Id
 
--- the entity, by the facts of a view without history: a number is itself; of two entities with one name it is the lesser
+-- the entity, by the facts of a view without history: a number is itself; of two entities with one
+-- name it is the lesser
 abbrev pub entity_named : List Datom → Id → Option ℕ
 entity_named facts (number n) = Some n
 entity_named facts (ident name) = named facts name

@@ -1,4 +1,5 @@
--- Scans: the datoms of a view that an index holds, from a range of it, in its order; and the transactions of the log.
+-- Scans: the datoms of a view that an index holds, from a range of it, in its order; and the
+-- transactions of the log.
 -- Datomic, Indexes (datoms, seek-datoms, index-range) and Log API (tx-range).
 use Rattle.std.specs.Prelude.{ℕ, ◌+◌, Bool, true, not, ◌&&◌, List, filter, nat_eq, nat_le, nat_lt, Option, IsTrue}
 use Rattle.std.specs.Option.{option_map_or}
@@ -38,14 +39,17 @@ is_scanned facts order range d = covers facts order d.a && is_in range d
 -- the answer of a scan: the one strictly rising list of these datoms
 abbrev pub IsScan : List Entry → Window → (Datom → Type 0) → Order → Range → List Datom → Type 0
 IsScan h w Selects order range ds =
-    IsRisingListOf order ds (λ d. InView h w Selects d × IsTrue (is_scanned (facts h) order range d))
+    IsRisingListOf order ds
+    (λ d. InView h w Selects d × IsTrue (is_scanned (facts h) order range d))
 
 -- the same, computed, where filters are tests
 abbrev pub scan : List Entry → Window → List (Datom → Bool) → Order → Range → List Datom
-scan h w filters order range = in_order order (filter (is_scanned (facts h) order range) (view h w filters))
+scan h w filters order range =
+    in_order order (filter (is_scanned (facts h) order range) (view h w filters))
 
 -- ---- the log
 
 -- the transactions from t `start` on and before t `end`; the first entry is none
 abbrev pub transactions : List Entry → ℕ → ℕ → List Entry
-transactions h start end = filter (λ entry. nat_le 1 entry.t && nat_le start entry.t && nat_lt entry.t end) h
+transactions h start end =
+    filter (λ entry. nat_le 1 entry.t && nat_le start entry.t && nat_lt entry.t end) h

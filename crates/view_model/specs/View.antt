@@ -1,5 +1,6 @@
 -- Views: the datoms of a history under a window and filters.
--- Datomic, Database Filters. Filters come after the window, so that one can hide a fact and never revive one.
+-- Datomic, Database Filters. Filters come after the window, so that one can hide a fact and never
+-- revive one.
 use Rattle.std.specs.Prelude.{Bool, List, filter, cond, Contains}
 use Rattle.std.specs.List.{list_all}
 use Rattle.fb_values.specs.declared.facts.Datom.{Datom}
@@ -8,13 +9,14 @@ use Rattle.fb_model.specs.History.{said}
 use Rattle.fb_model.specs.Facts.{standing}
 use Rattle.view_model.specs.Window.{Window, within, without_history}
 
--- the datoms before any filter: with history every datom of the window, and without one the last datom of each triple in
--- the window, where that is an addition
+-- the datoms before any filter: with history every datom of the window, and without one the last
+-- datom of each triple in the window, where that is an addition
 abbrev pub seen : List Entry → Window → List Datom
 seen h w = cond w.history (within w (said h)) (standing (within w (said h)))
 
 -- the datom is in the view, where `Selects` says which datoms all filters select
-pub record InView (h : List Entry) (w : Window) (Selects : Datom → Type 0) (d : Datom) : Type 0 where
+pub record InView (h : List Entry) (w : Window) (Selects : Datom → Type 0)
+    (d : Datom) : Type 0 where
   pub is_seen : Contains (seen h w) d
   pub is_selected : Selects d
 

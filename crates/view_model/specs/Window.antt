@@ -1,4 +1,5 @@
--- Windows: which transactions a view sees, whether it sees their history, and how as-of and since change that.
+-- Windows: which transactions a view sees, whether it sees their history, and how as-of and since
+-- change that.
 -- Datomic, Database Filters and Log API.
 use Rattle.std.specs.Prelude.{ℕ, ◌+◌, ◌-◌, ℤ, Bool, true, false, ◌&&◌, List, [], ◌∷◌, filter, length, min, max, nat_lt, nat_le, int_le, cond, Option, Some, None}
 use Rattle.fb_values.specs.declared.facts.Datom.{Datom}
@@ -36,7 +37,8 @@ without_history w = record { from = w.from; to = w.to; history = false }
 abbrev pub end_of_number : ℕ → Option ℕ
 end_of_number n =
     cond (nat_le n greatest_t) (Some (n + 1))
-    (cond (nat_le (transaction_of 0) n && nat_le n (transaction_of greatest_t)) (Some (n - transaction_of 0 + 1)) None)
+    (cond (nat_le (transaction_of 0) n && nat_le n (transaction_of greatest_t))
+    (Some (n - transaction_of 0 + 1)) None)
 
 -- of an instant: the number of transactions recorded up to it
 abbrev pub end_of_instant : List Entry → ℤ → ℕ

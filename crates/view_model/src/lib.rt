@@ -1,5 +1,6 @@
-//! What a read of a database sees: windows, views, scans, names, and what kept lists of datoms stand for, as definitions
-//! in `specs/`. The functions here are laws about them, and examples: each has an empty body, and its contract is the law.
+//! What a read of a database sees: windows, views, scans, names, and what kept lists of datoms
+//! stand for, as definitions in `specs/`. The functions here are laws about them, and examples:
+//! each has an empty body, and its contract is the law.
 #![tactic(auto)]
 
 mod examples;

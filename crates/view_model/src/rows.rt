@@ -1,35 +1,37 @@
-//! More examples, by computation: instants as points, filters one after another, and the whole of an index.
-ghost use Rattle.std.specs.Prelude.{◌≡◌, [], ◌∷◌, pos, ◌-ℤ◌, true, codes, nat_eq, nat_lt, not};
-ghost use Rattle.fb_values.specs.declared.facts.Value.TheVariants.{Str, Instant};
-ghost use Rattle.fb_values.specs.declared.indexes.Order.TheVariants.{Eavt, Aevt};
-ghost use Rattle.fb_numbers.specs.Numbers.{transaction_of, user_entity, tx_instant, doc};
+//! More examples, by computation: instants as points, filters one after another, and the whole of
+//! an index.
+ghost use Rattle.std.specs.Prelude.{◌≡◌, [], ◌∷◌, pos};
+ghost use Rattle.fb_numbers.specs.Numbers.{user_entity, doc};
 ghost use Rattle.fb_model.specs.Lawful.{IsLawful};
 ghost use Rattle.view_model.specs.Window.{whole, as_of, since, end_of_instant};
-ghost use Rattle.view_model.specs.Scan.{scan, transactions, leading};
-ghost use Rattle.view_model.specs.Samples.{datom, ages, texts, instants, entity_probe, attribute_probe};
+ghost use Rattle.view_model.specs.Scan.{transactions};
+ghost use Rattle.view_model.specs.Samples.{texts, instants, recorded_at, hi, minus_one, hides_attribute, shows_users, datoms_of, instants_of, age_seen};
 
 /// As of an instant: the transactions up to it.
 pub fn as_of_an_instant()
-    ensures between { scan instants (as_of (end_of_instant instants (pos 1500)) whole) [] Aevt (leading (attribute_probe Aevt tx_instant))
-        ≡ datom (transaction_of 0) tx_instant (Instant (pos 0)) 0 true ∷ datom (transaction_of 1) tx_instant (Instant (pos 1000)) 1 true ∷ [] }
-    ensures at_one { scan instants (as_of (end_of_instant instants (pos 2000)) whole) [] Aevt (leading (attribute_probe Aevt tx_instant))
-        ≡ datom (transaction_of 0) tx_instant (Instant (pos 0)) 0 true ∷ datom (transaction_of 1) tx_instant (Instant (pos 1000)) 1 true ∷ datom (transaction_of 2) tx_instant (Instant (pos 2000)) 2 true ∷ [] }
-    ensures before_all { scan instants (as_of (end_of_instant instants (pos 0 -ℤ pos 1)) whole) [] Aevt (leading (attribute_probe Aevt tx_instant)) ≡ [] }
+    ensures between { instants_of instants (as_of (end_of_instant instants (pos 1500)) whole)
+        ≡ recorded_at 0 0 ∷ recorded_at 1 1000 ∷ [] }
+    ensures at_one { instants_of instants (as_of (end_of_instant instants (pos 2000)) whole)
+        ≡ recorded_at 0 0 ∷ recorded_at 1 1000 ∷ recorded_at 2 2000 ∷ [] }
+    ensures before_all { instants_of instants (as_of (end_of_instant instants minus_one) whole)
+        ≡ [] }
 {}
 
 /// Without a filter, with one that hides an attribute, and with one more.
 pub fn filters_one_after_another()
     ensures lawful { IsLawful texts }
-    ensures unfiltered { scan texts whole [] Eavt (leading (entity_probe Eavt (user_entity 1))) ≡ datom (user_entity 1) doc (Str (codes "hi")) 1 true ∷ [] }
-    ensures no_doc { scan texts whole ((λ d. not (nat_eq d.a doc)) ∷ []) Eavt (leading (entity_probe Eavt (user_entity 1))) ≡ [] }
-    ensures users { scan texts whole ((λ d. nat_lt (user_entity 0) d.e) ∷ []) Eavt (leading (entity_probe Eavt (user_entity 1))) ≡ datom (user_entity 1) doc (Str (codes "hi")) 1 true ∷ [] }
-    ensures both { scan texts whole ((λ d. not (nat_eq d.a doc)) ∷ (λ d. nat_lt (user_entity 0) d.e) ∷ []) Eavt (leading (entity_probe Eavt (user_entity 1))) ≡ [] }
+    ensures unfiltered { datoms_of texts whole [] (user_entity 1) ≡ hi ∷ [] }
+    ensures no_doc { datoms_of texts whole (hides_attribute doc ∷ []) (user_entity 1) ≡ [] }
+    ensures users { datoms_of texts whole (shows_users ∷ []) (user_entity 1) ≡ hi ∷ [] }
+    ensures both { datoms_of texts whole (hides_attribute doc ∷ shows_users ∷ []) (user_entity 1)
+        ≡ [] }
 {}
 
-/// A t that since names is not seen itself, and what was retracted in the window does not come back.
+/// A t that since names is not seen itself, and what was retracted in the window does not come
+/// back.
 pub fn since_begins_behind_its_point()
-    ensures at_its_t { scan ages (as_of 3 (since 3 whole)) [] Eavt (leading (entity_probe Eavt (user_entity 2))) ≡ [] }
-    ensures one_before { scan ages (as_of 3 (since 2 whole)) [] Eavt (leading (entity_probe Eavt (user_entity 2))) ≡ scan ages (as_of 3 whole) [] Eavt (leading (entity_probe Eavt (user_entity 2))) }
+    ensures at_its_t { age_seen (as_of 3 (since 3 whole)) ≡ [] }
+    ensures one_before { age_seen (as_of 3 (since 2 whole)) ≡ age_seen (as_of 3 whole) }
 {}
 
 /// Log: from a t on and before another, without the first entry.
