@@ -53,7 +53,7 @@ place_of-le-length p (d ∷ ds) =
     ]
 
 -- a datom that stands before others, of which one is below the probe
-front_below : (p : Probe) (d : Datom) (ds : List Datom) (i : ℕ) (x : Datom) → StandsBefore p.order d ds → i < length ds → is_below p (get_or ds i x) ≡ true → is_below p d ≡ true
+pub front_below : (p : Probe) (d : Datom) (ds : List Datom) (i : ℕ) (x : Datom) → StandsBefore p.order d ds → i < length ds → is_below p (get_or ds i x) ≡ true → is_below p d ≡ true
 front_below p d [] i x before within below = absurd (omega arith)
 front_below p d (e ∷ ds) zero x before within below = below_earlier p d e before.0 below
 front_below p d (e ∷ ds) (suc i) x before within below = front_below p d ds i x before.1 (omega arith) below

@@ -1,8 +1,11 @@
-//! How every index is searched: by comparisons of a probe with datoms, each of them counted.
+//! How every index is searched: by comparisons of a probe with datoms, each of them counted, or for the place of one
+//! datom, uncounted.
 #![tactic(auto)]
 
+mod holders;
 mod search;
 mod steps;
 
-pub use search::{is_below, lower_bound};
+pub use holders::HoldsDatom;
+pub use search::{is_below, lower_bound, place_of_datom, stands_after};
 pub use steps::Steps;

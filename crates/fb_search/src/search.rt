@@ -1,14 +1,15 @@
-//! The comparison that counts, and the search of a sorted slice by it.
+//! The comparison that counts, and the searches of a sorted slice.
 ghost use Rattle.std.specs.Prelude.{◌≡◌, ℕ, ◌+◌, ◌^◌, ◌<◌, ◌≤◌, length};
 ghost use Rattle.fb_values.specs.Rising.{IsRising};
-ghost use Rattle.fb_search.specs.Places.{is_below, place_of};
+ghost use Rattle.fb_search.specs.Places.{is_below, place_of, probe_of};
 
+use crate::holders::HoldsDatom;
 use crate::steps::Steps;
-use fb_values::{Datom, Probe, cmp_probe};
+use fb_values::{Datom, Order, Probe, cmp_in, cmp_probe};
 use std::cmp::Ordering;
 use std::sync::ledger::Ledger;
 
-/// Whether the datom stands before the probe. This is the one comparison that a search makes, and it counts.
+/// Whether the datom stands before the probe. This is the one comparison that a counted search makes, and it counts.
 pub fn is_below<L: Ledger>(probe: &Probe, datom: &Datom, steps: &mut Steps<L>) -> bool
     ensures value { result ≡ is_below probe.now datom.now }
     ensures cost { steps.new ≡ steps.old + 1 }
@@ -18,21 +19,41 @@ pub fn is_below<L: Ledger>(probe: &Probe, datom: &Datom, steps: &mut Steps<L>) -
 }
 
 /// The first place of a sorted slice whose datom is not below the probe, or the slice's length.
-pub fn lower_bound<L: Ledger>(datoms: &[Datom], probe: &Probe, steps: &mut Steps<L>) -> usize
-    requires { IsRising probe.now.order datoms.now }
-    ensures value { result ≡ place_of probe.now datoms.now }
+pub fn lower_bound<H: HoldsDatom, L: Ledger>(
+    holders: &[H],
+    probe: &Probe,
+    steps: &mut Steps<L>,
+) -> usize
+    requires { IsRising probe.now.order (H.datoms holders.now) }
+    ensures value { result ≡ place_of probe.now (H.datoms holders.now) }
     // At most as many comparisons as the length has binary digits.
-    ensures cost { (digits : ℕ) → length datoms.now < 2 ^ digits → steps.new ≤ steps.old + digits }
+    ensures cost { (digits : ℕ) → length holders.now < 2 ^ digits → steps.new ≤ steps.old + digits }
 {
     let mut from = 0;
-    let mut to = datoms.len();
+    let mut to = holders.len();
     while from < to {
         let middle = from + (to - from) / 2;
-        if is_below(probe, &datoms[middle], steps) {
+        if is_below(probe, holders[middle].datom(), steps) {
             from = middle + 1;
         } else {
             to = middle;
         }
     }
     from
+}
+
+/// Whether the datom stands behind another one in the order.
+pub fn stands_after(order: Order, datom: &Datom, other: &Datom) -> bool
+    ensures { result ≡ is_below (probe_of order datom.now) other.now }
+{
+    cmp_in(order, datom, other) == Ordering::Greater
+}
+
+/// The place of a datom in a sorted slice, whether it is there or not: that of the first datom that does not stand
+/// before it, or the slice's length. The comparisons do not count.
+pub fn place_of_datom<H: HoldsDatom>(order: Order, holders: &[H], datom: &Datom) -> usize
+    requires { IsRising order (H.datoms holders.now) }
+    ensures { result ≡ place_of (probe_of order datom.now) (H.datoms holders.now) }
+{
+    holders.partition_point(|holder| stands_after(order, datom, holder.datom()))
 }

@@ -5,22 +5,21 @@ ghost use Rattle.std.specs.List.{insert};
 ghost use Rattle.std.specs.List.{slice_get};
 ghost use Rattle.std.specs.Option.{option_copied};
 ghost use Rattle.fb_values.specs.Rising.{IsRising};
-ghost use Rattle.fb_search.specs.Places.{place_of};
+ghost use Rattle.fb_search.specs.Places.{place_of, probe_of};
 ghost use Rattle.live_blocks.specs.Trees.{blocks_at_least};
 ghost use Rattle.live_blocks.specs.Newest.{AreNewest, woven};
 ghost use Rattle.live_blocks.specs.Blocks.{older_of, newest_of, below_of};
 
 use crate::newest::{NEWEST, Newest, Stand, stand_of};
-use crate::search::lower_bound;
-use crate::tree::{Tree, block_with, datom_at, place_in, with_datoms};
+use crate::tree::{Tree, block_with, datom_at, place_in, place_of_datom_in, with_datoms};
 use fb_chunks::Shared;
 use fb_memory::Memory;
-use fb_search::Steps;
-use fb_values::{Datom, Probe};
+use fb_search::{Steps, lower_bound, place_of_datom};
+use fb_values::{Datom, Order, Probe};
 use std::alloc::Global;
-use std::marker::{Brand, Model};
+use std::marker::Model;
 use std::sync::Arc;
-use std::sync::ledger::{Blank, Ledger};
+use std::sync::ledger::Ledger;
 
 /// A list of datoms. A copy shares its blocks, and an insertion into it leaves all copies as they are.
 #[derive(Drop)]
@@ -154,12 +153,13 @@ impl Blocks {
         Blocks::new(self.alloc)
     }
 
-    /// The first place whose datom is not below the probe, or the length, for a caller that counts no comparisons.
-    pub fn place(&self, probe: &Probe) -> usize
-        requires { IsRising probe.now.order self.now }
-        ensures { result ≡ place_of probe.now self.now }
+    /// The place of a datom in the order, whether it is there or not. No comparison counts.
+    pub fn place(&self, order: Order, datom: &Datom) -> usize
+        requires { IsRising order self.now }
+        ensures { result ≡ place_of (probe_of order datom.now) self.now }
     {
-        seek_from::<Brand>(self, probe, Blank::new(1))
+        let older = older_place_of_datom(&self.root, order, datom);
+        older + place_of_datom(order, newest_in(&self.newest), datom)
     }
 
     /// The first place whose datom is not below the probe, or the length.
@@ -257,14 +257,13 @@ fn older_place<L: Ledger>(root: &Option<Arc<Tree>>, probe: &Probe, steps: &mut S
     }
 }
 
-/// A seek whose comparisons a ledger of its own counts.
-fn seek_from<L: Ledger>(blocks: &Blocks, probe: &Probe, blank: Blank) -> usize
-    requires name { blank.name ≡ L.name }
-    requires parts { blank.parts ≡ L.parts }
-    requires some { 0 < blank.parts }
-    requires rising { IsRising probe.now.order blocks.now }
-    ensures { result ≡ place_of probe.now blocks.now }
+/// The place of a datom among the tree's datoms.
+fn older_place_of_datom(root: &Option<Arc<Tree>>, order: Order, datom: &Datom) -> usize
+    requires { IsRising order (older_of root.now) }
+    ensures { result ≡ place_of (probe_of order datom.now) (older_of root.now) }
 {
-    let mut steps = Steps::<L>::of(blank);
-    blocks.seek(probe, &mut steps)
+    match root {
+        None => 0,
+        Some(tree) => place_of_datom_in(tree, order, datom),
+    }
 }

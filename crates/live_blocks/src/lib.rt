@@ -6,7 +6,6 @@
 
 mod blocks;
 mod newest;
-mod search;
 mod tree;
 
 pub use blocks::Blocks;

@@ -4,16 +4,15 @@ ghost use Rattle.std.specs.List.{insert};
 ghost use Rattle.std.specs.List.{slice_get};
 ghost use Rattle.std.specs.Arc.{arc_value};
 ghost use Rattle.fb_values.specs.Rising.{IsRising};
-ghost use Rattle.fb_search.specs.Places.{place_of};
+ghost use Rattle.fb_search.specs.Places.{place_of, probe_of};
 ghost use Rattle.live_blocks.specs.Newest.{StandWithin, newer_upto, woven};
 ghost use Rattle.live_blocks.specs.Trees.{DifferByAtMost, least_len, IsHeightAfterBalance};
 ghost use Rattle.live_blocks.specs.Tree.{datoms_and_height, IsTree, IsCopy};
 
-use crate::search::lower_bound;
 use fb_chunks::{Share, Shared};
 use fb_memory::Memory;
-use fb_search::{Steps, is_below};
-use fb_values::{Datom, Probe};
+use fb_search::{Steps, is_below, lower_bound, place_of_datom, stands_after};
+use fb_values::{Datom, Order, Probe};
 use std::alloc::Global;
 use std::marker::Model;
 use std::sync::Arc;
@@ -197,6 +196,29 @@ pub fn place_in<L: Ledger>(tree: &Tree, probe: &Probe, steps: &mut Steps<L>) -> 
                 *before + 1 + place_in(right, probe, steps)
             } else {
                 place_in(left, probe, steps)
+            }
+        }
+    }
+}
+
+/// The place of a datom in the order, whether it is there or not. No comparison counts.
+pub fn place_of_datom_in(tree: &Tree, order: Order, datom: &Datom) -> usize
+    requires { IsRising order tree.now.0 }
+    ensures { result ≡ place_of (probe_of order datom.now) tree.now.0 }
+{
+    match &tree.node {
+        Node::Leaf(datoms) => place_of_datom(order, datoms, datom),
+        Node::Fork {
+            left,
+            datom: middle,
+            right,
+            before,
+            ..
+        } => {
+            if stands_after(order, datom, middle.get()) {
+                *before + 1 + place_of_datom_in(right, order, datom)
+            } else {
+                place_of_datom_in(left, order, datom)
             }
         }
     }

@@ -8,23 +8,16 @@ use Rattle.std.proofs.lemmas.Bool.{cases_Bool}
 use Rattle.std.proofs.lemmas.Option.{slice_get-get_or}
 use Rattle.fb_values.specs.declared.facts.Datom.{Datom}
 use Rattle.fb_values.specs.declared.indexes.Order.{Order}
-use Rattle.fb_values.specs.declared.indexes.Order.TheVariants.{Eavt, Aevt, Avet, Vaet}
 use Rattle.fb_values.specs.declared.indexes.Probe.{Probe}
 use Rattle.fb_values.specs.Orders.{key_cmp}
 use Rattle.fb_values.specs.OrderLaws.{key_cmp_total}
 use Rattle.fb_values.specs.Rising.{StandsBefore, IsRising}
 use Rattle.fb_search.specs.Places.{is_below, place_of, probe_of}
+use Rattle.fb_search.proofs.Own.{is_below-probe_of}
 use Rattle.live_index.specs.Growth.{is_twin}
 
 one-add : (n : ℕ) → 1 + n ≡ suc n
 one-add n = omega arith
-
--- a datom's own probe compares as the datom does
-own_probe : (order : Order) (d x : Datom) → is_below (probe_of order d) x ≡ is_gt (key_cmp order d x)
-own_probe Eavt d x = refl
-own_probe Aevt d x = refl
-own_probe Avet d x = refl
-own_probe Vaet d x = refl
 
 above_is_less : (order : Order) (d x : Datom) (o : Ordering) → key_cmp order d x ≡ o → is_gt o ≡ true → key_cmp order x d ≡ Less
 above_is_less order d x Less e h = absurd (cc)
@@ -60,14 +53,14 @@ above_at p (x ∷ xs) z within =
 -- before a datom's place stand those with lesser keys
 less_before : (order : Order) (d : Datom) (xs : List Datom) (k : ℕ) (z : Datom) → k < place_of (probe_of order d) xs → key_cmp order (get_or xs k z) d ≡ Less
 less_before order d xs k z before =
-    above_is_less order d (get_or xs k z) (key_cmp order d (get_or xs k z)) refl (sym (own_probe order d (get_or xs k z)) ∙ below_before (probe_of order d) xs k z before)
+    above_is_less order d (get_or xs k z) (key_cmp order d (get_or xs k z)) refl (sym (is_below-probe_of order d (get_or xs k z)) ∙ below_before (probe_of order d) xs k z before)
 
 -- what stands there has a greater key, unless it has this one
 greater_at : (order : Order) (d : Datom) (xs : List Datom) (z : Datom) → place_of (probe_of order d) xs < length xs → is_twin order d (slice_get xs (place_of (probe_of order d) xs)) ≡ false → key_cmp order d (get_or xs (place_of (probe_of order d) xs) z) ≡ Less
 greater_at order d xs z within apart =
     let place = place_of (probe_of order d) xs in
     let there = get_or xs place z in
-    not_above_is_less order d there (key_cmp order there d) refl (sym (own_probe order d there) ∙ above_at (probe_of order d) xs z within) (rw (slice_get-get_or xs place z within) at apart)
+    not_above_is_less order d there (key_cmp order there d) refl (sym (is_below-probe_of order d there) ∙ above_at (probe_of order d) xs z within) (rw (slice_get-get_or xs place z within) at apart)
 
 before_later : (order : Order) (d x : Datom) (xs : List Datom) → key_cmp order d x ≡ Less → StandsBefore order x xs → StandsBefore order d xs
 before_later order d x [] less before = tt

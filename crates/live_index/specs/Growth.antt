@@ -22,16 +22,20 @@ is_held coverage order d = covers coverage order d.a
 
 -- the datom is of the list before, of the entry, or of what AVET is refilled with
 abbrev pub IsOffered : Order → List Datom → List Datom → List Datom → Datom → Type 0
-IsOffered order old refill datoms d = (Contains old d ⊎ ((order ≡ Avet) × Contains refill d)) ⊎ Contains datoms d
+IsOffered order old refill datoms d =
+    (Contains old d ⊎ ((order ≡ Avet) × Contains refill d)) ⊎ Contains datoms d
 
 -- the strictly rising list of the offered datoms whose attribute the order's index holds
-pub record IsGrown (order : Order) (coverage : Coverage) (old refill datoms new : List Datom) : Type 0 where
+pub record IsGrown (order : Order) (coverage : Coverage) (old refill datoms new : List Datom)
+    : Type 0 where
   pub rising : IsRising order new
-  pub members : (d : Datom) → Contains new d ↔ (IsOffered order old refill datoms d × IsTrue (is_held coverage order d))
+  pub members : (d : Datom)
+      → Contains new d ↔ (IsOffered order old refill datoms d × IsTrue (is_held coverage order d))
 
 -- the list rises, and holds the datoms of held attributes alone, by the coverage of the last entry
 abbrev pub IsSound : Order → Option Coverage → List Datom → Type 0
-IsSound order coverage ds = IsRising order ds × IfSome coverage (λ c. All (λ d. IsTrue (is_held c order d)) ds)
+IsSound order coverage ds =
+    IsRising order ds × IfSome coverage (λ c. All (λ d. IsTrue (is_held c order d)) ds)
 
 -- a datom was found, and it has this datom's key
 abbrev pub is_twin : Order → Datom → Option Datom → Bool

@@ -22,9 +22,12 @@ abbrev pub IsCoverageOf : Coverage → List Datom → Type 0
 IsCoverageOf coverage facts = (order : Order) (a : ℕ) → held coverage order a ≡ covers facts order a
 
 -- The entry comes next in the history, with the coverage after it, and with the older datoms that AVET demands with it and did not demand before
-pub record IsNext (h : List Entry) (c : ℕ) (entry : Entry) (coverage : Coverage) (refill : List Datom) : Type 0 where
+pub record IsNext (h : List Entry) (c : ℕ) (entry : Entry) (coverage : Coverage)
+    (refill : List Datom) : Type 0 where
   pub lawful : IsLawful h
   pub bound : c ≤ basis h
   pub next : IsLawfulAfter h entry
   pub coverage_is : IsCoverageOf coverage (facts (h ++ entry ∷ []))
-  pub refill_is : IsRisingListOf Avet refill (λ d. Contains (said h) d × IsDemanded (h ++ entry ∷ []) c Avet d × (IsDemanded h c Avet d → ⊥))
+  pub refill_is : IsRisingListOf Avet refill (λ d. Contains (said h) d
+      × IsDemanded (h ++ entry ∷ []) c Avet d
+      × (IsDemanded h c Avet d → ⊥))

@@ -5,13 +5,12 @@ ghost use Rattle.fb_values.specs.declared.facts.Datom.{Datom};
 ghost use Rattle.fb_values.specs.declared.indexes.Order.TheVariants.{Avet};
 ghost use Rattle.fb_covers.specs.Coverage.{StaysIn};
 ghost use Rattle.fb_values.specs.Rising.{IsRising};
-ghost use Rattle.fb_search.specs.Places.{probe_of};
 ghost use Rattle.live_index.specs.Growth.{HasNoTwins, IsSound, is_held, is_twin};
 
 use fb_chunks::{Share, Shared};
 use fb_covers::Covers;
 use fb_memory::Memory;
-use fb_values::{Datom, Order, Probe, cmp_in};
+use fb_values::{Datom, Order, cmp_in};
 use live_blocks::Blocks;
 use std::cmp::Ordering;
 
@@ -60,7 +59,8 @@ fn pushed_if_held(
     datom: &Shared<Datom>,
     covers: &Covers,
 ) -> Result<Blocks, Memory>
-    ensures { IfOk result (λ new. new ≡ list ++ filter (is_held covers.now order) (datom.now ∷ [])) }
+    ensures { IfOk result
+        (λ new. new ≡ list ++ filter (is_held covers.now order) (datom.now ∷ [])) }
 {
     if !covers.holds(order, datom.get().a) {
         return Ok(list);
@@ -79,7 +79,10 @@ pub fn refilled(
     requires rising { IsRising order list }
     requires single { HasNoTwins (list ++ refill.now) }
     ensures rising { IfOk result (λ new. IsRising order new) }
-    ensures members { IfOk result (λ new. (d : Datom) → Contains new d ↔ (Contains list d ⊎ ((order ≡ Avet) × Contains refill.now d × IsTrue (is_held covers.now order d)))) }
+    ensures members { IfOk result (λ new. (d : Datom)
+        → Contains new d
+        ↔ (Contains list d
+        ⊎ ((order ≡ Avet) × Contains refill.now d × IsTrue (is_held covers.now order d)))) }
 {
     match order {
         Order::Avet => with_held(list, order, refill, covers),
@@ -97,7 +100,9 @@ pub fn with_held(
     requires rising { IsRising order list }
     requires single { HasNoTwins (list ++ datoms.now) }
     ensures rising { IfOk result (λ new. IsRising order new) }
-    ensures members { IfOk result (λ new. (d : Datom) → Contains new d ↔ (Contains list d ⊎ (Contains datoms.now d × IsTrue (is_held covers.now order d)))) }
+    ensures members { IfOk result (λ new. (d : Datom)
+        → Contains new d
+        ↔ (Contains list d ⊎ (Contains datoms.now d × IsTrue (is_held covers.now order d)))) }
 {
     let mut list = list;
     for datom in datoms {
@@ -116,31 +121,19 @@ fn with_datom(
     requires rising { IsRising order list }
     requires single { HasNoTwins (list ++ datom.now ∷ []) }
     ensures rising { IfOk result (λ new. IsRising order new) }
-    ensures members { IfOk result (λ new. (d : Datom) → Contains new d ↔ (Contains list d ⊎ ((datom.now ≡ d) × IsTrue (is_held covers.now order d)))) }
+    ensures members { IfOk result (λ new. (d : Datom)
+        → Contains new d
+        ↔ (Contains list d ⊎ ((datom.now ≡ d) × IsTrue (is_held covers.now order d)))) }
 {
     let found = datom.get();
     if !covers.holds(order, found.a) {
         return Ok(list);
     }
-    let probe = probe_of(order, found)?;
-    let place = list.place(&probe);
+    let place = list.place(order, found);
     if is_there(&list, order, place, found) {
         return Ok(list);
     }
     list.insert(place, datom.share()?)
-}
-
-/// The probe for a datom's own place.
-fn probe_of(order: Order, datom: &Datom) -> Result<Probe, Memory>
-    ensures { IfOk result (λ probe. probe ≡ probe_of order datom.now) }
-{
-    Ok(Probe {
-        order,
-        e: Some(datom.e),
-        a: Some(datom.a),
-        v: Some(datom.v.copy()?),
-        t: Some(datom.t),
-    })
 }
 
 /// Whether the datom at the place has the datom's key.

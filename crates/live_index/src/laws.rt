@@ -11,5 +11,8 @@ ghost use Rattle.live_index.specs.Standing.{IsNext};
 
 /// The datoms that `Live::with_entry` is offered are all of one history, so no two of one place differ.
 pub fn next_entries_bring_no_twins()
-    ensures { (h : List Entry) (c : ℕ) (entry : Entry) (coverage : Coverage) (refill : List Datom) (old : Lists) → IsNext h c entry coverage refill → LiveStands old h c → (order : Order) → HasNoTwins (list_in old order ++ refill ++ entry.datoms) }
+    ensures { (h : List Entry) (c : ℕ) (entry : Entry) (coverage : Coverage) (refill : List Datom)
+        (old : Lists)
+        → IsNext h c entry coverage refill → LiveStands old h c → (order : Order)
+        → HasNoTwins (list_in old order ++ refill ++ entry.datoms) }
 {}

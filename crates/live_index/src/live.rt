@@ -43,7 +43,9 @@ impl Model for Live {
 
     ghost view = { λ l. record { eavt = l.eavt; aevt = l.aevt; avet = l.avet; vaet = l.vaet } };
 
-    ghost invariant = { λ l. (order : Order) → IsSound order l.covers (list_in (record { eavt = l.eavt; aevt = l.aevt; avet = l.avet; vaet = l.vaet }) order) };
+    ghost invariant = { λ l. (order : Order)
+        → IsSound order l.covers
+        (list_in (record { eavt = l.eavt; aevt = l.aevt; avet = l.avet; vaet = l.vaet }) order) };
 }
 
 impl Live {
@@ -91,7 +93,9 @@ impl Live {
         ensures place { result ≡ place_of probe.now (list_in self.now probe.now.order) }
         ensures rising { IsRising probe.now.order (list_in self.now probe.now.order) }
         // At most twice the binary digits of the number of blocks, and 18 more, however few the blocks are.
-        ensures cost { (digits : ℕ) → blocks_at_least (length (list_in self.now probe.now.order)) < 2 ^ digits → steps.new ≤ steps.old + 2 * digits + 18 }
+        ensures cost { (digits : ℕ)
+            → blocks_at_least (length (list_in self.now probe.now.order)) < 2 ^ digits
+            → steps.new ≤ steps.old + 2 * digits + 18 }
     {
         self.list(probe.order).seek(probe, steps) as u64
     }
@@ -122,10 +126,15 @@ impl Live {
         refill: &Datoms,
     ) -> Result<Live, Memory>
         // Datoms of one entity, attribute, value and t are one datom.
-        requires { (order : Order) → HasNoTwins (list_in self.now order ++ refill.now ++ entry.now.datoms) }
-        ensures grown { IfOk result (λ live. (order : Order) → IsGrown order covers.now (list_in self.now order) refill.now entry.now.datoms (list_in live order)) }
+        requires { (order : Order)
+            → HasNoTwins (list_in self.now order ++ refill.now ++ entry.now.datoms) }
+        ensures grown { IfOk result (λ live. (order : Order)
+            → IsGrown order covers.now (list_in self.now order) refill.now entry.now.datoms
+            (list_in live order)) }
         // Where the lists stand for a history above c, and the entry comes next in it, the new ones stand for the history with the entry.
-        ensures stands { IfOk result (λ live. (h : List Entry) (c : ℕ) → IsNext h c entry.now covers.now refill.now → LiveStands self.now h c → LiveStands live (h ++ entry.now ∷ []) c) }
+        ensures stands { IfOk result (λ live. (h : List Entry) (c : ℕ)
+            → IsNext h c entry.now covers.now refill.now → LiveStands self.now h c
+            → LiveStands live (h ++ entry.now ∷ []) c) }
     {
         let datoms = self.eavt.shared(entry.datoms.as_slice())?;
         let refill = self.eavt.shared(refill.as_slice())?;
@@ -139,8 +148,11 @@ impl Live {
         covers: &Covers,
         refill: &[Shared<Datom>],
     ) -> Result<Live, Memory>
-        requires { (order : Order) → HasNoTwins (list_in self.now order ++ refill.now ++ datoms.now) }
-        ensures { IfOk result (λ live. (order : Order) → IsGrown order covers.now (list_in self.now order) refill.now datoms.now (list_in live order)) }
+        requires { (order : Order)
+            → HasNoTwins (list_in self.now order ++ refill.now ++ datoms.now) }
+        ensures { IfOk result (λ live. (order : Order)
+            → IsGrown order covers.now (list_in self.now order) refill.now datoms.now
+            (list_in live order)) }
     {
         Ok(Live {
             eavt: self.with_shared_in(Order::Eavt, datoms, covers, refill)?,
@@ -159,7 +171,8 @@ impl Live {
         refill: &[Shared<Datom>],
     ) -> Result<Blocks, Memory>
         requires { HasNoTwins (list_in self.now order ++ refill.now ++ datoms.now) }
-        ensures { IfOk result (λ list. IsGrown order covers.now (list_in self.now order) refill.now datoms.now list) }
+        ensures { IfOk result
+            (λ list. IsGrown order covers.now (list_in self.now order) refill.now datoms.now list) }
     {
         let kept = kept(self.list(order), order, &self.covers, covers)?;
         let refilled = refilled(kept, order, refill, covers)?;

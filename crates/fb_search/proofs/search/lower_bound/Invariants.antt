@@ -7,10 +7,10 @@ abbrev pub invariant-loop-from : goal.invariant-loop-from
 invariant-loop-from g l =
     record {
       ends : l.from ≤ l.to;
-      within : l.to ≤ length l.datoms;
-      behind : l.from ≤ place_of l.probe l.datoms;
-      upto : place_of l.probe l.datoms ≤ l.to;
-      left : (digits : ℕ) → length l.datoms < 2 ^ digits → (few : ℕ) × (l.to - l.from < 2 ^ few) × (l.steps + few ≤ l.initial.steps + digits);
+      within : l.to ≤ length l.holders;
+      behind : l.from ≤ place_of l.probe (g.H.HoldsDatom.datoms l.holders);
+      upto : place_of l.probe (g.H.HoldsDatom.datoms l.holders) ≤ l.to;
+      left : (digits : ℕ) → length l.holders < 2 ^ digits → (few : ℕ) × (l.to - l.from < 2 ^ few) × (l.steps + few ≤ l.initial.steps + digits);
     }
 
 abbrev pub decreases-loop-from : goal.decreases-loop-from
