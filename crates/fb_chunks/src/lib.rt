@@ -10,6 +10,3 @@ mod sharing;
 pub use fb_memory::Memory;
 pub use lists::ChunkList;
 pub use sharing::{Share, Shared};
-
-#[cfg(test)]
-mod tests;

@@ -10,6 +10,3 @@ pub use authors::Authors;
 pub use entries::EntryList;
 pub use fb_memory::Memory;
 pub use fb_values::{Datoms, Entry};
-
-#[cfg(test)]
-mod tests;

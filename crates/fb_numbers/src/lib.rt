@@ -17,6 +17,3 @@ pub use limits::{
     GREATEST_INSTANT, GREATEST_T, LARGEST_ENTRY, LEAST_INSTANT, LONGEST_NAME, LONGEST_STRING,
     MOST_DATOMS, MOST_USERS, is_instant,
 };
-
-#[cfg(test)]
-mod tests;

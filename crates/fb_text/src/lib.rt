@@ -6,6 +6,3 @@ mod short;
 mod texts;
 
 pub use texts::Text;
-
-#[cfg(test)]
-mod tests;

@@ -10,6 +10,3 @@ pub mod laws;
 pub use facts::{Datom, Datoms, Entry, Value};
 pub use fb_memory::Memory;
 pub use indexes::{Order, Probe, cmp_in, cmp_probe};
-
-#[cfg(test)]
-mod tests;

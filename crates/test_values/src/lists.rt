@@ -1,5 +1,5 @@
 //! Tests: lists at the lengths where their chunks fill.
-use super::*;
+use fb_chunks::{ChunkList, Share, Shared};
 use std::test::Fail;
 
 /// Lists of each length up to the last, and what `at` answers in each when all have been made.

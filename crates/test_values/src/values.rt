@@ -1,6 +1,7 @@
 //! Tests: values, datoms and their orders.
-use super::*;
+use fb_memory::Memory;
 use fb_text::Text;
+use fb_values::{Datom, Datoms, Entry, Order, Probe, Value, cmp_in, cmp_probe};
 use std::alloc::Global;
 use std::cmp::Ordering;
 use std::test::Fail;

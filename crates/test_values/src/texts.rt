@@ -1,5 +1,5 @@
 //! Tests: texts on both sides of the longest that lies in the value itself.
-use super::*;
+use fb_text::Text;
 use std::test::Fail;
 
 /// 22 and 23 bytes: the longest text that lies in the value itself, and the shortest that does not. The last character

@@ -1,7 +1,7 @@
 //! Tests: lists of entries, heads and authors.
-use super::*;
+use fb_history::{Authors, EntryList};
 use fb_text::Text;
-use fb_values::Value;
+use fb_values::{Datom, Datoms, Entry, Value};
 use std::alloc::{AllocError, Global};
 use std::test::Fail;
 
@@ -85,7 +85,7 @@ fn a_longer_history_leaves_the_shorter_one(rt: HostRuntime) -> Result<(), Fail> 
     let shared = first.share()?;
     assert_eq!(rt; shared.len(), 1);
     let mut items = Vec::new(rt.alloc());
-    items.push(fb_values::Datom {
+    items.push(Datom {
         e: 17_592_186_044_417,
         a: 7,
         v: Value::Str(Text::of(rt.alloc(), "hi")?),

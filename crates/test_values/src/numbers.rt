@@ -1,5 +1,7 @@
 //! Tests: entities as they are documented.
-use super::*;
+use fb_numbers::{
+    is_builtin, is_instant, t_of_transaction, transaction_entity, user_entity, user_number,
+};
 use std::test::Fail;
 
 /// Entities as they are documented.
