@@ -63,8 +63,10 @@ impl Builder {
     pub fn keep(self, leaf: Arc<Leaf>) -> Result<Builder, Memory>
         requires { (arc_value leaf).id < self.first }
         ensures { IfOk result (λ build. build
-            ≡ record self { datoms = self.datoms ++ (arc_value leaf).datoms;
-            kept = self.kept ++ arc_value leaf ∷ [] }) }
+            ≡ record self {
+              datoms = self.datoms ++ (arc_value leaf).datoms;
+              kept = self.kept ++ arc_value leaf ∷ [];
+            }) }
     {
         let Builder {
             alloc,

@@ -47,8 +47,12 @@ impl Roots {
     ) -> Result<Roots, Memory>
         requires { first_id ≤ 2 ^ 61 }
         ensures lists { IfOk result (λ roots. trees_of roots
-            ≡ record { eavt = eavt.items; aevt = aevt.items; avet = avet.items;
-            vaet = vaet.items }) }
+            ≡ record {
+              eavt = eavt.items;
+              aevt = aevt.items;
+              avet = avet.items;
+              vaet = vaet.items;
+            }) }
         ensures ids { IfOk result
             (λ roots. root_ids roots ≡ range_with_len first_id (length (root_ids roots))) }
         ensures next { IfOk result (λ roots. 0 < length (root_ids roots)
