@@ -150,6 +150,36 @@ fn take(tree: Arc<Tree>) -> Result<Node, Memory>
     }
 }
 
+/// The sides of a fork, and the datom between them.
+#[derive(Drop)]
+struct Sides {
+    left: Arc<Tree>,
+    datom: Shared<Datom>,
+    right: Arc<Tree>,
+}
+
+/// A fork taken apart.
+fn sides_of(tree: Arc<Tree>) -> Result<Sides, Memory>
+    requires { 0 < (arc_value tree).1 }
+    ensures datoms { IfOk result (λ sides. (arc_value tree).0
+        ≡ (arc_value sides.left).0 ++ sides.datom ∷ (arc_value sides.right).0) }
+    ensures height { IfOk result (λ sides. (arc_value tree).1
+        ≡ max (arc_value sides.left).1 (arc_value sides.right).1 + 1) }
+    ensures balanced { IfOk result
+        (λ sides. DifferByAtMost 1 (arc_value sides.left).1 (arc_value sides.right).1) }
+{
+    let Node::Fork {
+        left,
+        datom,
+        right,
+        ..
+    } = take(tree)?
+    else {
+        unreachable!()
+    };
+    Ok(Sides { left, datom, right })
+}
+
 /// The datom at a place.
 pub fn datom_at(tree: &Tree, place: usize) -> &Shared<Datom>
     requires { place < length tree.now.0 }
@@ -345,15 +375,11 @@ fn join_lower_right(
     if left.height() <= right.height() + 1 {
         return Ok(fork(left, datom, right));
     }
-    let Node::Fork {
+    let Sides {
         left: outer,
         datom: first,
         right: inner,
-        ..
-    } = take(left)?
-    else {
-        unreachable!()
-    };
+    } = sides_of(left)?;
     let inner = join_lower_right(alloc, inner, datom, right)?;
     balance(alloc, outer, first, Arc::new(alloc, inner)?)
 }
@@ -374,15 +400,11 @@ fn join_lower_left(
     if right.height() <= left.height() + 1 {
         return Ok(fork(left, datom, right));
     }
-    let Node::Fork {
+    let Sides {
         left: inner,
         datom: last,
         right: outer,
-        ..
-    } = take(right)?
-    else {
-        unreachable!()
-    };
+    } = sides_of(right)?;
     let inner = join_lower_left(alloc, left, datom, inner)?;
     balance(alloc, Arc::new(alloc, inner)?, last, outer)
 }
@@ -443,28 +465,20 @@ fn lean_left(
     ensures datoms { IfOk result (λ new. new.0 ≡ (arc_value left).0 ++ datom ∷ (arc_value right).0) }
     ensures height { IfOk result (λ new. IsHeightAfterBalance (arc_value left).1 (arc_value right).1 new.1) }
 {
-    let Node::Fork {
+    let Sides {
         left: outer,
         datom: first,
         right: inner,
-        ..
-    } = take(left)?
-    else {
-        unreachable!()
-    };
+    } = sides_of(left)?;
     if outer.height() >= inner.height() {
         let inner = Arc::new(alloc, fork(inner, datom, right))?;
         return Ok(fork(outer, first, inner));
     }
-    let Node::Fork {
+    let Sides {
         left: near,
         datom: middle,
         right: far,
-        ..
-    } = take(inner)?
-    else {
-        unreachable!()
-    };
+    } = sides_of(inner)?;
     let left = Arc::new(alloc, fork(outer, first, near))?;
     let right = Arc::new(alloc, fork(far, datom, right))?;
     Ok(fork(left, middle, right))
@@ -482,28 +496,20 @@ fn lean_right(
     ensures datoms { IfOk result (λ new. new.0 ≡ (arc_value left).0 ++ datom ∷ (arc_value right).0) }
     ensures height { IfOk result (λ new. IsHeightAfterBalance (arc_value left).1 (arc_value right).1 new.1) }
 {
-    let Node::Fork {
+    let Sides {
         left: inner,
         datom: last,
         right: outer,
-        ..
-    } = take(right)?
-    else {
-        unreachable!()
-    };
+    } = sides_of(right)?;
     if outer.height() >= inner.height() {
         let inner = Arc::new(alloc, fork(left, datom, inner))?;
         return Ok(fork(inner, last, outer));
     }
-    let Node::Fork {
+    let Sides {
         left: far,
         datom: middle,
         right: near,
-        ..
-    } = take(inner)?
-    else {
-        unreachable!()
-    };
+    } = sides_of(inner)?;
     let left = Arc::new(alloc, fork(left, datom, far))?;
     let right = Arc::new(alloc, fork(near, last, outer))?;
     Ok(fork(left, middle, right))

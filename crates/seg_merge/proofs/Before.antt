@@ -8,13 +8,13 @@ use Rattle.std.proofs.lemmas.Bool.{cases_Bool}
 use Rattle.std.proofs.lemmas.List.Elements.{Contains-append_right, Contains-append_cases}
 use Rattle.fb_values.specs.declared.facts.Datom.{Datom}
 use Rattle.fb_values.specs.declared.indexes.Order.{Order}
-use Rattle.fb_values.specs.declared.indexes.Order.TheVariants.{Eavt, Aevt, Avet, Vaet}
 use Rattle.fb_values.specs.declared.indexes.Probe.{Probe}
 use Rattle.fb_values.specs.Orders.{key_cmp}
 use Rattle.fb_values.specs.OrderLaws.{key_cmp_total}
 use Rattle.fb_values.specs.Rising.{StandsBefore, IsRising}
 use Rattle.fb_search.specs.Places.{is_below, place_of, probe_of}
 use Rattle.fb_search.proofs.Below.{below_earlier}
+use Rattle.fb_search.proofs.Own.{is_below-probe_of}
 use Rattle.live_index.proofs.Members.{contains-cons, contains_head, contains_tail, contains_none, from_filter}
 
 -- each datom of the one list stands before each of the other
@@ -103,13 +103,6 @@ drop_above p (d ∷ ds) x rising there =
           ]
     ]
 
--- a datom's own probe compares as the datom does
-own_probe : (order : Order) (d x : Datom) → is_below (probe_of order d) x ≡ is_gt (key_cmp order d x)
-own_probe Eavt d x = refl
-own_probe Aevt d x = refl
-own_probe Avet d x = refl
-own_probe Vaet d x = refl
-
 greater_is_less : (order : Order) (d x : Datom) (o : Ordering) → key_cmp order d x ≡ o → is_gt o ≡ true → key_cmp order x d ≡ Less
 greater_is_less order d x Less e h = absurd (cc)
 greater_is_less order d x Equal e h = absurd (cc)
@@ -118,8 +111,8 @@ greater_is_less order d x Greater e h = let t = key_cmp_total order in t.antisym
 -- before a datom's own place stand lesser ones
 pub own_before : (order : Order) (d : Datom) (ds : List Datom) (x : Datom) → Contains (take (place_of (probe_of order d) ds) ds) x → key_cmp order x d ≡ Less
 own_before order d ds x there =
-    greater_is_less order d x (key_cmp order d x) refl (sym (own_probe order d x) ∙ take_below (probe_of order d) ds x there)
+    greater_is_less order d x (key_cmp order d x) refl (sym (is_below-probe_of order d x) ∙ take_below (probe_of order d) ds x there)
 
 -- and behind it none
 pub own_behind : (order : Order) (d : Datom) (ds : List Datom) (x : Datom) → IsRising order ds → Contains (drop (place_of (probe_of order d) ds) ds) x → is_gt (key_cmp order d x) ≡ false
-own_behind order d ds x rising there = sym (own_probe order d x) ∙ drop_above (probe_of order d) ds x rising there
+own_behind order d ds x rising there = sym (is_below-probe_of order d x) ∙ drop_above (probe_of order d) ds x rising there

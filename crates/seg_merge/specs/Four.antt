@@ -15,4 +15,6 @@ plan_in plans Vaet = plans.vaet
 
 -- the ids of the leaves that they keep
 abbrev pub kept_ids : Plans → List ℕ
-kept_ids plans = ((leaf_ids plans.eavt.kept ++ leaf_ids plans.aevt.kept) ++ leaf_ids plans.avet.kept) ++ leaf_ids plans.vaet.kept
+kept_ids plans =
+    ((leaf_ids plans.eavt.kept ++ leaf_ids plans.aevt.kept) ++ leaf_ids plans.avet.kept)
+    ++ leaf_ids plans.vaet.kept

@@ -17,9 +17,13 @@ abbrev pub is_due : Coverage → ℕ → Order → Datom → Bool
 is_due coverage c order d = nat_le d.t c && is_held coverage order d
 
 -- the strictly rising list of the older datoms of held attributes and of the live ones that are due
-pub record IsMerged (order : Order) (coverage : Coverage) (c : ℕ) (old live new : List Datom) : Type 0 where
+pub record IsMerged (order : Order) (coverage : Coverage) (c : ℕ) (old live new : List Datom)
+    : Type 0 where
   pub rising : IsRising order new
-  pub members : (d : Datom) → Contains new d ↔ ((Contains old d × IsTrue (is_held coverage order d)) ⊎ (Contains live d × IsTrue (is_due coverage c order d)))
+  pub members : (d : Datom)
+      → Contains new d
+      ↔ ((Contains old d × IsTrue (is_held coverage order d))
+      ⊎ (Contains live d × IsTrue (is_due coverage c order d)))
 
 -- both lists rise, and datoms of one entity, attribute, value and t are one datom
 pub record IsMergeable (order : Order) (old live : List Datom) : Type 0 where
@@ -30,7 +34,10 @@ pub record IsMergeable (order : Order) (old live : List Datom) : Type 0 where
 -- the datom goes before the first datom of the leaf, or there is no leaf
 abbrev pub goes_before_leaf : Order → Option LeafNode → Datom → Bool
 goes_before_leaf order leaf d =
-    option_map_or (λ l. option_map_or (λ first. is_lt (key_cmp order d first)) (slice_get l.datoms 0) false) leaf true
+    option_map_or
+    (λ l. option_map_or (λ first. is_lt (key_cmp order d first)) (slice_get l.datoms 0) false)
+    leaf
+    true
 
 abbrev pub goes_before : Order → List LeafNode → ℕ → Datom → Bool
 goes_before order leaves n d = goes_before_leaf order (slice_get leaves n) d
@@ -38,7 +45,8 @@ goes_before order leaves n d = goes_before_leaf order (slice_get leaves n) d
 -- a leaf's range goes up to the next leaf's first datom, and the first leaf's begins at the start
 abbrev pub FallsInto : Order → List LeafNode → ℕ → Datom → Type 0
 FallsInto order leaves zero d = IsTrue (goes_before order leaves 1 d)
-FallsInto order leaves (suc n) d = IsFalse (goes_before order leaves (suc n) d) × IsTrue (goes_before order leaves (n + 2) d)
+FallsInto order leaves (suc n) d =
+    IsFalse (goes_before order leaves (suc n) d) × IsTrue (goes_before order leaves (n + 2) d)
 
 -- the leaves into whose range none of the datoms falls, and whose own datoms are of held attributes, stay under their ids
 abbrev pub KeepsLeaves : Order → Coverage → List LeafNode → List Datom → List LeafNode → Type 0

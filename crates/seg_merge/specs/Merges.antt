@@ -10,7 +10,8 @@ use Rattle.seg_merge.specs.Merged.{IsMerged, KeepsLeaves, due_of}
 use Rattle.seg_merge.specs.Plans.{Planned, RepeatsNone}
 
 -- the plan of one order's tree: its datoms are merged, and it keeps older leaves, each once, all that no datom falls into among them
-pub record IsPlan (order : Order) (coverage : Coverage) (c : ℕ) (tree : List DirectoryNode) (live : List Datom) (plan : Planned) : Type 0 where
+pub record IsPlan (order : Order) (coverage : Coverage) (c : ℕ) (tree : List DirectoryNode)
+    (live : List Datom) (plan : Planned) : Type 0 where
   pub merged : IsMerged order coverage c (tree_datoms tree) live plan.datoms
   pub older : All (Contains (tree_leaves tree)) plan.kept
   pub once : RepeatsNone (tree_leaves tree) plan.kept
@@ -18,4 +19,5 @@ pub record IsPlan (order : Order) (coverage : Coverage) (c : ℕ) (tree : List D
 
 -- a leaf with an older id is the older leaf
 abbrev pub HasOlderLeaves : ℕ → List LeafNode → List LeafNode → Type 0
-HasOlderLeaves first old new = (leaf : LeafNode) → Contains new leaf → leaf.id < first → Contains old leaf
+HasOlderLeaves first old new =
+    (leaf : LeafNode) → Contains new leaf → leaf.id < first → Contains old leaf

@@ -24,15 +24,18 @@ RepeatsNone old kept = (id : ℕ) → count_of id (leaf_ids kept) ≤ count_of i
 -- the strictly rising list of the held ones of the older datoms, and of the added ones
 pub record IsUnion (order : Order) (coverage : Coverage) (old added new : List Datom) : Type 0 where
   pub rising : IsRising order new
-  pub members : (d : Datom) → Contains new d ↔ ((Contains old d × IsTrue (is_held coverage order d)) ⊎ Contains added d)
+  pub members : (d : Datom)
+      → Contains new d ↔ ((Contains old d × IsTrue (is_held coverage order d)) ⊎ Contains added d)
 
 -- the plan goes on with an older leaf and what falls into its range; the leaf stays where nothing does and it is held whole
-pub record AddsLeaf (order : Order) (coverage : Coverage) (leaf : LeafNode) (added : List Datom) (old new : Planned) : Type 0 where
+pub record AddsLeaf (order : Order) (coverage : Coverage) (leaf : LeafNode) (added : List Datom)
+    (old new : Planned) : Type 0 where
   pub piece : List Datom
   pub datoms : new.datoms ≡ old.datoms ++ piece
   pub union : IsUnion order coverage leaf.datoms added piece
   pub kept : (new.kept ≡ old.kept) ⊎ (new.kept ≡ old.kept ++ leaf ∷ [])
-  pub stays : added ≡ [] → All (λ d. IsTrue (is_held coverage order d)) leaf.datoms → new.kept ≡ old.kept ++ leaf ∷ []
+  pub stays : added ≡ [] → All (λ d. IsTrue (is_held coverage order d)) leaf.datoms
+      → new.kept ≡ old.kept ++ leaf ∷ []
 
 -- the datoms behind one that has this key
 abbrev pub without_twin : Order → Datom → List Datom → List Datom

@@ -14,14 +14,18 @@ use Rattle.view_model.specs.Stands.{RootStands, LiveStands}
 
 -- the coverage is that of the schema after the entry c
 abbrev pub IsCoverageAfter : Coverage → List Entry → ℕ → Type 0
-IsCoverageAfter coverage h c = (order : Order) (a : ℕ) → holds coverage order a ≡ covers (facts (upto h c)) order a
+IsCoverageAfter coverage h c =
+    (order : Order) (a : ℕ) → holds coverage order a ≡ covers (facts (upto h c)) order a
 
 -- no attribute of a datom up to c is held by one alone of the schemas after the entry c and at the end
 abbrev pub IsStillCovered : List Entry → ℕ → Type 0
-IsStillCovered h c = (order : Order) (d : Datom) → Contains (said h) d → d.t ≤ c → covers (facts (upto h c)) order d.a ≡ covers (facts h) order d.a
+IsStillCovered h c =
+    (order : Order) (d : Datom) → Contains (said h) d → d.t ≤ c
+    → covers (facts (upto h c)) order d.a ≡ covers (facts h) order d.a
 
 -- trees for the entries up to the first number, and live lists, may be merged to trees for the entries up to the second
-pub record CanMerge (h : List Entry) (old c : ℕ) (coverage : Coverage) (roots live : Lists) : Type 0 where
+pub record CanMerge (h : List Entry) (old c : ℕ) (coverage : Coverage) (roots live : Lists)
+    : Type 0 where
   pub lawful : IsLawful h
   pub roots_stand : RootStands roots h old
   pub live_stands : LiveStands live h old

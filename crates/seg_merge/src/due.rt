@@ -36,7 +36,8 @@ fn with_due(
     c: u32,
     covers: &Covers,
 ) -> Result<Vec<Datom>, Memory>
-    ensures { IfOk result (λ new. new.items ≡ due.items ++ filter (is_due covers.now c order) (datom.now ∷ [])) }
+    ensures { IfOk result
+        (λ new. new.items ≡ due.items ++ filter (is_due covers.now c order) (datom.now ∷ [])) }
 {
     let mut due = due;
     if datom.t <= c && covers.holds(order, datom.a) {

@@ -39,16 +39,25 @@ pub fn merge4<R: Threads + Sync>(
 ) -> Result<Roots, Memory>
     requires fresh { next_above (root_ids roots.now) ≤ first_id }
     requires small { first_id ≤ 2 ^ 61 }
-    requires mergeable { (order : Order) → IsMergeable order (tree_datoms (tree_in roots.now order)) (list_in live.now order) }
+    requires mergeable { (order : Order)
+        → IsMergeable order (tree_datoms (tree_in roots.now order)) (list_in live.now order) }
 
-    ensures merged { IfOk result (λ new. (order : Order) → IsMerged order covers.now c (tree_datoms (tree_in roots.now order)) (list_in live.now order) (tree_datoms (tree_in new order))) }
-    ensures stays { IfOk result (λ new. (order : Order) → KeepsLeaves order covers.now (tree_leaves (tree_in roots.now order)) (due_of covers.now c order (list_in live.now order)) (tree_leaves (tree_in new order))) }
-    ensures older { IfOk result (λ new. (order : Order) → HasOlderLeaves first_id (tree_leaves (tree_in roots.now order)) (tree_leaves (tree_in new order))) }
+    ensures merged { IfOk result (λ new. (order : Order)
+        → IsMerged order covers.now c (tree_datoms (tree_in roots.now order))
+        (list_in live.now order) (tree_datoms (tree_in new order))) }
+    ensures stays { IfOk result (λ new. (order : Order)
+        → KeepsLeaves order covers.now (tree_leaves (tree_in roots.now order))
+        (due_of covers.now c order (list_in live.now order)) (tree_leaves (tree_in new order))) }
+    ensures older { IfOk result (λ new. (order : Order)
+        → HasOlderLeaves first_id (tree_leaves (tree_in roots.now order))
+        (tree_leaves (tree_in new order))) }
     ensures ids { IfOk result (λ new. IsInRow first_id (root_ids new)) }
     ensures distinct { IfOk result (λ new. AreDistinct (root_ids new)) }
 
     // Where the older trees and the live lists stand for a history, the new trees stand for its entries up to `c`.
-    ensures stand { IfOk result (λ new. (h : List Entry) (old : ℕ) → CanMerge h old c covers.now (trees_of roots.now) live.now → RootStands (trees_of new) h c) }
+    ensures stand { IfOk result (λ new. (h : List Entry) (old : ℕ)
+        → CanMerge h old c covers.now (trees_of roots.now) live.now
+        → RootStands (trees_of new) h c) }
 {
     let plans = Plans::of(rt, alloc, roots, live, c, covers)?;
     let merged = plans.build(alloc, first_id)?;
@@ -76,18 +85,31 @@ impl Plans {
         c: u32,
         covers: &Covers,
     ) -> Result<Plans, Memory>
-        requires { (order : Order) → IsMergeable order (tree_datoms (tree_in roots.now order)) (list_in live.now order) }
-        ensures { IfOk result (λ plans. (order : Order) → IsPlan order covers.now c (tree_in roots.now order) (list_in live.now order) (plan_in plans order)) }
+        requires { (order : Order)
+            → IsMergeable order (tree_datoms (tree_in roots.now order)) (list_in live.now order) }
+        ensures { IfOk result (λ plans. (order : Order)
+            → IsPlan order covers.now c (tree_in roots.now order) (list_in live.now order)
+            (plan_in plans order)) }
     {
         let (by_entity, by_value) = thread::join(
             rt,
             ||
-                requires { (order : Order) → IsMergeable order (tree_datoms (tree_in roots.now order)) (list_in live.now order) }
-                ensures { IfOk result.0 (λ plan. IsPlan Eavt covers.entry.now c (tree_in roots.entry.now Eavt) (list_in live.entry.now Eavt) plan) × IfOk result.1 (λ plan. IsPlan Aevt covers.entry.now c (tree_in roots.entry.now Aevt) (list_in live.entry.now Aevt) plan) }
+                requires { (order : Order)
+                    → IsMergeable order (tree_datoms (tree_in roots.now order))
+                    (list_in live.now order) }
+                ensures { IfOk result.0 (λ plan. IsPlan Eavt covers.entry.now c
+                    (tree_in roots.entry.now Eavt) (list_in live.entry.now Eavt) plan)
+                    × IfOk result.1 (λ plan. IsPlan Aevt covers.entry.now c
+                    (tree_in roots.entry.now Aevt) (list_in live.entry.now Aevt) plan) }
             { plan_two(rt, alloc, Order::Eavt, Order::Aevt, roots, live, c, covers) },
             ||
-                requires { (order : Order) → IsMergeable order (tree_datoms (tree_in roots.now order)) (list_in live.now order) }
-                ensures { IfOk result.0 (λ plan. IsPlan Avet covers.entry.now c (tree_in roots.entry.now Avet) (list_in live.entry.now Avet) plan) × IfOk result.1 (λ plan. IsPlan Vaet covers.entry.now c (tree_in roots.entry.now Vaet) (list_in live.entry.now Vaet) plan) }
+                requires { (order : Order)
+                    → IsMergeable order (tree_datoms (tree_in roots.now order))
+                    (list_in live.now order) }
+                ensures { IfOk result.0 (λ plan. IsPlan Avet covers.entry.now c
+                    (tree_in roots.entry.now Avet) (list_in live.entry.now Avet) plan)
+                    × IfOk result.1 (λ plan. IsPlan Vaet covers.entry.now c
+                    (tree_in roots.entry.now Vaet) (list_in live.entry.now Vaet) plan) }
             { plan_two(rt, alloc, Order::Avet, Order::Vaet, roots, live, c, covers) },
         );
         Ok(Plans {
@@ -103,8 +125,10 @@ impl Plans {
         requires small { first ≤ 2 ^ 61 }
         requires older { (order : Order) → All (λ leaf. leaf.id < first) (plan_in self order).kept }
         requires once { AreDistinct (kept_ids self) }
-        ensures datoms { IfOk result (λ roots. (order : Order) → tree_datoms (tree_in roots order) ≡ (plan_in self order).datoms) }
-        ensures kept { IfOk result (λ roots. (order : Order) → old_leaves first (tree_leaves (tree_in roots order)) ≡ (plan_in self order).kept) }
+        ensures datoms { IfOk result (λ roots. (order : Order)
+            → tree_datoms (tree_in roots order) ≡ (plan_in self order).datoms) }
+        ensures kept { IfOk result (λ roots. (order : Order)
+            → old_leaves first (tree_leaves (tree_in roots order)) ≡ (plan_in self order).kept) }
         ensures ids { IfOk result (λ roots. IsInRow first (root_ids roots)) }
     {
         let (eavt, second) = self.eavt.build(alloc, first)?;
@@ -130,9 +154,12 @@ fn plan_two<R: Threads + Sync>(
     c: u32,
     covers: &Covers,
 ) -> (Result<Plan, Memory>, Result<Plan, Memory>)
-    requires { (order : Order) → IsMergeable order (tree_datoms (tree_in roots.now order)) (list_in live.now order) }
-    ensures first { IfOk result.0 (λ plan. IsPlan first covers.now c (tree_in roots.now first) (list_in live.now first) plan) }
-    ensures second { IfOk result.1 (λ plan. IsPlan second covers.now c (tree_in roots.now second) (list_in live.now second) plan) }
+    requires { (order : Order)
+        → IsMergeable order (tree_datoms (tree_in roots.now order)) (list_in live.now order) }
+    ensures first { IfOk result.0 (λ plan. IsPlan first covers.now c (tree_in roots.now first)
+        (list_in live.now first) plan) }
+    ensures second { IfOk result.1 (λ plan. IsPlan second covers.now c (tree_in roots.now second)
+        (list_in live.now second) plan) }
 {
     thread::join(
         rt,
@@ -151,7 +178,8 @@ fn plan_one(
     covers: &Covers,
 ) -> Result<Plan, Memory>
     requires { IsMergeable order (tree_datoms (tree_in roots.now order)) (list_in live.now order) }
-    ensures { IfOk result (λ plan. IsPlan order covers.now c (tree_in roots.now order) (list_in live.now order) plan) }
+    ensures { IfOk result (λ plan. IsPlan order covers.now c (tree_in roots.now order)
+        (list_in live.now order) plan) }
 {
     let leaves = roots.tree(order).leaves(alloc)?;
     let due = due(alloc, live, order, c, covers)?;
@@ -160,5 +188,7 @@ fn plan_one(
 
 /// Trees and live lists that stand for a history may be merged.
 pub fn what_stands_may_be_merged()
-    ensures { (h : List Entry) (old c : ℕ) (coverage : Coverage) (roots live : Lists) → CanMerge h old c coverage roots live → (order : Order) → IsMergeable order (list_in roots order) (list_in live order) }
+    ensures { (h : List Entry) (old c : ℕ) (coverage : Coverage) (roots live : Lists)
+        → CanMerge h old c coverage roots live → (order : Order)
+        → IsMergeable order (list_in roots order) (list_in live order) }
 {}

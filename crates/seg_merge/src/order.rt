@@ -10,10 +10,11 @@ ghost use Rattle.seg_tree.specs.Nodes.{LeafNode, leaf_datoms};
 ghost use Rattle.seg_merge.specs.Merged.{goes_before, KeepsLeaves};
 ghost use Rattle.seg_merge.specs.Plans.{IsUnion, AddsLeaf, RepeatsNone};
 
-use crate::leaf::{are_held, place_in, union};
+use crate::leaf::{are_held, union};
 use crate::plan::Plan;
 use fb_covers::Covers;
 use fb_memory::Memory;
+use fb_search::place_of_datom;
 use fb_values::{Datom, Order};
 use seg_tree::Leaf;
 use std::alloc::Global;
@@ -30,15 +31,17 @@ pub fn planned(
     requires leaves_rise { IsRising order (leaf_datoms (map arc_value leaves.now)) }
     requires added_rises { IsRising order added.now }
     requires single { HasNoTwins (leaf_datoms (map arc_value leaves.now) ++ added.now) }
-    ensures union { IfOk result (λ plan. IsUnion order covers.now (leaf_datoms (map arc_value leaves.now)) added.now plan.datoms) }
+    ensures union { IfOk result (λ plan. IsUnion order covers.now
+        (leaf_datoms (map arc_value leaves.now)) added.now plan.datoms) }
     ensures older { IfOk result (λ plan. All (Contains (map arc_value leaves.now)) plan.kept) }
     ensures once { IfOk result (λ plan. RepeatsNone (map arc_value leaves.now) plan.kept) }
-    ensures stays { IfOk result (λ plan. KeepsLeaves order covers.now (map arc_value leaves.now) added.now plan.kept) }
+    ensures stays { IfOk result
+        (λ plan. KeepsLeaves order covers.now (map arc_value leaves.now) added.now plan.kept) }
 {
     let mut plan = Plan::new(alloc);
     let mut left = added;
     for place in 0..leaves.len() {
-        let (now, behind) = left.split_at(before_leaf(order, leaves, place + 1, left)?);
+        let (now, behind) = left.split_at(before_leaf(order, leaves, place + 1, left));
         plan = with_leaf(alloc, plan, order, covers, &leaves[place], now)?;
         left = behind;
     }
@@ -47,21 +50,19 @@ pub fn planned(
 }
 
 /// How many of the datoms go before the leaf with this number: all of them where there is no such leaf.
-fn before_leaf(
-    order: Order,
-    leaves: &[Arc<Leaf>],
-    place: usize,
-    datoms: &[Datom],
-) -> Result<usize, Memory>
+fn before_leaf(order: Order, leaves: &[Arc<Leaf>], place: usize, datoms: &[Datom]) -> usize
     requires { IsRising order datoms.now }
-    ensures within { IfOk result (λ n. n ≤ length datoms.now) }
-    ensures some { (leaf : LeafNode) → slice_get (map arc_value leaves.now) place ≡ Some leaf → 0 < length leaf.datoms }
-    ensures front { IfOk result (λ n. (d : Datom) → Contains (take n datoms.now) d → goes_before order (map arc_value leaves.now) place d ≡ true) }
-    ensures back { IfOk result (λ n. (d : Datom) → Contains (drop n datoms.now) d → goes_before order (map arc_value leaves.now) place d ≡ false) }
+    ensures within { result ≤ length datoms.now }
+    ensures some { (leaf : LeafNode) → slice_get (map arc_value leaves.now) place ≡ Some leaf
+        → 0 < length leaf.datoms }
+    ensures front { (d : Datom) → Contains (take result datoms.now) d
+        → goes_before order (map arc_value leaves.now) place d ≡ true }
+    ensures back { (d : Datom) → Contains (drop result datoms.now) d
+        → goes_before order (map arc_value leaves.now) place d ≡ false }
 {
     match leaf_at(leaves, place) {
-        None => Ok(datoms.len()),
-        Some(leaf) => place_in(order, datoms, leaf.first()),
+        None => datoms.len(),
+        Some(leaf) => place_of_datom(order, datoms, leaf.first()),
     }
 }
 
@@ -87,7 +88,8 @@ fn with_leaf(
     requires leaf_rises { IsRising order (arc_value leaf.now).datoms }
     requires added_rises { IsRising order added.now }
     requires single { HasNoTwins ((arc_value leaf.now).datoms ++ added.now) }
-    ensures { IfOk result (λ new. AddsLeaf order covers.now (arc_value leaf.now) added.now plan new) }
+    ensures { IfOk result
+        (λ new. AddsLeaf order covers.now (arc_value leaf.now) added.now plan new) }
 {
     if added.is_empty() && are_held(order, covers, leaf.datoms()) {
         return plan.keep(leaf);

@@ -45,7 +45,11 @@ impl Plan {
 
     /// The plan with a leaf that stays.
     pub fn keep(self, leaf: &Arc<Leaf>) -> Result<Plan, Memory>
-        ensures { IfOk result (λ plan. plan ≡ record { datoms = self.datoms ++ (arc_value leaf.now).datoms; kept = self.kept ++ arc_value leaf.now ∷ [] }) }
+        ensures { IfOk result (λ plan. plan
+            ≡ record {
+              datoms = self.datoms ++ (arc_value leaf.now).datoms;
+              kept = self.kept ++ arc_value leaf.now ∷ [];
+            }) }
     {
         let mut pieces = self.pieces;
         pieces.push(Piece::Kept(leaf.clone()?))?;
@@ -54,7 +58,8 @@ impl Plan {
 
     /// The plan with datoms for new leaves.
     pub fn add(self, datoms: Vec<Datom>) -> Result<Plan, Memory>
-        ensures { IfOk result (λ plan. plan ≡ record self { datoms = self.datoms ++ datoms.items }) }
+        ensures { IfOk result
+            (λ plan. plan ≡ record self { datoms = self.datoms ++ datoms.items }) }
     {
         let mut pieces = self.pieces;
         pieces.push(Piece::New(datoms))?;
@@ -65,7 +70,8 @@ impl Plan {
     pub fn build(self, alloc: Global, first: u64) -> Result<(Tree, u64), Memory>
         requires small { first ≤ 2 ^ 62 }
         requires older { All (λ leaf. leaf.id < first) self.kept }
-        ensures { IfOk result (λ built. IsBuilt (record { first = first; datoms = self.datoms; kept = self.kept }) built.0 built.1) }
+        ensures { IfOk result (λ built. IsBuilt
+            (record { first = first; datoms = self.datoms; kept = self.kept }) built.0 built.1) }
     {
         let mut builder = Builder::new(alloc, first);
         for piece in self.pieces {

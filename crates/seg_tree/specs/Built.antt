@@ -26,11 +26,13 @@ build_of first directories leaves = record {
 }
 
 -- new nodes are numbered from the first id up to the next, and the other nodes are older leaves
-pub record IsGrowing (first next : ℕ) (directories : List DirectoryNode) (leaves : List LeafNode) : Type 0 where
+pub record IsGrowing (first next : ℕ) (directories : List DirectoryNode) (leaves : List LeafNode)
+    : Type 0 where
   pub behind : first ≤ next
   pub small : next ≤ 2 ^ 62
   pub new : AreNumbered first next (ids_in directories leaves)
-  pub old : filter (is_old first) (ids_in directories leaves) ≡ leaf_ids (old_leaves first (leaves_in directories leaves))
+  pub old : filter (is_old first) (ids_in directories leaves)
+      ≡ leaf_ids (old_leaves first (leaves_in directories leaves))
 
 -- the tree holds what was built, and its new nodes are numbered from the first id up to the next
 pub record IsBuilt (build : Build) (tree : List DirectoryNode) (next : ℕ) : Type 0 where

@@ -23,5 +23,6 @@ AreFirsts (first ∷ firsts) (chunk ∷ chunks) = BeginsWith chunk first × AreF
 -- how many datoms stand before a place: the number of a piece and of a datom in it. Before a place that there is not stand all.
 abbrev pub chunk_rank : List (List Datom) → ℕ → ℕ → ℕ
 chunk_rank [] k n = 0
-chunk_rank (chunk ∷ chunks) zero n = if nat_lt n (length chunk) then n else length chunk + length (joined chunks)
+chunk_rank (chunk ∷ chunks) zero n =
+    if nat_lt n (length chunk) then n else length chunk + length (joined chunks)
 chunk_rank (chunk ∷ chunks) (suc k) n = length chunk + chunk_rank chunks k n

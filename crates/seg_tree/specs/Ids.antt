@@ -21,8 +21,10 @@ next_above [] = 1
 next_above (id ∷ ids) = max (id + 1) (next_above ids)
 
 -- those of four trees
-abbrev pub ids_of_four : List DirectoryNode → List DirectoryNode → List DirectoryNode → List DirectoryNode → List ℕ
-ids_of_four eavt aevt avet vaet = ((node_ids eavt ++ node_ids aevt) ++ node_ids avet) ++ node_ids vaet
+abbrev pub ids_of_four : List DirectoryNode → List DirectoryNode → List DirectoryNode
+    → List DirectoryNode → List ℕ
+ids_of_four eavt aevt avet vaet =
+    ((node_ids eavt ++ node_ids aevt) ++ node_ids avet) ++ node_ids vaet
 
 -- how often an id stands among them
 abbrev pub count_of : ℕ → List ℕ → ℕ
@@ -45,7 +47,8 @@ AreNumbered first next ids = filter (is_new first) ids ≡ range_with_len first 
 
 -- the same, where what follows them is not said
 abbrev pub IsInRow : ℕ → List ℕ → Type 0
-IsInRow first ids = filter (is_new first) ids ≡ range_with_len first (length (filter (is_new first) ids))
+IsInRow first ids =
+    filter (is_new first) ids ≡ range_with_len first (length (filter (is_new first) ids))
 
 -- the leaves that were taken over from an older tree
 abbrev pub old_leaves : ℕ → List LeafNode → List LeafNode

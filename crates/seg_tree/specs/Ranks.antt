@@ -13,13 +13,15 @@ leaf_rank leaves leaf datom = chunk_rank (map (λ l. l.datoms) leaves) leaf dato
 
 -- a leaf that there is has the datom
 abbrev pub IsInside : List LeafNode → ℕ → ℕ → Type 0
-IsInside leaves leaf datom = leaf < length leaves → leaf_rank leaves leaf datom < length (leaf_datoms leaves)
+IsInside leaves leaf datom =
+    leaf < length leaves → leaf_rank leaves leaf datom < length (leaf_datoms leaves)
 
 -- how many datoms of the tree stand before a place. The end is every place that the tree has not.
 abbrev pub rank : List DirectoryNode → Place → ℕ
 rank tree place =
     chunk_rank (map (λ d. leaf_datoms d.leaves) tree) place.directory
-    (option_map_or (λ d. leaf_rank d.leaves place.leaf place.datom) (slice_get tree place.directory) 0)
+    (option_map_or (λ d. leaf_rank d.leaves place.leaf place.datom) (slice_get tree place.directory)
+    0)
 
 -- the numbers of directories, of a directory's leaves and of a leaf's datoms have at most so many binary digits
 pub record AreWithin (tree : List DirectoryNode) (d l k : ℕ) : Type 0 where

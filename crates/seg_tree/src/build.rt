@@ -36,9 +36,12 @@ impl Model for Builder {
 
     ghost Value = { Build };
 
-    ghost view = { λ b. build_of b.first (map arc_value b.directories.items) (map arc_value b.leaves.items) };
+    ghost view = { λ b. build_of b.first (map arc_value b.directories.items)
+        (map arc_value b.leaves.items) };
 
-    ghost invariant = { λ b. IsGrowing b.first b.next (map arc_value b.directories.items) (map arc_value b.leaves.items) × (length b.leaves.items < 512) };
+    ghost invariant = { λ b. IsGrowing b.first b.next (map arc_value b.directories.items)
+        (map arc_value b.leaves.items)
+        × (length b.leaves.items < 512) };
 }
 
 impl Builder {
@@ -59,7 +62,11 @@ impl Builder {
     /// The tree with an older leaf behind it.
     pub fn keep(self, leaf: Arc<Leaf>) -> Result<Builder, Memory>
         requires { (arc_value leaf).id < self.first }
-        ensures { IfOk result (λ build. build ≡ record self { datoms = self.datoms ++ (arc_value leaf).datoms; kept = self.kept ++ arc_value leaf ∷ [] }) }
+        ensures { IfOk result (λ build. build
+            ≡ record self {
+              datoms = self.datoms ++ (arc_value leaf).datoms;
+              kept = self.kept ++ arc_value leaf ∷ [];
+            }) }
     {
         let Builder {
             alloc,
@@ -74,7 +81,8 @@ impl Builder {
 
     /// The tree with datoms behind it, in new leaves that are between half full and full where there is more than one.
     pub fn add(self, datoms: Vec<Datom>) -> Result<Builder, Memory>
-        ensures { IfOk result (λ build. build ≡ record self { datoms = self.datoms ++ datoms.items }) }
+        ensures { IfOk result
+            (λ build. build ≡ record self { datoms = self.datoms ++ datoms.items }) }
     {
         let mut front = datoms;
         if front.is_empty() {
@@ -90,7 +98,8 @@ impl Builder {
     fn add_leaf(self, datoms: Vec<Datom>) -> Result<Builder, Memory>
         requires some { 0 < length datoms.items }
         requires few { length datoms.items ≤ MOST }
-        ensures { IfOk result (λ build. build ≡ record self { datoms = self.datoms ++ datoms.items }) }
+        ensures { IfOk result
+            (λ build. build ≡ record self { datoms = self.datoms ++ datoms.items }) }
     {
         let Builder {
             alloc,
@@ -134,9 +143,11 @@ fn settled(
     directories: Vec<Arc<Directory>>,
     leaves: Vec<Arc<Leaf>>,
 ) -> Result<Builder, Memory>
-    requires growing { IsGrowing first next (map arc_value directories.items) (map arc_value leaves.items) }
+    requires growing { IsGrowing first next (map arc_value directories.items)
+        (map arc_value leaves.items) }
     requires few { length leaves.items ≤ MOST }
-    ensures { IfOk result (λ build. build ≡ build_of first (map arc_value directories.items) (map arc_value leaves.items)) }
+    ensures { IfOk result (λ build. build
+        ≡ build_of first (map arc_value directories.items) (map arc_value leaves.items)) }
 {
     if leaves.len() < MOST {
         return Ok(Builder {
@@ -172,10 +183,13 @@ fn close(
     directories: Vec<Arc<Directory>>,
     leaves: Vec<Arc<Leaf>>,
 ) -> Result<Whole, Memory>
-    requires growing { IsGrowing first next (map arc_value directories.items) (map arc_value leaves.items) }
+    requires growing { IsGrowing first next (map arc_value directories.items)
+        (map arc_value leaves.items) }
     requires few { length leaves.items ≤ MOST }
-    ensures growing { IfOk result (λ c. IsGrowing first c.next (map arc_value c.directories.items) []) }
-    ensures same { IfOk result (λ c. build_of first (map arc_value c.directories.items) [] ≡ build_of first (map arc_value directories.items) (map arc_value leaves.items)) }
+    ensures growing { IfOk result
+        (λ c. IsGrowing first c.next (map arc_value c.directories.items) []) }
+    ensures same { IfOk result (λ c. build_of first (map arc_value c.directories.items) []
+        ≡ build_of first (map arc_value directories.items) (map arc_value leaves.items)) }
 {
     if leaves.is_empty() {
         return Ok(Whole { directories, next });
@@ -198,7 +212,8 @@ impl Tree {
     pub fn of(alloc: Global, datoms: Vec<Datom>, first_id: u64) -> Result<Tree, Memory>
         requires { first_id ≤ 2 ^ 61 }
         ensures datoms { IfOk result (λ tree. tree_datoms tree ≡ datoms.items) }
-        ensures ids { IfOk result (λ tree. node_ids tree ≡ range_with_len first_id (length (node_ids tree))) }
+        ensures ids { IfOk result
+            (λ tree. node_ids tree ≡ range_with_len first_id (length (node_ids tree))) }
     {
         let (tree, _) = numbered(alloc, datoms, first_id)?;
         Ok(tree)
@@ -208,7 +223,8 @@ impl Tree {
 /// The tree of a list, whose ids are `first` and the numbers that follow it, and the number behind them.
 pub fn numbered(alloc: Global, datoms: Vec<Datom>, first: u64) -> Result<(Tree, u64), Memory>
     requires { first ≤ 2 ^ 62 }
-    ensures { IfOk result (λ built. IsBuilt (record { first = first; datoms = datoms.items; kept = [] }) built.0 built.1) }
+    ensures { IfOk result (λ built. IsBuilt
+        (record { first = first; datoms = datoms.items; kept = [] }) built.0 built.1) }
 {
     let builder = Builder::new(alloc, first).add(datoms)?;
     builder.finish()

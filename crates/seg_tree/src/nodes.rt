@@ -150,7 +150,8 @@ impl Directory {
 
     /// The datom at a leaf's place.
     pub(crate) fn at(&self, leaf: usize, datom: usize) -> Option<&Datom>
-        ensures { option_copied result ≡ slice_get (leaf_datoms self.now.leaves) (leaf_rank self.now.leaves leaf datom) }
+        ensures { option_copied result
+            ≡ slice_get (leaf_datoms self.now.leaves) (leaf_rank self.now.leaves leaf datom) }
     {
         match self.leaf(leaf) {
             None => None,
@@ -160,10 +161,13 @@ impl Directory {
 
     /// The leaf and the datom behind a place, which may be the end of the directory, or none where it has no such place.
     pub(crate) fn next(&self, leaf: usize, datom: usize) -> Option<(usize, usize)>
-        ensures next { IfSome result (λ next. leaf_rank self.now.leaves next.0 next.1 ≡ leaf_rank self.now.leaves leaf datom + 1) }
+        ensures next { IfSome result (λ next. leaf_rank self.now.leaves next.0 next.1
+            ≡ leaf_rank self.now.leaves leaf datom + 1) }
         ensures inside { IfSome result (λ next. IsInside self.now.leaves next.0 next.1) }
-        ensures none { IfNone result (leaf_rank self.now.leaves leaf datom ≡ length (leaf_datoms self.now.leaves)) }
+        ensures none { IfNone result
+            (leaf_rank self.now.leaves leaf datom ≡ length (leaf_datoms self.now.leaves)) }
     {
+        // What holds of every value of the type is known once a field is read.
         let _ = &self.leaves;
         match self.leaf(leaf) {
             None => None,
@@ -185,9 +189,12 @@ impl Directory {
     /// The first leaf and datom that are not below the probe, or the end of the directory.
     pub(crate) fn seek<L: Ledger>(&self, probe: &Probe, steps: &mut Steps<L>) -> (usize, usize)
         requires { IsRising probe.now.order (leaf_datoms self.now.leaves) }
-        ensures place { leaf_rank self.now.leaves result.0 result.1 ≡ place_of probe.now (leaf_datoms self.now.leaves) }
+        ensures place { leaf_rank self.now.leaves result.0 result.1
+            ≡ place_of probe.now (leaf_datoms self.now.leaves) }
         ensures inside { IsInside self.now.leaves result.0 result.1 }
-        ensures cost { (l k : ℕ) → length self.now.leaves < 2 ^ l → All (λ leaf. length leaf.datoms < 2 ^ k) self.now.leaves → steps.new ≤ steps.old + l + k }
+        ensures cost { (l k : ℕ) → length self.now.leaves < 2 ^ l
+            → All (λ leaf. length leaf.datoms < 2 ^ k) self.now.leaves
+            → steps.new ≤ steps.old + l + k }
     {
         let behind = lower_bound(&self.firsts, probe, steps);
         if behind == 0 {
@@ -215,7 +222,8 @@ fn nth(datoms: &[Datom], place: usize) -> Option<&Datom>
 
 /// The first datom of each leaf.
 fn firsts_of(leaves: &Vec<Arc<Leaf>>) -> Result<Vec<Datom>, Memory>
-    ensures { IfOk result (λ firsts. AreFirsts firsts.items (map (λ leaf. leaf.datoms) (map arc_value leaves.now.items))) }
+    ensures { IfOk result (λ firsts. AreFirsts firsts.items
+        (map (λ leaf. leaf.datoms) (map arc_value leaves.now.items))) }
 {
     let mut firsts = Vec::with_capacity(*leaves.allocator(), leaves.len())?;
     for leaf in leaves.iter() {

@@ -46,9 +46,17 @@ impl Roots {
         first_id: u64,
     ) -> Result<Roots, Memory>
         requires { first_id ≤ 2 ^ 61 }
-        ensures lists { IfOk result (λ roots. trees_of roots ≡ record { eavt = eavt.items; aevt = aevt.items; avet = avet.items; vaet = vaet.items }) }
-        ensures ids { IfOk result (λ roots. root_ids roots ≡ range_with_len first_id (length (root_ids roots))) }
-        ensures next { IfOk result (λ roots. 0 < length (root_ids roots) → next_above (root_ids roots) ≡ first_id + length (root_ids roots)) }
+        ensures lists { IfOk result (λ roots. trees_of roots
+            ≡ record {
+              eavt = eavt.items;
+              aevt = aevt.items;
+              avet = avet.items;
+              vaet = vaet.items;
+            }) }
+        ensures ids { IfOk result
+            (λ roots. root_ids roots ≡ range_with_len first_id (length (root_ids roots))) }
+        ensures next { IfOk result (λ roots. 0 < length (root_ids roots)
+            → next_above (root_ids roots) ≡ first_id + length (root_ids roots)) }
     {
         let (eavt, second) = numbered(alloc, eavt, first_id)?;
         let (aevt, third) = numbered(alloc, aevt, second)?;

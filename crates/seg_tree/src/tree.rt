@@ -73,7 +73,8 @@ impl Model for Tree {
 
     ghost view = { λ t. arc_value t.root };
 
-    ghost invariant = { λ t. (t.next_id ≡ next_above (node_ids (arc_value t.root))) × (t.next_id ≤ 2 ^ 62) };
+    ghost invariant = { λ t. (t.next_id ≡ next_above (node_ids (arc_value t.root)))
+        × (t.next_id ≤ 2 ^ 62) };
 }
 
 impl Root {
@@ -97,8 +98,10 @@ impl Root {
     }
 
     fn next(&self, place: Place) -> Place
-        ensures { rank self.now result ≡ min (rank self.now place + 1) (length (tree_datoms self.now)) }
+        ensures { rank self.now result
+            ≡ min (rank self.now place + 1) (length (tree_datoms self.now)) }
     {
+        // What holds of every value of the type is known once a field is read.
         let _ = &self.firsts;
         match self.directory(place.directory) {
             None => place,
@@ -113,8 +116,10 @@ impl Root {
     fn settled(&self, at: usize, directory: &Directory, leaf: usize, datom: usize) -> Place
         requires there { slice_get self.now at ≡ Some directory.now }
         requires inside { IsInside directory.now.leaves leaf datom }
-        ensures { rank self.now result ≡ length (tree_datoms (take at self.now)) + leaf_rank directory.now.leaves leaf datom }
+        ensures { rank self.now result
+            ≡ length (tree_datoms (take at self.now)) + leaf_rank directory.now.leaves leaf datom }
     {
+        // What holds of every value of the type is known once a field is read.
         let _ = &self.firsts;
         if leaf < directory.len() {
             Place {
@@ -231,7 +236,8 @@ impl Tree {
 
     /// The place behind a place. Behind the end is the end.
     pub fn next(&self, place: Place) -> Place
-        ensures { rank self.now result ≡ min (rank self.now place + 1) (length (tree_datoms self.now)) }
+        ensures { rank self.now result
+            ≡ min (rank self.now place + 1) (length (tree_datoms self.now)) }
     {
         let root: &Root = &self.root;
         root.next(place)
@@ -272,7 +278,8 @@ fn seek_from<L: Ledger>(tree: &Tree, probe: &Probe, blank: Blank) -> Place
 
 /// The first datom of each directory.
 fn firsts_of(directories: &Vec<Arc<Directory>>) -> Result<Vec<Datom>, Memory>
-    ensures firsts { IfOk result (λ firsts. AreFirsts firsts.items (map (λ d. leaf_datoms d.leaves) (map arc_value directories.now.items))) }
+    ensures firsts { IfOk result (λ firsts. AreFirsts firsts.items
+        (map (λ d. leaf_datoms d.leaves) (map arc_value directories.now.items))) }
     ensures starts { IfOk result (λ _. All StartsFull (map arc_value directories.now.items)) }
 {
     let mut firsts = Vec::with_capacity(*directories.allocator(), directories.len())?;
@@ -296,7 +303,8 @@ fn next_id_of(directories: &Vec<Arc<Directory>>) -> u64
 
 /// The leaves, and those of a directory behind them.
 fn with_leaves(leaves: Vec<Arc<Leaf>>, directory: &Directory) -> Result<Vec<Arc<Leaf>>, Memory>
-    ensures { IfOk result (λ all. map arc_value all.items ≡ map arc_value leaves.items ++ directory.now.leaves) }
+    ensures { IfOk result
+        (λ all. map arc_value all.items ≡ map arc_value leaves.items ++ directory.now.leaves) }
 {
     let mut leaves = leaves;
     for leaf in directory.leaves() {

@@ -13,15 +13,15 @@ use Rattle.seg_merge.proofs.Lists.{take_item, drop_item, drop_all}
 use Rattle.seg_merge.proofs.Midway.{IsMidway, midway_more, midway_all}
 use Rattle.seg_merge.proofs.leaf.union.Goals as goal
 
-pub place_in-requires : goal.place_in-requires
-place_in-requires c =
+pub place_of_datom-requires : goal.place_of_datom-requires
+place_of_datom-requires c =
     let m = c.loop-datom.invariant in
     rising-append_right c.args.order m.seen c.loop-datom.rest.now (subst (IsRising c.args.order) (sym m.parts) c.requires.old_rises)
 
 pub split_at-requires : goal.split_at-requires
 split_at-requires c =
     let le = place_of-le-length (probe_of c.args.order c.datom-item.result) c.loop-datom.rest.now in
-    subst (λ (n : ℕ). n ≤ length c.loop-datom.rest.now) (sym c.in_ok-place_in.ensures) le
+    subst (λ (n : ℕ). n ≤ length c.loop-datom.rest.now) (sym c.place_of_datom.ensures) le
 
 pub loop-datom-preserved : goal.loop-datom-preserved
 loop-datom-preserved c =
@@ -32,14 +32,14 @@ loop-datom-preserved c =
     let rest = c.loop-datom.rest.now in
     let k = c.loop-datom.datom-index in
     let d = c.datom-item.result in
-    let place = c.in_ok-place_in.field-0 in
+    let place = c.place_of_datom.result in
     let out = c.loop-datom.all.items in
     let within = c.loop-datom-test.true in
     let left = drop (k + 1) added in
     let here : drop k added ≡ d ∷ left = drop_item added k d within c.datom-item.is in
     let whole : take k added ++ d ∷ left ≡ added = ap (λ ds. take k added ++ ds) (sym here) ∙ take-append-drop k added in
     let m = subst (λ (ds : List Datom). IsMidway order (λ x. IsTrue (p x)) old rest (take k added) ds out) here c.loop-datom.invariant in
-    let more = midway_more order p old rest (take k added) left out d added place c.requires.old_rises c.requires.added_rises c.requires.single whole c.in_ok-place_in.ensures m in
+    let more = midway_more order p old rest (take k added) left out d added place c.requires.old_rises c.requires.added_rises c.requires.single whole c.place_of_datom.ensures m in
     let behind : without_twin order d (drop place rest) ≡ c.without_twin-rest.result.now = ap (without_twin order d) (sym c.split_at.ensures.back) ∙ sym c.without_twin-rest.ensures in
     let pushed : (out ++ filter p (take place rest)) ++ d ∷ [] ≡ c.push.new.self.items =
     ap (λ ds. (out ++ filter p ds) ++ d ∷ []) (sym c.split_at.ensures.front)

@@ -1,7 +1,6 @@
 use Rattle.std.proofs.Common.{◌≡◌, ℕ, ◌<◌, ◌≤◌, length, take, drop, true, false, sym, ◌∙◌, subst, Option, Some}
 use Rattle.std.specs.Prelude.{Contains}
-use Rattle.std.proofs.lemmas.Result.{IfOk-weaker}
-use Rattle.fb_search.specs.Places.{place_of, probe_of}
+use Rattle.fb_search.specs.Places.{probe_of}
 use Rattle.fb_search.proofs.Below.{place_of-le-length}
 use Rattle.seg_tree.specs.Nodes.{LeafNode}
 use Rattle.seg_merge.specs.Merged.{goes_before_leaf}
@@ -11,8 +10,7 @@ use Rattle.seg_merge.proofs.order.before_leaf.Goals as goal
 pub returns-in-Some-clause-within : goal.returns-in-Some-clause-within
 returns-in-Some-clause-within c =
     let ds = c.args.datoms.now in
-    let probe = probe_of c.args.order c.first.result.now in
-    IfOk-weaker c.place_in.result (λ n. n ≡ place_of probe ds) (λ n. n ≤ length ds) (λ n is. subst (λ (m : ℕ). m ≤ length ds) (sym is) (place_of-le-length probe ds)) c.place_in.ensures
+    subst (λ (n : ℕ). n ≤ length ds) (sym c.place_of_datom.ensures) (place_of-le-length (probe_of c.args.order c.first.result.now) ds)
 
 pub returns-in-Some-clause-some : goal.returns-in-Some-clause-some
 returns-in-Some-clause-some c = λ leaf read.
@@ -28,9 +26,7 @@ returns-in-Some-clause-front c =
     let ds = c.args.datoms.now in
     let first = c.first.result.now in
     let leaf = c.in-Some.leaf.now in
-    IfOk-weaker c.place_in.result (λ n. n ≡ place_of (probe_of order first) ds) _
-    (λ n is d there. subst (λ (o : Option LeafNode). goes_before_leaf order o d ≡ true) c.in-Some.ensures (goes_front order leaf first ds d c.first.ensures (subst (λ (m : ℕ). Contains (take m ds) d) is there)))
-    c.place_in.ensures
+    λ d there. subst (λ (o : Option LeafNode). goes_before_leaf order o d ≡ true) c.in-Some.ensures (goes_front order leaf first ds d c.first.ensures (subst (λ (m : ℕ). Contains (take m ds) d) c.place_of_datom.ensures there))
 
 pub returns-in-Some-clause-back : goal.returns-in-Some-clause-back
 returns-in-Some-clause-back c =
@@ -38,6 +34,4 @@ returns-in-Some-clause-back c =
     let ds = c.args.datoms.now in
     let first = c.first.result.now in
     let leaf = c.in-Some.leaf.now in
-    IfOk-weaker c.place_in.result (λ n. n ≡ place_of (probe_of order first) ds) _
-    (λ n is d there. subst (λ (o : Option LeafNode). goes_before_leaf order o d ≡ false) c.in-Some.ensures (goes_behind order leaf first ds d c.first.ensures c.requires (subst (λ (m : ℕ). Contains (drop m ds) d) is there)))
-    c.place_in.ensures
+    λ d there. subst (λ (o : Option LeafNode). goes_before_leaf order o d ≡ false) c.in-Some.ensures (goes_behind order leaf first ds d c.first.ensures c.requires (subst (λ (m : ℕ). Contains (drop m ds) d) c.place_of_datom.ensures there))

@@ -1,4 +1,4 @@
-use Rattle.std.proofs.Common.{◌≡◌, suc, ◌<◌, ◌++◌, ◌≤◌, List, length, drop, get_or, sym, ap, ◌∙◌, subst, map, arith}
+use Rattle.std.proofs.Common.{◌≡◌, suc, ◌<◌, ◌++◌, ◌≤◌, List, length, drop, get_or, sym, subst, map, arith}
 use Rattle.std.specs.Prelude.{Contains}
 use Rattle.std.specs.List.{All}
 use Rattle.std.specs.Arc.{arc_value}
@@ -11,7 +11,6 @@ use Rattle.live_index.specs.Growth.{HasNoTwins}
 use Rattle.seg_tree.specs.Nodes.{LeafNode, leaf_datoms}
 use Rattle.seg_merge.specs.Merged.{KeepsLeaves}
 use Rattle.seg_merge.specs.Plans.{Planned, IsUnion, RepeatsNone}
-use Rattle.seg_merge.specs.Pieces.{planned}
 use Rattle.seg_merge.proofs.Lists.{read_at, length_map}
 use Rattle.seg_merge.proofs.Planning.{IsPlanning, planning_none, planning_next, left_rises_at, taken_rises, leaf_and_rest_rise, single_leaf, single_part, union_all, keeps_all}
 use Rattle.fb_search.proofs.Ends.{rising-append_left}
@@ -41,7 +40,7 @@ pub with_leaf-requires-clause-added_rises : goal.with_leaf-requires-clause-added
 with_leaf-requires-clause-added_rises c =
     let left = c.loop-place.left.now in
     let rises = left_rises_at c.args.order c.args.covers.now (map arc_value c.args.leaves.now) c.args.added.now c.loop-place.place left c.loop-place.plan c.requires.added_rises c.loop-place.invariant in
-    subst (IsRising c.args.order) (sym c.split_at.ensures.front) (taken_rises c.args.order c.in_ok-before_leaf.field-0 left rises)
+    subst (IsRising c.args.order) (sym c.split_at.ensures.front) (taken_rises c.args.order c.before_leaf.result left rises)
 
 pub with_leaf-requires-clause-single : goal.with_leaf-requires-clause-single
 with_leaf-requires-clause-single c =
@@ -57,7 +56,7 @@ with_leaf-requires-clause-single c =
     let within : place < length leaves = omega arith in
     let leaf = arc_value c.index-leaves-place.result in
     let read = read_at arc_value leaves place c.index-leaves-place.result within c.index-leaves-place.is in
-    subst (λ (ds : List Datom). HasNoTwins (leaf.datoms ++ ds)) (sym c.split_at.ensures.front) (single_leaf order coverage ls added place left plan c.in_ok-before_leaf.field-0 leaf c.requires.single read p)
+    subst (λ (ds : List Datom). HasNoTwins (leaf.datoms ++ ds)) (sym c.split_at.ensures.front) (single_leaf order coverage ls added place left plan c.before_leaf.result leaf c.requires.single read p)
 
 pub loop-place-preserved : goal.loop-place-preserved
 loop-place-preserved c =
@@ -73,8 +72,8 @@ loop-place-preserved c =
     let within : place < length leaves = omega arith in
     let leaf = arc_value c.index-leaves-place.result in
     let read = read_at arc_value leaves place c.index-leaves-place.result within c.index-leaves-place.is in
-    let before = c.in_ok-before_leaf.ensures in
-    planning_next order coverage ls added place left plan c.in_ok-plan.plan c.in_ok-before_leaf.field-0 leaf c.split_at.result.0.now c.split_at.result.1.now c.split_at.ensures.front c.split_at.ensures.back c.requires.leaves_rise c.requires.added_rises read before.some before.front before.back c.in_ok-plan.ensures p
+    let before = c.before_leaf.ensures in
+    planning_next order coverage ls added place left plan c.in_ok-plan.plan c.before_leaf.result leaf c.split_at.result.0.now c.split_at.result.1.now c.split_at.ensures.front c.split_at.ensures.back c.requires.leaves_rise c.requires.added_rises read before.some before.front before.back c.in_ok-plan.ensures p
 
 pub union-requires-clause-added_rises : goal.union-requires-clause-added_rises
 union-requires-clause-added_rises c =
@@ -107,11 +106,9 @@ returns-clause-union c =
     let p = c.loop-place.invariant in
     let past : length ls ≤ place = omega (arith, length_map arc_value leaves, c.loop-place-test.false) in
     let piece = c.in_ok-union.field-0.items in
-    let base = planned c.plan-2.inside.pieces.items in
-    let new : Planned = record base { datoms = base.datoms ++ piece } in
-    let same = ap (λ (q : Planned). record q { datoms = q.datoms ++ piece }) c.plan-2.view_is in
+    let new : Planned = record plan { datoms = plan.datoms ++ piece } in
     let all = union_all order coverage ls added place left plan piece past p c.in_ok-union.ensures in
-    IfOk-weaker c.add.result (λ v. v ≡ new) (λ v. IsUnion order coverage (leaf_datoms ls) added v.datoms) (λ v is. subst (λ (q : Planned). IsUnion order coverage (leaf_datoms ls) added q.datoms) (sym (is ∙ same)) all) c.add.ensures
+    IfOk-weaker c.add.result (λ v. v ≡ new) (λ v. IsUnion order coverage (leaf_datoms ls) added v.datoms) (λ v is. subst (λ (q : Planned). IsUnion order coverage (leaf_datoms ls) added q.datoms) (sym is) all) c.add.ensures
 
 pub returns-clause-older : goal.returns-clause-older
 returns-clause-older c =
@@ -126,11 +123,9 @@ returns-clause-older c =
     let p = c.loop-place.invariant in
     let past : length ls ≤ place = omega (arith, length_map arc_value leaves, c.loop-place-test.false) in
     let piece = c.in_ok-union.field-0.items in
-    let base = planned c.plan-2.inside.pieces.items in
-    let new : Planned = record base { datoms = base.datoms ++ piece } in
-    let same = ap (λ (q : Planned). record q { datoms = q.datoms ++ piece }) c.plan-2.view_is in
+    let new : Planned = record plan { datoms = plan.datoms ++ piece } in
     let older : All (Contains ls) plan.kept = λ k d within. p.older (get_or plan.kept k d) (Contains-get_or plan.kept k d within) in
-    IfOk-weaker c.add.result (λ v. v ≡ new) (λ v. All (Contains ls) v.kept) (λ v is. subst (λ (q : Planned). All (Contains ls) q.kept) (sym (is ∙ same)) older) c.add.ensures
+    IfOk-weaker c.add.result (λ v. v ≡ new) (λ v. All (Contains ls) v.kept) (λ v is. subst (λ (q : Planned). All (Contains ls) q.kept) (sym is) older) c.add.ensures
 
 pub returns-clause-stays : goal.returns-clause-stays
 returns-clause-stays c =
@@ -145,11 +140,9 @@ returns-clause-stays c =
     let p = c.loop-place.invariant in
     let past : length ls ≤ place = omega (arith, length_map arc_value leaves, c.loop-place-test.false) in
     let piece = c.in_ok-union.field-0.items in
-    let base = planned c.plan-2.inside.pieces.items in
-    let new : Planned = record base { datoms = base.datoms ++ piece } in
-    let same = ap (λ (q : Planned). record q { datoms = q.datoms ++ piece }) c.plan-2.view_is in
+    let new : Planned = record plan { datoms = plan.datoms ++ piece } in
     let stays = keeps_all order coverage ls added place left plan past p in
-    IfOk-weaker c.add.result (λ v. v ≡ new) (λ v. KeepsLeaves order coverage ls added v.kept) (λ v is. subst (λ (q : Planned). KeepsLeaves order coverage ls added q.kept) (sym (is ∙ same)) stays) c.add.ensures
+    IfOk-weaker c.add.result (λ v. v ≡ new) (λ v. KeepsLeaves order coverage ls added v.kept) (λ v is. subst (λ (q : Planned). KeepsLeaves order coverage ls added q.kept) (sym is) stays) c.add.ensures
 
 pub returns-clause-once : goal.returns-clause-once
 returns-clause-once c =
@@ -160,8 +153,6 @@ returns-clause-once c =
     let p = c.loop-place.invariant in
     let past : length ls ≤ place = omega (arith, length_map arc_value leaves, c.loop-place-test.false) in
     let piece = c.in_ok-union.field-0.items in
-    let base = planned c.plan-2.inside.pieces.items in
-    let new : Planned = record base { datoms = base.datoms ++ piece } in
-    let same = ap (λ (q : Planned). record q { datoms = q.datoms ++ piece }) c.plan-2.view_is in
+    let new : Planned = record plan { datoms = plan.datoms ++ piece } in
     let once = subst (λ (xs : List LeafNode). RepeatsNone xs plan.kept) (take_all place ls past) p.once in
-    IfOk-weaker c.add.result (λ v. v ≡ new) (λ v. RepeatsNone ls v.kept) (λ v is. subst (λ (q : Planned). RepeatsNone ls q.kept) (sym (is ∙ same)) once) c.add.ensures
+    IfOk-weaker c.add.result (λ v. v ≡ new) (λ v. RepeatsNone ls v.kept) (λ v is. subst (λ (q : Planned). RepeatsNone ls q.kept) (sym is) once) c.add.ensures
