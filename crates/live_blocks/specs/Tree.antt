@@ -14,7 +14,8 @@ datoms_and_height (Leaf datoms) = (datoms.items, 0)
 datoms_and_height (Fork l d r before len height) = ((arc_value l).0 ++ d ∷ (arc_value r).0, height)
 
 -- a fork's numbers are right, its sides are about as high, and it has datoms enough for its height
-pub record IsFork (l : List Datom × ℕ) (d : Datom) (r : List Datom × ℕ) (before len height : ℕ) : Type 0 where
+pub record IsFork (l : List Datom × ℕ) (d : Datom) (r : List Datom × ℕ) (before len height : ℕ)
+    : Type 0 where
   pub before_is : before ≡ length l.0
   pub len_is : len ≡ length (l.0 ++ d ∷ r.0)
   pub height_is : height ≡ max l.1 r.1 + 1
@@ -30,5 +31,11 @@ IsTree (Fork l d r before len height) = IsFork (arc_value l) d (arc_value r) bef
 -- a copy of a node: the same datoms, and sides of the same values
 abbrev pub IsCopy : Node → Node → Type 0
 IsCopy (Leaf xs) (Leaf ys) = ys.items ≡ xs.items
-IsCopy (Fork l d r before len height) (Fork l' d' r' before' len' height') = (arc_value l' ≡ arc_value l) × (d' ≡ d) × (arc_value r' ≡ arc_value r) × (before' ≡ before) × (len' ≡ len) × (height' ≡ height)
+IsCopy (Fork l d r before len height) (Fork l' d' r' before' len' height') =
+    (arc_value l' ≡ arc_value l)
+    × (d' ≡ d)
+    × (arc_value r' ≡ arc_value r)
+    × (before' ≡ before)
+    × (len' ≡ len)
+    × (height' ≡ height)
 IsCopy _ _ = ⊥

@@ -11,4 +11,5 @@ use Rattle.live_blocks.specs.Tree.{datoms_and_height}
 -- no side is deeper than the node has datoms
 pub depth_le-length : (n : Node) → max (deep-Node n) 0 ≤ length (datoms_and_height n).0
 depth_le-length (Leaf datoms) = omega arith
-depth_le-length (Fork l d r before len height) = omega (arith, length-append (arc_value l).0 (d ∷ (arc_value r).0))
+depth_le-length (Fork l d r before len height) =
+    omega (arith, length-append (arc_value l).0 (d ∷ (arc_value r).0))

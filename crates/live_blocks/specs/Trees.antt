@@ -14,7 +14,8 @@ least_len (suc (suc height)) = least_len (suc height) + least_len height
 
 -- the height h of what two sides of heights l and r are balanced to
 abbrev pub IsHeightAfterBalance : ℕ → ℕ → ℕ → Type 0
-IsHeightAfterBalance l r h = (max l r ≤ h) × (h ≤ max l r + 1) × (DifferByAtMost 1 l r → h ≡ max l r + 1)
+IsHeightAfterBalance l r h =
+    (max l r ≤ h) × (h ≤ max l r + 1) × (DifferByAtMost 1 l r → h ≡ max l r + 1)
 
 -- how many blocks of at most 256 datoms a list of so many datoms fills at the least
 abbrev pub blocks_at_least : ℕ → ℕ

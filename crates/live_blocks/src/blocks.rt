@@ -167,7 +167,8 @@ impl Blocks {
         requires { IsRising probe.now.order self.now }
         ensures place { result ≡ place_of probe.now self.now }
         // At most twice the binary digits of the number of blocks, and 18 more, however few the blocks are.
-        ensures cost { (digits : ℕ) → blocks_at_least (length self.now) < 2 ^ digits → steps.new ≤ steps.old + 2 * digits + 18 }
+        ensures cost { (digits : ℕ) → blocks_at_least (length self.now) < 2 ^ digits
+            → steps.new ≤ steps.old + 2 * digits + 18 }
     {
         let older = older_place(&self.root, probe, steps);
         older + lower_bound(newest_in(&self.newest), probe, steps)
@@ -215,7 +216,8 @@ fn grown(
 ) -> Result<Arc<Tree>, Memory>
     requires some { 0 < length newest.now }
     requires newest { AreNewest (older_of root) below.now newest.now }
-    ensures { IfOk result (λ tree. (arc_value tree).0 ≡ woven 0 (older_of root) below.now newest.now) }
+    ensures { IfOk result
+        (λ tree. (arc_value tree).0 ≡ woven 0 (older_of root) below.now newest.now) }
 {
     match root {
         None => {
@@ -249,7 +251,8 @@ fn older_at(root: &Option<Arc<Tree>>, place: usize) -> &Shared<Datom>
 fn older_place<L: Ledger>(root: &Option<Arc<Tree>>, probe: &Probe, steps: &mut Steps<L>) -> usize
     requires { IsRising probe.now.order (older_of root.now) }
     ensures place { result ≡ place_of probe.now (older_of root.now) }
-    ensures cost { (digits : ℕ) → blocks_at_least (length (older_of root.now)) < 2 ^ digits → steps.new ≤ steps.old + 2 * digits + 12 }
+    ensures cost { (digits : ℕ) → blocks_at_least (length (older_of root.now)) < 2 ^ digits
+        → steps.new ≤ steps.old + 2 * digits + 12 }
 {
     match root {
         None => 0,

@@ -57,8 +57,11 @@ impl Newest {
     pub fn with(self, place: usize, datom: Shared<Datom>) -> Result<Newest, Memory>
         requires rising { IsNotFalling self.below.items }
         requires same { length self.below.items ≡ length self.datoms.items }
-        ensures below { IfOk result (λ new. new.below.items ≡ insert self.below.items (newer_before place self.below.items) (place - newer_before place self.below.items)) }
-        ensures datoms { IfOk result (λ new. new.datoms.items ≡ insert self.datoms.items (newer_before place self.below.items) datom) }
+        ensures below { IfOk result (λ new. new.below.items
+            ≡ insert self.below.items (newer_before place self.below.items)
+            (place - newer_before place self.below.items)) }
+        ensures datoms { IfOk result (λ new. new.datoms.items
+            ≡ insert self.datoms.items (newer_before place self.below.items) datom) }
     {
         let Newest {
             mut datoms,
@@ -94,7 +97,9 @@ fn newer_before(below: &[usize], place: usize) -> usize
 /// Where the datom at a place of the whole list stands.
 pub fn stand_of(below: &[usize], place: usize) -> Stand
     requires { IsNotFalling below.now }
-    ensures { (old new : List Datom) → length below.now ≡ length new → StandWithin 0 (length old) below.now → slice_get (woven 0 old below.now new) place ≡ read_at result old new }
+    ensures { (old new : List Datom) → length below.now ≡ length new
+        → StandWithin 0 (length old) below.now
+        → slice_get (woven 0 old below.now new) place ≡ read_at result old new }
 {
     let before = newer_before(below, place);
     let older = place - before;

@@ -265,7 +265,8 @@ pub fn with_datoms(
     requires same { length below.now ≡ length new.now }
     requires stand { StandWithin from (from + length (arc_value tree).0) below.now }
     requires fits { from + length (arc_value tree).0 + length new.now < 2 ^ 64 }
-    ensures { IfOk result (λ grown. (arc_value grown).0 ≡ woven from (arc_value tree).0 below.now new.now) }
+    ensures { IfOk result
+        (λ grown. (arc_value grown).0 ≡ woven from (arc_value tree).0 below.now new.now) }
 {
     if new.is_empty() {
         return Ok(tree);
@@ -368,9 +369,11 @@ fn join_lower_right(
 ) -> Result<Tree, Memory>
     requires lower { (arc_value right).1 ≤ (arc_value left).1 + 1 }
     requires fits { length (arc_value left).0 + length (arc_value right).0 + 1 < 2 ^ 64 }
-    ensures datoms { IfOk result (λ new. new.0 ≡ (arc_value left).0 ++ datom ∷ (arc_value right).0) }
+    ensures datoms { IfOk result
+        (λ new. new.0 ≡ (arc_value left).0 ++ datom ∷ (arc_value right).0) }
     ensures not_lower { IfOk result (λ new. (arc_value left).1 ≤ new.1) }
-    ensures at_most_one_higher { IfOk result (λ new. new.1 ≤ max (arc_value left).1 (arc_value right).1 + 1) }
+    ensures at_most_one_higher { IfOk result
+        (λ new. new.1 ≤ max (arc_value left).1 (arc_value right).1 + 1) }
 {
     if left.height() <= right.height() + 1 {
         return Ok(fork(left, datom, right));
@@ -393,9 +396,11 @@ fn join_lower_left(
 ) -> Result<Tree, Memory>
     requires lower { (arc_value left).1 ≤ (arc_value right).1 + 1 }
     requires fits { length (arc_value left).0 + length (arc_value right).0 + 1 < 2 ^ 64 }
-    ensures datoms { IfOk result (λ new. new.0 ≡ (arc_value left).0 ++ datom ∷ (arc_value right).0) }
+    ensures datoms { IfOk result
+        (λ new. new.0 ≡ (arc_value left).0 ++ datom ∷ (arc_value right).0) }
     ensures not_lower { IfOk result (λ new. (arc_value right).1 ≤ new.1) }
-    ensures at_most_one_higher { IfOk result (λ new. new.1 ≤ max (arc_value left).1 (arc_value right).1 + 1) }
+    ensures at_most_one_higher { IfOk result
+        (λ new. new.1 ≤ max (arc_value left).1 (arc_value right).1 + 1) }
 {
     if right.height() <= left.height() + 1 {
         return Ok(fork(left, datom, right));
@@ -440,8 +445,10 @@ fn balance(
 ) -> Result<Tree, Memory>
     requires near { DifferByAtMost 2 (arc_value left).1 (arc_value right).1 }
     requires fits { length (arc_value left).0 + length (arc_value right).0 + 1 < 2 ^ 64 }
-    ensures datoms { IfOk result (λ new. new.0 ≡ (arc_value left).0 ++ datom ∷ (arc_value right).0) }
-    ensures height { IfOk result (λ new. IsHeightAfterBalance (arc_value left).1 (arc_value right).1 new.1) }
+    ensures datoms { IfOk result
+        (λ new. new.0 ≡ (arc_value left).0 ++ datom ∷ (arc_value right).0) }
+    ensures height { IfOk result
+        (λ new. IsHeightAfterBalance (arc_value left).1 (arc_value right).1 new.1) }
 {
     let (l, r) = (left.height(), right.height());
     if l > r + 1 {
@@ -462,8 +469,10 @@ fn lean_left(
 ) -> Result<Tree, Memory>
     requires two_higher { (arc_value left).1 ≡ (arc_value right).1 + 2 }
     requires fits { length (arc_value left).0 + length (arc_value right).0 + 1 < 2 ^ 64 }
-    ensures datoms { IfOk result (λ new. new.0 ≡ (arc_value left).0 ++ datom ∷ (arc_value right).0) }
-    ensures height { IfOk result (λ new. IsHeightAfterBalance (arc_value left).1 (arc_value right).1 new.1) }
+    ensures datoms { IfOk result
+        (λ new. new.0 ≡ (arc_value left).0 ++ datom ∷ (arc_value right).0) }
+    ensures height { IfOk result
+        (λ new. IsHeightAfterBalance (arc_value left).1 (arc_value right).1 new.1) }
 {
     let Sides {
         left: outer,
@@ -493,8 +502,10 @@ fn lean_right(
 ) -> Result<Tree, Memory>
     requires two_higher { (arc_value right).1 ≡ (arc_value left).1 + 2 }
     requires fits { length (arc_value left).0 + length (arc_value right).0 + 1 < 2 ^ 64 }
-    ensures datoms { IfOk result (λ new. new.0 ≡ (arc_value left).0 ++ datom ∷ (arc_value right).0) }
-    ensures height { IfOk result (λ new. IsHeightAfterBalance (arc_value left).1 (arc_value right).1 new.1) }
+    ensures datoms { IfOk result
+        (λ new. new.0 ≡ (arc_value left).0 ++ datom ∷ (arc_value right).0) }
+    ensures height { IfOk result
+        (λ new. IsHeightAfterBalance (arc_value left).1 (arc_value right).1 new.1) }
 {
     let Sides {
         left: inner,
