@@ -3,8 +3,8 @@
 use Rattle.std.specs.Prelude.{List, [], ◌∷◌}
 use Rattle.std.specs.declared.cmp.Ordering.{Ordering}
 use Rattle.std.specs.Cmp.{IsTotalOrder}
-use Rattle.edn_alike.specs.contracts.token.TokenOrd.TheImpl as token_ord
-use Rattle.edn_alike.specs.contracts.token.TokenOrd.TheImpl.Laws as laws
+use Rattle.edn_alike.specs.contracts.token.CodeTokenOrd.TheImpl as token_ord
+use Rattle.edn_alike.specs.contracts.token.CodeTokenOrd.TheImpl.Laws as laws
 use Rattle.edn_alike.specs.declared.coded.Coded.{Coded}
 use Rattle.edn_alike.specs.declared.coded.Coded.TheVariants.{One, Many}
 use Rattle.edn_alike.specs.declared.token.CodeToken.{CodeToken}
