@@ -9,6 +9,3 @@ pub use disks::Disk;
 pub use fb_calls::Failed;
 pub use fb_memory::Memory;
 pub use memory::MemDisk;
-
-#[cfg(test)]
-mod tests;

@@ -17,6 +17,3 @@ pub use journals::{Journal, JournalFault};
 pub use marks::Mark;
 pub use payloads::Payloads;
 pub use starts::{StartFault, StartStop};
-
-#[cfg(test)]
-mod tests;

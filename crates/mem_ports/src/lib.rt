@@ -11,6 +11,3 @@ pub use clocks::{FixedClock, StepClock};
 pub use hosts::MemHost;
 pub use sinks::MemSink;
 pub use sources::MemSource;
-
-#[cfg(test)]
-mod tests;

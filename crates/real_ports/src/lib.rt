@@ -11,6 +11,3 @@ pub use clocks::SystemClock;
 pub use disks::AnyDisk;
 pub use files::{FileSink, FileSource};
 pub use hosts::RealHost;
-
-#[cfg(test)]
-mod tests;

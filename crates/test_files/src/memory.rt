@@ -1,7 +1,7 @@
 //! Tests: ports in memory, with faults at numbered calls.
-use super::*;
 use fb_disk::MemDisk;
 use fb_ports::{Clock, Disk, Failed, Host, OpenFail, Part, Sink, Source};
+use mem_ports::{FixedClock, MemHost, MemSink, MemSource, StepClock};
 use std::alloc::Global;
 use std::test::Fail;
 

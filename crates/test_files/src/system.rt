@@ -1,6 +1,6 @@
 //! Tests: ports of the system, on files of the test itself.
-use super::*;
 use fb_ports::{Clock, Disk, Failed, Host, OpenFail, Part, Sink, Source};
+use real_ports::{FileSink, FileSource, RealHost, SystemClock};
 use std::alloc::Global;
 use std::test::Fail;
 

@@ -1,5 +1,5 @@
 //! Tests: a disk in memory, its crashes and its faults.
-use super::*;
+use fb_disk::{Disk, Failed, MemDisk};
 use std::alloc::Global;
 use std::test::Fail;
 

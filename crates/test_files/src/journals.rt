@@ -1,6 +1,6 @@
 //! Tests: a journal over a disk in memory.
-use super::*;
 use fb_disk::{Disk, MemDisk};
+use fb_journal::{Journal, JournalFault, Mark, Payloads, StartFault, frame};
 use std::alloc::Global;
 use std::test::Fail;
 
