@@ -12,7 +12,10 @@ pub use entities::{
     TYPE_SYMBOL, TYPE_URI, TYPE_UUID, UNIQUE, UNIQUE_IDENTITY, UNIQUE_VALUE, USER_ENTITIES,
     VALUE_TYPE, is_builtin, t_of_transaction, transaction_entity, user_entity, user_number,
 };
-pub use laws::{partitions_are_datomics, there_and_back};
+pub use laws::{
+    instants_are_those_of_the_years_1_to_9999, limits_are_the_promised_ones,
+    partitions_are_datomics, there_and_back,
+};
 pub use limits::{
     GREATEST_INSTANT, GREATEST_T, LARGEST_ENTRY, LEAST_INSTANT, LONGEST_NAME, LONGEST_STRING,
     MOST_DATOMS, MOST_USERS, is_instant,
