@@ -31,8 +31,10 @@ pub fn in_avet(alloc: Global, datoms: Vec<Datom>, covers: &Covers) -> Result<Dat
 /// The trees of one entry. Their ids are counted from 1 on.
 pub fn trees(alloc: Global, entry: &Entry, covers: &Covers) -> Result<Roots, Memory>
     requires { HasNoTwins entry.now.datoms }
-    ensures grown { IfOk result (λ roots. (order : Order) → IsGrown order covers.now [] [] entry.now.datoms (list_in (trees_of roots) order)) }
-    ensures ids { IfOk result (λ roots. root_ids roots ≡ range_with_len 1 (length (root_ids roots))) }
+    ensures grown { IfOk result (λ roots. (order : Order)
+        → IsGrown order covers.now [] [] entry.now.datoms (list_in (trees_of roots) order)) }
+    ensures ids { IfOk result
+        (λ roots. root_ids roots ≡ range_with_len 1 (length (root_ids roots))) }
 {
     let index = index_of(alloc, entry, covers)?;
     let eavt = copied(alloc, &index, Order::Eavt)?;
@@ -45,10 +47,15 @@ pub fn trees(alloc: Global, entry: &Entry, covers: &Covers) -> Result<Roots, Mem
 /// The live index of an entry's datoms alone, which has them in all four orders.
 fn index_of(alloc: Global, entry: &Entry, covers: &Covers) -> Result<Live, Memory>
     requires { HasNoTwins entry.now.datoms }
-    ensures { IfOk result (λ live. (order : Order) → IsGrown order covers.now [] [] entry.now.datoms (list_in live order)) }
+    ensures { IfOk result (λ live. (order : Order)
+        → IsGrown order covers.now [] [] entry.now.datoms (list_in live order)) }
 {
+    let live = Live::empty(alloc);
+    if entry.datoms.is_empty() {
+        return Ok(live);
+    }
     let nothing = Datoms::of(Vec::new(alloc));
-    Live::empty(alloc).with_entry(entry, covers, &nothing)
+    live.with_entry(entry, covers, &nothing)
 }
 
 /// Copies of the datoms of a live list.
