@@ -2,7 +2,7 @@
 -- Word 0 is the number of tickets drawn, word 1 the ticket served, word 2 the basis of the history, word s + 3 the mail word of session s: 0 free, 1 held by its reader, 2 by the holder of the turn.
 -- Slot 0 has the value that stands for the history, and slot s + 1 the last snapshot mailed to session s.
 -- This project's own choice.
-use Rattle.std.specs.Prelude.{◌≡◌, ◌≢◌, ◌⊎◌, ℕ, ◌+◌, ◌-◌, ◌*◌, ◌<◌, ◌≤◌, eqb, Bool, cond, List, [], ◌∷◌, length, slice_index, Option, Some, None}
+use Rattle.std.specs.Prelude.{◌≡◌, ◌≢◌, ◌⊎◌, ℕ, ◌+◌, ◌-◌, ◌*◌, ◌<◌, ◌≤◌, ◌==◌, Bool, if◌then◌else◌, List, [], ◌∷◌, length, slice_index, Option, Some, None}
 use mathlib.Core.Option.{some, none}
 use mathlib.Core.Option as maybe
 use lib.ListN.{get_elem?}
@@ -65,10 +65,10 @@ total g [] = 0
 total g (x ∷ xs) = g x + total g xs
 
 abbrev pub one_if : Bool → ℕ
-one_if b = cond b 1 0
+one_if b = if b then 1 else 0
 
 abbrev pub has_number : {E : Type 0} → ℕ → Joined E → ℕ
-has_number z p = one_if (eqb p.number z)
+has_number z p = one_if (p.number == z)
 
 module _ {E : Type 0} where
   abbrev pub seats_of : View E → ℕ
@@ -76,11 +76,12 @@ module _ {E : Type 0} where
 
   -- the draws that a seat has left, if it was not joined away
   abbrev pub draws_left : View E → ℕ
-  draws_left v = cond (eqb v.seats 0) 0 (4294967296 - v.draws)
+  draws_left v = if v.seats == 0 then 0 else 4294967296 - v.draws
 
   -- how many seats of the number z there are, with those that were joined to this one
   abbrev pub numbered : ℕ → View E → ℕ
-  numbered z v = cond (eqb v.seats 0) 0 (one_if (eqb v.number z)) + total (has_number z) v.joined
+  numbered z v =
+      (if v.seats == 0 then 0 else one_if (v.number == z)) + total (has_number z) v.joined
 
   -- no two seats have one ticket
   abbrev pub Apart : List (View E) → Type 0

@@ -1,6 +1,6 @@
 -- What a seat knows, and how each step changes it.
 -- This project's own choice.
-use Rattle.std.specs.Prelude.{◌≡◌, ◌≢◌, ℕ, zero, suc, ◌+◌, ◌<◌, ◌≤◌, ltb, eqb, Bool, true, false, cond, ◌⊎◌, List, [], ◌∷◌, ◌++◌, map, length, take, Option, Some, None}
+use Rattle.std.specs.Prelude.{◌≡◌, ◌≢◌, ℕ, zero, suc, ◌+◌, ◌<◌, ◌≤◌, nat_lt, ◌==◌, Bool, true, false, if◌then◌else◌, ◌⊎◌, List, [], ◌∷◌, ◌++◌, map, length, take, Option, Some, None}
 use mathlib.Core.Option.{some}
 use lib.ListN.{get_elem?}
 use base.Stored.{Gv}
@@ -26,7 +26,7 @@ abbrev pub StartsWith : {E : Type 0} → List E → List E → Type 0
 StartsWith {E} l first = (rest : List E) × (l ≡ first ++ rest)
 
 abbrev pub longer : {E : Type 0} → List E → List E → List E
-longer a b = cond (ltb (length a) (length b)) b a
+longer a b = if nat_lt (length a) (length b) then b else a
 
 -- each entry may be added to those before it
 abbrev pub IsLawful : {E : Type 0} → (List E → E → Type 0) → List E → Type 0
@@ -51,7 +51,7 @@ AreLawful {A} f follows es = (l : List A) × (es ≡ codes f l) × IsLawful foll
 abbrev pub commits_of : ℕ → ℕ → List ℕ → List ℕ
 commits_of n t [] = []
 commits_of n t (a ∷ more) =
-    cond (eqb a n) (t ∷ commits_of n (t + 1) more) (commits_of n (t + 1) more)
+    if a == n then t ∷ commits_of n (t + 1) more else commits_of n (t + 1) more
 
 abbrev pub AllBelow : ℕ → List ℕ → Type 0
 AllBelow n ts = (k t : ℕ) → get_elem? ts k ≡ some t → t < n
@@ -282,7 +282,7 @@ module _ {E : Type 0} where
 
   abbrev pub let_go : View E → Bool → View E
   let_go v kept =
-      record v { grab = Free; seen = cond kept (longer v.seen (found_of v.grab)) v.seen }
+      record v { grab = Free; seen = if kept then longer v.seen (found_of v.grab) else v.seen }
 
   -- the session's mail word was grabbed by the holder of the turn, or found at 1
   abbrev pub writing : View E → ℕ → List E → View E

@@ -1,6 +1,6 @@
 -- The first of some forms that is alike to one before it.
 -- EDN, edn-format: "Sets", "Maps".
-use Rattle.std.specs.Prelude.{◌≡◌, ℕ, ◌<◌, true, IsTrue, List, length, map, take, get_or, Option, Some, None}
+use Rattle.std.specs.Prelude.{◌≡◌, ℕ, ◌<◌, true, IsTrue, List, length, map, take, slice_index_or, Option, Some, None}
 use Rattle.edn_model.specs.Form as form
 use Rattle.edn_model.specs.Likeness.{alike, any, distinct}
 use Rattle.edn_form.specs.declared.form.Edn.{Edn}
@@ -14,4 +14,4 @@ IsFirstTwice fs None = IsTrue (distinct (form.forms fs))
 IsFirstTwice fs (Some i) =
     (i < length fs)
     × IsTrue (distinct (form.forms (take i fs)))
-    × (any (alike (get_or fs i form.nil)) (form.forms (take i fs)) ≡ true)
+    × (any (alike (slice_index_or fs i form.nil)) (form.forms (take i fs)) ≡ true)

@@ -1,13 +1,14 @@
 -- How a text is cut at its slash, and how the text of a symbol begins, so that it is no number and no keyword.
 -- EDN, edn-format, "Symbols" and "Keywords".
-use Rattle.std.specs.Prelude.{ℕ, Bool, false, not, ◌&&◌, List, [], ◌∷◌, nat_eq, codes, cond, Option, Some, None}
+use Rattle.std.specs.Prelude.{ℕ, Bool, false, not, ◌&&◌, List, [], ◌∷◌, nat_eq, codes, if◌then◌else◌, Option, Some, None}
 use Rattle.std.specs.List.{list_any, before_first, after_first}
 use Rattle.fb_model.specs.Words.{is_digit, is_slash, has_namespace, begins_with_one_of}
 
 -- the parts before and behind the first slash
 abbrev pub cut_at_slash : List ℕ → Option (List ℕ × List ℕ)
 cut_at_slash text =
-    cond (has_namespace text) (Some (before_first is_slash text, after_first is_slash text)) None
+    if has_namespace text then Some (before_first is_slash text, after_first is_slash text)
+    else None
 
 abbrev pub is_symbol_start : List ℕ → Bool
 is_symbol_start [] = false

@@ -1,6 +1,6 @@
 -- Values and forms: the value that a form is under a type, and the form in which a value is printed.
 -- Datomic, Schema (:db/valueType). That an entity may be given and is printed by its number is Transaction Data, Entity Identifiers.
-use Rattle.std.specs.Prelude.{ℕ, ℤ, pos, negsuc, Bool, true, nat_eq, nat_le, cond, Option, Some, None}
+use Rattle.std.specs.Prelude.{ℕ, ℤ, pos, negsuc, Bool, true, ◌==◌, nat_le, if◌then◌else◌, Option, Some, None}
 use Rattle.std.specs.Int.{int_min}
 use Rattle.edn_model.specs.Form as edn
 use Rattle.edn_model.specs.Form.{Form}
@@ -22,7 +22,7 @@ entity_of (negsuc n) = None
 -- value that it is in a transaction
 abbrev pub value_of_form : ℕ → Form → Option Value
 value_of_form kind (edn.integer z) =
-    cond (nat_eq kind type_ref) (entity_of z) (value_in kind (edn.integer z))
+    if kind == type_ref then entity_of z else value_in kind (edn.integer z)
 value_of_form kind f = value_in kind f
 
 -- the integer of an entity's number; no entity of a history has one above the greatest integer

@@ -1,7 +1,7 @@
 -- A database that many sessions share, at one moment: its history, what each session has of it, and
 -- how far its trees are.
 -- This project's own choice.
-use Rattle.std.specs.Prelude.{◌≡◌, ℕ, ◌≤◌, cond, nat_eq, List, [], Option, None, All}
+use Rattle.std.specs.Prelude.{◌≡◌, ℕ, ◌≤◌, if◌then◌else◌, ◌==◌, List, [], Option, None, All}
 use Rattle.fb_values.specs.declared.facts.Entry.{Entry}
 use Rattle.fb_model.specs.History.{basis}
 use Rattle.fb_model.specs.Lawful.{IsLawful}
@@ -56,7 +56,7 @@ pub record IsBeginning (world : World) : Type 0 where
 
 -- the sessions, with one of them changed
 abbrev pub changed : ℕ → (Session → Session) → (ℕ → Session) → ℕ → Session
-changed s change sessions other = cond (nat_eq other s) (change (sessions other)) (sessions other)
+changed s change sessions other = if other == s then change (sessions other) else sessions other
 
 abbrev pub with_session : ℕ → (Session → Session) → World → World
 with_session s change world = record world { sessions = changed s change world.sessions }

@@ -1,5 +1,5 @@
 //! The payloads that a start read.
-ghost use Rattle.std.specs.Prelude.{◌≡◌, ◌<◌, ◌↔◌, [], length, get_or, IsTrue};
+ghost use Rattle.std.specs.Prelude.{◌≡◌, ◌<◌, ◌↔◌, [], length, slice_index_or, IsTrue};
 ghost use Rattle.fb_journal.specs.Payloads.{payloads_of, AreWithin};
 
 use std::alloc::Global;
@@ -62,7 +62,7 @@ impl Payloads {
     /// The n-th payload, counted from 0.
     pub fn at(&self, n: usize) -> &[u8]
         requires { n < length self.now }
-        ensures { result.now ≡ get_or self.now n [] }
+        ensures { result.now ≡ slice_index_or self.now n [] }
     {
         let place = self.places[n];
         &self.file[place.start..place.start + place.len]

@@ -1,6 +1,6 @@
 -- Facts: which triples of an entity, an attribute and a value hold after a list of datoms.
 -- Datomic, Transaction Data: an added datom asserts its triple, any other retracts it.
-use Rattle.std.specs.Prelude.{ℕ, Bool, false, not, ◌&&◌, List, [], ◌∷◌, map, filter, min, nat_eq, cond, IsTrue, Option, Some, None}
+use Rattle.std.specs.Prelude.{ℕ, Bool, false, not, ◌&&◌, List, [], ◌∷◌, map, filter, min, ◌==◌, nat_eq, if◌then◌else◌, IsTrue, Option, Some, None}
 use Rattle.std.specs.List.{list_any}
 use Rattle.std.specs.Ordering.{is_eq}
 use Rattle.fb_values.specs.Orders.{value_cmp}
@@ -20,7 +20,7 @@ is_of e a v d = nat_eq d.e e && nat_eq d.a a && value_eq d.v v
 -- whether the triple holds after the datoms, where `before` says whether it held before them: its last datom decides
 abbrev pub holds_after : Bool → List Datom → ℕ → ℕ → Value → Bool
 holds_after before [] e a v = before
-holds_after before (d ∷ ds) e a v = holds_after (cond (is_of e a v d) d.added before) ds e a v
+holds_after before (d ∷ ds) e a v = holds_after (if is_of e a v d then d.added else before) ds e a v
 
 -- whether the triple holds in the history: the last of its datoms is an addition
 abbrev pub holds : List Entry → ℕ → ℕ → Value → Bool
@@ -36,7 +36,7 @@ stands_before d ds = d.added && not (list_any (is_of d.e d.a d.v) ds)
 -- one datom for each triple that holds after the datoms: the last one of the triple
 abbrev pub standing : List Datom → List Datom
 standing [] = []
-standing (d ∷ ds) = cond (stands_before d ds) (d ∷ standing ds) (standing ds)
+standing (d ∷ ds) = if stands_before d ds then d ∷ standing ds else standing ds
 
 -- the facts of a history
 abbrev pub facts : List Entry → List Datom
@@ -63,4 +63,4 @@ least e (Some other) = Some (min e other)
 abbrev pub holder : List Datom → ℕ → Value → Option ℕ
 holder [] a v = None
 holder (d ∷ facts) a v =
-    cond (nat_eq d.a a && value_eq d.v v) (least d.e (holder facts a v)) (holder facts a v)
+    if d.a == a && value_eq d.v v then least d.e (holder facts a v) else holder facts a v

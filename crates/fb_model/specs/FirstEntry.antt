@@ -5,7 +5,7 @@ use Rattle.fb_values.specs.declared.facts.Datom.{Datom}
 use Rattle.fb_values.specs.declared.facts.Entry.{Entry}
 use Rattle.fb_values.specs.declared.facts.Value.{Value}
 use Rattle.fb_values.specs.declared.facts.Value.TheVariants.{Keyword, Ref, Bool, Instant}
-use Rattle.fb_numbers.specs.Numbers.{transaction_of, ident, value_type, cardinality, unique, index, tx_instant, type_keyword, type_string, type_boolean, type_ref, type_instant, cardinality_one, unique_identity}
+use Rattle.fb_numbers.specs.Numbers.{transaction_of, ident, value_type, cardinality, unique, is_component, index, doc, tx_instant, type_keyword, type_string, type_boolean, type_long, type_ref, type_instant, type_uuid, type_symbol, type_uri, cardinality_one, cardinality_many, unique_identity, unique_value}
 
 -- the first entry records that the entity has the value
 abbrev pub first_datom : ℕ → ℕ → Value → Datom
@@ -23,30 +23,32 @@ attribute e name kind =
 
 abbrev pub first_attributes : List Datom
 first_attributes =
-    attribute 1 (codes "db/ident") type_keyword ++ first_datom 1 unique (Ref unique_identity) ∷ []
-    ++ attribute 2 (codes "db/valueType") type_ref
-    ++ attribute 3 (codes "db/cardinality") type_ref
-    ++ attribute 4 (codes "db/unique") type_ref
-    ++ attribute 5 (codes "db/isComponent") type_boolean
-    ++ attribute 6 (codes "db/index") type_boolean
-    ++ attribute 7 (codes "db/doc") type_string
-    ++ attribute 8 (codes "db/txInstant") type_instant ++ first_datom 8 index (Bool true) ∷ []
+    attribute ident (codes "db/ident") type_keyword
+    ++ first_datom ident unique (Ref unique_identity) ∷ []
+    ++ attribute value_type (codes "db/valueType") type_ref
+    ++ attribute cardinality (codes "db/cardinality") type_ref
+    ++ attribute unique (codes "db/unique") type_ref
+    ++ attribute is_component (codes "db/isComponent") type_boolean
+    ++ attribute index (codes "db/index") type_boolean
+    ++ attribute doc (codes "db/doc") type_string
+    ++ attribute tx_instant (codes "db/txInstant") type_instant
+    ++ first_datom tx_instant index (Bool true) ∷ []
 
 abbrev pub first_names : List Datom
 first_names =
-    named 10 (codes "db.type/keyword")
-    ++ named 11 (codes "db.type/string")
-    ++ named 12 (codes "db.type/boolean")
-    ++ named 13 (codes "db.type/long")
-    ++ named 14 (codes "db.type/ref")
-    ++ named 15 (codes "db.type/instant")
-    ++ named 16 (codes "db.type/uuid")
-    ++ named 17 (codes "db.type/symbol")
-    ++ named 18 (codes "db.type/uri")
-    ++ named 20 (codes "db.cardinality/one")
-    ++ named 21 (codes "db.cardinality/many")
-    ++ named 30 (codes "db.unique/identity")
-    ++ named 31 (codes "db.unique/value")
+    named type_keyword (codes "db.type/keyword")
+    ++ named type_string (codes "db.type/string")
+    ++ named type_boolean (codes "db.type/boolean")
+    ++ named type_long (codes "db.type/long")
+    ++ named type_ref (codes "db.type/ref")
+    ++ named type_instant (codes "db.type/instant")
+    ++ named type_uuid (codes "db.type/uuid")
+    ++ named type_symbol (codes "db.type/symbol")
+    ++ named type_uri (codes "db.type/uri")
+    ++ named cardinality_one (codes "db.cardinality/one")
+    ++ named cardinality_many (codes "db.cardinality/many")
+    ++ named unique_identity (codes "db.unique/identity")
+    ++ named unique_value (codes "db.unique/value")
 
 -- recorded at the beginning of 1970 by transaction 0
 abbrev pub first_entry : Entry

@@ -1,6 +1,6 @@
 -- Lawful histories: those that a database may have, which entry may follow one, and the least law that an entry breaks.
 -- Datomic, Transaction Data and Schema, as this project reads them.
-use Rattle.std.specs.Prelude.{◌≡◌, ℕ, ◌+◌, Bool, ◌&&◌, List, [], ◌∷◌, ◌++◌, IsTrue, ⊤, Option, Some, None, cond}
+use Rattle.std.specs.Prelude.{◌≡◌, ℕ, ◌+◌, Bool, ◌&&◌, List, [], ◌∷◌, ◌++◌, IsTrue, ⊤, Option, Some, None, if◌then◌else◌}
 use Rattle.fb_values.specs.declared.facts.Entry.{Entry}
 use Rattle.fb_model.specs.FirstEntry.{first_entry}
 use Rattle.fb_model.specs.Laws.{has_next_t, has_later_instant, has_known_numbers, has_installed_attributes, has_typed_values, has_datoms_in_order, has_changes_alone, has_one_value_each, has_one_holder_each, has_whole_attributes, has_allowed_changes, has_no_reserved_names, has_own_instant_alone}
@@ -51,7 +51,7 @@ laws_kept h entry =
 -- the number of the first of them that is not kept, where the first one has the number n
 abbrev pub first_broken : ℕ → List Bool → Option ℕ
 first_broken n [] = None
-first_broken n (kept ∷ rest) = cond kept (first_broken (n + 1) rest) (Some n)
+first_broken n (kept ∷ rest) = if kept then first_broken (n + 1) rest else Some n
 
 -- the least law that is broken, from 1 to 9, or none
 abbrev pub least_law : List Entry → Entry → Option ℕ

@@ -1,6 +1,6 @@
 -- The laws that an entry keeps where it may follow a history. One test for each part of a law, in the order of the laws.
 -- Datomic, Transaction Data and Schema, for whoever reads a log: this project's own choice of what an entry may record.
-use Rattle.std.specs.Prelude.{ℕ, ◌+◌, Bool, true, false, not, ◌&&◌, ◌||◌, List, [], ◌∷◌, ◌++◌, nat_eq, nat_le, int_lt, length, cond}
+use Rattle.std.specs.Prelude.{ℕ, ◌+◌, Bool, true, false, not, ◌&&◌, ◌||◌, List, [], ◌∷◌, ◌++◌, nat_eq, nat_le, int_lt, length, if◌then◌else◌}
 use Rattle.std.specs.List.{list_all, list_any}
 use Rattle.std.specs.Option.{option_map_or}
 use Rattle.fb_values.specs.declared.facts.Datom.{Datom}
@@ -41,7 +41,7 @@ is_asserted ds e = list_any (λ d. nat_eq d.e e && d.added) ds
 abbrev pub users_behind : List Datom → List Datom → ℕ → ℕ
 users_behind [] ds n = n
 users_behind (_ ∷ more) ds n =
-    cond (is_asserted ds (user_entity (n + 1))) (users_behind more ds (n + 1)) n
+    if is_asserted ds (user_entity (n + 1)) then users_behind more ds (n + 1) else n
 
 -- the greatest user number in use after the entry
 abbrev pub users_after : List Entry → Entry → ℕ
@@ -92,7 +92,7 @@ has_datoms_in_order h entry =
 
 abbrev pub has_changes_alone : List Entry → Entry → Bool
 has_changes_alone h entry =
-    list_all (λ d. cond d.added (not (holds h d.e d.a d.v)) (holds h d.e d.a d.v)) entry.datoms
+    list_all (λ d. if d.added then not (holds h d.e d.a d.v) else holds h d.e d.a d.v) entry.datoms
 
 -- ---- 7: an entity has at most one value of an attribute of cardinality one
 

@@ -1,6 +1,6 @@
 -- Datoms put in the order of an index, and the one list that strictly rises and has given datoms.
 -- Restates Indexes of Datomic's documentation.
-use Rattle.std.specs.Prelude.{◌↔◌, List, [], ◌∷◌, cond, IsTrue, Contains}
+use Rattle.std.specs.Prelude.{◌↔◌, List, [], ◌∷◌, if◌then◌else◌, IsTrue, Contains}
 use Rattle.std.specs.Ordering.{is_lt}
 use Rattle.fb_values.specs.declared.facts.Datom.{Datom}
 use Rattle.fb_values.specs.declared.indexes.Order.{Order}
@@ -11,8 +11,9 @@ use Rattle.fb_values.specs.Rising.{rises}
 abbrev pub put_in_order : Order → Datom → List Datom → List Datom
 put_in_order order d [] = d ∷ []
 put_in_order order d (first ∷ rest) =
-    cond (is_lt (key_cmp order d first)) (d ∷ first ∷ rest)
-    (cond (is_lt (key_cmp order first d)) (first ∷ put_in_order order d rest) (first ∷ rest))
+    if is_lt (key_cmp order d first) then d ∷ first ∷ rest
+    else (if is_lt (key_cmp order first d) then first ∷ put_in_order order d rest
+    else first ∷ rest)
 
 abbrev pub in_order : Order → List Datom → List Datom
 in_order order [] = []

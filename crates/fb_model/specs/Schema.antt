@@ -1,6 +1,6 @@
 -- The schema: which entities are attributes, what is said of each, and which indexes hold its datoms.
 -- Datomic, Schema and Indexes.
-use Rattle.std.specs.Prelude.{◌≡◌, ℕ, Bool, true, false, not, ◌&&◌, ◌||◌, List, [], ◌∷◌, filter, filter_map, nat_eq, nat_le, cond, is_some, Option, Some, None, unwrap_or, option_map, option_and_then}
+use Rattle.std.specs.Prelude.{◌≡◌, ℕ, Bool, true, false, not, ◌&&◌, ◌||◌, List, [], ◌∷◌, filter, filter_map, nat_eq, nat_le, if◌then◌else◌, is_some, Option, Some, None, unwrap_or, option_map, option_and_then}
 use Rattle.std.specs.List.{list_any}
 use Rattle.std.specs.Option.{option_map_or}
 use Rattle.fb_values.specs.declared.facts.Datom.{Datom}
@@ -9,7 +9,7 @@ use Rattle.fb_values.specs.declared.facts.Value.{Value}
 use Rattle.fb_values.specs.declared.facts.Value.TheVariants.{Keyword, Bool as Boolean, Ref}
 use Rattle.fb_values.specs.declared.indexes.Order.{Order}
 use Rattle.fb_values.specs.declared.indexes.Order.TheVariants.{Eavt, Aevt, Avet, Vaet}
-use Rattle.fb_numbers.specs.Numbers.{ident, value_type, cardinality, unique, is_component, index, type_ref, cardinality_one, cardinality_many, unique_identity, unique_value, user_entity}
+use Rattle.fb_numbers.specs.Numbers.{ident, value_type, cardinality, unique, is_component, index, type_keyword, type_ref, type_uri, cardinality_one, cardinality_many, unique_identity, unique_value, user_entity}
 use Rattle.fb_model.specs.Words.{local_name, begins_with_one_of}
 use Rattle.fb_model.specs.Rising.{in_order}
 use Rattle.fb_model.specs.Facts.{value_of, holder, facts}
@@ -151,8 +151,8 @@ pub record Schema : Type 0 where
 
 abbrev name_of_no_attribute : List Datom → ℕ → Option (ℕ × List ℕ)
 name_of_no_attribute facts e =
-    cond (is_attribute facts e) None
-    (option_map (λ (name : List ℕ). (e, name)) (keyword_of facts e ident))
+    if is_attribute facts e then None
+    else option_map (λ (name : List ℕ). (e, name)) (keyword_of facts e ident)
 
 abbrev pub schema_in : List Datom → Schema
 schema_in facts =
@@ -173,7 +173,7 @@ abbrev pub is_whole_attribute : Attribute → Bool
 is_whole_attribute attribute =
     nat_le (user_entity 1) attribute.id
     && not (begins_with_one_of (95 ∷ []) (local_name attribute.name))
-    && nat_le 10 attribute.kind && nat_le attribute.kind 18
+    && nat_le type_keyword attribute.kind && nat_le attribute.kind type_uri
     && (nat_eq attribute.uniqueness 0
     || ((nat_eq attribute.uniqueness unique_identity || nat_eq attribute.uniqueness unique_value)
     && not (nat_eq attribute.kind type_ref)))

@@ -1,6 +1,6 @@
 -- Words: which texts are keywords, symbols and uris, and what the names of entities are made of.
 -- EDN, edn-format, "Symbols" and "Keywords". What a uri is made of is this project's own choice.
-use Rattle.std.specs.Prelude.{ℕ, Bool, false, not, ◌&&◌, ◌||◌, List, [], ◌∷◌, nat_eq, nat_le, length, codes, bytes_eq, cond}
+use Rattle.std.specs.Prelude.{ℕ, Bool, false, not, ◌&&◌, ◌||◌, List, [], ◌∷◌, nat_eq, nat_le, length, codes, bytes_eq, if◌then◌else◌}
 use Rattle.std.specs.List.{list_all, list_any, before_first, after_first, starts_with}
 
 abbrev pub is_slash : ℕ → Bool
@@ -34,10 +34,10 @@ abbrev pub has_namespace : List ℕ → Bool
 has_namespace text = list_any is_slash text
 
 abbrev pub namespace : List ℕ → List ℕ
-namespace text = cond (has_namespace text) (before_first is_slash text) []
+namespace text = if has_namespace text then before_first is_slash text else []
 
 abbrev pub local_name : List ℕ → List ℕ
-local_name text = cond (has_namespace text) (after_first is_slash text) text
+local_name text = if has_namespace text then after_first is_slash text else text
 
 -- the text of a keyword, without its colon: a name, or two that a slash joins
 abbrev pub is_keyword_text : List ℕ → Bool

@@ -1,6 +1,6 @@
 -- Attributes as an index is asked for them.
 -- Datomic, Indexes.
-use Rattle.std.specs.Prelude.{ℕ, cond, Option, Some, None, Result, Ok, Err}
+use Rattle.std.specs.Prelude.{ℕ, if◌then◌else◌, Option, Some, None, Result, Ok, Err}
 use Rattle.fb_values.specs.declared.indexes.Order.{Order}
 use Rattle.fb_model.specs.Schema.{Attribute, is_held}
 use Rattle.read_refusals.specs.declared.reasons.Reason.TheVariants.{BadComponent, NotInIndex}
@@ -15,4 +15,4 @@ typed attribute = record { id = attribute.id; kind = attribute.kind }
 abbrev pub typed_or : Order → ℕ → Option Attribute → Result Typed Refusal
 typed_or order at None = Err (refusal BadComponent at)
 typed_or order at (Some attribute) =
-    cond (is_held order attribute) (Ok (typed attribute)) (Err (refusal NotInIndex at))
+    if is_held order attribute then Ok (typed attribute) else Err (refusal NotInIndex at)

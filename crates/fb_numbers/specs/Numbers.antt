@@ -2,7 +2,7 @@
 -- The attributes' meaning and the partitions are those of Datomic, Schema; the built-in numbers are this project's own choice.
 use Rattle.std.specs.Prelude.{ℕ, ◌+◌, ◌-◌, ◌^◌, ℤ, pos, negsuc, Bool, ◌&&◌, ◌||◌, nat_le, nat_lt, int_le}
 use Rattle.fb_numbers.specs.declared.entities.TheConstants.{CARDINALITY, CARDINALITY_MANY, CARDINALITY_ONE, DOC, IDENT, INDEX, IS_COMPONENT, TRANSACTIONS, TX_INSTANT, TYPE_BOOLEAN, TYPE_INSTANT, TYPE_KEYWORD, TYPE_LONG, TYPE_REF, TYPE_STRING, TYPE_SYMBOL, TYPE_URI, TYPE_UUID, UNIQUE, UNIQUE_IDENTITY, UNIQUE_VALUE, USER_ENTITIES, VALUE_TYPE}
-use Rattle.fb_numbers.specs.declared.limits.TheConstants.{GREATEST_T, LEAST_INSTANT, GREATEST_INSTANT, MOST_DATOMS}
+use Rattle.fb_numbers.specs.declared.limits.TheConstants.{GREATEST_T, LEAST_INSTANT, GREATEST_INSTANT, MOST_DATOMS, MOST_USERS}
 
 -- the entity of transaction t
 abbrev pub transaction_of : ℕ → ℕ
@@ -88,10 +88,10 @@ unique_value = UNIQUE_VALUE
 -- an entity of the first entry: 1 to 8, 10 to 18, 20, 21, 30 and 31
 abbrev pub is_builtin : ℕ → Bool
 is_builtin e =
-    (nat_le 1 e && nat_le e 8)
-    || (nat_le 10 e && nat_le e 18)
-    || (nat_le 20 e && nat_le e 21)
-    || (nat_le 30 e && nat_le e 31)
+    (nat_le ident e && nat_le e tx_instant)
+    || (nat_le type_keyword e && nat_le e type_uri)
+    || (nat_le cardinality_one e && nat_le e cardinality_many)
+    || (nat_le unique_identity e && nat_le e unique_value)
 
 -- the greatest t of a transaction
 abbrev pub greatest_t : ℕ
@@ -127,3 +127,7 @@ is_uuid n = nat_lt n (2 ^ 128)
 -- the most datoms of an entry
 abbrev pub most_datoms : ℕ
 most_datoms = MOST_DATOMS
+
+-- the greatest n of a user entity that a transaction may make
+abbrev pub most_users : ℕ
+most_users = MOST_USERS

@@ -1,6 +1,6 @@
 -- Filters by name: which filter a name finds, and which datoms it selects.
 -- Datomic, Database Filters (d/filter). Which filters a table begins with is this project's own choice.
-use Rattle.std.specs.Prelude.{ℕ, ◌+◌, negsuc, Bool, true, false, not, List, [], ◌∷◌, nat_eq, nat_lt, bytes_eq, cond, slice_get, Option, Some, None, IsTrue, MatchOption, codes}
+use Rattle.std.specs.Prelude.{ℕ, ◌+◌, negsuc, Bool, true, false, not, List, [], ◌∷◌, nat_eq, nat_lt, bytes_eq, if◌then◌else◌, slice_get, Option, Some, None, IsTrue, MatchOption, codes}
 use Rattle.std.specs.Option.{option_map_or}
 use Rattle.fb_values.specs.declared.facts.Datom.{Datom}
 use Rattle.fb_values.specs.declared.facts.Value.{Value}
@@ -15,7 +15,7 @@ abbrev pub last_place : {S K : Type 0} → List ℕ → List (NamedFilter S K) �
 last_place name [] = None
 last_place name (named ∷ rest) =
     option_map_or (λ place. Some (place + 1)) (last_place name rest)
-    (cond (bytes_eq named.name name) (Some 0) None)
+    (if bytes_eq named.name name then Some 0 else None)
 
 -- the name at a place
 abbrev pub name_at : {S K : Type 0} → List (NamedFilter S K) → ℕ → List ℕ

@@ -1,6 +1,6 @@
 //! The commands that change what the reads behind them see. The line is written first, so that a view changes only where all
 //! went well.
-ghost use Rattle.std.specs.Prelude.{◌≡◌, ◌∷◌, ◌++◌, [], OnOk, OnErr, cond, is_some, map};
+ghost use Rattle.std.specs.Prelude.{◌≡◌, ◌∷◌, ◌++◌, [], OnOk, OnErr, if◌then◌else◌, is_some, map};
 ghost use Rattle.edn_form.specs.View.{form_of};
 ghost use Rattle.fb_model.specs.History.{basis};
 ghost use Rattle.view_model.specs.Window as window;
@@ -98,14 +98,14 @@ pub fn add_filter<T: FilterTable>(
 ) -> Result<(), Memory>
     ensures line { let basis = basis view.old.snapshot.entries in OnOk result
         (IsLineOf
-        (cond (is_some (T.place_of view.old.filter.table.now name.now)) (done_reply basis)
-        (refused basis model_no_filter))
+        (if is_some (T.place_of view.old.filter.table.now name.now) then done_reply basis
+        else refused basis model_no_filter)
         line.new.items) }
     ensures names { let names = map (T.name_at view.old.filter.table.now)
         view.old.filter.places.items in OnOk result
         (map (T.name_at view.old.filter.table.now) view.new.filter.places.items
-        ≡ cond (is_some (T.place_of view.old.filter.table.now name.now)) (names ++ name.now ∷ [])
-        names) }
+        ≡ (if is_some (T.place_of view.old.filter.table.now name.now) then names ++ name.now ∷ []
+        else names)) }
     ensures unchanged { OnErr result (view.new.filter.places.items ≡ view.old.filter.places.items) }
     ensures window { window_of view.new ≡ window_of view.old }
     ensures snapshot { view.new.snapshot ≡ view.old.snapshot }

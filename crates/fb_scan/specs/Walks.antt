@@ -1,7 +1,7 @@
 -- What a walk over an index shows of it, datom by datom.
 -- Restates Database Filters of Datomic's documentation. That a walk looks at the datom at hand and at the next one is this
 -- project's own choice: in an index the datoms of a triple stand together, as they came.
-use Rattle.std.specs.Prelude.{Bool, false, not, ◌&&◌, ◌||◌, List, [], ◌∷◌, nat_lt, cond, Option}
+use Rattle.std.specs.Prelude.{Bool, false, not, ◌&&◌, ◌||◌, List, [], ◌∷◌, nat_lt, if◌then◌else◌, Option}
 use Rattle.std.specs.List.{slice_get}
 use Rattle.std.specs.Option.{option_map_or}
 use Rattle.fb_values.specs.declared.facts.Datom.{Datom}
@@ -19,8 +19,8 @@ is_shown w d next = is_within w d && (w.history || (d.added && not (is_followed 
 -- the datoms of a list that are shown, where each is looked at beside the next one
 abbrev pub shown : Window → List Datom → List Datom
 shown w [] = []
-shown w (d ∷ ds) = cond (is_shown w d (slice_get ds 0)) (d ∷ shown w ds) (shown w ds)
+shown w (d ∷ ds) = if is_shown w d (slice_get ds 0) then d ∷ shown w ds else shown w ds
 
 -- the datoms of a list that a window sees
 abbrev pub seen_in : Window → List Datom → List Datom
-seen_in w ds = cond w.history (within w ds) (standing (within w ds))
+seen_in w ds = if w.history then within w ds else standing (within w ds)

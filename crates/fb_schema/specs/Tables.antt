@@ -1,6 +1,6 @@
 -- What the tables of a schema hold, beside the facts that they were made of.
 -- This project's own choice.
-use Rattle.std.specs.Prelude.{◌≡◌, ℕ, Bool, false, ◌&&◌, List, [], ◌∷◌, nat_eq, cond, unwrap_or, String}
+use Rattle.std.specs.Prelude.{◌≡◌, ℕ, Bool, false, ◌&&◌, List, [], ◌∷◌, nat_eq, if◌then◌else◌, unwrap_or, String}
 use Rattle.std.specs.Option.{option_map, option_map_or}
 use Rattle.std.specs.Ordering.{nat_cmp}
 use Rattle.std.specs.declared.alloc.Global.{Global}
@@ -40,7 +40,7 @@ names_one passes d = nat_eq d.a ident && passes d.e
 abbrev pub named_where : (ℕ → Bool) → List Datom → List ℕ
 named_where passes [] = []
 named_where passes (d ∷ ds) =
-    cond (names_one passes d) (d.e ∷ named_where passes ds) (named_where passes ds)
+    if names_one passes d then d.e ∷ named_where passes ds else named_where passes ds
 
 -- the attributes that each index holds
 abbrev pub HasCoverage : Coverage → List Datom → Type 0

@@ -1,7 +1,7 @@
 -- The laws of the orders: values and keys are totally ordered, and equal keys are those of the same entity, attribute, value and t.
 -- This project's own choice.
-use Rattle.std.specs.Prelude.{◌≡◌, ℕ, ℤ, List, [], length, take, refl}
-use Rattle.std.proofs.Common.{sym, ◌∙◌, ap, subst, T, get_or}
+use Rattle.std.specs.Prelude.{◌≡◌, ℕ, ℤ, List, [], length, take, slice_index_or, refl}
+use Rattle.std.proofs.Common.{sym, ◌∙◌, ap, subst, T}
 use Rattle.std.specs.Ordering.{nat_cmp, int_cmp, bool_cmp, ordering_then, on, then_cmp, is_eq}
 use Rattle.std.specs.Cmp.{IsTotalOrder, on_total, then_total, nat_cmp_total, int_cmp_total, tied_itself}
 use Rattle.std.specs.Cmp.Lexicographic.{slice_cmp, lists_total, nat_list_cmp_total}
@@ -106,8 +106,8 @@ pub record IsAtOnePlace (x y : Datom) : Type 0 where
 
 -- a component of two equal keys
 component : {x y : List Value} → x ≡ y → (place : ℕ)
-    → get_or x place (Ref 0) ≡ get_or y place (Ref 0)
-component e place = ap (λ key. get_or key place (Ref 0)) e
+    → slice_index_or x place (Ref 0) ≡ slice_index_or y place (Ref 0)
+component e place = ap (λ key. slice_index_or key place (Ref 0)) e
 
 number : {m n : ℕ} → Ref m ≡ Ref n → m ≡ n
 number e = ap number_in e

@@ -1,7 +1,7 @@
 -- Fields: numbers, truths and texts as bytes, and what is read where one is due: a value, or the
 -- first field that does not fit.
 -- This project's own choice.
-use Rattle.std.specs.Prelude.{ℕ, ◌<◌, All, zero, suc, ◌+◌, ◌*◌, ℤ, Bool, ◌&&◌, List, [], ◌∷◌, ◌++◌, length, take, drop, fold, nat_eq, nat_le, cond}
+use Rattle.std.specs.Prelude.{ℕ, ◌<◌, All, zero, suc, ◌+◌, ◌*◌, ℤ, Bool, ◌&&◌, List, [], ◌∷◌, ◌++◌, length, take, drop, fold, nat_eq, nat_le, if◌then◌else◌}
 use Rattle.std.specs.Int.{w32, w64, w128, to_be_bytes, cast_signed, cast_unsigned, from_bool}
 use Rattle.std.specs.Str.{is_utf8}
 
@@ -27,11 +27,12 @@ mapped f (misfit rest) = misfit rest
 -- a field whose value passes the test: one that does not is at fault from its first byte on
 abbrev pub that_fits : {A : Type 0} → (A → Bool) → (List ℕ → Reading A) → List ℕ → Reading A
 that_fits test read bytes =
-    and_then (read bytes) (λ a rest. cond (test a) (found a rest) (misfit bytes))
+    and_then (read bytes) (λ a rest. if test a then found a rest else misfit bytes)
 
 -- so many bytes
 abbrev pub piece : ℕ → List ℕ → Reading (List ℕ)
-piece n bytes = cond (nat_le n (length bytes)) (found (take n bytes) (drop n bytes)) (misfit bytes)
+piece n bytes =
+    if nat_le n (length bytes) then found (take n bytes) (drop n bytes) else misfit bytes
 
 -- so many of a kind, one behind another
 abbrev pub several : {A : Type 0} → (List ℕ → Reading A) → ℕ → List ℕ → Reading (List A)

@@ -1,6 +1,6 @@
 -- Values as bytes: a tag, and what stands behind it.
 -- This project's own choice.
-use Rattle.std.specs.Prelude.{ℕ, Bool, true, ◌&&◌, List, ◌∷◌, nat_eq, nat_le, cond}
+use Rattle.std.specs.Prelude.{ℕ, Bool, true, ◌&&◌, List, ◌∷◌, ◌==◌, nat_le, if◌then◌else◌}
 use Rattle.fb_values.specs.declared.facts.Value.{Value}
 use Rattle.fb_values.specs.declared.facts.Value.TheVariants.{Keyword, Str, Bool as Boolean, Long, Ref, Instant, Uuid, Symbol, Uri}
 use Rattle.fb_model.specs.Words.{is_keyword_text, is_symbol_text}
@@ -36,7 +36,7 @@ abbrev pub is_format : ℕ → Bool
 is_format format = nat_le 1 format && nat_le format 2
 
 abbrev pub last_tag : ℕ → ℕ
-last_tag format = cond (nat_eq format 1) 7 9
+last_tag format = if format == 1 then 7 else 9
 
 abbrev pub is_tag : ℕ → ℕ → Bool
 is_tag format tag = nat_le 1 tag && nat_le tag (last_tag format)
@@ -48,15 +48,15 @@ is_any text = true
 -- behind a tag: texts of keywords and symbols are those of EDN
 abbrev pub read_content : ℕ → List ℕ → Reading Value
 read_content tag bytes =
-    cond (nat_eq tag 1) (mapped Keyword (read_text is_keyword_text bytes))
-    (cond (nat_eq tag 2) (mapped Str (read_text is_any bytes))
-    (cond (nat_eq tag 3) (mapped Boolean (read_truth bytes))
-    (cond (nat_eq tag 4) (mapped Long (read_i64 bytes))
-    (cond (nat_eq tag 5) (mapped Ref (read_u64 bytes))
-    (cond (nat_eq tag 6) (mapped Instant (read_i64 bytes))
-    (cond (nat_eq tag 7) (mapped Uuid (read_u128 bytes))
-    (cond (nat_eq tag 8) (mapped Symbol (read_text is_symbol_text bytes))
-    (mapped Uri (read_text is_any bytes)))))))))
+    if tag == 1 then mapped Keyword (read_text is_keyword_text bytes)
+    else (if tag == 2 then mapped Str (read_text is_any bytes)
+    else (if tag == 3 then mapped Boolean (read_truth bytes)
+    else (if tag == 4 then mapped Long (read_i64 bytes)
+    else (if tag == 5 then mapped Ref (read_u64 bytes)
+    else (if tag == 6 then mapped Instant (read_i64 bytes)
+    else (if tag == 7 then mapped Uuid (read_u128 bytes)
+    else (if tag == 8 then mapped Symbol (read_text is_symbol_text bytes)
+    else mapped Uri (read_text is_any bytes))))))))
 
 abbrev pub read_value : ℕ → List ℕ → Reading Value
 read_value format bytes = and_then (that_fits (is_tag format) read_u8 bytes) read_content

@@ -1,5 +1,5 @@
 -- Tempids with their entities, as the definitions see them. This project's own choice.
-use Rattle.std.specs.Prelude.{ℕ, suc, ◌+◌, List, [], ◌∷◌, map, cond}
+use Rattle.std.specs.Prelude.{ℕ, suc, ◌+◌, List, [], ◌∷◌, map, if◌then◌else◌}
 use Rattle.std.specs.Ordering.{is_lt}
 use Rattle.fb_values.specs.Orders.{text_cmp}
 use Rattle.fb_numbers.specs.Numbers.{user_entity}
@@ -23,4 +23,4 @@ next_after n (e ∷ es) = n
 abbrev pub place_of_text : List ℕ → List (List ℕ × ℕ) → ℕ
 place_of_text text [] = 0
 place_of_text text (first ∷ rest) =
-    cond (is_lt (text_cmp first.0 text)) (suc (place_of_text text rest)) 0
+    if is_lt (text_cmp first.0 text) then suc (place_of_text text rest) else 0

@@ -1,5 +1,5 @@
 //! What a transaction asks to add and to retract, as datoms over entity numbers.
-ghost use Rattle.std.specs.Prelude.{◌≡◌, ◌++◌, ◌&&◌, ◌∷◌, [], nat_eq, cond, flat_map, filter, map, option_to_list, IfOk};
+ghost use Rattle.std.specs.Prelude.{◌≡◌, ◌++◌, ◌&&◌, ◌∷◌, [], nat_eq, if◌then◌else◌, flat_map, filter, map, option_to_list, IfOk};
 ghost use Rattle.std.specs.List.{list_any};
 ghost use Rattle.fb_model.specs.Schema as schema;
 ghost use Rattle.tx_model.specs.Changes as model;
@@ -300,7 +300,7 @@ fn goes_with(db: &Db, added: &[Datom], d: &Datom) -> bool
 /// Adds the retraction of the fact, where it is to be.
 fn push_if(list: &mut Vec<Datom>, db: &Db, d: &Datom, goes: bool) -> Result<(), Memory>
     ensures { IfOk result (λ _. list.new.items
-        ≡ cond goes (list.old.items ++ model.withdrawn db.now d.now ∷ []) list.old.items) }
+        ≡ (if goes then list.old.items ++ model.withdrawn db.now d.now ∷ [] else list.old.items)) }
 {
     if goes {
         list.push(withdrawn(db, d)?)?;

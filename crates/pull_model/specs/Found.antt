@@ -1,7 +1,7 @@
 -- What a view has of an entity: the values of its attributes, the entities that refer to it, and
 -- its attributes' names.
 -- Datomic, Pull and Indexes. The order of values and of names is this project's own choice.
-use Rattle.std.specs.Prelude.{◌≡◌, ℕ, pos, Bool, false, not, ◌&&◌, List, [], ◌∷◌, map, filter, filter_map, nat_eq, cond, option_map, Option, Some, None}
+use Rattle.std.specs.Prelude.{◌≡◌, ℕ, pos, Bool, false, not, ◌&&◌, List, [], ◌∷◌, map, filter, filter_map, ◌==◌, nat_eq, if◌then◌else◌, option_map, Option, Some, None}
 use Rattle.std.specs.Ordering.{is_lt}
 use Rattle.edn_model.specs.Form as edn
 use Rattle.edn_model.specs.Form.{Form}
@@ -48,10 +48,10 @@ pub data Found : Type 0 where
 abbrev pub found_forward : Db → ℕ → Option Attribute → Found
 found_forward db e None = absent
 found_forward db e (Some attribute) =
-    cond (nat_eq attribute.kind type_ref)
-    (entities attribute.many attribute.component
-    (filter_map entity_in (values_of db.seen e attribute.id)))
-    (values attribute.many (values_of db.seen e attribute.id))
+    if attribute.kind == type_ref
+    then entities attribute.many attribute.component
+        (filter_map entity_in (values_of db.seen e attribute.id))
+    else values attribute.many (values_of db.seen e attribute.id)
 
 -- the entities that refer to the entity
 abbrev pub referring : List Datom → ℕ → ℕ → List ℕ
@@ -61,17 +61,18 @@ referring seen e a = map (λ d. d.e) (filter (λ d. nat_eq d.a a && value_eq d.v
 abbrev pub found_backward : Db → ℕ → Option Attribute → Found
 found_backward db e None = absent
 found_backward db e (Some attribute) =
-    cond (nat_eq attribute.kind type_ref)
-    (entities (not attribute.component) false (referring db.seen e attribute.id)) absent
+    if attribute.kind == type_ref
+    then entities (not attribute.component) false (referring db.seen e attribute.id)
+    else absent
 
 -- the attribute that a name means, forward or reversed
 abbrev pub meant : Db → List ℕ → Option Attribute
-meant db name = attribute_named db.schema (cond (is_reversed name) (forward_name name) name)
+meant db name = attribute_named db.schema (if is_reversed name then forward_name name else name)
 
 abbrev pub found : Db → ℕ → List ℕ → Found
 found db e name =
-    cond (is_reversed name) (found_backward db e (meant db name))
-    (found_forward db e (meant db name))
+    if is_reversed name then found_backward db e (meant db name)
+    else found_forward db e (meant db name)
 
 -- ---- values as forms
 
@@ -93,8 +94,8 @@ form_of_value (Uri s) = edn.string s
 abbrev pub put_name : List ℕ → List (List ℕ) → List (List ℕ)
 put_name k [] = k ∷ []
 put_name k (l ∷ ls) =
-    cond (is_lt (text_cmp k l)) (k ∷ l ∷ ls)
-    (cond (is_lt (text_cmp l k)) (l ∷ put_name k ls) (l ∷ ls))
+    if is_lt (text_cmp k l) then k ∷ l ∷ ls
+    else (if is_lt (text_cmp l k) then l ∷ put_name k ls else l ∷ ls)
 
 abbrev pub names_in_order : List (List ℕ) → List (List ℕ)
 names_in_order [] = []

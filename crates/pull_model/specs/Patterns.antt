@@ -2,7 +2,7 @@
 -- an attribute.
 -- Datomic, Pull (attribute specifications, wildcard, attribute with options, map specifications,
 -- recursion).
-use Rattle.std.specs.Prelude.{ℕ, zero, suc, ◌-◌, Bool, List, ◌++◌, bytes_eq, codes, cond, drop, nat_le, Option, None, unwrap_or}
+use Rattle.std.specs.Prelude.{ℕ, zero, suc, ◌-◌, Bool, List, ◌++◌, bytes_eq, codes, if◌then◌else◌, drop, nat_le, Option, None, unwrap_or}
 use Rattle.edn_model.specs.Form.{Form, keyword}
 use Rattle.fb_model.specs.Words.{has_namespace, namespace, local_name, begins_with_one_of}
 
@@ -21,8 +21,8 @@ is_reversed name = begins_with_one_of (codes "_") (local_name name)
 -- the attribute's keyword of a reversed name
 abbrev pub forward_name : List ℕ → List ℕ
 forward_name name =
-    cond (has_namespace name) (namespace name ++ codes "/" ++ drop 1 (local_name name))
-    (drop 1 (local_name name))
+    if has_namespace name then namespace name ++ codes "/" ++ drop 1 (local_name name)
+    else drop 1 (local_name name)
 
 -- ---- options
 
@@ -93,7 +93,7 @@ everything = one wildcard
 -- an item whose number is used up is left out
 abbrev lessened : Item → Pattern → Pattern
 lessened (attribute name options (times n)) rest =
-    cond (nat_le n 1) rest (item (attribute name options (times (n - 1))) rest)
+    if nat_le n 1 then rest else item (attribute name options (times (n - 1))) rest
 lessened i rest = item i rest
 
 -- the pattern with one less for the number of the item at the place

@@ -1,6 +1,6 @@
 -- Which form is which pattern, and the first item that has no such form.
 -- Datomic, Pull (pattern grammar), without its list forms of limit and default and without :xform.
-use Rattle.std.specs.Prelude.{ℕ, ◌+◌, pos, Bool, false, ◌&&◌, List, [], ◌∷◌, bytes_eq, codes, cond, nat_le, is_some, is_none, option_map, option_and_then, Option, Some, None}
+use Rattle.std.specs.Prelude.{ℕ, ◌+◌, pos, Bool, false, ◌&&◌, List, [], ◌∷◌, bytes_eq, codes, if◌then◌else◌, nat_le, is_some, is_none, option_map, option_and_then, Option, Some, None}
 use Rattle.edn_model.specs.Form.{Form, nil, integer, string, symbol, keyword, vector, map, Forms, no_forms, form, Pairs, no_pairs, pair, items}
 use Rattle.pull_model.specs.Patterns.{Limit, first, all, Options, no_options, Pattern, no_items, item, Item, wildcard, own, attribute, Below, usual, under, times, unlimited, is_own, one, joined}
 
@@ -11,7 +11,7 @@ abbrev pub greatest_count : ℕ
 greatest_count = 2147483647
 
 abbrev pub count_in : Form → Option ℕ
-count_in (integer (pos n)) = cond (nat_le 1 n && nat_le n greatest_count) (Some n) None
+count_in (integer (pos n)) = if nat_le 1 n && nat_le n greatest_count then Some n else None
 count_in f = None
 
 abbrev pub is_symbol : List ℕ → Form → Bool
@@ -27,9 +27,9 @@ pub data OptionName : Type 0 where
 
 abbrev pub option_name_of : List ℕ → Option OptionName
 option_name_of k =
-    cond (bytes_eq k (codes "as")) (Some as_name)
-    (cond (bytes_eq k (codes "default")) (Some default_name)
-    (cond (bytes_eq k (codes "limit")) (Some limit_name) None))
+    if bytes_eq k (codes "as") then Some as_name
+    else (if bytes_eq k (codes "default") then Some default_name
+    else (if bytes_eq k (codes "limit") then Some limit_name else None))
 
 abbrev pub option_name_in : Form → Option OptionName
 option_name_in (keyword k) = option_name_of k
@@ -47,13 +47,15 @@ limit_in f = option_map first (count_in f)
 abbrev pub with_option : Options → Option OptionName → Form → Option Options
 with_option options None value = None
 with_option options (Some as_name) value =
-    cond (is_none options.renamed)
-    (option_map (λ (key : Form). record options { renamed = Some key }) (key_in value)) None
+    if is_none options.renamed
+    then option_map (λ (key : Form). record options { renamed = Some key }) (key_in value)
+    else None
 with_option options (Some default_name) value =
-    cond (is_none options.default) (Some (record options { default = Some value })) None
+    if is_none options.default then Some (record options { default = Some value }) else None
 with_option options (Some limit_name) value =
-    cond (is_none options.limit)
-    (option_map (λ (limit : Limit). record options { limit = Some limit }) (limit_in value)) None
+    if is_none options.limit
+    then option_map (λ (limit : Limit). record options { limit = Some limit }) (limit_in value)
+    else None
 
 -- names and values in turn
 abbrev pub options_from : Options → List Form → Option Options
@@ -66,7 +68,7 @@ options_from options (name ∷ value ∷ rest) =
 -- ---- items
 
 abbrev pub plain_item : List ℕ → Options → Item
-plain_item name options = cond (is_own name) (own options) (attribute name options usual)
+plain_item name options = if is_own name then own options else attribute name options usual
 
 -- a name with one option or more
 abbrev pub item_with_options : List Form → Option Item
@@ -89,7 +91,7 @@ abbrev pub specification : Option Item → Option Below → Option Item
 specification key below = option_and_then (λ told. option_and_then (with_below told) key) below
 
 abbrev pub recursion_in : Form → Option Below
-recursion_in f = cond (is_symbol (codes "...") f) (Some unlimited) (option_map times (count_in f))
+recursion_in f = if is_symbol (codes "...") f then Some unlimited else option_map times (count_in f)
 
 -- ---- patterns
 
@@ -114,7 +116,7 @@ abbrev mutual
   -- a map is one item for each of its pairs
   pub item_of : Form → Option Pattern
   item_of (keyword name) = Some (one (plain_item name no_options))
-  item_of (symbol s) = cond (bytes_eq s (codes "*")) (Some (one wildcard)) None
+  item_of (symbol s) = if bytes_eq s (codes "*") then Some (one wildcard) else None
   item_of (vector fs) = option_map one (item_with_options (items fs))
   item_of (map ps) = if_any (specifications_of ps)
   item_of f = None
@@ -134,7 +136,7 @@ abbrev mutual
 abbrev pub first_bad_from : ℕ → Forms → Option ℕ
 first_bad_from place no_forms = None
 first_bad_from place (form f fs) =
-    cond (is_some (item_of f)) (first_bad_from (place + 1) fs) (Some place)
+    if is_some (item_of f) then first_bad_from (place + 1) fs else Some place
 
 -- the place of the first item of another form, a map counting once; 0 where the pattern is no
 -- vector, or is empty

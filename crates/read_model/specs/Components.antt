@@ -1,7 +1,7 @@
 -- Components of an index and ranges of values as a command gives them, read from left to right.
 -- Datomic, Indexes (datoms, seek-datoms, index-range). Places are counted from the command's word,
 -- which is at 0.
-use Rattle.std.specs.Prelude.{◌≡◌, ℕ, ◌+◌, pos, Bool, List, [], ◌∷◌, length, nat_eq, nat_le, cond, Option, Some, None, option_and_then, Result, Ok, Err, MatchBool}
+use Rattle.std.specs.Prelude.{◌≡◌, ℕ, ◌+◌, pos, Bool, List, [], ◌∷◌, length, ◌==◌, nat_le, if◌then◌else◌, Option, Some, None, option_and_then, Result, Ok, Err, MatchBool}
 use Rattle.std.specs.List.{zip}
 use Rattle.std.specs.Option.{option_map_or}
 use Rattle.edn_model.specs.Form as edn
@@ -50,7 +50,7 @@ entity_given make (Some id) = by_name id make
 abbrev pub attribute_given : {X : Type 0} → (Attribute → X) → Order → Option Attribute → Given X
 attribute_given make order None = wrong BadComponent
 attribute_given make order (Some attribute) =
-    cond (is_held order attribute) (is (make attribute)) (wrong NotInIndex)
+    if is_held order attribute then is (make attribute) else wrong NotInIndex
 
 -- what was read, if anything was
 abbrev pub plain_given : {A X : Type 0} → (A → X) → Option A → Given X
@@ -60,8 +60,8 @@ plain_given make (Some x) = is (make x)
 -- a value of the type, of which an entity is named as an entity is
 abbrev pub value_given : {X : Type 0} → List Datom → (Value → X) → ℕ → Form → Given X
 value_given facts make kind f =
-    cond (nat_eq kind type_ref) (entity_given (λ e. make (Ref e)) (id_in facts f))
-    (plain_given make (value_in kind f))
+    if kind == type_ref then entity_given (λ e. make (Ref e)) (id_in facts f)
+    else plain_given make (value_in kind f)
 
 -- a t or the entity of a transaction
 abbrev pub t_in : Form → Option ℕ
@@ -145,9 +145,9 @@ read_by find facts probe at (next ∷ rest) =
 abbrev pub components : List Entry → Window → List (Datom → Bool) → Order → List Form
     → Result Probe Refusal
 components h w filters order fs =
-    cond (nat_le (length fs) 4)
-    (read_by (finds h w filters) (facts h) (no_component order) 2 (zip (parts_of order) fs))
-    (Err no_command)
+    if nat_le (length fs) 4
+    then read_by (finds h w filters) (facts h) (no_component order) 2 (zip (parts_of order) fs)
+    else Err no_command
 
 abbrev pub index_range : List Entry → Window → List (Datom → Bool) → Form → Form → Form
     → Result Range Refusal

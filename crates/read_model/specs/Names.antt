@@ -1,6 +1,6 @@
 -- The name of an entity that a form is in a read.
 -- Datomic, Schema (entity identifiers: entity ids, idents and lookup refs), and EDN, edn-format.
-use Rattle.std.specs.Prelude.{◌≡◌, ℕ, pos, List, nat_eq, nat_le, cond, Option, Some, None, option_map, option_and_then}
+use Rattle.std.specs.Prelude.{◌≡◌, ℕ, pos, List, ◌==◌, nat_le, if◌then◌else◌, Option, Some, None, option_map, option_and_then}
 use Rattle.edn_model.specs.Form as edn
 use Rattle.edn_model.specs.Form.{Form}
 use Rattle.fb_values.specs.declared.facts.Datom.{Datom}
@@ -20,8 +20,8 @@ greatest_number = 9223372036854775807
 -- a unique attribute and a value of its type
 abbrev pub lookup_by : Form → Attribute → Option Id
 lookup_by f attribute =
-    cond (nat_eq attribute.uniqueness 0) None
-    (option_map (lookup attribute.id) (value_in attribute.kind f))
+    if attribute.uniqueness == 0 then None
+    else option_map (lookup attribute.id) (value_in attribute.kind f)
 
 abbrev pub lookup_of : List Datom → Option (List ℕ × Form) → Option Id
 lookup_of facts None = None
@@ -30,7 +30,7 @@ lookup_of facts (Some pair) = option_and_then (lookup_by pair.1) (attribute_name
 -- the name that a form is, by the facts of the whole history, which no filter hides: an integer, a
 -- keyword, or a vector of a unique attribute's keyword and a value
 abbrev pub id_in : List Datom → Form → Option Id
-id_in facts (edn.integer (pos n)) = cond (nat_le n greatest_number) (Some (number n)) None
+id_in facts (edn.integer (pos n)) = if nat_le n greatest_number then Some (number n) else None
 id_in facts (edn.keyword k) = Some (ident k)
 id_in facts (edn.vector fs) = lookup_of facts (lookup_in fs)
 id_in facts f = None

@@ -2,7 +2,7 @@
 -- range of the log.
 -- Datomic, Database Filters (a t, a transaction or an instant) and Log API (tx-range: from the
 -- start on, before the end).
-use Rattle.std.specs.Prelude.{ℕ, ◌+◌, ◌-◌, ℤ, pos, not, ◌&&◌, List, filter, length, max, nat_le, int_le, cond, Option, Some, None, option_map, Result, Ok, Err}
+use Rattle.std.specs.Prelude.{ℕ, ◌+◌, ◌-◌, ℤ, pos, not, ◌&&◌, List, filter, length, max, nat_le, int_le, if◌then◌else◌, Option, Some, None, option_map, Result, Ok, Err}
 use Rattle.std.specs.Option.{ok_or}
 use Rattle.edn_model.specs.Form as edn
 use Rattle.edn_model.specs.Form.{Form}
@@ -34,9 +34,10 @@ point_in h f = ok_or (end_of h f) (bad_point 1)
 -- the t that a number is, or whose transaction it is the entity of
 abbrev pub t_of : ℕ → Option ℕ
 t_of n =
-    cond (nat_le n greatest_t) (Some n)
-    (cond (nat_le (transaction_of 0) n && nat_le n (transaction_of greatest_t))
-    (Some (n - transaction_of 0)) None)
+    if nat_le n greatest_t then Some n
+    else (if nat_le (transaction_of 0) n && nat_le n (transaction_of greatest_t)
+    then Some (n - transaction_of 0)
+    else None)
 
 -- how many transactions were recorded before an instant, the first entry among them
 abbrev pub count_before : List Entry → ℤ → ℕ

@@ -1,7 +1,7 @@
 -- The commands of a session: a vector whose first member is a keyword, the command's word.
 -- Datomic, Transactions, Database Filters, Indexes, Log API and Pull. The words are this project's
 -- own choice.
-use Rattle.std.specs.Prelude.{ℕ, Bool, true, false, List, [], ◌∷◌, cond, bytes_eq, codes, Option, Some, None, option_map, option_and_then}
+use Rattle.std.specs.Prelude.{ℕ, Bool, true, false, List, [], ◌∷◌, if◌then◌else◌, bytes_eq, codes, Option, Some, None, option_map, option_and_then}
 use Rattle.edn_model.specs.Form as edn
 use Rattle.edn_model.specs.Form.{Form, items}
 use Rattle.fb_values.specs.declared.indexes.Order.{Order}
@@ -36,7 +36,7 @@ pub data Command : Type 0 where
 -- what stands beside the word in a list
 abbrev pub beside : {X : Type 0} → List ℕ → List (List ℕ × X) → Option X
 beside word [] = None
-beside word (one ∷ rest) = cond (bytes_eq one.0 word) (Some one.1) (beside word rest)
+beside word (one ∷ rest) = if bytes_eq one.0 word then Some one.1 else beside word rest
 
 abbrev pub name_in : Form → Option (List ℕ)
 name_in (edn.keyword k) = Some k

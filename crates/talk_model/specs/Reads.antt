@@ -1,7 +1,7 @@
 -- What a command that records nothing answers, of what its session has seen, and where the session
 -- stands behind it.
 -- Datomic, Database Filters, Indexes and Log API.
-use Rattle.std.specs.Prelude.{◌≡◌, ℕ, Bool, List, [], ◌∷◌, ◌++◌, cond, codes, Option, Some, None, Result, Ok, Err}
+use Rattle.std.specs.Prelude.{◌≡◌, ℕ, Bool, List, [], ◌∷◌, ◌++◌, if◌then◌else◌, codes, Option, Some, None, Result, Ok, Err}
 use Rattle.edn_model.specs.Form as edn
 use Rattle.edn_model.specs.Form.{Form}
 use Rattle.fb_values.specs.declared.facts.Datom.{Datom}
@@ -72,7 +72,7 @@ IsReply h basis is_filter w Selects (Some (since point)) reply =
     Shows basis (IsDone basis) (point_in h point) reply
 IsReply h basis is_filter w Selects (Some history) reply = reply ≡ done_reply basis
 IsReply h basis is_filter w Selects (Some (filter name)) reply =
-    reply ≡ cond (is_filter name) (done_reply basis) (refused basis (refusal NoFilter 1))
+    reply ≡ (if is_filter name then done_reply basis else refused basis (refusal NoFilter 1))
 IsReply h basis is_filter w Selects (Some unfilter) reply = reply ≡ done_reply basis
 IsReply h basis is_filter w Selects (Some request_index) reply = reply ≡ done_reply basis
 IsReply h basis is_filter w Selects (Some (datoms order fs)) reply =
@@ -101,7 +101,7 @@ behind h is_filter standing (Some (since point)) = windowed standing window.sinc
 behind h is_filter standing (Some history) =
     record standing { window = with_history standing.window }
 behind h is_filter standing (Some (filter name)) =
-    cond (is_filter name) (record standing { filters = standing.filters ++ name ∷ [] }) standing
+    if is_filter name then record standing { filters = standing.filters ++ name ∷ [] } else standing
 behind h is_filter standing (Some unfilter) = record standing { window = whole; filters = [] }
 behind h is_filter standing command = standing
 
@@ -121,7 +121,7 @@ reply h basis is_filter w filters (Some (since point)) =
     shown basis (λ end. done_reply basis) (point_in h point)
 reply h basis is_filter w filters (Some history) = done_reply basis
 reply h basis is_filter w filters (Some (filter name)) =
-    cond (is_filter name) (done_reply basis) (refused basis (refusal NoFilter 1))
+    if is_filter name then done_reply basis else refused basis (refusal NoFilter 1)
 reply h basis is_filter w filters (Some unfilter) = done_reply basis
 reply h basis is_filter w filters (Some request_index) = done_reply basis
 reply h basis is_filter w filters (Some (datoms order fs)) =

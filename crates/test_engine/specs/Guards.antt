@@ -1,5 +1,5 @@
 -- A guard to try: it bars a text that is added and has nothing in it. This project's own choice.
-use Rattle.std.specs.Prelude.{Bool, false, ◌&&◌, List, length, nat_eq, cond, Option, Some, None}
+use Rattle.std.specs.Prelude.{Bool, false, ◌&&◌, List, length, nat_eq, if◌then◌else◌, Option, Some, None}
 use Rattle.std.specs.List.{list_any}
 use Rattle.fb_values.specs.declared.facts.Datom.{Datom}
 use Rattle.fb_values.specs.declared.facts.Value.{Value}
@@ -16,4 +16,5 @@ abbrev pub adds_empty_text : Datom → Bool
 adds_empty_text d = d.added && nat_eq d.a doc && is_empty_text d.v
 
 abbrev pub empty_text_bar : Bool → List Datom → Option Bar
-empty_text_bar bars changes = cond (bars && list_any adds_empty_text changes) (Some AttrPred) None
+empty_text_bar bars changes =
+    if bars && list_any adds_empty_text changes then Some AttrPred else None

@@ -1,7 +1,7 @@
 -- Composites: lists of attributes whose values together are told as tuples.
 -- Datomic, Schema (Composite tuples). That a composite is named by whoever asks, and is no
 -- attribute, is this project's own choice.
-use Rattle.std.specs.Prelude.{ℕ, Bool, true, false, not, ◌&&◌, List, [], ◌∷◌, ◌++◌, length, nat_eq, nat_le, cond, Option, Some, None, option_and_then, option_map}
+use Rattle.std.specs.Prelude.{ℕ, Bool, true, false, not, ◌&&◌, List, [], ◌∷◌, ◌++◌, length, nat_eq, nat_le, if◌then◌else◌, Option, Some, None, option_and_then, option_map}
 use Rattle.std.specs.List.{list_any}
 use Rattle.std.specs.Option.{option_map_or}
 use Rattle.fb_values.specs.declared.facts.Datom.{Datom}
@@ -15,14 +15,15 @@ is_among attrs a = list_any (nat_eq a) attrs
 abbrev pub first_unfit : List Datom → List ℕ → List ℕ → Option ℕ
 first_unfit facts before [] = None
 first_unfit facts before (a ∷ rest) =
-    cond (is_one facts a && not (is_among before a)) (first_unfit facts (before ++ a ∷ []) rest)
-    (Some (length before))
+    if is_one facts a && not (is_among before a) then first_unfit facts (before ++ a ∷ []) rest
+    else Some (length before)
 
 -- the first place that is no composite's, counted from 0, and place 0 where there are not 2 to 8
 -- attributes
 abbrev pub bad_place : List Datom → List ℕ → Option ℕ
 bad_place facts attrs =
-    cond (nat_le 2 (length attrs) && nat_le (length attrs) 8) (first_unfit facts [] attrs) (Some 0)
+    if nat_le 2 (length attrs) && nat_le (length attrs) 8 then first_unfit facts [] attrs
+    else Some 0
 
 abbrev pub is_composite : List Datom → List ℕ → Bool
 is_composite facts attrs = option_map_or (λ place. false) (bad_place facts attrs) true

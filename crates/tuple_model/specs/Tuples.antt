@@ -1,7 +1,7 @@
 -- Tuples: what a composite is of each entity, and the list of them in order.
 -- Datomic, Schema (Composite tuples) and Indexes. They are derived from facts and never recorded,
 -- which is this project's own choice.
-use Rattle.std.specs.Prelude.{◌≡◌, ◌↔◌, ℕ, Bool, true, false, not, ◌&&◌, List, [], ◌∷◌, map, filter, nat_eq, cond, Option, Some, None, IsTrue, Contains}
+use Rattle.std.specs.Prelude.{◌≡◌, ◌↔◌, ℕ, Bool, true, false, not, ◌&&◌, List, [], ◌∷◌, map, filter, nat_eq, if◌then◌else◌, Option, Some, None, IsTrue, Contains}
 use Rattle.std.specs.List.{list_any}
 use Rattle.std.specs.Option.{option_map_or}
 use Rattle.std.specs.Ordering.{is_lt, nat_cmp, ordering_then}
@@ -55,7 +55,7 @@ rows_rise (x ∷ y ∷ rows) = is_lt (row_cmp x y) && rows_rise (y ∷ rows)
 abbrev pub least_value : List Value → Option Value
 least_value [] = None
 least_value (v ∷ vs) =
-    option_map_or (λ w. cond (is_lt (value_cmp w v)) (Some w) (Some v)) (least_value vs) (Some v)
+    option_map_or (λ w. if is_lt (value_cmp w v) then Some w else Some v) (least_value vs) (Some v)
 
 abbrev pub tuple_of : List Datom → List ℕ → ℕ → Tuple
 tuple_of facts attrs e = map (λ a. least_value (values_of facts e a)) attrs
@@ -79,8 +79,8 @@ pub record AreTuples (facts : List Datom) (attrs : List ℕ) (rows : List Row) :
 abbrev pub put_row : Row → List Row → List Row
 put_row x [] = x ∷ []
 put_row x (y ∷ rows) =
-    cond (is_lt (row_cmp x y)) (x ∷ y ∷ rows)
-    (cond (is_lt (row_cmp y x)) (y ∷ put_row x rows) (y ∷ rows))
+    if is_lt (row_cmp x y) then x ∷ y ∷ rows
+    else (if is_lt (row_cmp y x) then y ∷ put_row x rows else y ∷ rows)
 
 abbrev pub rows_in_order : List Row → List Row
 rows_in_order [] = []

@@ -1,6 +1,6 @@
 -- Where the datoms of an entity and those of a triple lie in a list that rises.
 -- This project's own choice.
-use Rattle.std.specs.Prelude.{ℕ, ◌+◌, Bool, true, ◌&&◌, List, [], ◌∷◌, nat_eq, nat_lt, nat_le, cond}
+use Rattle.std.specs.Prelude.{ℕ, ◌+◌, Bool, true, ◌&&◌, List, [], ◌∷◌, ◌==◌, nat_lt, nat_le, if◌then◌else◌}
 use Rattle.std.specs.List.{list_all}
 use Rattle.std.specs.Ordering.{is_lt}
 use Rattle.fb_values.specs.declared.facts.Datom.{Datom}
@@ -11,7 +11,7 @@ use Rattle.tx_after.specs.Triples.{triple_cmp}
 -- how many datoms lead the list that are of entities below this one
 abbrev pub place_of : ℕ → List Datom → ℕ
 place_of e [] = 0
-place_of e (d ∷ ds) = cond (nat_lt d.e e) (1 + place_of e ds) 0
+place_of e (d ∷ ds) = if nat_lt d.e e then 1 + place_of e ds else 0
 
 -- the entities do not fall
 abbrev pub entities_rise : List Datom → Bool
@@ -21,7 +21,7 @@ entities_rise (d ∷ ds) = list_all (λ other. nat_le d.e other.e) ds && entitie
 -- how many datoms lead the list that are of this entity
 abbrev pub front_of : ℕ → List Datom → ℕ
 front_of e [] = 0
-front_of e (d ∷ ds) = cond (nat_eq d.e e) (1 + front_of e ds) 0
+front_of e (d ∷ ds) = if d.e == e then 1 + front_of e ds else 0
 
 -- the triple's datom stands before the triple
 abbrev pub is_lower : ℕ → ℕ → Value → Datom → Bool
@@ -30,4 +30,4 @@ is_lower e a v d = is_lt (triple_cmp Eavt d (record { e = e; a = a; v = v; t = 0
 -- how many datoms lead the list that are of lower triples
 abbrev pub triple_place : ℕ → ℕ → Value → List Datom → ℕ
 triple_place e a v [] = 0
-triple_place e a v (d ∷ ds) = cond (is_lower e a v d) (1 + triple_place e a v ds) 0
+triple_place e a v (d ∷ ds) = if is_lower e a v d then 1 + triple_place e a v ds else 0

@@ -1,5 +1,5 @@
 //! Changes by their attributes: those of one are found by a search, however many attributes there are.
-ghost use Rattle.std.specs.Prelude.{◌≡◌, ◌∷◌, [], ◌++◌, ℕ, OnOk, IfOk, nat_eq, cond};
+ghost use Rattle.std.specs.Prelude.{◌≡◌, ◌∷◌, [], ◌++◌, ℕ, OnOk, IfOk, ◌==◌, if◌then◌else◌};
 ghost use Rattle.tx_after.specs.Parts.{part_at, AreByAttribute};
 
 use fb_memory::Memory;
@@ -39,7 +39,7 @@ impl ByAttribute {
 /// Puts the change behind those of its attribute.
 fn put(alloc: Global, parts: &mut BTreeMap<u64, Vec<Datom>>, d: Datom) -> Result<(), Memory>
     ensures { OnOk result
-        ((a : ℕ) → part_at parts.new a ≡ part_at parts.old a ++ cond (nat_eq d.a a) (d ∷ []) []) }
+        ((a : ℕ) → part_at parts.new a ≡ part_at parts.old a ++ (if d.a == a then d ∷ [] else [])) }
 {
     let a = d.a;
     let mut part = parts.remove(&a).unwrap_or(Vec::new(alloc));

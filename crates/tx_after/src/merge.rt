@@ -1,5 +1,5 @@
 //! Two rising lists as one: facts, and changes that tell anew of some of them.
-ghost use Rattle.std.specs.Prelude.{◌≡◌, [], ◌∷◌, ◌++◌, IfOk, IsTrue, filter, cond};
+ghost use Rattle.std.specs.Prelude.{◌≡◌, [], ◌∷◌, ◌++◌, IfOk, IsTrue, filter, if◌then◌else◌};
 ghost use Rattle.tx_after.specs.Triples.{triple_cmp as model_triple_cmp, triples_rise, is_added, with_changes};
 
 use fb_memory::Memory;
@@ -77,7 +77,7 @@ pub fn push_additions(list: &mut Vec<Datom>, changes: &[Datom]) -> Result<(), Me
 /// Pushes the change if it is an addition.
 fn push_addition(list: &mut Vec<Datom>, d: &Datom) -> Result<(), Memory>
     ensures { IfOk result
-        (λ _. list.new.items ≡ list.old.items ++ cond d.now.added (d.now ∷ []) []) }
+        (λ _. list.new.items ≡ list.old.items ++ (if d.now.added then d.now ∷ [] else [])) }
 {
     if d.added {
         list.push(d.copy()?)?;

@@ -1,6 +1,6 @@
 -- What acts ask as triples, and what their additions replace, as askings.
 -- Datomic, Transaction Data (:db/add, :db/retract, :db/cas, cardinality one).
-use Rattle.std.specs.Prelude.{◌≡◌, ℕ, ◌+◌, List, [], ◌∷◌, ◌++◌, flat_map, cond, Vec}
+use Rattle.std.specs.Prelude.{◌≡◌, ℕ, ◌+◌, List, [], ◌∷◌, ◌++◌, flat_map, if◌then◌else◌, Vec}
 use Rattle.std.specs.Option.{option_map_or}
 use Rattle.std.specs.declared.alloc.Global.{Global}
 use Rattle.std.specs.BTreeMap.{BTreeMap, get}
@@ -32,14 +32,14 @@ asked_from way place (acts ∷ forms) =
 -- the value, where it is not the one that is added
 abbrev pub other_of : Asking → Value → List Asking
 other_of addition v =
-    cond (value_eq addition.v v) [] (value_at addition.place addition.e addition.a v ∷ [])
+    if value_eq addition.v v then [] else value_at addition.place addition.e addition.a v ∷ []
 
 abbrev pub others_of : Asking → List Value → List Asking
 others_of addition values = flat_map (other_of addition) values
 
 abbrev pub replaced_of : List Entry → List Datom → Asking → List Asking
 replaced_of h schema addition =
-    cond (is_one schema addition.a) (others_of addition (values_of h addition.e addition.a)) []
+    if is_one schema addition.a then others_of addition (values_of h addition.e addition.a) else []
 
 -- the values that a map has of entities under attributes
 abbrev pub known_values : BTreeMap (ℕ × ℕ) (Vec Value Global) → ℕ → ℕ → List Value

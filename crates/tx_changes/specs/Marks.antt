@@ -1,6 +1,6 @@
 -- The first form that asks a triple in each way.
 -- This project's own choice.
-use Rattle.std.specs.Prelude.{◌≡◌, ℕ, Bool, ◌&&◌, ◌||◌, List, nat_eq, cond, fold, is_some, unwrap_or, IsTrue, None}
+use Rattle.std.specs.Prelude.{◌≡◌, ℕ, Bool, ◌&&◌, ◌||◌, List, nat_eq, if◌then◌else◌, fold, is_some, unwrap_or, IsTrue, None}
 use Rattle.std.specs.BTreeMap.{BTreeMap, get}
 use Rattle.fb_values.specs.declared.facts.Entry.{Entry}
 use Rattle.fb_values.specs.declared.facts.Value.{Value}
@@ -29,7 +29,8 @@ asks e a v asking = nat_eq asking.e e && nat_eq asking.a a && value_eq asking.v 
 
 -- the marks of a triple after one asking, and after many
 abbrev pub noted_one : Way → ℕ → ℕ → Value → Marks → Asking → Marks
-noted_one way e a v marks asking = cond (asks e a v asking) (marked way marks asking.place) marks
+noted_one way e a v marks asking =
+    if asks e a v asking then marked way marks asking.place else marks
 
 abbrev pub noted : Way → ℕ → ℕ → Value → Marks → List Asking → Marks
 noted way e a v marks askings = fold (noted_one way e a v) marks askings

@@ -1,7 +1,7 @@
 -- The walk over a transaction where maps without `:db/id` go by their numbers, in the order in which a reader meets them: what
 -- is asked, and the number of the next such map. But for these names it is the walk of the definitions.
 -- Datomic, Transaction Data (map forms, nested maps, cardinality-many values, reverse attribute names).
-use Rattle.std.specs.Prelude.{ℕ, ◌+◌, Bool, true, false, not, ◌&&◌, ◌||◌, List, [], ◌∷◌, ◌++◌, cond, Option, Some, None}
+use Rattle.std.specs.Prelude.{ℕ, ◌+◌, Bool, true, false, not, ◌&&◌, ◌||◌, List, [], ◌∷◌, ◌++◌, if◌then◌else◌, Option, Some, None}
 use Rattle.edn_model.specs.Form as edn
 use Rattle.edn_model.specs.Form.{Form, Forms, no_forms, form, Pairs, no_pairs, pair, items}
 use Rattle.fb_values.specs.declared.facts.Datom.{Datom}
@@ -65,24 +65,24 @@ entry_asks facts self key n ps = links self key (entity (name_at n ps)) ++ need 
 
 abbrev pub nested_told : List Datom → Name → Key → ℕ → Pairs → Told → Told
 nested_told facts self key n ps inner =
-    cond (takes_maps facts key)
-    (told (nested_asks facts self key (name_at n ps) ps inner.asks) inner.next)
-    (told (nested_asks facts self key (name_at n ps) ps []) n)
+    if takes_maps facts key
+    then told (nested_asks facts self key (name_at n ps) ps inner.asks) inner.next
+    else told (nested_asks facts self key (name_at n ps) ps []) n
 
 abbrev pub vector_told : List Datom → Name → Key → ℕ → Forms → Told → Told
 vector_told facts self key n fs members =
-    cond (is_collection facts key (lookup_in fs)) members
-    (told (vector_asks facts self key fs (lookup_in fs) []) n)
+    if is_collection facts key (lookup_in fs) then members
+    else told (vector_asks facts self key fs (lookup_in fs) []) n
 
 abbrev pub list_told : List Datom → Name → Key → ℕ → Forms → Told → Told
 list_told facts self key n fs members =
-    cond (is_collection facts key None) members
-    (told (sequence_asks facts self key (edn.list fs) []) n)
+    if is_collection facts key None then members
+    else told (sequence_asks facts self key (edn.list fs) []) n
 
 abbrev pub pair_told : List Datom → Name → Key → ℕ → Told → Told
 pair_told facts self key n values =
-    cond (takes_values facts key) (told (pair_asks facts self key values.asks) values.next)
-    (told (pair_asks facts self key []) n)
+    if takes_values facts key then told (pair_asks facts self key values.asks) values.next
+    else told (pair_asks facts self key []) n
 
 abbrev mutual
   pub map_told : List Datom → Name → ℕ → Pairs → Told

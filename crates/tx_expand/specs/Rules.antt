@@ -1,6 +1,6 @@
 -- The rules that need the schema alone, each with the first form that breaks it: the least rule first.
 -- Datomic, Transaction Data and Schema. That of several faults the least rule is told is this project's own choice.
-use Rattle.std.specs.Prelude.{ℕ, Bool, List, [], ◌∷◌, map, cond, Option, Some, None, ⊤}
+use Rattle.std.specs.Prelude.{ℕ, Bool, List, [], ◌∷◌, map, if◌then◌else◌, Option, Some, None, ⊤}
 use Rattle.fb_values.specs.declared.facts.Datom.{Datom}
 use Rattle.tx_refusals.specs.declared.reasons.Reason.{Reason}
 use Rattle.tx_refusals.specs.declared.reasons.Reason.TheVariants.{NotAnAttribute, ProtectedAttribute, WrongType, NotUniqueLookup}
@@ -58,7 +58,7 @@ earlier_ones x y =
 
 -- of one form
 abbrev pub place_if : Bool → ℕ → Option ℕ
-place_if b n = cond b (Some n) None
+place_if b n = if b then Some n else None
 
 abbrev pub firsts_of : Faults → ℕ → Firsts
 firsts_of faults n =

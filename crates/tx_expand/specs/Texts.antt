@@ -1,6 +1,6 @@
 -- How a text is cut at its slash, and which key a keyword is that is not `:db/id`.
 -- Datomic, Transaction Data (reverse attribute names), and EDN, edn-format, "Keywords".
-use Rattle.std.specs.Prelude.{ℕ, List, [], ◌∷◌, cond, Option, Some, None}
+use Rattle.std.specs.Prelude.{ℕ, List, [], ◌∷◌, if◌then◌else◌, Option, Some, None}
 use Rattle.std.specs.List.{before_first, after_first}
 use Rattle.fb_model.specs.Words.{is_slash, has_namespace, local_name, begins_with_one_of}
 use Rattle.tx_model.specs.Asks.{Key, forward, backward, without_underscore}
@@ -8,9 +8,11 @@ use Rattle.tx_model.specs.Asks.{Key, forward, backward, without_underscore}
 -- the parts before and behind the first slash
 abbrev pub cut_at_slash : List ℕ → Option (List ℕ × List ℕ)
 cut_at_slash text =
-    cond (has_namespace text) (Some (before_first is_slash text, after_first is_slash text)) None
+    if has_namespace text then Some (before_first is_slash text, after_first is_slash text)
+    else None
 
 -- an attribute, or one that is reversed
 abbrev pub other_key : List ℕ → Key
 other_key k =
-    cond (begins_with_one_of (95 ∷ []) (local_name k)) (backward (without_underscore k)) (forward k)
+    if begins_with_one_of (95 ∷ []) (local_name k) then backward (without_underscore k)
+    else forward k

@@ -1,6 +1,6 @@
 -- What becomes of the entities that an entry describes as attributes.
 -- Datomic, Schema (altering attributes).
-use Rattle.std.specs.Prelude.{◌≡◌, ℕ, Bool, not, ◌&&◌, ◌||◌, List, nat_eq, cond, Some, None}
+use Rattle.std.specs.Prelude.{◌≡◌, ℕ, Bool, not, ◌&&◌, ◌||◌, List, nat_eq, if◌then◌else◌, Some, None}
 use Rattle.std.specs.List.{list_any}
 use Rattle.std.specs.Ordering.{nat_cmp}
 use Rattle.std.specs.BTreeMap.{BTreeMap, get}
@@ -37,4 +37,5 @@ altered before after e =
 -- the entities that the datoms describe, and no others
 abbrev pub HasAltered : BTreeMap ℕ Altered → List Datom → List Datom → List Datom → Type 0
 HasAltered map before after ds =
-    (e : ℕ) → get nat_cmp map e ≡ cond (is_described e ds) (Some (altered before after e)) None
+    (e : ℕ)
+    → get nat_cmp map e ≡ (if is_described e ds then Some (altered before after e) else None)

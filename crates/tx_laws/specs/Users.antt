@@ -1,6 +1,6 @@
 -- Which numbers an entry may speak of, and how its new user entities are counted.
 -- This project's own choice.
-use Rattle.std.specs.Prelude.{ℕ, ◌+◌, Bool, true, ◌&&◌, ◌||◌, List, [], ◌∷◌, map, filter, nat_eq, nat_le, cond}
+use Rattle.std.specs.Prelude.{ℕ, ◌+◌, Bool, true, ◌&&◌, ◌||◌, List, [], ◌∷◌, map, filter, ◌==◌, nat_eq, nat_le, if◌then◌else◌}
 use Rattle.fb_values.specs.declared.facts.Datom.{Datom}
 use Rattle.fb_values.specs.declared.facts.Value.{Value}
 use Rattle.fb_values.specs.declared.facts.Value.TheVariants.{Ref}
@@ -14,7 +14,7 @@ added_users ds = map (λ d. user_number d.e) (filter (λ d. d.added) ds)
 -- how far numbers that do not fall go on behind the last one without a gap
 abbrev pub counted_on : List ℕ → ℕ → ℕ
 counted_on [] last = last
-counted_on (n ∷ ns) last = counted_on ns (cond (nat_eq n (last + 1)) n last)
+counted_on (n ∷ ns) last = counted_on ns (if n == last + 1 then n else last)
 
 -- a built-in entity, a transaction up to the entry's own, or a user entity up to the last one
 abbrev pub is_known : Known → ℕ → Bool

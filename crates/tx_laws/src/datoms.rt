@@ -1,5 +1,5 @@
 //! Laws 1 to 6, but for the numbers: the entry's t and instant, and each datom for itself and beside the next one.
-ghost use Rattle.std.specs.Prelude.{◌≡◌, List, cond, not, false, nat_eq};
+ghost use Rattle.std.specs.Prelude.{◌≡◌, List, if◌then◌else◌, not, false, nat_eq};
 ghost use Rattle.std.specs.List.{list_all};
 ghost use Rattle.std.specs.Option.{option_map_or};
 ghost use Rattle.fb_values.specs.declared.facts.Entry.{Entry};
@@ -108,8 +108,8 @@ fn rise(datoms: &[Datom]) -> bool
 pub fn has_changes_alone<F: Facts>(facts: &F, datoms: &[Datom]) -> bool
     ensures { result
         ≡ list_all
-        (λ d. cond d.added (not (holds (F.history facts.now) d.e d.a d.v))
-        (holds (F.history facts.now) d.e d.a d.v))
+        (λ d. if d.added then not (holds (F.history facts.now) d.e d.a d.v)
+        else holds (F.history facts.now) d.e d.a d.v)
         datoms.now }
 {
     for d in datoms {

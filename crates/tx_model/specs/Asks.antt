@@ -1,6 +1,6 @@
 -- What a transaction asks, with entities still by their names.
 -- Datomic, Transaction Data (list forms, map forms, entity identifiers, temporary ids).
-use Rattle.std.specs.Prelude.{ℕ, ℤ, Bool, true, false, List, [], ◌∷◌, ◌++◌, bytes_eq, codes, cond, drop, Option, Some, None}
+use Rattle.std.specs.Prelude.{ℕ, ℤ, Bool, true, false, List, [], ◌∷◌, ◌++◌, bytes_eq, codes, if◌then◌else◌, drop, Option, Some, None}
 use Rattle.edn_model.specs.Form as edn
 use Rattle.edn_model.specs.Form.{Form, Forms, no_forms, form}
 use Rattle.fb_model.specs.Words.{has_namespace, namespace, local_name, begins_with_one_of}
@@ -61,7 +61,7 @@ own_tempid = codes "datomic.tx"
 
 -- a tempid, or the place of a nameless map; the transaction's own is none
 abbrev pub is_tempid : Name → Bool
-is_tempid (tempid s) = cond (bytes_eq s own_tempid) false true
+is_tempid (tempid s) = if bytes_eq s own_tempid then false else true
 is_tempid (nameless path) = true
 is_tempid name = false
 
@@ -82,14 +82,13 @@ pub data Key : Type 0 where
 
 abbrev pub without_underscore : List ℕ → List ℕ
 without_underscore k =
-    cond (has_namespace k) (namespace k ++ (47 ∷ drop 1 (local_name k))) (drop 1 (local_name k))
+    if has_namespace k then namespace k ++ (47 ∷ drop 1 (local_name k)) else drop 1 (local_name k)
 
 abbrev pub key_in : Form → Key
 key_in (edn.keyword k) =
-    cond (bytes_eq k (codes "db/id")) own
-    (cond (begins_with_one_of (95 ∷ []) (local_name k))
-    (backward (without_underscore k))
-    (forward k))
+    if bytes_eq k (codes "db/id") then own
+    else (if begins_with_one_of (95 ∷ []) (local_name k) then backward (without_underscore k)
+    else forward k)
 key_in f = forward []
 
 -- ---- what is read from an ask

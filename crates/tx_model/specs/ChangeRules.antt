@@ -2,13 +2,13 @@
 -- the test passes. A rule is read where no lower rule is broken. What a form asks includes what it
 -- finds and what its additions imply.
 -- Datomic, Transaction Data (:db/cas, cardinality, unique values) and Schema (altering attributes).
-use Rattle.std.specs.Prelude.{ℕ, ◌+◌, ◌^◌, Bool, true, false, not, ◌&&◌, ◌||◌, List, [], ◌++◌, length, nat_eq, nat_le, nat_lt, int_lt, max, Option, Some, None, slice_index_or}
+use Rattle.std.specs.Prelude.{ℕ, ◌+◌, Bool, true, false, not, ◌&&◌, ◌||◌, List, [], ◌++◌, length, nat_eq, nat_le, nat_lt, int_lt, max, Option, Some, None, slice_index_or}
 use Rattle.std.specs.List.{list_any, list_all}
 use Rattle.std.specs.Option.{option_map_or}
 use Rattle.edn_model.specs.Form as edn
 use Rattle.fb_values.specs.declared.facts.Datom.{Datom}
 use Rattle.fb_values.specs.declared.facts.Value.{Value}
-use Rattle.fb_numbers.specs.Numbers.{ident, cardinality, unique, index, greatest_t, greatest_instant, most_datoms}
+use Rattle.fb_numbers.specs.Numbers.{ident, cardinality, unique, index, greatest_t, greatest_instant, most_datoms, most_users}
 use Rattle.fb_model.specs.History.{basis, last_instant, said, users_issued, users_in}
 use Rattle.fb_model.specs.Facts.{is_of, value_eq, value_of, values_of}
 use Rattle.fb_model.specs.Schema.{Attribute, attribute_named, is_attribute, is_one, is_unique, is_whole}
@@ -140,7 +140,7 @@ breaks_too_large tx =
 abbrev pub breaks_full : Transaction → Bool
 breaks_full tx =
     nat_lt greatest_t (basis tx.db.history + 1)
-    || nat_lt (2 ^ 40) (max (users_issued tx.db.history) (users_in tx.changes))
+    || nat_lt most_users (max (users_issued tx.db.history) (users_in tx.changes))
     || not (int_lt (last_instant tx.db.history) greatest_instant)
 
 -- ---- alteration conflict: it alters the cardinality or the uniqueness of an attribute against its

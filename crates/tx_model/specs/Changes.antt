@@ -1,7 +1,7 @@
 -- What a transaction asks to add and to retract, as datoms over entity numbers.
 -- Datomic, Transaction Data (:db/add, :db/retract, :db/cas, :db/retractEntity, cardinality one) and
 -- Schema (:db/isComponent).
-use Rattle.std.specs.Prelude.{ℕ, ◌+◌, Bool, true, false, not, ◌&&◌, ◌||◌, List, [], ◌∷◌, map, filter, filter_map, nat_eq, cond, Option, Some, None, option_and_then, option_map, option_to_list}
+use Rattle.std.specs.Prelude.{ℕ, ◌+◌, Bool, true, false, not, ◌&&◌, ◌||◌, List, [], ◌∷◌, map, filter, filter_map, nat_eq, if◌then◌else◌, Option, Some, None, option_and_then, option_map, option_to_list}
 use Rattle.std.specs.List.{list_any}
 use Rattle.std.specs.Option.{option_map_or}
 use Rattle.fb_values.specs.declared.facts.Datom.{Datom}
@@ -55,7 +55,7 @@ link_to e (Ref part) = Some (e, part)
 link_to e v = None
 
 abbrev pub part_in : List Datom → Datom → Option (ℕ × ℕ)
-part_in facts d = cond (is_part facts d.a) (link_to d.e d.v) None
+part_in facts d = if is_part facts d.a then link_to d.e d.v else None
 
 abbrev pub component_links : List Datom → List (ℕ × ℕ)
 component_links facts = filter_map (part_in facts) facts
@@ -66,8 +66,8 @@ is_in set e = list_any (nat_eq e) set
 abbrev pub added_parts : List (ℕ × ℕ) → List ℕ → List ℕ
 added_parts [] set = set
 added_parts (link ∷ links) set =
-    cond (is_in set link.0 && not (is_in set link.1)) (added_parts links (link.1 ∷ set))
-    (added_parts links set)
+    if is_in set link.0 && not (is_in set link.1) then added_parts links (link.1 ∷ set)
+    else added_parts links set
 
 -- an entity with its parts, their parts and so on: once for each link, after which none is left to
 -- add

@@ -1,7 +1,7 @@
 -- The rules on what a transaction names: each as a test of one form, which breaks the rule where
 -- the test passes. A rule is read where no lower rule is broken.
 -- Datomic, Transaction Data and Schema (lookup refs, unique identities).
-use Rattle.std.specs.Prelude.{ℕ, Bool, true, false, not, ◌&&◌, ◌||◌, List, [], ◌∷◌, nat_eq, cond, is_none, Option, None}
+use Rattle.std.specs.Prelude.{ℕ, Bool, true, false, not, ◌&&◌, ◌||◌, List, [], ◌∷◌, nat_eq, if◌then◌else◌, is_none, Option, None}
 use Rattle.std.specs.List.{list_any}
 use Rattle.std.specs.Option.{option_map_or}
 use Rattle.edn_model.specs.Form as edn
@@ -22,7 +22,7 @@ use Rattle.tx_model.specs.Tempids.{Db, found, identified, holders}
 abbrev pub lookups_from : List Datom → List ℕ → Form → List (List ℕ × Form)
 lookups_from facts k (edn.vector (form (edn.keyword inner) (form value no_forms))) =
     (k, edn.vector (form (edn.keyword inner) (form value no_forms)))
-    ∷ cond (has_ref facts k) (lookups_from facts inner value) []
+    ∷ (if has_ref facts k then lookups_from facts inner value else [])
 lookups_from facts k value = (k, value) ∷ []
 
 abbrev pub lookups_in : List Datom → Name → List (List ℕ × Form)

@@ -1,6 +1,6 @@
 -- Shapes: which forms a transaction may be made of, before anything is looked up.
 -- Datomic, Transaction Data (transaction structure, list forms, map forms).
-use Rattle.std.specs.Prelude.{ℕ, Bool, true, false, ◌&&◌, ◌||◌, not, List, [], ◌∷◌, bytes_eq, codes, cond, is_some, Option, Some, None}
+use Rattle.std.specs.Prelude.{ℕ, Bool, true, false, ◌&&◌, ◌||◌, not, List, [], ◌∷◌, bytes_eq, codes, if◌then◌else◌, is_some, Option, Some, None}
 use Rattle.edn_model.specs.Form as edn
 use Rattle.edn_model.specs.Form.{Form, Forms, no_forms, form, Pairs, no_pairs, pair, items}
 use Rattle.tx_model.specs.Asks.{name_in, Key, own, key_in}
@@ -14,12 +14,12 @@ pub data Verb : Type 0 where
 
 abbrev pub verb_of : List ℕ → Option Verb
 verb_of k =
-    cond (bytes_eq k (codes "db/add")) (Some add)
-    (cond (bytes_eq k (codes "db/retract")) (Some retract)
-    (cond (bytes_eq k (codes "db/cas") || bytes_eq k (codes "db.fn/cas")) (Some cas)
-    (cond (bytes_eq k (codes "db/retractEntity") || bytes_eq k (codes "db.fn/retractEntity"))
-    (Some retract_entity)
-    None)))
+    if bytes_eq k (codes "db/add") then Some add
+    else (if bytes_eq k (codes "db/retract") then Some retract
+    else (if bytes_eq k (codes "db/cas") || bytes_eq k (codes "db.fn/cas") then Some cas
+    else (if bytes_eq k (codes "db/retractEntity") || bytes_eq k (codes "db.fn/retractEntity")
+    then Some retract_entity
+    else None)))
 
 abbrev pub verb_in : Form → Option Verb
 verb_in (edn.keyword k) = verb_of k

@@ -1,7 +1,7 @@
 -- The step of a transaction: the entry that it adds to a history, or why it is refused.
 -- Datomic, Transaction Data. Which of several faults is told is this project's own choice: that of
 -- the least rule, and of the forms that break it the first.
-use Rattle.std.specs.Prelude.{◌≡◌, ℕ, ◌+◌, ℤ, Bool, not, List, [], ◌∷◌, map, cond, is_some, option_map, Option, Some, None}
+use Rattle.std.specs.Prelude.{◌≡◌, ℕ, ◌+◌, ℤ, Bool, not, List, [], ◌∷◌, map, if◌then◌else◌, is_some, option_map, Option, Some, None}
 use Rattle.std.specs.Option.{option_map_or}
 use Rattle.edn_model.specs.Form.{Form}
 use Rattle.fb_values.specs.declared.facts.Datom.{Datom}
@@ -23,7 +23,7 @@ use Rattle.tx_model.specs.ChangeRules.{breaks_cas_many, breaks_cas_failed, break
 -- the first place, of n and those behind, at which the answer is yes
 abbrev pub first_yes : ℕ → List Bool → Option ℕ
 first_yes n [] = None
-first_yes n (b ∷ bs) = cond b (Some n) (first_yes (n + 1) bs)
+first_yes n (b ∷ bs) = if b then Some n else first_yes (n + 1) bs
 
 -- by what each form asks
 abbrev pub by_asks : Transaction → (List Ask → Bool) → Option ℕ
@@ -39,7 +39,7 @@ by_place tx test = first_yes 0 (tests_from test 0 tx.asks)
 
 -- said of the transaction as a whole, at its first form
 abbrev pub by_whole : Bool → Option ℕ
-by_whole broken = cond broken (Some 0) None
+by_whole broken = if broken then Some 0 else None
 
 -- the rules on forms that have a shape, each with the first form that breaks it: the least rule
 -- first

@@ -1,7 +1,7 @@
 -- Names of entities in a transaction, and the entities that tempids stand for.
 -- Datomic, Transaction Data (temporary ids, unique identities). That user numbers have no gap is
 -- this project's own choice.
-use Rattle.std.specs.Prelude.{ℕ, ◌+◌, pos, Bool, true, ◌&&◌, not, List, [], ◌∷◌, flat_map, filter_map, bytes_eq, cond, Option, Some, None, option_and_then}
+use Rattle.std.specs.Prelude.{ℕ, ◌+◌, pos, Bool, true, ◌&&◌, not, List, [], ◌∷◌, flat_map, filter_map, bytes_eq, if◌then◌else◌, Option, Some, None, option_and_then}
 use Rattle.std.specs.List.{list_any}
 use Rattle.std.specs.Ordering.{is_lt}
 use Rattle.edn_model.specs.Form.{Form}
@@ -33,7 +33,7 @@ find_by db value attribute =
 -- the entity that a name has in the database: a number has to be issued; a lookup ref finds one by
 -- a plain value alone, since no attribute whose values are entities is unique; a tempid has none
 abbrev pub found : Db → Name → Option ℕ
-found db (number (pos n)) = cond (is_issued db.history n) (Some n) None
+found db (number (pos n)) = if is_issued db.history n then Some n else None
 found db (ident k) = named db.facts k
 found db (lookup k value) = option_and_then (find_by db value) (attribute_named db.facts k)
 found db name = None
@@ -47,8 +47,8 @@ is_among names name = list_any (is_same_tempid name) names
 abbrev pub met_after : List Name → List Name → List Name
 met_after before [] = []
 met_after before (name ∷ names) =
-    cond (is_tempid name && not (is_among before name)) (name ∷ met_after (name ∷ before) names)
-    (met_after before names)
+    if is_tempid name && not (is_among before name) then name ∷ met_after (name ∷ before) names
+    else met_after before names
 
 abbrev pub tempids_in : List Ask → List Name
 tempids_in asks = met_after [] (flat_map names_of asks)
@@ -56,13 +56,14 @@ tempids_in asks = met_after [] (flat_map names_of asks)
 -- the holder of the value, where the attribute identifies entities
 abbrev pub identity_holder : Db → Form → Attribute → Option ℕ
 identity_holder db f attribute =
-    cond (is_identity db.facts attribute.id) (find_by db f attribute) None
+    if is_identity db.facts attribute.id then find_by db f attribute else None
 
 -- the entity that an addition makes of the tempid: the holder of the identity value that it gives
 abbrev pub identified : Db → Name → Ask → Option ℕ
 identified db name (adds other attribute (plain f)) =
-    cond (is_same_tempid name other)
-    (option_and_then (identity_holder db f) (attribute_named db.facts attribute)) None
+    if is_same_tempid name other
+    then option_and_then (identity_holder db f) (attribute_named db.facts attribute)
+    else None
 identified db name ask = None
 
 abbrev pub holders : Db → List Ask → Name → List ℕ
@@ -85,12 +86,12 @@ assigned db asks = number_from db asks (tempids_in asks) (users_issued db.histor
 abbrev pub assigned_to : List (Name × ℕ) → Name → Option ℕ
 assigned_to [] name = None
 assigned_to (pair ∷ pairs) name =
-    cond (is_same_tempid pair.0 name) (Some pair.1) (assigned_to pairs name)
+    if is_same_tempid pair.0 name then Some pair.1 else assigned_to pairs name
 
 abbrev pub entity_of : Db → List (Name × ℕ) → Name → Option ℕ
 entity_of db names (tempid s) =
-    cond (bytes_eq s own_tempid) (Some (transaction_of (basis db.history + 1)))
-    (assigned_to names (tempid s))
+    if bytes_eq s own_tempid then Some (transaction_of (basis db.history + 1))
+    else assigned_to names (tempid s)
 entity_of db names (nameless path) = assigned_to names (nameless path)
 entity_of db names name = found db name
 
@@ -108,7 +109,7 @@ with_texts pairs = filter_map (λ (pair : Name × ℕ). with_text pair.0 pair.1)
 abbrev pub put_by_text : List ℕ × ℕ → List (List ℕ × ℕ) → List (List ℕ × ℕ)
 put_by_text pair [] = pair ∷ []
 put_by_text pair (first ∷ rest) =
-    cond (is_lt (text_cmp first.0 pair.0)) (first ∷ put_by_text pair rest) (pair ∷ first ∷ rest)
+    if is_lt (text_cmp first.0 pair.0) then first ∷ put_by_text pair rest else pair ∷ first ∷ rest
 
 abbrev pub by_text : List (List ℕ × ℕ) → List (List ℕ × ℕ)
 by_text [] = []

@@ -1,7 +1,7 @@
 -- A transaction at a history: what each of its forms asks, what would be recorded, and what would
 -- hold then.
 -- Datomic, Transaction Data.
-use Rattle.std.specs.Prelude.{◌≡◌, ◌↔◌, Contains, ℕ, ◌+◌, ℤ, Bool, true, false, not, List, ◌∷◌, ◌++◌, map, filter, flat_map, cond}
+use Rattle.std.specs.Prelude.{◌≡◌, ◌↔◌, Contains, ℕ, ◌+◌, ℤ, Bool, true, false, not, List, ◌∷◌, ◌++◌, map, filter, flat_map, if◌then◌else◌}
 use Rattle.edn_model.specs.Form.{Form}
 use Rattle.fb_values.specs.declared.facts.Datom.{Datom}
 use Rattle.fb_values.specs.declared.facts.Entry.{Entry}
@@ -40,7 +40,7 @@ pub record Transaction : Type 0 where
 -- an addition of what does not hold, or a retraction of what holds
 abbrev pub is_change : List Datom → Datom → Bool
 is_change ds d =
-    cond d.added (not (holds_after false ds d.e d.a d.v)) (holds_after false ds d.e d.a d.v)
+    if d.added then not (holds_after false ds d.e d.a d.v) else holds_after false ds d.e d.a d.v
 
 abbrev pub changes_in : List Datom → List Datom → List Datom
 changes_in ds asked = in_order Eavt (filter (is_change ds) asked)

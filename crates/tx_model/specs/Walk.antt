@@ -1,7 +1,7 @@
 -- The walk over a transaction: what each form asks, in the order in which a reader meets it.
 -- Datomic, Transaction Data (list forms, map forms, nested maps, cardinality-many values, reverse
 -- attribute names).
-use Rattle.std.specs.Prelude.{ℕ, ◌+◌, pos, Bool, true, false, not, ◌&&◌, ◌||◌, List, [], ◌∷◌, ◌++◌, cond, Option, Some, None, unwrap_or, nat_eq}
+use Rattle.std.specs.Prelude.{ℕ, ◌+◌, pos, Bool, true, false, not, ◌&&◌, ◌||◌, List, [], ◌∷◌, ◌++◌, if◌then◌else◌, Option, Some, None, unwrap_or, nat_eq}
 use Rattle.std.specs.Option.{option_map_or}
 use Rattle.edn_model.specs.Form as edn
 use Rattle.edn_model.specs.Form.{Form, Forms, no_forms, form, Pairs, no_pairs, pair, items}
@@ -109,15 +109,15 @@ links self (backward name) (plain f) = adds self name (plain f) ∷ []
 
 -- a map inside another: the link, what it lacks, and then its own pairs
 abbrev pub need : Bool → List Ask
-need lacks = cond lacks (lacks_id ∷ []) []
+need lacks = if lacks then lacks_id ∷ [] else []
 
 abbrev pub nested_asks : List Datom → Name → Key → Name → Pairs → List Ask → List Ask
 nested_asks facts self own name ps inner = []
 nested_asks facts self (forward attribute) name ps inner =
-    cond (has_ref facts attribute)
-    (adds self attribute (entity name)
-    ∷ (need (not (has_parts facts attribute || has_identity facts ps)) ++ inner))
-    (adds self attribute (plain (edn.map ps)) ∷ [])
+    if has_ref facts attribute
+    then adds self attribute (entity name)
+        ∷ (need (not (has_parts facts attribute || has_identity facts ps)) ++ inner)
+    else adds self attribute (plain (edn.map ps)) ∷ []
 nested_asks facts self (backward attribute) name ps inner =
     adds name attribute (entity self) ∷ (need (not (has_identity facts ps)) ++ inner)
 
@@ -136,24 +136,25 @@ abbrev pub vector_asks : List Datom → Name → Key → Forms → Option (List 
     → List Ask
 vector_asks facts self own fs found members = []
 vector_asks facts self (forward name) fs None members =
-    cond (has_many facts name) members (adds self name (plain (edn.vector fs)) ∷ [])
+    if has_many facts name then members else adds self name (plain (edn.vector fs)) ∷ []
 vector_asks facts self (forward name) fs (Some found) members =
-    cond (has_ref facts name && has_uniqueness facts found.0)
-    (adds self name (entity (lookup found.0 found.1)) ∷ [])
-    (cond (has_many facts name) members
-    (adds self name
-    (cond (has_ref facts name) (entity (lookup found.0 found.1)) (plain (edn.vector fs)))
-    ∷ []))
+    if has_ref facts name && has_uniqueness facts found.0
+    then adds self name (entity (lookup found.0 found.1)) ∷ []
+    else (if has_many facts name then members
+    else adds self name
+        (if has_ref facts name then entity (lookup found.0 found.1) else plain (edn.vector fs))
+        ∷ [])
 vector_asks facts self (backward name) fs None members = members
 vector_asks facts self (backward name) fs (Some found) members =
-    cond (has_uniqueness facts found.0)
-    (links self (backward name) (entity (lookup found.0 found.1))) members
+    if has_uniqueness facts found.0
+    then links self (backward name) (entity (lookup found.0 found.1))
+    else members
 
 -- a list is a collection, where there may be several values
 abbrev pub sequence_asks : List Datom → Name → Key → Form → List Ask → List Ask
 sequence_asks facts self own f members = []
 sequence_asks facts self (forward name) f members =
-    cond (has_many facts name) members (adds self name (plain f) ∷ [])
+    if has_many facts name then members else adds self name (plain f) ∷ []
 sequence_asks facts self (backward name) f members = members
 
 -- what a pair asks beside its values: it mentions the attribute; under a reversed name the values
@@ -162,7 +163,7 @@ abbrev pub pair_asks : List Datom → Name → Key → List Ask → List Ask
 pair_asks facts self own values = []
 pair_asks facts self (forward name) values = mentions name ∷ values
 pair_asks facts self (backward name) values =
-    mentions name ∷ cond (has_ref facts name) values (adds self name (entity self) ∷ [])
+    mentions name ∷ (if has_ref facts name then values else adds self name (entity self) ∷ [])
 
 abbrev mutual
   pub map_asks : List Datom → Name → List ℕ → ℕ → Pairs → List Ask

@@ -1,6 +1,6 @@
 -- What an ask becomes when its names are looked up: none where one of them finds no entity.
 -- Datomic, Transaction Data (entity identifiers), and Schema (unique identities).
-use Rattle.std.specs.Prelude.{◌≡◌, ℕ, Bool, List, map, nat_eq, cond, Option, Some, None, is_none, option_map, option_and_then, Vec}
+use Rattle.std.specs.Prelude.{◌≡◌, ℕ, Bool, List, map, ◌==◌, if◌then◌else◌, Option, Some, None, is_none, option_map, option_and_then, Vec}
 use Rattle.std.specs.List.{list_any}
 use Rattle.std.specs.declared.alloc.Global.{Global}
 use Rattle.fb_numbers.specs.Numbers.{unique_identity}
@@ -31,7 +31,7 @@ old_part_of db (Some p) = option_map Some (part_of db p)
 -- the holder of the identity value that an addition gives to a tempid
 abbrev pub holder_for : Db → Whom → Attribute → Operand → Option ℕ
 holder_for db (New tempid) attribute (Plain v) =
-    cond (nat_eq attribute.unique unique_identity) (holder db.facts attribute.id v) None
+    if attribute.unique == unique_identity then holder db.facts attribute.id v else None
 holder_for db whom attribute p = None
 
 abbrev pub draft_of : Db → Ask → Option Draft

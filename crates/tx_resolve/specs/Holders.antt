@@ -1,6 +1,6 @@
 -- What additions give to a tempid: the holders of identity values.
 -- Datomic, Transaction Data (temporary ids) and Schema (unique identities).
-use Rattle.std.specs.Prelude.{◌≡◌, ℕ, Bool, false, not, ◌||◌, List, [], ◌∷◌, filter_map, nat_eq, cond, is_some, unwrap_or, Option, Some, None, option_and_then}
+use Rattle.std.specs.Prelude.{◌≡◌, ℕ, Bool, false, not, ◌||◌, List, [], ◌∷◌, filter_map, nat_eq, if◌then◌else◌, is_some, unwrap_or, Option, Some, None, option_and_then}
 use Rattle.std.specs.Option.{option_map_or}
 use Rattle.std.specs.List.{list_any}
 use Rattle.std.specs.BTreeMap.{BTreeMap, get}
@@ -26,7 +26,7 @@ adds_to tempid asked =
 abbrev pub given : Tempid → Draft → Option ℕ
 given tempid asked =
     option_and_then
-    (λ (addition : Tempid × Option ℕ). cond (is_same tempid addition.0) addition.1 None)
+    (λ (addition : Tempid × Option ℕ). if is_same tempid addition.0 then addition.1 else None)
     (addition_of asked)
 
 abbrev pub holders : List Draft → Tempid → List ℕ

@@ -1,6 +1,6 @@
 -- The tempids in the order in which drafts first meet them.
 -- Datomic, Transaction Data (temporary ids).
-use Rattle.std.specs.Prelude.{ℕ, List, [], ◌∷◌, ◌++◌, map, flat_map, cond, Option, Some, None, Vec}
+use Rattle.std.specs.Prelude.{ℕ, List, [], ◌∷◌, ◌++◌, map, flat_map, if◌then◌else◌, Option, Some, None, Vec}
 use Rattle.std.specs.List.{list_any}
 use Rattle.std.specs.declared.alloc.Global.{Global}
 use Rattle.tx_resolve.specs.declared.whom.Tempid.{Tempid}
@@ -41,7 +41,7 @@ tempids_of (draft.Meets on) = tempid_in on
 abbrev pub met_with : List Tempid → List Tempid → List Tempid
 met_with met [] = met
 met_with met (tempid ∷ tempids) =
-    met_with (cond (list_any (is_same tempid) met) met (met ++ tempid ∷ [])) tempids
+    met_with (if list_any (is_same tempid) met then met else met ++ tempid ∷ []) tempids
 
 -- the drafts of all forms, one after another
 abbrev pub drafts_in : List (Vec Draft Global) → List Draft

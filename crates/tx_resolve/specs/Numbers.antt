@@ -1,6 +1,6 @@
 -- The entities of tempids.
 -- Datomic, Transaction Data (temporary ids). That user numbers have no gap is this project's own choice.
-use Rattle.std.specs.Prelude.{◌≡◌, ℕ, ◌+◌, List, [], ◌∷◌, filter_map, cond, Option, Some, None, option_and_then, option_map, ⊤}
+use Rattle.std.specs.Prelude.{◌≡◌, ℕ, ◌+◌, List, [], ◌∷◌, filter_map, if◌then◌else◌, Option, Some, None, option_and_then, option_map, ⊤}
 use Rattle.std.specs.BTreeMap.{BTreeMap, get}
 use Rattle.fb_values.specs.declared.facts.Value.{Value}
 use Rattle.fb_values.specs.declared.facts.Value.TheVariants.{Ref}
@@ -38,7 +38,7 @@ numbered drafts (t ∷ ts) n =
 -- the entity of a tempid among these
 abbrev pub entity_for : List (Tempid × ℕ) → Tempid → Option ℕ
 entity_for [] t = None
-entity_for (pair ∷ pairs) t = cond (is_same pair.0 t) (Some pair.1) (entity_for pairs t)
+entity_for (pair ∷ pairs) t = if is_same pair.0 t then Some pair.1 else entity_for pairs t
 
 -- the tempids with a name, by its bytes
 abbrev pub with_name : Tempid × ℕ → Option (List ℕ × ℕ)

@@ -1,6 +1,6 @@
 -- Which entity a name stands for, while tempids have none.
 -- Datomic, Transaction Data (entity identifiers, temporary ids).
-use Rattle.std.specs.Prelude.{◌+◌, bytes_eq, cond, Option, Some, option_map}
+use Rattle.std.specs.Prelude.{◌+◌, bytes_eq, if◌then◌else◌, Option, Some, option_map}
 use Rattle.edn_form.specs.View.{form_of}
 use Rattle.fb_numbers.specs.Numbers.{transaction_of}
 use Rattle.fb_model.specs.History.{basis}
@@ -20,6 +20,6 @@ whom_of db (name.Ident k) = option_map Known (found db (model.ident k.now))
 whom_of db (name.Lookup k value) =
     option_map Known (found db (model.lookup k.now (form_of value.now)))
 whom_of db (name.Tempid text) =
-    cond (bytes_eq text.now own_tempid) (Some (Known (transaction_of (basis db.history + 1))))
-    (Some (New (Named text.now)))
+    if bytes_eq text.now own_tempid then Some (Known (transaction_of (basis db.history + 1)))
+    else Some (New (Named text.now))
 whom_of db (name.Nameless n) = Some (New (Nameless n))

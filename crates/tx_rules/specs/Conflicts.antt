@@ -1,5 +1,5 @@
 -- Triples of one transaction that cannot be recorded together. Datomic, Transaction Data (cardinality).
-use Rattle.std.specs.Prelude.{ℕ, Bool, not, ◌&&◌, ◌||◌, List, nat_eq, is_some, cond, IsTrue, Option, None}
+use Rattle.std.specs.Prelude.{ℕ, Bool, not, ◌&&◌, ◌||◌, List, nat_eq, is_some, if◌then◌else◌, IsTrue, Option, None}
 use Rattle.std.specs.List.{list_any, list_all}
 use Rattle.fb_values.specs.declared.facts.Datom.{Datom}
 use Rattle.fb_model.specs.Facts.{value_eq}
@@ -26,7 +26,7 @@ conflicts facts triples t =
     is_addition t && ((is_one facts t.a && list_any (is_another_value t) triples) || is_withdrawn t)
 
 abbrev pub conflict_at : List Datom → List Triple → Triple → Option ℕ
-conflict_at facts triples t = cond (conflicts facts triples t) (asked_at t) None
+conflict_at facts triples t = if conflicts facts triples t then asked_at t else None
 
 abbrev pub first_conflict : List Datom → List Triple → Option ℕ
 first_conflict facts triples = first_where (conflicts facts triples) asked_at triples

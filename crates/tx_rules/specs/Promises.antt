@@ -1,5 +1,5 @@
 -- Attributes whose facts break what is promised anew. Datomic, Schema (altering :db/cardinality and :db/unique).
-use Rattle.std.specs.Prelude.{ℕ, Bool, not, ◌&&◌, ◌||◌, List, nat_eq, is_some, cond, Option, None}
+use Rattle.std.specs.Prelude.{ℕ, Bool, not, ◌&&◌, ◌||◌, List, nat_eq, is_some, if◌then◌else◌, Option, None}
 use Rattle.fb_values.specs.declared.facts.Datom.{Datom}
 use Rattle.fb_numbers.specs.Numbers.{cardinality, unique}
 use Rattle.fb_model.specs.Schema.{is_attribute}
@@ -17,7 +17,7 @@ verdict_of schema after e =
     record { e = e; broken = is_attribute schema e && not (keeps_its_promise after e) }
 
 abbrev pub broken_at : Verdict → Triple → Option ℕ
-broken_at verdict t = cond verdict.broken (recorded_at t) None
+broken_at verdict t = if verdict.broken then recorded_at t else None
 
 abbrev pub first_broken : List Datom → List Datom → List Triple → Option ℕ
 first_broken schema after triples =

@@ -1,13 +1,13 @@
 -- The rules on what a transaction changes, by name: which form is the first to break each.
 -- Datomic, Transaction Data and Schema; the order of the rules is this project's own choice.
-use Rattle.std.specs.Prelude.{ℕ, ◌+◌, ◌^◌, Bool, not, ◌||◌, List, [], ◌∷◌, max, length, nat_lt, int_lt, Option, None}
+use Rattle.std.specs.Prelude.{ℕ, ◌+◌, Bool, not, ◌||◌, List, [], ◌∷◌, max, length, nat_lt, int_lt, Option, None}
 use Rattle.fb_values.specs.declared.facts.Datom.{Datom}
 use Rattle.fb_values.specs.declared.facts.Entry.{Entry}
-use Rattle.fb_numbers.specs.Numbers.{greatest_t, greatest_instant, most_datoms}
+use Rattle.fb_numbers.specs.Numbers.{greatest_t, greatest_instant, most_datoms, most_users}
 use Rattle.fb_model.specs.History.{basis, last_instant, users_issued, users_in}
 use Rattle.tx_refusals.specs.declared.reasons.Reason.{Reason}
 use Rattle.tx_refusals.specs.declared.reasons.Reason.TheVariants.{CasMany, CasFailed, DatomsConflict, UniqueConflict, IncompleteAttribute, AttributeFixed, TooLarge, Full, AlterationConflict}
-use Rattle.tx_model.specs.Size.{entry_size, most_bytes}
+use Rattle.tx_model.specs.Size.{entry_size, most_bytes, instant_size}
 use Rattle.tx_model.specs.Transaction.{Transaction}
 use Rattle.tx_model.specs.ChangeRules.{breaks_cas_many, breaks_cas_failed, breaks_datoms_conflict, breaks_unique_conflict, breaks_incomplete_attribute, breaks_attribute_fixed, breaks_too_large, breaks_full, breaks_alteration_conflict}
 use Rattle.tx_model.specs.Step.{by_place, by_whole}
@@ -39,12 +39,13 @@ change_rules tx =
 
 abbrev pub is_too_large : List Datom → Bool
 is_too_large changes =
-    nat_lt most_datoms (length changes + 1) || nat_lt most_bytes (entry_size changes + 26)
+    nat_lt most_datoms (length changes + 1)
+    || nat_lt most_bytes (entry_size changes + instant_size)
 
 abbrev pub is_full : List Entry → List Datom → Bool
 is_full h changes =
     nat_lt greatest_t (basis h + 1)
-    || nat_lt (2 ^ 40) (max (users_issued h) (users_in changes))
+    || nat_lt most_users (max (users_issued h) (users_in changes))
     || not (int_lt (last_instant h) greatest_instant)
 
 -- what a transaction asks at a history, as far as the rules look at it

@@ -1,5 +1,5 @@
 -- Attributes that lack something after the changes. Datomic, Schema (required and altered attributes).
-use Rattle.std.specs.Prelude.{ℕ, Bool, not, ◌&&◌, ◌||◌, List, nat_eq, nat_le, cond, Option, None}
+use Rattle.std.specs.Prelude.{ℕ, Bool, not, ◌&&◌, ◌||◌, List, nat_eq, nat_le, if◌then◌else◌, Option, None}
 use Rattle.std.specs.List.{list_any}
 use Rattle.fb_values.specs.declared.facts.Datom.{Datom}
 use Rattle.fb_numbers.specs.Numbers.{ident, cardinality, unique, index}
@@ -32,8 +32,8 @@ lack_of schema after e =
 -- the first form that asks something of an attribute which lacks something
 abbrev pub lack_at : Lack → Triple → Option ℕ
 lack_at lack t =
-    earlier (cond lack.as_new (named_at t) None)
-    (cond (alters t && lack.as_altered) (recorded_at t) None)
+    earlier (if lack.as_new then named_at t else None)
+    (if alters t && lack.as_altered then recorded_at t else None)
 
 abbrev pub first_incomplete : List Datom → List Datom → List Triple → Option ℕ
 first_incomplete schema after triples =

@@ -1,5 +1,5 @@
 //! Values of unique attributes that two entities would have.
-ghost use Rattle.std.specs.Prelude.{◌≡◌, ◌<◌, filter, length, slice_index_or, cond, None, ◌||◌, IfOk, IsTrue};
+ghost use Rattle.std.specs.Prelude.{◌≡◌, ◌<◌, filter, length, slice_index_or, if◌then◌else◌, None, ◌||◌, IfOk, IsTrue};
 ghost use Rattle.fb_model.specs.Schema.{is_unique as model_is_unique};
 ghost use Rattle.tx_after.specs.After.{AreChanges};
 ghost use Rattle.tx_asks.specs.Triples.{rise};
@@ -92,10 +92,9 @@ fn shared_at<F: Facts>(takers: &[&Triple], i: usize, changes: &[Datom], facts: &
     requires changes { AreChanges changes.now }
     ensures { (d : Triple)
         → let t = slice_index_or (behind takers.now) i d in result
-        ≡ cond
-        (model_is_beside are_of_one_value (behind takers.now) i d
-        || model.is_held_by_another (F.history facts.now) changes.now t)
-        t.added None }
+        ≡ (if model_is_beside are_of_one_value (behind takers.now) i d
+        || model.is_held_by_another (F.history facts.now) changes.now t
+        then t.added else None) }
 {
     let triple = takers[i];
     if is_crowded(takers, i) || is_held_by_another(triple, changes, facts) {

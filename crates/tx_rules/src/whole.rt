@@ -1,5 +1,5 @@
 //! Attributes that lack something.
-ghost use Rattle.std.specs.Prelude.{◌≡◌, ◌&&◌, cond, None, IfOk, IfSome};
+ghost use Rattle.std.specs.Prelude.{◌≡◌, ◌&&◌, if◌then◌else◌, None, IfOk, IfSome};
 ghost use Rattle.std.specs.List.{list_any};
 ghost use Rattle.fb_model.specs.Lawful.{IsLawful};
 ghost use Rattle.fb_model.specs.Laws.{says_attribute as model_says_attribute};
@@ -70,15 +70,15 @@ fn lack_at(lack: &Lack, triple: &Triple) -> Option<usize>
 }
 
 fn lack_as_new_at(lack: &Lack, triple: &Triple) -> Option<usize>
-    ensures { result ≡ cond lack.now.as_new (places.named_at triple.now) None }
+    ensures { result ≡ (if lack.now.as_new then places.named_at triple.now else None) }
 {
     if lack.as_new { named_at(triple) } else { None }
 }
 
 fn lack_as_altered_at(lack: &Lack, triple: &Triple) -> Option<usize>
     ensures { result
-        ≡ cond (model.alters triple.now && lack.now.as_altered) (places.recorded_at triple.now)
-        None }
+        ≡ (if model.alters triple.now && lack.now.as_altered
+        then places.recorded_at triple.now else None) }
 {
     if alters(triple) && lack.as_altered {
         recorded_at(triple)

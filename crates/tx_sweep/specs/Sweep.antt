@@ -1,6 +1,6 @@
 -- What retractions have found so far, and what one more finds.
 -- Datomic, Transaction Data (:db/retract without a value, :db/retractEntity).
-use Rattle.std.specs.Prelude.{◌≡◌, ℕ, Bool, false, not, ◌&&◌, ◌||◌, List, ◌++◌, map, filter_map, nat_eq, nat_le, cond, IsTrue, Contains, Option, None, Vec}
+use Rattle.std.specs.Prelude.{◌≡◌, ℕ, Bool, false, not, ◌&&◌, ◌||◌, List, ◌++◌, map, filter_map, nat_eq, nat_le, if◌then◌else◌, IsTrue, Contains, Option, None, Vec}
 use Rattle.std.specs.List.{All, list_any, list_all}
 use Rattle.std.specs.Ordering.{nat_cmp, ordering_then}
 use Rattle.std.specs.declared.cmp.Ordering.{Ordering}
@@ -48,7 +48,7 @@ is_told place askings d =
 -- ---- parts
 
 abbrev pub part_to : List Datom → Datom → Option ℕ
-part_to schema d = cond (is_part schema d.a) (entity_in d.v) None
+part_to schema d = if is_part schema d.a then entity_in d.v else None
 
 -- no link leads from what passes to what does not
 abbrev pub keeps : (ℕ → Bool) → List (ℕ × ℕ) → Bool
@@ -100,6 +100,8 @@ pub record Visits (h : List Entry) (schema : List Datom) (place e : ℕ) (stack 
   pub visited : (x : ℕ) → has_visited after x ≡ (nat_eq e x || has_visited before x)
   pub pairs : (x a : ℕ) → has_pair after x a ≡ has_pair before x a
   pub askings : after.askings.items
-      ≡ cond (has_visited before e) before.askings.items (before.askings.items ++ said_of h place e)
+      ≡ (if has_visited before e then before.askings.items
+      else before.askings.items ++ said_of h place e)
   pub parts : rest
-      ≡ cond (has_visited before e) stack (stack ++ filter_map (part_to schema) (facts_of h e))
+      ≡ (if has_visited before e then stack
+      else stack ++ filter_map (part_to schema) (facts_of h e))

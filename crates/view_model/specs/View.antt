@@ -1,7 +1,7 @@
 -- Views: the datoms of a history under a window and filters.
 -- Datomic, Database Filters. Filters come after the window, so that one can hide a fact and never
 -- revive one.
-use Rattle.std.specs.Prelude.{Bool, List, filter, cond, Contains}
+use Rattle.std.specs.Prelude.{Bool, List, filter, if◌then◌else◌, Contains}
 use Rattle.std.specs.List.{list_all}
 use Rattle.fb_values.specs.declared.facts.Datom.{Datom}
 use Rattle.fb_values.specs.declared.facts.Entry.{Entry}
@@ -12,7 +12,7 @@ use Rattle.view_model.specs.Window.{Window, within, without_history}
 -- the datoms before any filter: with history every datom of the window, and without one the last
 -- datom of each triple in the window, where that is an addition
 abbrev pub seen : List Entry → Window → List Datom
-seen h w = cond w.history (within w (said h)) (standing (within w (said h)))
+seen h w = if w.history then within w (said h) else standing (within w (said h))
 
 -- the datom is in the view, where `Selects` says which datoms all filters select
 pub record InView (h : List Entry) (w : Window) (Selects : Datom → Type 0)

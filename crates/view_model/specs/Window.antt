@@ -1,7 +1,7 @@
 -- Windows: which transactions a view sees, whether it sees their history, and how as-of and since
 -- change that.
 -- Datomic, Database Filters and Log API.
-use Rattle.std.specs.Prelude.{ℕ, ◌+◌, ◌-◌, ℤ, Bool, true, false, ◌&&◌, List, [], ◌∷◌, filter, length, min, max, nat_lt, nat_le, int_le, cond, Option, Some, None}
+use Rattle.std.specs.Prelude.{ℕ, ◌+◌, ◌-◌, ℤ, Bool, true, false, ◌&&◌, List, [], ◌∷◌, filter, length, min, max, nat_lt, nat_le, int_le, if◌then◌else◌, Option, Some, None}
 use Rattle.fb_values.specs.declared.facts.Datom.{Datom}
 use Rattle.fb_values.specs.declared.facts.Entry.{Entry}
 use Rattle.fb_numbers.specs.Numbers.{transaction_of, greatest_t}
@@ -36,9 +36,10 @@ without_history w = record { from = w.from; to = w.to; history = false }
 -- of a t, or of the entity of a transaction; another number is no point
 abbrev pub end_of_number : ℕ → Option ℕ
 end_of_number n =
-    cond (nat_le n greatest_t) (Some (n + 1))
-    (cond (nat_le (transaction_of 0) n && nat_le n (transaction_of greatest_t))
-    (Some (n - transaction_of 0 + 1)) None)
+    if nat_le n greatest_t then Some (n + 1)
+    else (if nat_le (transaction_of 0) n && nat_le n (transaction_of greatest_t)
+    then Some (n - transaction_of 0 + 1)
+    else None)
 
 -- of an instant: the number of transactions recorded up to it
 abbrev pub end_of_instant : List Entry → ℤ → ℕ
