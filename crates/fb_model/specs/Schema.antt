@@ -10,7 +10,7 @@ use Rattle.fb_values.specs.declared.facts.Value.TheVariants.{Keyword, Bool as Bo
 use Rattle.fb_values.specs.declared.indexes.Order.{Order}
 use Rattle.fb_values.specs.declared.indexes.Order.TheVariants.{Eavt, Aevt, Avet, Vaet}
 use Rattle.fb_numbers.specs.Numbers.{ident, value_type, cardinality, unique, is_component, index, type_keyword, type_ref, type_uri, cardinality_one, cardinality_many, unique_identity, unique_value, user_entity}
-use Rattle.fb_model.specs.Words.{local_name, begins_with_one_of}
+use Rattle.fb_model.specs.Words.{local_name, begins_with_one_of, underscore}
 use Rattle.fb_model.specs.Rising.{in_order}
 use Rattle.fb_model.specs.Facts.{value_of, holder, facts}
 
@@ -172,7 +172,7 @@ schema_of h = schema_in (facts h)
 abbrev pub is_whole_attribute : Attribute → Bool
 is_whole_attribute attribute =
     nat_le (user_entity 1) attribute.id
-    && not (begins_with_one_of (95 ∷ []) (local_name attribute.name))
+    && not (begins_with_one_of (underscore ∷ []) (local_name attribute.name))
     && nat_le type_keyword attribute.kind && nat_le attribute.kind type_uri
     && (nat_eq attribute.uniqueness 0
     || ((nat_eq attribute.uniqueness unique_identity || nat_eq attribute.uniqueness unique_value)

@@ -3,8 +3,15 @@
 use Rattle.std.specs.Prelude.{ℕ, Bool, false, not, ◌&&◌, ◌||◌, List, [], ◌∷◌, nat_eq, nat_le, length, codes, bytes_eq, if◌then◌else◌}
 use Rattle.std.specs.List.{list_all, list_any, before_first, after_first, starts_with}
 
+-- the bytes of `/` and of `_`
+abbrev pub slash : ℕ
+slash = 47
+
+abbrev pub underscore : ℕ
+underscore = 95
+
 abbrev pub is_slash : ℕ → Bool
-is_slash b = nat_eq b 47
+is_slash b = nat_eq b slash
 
 abbrev pub is_letter : ℕ → Bool
 is_letter b = (nat_le 65 b && nat_le b 90) || (nat_le 97 b && nat_le b 122)

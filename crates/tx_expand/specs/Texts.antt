@@ -2,7 +2,7 @@
 -- Datomic, Transaction Data (reverse attribute names), and EDN, edn-format, "Keywords".
 use Rattle.std.specs.Prelude.{ℕ, List, [], ◌∷◌, if◌then◌else◌, Option, Some, None}
 use Rattle.std.specs.List.{before_first, after_first}
-use Rattle.fb_model.specs.Words.{is_slash, has_namespace, local_name, begins_with_one_of}
+use Rattle.fb_model.specs.Words.{is_slash, underscore, has_namespace, local_name, begins_with_one_of}
 use Rattle.tx_model.specs.Asks.{Key, forward, backward, without_underscore}
 
 -- the parts before and behind the first slash
@@ -14,5 +14,5 @@ cut_at_slash text =
 -- an attribute, or one that is reversed
 abbrev pub other_key : List ℕ → Key
 other_key k =
-    if begins_with_one_of (95 ∷ []) (local_name k) then backward (without_underscore k)
+    if begins_with_one_of (underscore ∷ []) (local_name k) then backward (without_underscore k)
     else forward k

@@ -3,7 +3,7 @@
 use Rattle.std.specs.Prelude.{ℕ, ℤ, Bool, true, false, List, [], ◌∷◌, ◌++◌, bytes_eq, codes, if◌then◌else◌, drop, Option, Some, None}
 use Rattle.edn_model.specs.Form as edn
 use Rattle.edn_model.specs.Form.{Form, Forms, no_forms, form}
-use Rattle.fb_model.specs.Words.{has_namespace, namespace, local_name, begins_with_one_of}
+use Rattle.fb_model.specs.Words.{slash, underscore, has_namespace, namespace, local_name, begins_with_one_of}
 
 -- how a transaction names an entity
 pub data Name : Type 0 where
@@ -82,12 +82,12 @@ pub data Key : Type 0 where
 
 abbrev pub without_underscore : List ℕ → List ℕ
 without_underscore k =
-    if has_namespace k then namespace k ++ (47 ∷ drop 1 (local_name k)) else drop 1 (local_name k)
+    if has_namespace k then namespace k ++ (slash ∷ drop 1 (local_name k)) else drop 1 (local_name k)
 
 abbrev pub key_in : Form → Key
 key_in (edn.keyword k) =
     if bytes_eq k (codes "db/id") then own
-    else (if begins_with_one_of (95 ∷ []) (local_name k) then backward (without_underscore k)
+    else (if begins_with_one_of (underscore ∷ []) (local_name k) then backward (without_underscore k)
     else forward k)
 key_in f = forward []
 
