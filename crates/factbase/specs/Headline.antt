@@ -39,7 +39,8 @@ abbrev pub EachReplies : {I O D : Type 0} → Fixed → Told → Tells I O → O
 EachReplies {I} {O} terms told tells command outcome h =
     (teller : ℕ) × EachOf (λ n name (s : SessionOut I O).
     Replies (setting_of terms h (stop_of outcome) (nat_eq n teller)) outcome.recovered
-    (told.sources name) (tells.left s.source) (told.sinks (sink_of name)) (tells.contents s.sink) s.places s.commits s.end)
+    (told.sources name) (tells.left s.source) (told.sinks (sink_of name)) (tells.contents s.sink)
+    s.places s.commits s.end)
     0 (scripts_of command) outcome.sessions.items
 
 -- the same of one session alone, where the log has not stopped

@@ -17,5 +17,6 @@ IsTripleProbe e a v probe =
 abbrev pub IsValueProbe : List Datom → ℕ → Value → Probe → Type 0
 IsValueProbe facts a v probe =
     (probe ≡ record { order = Aevt; e = None; a = Some a; v = None; t = None })
-    ⊎ ((covers facts Avet a ≡ true) × ((probe ≡ record { order = Avet; e = None; a = Some a; v = Some v; t = None })
+    ⊎ ((covers facts Avet a ≡ true)
+    × ((probe ≡ record { order = Avet; e = None; a = Some a; v = Some v; t = None })
     ⊎ (probe ≡ record { order = Avet; e = None; a = Some a; v = None; t = None })))

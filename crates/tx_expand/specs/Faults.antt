@@ -52,8 +52,8 @@ lookups_faults facts refs =
     record {
       unknown = list_any (λ (ref : List ℕ × Form). is_unknown facts ref.0) refs;
       wrong = list_any
-          (λ (ref : List ℕ × Form). option_map_or (is_wrong_lookup ref.1) (attribute_named facts ref.0)
-          false)
+          (λ (ref : List ℕ × Form).
+          option_map_or (is_wrong_lookup ref.1) (attribute_named facts ref.0) false)
           refs;
       not_unique = list_any
           (λ (ref : List ℕ × Form). option_map_or (λ attribute. nat_eq attribute.uniqueness 0)
@@ -123,7 +123,8 @@ form_faults facts asks =
       unknown = list_any (names_no_attribute facts) asks;
       protected = list_any (is_of_protected facts) asks;
       wrong = list_any
-          (λ ask. has_wrong_value facts ask || list_any (has_wrong_lookup facts) (names_of ask)) asks;
+          (λ ask. has_wrong_value facts ask || list_any (has_wrong_lookup facts) (names_of ask))
+          asks;
       not_unique = list_any (λ ask. list_any (has_other_lookup facts) (names_of ask)) asks;
       lacking = list_any is_lacking asks;
     }

@@ -82,12 +82,14 @@ pub data Key : Type 0 where
 
 abbrev pub without_underscore : List ℕ → List ℕ
 without_underscore k =
-    if has_namespace k then namespace k ++ (slash ∷ drop 1 (local_name k)) else drop 1 (local_name k)
+    if has_namespace k then namespace k ++ (slash ∷ drop 1 (local_name k))
+    else drop 1 (local_name k)
 
 abbrev pub key_in : Form → Key
 key_in (edn.keyword k) =
     if bytes_eq k (codes "db/id") then own
-    else (if begins_with_one_of (underscore ∷ []) (local_name k) then backward (without_underscore k)
+    else (if begins_with_one_of (underscore ∷ []) (local_name k)
+    then backward (without_underscore k)
     else forward k)
 key_in f = forward []
 
