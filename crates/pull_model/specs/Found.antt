@@ -50,7 +50,7 @@ found_forward db e None = absent
 found_forward db e (Some attribute) =
     if attribute.kind == type_ref
     then entities attribute.many attribute.component
-        (filter_map entity_in (values_of db.seen e attribute.id))
+    (filter_map entity_in (values_of db.seen e attribute.id))
     else values attribute.many (values_of db.seen e attribute.id)
 
 -- the entities that refer to the entity

@@ -116,7 +116,7 @@ nested_asks facts self own name ps inner = []
 nested_asks facts self (forward attribute) name ps inner =
     if has_ref facts attribute
     then adds self attribute (entity name)
-        ∷ (need (not (has_parts facts attribute || has_identity facts ps)) ++ inner)
+    ∷ (need (not (has_parts facts attribute || has_identity facts ps)) ++ inner)
     else adds self attribute (plain (edn.map ps)) ∷ []
 nested_asks facts self (backward attribute) name ps inner =
     adds name attribute (entity self) ∷ (need (not (has_identity facts ps)) ++ inner)
@@ -142,8 +142,8 @@ vector_asks facts self (forward name) fs (Some found) members =
     then adds self name (entity (lookup found.0 found.1)) ∷ []
     else (if has_many facts name then members
     else adds self name
-        (if has_ref facts name then entity (lookup found.0 found.1) else plain (edn.vector fs))
-        ∷ [])
+    (if has_ref facts name then entity (lookup found.0 found.1) else plain (edn.vector fs))
+    ∷ [])
 vector_asks facts self (backward name) fs None members = members
 vector_asks facts self (backward name) fs (Some found) members =
     if has_uniqueness facts found.0
