@@ -13,6 +13,3 @@ pub use words::{
     begins_with_one_of, is_keyword_text, is_reserved, is_symbol_text, is_uri_text, local_name,
     split,
 };
-
-#[cfg(test)]
-mod tests;

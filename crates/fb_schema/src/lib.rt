@@ -12,6 +12,3 @@ mod tables;
 pub use attribute::Attribute;
 pub use laws::{schemas_are_of_their_histories, schemas_tell_of_attributes};
 pub use schema::{Schema, changes_schema};
-
-#[cfg(test)]
-mod tests;

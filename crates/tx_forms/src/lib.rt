@@ -10,6 +10,3 @@ mod verbs;
 pub use names::{is_id, is_keyword, lookup_in, names_an_entity, names_an_old_entity};
 pub use read::{Forms, TxStop, read_forms};
 pub use verbs::{Verb, verb_in};
-
-#[cfg(test)]
-mod tests;
