@@ -18,6 +18,3 @@ pub use points::{LogRange, log_range, point};
 pub use probes::components;
 pub use ranges::{ValueRange, index_range};
 pub use stops::NameStop;
-
-#[cfg(test)]
-mod tests;

@@ -16,6 +16,3 @@ pub use kept::{BoxedTest, Kept};
 pub use picks::Picks;
 pub use selector::{BoxedSelector, Selector};
 pub use table::{PredTable, shipped};
-
-#[cfg(test)]
-mod tests;

@@ -5,8 +5,6 @@
 mod growth;
 mod laws;
 mod live;
-#[cfg(test)]
-mod tests;
 
 pub use laws::next_entries_bring_no_twins;
 pub use live::Live;

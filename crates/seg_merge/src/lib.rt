@@ -9,6 +9,3 @@ mod order;
 mod plan;
 
 pub use merge::{merge4, what_stands_may_be_merged};
-
-#[cfg(test)]
-mod tests;

@@ -10,6 +10,3 @@ pub use build::Builder;
 pub use nodes::{Directory, Leaf, MOST};
 pub use roots::Roots;
 pub use tree::{Place, Tree};
-
-#[cfg(test)]
-mod tests;

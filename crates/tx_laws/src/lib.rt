@@ -10,6 +10,3 @@ mod numbers;
 mod values;
 
 pub use laws::lawful;
-
-#[cfg(test)]
-mod tests;
