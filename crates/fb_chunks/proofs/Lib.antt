@@ -1,1 +1,2 @@
+pub mod AtNode
 pub mod Joined

@@ -1,10 +1,13 @@
 //! A chunk: a short list that its owners share whole.
 ghost use Rattle.std.specs.Prelude.{◌≡◌, ◌<◌, ◌^◌, ◌-◌, [], ◌∷◌, ◌++◌, length, slice_get, IfOk, Some};
 
-use crate::sharing::{Share, Shared};
+use crate::sharing::{Share, Shared, copy_with};
 use fb_memory::Memory;
 use std::alloc::Global;
 use std::marker::Model;
+
+/// The items of a full chunk. Chosen by measuring: a longer chunk makes `with` dearer, a shorter one `at`.
+pub const CHUNK: usize = 32;
 
 /// A short list. A longer one is a copy of it.
 #[derive(Drop)]
@@ -51,13 +54,8 @@ impl<X: Share> Chunk<X> {
         requires { length self.now < 2 ^ 32 - 1 }
         ensures { IfOk result (λ c. c ≡ self.now ++ item ∷ []) }
     {
-        let old = self.items.get();
         let alloc = self.allocator();
-        let mut items = Vec::with_capacity(alloc, old.len() + 1)?;
-        for kept in old.iter() {
-            items.push(kept.share()?)?;
-        }
-        items.push(item)?;
+        let items = copy_with(alloc, self.as_slice(), item)?;
         let items = Shared::new(alloc, items)?;
         Ok(Chunk { items })
     }

@@ -3,9 +3,9 @@
 #![tactic(auto)]
 
 mod chunks;
-mod layers;
 mod lists;
 mod sharing;
+mod tree;
 
 pub use fb_memory::Memory;
 pub use lists::ChunkList;

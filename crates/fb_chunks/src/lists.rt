@@ -1,134 +1,72 @@
-//! The list for callers: three layers of chunks under one chunk.
+//! The list for callers: a last chunk of its own, and a tree of the full chunks before it.
 ghost use Rattle.std.specs.Prelude.{◌≡◌, ◌<◌, ◌^◌, ◌-◌, [], ◌∷◌, ◌++◌, length, slice_get, IfOk, Some, ◌==◌};
 
-use crate::chunks::Chunk;
-use crate::layers::{Layer, Spine};
+use crate::chunks::{CHUNK, Chunk};
 use crate::sharing::Share;
+use crate::tree::{self, Tree};
 use fb_memory::Memory;
 use std::alloc::Global;
 use std::marker::Model;
-
-/// The upper layer, whose full chunks are kept in one chunk. It has a type of its own, as the middle one has: the prover
-/// takes several times as long over layers that are spelled out in one another.
-#[derive(Drop)]
-struct Upper<X: Share> {
-    items: Layer<X, Chunk<Chunk<X>>>,
-}
-
-impl<X: Share> Model for Upper<X> {
-    ghost use Rattle.std.specs.Prelude.{List};
-
-    ghost Value = { List X };
-
-    ghost view = { λ u. u.items };
-}
-
-impl<X: Share> Share for Upper<X> {
-    fn share(&self) -> Result<Upper<X>, Memory> {
-        let items = self.items.share()?;
-        Ok(Upper { items })
-    }
-}
-
-impl<X: Share> Spine<X> for Upper<X> {
-    ghost items = { λ u. u };
-
-    fn new(alloc: Global) -> Result<Upper<X>, Memory> {
-        let items = Layer::new(alloc)?;
-        Ok(Upper { items })
-    }
-
-    fn with(&self, item: X) -> Result<Upper<X>, Memory> {
-        let items = self.items.with(item)?;
-        Ok(Upper { items })
-    }
-
-    fn at(&self, place: usize) -> &X {
-        self.items.at(place)
-    }
-}
-
-/// The middle layer, whose full chunks are kept in the upper one.
-#[derive(Drop)]
-struct Middle<X: Share> {
-    items: Layer<X, Upper<Chunk<X>>>,
-}
-
-impl<X: Share> Model for Middle<X> {
-    ghost use Rattle.std.specs.Prelude.{List};
-
-    ghost Value = { List X };
-
-    ghost view = { λ m. m.items };
-}
-
-impl<X: Share> Share for Middle<X> {
-    fn share(&self) -> Result<Middle<X>, Memory> {
-        let items = self.items.share()?;
-        Ok(Middle { items })
-    }
-}
-
-impl<X: Share> Spine<X> for Middle<X> {
-    ghost items = { λ m. m };
-
-    fn new(alloc: Global) -> Result<Middle<X>, Memory> {
-        let items = Layer::new(alloc)?;
-        Ok(Middle { items })
-    }
-
-    fn with(&self, item: X) -> Result<Middle<X>, Memory> {
-        let items = self.items.with(item)?;
-        Ok(Middle { items })
-    }
-
-    fn at(&self, place: usize) -> &X {
-        self.items.at(place)
-    }
-}
+use std::sync::Arc;
 
 /// A list that only grows. A longer one is made from it by `with`, which leaves it as it is and shares all but a few of
-/// its chunks. Three layers of chunks of 32 items stand under one chunk of what is full in them. So a place is read in
-/// four steps at most. `with` copies one chunk; at each 32nd item it copies one of the layer above too, and at each
-/// 32,768th the top chunk, which has one item for each 32,768 of the list. `share` takes two reference counts.
+/// its chunks. Chunks and the forks above them have up to 32 items each: a place among a million is read in four steps.
+/// `with` copies one chunk, and at each 32nd item one way down the tree. `share` takes two reference counts.
 #[derive(Drop)]
 pub struct ChunkList<T: Share> {
-    items: Layer<T, Middle<Chunk<T>>>,
+    len: usize,
+    full: Arc<Tree<Chunk<T>>>,
+    last: Chunk<T>,
 }
 
 impl<T: Share> Model for ChunkList<T> {
-    ghost use Rattle.std.specs.Prelude.{List};
+    ghost use Rattle.std.specs.Prelude.{◌++◌, List};
+    ghost use Rattle.std.specs.Arc.{arc_value};
+    ghost use Rattle.fb_chunks.specs.declared.chunks.TheConstants.{CHUNK};
+    ghost use Rattle.fb_chunks.specs.Chunks.{joined, IsLayer};
 
     ghost Value = { List T };
 
-    ghost view = { λ l. l.items };
+    ghost view = { λ l. joined (arc_value l.full) ++ l.last };
+
+    ghost invariant = { λ l. IsLayer CHUNK (arc_value l.full) l.last l.len };
 }
 
 impl<T: Share> ChunkList<T> {
     pub fn new(alloc: Global) -> Result<ChunkList<T>, Memory>
         ensures { IfOk result (λ l. l ≡ []) }
     {
-        let items = Layer::new(alloc)?;
-        Ok(ChunkList { items })
+        let none = Tree::leaf(Vec::new(alloc));
+        Ok(ChunkList {
+            len: 0,
+            full: Arc::new(alloc, none)?,
+            last: Chunk::new(alloc)?,
+        })
     }
 
     pub fn len(&self) -> usize
         ensures { result ≡ length self.now }
     {
-        self.items.len()
+        self.len
     }
 
     pub fn is_empty(&self) -> bool
         ensures { result ≡ (length self.now == 0) }
     {
-        self.items.len() == 0
+        self.len == 0
     }
 
     pub fn at(&self, place: usize) -> &T
         requires { place < length self.now }
         ensures { slice_get self.now place ≡ Some result.now }
     {
-        self.items.at(place)
+        let chunk = place / CHUNK;
+        let place = place % CHUNK;
+        if chunk < self.full.len() {
+            &self.full.at(chunk).as_slice()[place]
+        } else {
+            &self.last.as_slice()[place]
+        }
     }
 
     /// The list with one more item at its end.
@@ -136,14 +74,25 @@ impl<T: Share> ChunkList<T> {
         requires { length self.now < 2 ^ 32 - 1 }
         ensures { IfOk result (λ l. l ≡ self.now ++ item ∷ []) }
     {
-        let items = self.items.with(item)?;
-        Ok(ChunkList { items })
+        let len = self.len + 1;
+        if self.last.as_slice().len() < CHUNK {
+            let full = self.full.clone()?;
+            let last = self.last.with(item)?;
+            return Ok(ChunkList { len, full, last });
+        }
+        let alloc = self.last.allocator();
+        let full = tree::with(alloc, &self.full, self.last.share()?)?;
+        let last = Chunk::of_one(alloc, item)?;
+        Ok(ChunkList { len, full, last })
     }
 }
 
 impl<T: Share> Share for ChunkList<T> {
     fn share(&self) -> Result<ChunkList<T>, Memory> {
-        let items = self.items.share()?;
-        Ok(ChunkList { items })
+        Ok(ChunkList {
+            len: self.len,
+            full: self.full.clone()?,
+            last: self.last.share()?,
+        })
     }
 }

@@ -1,5 +1,5 @@
 //! Copies that share what they hold.
-ghost use Rattle.std.specs.Prelude.{◌≡◌, IfOk};
+ghost use Rattle.std.specs.Prelude.{◌≡◌, ◌<◌, ◌^◌, ◌-◌, [], ◌∷◌, ◌++◌, length, IfOk};
 
 use fb_memory::Memory;
 use std::alloc::Global;
@@ -17,6 +17,19 @@ impl Share for u32 {
     fn share(&self) -> Result<u32, Memory> {
         Ok(*self)
     }
+}
+
+/// The same items, and one more.
+pub fn copy_with<X: Share>(alloc: Global, items: &[X], item: X) -> Result<Vec<X>, Memory>
+    requires { length items.now < 2 ^ 32 - 1 }
+    ensures { IfOk result (λ copy. copy.items ≡ items.now ++ item ∷ []) }
+{
+    let mut copy = Vec::with_capacity(alloc, items.len() + 1)?;
+    for kept in items {
+        copy.push(kept.share()?)?;
+    }
+    copy.push(item)?;
+    Ok(copy)
 }
 
 /// A value on the heap, with several owners.
