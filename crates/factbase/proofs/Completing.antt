@@ -9,6 +9,7 @@ use Rattle.edn_model.specs.Faults.{Fault}
 use Rattle.edn_core.specs.Answers.{fault_of}
 use Rattle.fb_values.specs.declared.facts.Entry.{Entry}
 use Rattle.fb_ports.specs.Faults.{Rose}
+use Rattle.fb_ports.specs.Told.{Told}
 use Rattle.fb_view.specs.Kept.{Kept}
 use Rattle.script_model.specs.Words.{Command, run, sink_of}
 use Rattle.script_model.specs.Script.{Ending, whole, fault, too_many, Script}
@@ -18,11 +19,11 @@ use Rattle.talk_model.specs.Talk.{Talk}
 use Rattle.fb_session.specs.declared.outcome.SessionEnd.{SessionEnd}
 use Rattle.fb_session.specs.declared.outcome.SessionEnd.TheVariants as ended
 use Rattle.fb_session.specs.Taken.{longest_script}
-use Rattle.fb_session.specs.Sessions.{Fixed}
+use Rattle.fb_session.specs.Sessions.{Terms}
 use Rattle.fb_session.specs.Replies.{AnswersUpTo, Replies, SourceCount, SinkCount}
 use Rattle.factbase.specs.declared.outcome.SessionOut.{SessionOut}
 use Rattle.factbase.specs.declared.outcome.Outcome.{Outcome}
-use Rattle.factbase.specs.Outside.{Told, Tells, setting_of}
+use Rattle.factbase.specs.Outside.{Tells, setting_of}
 use Rattle.factbase.specs.Headline.{RepliesAlone}
 use Rattle.factbase.specs.Causes.{OutOfMemory, IsOutOfMemory, EndsAs, NoSession, CannotOpen, HasRun, HasBegun}
 use Rattle.factbase.specs.Complete.{HoldsForms, NoneRose, EachHasItsLine, AnsweredWhole, Complete}
@@ -89,7 +90,7 @@ module _ (s : Setting) (held left had has : Option (List ℕ)) (places commits :
   complete_end ended.Memory holds replies (inl says) source sink calm_source calm_sink = inr (says.0, inl says.1)
   complete_end ended.Memory holds replies (inr refused) source sink calm_source calm_sink = inr refused
 
-module _ {I O D : Type 0} (terms : Fixed) (told : Told) (tells : Tells I O) (new : ℕ) (name : List ℕ) (outcome : Outcome I O D) (forms : List Form)
+module _ {I O D : Type 0} (terms : Terms) (told : Told) (tells : Tells I O) (new : ℕ) (name : List ℕ) (outcome : Outcome I O D) (forms : List Form)
     (holds : HoldsForms (told.sources name) forms) (calm : NoneRose told tells new name outcome) where
   -- the session's answers are the run's
   whole_run : (last : Kept) (s : SessionOut I O) → outcome.last ≡ Some last → outcome.sessions.items ≡ s ∷ []
@@ -135,7 +136,7 @@ module _ {I O D : Type 0} (terms : Fixed) (told : Told) (tells : Tells I O) (new
   complete_unopened (inl cannot) = absurd (calm.host cannot.host)
   complete_unopened (inr refused) = inr refused
 
-module _ {I O D : Type 0} (terms : Fixed) (told : Told) (tells : Tells I O) (new : ℕ) (name : List ℕ) (command : Option Command) (outcome : Outcome I O D) where
+module _ {I O D : Type 0} (terms : Terms) (told : Told) (tells : Tells I O) (new : ℕ) (name : List ℕ) (command : Option Command) (outcome : Outcome I O D) where
   -- what the replies and the causes of a session come to
   pub complete_command : (held had : Option (List ℕ)) (m n : ℕ) → Some (run name) ≡ command → held ≡ told.sources name → had ≡ told.sinks (sink_of name)
       → m ≡ told.source_faults name → n ≡ told.sink_faults (sink_of name) → outcome.recovered ≡ 0

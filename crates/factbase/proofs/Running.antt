@@ -13,16 +13,17 @@ use Rattle.fb_core.specs.Worlds.{commits_behind}
 use Rattle.fb_desk.specs.Desks.{State}
 use Rattle.core_desk.specs.States.{as_opened}
 use Rattle.fb_ports.specs.Faults.{Rose}
+use Rattle.fb_ports.specs.Told.{Told}
 use Rattle.fb_view.specs.Kept.{Kept}
 use Rattle.script_model.specs.Words.{Command, run, sink_of}
 use Rattle.talk_model.specs.Session.{setting}
 use Rattle.fb_session.specs.declared.outcome.SessionEnd.{SessionEnd}
-use Rattle.fb_session.specs.Sessions.{Fixed, WentOn}
+use Rattle.fb_session.specs.Sessions.{Terms, WentOn}
 use Rattle.fb_session.specs.Replies.{Replies}
 use Rattle.factbase.specs.declared.outcome.SessionOut.{SessionOut}
 use Rattle.factbase.specs.declared.outcome.Outcome.{Outcome}
 use Rattle.factbase.specs.StatusLines.{cannot_open}
-use Rattle.factbase.specs.Outside.{Told, Tells, setting_of, scripts_of, EachOf}
+use Rattle.factbase.specs.Outside.{Tells, setting_of, scripts_of, EachOf}
 use Rattle.factbase.specs.Headline.{OneHistory, stop_of, EachReplies, RepliesAlone}
 use Rattle.factbase.specs.Causes.{NoSession, Says, IsOutOfMemory, CannotOpen, HasBegun, Causes}
 
@@ -60,7 +61,7 @@ session_history was is entries core commits was_is entries_is went grown rising 
 
 -- ---- replies
 
-pub session_replies : (f : Fixed) (was is : State) (entries h : List Entry) (recovered : ℕ) (held left had has : Option (List ℕ)) (places commits : List ℕ) (how : SessionEnd)
+pub session_replies : (f : Terms) (was is : State) (entries h : List Entry) (recovered : ℕ) (held left had has : Option (List ℕ)) (places commits : List ℕ) (how : SessionEnd)
     → was ≡ as_opened entries → entries ≡ first_entry ∷ [] → recovered ≡ 0 → h ≡ is.entries → is.stop ≡ None → is.teller ≡ false
     → Replies (setting f.may f.Selects f.guard f.is_filter is.entries is.stop is.teller) (basis was.entries) held left had has places commits how
     → Replies (setting_of f h None false) recovered held left had has places commits how
@@ -72,7 +73,7 @@ session_replies f was is entries h recovered held left had has places commits ho
     (subst (λ te. P is.entries None te (basis was.entries)) teller
     (subst (λ st. P is.entries st is.teller (basis was.entries)) stop replies)))
 
-module _ {I O D : Type 0} (terms : Fixed) (told : Told) (tells : Tells I O) (held had : Option (List ℕ)) (name : List ℕ) (outcome : Outcome I O D) where
+module _ {I O D : Type 0} (terms : Terms) (told : Told) (tells : Tells I O) (held had : Option (List ℕ)) (name : List ℕ) (outcome : Outcome I O D) where
   no_stop : outcome.torn ≡ None → stop_of outcome ≡ None
   no_stop whole = rw whole refl
 

@@ -2,13 +2,14 @@
 -- This project's own choice.
 use Rattle.std.specs.Prelude.{◌≡◌, ℕ, ◌⊎◌, List, [], ◌∷◌, Option, Some, None, IsSome, string_bytes}
 use Rattle.fb_ports.specs.Faults.{Rose}
+use Rattle.fb_ports.specs.Told.{Told}
 use Rattle.script_model.specs.Words.{Command, run, sink_of}
 use Rattle.fb_session.specs.declared.outcome.SessionEnd.{SessionEnd}
 use Rattle.fb_session.specs.declared.outcome.SessionEnd.TheVariants as ended
 use Rattle.fb_session.specs.Replies.{SourceCount, SinkCount}
 use Rattle.factbase.specs.declared.outcome.SessionOut.{SessionOut}
 use Rattle.factbase.specs.declared.outcome.Outcome.{Outcome}
-use Rattle.factbase.specs.Outside.{Told, Tells}
+use Rattle.factbase.specs.Outside.{Tells}
 use Rattle.factbase.specs.StatusLines.{usage, cannot_open, out_of_memory, status_of, line_of}
 
 -- what is handed back has no part that only a log, a console or a generator would fill

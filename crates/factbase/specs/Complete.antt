@@ -6,15 +6,16 @@ use Rattle.std.specs.Io.KnownBytes.{append_known}
 use Rattle.edn_model.specs.Form.{Form}
 use Rattle.fb_view.specs.Kept.{Kept}
 use Rattle.fb_ports.specs.Faults.{Rose}
+use Rattle.fb_ports.specs.Told.{Told}
 use Rattle.script_model.specs.Words.{Command, run, sink_of}
 use Rattle.script_model.specs.Script.{whole, Script}
 use Rattle.talk_model.specs.Session.{Setting, Standing, opened_at}
 use Rattle.talk_model.specs.Talk.{Talk}
-use Rattle.fb_session.specs.Sessions.{Fixed}
+use Rattle.fb_session.specs.Sessions.{Terms}
 use Rattle.fb_session.specs.Taken.{longest_script}
 use Rattle.factbase.specs.declared.outcome.SessionOut.{SessionOut}
 use Rattle.factbase.specs.declared.outcome.Outcome.{Outcome}
-use Rattle.factbase.specs.Outside.{Told, Tells, setting_of}
+use Rattle.factbase.specs.Outside.{Tells, setting_of}
 use Rattle.factbase.specs.Causes.{IsOutOfMemory}
 
 -- the source holds these forms, within the limits, and nothing else
@@ -44,7 +45,7 @@ pub record EachHasItsLine (s : Setting) (forms : List Form) (had has : Option (L
   pub gained : has ≡ append_known had (concat lines)
 
 -- the run succeeded, and its one session answered all forms; the log, of which there is none, has not stopped
-pub record AnsweredWhole {I O D : Type 0} (terms : Fixed) (told : Told) (tells : Tells I O)
+pub record AnsweredWhole {I O D : Type 0} (terms : Terms) (told : Told) (tells : Tells I O)
     (name : List ℕ) (forms : List Form) (outcome : Outcome I O D) : Type 0 where
   pub succeeded : outcome.status ≡ 0
   pub session : SessionOut I O
@@ -56,7 +57,7 @@ pub record AnsweredWhole {I O D : Type 0} (terms : Fixed) (told : Told) (tells :
 
 -- Where the words are a command, its script is forms within the limits, and no count of faults rises, each form is
 -- answered, or memory was refused.
-abbrev pub Complete : {I O D : Type 0} → Fixed → Told → Tells I O → ℕ → Option Command
+abbrev pub Complete : {I O D : Type 0} → Terms → Told → Tells I O → ℕ → Option Command
     → Outcome I O D → Type 0
 Complete terms told tells new None outcome = Unit {0}
 Complete terms told tells new (Some (run name)) outcome =

@@ -9,12 +9,13 @@ use Rattle.fb_values.specs.declared.facts.Entry.{Entry}
 use Rattle.fb_model.specs.History.{basis}
 use Rattle.fb_model.specs.Lawful.{IsLawful}
 use Rattle.fb_core.specs.Worlds.{commits_behind}
+use Rattle.fb_ports.specs.Told.{Told}
 use Rattle.script_model.specs.Words.{Command, sink_of}
-use Rattle.fb_session.specs.Sessions.{Fixed}
+use Rattle.fb_session.specs.Sessions.{Terms}
 use Rattle.fb_session.specs.Replies.{Replies}
 use Rattle.factbase.specs.declared.outcome.SessionOut.{SessionOut}
 use Rattle.factbase.specs.declared.outcome.Outcome.{Outcome}
-use Rattle.factbase.specs.Outside.{Told, Tells, setting_of, scripts_of, EachOf}
+use Rattle.factbase.specs.Outside.{Tells, setting_of, scripts_of, EachOf}
 
 -- The history is lawful. Each t behind the opening's has one author, a session, and is among the commits of that session and of no
 -- other. Commits strictly rise, and have nothing else.
@@ -34,7 +35,7 @@ stop_of outcome =
 
 -- The session of each script answered it over the one history, where one session at most, the teller, asked for what the log
 -- did not take.
-abbrev pub EachReplies : {I O D : Type 0} → Fixed → Told → Tells I O → Option Command
+abbrev pub EachReplies : {I O D : Type 0} → Terms → Told → Tells I O → Option Command
     → Outcome I O D → List Entry → Type 0
 EachReplies {I} {O} terms told tells command outcome h =
     (teller : ℕ) × EachOf (λ n name (s : SessionOut I O).
@@ -44,7 +45,7 @@ EachReplies {I} {O} terms told tells command outcome h =
     0 (scripts_of command) outcome.sessions.items
 
 -- the same of one session alone, where the log has not stopped
-abbrev pub RepliesAlone : {I O D : Type 0} → Fixed → Option (List ℕ) → Option (List ℕ) → Tells I O
+abbrev pub RepliesAlone : {I O D : Type 0} → Terms → Option (List ℕ) → Option (List ℕ) → Tells I O
     → Outcome I O D → List Entry → Type 0
 RepliesAlone {I} {O} terms held had tells outcome h =
     (s : SessionOut I O) × (outcome.sessions.items ≡ s ∷ [])

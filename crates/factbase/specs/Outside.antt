@@ -1,21 +1,12 @@
--- What the outside tells of a run, and by what its sessions are answered.
+-- What the objects that a run was handed tell, and by what its sessions are answered.
 -- This project's own choice.
 use Rattle.std.specs.Prelude.{ℕ, ◌+◌, Bool, List, [], ◌∷◌, Option, Some, None}
 use Rattle.fb_values.specs.declared.facts.Entry.{Entry}
 use Rattle.script_model.specs.Words.{Command, run}
 use Rattle.talk_model.specs.Session.{Setting, setting}
-use Rattle.fb_session.specs.Sessions.{Fixed}
+use Rattle.fb_session.specs.Sessions.{Terms}
 
--- ---- what a host tells of what it hands out, by name, and its own count of faults
-
-pub record Told : Type 0 where
-  pub sources : List ℕ → Option (List ℕ)
-  pub source_faults : List ℕ → ℕ
-  pub sinks : List ℕ → Option (List ℕ)
-  pub sink_faults : List ℕ → ℕ
-  pub faults : ℕ
-
--- ---- what its objects tell: the bytes that a source has left and that a sink holds, and their counts of faults
+-- ---- what sources and sinks tell: the bytes that a source has left and that a sink holds, and their counts of faults
 
 pub record Tells (I O : Type 0) : Type 0 where
   pub left : I → Option (List ℕ)
@@ -23,10 +14,20 @@ pub record Tells (I O : Type 0) : Type 0 where
   pub contents : O → Option (List ℕ)
   pub sink_faults : O → ℕ
 
+abbrev pub tells_of : {I O : Type 0} → (I → Option (List ℕ)) → (I → ℕ) → (O → Option (List ℕ))
+    → (O → ℕ) → Tells I O
+tells_of left source_faults contents sink_faults =
+    record {
+      left = left;
+      source_faults = source_faults;
+      contents = contents;
+      sink_faults = sink_faults;
+    }
+
 -- ---- the terms on which all of its sessions are answered: the clock, the guard and the filters
 
 -- what a session is answered by on these terms, over a history that may have a stop
-abbrev pub setting_of : Fixed → List Entry → Option ℕ → Bool → Setting
+abbrev pub setting_of : Terms → List Entry → Option ℕ → Bool → Setting
 setting_of terms h stop teller =
     setting terms.may terms.Selects terms.guard terms.is_filter h stop teller
 

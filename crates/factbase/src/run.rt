@@ -1,13 +1,14 @@
 //! The top call: from the words of a command line, over a host and a clock, to an outcome.
-ghost use Rattle.std.specs.Prelude.{◌≡◌, ◌<◌, ◌⊎◌, [], ◌∷◌, map, string_bytes, vec_capacity, is_some, IfSome, IfOk, OnErr};
+ghost use Rattle.std.specs.Prelude.{◌≡◌, ◌<◌, ◌⊎◌, [], ◌∷◌, map, string_bytes, vec_capacity, IfSome, IfOk, OnErr};
 ghost use Rattle.std.specs.Option.{unwrap_or};
 ghost use Rattle.std.specs.List.{AllByRecursion};
 ghost use Rattle.fb_model.specs.History.{basis};
 ghost use Rattle.fb_model.specs.FirstEntry.{first_entry};
 ghost use Rattle.fb_ports.specs.Faults.{CountsOpening};
-ghost use Rattle.fb_preds.specs.Naming.{selected_by};
 ghost use Rattle.script_model.specs.Words.{command_of, sink_of};
 ghost use Rattle.talk_model.specs.Prefixes.{Prefixes};
+ghost use Rattle.fb_session.specs.Sessions.{terms_of};
+ghost use Rattle.factbase.specs.Outside.{tells_of};
 ghost use Rattle.factbase.specs.Headline.{OneHistory, EachReplies, RepliesAlone};
 ghost use Rattle.factbase.specs.Causes.{HasNoDevice, NoSession, Says, EndsAs, HasBegun, Causes};
 ghost use Rattle.factbase.specs.Complete.{Complete};
@@ -42,25 +43,9 @@ pub fn run<R: Threads + Wait + Sync, H: Host, K: Clock, G: Guard<Snapshot>, P: F
 
     // Each line answers its form as a database with one thread would at its place in the history.
     ensures replies { IfSome result.last (λ last. EachReplies
-        (record {
-          may = K.may_answer clock.now;
-          guard = G.bars guard.now;
-          is_filter = λ name. is_some (P.place_of preds.now name);
-          Selects = selected_by (P.place_of preds.now) (P.selects_at preds.now);
-        })
-        (record {
-          sources = H.sources host.old;
-          source_faults = H.source_faults host.old;
-          sinks = H.sinks host.old;
-          sink_faults = H.sink_faults host.old;
-          faults = H.faults host.old;
-        })
-        (record {
-          left = H.In.left;
-          source_faults = H.In.faults;
-          contents = H.Out.contents;
-          sink_faults = H.Out.faults;
-        })
+        (terms_of (K.may_answer clock.now) (G.bars guard.now) (P.place_of preds.now)
+        (P.selects_at preds.now))
+        (H.told host.old) (tells_of H.In.left H.In.faults H.Out.contents H.Out.faults)
         (command_of (map string_bytes words.now.items)) result last.entries) }
 
     // Each line rests on a prefix of the history that has all that its session had seen.
@@ -69,44 +54,16 @@ pub fn run<R: Threads + Wait + Sync, H: Host, K: Clock, G: Guard<Snapshot>, P: F
         result.sessions.items) }
 
     // Each status and its line have their cause.
-    ensures causes { Causes
-        (record {
-          sources = H.sources host.old;
-          source_faults = H.source_faults host.old;
-          sinks = H.sinks host.old;
-          sink_faults = H.sink_faults host.old;
-          faults = H.faults host.old;
-        })
-        (record {
-          left = H.In.left;
-          source_faults = H.In.faults;
-          contents = H.Out.contents;
-          sink_faults = H.Out.faults;
-        })
-        (H.faults host.new) (command_of (map string_bytes words.now.items)) result }
+    ensures causes { Causes (H.told host.old)
+        (tells_of H.In.left H.In.faults H.Out.contents H.Out.faults) (H.told host.new).faults
+        (command_of (map string_bytes words.now.items)) result }
 
     // A script that is forms within the limits is answered whole where no count of faults rises, unless memory is refused.
     ensures complete { Complete
-        (record {
-          may = K.may_answer clock.now;
-          guard = G.bars guard.now;
-          is_filter = λ name. is_some (P.place_of preds.now name);
-          Selects = selected_by (P.place_of preds.now) (P.selects_at preds.now);
-        })
-        (record {
-          sources = H.sources host.old;
-          source_faults = H.source_faults host.old;
-          sinks = H.sinks host.old;
-          sink_faults = H.sink_faults host.old;
-          faults = H.faults host.old;
-        })
-        (record {
-          left = H.In.left;
-          source_faults = H.In.faults;
-          contents = H.Out.contents;
-          sink_faults = H.Out.faults;
-        })
-        (H.faults host.new) (command_of (map string_bytes words.now.items)) result }
+        (terms_of (K.may_answer clock.now) (G.bars guard.now) (P.place_of preds.now)
+        (P.selects_at preds.now))
+        (H.told host.old) (tells_of H.In.left H.In.faults H.Out.contents H.Out.faults)
+        (H.told host.new).faults (command_of (map string_bytes words.now.items)) result }
 
     // What the history stands on, and the parts that nothing fills yet.
     ensures covered { IfSome result.last (λ last. result.covered ≡ last.covered) }
@@ -129,15 +86,15 @@ fn open<'a, H: Host>(
     name: &'a str,
 ) -> Result<Opened<'a, H::In, H::Out>, OpenFail>
     ensures name { IfOk result (λ (opened : _). opened.name.now ≡ name.now) }
-    ensures source { IfOk result
-        (λ (opened : _). H.In.left opened.source ≡ H.sources host.old name.now) }
-    ensures source_count { IfOk result
-        (λ (opened : _). H.In.faults opened.source ≡ H.source_faults host.old name.now) }
-    ensures sink { IfOk result
-        (λ (opened : _). H.Out.contents opened.sink ≡ H.sinks host.old (sink_of name.now)) }
-    ensures sink_count { IfOk result
-        (λ (opened : _). H.Out.faults opened.sink ≡ H.sink_faults host.old (sink_of name.now)) }
-    ensures counted { CountsOpening result (H.faults host.old) (H.faults host.new) }
+    ensures source { IfOk result (λ (opened : _).
+        H.In.left opened.source ≡ (H.told host.old).sources name.now) }
+    ensures source_count { IfOk result (λ (opened : _).
+        H.In.faults opened.source ≡ (H.told host.old).source_faults name.now) }
+    ensures sink { IfOk result (λ (opened : _).
+        H.Out.contents opened.sink ≡ (H.told host.old).sinks (sink_of name.now)) }
+    ensures sink_count { IfOk result (λ (opened : _).
+        H.Out.faults opened.sink ≡ (H.told host.old).sink_faults (sink_of name.now)) }
+    ensures counted { CountsOpening result (H.told host.old).faults (H.told host.new).faults }
 {
     let source = host.source(alloc, name)?;
     let lines = sink_name(alloc, name)?;
@@ -173,30 +130,14 @@ fn run_session<
     ensures one_history { IfSome result.last (λ last. OneHistory last.entries result.recovered
         (unwrap_or result.authors []) (map (λ s. s.commits) result.sessions.items)) }
     ensures replies { IfSome result.last (λ last. RepliesAlone
-        (record {
-          may = K.may_answer clock.now;
-          guard = G.bars guard.now;
-          is_filter = λ name. is_some (P.place_of preds.now name);
-          Selects = selected_by (P.place_of preds.now) (P.selects_at preds.now);
-        })
+        (terms_of (K.may_answer clock.now) (G.bars guard.now) (P.place_of preds.now)
+        (P.selects_at preds.now))
         (I.left script.entry.source) (O.contents script.entry.sink)
-        (record {
-          left = I.left;
-          source_faults = I.faults;
-          contents = O.contents;
-          sink_faults = O.faults;
-        })
-        result last.entries) }
+        (tells_of I.left I.faults O.contents O.faults) result last.entries) }
     ensures prefixes { IfSome result.last (λ last. AllByRecursion
         (λ s. Prefixes result.recovered (basis last.entries) s.places s.commits)
         result.sessions.items) }
-    ensures causes { HasBegun
-        (record {
-          left = I.left;
-          source_faults = I.faults;
-          contents = O.contents;
-          sink_faults = O.faults;
-        })
+    ensures causes { HasBegun (tells_of I.left I.faults O.contents O.faults)
         (I.faults script.entry.source) (O.faults script.entry.sink) script.entry.name.now result }
     ensures covered { IfSome result.last (λ last. result.covered ≡ last.covered) }
     ensures no_device { HasNoDevice result }

@@ -1,7 +1,8 @@
--- What a host tells by name, and how a call for one name leaves it.
+-- How a call for one source, sink or disk leaves what a host tells.
 -- This project's own choice.
 use Rattle.std.specs.Prelude.{◌≡◌, ◌≢◌, ◌↔◌, ℕ, List}
 use Rattle.fb_ports.specs.declared.hosts.Part.{Part}
+use Rattle.fb_ports.specs.Told.{Told}
 
 -- what is told of every name is as it was
 abbrev pub Same : {A : Type 0} → (List ℕ → A) → (List ℕ → A) → Type 0
@@ -36,3 +37,38 @@ abbrev pub SameImagesBut : List ℕ → Part → (List ℕ → Part → List ℕ
 SameImagesBut dir part old new =
     (other : List ℕ) (its : Part) → (other ≡ dir → its ≡ part → ⊥)
     → Alike (old other its) (new other its)
+
+-- ---- how a call leaves what is told, other than the host's own count
+
+-- of a source: all of it stays, but what was told of this source
+pub record StaysButSource (name : List ℕ) (old new : Told) : Type 0 where
+  pub sources : SameBut name old.sources new.sources
+  pub source_faults : SameBut name old.source_faults new.source_faults
+  pub sinks : Same old.sinks new.sinks
+  pub sink_faults : Same old.sink_faults new.sink_faults
+  pub disks : SameParts old.disks new.disks
+  pub disk_faults : SameParts old.disk_faults new.disk_faults
+  pub disk_images : SameImages old.disk_images new.disk_images
+  pub disk_moment : SameParts old.disk_moment new.disk_moment
+
+-- of a sink
+pub record StaysButSink (name : List ℕ) (old new : Told) : Type 0 where
+  pub sources : Same old.sources new.sources
+  pub source_faults : Same old.source_faults new.source_faults
+  pub sinks : SameBut name old.sinks new.sinks
+  pub sink_faults : SameBut name old.sink_faults new.sink_faults
+  pub disks : SameParts old.disks new.disks
+  pub disk_faults : SameParts old.disk_faults new.disk_faults
+  pub disk_images : SameImages old.disk_images new.disk_images
+  pub disk_moment : SameParts old.disk_moment new.disk_moment
+
+-- of a disk
+pub record StaysButDisk (dir : List ℕ) (part : Part) (old new : Told) : Type 0 where
+  pub sources : Same old.sources new.sources
+  pub source_faults : Same old.source_faults new.source_faults
+  pub sinks : Same old.sinks new.sinks
+  pub sink_faults : Same old.sink_faults new.sink_faults
+  pub disks : SameButPart dir part old.disks new.disks
+  pub disk_faults : SameButPart dir part old.disk_faults new.disk_faults
+  pub disk_images : SameImagesBut dir part old.disk_images new.disk_images
+  pub disk_moment : SameButPart dir part old.disk_moment new.disk_moment

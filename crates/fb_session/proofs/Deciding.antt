@@ -23,7 +23,7 @@ use Rattle.fb_desk.specs.declared.answers.Receipt.{Receipt}
 use Rattle.fb_desk.specs.declared.answers.TxFault.{TxFault}
 use Rattle.fb_desk.specs.declared.answers.TxFault.TheVariants.{Refused, LogFault, Stopped, Memory}
 use Rattle.fb_session.specs.declared.session.Session.{Session}
-use Rattle.fb_session.specs.Sessions.{Fixed, over, StandsAt, Sees, Received, Denied, Transacts, Stalls, Answered, Unanswered}
+use Rattle.fb_session.specs.Sessions.{Terms, over, StandsAt, Sees, Received, Denied, Transacts, Stalls, Answered, Unanswered}
 
 -- ---- histories
 
@@ -57,7 +57,7 @@ not_true false never = refl
 some_none : (o : Option ℕ) (n : ℕ) → o ≡ Some n → o ≢ None
 some_none o n some none = let e : Some n ≡ None = sym some ∙ none in absurd (cc)
 
-module _ {S : Type 0} (f : Fixed) (names : S → List (List ℕ)) (was is : State) (before : Standing) (old : Session S) (goes : GoesOn was is) (stands : StandsAt old.view names was before) where
+module _ {S : Type 0} (f : Terms) (names : S → List (List ℕ)) (was is : State) (before : Standing) (old : Session S) (goes : GoesOn was is) (stands : StandsAt old.view names was before) where
   counted_was : length was.entries ≡ basis was.entries + 1
   counted_was = IsLawful-length was.entries stands.lawful
 

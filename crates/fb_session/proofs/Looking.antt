@@ -16,12 +16,12 @@ use Rattle.fb_db.specs.Seen.{window_of}
 use Rattle.fb_reads.specs.Answers.{standing_at}
 use Rattle.fb_desk.specs.Desks.{State, GoesOn}
 use Rattle.fb_session.specs.declared.session.Session.{Session}
-use Rattle.fb_session.specs.Sessions.{Fixed, over, StandsAt, Shows, Keeps, Reads, Answered}
+use Rattle.fb_session.specs.Sessions.{Terms, over, StandsAt, Shows, Keeps, Reads, Answered}
 use Rattle.fb_session.proofs.Deciding.{upto-basis, grown, still_told, stands_behind}
 
 -- ---- what is shown
 
-module _ {S : Type 0} (f : Fixed) (names : S → List (List ℕ)) (was is : State) (before : Standing) (old new : Session S) (goes : GoesOn was is) (stands : StandsAt old.view names was before) (shows : Shows old new is) (keeps : Keeps old new was is None) where
+module _ {S : Type 0} (f : Terms) (names : S → List (List ℕ)) (was is : State) (before : Standing) (old new : Session S) (goes : GoesOn was is) (stands : StandsAt old.view names was before) (shows : Shows old new is) (keeps : Keeps old new was is None) where
   shown_in_talk : IsShown (over f is) before (moved before (basis is.entries)) new.line.items None
   shown_in_talk =
       record { place = basis is.entries; from = grown f names was is before old goes stands; within = omega arith; says = shows.says; commits = refl; stands = refl }
@@ -76,7 +76,7 @@ reply_at h past b place is v w Selects names filters command reply p q s e a = r
 behind_at : (h past : List Entry) (is : List ℕ → Bool) (one other : Standing) (command : Option Command) → h ≡ past → one ≡ other → behind h is one command ≡ behind past is other command
 behind_at h past is one other command p r = rw (p, r) refl
 
-module _ {S : Type 0} (f : Fixed) (names : S → List (List ℕ)) (was : State) (before : Standing) (old new : Session S) (stands : StandsAt old.view names was before) (command : Option Command) (reads : Reads old.view new.view names f.is_filter f.Selects command new.line.items) where
+module _ {S : Type 0} (f : Terms) (names : S → List (List ℕ)) (was : State) (before : Standing) (old new : Session S) (stands : StandsAt old.view names was before) (command : Option Command) (reads : Reads old.view new.view names f.is_filter f.Selects command new.line.items) where
   abbrev after : Standing
   after = behind (upto was.entries before.place) f.is_filter before command
 

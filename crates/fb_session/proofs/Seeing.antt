@@ -17,7 +17,7 @@ use Rattle.fb_desk.specs.Desks.{State, GoesOn, IsReceipt, IsRefusal, IsLogFault,
 use Rattle.fb_desk.specs.declared.answers.Receipt.{Receipt}
 use Rattle.fb_desk.specs.declared.answers.TxFault.TheVariants.{Refused, LogFault, Stopped}
 use Rattle.fb_session.specs.declared.session.Session.{Session}
-use Rattle.fb_session.specs.Sessions.{Fixed, Sees, Shows, Keeps, Received, Denied, StandsAt, Answered, Unanswered}
+use Rattle.fb_session.specs.Sessions.{Terms, Sees, Shows, Keeps, Received, Denied, StandsAt, Answered, Unanswered}
 
 -- a desk that was not asked
 pub goes_on-nowhere : (desk : State) → GoesOn desk desk
@@ -81,7 +81,7 @@ module _ {S : Type 0} (old new : Session S) (was is : State) where
 
 -- ---- a session that was given room before
 
-module _ {S : Type 0} (f : Fixed) (form : Form) (old roomy new : Session S) (names : S → List (List ℕ)) (was is : State) (before : Standing) (same : roomy.commits.items ≡ old.commits.items) where
+module _ {S : Type 0} (f : Terms) (form : Form) (old roomy new : Session S) (names : S → List (List ℕ)) (was is : State) (before : Standing) (same : roomy.commits.items ≡ old.commits.items) where
   keeps_before : (commit : Option ℕ) → Keeps roomy new was is commit → Keeps old new was is commit
   keeps_before commit keeps = record { commits = keeps.commits ∙ ap (λ cs. cs ++ option_to_list commit) same; desk = keeps.desk }
 
@@ -93,7 +93,7 @@ module _ {S : Type 0} (f : Fixed) (form : Form) (old roomy new : Session S) (nam
   unanswered_before u = elim u [ inl keeps ↦ inl (keeps_before None keeps) | inr part ↦ inr (part.0, answered_before part.0 part.1) ]
 
 -- and whose table stayed the same
-module _ {S : Type 0} (old roomy new : Session S) (fix : S → Fixed) (names : S → List (List ℕ)) (form : Form) (was is : State) (view : roomy.view ≡ old.view) (same : roomy.commits.items ≡ old.commits.items) where
+module _ {S : Type 0} (old roomy new : Session S) (fix : S → Terms) (names : S → List (List ℕ)) (form : Form) (was is : State) (view : roomy.view ≡ old.view) (same : roomy.commits.items ≡ old.commits.items) where
   pub answered_with_room : (line : List ℕ) → ((before : Standing) → StandsAt roomy.view names was before → Answered (fix roomy.view.filter) form roomy new names was is before line)
       → (before : Standing) → StandsAt old.view names was before → Answered (fix old.view.filter) form old new names was is before line
   answered_with_room line told before stands =
@@ -107,7 +107,7 @@ module _ {S : Type 0} (old roomy new : Session S) (fix : S → Fixed) (names : S
       unanswered_before (fix old.view.filter) form old roomy new names was is before same (subst Tells view (told before) stands)
 
 -- and whose place was kept behind
-pub answered_behind : {S : Type 0} (f : Fixed) (form : Form) (old new later : Session S) (names : S → List (List ℕ)) (was is : State) (before : Standing) (line : List ℕ)
+pub answered_behind : {S : Type 0} (f : Terms) (form : Form) (old new later : Session S) (names : S → List (List ℕ)) (was is : State) (before : Standing) (line : List ℕ)
     → later.view ≡ new.view → later.commits.items ≡ new.commits.items → Answered f form old new names was is before line → Answered f form old later names was is before line
 answered_behind {S} f form old new later names was is before line view commits a =
     let Stands : Db S → Type 0 = λ v. StandsAt v names is a.after in

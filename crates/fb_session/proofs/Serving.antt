@@ -12,12 +12,12 @@ use Rattle.fb_session.specs.declared.outcome.SessionEnd.TheVariants as ended
 use Rattle.fb_session.specs.declared.reading.ReadStop.TheVariants as stopped
 use Rattle.fb_session.specs.Taken.{TakesAll, TakesSome}
 use Rattle.fb_session.specs.Replies.{Replies}
-use Rattle.fb_session.specs.Sessions.{Fixed, over, IsPastReading, Talks}
+use Rattle.fb_session.specs.Sessions.{Terms, over, IsPastReading, Talks}
 use Rattle.fb_session.proofs.KnownBytes.{append_known-none}
 use Rattle.fb_session.proofs.TalkingOn.{went_on-nothing}
 
 -- the script was read to its end
-pub replies-whole : (f : Fixed) (script : List ℕ) (start now : State) (places commits : List ℕ) (held left had has : Option (List ℕ)) (how : SessionEnd)
+pub replies-whole : (f : Terms) (script : List ℕ) (start now : State) (places commits : List ℕ) (held left had has : Option (List ℕ)) (how : SessionEnd)
     → TakesAll script held left → Talks f script start now places commits had has how → Replies (over f now) (basis start.entries) held left had has places commits how
 replies-whole f script start now places commits held left had has how taken talks =
     record {
@@ -30,12 +30,12 @@ replies-whole f script start now places commits held left had has how taken talk
       all = λ _. taken.all;
     }
 
-pub prefixes-talk : (f : Fixed) (script : List ℕ) (start now : State) (places commits : List ℕ) (had has : Option (List ℕ)) (how : SessionEnd)
+pub prefixes-talk : (f : Terms) (script : List ℕ) (start now : State) (places commits : List ℕ) (had has : Option (List ℕ)) (how : SessionEnd)
     → Talks f script start now places commits had has how → Prefixes (basis start.entries) (basis now.entries) places commits
 prefixes-talk f script start now places commits had has how talks = Prefixes-SeesAll (basis start.entries) (basis now.entries) places commits talks.prefixes
 
 -- memory was refused before the first form was looked at
-pub talks-unopened : (f : Fixed) (script : List ℕ) (start : State) (places commits : List ℕ) (had : Option (List ℕ)) → places ≡ [] → commits ≡ [] → Talks f script start start places commits had had ended.Memory
+pub talks-unopened : (f : Terms) (script : List ℕ) (start : State) (places commits : List ℕ) (had : Option (List ℕ)) → places ≡ [] → commits ≡ [] → Talks f script start start places commits had had ended.Memory
 talks-unopened f script start places commits had p q =
     record {
       written = [];
@@ -63,7 +63,7 @@ no_line ps cs p q line =
     absurd (true≢false (sym (subst Q q (subst P p line))))
 
 -- memory was refused before
-pub replies-unread : (f : Fixed) (start : State) (places commits : List ℕ) (held left had : Option (List ℕ)) → places ≡ [] → commits ≡ [] → TakesSome stopped.Memory held left
+pub replies-unread : (f : Terms) (start : State) (places commits : List ℕ) (held left had : Option (List ℕ)) → places ≡ [] → commits ≡ [] → TakesSome stopped.Memory held left
     → Replies (over f start) (basis start.entries) held left had had places commits ended.Memory
 replies-unread f start places commits held left had p q some =
     record {

@@ -28,7 +28,7 @@ use Rattle.fb_session.specs.declared.session.Session.{Session}
 use Rattle.fb_session.specs.declared.serve.AnswerError.{AnswerError}
 use Rattle.fb_session.specs.declared.serve.AnswerError.TheVariants.{WriteFault, Memory}
 use Rattle.fb_session.specs.Replies.{AnswersAll, AnswersUpTo, SinkCount}
-use Rattle.fb_session.specs.Sessions.{Fixed, over, WentOn, IsOpened, Keeps, Answered, Replied, RepliedPart, StopsAt, end_of, TalkSoFar, NoCommand, Talks}
+use Rattle.fb_session.specs.Sessions.{Terms, over, WentOn, IsOpened, Keeps, Answered, Replied, RepliedPart, StopsAt, end_of, TalkSoFar, NoCommand, Talks}
 use Rattle.fb_session.proofs.KnownBytes.{append_known-none, append_known-append}
 
 concat-push : (ls : List (List ℕ)) (line : List ℕ) → concat (ls ++ line ∷ []) ≡ concat ls ++ line
@@ -63,7 +63,7 @@ commits_on start was is old new commit had keeps =
 -- ---- the talk so far
 
 -- nothing was answered yet
-pub talk-opened : {S : Type 0} (f : Fixed) (names : S → List (List ℕ)) (bytes : List ℕ) (session : Session S) (start : State) (had : Option (List ℕ)) → IsOpened session names start → TalkSoFar f bytes 0 session names start start had had
+pub talk-opened : {S : Type 0} (f : Terms) (names : S → List (List ℕ)) (bytes : List ℕ) (session : Session S) (start : State) (had : Option (List ℕ)) → IsOpened session names start → TalkSoFar f bytes 0 session names start start had had
 talk-opened f names bytes session start had opened =
     record {
       forms = [];
@@ -80,7 +80,7 @@ talk-opened f names bytes session start had opened =
       within = omega arith;
     }
 
-module _ {S : Type 0} (f : Fixed) (names : S → List (List ℕ)) (bytes : List ℕ) (start was : State) (old : Session S) (had mid : Option (List ℕ)) (at : ℕ) (so_far : TalkSoFar f bytes at old names start was had mid) where
+module _ {S : Type 0} (f : Terms) (names : S → List (List ℕ)) (bytes : List ℕ) (start was : State) (old : Session S) (had mid : Option (List ℕ)) (at : ℕ) (so_far : TalkSoFar f bytes at old names start was had mid) where
   -- there is one place for each form
   count-forms : length old.places.items ≡ length so_far.forms
   count-forms = (Talk-lengths (over f was) (opened_at (basis start.entries)) so_far.standing so_far.forms old.places.items old.commits.items so_far.lines so_far.talk).0

@@ -41,16 +41,16 @@ use Rattle.fb_session.specs.Replies.{Answers}
 
 -- ---- what it is answered by
 
--- what stays as it is while a session talks
-pub record Fixed : Type 1 where
+-- the terms of its answers, which stay as they are while it talks
+pub record Terms : Type 1 where
   pub may : ℤ → Type 0
   pub guard : Guard
   pub is_filter : List ℕ → Bool
   pub Selects : List ℕ → Datom → Type 0
 
--- where a name finds the filter at a place of a table, if it finds one, and this is what the filter at a place selects
-abbrev pub fixed : (ℤ → Type 0) → Guard → (List ℕ → Option ℕ) → (ℕ → Datom → Type 0) → Fixed
-fixed may guard place_of SelectsAt =
+-- those over a table of filters: where a name finds the filter at a place, if it finds one, and this is what that filter selects
+abbrev pub terms_of : (ℤ → Type 0) → Guard → (List ℕ → Option ℕ) → (ℕ → Datom → Type 0) → Terms
+terms_of may guard place_of SelectsAt =
     record {
       may = may;
       guard = guard;
@@ -59,7 +59,7 @@ fixed may guard place_of SelectsAt =
     }
 
 -- with what its desk was answered by now
-abbrev pub over : Fixed → State → Setting
+abbrev pub over : Terms → State → Setting
 over f desk = setting f.may f.Selects f.guard f.is_filter desk.entries desk.stop desk.teller
 
 -- The desk has seen more of the history, since the same opening. A stop of the log stays as it is known.
@@ -165,7 +165,7 @@ pub record Reads {S : Type 0} (old new : Db S) (names : S → List (List ℕ))
 -- ---- a form
 
 -- it is answered with this line, and the session stands behind it
-pub record Answered {S : Type 0} (f : Fixed) (form : Form) (old new : Session S)
+pub record Answered {S : Type 0} (f : Terms) (form : Form) (old new : Session S)
     (names : S → List (List ℕ)) (was is : State) (before : Standing) (line : List ℕ) : Type 0 where
   pub after : Standing
   pub commit : Option ℕ
@@ -174,13 +174,13 @@ pub record Answered {S : Type 0} (f : Fixed) (form : Form) (old new : Session S)
   pub keeps : Keeps old new was is commit
 
 -- memory was refused: it was not answered, or its line was not built
-abbrev pub Unanswered : {S : Type 0} → Fixed → Form → Session S → Session S → (S → List (List ℕ))
+abbrev pub Unanswered : {S : Type 0} → Terms → Form → Session S → Session S → (S → List (List ℕ))
     → State → State → Standing → Type 0
 Unanswered f form old new names was is before =
     Keeps old new was is None ⊎ ((line : List ℕ) × Answered f form old new names was is before line)
 
 -- it was answered, and its line was written whole
-pub record Replied {S : Type 0} (f : Fixed) (form : Form) (old new : Session S)
+pub record Replied {S : Type 0} (f : Terms) (form : Form) (old new : Session S)
     (names : S → List (List ℕ)) (was is : State) (before : Standing) (had has : Option (List ℕ))
     : Type 0 where
   pub line : List ℕ
@@ -189,7 +189,7 @@ pub record Replied {S : Type 0} (f : Fixed) (form : Form) (old new : Session S)
   pub written : has ≡ append_known had line
 
 -- it was answered, and the sink failed before it had taken the whole line
-pub record RepliedPart {S : Type 0} (f : Fixed) (form : Form) (old new : Session S)
+pub record RepliedPart {S : Type 0} (f : Terms) (form : Form) (old new : Session S)
     (names : S → List (List ℕ)) (was is : State) (before : Standing) (had has : Option (List ℕ))
     : Type 0 where
   pub line : List ℕ
@@ -198,14 +198,14 @@ pub record RepliedPart {S : Type 0} (f : Fixed) (form : Form) (old new : Session
   pub written : TakesPart line had has
 
 -- and where memory was refused nothing was written
-pub record RepliedNothing {S : Type 0} (f : Fixed) (form : Form) (old new : Session S)
+pub record RepliedNothing {S : Type 0} (f : Terms) (form : Form) (old new : Session S)
     (names : S → List (List ℕ)) (was is : State) (before : Standing) (had has : Option (List ℕ))
     : Type 0 where
   pub unanswered : Unanswered f form old new names was is before
   pub places : new.places.items ≡ old.places.items
   pub written : has ≡ had
 
-abbrev pub StopsAt : {S : Type 0} → Fixed → Form → Session S → Session S → (S → List (List ℕ))
+abbrev pub StopsAt : {S : Type 0} → Terms → Form → Session S → Session S → (S → List (List ℕ))
     → State → State → Standing → Option (List ℕ) → Option (List ℕ) → AnswerError → Type 0
 StopsAt f form old new names was is before had has WriteFault =
     RepliedPart f form old new names was is before had has
@@ -224,7 +224,7 @@ end_of Memory = ended.Memory
 -- ---- a script
 
 -- The bytes up to this place are forms, and this is the session's talk over them so far: its lines are what the sink gained.
-pub record TalkSoFar {S : Type 0} (f : Fixed) (bytes : List ℕ) (at : ℕ) (session : Session S)
+pub record TalkSoFar {S : Type 0} (f : Terms) (bytes : List ℕ) (at : ℕ) (session : Session S)
     (names : S → List (List ℕ)) (start now : State) (had has : Option (List ℕ)) : Type 0 where
   pub forms : List Form
   pub lines : List (List ℕ)
@@ -270,7 +270,7 @@ IsPastReading ended.WriteFault = Unit {0}
 IsPastReading ended.Memory = Unit {0}
 
 -- the session's answers to a script, whatever it wrote
-pub record Talks (f : Fixed) (script : List ℕ) (start now : State) (places commits : List ℕ)
+pub record Talks (f : Terms) (script : List ℕ) (start now : State) (places commits : List ℕ)
     (had has : Option (List ℕ)) (how : SessionEnd) : Type 0 where
   pub written : List ℕ
   pub gained : has ≡ append_known had written

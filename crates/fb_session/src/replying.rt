@@ -10,7 +10,7 @@ ghost use Rattle.talk_model.specs.Replies.{basis_reply, IsLineOf};
 ghost use Rattle.fb_preds.specs.Naming.{selected_by};
 ghost use Rattle.fb_commands.specs.Asked.{asked};
 ghost use Rattle.fb_desk.specs.Desks.{GoesOn};
-ghost use Rattle.fb_session.specs.Sessions.{fixed, StandsAt, Sees, Shows, Keeps, Reads, Answered, Unanswered};
+ghost use Rattle.fb_session.specs.Sessions.{terms_of, StandsAt, Sees, Shows, Keeps, Reads, Answered, Unanswered};
 
 use crate::session::Session;
 use edn_form::Edn;
@@ -47,7 +47,7 @@ impl<P: FilterTable> Session<Picks<'_, P>> {
             → StandsAt self.old.view (λ p. map (P.name_at p.table.now) p.places.items)
             (T.state desk.old) before
             → Answered
-            (fixed (K.may_answer clock.now) (G.bars guard.now) (P.place_of table)
+            (terms_of (K.may_answer clock.now) (G.bars guard.now) (P.place_of table)
             (P.selects_at table))
             (form_of form.now) self.old self.new (λ p. map (P.name_at p.table.now) p.places.items)
             (T.state desk.old) (T.state desk.new) before self.new.line.items) }
@@ -56,7 +56,7 @@ impl<P: FilterTable> Session<Picks<'_, P>> {
             → StandsAt self.old.view (λ p. map (P.name_at p.table.now) p.places.items)
             (T.state desk.old) before
             → Unanswered
-            (fixed (K.may_answer clock.now) (G.bars guard.now) (P.place_of table)
+            (terms_of (K.may_answer clock.now) (G.bars guard.now) (P.place_of table)
             (P.selects_at table))
             (form_of form.now) self.old self.new (λ p. map (P.name_at p.table.now) p.places.items)
             (T.state desk.old) (T.state desk.new) before) }

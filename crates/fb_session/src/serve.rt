@@ -8,7 +8,7 @@ ghost use Rattle.talk_model.specs.Prefixes.{Prefixes};
 ghost use Rattle.talk_model.specs.Session.{Standing, setting};
 ghost use Rattle.fb_desk.specs.Desks.{GoesOn};
 ghost use Rattle.fb_session.specs.Replies.{Replies, SourceCount, SinkCount};
-ghost use Rattle.fb_session.specs.Sessions.{fixed, WentOn, StandsAt, IsOpened, Replied, StopsAt, StopCount, end_of, IsCommand, NoCommand, Talks};
+ghost use Rattle.fb_session.specs.Sessions.{terms_of, WentOn, StandsAt, IsOpened, Replied, StopsAt, StopCount, end_of, IsCommand, NoCommand, Talks};
 
 use crate::outcome::{Served, SessionEnd};
 use crate::reading::{ReadStop, read_script};
@@ -129,7 +129,7 @@ fn serve_script<
     requires sync { IsSync R.row }
     requires left { 1_000_000 ≤ (T.state desk.old).left }
     ensures answers { Talks
-        (fixed (K.may_answer clock.now) (G.bars guard.now) (P.place_of preds.now)
+        (terms_of (K.may_answer clock.now) (G.bars guard.now) (P.place_of preds.now)
         (P.selects_at preds.now))
         script.now (T.state desk.old) (T.state desk.new) result.places result.commits
         (O.contents sink.old) (O.contents sink.new) result.end }
@@ -159,7 +159,7 @@ impl<P: FilterTable> Session<Picks<'_, P>> {
             (T.state desk.old) }
         requires left { 1_000_000 ≤ (T.state desk.old).left }
         ensures answers { let table = self.old.view.filter.table.now in Talks
-            (fixed (K.may_answer clock.now) (G.bars guard.now) (P.place_of table)
+            (terms_of (K.may_answer clock.now) (G.bars guard.now) (P.place_of table)
             (P.selects_at table))
             script.now (T.state desk.old) (T.state desk.new) self.new.places.items
             self.new.commits.items (O.contents sink.old) (O.contents sink.new) result }
@@ -220,7 +220,7 @@ impl<P: FilterTable> Session<Picks<'_, P>> {
             → StandsAt self.old.view (λ p. map (P.name_at p.table.now) p.places.items)
             (T.state desk.old) before
             → Replied
-            (fixed (K.may_answer clock.now) (G.bars guard.now) (P.place_of table)
+            (terms_of (K.may_answer clock.now) (G.bars guard.now) (P.place_of table)
             (P.selects_at table))
             (form_of form.now) self.old self.new (λ p. map (P.name_at p.table.now) p.places.items)
             (T.state desk.old) (T.state desk.new) before (O.contents sink.old)
@@ -230,7 +230,7 @@ impl<P: FilterTable> Session<Picks<'_, P>> {
             → StandsAt self.old.view (λ p. map (P.name_at p.table.now) p.places.items)
             (T.state desk.old) before
             → StopsAt
-            (fixed (K.may_answer clock.now) (G.bars guard.now) (P.place_of table)
+            (terms_of (K.may_answer clock.now) (G.bars guard.now) (P.place_of table)
             (P.selects_at table))
             (form_of form.now) self.old self.new (λ p. map (P.name_at p.table.now) p.places.items)
             (T.state desk.old) (T.state desk.new) before (O.contents sink.old) (O.contents sink.new)

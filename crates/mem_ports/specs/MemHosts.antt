@@ -1,10 +1,11 @@
 -- What a host in memory hands out by name.
 -- This project's own choice.
-use Rattle.std.specs.Prelude.{ℕ, List, [], Option, option_map}
+use Rattle.std.specs.Prelude.{ℕ, List, [], Option, Some, option_map}
 use Rattle.std.specs.Option.{option_map_or, unwrap_or}
 use Rattle.std.specs.BTreeMap.{get_by_text}
 use Rattle.fb_calls.specs.Calls.{no_calls}
 use Rattle.fb_disk.specs.MemDisks.{Past, told_by, images_of, moment_of}
+use Rattle.fb_ports.specs.Told.{Told}
 use Rattle.fb_ports.specs.declared.hosts.Part.{Part}
 use Rattle.fb_ports.specs.declared.hosts.Part.TheVariants.{Log, Segments}
 use Rattle.mem_ports.specs.InMemory.{Supply}
@@ -53,3 +54,18 @@ images_at h dir part = images_of (handed_at h dir part)
 
 abbrev pub moment_at : MemHost → List ℕ → Part → ℕ
 moment_at h dir part = moment_of (handed_at h dir part)
+
+-- what it tells: a sink of any name is handed out empty
+abbrev pub told_of : MemHost → Told
+told_of h =
+    record {
+      sources = left_at h;
+      source_faults = faults_at h;
+      sinks = λ _. Some [];
+      sink_faults = λ _. 0;
+      disks = held_at h;
+      disk_faults = disk_faults_at h;
+      disk_images = images_at h;
+      disk_moment = moment_at h;
+      faults = host_faults h;
+    }

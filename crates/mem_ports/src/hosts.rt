@@ -5,7 +5,7 @@ ghost use Rattle.fb_disk.specs.MemDisks.{told_by, images_of, moment_of};
 ghost use Rattle.fb_calls.specs.Calls.{no_calls};
 ghost use Rattle.mem_ports.specs.MemHosts.{handed_of};
 ghost use Rattle.fb_ports.specs.Faults.{CountsOpening, raised};
-ghost use Rattle.fb_ports.specs.Telling.{Same, SameBut, SameParts, SameButPart, Alike, SameImagesBut};
+ghost use Rattle.fb_ports.specs.Telling.{Same, SameBut, SameParts, SameButPart, Alike, StaysButSource, StaysButDisk};
 ghost use Rattle.fb_ports.specs.declared.hosts.Part.{Part};
 
 use crate::{MemSink, MemSource};
@@ -102,25 +102,9 @@ impl Host for MemHost {
 
     type Disk = MemDisk;
 
-    ghost use Rattle.mem_ports.specs.MemHosts.{source_at, left_at, faults_at, disk_at, handed_at, held_at, disk_faults_at, images_at, moment_at, host_faults};
+    ghost use Rattle.mem_ports.specs.MemHosts.{source_at, left_at, faults_at, disk_at, handed_at, held_at, disk_faults_at, images_at, moment_at, host_faults, told_of};
 
-    ghost faults = { host_faults };
-
-    ghost sources = { left_at };
-
-    ghost source_faults = { faults_at };
-
-    ghost sinks = { λ _ _. Some [] };
-
-    ghost sink_faults = { λ _ _. 0 };
-
-    ghost disks = { held_at };
-
-    ghost disk_faults = { disk_faults_at };
-
-    ghost disk_images = { images_at };
-
-    ghost disk_moment = { moment_at };
+    ghost told = { told_of };
 
     fn faults(&self) -> u64 {
         self.faults
@@ -129,8 +113,7 @@ impl Host for MemHost {
     fn source(&mut self, _alloc: Global, name: &str) -> Result<MemSource, OpenFail>
         ensures bytes { IfOk result (λ s. Some s.left ≡ left_at self.old name.now) }
         ensures count { IfOk result (λ s. s.calls.faults ≡ faults_at self.old name.now) }
-        ensures others { SameBut name.now (left_at self.old) (left_at self.new) }
-        ensures other_counts { SameBut name.now (faults_at self.old) (faults_at self.new) }
+        ensures others { StaysButSource name.now (told_of self.old) (told_of self.new) }
         ensures parts { SameParts (disk_at self.old) (disk_at self.new) }
         ensures counted { CountsOpening result (host_faults self.old) (host_faults self.new) }
 
@@ -165,14 +148,7 @@ impl Host for MemHost {
         ensures count { IfOk result (λ d. d.calls.faults ≡ disk_faults_at self.old dir.now part) }
         ensures images { IfOk result (λ d. Alike (images_at self.old dir.now part) (images_of d)) }
         ensures moment { IfOk result (λ d. moment_of d ≡ moment_at self.old dir.now part) }
-        ensures others { SameButPart dir.now part (held_at self.old) (held_at self.new) }
-        ensures other_counts { SameButPart dir.now part (disk_faults_at self.old)
-            (disk_faults_at self.new) }
-        ensures other_images { SameImagesBut dir.now part (images_at self.old)
-            (images_at self.new) }
-        ensures other_moments { SameButPart dir.now part (moment_at self.old) (moment_at self.new) }
-        ensures sources { Same (left_at self.old) (left_at self.new) }
-        ensures source_counts { Same (faults_at self.old) (faults_at self.new) }
+        ensures others { StaysButDisk dir.now part (told_of self.old) (told_of self.new) }
         ensures counted { CountsOpening result (host_faults self.old) (host_faults self.new) }
 
         // The disk that was added is handed out once, and else an empty one is made.

@@ -42,23 +42,17 @@ impl Host for RealHost {
 
     type Disk = AnyDisk;
 
-    ghost faults = { λ faults. faults };
-
-    ghost sources = { λ _ _. None };
-
-    ghost source_faults = { λ _ _. 0 };
-
-    ghost sinks = { λ _ _. None };
-
-    ghost sink_faults = { λ _ _. 0 };
-
-    ghost disks = { λ _. held_in };
-
-    ghost disk_faults = { λ _ _ _. 0 };
-
-    ghost disk_images = { λ _. may_leave_in };
-
-    ghost disk_moment = { λ _ _ _. 0 };
+    ghost told = { λ faults. record {
+      sources = λ _. None;
+      source_faults = λ _. 0;
+      sinks = λ _. None;
+      sink_faults = λ _. 0;
+      disks = held_in;
+      disk_faults = λ _ _. 0;
+      disk_images = may_leave_in;
+      disk_moment = λ _ _. 0;
+      faults = faults;
+    } };
 
     fn faults(&self) -> u64 {
         self.faults

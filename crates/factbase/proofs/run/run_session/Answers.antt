@@ -1,8 +1,6 @@
 use Rattle.std.proofs.Common.{refl, inr}
-use Rattle.std.specs.Prelude.{is_some}
-use Rattle.fb_preds.specs.Naming.{selected_by}
 use Rattle.core_desk.specs.States.{state_of}
-use Rattle.fb_session.specs.Sessions.{Fixed}
+use Rattle.fb_session.specs.Sessions.{terms_of}
 use Rattle.factbase.proofs.Running.{session_history, session_replies}
 use Rattle.factbase.proofs.run.run_session.Goals as goal
 
@@ -18,12 +16,7 @@ returns-clause-one_history g c =
 pub returns-clause-replies : goal.returns-clause-replies
 returns-clause-replies g c =
     let served = c.serve_desk-served in
-    let terms : Fixed = record {
-      may = g.K.Clock.may_answer c.args.clock.now;
-      guard = g.G.Guard.bars c.args.guard.now;
-      is_filter = λ name. is_some (g.P.FilterTable.place_of c.args.preds.now name);
-      Selects = selected_by (g.P.FilterTable.place_of c.args.preds.now) (g.P.FilterTable.selects_at c.args.preds.now);
-    } in (
+    let terms = terms_of (g.K.Clock.may_answer c.args.clock.now) (g.G.Guard.bars c.args.guard.now) (g.P.FilterTable.place_of c.args.preds.now) (g.P.FilterTable.selects_at c.args.preds.now) in (
       _,
       c.with_one.ensures,
       rw c.into_parts-snapshot.ensures

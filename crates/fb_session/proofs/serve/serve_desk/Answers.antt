@@ -1,6 +1,6 @@
 use Rattle.std.proofs.Common.{ℕ, List, sym, subst}
 use Rattle.fb_session.specs.Taken.{TakesAll}
-use Rattle.fb_session.specs.Sessions.{fixed}
+use Rattle.fb_session.specs.Sessions.{terms_of}
 use Rattle.fb_session.proofs.Serving.{replies-whole, replies-unread, prefixes-talk}
 use Rattle.fb_session.proofs.TalkingOn.{went_on-nothing}
 use Rattle.fb_session.proofs.serve.serve_desk.Goals as goal
@@ -25,7 +25,7 @@ returns-in-Err-Memory-clause-replies g c =
     let table = c.args.preds.now in
     let nothing = c.nothing-in-Err-Memory in
     rw nothing.ensures.end
-    (replies-unread (fixed (g.K.Clock.may_answer c.args.clock.now) (g.G.Guard.bars c.args.guard.now) (g.P.FilterTable.place_of table) (g.P.FilterTable.selects_at table))
+    (replies-unread (terms_of (g.K.Clock.may_answer c.args.clock.now) (g.G.Guard.bars c.args.guard.now) (g.P.FilterTable.place_of table) (g.P.FilterTable.selects_at table))
     (g.T.Desk.state c.args.desk.now) nothing.result.places nothing.result.commits _ _ _ nothing.ensures.places nothing.ensures.commits (rw c.in-Err-Memory.field-0-is at c.in-Err-Memory.ensures).stopped)
 
 pub returns-in-Err-Memory-clause-went_on : goal.returns-in-Err-Memory-clause-went_on

@@ -1,5 +1,5 @@
 use Rattle.std.proofs.Common.{subst}
-use Rattle.fb_session.specs.Sessions.{fixed, Talks}
+use Rattle.fb_session.specs.Sessions.{terms_of, Talks}
 use Rattle.fb_session.proofs.Serving.{talks-unopened}
 use Rattle.fb_session.proofs.serve.serve_script.Goals as goal
 
@@ -13,7 +13,7 @@ returns-clause-answers g c =
     let contents = g.O.Sink.contents in
     let session = c.answer_all-end.new.self in
     let talks = subst
-    (λ table. Talks (fixed (g.K.Clock.may_answer c.args.clock.now) (g.G.Guard.bars c.args.guard.now) (g.P.FilterTable.place_of table) (g.P.FilterTable.selects_at table)) c.args.script.now
+    (λ table. Talks (terms_of (g.K.Clock.may_answer c.args.clock.now) (g.G.Guard.bars c.args.guard.now) (g.P.FilterTable.place_of table) (g.P.FilterTable.selects_at table)) c.args.script.now
     (state c.args.desk.now) (state c.answer_all-end.new.desk) session.places.items session.commits.items (contents c.args.sink.now) (contents c.answer_all-end.new.sink) c.answer_all-end.result)
     c.in-Ok.ensures.table c.answer_all-end.ensures.answers in
     rw (c.served.ensures.end, c.served.ensures.places, c.served.ensures.commits) talks

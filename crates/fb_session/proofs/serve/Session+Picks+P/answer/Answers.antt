@@ -1,7 +1,7 @@
 use Rattle.std.proofs.Common.{refl, ap, ◌∙◌, ◌++◌, [], ◌∷◌, map}
 use Rattle.std.proofs.lemmas.Result.{err_from_is_err_and}
 use Rattle.edn_form.specs.View.{form_of}
-use Rattle.fb_session.specs.Sessions.{fixed}
+use Rattle.fb_session.specs.Sessions.{terms_of}
 use Rattle.fb_session.proofs.Results.{fact_at_err, fact_at_ok}
 use Rattle.fb_session.proofs.Seeing.{goes_on-nowhere, answered_with_room, unanswered_with_room, answered_behind, place_of_view}
 use Rattle.fb_session.proofs.serve.Session+Picks+P.answer.Goals as goal
@@ -17,7 +17,7 @@ returns-in_err-reply-clause-err g c =
     rw (p.1, p.2)
     (λ before stands. record {
       unanswered = unanswered_with_room c.args.self.now c.make_room.new.self c.reply.new.self
-          (λ p. fixed (g.K.Clock.may_answer c.args.clock.now) (g.G.Guard.bars c.args.guard.now) (g.P.FilterTable.place_of p.table.now) (g.P.FilterTable.selects_at p.table.now))
+          (λ p. terms_of (g.K.Clock.may_answer c.args.clock.now) (g.G.Guard.bars c.args.guard.now) (g.P.FilterTable.place_of p.table.now) (g.P.FilterTable.selects_at p.table.now))
           (λ p. map (g.P.FilterTable.name_at p.table.now) p.places.items) (form_of c.args.form.now) (state c.args.desk.now) (state c.reply.new.desk) room.view room.commits
           c.in_err-reply.ensures.err before stands;
       places = ap (λ v. v.items) c.in_err-reply.ensures.places ∙ room.places;
@@ -31,7 +31,7 @@ returns-then-is_err-clause-err g c = λ before stands.
     record {
       line = c.reply.new.self.line.items;
       answered = answered_with_room c.args.self.now c.make_room.new.self c.reply.new.self
-          (λ p. fixed (g.K.Clock.may_answer c.args.clock.now) (g.G.Guard.bars c.args.guard.now) (g.P.FilterTable.place_of p.table.now) (g.P.FilterTable.selects_at p.table.now))
+          (λ p. terms_of (g.K.Clock.may_answer c.args.clock.now) (g.G.Guard.bars c.args.guard.now) (g.P.FilterTable.place_of p.table.now) (g.P.FilterTable.selects_at p.table.now))
           (λ p. map (g.P.FilterTable.name_at p.table.now) p.places.items) (form_of c.args.form.now) (state c.args.desk.now) (state c.reply.new.desk) room.view room.commits _
           c.in_ok-reply.ensures.ok before stands;
       places = ap (λ v. v.items) c.in_ok-reply.ensures.places ∙ room.places;
@@ -43,7 +43,7 @@ returns-clause-ok g c = λ before stands.
     let state = g.T.Desk.state in
     let room = c.in_ok-make_room.ensures in
     let answered = answered_with_room c.args.self.now c.make_room.new.self c.reply.new.self
-    (λ p. fixed (g.K.Clock.may_answer c.args.clock.now) (g.G.Guard.bars c.args.guard.now) (g.P.FilterTable.place_of p.table.now) (g.P.FilterTable.selects_at p.table.now))
+    (λ p. terms_of (g.K.Clock.may_answer c.args.clock.now) (g.G.Guard.bars c.args.guard.now) (g.P.FilterTable.place_of p.table.now) (g.P.FilterTable.selects_at p.table.now))
     (λ p. map (g.P.FilterTable.name_at p.table.now) p.places.items) (form_of c.args.form.now) (state c.args.desk.now) (state c.reply.new.desk) room.view room.commits _
     c.in_ok-reply.ensures.ok before stands in
     let behind = answered_behind _ _ c.args.self.now c.reply.new.self (record c.reply.new.self { places = c.push_reserved.new.self }) _ _ _ before _ refl refl answered in

@@ -1,4 +1,4 @@
-use Rattle.std.proofs.Common.{◌≡◌, ◌∙◌, Option, option_map, ap}
+use Rattle.std.proofs.Common.{◌≡◌, ◌∙◌, Option, option_map, refl, ap}
 use Rattle.std.specs.Option.{option_map_or}
 use Rattle.fb_disk.specs.MemDisks.{Past, told_by, images_of, moment_of}
 use Rattle.fb_ports.specs.Telling.{Alike}
@@ -38,19 +38,15 @@ returns-clause-moment c =
     c.handed_out.ensures.handed
 
 pub returns-clause-others : goal.returns-clause-others
-returns-clause-others c = λ other its differs. ap (λ (o : Option Past). told_by (handed_of o)) (c.take_disk-added.ensures.others other its differs)
-
-pub returns-clause-other_counts : goal.returns-clause-other_counts
-returns-clause-other_counts c = λ other its differs. ap (λ (o : Option Past). (handed_of o).calls.faults) (c.take_disk-added.ensures.others other its differs)
-
-pub returns-clause-other_images : goal.returns-clause-other_images
-returns-clause-other_images c = λ other its differs. alike _ _ (ap handed_of (c.take_disk-added.ensures.others other its differs))
-
-pub returns-clause-other_moments : goal.returns-clause-other_moments
-returns-clause-other_moments c = λ other its differs. ap (λ (o : Option Past). moment_of (handed_of o)) (c.take_disk-added.ensures.others other its differs)
-
-pub returns-clause-sources : goal.returns-clause-sources
-returns-clause-sources c = λ name. ap (λ (o : Option Supply). option_map (λ (s : Supply). s.left) o) (c.take_disk-added.ensures.sources name)
-
-pub returns-clause-source_counts : goal.returns-clause-source_counts
-returns-clause-source_counts c = λ name. ap (λ (o : Option Supply). option_map_or (λ (s : Supply). s.calls.faults) o 0) (c.take_disk-added.ensures.sources name)
+returns-clause-others c =
+    let taken = c.take_disk-added.ensures in
+    record {
+      sources = λ name. ap (λ (o : Option Supply). option_map (λ (s : Supply). s.left) o) (taken.sources name);
+      source_faults = λ name. ap (λ (o : Option Supply). option_map_or (λ (s : Supply). s.calls.faults) o 0) (taken.sources name);
+      sinks = λ name. refl;
+      sink_faults = λ name. refl;
+      disks = λ other its differs. ap (λ (o : Option Past). told_by (handed_of o)) (taken.others other its differs);
+      disk_faults = λ other its differs. ap (λ (o : Option Past). (handed_of o).calls.faults) (taken.others other its differs);
+      disk_images = λ other its differs. alike _ _ (ap handed_of (taken.others other its differs));
+      disk_moment = λ other its differs. ap (λ (o : Option Past). moment_of (handed_of o)) (taken.others other its differs);
+    }
