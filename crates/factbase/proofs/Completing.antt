@@ -1,13 +1,12 @@
 -- A script with nothing wrong is answered whole.
 use Rattle.std.proofs.Common.{◌≡◌, ℕ, ◌<◌, ◌⊎◌, false, List, [], ◌∷◌, ◌++◌, Option, Some, None, length, length-append, refl, ap, ◌∙◌, sym, subst, inl, inr, arith}
 use Rattle.std.proofs.lemmas.List.{append-nil}
-use Rattle.std.specs.Prelude.{IfSome, IsSome, string_bytes}
+use Rattle.std.specs.Prelude.{IfSome, string_bytes}
 use Rattle.std.specs.List.{AllByRecursion}
 use Rattle.std.specs.Io.KnownBytes.{prepend_known, append_known, IsAtEnd}
 use Rattle.edn_model.specs.Form.{Form}
 use Rattle.edn_model.specs.Faults.{Fault}
 use Rattle.edn_core.specs.Answers.{fault_of}
-use Rattle.fb_values.specs.declared.facts.Entry.{Entry}
 use Rattle.fb_ports.specs.Faults.{Rose}
 use Rattle.fb_ports.specs.Told.{Told}
 use Rattle.fb_view.specs.Kept.{Kept}
@@ -25,7 +24,7 @@ use Rattle.factbase.specs.declared.outcome.SessionOut.{SessionOut}
 use Rattle.factbase.specs.declared.outcome.Outcome.{Outcome}
 use Rattle.factbase.specs.Outside.{Tells, setting_of}
 use Rattle.factbase.specs.Headline.{RepliesAlone}
-use Rattle.factbase.specs.Causes.{OutOfMemory, IsOutOfMemory, EndsAs, NoSession, CannotOpen, HasRun, HasBegun}
+use Rattle.factbase.specs.Causes.{OutOfMemory, IsOutOfMemory, EndsAs, HasRun, HasBegun}
 use Rattle.factbase.specs.Complete.{HoldsForms, NoneRose, EachHasItsLine, AnsweredWhole, Complete}
 
 -- what was taken of a source that tells, up to its end, is what it held
@@ -132,10 +131,6 @@ module _ {I O D : Type 0} (terms : Terms) (told : Told) (tells : Tells I O) (new
   complete_opened opened replies (inl nothing) = inr nothing.1
   complete_opened opened replies (inr ran) = complete_run outcome.last refl opened replies ran
 
-  pub complete_unopened : CannotOpen told new name outcome ⊎ IsOutOfMemory outcome → AnsweredWhole terms told tells name forms outcome ⊎ IsOutOfMemory outcome
-  complete_unopened (inl cannot) = absurd (calm.host cannot.host)
-  complete_unopened (inr refused) = inr refused
-
 module _ {I O D : Type 0} (terms : Terms) (told : Told) (tells : Tells I O) (new : ℕ) (name : List ℕ) (command : Option Command) (outcome : Outcome I O D) where
   -- what the replies and the causes of a session come to
   pub complete_command : (held had : Option (List ℕ)) (m n : ℕ) → Some (run name) ≡ command → held ≡ told.sources name → had ≡ told.sinks (sink_of name)
@@ -147,9 +142,3 @@ module _ {I O D : Type 0} (terms : Terms) (told : Told) (tells : Tells I O) (new
       let ours : IfSome outcome.last (λ l. RepliesAlone terms (told.sources name) (told.sinks (sink_of name)) tells outcome l.entries) = rw (← is_source, ← is_sink) replies in
       let theirs : HasBegun tells (told.source_faults name) (told.sink_faults (sink_of name)) name outcome = rw (← counted_source, ← counted_sink) begun in
       subst P is (λ forms holds calm. complete_opened terms told tells new name outcome forms holds calm opened ours theirs)
-
-  -- where nothing was opened
-  pub complete_failure : Some (run name) ≡ command → CannotOpen told new name outcome ⊎ IsOutOfMemory outcome → Complete terms told tells new command outcome
-  complete_failure is failed =
-      let P : Option Command → Type 0 = λ asked. Complete terms told tells new asked outcome in
-      subst P is (λ forms holds calm. complete_unopened terms told tells new name outcome forms holds calm failed)

@@ -1,6 +1,6 @@
--- A run: its one history, its replies, and the causes of its status.
-use Rattle.std.proofs.Common.{◌≡◌, ℕ, ◌+◌, ◌<◌, ◌⊎◌, Bool, false, List, [], ◌∷◌, ◌++◌, length, Option, Some, None, Result, Ok, Err, zero, suc, refl, sym, ap, ◌∙◌, subst, inl, inr, arith}
-use Rattle.std.specs.Prelude.{IfSome, IfOk, OnErr, nat_eq, slice_index_or, string_bytes}
+-- A run: its one history, and its replies.
+use Rattle.std.proofs.Common.{◌≡◌, ℕ, ◌+◌, ◌<◌, Bool, false, List, [], ◌∷◌, ◌++◌, length, Option, Some, None, zero, suc, refl, sym, ap, ◌∙◌, subst, arith}
+use Rattle.std.specs.Prelude.{IfSome, nat_eq, slice_index_or}
 use Rattle.std.specs.List.{AllByRecursion}
 use Rattle.std.specs.List.Sorted.{IsStrictlyIncreasing}
 use Rattle.fb_values.specs.declared.facts.Entry.{Entry}
@@ -12,7 +12,6 @@ use Rattle.fb_core.specs.Cores.{CoreStands}
 use Rattle.fb_core.specs.Worlds.{commits_behind}
 use Rattle.fb_desk.specs.Desks.{State}
 use Rattle.core_desk.specs.States.{as_opened}
-use Rattle.fb_ports.specs.Faults.{Rose}
 use Rattle.fb_ports.specs.Told.{Told}
 use Rattle.fb_view.specs.Kept.{Kept}
 use Rattle.script_model.specs.Words.{Command, run, sink_of}
@@ -22,10 +21,8 @@ use Rattle.fb_session.specs.Sessions.{Terms, WentOn}
 use Rattle.fb_session.specs.Replies.{Replies}
 use Rattle.factbase.specs.declared.outcome.SessionOut.{SessionOut}
 use Rattle.factbase.specs.declared.outcome.Outcome.{Outcome}
-use Rattle.factbase.specs.StatusLines.{cannot_open}
-use Rattle.factbase.specs.Outside.{Tells, setting_of, scripts_of, EachOf}
+use Rattle.factbase.specs.Outside.{Tells, setting_of, EachOf}
 use Rattle.factbase.specs.Headline.{OneHistory, stop_of, EachReplies, RepliesAlone}
-use Rattle.factbase.specs.Causes.{NoSession, Says, IsOutOfMemory, CannotOpen, HasBegun, Causes}
 
 by_one : (authors : List ℕ) → AllByRecursion (λ author. author ≡ 0) authors → AllByRecursion (λ author. author < 1) authors
 by_one [] all = tt
@@ -97,26 +94,3 @@ module _ {I O D : Type 0} (terms : Terms) (told : Told) (tells : Tells I O) (hel
   replies_of_command command is is_source is_sink whole replies =
       let P : Option Command → Type 0 = λ asked. IfSome outcome.last (λ l. EachReplies terms told tells asked outcome l.entries) in
       subst P is (replies_if outcome.last is_source is_sink whole replies)
-
--- ---- causes
-
-module _ {I O D : Type 0} (told : Told) (tells : Tells I O) (new : ℕ) (name : List ℕ) (command : Option Command) (outcome : Outcome I O D) where
-  -- the causes of the session that runs the command
-  pub causes_of_command : (m n : ℕ) → Some (run name) ≡ command → m ≡ told.source_faults name → n ≡ told.sink_faults (sink_of name) → new ≡ told.faults
-      → HasBegun tells m n name outcome → Causes told tells new command outcome
-  causes_of_command m n is counted_source counted_sink same begun =
-      let P : Option Command → Type 0 = λ asked. Causes told tells new asked outcome in
-      let opened : HasBegun tells (told.source_faults name) (told.sink_faults (sink_of name)) name outcome = rw (← counted_source, ← counted_sink) begun in
-      subst P is (inr (opened, same))
-
-  -- the host could not open, whether or not there was memory to say so
-  pub cannot_open_or_memory : {Z E : Type 0} (r : Result Z E) (bytes : Z → List ℕ)
-      → IfOk r (λ said. bytes said ≡ cannot_open name) → IfOk r (λ said. Says outcome 2 (bytes said)) → OnErr r (Says outcome 9 []) → Rose told.faults new
-      → CannotOpen told new name outcome ⊎ IsOutOfMemory outcome
-  cannot_open_or_memory (Ok x) bytes is said unsaid rose = inl (record { says = (said.0, said.1 ∙ is); host = rose })
-  cannot_open_or_memory (Err e) bytes is said unsaid rose = inr (unsaid.0, inr unsaid.1)
-
-  pub causes_of_failure : Some (run name) ≡ command → NoSession outcome → CannotOpen told new name outcome ⊎ IsOutOfMemory outcome → Causes told tells new command outcome
-  causes_of_failure is none failed =
-      let P : Option Command → Type 0 = λ asked. Causes told tells new asked outcome in
-      subst P is (inl (none, failed))
