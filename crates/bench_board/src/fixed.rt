@@ -1,5 +1,5 @@
 //! A history of one entry, to which nothing is added, and its snapshot.
-ghost use Rattle.std.specs.Prelude.{◌≡◌, ℕ, [], ◌∷◌, length, IfOk};
+ghost use Rattle.std.specs.Prelude.{◌≡◌, [], ◌∷◌, length, IfOk};
 
 use board_rule::{Mailed, Named};
 use fb_memory::Memory;

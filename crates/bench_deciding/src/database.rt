@@ -1,5 +1,4 @@
 //! The database that the benchmark decides over, and what a transaction comes to.
-ghost use Rattle.std.specs.Prelude.{IfOk};
 
 use anyhow::{Result, bail};
 use edn_core::read_form;

@@ -6,7 +6,6 @@ mod database;
 
 use anyhow::{Result, bail};
 use database::{decided, forms_of, recorded};
-use std::alloc::Global;
 use std::{env, fs};
 
 /// What the words behind the program's name ask for.

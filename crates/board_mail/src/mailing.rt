@@ -1,5 +1,5 @@
 //! Mailing a snapshot, and looking at one's mail. A single compare-and-exchange decides in each, and neither waits.
-ghost use Rattle.std.specs.Prelude.{◌≡◌, ℕ, ◌+◌, ◌<◌, List, length, MatchBool};
+ghost use Rattle.std.specs.Prelude.{◌≡◌, ◌+◌, ◌<◌, List, length, MatchBool};
 ghost use Rattle.std.specs.List.{All};
 ghost use Rattle.board_rule.specs.declared.view.Code.{Code};
 ghost use Rattle.board_rule.specs.declared.view.Grab.TheVariants.{Free, Grabbed};

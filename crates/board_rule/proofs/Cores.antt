@@ -1,6 +1,6 @@
 -- Slot 0 leaves its place with the holder of the turn, and comes back.
 use Rattle.std.proofs.Common.{◌≡◌, ℕ, ◌+◌, ◌<◌, true, List, [], ◌∷◌, length, set, get_or, sym, refl, ◌∙◌, subst, arith, length-set, Option, Some, None}
-use mathlib.Core.Option.{some, none, some-injective, some-ne-none}
+use mathlib.Core.Option.{some, none}
 use mathlib.Core.Option as maybe
 use lib.ListN.{get_elem?}
 use Rattle.atomic_table.specs.Table.{State, Me, step, takes, gives, Allows}

@@ -16,7 +16,7 @@ use Rattle.board_rule.specs.declared.view.Grab.TheVariants.{Free, Grabbed, Found
 use Rattle.board_rule.specs.declared.view.View.{View}
 use Rattle.board_rule.specs.Views.{StartsWith, longer, commits_of, AllBelow, HasTurn, session_of}
 use Rattle.board_rule.specs.Board.{total, one_if, has_number, seats_of, draws_left, numbered, Apart, CountsOk, Claims, TurnOk, Owned}
-use Rattle.board_rule.proofs.Sums.{total-set, term_le, terms_le, none_not, same_some, one_same, one_other, numbered_live, numbered_own, note_numbered}
+use Rattle.board_rule.proofs.Sums.{total-set, term_le, terms_le, numbered_own, note_numbered}
 
 abbrev pick : {A : Type 0} {P : Type 0} → Dec P → A → A → A
 pick (yes _) a b = a

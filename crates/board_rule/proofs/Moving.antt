@@ -1,6 +1,6 @@
 -- Moving a snapshot out of its slot and back keeps the rule.
 use Rattle.std.proofs.Common.{◌≡◌, inr, ℕ, ◌+◌, ◌-◌, ◌<◌, true, List, [], ◌∷◌, length, set, get_or, sym, refl, ◌∙◌, subst, arith, length-set, Option, Some, None}
-use mathlib.Core.Option.{some, none, some-injective, some-ne-none}
+use mathlib.Core.Option.{some, none}
 use mathlib.Core.Option as maybe
 use lib.ListN.{get_elem?}
 use Rattle.atomic_table.specs.Table.{State, Me, step, takes, gives, Allows}

@@ -1,5 +1,5 @@
 //! How a board is made, and what is left when it is closed.
-ghost use Rattle.std.specs.Prelude.{◌≡◌, ℕ, ◌+◌, ◌<◌, ◌≤◌, [], ◌∷◌, map, length, Some, None, IfOk, IsTrue, slice_index_or, slice_set, replicate, true, false};
+ghost use Rattle.std.specs.Prelude.{◌≡◌, ℕ, ◌+◌, ◌<◌, ◌≤◌, [], ◌∷◌, map, length, Some, None, IfOk, slice_index_or, slice_set, replicate, true, false};
 ghost use Rattle.std.specs.List.{All};
 ghost use Rattle.std.specs.Slots.{slots_filled, slots_len};
 ghost use Rattle.board_rule.specs.Views.{worker, IsLawful, codes, starting, IsWhole};

@@ -1,5 +1,5 @@
 //! The steps of the mail. Each is one atomic event on the table, and none is tried again.
-ghost use Rattle.std.specs.Prelude.{◌≡◌, ℕ, ◌+◌, ◌<◌, List, true, IsTrue, MatchBool};
+ghost use Rattle.std.specs.Prelude.{◌≡◌, ◌+◌, ◌<◌, List, IsTrue, MatchBool};
 ghost use Rattle.board_rule.specs.declared.view.Code.{Code};
 ghost use Rattle.board_rule.specs.declared.view.Content.TheVariants.{Full};
 ghost use Rattle.board_rule.specs.declared.view.Grab.TheVariants.{Free, Writing};

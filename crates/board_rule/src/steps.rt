@@ -1,5 +1,5 @@
 //! The steps of the turn. Each is one atomic event on the table.
-ghost use Rattle.std.specs.Prelude.{◌≡◌, ◌≢◌, ℕ, ◌+◌, ◌<◌, List, [], ◌∷◌, ◌++◌, length, Some, None, IfSome};
+ghost use Rattle.std.specs.Prelude.{◌≡◌, ℕ, ◌+◌, ◌<◌, List, [], ◌∷◌, ◌++◌, length, Some, None, IfSome};
 ghost use Rattle.board_rule.specs.declared.view.Code.{Code};
 ghost use Rattle.board_rule.specs.declared.view.At.TheVariants.{Home, Away};
 ghost use Rattle.board_rule.specs.declared.view.Grab.TheVariants.{Free, Grabbed};

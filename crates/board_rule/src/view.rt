@@ -1,5 +1,4 @@
 //! What a seat knows. These types are for clauses alone: no value of `View` is ever made.
-ghost use Rattle.std.specs.Prelude.{◌≡◌, ℕ};
 ghost use base.Stored.{Gv};
 ghost use base.Fml.{ftrue};
 

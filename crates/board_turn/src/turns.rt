@@ -1,8 +1,8 @@
 //! A turn, from the ticket to its end.
-ghost use Rattle.std.specs.Prelude.{◌≡◌, ◌≢◌, ℕ, ◌+◌, ◌<◌, List, [], ◌∷◌, ◌++◌, length, Some, None, MatchOption, MatchBool};
+ghost use Rattle.std.specs.Prelude.{◌≡◌, ℕ, ◌+◌, ◌<◌, List, [], ◌∷◌, ◌++◌, length, Some, None, MatchOption, MatchBool};
 ghost use Rattle.board_rule.specs.declared.view.Code.{Code};
 ghost use Rattle.board_rule.specs.declared.view.Story.{Story};
-ghost use Rattle.board_rule.specs.declared.view.At.TheVariants.{Home, Away};
+ghost use Rattle.board_rule.specs.declared.view.At.TheVariants.{Away};
 ghost use Rattle.board_rule.specs.declared.view.Grab.TheVariants.{Free};
 ghost use Rattle.board_rule.specs.Views.{StartsWith, IsLawful, AreLawful, codes, HasTurn, history_of, authors_of, named_of, marks_of, MayMark, IsTried, story, drew, began, added, counted, IsTold};
 ghost use Rattle.board_rule.specs.Calls.{view_of, board_of};

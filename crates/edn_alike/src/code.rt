@@ -3,7 +3,7 @@
 ghost use Rattle.std.specs.Prelude.{◌≡◌, [], ◌∷◌, length, map, vec_items, IfOk, IfSome, IsPermutation};
 ghost use Rattle.edn_model.specs.Form as model;
 ghost use Rattle.edn_form.specs.View.{form_of, forms_of, pairs_of};
-ghost use Rattle.edn_alike.specs.Code.{IsCode, AreCodes, ArePairCodes, IsPairCode, joined, InOrder, IsRising};
+ghost use Rattle.edn_alike.specs.Code.{IsCode, AreCodes, ArePairCodes, joined, InOrder, IsRising};
 ghost use Rattle.edn_alike.specs.Order.{token_cmp};
 ghost use Rattle.edn_alike.specs.declared.token.CodeToken.TheVariants.{Sequence, Map, Set};
 

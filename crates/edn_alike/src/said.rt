@@ -1,5 +1,5 @@
 //! What was said so far: the members of a set that is open, or the keys of a map.
-ghost use Rattle.std.specs.Prelude.{◌≡◌, not, [], ◌∷◌, IfOk, IsTrue};
+ghost use Rattle.std.specs.Prelude.{◌≡◌, not, [], ◌∷◌, IfOk};
 ghost use Rattle.edn_form.specs.View.{form_of};
 ghost use Rattle.edn_model.specs.Form as model;
 ghost use Rattle.edn_model.specs.Likeness.{alike, any};

@@ -5,7 +5,7 @@ use Rattle.edn_model.specs.Form as model
 use Rattle.edn_model.specs.Likeness.{alike, any, distinct, keys}
 use Rattle.edn_model.specs.Faults as faults
 use Rattle.edn_model.specs.Steps as steps
-use Rattle.edn_model.specs.Steps.{Frames, outermost, frame, State, going, ended, read, fault, Reaches, stay}
+use Rattle.edn_model.specs.Steps.{frame, State, going, ended, fault, Reaches, stay}
 use Rattle.edn_model.proofs.Joined.{keys-last, distinct-last}
 use Rattle.edn_model.proofs.OneForm.{not_true}
 use Rattle.edn_model.proofs.Reached.{by_likeness, by_unlikeness}

@@ -9,7 +9,7 @@ use Rattle.edn_model.specs.Likeness.{distinct, keys}
 use Rattle.edn_model.specs.Faults as faults
 use Rattle.edn_model.specs.Faults.{opens_collection, opens_discard, begins_no_string}
 use Rattle.edn_model.specs.Steps as steps
-use Rattle.edn_model.specs.Steps.{Frames, outermost, frame, opens_of, State, going, ended, Step, Reaches, Free, HasRoom, land, closed}
+use Rattle.edn_model.specs.Steps.{Frames, frame, opens_of, State, going, Step, Reaches, Free, HasRoom, land}
 use Rattle.edn_model.proofs.Fronts.{discard_of}
 use Rattle.edn_model.proofs.Reached.{one}
 use Rattle.edn_form.specs.View.{forms_of, pairs_of}

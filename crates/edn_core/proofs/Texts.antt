@@ -8,9 +8,9 @@ use Rattle.edn_model.specs.Instants.{IsInstant}
 use Rattle.edn_model.specs.Uuids.{IsUuid}
 use Rattle.edn_model.specs.Tokens.{IsAtom, StringStands}
 use Rattle.edn_model.specs.Faults as faults
-use Rattle.edn_model.specs.Faults.{TokenStands, StringFault, IsNoToken, IsUnsupported}
+use Rattle.edn_model.specs.Faults.{TokenStands, StringFault}
 use Rattle.edn_model.specs.Steps as steps
-use Rattle.edn_model.specs.Steps.{Frames, outermost, frame, opens_of, State, going, ended, Step, Reaches, stay, next, Free, land}
+use Rattle.edn_model.specs.Steps.{Frames, frame, opens_of, going, ended, Step, Reaches, stay, next, Free, land}
 use Rattle.edn_model.proofs.Reached.{joined, one}
 use Rattle.edn_alike.specs.Inside.{IsDistinctInside}
 use Rattle.edn_token.specs.Fronts.{TokenFront, BrokenRun, BrokenToken}

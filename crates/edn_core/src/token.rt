@@ -1,5 +1,5 @@
 //! Tokens and strings, as the reader takes them.
-ghost use Rattle.std.specs.Prelude.{◌≡◌, ℕ, ◌+◌, ◌<◌, ◌≤◌, true, false, ◌∷◌, List, length, drop};
+ghost use Rattle.std.specs.Prelude.{◌≡◌, ℕ, ◌+◌, ◌<◌, ◌≤◌, true, ◌∷◌, List, length, drop};
 ghost use Rattle.edn_model.specs.Bytes.{quote, TokenEnds};
 ghost use Rattle.edn_model.specs.Faults as faults;
 ghost use Rattle.edn_model.specs.Faults.{TokenStands};

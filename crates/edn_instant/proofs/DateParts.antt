@@ -1,7 +1,7 @@
 -- A date in front of a text, part by part.
-use Rattle.std.proofs.Common.{◌≡◌, ◌≢◌, ℕ, ℤ, pos, ◌≤◌, ◌<◌, List, [], ◌∷◌, ◌++◌, refl, ap, ◌∙◌, sym, subst, arith}
+use Rattle.std.proofs.Common.{◌≡◌, ◌≢◌, ℕ, ℤ, pos, ◌<◌, List, ◌∷◌, ◌++◌, refl, ap, ◌∙◌, sym, subst}
 use Rattle.std.proofs.lemmas.List.{append_assoc}
-use Rattle.jiff_core.specs.Calendar.{IsCivilDate, days_from_civil}
+use Rattle.jiff_core.specs.Calendar.{days_from_civil}
 use Rattle.edn_model.specs.Bytes.{minus}
 use Rattle.edn_model.specs.Instants.{digits, date_text, IsDate}
 use Rattle.edn_model.proofs.Runs.{tails}

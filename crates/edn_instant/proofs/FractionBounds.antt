@@ -1,5 +1,5 @@
 -- A fraction of a second is less than a second.
-use Rattle.std.proofs.Common.{◌≡◌, ℕ, suc, ◌+◌, ◌-◌, ◌*◌, ◌/◌, ◌^◌, ◌<◌, ◌≤◌, Bool, true, List, [], ◌∷◌, length, fold, refl, ap, ◌∙◌, sym, arith, IsTrue}
+use Rattle.std.proofs.Common.{◌≡◌, ℕ, ◌+◌, ◌-◌, ◌*◌, ◌/◌, ◌^◌, ◌<◌, ◌≤◌, true, List, [], ◌∷◌, length, fold, ap, ◌∙◌, sym, arith}
 use Rattle.std.proofs.lemmas.Bool.Decides.{nat_tests}
 use Rattle.std.proofs.Math.Nat.{mul_assoc, mul-le-mul_right, pow-succ', one-le-pow, pow-le-pow_right, div-lt_iff_lt-mul}
 use Rattle.edn_model.specs.Bytes.{is_digit, Each}

@@ -1,6 +1,5 @@
 -- Two and four digits in front of a text, and what follows them.
-use Rattle.std.proofs.Common.{◌≡◌, ◌≢◌, ℕ, ◌+◌, ◌*◌, ◌/◌, ◌%◌, ◌<◌, List, [], ◌∷◌, ◌++◌, refl, ap, ◌∙◌, sym, subst, arith}
-use Rattle.std.proofs.lemmas.List.{append_assoc}
+use Rattle.std.proofs.Common.{◌≡◌, ℕ, ◌+◌, ◌/◌, ◌%◌, ◌<◌, List, ◌∷◌, ◌++◌, refl, ap, ◌∙◌, sym, subst, arith}
 use Rattle.edn_model.specs.Instants.{digits}
 use Rattle.edn_model.proofs.OneInstant.{Cut, same_digits}
 use Rattle.edn_instant.specs.Fronts.{Front, NoFront, IsTwo, IsFour}

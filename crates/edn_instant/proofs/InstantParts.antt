@@ -1,8 +1,8 @@
 -- An instant's text is a date, and a time of day behind it or none.
-use Rattle.std.proofs.Common.{◌≡◌, ◌≢◌, ℕ, ℤ, pos, Bool, true, false, List, [], ◌∷◌, ◌++◌, refl, ap, ◌∙◌, sym, subst}
+use Rattle.std.proofs.Common.{◌≡◌, ℕ, ℤ, pos, Bool, true, false, List, [], ◌∷◌, ◌++◌, ap, ◌∙◌, sym, subst}
 use Rattle.std.proofs.lemmas.List.{append-nil}
-use Rattle.edn_model.specs.Instants.{IsDate, IsTime, IsOffset, instant_of, in_range, IsInstant, at_midnight, at_time}
-use Rattle.edn_model.proofs.Runs.{heads, tails}
+use Rattle.edn_model.specs.Instants.{IsDate, instant_of, in_range, IsInstant, at_midnight, at_time}
+use Rattle.edn_model.proofs.Runs.{tails}
 use Rattle.edn_model.proofs.OneInstant.{same_date, same_time, same_offset, offset_marked}
 use Rattle.edn_instant.specs.Fronts.{Front, NoFront, IsTimeOf}
 

@@ -2,7 +2,7 @@
 use Rattle.std.proofs.Common.{◌≡◌, ◌≢◌, ℕ, ℤ, pos, neg_ℤ, ◌+◌, ◌*◌, ◌/◌, ◌^◌, ◌≤◌, ◌<◌, List, [], ◌∷◌, ◌++◌, length, refl, ap, ◌∙◌, sym, subst, arith}
 use Rattle.std.proofs.lemmas.List.{append_assoc, append-nil}
 use Rattle.edn_model.specs.Bytes.{colon, point, plus, minus, is_digit}
-use Rattle.edn_model.specs.Runs.{Each, Stops, IsRun}
+use Rattle.edn_model.specs.Runs.{Each, IsRun}
 use Rattle.edn_model.specs.Tokens.{number}
 use Rattle.edn_model.specs.Instants.{digits, minute_text, second_text, IsFraction, whole, part, IsTime, IsOffset, unsaid, utc, east, west}
 use Rattle.edn_model.proofs.Runs.{heads, tails, one_run}

@@ -1,6 +1,6 @@
 //! Dates: `YYYY-MM-DD`.
-ghost use Rattle.std.specs.Prelude.{◌≡◌, ◌≤◌, ◌<◌, ⊤, pos, ℤ, MatchOption};
-ghost use Rattle.jiff_core.specs.Calendar.{IsCivilDate, IsEpochDay, days_from_civil};
+ghost use Rattle.std.specs.Prelude.{◌≡◌, ◌<◌, ⊤, pos, ℤ, MatchOption};
+ghost use Rattle.jiff_core.specs.Calendar.{IsEpochDay, days_from_civil};
 ghost use Rattle.edn_model.specs.Instants.{IsDate};
 ghost use Rattle.edn_instant.specs.Fronts.{Front, NoFront, IsDay};
 

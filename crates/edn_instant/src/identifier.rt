@@ -1,5 +1,5 @@
 //! Identifiers: 36 bytes that `uuid` reads.
-ghost use Rattle.std.specs.Prelude.{◌≡◌, ℕ, MatchOption};
+ghost use Rattle.std.specs.Prelude.{ℕ, MatchOption};
 ghost use Rattle.edn_model.specs.Uuids.{IsUuid};
 
 use uuid::Uuid;

@@ -1,6 +1,5 @@
 //! Instants: a date, and a time of day or none.
 ghost use Rattle.std.specs.Prelude.{◌≡◌, ◌<◌, ℤ, MatchOption};
-ghost use Rattle.jiff_core.specs.Calendar.{IsBetween, IsEpochDay};
 ghost use Rattle.edn_model.specs.Instants.{instant_of, in_range, IsInstant};
 
 use crate::dates::date;

@@ -1,15 +1,14 @@
 -- What the first bytes say of the step that reads them.
-use Rattle.std.proofs.Common.{◌≡◌, ◌≢◌, ◌⊎◌, ℕ, ◌≤◌, Bool, true, false, nat_le, List, [], ◌∷◌, ◌++◌, refl, ap, ◌∙◌, sym, subst, arith, inl, inr, codes}
-use Rattle.std.proofs.lemmas.Bool.{cases_eq, cases_Bool}
+use Rattle.std.proofs.Common.{◌≡◌, ◌≢◌, ◌⊎◌, ℕ, ◌≤◌, Bool, true, false, List, [], ◌∷◌, ◌++◌, refl, ap, ◌∙◌, sym, arith, inl, inr}
 use Rattle.std.proofs.lemmas.Bool.Decides.{nat_tests}
 use Rattle.std.specs.Prelude.{◌==◌, ◌&&◌, ◌||◌, not, if◌then◌else◌}
 use Rattle.edn_model.specs.Form as form
 use Rattle.edn_model.specs.Bytes.{quote, hash, open_paren, close_paren, semicolon, open_bracket, close_bracket, underscore, open_brace, close_brace, is_blank, is_opening, is_closing, is_token_byte, ends_token, may_begin_token, begins_no_token, Each, NoCharacter}
 use Rattle.edn_model.specs.Tokens.{IsAtom}
 use Rattle.edn_model.specs.Faults.{Open, in_list, in_vector, in_map, behind_key, in_set, behind_discard, behind_inst, behind_uuid, closes, opens_collection, opens_discard, TokenStands}
-use Rattle.edn_model.proofs.Runs.{heads, tails, both, Each-tail}
+use Rattle.edn_model.proofs.Runs.{both, Each-tail}
 use Rattle.edn_model.proofs.Utf8.{no_character_high}
-use Rattle.edn_model.proofs.OneForm.{begins_atom, not_true, atom_first}
+use Rattle.edn_model.proofs.OneForm.{not_true, atom_first}
 use Rattle.edn_model.proofs.OnePlace.{first_here}
 
 -- ---- kinds

@@ -1,6 +1,6 @@
 -- Members and pairs, and more behind them.
-use Rattle.std.proofs.Common.{◌≡◌, Bool, true, false, refl, ap, ◌∙◌, sym, subst}
-use Rattle.std.specs.Prelude.{◌&&◌, not}
+use Rattle.std.proofs.Common.{◌≡◌, Bool, true, false, refl, ap, ◌∙◌, sym}
+use Rattle.std.specs.Prelude.{not}
 use Rattle.edn_model.specs.Form.{Form, Forms, no_forms, form, Pairs, no_pairs, pair, with_last, with_last_pair}
 use Rattle.edn_model.specs.Likeness.{alike, any, distinct_from, keys}
 use Rattle.edn_model.proofs.Runs.{both, both_true}

@@ -1,15 +1,15 @@
 -- A token that is unsupported is none of a form, and is unsupported in one way.
-use Rattle.std.proofs.Common.{◌≡◌, ◌≢◌, ◌⊎◌, ℕ, ℤ, ◌<◌, Bool, true, false, List, [], ◌∷◌, ◌++◌, length, refl, ap, ◌∙◌, sym, subst, arith, inl, inr, codes, IsTrue}
+use Rattle.std.proofs.Common.{◌≡◌, ◌≢◌, ◌⊎◌, ℕ, ℤ, ◌<◌, Bool, true, false, List, [], ◌∷◌, ◌++◌, length, refl, ap, ◌∙◌, sym, subst, arith, inl, inr, codes}
 use Rattle.std.proofs.lemmas.List.{append-nil}
 use Rattle.std.proofs.lemmas.Bool.Decides.{nat_tests}
-use Rattle.std.specs.Prelude.{◌==◌, ◌&&◌, ◌||◌, not, if◌then◌else◌}
+use Rattle.std.specs.Prelude.{◌==◌, ◌&&◌, not, if◌then◌else◌}
 use Rattle.edn_model.specs.Form as form
 use Rattle.edn_model.specs.Bytes.{hash, plus, minus, slash, colon, backslash, is_digit, is_letter, is_name_byte, begins, Each}
-use Rattle.edn_model.specs.Tokens.{IsName, IsSymbol, IsReserved, begins_symbol, IsDecimal, IsNumeral, unsigned, positive, negative, IsLong, IsAtom}
+use Rattle.edn_model.specs.Tokens.{IsName, IsSymbol, IsReserved, begins_symbol, IsNumeral, unsigned, positive, negative, IsLong, IsAtom}
 use Rattle.edn_model.specs.Faults.{What, char, float, big_int, wide, namespaced_map, tag, DigitsBefore, is_float_mark, IsUnsupported}
 use Rattle.edn_model.specs.Runs.{Stops}
 use Rattle.edn_model.proofs.Runs.{heads, tails, both, Each-tail, one_run}
-use Rattle.edn_model.proofs.OneForm.{begins_atom, atom_first, numeral_no_symbol, numeral_no_keyword, reserved_no_numeral, same_numeral, boolean_reserved, digits_first, apart}
+use Rattle.edn_model.proofs.OneForm.{begins_atom, atom_first, numeral_no_symbol, numeral_no_keyword, reserved_no_numeral, same_numeral, boolean_reserved, apart}
 
 -- ---- a sign and digits in front
 

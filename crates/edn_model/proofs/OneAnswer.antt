@@ -1,5 +1,5 @@
 -- Next in a text stands one form, or the end, or one fault.
-use Rattle.std.proofs.Common.{◌≡◌, ℕ, ◌+◌, List, [], length, drop, refl, ap, ◌∙◌, sym, subst, arith}
+use Rattle.std.proofs.Common.{◌≡◌, ℕ, ◌+◌, List, [], length, drop, refl, ap, sym, subst, arith}
 use Rattle.edn_model.specs.Form as form
 use Rattle.edn_model.specs.Grammar.{FormStands, OnlyGap}
 use Rattle.edn_model.specs.Faults.{Fault, FaultAt}

@@ -1,19 +1,18 @@
 -- From one state leads one step at most.
-use Rattle.std.proofs.Common.{◌≡◌, ◌≢◌, ℕ, ◌≤◌, ◌<◌, Bool, true, false, List, [], ◌∷◌, ◌++◌, length, refl, ap, ◌∙◌, sym, subst, arith, codes, IsTrue}
+use Rattle.std.proofs.Common.{◌≡◌, ◌≢◌, ℕ, ◌≤◌, ◌<◌, Bool, true, false, List, [], ◌∷◌, ◌++◌, length, refl, ap, ◌∙◌, sym, subst, arith, codes}
 use Rattle.std.proofs.lemmas.List.{append-nil}
 use Rattle.std.proofs.lemmas.Bool.Decides.{nat_tests}
 use Rattle.std.proofs.lemmas.Str.{IsUtf8-append}
-use Rattle.std.specs.Prelude.{ℤ, ◌==◌, ◌&&◌, not, IsUtf8}
+use Rattle.std.specs.Prelude.{ℤ, not, IsUtf8}
 use Rattle.edn_model.specs.Form as form
-use Rattle.edn_model.specs.Runs.{Stops}
 use Rattle.edn_model.specs.Bytes.{quote, hash, colon, plus, minus, semicolon, line_feed, is_blank, is_digit, is_token_byte, is_line_byte, begins_no_token, Each, TokenEnds, NoCharacter}
 use Rattle.edn_model.specs.Tokens.{IsAtom, IsDecimal, IsNumeral, unsigned, positive, negative}
 use Rattle.edn_model.specs.Instants.{IsInstant}
 use Rattle.edn_model.specs.Uuids.{IsUuid}
 use Rattle.edn_model.specs.Grammar.{TagStands, CommentStands, LastComment}
-use Rattle.edn_model.specs.Faults.{What, Open, in_list, in_vector, in_map, behind_key, in_set, behind_discard, behind_inst, behind_uuid, is_tag, wants_string, room, closes, opens_discard, begins_no_string, Fault, unsupported, bad, TokenStands, IsNoToken, IsUnsupported, Stuck, ends, closes_nothing, no_string, deep_collection, deep_discard, no_token, bad_character, bad_token, unsupported_token, in_string, in_comment, no_instant, no_uuid}
-use Rattle.edn_model.specs.Steps.{Frames, outermost, frame, opens_of, Reading, fault, State, going, ended, land, closed, Free, HasRoom, Step, blank, comment, last_comment, discard, list, vector, map, set, inst, uuid, atom, string, close, instant, identifier, stuck, end}
-use Rattle.edn_model.proofs.Runs.{heads, tails, both, both_true, Each-weaken, one_run}
+use Rattle.edn_model.specs.Faults.{What, Open, in_list, in_vector, in_map, behind_key, in_set, behind_discard, behind_inst, behind_uuid, wants_string, room, closes, begins_no_string, Fault, unsupported, TokenStands, IsUnsupported, Stuck, ends, closes_nothing, no_string, deep_collection, deep_discard, no_token, bad_character, bad_token, unsupported_token, in_string, in_comment, no_instant, no_uuid}
+use Rattle.edn_model.specs.Steps.{Frames, frame, opens_of, fault, State, going, ended, land, closed, Step, blank, comment, last_comment, discard, list, vector, map, set, inst, uuid, atom, string, close, instant, identifier, stuck, end}
+use Rattle.edn_model.proofs.Runs.{heads, tails, both, Each-weaken, one_run}
 use Rattle.edn_model.proofs.Utf8.{one_cut, no_cut}
 use Rattle.edn_model.proofs.Pieces.{is_ascii, ascii_utf8}
 use Rattle.edn_model.proofs.Spelled.{SameFault, one_string_fault, string_or_fault}

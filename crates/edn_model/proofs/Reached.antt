@@ -1,5 +1,5 @@
 -- What stands next in a text is reached by steps.
-use Rattle.std.proofs.Common.{◌≡◌, ℕ, suc, ◌-◌, ◌<◌, ◌≤◌, Bool, true, false, List, [], ◌∷◌, refl, ap, ◌∙◌, sym, subst, arith, codes, IsTrue}
+use Rattle.std.proofs.Common.{◌≡◌, ℕ, suc, ◌-◌, ◌<◌, ◌≤◌, Bool, true, false, List, ◌∷◌, refl, ap, ◌∙◌, sym, subst, arith, IsTrue}
 use Rattle.std.specs.Prelude.{◌||◌, not, if◌then◌else◌}
 use Rattle.edn_model.specs.Form as form
 use Rattle.edn_model.specs.Likeness.{alike, any, distinct, distinct_from, keys}
@@ -7,7 +7,7 @@ use Rattle.edn_model.specs.Grammar as grammar
 use Rattle.edn_model.specs.Grammar.{max_depth, Gap, Text, Members, Entries}
 use Rattle.edn_model.specs.Faults.{Open, in_list, in_vector, in_map, behind_key, in_set, behind_discard, behind_inst, behind_uuid, is_discard, wants_string, depth_of, room, Opened, Stands, outside, inside, Fault, bad, FaultIn, key_again, member_again, Stuck}
 use Rattle.edn_model.specs.Faults as faults
-use Rattle.edn_model.specs.Steps.{Frames, outermost, frame, opens_of, Reading, read, nothing, fault, State, going, ended, land, closed, Free, HasRoom, Step, Reaches, stay, next}
+use Rattle.edn_model.specs.Steps.{Frames, outermost, frame, opens_of, nothing, fault, State, going, ended, land, Free, Step, Reaches, stay, next}
 use Rattle.edn_model.specs.Steps as steps
 use Rattle.edn_model.proofs.Joined.{join, join_pairs, join-nothing, join-last, join_pairs-nothing, join_pairs-last, keys-last, apart_first, distinct-before}
 use Rattle.edn_model.proofs.OneForm.{not_true}

@@ -1,12 +1,12 @@
 -- A string spells one text, up to its quote or to its fault.
-use Rattle.std.proofs.Common.{◌≡◌, ◌≢◌, ◌⊎◌, ℕ, ◌+◌, ◌/◌, ◌<◌, ◌≤◌, Bool, true, false, cond, nat_le, nat_lt, ltb, ltb-true, List, [], ◌∷◌, ◌++◌, length, refl, ap, ◌∙◌, sym, subst, arith, inl, inr, Some, None, append_assoc}
+use Rattle.std.proofs.Common.{◌≡◌, ℕ, ◌+◌, ◌/◌, ◌<◌, ◌≤◌, Bool, true, false, cond, nat_le, nat_lt, ltb, ltb-true, List, [], ◌∷◌, ◌++◌, length, refl, ap, ◌∙◌, sym, subst, arith, Some, None, append_assoc}
 use Rattle.std.proofs.lemmas.Bool.Decides.{nat_tests}
-use Rattle.std.specs.Prelude.{IsUtf8, encode_utf8, encode_utf8_all, ◌&&◌, if◌then◌else◌, Option}
+use Rattle.std.specs.Prelude.{IsUtf8, encode_utf8, encode_utf8_all, ◌&&◌, if◌then◌else◌}
 use Rattle.std.specs.Char.{IsScalar}
 use Rattle.std.specs.Str.{StartsWithNoChar}
 use lib.Utf8.{scalar, scalars, next, encode}
-use Rattle.edn_model.specs.Bytes.{quote, backslash, is_digit, Each, NoCharacter}
-use Rattle.edn_model.specs.Tokens.{IsCode, is_hex_digit, hex_value, escape_of, Spells, nothing, plain, escape, code, StringStands}
+use Rattle.edn_model.specs.Bytes.{quote, backslash, Each, NoCharacter}
+use Rattle.edn_model.specs.Tokens.{IsCode, is_hex_digit, escape_of, Spells, nothing, plain, escape, code, StringStands}
 use Rattle.edn_model.specs.Faults.{Fault, bad, cut, IsBadEscape, unknown, no_digit, surrogate, IsCutEscape, no_letter, few_digits, StringFault, no_quote, cut_escape, bad_escape, no_character}
 use Rattle.edn_model.proofs.Runs.{heads, tails, both, Each-tail, both_true}
 use Rattle.edn_model.proofs.Utf8.{same_cons, utf8_behind, no_character_high}

@@ -1,8 +1,8 @@
 -- What steps lead to stands in the text.
-use Rattle.std.proofs.Common.{◌≡◌, ℕ, suc, ◌+◌, ◌-◌, ◌<◌, ◌≤◌, Bool, true, false, List, [], ◌∷◌, length, drop, refl, ap, ◌∙◌, sym, subst, arith, IsTrue, inl, inr, lit≤, codes}
+use Rattle.std.proofs.Common.{◌≡◌, ℕ, suc, ◌+◌, ◌-◌, ◌<◌, ◌≤◌, Bool, true, false, List, [], ◌∷◌, length, drop, refl, ap, ◌∙◌, sym, subst, arith, IsTrue, inl, inr, lit≤}
 use Rattle.std.proofs.lemmas.Bool.{cases_Bool}
 use Rattle.std.proofs.lemmas.Bool.Decides.{nat_tests}
-use Rattle.std.specs.Prelude.{◌==◌, ◌||◌, not, if◌then◌else◌}
+use Rattle.std.specs.Prelude.{◌==◌, ◌||◌, not}
 use Rattle.edn_model.specs.Form as form
 use Rattle.edn_model.specs.Bytes.{close_paren, close_bracket, close_brace}
 use Rattle.edn_model.specs.Likeness.{alike, any, distinct, keys}
@@ -11,7 +11,7 @@ use Rattle.edn_model.specs.Grammar.{max_depth, Gap, Text, Members, no_members, m
 use Rattle.edn_model.specs.Faults as faults
 use Rattle.edn_model.specs.Faults.{Open, in_list, in_vector, in_map, behind_key, in_set, behind_discard, behind_inst, behind_uuid, is_discard, wants_string, depth_of, room, Opened, Stands, Fault, bad, FaultIn, FaultAt, closes, key_again, member_again}
 use Rattle.edn_model.specs.Steps as steps
-use Rattle.edn_model.specs.Steps.{Frames, outermost, frame, opens_of, Reading, read, nothing, fault, State, going, ended, land, closed, Free, Step, Reaches, stay, next}
+use Rattle.edn_model.specs.Steps.{Frames, outermost, frame, opens_of, read, nothing, fault, State, going, ended, land, closed, Free, Step, Reaches, stay, next}
 use Rattle.edn_model.proofs.Joined.{keys-last, not_false, distinct-last}
 use Rattle.edn_model.proofs.OneForm.{not_true}
 use Rattle.edn_model.proofs.Reached.{by_likeness, by_unlikeness}

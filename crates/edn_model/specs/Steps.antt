@@ -1,7 +1,7 @@
 -- Reading step by step: what is open, with the bytes from where each construct opens, and the bytes that are left. Laws on
 -- readings and faults, and a reader's loop, go by these steps; what they come to is said by the grammar and the faults alone.
 -- This project's own choice.
-use Rattle.std.specs.Prelude.{◌≡◌, ℕ, ◌<◌, Bool, true, false, if◌then◌else◌, ℤ, List, [], ◌∷◌, ◌++◌, codes}
+use Rattle.std.specs.Prelude.{◌≡◌, ℕ, ◌<◌, true, false, if◌then◌else◌, ℤ, List, [], ◌∷◌, ◌++◌, codes}
 use Rattle.edn_model.specs.Form as form
 use Rattle.edn_model.specs.Bytes.{hash, open_paren, open_bracket, underscore, open_brace, is_blank, TokenEnds}
 use Rattle.edn_model.specs.Tokens.{IsAtom, StringStands}

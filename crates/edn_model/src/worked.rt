@@ -1,5 +1,5 @@
 //! The grammar, likeness, the faults and the canonical text at texts written out by hand.
-ghost use Rattle.std.specs.Prelude.{◌≡◌, pos, true, false, List, [], ◌∷◌, ◌++◌, codes, replicate};
+ghost use Rattle.std.specs.Prelude.{◌≡◌, pos, true, false, [], ◌∷◌, ◌++◌, codes, replicate};
 ghost use Rattle.edn_model.specs.Form as form;
 ghost use Rattle.edn_model.specs.Grammar.{IsWholeTextOf, FormStands, OnlyGap};
 ghost use Rattle.edn_model.specs.Likeness.{alike};

@@ -1,7 +1,6 @@
 -- The canonical texts of instants and identifiers are texts of them.
-use Rattle.std.proofs.Common.{◌≡◌, ℕ, zero, suc, ◌+◌, ◌-◌, ◌*◌, ◌/◌, ◌%◌, ◌^◌, ◌<◌, ◌≤◌, Bool, true, false, flat_map, ◌∙◌, List, [], ◌∷◌, ◌++◌, length, get_or, All, ℤ, refl, ap, sym, subst, inl, arith, lit<, lit≤, codes, IsTrue}
+use Rattle.std.proofs.Common.{◌≡◌, ℕ, zero, suc, ◌+◌, ◌-◌, ◌*◌, ◌/◌, ◌%◌, ◌^◌, ◌<◌, ◌≤◌, Bool, true, false, flat_map, List, [], ◌∷◌, ◌++◌, length, All, ℤ, refl, ap, sym, subst, inl, arith, lit<, lit≤, codes, IsTrue}
 use Rattle.std.proofs.lemmas.Bool.Decides.{nat_tests}
-use Rattle.std.proofs.lemmas.List.{append_assoc}
 use Rattle.std.proofs.lemmas.Str.{IsUtf8-from_ascii}
 use Rattle.std.specs.Prelude.{nat_le, ◌==◌, ◌&&◌}
 use Rattle.std.specs.Int.{w128, byte_at, bytes_high_first, to_be_bytes, from_be_bytes}
@@ -17,7 +16,7 @@ use Rattle.edn_model.specs.Instants.{digits, date_text, minute_text, second_text
 use Rattle.edn_model.specs.Uuids.{IsUuid}
 use Rattle.edn_model.specs.Grammar.{TagStands, Gap, no_gap, blank, Text, instant, uuid}
 use Rattle.edn_model.specs.Canon.{CanonInstant, escaped, string_text, Canon}
-use Rattle.edn_model.proofs.Runs.{both_true, Each-tail, Each-append, Each-weaken}
+use Rattle.edn_model.proofs.Runs.{both_true, Each-append, Each-weaken}
 use Rattle.edn_model.proofs.Pieces.{is_ascii, ascii_utf8}
 use Rattle.edn_model.proofs.CanonText.{string_stands}
 use Rattle.edn_print.specs.Printed.{is_unescaped}

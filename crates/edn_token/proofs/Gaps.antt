@@ -6,7 +6,7 @@ use Rattle.std.specs.Prelude.{IsUtf8}
 use Rattle.std.specs.Str.{IsValidUpTo}
 use Rattle.edn_model.specs.Runs.{Each, Stops, IsRun}
 use Rattle.edn_model.specs.Bytes.{semicolon, line_feed, is_blank, is_line_byte}
-use Rattle.edn_model.specs.Grammar.{CommentStands, LastComment, Gap}
+use Rattle.edn_model.specs.Grammar.{CommentStands, Gap}
 use Rattle.edn_model.specs.Grammar as grammar
 use Rattle.edn_model.proofs.Runs.{Each-tail}
 use Rattle.edn_token.specs.Gaps.{Blanks, no_blanks, blank, comment, last_comment, GoesNoFurther, BrokenComment, SkippedTo, LineIs}

@@ -1,9 +1,9 @@
 //! Laws of forms and values.
-ghost use Rattle.std.specs.Prelude.{◌≡◌, ◌≢◌, ◌^◌, ℕ, pos, negsuc, true, codes, IsTrue, Some, None};
+ghost use Rattle.std.specs.Prelude.{◌≡◌, ◌≢◌, ℕ, pos, negsuc, codes, IsTrue, Some, None};
 ghost use Rattle.edn_model.specs.Form as edn;
 ghost use Rattle.edn_model.specs.Form.{Form};
 ghost use Rattle.fb_values.specs.declared.facts.Value.{Value};
-ghost use Rattle.fb_values.specs.declared.facts.Value.TheVariants.{Keyword, Str, Long, Ref, Instant, Uri};
+ghost use Rattle.fb_values.specs.declared.facts.Value.TheVariants.{Keyword, Str, Long, Ref, Uri};
 ghost use Rattle.fb_numbers.specs.Numbers.{type_keyword, type_string, type_long, type_ref, type_instant, type_uri};
 ghost use Rattle.fb_model.specs.Types.{type_of, is_of_type};
 ghost use Rattle.tx_model.specs.Values.{value_in};

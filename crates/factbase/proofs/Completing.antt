@@ -13,16 +13,16 @@ use Rattle.fb_view.specs.Kept.{Kept}
 use Rattle.script_model.specs.Words.{Command, run, sink_of}
 use Rattle.script_model.specs.Script.{Ending, whole, fault, too_many, Script}
 use Rattle.script_model.proofs.OneScript.{OneReading, one_script}
-use Rattle.talk_model.specs.Session.{Setting, opened_at}
-use Rattle.talk_model.specs.Talk.{Talk}
+use Rattle.talk_model.specs.Session.{Setting}
+use Rattle.talk_model.specs.Talk.{forms_of}
 use Rattle.fb_session.specs.declared.outcome.SessionEnd.{SessionEnd}
 use Rattle.fb_session.specs.declared.outcome.SessionEnd.TheVariants as ended
 use Rattle.fb_session.specs.Taken.{longest_script}
 use Rattle.fb_session.specs.Sessions.{Terms}
-use Rattle.fb_session.specs.Replies.{AnswersUpTo, Replies, SourceCount, SinkCount}
+use Rattle.fb_session.specs.Replies.{Trace, AnswersAll, AnswersUpTo, SessionRun, Replies, SourceCount, SinkCount}
 use Rattle.factbase.specs.declared.outcome.SessionOut.{SessionOut}
 use Rattle.factbase.specs.declared.outcome.Outcome.{Outcome}
-use Rattle.factbase.specs.Outside.{Tells, setting_of}
+use Rattle.factbase.specs.Outside.{Tells, run_of, setting_of}
 use Rattle.factbase.specs.Headline.{RepliesAlone}
 use Rattle.factbase.specs.Causes.{OutOfMemory, IsOutOfMemory, EndsAs, HasRun, HasBegun}
 use Rattle.factbase.specs.Complete.{HoldsForms, NoneRose, EachHasItsLine, AnsweredWhole, Complete}
@@ -51,56 +51,62 @@ same_reading held left script forms read ending holds taken at_end stands =
     one_script holds.script read forms ending whole (subst P same stands) holds.read
 
 -- forms alone have no fault behind them
-no_fault : (s : Setting) (held left : Option (List ℕ)) (script written : List ℕ) (places commits : List ℕ) (forms : List Form) (why : Option (Fault × ℕ))
-    → HoldsForms held forms → held ≡ prepend_known script left → IsAtEnd left → AnswersUpTo s 0 script why written places commits → ⊥
-no_fault s held left script written places commits forms None holds taken at_end answers = answers
-no_fault s held left script written places commits forms (Some p) holds taken at_end answers =
-    let wrong = (same_reading held left script forms answers.forms (fault p.0 p.1) holds taken at_end answers.read).endings in
+no_fault : (s : Setting) (held left : Option (List ℕ)) (script : List ℕ) (trace : Trace) (forms : List Form) (why : Option (Fault × ℕ))
+    → HoldsForms held forms → held ≡ prepend_known script left → IsAtEnd left → AnswersUpTo s 0 script why trace → ⊥
+no_fault s held left script trace forms None holds taken at_end answers = answers
+no_fault s held left script trace forms (Some p) holds taken at_end answers =
+    let wrong = (same_reading held left script forms (forms_of answers.exchanges) (fault p.0 p.1) holds taken at_end answers.read).endings in
     absurd cc
 
-module _ (s : Setting) (held left had has : Option (List ℕ)) (places commits : List ℕ) (forms : List Form) (m k n j : ℕ) (name : List ℕ) (status : ℕ) (line : List ℕ) where
+module _ (s : Setting) (ran : SessionRun) (forms : List Form) (m k n j : ℕ) (name : List ℕ) (status : ℕ) (line : List ℕ) (holds : HoldsForms ran.held forms) (replies : Replies s 0 ran) where
+  -- it ended behind the last of its forms
+  each_line : IsAtEnd ran.left → AnswersAll s 0 replies.script whole (record { written = replies.written; places = ran.places; commits = ran.commits }) → EachHasItsLine s forms ran
+  each_line at_end answers =
+      record {
+        exchanges = answers.exchanges;
+        after = answers.after;
+        talk = answers.talk;
+        forms_are = sym (same_reading ran.held ran.left replies.script forms (forms_of answers.exchanges) whole holds replies.taken at_end answers.read).forms;
+        places = ap (λ (t : Trace). t.places) answers.leaves;
+        commits = ap (λ (t : Trace). t.commits) answers.leaves;
+        gained = replies.gained ∙ ap (λ (t : Trace). append_known ran.had t.written) answers.leaves;
+      }
+
   -- how a session ends whose source holds forms alone and where no count rose
-  complete_end : (how : SessionEnd) → HoldsForms held forms → Replies s 0 held left had has places commits how → EndsAs name how status line
-      → SourceCount how m k → SinkCount how n j → ¬ Rose m k → ¬ Rose n j
-      → ((status ≡ 0) × EachHasItsLine s forms had has places commits) ⊎ OutOfMemory status line
-  complete_end ended.Done holds replies says source sink calm_source calm_sink =
-      let one = same_reading held left replies.script forms replies.answers.forms whole holds replies.taken (replies.all refl) replies.answers.read in
-      let P : List Form → Type 0 = λ fs. Talk s (opened_at 0) fs places commits replies.answers.lines replies.answers.after in
-      inl (
-        says.0,
-        record {
-          lines = replies.answers.lines;
-          after = replies.answers.after;
-          talk = subst P one.forms replies.answers.talk;
-          gained = replies.gained ∙ ap (append_known had) replies.answers.whole_lines;
-        },
-      )
-  complete_end (ended.Script why) holds replies (inl says) source sink calm_source calm_sink =
-      absurd (no_fault s held left replies.script replies.written places commits forms (fault_of why) holds replies.taken (replies.all refl) replies.answers)
-  complete_end (ended.Script why) holds replies (inr refused) source sink calm_source calm_sink = inr refused
-  complete_end ended.TooMany holds replies says source sink calm_source calm_sink =
-      let wrong = (same_reading held left replies.script forms replies.answers.forms too_many holds replies.taken (replies.all refl) replies.answers.read).endings in
+  complete_end : (how : SessionEnd) → ran.end ≡ how → EndsAs name how status line → SourceCount how m k → SinkCount how n j → ¬ Rose m k → ¬ Rose n j
+      → ((status ≡ 0) × EachHasItsLine s forms ran) ⊎ OutOfMemory status line
+  complete_end ended.Done how says source sink calm_source calm_sink =
+      let all = rw how at replies.all in
+      inl (says.0, each_line (all refl) (rw how at replies.answers))
+  complete_end (ended.Script why) how (inl says) source sink calm_source calm_sink =
+      let all = rw how at replies.all in
+      absurd (no_fault s ran.held ran.left replies.script _ forms (fault_of why) holds replies.taken (all refl) (rw how at replies.answers))
+  complete_end (ended.Script why) how (inr refused) source sink calm_source calm_sink = inr refused
+  complete_end ended.TooMany how says source sink calm_source calm_sink =
+      let all = rw how at replies.all in
+      let answers = rw how at replies.answers in
+      let wrong = (same_reading ran.held ran.left replies.script forms (forms_of answers.exchanges) too_many holds replies.taken (all refl) answers.read).endings in
       absurd cc
-  complete_end ended.TooLong holds replies says source sink calm_source calm_sink =
-      let long = taken_part held left holds.script replies.script holds.told replies.taken (replies.too_long.0 refl) in
+  complete_end ended.TooLong how says source sink calm_source calm_sink =
+      let long = taken_part ran.held ran.left holds.script replies.script holds.told replies.taken (replies.too_long.0 how) in
       absurd (omega (arith, long, holds.fits))
-  complete_end ended.ReadFault holds replies says source sink calm_source calm_sink = absurd (calm_source source)
-  complete_end ended.WriteFault holds replies says source sink calm_source calm_sink = absurd (calm_sink sink)
-  complete_end ended.Memory holds replies (inl says) source sink calm_source calm_sink = inr (says.0, inl says.1)
-  complete_end ended.Memory holds replies (inr refused) source sink calm_source calm_sink = inr refused
+  complete_end ended.ReadFault how says source sink calm_source calm_sink = absurd (calm_source source)
+  complete_end ended.WriteFault how says source sink calm_source calm_sink = absurd (calm_sink sink)
+  complete_end ended.Memory how (inl says) source sink calm_source calm_sink = inr (says.0, inl says.1)
+  complete_end ended.Memory how (inr refused) source sink calm_source calm_sink = inr refused
 
 module _ {I O D : Type 0} (terms : Terms) (told : Told) (tells : Tells I O) (new : ℕ) (name : List ℕ) (outcome : Outcome I O D) (forms : List Form)
     (holds : HoldsForms (told.sources name) forms) (calm : NoneRose told tells new name outcome) where
   -- the session's answers are the run's
   whole_run : (last : Kept) (s : SessionOut I O) → outcome.last ≡ Some last → outcome.sessions.items ≡ s ∷ []
-      → ((outcome.status ≡ 0) × EachHasItsLine (setting_of terms last.entries None false) forms (told.sinks (sink_of name)) (tells.contents s.sink) s.places s.commits)
+      → ((outcome.status ≡ 0) × EachHasItsLine (setting_of terms last.entries None false) forms (run_of told tells name s))
       ⊎ IsOutOfMemory outcome
       → AnsweredWhole terms told tells name forms outcome ⊎ IsOutOfMemory outcome
   whole_run last s is_last alone (inl done) = inl (record { succeeded = done.0; session = s; alone = alone; last = last; kept = is_last; each = done.1 })
   whole_run last s is_last alone (inr refused) = inr refused
 
   complete_session : (last : Kept) (s : SessionOut I O) → outcome.last ≡ Some last → outcome.sessions.items ≡ s ∷ []
-      → Replies (setting_of terms last.entries None false) 0 (told.sources name) (tells.left s.source) (told.sinks (sink_of name)) (tells.contents s.sink) s.places s.commits s.end
+      → Replies (setting_of terms last.entries None false) 0 (run_of told tells name s)
       → EndsAs name s.end outcome.status (string_bytes outcome.line)
       → SourceCount s.end (told.source_faults name) (tells.source_faults s.source) → SinkCount s.end (told.sink_faults (sink_of name)) (tells.sink_faults s.sink)
       → AnsweredWhole terms told tells name forms outcome ⊎ IsOutOfMemory outcome
@@ -108,9 +114,9 @@ module _ {I O D : Type 0} (terms : Terms) (told : Told) (tells : Tells I O) (new
       let P : List (SessionOut I O) → Type 0 = AllByRecursion (λ (x : SessionOut I O). ¬ Rose (told.source_faults name) (tells.source_faults x.source)) in
       let Q : List (SessionOut I O) → Type 0 = AllByRecursion (λ (x : SessionOut I O). ¬ Rose (told.sink_faults (sink_of name)) (tells.sink_faults x.sink)) in
       whole_run last s is_last alone
-      (complete_end (setting_of terms last.entries None false) (told.sources name) (tells.left s.source) (told.sinks (sink_of name)) (tells.contents s.sink) s.places s.commits forms
-      (told.source_faults name) (tells.source_faults s.source) (told.sink_faults (sink_of name)) (tells.sink_faults s.sink) name outcome.status (string_bytes outcome.line) s.end
-      holds replies says source sink (subst P alone calm.sources).0 (subst Q alone calm.sinks).0)
+      (complete_end (setting_of terms last.entries None false) (run_of told tells name s) forms
+      (told.source_faults name) (tells.source_faults s.source) (told.sink_faults (sink_of name)) (tells.sink_faults s.sink) name outcome.status (string_bytes outcome.line) holds replies
+      s.end refl says source sink (subst P alone calm.sources).0 (subst Q alone calm.sinks).0)
 
   -- two names of one session
   complete_run : (last : Option Kept) → outcome.last ≡ last → outcome.recovered ≡ 0
@@ -121,7 +127,7 @@ module _ {I O D : Type 0} (terms : Terms) (told : Told) (tells : Tells I O) (new
   complete_run (Some l) is_last opened replies ran =
       let both = sym replies.1 ∙ ran.alone in
       let one : replies.0 ≡ ran.session = cc in
-      let P : SessionOut I O → Type 0 = λ x. Replies (setting_of terms l.entries None false) 0 (told.sources name) (tells.left x.source) (told.sinks (sink_of name)) (tells.contents x.sink) x.places x.commits x.end in
+      let P : SessionOut I O → Type 0 = λ x. Replies (setting_of terms l.entries None false) 0 (run_of told tells name x) in
       complete_session l ran.session is_last ran.alone (subst P one (rw opened at replies.2)) ran.says ran.source ran.sink
 
   pub complete_opened : outcome.recovered ≡ 0

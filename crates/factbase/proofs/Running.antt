@@ -16,12 +16,11 @@ use Rattle.fb_ports.specs.Told.{Told}
 use Rattle.fb_view.specs.Kept.{Kept}
 use Rattle.script_model.specs.Words.{Command, run, sink_of}
 use Rattle.talk_model.specs.Session.{setting}
-use Rattle.fb_session.specs.declared.outcome.SessionEnd.{SessionEnd}
 use Rattle.fb_session.specs.Sessions.{Terms, WentOn}
-use Rattle.fb_session.specs.Replies.{Replies}
+use Rattle.fb_session.specs.Replies.{SessionRun, Replies}
 use Rattle.factbase.specs.declared.outcome.SessionOut.{SessionOut}
 use Rattle.factbase.specs.declared.outcome.Outcome.{Outcome}
-use Rattle.factbase.specs.Outside.{Tells, setting_of, EachOf}
+use Rattle.factbase.specs.Outside.{Tells, run_of, setting_of, EachOf}
 use Rattle.factbase.specs.Headline.{OneHistory, stop_of, EachReplies, RepliesAlone}
 
 by_one : (authors : List ℕ) → AllByRecursion (λ author. author ≡ 0) authors → AllByRecursion (λ author. author < 1) authors
@@ -58,12 +57,12 @@ session_history was is entries core commits was_is entries_is went grown rising 
 
 -- ---- replies
 
-pub session_replies : (f : Terms) (was is : State) (entries h : List Entry) (recovered : ℕ) (held left had has : Option (List ℕ)) (places commits : List ℕ) (how : SessionEnd)
+pub session_replies : (f : Terms) (was is : State) (entries h : List Entry) (recovered : ℕ) (ran : SessionRun)
     → was ≡ as_opened entries → entries ≡ first_entry ∷ [] → recovered ≡ 0 → h ≡ is.entries → is.stop ≡ None → is.teller ≡ false
-    → Replies (setting f.may f.Selects f.guard f.is_filter is.entries is.stop is.teller) (basis was.entries) held left had has places commits how
-    → Replies (setting_of f h None false) recovered held left had has places commits how
-session_replies f was is entries h recovered held left had has places commits how was_is entries_is opened grown stop teller replies =
-    let P : List Entry → Option ℕ → Bool → ℕ → Type 0 = λ es st te from. Replies (setting f.may f.Selects f.guard f.is_filter es st te) from held left had has places commits how in
+    → Replies (setting f.may f.Selects f.guard f.is_filter is.entries is.stop is.teller) (basis was.entries) ran
+    → Replies (setting_of f h None false) recovered ran
+session_replies f was is entries h recovered ran was_is entries_is opened grown stop teller replies =
+    let P : List Entry → Option ℕ → Bool → ℕ → Type 0 = λ es st te from. Replies (setting f.may f.Selects f.guard f.is_filter es st te) from ran in
     let start : basis was.entries ≡ recovered = ap (λ s. basis s.entries) was_is ∙ ap basis entries_is ∙ sym opened in
     subst (λ es. P es None false recovered) (sym grown)
     (subst (λ from. P is.entries None false from) start
@@ -77,8 +76,7 @@ module _ {I O D : Type 0} (terms : Terms) (told : Told) (tells : Tells I O) (hel
   replies_over : (h : List Entry) → held ≡ told.sources name → had ≡ told.sinks (sink_of name) → outcome.torn ≡ None
       → RepliesAlone terms held had tells outcome h → EachReplies terms told tells (Some (run name)) outcome h
   replies_over h is_source is_sink whole replies =
-      let P : ℕ → List ℕ → SessionOut I O → Type 0 = λ n script s. Replies (setting_of terms h (stop_of outcome) (nat_eq n 1)) outcome.recovered
-      (told.sources script) (tells.left s.source) (told.sinks (sink_of script)) (tells.contents s.sink) s.places s.commits s.end in
+      let P : ℕ → List ℕ → SessionOut I O → Type 0 = λ n script s. Replies (setting_of terms h (stop_of outcome) (nat_eq n 1)) outcome.recovered (run_of told tells script s) in
       let Q : List (SessionOut I O) → Type 0 = λ ss. EachOf P 0 (name ∷ []) ss in
       let one : P 0 name replies.0 = rw (no_stop whole, ← is_source, ← is_sink) replies.2 in
       (1, subst Q (sym replies.1) (one, tt))

@@ -10,12 +10,13 @@ use Rattle.fb_ports.specs.Told.{Told}
 use Rattle.script_model.specs.Words.{Command, run, sink_of}
 use Rattle.script_model.specs.Script.{whole, Script}
 use Rattle.talk_model.specs.Session.{Setting, Standing, opened_at}
-use Rattle.talk_model.specs.Talk.{Talk}
+use Rattle.talk_model.specs.Talk.{Exchange, forms_of, places_of, lines_of, commits_of, Talk}
 use Rattle.fb_session.specs.Sessions.{Terms}
 use Rattle.fb_session.specs.Taken.{longest_script}
+use Rattle.fb_session.specs.Replies.{SessionRun}
 use Rattle.factbase.specs.declared.outcome.SessionOut.{SessionOut}
 use Rattle.factbase.specs.declared.outcome.Outcome.{Outcome}
-use Rattle.factbase.specs.Outside.{Tells, setting_of}
+use Rattle.factbase.specs.Outside.{Tells, run_of, setting_of}
 use Rattle.factbase.specs.Causes.{IsOutOfMemory}
 
 -- the source holds these forms, within the limits, and nothing else
@@ -37,12 +38,14 @@ pub record NoneRose {I O D : Type 0} (told : Told) (tells : Tells I O) (new : �
       outcome.sessions.items
 
 -- each of the forms has its line, and the sink gained nothing else
-pub record EachHasItsLine (s : Setting) (forms : List Form) (had has : Option (List ℕ))
-    (places commits : List ℕ) : Type 0 where
-  pub lines : List (List ℕ)
+pub record EachHasItsLine (s : Setting) (forms : List Form) (run : SessionRun) : Type 0 where
+  pub exchanges : List Exchange
   pub after : Standing
-  pub talk : Talk s (opened_at 0) forms places commits lines after
-  pub gained : has ≡ append_known had (concat lines)
+  pub talk : Talk s (opened_at 0) exchanges after
+  pub forms_are : forms ≡ forms_of exchanges
+  pub places : run.places ≡ places_of exchanges
+  pub commits : run.commits ≡ commits_of exchanges
+  pub gained : run.has ≡ append_known run.had (concat (lines_of exchanges))
 
 -- the run succeeded, and its one session answered all forms; the log, of which there is none, has not stopped
 pub record AnsweredWhole {I O D : Type 0} (terms : Terms) (told : Told) (tells : Tells I O)
@@ -53,7 +56,7 @@ pub record AnsweredWhole {I O D : Type 0} (terms : Terms) (told : Told) (tells :
   pub last : Kept
   pub kept : outcome.last ≡ Some last
   pub each : EachHasItsLine (setting_of terms last.entries None false) forms
-      (told.sinks (sink_of name)) (tells.contents session.sink) session.places session.commits
+      (run_of told tells name session)
 
 -- Where the words are a command, its script is forms within the limits, and no count of faults rises, each form is
 -- answered, or memory was refused.

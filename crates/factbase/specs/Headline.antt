@@ -1,7 +1,7 @@
 -- What a run promises: the accepted transactions form one history, and each reply is that of a database with one thread at a prefix
 -- of the history which holds all that its session had seen.
 -- This project's own choice.
-use Rattle.std.specs.Prelude.{◌≡◌, ℕ, ◌+◌, ◌<◌, false, List, [], ◌∷◌, Option, Some, None, length, nat_eq, slice_index_or}
+use Rattle.std.specs.Prelude.{◌≡◌, ℕ, ◌+◌, ◌<◌, false, List, [], ◌∷◌, Option, None, length, nat_eq, slice_index_or}
 use Rattle.std.specs.Option.{option_map, option_map_or}
 use Rattle.std.specs.List.{AllByRecursion}
 use Rattle.std.specs.List.Sorted.{IsStrictlyIncreasing}
@@ -10,12 +10,12 @@ use Rattle.fb_model.specs.History.{basis}
 use Rattle.fb_model.specs.Lawful.{IsLawful}
 use Rattle.fb_core.specs.Worlds.{commits_behind}
 use Rattle.fb_ports.specs.Told.{Told}
-use Rattle.script_model.specs.Words.{Command, sink_of}
+use Rattle.script_model.specs.Words.{Command}
 use Rattle.fb_session.specs.Sessions.{Terms}
 use Rattle.fb_session.specs.Replies.{Replies}
 use Rattle.factbase.specs.declared.outcome.SessionOut.{SessionOut}
 use Rattle.factbase.specs.declared.outcome.Outcome.{Outcome}
-use Rattle.factbase.specs.Outside.{Tells, setting_of, scripts_of, EachOf}
+use Rattle.factbase.specs.Outside.{Tells, run_from, run_of, setting_of, scripts_of, EachOf}
 
 -- The history is lawful. Each t behind the opening's has one author, a session, and is among the commits of that session and of no
 -- other. Commits strictly rise, and have nothing else.
@@ -40,8 +40,7 @@ abbrev pub EachReplies : {I O D : Type 0} → Terms → Told → Tells I O → O
 EachReplies {I} {O} terms told tells command outcome h =
     (teller : ℕ) × EachOf (λ n name (s : SessionOut I O).
     Replies (setting_of terms h (stop_of outcome) (nat_eq n teller)) outcome.recovered
-    (told.sources name) (tells.left s.source) (told.sinks (sink_of name)) (tells.contents s.sink)
-    s.places s.commits s.end)
+    (run_of told tells name s))
     0 (scripts_of command) outcome.sessions.items
 
 -- the same of one session alone, where the log has not stopped
@@ -49,5 +48,4 @@ abbrev pub RepliesAlone : {I O D : Type 0} → Terms → Option (List ℕ) → O
     → Outcome I O D → List Entry → Type 0
 RepliesAlone {I} {O} terms held had tells outcome h =
     (s : SessionOut I O) × (outcome.sessions.items ≡ s ∷ [])
-    × Replies (setting_of terms h None false) outcome.recovered held (tells.left s.source) had
-    (tells.contents s.sink) s.places s.commits s.end
+    × Replies (setting_of terms h None false) outcome.recovered (run_from held had tells s)

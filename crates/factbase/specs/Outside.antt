@@ -2,9 +2,12 @@
 -- This project's own choice.
 use Rattle.std.specs.Prelude.{ℕ, ◌+◌, Bool, List, [], ◌∷◌, Option, Some, None}
 use Rattle.fb_values.specs.declared.facts.Entry.{Entry}
-use Rattle.script_model.specs.Words.{Command, run}
+use Rattle.fb_ports.specs.Told.{Told}
+use Rattle.script_model.specs.Words.{Command, run, sink_of}
 use Rattle.talk_model.specs.Session.{Setting, setting}
 use Rattle.fb_session.specs.Sessions.{Terms}
+use Rattle.fb_session.specs.Replies.{SessionRun}
+use Rattle.factbase.specs.declared.outcome.SessionOut.{SessionOut}
 
 -- ---- what sources and sinks tell: the bytes that a source has left and that a sink holds, and their counts of faults
 
@@ -23,6 +26,25 @@ tells_of left source_faults contents sink_faults =
       contents = contents;
       sink_faults = sink_faults;
     }
+
+-- what a session was handed that has this source and this sink, and what it hands back
+abbrev pub run_from : {I O : Type 0} → Option (List ℕ) → Option (List ℕ) → Tells I O
+    → SessionOut I O → SessionRun
+run_from held had tells session =
+    record {
+      held = held;
+      left = tells.left session.source;
+      had = had;
+      has = tells.contents session.sink;
+      places = session.places;
+      commits = session.commits;
+      end = session.end;
+    }
+
+-- and so of the session of a script
+abbrev pub run_of : {I O : Type 0} → Told → Tells I O → List ℕ → SessionOut I O → SessionRun
+run_of told tells name session =
+    run_from (told.sources name) (told.sinks (sink_of name)) tells session
 
 -- ---- the terms on which all of its sessions are answered: the clock, the guard and the filters
 

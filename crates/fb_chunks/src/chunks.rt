@@ -1,5 +1,5 @@
 //! A chunk: a short list that its owners share whole.
-ghost use Rattle.std.specs.Prelude.{◌≡◌, ◌<◌, ◌^◌, ◌-◌, [], ◌∷◌, ◌++◌, length, slice_get, IfOk, Some};
+ghost use Rattle.std.specs.Prelude.{◌≡◌, ◌<◌, ◌^◌, ◌-◌, [], ◌∷◌, ◌++◌, length, IfOk};
 
 use crate::sharing::{Share, Shared, copy_with};
 use fb_memory::Memory;

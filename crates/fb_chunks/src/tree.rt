@@ -12,6 +12,7 @@ use std::alloc::Global;
 use std::marker::Model;
 use std::sync::Arc;
 
+/// A list of items, in a tree.
 #[cycle(tree)]
 #[derive(Drop)]
 pub struct Tree<X> {

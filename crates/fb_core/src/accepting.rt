@@ -1,5 +1,5 @@
 //! Deciding a transaction against the latest value, and accepting the draft that came of it.
-ghost use Rattle.std.specs.Prelude.{◌≡◌, ℕ, pos, IfOk, IfErr};
+ghost use Rattle.std.specs.Prelude.{◌≡◌, ℕ, IfOk, IfErr};
 ghost use Rattle.edn_form.specs.View.{form_of};
 ghost use Rattle.fb_model.specs.Lawful.{IsLawfulAfter};
 ghost use Rattle.tx_model.specs.Step as model;

@@ -4,7 +4,6 @@ ghost use Rattle.fb_model.specs.History.{basis};
 ghost use Rattle.fb_model.specs.Lawful.{IsLawful};
 ghost use Rattle.view_model.specs.Stands.{RootStands};
 ghost use Rattle.seg_tree.specs.Indexes.{trees_of};
-ghost use Rattle.fb_view.specs.Kept.{Stands};
 
 use fb_history::{Authors, EntryList};
 use fb_memory::Memory;

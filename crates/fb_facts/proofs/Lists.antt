@@ -1,5 +1,5 @@
 -- The lists that a history tells rise, and have exactly the facts that pass.
-use Rattle.std.proofs.Common.{◌≡◌, ℕ, Bool, true, List, refl, ap, sym, ◌∙◌}
+use Rattle.std.proofs.Common.{◌≡◌, ℕ, Bool, List, sym, ◌∙◌}
 use Rattle.std.specs.Prelude.{filter, Contains, IsTrue}
 use Rattle.std.specs.declared.cmp.Ordering.TheVariants.{Equal}
 use Rattle.fb_values.specs.declared.facts.Datom.{Datom}
@@ -12,7 +12,7 @@ use Rattle.fb_model.specs.History.{said}
 use Rattle.fb_model.specs.Rising.{IsRisingListOf}
 use Rattle.fb_model.specs.Facts.{facts}
 use Rattle.fb_model.proofs.Members.{kept, keep, in_order-rises, in_order_member, standing_added}
-use Rattle.fb_model.proofs.InOrder.{OneForEachKey, in_order_has}
+use Rattle.fb_model.proofs.InOrder.{in_order_has}
 use Rattle.fb_facts.specs.Told.{facts_in}
 
 abbrev datom : ℕ → ℕ → Value → ℕ → Bool → Datom

@@ -1,7 +1,7 @@
 //! A journal over a disk.
-ghost use Rattle.std.specs.Prelude.{◌≡◌, ◌≤◌, ◌<◌, ◌+◌, ◌^◌, ◌++◌, [], ◌∷◌, ℕ, List, length, None, Some, OnOk, IsErrOf};
+ghost use Rattle.std.specs.Prelude.{◌≡◌, ◌≤◌, ◌<◌, ◌+◌, ◌^◌, ◌++◌, [], ◌∷◌, ℕ, List, None, Some, OnOk, IsErrOf};
 ghost use Rattle.fb_calls.specs.Faults.{Rose};
-ghost use Rattle.disk_model.specs.Disk.{Only, WhereTold, LeavesOnly};
+ghost use Rattle.disk_model.specs.Disk.{WhereTold, LeavesOnly};
 
 use crate::marks::MARK;
 use crate::stores::{add_record, empty};

@@ -1,5 +1,5 @@
 //! What a journal begins with.
-ghost use Rattle.std.specs.Prelude.{◌≡◌, length};
+ghost use Rattle.std.specs.Prelude.{◌≡◌};
 ghost use Rattle.disk_model.specs.Journal.{new_journal};
 ghost use Rattle.fb_journal.specs.Marks.{mark_bytes};
 

@@ -1,7 +1,7 @@
 //! Reading the records of a file's bytes.
-ghost use Rattle.std.specs.Prelude.{◌≡◌, ◌<◌, ◌≤◌, ◌+◌, [], length, take, vec_len, IfOk, MatchOption};
+ghost use Rattle.std.specs.Prelude.{◌≡◌, ◌<◌, ◌≤◌, ◌+◌, [], length, take, IfOk, MatchOption};
 ghost use Rattle.std.specs.Int.{w64, from_be_bytes};
-ghost use Rattle.disk_model.specs.Journal.{IsCutShort, HaveLengths};
+ghost use Rattle.disk_model.specs.Journal.{IsCutShort};
 ghost use Rattle.fb_journal.specs.Marks.{mark_bytes};
 ghost use Rattle.fb_journal.specs.Payloads.{payloads_of, AreWithin};
 ghost use Rattle.fb_journal.specs.Walks.{EndsAt};

@@ -1,8 +1,8 @@
 //! Starting a journal: a new one, or what a file holds.
-ghost use Rattle.std.specs.Prelude.{◌≡◌, ◌⊎◌, ◌≤◌, ◌<◌, ◌+◌, ◌^◌, [], List, ℕ, length, None, IfOk, IfErr, OnOk, MatchResult};
+ghost use Rattle.std.specs.Prelude.{◌≡◌, ◌⊎◌, ◌≤◌, ◌<◌, [], length, None, IfOk, IfErr, OnOk, MatchResult};
 ghost use Rattle.fb_calls.specs.Faults.{Rose};
-ghost use Rattle.disk_model.specs.Disk.{Only, Within, WhereTold, LeavesOnly};
-ghost use Rattle.disk_model.specs.Journal.{opened, Holds, JournalStands};
+ghost use Rattle.disk_model.specs.Disk.{WhereTold, LeavesOnly};
+ghost use Rattle.disk_model.specs.Journal.{JournalStands};
 ghost use Rattle.fb_journal.specs.Marks.{mark_bytes};
 ghost use Rattle.fb_journal.specs.Walks.{IsReading};
 ghost use Rattle.fb_journal.specs.Journals.{disk_of, mark_of, Keeps, StaysTold};

@@ -1,5 +1,5 @@
 -- What a value keeps may be merged.
-use Rattle.std.proofs.Common.{◌≡◌, ◌∙◌, ap, sym, refl, subst, arith, List}
+use Rattle.std.proofs.Common.{◌∙◌, ap, sym, subst, arith, List}
 use Rattle.fb_values.specs.declared.facts.Entry.{Entry}
 use Rattle.fb_values.specs.declared.indexes.Order.{Order}
 use Rattle.fb_covers.specs.Coverage.{Coverage}

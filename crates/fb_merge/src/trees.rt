@@ -1,5 +1,5 @@
 //! The merge of a database value.
-ghost use Rattle.std.specs.Prelude.{◌≡◌, ◌↔◌, ◌<◌, ◌^◌, IfOk, IsErrOf};
+ghost use Rattle.std.specs.Prelude.{◌↔◌, ◌<◌, ◌^◌, IfOk, IsErrOf};
 ghost use Rattle.fb_model.specs.History.{basis};
 ghost use Rattle.view_model.specs.Stands.{RootStands};
 ghost use Rattle.seg_tree.specs.Ids.{next_above, IsInRow};

@@ -1,28 +1,27 @@
 -- In lawful histories each number is that of an entity, each attribute is installed, and each value is of its type.
-use Rattle.std.proofs.Common.{◌≡◌, ℕ, ◌+◌, ◌-◌, ◌<◌, ◌≤◌, Bool, true, false, cond, not, ◌&&◌, ◌||◌, List, [], ◌∷◌, ◌++◌, length, max, min, refl, ap, sym, ◌∙◌, subst, arith, inl, inr, ◌⊎◌, eqb, leb, ltb, Option, Some, None}
-use Rattle.std.specs.Prelude.{filter, Contains, is_some, option_and_then}
-use Rattle.std.specs.List.{list_any, list_all}
+use Rattle.std.proofs.Common.{◌≡◌, ℕ, ◌+◌, ◌-◌, ◌≤◌, Bool, true, false, cond, ◌&&◌, ◌||◌, List, [], ◌∷◌, ◌++◌, max, min, refl, ap, sym, ◌∙◌, subst, arith, inl, inr, ◌⊎◌, eqb, leb, Option, Some, None}
+use Rattle.std.specs.Prelude.{Contains, is_some, option_and_then}
+use Rattle.std.specs.List.{list_all}
 use Rattle.std.specs.Option.{option_map_or}
-use Rattle.std.proofs.lemmas.Bool.{true≢false, and_parts, and_from, or_left, or_right, or_cases, eqb-true, eq-eqb, leb-true, le-leb}
+use Rattle.std.proofs.lemmas.Bool.{true≢false, and_parts, and_from, or_left, or_right, or_cases, eqb-true, leb-true, le-leb}
 use Rattle.std.proofs.lemmas.Bool.Decides.{nat_tests}
 use Rattle.std.proofs.lemmas.List.Folds.{list_all-append}
 use Rattle.fb_values.specs.declared.facts.Datom.{Datom}
 use Rattle.fb_values.specs.declared.facts.Entry.{Entry}
 use Rattle.fb_values.specs.declared.facts.Value.{Value}
-use Rattle.fb_values.specs.declared.facts.Value.TheVariants.{Keyword, Str, Bool as Boolean, Long, Ref, Instant, Uuid, Symbol, Uri}
-use Rattle.fb_numbers.specs.Numbers.{transaction_of, user_entity, user_number, is_builtin, ident, value_type, cardinality}
-use Rattle.fb_model.specs.FirstEntry.{first_entry}
+use Rattle.fb_values.specs.declared.facts.Value.TheVariants.{Ref}
+use Rattle.fb_numbers.specs.Numbers.{transaction_of, user_entity, is_builtin, ident, value_type, cardinality}
 use Rattle.fb_model.specs.History.{basis, said, users_in, users_issued, is_issued}
-use Rattle.fb_model.specs.Facts.{facts, standing, stands_before, value_of, value_eq, holder, least, is_of}
+use Rattle.fb_model.specs.Facts.{facts, value_of, value_eq, holder, least}
 use Rattle.fb_model.specs.Types.{is_of_type}
-use Rattle.fb_model.specs.Schema.{Attribute, attribute_of, attribute_from, is_attribute, entity_of, keyword_of, entity_in}
+use Rattle.fb_model.specs.Schema.{attribute_of, attribute_from, is_attribute, entity_of, keyword_of, entity_in}
 use Rattle.fb_model.specs.Laws.{facts_with, is_asserted, users_behind, users_after, is_known, is_known_value}
 use Rattle.fb_model.specs.Lawful.{IsLawful, IsLawfulAfter}
 use Rattle.fb_model.proofs.OneMoreEntry.{basis-push, said-push, users_issued-push, users_issued_grows}
 use Rattle.fb_model.proofs.Invariants.{of_lawful, facts-push}
 use Rattle.fb_model.proofs.SchemaHistories.{all_pass, attribute_stays, none_about, fixed_forbidden}
 use Rattle.fb_model.proofs.Untouched.{value_of-untouched}
-use Rattle.fb_model.proofs.Members.{here, there, cases_of, none_of, member_passes, all_members, standing_member}
+use Rattle.fb_model.proofs.Members.{here, there, member_passes, standing_member}
 use Rattle.fb_model.proofs.Times.{next_t}
 
 -- ---- issued numbers stay issued

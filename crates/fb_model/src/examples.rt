@@ -3,14 +3,14 @@ ghost use Rattle.std.specs.Prelude.{◌≡◌, ◌-◌, ◌^◌, [], ◌∷◌, 
 ghost use Rattle.fb_values.specs.declared.facts.Value.TheVariants.{Keyword, Str, Ref, Long, Instant, Uuid, Symbol, Uri, Bool};
 ghost use Rattle.fb_values.specs.declared.indexes.Order.TheVariants.{Eavt, Avet, Vaet};
 ghost use Rattle.fb_values.specs.Rising.{rises};
-ghost use Rattle.fb_numbers.specs.Numbers.{user_entity, user_number, transaction_of, ident, cardinality, unique, index, doc, type_long, type_ref, type_symbol, type_uri, unique_value, cardinality_many};
+ghost use Rattle.fb_numbers.specs.Numbers.{user_entity, user_number, ident, cardinality, unique, index, doc, type_long, type_ref, unique_value, cardinality_many};
 ghost use Rattle.fb_model.specs.FirstEntry.{first_entry};
 ghost use Rattle.fb_model.specs.Words.{is_keyword_text, is_symbol_text, is_uri_text, is_reserved};
 ghost use Rattle.fb_model.specs.Rising.{in_order};
 ghost use Rattle.fb_model.specs.History.{next_instant, users_issued, is_issued};
 ghost use Rattle.fb_model.specs.Facts.{facts, holds, value_of};
 ghost use Rattle.fb_model.specs.Types.{is_of_type, is_well_formed};
-ghost use Rattle.fb_model.specs.Schema.{attribute_of, attribute_named, is_attribute, is_many, is_unique, covers, named, schema_of};
+ghost use Rattle.fb_model.specs.Schema.{attribute_of, attribute_named, is_many, is_unique, covers, named, schema_of};
 ghost use Rattle.fb_model.specs.Lawful.{IsLawful, IsLawfulAfter, least_law};
 ghost use Rattle.fb_model.specs.Samples.{datom, entry_of, hi, hi_entry, makes_attribute, age, ages, altered_doc};
 

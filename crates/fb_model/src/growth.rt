@@ -1,5 +1,5 @@
 //! What a history with one more entry says.
-ghost use Rattle.std.specs.Prelude.{◌≡◌, ℕ, ℤ, ◌+◌, ◌<◌, ◌≤◌, List, [], ◌∷◌, ◌++◌, length, max, false, IsTrue, nat_eq, int_lt, int_le, not};
+ghost use Rattle.std.specs.Prelude.{◌≡◌, ℕ, ℤ, ◌+◌, ◌<◌, ◌≤◌, List, [], ◌∷◌, ◌++◌, length, max, false, IsTrue, nat_eq, int_lt, int_le};
 ghost use Rattle.std.specs.List.{list_any};
 ghost use Rattle.fb_values.specs.declared.facts.Entry.{Entry};
 ghost use Rattle.fb_values.specs.declared.facts.Value.{Value};

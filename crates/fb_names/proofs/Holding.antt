@@ -1,7 +1,7 @@
 -- The entity that has a value is that of the first datom of the value in AVET.
-use Rattle.std.proofs.Common.{◌≡◌, ℕ, ◌+◌, ◌<◌, ◌≤◌, Bool, true, false, not, ◌&&◌, cond, List, [], ◌∷◌, refl, ap, sym, ◌∙◌, subst, arith, inl, inr, Option, Some, None, eqb}
-use Rattle.std.specs.Prelude.{Contains, IsTrue, slice_get}
-use Rattle.std.specs.Option.{option_map, option_and_then}
+use Rattle.std.proofs.Common.{◌≡◌, ℕ, ◌<◌, ◌≤◌, true, false, ◌&&◌, List, [], ◌∷◌, refl, ap, sym, ◌∙◌, subst, arith, inl, inr, Option, Some, None, eqb}
+use Rattle.std.specs.Prelude.{slice_get}
+use Rattle.std.specs.Option.{option_map}
 use Rattle.std.specs.Ordering.{is_eq, is_lt, nat_cmp, ordering_then, ordering_reverse}
 use Rattle.std.specs.Cmp.{tied_itself}
 use Rattle.std.specs.Cmp.Lexicographic.{slice_cmp}
@@ -16,14 +16,12 @@ use Rattle.fb_values.specs.declared.indexes.Order.TheVariants.{Avet}
 use Rattle.fb_values.specs.declared.indexes.Probe.{Probe}
 use Rattle.fb_values.specs.Orders.{value_cmp, key_cmp, probe_cmp}
 use Rattle.fb_values.specs.OrderLaws.{value_cmp_total}
-use Rattle.fb_model.specs.Rising.{IsRisingListOf}
 use Rattle.fb_model.specs.Facts.{facts, value_eq, is_of}
 use Rattle.fb_model.specs.Schema.{covers}
 use Rattle.fb_model.proofs.Members.{here, cases_of, none_of}
 use Rattle.fb_model.proofs.InOrder.{first_is_least}
 use Rattle.fb_model.proofs.Triples.{is_of-true, value_eq-true, value_eq-refl}
 use Rattle.view_model.specs.Window.{Window, without_history}
-use Rattle.view_model.specs.View.{InView}
 use Rattle.view_model.specs.Scan.{leading, is_scanned, IsScan}
 use Rattle.read_model.specs.Finding.{Has, IsHolder}
 

@@ -1,5 +1,5 @@
 -- What is given at a place, apart from what comes of it.
-use Rattle.std.proofs.Common.{◌≡◌, ℕ, suc, zero, ◌+◌, ◌<◌, ◌≤◌, Bool, true, false, cond, List, [], ◌∷◌, length, drop, refl, ap, sym, subst, arith, Option, Some, None, Result, Ok, Err, eqb}
+use Rattle.std.proofs.Common.{◌≡◌, ℕ, suc, zero, ◌+◌, ◌≤◌, Bool, true, false, cond, List, [], ◌∷◌, length, drop, refl, ap, sym, subst, arith, Option, Some, None, Result, Ok, Err, eqb}
 use Rattle.std.specs.Prelude.{slice_get, MatchBool}
 use Rattle.std.specs.List.{zip}
 use Rattle.std.proofs.lemmas.Bool.{le-leb}
@@ -19,10 +19,9 @@ use Rattle.tx_model.specs.Values.{value_in}
 use Rattle.view_model.specs.Window.{Window}
 use Rattle.view_model.specs.Names.{Id}
 use Rattle.view_model.specs.Scan.{Range, between}
-use Rattle.read_refusals.specs.declared.reasons.Reason.{Reason}
 use Rattle.read_refusals.specs.declared.reasons.Reason.TheVariants.{BadComponent, NotInIndex}
 use Rattle.read_refusals.specs.declared.reasons.Refusal.{Refusal}
-use Rattle.read_model.specs.Names.{id_in, IsFound}
+use Rattle.read_model.specs.Names.{id_in}
 use Rattle.read_model.specs.Given.{Given, is, by_name, wrong, refusal, Follows, Reads}
 use Rattle.read_model.specs.Components.{Component, entity_given, attribute_given, plain_given, value_given, attribute_in, end_given, parts_of, no_component, no_command, with_next, AreRead, AreComponents, IsIndexRange}
 use Rattle.fb_names.specs.declared.given.Typed.{Typed}

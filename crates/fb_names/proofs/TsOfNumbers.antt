@@ -1,5 +1,5 @@
 -- The t of a transaction's entity.
-use Rattle.std.proofs.Common.{◌≡◌, ℕ, ◌+◌, ◌-◌, ◌<◌, ◌≤◌, Bool, true, false, ◌&&◌, cond, refl, sym, ◌∙◌, arith, leb, Option, Some, None, IfSome}
+use Rattle.std.proofs.Common.{◌≡◌, ℕ, ◌-◌, ◌<◌, ◌≤◌, Bool, true, false, ◌&&◌, cond, refl, sym, ◌∙◌, arith, leb, Option, Some, None, IfSome}
 use Rattle.std.proofs.lemmas.Bool.{true≢false, and_parts, and_from, le-leb, leb-true}
 use Rattle.fb_numbers.specs.Numbers.{transaction_of, greatest_t}
 use Rattle.read_model.specs.Points.{t_of}

@@ -18,7 +18,7 @@ ghost use Rattle.read_model.specs.Finding.{IsHolder};
 ghost use Rattle.read_model.specs.Names.{IsEntityOf, IsFound, lookup_of};
 ghost use Rattle.fb_names.specs.Names.{number_in, id_of};
 
-use crate::present::{Lent, present};
+use crate::present::present;
 use edn_form::{Edn, Items};
 use edn_values::{as_value, forms_of_other_types};
 use fb_db::Db;

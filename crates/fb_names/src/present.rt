@@ -1,6 +1,5 @@
 //! A database value without history, in which names are looked for.
 ghost use Rattle.std.specs.Prelude.{◌≡◌, IfOk};
-ghost use Rattle.fb_values.specs.declared.facts.Datom.{Datom as TheDatom};
 ghost use Rattle.view_model.specs.Window.{without_history};
 ghost use Rattle.fb_db.specs.Seen.{window_of};
 

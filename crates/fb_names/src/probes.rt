@@ -1,7 +1,6 @@
 //! The components of an index, read from left to right: the probe that they give, or the first place that fails. Places are
 //! counted from the command's word, which is at 0.
-ghost use Rattle.std.specs.Prelude.{◌≡◌, ◌<◌, ◌≤◌, List, map, slice_get, Some, true};
-ghost use Rattle.std.specs.Option.{option_map};
+ghost use Rattle.std.specs.Prelude.{◌≡◌, ◌<◌, List, map, slice_get, Some};
 ghost use Rattle.edn_form.specs.View.{form_of, forms_of};
 ghost use Rattle.fb_values.specs.declared.facts.Entry.{Entry};
 ghost use Rattle.fb_model.specs.Facts.{facts};

@@ -31,16 +31,17 @@ abbrev pub SameImages : (List ℕ → Part → List ℕ → Type 0) → (List �
     → Type 0
 SameImages old new = (dir : List ℕ) (part : Part) → Alike (old dir part) (new dir part)
 
--- the images that are told of every other part are as they were, and of the same part of every other directory
+-- the images that are told of every other part are as they were, and so are those of the same part of
+-- every other directory
 abbrev pub SameImagesBut : List ℕ → Part → (List ℕ → Part → List ℕ → Type 0)
     → (List ℕ → Part → List ℕ → Type 0) → Type 0
 SameImagesBut dir part old new =
     (other : List ℕ) (its : Part) → (other ≡ dir → its ≡ part → ⊥)
     → Alike (old other its) (new other its)
 
--- ---- how a call leaves what is told, other than the host's own count
+-- ---- what a call leaves as it was, other than the host's own count of faults
 
--- of a source: all of it stays, but what was told of this source
+-- Opening a source leaves all that is told as it was, but for what is told of that source.
 pub record StaysButSource (name : List ℕ) (old new : Told) : Type 0 where
   pub sources : SameBut name old.sources new.sources
   pub source_faults : SameBut name old.source_faults new.source_faults
@@ -51,7 +52,7 @@ pub record StaysButSource (name : List ℕ) (old new : Told) : Type 0 where
   pub disk_images : SameImages old.disk_images new.disk_images
   pub disk_moment : SameParts old.disk_moment new.disk_moment
 
--- of a sink
+-- Opening a sink leaves all that is told as it was, but for what is told of that sink.
 pub record StaysButSink (name : List ℕ) (old new : Told) : Type 0 where
   pub sources : Same old.sources new.sources
   pub source_faults : Same old.source_faults new.source_faults
@@ -62,7 +63,7 @@ pub record StaysButSink (name : List ℕ) (old new : Told) : Type 0 where
   pub disk_images : SameImages old.disk_images new.disk_images
   pub disk_moment : SameParts old.disk_moment new.disk_moment
 
--- of a disk
+-- Opening a part of a directory leaves all that is told as it was, but for what is told of that part.
 pub record StaysButDisk (dir : List ℕ) (part : Part) (old new : Told) : Type 0 where
   pub sources : Same old.sources new.sources
   pub source_faults : Same old.source_faults new.source_faults

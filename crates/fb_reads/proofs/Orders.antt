@@ -19,7 +19,7 @@ use Rattle.read_refusals.specs.declared.reasons.Reason.TheVariants.{NotInIndex}
 use Rattle.read_refusals.specs.declared.reasons.Refusal.{Refusal}
 use Rattle.read_model.specs.Names.{id_in}
 use Rattle.read_model.specs.Given.{Given, is, by_name, wrong, Reads, Follows}
-use Rattle.read_model.specs.Components.{Component, an_entity, an_attribute, a_value, a_t, parts_of, entity_given, attribute_given, plain_given, value_given, kind_behind, t_in, attribute_in, with_next, no_component, no_command, AreRead, AreComponents}
+use Rattle.read_model.specs.Components.{Component, an_entity, an_attribute, a_value, a_t, parts_of, entity_given, attribute_given, plain_given, kind_behind, t_in, attribute_in, with_next, no_component, no_command, AreRead, AreComponents}
 
 -- whatever comes of it has the property
 abbrev AllGiven : {X : Type 0} → (X → Type 0) → Given X → Type 0

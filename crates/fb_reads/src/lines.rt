@@ -1,5 +1,5 @@
 //! The lines of refusals.
-ghost use Rattle.std.specs.Prelude.{◌≡◌, OnOk, codes};
+ghost use Rattle.std.specs.Prelude.{OnOk, codes};
 ghost use Rattle.read_model.specs.Components.{no_command};
 ghost use Rattle.talk_model.specs.Replies.{refusal_reply, IsLineOf};
 ghost use Rattle.talk_model.specs.Reads.{refused};

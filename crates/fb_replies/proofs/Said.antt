@@ -4,7 +4,7 @@ use Rattle.std.specs.Prelude.{Contains, Option, Some, None}
 use Rattle.std.specs.List.{list_all}
 use Rattle.std.specs.Option.{option_map_or}
 use Rattle.edn_model.specs.Form as edn
-use Rattle.edn_model.specs.Form.{Form, forms}
+use Rattle.edn_model.specs.Form.{Form}
 use Rattle.fb_values.specs.declared.facts.Datom.{Datom}
 use Rattle.fb_values.specs.declared.facts.Entry.{Entry}
 use Rattle.fb_values.specs.declared.facts.Value.{Value}

@@ -10,7 +10,6 @@ use Rattle.std.proofs.lemmas.Bool.Decides.{nat_tests}
 use Rattle.fb_values.specs.declared.facts.Datom.{Datom}
 use Rattle.fb_values.specs.declared.facts.Value.{Value}
 use Rattle.fb_values.specs.declared.indexes.Order.{Order}
-use Rattle.fb_values.specs.declared.indexes.Probe.{Probe}
 use Rattle.fb_values.specs.Orders.{key_cmp, probe_cmp, value_cmp}
 use Rattle.fb_values.specs.OrderLaws.{value_cmp_total}
 use Rattle.fb_search.specs.Places.{is_below}
@@ -22,7 +21,7 @@ use Rattle.fb_view.proofs.Ranging.{above_later}
 use Rattle.fb_scan.specs.declared.ends.End.{End}
 use Rattle.fb_scan.specs.declared.ends.End.TheVariants.{Never, Behind, Before}
 use Rattle.fb_scan.specs.Ends.{is_past, IsIn, valued}
-use Rattle.view_model.specs.Scan.{leading, not_below, between, is_in}
+use Rattle.view_model.specs.Scan.{between, is_in}
 
 is_less : (o : Ordering) → is_lt o ≡ true → o ≡ Less
 is_less Less is = refl

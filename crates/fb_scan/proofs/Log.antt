@@ -1,11 +1,10 @@
 -- The transactions of a log are a part of it, since each entry has the t of its place.
-use Rattle.std.proofs.Common.{◌≡◌, ◌∙◌, ℕ, zero, suc, ◌+◌, ◌-◌, ◌<◌, ◌≤◌, Bool, true, false, cond, ◌&&◌, List, [], ◌∷◌, ◌++◌, length, take, drop, max, min, refl, sym, ap, subst, arith, inl, inr, leb, ltb, Some, None}
+use Rattle.std.proofs.Common.{◌≡◌, ◌∙◌, ℕ, zero, suc, ◌+◌, ◌-◌, ◌<◌, ◌≤◌, Bool, true, false, cond, ◌&&◌, List, [], ◌∷◌, ◌++◌, length, take, drop, max, min, refl, sym, ap, arith, inl, inr, leb, ltb, Some}
 use Rattle.std.specs.Prelude.{filter}
 use Rattle.std.specs.List.{slice_get}
 use Rattle.std.proofs.lemmas.Bool.{cases_lt}
 use Rattle.std.proofs.lemmas.Bool.Decides.{nat_tests}
 use Rattle.fb_values.specs.declared.facts.Entry.{Entry}
-use Rattle.fb_model.specs.FirstEntry.{first_entry}
 use Rattle.fb_model.specs.History.{basis}
 use Rattle.fb_model.specs.Lawful.{IsLawful, IsLawfulFrom}
 use Rattle.fb_model.proofs.OneMoreEntry.{basis-push}

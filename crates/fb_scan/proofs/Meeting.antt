@@ -1,14 +1,13 @@
 -- What a walk from a probe on meets of an index is what the window sees of the history.
-use Rattle.std.proofs.Common.{◌≡◌, ◌∙◌, ℕ, ◌<◌, ◌≤◌, ◌⊎◌, inl, inr, Bool, true, false, not, List, [], ◌∷◌, refl, sym, ap, subst, arith}
+use Rattle.std.proofs.Common.{◌≡◌, ◌∙◌, ℕ, ◌≤◌, inl, inr, Bool, true, false, not, List, [], ◌∷◌, refl, sym, ap, subst, arith}
 use Rattle.std.specs.Prelude.{Contains, filter}
 use Rattle.std.specs.declared.cmp.Ordering.{Ordering}
 use Rattle.std.specs.declared.cmp.Ordering.TheVariants.{Less, Equal, Greater}
 use Rattle.std.proofs.lemmas.Bool.{true≢false, cases_Bool}
 use Rattle.fb_values.specs.declared.facts.Datom.{Datom}
-use Rattle.fb_values.specs.declared.indexes.Order.{Order}
 use Rattle.fb_values.specs.declared.indexes.Probe.{Probe}
 use Rattle.fb_values.specs.Orders.{key_cmp}
-use Rattle.fb_values.specs.OrderLaws.{key_cmp_total, key_cmp-Equal}
+use Rattle.fb_values.specs.OrderLaws.{key_cmp_total}
 use Rattle.fb_values.specs.Lists.{list_in}
 use Rattle.fb_search.specs.Places.{is_below}
 use Rattle.fb_values.specs.Rising.{IsRising}
@@ -28,7 +27,7 @@ use Rattle.fb_view.specs.Ranges.{from_probe}
 use Rattle.fb_view.specs.Merged.{merged}
 use Rattle.fb_view.proofs.Merging.{merged_rises, rising-filter, from_merged, into_merged}
 use Rattle.fb_view.proofs.Telling.{pair_stands, was_said, in_one}
-use Rattle.fb_view.proofs.Lasting.{IsByTime, rising_by_time, said_by_time, of_back}
+use Rattle.fb_view.proofs.Lasting.{rising_by_time, said_by_time, of_back}
 use Rattle.fb_scan.specs.Walks.{shown, seen_in}
 use Rattle.fb_scan.proofs.Seeing.{shown-seen_in, seen_in_member, seen_moves}
 

@@ -1,18 +1,18 @@
 -- What a walk shows of a rising list is what a window sees of it, and lists that have the same of a triple show the same of it.
-use Rattle.std.proofs.Common.{◌≡◌, ◌∙◌, ℕ, ◌<◌, ◌≤◌, ◌⊎◌, inl, inr, Bool, true, false, not, ◌&&◌, ◌||◌, cond, List, [], ◌∷◌, refl, sym, ap, subst, arith, leb, ltb}
+use Rattle.std.proofs.Common.{◌≡◌, ◌∙◌, ◌<◌, ◌≤◌, ◌⊎◌, inl, inr, Bool, true, false, not, ◌&&◌, ◌||◌, cond, List, [], ◌∷◌, refl, sym, ap, subst, arith, leb, ltb}
 use Rattle.std.specs.Prelude.{Contains, filter}
 use Rattle.std.specs.List.{slice_get, list_any}
-use Rattle.std.proofs.lemmas.Bool.{true≢false, cases_Bool, and_parts, and_from, leb-true, le-leb, ltb-true, lt-ltb}
+use Rattle.std.proofs.lemmas.Bool.{true≢false, and_parts, and_from, leb-true, le-leb, ltb-true, lt-ltb}
 use Rattle.fb_values.specs.declared.facts.Datom.{Datom}
 use Rattle.fb_values.specs.declared.indexes.Order.{Order}
-use Rattle.fb_values.specs.Rising.{StandsBefore, IsRising}
+use Rattle.fb_values.specs.Rising.{IsRising}
 use Rattle.fb_model.specs.Facts.{is_of, standing}
 use Rattle.fb_model.proofs.Members.{some_member, any_member, standing_member}
-use Rattle.live_index.proofs.Members.{from_filter, into_filter, contains-cons, contains_head, contains_none}
+use Rattle.live_index.proofs.Members.{from_filter, into_filter, contains-cons, contains_head}
 use Rattle.view_model.specs.Window.{Window, is_within, within}
 use Rattle.fb_view.proofs.Merging.{before_member}
-use Rattle.fb_view.proofs.Lasting.{IsByTime, IsLast, standing_last, last_stands, rising_by_time, together, of_through}
-use Rattle.fb_scan.specs.Walks.{is_followed, is_shown, shown, seen_in}
+use Rattle.fb_view.proofs.Lasting.{IsByTime, standing_last, last_stands, rising_by_time, together, of_through}
+use Rattle.fb_scan.specs.Walks.{is_followed, shown, seen_in}
 
 same_bool : (a b : Bool) → (a ≡ true → b ≡ true) → (b ≡ true → a ≡ true) → a ≡ b
 same_bool true b forth back = sym (forth refl)

@@ -33,11 +33,11 @@ use Rattle.fb_values.proofs.Rising.{rises_from}
 use Rattle.fb_view.proofs.Standing.{coverage_of}
 use Rattle.fb_view.proofs.Merging.{merged_rises, rising-filter}
 use Rattle.fb_scan.specs.declared.ends.End.{End}
-use Rattle.fb_scan.specs.declared.ends.End.TheVariants.{Never, Behind, Before}
+use Rattle.fb_scan.specs.declared.ends.End.TheVariants.{Behind, Before}
 use Rattle.fb_scan.specs.Ends.{is_past, IsIn, IsWalk, valued}
 use Rattle.fb_scan.specs.Takes.{Takes}
 use Rattle.fb_scan.specs.Walks.{is_shown}
-use Rattle.fb_scan.proofs.Meeting.{ahead_of, met, meets}
+use Rattle.fb_scan.proofs.Meeting.{met, meets}
 use Rattle.fb_scan.proofs.Ending.{all_past, between_open, between_closed}
 use Rattle.fb_scan.proofs.Going.{IsAnswer, IsGoing, shown_member, begins, goes_on, ends, found_rises, rising_behind}
 

@@ -1,13 +1,12 @@
 -- The facts that describe: how an entry changes them, and that what is asked of the schema is asked of them alone.
-use Rattle.std.proofs.Common.{◌≡◌, ℕ, Bool, true, false, cond, not, ◌&&◌, ◌||◌, List, [], ◌∷◌, ◌++◌, refl, ap, sym, ◌∙◌, subst}
-use Rattle.std.specs.Prelude.{filter, map, nat_eq, nat_le}
+use Rattle.std.proofs.Common.{◌≡◌, Bool, true, false, cond, not, ◌&&◌, ◌||◌, List, [], ◌∷◌, ◌++◌, refl, ap, sym, ◌∙◌}
+use Rattle.std.specs.Prelude.{filter, nat_le}
 use Rattle.std.specs.List.{list_any}
-use Rattle.std.proofs.lemmas.Bool.{true≢false, and_parts}
+use Rattle.std.proofs.lemmas.Bool.{true≢false}
 use Rattle.fb_values.specs.declared.facts.Datom.{Datom}
 use Rattle.fb_values.specs.declared.facts.Entry.{Entry}
-use Rattle.fb_values.specs.declared.facts.Value.{Value}
 use Rattle.fb_model.specs.History.{said}
-use Rattle.fb_model.specs.Facts.{is_of, standing, stands_before, facts}
+use Rattle.fb_model.specs.Facts.{is_of, standing, facts}
 use Rattle.fb_model.proofs.Triples.{is_of-true}
 use Rattle.fb_model.proofs.Members.{filter-standing}
 use Rattle.fb_model.proofs.NewFacts.{standing_none}

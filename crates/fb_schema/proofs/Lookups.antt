@@ -1,16 +1,15 @@
 -- What is asked of the facts that describe is asked of them alone.
-use Rattle.std.proofs.Common.{◌≡◌, ℕ, Bool, true, false, cond, not, ◌&&◌, ◌||◌, List, [], ◌∷◌, ◌++◌, refl, ap, sym, ◌∙◌, subst, Option, Some, None}
-use Rattle.std.specs.Prelude.{filter, map, nat_eq, nat_le, option_and_then, option_map, is_some}
+use Rattle.std.proofs.Common.{◌≡◌, ℕ, Bool, true, false, cond, ◌&&◌, List, [], ◌∷◌, refl, ap, sym, ◌∙◌, subst, Option, Some, None}
+use Rattle.std.specs.Prelude.{filter, nat_eq, nat_le, option_and_then, option_map, is_some}
 use Rattle.std.specs.List.{filter_map, cons_option}
 use Rattle.std.specs.Option.{option_map_or}
 use Rattle.std.proofs.lemmas.Bool.{true≢false, and_parts, eqb-true}
 use Rattle.fb_values.specs.declared.facts.Datom.{Datom}
-use Rattle.fb_values.specs.declared.facts.Value.{Value}
 use Rattle.fb_values.specs.declared.facts.Value.TheVariants.{Keyword}
 use Rattle.fb_values.specs.declared.indexes.Order.{Order}
 use Rattle.fb_values.specs.declared.indexes.Order.TheVariants.{Eavt, Aevt, Avet, Vaet}
 use Rattle.fb_numbers.specs.Numbers.{ident, value_type, cardinality, unique, is_component, index}
-use Rattle.fb_model.specs.Facts.{value_eq, values_of, value_of, least, holder}
+use Rattle.fb_model.specs.Facts.{value_eq, value_of, least, holder}
 use Rattle.fb_model.specs.Schema.{Attribute, Schema, keyword_in, keyword_of, is_attribute, attribute_of, attribute_named, named, covers, is_held, schema_in}
 use Rattle.fb_model.specs.Rising.{in_order}
 use Rattle.fb_schema.specs.Described.{describes}

@@ -1,5 +1,5 @@
 -- The names that a datom adds before others.
-use Rattle.std.proofs.Common.{◌≡◌, ℕ, Bool, true, false, cond, not, ◌&&◌, List, [], ◌∷◌, refl, ap, sym, ◌∙◌, subst, Option, Some, None}
+use Rattle.std.proofs.Common.{◌≡◌, ℕ, Bool, true, false, cond, ◌&&◌, List, ◌∷◌, refl, ap, sym, ◌∙◌, Some}
 use Rattle.std.specs.Prelude.{nat_eq, String, string_bytes, bytes_eq}
 use Rattle.std.specs.Ordering.{is_eq}
 use Rattle.std.specs.BTreeMap.{BTreeMap, get_by_text, UpdatesBy}
@@ -9,7 +9,6 @@ use Rattle.std.specs.Ordering.{nat_cmp}
 use Rattle.std.specs.declared.alloc.Global.{Global}
 use Rattle.std.proofs.lemmas.Map.Text.{is_eq-slice_cmp, btree_map_updates_text}
 use Rattle.fb_values.specs.declared.facts.Datom.{Datom}
-use Rattle.fb_values.specs.declared.facts.Value.{Value}
 use Rattle.fb_values.specs.declared.facts.Value.TheVariants.{Keyword}
 use Rattle.fb_numbers.specs.Numbers.{ident}
 use Rattle.fb_model.specs.Facts.{value_eq, least}

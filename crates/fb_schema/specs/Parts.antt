@@ -1,6 +1,6 @@
 -- An attribute as the program has it, and what is said of an entity that may be one.
 -- Datomic, Schema.
-use Rattle.std.specs.Prelude.{ℕ, List, nat_eq, Option}
+use Rattle.std.specs.Prelude.{ℕ, List, Option}
 use Rattle.fb_values.specs.declared.facts.Datom.{Datom}
 use Rattle.fb_numbers.specs.Numbers.{ident, value_type, cardinality, unique, is_component, index}
 use Rattle.fb_model.specs.Schema as model

@@ -1,5 +1,5 @@
 -- A datom's own place: where a test of each element of a sorted list turns.
-use Rattle.std.proofs.Common.{◌≡◌, ℕ, zero, suc, ◌+◌, ◌<◌, ◌≤◌, Bool, true, false, List, [], ◌∷◌, length, map, get_or, refl, sym, ap, ◌∙◌, subst, arith}
+use Rattle.std.proofs.Common.{◌≡◌, ℕ, zero, suc, ◌<◌, ◌≤◌, Bool, true, false, List, [], ◌∷◌, length, map, get_or, refl, sym, ap, ◌∙◌, subst, arith}
 use Rattle.std.proofs.Math.ListN.{get_or-map}
 use Rattle.std.proofs.lemmas.List.{length-map}
 use Rattle.std.specs.List.{AllWithin}
@@ -10,7 +10,7 @@ use Rattle.fb_values.specs.declared.indexes.Order.{Order}
 use Rattle.fb_values.specs.declared.indexes.Order.TheVariants.{Eavt, Aevt, Avet, Vaet}
 use Rattle.fb_values.specs.declared.indexes.Probe.{Probe}
 use Rattle.fb_values.specs.Orders.{key_cmp}
-use Rattle.fb_values.specs.Rising.{StandsBefore, IsRising}
+use Rattle.fb_values.specs.Rising.{IsRising}
 use Rattle.fb_search.specs.Places.{is_below, place_of, probe_of}
 use Rattle.fb_search.proofs.Below.{front_below}
 

@@ -17,7 +17,7 @@ use Rattle.talk_model.specs.Replies.{tempid_pair, IsLineOf}
 use Rattle.talk_model.specs.Session.{Standing, moved}
 use Rattle.talk_model.specs.Talk.{IsAccepted, IsRefused, IsNotTaken, IsStopped, AnswersCommand}
 use Rattle.talk_model.proofs.PlainText.{text, is_plain, are_plain_pairs, line}
-use Rattle.fb_desk.specs.Desks.{State, GoesOn, IsReceipt, IsRefusal, IsLogFault}
+use Rattle.fb_desk.specs.Desks.{State, GoesOn, IsReceipt, IsLogFault}
 use Rattle.fb_desk.specs.Desks as desk
 use Rattle.fb_desk.specs.declared.answers.Receipt.{Receipt}
 use Rattle.fb_desk.specs.declared.answers.TxFault.{TxFault}

@@ -2,9 +2,11 @@
 use Rattle.std.proofs.Common.{◌≡◌, ℕ, ◌+◌, ◌<◌, ◌≤◌, ◌⊎◌, List, [], ◌∷◌, ◌++◌, Option, None, length, refl, sym, ap, ◌∙◌, subst, inl, inr, arith, length-append, append_assoc, append-nil}
 use Rattle.std.specs.Prelude.{option_to_list}
 use Rattle.std.specs.List.{concat}
+use Rattle.std.proofs.lemmas.List.{length-map}
+use Rattle.std.proofs.lemmas.List.Folds.{concat-append}
 use Rattle.std.specs.Io.KnownBytes.{append_known}
 use Rattle.edn_model.specs.Form.{Form}
-use Rattle.edn_model.specs.Grammar.{FormStands, OnlyGap}
+use Rattle.edn_model.specs.Grammar.{FormStands}
 use Rattle.edn_model.specs.Faults as model
 use Rattle.edn_model.specs.Faults.{FaultAt}
 use Rattle.edn_core.specs.Answers.{what_of, fault_of, MatchFault}
@@ -13,13 +15,13 @@ use Rattle.edn_core.specs.declared.fault.EdnFault.TheVariants as edn
 use Rattle.fb_values.specs.declared.facts.Entry.{Entry}
 use Rattle.fb_model.specs.History.{basis}
 use Rattle.fb_model.proofs.LawfulHistories.{IsLawful-length}
-use Rattle.script_model.specs.Script.{Ending, whole, fault, too_many, most_commands, EndsAt}
+use Rattle.script_model.specs.Script.{Ending, whole, fault, too_many, most_commands, FormsBetween, EndsAt}
 use Rattle.script_model.proofs.OneScript.{FormsBetween-push}
 use Rattle.talk_model.specs.Session.{setting, opened_at}
-use Rattle.talk_model.specs.Talk.{Talk}
+use Rattle.talk_model.specs.Talk.{Exchange, forms_of, lines_of, commits_of, Talk}
 use Rattle.talk_model.specs.Prefixes.{SeesAll}
 use Rattle.talk_model.proofs.Longer.{Talk-longer}
-use Rattle.talk_model.proofs.OneMore.{Talk-push, Talk-lengths}
+use Rattle.talk_model.proofs.OneMore.{forms-push, places-push, lines-push, commits-push, Talk-push}
 use Rattle.talk_model.proofs.Places.{SeesAll-Talk, SeesAll-unfinished}
 use Rattle.fb_desk.specs.Desks.{State, GoesOn}
 use Rattle.fb_session.specs.declared.outcome.SessionEnd.{SessionEnd}
@@ -27,13 +29,13 @@ use Rattle.fb_session.specs.declared.outcome.SessionEnd.TheVariants as ended
 use Rattle.fb_session.specs.declared.session.Session.{Session}
 use Rattle.fb_session.specs.declared.serve.AnswerError.{AnswerError}
 use Rattle.fb_session.specs.declared.serve.AnswerError.TheVariants.{WriteFault, Memory}
-use Rattle.fb_session.specs.Replies.{AnswersAll, AnswersUpTo, SinkCount}
-use Rattle.fb_session.specs.Sessions.{Terms, over, WentOn, IsOpened, Keeps, Answered, Replied, RepliedPart, StopsAt, end_of, TalkSoFar, NoCommand, Talks}
+use Rattle.fb_session.specs.Replies.{trace_of, AnswersAll, AnswersSome, AnswersPart, AnswersUpTo, Answers, SinkCount}
+use Rattle.fb_session.specs.Sessions.{Terms, over, WentOn, IsOpened, Keeps, Answered, Replied, RepliedPart, StopsAt, end_of, TalkSoFar, NoCommand, IsPastReading, served_by, Talks}
 use Rattle.fb_session.proofs.KnownBytes.{append_known-none, append_known-append}
 
-concat-push : (ls : List (List ℕ)) (line : List ℕ) → concat (ls ++ line ∷ []) ≡ concat ls ++ line
-concat-push [] line = append-nil line
-concat-push (l ∷ ls) line = ap (λ rest. l ++ rest) (concat-push ls line) ∙ sym (append_assoc l (concat ls) line)
+-- one line more is written behind the others
+lines-written : (talk : List Exchange) (x : Exchange) → concat (lines_of (talk ++ x ∷ [])) ≡ concat (lines_of talk) ++ x.line
+lines-written talk x = ap concat (lines-push talk x) ∙ concat-append (lines_of talk) (x.line ∷ []) ∙ ap (λ line. concat (lines_of talk) ++ line) (append-nil x.line)
 
 -- ---- the desk goes on
 
@@ -66,12 +68,13 @@ commits_on start was is old new commit had keeps =
 pub talk-opened : {S : Type 0} (f : Terms) (names : S → List (List ℕ)) (bytes : List ℕ) (session : Session S) (start : State) (had : Option (List ℕ)) → IsOpened session names start → TalkSoFar f bytes 0 session names start start had had
 talk-opened f names bytes session start had opened =
     record {
-      forms = [];
-      lines = [];
+      exchanges = [];
       standing = opened_at (basis start.entries);
       read = refl;
       few_forms = omega arith;
-      talk = rw opened.places (opened.commits, refl);
+      talk = refl;
+      places = opened.places;
+      kept = opened.commits;
       written = sym (append_known-none had);
       stands = opened.stands;
       went_on = went_on-nothing start;
@@ -82,105 +85,79 @@ talk-opened f names bytes session start had opened =
 
 module _ {S : Type 0} (f : Terms) (names : S → List (List ℕ)) (bytes : List ℕ) (start was : State) (old : Session S) (had mid : Option (List ℕ)) (at : ℕ) (so_far : TalkSoFar f bytes at old names start was had mid) where
   -- there is one place for each form
-  count-forms : length old.places.items ≡ length so_far.forms
-  count-forms = (Talk-lengths (over f was) (opened_at (basis start.entries)) so_far.standing so_far.forms old.places.items old.commits.items so_far.lines so_far.talk).0
+  count-forms : length old.places.items ≡ length (forms_of so_far.exchanges)
+  count-forms =
+      ap length so_far.places ∙ length-map so_far.exchanges (λ (x : Exchange). x.place) ∙ sym (length-map so_far.exchanges (λ (x : Exchange). x.form))
 
-  one_more : (form : Form) → length old.places.items < most_commands → length (so_far.forms ++ form ∷ []) ≤ most_commands
-  one_more form room = omega (arith, length-append so_far.forms (form ∷ []), count-forms, room)
+  one_more : (x : Exchange) → length old.places.items < most_commands → length (forms_of (so_far.exchanges ++ x ∷ [])) ≤ most_commands
+  one_more x room = omega (arith, ap length (forms-push so_far.exchanges x), length-append (forms_of so_far.exchanges) (x.form ∷ []), count-forms, room)
 
   -- ---- the end
 
   sees-all : SeesAll (basis was.entries) (basis start.entries) old.places.items old.commits.items
-  sees-all = SeesAll-Talk (over f was) (opened_at (basis start.entries)) so_far.standing so_far.forms old.places.items old.commits.items so_far.lines so_far.from so_far.talk
+  sees-all = rw (so_far.places, so_far.kept) (SeesAll-Talk (over f was) (opened_at (basis start.entries)) so_far.standing so_far.exchanges so_far.from so_far.talk)
+
+  -- what was answered so far
+  leaves-so_far : record { written = concat (lines_of so_far.exchanges); places = old.places.items; commits = old.commits.items } ≡ trace_of so_far.exchanges
+  leaves-so_far = rw (so_far.places, so_far.kept) refl
 
   -- behind the forms stands what the session ended at
-  talk-ends : (ending : Ending) → EndsAt bytes (length so_far.forms) at ending → AnswersAll (over f was) (basis start.entries) bytes ending (concat so_far.lines) old.places.items old.commits.items
+  talk-ends : (ending : Ending) → EndsAt bytes (length (forms_of so_far.exchanges)) at ending
+      → AnswersAll (over f was) (basis start.entries) bytes ending (record { written = concat (lines_of so_far.exchanges); places = old.places.items; commits = old.commits.items })
   talk-ends ending ends =
       record {
-        forms = so_far.forms;
-        lines = so_far.lines;
+        exchanges = so_far.exchanges;
         after = so_far.standing;
         read = record { end = at; forms = so_far.read; few = so_far.few_forms; ends = ends };
         talk = so_far.talk;
-        whole_lines = refl;
+        leaves = leaves-so_far;
       }
 
-  -- behind the forms stands the end
-  talk-done : OnlyGap bytes at → Talks f bytes start was old.places.items old.commits.items had mid ended.Done
-  talk-done ends =
+  -- the session ends so, of which its answers say this
+  talk-ended : (how : SessionEnd) → IsPastReading how
+      → Answers (over f was) (basis start.entries) bytes (record { written = concat (lines_of so_far.exchanges); places = old.places.items; commits = old.commits.items }) how
+      → Talks f bytes start was had mid (served_by old how)
+  talk-ended how past answers =
       record {
-        written = concat so_far.lines;
+        written = concat (lines_of so_far.exchanges);
         gained = so_far.written;
-        answers = talk-ends whole ends;
+        answers = answers;
         prefixes = sees-all;
         commits_are = so_far.commits;
         went_on = so_far.went_on;
-        past_reading = tt;
+        past_reading = past;
       }
 
   -- behind the forms stands a fault
   fault-answers : (why : EdnFault) → (why ≡ edn.Memory → ⊥) → MatchFault (fault_of why) (FaultAt bytes at)
-      → AnswersUpTo (over f was) (basis start.entries) bytes (fault_of why) (concat so_far.lines) old.places.items old.commits.items
+      → AnswersUpTo (over f was) (basis start.entries) bytes (fault_of why) (record { written = concat (lines_of so_far.exchanges); places = old.places.items; commits = old.commits.items })
   fault-answers (edn.Bad byte) no_memory stands = talk-ends (fault model.bad byte) stands
   fault-answers (edn.Unsupported byte what) no_memory stands = talk-ends (fault (model.unsupported (what_of what)) byte) stands
   fault-answers (edn.Deep byte) no_memory stands = talk-ends (fault model.deep byte) stands
   fault-answers (edn.Cut byte) no_memory stands = talk-ends (fault model.cut byte) stands
   fault-answers edn.Memory no_memory stands = absurd (no_memory refl)
 
-  talk-fault : (why : EdnFault) → (why ≡ edn.Memory → ⊥) → MatchFault (fault_of why) (FaultAt bytes at) → Talks f bytes start was old.places.items old.commits.items had mid (ended.Script why)
-  talk-fault why no_memory stands =
-      record {
-        written = concat so_far.lines;
-        gained = so_far.written;
-        answers = fault-answers why no_memory stands;
-        prefixes = sees-all;
-        commits_are = so_far.commits;
-        went_on = so_far.went_on;
-        past_reading = tt;
-      }
-
-  -- behind as many forms as there may be stands one more
-  talk-too_many : (next : ℕ) (form : Form) → most_commands ≤ length old.places.items → FormStands bytes at form next → Talks f bytes start was old.places.items old.commits.items had mid ended.TooMany
-  talk-too_many next form full stands =
-      record {
-        written = concat so_far.lines;
-        gained = so_far.written;
-        answers = talk-ends too_many (omega (arith, count-forms, full, so_far.few_forms), form, next, stands);
-        prefixes = sees-all;
-        commits_are = so_far.commits;
-        went_on = so_far.went_on;
-        past_reading = tt;
-      }
-
   -- memory was refused, and the form behind was not looked at
-  talk-memory : Talks f bytes start was old.places.items old.commits.items had mid ended.Memory
-  talk-memory =
+  memory-answers : AnswersSome (over f was) (basis start.entries) bytes (record { written = concat (lines_of so_far.exchanges); places = old.places.items; commits = old.commits.items })
+  memory-answers =
       record {
-        written = concat so_far.lines;
-        gained = so_far.written;
-        answers = inl (record {
-          forms = so_far.forms;
-          lines = so_far.lines;
-          after = so_far.standing;
-          read = record { end = at; forms = so_far.read; few = so_far.few_forms };
-          talk = so_far.talk;
-          whole_lines = refl;
-        });
-        prefixes = sees-all;
-        commits_are = so_far.commits;
-        went_on = so_far.went_on;
-        past_reading = tt;
+        exchanges = so_far.exchanges;
+        after = so_far.standing;
+        read = record { end = at; forms = so_far.read; few = so_far.few_forms };
+        talk = so_far.talk;
+        leaves = leaves-so_far;
       }
 
   -- no command follows
-  pub talk-no_command : (how : SessionEnd) → NoCommand bytes at (length old.places.items) how → Talks f bytes start was old.places.items old.commits.items had mid how
-  talk-no_command ended.Done none = talk-done none
-  talk-no_command (ended.Script why) none = talk-fault why none.0 none.1
+  pub talk-no_command : (how : SessionEnd) → NoCommand bytes at (length old.places.items) how → Talks f bytes start was had mid (served_by old how)
+  talk-no_command ended.Done none = talk-ended ended.Done tt (talk-ends whole none)
+  talk-no_command (ended.Script why) none = talk-ended (ended.Script why) tt (fault-answers why none.0 none.1)
   talk-no_command ended.TooLong none = absurd none
-  talk-no_command ended.TooMany none = talk-too_many none.2 none.1 none.0 none.3
+  talk-no_command ended.TooMany none =
+      talk-ended ended.TooMany tt (talk-ends too_many (omega (arith, count-forms, none.0, so_far.few_forms), none.1, none.2, none.3))
   talk-no_command ended.ReadFault none = absurd none
   talk-no_command ended.WriteFault none = absurd none
-  talk-no_command ended.Memory none = talk-memory
+  talk-no_command ended.Memory none = talk-ended ended.Memory tt (inl memory-answers)
 
   -- ---- the desk goes on, and one form more is answered
 
@@ -198,35 +175,48 @@ module _ {S : Type 0} (f : Terms) (names : S → List (List ℕ)) (bytes : List 
     from-now : basis start.entries ≤ basis is.entries
     from-now = let same : basis is.entries ≡ basis (was.entries ++ goes.more) = ap basis goes.entries in omega (arith, same, grows, so_far.from)
 
-    talk-now : Talk (over f is) (opened_at (basis start.entries)) so_far.forms old.places.items old.commits.items so_far.lines so_far.standing
+    talk-now : Talk (over f is) (opened_at (basis start.entries)) so_far.exchanges so_far.standing
     talk-now =
-        let P : List Entry → Type 0 = λ h. Talk (setting f.may f.Selects f.guard f.is_filter h is.stop is.teller) (opened_at (basis start.entries)) so_far.forms old.places.items old.commits.items so_far.lines so_far.standing in
+        let P : List Entry → Type 0 = λ h. Talk (setting f.may f.Selects f.guard f.is_filter h is.stop is.teller) (opened_at (basis start.entries)) so_far.exchanges so_far.standing in
         subst P (sym goes.entries)
-        (Talk-longer (over f was) goes.more is.stop is.teller counted grows goes.stop (opened_at (basis start.entries)) so_far.standing so_far.forms old.places.items old.commits.items so_far.lines so_far.from so_far.talk)
+        (Talk-longer (over f was) goes.more is.stop is.teller counted grows goes.stop (opened_at (basis start.entries)) so_far.standing so_far.exchanges so_far.from so_far.talk)
 
     module _ (form : Form) (line : List ℕ) (answered : Answered f form old new names was is so_far.standing line) where
-      talk-one_more : Talk (over f is) (opened_at (basis start.entries)) (so_far.forms ++ form ∷ []) (old.places.items ++ answered.after.place ∷ []) new.commits.items (so_far.lines ++ line ∷ []) answered.after
+      abbrev last : Exchange
+      last = record { form = form; place = answered.after.place; line = line; commit = answered.commit }
+
+      talk-one_more : Talk (over f is) (opened_at (basis start.entries)) (so_far.exchanges ++ last ∷ []) answered.after
       talk-one_more =
-          rw answered.keeps.commits
-          (Talk-push (over f is) (opened_at (basis start.entries)) so_far.standing answered.after so_far.forms old.places.items old.commits.items so_far.lines form line answered.commit talk-now answered.answered)
+          Talk-push (over f is) (opened_at (basis start.entries)) so_far.standing answered.after so_far.exchanges last talk-now answered.answered refl
+
+      commits-one_more : new.commits.items ≡ commits_of (so_far.exchanges ++ last ∷ [])
+      commits-one_more =
+          answered.keeps.commits ∙ ap (λ cs. cs ++ option_to_list answered.commit) so_far.kept ∙ sym (commits-push so_far.exchanges last)
 
       sees-unfinished : SeesAll (basis is.entries) (basis start.entries) old.places.items new.commits.items
       sees-unfinished =
-          SeesAll-unfinished (over f is) (opened_at (basis start.entries)) answered.after so_far.forms old.places.items new.commits.items so_far.lines form answered.after.place line from-now talk-one_more
+          rw (so_far.places, commits-one_more) (SeesAll-unfinished (over f is) (opened_at (basis start.entries)) answered.after so_far.exchanges last from-now talk-one_more)
 
     module _ (next : ℕ) (form : Form) (ahead : at < next) (within : next ≤ length bytes) (room : length old.places.items < most_commands) (read : FormStands bytes at form next) (has : Option (List ℕ)) where
+      -- the forms up to the one behind
+      forms-one_more : (x : Exchange) → x.form ≡ form → FormsBetween bytes 0 (forms_of (so_far.exchanges ++ x ∷ [])) next
+      forms-one_more x is =
+          rw (forms-push so_far.exchanges x, is) (FormsBetween-push bytes 0 (forms_of so_far.exchanges) at form next so_far.read read)
+
       -- one more form was answered
       pub talk-replied : Replied f form old new names was is so_far.standing mid has → TalkSoFar f bytes next new names start is had has
       talk-replied r =
+          let x = last form r.line r.answered in
           record {
-            forms = so_far.forms ++ form ∷ [];
-            lines = so_far.lines ++ r.line ∷ [];
+            exchanges = so_far.exchanges ++ x ∷ [];
             standing = r.answered.after;
-            read = FormsBetween-push bytes 0 so_far.forms at form next so_far.read read;
-            few_forms = one_more form room;
-            talk = rw r.places (talk-one_more form r.line r.answered);
-            written = r.written ∙ ap (λ o. append_known o r.line) so_far.written ∙ append_known-append had (concat so_far.lines) r.line
-                ∙ ap (append_known had) (sym (concat-push so_far.lines r.line));
+            read = forms-one_more x refl;
+            few_forms = one_more x room;
+            talk = talk-one_more form r.line r.answered;
+            places = r.places ∙ ap (λ ps. ps ++ x.place ∷ []) so_far.places ∙ sym (places-push so_far.exchanges x);
+            kept = commits-one_more form r.line r.answered;
+            written = r.written ∙ ap (λ o. append_known o r.line) so_far.written ∙ append_known-append had (concat (lines_of so_far.exchanges)) r.line
+                ∙ ap (append_known had) (sym (lines-written so_far.exchanges x));
             stands = r.answered.stands;
             went_on = went_on-more start was is so_far.went_on goes;
             from = from-now;
@@ -234,98 +224,76 @@ module _ {S : Type 0} (f : Terms) (names : S → List (List ℕ)) (bytes : List 
             within = within;
           }
 
-      -- the sink failed in the middle of a line
-      talk-breaks_off : RepliedPart f form old new names was is so_far.standing mid has → Talks f bytes start is new.places.items new.commits.items had has ended.WriteFault
-      talk-breaks_off r =
+      -- the form behind was answered, and this much of its line was written
+      abbrev part : (line out : List ℕ) → Answered f form old new names was is so_far.standing line → new.places.items ≡ old.places.items
+          → AnswersPart (over f is) (basis start.entries) bytes (record { written = concat (lines_of so_far.exchanges) ++ out; places = new.places.items; commits = new.commits.items }) out
+      part line out answered places =
           record {
-            written = concat so_far.lines ++ r.written.out;
-            gained = r.written.taken ∙ ap (λ o. append_known o r.written.out) so_far.written ∙ append_known-append had (concat so_far.lines) r.written.out;
-            answers = record {
-              line = r.line;
-              out = r.written.out;
-              missing = r.written.kept;
-              parts = r.written.parts;
-              short = r.written.short;
-              answers = record {
-                forms = so_far.forms;
-                lines = so_far.lines;
-                next = form;
-                place = r.answered.after.place;
-                after = r.answered.after;
-                read = record {
-                  end = next;
-                  forms = FormsBetween-push bytes 0 so_far.forms at form next so_far.read read;
-                  few = one_more form room;
-                };
-                talk = rw r.places (talk-one_more form r.line r.answered);
-                whole_lines = refl;
-              };
-            };
-            prefixes = rw r.places (sees-unfinished form r.line r.answered);
-            commits_are = commits_on start was is old new r.answered.commit so_far.commits r.answered.keeps;
-            went_on = went_on-more start was is so_far.went_on goes;
-            past_reading = tt;
+            exchanges = so_far.exchanges;
+            last = last form line answered;
+            after = answered.after;
+            read = record { end = next; forms = forms-one_more (last form line answered) refl; few = one_more (last form line answered) room };
+            talk = talk-one_more form line answered;
+            written = refl;
+            places = places ∙ so_far.places;
+            commits = commits-one_more form line answered;
           }
 
-      -- memory was refused, and nothing was committed for the form behind
-      talk-same : Keeps old new was is None → new.places.items ≡ old.places.items → has ≡ mid → Talks f bytes start is new.places.items new.commits.items had has ended.Memory
+      talk-unfinished : (how : SessionEnd) (line out : List ℕ) → Answered f form old new names was is so_far.standing line → IsPastReading how
+          → new.places.items ≡ old.places.items → has ≡ append_known mid out
+          → Answers (over f is) (basis start.entries) bytes (record { written = concat (lines_of so_far.exchanges) ++ out; places = new.places.items; commits = new.commits.items }) how
+          → Talks f bytes start is had has (served_by new how)
+      talk-unfinished how line out answered past places gained answers =
+          record {
+            written = concat (lines_of so_far.exchanges) ++ out;
+            gained = gained ∙ ap (λ o. append_known o out) so_far.written ∙ append_known-append had (concat (lines_of so_far.exchanges)) out;
+            answers = answers;
+            prefixes = rw places (sees-unfinished form line answered);
+            commits_are = commits_on start was is old new answered.commit so_far.commits answered.keeps;
+            went_on = went_on-more start was is so_far.went_on goes;
+            past_reading = past;
+          }
+
+      -- the sink failed in the middle of a line
+      talk-breaks_off : RepliedPart f form old new names was is so_far.standing mid has → Talks f bytes start is had has (served_by new ended.WriteFault)
+      talk-breaks_off r =
+          talk-unfinished ended.WriteFault r.line r.written.out r.answered tt r.places r.written.taken
+          (record { out = r.written.out; missing = r.written.kept; short = r.written.short; answers = part r.line r.written.out r.answered r.places; parts = r.written.parts })
+
+      -- memory was refused to the line of the form behind
+      talk-unwritten : (line : List ℕ) → Answered f form old new names was is so_far.standing line → new.places.items ≡ old.places.items → has ≡ mid
+          → Talks f bytes start is had has (served_by new ended.Memory)
+      talk-unwritten line answered places written =
+          talk-unfinished ended.Memory line [] answered tt places (written ∙ sym (append_known-none mid)) (inr (part line [] answered places))
+
+      -- it was refused, and nothing was committed for the form behind
+      talk-same : Keeps old new was is None → new.places.items ≡ old.places.items → has ≡ mid → Talks f bytes start is had has (served_by new ended.Memory)
       talk-same keeps places written =
           let same : new.commits.items ≡ old.commits.items = keeps.commits ∙ append-nil old.commits.items in
           record {
-            written = concat so_far.lines;
+            written = concat (lines_of so_far.exchanges);
             gained = written ∙ so_far.written;
             answers = inl (record {
-              forms = so_far.forms;
-              lines = so_far.lines;
+              exchanges = so_far.exchanges;
               after = so_far.standing;
               read = record { end = at; forms = so_far.read; few = so_far.few_forms };
-              talk = rw (places, same) talk-now;
-              whole_lines = refl;
+              talk = talk-now;
+              leaves = rw (places ∙ so_far.places, same ∙ so_far.kept) refl;
             });
-            prefixes = rw (places, same)
-                (SeesAll-Talk (over f is) (opened_at (basis start.entries)) so_far.standing so_far.forms old.places.items old.commits.items so_far.lines from-now talk-now);
+            prefixes = rw (places ∙ so_far.places, same ∙ so_far.kept)
+                (SeesAll-Talk (over f is) (opened_at (basis start.entries)) so_far.standing so_far.exchanges from-now talk-now);
             commits_are = commits_on start was is old new None so_far.commits keeps;
             went_on = went_on-more start was is so_far.went_on goes;
             past_reading = tt;
           }
 
-      -- it was refused to the line of the form behind
-      talk-unwritten : (line : List ℕ) → Answered f form old new names was is so_far.standing line → new.places.items ≡ old.places.items → has ≡ mid
-          → Talks f bytes start is new.places.items new.commits.items had has ended.Memory
-      talk-unwritten line answered places written =
-          record {
-            written = concat so_far.lines;
-            gained = written ∙ so_far.written;
-            answers = inr (
-              line,
-              record {
-                forms = so_far.forms;
-                lines = so_far.lines;
-                next = form;
-                place = answered.after.place;
-                after = answered.after;
-                read = record {
-                  end = next;
-                  forms = FormsBetween-push bytes 0 so_far.forms at form next so_far.read read;
-                  few = one_more form room;
-                };
-                talk = rw places (talk-one_more form line answered);
-                whole_lines = sym (append-nil (concat so_far.lines));
-              },
-            );
-            prefixes = rw places (sees-unfinished form line answered);
-            commits_are = commits_on start was is old new answered.commit so_far.commits answered.keeps;
-            went_on = went_on-more start was is so_far.went_on goes;
-            past_reading = tt;
-          }
-
       -- the form behind was not answered
-      pub talk-stops : (stop : AnswerError) → StopsAt f form old new names was is so_far.standing mid has stop → Talks f bytes start is new.places.items new.commits.items had has (end_of stop)
+      pub talk-stops : (stop : AnswerError) → StopsAt f form old new names was is so_far.standing mid has stop → Talks f bytes start is had has (served_by new (end_of stop))
       talk-stops WriteFault stopped = talk-breaks_off stopped
       talk-stops Memory stopped =
           elim stopped.unanswered [
             | inl keeps ↦ talk-same keeps stopped.places stopped.written
-            | inr part ↦ talk-unwritten part.0 part.1 stopped.places stopped.written
+            | inr answered ↦ talk-unwritten answered.0 answered.1 stopped.places stopped.written
           ]
 
 -- nor did the sink fail

@@ -4,91 +4,91 @@
 use Rattle.std.specs.Prelude.{◌≡◌, ℕ, ◌<◌, ◌⊎◌, ◌↔◌, Bool, true, false, List, [], ◌∷◌, ◌++◌, Option, Some, None, IsTrue, length, nat_lt, ◌||◌}
 use Rattle.std.specs.List.{concat}
 use Rattle.std.specs.Io.KnownBytes.{prepend_known, append_known, IsAtEnd}
-use Rattle.edn_model.specs.Form.{Form}
 use Rattle.edn_model.specs.Faults.{Fault}
 use Rattle.edn_core.specs.Answers.{fault_of}
 use Rattle.fb_ports.specs.Faults.{Rose}
 use Rattle.script_model.specs.Script.{Ending, whole, fault, too_many, Script, Begins}
 use Rattle.talk_model.specs.Session.{Setting, Standing, opened_at}
-use Rattle.talk_model.specs.Talk.{Talk}
+use Rattle.talk_model.specs.Talk.{Exchange, forms_of, places_of, lines_of, commits_of, Talk}
 use Rattle.fb_session.specs.declared.outcome.SessionEnd.{SessionEnd}
 use Rattle.fb_session.specs.declared.outcome.SessionEnd.TheVariants as ended
 use Rattle.fb_session.specs.Taken.{longest_script}
 
--- ---- replies
+-- ---- what a session did
+
+-- the bytes that it wrote, where each of its lines was answered, and what it committed
+pub record Trace : Type 0 where
+  pub written : List ℕ
+  pub places : List ℕ
+  pub commits : List ℕ
+
+-- where each line was written whole, and no other form was answered
+abbrev pub trace_of : List Exchange → Trace
+trace_of exchanges =
+    record {
+      written = concat (lines_of exchanges);
+      places = places_of exchanges;
+      commits = commits_of exchanges;
+    }
 
 -- every form of the script was answered, and its lines are all that was written
 pub record AnswersAll (s : Setting) (opening : ℕ) (script : List ℕ) (ending : Ending)
-    (written : List ℕ) (places commits : List ℕ) : Type 0 where
-  pub forms : List Form
-  pub lines : List (List ℕ)
+    (trace : Trace) : Type 0 where
+  pub exchanges : List Exchange
   pub after : Standing
-  pub read : Script script forms ending
-  pub talk : Talk s (opened_at opening) forms places commits lines after
-  pub whole_lines : written ≡ concat lines
+  pub read : Script script (forms_of exchanges) ending
+  pub talk : Talk s (opened_at opening) exchanges after
+  pub leaves : trace ≡ trace_of exchanges
 
 -- the script's first forms were answered, and their lines are all that was written
-pub record AnswersSome (s : Setting) (opening : ℕ) (script written places commits : List ℕ)
-    : Type 0 where
-  pub forms : List Form
-  pub lines : List (List ℕ)
+pub record AnswersSome (s : Setting) (opening : ℕ) (script : List ℕ) (trace : Trace) : Type 0 where
+  pub exchanges : List Exchange
   pub after : Standing
-  pub read : Begins script forms
-  pub talk : Talk s (opened_at opening) forms places commits lines after
-  pub whole_lines : written ≡ concat lines
+  pub read : Begins script (forms_of exchanges)
+  pub talk : Talk s (opened_at opening) exchanges after
+  pub leaves : trace ≡ trace_of exchanges
 
--- Behind the lines that were written whole, one more form was decided, and may have committed: its t is the last commit
--- then, and the talk of the forms before it is that of the commits without it. Of its line this much was written.
-pub record AnswersPart (s : Setting) (opening : ℕ) (script written places commits : List ℕ)
-    (line out : List ℕ) : Type 0 where
-  pub forms : List Form
-  pub lines : List (List ℕ)
-  pub next : Form
-  pub place : ℕ
+-- Behind the lines that were written whole, one more form was answered, and may have committed: its t is the last commit then.
+-- Of its line this much was written.
+pub record AnswersPart (s : Setting) (opening : ℕ) (script : List ℕ) (trace : Trace)
+    (out : List ℕ) : Type 0 where
+  pub exchanges : List Exchange
+  pub last : Exchange
   pub after : Standing
-  pub read : Begins script (forms ++ next ∷ [])
-  pub talk : Talk s (opened_at opening) (forms ++ next ∷ []) (places ++ place ∷ []) commits
-      (lines ++ line ∷ []) after
-  pub whole_lines : written ≡ concat lines ++ out
+  pub read : Begins script (forms_of (exchanges ++ last ∷ []))
+  pub talk : Talk s (opened_at opening) (exchanges ++ last ∷ []) after
+  pub written : trace.written ≡ concat (lines_of exchanges) ++ out
+  pub places : trace.places ≡ places_of exchanges
+  pub commits : trace.commits ≡ commits_of (exchanges ++ last ∷ [])
 
 -- the line of the form behind broke off, short of its whole
-pub record BreaksOff (s : Setting) (opening : ℕ) (script written places commits : List ℕ)
-    : Type 0 where
-  pub line : List ℕ
+pub record BreaksOff (s : Setting) (opening : ℕ) (script : List ℕ) (trace : Trace) : Type 0 where
   pub out : List ℕ
   pub missing : List ℕ
-  pub parts : line ≡ out ++ missing
   pub short : 0 < length missing
-  pub answers : AnswersPart s opening script written places commits line out
+  pub answers : AnswersPart s opening script trace out
+  pub parts : answers.last.line ≡ out ++ missing
 
 -- no form was answered, and nothing was written
-pub record AnswersNone (written places commits : List ℕ) : Type 0 where
-  pub nothing_written : written ≡ []
-  pub no_place : places ≡ []
-  pub no_commit : commits ≡ []
+abbrev pub AnswersNone : Trace → Type 0
+AnswersNone trace = trace ≡ trace_of []
 
 -- the script's forms up to its fault were answered
-abbrev pub AnswersUpTo : Setting → ℕ → List ℕ → Option (Fault × ℕ) → List ℕ → List ℕ → List ℕ
-    → Type 0
-AnswersUpTo s opening script (Some p) written places commits =
-    AnswersAll s opening script (fault p.0 p.1) written places commits
-AnswersUpTo s opening script None written places commits = ⊥
+abbrev pub AnswersUpTo : Setting → ℕ → List ℕ → Option (Fault × ℕ) → Trace → Type 0
+AnswersUpTo s opening script (Some p) trace = AnswersAll s opening script (fault p.0 p.1) trace
+AnswersUpTo s opening script None trace = ⊥
 
 -- what the end of a session says of its answers to the script
-abbrev pub Answers : Setting → ℕ → List ℕ → List ℕ → List ℕ → List ℕ → SessionEnd → Type 0
-Answers s opening script written places commits ended.Done =
-    AnswersAll s opening script whole written places commits
-Answers s opening script written places commits (ended.Script why) =
-    AnswersUpTo s opening script (fault_of why) written places commits
-Answers s opening script written places commits ended.TooMany =
-    AnswersAll s opening script too_many written places commits
-Answers s opening script written places commits ended.TooLong = AnswersNone written places commits
-Answers s opening script written places commits ended.ReadFault = AnswersNone written places commits
-Answers s opening script written places commits ended.WriteFault =
-    BreaksOff s opening script written places commits
-Answers s opening script written places commits ended.Memory =
-    AnswersSome s opening script written places commits
-    ⊎ ((line : List ℕ) × AnswersPart s opening script written places commits line [])
+abbrev pub Answers : Setting → ℕ → List ℕ → Trace → SessionEnd → Type 0
+Answers s opening script trace ended.Done = AnswersAll s opening script whole trace
+Answers s opening script trace (ended.Script why) =
+    AnswersUpTo s opening script (fault_of why) trace
+Answers s opening script trace ended.TooMany = AnswersAll s opening script too_many trace
+Answers s opening script trace ended.TooLong = AnswersNone trace
+Answers s opening script trace ended.ReadFault = AnswersNone trace
+Answers s opening script trace ended.WriteFault = BreaksOff s opening script trace
+Answers s opening script trace ended.Memory =
+    AnswersSome s opening script trace ⊎ AnswersPart s opening script trace []
 
 -- the ends that rest on the whole script
 abbrev pub rests_on_whole : SessionEnd → Bool
@@ -100,19 +100,35 @@ rests_on_whole ended.ReadFault = false
 rests_on_whole ended.WriteFault = true
 rests_on_whole ended.Memory = false
 
--- A session took these bytes of its source and wrote these into its sink, where they tell what they hold.
-pub record Replies (s : Setting) (opening : ℕ) (held left : Option (List ℕ))
-    (had has : Option (List ℕ)) (places commits : List ℕ) (how : SessionEnd) : Type 0 where
+-- ---- replies
+
+-- What a session was handed and hands back, where its source and its sink tell what they hold.
+pub record SessionRun : Type 0 where
+  -- what its source held, and what is left of that
+  pub held : Option (List ℕ)
+  pub left : Option (List ℕ)
+  -- what its sink had, and what it has
+  pub had : Option (List ℕ)
+  pub has : Option (List ℕ)
+  -- where each of its lines was answered, and what it committed
+  pub places : List ℕ
+  pub commits : List ℕ
+  pub end : SessionEnd
+
+-- It took these bytes of its source, wrote these into its sink, and answers the one with the other.
+pub record Replies (s : Setting) (opening : ℕ) (run : SessionRun) : Type 0 where
   pub script : List ℕ
   pub written : List ℕ
-  pub taken : held ≡ prepend_known script left
-  pub gained : has ≡ append_known had written
-  pub answers : Answers s opening script written places commits how
+  pub taken : run.held ≡ prepend_known script run.left
+  pub gained : run.has ≡ append_known run.had written
+  pub answers : Answers s opening script
+      (record { written = written; places = run.places; commits = run.commits }) run.end
   -- more than the longest script was taken exactly where it is too long
-  pub too_long : (how ≡ ended.TooLong) ↔ (longest_script < length script)
+  pub too_long : (run.end ≡ ended.TooLong) ↔ (longest_script < length script)
   -- where there is a line, a commit, or an end that rests on the whole script, all that the source held was taken
-  pub all : IsTrue (rests_on_whole how || (nat_lt 0 (length places) || nat_lt 0 (length commits)))
-      → IsAtEnd left
+  pub all : IsTrue
+      (rests_on_whole run.end || (nat_lt 0 (length run.places) || nat_lt 0 (length run.commits)))
+      → IsAtEnd run.left
 
 -- ---- causes
 

@@ -20,7 +20,7 @@ use Rattle.talk_model.specs.Replies.{IsLineOf}
 use Rattle.talk_model.specs.Commands.{Command}
 use Rattle.talk_model.specs.Reads.{IsReply, behind}
 use Rattle.talk_model.specs.Session.{Setting, Standing, setting, opened_at, SelectedBy}
-use Rattle.talk_model.specs.Talk.{IsAnswered, Talk}
+use Rattle.talk_model.specs.Talk.{IsAnswered, Exchange, forms_of, places_of, lines_of, commits_of, Talk}
 use Rattle.talk_model.specs.Prefixes.{SeesAll}
 use Rattle.fb_ports.specs.Faults.{Rose}
 use Rattle.fb_preds.specs.Naming.{selected_by}
@@ -31,6 +31,7 @@ use Rattle.fb_desk.specs.Desks.{State, IsReceipt, IsFault}
 use Rattle.fb_desk.specs.declared.answers.Receipt.{Receipt}
 use Rattle.fb_desk.specs.declared.answers.TxFault.{TxFault}
 use Rattle.fb_desk.specs.declared.answers.TxFault.TheVariants as fault
+use Rattle.fb_session.specs.declared.outcome.Served.{Served}
 use Rattle.fb_session.specs.declared.outcome.SessionEnd.{SessionEnd}
 use Rattle.fb_session.specs.declared.outcome.SessionEnd.TheVariants as ended
 use Rattle.fb_session.specs.declared.session.Session.{Session}
@@ -226,14 +227,14 @@ end_of Memory = ended.Memory
 -- The bytes up to this place are forms, and this is the session's talk over them so far: its lines are what the sink gained.
 pub record TalkSoFar {S : Type 0} (f : Terms) (bytes : List ℕ) (at : ℕ) (session : Session S)
     (names : S → List (List ℕ)) (start now : State) (had has : Option (List ℕ)) : Type 0 where
-  pub forms : List Form
-  pub lines : List (List ℕ)
+  pub exchanges : List Exchange
   pub standing : Standing
-  pub read : FormsBetween bytes 0 forms at
-  pub few_forms : length forms ≤ most_commands
-  pub talk : Talk (over f now) (opened_at (basis start.entries)) forms session.places.items
-      session.commits.items lines standing
-  pub written : has ≡ append_known had (concat lines)
+  pub read : FormsBetween bytes 0 (forms_of exchanges) at
+  pub few_forms : length (forms_of exchanges) ≤ most_commands
+  pub talk : Talk (over f now) (opened_at (basis start.entries)) exchanges standing
+  pub places : session.places.items ≡ places_of exchanges
+  pub kept : session.commits.items ≡ commits_of exchanges
+  pub written : has ≡ append_known had (concat (lines_of exchanges))
   pub stands : StandsAt session.view names now standing
   pub went_on : WentOn start now
   pub from : basis start.entries ≤ basis now.entries
@@ -269,13 +270,19 @@ IsPastReading ended.ReadFault = ⊥
 IsPastReading ended.WriteFault = Unit {0}
 IsPastReading ended.Memory = Unit {0}
 
+-- what is left of a session that ends so
+abbrev pub served_by : {S : Type 0} → Session S → SessionEnd → Served
+served_by session how =
+    record { end = how; places = session.places.items; commits = session.commits.items }
+
 -- the session's answers to a script, whatever it wrote
-pub record Talks (f : Terms) (script : List ℕ) (start now : State) (places commits : List ℕ)
-    (had has : Option (List ℕ)) (how : SessionEnd) : Type 0 where
+pub record Talks (f : Terms) (script : List ℕ) (start now : State) (had has : Option (List ℕ))
+    (served : Served) : Type 0 where
   pub written : List ℕ
   pub gained : has ≡ append_known had written
-  pub answers : Answers (over f now) (basis start.entries) script written places commits how
-  pub prefixes : SeesAll (basis now.entries) (basis start.entries) places commits
-  pub commits_are : now.commits ≡ start.commits ++ commits
+  pub answers : Answers (over f now) (basis start.entries) script
+      (record { written = written; places = served.places; commits = served.commits }) served.end
+  pub prefixes : SeesAll (basis now.entries) (basis start.entries) served.places served.commits
+  pub commits_are : now.commits ≡ start.commits ++ served.commits
   pub went_on : WentOn start now
-  pub past_reading : IsPastReading how
+  pub past_reading : IsPastReading served.end

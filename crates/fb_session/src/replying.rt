@@ -10,7 +10,7 @@ ghost use Rattle.talk_model.specs.Replies.{basis_reply, IsLineOf};
 ghost use Rattle.fb_preds.specs.Naming.{selected_by};
 ghost use Rattle.fb_commands.specs.Asked.{asked};
 ghost use Rattle.fb_desk.specs.Desks.{GoesOn};
-ghost use Rattle.fb_session.specs.Sessions.{terms_of, StandsAt, Sees, Shows, Keeps, Reads, Answered, Unanswered};
+ghost use Rattle.fb_session.specs.Sessions.{terms_of, StandsAt, Shows, Keeps, Reads, Answered, Unanswered};
 
 use crate::session::Session;
 use edn_form::Edn;

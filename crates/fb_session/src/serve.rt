@@ -1,6 +1,6 @@
 //! The loop over the forms of a script.
 ghost use denote.Param.Send.{IsSync};
-ghost use Rattle.std.specs.Prelude.{◌≡◌, ◌≤◌, ◌<◌, ◌+◌, ◌++◌, IfOk, IfErr, OnOk, OnErr, length, is_some, map};
+ghost use Rattle.std.specs.Prelude.{◌≡◌, ◌≤◌, ◌<◌, ◌+◌, ◌++◌, IfOk, IfErr, OnOk, length, is_some, map};
 ghost use Rattle.edn_form.specs.View.{form_of};
 ghost use Rattle.fb_model.specs.History.{basis};
 ghost use Rattle.fb_preds.specs.Naming.{selected_by};
@@ -8,7 +8,7 @@ ghost use Rattle.talk_model.specs.Prefixes.{Prefixes};
 ghost use Rattle.talk_model.specs.Session.{Standing, setting};
 ghost use Rattle.fb_desk.specs.Desks.{GoesOn};
 ghost use Rattle.fb_session.specs.Replies.{Replies, SourceCount, SinkCount};
-ghost use Rattle.fb_session.specs.Sessions.{terms_of, WentOn, StandsAt, IsOpened, Replied, StopsAt, StopCount, end_of, IsCommand, NoCommand, Talks};
+ghost use Rattle.fb_session.specs.Sessions.{terms_of, WentOn, StandsAt, IsOpened, Replied, StopsAt, StopCount, end_of, IsCommand, NoCommand, served_by, Talks};
 
 use crate::outcome::{Served, SessionEnd};
 use crate::reading::{ReadStop, read_script};
@@ -82,8 +82,16 @@ pub fn serve_desk<
         (setting (K.may_answer clock.now) (selected_by (P.place_of table) (P.selects_at table))
         (G.bars guard.now) (λ name. is_some (P.place_of table name)) now.entries now.stop
         now.teller)
-        (basis (T.state desk.old).entries) (I.left source.old) (I.left source.new)
-        (O.contents sink.old) (O.contents sink.new) result.places result.commits result.end }
+        (basis (T.state desk.old).entries)
+        (record {
+          held = I.left source.old;
+          left = I.left source.new;
+          had = O.contents sink.old;
+          has = O.contents sink.new;
+          places = result.places;
+          commits = result.commits;
+          end = result.end;
+        }) }
     ensures prefixes { Prefixes (basis (T.state desk.old).entries)
         (basis (T.state desk.new).entries) result.places result.commits }
     ensures commits { (T.state desk.new).commits ≡ (T.state desk.old).commits ++ result.commits }
@@ -131,8 +139,8 @@ fn serve_script<
     ensures answers { Talks
         (terms_of (K.may_answer clock.now) (G.bars guard.now) (P.place_of preds.now)
         (P.selects_at preds.now))
-        script.now (T.state desk.old) (T.state desk.new) result.places result.commits
-        (O.contents sink.old) (O.contents sink.new) result.end }
+        script.now (T.state desk.old) (T.state desk.new) (O.contents sink.old)
+        (O.contents sink.new) result }
     ensures count { SinkCount result.end (O.faults sink.old) (O.faults sink.new) }
 {
     let Ok(mut session) = Session::open(alloc, desk, preds) else {
@@ -161,8 +169,8 @@ impl<P: FilterTable> Session<Picks<'_, P>> {
         ensures answers { let table = self.old.view.filter.table.now in Talks
             (terms_of (K.may_answer clock.now) (G.bars guard.now) (P.place_of table)
             (P.selects_at table))
-            script.now (T.state desk.old) (T.state desk.new) self.new.places.items
-            self.new.commits.items (O.contents sink.old) (O.contents sink.new) result }
+            script.now (T.state desk.old) (T.state desk.new) (O.contents sink.old)
+            (O.contents sink.new) (served_by self.new result) }
         ensures count { SinkCount result (O.faults sink.old) (O.faults sink.new) }
     {
         let mut at = 0;

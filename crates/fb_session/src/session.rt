@@ -1,7 +1,7 @@
 //! What a session keeps between two commands.
 ghost use Rattle.std.specs.Prelude.{◌≡◌, ◌<◌, IfOk, OnOk, vec_len, vec_capacity, map};
 ghost use Rattle.fb_model.specs.History.{basis};
-ghost use Rattle.fb_session.specs.Sessions.{IsOpened};
+ghost use Rattle.fb_session.specs.Sessions.{IsOpened, served_by};
 
 use crate::outcome::{Places, Served, SessionEnd};
 use fb_db::Db;
@@ -77,9 +77,7 @@ impl<S: Selector> Session<S> {
     }
 
     pub(crate) fn served(self, end: SessionEnd) -> Served
-        ensures end { result.end ≡ end }
-        ensures places { result.places ≡ self.places.items }
-        ensures commits { result.commits ≡ self.commits.items }
+        ensures { result ≡ served_by self end }
     {
         Served {
             end,

@@ -1,6 +1,6 @@
 //! A transaction: it is asked for at the desk, and its line says what became of it. What the desk answers is seen from then on,
 //! also where the transaction was not accepted.
-ghost use Rattle.std.specs.Prelude.{◌≡◌, ◌++◌, [], ◌∷◌, ◌<◌, OnOk, OnErr, vec_len, vec_capacity, codes};
+ghost use Rattle.std.specs.Prelude.{◌≡◌, ◌++◌, [], ◌∷◌, ◌<◌, OnOk, OnErr, vec_len, vec_capacity};
 ghost use Rattle.edn_form.specs.View.{form_of};
 ghost use Rattle.fb_model.specs.History.{basis};
 ghost use Rattle.tx_refusals.specs.Reasons.{keyword_of};

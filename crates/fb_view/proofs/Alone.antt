@@ -1,5 +1,5 @@
 -- The lists of one entry alone.
-use Rattle.std.proofs.Common.{◌≡◌, ◌∙◌, ◌⊎◌, inl, inr, List, [], ◌∷◌, ◌++◌, refl, sym, ap, subst, arith, Some}
+use Rattle.std.proofs.Common.{◌≡◌, ◌∙◌, inl, inr, List, [], ◌∷◌, ◌++◌, refl, sym, ap, subst, arith, Some}
 use Rattle.std.specs.Prelude.{◌↔◌, Contains, IsTrue}
 use Rattle.std.specs.Cmp.{tied_itself}
 use Rattle.std.specs.Cmp.Lexicographic.{slice_cmp, lists_total}
@@ -13,9 +13,8 @@ use Rattle.fb_covers.specs.Coverage.{Coverage}
 use Rattle.fb_values.specs.Lists.{list_in}
 use Rattle.fb_model.specs.Rising.{IsRisingListOf}
 use Rattle.fb_model.specs.FirstEntry.{first_entry}
-use Rattle.fb_model.specs.History.{basis, upto, said}
+use Rattle.fb_model.specs.History.{upto, said}
 use Rattle.fb_model.specs.Facts.{facts}
-use Rattle.fb_model.specs.Schema.{covers}
 use Rattle.fb_model.proofs.LawfulHistories.{IsLawful-first}
 use Rattle.fb_model.proofs.Times.{same_keys, one_for_each_key}
 use Rattle.live_index.specs.Growth.{HasNoTwins, IsOffered, IsGrown, is_held}

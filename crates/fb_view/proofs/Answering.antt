@@ -1,19 +1,18 @@
 -- Each answer of a snapshot is what the definitions say of its history.
-use Rattle.std.proofs.Common.{◌≡◌, ◌∙◌, ℕ, Bool, true, false, ◌&&◌, List, refl, sym, ap, subst, eqb, Option, Some, None, inl, inr, ◌⊎◌, map}
-use Rattle.std.specs.Prelude.{Contains, IsTrue, find, is_some}
+use Rattle.std.proofs.Common.{◌≡◌, ◌∙◌, ℕ, Bool, true, ◌&&◌, List, refl, sym, ap, eqb, Option, Some, None, inl, inr, map}
+use Rattle.std.specs.Prelude.{IsTrue, find, is_some}
 use Rattle.std.specs.Option.{option_map}
-use Rattle.std.proofs.lemmas.Bool.{eqb-true, eq-eqb, and_parts, and_from}
+use Rattle.std.proofs.lemmas.Bool.{eqb-true, and_parts, and_from}
 use Rattle.fb_values.specs.declared.facts.Datom.{Datom}
 use Rattle.fb_values.specs.declared.facts.Value.{Value}
 use Rattle.fb_values.specs.declared.facts.Value.TheVariants.{Ref}
 use Rattle.fb_values.specs.declared.indexes.Order.TheVariants.{Eavt, Aevt, Avet, Vaet}
 use Rattle.fb_values.specs.declared.indexes.Probe.{Probe}
-use Rattle.fb_model.specs.History.{said}
-use Rattle.fb_model.specs.Facts.{is_of, value_eq, holds, holder, facts}
+use Rattle.fb_model.specs.Facts.{value_eq, holds, holder, facts}
 use Rattle.fb_model.specs.Schema.{covers, is_about}
 use Rattle.fb_schema.proofs.Lookups.{covers-described}
 use Rattle.seg_tree.specs.Indexes.{tree_in}
-use Rattle.fb_facts.specs.Told.{facts_in, is_of_entity, is_ref_to, is_under, values_of, facts_of, refs_to, facts_under}
+use Rattle.fb_facts.specs.Told.{is_of_entity, is_ref_to, is_under, values_of, facts_of, refs_to, facts_under}
 use Rattle.fb_view.specs.Kept.{Kept, Stands}
 use Rattle.fb_view.specs.Merged.{facts_led}
 use Rattle.fb_view.specs.Facts.{IsTripleProbe, IsValueProbe}

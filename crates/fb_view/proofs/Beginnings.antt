@@ -1,12 +1,10 @@
 -- The first entries of a lawful history.
-use Rattle.std.proofs.Common.{◌≡◌, ◌∙◌, ℕ, zero, suc, ◌+◌, ◌<◌, ◌≤◌, List, [], ◌∷◌, ◌++◌, length, take, refl, sym, ap, subst, arith, Option, Some, None, append_assoc, append-nil}
+use Rattle.std.proofs.Common.{◌≡◌, ◌∙◌, ℕ, zero, suc, ◌+◌, ◌<◌, ◌≤◌, List, [], ◌∷◌, ◌++◌, length, take, refl, sym, ap, subst, arith, Some, append_assoc, append-nil}
 use Rattle.std.specs.List.{slice_get}
 use Rattle.std.proofs.lemmas.List.{length-take}
 use Rattle.fb_values.specs.declared.facts.Entry.{Entry}
-use Rattle.fb_values.specs.declared.indexes.Order.{Order}
 use Rattle.fb_model.specs.Rising.{IsRisingListOf}
 use Rattle.fb_model.specs.History.{basis, upto}
-use Rattle.fb_model.specs.Facts.{facts}
 use Rattle.fb_model.specs.Lawful.{IsLawful, IsLawfulFrom, IsLawfulAfter}
 use Rattle.fb_model.proofs.LawfulHistories.{IsLawful-length}
 use Rattle.fb_values.specs.Lists.{Lists, list_in}

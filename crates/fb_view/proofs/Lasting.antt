@@ -1,15 +1,15 @@
 -- Which datoms stand: the last ones of their triples, in a history and in a list of an order alike.
-use Rattle.std.proofs.Common.{◌≡◌, ◌∙◌, ℕ, zero, suc, ◌+◌, ◌<◌, ◌≤◌, ◌⊎◌, inl, inr, Bool, true, false, not, ◌&&◌, ◌||◌, cond, List, [], ◌∷◌, ◌++◌, length, take, drop, get_or, refl, sym, ap, subst, arith, eqb, leb, Option, Some, None}
-use Rattle.std.specs.Prelude.{Contains, filter, ◌↔◌}
+use Rattle.std.proofs.Common.{◌≡◌, ◌∙◌, ℕ, ◌+◌, ◌<◌, ◌≤◌, ◌⊎◌, inl, inr, Bool, true, false, not, ◌&&◌, ◌||◌, cond, List, [], ◌∷◌, ◌++◌, length, take, drop, get_or, refl, sym, ap, subst, arith, eqb, leb, Some, None}
+use Rattle.std.specs.Prelude.{Contains, ◌↔◌}
 use Rattle.std.specs.List.{slice_get, list_any}
 use Rattle.std.specs.Option.{option_map_or}
-use Rattle.std.specs.Ordering.{is_lt, is_eq, is_gt, nat_cmp}
+use Rattle.std.specs.Ordering.{is_gt, nat_cmp}
 use Rattle.std.specs.declared.cmp.Ordering.{Ordering}
 use Rattle.std.specs.declared.cmp.Ordering.TheVariants.{Less, Equal, Greater}
 use Rattle.std.specs.Cmp.{tied_itself}
-use Rattle.std.specs.Cmp.Lexicographic.{slice_cmp, lists_total}
+use Rattle.std.specs.Cmp.Lexicographic.{slice_cmp}
 use Rattle.std.proofs.lemmas.Bool.{true≢false, cases_Bool, cases_lt, eqb-true, leb-true, and_parts, and_from}
-use Rattle.std.proofs.lemmas.List.Elements.{Contains-append_left, Contains-append_right, Contains-append_cases}
+use Rattle.std.proofs.lemmas.List.Elements.{Contains-append_cases}
 use Rattle.fb_values.specs.declared.facts.Datom.{Datom}
 use Rattle.fb_values.specs.declared.facts.Entry.{Entry}
 use Rattle.fb_values.specs.declared.facts.Value.{Value}
@@ -18,24 +18,23 @@ use Rattle.fb_values.specs.declared.indexes.Order.{Order}
 use Rattle.fb_values.specs.declared.indexes.Order.TheVariants.{Eavt, Aevt, Avet, Vaet}
 use Rattle.fb_values.specs.declared.indexes.Probe.{Probe}
 use Rattle.fb_values.specs.Orders.{key_cmp, key_of, value_cmp, given, probe_cmp}
-use Rattle.fb_values.specs.OrderLaws.{value_cmp_total, key_cmp_total, key_cmp-Equal, probe_cmp-Equal, Equal-probe_cmp, IsAtOnePlace}
-use Rattle.fb_values.specs.Rising.{rises, StandsBefore, IsRising}
+use Rattle.fb_values.specs.OrderLaws.{value_cmp_total, probe_cmp-Equal, Equal-probe_cmp}
+use Rattle.fb_values.specs.Rising.{IsRising}
 use Rattle.fb_search.proofs.Below.{below_earlier}
 use Rattle.fb_model.specs.FirstEntry.{first_entry}
 use Rattle.fb_model.specs.Rising.{IsRisingListOf}
 use Rattle.fb_model.specs.History.{basis, said}
 use Rattle.fb_model.specs.Facts.{is_of, standing, stands_before, facts, value_eq}
-use Rattle.fb_model.specs.Lawful.{IsLawful, IsLawfulAfter}
+use Rattle.fb_model.specs.Lawful.{IsLawful}
 use Rattle.fb_model.proofs.OneMoreEntry.{said-push}
-use Rattle.fb_model.proofs.LawfulHistories.{IsLawful-push}
-use Rattle.fb_model.proofs.Members.{some_member, any_member, standing_added, standing_member, member_passes}
+use Rattle.fb_model.proofs.Members.{some_member, any_member, standing_member, member_passes}
 use Rattle.fb_model.proofs.Times.{own_t, said_t}
 use Rattle.fb_model.proofs.Invariants.{of_lawful}
 use Rattle.fb_facts.specs.Told.{facts_in}
 use Rattle.fb_facts.proofs.Lists.{facts_in-rising}
 use Rattle.view_model.proofs.Scans.{IsRisingListOf-one}
-use Rattle.fb_model.proofs.Triples.{is_of-true, IsOf, is_of-same, list_any-same, value_eq-refl}
-use Rattle.live_index.proofs.Members.{from_filter, into_filter, contains-cons, contains_head, contains_tail, contains_none}
+use Rattle.fb_model.proofs.Triples.{is_of-true, IsOf, is_of-same, value_eq-refl}
+use Rattle.live_index.proofs.Members.{contains-cons, contains_head, contains_tail, contains_none}
 use Rattle.fb_view.specs.Merged.{stands_at}
 use Rattle.fb_view.proofs.Ranging.{above_later}
 use Rattle.fb_view.proofs.Merging.{before_member, before_all}

@@ -1,5 +1,5 @@
 -- What AVET is refilled with is what an entry's lists demand.
-use Rattle.std.proofs.Common.{◌≡◌, ◌∙◌, ℕ, ◌+◌, ◌<◌, ◌≤◌, ◌⊎◌, inl, inr, Bool, true, false, not, ◌&&◌, cond, List, [], ◌∷◌, ◌++◌, length, refl, sym, ap, subst, arith, eqb, flat_map}
+use Rattle.std.proofs.Common.{◌≡◌, ◌∙◌, ℕ, ◌+◌, ◌<◌, ◌≤◌, ◌⊎◌, inl, inr, Bool, true, false, not, ◌&&◌, cond, List, [], ◌∷◌, ◌++◌, refl, sym, ap, subst, arith, eqb, flat_map}
 use Rattle.std.specs.Prelude.{◌↔◌, Contains, IsTrue, IsFalse, filter}
 use Rattle.std.specs.Cmp.{tied_itself}
 use Rattle.std.specs.Cmp.Lexicographic.{slice_cmp, lists_total}
@@ -9,36 +9,33 @@ use Rattle.std.proofs.lemmas.List.Elements.{Contains-append_left, Contains-appen
 use Rattle.fb_values.specs.declared.facts.Datom.{Datom}
 use Rattle.fb_values.specs.declared.facts.Entry.{Entry}
 use Rattle.fb_values.specs.declared.indexes.Order.{Order}
-use Rattle.fb_values.specs.declared.indexes.Order.TheVariants.{Eavt, Aevt, Avet, Vaet}
+use Rattle.fb_values.specs.declared.indexes.Order.TheVariants.{Eavt, Aevt, Avet}
 use Rattle.fb_values.specs.Orders.{key_of, value_cmp}
-use Rattle.fb_values.specs.OrderLaws.{value_cmp_total, IsAtOnePlace}
+use Rattle.fb_values.specs.OrderLaws.{value_cmp_total}
 use Rattle.fb_covers.specs.Coverage.{Coverage, covers as held}
 use Rattle.fb_values.specs.Rising.{IsRising}
-use Rattle.fb_model.specs.Rising.{IsRisingListOf}
-use Rattle.fb_model.specs.History.{basis, said, upto}
+use Rattle.fb_model.specs.History.{said}
 use Rattle.fb_model.specs.Facts.{facts}
 use Rattle.fb_model.specs.Schema.{covers}
-use Rattle.fb_model.specs.Lawful.{IsLawful, IsLawfulAfter}
 use Rattle.fb_model.proofs.OneMoreEntry.{said-push}
 use Rattle.fb_model.proofs.Times.{same_keys, one_for_each_key}
-use Rattle.view_model.specs.Stands.{IsIndexed, IsLive}
+use Rattle.view_model.specs.Stands.{IsLive}
 use Rattle.seg_tree.specs.Nodes.{tree_datoms}
 use Rattle.fb_facts.specs.Told.{is_under}
 use Rattle.std.specs.List.{list_any}
 use Rattle.fb_schema.specs.Described.{SchemaStands, describes}
 use Rattle.fb_schema.proofs.Described.{described-same}
 use Rattle.fb_schema.specs.Tables.{HasCoverage}
-use Rattle.fb_schema.specs.Change.{is_gained}
 use Rattle.fb_schema.proofs.Lookups.{covers-described}
 use Rattle.live_index.specs.Growth.{HasNoTwins, is_held}
 use Rattle.live_index.specs.Standing.{IsDemanded, IsNext}
 use Rattle.live_index.proofs.Members.{from_filter, into_filter, contains-cons, contains_head, contains_tail, contains_none}
 use Rattle.fb_view.specs.declared.growth.Older.{Older}
 use Rattle.fb_view.specs.declared.growth.Recent.{Recent}
-use Rattle.fb_view.specs.Kept.{kept, Follows}
+use Rattle.fb_view.specs.Kept.{Follows}
 use Rattle.fb_view.specs.Refills.{missed, all_missed, AreGained}
 use Rattle.fb_values.proofs.Rising.{rises_from}
-use Rattle.fb_view.proofs.Standing.{said_early, early_said, coverage_of, lawful_before, lawful_after, same_past}
+use Rattle.fb_view.proofs.Standing.{said_early, early_said, coverage_of, same_past}
 
 -- ---- members of many lists
 

@@ -1,19 +1,18 @@
 -- Parts that stand for a history: fresh ones, and those with one more entry.
-use Rattle.std.proofs.Common.{◌≡◌, ◌∙◌, ℕ, ◌+◌, ◌<◌, ◌≤◌, ◌⊎◌, inl, inr, Bool, true, false, List, [], ◌∷◌, ◌++◌, length, refl, sym, ap, subst, arith, leb}
-use Rattle.std.specs.Prelude.{Contains, IsTrue, IsFalse, filter}
+use Rattle.std.proofs.Common.{◌≡◌, ◌∙◌, ℕ, ◌+◌, ◌<◌, ◌≤◌, inl, inr, true, false, List, [], ◌∷◌, ◌++◌, length, refl, sym, ap, subst, arith, leb}
+use Rattle.std.specs.Prelude.{Contains}
 use Rattle.std.proofs.lemmas.Bool.{true≢false, leb-true, le-leb, and_parts}
 use Rattle.fb_values.specs.declared.facts.Datom.{Datom}
 use Rattle.fb_values.specs.declared.facts.Entry.{Entry}
 use Rattle.fb_values.specs.declared.indexes.Order.{Order}
-use Rattle.fb_covers.specs.Coverage.{Coverage, covers as held}
+use Rattle.fb_covers.specs.Coverage.{Coverage}
 use Rattle.fb_values.specs.Lists.{list_in}
-use Rattle.fb_values.specs.Rising.{rises}
 use Rattle.fb_model.specs.Rising.{IsRisingListOf}
 use Rattle.fb_model.specs.History.{basis, said, upto}
 use Rattle.fb_model.specs.Facts.{facts}
-use Rattle.fb_model.specs.Schema.{covers, schema_in, schema_of}
+use Rattle.fb_model.specs.Schema.{covers, schema_in}
 use Rattle.fb_model.specs.Lawful.{IsLawful, IsLawfulAfter}
-use Rattle.fb_model.proofs.OneMoreEntry.{basis-push, said-push, upto-append}
+use Rattle.fb_model.proofs.OneMoreEntry.{basis-push, upto-append}
 use Rattle.fb_model.proofs.LawfulHistories.{IsLawful-length, IsLawful-push}
 use Rattle.fb_model.proofs.Members.{member_passes, none_of}
 use Rattle.fb_model.proofs.Times.{next_t, said_t, said-upto, upto-basis}

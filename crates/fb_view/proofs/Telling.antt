@@ -1,9 +1,9 @@
 -- What the lists of a snapshot tell of its history.
-use Rattle.std.proofs.Common.{◌≡◌, ◌∙◌, ℕ, zero, suc, ◌+◌, ◌-◌, ◌<◌, ◌≤◌, ◌⊎◌, inl, inr, Bool, true, false, not, ◌&&◌, ◌||◌, cond, List, [], ◌∷◌, ◌++◌, length, refl, sym, ap, subst, arith, eqb, leb, Option, Some, None, max, min}
-use Rattle.std.specs.Prelude.{Contains, IsTrue, IsFalse, filter, find, is_some, nat_eq, ◌↔◌}
-use Rattle.std.specs.List.{slice_get, list_any}
+use Rattle.std.proofs.Common.{◌≡◌, ◌∙◌, ℕ, ◌-◌, ◌≤◌, ◌⊎◌, inl, inr, Bool, true, false, ◌&&◌, cond, List, [], ◌∷◌, refl, sym, ap, subst, arith, eqb, Option, Some, None, min}
+use Rattle.std.specs.Prelude.{Contains, IsTrue, filter, find, is_some}
+use Rattle.std.specs.List.{list_any}
 use Rattle.std.specs.Option.{option_map, option_map_or}
-use Rattle.std.specs.declared.cmp.Ordering.TheVariants.{Less, Equal, Greater}
+use Rattle.std.specs.declared.cmp.Ordering.TheVariants.{Equal}
 use Rattle.std.specs.Cmp.{tied_itself}
 use Rattle.std.specs.Cmp.Lexicographic.{slice_cmp, lists_total}
 use Rattle.std.proofs.lemmas.Bool.{true≢false, cases_Bool, cases_lt, eqb-true, eq-eqb, and_parts, and_from}
@@ -16,20 +16,19 @@ use Rattle.fb_values.specs.declared.indexes.Order.{Order}
 use Rattle.fb_values.specs.declared.indexes.Order.TheVariants.{Eavt, Vaet}
 use Rattle.fb_values.specs.declared.indexes.Probe.{Probe}
 use Rattle.fb_values.specs.Orders.{key_of, value_cmp}
-use Rattle.fb_values.specs.OrderLaws.{value_cmp_total, IsAtOnePlace}
-use Rattle.fb_values.specs.Lists.{Lists, list_in}
-use Rattle.fb_values.specs.Rising.{StandsBefore, IsRising}
+use Rattle.fb_values.specs.OrderLaws.{value_cmp_total}
+use Rattle.fb_values.specs.Lists.{list_in}
+use Rattle.fb_values.specs.Rising.{IsRising}
 use Rattle.fb_numbers.specs.Numbers.{type_ref, is_reference}
-use Rattle.fb_model.specs.History.{basis, said, upto}
-use Rattle.fb_model.specs.Facts.{is_of, value_eq, standing, holds, holder, least, facts}
+use Rattle.fb_model.specs.History.{said, upto}
+use Rattle.fb_model.specs.Facts.{is_of, value_eq, holds, holder, least, facts}
 use Rattle.fb_model.specs.Types.{is_of_type}
 use Rattle.fb_model.specs.Schema.{Attribute, attribute_of, covers, is_held}
 use Rattle.fb_model.specs.Lawful.{IsLawful}
 use Rattle.fb_model.proofs.Members.{member_passes, some_member, any_member}
 use Rattle.fb_model.proofs.KnownFacts.{said_typed}
 use Rattle.fb_model.proofs.Times.{same_keys, one_for_each_key}
-use Rattle.fb_model.proofs.Triples.{IsOf, is_of-true, value_eq-true, holds-facts}
-use Rattle.live_index.specs.Growth.{HasNoTwins}
+use Rattle.fb_model.proofs.Triples.{is_of-true, value_eq-true, holds-facts}
 use Rattle.live_index.proofs.Members.{from_filter, into_filter, contains-cons, contains_head, contains_tail, contains_none}
 use Rattle.view_model.specs.Stands.{IsIndexed, IsLive}
 use Rattle.seg_tree.specs.Nodes.{tree_datoms}
@@ -37,12 +36,11 @@ use Rattle.seg_tree.specs.Indexes.{tree_in, trees_of}
 use Rattle.seg_tree.proofs.Indexes.{list_in-trees_of}
 use Rattle.fb_facts.specs.Told.{facts_in}
 use Rattle.fb_facts.proofs.Lists.{facts_in-rising}
-use Rattle.fb_schema.proofs.Lookups.{covers-described}
 use Rattle.fb_view.specs.Kept.{Kept, Stands}
 use Rattle.fb_view.specs.Ranges.{is_led, led_to}
 use Rattle.fb_view.specs.Merged.{IsPair, merged, ranged, facts_led}
 use Rattle.fb_values.proofs.Rising.{rising_from}
-use Rattle.fb_view.proofs.Standing.{not_later, said_early, early_said}
+use Rattle.fb_view.proofs.Standing.{said_early, early_said}
 use Rattle.fb_view.proofs.Merging.{merged_rises, rising-filter, from_merged, into_merged, before_member}
 use Rattle.fb_view.proofs.Lasting.{told_is, entity_upto}
 

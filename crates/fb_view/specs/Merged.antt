@@ -1,7 +1,7 @@
 -- The two lists of an order, a tree's and the live one, read as one; and which of its datoms are facts.
 -- Restates Indexes of Datomic's documentation (the merging of recent datoms with older ones).
-use Rattle.std.specs.Prelude.{ℕ, Bool, false, not, ◌&&◌, List, [], ◌∷◌, ◌++◌, drop, Contains, Option, None, Some}
-use Rattle.std.specs.List.{slice_get, take_while}
+use Rattle.std.specs.Prelude.{Bool, false, not, ◌&&◌, List, ◌++◌, drop, Contains, Option}
+use Rattle.std.specs.List.{take_while}
 use Rattle.std.specs.Option.{option_map_or}
 use Rattle.fb_values.specs.declared.facts.Datom.{Datom}
 use Rattle.fb_values.specs.declared.indexes.Order.{Order}

@@ -1,5 +1,5 @@
 -- The windows and filters of the plain program, as the definitions see them. This project's own choice.
-use Rattle.std.specs.Prelude.{ℕ, Bool, not, List, nat_eq, map}
+use Rattle.std.specs.Prelude.{Bool, not, List, nat_eq, map}
 use Rattle.fb_values.specs.declared.facts.Datom.{Datom}
 use Rattle.view_model.specs.Window as model
 use Rattle.plain_reads.specs.declared.views.Filter.{Filter}

@@ -1,8 +1,8 @@
 //! What is said, what holds, and which datoms stand.
-ghost use Rattle.std.specs.Prelude.{◌≡◌, ◌&&◌, not, false, ◌++◌, IfOk};
+ghost use Rattle.std.specs.Prelude.{◌≡◌, ◌&&◌, false, ◌++◌, IfOk};
 ghost use Rattle.std.specs.List.{list_any};
 ghost use Rattle.fb_model.specs.History.{said as model_said};
-ghost use Rattle.fb_model.specs.Facts.{is_of as model_is_of, holds_after, stands_before, standing as model_standing};
+ghost use Rattle.fb_model.specs.Facts.{is_of as model_is_of, holds_after, standing as model_standing};
 
 use fb_memory::Memory;
 use fb_values::{Datom, Entry, Value};

@@ -1,5 +1,5 @@
 //! Scans of an index, the transactions of the log, and points in time.
-ghost use Rattle.std.specs.Prelude.{◌≡◌, not, true, filter, ◌&&◌, nat_le, nat_lt, IfOk};
+ghost use Rattle.std.specs.Prelude.{◌≡◌, not, true, filter, ◌&&◌, IfOk};
 ghost use Rattle.std.specs.Option.{option_map_or};
 ghost use Rattle.std.specs.Ordering.{is_lt};
 ghost use Rattle.fb_values.specs.Orders.{value_cmp};

@@ -1,9 +1,8 @@
 //! Attributes, from a list of facts.
-ghost use Rattle.std.specs.Prelude.{◌≡◌, nat_eq};
+ghost use Rattle.std.specs.Prelude.{◌≡◌};
 ghost use Rattle.std.specs.Option.{option_map};
 ghost use Rattle.fb_values.specs.declared.facts.Value.TheVariants.{Keyword};
-ghost use Rattle.fb_model.specs.Facts.{value_eq, holder};
-ghost use Rattle.fb_numbers.specs.Numbers.{ident};
+ghost use Rattle.fb_model.specs.Facts.{value_eq};
 ghost use Rattle.fb_model.specs.Schema.{keyword_of as model_keyword_of, entity_of as model_entity_of, truth_of as model_truth_of, attribute_of as model_attribute_of, named as model_named, attribute_named as model_attribute_named, covers as model_covers, is_held as model_is_held};
 ghost use Rattle.plain_reads.specs.Attributes.{attribute_in};
 

@@ -1,7 +1,6 @@
 //! Windows, filters and views.
-ghost use Rattle.std.specs.Prelude.{◌≡◌, length, filter, IfOk};
-ghost use Rattle.std.specs.List.{list_all};
-ghost use Rattle.view_model.specs.Window.{is_within, within as model_within, end_of_instant as model_end_of_instant};
+ghost use Rattle.std.specs.Prelude.{◌≡◌, filter, IfOk};
+ghost use Rattle.view_model.specs.Window.{within as model_within, end_of_instant as model_end_of_instant};
 ghost use Rattle.view_model.specs.View.{seen as model_seen, is_selected_by, view as model_view};
 ghost use Rattle.plain_reads.specs.Filters.{window_of, selects, tests};
 

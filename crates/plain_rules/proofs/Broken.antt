@@ -3,7 +3,7 @@ use Rattle.std.proofs.Common.{◌≡◌, ℕ, ◌+◌, Bool, List, [], ◌∷◌
 use Rattle.std.specs.Prelude.{Option}
 use Rattle.tx_model.specs.Asks.{Ask}
 use Rattle.tx_model.specs.NameRules.{breaks_not_an_attribute, breaks_protected_attribute, breaks_wrong_type, breaks_not_unique_lookup, breaks_not_an_entity, breaks_nested_without_id, breaks_tempid_conflict, breaks_tempid_not_an_entity}
-use Rattle.tx_model.specs.ChangeRules.{at, compares_many, compares_another}
+use Rattle.tx_model.specs.ChangeRules.{at}
 use Rattle.tx_model.specs.Transaction.{Transaction, joined}
 use Rattle.tx_model.specs.Step.{first_yes, tests_from, by_asks, by_place, broken_rules}
 use Rattle.tx_refusals.specs.declared.reasons.Reason.{Reason}

@@ -1,6 +1,6 @@
 -- Vectors that are lookup refs, and those that are none.
 use Rattle.std.proofs.Common.{◌≡◌, ◌≢◌, ℕ, Bool, true, false, not, List, [], ◌∷◌, length, cond, ◌||◌, refl, ap, sym, ◌∙◌}
-use Rattle.std.specs.Prelude.{Option, None, Some, is_some, is_none, nat_eq}
+use Rattle.std.specs.Prelude.{Option, None, Some, is_some, nat_eq}
 use Rattle.std.specs.List.{list_any}
 use Rattle.edn_model.specs.Form as edn
 use Rattle.edn_model.specs.Form.{Form, Forms, no_forms, form, forms}
@@ -9,7 +9,7 @@ use Rattle.edn_form.specs.View.{form_of, forms_of}
 use Rattle.fb_values.specs.declared.facts.Datom.{Datom}
 use Rattle.fb_numbers.specs.Numbers.{type_ref}
 use Rattle.fb_model.specs.Schema.{Attribute}
-use Rattle.tx_model.specs.Asks.{Operand, plain, lookup_in}
+use Rattle.tx_model.specs.Asks.{plain, lookup_in}
 use Rattle.tx_model.specs.NameRules.{lookups_from, is_wrong_part, is_wrong_lookup}
 use Rattle.tx_model.specs.Walk.{has_ref, lookup_or, old_value_part}
 use Rattle.plain_rules.specs.Faults.{lookups_inside}

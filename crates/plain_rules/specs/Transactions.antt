@@ -1,5 +1,4 @@
 -- The transaction of the plain program, as the definitions see it. This project's own choice.
-use Rattle.std.specs.Prelude.{ℕ}
 use Rattle.tx_model.specs.Transaction as model
 use Rattle.plain_rules.specs.declared.transaction.Transaction.{Transaction}
 use Rattle.plain_rules.specs.Lists.{ask_lists, datom_lists}

@@ -1,6 +1,5 @@
 //! The closed set of an entity: it, its parts, their parts and so on.
-ghost use Rattle.std.specs.Prelude.{◌≡◌, ◌∷◌, ◌++◌, [], ℕ, List, filter_map, IfOk};
-ghost use Rattle.std.specs.List.{list_any};
+ghost use Rattle.std.specs.Prelude.{◌≡◌, [], IfOk};
 ghost use Rattle.tx_model.specs.Changes as changes;
 
 use crate::attributes::is_part;

@@ -1,5 +1,5 @@
 //! Names of entities in a transaction, and the entities that tempids stand for.
-ghost use Rattle.std.specs.Prelude.{◌≡◌, ◌++◌, ◌<◌, ◌≤◌, ◌^◌, pos, flat_map, length, [], ◌∷◌, IfOk};
+ghost use Rattle.std.specs.Prelude.{◌≡◌, ◌++◌, ◌<◌, ◌≤◌, ◌^◌, flat_map, length, [], ◌∷◌, IfOk};
 ghost use Rattle.tx_model.specs.Asks as model_asks;
 ghost use Rattle.tx_model.specs.Tempids as model;
 ghost use Rattle.plain_asks.specs.Asked.{name_of, names_of as names_in, part_of, ask_of, asks_of};

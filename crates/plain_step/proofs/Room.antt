@@ -1,5 +1,5 @@
 -- A transaction that is not refused leaves room for its instant.
-use Rattle.std.proofs.Common.{◌≡◌, ℤ, ◌<ℤ◌, ℕ, zero, suc, ◌+◌, ◌<◌, Bool, true, false, not, List, [], ◌∷◌, length, get_or, refl, arith, Option, Some, None}
+use Rattle.std.proofs.Common.{◌≡◌, ℤ, ◌<ℤ◌, ℕ, zero, suc, ◌<◌, Bool, true, false, not, List, [], ◌∷◌, length, get_or, refl, arith, Option, Some, None}
 use Rattle.std.specs.Prelude.{is_none, int_lt}
 use Rattle.std.specs.List.{list_all}
 use Rattle.std.proofs.lemmas.Bool.{and_parts, or_parts}

@@ -1,5 +1,5 @@
 -- The step by whether the forms have a shape, and by whether a rule is broken.
-use Rattle.std.proofs.Common.{◌≡◌, ℕ, ℤ, List, ◌∷◌, refl, ap, sym, ◌∙◌, Option, Some, None}
+use Rattle.std.proofs.Common.{◌≡◌, ℕ, ℤ, List, ◌∷◌, ap, sym, ◌∙◌, Option, Some, None}
 use Rattle.edn_model.specs.Form.{Form}
 use Rattle.fb_values.specs.declared.facts.Entry.{Entry}
 use Rattle.tx_refusals.specs.declared.reasons.Reason.TheVariants.{NotAForm}

@@ -1,5 +1,5 @@
 -- What list forms ask that have another number of arguments than their verb.
-use Rattle.std.proofs.Common.{◌≡◌, ◌≢◌, ℕ, List, [], ◌∷◌, length, refl}
+use Rattle.std.proofs.Common.{◌≡◌, ◌≢◌, List, [], ◌∷◌, length, refl}
 use Rattle.std.specs.Prelude.{Some}
 use Rattle.fb_values.specs.declared.facts.Datom.{Datom}
 use Rattle.edn_form.specs.declared.form.Edn.{Edn}

@@ -1,10 +1,8 @@
 -- The shape of a map by its pairs, and of a list form by how many arguments it has.
 use Rattle.std.proofs.Common.{◌≡◌, ◌≢◌, ℕ, ◌<◌, ◌≤◌, Bool, true, false, List, [], ◌∷◌, ◌+◌, length, drop, get_or, refl, ap, ◌∙◌, sym, arith}
-use Rattle.std.specs.Prelude.{◌&&◌, Option, Some, None}
+use Rattle.std.specs.Prelude.{◌&&◌, Some}
 use Rattle.std.proofs.lemmas.List.{drop_more, drop_all}
-use Rattle.edn_model.specs.Form as edn
-use Rattle.edn_model.specs.Form.{Form, Forms, forms, pairs}
-use Rattle.tx_model.specs.Asks.{lookup_in}
+use Rattle.edn_model.specs.Form.{Form, pairs}
 use Rattle.tx_model.specs.Shapes.{has_arguments, has_map_shape, has_pair_shape, has_value_shape, add, retract, cas, retract_entity}
 use Rattle.edn_form.specs.declared.form.Edn.{Edn}
 use Rattle.edn_form.specs.View.{form_of, forms_of, pairs_of}

@@ -1,7 +1,7 @@
 //! Files as disks. Each call is a few calls of the system at an offset, and a sync reaches the disk itself.
-ghost use Rattle.std.specs.Prelude.{◌≡◌, ◌≤◌, ◌<◌, ◌+◌, ◌^◌, ℕ, List, [], length, take, Option, None, Some, is_ok, IfOk, IfErr, IsTrue, OnOk, option_map};
+ghost use Rattle.std.specs.Prelude.{◌≡◌, ◌<◌, ℕ, [], None, Some, is_ok, IfOk, IfErr, IsTrue};
 ghost use Rattle.real_ports.specs.AnyDisks.{faults_of, told_of, is_memory, held_in, opened_in};
-ghost use Rattle.fb_ports.specs.Faults.{Rose, Counts};
+ghost use Rattle.fb_ports.specs.Faults.{Counts};
 
 use fb_calls::raise;
 use fb_disk::MemDisk;

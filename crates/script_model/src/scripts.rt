@@ -1,7 +1,6 @@
 //! Scripts.
-ghost use Rattle.std.specs.Prelude.{◌≡◌, ℕ, List, [], ◌∷◌, ◌++◌};
+ghost use Rattle.std.specs.Prelude.{◌≡◌, ℕ, List, ◌++◌};
 ghost use Rattle.edn_model.specs.Form.{Form};
-ghost use Rattle.edn_model.specs.Grammar.{FormStands};
 ghost use Rattle.script_model.specs.Script.{Ending, Script, Begins};
 
 /// Bytes are one script, with one ending, and what a script begins with are its first forms.

@@ -1,5 +1,5 @@
 //! What becomes of one leaf.
-ghost use Rattle.std.specs.Prelude.{◌≡◌, ◌<◌, ◌++◌, filter, IfOk, IsTrue, Contains};
+ghost use Rattle.std.specs.Prelude.{◌≡◌, ◌<◌, ◌++◌, filter, IfOk, IsTrue};
 ghost use Rattle.std.specs.List.{All};
 ghost use Rattle.fb_values.specs.Rising.{IsRising};
 ghost use Rattle.live_index.specs.Growth.{HasNoTwins, is_held};

@@ -2,7 +2,7 @@
 ghost use Rattle.std.specs.Prelude.{◌≡◌, ◌<◌, ◌≤◌, ◌^◌, [], ◌∷◌, ◌++◌, IfOk};
 ghost use Rattle.std.specs.List.{All};
 ghost use Rattle.std.specs.Arc.{arc_value};
-ghost use Rattle.seg_tree.specs.Built.{Build, IsBuilt};
+ghost use Rattle.seg_tree.specs.Built.{IsBuilt};
 ghost use Rattle.seg_merge.specs.Plans.{Planned};
 
 use fb_memory::Memory;

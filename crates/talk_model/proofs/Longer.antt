@@ -9,7 +9,7 @@ use Rattle.tx_model.specs.Step.{step}
 use Rattle.talk_model.specs.Commands.{Command, transact, db, sync, command_in}
 use Rattle.talk_model.specs.Session.{Setting, Standing, grown, Stays, SelectedBy}
 use Rattle.talk_model.specs.Reads.{IsReply, behind}
-use Rattle.talk_model.specs.Talk.{IsAccepted, IsRefused, IsNotTaken, IsStopped, IsShown, IsRead, AnswersCommand, IsAnswered, Talk}
+use Rattle.talk_model.specs.Talk.{IsAccepted, IsRefused, IsNotTaken, IsStopped, IsShown, IsRead, AnswersCommand, IsAnswered, Exchange, Talk}
 use Rattle.talk_model.proofs.Steps.{answer_goes}
 
 slice_get-append : (h more : List Entry) (t : ℕ) (entry : Entry) → slice_get h t ≡ Some entry → slice_get (h ++ more) t ≡ Some entry
@@ -128,19 +128,11 @@ module _ (s : Setting) (more : List Entry) (stop : Option ℕ) (teller : Bool) (
     pub answer_longer : (f : Form) → IsAnswered s before f after line commit → IsAnswered t before f after line commit
     answer_longer f a = command_longer (command_in f) a
 
-  pub Talk-longer : (before after : Standing) (fs : List Form) (ps cs : List ℕ) (ls : List (List ℕ)) → before.place ≤ basis s.history
-      → Talk s before fs ps cs ls after → Talk t before fs ps cs ls after
-  Talk-longer before after [] [] cs [] seen talk = talk
-  Talk-longer before after [] [] cs (l ∷ ls) seen talk = absurd talk
-  Talk-longer before after [] (q ∷ qs) cs ls seen talk = absurd talk
-  Talk-longer before after (g ∷ gs) [] cs ls seen talk = absurd talk
-  Talk-longer before after (g ∷ gs) (q ∷ qs) cs [] seen talk = absurd talk
-  Talk-longer before after (g ∷ gs) (q ∷ qs) cs (l ∷ ls) seen talk = (
-    talk.0,
-    talk.1,
-    talk.2,
-    answer_longer before talk.0 l talk.1 seen g talk.3,
-    talk.4,
-    talk.5,
-    Talk-longer talk.0 after gs qs talk.2 ls (answer_goes s before talk.0 l talk.1 seen g talk.3).within talk.6,
+  pub Talk-longer : (before after : Standing) (talk : List Exchange) → before.place ≤ basis s.history → Talk s before talk after → Talk t before talk after
+  Talk-longer before after [] seen same = same
+  Talk-longer before after (x ∷ talk) seen told = (
+    told.0,
+    answer_longer before told.0 x.line x.commit seen x.form told.1,
+    told.2,
+    Talk-longer told.0 after talk (answer_goes s before told.0 x.line x.commit seen x.form told.1).within told.3,
   )

@@ -1,15 +1,15 @@
 -- Places and commits: what a talk says of them, whatever its forms are.
-use Rattle.std.proofs.Common.{ℕ, ◌≡◌, ◌+◌, ◌<◌, ◌≤◌, ◌⊎◌, Option, Some, None, List, [], ◌∷◌, ◌++◌, length, get_or, zero, suc, add-one, ap, sym, ◌∙◌, subst, inl, inr, arith, append_assoc, append-nil}
+use Rattle.std.proofs.Common.{ℕ, ◌≡◌, ◌+◌, ◌<◌, ◌≤◌, ◌⊎◌, Option, Some, None, List, [], ◌∷◌, ◌++◌, length, get_or, zero, suc, add-one, refl, ap, sym, ◌∙◌, subst, inl, inr, arith, append_assoc, append-nil}
 use Rattle.std.specs.Prelude.{option_to_list}
 use Rattle.std.specs.List.{AllByRecursion}
+use Rattle.std.proofs.lemmas.List.Elements.{filter_map-append}
 use Rattle.std.specs.List.Sorted.{IsNonDecreasing, IsStrictlyIncreasing}
-use Rattle.edn_model.specs.Form.{Form}
 use Rattle.fb_model.specs.History.{basis}
 use Rattle.talk_model.specs.Session.{Setting, Standing}
-use Rattle.talk_model.specs.Talk.{Talk}
+use Rattle.talk_model.specs.Talk.{Exchange, places_of, commits_of, Talk}
 use Rattle.talk_model.specs.Prefixes.{SeesAll, Prefixes}
 use Rattle.talk_model.proofs.Steps.{Goes, answer_goes}
-use Rattle.talk_model.proofs.OneMore.{Talk-last}
+use Rattle.talk_model.proofs.OneMore.{commits-one, commits-push, Talk-last}
 
 -- one line more in front, with the commit of its form
 line_first : (b seen p : ℕ) (ps cs rest : List ℕ) (commit : Option ℕ) → seen ≤ p → p ≤ b → (commit ≡ None) ⊎ ((commit ≡ Some p) × (seen < p))
@@ -26,66 +26,56 @@ at_place s before next commit p is goes =
     let At : ℕ → Type 0 = λ n. (before.place ≤ n) × (n ≤ basis s.history) × ((commit ≡ None) ⊎ ((commit ≡ Some n) × (before.place < n))) in
     subst At is (goes.from, goes.within, goes.commits)
 
+-- what the first exchange of a talk commits stands before what the others commit
+commits_first : (x : Exchange) (talk : List Exchange) → commits_of (x ∷ talk) ≡ option_to_list x.commit ++ commits_of talk
+commits_first x talk = filter_map-append (λ (y : Exchange). y.commit) (x ∷ []) talk ∙ ap (λ (c : List ℕ). c ++ commits_of talk) (commits-one x)
+
 -- a talk's session sees all that it saw and committed before
-pub SeesAll-Talk : (s : Setting) (before after : Standing) (fs : List Form) (ps cs : List ℕ) (ls : List (List ℕ))
-    → before.place ≤ basis s.history → Talk s before fs ps cs ls after → SeesAll (basis s.history) before.place ps cs
-SeesAll-Talk s before after [] [] cs [] seen talk = inl talk.0
-SeesAll-Talk s before after [] [] cs (l ∷ ls) seen talk = absurd talk
-SeesAll-Talk s before after [] (q ∷ qs) cs ls seen talk = absurd talk
-SeesAll-Talk s before after (g ∷ gs) [] cs ls seen talk = absurd talk
-SeesAll-Talk s before after (g ∷ gs) (q ∷ qs) cs [] seen talk = absurd talk
-SeesAll-Talk s before after (g ∷ gs) (q ∷ qs) cs (l ∷ ls) seen talk =
-    let goes = answer_goes s before talk.0 l talk.1 seen g talk.3 in
-    let at = at_place s before talk.0 talk.1 q talk.4 goes in
-    let From : ℕ → Type 0 = λ n. SeesAll (basis s.history) n qs talk.2 in
-    line_first (basis s.history) before.place q qs cs talk.2 talk.1 at.0 at.1 at.2 talk.5
-    (subst From talk.4 (SeesAll-Talk s talk.0 after gs qs talk.2 ls goes.within talk.6))
+pub SeesAll-Talk : (s : Setting) (before after : Standing) (talk : List Exchange)
+    → before.place ≤ basis s.history → Talk s before talk after → SeesAll (basis s.history) before.place (places_of talk) (commits_of talk)
+SeesAll-Talk s before after [] seen same = inl refl
+SeesAll-Talk s before after (x ∷ talk) seen told =
+    let goes = answer_goes s before told.0 x.line x.commit seen x.form told.1 in
+    let at = at_place s before told.0 x.commit x.place told.2 goes in
+    let From : ℕ → Type 0 = λ n. SeesAll (basis s.history) n (places_of talk) (commits_of talk) in
+    line_first (basis s.history) before.place x.place (places_of talk) (commits_of (x ∷ talk)) (commits_of talk) x.commit at.0 at.1 at.2 (commits_first x talk)
+    (subst From told.2 (SeesAll-Talk s told.0 after talk goes.within told.3))
 
 -- and so where it goes on to commit, without a line
-pub SeesAll-behind : (s : Setting) (before after : Standing) (fs : List Form) (ps cs : List ℕ) (ls : List (List ℕ)) (t : ℕ)
-    → before.place ≤ basis s.history → Talk s before fs ps cs ls after → after.place < t → t ≤ basis s.history → SeesAll (basis s.history) before.place ps (cs ++ t ∷ [])
-SeesAll-behind s before after [] [] cs [] t seen talk above below =
-    let at : after.place ≡ before.place = ap (λ (x : Standing). x.place) talk.1 in
-    inr (t, ap (λ (c : List ℕ). c ++ t ∷ []) talk.0, omega (arith, at, above), below)
-SeesAll-behind s before after [] [] cs (l ∷ ls) t seen talk above below = absurd talk
-SeesAll-behind s before after [] (q ∷ qs) cs ls t seen talk above below = absurd talk
-SeesAll-behind s before after (g ∷ gs) [] cs ls t seen talk above below = absurd talk
-SeesAll-behind s before after (g ∷ gs) (q ∷ qs) cs [] t seen talk above below = absurd talk
-SeesAll-behind s before after (g ∷ gs) (q ∷ qs) cs (l ∷ ls) t seen talk above below =
-    let goes = answer_goes s before talk.0 l talk.1 seen g talk.3 in
-    let at = at_place s before talk.0 talk.1 q talk.4 goes in
-    let From : ℕ → Type 0 = λ n. SeesAll (basis s.history) n qs (talk.2 ++ t ∷ []) in
-    line_first (basis s.history) before.place q qs (cs ++ t ∷ []) (talk.2 ++ t ∷ []) talk.1 at.0 at.1 at.2
-    (ap (λ (c : List ℕ). c ++ t ∷ []) talk.5 ∙ append_assoc (option_to_list talk.1) talk.2 (t ∷ []))
-    (subst From talk.4 (SeesAll-behind s talk.0 after gs qs talk.2 ls t goes.within talk.6 above below))
+pub SeesAll-behind : (s : Setting) (before after : Standing) (talk : List Exchange) (t : ℕ)
+    → before.place ≤ basis s.history → Talk s before talk after → after.place < t → t ≤ basis s.history → SeesAll (basis s.history) before.place (places_of talk) (commits_of talk ++ t ∷ [])
+SeesAll-behind s before after [] t seen same above below =
+    let at : after.place ≡ before.place = ap (λ (x : Standing). x.place) same in
+    inr (t, refl, omega (arith, at, above), below)
+SeesAll-behind s before after (x ∷ talk) t seen told above below =
+    let goes = answer_goes s before told.0 x.line x.commit seen x.form told.1 in
+    let at = at_place s before told.0 x.commit x.place told.2 goes in
+    let From : ℕ → Type 0 = λ n. SeesAll (basis s.history) n (places_of talk) (commits_of talk ++ t ∷ []) in
+    line_first (basis s.history) before.place x.place (places_of talk) (commits_of (x ∷ talk) ++ t ∷ []) (commits_of talk ++ t ∷ []) x.commit at.0 at.1 at.2
+    (ap (λ (c : List ℕ). c ++ t ∷ []) (commits_first x talk) ∙ append_assoc (option_to_list x.commit) (commits_of talk) (t ∷ []))
+    (subst From told.2 (SeesAll-behind s told.0 after talk t goes.within told.3 above below))
 
 -- the place behind a talk lies in the history
-pub Talk-within : (s : Setting) (before after : Standing) (fs : List Form) (ps cs : List ℕ) (ls : List (List ℕ))
-    → before.place ≤ basis s.history → Talk s before fs ps cs ls after → after.place ≤ basis s.history
-Talk-within s before after [] [] cs [] seen talk = let at : after.place ≡ before.place = ap (λ (x : Standing). x.place) talk.1 in omega (arith, at, seen)
-Talk-within s before after [] [] cs (l ∷ ls) seen talk = absurd talk
-Talk-within s before after [] (q ∷ qs) cs ls seen talk = absurd talk
-Talk-within s before after (g ∷ gs) [] cs ls seen talk = absurd talk
-Talk-within s before after (g ∷ gs) (q ∷ qs) cs [] seen talk = absurd talk
-Talk-within s before after (g ∷ gs) (q ∷ qs) cs (l ∷ ls) seen talk =
-    Talk-within s talk.0 after gs qs talk.2 ls (answer_goes s before talk.0 l talk.1 seen g talk.3).within talk.6
+pub Talk-within : (s : Setting) (before after : Standing) (talk : List Exchange) → before.place ≤ basis s.history → Talk s before talk after → after.place ≤ basis s.history
+Talk-within s before after [] seen same = let at : after.place ≡ before.place = ap (λ (x : Standing). x.place) same in omega (arith, at, seen)
+Talk-within s before after (x ∷ talk) seen told = Talk-within s told.0 after talk (answer_goes s before told.0 x.line x.commit seen x.form told.1).within told.3
 
 -- where the form behind the lines was answered too, and its line did not come out
-pub SeesAll-unfinished : (s : Setting) (before after : Standing) (fs : List Form) (ps cs : List ℕ) (ls : List (List ℕ)) (f : Form) (p : ℕ) (line : List ℕ)
-    → before.place ≤ basis s.history → Talk s before (fs ++ f ∷ []) (ps ++ p ∷ []) cs (ls ++ line ∷ []) after → SeesAll (basis s.history) before.place ps cs
-SeesAll-unfinished s before after fs ps cs ls f p line seen talk =
-    let last = Talk-last s before after fs ps cs ls f p line talk in
-    let within = Talk-within s before last.middle fs ps last.earlier ls seen last.talk in
-    let goes = answer_goes s last.middle after line last.commit within f last.answered in
-    let Sees : List ℕ → Type 0 = SeesAll (basis s.history) before.place ps in
+pub SeesAll-unfinished : (s : Setting) (before after : Standing) (talk : List Exchange) (x : Exchange)
+    → before.place ≤ basis s.history → Talk s before (talk ++ x ∷ []) after → SeesAll (basis s.history) before.place (places_of talk) (commits_of (talk ++ x ∷ []))
+SeesAll-unfinished s before after talk x seen told =
+    let last = Talk-last s before after talk x told in
+    let within = Talk-within s before last.middle talk seen last.talk_is in
+    let goes = answer_goes s last.middle after x.line x.commit within x.form last.answered in
+    let Sees : List ℕ → Type 0 = SeesAll (basis s.history) before.place (places_of talk) in
     elim goes.commits [
       | inl none ↦ (
-          subst Sees (sym (last.commits ∙ ap (λ (c : Option ℕ). last.earlier ++ option_to_list c) none ∙ append-nil last.earlier))
-          (SeesAll-Talk s before last.middle fs ps last.earlier ls seen last.talk)
+          subst Sees (sym (commits-push talk x ∙ ap (λ (c : Option ℕ). commits_of talk ++ option_to_list c) none ∙ append-nil (commits_of talk)))
+          (SeesAll-Talk s before last.middle talk seen last.talk_is)
           )
       | inr some ↦ (
-          subst Sees (sym (last.commits ∙ ap (λ (c : Option ℕ). last.earlier ++ option_to_list c) some.0))
-          (SeesAll-behind s before last.middle fs ps last.earlier ls after.place seen last.talk some.1 goes.within)
+          subst Sees (sym (commits-push talk x ∙ ap (λ (c : Option ℕ). commits_of talk ++ option_to_list c) some.0))
+          (SeesAll-behind s before last.middle talk after.place seen last.talk_is some.1 goes.within)
           )
     ]
 

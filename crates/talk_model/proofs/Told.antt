@@ -5,7 +5,7 @@ use Rattle.edn_model.specs.Form.{Form}
 use Rattle.fb_model.specs.History.{upto}
 use Rattle.talk_model.specs.Commands.{Command, transact, db, sync, command_in}
 use Rattle.talk_model.specs.Session.{Setting, Standing}
-use Rattle.talk_model.specs.Talk.{IsNotTaken, IsRead, AnswersCommand, Talk}
+use Rattle.talk_model.specs.Talk.{IsNotTaken, IsRead, AnswersCommand, Exchange, Talk}
 use Rattle.talk_model.proofs.Steps.{behind-told}
 
 told_of : {x y : Standing} → x ≡ y → x.told ≡ y.told
@@ -25,17 +25,12 @@ module _ (s : Setting) where
   command_told before after line commit (Some sync) a told = told_of a.stands ∙ told
   command_told before after line commit command a told = read_told before after line commit command a told
 
-  Talk-told : (before after : Standing) (fs : List Form) (ps cs : List ℕ) (ls : List (List ℕ)) → Talk s before fs ps cs ls after → before.told ≡ true → after.told ≡ true
-  Talk-told before after [] [] cs [] talk told = told_of talk.1 ∙ told
-  Talk-told before after [] [] cs (l ∷ ls) talk told = absurd talk
-  Talk-told before after [] (q ∷ qs) cs ls talk told = absurd talk
-  Talk-told before after (g ∷ gs) [] cs ls talk told = absurd talk
-  Talk-told before after (g ∷ gs) (q ∷ qs) cs [] talk told = absurd talk
-  Talk-told before after (g ∷ gs) (q ∷ qs) cs (l ∷ ls) talk told =
-      Talk-told talk.0 after gs qs talk.2 ls talk.6 (command_told before talk.0 l talk.1 (command_in g) talk.3 told)
+  Talk-told : (before after : Standing) (talk : List Exchange) → Talk s before talk after → before.told ≡ true → after.told ≡ true
+  Talk-told before after [] same told = told_of same ∙ told
+  Talk-told before after (x ∷ talk) goes told = Talk-told goes.0 after talk goes.3 (command_told before goes.0 x.line x.commit (command_in x.form) goes.1 told)
 
-  pub told_once : (one two three four : Standing) (fs : List Form) (ps cs : List ℕ) (ls : List (List ℕ)) (f g : Form) (line other : List ℕ) (commit last : Option ℕ)
-      → IsNotTaken s one f two line commit → Talk s two fs ps cs ls three → IsNotTaken s three g four other last → ⊥
-  told_once one two three four fs ps cs ls f g line other commit last first talk again =
-      let told : three.told ≡ true = Talk-told two three fs ps cs ls talk (told_of first.stands) in
+  pub told_once : (one two three four : Standing) (talk : List Exchange) (f g : Form) (line other : List ℕ) (commit last : Option ℕ)
+      → IsNotTaken s one f two line commit → Talk s two talk three → IsNotTaken s three g four other last → ⊥
+  told_once one two three four talk f g line other commit last first between again =
+      let told : three.told ≡ true = Talk-told two three talk between (told_of first.stands) in
       true≢false (sym told ∙ again.not_told)

@@ -12,6 +12,7 @@ use Rattle.tx_model.specs.Samples.{string, vector, add, doc}
 use Rattle.talk_model.specs.Commands.{command_in}
 use Rattle.talk_model.specs.Session.{Setting, setting, Standing, opened_at}
 use Rattle.talk_model.specs.Reads.{IsReply, reply, behind}
+use Rattle.talk_model.specs.Talk.{Exchange}
 
 -- a vector of a word and what stands behind it
 abbrev pub said : List ℕ → List Form → Form
@@ -40,6 +41,11 @@ abbrev pub alone : List Entry → Option ℕ → Bool → Setting
 alone h stop teller =
     setting (λ reading. (reading ≡ pos 1000) ⊎ (reading ≡ pos 2000)) (λ name d. d.added ≡ true)
     no_guard users_alone h stop teller
+
+-- a form, the place where it was answered, its line, and its commit
+abbrev pub exchange : Form → ℕ → List ℕ → Option ℕ → Exchange
+exchange form place line commit =
+    record { form = form; place = place; line = line; commit = commit }
 
 -- ---- replies over the histories of the examples
 

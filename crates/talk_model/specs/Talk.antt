@@ -1,7 +1,7 @@
 -- The talk of a session: how each form of its script is answered, over a history that it may share
 -- with other sessions.
 -- This project's own choice.
-use Rattle.std.specs.Prelude.{◌≡◌, ℕ, ◌+◌, ◌-◌, ◌<◌, ◌≤◌, ◌⊎◌, ℤ, true, false, List, [], ◌∷◌, ◌++◌, codes, slice_get, option_to_list, Option, Some, None}
+use Rattle.std.specs.Prelude.{◌≡◌, ℕ, ◌+◌, ◌-◌, ◌<◌, ◌≤◌, ◌⊎◌, ℤ, true, false, List, [], ◌∷◌, map, filter_map, codes, slice_get, Option, Some, None}
 use Rattle.edn_model.specs.Form.{Form}
 use Rattle.fb_values.specs.declared.facts.Entry.{Entry}
 use Rattle.fb_model.specs.History.{basis, upto}
@@ -113,17 +113,34 @@ AnswersCommand s before command after line commit = IsRead s before command afte
 abbrev pub IsAnswered : Setting → Standing → Form → Standing → List ℕ → Option ℕ → Type 0
 IsAnswered s before f after line commit = AnswersCommand s before (command_in f) after line commit
 
--- The forms have these places and lines, one each in order, and the commits of those that were
--- accepted, in order.
-abbrev pub Talk : Setting → Standing → List Form → List ℕ → List ℕ → List (List ℕ) → Standing
-    → Type 0
-Talk s before [] [] commits [] after = (commits ≡ []) × (after ≡ before)
-Talk s before (f ∷ fs) (p ∷ ps) commits (line ∷ lines) after =
+-- ---- a script
+
+-- One form of a script, and how it was answered.
+pub record Exchange : Type 0 where
+  pub form : Form
+  -- the t up to which its session had then seen the history
+  pub place : ℕ
+  pub line : List ℕ
+  -- the t that it committed, if any
+  pub commit : Option ℕ
+
+abbrev pub forms_of : List Exchange → List Form
+forms_of exchanges = map (λ x. x.form) exchanges
+
+abbrev pub places_of : List Exchange → List ℕ
+places_of exchanges = map (λ x. x.place) exchanges
+
+abbrev pub lines_of : List Exchange → List (List ℕ)
+lines_of exchanges = map (λ x. x.line) exchanges
+
+abbrev pub commits_of : List Exchange → List ℕ
+commits_of exchanges = filter_map (λ x. x.commit) exchanges
+
+-- Each form takes the session on from where the one before it left it.
+abbrev pub Talk : Setting → Standing → List Exchange → Standing → Type 0
+Talk s before [] after = after ≡ before
+Talk s before (x ∷ exchanges) after =
     (next : Standing)
-    × (commit : Option ℕ)
-    × (rest : List ℕ)
-    × IsAnswered s before f next line commit
-    × (next.place ≡ p)
-    × (commits ≡ option_to_list commit ++ rest)
-    × Talk s next fs ps rest lines after
-Talk s before _ _ commits _ after = ⊥
+    × IsAnswered s before x.form next x.line x.commit
+    × (next.place ≡ x.place)
+    × Talk s next exchanges after

@@ -6,25 +6,19 @@ ghost use Rattle.view_model.specs.Samples.{texts, hi};
 ghost use Rattle.talk_model.specs.Replies.{datoms_reply};
 ghost use Rattle.talk_model.specs.Session.{opened_at};
 ghost use Rattle.talk_model.specs.Talk.{Talk};
-ghost use Rattle.talk_model.specs.Samples.{said, key, number, text, alone, reply_over_texts, datoms_of_first};
+ghost use Rattle.talk_model.specs.Samples.{said, key, number, text, alone, exchange, reply_over_texts, datoms_of_first};
 
 /// A transaction, a point, what is no command, and what there is to see.
 pub fn a_talk()
     ensures { Talk (alone texts None false) (opened_at 0)
         (
-        said (codes "db") []
-        ∷ said (codes "transact") (text ∷ [])
-        ∷ said (codes "since") (number 0 ∷ [])
-        ∷ said (codes "look") []
-        ∷ said (codes "sync") []
-        ∷ [])
-        (0 ∷ 1 ∷ 1 ∷ 1 ∷ 1 ∷ []) (1 ∷ [])
-        (
-        codes "{:basis 0}\n"
-        ∷ codes "{:t 1 :tempids {\"x\" 17592186044417}}\n"
-        ∷ codes "{:ok true :basis 1}\n"
-        ∷ codes "{:refused :read/not-a-command :at 0 :basis 1}\n"
-        ∷ codes "{:basis 1}\n"
+        exchange (said (codes "db") []) 0 (codes "{:basis 0}\n") None
+        ∷ exchange (said (codes "transact") (text ∷ [])) 1
+        (codes "{:t 1 :tempids {\"x\" 17592186044417}}\n") (Some 1)
+        ∷ exchange (said (codes "since") (number 0 ∷ [])) 1 (codes "{:ok true :basis 1}\n") None
+        ∷ exchange (said (codes "look") []) 1
+        (codes "{:refused :read/not-a-command :at 0 :basis 1}\n") None
+        ∷ exchange (said (codes "sync") []) 1 (codes "{:basis 1}\n") None
         ∷ [])
         (record { place = 1; window = since 1 whole; filters = []; told = false }) }
 {}
@@ -35,17 +29,13 @@ pub fn a_talk()
 pub fn a_talk_over_a_stopped_log()
     ensures { Talk (alone texts (Some 2) true) (opened_at 1)
         (
-        said (codes "transact") (text ∷ [])
-        ∷ said (codes "transact") (text ∷ [])
-        ∷ said (codes "transact") (key (codes "x") ∷ [])
-        ∷ said (codes "db") []
-        ∷ [])
-        (1 ∷ 1 ∷ 1 ∷ 1 ∷ []) []
-        (
-        codes "{:fault :log :at 2 :basis 1}\n"
-        ∷ codes "{:fault :log-stopped :at 2 :basis 1}\n"
-        ∷ codes "{:refused :db.error/not-a-form :at 0 :basis 1}\n"
-        ∷ codes "{:basis 1}\n"
+        exchange (said (codes "transact") (text ∷ [])) 1
+        (codes "{:fault :log :at 2 :basis 1}\n") None
+        ∷ exchange (said (codes "transact") (text ∷ [])) 1
+        (codes "{:fault :log-stopped :at 2 :basis 1}\n") None
+        ∷ exchange (said (codes "transact") (key (codes "x") ∷ [])) 1
+        (codes "{:refused :db.error/not-a-form :at 0 :basis 1}\n") None
+        ∷ exchange (said (codes "db") []) 1 (codes "{:basis 1}\n") None
         ∷ [])
         (record { place = 1; window = whole; filters = []; told = true }) }
 {}

@@ -7,7 +7,7 @@ ghost use Rattle.fb_model.specs.History.{basis};
 ghost use Rattle.fb_model.specs.Lawful.{IsLawful};
 ghost use Rattle.tx_model.specs.Step.{Guard};
 ghost use Rattle.talk_model.specs.Session.{Standing, setting, Stays};
-ghost use Rattle.talk_model.specs.Talk.{IsAccepted, IsRefused, IsNotTaken, IsShown, IsAnswered, Talk};
+ghost use Rattle.talk_model.specs.Talk.{IsAccepted, IsRefused, IsNotTaken, IsShown, IsAnswered, Exchange, places_of, commits_of, Talk};
 ghost use Rattle.talk_model.specs.Prefixes.{SeesAll, Prefixes};
 ghost use Rattle.std.specs.List.Sorted.{IsStrictlyIncreasing};
 
@@ -22,40 +22,35 @@ pub trait Surroundings {
 /// A longer lawful history keeps a talk, also where the log has stopped behind it meanwhile.
 pub fn a_longer_history_keeps_a_talk<S: Surroundings>()
     ensures { (s : S) (guard : Guard) (is_filter : List ℕ → Bool) (h more : List Entry)
-        (stop later : Option ℕ) (teller is_teller : Bool) (before after : Standing) (fs : List Form)
-        (ps cs : List ℕ) (ls : List (List ℕ))
+        (stop later : Option ℕ) (teller is_teller : Bool) (before after : Standing)
+        (talk : List Exchange)
         → let here = setting (S.may s) (S.selects s) guard is_filter h stop teller in
         let there = setting (S.may s) (S.selects s) guard is_filter (h ++ more) later is_teller in
         IsLawful h → IsLawful (h ++ more) → before.place ≤ basis h → Stays here later is_teller
-        → Talk here before fs ps cs ls after → Talk there before fs ps cs ls after }
+        → Talk here before talk after → Talk there before talk after }
 {}
 
 /// A talk goes on by one form more, with its place, its line and its commit.
 pub fn a_talk_goes_on<S: Surroundings>()
     ensures { (s : S) (guard : Guard) (is_filter : List ℕ → Bool) (h : List Entry) (stop : Option ℕ)
-        (teller : Bool) (before middle after : Standing) (fs : List Form) (ps cs : List ℕ)
-        (ls : List (List ℕ)) (f : Form) (line : List ℕ) (commit : Option ℕ)
+        (teller : Bool) (before middle after : Standing) (talk : List Exchange) (x : Exchange)
         → let here = setting (S.may s) (S.selects s) guard is_filter h stop teller in
-        Talk here before fs ps cs ls middle → IsAnswered here middle f after line commit
-        → Talk here before (fs ++ f ∷ []) (ps ++ after.place ∷ []) (cs ++ option_to_list commit)
-        (ls ++ line ∷ []) after }
+        Talk here before talk middle → IsAnswered here middle x.form after x.line x.commit
+        → after.place ≡ x.place → Talk here before (talk ++ x ∷ []) after }
 {}
 
 /// And it is the talk of the forms before the last one, gone on by that. So where the last line did
 /// not come out, the talk of the forms before it has the same commits, or those without the last.
 pub fn a_talk_ends_with_its_last_form<S: Surroundings>()
     ensures { (s : S) (guard : Guard) (is_filter : List ℕ → Bool) (h : List Entry) (stop : Option ℕ)
-        (teller : Bool) (before after : Standing) (fs : List Form) (ps cs : List ℕ)
-        (ls : List (List ℕ)) (f : Form) (p : ℕ) (line : List ℕ)
+        (teller : Bool) (before after : Standing) (talk : List Exchange) (x : Exchange)
         → let here = setting (S.may s) (S.selects s) guard is_filter h stop teller in
-        Talk here before (fs ++ f ∷ []) (ps ++ p ∷ []) cs (ls ++ line ∷ []) after
+        Talk here before (talk ++ x ∷ []) after
         → (middle : Standing)
-        × (commit : Option ℕ)
-        × (earlier : List ℕ)
-        × (cs ≡ earlier ++ option_to_list commit)
-        × (after.place ≡ p)
-        × Talk here before fs ps earlier ls middle
-        × IsAnswered here middle f after line commit }
+        × Talk here before talk middle
+        × IsAnswered here middle x.form after x.line x.commit
+        × (after.place ≡ x.place)
+        × (commits_of (talk ++ x ∷ []) ≡ commits_of talk ++ option_to_list x.commit) }
 {}
 
 /// The places of a talk never fall, lie between the opening's t and the basis, and each is at least
@@ -63,18 +58,16 @@ pub fn a_talk_ends_with_its_last_form<S: Surroundings>()
 /// and its line did not come out.
 pub fn a_talk_rests_on_what_was_seen<S: Surroundings>()
     ensures whole { (s : S) (guard : Guard) (is_filter : List ℕ → Bool) (h : List Entry)
-        (stop : Option ℕ) (teller : Bool) (before after : Standing) (fs : List Form)
-        (ps cs : List ℕ) (ls : List (List ℕ))
+        (stop : Option ℕ) (teller : Bool) (before after : Standing) (talk : List Exchange)
         → let here = setting (S.may s) (S.selects s) guard is_filter h stop teller in
-        before.place ≤ basis h → Talk here before fs ps cs ls after
-        → Prefixes before.place (basis h) ps cs }
+        before.place ≤ basis h → Talk here before talk after
+        → Prefixes before.place (basis h) (places_of talk) (commits_of talk) }
     ensures unfinished { (s : S) (guard : Guard) (is_filter : List ℕ → Bool) (h : List Entry)
-        (stop : Option ℕ) (teller : Bool) (before after : Standing) (fs : List Form)
-        (ps cs : List ℕ) (ls : List (List ℕ)) (f : Form) (p : ℕ) (line : List ℕ)
+        (stop : Option ℕ) (teller : Bool) (before after : Standing) (talk : List Exchange)
+        (x : Exchange)
         → let here = setting (S.may s) (S.selects s) guard is_filter h stop teller in
-        before.place ≤ basis h
-        → Talk here before (fs ++ f ∷ []) (ps ++ p ∷ []) cs (ls ++ line ∷ []) after
-        → Prefixes before.place (basis h) ps cs }
+        before.place ≤ basis h → Talk here before (talk ++ x ∷ []) after
+        → Prefixes before.place (basis h) (places_of talk) (commits_of (talk ++ x ∷ [])) }
 {}
 
 /// Commits strictly rise.
@@ -86,10 +79,10 @@ pub fn commits_strictly_rise()
 /// A session is told once at most that the log did not take its transaction.
 pub fn a_session_is_told_once<S: Surroundings>()
     ensures { (s : S) (guard : Guard) (is_filter : List ℕ → Bool) (h : List Entry) (stop : Option ℕ)
-        (teller : Bool) (one two three four : Standing) (fs : List Form) (ps cs : List ℕ)
-        (ls : List (List ℕ)) (f g : Form) (line other : List ℕ) (commit last : Option ℕ)
+        (teller : Bool) (one two three four : Standing) (talk : List Exchange) (f g : Form)
+        (line other : List ℕ) (commit last : Option ℕ)
         → let here = setting (S.may s) (S.selects s) guard is_filter h stop teller in
-        IsNotTaken here one f two line commit → Talk here two fs ps cs ls three
+        IsNotTaken here one f two line commit → Talk here two talk three
         → ¬ IsNotTaken here three g four other last }
 {}
 

@@ -1,5 +1,5 @@
 //! A history of numbers, with who added each, and the snapshots of it that are mailed.
-ghost use Rattle.std.specs.Prelude.{◌≡◌, ℕ, ◌+◌, ◌<◌, ◌≤◌, [], ◌∷◌, ◌++◌, length, None, IfOk, IfErr};
+ghost use Rattle.std.specs.Prelude.{◌≡◌, ◌+◌, ◌<◌, ◌≤◌, [], ◌∷◌, ◌++◌, length, None, IfOk, IfErr};
 ghost use Rattle.std.specs.List.{All};
 
 use board_rule::{Mailed, Named};

@@ -1,5 +1,5 @@
 //! Many seats at work, each in a thread of its own.
-ghost use Rattle.std.specs.Prelude.{◌≡◌, ℕ, ◌+◌, ◌<◌, ◌≤◌, List, length, Some, None, IfOk};
+ghost use Rattle.std.specs.Prelude.{◌≡◌, ◌+◌, ◌<◌, ◌≤◌, length, Some, IfOk};
 ghost use Rattle.std.specs.List.{All};
 ghost use Rattle.board_rule.specs.Views.{worker, IsIdle, IsLawful};
 ghost use Rattle.board_rule.specs.Calls.{view_of, board_of};

@@ -1,5 +1,5 @@
 //! One turn of one seat.
-ghost use Rattle.std.specs.Prelude.{◌≡◌, ℕ, ◌+◌, ◌<◌, ◌≤◌, [], ◌∷◌, ◌++◌, ◌⊎◌, length, Some, None, IfOk};
+ghost use Rattle.std.specs.Prelude.{◌≡◌, ℕ, ◌+◌, ◌<◌, ◌⊎◌, length, Some, None};
 ghost use Rattle.board_rule.specs.Views.{IsIdle, IsTried};
 ghost use Rattle.board_rule.specs.Calls.{view_of, board_of};
 ghost use Rattle.test_board.specs.Books.{HasBook, IsSoundBook, IsSameSeat, stop_of};

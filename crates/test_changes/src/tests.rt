@@ -1,4 +1,4 @@
-//! Tests: changes beside those of plain histories.
+//! Changes beside those of plain histories.
 ghost use Rattle.std.specs.Prelude.{IfOk};
 ghost use Rattle.fb_schema.specs.Described.{SchemaStands};
 

@@ -1,4 +1,4 @@
-//! Tests: a disk in memory, its crashes and its faults.
+//! A disk in memory, its crashes and its faults.
 use fb_disk::{Disk, Failed, MemDisk};
 use std::alloc::Global;
 use std::test::Fail;

@@ -1,4 +1,4 @@
-//! Tests: a journal over a disk in memory.
+//! A journal over a disk in memory.
 use fb_disk::{Disk, MemDisk};
 use fb_journal::{Journal, JournalFault, Mark, Payloads, StartFault, frame};
 use std::alloc::Global;

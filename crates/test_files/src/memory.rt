@@ -1,4 +1,4 @@
-//! Tests: ports in memory, with faults at numbered calls.
+//! Ports in memory, with faults at numbered calls.
 use fb_disk::MemDisk;
 use fb_ports::{Clock, Disk, Failed, Host, OpenFail, Part, Sink, Source};
 use mem_ports::{FixedClock, MemHost, MemSink, MemSource, StepClock};

@@ -1,4 +1,4 @@
-//! Tests: ports of the system, on files of the test itself.
+//! Ports of the system, on files of the test itself.
 use fb_ports::{Clock, Disk, Failed, Host, OpenFail, Part, Sink, Source};
 use real_ports::{FileSink, FileSource, RealHost, SystemClock};
 use std::alloc::Global;

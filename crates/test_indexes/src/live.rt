@@ -1,14 +1,14 @@
 //! The live index beside plain sorted lists.
-ghost use Rattle.std.specs.Prelude.{◌≡◌, ◌<◌, ◌≤◌, [], ◌∷◌, ◌++◌, IfOk};
+ghost use Rattle.std.specs.Prelude.{◌≡◌, ◌<◌, ◌≤◌, [], IfOk};
 ghost use Rattle.fb_values.specs.declared.indexes.Order.{Order};
 ghost use Rattle.fb_values.specs.Lists.{list_in};
 ghost use Rattle.live_index.specs.Samples.{adds, AreSamples};
 
+use crate::common::{crosses_threads, entry_of, pushed, value};
 use fb_covers::Covers;
 use fb_memory::Memory;
 use fb_search::Steps;
-use fb_text::Text;
-use fb_values::{Datom, Datoms, Entry, Order, Probe, Value, cmp_in, cmp_probe};
+use fb_values::{Datom, Datoms, Order, Probe, cmp_in, cmp_probe};
 use live_index::Live;
 use std::alloc::Global;
 use std::cmp::Ordering;
@@ -17,21 +17,6 @@ use std::sync::ledger::{Blank, Ledger};
 use std::test::Fail;
 
 const SIZES: [u32; 7] = [0, 1, 256, 257, 512, 513, 100_000];
-
-/// One of each type, by turns.
-fn value(alloc: Global, n: u32) -> Result<Value, Memory> {
-    Ok(match n % 9 {
-        0 => Value::Keyword(Text::of(alloc, "a/b")?),
-        1 => Value::Str(Text::of(alloc, "text")?),
-        2 => Value::Bool(n % 2 == 0),
-        3 => Value::Long(n as i64 - 100),
-        4 => Value::Ref(n as u64),
-        5 => Value::Instant(-(n as i64)),
-        6 => Value::Uuid(n as u128),
-        7 => Value::Symbol(Text::of(alloc, "sym")?),
-        _ => Value::Uri(Text::of(alloc, "uri:x")?),
-    })
-}
 
 /// Three datoms of each entity, every fourth t a retraction. No two numbers give the same key.
 fn sample(alloc: Global, n: u32) -> Result<Datom, Memory>
@@ -59,16 +44,6 @@ fn coverage(alloc: Global, first: u64) -> Result<Covers, Memory>
 {
     let avet = vec![in alloc; first, first + 1, first + 2, first + 3]?;
     Covers::of(alloc, avet, vec![in alloc; 1, 4]?)
-}
-
-fn entry_of(datoms: Datoms) -> Entry
-    ensures { result.datoms ≡ datoms }
-{
-    Entry {
-        t: 0,
-        instant: 0,
-        datoms,
-    }
 }
 
 fn nothing(alloc: Global) -> Datoms
@@ -212,13 +187,6 @@ fn all_agree(alloc: Global, made: &Made, size: u32) -> Result<bool, Memory> {
     )
 }
 
-fn pushed(mut list: Vec<Datom>, datom: Datom) -> Result<Vec<Datom>, Memory>
-    ensures { IfOk result (λ v. v.items ≡ list.items ++ datom ∷ []) }
-{
-    list.push(datom)?;
-    Ok(list)
-}
-
 /// All samples below `size`.
 fn samples(alloc: Global, size: u32) -> Result<Datoms, Memory>
     ensures { IfOk result (λ ds. AreSamples ds) }
@@ -240,8 +208,6 @@ fn recovered(alloc: Global, live: &Live, covers: &Covers, size: u32) -> Result<L
     let entry = entry_of(datoms);
     live.with_entry(&entry, covers, &refill)
 }
-
-fn crosses_threads<T: Send + Sync>(_value: &T) {}
 
 /// Whether the index of that many samples has the plain lists, also after its successor was made under another coverage,
 /// and whether the successor has them.

@@ -1,5 +1,5 @@
 //! Merges beside plain sorted lists.
-ghost use Rattle.std.specs.Prelude.{◌≡◌, ◌∷◌, [], ◌++◌, IfOk};
+ghost use Rattle.std.specs.Prelude.{◌≡◌, [], IfOk};
 ghost use Rattle.fb_values.specs.declared.indexes.Order.{Order};
 ghost use Rattle.fb_values.specs.Lists.{list_in};
 ghost use Rattle.fb_values.specs.Rising.{IsRising};
@@ -7,10 +7,10 @@ ghost use Rattle.live_index.specs.Samples.{adds, AreSamples, AreRisingSamples};
 ghost use Rattle.seg_tree.specs.Nodes.{tree_datoms};
 ghost use Rattle.seg_tree.specs.Indexes.{tree_in};
 
+use crate::common::{crosses_threads, entry_of, pushed, value};
 use fb_covers::Covers;
 use fb_memory::Memory;
-use fb_text::Text;
-use fb_values::{Datom, Datoms, Entry, Order, Probe, Value, cmp_in, cmp_probe};
+use fb_values::{Datom, Datoms, Order, Probe, cmp_in, cmp_probe};
 use live_index::Live;
 use seg_merge::merge4;
 use seg_tree::{Place, Roots, Tree};
@@ -122,21 +122,6 @@ fn rows() -> [Row; 15] {
     ]
 }
 
-/// One of each type, by turns.
-fn value(alloc: Global, n: u32) -> Result<Value, Memory> {
-    Ok(match n % 9 {
-        0 => Value::Keyword(Text::of(alloc, "a/b")?),
-        1 => Value::Str(Text::of(alloc, "text")?),
-        2 => Value::Bool(n % 2 == 0),
-        3 => Value::Long(n as i64 - 100),
-        4 => Value::Ref(n as u64),
-        5 => Value::Instant(-(n as i64)),
-        6 => Value::Uuid(n as u128),
-        7 => Value::Symbol(Text::of(alloc, "sym")?),
-        _ => Value::Uri(Text::of(alloc, "uri:x")?),
-    })
-}
-
 /// Nine numbers, one for each type of value, are of one entity. A transaction of t 3 retracts.
 fn sample(alloc: Global, n: u32, t: u32) -> Result<Datom, Memory>
     ensures { IfOk result (λ d. d.added ≡ adds d.t) }
@@ -148,13 +133,6 @@ fn sample(alloc: Global, n: u32, t: u32) -> Result<Datom, Memory>
         t,
         added: t % 4 != 3,
     })
-}
-
-fn pushed(mut list: Vec<Datom>, datom: Datom) -> Result<Vec<Datom>, Memory>
-    ensures { IfOk result (λ v. v.items ≡ list.items ++ datom ∷ []) }
-{
-    list.push(datom)?;
-    Ok(list)
 }
 
 fn samples(alloc: Global, numbers: Numbers, t: u32) -> Result<Datoms, Memory>
@@ -175,16 +153,6 @@ fn coverage(alloc: Global, count: u64) -> Result<Covers, Memory> {
         avet.push(a)?;
     }
     Covers::of(alloc, avet, vec![in alloc; 1]?)
-}
-
-fn entry_of(datoms: Datoms) -> Entry
-    ensures { result.datoms ≡ datoms }
-{
-    Entry {
-        t: 0,
-        instant: 0,
-        datoms,
-    }
 }
 
 fn no_live(alloc: Global) -> Live
@@ -322,8 +290,6 @@ fn older_leaves(alloc: Global, tree: &Tree, first: u64) -> Result<usize, Memory>
     }
     Ok(older)
 }
-
-fn crosses_threads<T: Send + Sync>(_value: &T) {}
 
 /// Whether the merged trees have the plain lists, and as many older leaves as the row says. The live index also has datoms
 /// of t 5, which stay out.

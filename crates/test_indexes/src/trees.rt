@@ -1,7 +1,7 @@
-//! Tests: trees at the sizes where their leaves split.
+//! Trees at the sizes where their leaves split.
+use crate::common::{crosses_threads, value};
 use fb_memory::Memory;
-use fb_text::Text;
-use fb_values::{Datom, Order, Value, cmp_in};
+use fb_values::{Datom, Order, cmp_in};
 use seg_tree::{Builder, Place, Roots, Tree};
 use std::alloc::Global;
 use std::cmp::Ordering;
@@ -9,21 +9,10 @@ use std::test::Fail;
 
 /// Nine datoms of each entity, one of each type.
 fn datom(alloc: Global, n: u32) -> Result<Datom, Memory> {
-    let v = match n % 9 {
-        0 => Value::Keyword(Text::of(alloc, "a/b")?),
-        1 => Value::Str(Text::of(alloc, "text")?),
-        2 => Value::Bool(true),
-        3 => Value::Long(-(n as i64)),
-        4 => Value::Ref(n as u64),
-        5 => Value::Instant(n as i64),
-        6 => Value::Uuid(n as u128),
-        7 => Value::Symbol(Text::of(alloc, "sym")?),
-        _ => Value::Uri(Text::of(alloc, "uri:x")?),
-    };
     Ok(Datom {
         e: (n / 9) as u64,
         a: 7,
-        v,
+        v: value(alloc, n)?,
         t: n % 5,
         added: n % 5 != 3,
     })
@@ -79,8 +68,6 @@ fn trees_of_each_size_are_read_in_order(rt: HostRuntime) -> Result<(), Fail> {
     }
     Ok(())
 }
-
-fn crosses_threads<T: Send + Sync>(_value: &T) {}
 
 #[test]
 fn no_roots_have_no_ids(rt: HostRuntime) -> Result<(), Fail> {

@@ -1,4 +1,4 @@
-//! Tests: forms of transactions and what is wrong with them.
+//! Forms of transactions and what is wrong with them.
 use edn_form::{Edn, Items};
 use fb_text::Text;
 use std::alloc::Global;

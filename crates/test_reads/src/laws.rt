@@ -1,4 +1,4 @@
-//! Tests: entries that break a law, one for each.
+//! Entries that break a law, one for each.
 use fb_history::EntryList;
 use fb_memory::Memory;
 use fb_schema::Schema;

@@ -1,4 +1,4 @@
-//! Tests: names and components of small databases.
+//! Names and components of small databases.
 use edn_form::{Edn, Items};
 use fb_db::Db;
 use fb_memory::Memory;

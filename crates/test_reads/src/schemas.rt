@@ -1,4 +1,4 @@
-//! Tests: schemas of small histories.
+//! Schemas of small histories.
 use fb_memory::Memory;
 use fb_schema::{Schema, changes_schema};
 use fb_text::Text;

@@ -1,9 +1,8 @@
-//! Tests: values read from forms and printed as forms.
+//! Values read from forms and printed as forms.
 use edn_form::Edn;
 use edn_values::{as_edn, as_value, type_of};
 use fb_memory::Memory;
 use fb_text::Text;
-use fb_values::Value;
 use std::alloc::Global;
 use std::test::Fail;
 

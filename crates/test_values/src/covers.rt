@@ -1,4 +1,4 @@
-//! Tests: which attributes the indexes hold.
+//! Which attributes the indexes hold.
 use fb_covers::Covers;
 use fb_values::Order;
 use std::test::Fail;

@@ -1,4 +1,4 @@
-//! Tests: lists of entries, heads and authors.
+//! Lists of entries, heads and authors.
 use fb_history::{Authors, EntryList};
 use fb_text::Text;
 use fb_values::{Datom, Datoms, Entry, Value};

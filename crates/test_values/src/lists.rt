@@ -1,4 +1,4 @@
-//! Tests: lists at the lengths where their chunks fill.
+//! Lists at the lengths where their chunks fill.
 use fb_chunks::{ChunkList, Share, Shared};
 use std::test::Fail;
 

@@ -1,4 +1,4 @@
-//! Tests: the error of a refused allocation.
+//! The error of a refused allocation.
 use fb_memory::Memory;
 use std::alloc::AllocError;
 use std::test::Fail;

@@ -1,4 +1,4 @@
-//! Tests: entities as they are documented.
+//! Entities as they are documented.
 use fb_numbers::{
     is_builtin, is_instant, t_of_transaction, transaction_entity, user_entity, user_number,
 };

@@ -1,4 +1,4 @@
-//! Tests: texts on both sides of the longest that lies in the value itself.
+//! Texts on both sides of the longest that lies in the value itself.
 use fb_text::Text;
 use std::test::Fail;
 

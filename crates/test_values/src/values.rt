@@ -1,4 +1,4 @@
-//! Tests: values, datoms and their orders.
+//! Values, datoms and their orders.
 use fb_memory::Memory;
 use fb_text::Text;
 use fb_values::{Datom, Datoms, Entry, Order, Probe, Value, cmp_in, cmp_probe};

@@ -1,7 +1,7 @@
 //! Examples, by computation.
-ghost use Rattle.std.specs.Prelude.{◌≡◌, [], ◌∷◌, ◌++◌, codes, pos, true, false, Some, None};
-ghost use Rattle.fb_values.specs.declared.facts.Value.TheVariants.{Long, Str};
-ghost use Rattle.fb_numbers.specs.Numbers.{user_entity, ident, doc};
+ghost use Rattle.std.specs.Prelude.{◌≡◌, [], ◌∷◌, ◌++◌, codes, true, false, Some, None};
+ghost use Rattle.fb_values.specs.declared.facts.Value.TheVariants.{Str};
+ghost use Rattle.fb_numbers.specs.Numbers.{user_entity, doc};
 ghost use Rattle.fb_model.specs.History.{said};
 ghost use Rattle.fb_model.specs.Facts.{facts, standing};
 ghost use Rattle.std.specs.declared.cmp.Ordering.TheVariants.{Greater};

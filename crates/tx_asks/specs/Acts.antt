@@ -9,7 +9,7 @@ use Rattle.fb_model.specs.Facts.{value_of}
 use Rattle.fb_model.specs.Schema.{Attribute, attribute_named}
 use Rattle.fb_schema.specs.Parts.{attribute_in}
 use Rattle.tx_model.specs.Asks as asks
-use Rattle.tx_model.specs.Asks.{Name, Operand, Ask, plain, entity}
+use Rattle.tx_model.specs.Asks.{Name, Operand, Ask, plain}
 use Rattle.tx_model.specs.Tempids.{Db, entity_of}
 use Rattle.tx_model.specs.Changes.{value_of_part, change, values_withdrawn, set_withdrawn}
 use Rattle.tx_model.specs.Transaction.{Transaction, with_names}

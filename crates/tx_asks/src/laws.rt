@@ -1,6 +1,5 @@
 //! What follows of acts and asks.
-ghost use Rattle.std.specs.Prelude.{◌≡◌, ℕ, false, List, [], map, filter, filter_map, flat_map, Option};
-ghost use Rattle.std.specs.List.{list_any};
+ghost use Rattle.std.specs.Prelude.{◌≡◌, ℕ, false, List, [], map, filter};
 ghost use Rattle.std.specs.Option.{option_map_or};
 ghost use Rattle.tx_model.specs.Asks.{Ask, Name, names_of};
 ghost use Rattle.tx_model.specs.Tempids.{Db, tempids_in, holders, assigned};

@@ -1,6 +1,5 @@
 //! The triples in their order, each with what is told of it.
-ghost use Rattle.std.specs.Prelude.{◌≡◌, ℕ, map, IfOk};
-ghost use Rattle.fb_values.specs.declared.facts.Value.{Value as AnyValue};
+ghost use Rattle.std.specs.Prelude.{◌≡◌, IfOk};
 ghost use Rattle.fb_model.specs.Facts.{holds as model_holds};
 ghost use Rattle.fb_schema.specs.Described.{SchemaStands};
 ghost use Rattle.tx_model.specs.Tempids.{db_of};

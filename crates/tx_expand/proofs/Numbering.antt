@@ -3,7 +3,7 @@ use Rattle.std.proofs.Common.{◌≡◌, ℕ, ◌+◌, Bool, true, false, List, 
 use Rattle.std.specs.Prelude.{slice_index_or, unwrap_or, Option, Some, None, ⊤}
 use Rattle.std.proofs.lemmas.Bool.{false≢true}
 use Rattle.edn_model.specs.Form as edn
-use Rattle.edn_model.specs.Form.{Form, Forms, no_forms, form, Pairs, no_pairs, pair, items}
+use Rattle.edn_model.specs.Form.{Form, Forms, no_forms, form, Pairs, no_pairs, pair}
 use Rattle.fb_values.specs.declared.facts.Datom.{Datom}
 use Rattle.tx_model.specs.Asks.{Name, number, ident, lookup, tempid, nameless, plain, entity, Ask, adds, lookup_in, name_in, name_of_pair, Key, own, forward, backward, key_in}
 use Rattle.tx_model.specs.Walk.{has_ref, has_many, has_uniqueness, name_of_map, named_by, links, nested_asks, scalar_asks, vector_asks, sequence_asks, pair_asks, map_asks, value_asks, members_asks, member_asks}

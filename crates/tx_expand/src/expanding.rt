@@ -1,7 +1,6 @@
 //! From the forms of a transaction to what each form asks.
-ghost use Rattle.std.specs.Prelude.{◌≡◌, ◌∷◌, ℕ, List, Some, None, IfOk, IfErr};
+ghost use Rattle.std.specs.Prelude.{◌≡◌, List, Some, None, IfOk, IfErr};
 ghost use Rattle.edn_form.specs.View.{forms_of};
-ghost use Rattle.fb_values.specs.declared.facts.Datom.{Datom};
 ghost use Rattle.fb_values.specs.declared.facts.Entry.{Entry};
 ghost use Rattle.fb_model.specs.Facts.{facts};
 ghost use Rattle.fb_schema.specs.Described.{SchemaStands};

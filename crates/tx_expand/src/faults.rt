@@ -28,7 +28,7 @@ pub struct Faults {
 
 impl NameFaults {
     ghost use Rattle.std.specs.Prelude.{◌≡◌};
-    ghost use Rattle.tx_expand.specs.Faults.{no_name_faults, either_name};
+    ghost use Rattle.tx_expand.specs.Faults.{either_name};
 
     pub const NONE: NameFaults = NameFaults {
         unknown: false,
@@ -50,7 +50,7 @@ impl NameFaults {
 
 impl Faults {
     ghost use Rattle.std.specs.Prelude.{◌≡◌};
-    ghost use Rattle.tx_expand.specs.Faults.{no_faults, either};
+    ghost use Rattle.tx_expand.specs.Faults.{either};
 
     pub const NONE: Faults = Faults {
         unknown: false,

@@ -1,5 +1,5 @@
 //! Laws of the walk and of the rules that need the schema alone.
-ghost use Rattle.std.specs.Prelude.{◌≡◌, ℕ, List, [], map, length};
+ghost use Rattle.std.specs.Prelude.{◌≡◌, ℕ, List, map, length};
 ghost use Rattle.edn_model.specs.Form.{Form};
 ghost use Rattle.fb_values.specs.declared.facts.Datom.{Datom};
 ghost use Rattle.fb_values.specs.declared.facts.Entry.{Entry};

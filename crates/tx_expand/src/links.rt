@@ -1,11 +1,11 @@
 //! What one value under a key asks: the map's entity has it, or the entity that is the value has the map's.
-ghost use Rattle.std.specs.Prelude.{◌≡◌, ◌∷◌, [], ◌++◌, false, None, IfOk};
+ghost use Rattle.std.specs.Prelude.{◌≡◌, [], ◌++◌, false, None, IfOk};
 ghost use Rattle.edn_model.specs.Form as edn;
 ghost use Rattle.edn_form.specs.View.{form_of, forms_of, pairs_of, members, entries};
 ghost use Rattle.tx_model.specs.Asks as asks;
 ghost use Rattle.tx_model.specs.Walk as model;
-ghost use Rattle.tx_expand.specs.Seen.{name_seen, word_of, link_seen, key_seen, part_seen, out_seen};
-ghost use Rattle.tx_expand.specs.Known.{HaveOwnNames, IsLinkLookedUp, IsKeyLookedUp, AreLookedUp};
+ghost use Rattle.tx_expand.specs.Seen.{name_seen, link_seen, part_seen, out_seen};
+ghost use Rattle.tx_expand.specs.Known.{HaveOwnNames, IsLinkLookedUp, AreLookedUp};
 ghost use Rattle.tx_expand.specs.Numbered.{name_at, behind, is_collection as is_model_collection, takes_maps as takes_model_maps, lacks, entry_asks};
 
 use crate::attrs::{has_many, has_parts, has_ref, has_uniqueness, is_unique, push};

@@ -1,11 +1,10 @@
 //! What a form asks, before it is judged: names and forms as they stand, with the attributes that were looked up.
-ghost use Rattle.std.specs.Prelude.{◌≡◌, ◌++◌, ◌∷◌, [], IfOk};
+ghost use Rattle.std.specs.Prelude.{◌≡◌, [], IfOk};
 
 use edn_form::Edn;
 use fb_memory::Memory;
-use fb_schema::{Attribute, Schema};
+use fb_schema::Attribute;
 use fb_text::Text;
-use std::alloc::Global;
 use tx_asks::Name;
 
 /// A keyword in an attribute's place.

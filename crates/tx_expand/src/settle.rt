@@ -1,8 +1,6 @@
 //! What becomes of an ask: it stands, with its values read, or something is wrong with it.
 ghost use Rattle.std.specs.Prelude.{◌≡◌, true, false, Some, option_map, MatchOption, IfOk};
-ghost use Rattle.edn_model.specs.Form as edn;
 ghost use Rattle.edn_form.specs.View.{form_of};
-ghost use Rattle.fb_values.specs.declared.facts.Datom.{Datom};
 ghost use Rattle.fb_schema.specs.Parts.{attribute_in};
 ghost use Rattle.tx_model.specs.Asks as asks;
 ghost use Rattle.tx_model.specs.NameRules as model;

@@ -4,9 +4,9 @@ ghost use Rattle.edn_model.specs.Form as edn;
 ghost use Rattle.edn_form.specs.View.{form_of, forms_of, pairs_of, members, entries};
 ghost use Rattle.tx_model.specs.Shapes as shapes;
 ghost use Rattle.tx_model.specs.Walk as model;
-ghost use Rattle.tx_expand.specs.Seen.{name_seen, link_seen, key_seen, out_seen};
-ghost use Rattle.tx_expand.specs.Known.{HaveOwnNames, IsLinkLookedUp, IsKeyLookedUp, AreLookedUp};
-ghost use Rattle.tx_expand.specs.Numbered.{map_told, pair_told, value_told, members_told, member_told, nested_told, form_told, name_at, behind};
+ghost use Rattle.tx_expand.specs.Seen.{name_seen, link_seen, out_seen};
+ghost use Rattle.tx_expand.specs.Known.{HaveOwnNames, IsLinkLookedUp, AreLookedUp};
+ghost use Rattle.tx_expand.specs.Numbered.{map_told, pair_told, value_told, members_told, member_told, form_told};
 
 use crate::attrs::{has_ref, push};
 use crate::links::{

@@ -1,9 +1,8 @@
 //! What names an entity or an attribute in a form.
-ghost use Rattle.std.specs.Prelude.{◌≡◌, ◌∷◌, [], codes};
+ghost use Rattle.std.specs.Prelude.{◌≡◌, []};
 ghost use Rattle.std.specs.Option.{option_map};
 ghost use Rattle.edn_model.specs.Form as edn;
 ghost use Rattle.edn_form.specs.View.{form_of, forms_of, members};
-ghost use Rattle.fb_model.specs.Words as words;
 ghost use Rattle.tx_model.specs.Asks as asks;
 ghost use Rattle.tx_model.specs.Shapes as model;
 ghost use Rattle.tx_forms.specs.Words.{is_own};

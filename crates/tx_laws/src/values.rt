@@ -1,6 +1,6 @@
 //! Laws 7 and 8: an entity has one value of an attribute of cardinality one, and a value of a unique attribute has one
 //! entity. The history keeps both, so only an addition can break them, and an attribute that comes to promise more.
-ghost use Rattle.std.specs.Prelude.{◌≡◌, ℕ, ◌&&◌, not, List, ◌∷◌, Bool, true, IfOk, nat_eq};
+ghost use Rattle.std.specs.Prelude.{◌≡◌, ◌&&◌, not, List, ◌∷◌, Bool, true, IfOk, nat_eq};
 ghost use Rattle.std.specs.List.{list_all, list_any};
 ghost use Rattle.std.specs.Option.{option_map_or};
 ghost use Rattle.std.specs.Ordering.{nat_cmp};

@@ -1,11 +1,8 @@
 //! What of a step depends on the clock.
-ghost use Rattle.std.specs.Prelude.{◌≡◌, ℕ, ℤ, List, Some};
+ghost use Rattle.std.specs.Prelude.{◌≡◌, ℕ, ℤ, List};
 ghost use Rattle.edn_model.specs.Form.{Form};
 ghost use Rattle.fb_values.specs.declared.facts.Entry.{Entry};
 ghost use Rattle.fb_model.specs.History.{next_instant};
-ghost use Rattle.tx_model.specs.Shapes.{forms_of};
-ghost use Rattle.tx_model.specs.Tempids.{named_tempids};
-ghost use Rattle.tx_model.specs.Transaction.{transaction};
 ghost use Rattle.tx_refusals.specs.declared.reasons.Refusal.{Refusal};
 ghost use Rattle.tx_model.specs.Step.{Guard, step, refused, accepted, IsAcceptedAt};
 

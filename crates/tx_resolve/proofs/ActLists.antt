@@ -1,5 +1,5 @@
 -- One more act, and one more list of them.
-use Rattle.std.proofs.Common.{◌≡◌, List, [], ◌∷◌, ◌++◌, map, refl, sym, ap, ◌∙◌}
+use Rattle.std.proofs.Common.{◌≡◌, List, [], ◌∷◌, ◌++◌, map, sym, ap, ◌∙◌}
 use Rattle.std.specs.Prelude.{Option, Some, None, option_map, option_to_list, filter_map}
 use Rattle.std.specs.List.{cons_option}
 use Rattle.std.proofs.lemmas.List.{map-append, append-nil}

@@ -1,6 +1,6 @@
 -- What an ask does, where its draft is done: the tempids have the same entities.
-use Rattle.std.proofs.Common.{◌≡◌, ℕ, ◌+◌, Bool, true, false, cond, List, [], ◌∷◌, ◌++◌, map, refl, sym, ap, ◌∙◌}
-use Rattle.std.specs.Prelude.{Option, Some, None, option_map, option_and_then, bytes_eq, ⊤, is_some}
+use Rattle.std.proofs.Common.{◌≡◌, ℕ, ◌+◌, true, cond, List, [], ◌∷◌, ◌++◌, map, refl, ap, ◌∙◌}
+use Rattle.std.specs.Prelude.{Option, Some, None, option_map, option_and_then, ⊤, is_some}
 use Rattle.edn_model.specs.Form as edn
 use Rattle.edn_form.specs.View.{form_of}
 use Rattle.fb_values.specs.declared.facts.Value.{Value}
@@ -12,7 +12,6 @@ use Rattle.fb_model.specs.Schema as schema
 use Rattle.fb_schema.specs.declared.attribute.Attribute.{Attribute}
 use Rattle.fb_schema.specs.Parts.{attribute_in}
 use Rattle.tx_model.specs.Asks as model
-use Rattle.tx_model.specs.Asks.{own_tempid}
 use Rattle.tx_model.specs.Tempids.{Db, entity_of, assigned_to}
 use Rattle.tx_model.specs.Values.{value_in}
 use Rattle.tx_model.specs.Changes.{value_of_part}
@@ -37,7 +36,7 @@ use Rattle.tx_resolve.specs.Numbers.{entity_for}
 use Rattle.tx_resolve.specs.Numbers as drafts
 use Rattle.tx_resolve.proofs.Options.{none_not}
 use Rattle.tx_resolve.proofs.Places.{name_in, IsMeant, is_same_tempid-name_in}
-use Rattle.tx_resolve.proofs.Relates.{IsWhom, IsPart, IsOldPart, IsOf, Relates}
+use Rattle.tx_resolve.proofs.Relates.{IsWhom, IsPart, IsOldPart, Relates}
 
 abbrev pub names_in : List (List ℕ) → List (Tempid × ℕ) → List (model.Name × ℕ)
 names_in places pairs = map (λ (pair : Tempid × ℕ). (name_in places pair.0, pair.1)) pairs

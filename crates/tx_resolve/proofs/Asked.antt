@@ -1,8 +1,7 @@
 -- What an ask and its draft have in common: the tempids, the holders that they give, and the acts.
-use Rattle.std.proofs.Common.{◌≡◌, ◌≢◌, ℕ, Bool, true, false, not, ◌&&◌, ◌||◌, cond, List, [], ◌∷◌, ◌++◌, map, filter, length, refl, sym, ap, ◌∙◌, subst}
-use Rattle.std.specs.Prelude.{Option, Some, None, option_map, option_and_then, bytes_eq, ⊤, nat_eq, is_some}
+use Rattle.std.proofs.Common.{◌≡◌, ◌≢◌, ℕ, Bool, true, false, cond, List, [], ◌∷◌, ◌++◌, map, filter, refl, sym, ap, ◌∙◌}
+use Rattle.std.specs.Prelude.{Option, Some, None, option_and_then, bytes_eq, ⊤, nat_eq}
 use Rattle.std.specs.Option.{option_map_or}
-use Rattle.std.specs.List.{list_any}
 use Rattle.std.proofs.lemmas.Bool.{true≢false, false_from_ne_true}
 use Rattle.std.proofs.lemmas.List.{map-append}
 use Rattle.std.proofs.lemmas.List.Elements.{filter-append}
@@ -10,7 +9,6 @@ use Rattle.std.proofs.lemmas.Slice.Eq.{bytes_eq-Decides}
 use Rattle.edn_model.specs.Form as edn
 use Rattle.edn_form.specs.View.{form_of}
 use Rattle.fb_values.specs.declared.facts.Value.{Value}
-use Rattle.fb_values.specs.declared.facts.Value.TheVariants.{Ref}
 use Rattle.fb_model.specs.Facts.{holder}
 use Rattle.fb_numbers.specs.Numbers.{unique_identity}
 use Rattle.fb_model.specs.Schema.{attribute_named, attribute_of, named, is_identity}
@@ -19,7 +17,7 @@ use Rattle.fb_schema.specs.declared.attribute.Attribute.{Attribute}
 use Rattle.fb_schema.specs.Parts.{attribute_in}
 use Rattle.tx_model.specs.Asks as model
 use Rattle.tx_model.specs.Asks.{own_tempid, is_tempid, is_same_tempid, names_of, name_of_part}
-use Rattle.tx_model.specs.Tempids.{Db, entity_of, identified, identity_holder, find_by}
+use Rattle.tx_model.specs.Tempids.{Db, identified, identity_holder, find_by}
 use Rattle.tx_model.specs.NameRules.{adds_to}
 use Rattle.tx_model.specs.Values.{value_in}
 use Rattle.tx_asks.specs.declared.asks.Operand as asks
@@ -38,11 +36,11 @@ use Rattle.tx_resolve.specs.declared.drafts.Draft.TheVariants as draft
 use Rattle.tx_resolve.specs.Tempids.{is_same}
 use Rattle.tx_resolve.specs.Drafts.{holder_for}
 use Rattle.tx_resolve.specs.Meeting.{tempid_in, tempid_in_part, tempid_in_old_part, tempids_of}
-use Rattle.tx_resolve.specs.Holders.{addition_of, given}
+use Rattle.tx_resolve.specs.Holders.{given}
 use Rattle.tx_resolve.specs.Holders as drafts
 use Rattle.tx_resolve.proofs.Options.{none_not}
 use Rattle.tx_resolve.proofs.Places.{name_in, IsMeant, is_tempid-name_in, is_same_tempid-name_in}
-use Rattle.tx_resolve.proofs.Relates.{IsWhom, IsPart, IsOldPart, IsOf, Relates}
+use Rattle.tx_resolve.proofs.Relates.{IsWhom, IsPart, IsOldPart, Relates}
 
 -- ---- tempids that are meant
 

@@ -1,23 +1,21 @@
 -- What the definitions say of the asks is what the drafts come to.
-use Rattle.std.proofs.Common.{◌≡◌, ℕ, Bool, true, false, not, ◌||◌, cond, List, [], ◌∷◌, ◌++◌, map, filter, length, Vec, Global, refl, sym, ap, ◌∙◌, subst}
-use Rattle.std.specs.Prelude.{Option, Some, None, ⊤, filter_map, flat_map}
+use Rattle.std.proofs.Common.{◌≡◌, ℕ, Bool, true, false, ◌||◌, cond, List, [], ◌∷◌, ◌++◌, map, filter, Vec, Global, refl, sym, ap, ◌∙◌, subst}
+use Rattle.std.specs.Prelude.{Option, None, filter_map, flat_map}
 use Rattle.std.specs.List.{list_any, cons_option, All}
-use Rattle.std.proofs.lemmas.Bool.{true≢false, cases_Bool}
+use Rattle.std.proofs.lemmas.Bool.{true≢false}
 use Rattle.std.proofs.lemmas.List.{map-append}
 use Rattle.std.proofs.lemmas.List.Elements.{All-nil, All-cons, All-head, All-tail}
 use Rattle.std.proofs.lemmas.Grind.{flat_map-append}
-use Rattle.fb_values.specs.declared.facts.Datom.{Datom}
 use Rattle.fb_model.specs.History.{users_issued}
 use Rattle.tx_model.specs.Asks as model
-use Rattle.tx_model.specs.Asks.{Name, is_tempid, names_of}
+use Rattle.tx_model.specs.Asks.{Name, names_of}
 use Rattle.tx_model.specs.Tempids.{Db, met_after, tempids_in, holders, identified, assigned, number_from, named_tempids}
 use Rattle.tx_model.specs.NameRules.{adds_to, finds_none, gives_one_of_two, is_added_to_by_none, breaks_not_an_entity, breaks_tempid_conflict, breaks_tempid_not_an_entity}
-use Rattle.tx_model.specs.Transaction.{Transaction, joined, with_names}
+use Rattle.tx_model.specs.Transaction.{joined, with_names}
 use Rattle.tx_model.specs.Step.{first_yes}
 use Rattle.tx_asks.specs.declared.asks.Ask.{Ask}
 use Rattle.tx_asks.specs.declared.asks.Flat.{Flat}
 use Rattle.tx_asks.specs.Asks.{ask_of, matters, AreAsks, AreApart, AreCounted}
-use Rattle.tx_asks.specs.Acts as acts
 use Rattle.tx_asks.specs.Acts.{Act, act_of, IsSettled, AreActs}
 use Rattle.tx_resolve.specs.declared.whom.Tempid.{Tempid}
 use Rattle.tx_resolve.specs.declared.drafts.Draft.{Draft}
@@ -30,7 +28,7 @@ use Rattle.tx_resolve.specs.Breaks as breaks
 use Rattle.tx_resolve.specs.Breaks.{conflict_at, none_at}
 use Rattle.tx_resolve.specs.Settled.{pairs_in, drafted_acts}
 use Rattle.tx_resolve.proofs.Places.{name_in, IsMeant}
-use Rattle.tx_resolve.proofs.Asked.{AreMeant, ask_adds, ask_identified}
+use Rattle.tx_resolve.proofs.Asked.{ask_adds, ask_identified}
 use Rattle.tx_resolve.proofs.Acted.{names_in, PairsAreMeant, Have, have_first, have_rest, ask_act}
 use Rattle.tx_resolve.proofs.Numbered.{met_names, met_meant, numbers_same, pairs_meant, told_same, all_have}
 use Rattle.tx_resolve.proofs.Judged.{ask_lost, ask_uses, ask_gives}

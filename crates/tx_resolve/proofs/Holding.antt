@@ -1,6 +1,6 @@
 -- One more addition, and the holders that it gives.
-use Rattle.std.proofs.Common.{◌≡◌, ℕ, Bool, true, false, not, cond, ◌||◌, List, [], ◌∷◌, ◌++◌, refl, sym, ap, ◌∙◌}
-use Rattle.std.specs.Prelude.{Option, Some, None, option_to_list, option_and_then, is_some, unwrap_or, filter_map, nat_eq}
+use Rattle.std.proofs.Common.{◌≡◌, ℕ, Bool, true, false, cond, ◌||◌, List, [], ◌∷◌, ◌++◌, refl, sym, ap, ◌∙◌}
+use Rattle.std.specs.Prelude.{Option, Some, None, option_to_list, option_and_then, is_some, unwrap_or}
 use Rattle.std.specs.Option.{option_map_or}
 use Rattle.std.specs.List.{list_any, cons_option}
 use Rattle.std.specs.BTreeMap.{BTreeMap, get, Updates}
@@ -8,7 +8,7 @@ use Rattle.tx_resolve.specs.declared.whom.Tempid.{Tempid}
 use Rattle.tx_resolve.specs.declared.drafts.Draft.{Draft}
 use Rattle.tx_resolve.specs.declared.holders.Held.{Held}
 use Rattle.tx_resolve.specs.Tempids.{tempid_cmp, is_same}
-use Rattle.tx_resolve.specs.Holders.{addition_of, adds_to, given, holders, held_of, has_another, AreHolders}
+use Rattle.tx_resolve.specs.Holders.{addition_of, adds_to, holders, held_of, AreHolders}
 use Rattle.tx_resolve.proofs.Alike.{same_are, same_back}
 
 cons_option-append : (o : Option ℕ) (es : List ℕ) → cons_option o es ≡ option_to_list o ++ es

@@ -1,5 +1,5 @@
 -- The rules of an ask and of its draft.
-use Rattle.std.proofs.Common.{◌≡◌, ℕ, ◌+◌, Bool, true, false, not, ◌&&◌, ◌||◌, cond, List, [], ◌∷◌, ◌++◌, map, filter, refl, sym, ap, ◌∙◌}
+use Rattle.std.proofs.Common.{◌≡◌, ℕ, ◌+◌, Bool, true, false, not, ◌&&◌, ◌||◌, cond, List, [], ◌∷◌, map, filter, refl, sym, ap, ◌∙◌}
 use Rattle.std.specs.Prelude.{Option, Some, None, option_map, option_and_then, is_none, bytes_eq, nat_eq}
 use Rattle.std.specs.Option.{option_map_or}
 use Rattle.std.specs.List.{list_any}
@@ -24,7 +24,6 @@ use Rattle.tx_resolve.specs.declared.whom.Whom.TheVariants.{Known, New}
 use Rattle.tx_resolve.specs.declared.drafts.Operand.TheVariants.{Plain, Entity}
 use Rattle.tx_resolve.specs.declared.drafts.Draft.{Draft}
 use Rattle.tx_resolve.specs.declared.drafts.Draft.TheVariants as draft
-use Rattle.tx_resolve.specs.Tempids.{is_same}
 use Rattle.tx_resolve.specs.Whoms.{whom_of}
 use Rattle.tx_resolve.specs.Drafts as drafts
 use Rattle.tx_resolve.specs.Drafts.{is_lost, holder_for}

@@ -1,6 +1,6 @@
 -- The refusal that the drafts come to is that of the asks, and so are the acts.
-use Rattle.std.proofs.Common.{◌≡◌, ℕ, List, [], ◌∷◌, map, Vec, Global, refl, sym, ap, ◌∙◌}
-use Rattle.std.specs.Prelude.{Option, Some, None}
+use Rattle.std.proofs.Common.{◌≡◌, ℕ, List, [], ◌∷◌, map, Vec, Global, refl, ap, ◌∙◌}
+use Rattle.std.specs.Prelude.{Some, None}
 use Rattle.tx_refusals.specs.declared.reasons.Reason.TheVariants.{NotAnEntity, NestedWithoutId, TempidConflict, TempidNotAnEntity}
 use Rattle.tx_model.specs.Asks as model
 use Rattle.tx_model.specs.Tempids.{Db}
@@ -13,7 +13,7 @@ use Rattle.tx_asks.specs.Asks.{AreAsks}
 use Rattle.tx_asks.specs.Acts.{seen, acts_in}
 use Rattle.tx_resolve.specs.declared.drafts.Draft.{Draft}
 use Rattle.tx_resolve.specs.Drafts.{lost_at, AreFound}
-use Rattle.tx_resolve.specs.Breaks.{conflict_at, none_at}
+use Rattle.tx_resolve.specs.Breaks.{none_at}
 use Rattle.tx_resolve.specs.Settled.{lists_of, tempid_rules}
 use Rattle.tx_resolve.specs.Rules.{resolve_rules}
 use Rattle.tx_resolve.proofs.Bridge.{AskNothing, lost_same, conflict_is, none_is}

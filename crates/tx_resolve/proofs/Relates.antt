@@ -1,5 +1,5 @@
 -- An ask with the draft that it becomes.
-use Rattle.std.proofs.Common.{◌≡◌, ℕ, Bool, true, false, cond, List, length, refl, sym, ap, ◌∙◌, subst}
+use Rattle.std.proofs.Common.{◌≡◌, ℕ, Bool, true, false, cond, List, length, refl, ap, ◌∙◌, subst}
 use Rattle.std.specs.Prelude.{Option, Some, None, option_map, option_and_then, bytes_eq, ⊤, ◌+◌}
 use Rattle.edn_form.specs.View.{form_of}
 use Rattle.fb_numbers.specs.Numbers.{transaction_of}
@@ -27,7 +27,7 @@ use Rattle.tx_resolve.specs.declared.drafts.Draft.{Draft}
 use Rattle.tx_resolve.specs.declared.drafts.Draft.TheVariants as draft
 use Rattle.tx_resolve.specs.Whoms.{whom_of}
 use Rattle.tx_resolve.specs.Drafts.{part_of, old_part_of, holder_for, draft_of}
-use Rattle.tx_resolve.proofs.Options.{ComesOf, same_some, map_some, and_then_some}
+use Rattle.tx_resolve.proofs.Options.{same_some, map_some, and_then_some}
 use Rattle.tx_resolve.proofs.Places.{name_in, IsMeant}
 
 module _ (places : List (List ℕ)) (db : Db) where

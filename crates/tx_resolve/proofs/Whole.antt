@@ -1,11 +1,9 @@
 -- All asks of a transaction with all drafts.
-use Rattle.std.proofs.Common.{◌≡◌, ℕ, ◌+◌, Bool, true, false, not, ◌&&◌, ◌||◌, cond, List, [], ◌∷◌, ◌++◌, map, filter, length, Vec, Global, refl, sym, ap, ◌∙◌, subst}
-use Rattle.std.specs.Prelude.{Option, Some, None, ⊤, filter_map, flat_map}
+use Rattle.std.proofs.Common.{◌≡◌, ℕ, ◌+◌, Bool, true, false, not, ◌&&◌, ◌||◌, cond, List, [], ◌∷◌, ◌++◌, map, filter, length, Vec, Global, refl, sym, ap, ◌∙◌}
+use Rattle.std.specs.Prelude.{Option, Some, ⊤, filter_map, flat_map}
 use Rattle.std.specs.List.{list_any, cons_option, All}
-use Rattle.std.proofs.lemmas.Bool.{false≢true}
 use Rattle.std.proofs.lemmas.List.{map-append}
 use Rattle.std.proofs.lemmas.List.Elements.{filter-append, All-nil, All-cons, All-head, All-tail}
-use Rattle.fb_values.specs.declared.facts.Datom.{Datom}
 use Rattle.tx_model.specs.Asks as model
 use Rattle.tx_model.specs.Asks.{Name, is_tempid, names_of}
 use Rattle.tx_model.specs.Tempids.{Db, is_among, met_after}
@@ -16,7 +14,6 @@ use Rattle.tx_resolve.specs.declared.whom.Tempid.{Tempid}
 use Rattle.tx_resolve.specs.declared.drafts.Draft.{Draft}
 use Rattle.tx_resolve.specs.Drafts.{draft_of, AreFound}
 use Rattle.tx_resolve.specs.Meeting.{tempids_of, drafts_in}
-use Rattle.tx_resolve.proofs.Options.{same_some}
 use Rattle.tx_resolve.proofs.Places.{name_in}
 use Rattle.tx_resolve.proofs.Relates.{Relates, relates}
 use Rattle.tx_resolve.proofs.Asked.{AreMeant, meant_both, ask_tempids, ask_meant}

@@ -1,6 +1,6 @@
 -- The tempids in the order in which drafts first meet them.
 -- Datomic, Transaction Data (temporary ids).
-use Rattle.std.specs.Prelude.{ℕ, List, [], ◌∷◌, ◌++◌, map, flat_map, if◌then◌else◌, Option, Some, None, Vec}
+use Rattle.std.specs.Prelude.{List, [], ◌∷◌, ◌++◌, flat_map, if◌then◌else◌, Option, Some, None, Vec}
 use Rattle.std.specs.List.{list_any}
 use Rattle.std.specs.declared.alloc.Global.{Global}
 use Rattle.tx_resolve.specs.declared.whom.Tempid.{Tempid}

@@ -1,7 +1,7 @@
 -- The order of tempids, by which they are looked up: those with a name come last, by its bytes.
 -- This project's own choice.
 use Rattle.std.specs.Prelude.{◌≡◌, ℕ, Bool, List, [], ◌∷◌, refl}
-use Rattle.std.proofs.Common.{sym, subst, ap, T, ◌∙◌}
+use Rattle.std.proofs.Common.{sym, subst, ap, T}
 use Rattle.std.specs.Ordering.{nat_cmp, ordering_then, on, is_eq}
 use Rattle.std.specs.Cmp.{IsTotalOrder, on_total}
 use Rattle.std.specs.Cmp.Lexicographic.{slice_cmp, nat_list_cmp_total}

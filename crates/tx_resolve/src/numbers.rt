@@ -1,5 +1,5 @@
 //! The entities of tempids.
-ghost use Rattle.std.specs.Prelude.{◌≡◌, ◌<◌, ◌^◌, List, ℕ, [], ◌∷◌, ◌++◌, IfOk, filter_map};
+ghost use Rattle.std.specs.Prelude.{◌≡◌, ◌<◌, ◌^◌, List, [], ◌∷◌, ◌++◌, IfOk, filter_map};
 ghost use Rattle.tx_resolve.specs.declared.drafts.Draft.{Draft as model_Draft};
 ghost use Rattle.tx_resolve.specs.Holders.{AreHolders};
 ghost use Rattle.tx_resolve.specs.Numbers.{entity_next, number_next, numbered as model_numbered, with_name, HasEntities, AreApart, Tells};

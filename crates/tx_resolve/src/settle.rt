@@ -1,5 +1,5 @@
 //! From drafts to acts: the rules on tempids, and the tempids' entities.
-ghost use Rattle.std.specs.Prelude.{◌≡◌, ◌<◌, ◌^◌, ℕ, List, [], flat_map, IfOk};
+ghost use Rattle.std.specs.Prelude.{◌≡◌, ◌<◌, ◌^◌, [], IfOk};
 ghost use Rattle.std.specs.Result.{result_err};
 ghost use Rattle.tx_model.specs.Step.{first_refusal};
 ghost use Rattle.tx_resolve.specs.Holders.{AreHolders};

@@ -1,6 +1,5 @@
 //! Triples of one transaction that cannot be recorded together.
-ghost use Rattle.std.specs.Prelude.{◌≡◌, ◌<◌, ◌&&◌, map, filter, length, nat_eq, slice_index_or, IfOk, IsTrue};
-ghost use Rattle.std.specs.List.{list_any};
+ghost use Rattle.std.specs.Prelude.{◌≡◌, ◌<◌, ◌&&◌, filter, length, slice_index_or, IfOk, IsTrue};
 ghost use Rattle.fb_model.specs.Schema.{is_one as model_is_one};
 ghost use Rattle.tx_asks.specs.Triples.{rise};
 ghost use Rattle.tx_rules.specs.Neighbours.{behind, are_of_one_entity, is_beside as model_is_beside};

@@ -1,7 +1,7 @@
 -- The step of a transaction, by the steps of the engine.
 use Rattle.std.proofs.lemmas.Int.{ints}
-use Rattle.std.proofs.Common.{rules, arith, ◌≡◌, refl, sym, ap, ◌∙◌, subst, ℕ, ℤ, Bool, true, false, cond, List, [], ◌∷◌, ◌++◌, ◌<◌, zero, suc, length, get_or}
-use Rattle.std.specs.Prelude.{Option, Some, None, IsTrue, ◌<ℤ◌, ◌||◌, not, int_lt, is_none}
+use Rattle.std.proofs.Common.{rules, arith, ◌≡◌, refl, sym, ap, ◌∙◌, ℕ, ℤ, Bool, true, false, List, [], ◌∷◌, ◌++◌, ◌<◌, zero, suc, length, get_or}
+use Rattle.std.specs.Prelude.{Option, Some, None, ◌<ℤ◌, not, int_lt, is_none}
 use Rattle.std.specs.List.{list_all}
 use Rattle.std.specs.Option.{option_map_or}
 use Rattle.std.proofs.lemmas.Option.{none-some}
@@ -20,11 +20,10 @@ use Rattle.tx_forms.specs.declared.read.TxStop.TheVariants.{Refused, Memory}
 use Rattle.tx_model.specs.ChangeRules.{breaks_full}
 use Rattle.tx_refusals.specs.declared.reasons.Refusal.{Refusal}
 use Rattle.tx_model.specs.Shapes.{forms_of}
-use Rattle.tx_model.specs.Asks.{Ask}
 use Rattle.tx_model.specs.Walk.{flat}
 use Rattle.tx_model.specs.Tempids.{db_of}
 use Rattle.tx_model.specs.Transaction.{Transaction, transaction}
-use Rattle.tx_model.specs.Step.{Decision, refused, Guard, step, under_guard, unless_refused, first_refusal, first_without_shape, refusal_of, broken_rules, no_list, by_whole}
+use Rattle.tx_model.specs.Step.{refused, Guard, step, under_guard, unless_refused, first_refusal, first_without_shape, refusal_of, broken_rules, no_list, by_whole}
 use Rattle.tx_forms.specs.Shaped.{place_without_shape}
 use Rattle.tx_expand.specs.Rules.{schema_rules, IfRefused}
 use Rattle.tx_resolve.specs.Rules.{resolve_rules, IsToldAs}

@@ -1,5 +1,5 @@
 -- The step of forms that have a shape, and what a stop tells of it. This project's own choice; running out of memory tells nothing.
-use Rattle.std.specs.Prelude.{◌≡◌, ℕ, ℤ, List, Option, Some, None, Result, Ok, Err, ⊤}
+use Rattle.std.specs.Prelude.{◌≡◌, ℤ, List, Option, Some, None, Result, Ok, Err, ⊤}
 use Rattle.edn_model.specs.Form.{Form}
 use Rattle.fb_values.specs.declared.facts.Entry.{Entry}
 use Rattle.tx_refusals.specs.declared.reasons.Refusal.{Refusal}

@@ -6,7 +6,6 @@ ghost use Rattle.tx_sweep.specs.Sweep.{asking_at, part_to, value_at};
 use fb_memory::Memory;
 use fb_schema::Schema;
 use fb_values::{Datom, Value};
-use std::alloc::Global;
 use std::collections::BTreeSet;
 use tx_asks::Asking;
 

@@ -2,7 +2,6 @@
 ghost use Rattle.std.specs.Prelude.{◌≡◌, ◌&&◌, IfOk, OnOk, map, filter, flat_map, nat_eq};
 ghost use Rattle.std.specs.List.{All};
 ghost use Rattle.fb_model.specs.Facts.{facts as facts_in};
-ghost use Rattle.fb_model.specs.Schema.{is_about};
 ghost use Rattle.fb_schema.specs.Described.{SchemaStands};
 ghost use Rattle.tx_model.specs.Tempids.{db_of};
 ghost use Rattle.tx_model.specs.Changes.{withdrawn};

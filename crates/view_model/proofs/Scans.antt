@@ -1,5 +1,5 @@
 -- A scan, computed, is the one list that a scan is to be.
-use Rattle.std.proofs.Common.{◌≡◌, ℕ, Bool, true, false, ◌&&◌, List, [], ◌∷◌, refl, ap, sym, ◌∙◌, subst, ◌↔◌}
+use Rattle.std.proofs.Common.{◌≡◌, Bool, List}
 use Rattle.std.specs.Prelude.{filter, Contains, IsTrue}
 use Rattle.fb_values.specs.declared.facts.Datom.{Datom}
 use Rattle.fb_values.specs.declared.facts.Entry.{Entry}
@@ -9,7 +9,7 @@ use Rattle.fb_model.specs.Rising.{in_order, IsRisingListOf}
 use Rattle.fb_model.specs.History.{said}
 use Rattle.fb_model.specs.Facts.{facts}
 use Rattle.fb_model.specs.Lawful.{IsLawful}
-use Rattle.fb_model.proofs.Members.{IsKept, kept, keep, in_order-rises, in_order_member}
+use Rattle.fb_model.proofs.Members.{kept, keep, in_order-rises, in_order_member}
 use Rattle.fb_model.proofs.InOrder.{OneForEachKey, in_order_has, one_rising_list}
 use Rattle.fb_model.proofs.Times.{one_for_each_key_in}
 use Rattle.view_model.specs.Window.{Window}

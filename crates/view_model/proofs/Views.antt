@@ -1,8 +1,8 @@
 -- What windows and filters do to a view.
-use Rattle.std.proofs.Common.{◌≡◌, ℕ, ◌+◌, ◌-◌, ◌<◌, ◌≤◌, Bool, true, false, cond, not, ◌&&◌, ◌||◌, List, [], ◌∷◌, ◌++◌, length, min, max, refl, ap, sym, ◌∙◌, subst, arith, inl, inr, ◌⊎◌, eqb, leb, ltb}
+use Rattle.std.proofs.Common.{◌≡◌, ℕ, ◌+◌, ◌-◌, ◌≤◌, Bool, true, false, cond, ◌&&◌, List, [], ◌∷◌, ◌++◌, min, max, refl, ap, sym, ◌∙◌, subst, arith, leb, ltb}
 use Rattle.std.specs.Prelude.{filter, Contains}
-use Rattle.std.specs.List.{list_any, list_all}
-use Rattle.std.proofs.lemmas.Bool.{true≢false, and_parts, and_from, eqb-true, leb-true, le-leb, ltb-true, lt-ltb}
+use Rattle.std.specs.List.{list_all}
+use Rattle.std.proofs.lemmas.Bool.{and_parts, and_from, leb-true, le-leb}
 use Rattle.std.proofs.lemmas.Bool.Decides.{nat_tests}
 use Rattle.std.proofs.lemmas.List.Folds.{list_all-append}
 use Rattle.fb_values.specs.declared.facts.Datom.{Datom}
@@ -11,7 +11,7 @@ use Rattle.fb_numbers.specs.Numbers.{greatest_t}
 use Rattle.fb_model.specs.History.{basis, said, upto}
 use Rattle.fb_model.specs.Facts.{standing, stands_before, facts}
 use Rattle.fb_model.specs.Lawful.{IsLawful}
-use Rattle.fb_model.proofs.Members.{IsKept, kept, keep, here, there, cases_of, none_of, filter_agree_on, filter_twice, standing_member}
+use Rattle.fb_model.proofs.Members.{IsKept, kept, there, filter_agree_on, filter_twice, standing_member}
 use Rattle.fb_model.proofs.Times.{said_t, t_rises, said-t_rises, said-upto}
 use Rattle.view_model.specs.Window.{Window, whole, as_of, since, is_within, within}
 use Rattle.view_model.specs.View.{seen, is_selected_by, view}

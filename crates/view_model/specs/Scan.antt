@@ -1,7 +1,7 @@
 -- Scans: the datoms of a view that an index holds, from a range of it, in its order; and the
 -- transactions of the log.
 -- Datomic, Indexes (datoms, seek-datoms, index-range) and Log API (tx-range).
-use Rattle.std.specs.Prelude.{ℕ, ◌+◌, Bool, true, not, ◌&&◌, List, filter, nat_eq, nat_le, nat_lt, Option, IsTrue}
+use Rattle.std.specs.Prelude.{ℕ, Bool, true, not, ◌&&◌, List, filter, nat_eq, nat_le, nat_lt, Option, IsTrue}
 use Rattle.std.specs.Option.{option_map_or}
 use Rattle.std.specs.Ordering.{is_lt, is_eq, is_gt}
 use Rattle.fb_values.specs.Orders.{value_cmp, probe_cmp}

@@ -1,7 +1,7 @@
 -- Windows: which transactions a view sees, whether it sees their history, and how as-of and since
 -- change that.
 -- Datomic, Database Filters and Log API.
-use Rattle.std.specs.Prelude.{ℕ, ◌+◌, ◌-◌, ℤ, Bool, true, false, ◌&&◌, List, [], ◌∷◌, filter, length, min, max, nat_lt, nat_le, int_le, if◌then◌else◌, Option, Some, None}
+use Rattle.std.specs.Prelude.{ℕ, ◌+◌, ◌-◌, ℤ, Bool, true, false, ◌&&◌, List, filter, length, min, max, nat_lt, nat_le, int_le, if◌then◌else◌, Option, Some, None}
 use Rattle.fb_values.specs.declared.facts.Datom.{Datom}
 use Rattle.fb_values.specs.declared.facts.Entry.{Entry}
 use Rattle.fb_numbers.specs.Numbers.{transaction_of, greatest_t}

@@ -1,5 +1,5 @@
 //! Laws of views and scans.
-ghost use Rattle.std.specs.Prelude.{◌≡◌, ◌↔◌, ℕ, ◌+◌, ◌≤◌, Bool, false, List, [], ◌∷◌, ◌++◌, min, max, filter, Contains, IsTrue};
+ghost use Rattle.std.specs.Prelude.{◌≡◌, ◌↔◌, ℕ, ◌+◌, ◌≤◌, Bool, false, List, ◌++◌, min, max, filter, Contains, IsTrue};
 ghost use Rattle.fb_values.specs.declared.facts.Datom.{Datom};
 ghost use Rattle.fb_values.specs.declared.facts.Entry.{Entry};
 ghost use Rattle.fb_values.specs.declared.indexes.Order.{Order};

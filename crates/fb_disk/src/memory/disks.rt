@@ -1,5 +1,5 @@
 //! The disk in memory as a disk: each call, with what it leaves and when it fails.
-ghost use Rattle.std.specs.Prelude.{◌≡◌, ◌≤◌, ◌<◌, ◌+◌, ◌-◌, ◌^◌, ◌++◌, [], ◌∷◌, Some, IfOk, OnOk, OnErr, is_err, length, nat_le, take, drop, min, option_map};
+ghost use Rattle.std.specs.Prelude.{◌≡◌, ◌≤◌, ◌<◌, ◌+◌, ◌-◌, ◌^◌, ◌++◌, [], ◌∷◌, IfOk, OnOk, OnErr, is_err, length, nat_le, take, drop, min, option_map};
 ghost use Rattle.fb_calls.specs.Calls.{no_calls, fails_next, after_call, after_fault};
 ghost use Rattle.fb_calls.specs.Faults.{Counts};
 ghost use Rattle.disk_model.specs.Disk.{written, Torn, TornCut, Follows, Within, Only, WhereTold, Reads, Elapses};

@@ -1,4 +1,4 @@
-use Rattle.std.proofs.Common.{◌≡◌, ◌≤◌}
+use Rattle.std.proofs.Common.{◌≡◌}
 use Rattle.board_rule.specs.Views.{IsIdle}
 use Rattle.board_rule.specs.Calls.{view_of, board_of}
 use Rattle.bench_board.proofs.laps.looks.Given as goal

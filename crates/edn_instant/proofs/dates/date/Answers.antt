@@ -1,4 +1,4 @@
-use Rattle.std.proofs.Common.{◌∷◌, FitsSigned, w32, refl, arith}
+use Rattle.std.proofs.Common.{◌∷◌, FitsSigned, w32, arith}
 use Rattle.jiff_core.proofs.SignedLemmas.{signed_arith}
 use Rattle.std.proofs.lemmas.Int.{to_z-of_z}
 use Rattle.edn_model.specs.Bytes.{minus}

@@ -1,4 +1,4 @@
-use Rattle.std.proofs.Common.{to_z-of_z, ◌∙◌, w32, w64, refl, arith}
+use Rattle.std.proofs.Common.{to_z-of_z, ◌∙◌, arith}
 use Rattle.jiff_core.proofs.SignedLemmas.{signed_arith}
 use Rattle.edn_instant.proofs.instant.instant_of.Goals as goal
 

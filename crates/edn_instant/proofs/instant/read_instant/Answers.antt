@@ -1,4 +1,4 @@
-use Rattle.std.proofs.Common.{◌≡◌, ◌∷◌, [], ℕ, ℤ, pos, false, FitsSigned, w32, w64, to_z, of_z, to_z-of_z, refl, ap, ◌∙◌, sym, arith}
+use Rattle.std.proofs.Common.{◌≡◌, ◌∷◌, ℕ, ℤ, pos, false, FitsSigned, w32, w64, to_z, of_z, to_z-of_z, ap, ◌∙◌, sym, arith}
 use Rattle.std.proofs.lemmas.List.{nil_from_length}
 use Rattle.jiff_core.proofs.SignedLemmas.{signed_arith}
 use Rattle.edn_model.specs.Instants.{IsDate, instant_of, in_range}

@@ -1,4 +1,4 @@
-use Rattle.std.proofs.Common.{◌≤◌, ◌∷◌, refl, arith}
+use Rattle.std.proofs.Common.{◌∷◌, refl, arith}
 use Rattle.edn_model.specs.Bytes.{colon}
 use Rattle.edn_instant.specs.Fronts.{Front, IsTwo}
 use Rattle.edn_instant.proofs.FrontDigits.{front_then}

@@ -1,5 +1,4 @@
-use Rattle.std.proofs.Common.{◌≡◌, ◌<◌, ◌≤◌, ◌^◌, length, w32, w64, refl, ap, ◌∙◌, sym, arith}
-use Rattle.edn_model.specs.Tokens.{number}
+use Rattle.std.proofs.Common.{◌<◌, length, arith}
 use Rattle.edn_instant.proofs.FractionBounds.{number_below, nine_digits, power_some, below_second}
 use Rattle.edn_instant.proofs.times.millis_of.Goals as goal
 

@@ -1,9 +1,8 @@
-use Rattle.std.proofs.Common.{◌≡◌, ◌∷◌, ◌<◌, [], List, ℕ, ℤ, pos, neg_ℤ, ◌-ℤ◌, FitsSigned, w32, refl, ap, ◌∙◌, arith}
+use Rattle.std.proofs.Common.{◌≡◌, ◌∷◌, List, ℕ, ℤ, pos, neg_ℤ, ◌-ℤ◌, FitsSigned, w32, refl, ap, ◌∙◌, arith}
 use Rattle.std.proofs.lemmas.Bool.Decides.{nat_tests}
 use Rattle.std.proofs.lemmas.Int.{to_z_pos, to_z-of_z}
 use Rattle.jiff_core.proofs.SignedLemmas.{signed_arith}
 use Rattle.std.proofs.lemmas.List.{nil_from_length}
-use Rattle.edn_model.specs.Bytes.{plus, minus}
 use Rattle.edn_model.specs.Instants.{unsaid, utc}
 use Rattle.edn_instant.proofs.TimeParts.{no_east, no_west, is_east, is_west, clock_below}
 use Rattle.edn_instant.proofs.times.offset.Goals as goal

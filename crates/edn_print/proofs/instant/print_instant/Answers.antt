@@ -1,10 +1,9 @@
-use Rattle.std.proofs.Common.{◌≡◌, ◌++◌, ◌∷◌, ◌/◌, ◌%◌, codes, refl, ap, ◌∙◌, sym, subst, arith, pos, negsuc, ◌-ℤ◌, FitsSigned, w64, unsigned_abs}
+use Rattle.std.proofs.Common.{◌≡◌, ◌++◌, ◌∷◌, ◌%◌, codes, refl, ap, ◌∙◌, subst, arith, pos, negsuc, ◌-ℤ◌, FitsSigned, w64, unsigned_abs}
 use Rattle.std.proofs.lemmas.Int.{to_z-of_z}
 use Rattle.std.proofs.lemmas.Result.{on_ok_weaker}
 use Rattle.jiff_core.proofs.SignedLemmas.{signed_arith}
-use Rattle.edn_model.specs.Form as form
-use Rattle.edn_model.specs.Canon.{CanonInstant, Canon}
-use Rattle.edn_print.specs.Printed.{Appends, clock_text}
+use Rattle.edn_model.specs.Canon.{CanonInstant}
+use Rattle.edn_print.specs.Printed.{clock_text}
 use Rattle.edn_print.specs.Printable.{nearest}
 use Rattle.edn_print.proofs.Tags.{canon_plain}
 use Rattle.edn_print.proofs.Moments.{in_millis, canon_instant, written}

@@ -1,4 +1,4 @@
-use Rattle.std.proofs.Common.{refl, sym}
+use Rattle.std.proofs.Common.{refl}
 use Rattle.edn_model.proofs.OnePlace.{same_text}
 use Rattle.edn_print.proofs.ReadBack.{text_is}
 use Rattle.edn_print.proofs.laws.text_of_one_form.Goals as goal

@@ -21,8 +21,15 @@ returns-clause-replies g c =
       c.with_one.ensures,
       rw c.into_parts-snapshot.ensures
           (session_replies terms (state_of c.new-desk.result) (state_of served.new.desk) c.in-Ok.core.snapshot.entries c.close.result.snapshot.entries c.without_session-2.result.recovered
-          (g.I.Source.left c.args.script.source) (g.I.Source.left served.new.source) (g.O.Sink.contents c.args.script.sink) (g.O.Sink.contents served.new.sink)
-          served.result.places served.result.commits served.result.end
+          (record {
+            held = g.I.Source.left c.args.script.source;
+            left = g.I.Source.left served.new.source;
+            had = g.O.Sink.contents c.args.script.sink;
+            has = g.O.Sink.contents served.new.sink;
+            places = served.result.places;
+            commits = served.result.commits;
+            end = served.result.end;
+          })
           c.new-desk.ensures c.in-Ok.ensures.entries c.without_session-2.ensures.no_device.recovered c.close.ensures.entries refl refl served.ensures.replies),
     )
 

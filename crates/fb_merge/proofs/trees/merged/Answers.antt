@@ -1,4 +1,4 @@
-use Rattle.std.proofs.Common.{◌≡◌, ℕ, subst, sym}
+use Rattle.std.proofs.Common.{ℕ, subst, sym}
 use Rattle.fb_model.specs.History.{basis}
 use Rattle.fb_schema.specs.Tables.{HasCoverage}
 use Rattle.fb_values.specs.Lists.{Lists, list_in}

@@ -1,4 +1,4 @@
-use Rattle.std.proofs.Common.{◌≡◌, ◌∙◌, Option, Some, Result, Ok, Err}
+use Rattle.std.proofs.Common.{◌∙◌, Option, Result}
 use Rattle.std.proofs.lemmas.Result.{err_from_is_err_and}
 use Rattle.edn_form.specs.View.{form_of}
 use Rattle.fb_values.specs.declared.facts.Value.{Value}

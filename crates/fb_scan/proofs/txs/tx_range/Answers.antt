@@ -1,4 +1,4 @@
-use Rattle.std.proofs.Common.{◌≡◌, ◌∙◌, ap, max, min, length}
+use Rattle.std.proofs.Common.{◌∙◌, ap, max, min, length}
 use Rattle.fb_scan.specs.Logs.{part}
 use Rattle.fb_scan.proofs.Log.{part-transactions}
 use Rattle.fb_scan.proofs.txs.tx_range.Goals as goal

@@ -1,4 +1,4 @@
-use Rattle.std.proofs.Common.{◌≡◌, ◌∙◌, List, sym, subst}
+use Rattle.std.proofs.Common.{◌∙◌, List, sym, subst}
 use Rattle.std.specs.Option.{option_copied}
 use Rattle.fb_values.specs.declared.facts.Datom.{Datom}
 use Rattle.fb_schema.specs.Tables.{HasCoverage}

@@ -1,4 +1,4 @@
-use Rattle.std.proofs.Common.{◌≡◌, ap, ◌∙◌}
+use Rattle.std.proofs.Common.{ap, ◌∙◌}
 use Rattle.fb_model.specs.Facts.{facts}
 use Rattle.fb_model.specs.Schema.{attribute_of, attribute_named, named, covers}
 use Rattle.fb_schema.proofs.Lookups.{attribute_of-described, named-described, attribute_named-described, covers-described}

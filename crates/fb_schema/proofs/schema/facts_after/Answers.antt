@@ -1,4 +1,4 @@
-use Rattle.std.proofs.Common.{◌≡◌, ◌++◌, ap, ◌∙◌, sym}
+use Rattle.std.proofs.Common.{◌++◌, ap, ◌∙◌, sym}
 use Rattle.std.specs.Prelude.{filter}
 use Rattle.fb_model.specs.Facts.{standing}
 use Rattle.fb_schema.specs.Described.{describes}

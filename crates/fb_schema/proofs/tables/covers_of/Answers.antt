@@ -1,4 +1,3 @@
-use Rattle.std.proofs.Common.{◌≡◌, ap, ◌∙◌, sym, subst}
 use Rattle.fb_schema.proofs.Results.{IfOk-join}
 use Rattle.fb_schema.proofs.NamedOnes.{HasCoverage-of}
 use Rattle.fb_schema.proofs.tables.covers_of.Goals as goal

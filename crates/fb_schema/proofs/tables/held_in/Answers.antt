@@ -1,4 +1,4 @@
-use Rattle.std.proofs.Common.{◌≡◌, ◌+◌, ◌++◌, drop, ap, sym, ◌∙◌}
+use Rattle.std.proofs.Common.{◌+◌, ◌++◌, drop, ap, sym, ◌∙◌}
 use Rattle.fb_schema.specs.Tables.{is_held_among, named_where}
 use Rattle.fb_schema.proofs.Drops.{drop_first}
 use Rattle.fb_schema.proofs.NamedOnes.{named-then, named-else}

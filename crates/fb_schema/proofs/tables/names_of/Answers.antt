@@ -1,4 +1,4 @@
-use Rattle.std.proofs.Common.{◌≡◌, drop, subst, sym, arith}
+use Rattle.std.proofs.Common.{drop, subst, sym, arith}
 use Rattle.fb_schema.specs.Tables.{HasNames}
 use Rattle.fb_schema.proofs.Drops.{drop_before}
 use Rattle.fb_schema.proofs.tables.names_of.Goals as goal

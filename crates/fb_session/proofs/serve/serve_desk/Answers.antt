@@ -9,10 +9,10 @@ pub returns-in-Ok-clause-replies : goal.returns-in-Ok-clause-replies
 returns-in-Ok-clause-replies g c =
     let left = g.I.Source.left in
     let Taken : List ℕ → Type 0 = λ bytes. TakesAll bytes (left c.args.source.now) (left c.read_script.new.source) in
-    replies-whole _ c.as_slice.result.now _ _ _ _ _ _ _ _ _ (subst Taken (sym c.as_slice.ensures.value) c.in-Ok.ensures.whole) c.serve_script.ensures.answers
+    replies-whole _ c.as_slice.result.now _ _ _ _ _ _ _ (subst Taken (sym c.as_slice.ensures.value) c.in-Ok.ensures.whole) c.serve_script.ensures.answers
 
 pub returns-in-Ok-clause-prefixes : goal.returns-in-Ok-clause-prefixes
-returns-in-Ok-clause-prefixes g c = prefixes-talk _ _ _ _ _ _ _ _ _ c.serve_script.ensures.answers
+returns-in-Ok-clause-prefixes g c = prefixes-talk _ _ _ _ _ _ _ c.serve_script.ensures.answers
 
 pub returns-in-Err-TooLong-clause-went_on : goal.returns-in-Err-TooLong-clause-went_on
 returns-in-Err-TooLong-clause-went_on g c = went_on-nothing (g.T.Desk.state c.args.desk.now)
@@ -24,9 +24,8 @@ pub returns-in-Err-Memory-clause-replies : goal.returns-in-Err-Memory-clause-rep
 returns-in-Err-Memory-clause-replies g c =
     let table = c.args.preds.now in
     let nothing = c.nothing-in-Err-Memory in
-    rw nothing.ensures.end
-    (replies-unread (terms_of (g.K.Clock.may_answer c.args.clock.now) (g.G.Guard.bars c.args.guard.now) (g.P.FilterTable.place_of table) (g.P.FilterTable.selects_at table))
-    (g.T.Desk.state c.args.desk.now) nothing.result.places nothing.result.commits _ _ _ nothing.ensures.places nothing.ensures.commits (rw c.in-Err-Memory.field-0-is at c.in-Err-Memory.ensures).stopped)
+    replies-unread (terms_of (g.K.Clock.may_answer c.args.clock.now) (g.G.Guard.bars c.args.guard.now) (g.P.FilterTable.place_of table) (g.P.FilterTable.selects_at table))
+    (g.T.Desk.state c.args.desk.now) nothing.result _ _ _ nothing.ensures.end nothing.ensures.places nothing.ensures.commits (rw c.in-Err-Memory.field-0-is at c.in-Err-Memory.ensures).stopped
 
 pub returns-in-Err-Memory-clause-went_on : goal.returns-in-Err-Memory-clause-went_on
 returns-in-Err-Memory-clause-went_on g c = went_on-nothing (g.T.Desk.state c.args.desk.now)

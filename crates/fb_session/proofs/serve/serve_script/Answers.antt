@@ -1,11 +1,11 @@
 use Rattle.std.proofs.Common.{subst}
-use Rattle.fb_session.specs.Sessions.{terms_of, Talks}
+use Rattle.fb_session.specs.Sessions.{terms_of, served_by, Talks}
 use Rattle.fb_session.proofs.Serving.{talks-unopened}
 use Rattle.fb_session.proofs.serve.serve_script.Goals as goal
 
 pub returns-in_default-clause-answers : goal.returns-in_default-clause-answers
 returns-in_default-clause-answers g c =
-    rw c.nothing.ensures.end (talks-unopened _ c.args.script.now _ c.nothing.result.places c.nothing.result.commits _ c.nothing.ensures.places c.nothing.ensures.commits)
+    talks-unopened _ c.args.script.now _ c.nothing.result _ c.nothing.ensures.end c.nothing.ensures.places c.nothing.ensures.commits
 
 pub returns-clause-answers : goal.returns-clause-answers
 returns-clause-answers g c =
@@ -14,6 +14,6 @@ returns-clause-answers g c =
     let session = c.answer_all-end.new.self in
     let talks = subst
     (λ table. Talks (terms_of (g.K.Clock.may_answer c.args.clock.now) (g.G.Guard.bars c.args.guard.now) (g.P.FilterTable.place_of table) (g.P.FilterTable.selects_at table)) c.args.script.now
-    (state c.args.desk.now) (state c.answer_all-end.new.desk) session.places.items session.commits.items (contents c.args.sink.now) (contents c.answer_all-end.new.sink) c.answer_all-end.result)
+    (state c.args.desk.now) (state c.answer_all-end.new.desk) (contents c.args.sink.now) (contents c.answer_all-end.new.sink) (served_by session c.answer_all-end.result))
     c.in-Ok.ensures.table c.answer_all-end.ensures.answers in
-    rw (c.served.ensures.end, c.served.ensures.places, c.served.ensures.commits) talks
+    rw c.served.ensures talks

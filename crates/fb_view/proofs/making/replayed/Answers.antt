@@ -1,4 +1,4 @@
-use Rattle.std.proofs.Common.{arith, refl, sym, ap, subst}
+use Rattle.std.proofs.Common.{arith, refl, sym, subst}
 use Rattle.fb_schema.specs.Tables.{HasCoverage}
 use Rattle.fb_model.specs.History.{upto}
 use Rattle.fb_model.proofs.LawfulHistories.{IsLawful-length}

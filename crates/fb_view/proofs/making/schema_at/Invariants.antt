@@ -1,4 +1,4 @@
-use Rattle.std.proofs.Common.{◌≡◌, take}
+use Rattle.std.proofs.Common.{take}
 use Rattle.fb_schema.specs.Described.{SchemaStands}
 use Rattle.fb_view.proofs.making.schema_at.Given as goal
 

@@ -1,7 +1,6 @@
-use Rattle.std.proofs.Common.{◌≡◌, ◌∙◌, ◌++◌, ◌∷◌, [], ap, arith, sym, append_assoc, append-nil}
+use Rattle.std.proofs.Common.{◌∙◌, ◌++◌, ◌∷◌, [], ap, arith, sym, append_assoc, append-nil}
 use Rattle.std.specs.Option.{option_copied}
 use Rattle.fb_values.specs.Lists.{list_in}
-use Rattle.fb_view.specs.Ranges.{led_to}
 use Rattle.fb_view.proofs.Ranging.{led_from_place, led_ends, led_past, led_step}
 use Rattle.fb_view.proofs.ranges.push_live.Goals as goal
 

@@ -1,8 +1,7 @@
-use Rattle.std.proofs.Common.{◌≡◌, ◌∙◌, ◌+◌, ◌++◌, ◌∷◌, [], ap, arith, sym, append_assoc, append-nil, drop}
+use Rattle.std.proofs.Common.{◌≡◌, ◌∙◌, ◌+◌, ◌++◌, ◌∷◌, [], ap, arith, sym, append_assoc, append-nil}
 use Rattle.std.specs.Option.{option_copied}
 use Rattle.seg_tree.specs.Nodes.{tree_datoms}
 use Rattle.seg_tree.specs.Ranks.{rank}
-use Rattle.fb_view.specs.Ranges.{led_to}
 use Rattle.fb_view.proofs.Ranging.{led_from_place, led_ends, led_past, led_step, read_at}
 use Rattle.fb_view.proofs.ranges.push_older.Goals as goal
 

@@ -1,4 +1,4 @@
-use Rattle.std.proofs.Common.{◌≡◌, ◌∙◌, ◌<◌, ◌++◌, ◌∷◌, [], ap, arith, sym, length}
+use Rattle.std.proofs.Common.{◌∙◌, ◌<◌, ◌++◌, ◌∷◌, [], ap, arith, sym, length}
 use Rattle.std.specs.Option.{option_copied}
 use Rattle.fb_values.specs.Lists.{list_in}
 use Rattle.fb_view.proofs.Lists.{take-next, there_is}

@@ -1,7 +1,7 @@
 use Rattle.std.proofs.Common.{◌≡◌, ◌++◌, drop}
 use Rattle.std.specs.Prelude.{map}
 use Rattle.tx_model.specs.Changes.{implied}
-use Rattle.plain_rules.specs.Lists.{ask_lists, datom_lists}
+use Rattle.plain_rules.specs.Lists.{datom_lists}
 use Rattle.plain_rules.proofs.changes.implied_by_forms.Given as goal
 
 abbrev pub invariant-loop-additions : goal.invariant-loop-additions

@@ -1,6 +1,6 @@
 use Rattle.std.proofs.Common.{◌≡◌, ◌++◌, drop}
 use Rattle.std.specs.Prelude.{flat_map}
-use Rattle.plain_asks.specs.Asked.{name_of, names_of, asks_of}
+use Rattle.plain_asks.specs.Asked.{asks_of}
 use Rattle.plain_rules.specs.Pairs.{pairs_of}
 use Rattle.plain_rules.specs.Kinds.{asked_by}
 use Rattle.plain_rules.proofs.changes.of_form.Given as goal

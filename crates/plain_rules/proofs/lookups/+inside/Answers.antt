@@ -1,14 +1,11 @@
-use Rattle.std.proofs.Common.{◌≡◌, Bool, true, false, ℕ, List, ap, sym, ◌∙◌, subst}
+use Rattle.std.proofs.Common.{◌≡◌, true, false, ap, sym, ◌∙◌, subst}
 use Rattle.std.specs.Prelude.{IfOk}
-use Rattle.std.specs.List.{list_any}
 use Rattle.edn_model.specs.Form as edn
 use Rattle.edn_model.specs.Form.{Form}
 use Rattle.edn_form.specs.View.{form_of, forms_of, members}
 use Rattle.edn_form.proofs.Views.{form_of-Vector}
-use Rattle.tx_model.specs.Asks as asks
-use Rattle.tx_model.specs.NameRules as model
 use Rattle.tx_model.specs.Walk as walk
-use Rattle.plain_rules.specs.Faults.{is_faulty_lookup, lookups_inside}
+use Rattle.plain_rules.specs.Faults.{is_faulty_lookup}
 use Rattle.plain_rules.proofs.PlainVectors.{inside_alone}
 use Rattle.plain_rules.proofs.lookups.+inside.Goals as goal
 

@@ -1,7 +1,7 @@
 use Rattle.std.proofs.Common.{◌≡◌, drop}
 use Rattle.std.specs.List.{list_any}
 use Rattle.tx_model.specs.Asks as model
-use Rattle.plain_asks.specs.Asked.{name_of, names_of, ask_of, asks_of}
+use Rattle.plain_asks.specs.Asked.{names_of, ask_of}
 use Rattle.plain_rules.specs.Faults.{has_fault}
 use Rattle.plain_rules.proofs.name_rules.names_with_fault.Given as goal
 

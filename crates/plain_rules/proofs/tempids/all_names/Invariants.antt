@@ -1,7 +1,7 @@
 use Rattle.std.proofs.Common.{◌≡◌, ◌++◌, drop}
 use Rattle.std.specs.Prelude.{flat_map}
 use Rattle.tx_model.specs.Asks as model
-use Rattle.plain_asks.specs.Asked.{name_of, names_of, asks_of}
+use Rattle.plain_asks.specs.Asked.{names_of, asks_of}
 use Rattle.plain_rules.proofs.tempids.all_names.Given as goal
 
 abbrev pub invariant-loop-ask : goal.invariant-loop-ask

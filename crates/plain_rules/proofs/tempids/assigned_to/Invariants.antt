@@ -1,7 +1,7 @@
 use Rattle.std.proofs.Common.{◌≡◌, drop}
 use Rattle.tx_model.specs.Tempids.{assigned_to}
 use Rattle.plain_rules.specs.Pairs.{pairs_of}
-use Rattle.plain_asks.specs.Asked.{name_of, names_of, asks_of}
+use Rattle.plain_asks.specs.Asked.{name_of}
 use Rattle.plain_rules.proofs.tempids.assigned_to.Given as goal
 
 abbrev pub invariant-loop-other : goal.invariant-loop-other

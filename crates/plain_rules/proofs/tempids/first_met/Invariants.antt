@@ -1,6 +1,6 @@
 use Rattle.std.proofs.Common.{◌≡◌, ◌++◌, [], drop}
 use Rattle.tx_model.specs.Tempids.{met_after}
-use Rattle.plain_asks.specs.Asked.{name_of, names_of, asks_of}
+use Rattle.plain_asks.specs.Asked.{names_of}
 use Rattle.plain_rules.proofs.tempids.first_met.Given as goal
 
 abbrev pub invariant-loop-name : goal.invariant-loop-name

@@ -1,6 +1,6 @@
 use Rattle.std.proofs.Common.{◌≡◌, ◌++◌, drop}
 use Rattle.tx_model.specs.Tempids.{holders}
-use Rattle.plain_asks.specs.Asked.{name_of, names_of, asks_of}
+use Rattle.plain_asks.specs.Asked.{name_of, asks_of}
 use Rattle.plain_rules.proofs.tempids.holders.Given as goal
 
 abbrev pub invariant-loop-ask : goal.invariant-loop-ask

@@ -1,6 +1,6 @@
 use Rattle.std.proofs.Common.{◌≡◌, drop}
 use Rattle.tx_model.specs.Tempids.{is_among}
-use Rattle.plain_asks.specs.Asked.{name_of, names_of, asks_of}
+use Rattle.plain_asks.specs.Asked.{name_of, names_of}
 use Rattle.plain_rules.proofs.tempids.is_among.Given as goal
 
 abbrev pub invariant-loop-other : goal.invariant-loop-other

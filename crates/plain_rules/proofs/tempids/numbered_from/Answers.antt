@@ -1,4 +1,4 @@
-use Rattle.std.proofs.Common.{◌≡◌, ℕ, ◌+◌, ◌≤◌, List, [], ◌∷◌, ◌++◌, drop, ap, ◌∙◌, sym, arith}
+use Rattle.std.proofs.Common.{◌≡◌, ◌+◌, ◌≤◌, List, [], ◌∷◌, ◌++◌, drop, ap, ◌∙◌, sym, arith}
 use Rattle.tx_model.specs.Tempids.{holders, number_from}
 use Rattle.plain_asks.specs.declared.asks.Name.{Name}
 use Rattle.plain_asks.specs.Asked.{name_of, names_of, asks_of}

@@ -2,7 +2,7 @@ use Rattle.std.proofs.Common.{◌≡◌, ◌≤◌, ◌+◌, ◌^◌, ◌++◌, 
 use Rattle.fb_model.specs.History.{users_issued}
 use Rattle.tx_model.specs.Tempids.{number_from}
 use Rattle.plain_rules.specs.Pairs.{pairs_of}
-use Rattle.plain_asks.specs.Asked.{name_of, names_of, asks_of}
+use Rattle.plain_asks.specs.Asked.{names_of, asks_of}
 use Rattle.plain_rules.proofs.tempids.numbered_from.Given as goal
 
 abbrev pub invariant-loop-name : goal.invariant-loop-name

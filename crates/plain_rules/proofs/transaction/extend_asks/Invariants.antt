@@ -1,5 +1,5 @@
 use Rattle.std.proofs.Common.{◌≡◌, ◌++◌, drop}
-use Rattle.plain_asks.specs.Asked.{name_of, names_of, asks_of}
+use Rattle.plain_asks.specs.Asked.{asks_of}
 use Rattle.plain_rules.proofs.transaction.extend_asks.Given as goal
 
 abbrev pub invariant-loop-ask : goal.invariant-loop-ask

@@ -1,6 +1,6 @@
 use Rattle.std.proofs.Common.{◌≡◌, ◌++◌, drop}
 use Rattle.tx_model.specs.Transaction.{joined}
-use Rattle.plain_rules.specs.Lists.{ask_lists, datom_lists}
+use Rattle.plain_rules.specs.Lists.{datom_lists}
 use Rattle.plain_rules.proofs.transaction.joined.Given as goal
 
 abbrev pub invariant-loop-list : goal.invariant-loop-list

@@ -1,7 +1,7 @@
 use Rattle.std.proofs.Common.{◌≡◌, ◌++◌, drop}
 use Rattle.tx_model.specs.Transaction.{joined}
-use Rattle.plain_asks.specs.Asked.{name_of, names_of, asks_of}
-use Rattle.plain_rules.specs.Lists.{ask_lists, datom_lists}
+use Rattle.plain_asks.specs.Asked.{asks_of}
+use Rattle.plain_rules.specs.Lists.{ask_lists}
 use Rattle.plain_rules.proofs.transaction.joined_asks.Given as goal
 
 abbrev pub invariant-loop-list : goal.invariant-loop-list

@@ -1,6 +1,6 @@
 use Rattle.std.proofs.Common.{◌≡◌, drop}
 use Rattle.edn_model.specs.Form as edn
-use Rattle.edn_form.specs.View.{forms_of, pairs_of, members, entries}
+use Rattle.edn_form.specs.View.{pairs_of, entries}
 use Rattle.tx_model.specs.Walk.{has_identity}
 use Rattle.plain_walk.proofs.maps.has_identity.Given as goal
 

@@ -1,4 +1,4 @@
-use Rattle.std.proofs.Common.{◌≡◌, option_map, unwrap_or, ap, sym, ◌∙◌, rules}
+use Rattle.std.proofs.Common.{option_map, unwrap_or, ap, sym, ◌∙◌, rules}
 use Rattle.edn_form.specs.View.{entries}
 use Rattle.plain_asks.specs.Asked.{name_of}
 use Rattle.plain_walk.proofs.MapNames.{named_here}

@@ -1,4 +1,4 @@
-use Rattle.std.proofs.Common.{◌≡◌, Some, ap, sym, ◌∙◌}
+use Rattle.std.proofs.Common.{Some, ap, sym, ◌∙◌}
 use Rattle.edn_form.specs.View.{form_of, forms_of}
 use Rattle.tx_model.specs.Shapes.{forms_of as transaction_forms}
 use Rattle.plain_walk.proofs.FormMembers.{forms_of_vector, forms_of_list}

@@ -1,4 +1,4 @@
-use Rattle.std.proofs.Common.{pos, [], ◌∷◌, Some, None, false, refl, inl, lit<, lit≤}
+use Rattle.std.proofs.Common.{pos, [], ◌∷◌, false, refl, inl, lit<, lit≤}
 use Rattle.std.specs.Prelude.{codes}
 use Rattle.std.specs.Fmt.{digits}
 use Rattle.view_model.specs.Window.{whole, since}
@@ -13,15 +13,10 @@ unfolding digits
 returns c =
     let later : Standing = record { place = 1; window = since 1 whole; filters = []; told = false } in (
       opened_at 0,
-      None,
-      1 ∷ [],
       record { place = 0; from = lit≤ tt; within = lit≤ tt; says = line (basis_reply 0) (codes "{:basis 0}\n") refl refl; commits = refl; stands = refl },
-      refl,
       refl,
       (
         opened_at 1,
-        Some 1,
-        [],
         inl (record {
           place = 1;
           above = lit< tt;
@@ -37,18 +32,12 @@ returns c =
           stands = refl;
         }),
         refl,
-        refl,
         (
           later,
-          None,
-          [],
           record { reply = done_reply 1; answers = refl; says = line (done_reply 1) (codes "{:ok true :basis 1}\n") refl refl; commits = refl; stands = refl },
-          refl,
           refl,
           (
             later,
-            None,
-            [],
             record {
               reply = refusal_reply (codes "read/not-a-command") 0 1;
               answers = refl;
@@ -57,15 +46,11 @@ returns c =
               stands = refl;
             },
             refl,
-            refl,
             (
               later,
-              None,
-              [],
               record { place = 1; from = lit≤ tt; within = lit≤ tt; says = line (basis_reply 1) (codes "{:basis 1}\n") refl refl; commits = refl; stands = refl },
               refl,
               refl,
-              (refl, refl),
             ),
           ),
         ),

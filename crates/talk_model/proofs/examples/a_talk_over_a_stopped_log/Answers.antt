@@ -1,4 +1,4 @@
-use Rattle.std.proofs.Common.{pos, [], ◌∷◌, None, true, refl, inl, inr, lit≤}
+use Rattle.std.proofs.Common.{pos, [], ◌∷◌, true, refl, inl, inr, lit≤}
 use Rattle.std.specs.Prelude.{codes}
 use Rattle.std.specs.Fmt.{digits}
 use Rattle.view_model.specs.Window.{whole}
@@ -14,8 +14,6 @@ unfolding digits
 returns c =
     let told : Standing = record { place = 1; window = whole; filters = []; told = true } in (
       told,
-      None,
-      [],
       inr (inr (inl (record {
         place = 1;
         from = lit≤ tt;
@@ -33,11 +31,8 @@ returns c =
         stands = refl;
       }))),
       refl,
-      refl,
       (
         told,
-        None,
-        [],
         inr (inr (inr (record {
           place = 1;
           from = lit≤ tt;
@@ -48,11 +43,8 @@ returns c =
           stands = refl;
         }))),
         refl,
-        refl,
         (
           told,
-          None,
-          [],
           inr (inl (record {
             place = 1;
             from = lit≤ tt;
@@ -64,15 +56,11 @@ returns c =
             stands = refl;
           })),
           refl,
-          refl,
           (
             told,
-            None,
-            [],
             record { place = 1; from = lit≤ tt; within = lit≤ tt; says = line (basis_reply 1) (codes "{:basis 1}\n") refl refl; commits = refl; stands = refl },
             refl,
             refl,
-            (refl, refl),
           ),
         ),
       ),

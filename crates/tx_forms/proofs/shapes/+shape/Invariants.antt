@@ -1,5 +1,4 @@
 use Rattle.std.proofs.Common.{◌≡◌, drop}
-use Rattle.std.specs.List.{list_all}
 use Rattle.edn_model.specs.Form as edn
 use Rattle.edn_form.specs.View.{forms_of, pairs_of, members, entries}
 use Rattle.tx_model.specs.Shapes.{have_member_shape}

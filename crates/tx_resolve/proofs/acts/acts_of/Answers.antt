@@ -1,4 +1,4 @@
-use Rattle.std.proofs.Common.{◌≡◌, map, ap, ◌∙◌}
+use Rattle.std.proofs.Common.{map, ap, ◌∙◌}
 use Rattle.tx_asks.specs.Acts.{seen}
 use Rattle.tx_resolve.specs.Numbers.{act_of}
 use Rattle.tx_resolve.proofs.ActLists.{push_some}

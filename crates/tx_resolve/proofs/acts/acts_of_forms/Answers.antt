@@ -1,4 +1,4 @@
-use Rattle.std.proofs.Common.{◌≡◌, Vec, Global, map, filter_map, ap, ◌∙◌}
+use Rattle.std.proofs.Common.{Vec, Global, map, filter_map, ap, ◌∙◌}
 use Rattle.tx_asks.specs.declared.acts.Act.{Act}
 use Rattle.tx_asks.specs.Acts.{seen}
 use Rattle.tx_resolve.specs.declared.drafts.Draft.{Draft}

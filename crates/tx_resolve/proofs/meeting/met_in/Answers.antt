@@ -1,4 +1,4 @@
-use Rattle.std.proofs.Common.{◌≡◌, ◌+◌, ◌∷◌, drop, flat_map, sym, ap, ◌∙◌}
+use Rattle.std.proofs.Common.{◌+◌, drop, flat_map, sym, ap, ◌∙◌}
 use Rattle.std.proofs.lemmas.Grind.{flat_map-append}
 use Rattle.tx_resolve.specs.Meeting.{tempids_of, met_with, drafts_in}
 use Rattle.tx_resolve.proofs.Drops.{drop_first}

@@ -1,4 +1,4 @@
-use Rattle.std.proofs.Common.{◌≡◌, ◌∷◌, drop, subst, sym, arith}
+use Rattle.std.proofs.Common.{drop, subst, sym, arith}
 use Rattle.tx_resolve.specs.Numbers.{HasEntities, AreApart, Tells}
 use Rattle.tx_resolve.proofs.Drops.{drop_before}
 use Rattle.tx_resolve.proofs.Numbering.{HasEntities-cons, Tells-cons}

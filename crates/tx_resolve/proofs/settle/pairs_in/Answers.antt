@@ -1,5 +1,5 @@
-use Rattle.std.proofs.Common.{◌≡◌, ℕ, List, [], flat_map, subst, sym, ap, ◌∙◌}
-use Rattle.tx_resolve.specs.Meeting.{tempids_of, met_with, drafts_in}
+use Rattle.std.proofs.Common.{[], flat_map, subst, sym, ◌∙◌}
+use Rattle.tx_resolve.specs.Meeting.{tempids_of, drafts_in}
 use Rattle.tx_resolve.specs.Numbers.{AreApart, numbered}
 use Rattle.tx_resolve.proofs.Results.{IfOk-map}
 use Rattle.tx_resolve.proofs.Apart.{AreDistinct, distinct_met, apart_numbered}

@@ -1,5 +1,5 @@
 -- What is judged is one transaction's.
-use Rattle.std.proofs.Common.{◌≡◌, ◌+◌, ap, sym, ◌∙◌, subst}
+use Rattle.std.proofs.Common.{◌+◌, ap, sym, ◌∙◌, subst}
 use Rattle.std.specs.Prelude.{◌<ℤ◌, IsTrue}
 use Rattle.fb_values.specs.declared.indexes.Order.TheVariants.{Eavt}
 use Rattle.fb_values.specs.Rising.{rises}

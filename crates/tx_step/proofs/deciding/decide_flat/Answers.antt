@@ -1,5 +1,5 @@
 -- The transaction of these forms, by the steps behind the first two.
-use Rattle.std.proofs.Common.{◌≡◌, refl, sym, ap, ◌∙◌, subst, w64}
+use Rattle.std.proofs.Common.{refl, sym, ap, ◌∙◌, subst, w64}
 use Rattle.std.proofs.lemmas.Int.{to_z-of_z}
 use Rattle.edn_form.specs.View.{forms_of}
 use Rattle.fb_model.specs.Facts.{facts}

@@ -1,5 +1,4 @@
 -- A transaction that breaks a rule which needs the schema alone.
-use Rattle.std.proofs.Common.{◌≡◌}
 use Rattle.edn_form.specs.View.{forms_of}
 use Rattle.tx_step.proofs.Steps as steps
 use Rattle.tx_step.proofs.deciding.decide_shaped.Goals as goal

@@ -1,9 +1,8 @@
 -- The entry of changes that are a transaction's is the transaction's.
-use Rattle.std.proofs.Common.{◌≡◌, ◌+◌, ap, ◌∙◌, w64}
+use Rattle.std.proofs.Common.{◌+◌, ap, ◌∙◌, w64}
 use Rattle.std.proofs.lemmas.Int.{to_z-of_z}
 use Rattle.fb_model.specs.History as history
 use Rattle.tx_model.specs.Step as model
-use Rattle.tx_model.specs.Tempids.{named_tempids}
 use Rattle.tx_step.proofs.deciding.with_entry.Goals as goal
 
 pub returns : goal.returns

@@ -1,7 +1,6 @@
 -- By the lemmas on views.
-use Rattle.std.proofs.Common.{◌∙◌, ap, sym, ◌≡◌, ◌≤◌, List}
-use Rattle.fb_values.specs.declared.facts.Entry.{Entry}
-use Rattle.fb_model.specs.Facts.{facts, standing}
+use Rattle.std.proofs.Common.{◌∙◌, ap, sym}
+use Rattle.fb_model.specs.Facts.{facts}
 use Rattle.fb_model.specs.History.{basis}
 use Rattle.fb_model.proofs.Times.{upto-basis}
 use Rattle.view_model.specs.Window.{whole}

@@ -1,4 +1,4 @@
-use Rattle.std.proofs.Common.{◌≡◌, ◌∙◌, ◌<◌, sym, arith}
+use Rattle.std.proofs.Common.{◌∙◌, ◌<◌, sym, arith}
 use Rattle.fb_scan.proofs.Log.{part_next}
 use Rattle.fb_scan.proofs.txs.Txs.next.Goals as goal
 

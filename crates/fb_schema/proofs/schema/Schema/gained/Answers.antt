@@ -1,4 +1,4 @@
-use Rattle.std.proofs.Common.{◌≡◌, ◌↔◌, ◌+◌, ◌++◌, drop, ap, sym, subst, ◌∙◌}
+use Rattle.std.proofs.Common.{◌↔◌, ◌+◌, ◌++◌, drop, ap, sym, subst, ◌∙◌}
 use Rattle.std.specs.Prelude.{IsTrue, Contains}
 use Rattle.fb_values.specs.declared.indexes.Order.TheVariants.{Avet}
 use Rattle.fb_schema.specs.Change.{is_gained}

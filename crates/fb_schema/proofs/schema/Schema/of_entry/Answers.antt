@@ -1,4 +1,4 @@
-use Rattle.std.proofs.Common.{◌≡◌, sym, ◌∙◌}
+use Rattle.std.proofs.Common.{sym, ◌∙◌}
 use Rattle.fb_schema.proofs.Results.{IfOk-map}
 use Rattle.fb_schema.proofs.Described.{described-same}
 use Rattle.fb_schema.proofs.schema.Schema.of_entry.Goals as goal

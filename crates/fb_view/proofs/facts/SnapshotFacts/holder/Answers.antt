@@ -1,4 +1,4 @@
-use Rattle.std.proofs.Common.{◌≡◌, ◌∙◌, sym, ap}
+use Rattle.std.proofs.Common.{◌∙◌}
 use Rattle.fb_view.proofs.Answering.{holder_told}
 use Rattle.fb_view.proofs.facts.SnapshotFacts.holder.Goals as goal
 

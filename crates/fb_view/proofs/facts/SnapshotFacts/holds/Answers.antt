@@ -1,4 +1,4 @@
-use Rattle.std.proofs.Common.{◌≡◌, ◌∙◌, sym, ap}
+use Rattle.std.proofs.Common.{◌∙◌, ap}
 use Rattle.std.specs.Prelude.{is_some}
 use Rattle.fb_view.proofs.Answering.{holds_told}
 use Rattle.fb_view.proofs.facts.SnapshotFacts.holds.Goals as goal

@@ -1,4 +1,4 @@
-use Rattle.std.proofs.Common.{◌≡◌, ◌∙◌, sym, false}
+use Rattle.std.proofs.Common.{◌∙◌, sym}
 use Rattle.fb_view.proofs.Refilling.{none_gained}
 use Rattle.fb_view.proofs.growth.Recent.gained.Goals as goal
 

@@ -1,4 +1,4 @@
-use Rattle.std.proofs.Common.{◌≡◌, ◌<◌, take}
+use Rattle.std.proofs.Common.{◌<◌, take}
 use Rattle.fb_view.specs.Kept.{kept, Stands}
 use Rattle.fb_view.proofs.growth.Recent.replayed.Given as goal
 

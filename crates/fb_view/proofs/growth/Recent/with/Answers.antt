@@ -1,4 +1,3 @@
-use Rattle.std.proofs.lemmas.Result.{IfOk-weaker}
 use Rattle.fb_view.proofs.Standing.{grown_stands}
 use Rattle.fb_view.proofs.growth.Recent.with.Goals as goal
 

@@ -1,4 +1,4 @@
-use Rattle.std.proofs.Common.{◌≡◌, ◌∙◌, ◌++◌, ap, sym, append-nil}
+use Rattle.std.proofs.Common.{◌∙◌, ◌++◌, ap, sym, append-nil}
 use Rattle.fb_view.proofs.Lasting.{lasts}
 use Rattle.fb_view.proofs.Walking.{ahead_of, lasts_are_facts}
 use Rattle.fb_view.proofs.merged.Both.facts.Goals as goal

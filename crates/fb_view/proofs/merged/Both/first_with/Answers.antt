@@ -1,4 +1,4 @@
-use Rattle.std.proofs.Common.{◌≡◌, ◌∙◌, ◌&&◌, ap, sym}
+use Rattle.std.proofs.Common.{◌∙◌, ◌&&◌, ap, sym}
 use Rattle.std.specs.Prelude.{find}
 use Rattle.std.specs.Option.{option_map}
 use Rattle.fb_values.specs.declared.facts.Datom.{Datom}
