@@ -6,6 +6,8 @@ from collections import Counter
 from typing import NamedTuple
 
 TOP = os.path.dirname(os.path.dirname(os.path.realpath(__file__)))
+# How long the program may take for one script.
+SECONDS = 60
 
 
 class Answer(NamedTuple):
@@ -14,13 +16,23 @@ class Answer(NamedTuple):
     errors: bytes
     status: int
 
+    def lines(self):
+        """The replies, and one line more where the script did not end well."""
+        if self.status == 0 and not self.errors:
+            return self.replies
+        return [*self.replies, b"status %d: %b" % (self.status, self.errors)]
+
 
 class Program(NamedTuple):
     path: str
 
     def answer(self, script):
         """What the program answers to the script on standard input."""
-        done = subprocess.run([self.path, "run", ":memory:", "-"], input=script, capture_output=True, timeout=120)
+        words = [self.path, "run", ":memory:", "-"]
+        try:
+            done = subprocess.run(words, input=script, capture_output=True, timeout=SECONDS)
+        except subprocess.TimeoutExpired:
+            return Answer([], b"no end within %d seconds" % SECONDS, -1)
         # A reply may hold any control byte but a line feed.
         return Answer(done.stdout.split(b"\n")[:-1], done.stderr, done.returncode)
 

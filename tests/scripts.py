@@ -4,6 +4,7 @@ There a line `# name` begins a script, and behind its commands stand their repli
 angle quotes stands for so many numbers, from 0 on. A line `clock` gives the readings of a clock, which no user can set.
 """
 import re
+from itertools import zip_longest
 
 from outside import lines_of
 
@@ -27,9 +28,15 @@ class Row:
                 self.blocks.append(([], []))
             self.blocks[-1][0].append(with_numbers(line).encode())
 
+    def script(self):
+        return b"".join(line + b"\n" for commands, _ in self.blocks for line in commands)
+
+    def replies(self):
+        return [reply for _, replies in self.blocks for reply in replies]
+
     def among_merges(self):
         """The same script with a request for a merge behind each block."""
-        more, basis = Row(self.line, f"{self.name}, among merges"), b"0"
+        more, basis = Row(self.line, self.name), b"0"
         for commands, replies in self.blocks:
             for reply in replies:
                 basis = re.search(rb":(?:t|basis) (\d+)", reply).group(1)
@@ -42,11 +49,10 @@ def check(program, tally):
         if row.has_clock:
             tally.left_out["under a clock that steps"] += 1
             continue
-        runs = [row, row.among_merges()]
-        answers = [program.answer(b"".join(line + b"\n" for commands, _ in it.blocks for line in commands)) for it in runs]
-        wanted = [[without_instants(reply) for _, replies in it.blocks for reply in replies] for it in runs]
-        got = [[without_instants(reply) for reply in it.replies] for it in answers]
-        tally.check(f"{TABLE}:{row.line}: {row.name}", wanted, got)
+        more = row.among_merges()
+        wanted = [*row.replies(), *more.replies()]
+        got = [*program.answer(row.script()).lines(), *program.answer(more.script()).lines()]
+        tally.check(f"{TABLE}:{row.line}: {row.name}", *first_difference(wanted, got))
 
 
 def rows():
@@ -63,6 +69,11 @@ def with_numbers(line):
     return re.sub("‹(.*?)›", lambda found: " ".join(map(str, range(int(found.group(1))))), line)
 
 
-def without_instants(reply):
-    """The reply without the instants of transactions, which the machine's clock gives."""
-    return re.sub(rb'(:db/txInstant) #inst "[^"]*"', rb"\1 ..", reply)
+def first_difference(wanted, got):
+    """The first two lines that differ, or nothing twice."""
+    return next((pair for pair in zip_longest(wanted, got) if without_instants(pair[0]) != without_instants(pair[1])), (None, None))
+
+
+def without_instants(line):
+    """The line without the instants of transactions, which the machine's clock gives."""
+    return line and re.sub(rb'(:db/txInstant) #inst "[^"]*"', rb"\1 ..", line)

@@ -25,8 +25,10 @@ def check(program, tally):
         if history.is_guarded:
             tally.left_out["under a guard"] += len(history.rows)
             continue
-        script = b"".join(b"[:transact %b]\n" % spelled(row.data) for row in history.rows)
-        for row, reply in zip_longest(history.rows, program.answer(script).replies[:len(history.rows)]):
+        lines = program.answer(b"".join(b"[:transact %b]\n" % spelled(row.data) for row in history.rows)).lines()
+        last = len(history.rows) - 1
+        # What goes on behind the last reply is told with it.
+        for row, reply in zip_longest(history.rows, [*lines[:last], b"\n".join(lines[last:])]):
             tally.check(f"{TABLE}:{row.line}: {row.data}", row.reply.encode(), reply)
 
 
