@@ -8,11 +8,20 @@ import os
 import re
 import subprocess
 import tempfile
+from dataclasses import dataclass, field
 
 from outside import TOP, lines_of
 
 NAME = "examples of the manual"
 PAGES = ["README.md", "docs/COMMANDS.md"]
+
+
+@dataclass
+class Example:
+    line: int
+    command: str
+    wanted: list = field(default_factory=list)
+    status: int = 0
 
 
 def check(_program, tally):
@@ -21,27 +30,27 @@ def check(_program, tally):
         with tempfile.TemporaryDirectory() as folder:
             os.symlink(os.path.join(TOP, "factbase"), os.path.join(folder, "factbase"))
             for example in examples_in(page):
-                wanted = "".join(line + "\n" for line in example["wanted"]), example["status"]
-                tally.check(f"{page}:{example['line']}: {example['command']}", wanted, run(example["command"], folder))
+                wanted = "".join(line + "\n" for line in example.wanted), example.status
+                tally.check(f"{page}:{example.line}: {example.command}", wanted, run(example.command, folder))
 
 
 def examples_in(page):
-    """The commands of a page, each with its line number and the text and status that are wanted."""
+    """The examples of a page, with the lines and the status that are wanted of each."""
     found, inside, current = [], False, None
     for number, line in lines_of(page):
         if line.startswith("```"):
             inside, current = (line == "```console"), None
         elif inside and line.startswith("$ "):
-            current = {"line": number, "command": line[2:], "wanted": [], "status": 0}
+            current = Example(number, line[2:])
             found.append(current)
-        elif inside and current is not None and line.startswith("> ") and not current["wanted"]:
-            current["command"] += "\n" + line[2:]
+        elif inside and current is not None and line.startswith("> ") and not current.wanted:
+            current.command += "\n" + line[2:]
         elif inside and current is not None:
             status = re.fullmatch(r"\[exit (\d+)\]", line)
             if status:
-                current["status"] = int(status.group(1))
+                current.status = int(status.group(1))
             else:
-                current["wanted"].append(line)
+                current.wanted.append(line)
     return found
 
 
