@@ -1,6 +1,4 @@
 //! What a transaction asks, with entities still by their names.
-ghost use Rattle.std.specs.Prelude.{◌≡◌, ◌++◌, ◌∷◌, [], IfOk};
-
 use edn_form::Edn;
 use fb_memory::Memory;
 use fb_text::Text;
@@ -45,40 +43,22 @@ pub enum Ask {
     LacksId,
 }
 
-/// Adds the numbers at the end.
-fn extend(list: &mut Vec<usize>, path: &[usize]) -> Result<(), Memory>
-    ensures { IfOk result (λ _. list.new.items ≡ list.old.items ++ path.now) }
-{
-    for n in path {
-        list.push(*n)?;
-    }
-    Ok(())
-}
-
-pub fn copy_path(alloc: Global, path: &[usize]) -> Result<Vec<usize>, Memory>
-    ensures { IfOk result (λ copy. copy.items ≡ path.now) }
-{
+pub fn copy_path(alloc: Global, path: &[usize]) -> Result<Vec<usize>, Memory> {
     let mut copy = Vec::new(alloc);
-    extend(&mut copy, path)?;
+    copy.extend_from_slice(path)?;
     Ok(copy)
 }
 
 /// The place of the n-th part of what stands at a place.
-pub fn inside(alloc: Global, n: usize, path: &[usize]) -> Result<Vec<usize>, Memory>
-    ensures { IfOk result (λ inner. inner.items ≡ n ∷ path.now) }
-{
+pub fn inside(alloc: Global, n: usize, path: &[usize]) -> Result<Vec<usize>, Memory> {
     let mut inner = Vec::new(alloc);
     inner.push(n)?;
-    extend(&mut inner, path)?;
+    inner.extend_from_slice(path)?;
     Ok(inner)
 }
 
 impl Name {
-    ghost use Rattle.plain_asks.specs.Asked.{name_of};
-
-    pub fn copy(&self) -> Result<Name, Memory>
-        ensures { IfOk result (λ name. name_of name ≡ name_of self.now) }
-    {
+    pub fn copy(&self) -> Result<Name, Memory> {
         Ok(match self {
             Name::Number(n) => Name::Number(*n),
             Name::Ident(k) => Name::Ident(k.copy()?),
@@ -90,29 +70,21 @@ impl Name {
 }
 
 /// Moves the asks to the end of the list.
-pub fn append(list: &mut Vec<Ask>, more: Vec<Ask>) -> Result<(), Memory>
-    ensures { IfOk result (λ _. list.new.items ≡ list.old.items ++ more.items) }
-{
+pub fn append(list: &mut Vec<Ask>, more: Vec<Ask>) -> Result<(), Memory> {
     for ask in more {
         list.push(ask)?;
     }
     Ok(())
 }
 
-pub fn one(alloc: Global, ask: Ask) -> Result<Vec<Ask>, Memory>
-    ensures { IfOk result (λ list. list.items ≡ ask ∷ []) }
-{
+pub fn one(alloc: Global, ask: Ask) -> Result<Vec<Ask>, Memory> {
     let mut list = Vec::new(alloc);
     list.push(ask)?;
     Ok(list)
 }
 
 impl Operand {
-    ghost use Rattle.plain_asks.specs.Asked.{part_of};
-
-    pub fn copy(&self) -> Result<Operand, Memory>
-        ensures { IfOk result (λ part. part_of part ≡ part_of self.now) }
-    {
+    pub fn copy(&self) -> Result<Operand, Memory> {
         Ok(match self {
             Operand::Plain(f) => Operand::Plain(f.copy()?),
             Operand::Entity(name) => Operand::Entity(name.copy()?),
@@ -121,11 +93,7 @@ impl Operand {
 }
 
 impl Ask {
-    ghost use Rattle.plain_asks.specs.Asked.{ask_of};
-
-    pub fn copy(&self) -> Result<Ask, Memory>
-        ensures { IfOk result (λ ask. ask_of ask ≡ ask_of self.now) }
-    {
+    pub fn copy(&self) -> Result<Ask, Memory> {
         Ok(match self {
             Ask::Adds(name, k, part) => Ask::Adds(name.copy()?, k.copy()?, part.copy()?),
             Ask::Retracts(name, k, part) => Ask::Retracts(name.copy()?, k.copy()?, part.copy()?),

@@ -1,5 +1,8 @@
-//! What a transaction asks, by the definitions, over plain lists and slowly: values, and asks with their names.
-//! Nothing of the product stands on it.
+//! What a transaction asks, over plain lists and slowly: values, and asks with their names. Nothing of the product stands on
+//! it.
+//!
+//! It is written plainly, to be read beside `Asks` and `Values` of `tx_model`. It promises nothing but safety, so that a
+//! comparison says something that the proofs do not.
 #![tactic(auto)]
 
 mod asks;

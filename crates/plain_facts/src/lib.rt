@@ -1,18 +1,24 @@
 //! A history's facts over plain lists and slowly: for tests of what asks for facts. Nothing of the product stands on it.
+//!
+//! Unlike the plain programs it is proved to tell the facts of its history: the trait `Facts` demands that of everything that
+//! implements it.
 #![tactic(auto)]
 
 ghost use Rattle.std.specs.Prelude.{◌≡◌, map, filter, IfOk};
 ghost use Rattle.fb_model.specs.Schema.{is_about};
 ghost use Rattle.fb_facts.specs.Told.{is_of_entity, is_ref_to, is_under};
 
+mod history;
+mod orders;
+mod told;
+
 use fb_facts::Facts;
 use fb_memory::Memory;
 use fb_values::{Datom, Datoms, Entry, Order, Value};
+use orders::in_order;
 use std::alloc::Global;
 use std::marker::Model;
-
-#[cfg(test)]
-mod tests;
+use told::{said, standing};
 
 /// A history as a plain list of entries, with what it says and its facts.
 #[derive(Drop)]
@@ -41,8 +47,8 @@ impl PlainFacts {
     pub fn of(alloc: Global, entries: Vec<Entry>) -> Result<PlainFacts, Memory>
         ensures { IfOk result (λ plain. plain ≡ entries.items) }
     {
-        let said = plain_reads::said(alloc, &entries)?;
-        let facts = plain_reads::standing(alloc, &said)?;
+        let said = said(alloc, &entries)?;
+        let facts = standing(alloc, &said)?;
         Ok(PlainFacts {
             alloc,
             entries,
@@ -56,44 +62,44 @@ impl Facts for PlainFacts {
     ghost history = { λ plain. plain };
 
     fn basis(&self) -> u32 {
-        plain_reads::basis(&self.entries)
+        history::basis(&self.entries)
     }
 
     fn issued(&self) -> u64 {
-        plain_reads::users_issued(&self.entries)
+        history::users_issued(&self.entries)
     }
 
     fn last_instant(&self) -> i64 {
-        plain_reads::last_instant(&self.entries)
+        history::last_instant(&self.entries)
     }
 
     fn holds(&self, e: u64, a: u64, v: &Value) -> bool {
-        plain_reads::holds(&self.said, e, a, v)
+        told::holds(&self.said, e, a, v)
     }
 
     fn holder(&self, a: u64, v: &Value) -> Option<u64> {
-        plain_reads::holder(&self.facts, a, v)
+        told::holder(&self.facts, a, v)
     }
 
     fn values_of(&self, e: u64, a: u64) -> Result<Vec<Value>, Memory> {
         let about = about(self.alloc, &self.facts, e, a)?;
-        let about = plain_reads::in_order(self.alloc, Order::Eavt, &about)?;
+        let about = in_order(self.alloc, Order::Eavt, &about)?;
         values(self.alloc, &about)
     }
 
     fn facts_of(&self, e: u64) -> Result<Datoms, Memory> {
         let facts = of_entity(self.alloc, &self.facts, e)?;
-        Ok(Datoms::of(plain_reads::in_order(self.alloc, Order::Eavt, &facts)?))
+        Ok(Datoms::of(in_order(self.alloc, Order::Eavt, &facts)?))
     }
 
     fn refs_to(&self, e: u64) -> Result<Datoms, Memory> {
         let facts = refs(self.alloc, &self.facts, e)?;
-        Ok(Datoms::of(plain_reads::in_order(self.alloc, Order::Vaet, &facts)?))
+        Ok(Datoms::of(in_order(self.alloc, Order::Vaet, &facts)?))
     }
 
     fn facts_under(&self, a: u64) -> Result<Datoms, Memory> {
         let facts = under(self.alloc, &self.facts, a)?;
-        Ok(Datoms::of(plain_reads::in_order(self.alloc, Order::Aevt, &facts)?))
+        Ok(Datoms::of(in_order(self.alloc, Order::Aevt, &facts)?))
     }
 }
 

@@ -1,18 +1,5 @@
 //! What a view has of an entity: the values of its attributes, the entities that refer to it, and its attributes' names.
-ghost use Rattle.std.specs.Prelude.{◌≡◌, ◌∷◌, [], true, drop, filter, filter_map, nat_eq, option_map, IfOk};
-ghost use Rattle.edn_form.specs.View.{form_of};
-ghost use Rattle.fb_model.specs.Facts.{values_of as model_values_of};
-ghost use Rattle.fb_model.specs.Words as words;
-ghost use Rattle.fb_model.specs.Schema.{attribute_named as model_attribute_named, entity_in};
-ghost use Rattle.fb_values.specs.Orders.{text_cmp};
-ghost use Rattle.pull_model.specs.Found as model;
-ghost use Rattle.pull_model.specs.Patterns as patterns;
-ghost use Rattle.tx_model.specs.Asks as asks;
-ghost use Rattle.plain_pull.specs.Databases.{db_in, found_in};
-ghost use Rattle.plain_pull.specs.Numbers.{IsForm};
-
 use edn_form::Edn;
-use edn_values::{begins_with_one_of, local_name, split};
 use fb_memory::Memory;
 use fb_numbers::TYPE_REF;
 use fb_text::Text;
@@ -43,69 +30,47 @@ pub enum Found {
 
 // ---- names
 
-/// Whether the entities are meant that refer to one.
-pub fn is_reversed(name: &str) -> bool
-    ensures { result ≡ patterns.is_reversed name.now }
-{
-    begins_with_one_of(b"_", local_name(name).as_bytes())
-}
-
-fn behind_underscore(text: &str) -> &str
-    requires { words.begins_with_one_of (95 ∷ []) text.now ≡ true }
-    ensures { result.now ≡ drop 1 text.now }
-{
-    match text.strip_prefix('_') {
-        Some(rest) => rest,
-        None => text,
-    }
-}
-
-fn without_underscore(alloc: Global, name: &str) -> Result<Text, Memory>
-    requires { patterns.is_reversed name.now ≡ true }
-    ensures { IfOk result (λ k. k ≡ asks.without_underscore name.now) }
-{
-    match split(name) {
-        Some((namespace, local)) => {
-            let rest = behind_underscore(local);
-            let name = format!(in alloc; "{namespace}/{rest}")?;
-            Text::of(alloc, name.as_str())
+/// The attribute's keyword of a reversed name, which begins with `_`: the entities are meant that refer to one.
+fn forward_name(alloc: Global, name: &str) -> Result<Option<Text>, Memory> {
+    let (namespace, local) = match name.split_once('/') {
+        Some((namespace, local)) => (Some(namespace), local),
+        None => (None, name),
+    };
+    let Some(rest) = local.strip_prefix('_') else {
+        return Ok(None);
+    };
+    Ok(Some(match namespace {
+        Some(namespace) => {
+            let forward = format!(in alloc; "{namespace}/{rest}")?;
+            Text::of(alloc, forward.as_str())?
         }
-        None => Text::of(alloc, behind_underscore(name)),
-    }
-}
-
-/// The attribute's keyword of a reversed name.
-fn forward_name(alloc: Global, name: &str) -> Result<Text, Memory>
-    requires { patterns.is_reversed name.now ≡ true }
-    ensures { IfOk result (λ k. k ≡ patterns.forward_name name.now) }
-{
-    without_underscore(alloc, name)
+        None => Text::of(alloc, rest)?,
+    }))
 }
 
 // ---- values
 
-/// The value as a form. An entity has an integer of a form.
-pub fn form_of_value(v: &Value) -> Result<Edn, Memory>
-    requires { IsForm v.now }
-    ensures { IfOk result (λ f. form_of f ≡ model.form_of_value v.now) }
-{
+/// The number of an entity as a form. No number of a history passes the greatest integer of a form.
+pub fn number(n: u64) -> Edn {
+    Edn::Int(i64::try_from(n).unwrap_or(i64::MAX))
+}
+
+/// The value as a form.
+pub fn form_of_value(v: &Value) -> Result<Edn, Memory> {
     Ok(match v {
         Value::Keyword(text) => Edn::Key(text.copy()?),
-        Value::Str(text) => Edn::Str(text.copy()?),
+        Value::Str(text) | Value::Uri(text) => Edn::Str(text.copy()?),
         Value::Bool(b) => Edn::Bool(*b),
         Value::Long(n) => Edn::Int(*n),
-        Value::Ref(entity) => Edn::Int(*entity as i64),
+        Value::Ref(entity) => number(*entity),
         Value::Instant(millis) => Edn::Inst(*millis),
         Value::Uuid(uuid) => Edn::Uuid(*uuid),
         Value::Symbol(text) => Edn::Sym(text.copy()?),
-        Value::Uri(text) => Edn::Str(text.copy()?),
     })
 }
 
 /// The values of the entity under the attribute.
-fn values_of(alloc: Global, facts: &[Datom], e: u64, a: u64) -> Result<Vec<Value>, Memory>
-    ensures { IfOk result (λ list. list.items ≡ model_values_of facts.now e a) }
-{
+fn values_of(alloc: Global, facts: &[Datom], e: u64, a: u64) -> Result<Vec<Value>, Memory> {
     let mut list = Vec::new(alloc);
     for d in facts {
         if d.e == e && d.a == a {
@@ -116,9 +81,7 @@ fn values_of(alloc: Global, facts: &[Datom], e: u64, a: u64) -> Result<Vec<Value
 }
 
 /// The entities among the values.
-fn entities_in(alloc: Global, values: &[Value]) -> Result<Vec<u64>, Memory>
-    ensures { IfOk result (λ list. list.items ≡ filter_map entity_in values.now) }
-{
+fn entities_in(alloc: Global, values: &[Value]) -> Result<Vec<u64>, Memory> {
     let mut list = Vec::new(alloc);
     for v in values {
         if let Value::Ref(entity) = v {
@@ -129,9 +92,7 @@ fn entities_in(alloc: Global, values: &[Value]) -> Result<Vec<u64>, Memory>
 }
 
 /// The entities that have the entity under the attribute.
-fn referring(alloc: Global, facts: &[Datom], e: u64, a: u64) -> Result<Vec<u64>, Memory>
-    ensures { IfOk result (λ list. list.items ≡ model.referring facts.now e a) }
-{
+fn referring(alloc: Global, facts: &[Datom], e: u64, a: u64) -> Result<Vec<u64>, Memory> {
     let mut list = Vec::new(alloc);
     let entity = Value::Ref(e);
     for d in facts {
@@ -144,10 +105,7 @@ fn referring(alloc: Global, facts: &[Datom], e: u64, a: u64) -> Result<Vec<u64>,
 
 // ---- what is found
 
-fn found_forward(alloc: Global, db: &Db<'_>, e: u64, name: &str) -> Result<Found, Memory>
-    ensures { IfOk result (λ f. found_in f
-        ≡ model.found_forward (db_in db.now) e (model_attribute_named db.now.schema.now name.now)) }
-{
+fn found_forward(alloc: Global, db: &Db<'_>, e: u64, name: &str) -> Result<Found, Memory> {
     let Some(attribute) = attribute_named(db.schema, name) else {
         return Ok(Found::Absent);
     };
@@ -159,11 +117,7 @@ fn found_forward(alloc: Global, db: &Db<'_>, e: u64, name: &str) -> Result<Found
     Ok(Found::Entities(attribute.many, attribute.component, entities))
 }
 
-fn found_backward(alloc: Global, db: &Db<'_>, e: u64, name: &str) -> Result<Found, Memory>
-    ensures { IfOk result (λ f. found_in f
-        ≡ model.found_backward (db_in db.now) e
-        (model_attribute_named db.now.schema.now name.now)) }
-{
+fn found_backward(alloc: Global, db: &Db<'_>, e: u64, name: &str) -> Result<Found, Memory> {
     let Some(attribute) = attribute_named(db.schema, name) else {
         return Ok(Found::Absent);
     };
@@ -175,83 +129,40 @@ fn found_backward(alloc: Global, db: &Db<'_>, e: u64, name: &str) -> Result<Foun
 }
 
 /// What is found of the entity under the name, forward or reversed.
-pub fn found_under(alloc: Global, db: &Db<'_>, e: u64, name: &str) -> Result<Found, Memory>
-    ensures { IfOk result (λ f. found_in f ≡ model.found (db_in db.now) e name.now) }
-{
-    if is_reversed(name) {
-        let forward = forward_name(alloc, name)?;
-        return found_backward(alloc, db, e, forward.as_str());
+pub fn found_under(alloc: Global, db: &Db<'_>, e: u64, name: &str) -> Result<Found, Memory> {
+    match forward_name(alloc, name)? {
+        Some(forward) => found_backward(alloc, db, e, forward.as_str()),
+        None => found_forward(alloc, db, e, name),
     }
-    found_forward(alloc, db, e, name)
 }
 
 // ---- the attributes of an entity
 
-fn name_in_schema<'a>(db: &Db<'a>, d: &Datom) -> Option<&'a Text>
-    ensures { option_map (λ name. name.now) result ≡ model.name_in_schema (db_in db.now) d.now }
-{
-    let attribute = attribute_of(db.schema, d.a)?;
-    Some(attribute.name)
-}
-
-fn cmp_names(x: &Text, y: &Text) -> Ordering
-    ensures { result ≡ text_cmp x.now y.now }
-{
-    x.as_str().cmp(y.as_str())
-}
-
-/// Puts the name in its place of a list in order, where it does not stand there.
-fn put_name(list: &mut Vec<Text>, name: &Text) -> Result<(), Memory>
-    ensures { IfOk result (λ _. list.new.items ≡ model.put_name name.now list.old.items) }
-{
-    let mut at = 0;
-    while at < list.len() {
-        if cmp_names(name, &list[at]) == Ordering::Less {
-            list.insert(at, name.copy()?)?;
-            return Ok(());
-        }
-        if cmp_names(&list[at], name) != Ordering::Less {
-            return Ok(());
-        }
-        at += 1;
-    }
-    list.push(name.copy()?)?;
-    Ok(())
-}
-
-/// The names, each once.
-fn in_order(alloc: Global, names: &[Text]) -> Result<Vec<Text>, Memory>
-    ensures { IfOk result (λ list. list.items ≡ model.names_in_order names.now) }
-{
-    let mut list = Vec::new(alloc);
-    let mut i = names.len();
-    while i > 0 {
-        i -= 1;
-        put_name(&mut list, &names[i])?;
-    }
-    Ok(list)
-}
-
-/// The names of the attributes of the entity's facts.
-fn names_in(alloc: Global, db: &Db<'_>, e: u64) -> Result<Vec<Text>, Memory>
-    ensures { IfOk result (λ list. list.items
-        ≡ filter_map (model.name_in_schema (db_in db.now))
-        (filter (λ d. nat_eq d.e e) db.now.seen.now)) }
-{
+/// The names of the attributes that the entity has, each once, in the order of their bytes.
+pub fn names_of_entity(alloc: Global, db: &Db<'_>, e: u64) -> Result<Vec<Text>, Memory> {
     let mut list = Vec::new(alloc);
     for d in db.seen {
         if d.e == e {
-            if let Some(name) = name_in_schema(db, d) {
-                list.push(name.copy()?)?;
+            if let Some(attribute) = attribute_of(db.schema, d.a) {
+                put_name(&mut list, attribute.name)?;
             }
         }
     }
     Ok(list)
 }
 
-/// The names of the attributes that the entity has, in the order of their bytes.
-pub fn names_of_entity(alloc: Global, db: &Db<'_>, e: u64) -> Result<Vec<Text>, Memory>
-    ensures { IfOk result (λ list. list.items ≡ model.names_of_entity (db_in db.now) e) }
-{
-    in_order(alloc, &names_in(alloc, db, e)?)
+/// Puts the name in its place of a list in order, where it does not stand there.
+fn put_name(list: &mut Vec<Text>, name: &Text) -> Result<(), Memory> {
+    for at in 0..list.len() {
+        match name.as_str().cmp(list[at].as_str()) {
+            Ordering::Less => {
+                list.insert(at, name.copy()?)?;
+                return Ok(());
+            }
+            Ordering::Equal => return Ok(()),
+            Ordering::Greater => {}
+        }
+    }
+    list.push(name.copy()?)?;
+    Ok(())
 }

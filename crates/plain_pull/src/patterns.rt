@@ -1,10 +1,4 @@
 //! Patterns of a pull as data.
-ghost use Rattle.std.specs.Prelude.{◌≡◌, IfOk};
-ghost use Rattle.std.specs.Option.{option_map};
-ghost use Rattle.edn_form.specs.View.{form_of};
-ghost use Rattle.pull_model.specs.Patterns.{no_options};
-ghost use Rattle.plain_pull.specs.View.{label_in};
-
 use edn_form::Edn;
 use fb_memory::Memory;
 use fb_text::Text;
@@ -61,11 +55,7 @@ pub enum Below {
 }
 
 impl Label {
-    ghost use Rattle.plain_pull.specs.View.{label_in};
-
-    pub fn copy(&self) -> Result<Label, Memory>
-        ensures { IfOk result (λ l. label_in l ≡ label_in self.now) }
-    {
+    pub fn copy(&self) -> Result<Label, Memory> {
         Ok(match self {
             Label::Key(text) => Label::Key(text.copy()?),
             Label::Str(text) => Label::Str(text.copy()?),
@@ -74,12 +64,8 @@ impl Label {
 }
 
 impl Options {
-    ghost use Rattle.plain_pull.specs.View.{options_in};
-
     /// No option is given.
-    pub fn none() -> Options
-        ensures { options_in result ≡ no_options }
-    {
+    pub fn none() -> Options {
         Options {
             renamed: None,
             default: None,
@@ -87,9 +73,7 @@ impl Options {
         }
     }
 
-    pub fn copy(&self) -> Result<Options, Memory>
-        ensures { IfOk result (λ o. options_in o ≡ options_in self.now) }
-    {
+    pub fn copy(&self) -> Result<Options, Memory> {
         Ok(Options {
             renamed: copy_label(&self.renamed)?,
             default: copy_form(&self.default)?,
@@ -98,18 +82,14 @@ impl Options {
     }
 }
 
-fn copy_label(label: &Option<Label>) -> Result<Option<Label>, Memory>
-    ensures { IfOk result (λ l. option_map label_in l ≡ option_map label_in label.now) }
-{
+fn copy_label(label: &Option<Label>) -> Result<Option<Label>, Memory> {
     match label {
         Some(label) => Ok(Some(label.copy()?)),
         None => Ok(None),
     }
 }
 
-pub fn copy_form(f: &Option<Edn>) -> Result<Option<Edn>, Memory>
-    ensures { IfOk result (λ g. option_map form_of g ≡ option_map form_of f.now) }
-{
+pub fn copy_form(f: &Option<Edn>) -> Result<Option<Edn>, Memory> {
     match f {
         Some(f) => Ok(Some(f.copy()?)),
         None => Ok(None),
@@ -117,24 +97,16 @@ pub fn copy_form(f: &Option<Edn>) -> Result<Option<Edn>, Memory>
 }
 
 impl Pattern {
-    ghost use Rattle.plain_pull.specs.View.{items_in, members};
-
-    pub fn of(items: Vec<Item>) -> Pattern
-        ensures { members result ≡ items.items }
-    {
+    pub fn of(items: Vec<Item>) -> Pattern {
         Pattern { items }
     }
 
-    pub fn as_slice(&self) -> &[Item]
-        ensures { result.now ≡ members self.now }
-    {
+    pub fn as_slice(&self) -> &[Item] {
         self.items.as_slice()
     }
 
     #[cycle(copy)]
-    pub fn copy(&self) -> Result<Pattern, Memory>
-        ensures { IfOk result (λ p. items_in (members p) ≡ items_in (members self.now)) }
-    {
+    pub fn copy(&self) -> Result<Pattern, Memory> {
         let mut items = Vec::with_capacity(*self.items.allocator(), self.items.len())?;
         for item in self.items.iter() {
             items.push(item.copy()?)?;
@@ -144,12 +116,8 @@ impl Pattern {
 }
 
 impl Item {
-    ghost use Rattle.plain_pull.specs.View.{item_in};
-
     #[cycle(copy)]
-    pub fn copy(&self) -> Result<Item, Memory>
-        ensures { IfOk result (λ i. item_in i ≡ item_in self.now) }
-    {
+    pub fn copy(&self) -> Result<Item, Memory> {
         Ok(match self {
             Item::Wildcard => Item::Wildcard,
             Item::Own(options) => Item::Own(options.copy()?),
@@ -161,12 +129,8 @@ impl Item {
 }
 
 impl Below {
-    ghost use Rattle.plain_pull.specs.View.{below_in};
-
     #[cycle(copy)]
-    pub fn copy(&self) -> Result<Below, Memory>
-        ensures { IfOk result (λ b. below_in b ≡ below_in self.now) }
-    {
+    pub fn copy(&self) -> Result<Below, Memory> {
         Ok(match self {
             Below::Usual => Below::Usual,
             Below::Under(pattern) => Below::Under(pattern.copy()?),

@@ -1,13 +1,4 @@
 //! Which form is which pattern, and the first item that has no such form.
-ghost use Rattle.std.specs.Prelude.{◌≡◌, ◌++◌, ◌∷◌, [], option_and_then, Some, IfOk};
-ghost use Rattle.std.specs.Option.{option_map};
-ghost use Rattle.edn_model.specs.Form as edn;
-ghost use Rattle.edn_form.specs.View.{form_of, forms_of, pairs_of, members, entries};
-ghost use Rattle.pull_model.specs.Patterns as model;
-ghost use Rattle.pull_model.specs.Reading as reading;
-ghost use Rattle.plain_pull.specs.View.{limit_in, label_in, options_in, item_in, below_in, pattern_of, members as items_of_pattern};
-ghost use Rattle.plain_pull.specs.Names.{name_in};
-
 use crate::patterns::{Below, Item, Label, Limit, Options, Pattern};
 use edn_form::{Edn, Items, Pairs};
 use fb_memory::Memory;
@@ -17,18 +8,14 @@ use std::alloc::Global;
 /// The greatest number of values, or of times.
 const GREATEST_COUNT: i64 = 2_147_483_647;
 
-fn count_in(f: &Edn) -> Option<u32>
-    ensures { result ≡ reading.count_in (form_of f.now) }
-{
+fn count_in(f: &Edn) -> Option<u32> {
     match f {
         Edn::Int(n) if 1 <= *n && *n <= GREATEST_COUNT => Some(*n as u32),
         _ => None,
     }
 }
 
-fn is_symbol(text: &str, f: &Edn) -> bool
-    ensures { result ≡ reading.is_symbol text.now (form_of f.now) }
-{
+fn is_symbol(text: &str, f: &Edn) -> bool {
     match f {
         Edn::Sym(s) => s.as_str() == text,
         _ => false,
@@ -44,32 +31,19 @@ enum OptionName {
     Limit,
 }
 
-fn option_named(k: &str) -> Option<OptionName>
-    ensures { option_map name_in result ≡ reading.option_name_of k.now }
-{
-    if k == "as" {
-        Some(OptionName::As)
-    } else if k == "default" {
-        Some(OptionName::Default)
-    } else if k == "limit" {
-        Some(OptionName::Limit)
-    } else {
-        None
-    }
-}
-
-fn option_name_in(f: &Edn) -> Option<OptionName>
-    ensures { option_map name_in result ≡ reading.option_name_in (form_of f.now) }
-{
-    match f {
-        Edn::Key(k) => option_named(k.as_str()),
+fn option_name_in(f: &Edn) -> Option<OptionName> {
+    let Edn::Key(k) = f else {
+        return None;
+    };
+    match k.as_str() {
+        "as" => Some(OptionName::As),
+        "default" => Some(OptionName::Default),
+        "limit" => Some(OptionName::Limit),
         _ => None,
     }
 }
 
-fn label_of(f: &Edn) -> Result<Option<Label>, Memory>
-    ensures { IfOk result (λ label. option_map label_in label ≡ reading.key_in (form_of f.now)) }
-{
+fn label_of(f: &Edn) -> Result<Option<Label>, Memory> {
     match f {
         Edn::Key(k) => Ok(Some(Label::Key(k.copy()?))),
         Edn::Str(s) => Ok(Some(Label::Str(s.copy()?))),
@@ -77,19 +51,14 @@ fn label_of(f: &Edn) -> Result<Option<Label>, Memory>
     }
 }
 
-fn limit_of(f: &Edn) -> Option<Limit>
-    ensures { option_map limit_in result ≡ reading.limit_in (form_of f.now) }
-{
+fn limit_of(f: &Edn) -> Option<Limit> {
     match f {
         Edn::Nil => Some(Limit::All),
         _ => Some(Limit::First(count_in(f)?)),
     }
 }
 
-fn with_label(options: Options, value: &Edn) -> Result<Option<Options>, Memory>
-    ensures { IfOk result (λ o. option_map options_in o
-        ≡ reading.with_option (options_in options) (Some reading.as_name) (form_of value.now)) }
-{
+fn with_label(options: Options, value: &Edn) -> Result<Option<Options>, Memory> {
     if options.renamed.is_some() {
         return Ok(None);
     }
@@ -103,11 +72,7 @@ fn with_label(options: Options, value: &Edn) -> Result<Option<Options>, Memory>
     }
 }
 
-fn with_default(options: Options, value: &Edn) -> Result<Option<Options>, Memory>
-    ensures { IfOk result (λ o. option_map options_in o
-        ≡ reading.with_option (options_in options) (Some reading.default_name)
-        (form_of value.now)) }
-{
+fn with_default(options: Options, value: &Edn) -> Result<Option<Options>, Memory> {
     if options.default.is_some() {
         return Ok(None);
     }
@@ -118,10 +83,7 @@ fn with_default(options: Options, value: &Edn) -> Result<Option<Options>, Memory
     }))
 }
 
-fn with_limit(options: Options, value: &Edn) -> Option<Options>
-    ensures { option_map options_in result
-        ≡ reading.with_option (options_in options) (Some reading.limit_name) (form_of value.now) }
-{
+fn with_limit(options: Options, value: &Edn) -> Option<Options> {
     if options.limit.is_some() {
         return None;
     }
@@ -133,11 +95,7 @@ fn with_limit(options: Options, value: &Edn) -> Option<Options>
     })
 }
 
-fn with_option(options: Options, name: &Edn, value: &Edn) -> Result<Option<Options>, Memory>
-    ensures { IfOk result (λ o. option_map options_in o
-        ≡ reading.with_option (options_in options) (reading.option_name_in (form_of name.now))
-        (form_of value.now)) }
-{
+fn with_option(options: Options, name: &Edn, value: &Edn) -> Result<Option<Options>, Memory> {
     match option_name_in(name) {
         Some(OptionName::As) => with_label(options, value),
         Some(OptionName::Default) => with_default(options, value),
@@ -148,10 +106,7 @@ fn with_option(options: Options, name: &Edn, value: &Edn) -> Result<Option<Optio
 
 /// Names and values in turn.
 #[cycle(turns)]
-fn options_from(options: Options, fs: &[Edn]) -> Result<Option<Options>, Memory>
-    ensures { IfOk result (λ o. option_map options_in o
-        ≡ reading.options_from (options_in options) (forms_of fs.now)) }
-{
+fn options_from(options: Options, fs: &[Edn]) -> Result<Option<Options>, Memory> {
     match fs {
         [] => Ok(Some(options)),
         [_] => Ok(None),
@@ -160,11 +115,7 @@ fn options_from(options: Options, fs: &[Edn]) -> Result<Option<Options>, Memory>
 }
 
 #[cycle(turns)]
-fn options_behind(options: Option<Options>, rest: &[Edn]) -> Result<Option<Options>, Memory>
-    ensures { IfOk result (λ o. option_map options_in o
-        ≡ option_and_then (λ more. reading.options_from more (forms_of rest.now))
-        (option_map options_in options)) }
-{
+fn options_behind(options: Option<Options>, rest: &[Edn]) -> Result<Option<Options>, Memory> {
     match options {
         Some(more) => options_from(more, rest),
         None => Ok(None),
@@ -173,9 +124,7 @@ fn options_behind(options: Option<Options>, rest: &[Edn]) -> Result<Option<Optio
 
 // ---- items
 
-fn plain_item(name: &Text, options: Options) -> Result<Item, Memory>
-    ensures { IfOk result (λ i. item_in i ≡ reading.plain_item name.now (options_in options)) }
-{
+fn plain_item(name: &Text, options: Options) -> Result<Item, Memory> {
     if name.as_str() == "db/id" {
         return Ok(Item::Own(options));
     }
@@ -183,10 +132,7 @@ fn plain_item(name: &Text, options: Options) -> Result<Item, Memory>
 }
 
 /// A name with one option or more.
-fn item_with_options(fs: &[Edn]) -> Result<Option<Item>, Memory>
-    ensures { IfOk result
-        (λ i. option_map item_in i ≡ reading.item_with_options (forms_of fs.now)) }
-{
+fn item_with_options(fs: &[Edn]) -> Result<Option<Item>, Memory> {
     let [Edn::Key(name), _, ..] = fs else {
         return Ok(None);
     };
@@ -197,9 +143,7 @@ fn item_with_options(fs: &[Edn]) -> Result<Option<Item>, Memory>
 }
 
 /// The key of a map specification: a name, or one with options.
-fn specified(f: &Edn) -> Result<Option<Item>, Memory>
-    ensures { IfOk result (λ i. option_map item_in i ≡ reading.specified (form_of f.now)) }
-{
+fn specified(f: &Edn) -> Result<Option<Item>, Memory> {
     match f {
         Edn::Key(name) => Ok(Some(plain_item(name, Options::none())?)),
         Edn::Vector(items) => item_with_options(items.as_slice()),
@@ -208,18 +152,14 @@ fn specified(f: &Edn) -> Result<Option<Item>, Memory>
 }
 
 /// The item with what is told below it; `:db/id` has nothing below.
-fn with_below(below: Below, i: Item) -> Option<Item>
-    ensures { option_map item_in result ≡ reading.with_below (below_in below) (item_in i) }
-{
+fn with_below(below: Below, i: Item) -> Option<Item> {
     match i {
         Item::Attribute(name, options, Below::Usual) => Some(Item::Attribute(name, options, below)),
         _ => None,
     }
 }
 
-fn recursion_in(f: &Edn) -> Option<Below>
-    ensures { option_map below_in result ≡ reading.recursion_in (form_of f.now) }
-{
+fn recursion_in(f: &Edn) -> Option<Below> {
     if is_symbol("...", f) {
         return Some(Below::Unlimited);
     }
@@ -228,18 +168,14 @@ fn recursion_in(f: &Edn) -> Option<Below>
 
 // ---- patterns
 
-pub fn one(alloc: Global, i: Item) -> Result<Vec<Item>, Memory>
-    ensures { IfOk result (λ list. list.items ≡ i ∷ []) }
-{
+pub fn one(alloc: Global, i: Item) -> Result<Vec<Item>, Memory> {
     let mut list = Vec::new(alloc);
     list.push(i)?;
     Ok(list)
 }
 
 /// Adds the items at the end.
-pub fn append(list: &mut Vec<Item>, more: Vec<Item>) -> Result<(), Memory>
-    ensures { IfOk result (λ _. list.new.items ≡ list.old.items ++ more.items) }
-{
+pub fn append(list: &mut Vec<Item>, more: Vec<Item>) -> Result<(), Memory> {
     for i in more {
         list.push(i)?;
     }
@@ -247,11 +183,7 @@ pub fn append(list: &mut Vec<Item>, more: Vec<Item>) -> Result<(), Memory>
 }
 
 /// The items, where there is at least one.
-#[tactic(auto, using(crate::proofs::Joined::any_of_some))]
-fn if_any(list: Option<Vec<Item>>) -> Option<Vec<Item>>
-    ensures { option_map (λ l. pattern_of l.items) result
-        ≡ reading.if_any (option_map (λ l. pattern_of l.items) list) }
-{
+fn if_any(list: Option<Vec<Item>>) -> Option<Vec<Item>> {
     let list = list?;
     match list.as_slice() {
         [] => None,
@@ -260,12 +192,7 @@ fn if_any(list: Option<Vec<Item>>) -> Option<Vec<Item>>
 }
 
 /// The items of both, where both are items.
-#[tactic(auto, using(crate::proofs::Joined::of_append))]
-fn both(list: Option<Vec<Item>>, more: Option<Vec<Item>>) -> Result<Option<Vec<Item>>, Memory>
-    ensures { IfOk result (λ r. option_map (λ l. pattern_of l.items) r
-        ≡ reading.both (option_map (λ l. pattern_of l.items) list)
-        (option_map (λ l. pattern_of l.items) more)) }
-{
+fn both(list: Option<Vec<Item>>, more: Option<Vec<Item>>) -> Result<Option<Vec<Item>>, Memory> {
     match list {
         Some(mut list) => match more {
             Some(more) => {
@@ -279,20 +206,14 @@ fn both(list: Option<Vec<Item>>, more: Option<Vec<Item>>) -> Result<Option<Vec<I
 }
 
 /// The one item, where there is one.
-fn listed(alloc: Global, i: Option<Item>) -> Result<Option<Vec<Item>>, Memory>
-    ensures { IfOk result (λ r. option_map (λ l. pattern_of l.items) r
-        ≡ option_map model.one (option_map item_in i)) }
-{
+fn listed(alloc: Global, i: Option<Item>) -> Result<Option<Vec<Item>>, Memory> {
     match i {
         Some(i) => Ok(Some(one(alloc, i)?)),
         None => Ok(None),
     }
 }
 
-fn symbol_item(alloc: Global, s: &str) -> Result<Option<Vec<Item>>, Memory>
-    ensures { IfOk result
-        (λ r. option_map (λ l. pattern_of l.items) r ≡ reading.item_of (edn.symbol s.now)) }
-{
+fn symbol_item(alloc: Global, s: &str) -> Result<Option<Vec<Item>>, Memory> {
     if s == "*" {
         return Ok(Some(one(alloc, Item::Wildcard)?));
     }
@@ -301,10 +222,7 @@ fn symbol_item(alloc: Global, s: &str) -> Result<Option<Vec<Item>>, Memory>
 
 /// The items of a vector.
 #[cycle(read)]
-fn items_of(alloc: Global, items: &Items) -> Result<Option<Vec<Item>>, Memory>
-    ensures { IfOk result (λ list. option_map (λ l. pattern_of l.items) list
-        ≡ reading.items_of (edn.forms (forms_of (members items.now)))) }
-{
+fn items_of(alloc: Global, items: &Items) -> Result<Option<Vec<Item>>, Memory> {
     let mut list = Some(Vec::new(alloc));
     for f in items.as_slice() {
         list = both(list, item_of(alloc, f)?)?;
@@ -314,10 +232,7 @@ fn items_of(alloc: Global, items: &Items) -> Result<Option<Vec<Item>>, Memory>
 
 /// The items of a form: a map is one for each of its pairs.
 #[cycle(read)]
-fn item_of(alloc: Global, f: &Edn) -> Result<Option<Vec<Item>>, Memory>
-    ensures { IfOk result
-        (λ list. option_map (λ l. pattern_of l.items) list ≡ reading.item_of (form_of f.now)) }
-{
+fn item_of(alloc: Global, f: &Edn) -> Result<Option<Vec<Item>>, Memory> {
     match f {
         Edn::Key(name) => Ok(Some(one(alloc, plain_item(name, Options::none())?)?)),
         Edn::Sym(s) => symbol_item(alloc, s.as_str()),
@@ -329,10 +244,7 @@ fn item_of(alloc: Global, f: &Edn) -> Result<Option<Vec<Item>>, Memory>
 
 /// The items of a map's pairs.
 #[cycle(read)]
-fn specifications_of(alloc: Global, pairs: &Pairs) -> Result<Option<Vec<Item>>, Memory>
-    ensures { IfOk result (λ list. option_map (λ l. pattern_of l.items) list
-        ≡ reading.specifications_of (edn.pairs (pairs_of (entries pairs.now)))) }
-{
+fn specifications_of(alloc: Global, pairs: &Pairs) -> Result<Option<Vec<Item>>, Memory> {
     let mut list = Some(Vec::new(alloc));
     for (key, value) in pairs.as_slice() {
         list = both(list, listed(alloc, specification(alloc, value, key)?)?)?;
@@ -341,11 +253,7 @@ fn specifications_of(alloc: Global, pairs: &Pairs) -> Result<Option<Vec<Item>>, 
 }
 
 #[cycle(read)]
-fn specification(alloc: Global, value: &Edn, key: &Edn) -> Result<Option<Item>, Memory>
-    ensures { IfOk result (λ i. option_map item_in i
-        ≡ reading.specification (reading.specified (form_of key.now))
-        (reading.below_of (form_of value.now))) }
-{
+fn specification(alloc: Global, value: &Edn, key: &Edn) -> Result<Option<Item>, Memory> {
     match below_of(alloc, value)? {
         Some(below) => match specified(key)? {
             Some(i) => Ok(with_below(below, i)),
@@ -356,9 +264,7 @@ fn specification(alloc: Global, value: &Edn, key: &Edn) -> Result<Option<Item>, 
 }
 
 #[cycle(read)]
-fn below_of(alloc: Global, f: &Edn) -> Result<Option<Below>, Memory>
-    ensures { IfOk result (λ below. option_map below_in below ≡ reading.below_of (form_of f.now)) }
-{
+fn below_of(alloc: Global, f: &Edn) -> Result<Option<Below>, Memory> {
     match f {
         Edn::Vector(items) => match if_any(items_of(alloc, items)?) {
             Some(list) => Ok(Some(Below::Under(Pattern::of(list)))),
@@ -369,10 +275,7 @@ fn below_of(alloc: Global, f: &Edn) -> Result<Option<Below>, Memory>
 }
 
 /// The pattern that the form is.
-pub fn read_pattern(alloc: Global, f: &Edn) -> Result<Option<Pattern>, Memory>
-    ensures { IfOk result (λ pattern. option_map (λ p. pattern_of (items_of_pattern p)) pattern
-        ≡ reading.pattern_of (form_of f.now)) }
-{
+pub fn read_pattern(alloc: Global, f: &Edn) -> Result<Option<Pattern>, Memory> {
     match f {
         Edn::Vector(items) => match if_any(items_of(alloc, items)?) {
             Some(list) => Ok(Some(Pattern::of(list))),
@@ -383,10 +286,7 @@ pub fn read_pattern(alloc: Global, f: &Edn) -> Result<Option<Pattern>, Memory>
 }
 
 /// The place of the first form that is no item.
-fn first_bad_from(alloc: Global, items: &Items) -> Result<Option<usize>, Memory>
-    ensures { IfOk result
-        (λ place. place ≡ reading.first_bad_from 0 (edn.forms (forms_of (members items.now)))) }
-{
+fn first_bad_from(alloc: Global, items: &Items) -> Result<Option<usize>, Memory> {
     let mut place = 0;
     for f in items.as_slice() {
         if item_of(alloc, f)?.is_none() {
@@ -398,9 +298,7 @@ fn first_bad_from(alloc: Global, items: &Items) -> Result<Option<usize>, Memory>
 }
 
 /// The place of the first item of another form; 0 where the form is no vector, or is empty.
-pub fn first_bad_item(alloc: Global, f: &Edn) -> Result<Option<usize>, Memory>
-    ensures { IfOk result (λ place. place ≡ reading.first_bad_item (form_of f.now)) }
-{
+pub fn first_bad_item(alloc: Global, f: &Edn) -> Result<Option<usize>, Memory> {
     match f {
         Edn::Vector(items) => match items.as_slice() {
             [] => Ok(Some(0)),

@@ -1,17 +1,5 @@
 //! The tree that a pattern gives of an entity.
-ghost use Rattle.std.specs.Prelude.{◌≡◌, ◌∷◌, map, fold, IfOk};
-ghost use Rattle.std.specs.List.{All};
-ghost use Rattle.pull_model.specs.Found as found;
-ghost use Rattle.pull_model.specs.Made as made;
-ghost use Rattle.pull_model.specs.Tree as model;
-ghost use Rattle.plain_pull.specs.Databases.{db_in, found_in};
-ghost use Rattle.plain_pull.specs.Items.{placed_in};
-ghost use Rattle.plain_pull.specs.Making.{made_in, mades_in, inside_in};
-ghost use Rattle.plain_pull.specs.Numbers.{IsInteger, IsForm, AreForms, IsFoundForm};
-ghost use Rattle.plain_pull.specs.Stands.{trees_in, pattern_at};
-ghost use Rattle.plain_pull.specs.View.{item_in, limit_in, options_in, below_in, pattern_of};
-
-use crate::found::{Db, Found, form_of_value, found_under};
+use crate::found::{Db, Found, form_of_value, found_under, number};
 use crate::items::{one_less, placed_items};
 use crate::keys::{form_of_key, has_key, key_of_item};
 use crate::made::{
@@ -42,32 +30,15 @@ struct Stand<'a> {
 
 // ---- paths and limits
 
-fn is_on(path: &[u64], n: u64) -> bool
-    ensures { result ≡ model.is_on path.now n }
-{
-    for m in path {
-        if n == *m {
-            return true;
-        }
-    }
-    false
-}
-
 /// The path to an entity, itself the first.
-fn path_to(alloc: Global, e: u64, above: &[u64]) -> Result<Vec<u64>, Memory>
-    ensures { IfOk result (λ path. path.items ≡ e ∷ above.now) }
-{
+fn path_to(alloc: Global, e: u64, above: &[u64]) -> Result<Vec<u64>, Memory> {
     let mut path = Vec::new(alloc);
     path.push(e)?;
-    for n in above {
-        path.push(*n)?;
-    }
+    path.extend_from_slice(above)?;
     Ok(path)
 }
 
-fn limit_for(several: bool, options: &Options) -> Limit
-    ensures { limit_in result ≡ model.limit_for several (options_in options.now) }
-{
+fn limit_for(several: bool, options: &Options) -> Limit {
     if !several {
         return Limit::First(1);
     }
@@ -78,11 +49,7 @@ fn limit_for(several: bool, options: &Options) -> Limit
 }
 
 /// Plain values stand as they are.
-fn plain_values(alloc: Global, values: &[Value]) -> Result<Vec<Made>, Memory>
-    requires { All IsForm values.now }
-    ensures { IfOk result
-        (λ list. mades_in list.items ≡ map (λ v. made.plain (found.form_of_value v)) values.now) }
-{
+fn plain_values(alloc: Global, values: &[Value]) -> Result<Vec<Made>, Memory> {
     let mut list = Vec::new(alloc);
     for v in values {
         list.push(plain(form_of_value(v)?))?;
@@ -94,14 +61,8 @@ fn plain_values(alloc: Global, values: &[Value]) -> Result<Vec<Made>, Memory>
 
 /// Of an entity that is met again its number alone is told.
 #[cycle(tree)]
-fn unless_met(alloc: Global, at: &Stand<'_>, items: &[Item], n: u64) -> Result<Made, Memory>
-    requires seen { AreForms at.now.db.seen.now }
-    requires number { IsInteger n }
-    ensures { IfOk result (λ made. made_in made
-        ≡ model.unless_met (model.is_on at.now.path.now n) (trees_in at.now) (pattern_of items.now)
-        at.now.path.now n) }
-{
-    if is_on(at.path, n) {
+fn unless_met(alloc: Global, at: &Stand<'_>, items: &[Item], n: u64) -> Result<Made, Memory> {
+    if at.path.contains(&n) {
         return stub(alloc, n);
     }
     tree(alloc, at.room, &at.db, items, at.path, n)
@@ -116,13 +77,7 @@ fn told(
     parts: bool,
     below: &Below,
     n: u64,
-) -> Result<Made, Memory>
-    requires seen { AreForms at.now.db.seen.now }
-    requires number { IsInteger n }
-    ensures { IfOk result (λ made. made_in made
-        ≡ model.told (trees_in at.now) (pattern_at at.now) place at.now.path.now parts
-        (below_in below.now) n) }
-{
+) -> Result<Made, Memory> {
     match below {
         Below::Usual => {
             if !parts {
@@ -149,15 +104,7 @@ fn all_told(
     parts: bool,
     below: &Below,
     entities: &[u64],
-) -> Result<Vec<Made>, Memory>
-    requires seen { AreForms at.now.db.seen.now }
-    requires numbers { All IsInteger entities.now }
-    ensures { IfOk result (λ list. mades_in list.items
-        ≡ map
-        (model.told (trees_in at.now) (pattern_at at.now) place at.now.path.now parts
-        (below_in below.now))
-        entities.now) }
-{
+) -> Result<Vec<Made>, Memory> {
     let mut list = Vec::new(alloc);
     for n in entities {
         list.push(told(alloc, at, place, parts, below, *n)?)?;
@@ -176,13 +123,7 @@ fn value_of(
     options: &Options,
     below: &Below,
     found: &Found,
-) -> Result<Made, Memory>
-    requires seen { AreForms at.now.db.seen.now }
-    requires found { IsFoundForm (found_in found.now) }
-    ensures { IfOk result (λ made. made_in made
-        ≡ model.value_of (trees_in at.now) (pattern_at at.now) place at.now.path.now
-        (options_in options.now) (below_in below.now) (found_in found.now)) }
-{
+) -> Result<Made, Memory> {
     match found {
         Found::Absent => Ok(nothing()),
         Found::Values(several, values) => {
@@ -199,16 +140,16 @@ fn value_of(
 
 /// What the item at the place makes for the entity e, to which the path led.
 #[cycle(tree)]
-fn made_of(alloc: Global, above: &Stand<'_>, e: u64, place: usize, i: &Item) -> Result<Made, Memory>
-    requires seen { AreForms above.now.db.seen.now }
-    requires number { IsInteger e }
-    ensures { IfOk result (λ made. made_in made
-        ≡ model.made_of (trees_in above.now) (db_in above.now.db) (pattern_at above.now)
-        above.now.path.now e place (item_in i.now)) }
-{
+fn made_of(
+    alloc: Global,
+    above: &Stand<'_>,
+    e: u64,
+    place: usize,
+    i: &Item,
+) -> Result<Made, Memory> {
     match i {
         Item::Wildcard => Ok(nothing()),
-        Item::Own(_) => Ok(plain(Edn::Int(e as i64))),
+        Item::Own(_) => Ok(plain(number(e))),
         Item::Attribute(name, options, below) => {
             let path = path_to(alloc, e, above.path)?;
             let at = Stand {
@@ -235,15 +176,7 @@ fn with_item(
     inside: Inside,
     place: usize,
     i: &Item,
-) -> Result<Inside, Memory>
-    requires seen { AreForms above.now.db.seen.now }
-    requires number { IsInteger e }
-    ensures { IfOk result (λ more. inside_in more
-        ≡ model.with_item
-        (model.made_of (trees_in above.now) (db_in above.now.db) (pattern_at above.now)
-        above.now.path.now e)
-        (inside_in inside) (place, item_in i.now)) }
-{
+) -> Result<Inside, Memory> {
     let key = key_of_item(alloc, i)?;
     if has_key(&inside.pairs, &key) {
         return Ok(inside);
@@ -258,15 +191,7 @@ fn with_items(
     above: &Stand<'_>,
     e: u64,
     list: &[(usize, Item)],
-) -> Result<Inside, Memory>
-    requires seen { AreForms above.now.db.seen.now }
-    requires number { IsInteger e }
-    ensures { IfOk result (λ inside. inside_in inside
-        ≡ fold
-        (model.with_item (model.made_of (trees_in above.now) (db_in above.now.db)
-        (pattern_at above.now) above.now.path.now e))
-        made.no_pairs_yet (placed_in list.now)) }
-{
+) -> Result<Inside, Memory> {
     let mut inside = no_pairs_yet(alloc);
     for (place, i) in list {
         inside = with_item(alloc, above, e, inside, *place, i)?;
@@ -275,13 +200,7 @@ fn with_items(
 }
 
 #[cycle(tree)]
-fn pairs_of_entity(alloc: Global, above: &Stand<'_>, e: u64) -> Result<Inside, Memory>
-    requires seen { AreForms above.now.db.seen.now }
-    requires number { IsInteger e }
-    ensures { IfOk result (λ inside. inside_in inside
-        ≡ model.inside (trees_in above.now) (db_in above.now.db) (pattern_at above.now)
-        above.now.path.now e) }
-{
+fn pairs_of_entity(alloc: Global, above: &Stand<'_>, e: u64) -> Result<Inside, Memory> {
     let list = placed_items(alloc, &above.db, e, above.items)?;
     with_items(alloc, above, e, &list)
 }
@@ -289,9 +208,7 @@ fn pairs_of_entity(alloc: Global, above: &Stand<'_>, e: u64) -> Result<Inside, M
 // ---- the tree
 
 /// A map that stands too deep, of which nothing more is looked at.
-fn too_deep() -> Made
-    ensures { made_in result ≡ model.too_deep }
-{
+fn too_deep() -> Made {
     Made {
         form: None,
         maps: 1,
@@ -300,7 +217,6 @@ fn too_deep() -> Made
 }
 
 /// The tree of the entity e, which was come to by the path `above`, where maps may stand inside one another `room` times.
-/// Every entity has an integer of a form.
 #[cycle(tree)]
 pub fn tree(
     alloc: Global,
@@ -309,12 +225,7 @@ pub fn tree(
     items: &[Item],
     above: &[u64],
     e: u64,
-) -> Result<Made, Memory>
-    requires seen { AreForms db.now.seen.now }
-    requires number { IsInteger e }
-    ensures { IfOk result
-        (λ made. made_in made ≡ model.tree room (db_in db.now) (pattern_of items.now) above.now e) }
-{
+) -> Result<Made, Memory> {
     if room == 0 {
         return Ok(too_deep());
     }
@@ -324,5 +235,5 @@ pub fn tree(
         items,
         path: above,
     };
-    enclosed(pairs_of_entity(alloc, &above, e)?)
+    Ok(enclosed(pairs_of_entity(alloc, &above, e)?))
 }

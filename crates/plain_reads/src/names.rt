@@ -1,10 +1,4 @@
 //! Values and names, from a list of facts.
-ghost use Rattle.std.specs.Prelude.{◌≡◌};
-ghost use Rattle.std.specs.Option.{option_copied};
-ghost use Rattle.fb_model.specs.Facts.{value_of as model_value_of, holder as model_holder};
-ghost use Rattle.view_model.specs.Names.{entity_named as model_entity_named};
-ghost use Rattle.plain_reads.specs.Ranges.{id_in};
-
 use crate::schema::named;
 use fb_text::Text;
 use fb_values::{Datom, Value};
@@ -19,9 +13,7 @@ pub enum Id {
 }
 
 /// The first value of the entity under the attribute.
-pub fn value_of(facts: &[Datom], e: u64, a: u64) -> Option<&Value>
-    ensures { option_copied result ≡ model_value_of facts.now e a }
-{
+pub fn value_of(facts: &[Datom], e: u64, a: u64) -> Option<&Value> {
     for d in facts {
         if d.e == e && d.a == a {
             return Some(&d.v);
@@ -31,28 +23,18 @@ pub fn value_of(facts: &[Datom], e: u64, a: u64) -> Option<&Value>
 }
 
 /// The least entity that has the value of the attribute.
-pub fn holder(facts: &[Datom], a: u64, v: &Value) -> Option<u64>
-    ensures { result ≡ model_holder facts.now a v.now }
-{
+pub fn holder(facts: &[Datom], a: u64, v: &Value) -> Option<u64> {
     let mut least = None;
-    let mut i = facts.len();
-    while i > 0 {
-        i -= 1;
-        let d = &facts[i];
+    for d in facts {
         if d.a == a && d.v == *v {
-            least = match least {
-                Some(other) => Some(if d.e < other { d.e } else { other }),
-                None => Some(d.e),
-            };
+            least = Some(d.e.min(least.unwrap_or(d.e)));
         }
     }
     least
 }
 
 /// The entity, by the facts of a view without history.
-pub fn entity_named(facts: &[Datom], id: &Id) -> Option<u64>
-    ensures { result ≡ model_entity_named facts.now (id_in id.now) }
-{
+pub fn entity_named(facts: &[Datom], id: &Id) -> Option<u64> {
     match id {
         Id::Number(n) => Some(*n),
         Id::Ident(name) => named(facts, name.as_str()),

@@ -1,5 +1,8 @@
-//! What the asks of a transaction come to, by the definitions, over plain lists and slowly: the entities of its tempids, its
-//! changes, and the rules that it breaks. Nothing of the product stands on it.
+//! What the asks of a transaction come to, over plain lists and slowly: the entities of its tempids, its changes, and the rules
+//! that it breaks. Nothing of the product stands on it.
+//!
+//! It is written plainly, to be read beside `Tempids`, `Changes`, `Transaction`, `NameRules` and `ChangeRules` of `tx_model`. It
+//! promises nothing but safety, so that a comparison says something that the proofs do not.
 #![tactic(auto)]
 
 mod attributes;
@@ -16,5 +19,5 @@ mod transaction;
 pub use db::Db;
 pub use fb_memory::Memory;
 pub use rules::least_refusal;
-pub use tempids::{assigned, entity_of, found, named_tempids};
+pub use tempids::named_tempids;
 pub use transaction::{Transaction, recorded, transaction_at};

@@ -1,25 +1,9 @@
 //! The least rule that a transaction breaks, and the first of its forms that breaks it.
-ghost use Rattle.std.specs.Prelude.{◌≡◌, map, IfOk};
-ghost use Rattle.std.specs.List.{list_any};
-ghost use Rattle.tx_model.specs.ChangeRules.{at};
-ghost use Rattle.tx_model.specs.Transaction.{joined};
-ghost use Rattle.tx_model.specs.Step.{first_refusal, broken_rules, by_place};
-ghost use Rattle.plain_asks.specs.Asked.{ask_of, asks_of};
-ghost use Rattle.plain_rules.specs.Lists.{ask_lists};
-ghost use Rattle.plain_rules.specs.Transactions.{transaction_of};
-ghost use Rattle.plain_rules.specs.Rules.{ask_breaks, breaks_at, first_of, with_first};
-
-use crate::change_rules::{
-    DatomFault, asks_faulty, breaks_full, breaks_incomplete_attribute, breaks_too_large,
-    breaks_unique_conflict, compares_another, compares_many,
-};
 use crate::lookups::LookupFault;
-use crate::name_rules::{
-    NameFault, has_tempid_of_none, has_tempid_of_two, has_wrong_type, is_lacking, is_of_protected,
-    names_no_attribute, names_with_fault,
-};
-use crate::transaction::{Transaction, joined_asks};
+use crate::transaction::{Transaction, all_asks};
+use crate::{change_rules as changes, name_rules as names};
 use fb_memory::Memory;
+use fb_values::Datom;
 use plain_asks::Ask;
 use std::alloc::Global;
 use tx_refusals::{Reason, Refusal};
@@ -45,47 +29,48 @@ const RULES: [Reason; 17] = [
     Reason::AlterationConflict,
 ];
 
-// ---- one form
-
-/// Whether the ask breaks a rule on asks. The other rules are judged by what a form changes.
-fn is_broken_by(
-    alloc: Global,
-    rule: Reason,
-    tx: &Transaction,
-    all: &[Ask],
-    ask: &Ask,
-) -> Result<bool, Memory>
-    ensures { IfOk result
-        (λ b. b ≡ ask_breaks rule (transaction_of tx.now) (asks_of all.now) (ask_of ask.now)) }
-{
-    let db = &tx.db;
-    match rule {
-        Reason::NotAnAttribute => names_no_attribute(alloc, db, ask),
-        Reason::ProtectedAttribute => Ok(is_of_protected(db, ask)),
-        Reason::WrongType => has_wrong_type(alloc, db, ask),
-        Reason::NotUniqueLookup => {
-            names_with_fault(alloc, NameFault::Lookup(LookupFault::NotUnique), db, ask)
+/// Why the transaction is refused, if it is, where each of its forms has a shape.
+pub fn least_refusal(alloc: Global, tx: &Transaction<'_>) -> Result<Option<Refusal>, Memory> {
+    let all = all_asks(alloc, &tx.asks)?;
+    for reason in RULES {
+        if let Some(at) = first_form(alloc, reason, tx, &all)? {
+            return Ok(Some(Refusal { reason, at }));
         }
-        Reason::NotAnEntity => names_with_fault(alloc, NameFault::FindsNone, db, ask),
-        Reason::NestedWithoutId => Ok(is_lacking(ask)),
-        Reason::TempidConflict => has_tempid_of_two(alloc, db, all, ask),
-        Reason::TempidNotAnEntity => has_tempid_of_none(alloc, all, ask),
-        Reason::CasMany => Ok(compares_many(tx, ask)),
-        Reason::CasFailed => compares_another(tx, ask),
-        _ => Ok(false),
     }
+    Ok(None)
 }
 
-fn has_breaking_ask(
+/// The first form that breaks the rule. What is said of a transaction as a whole is said at its first form.
+fn first_form(
     alloc: Global,
     rule: Reason,
-    tx: &Transaction,
+    tx: &Transaction<'_>,
+    all: &[Ask],
+) -> Result<Option<usize>, Memory> {
+    let is_broken_by_the_whole = match rule {
+        Reason::TooLarge => changes::breaks_too_large(tx),
+        Reason::Full => changes::breaks_full(tx),
+        _ => false,
+    };
+    if is_broken_by_the_whole {
+        return Ok(Some(0));
+    }
+    for place in 0..tx.asks.len() {
+        if changes_break(rule, tx, place) || asks_break(alloc, rule, tx, all, &tx.asks[place])? {
+            return Ok(Some(place));
+        }
+    }
+    Ok(None)
+}
+
+/// Whether what one form asks breaks a rule on names.
+fn asks_break(
+    alloc: Global,
+    rule: Reason,
+    tx: &Transaction<'_>,
     all: &[Ask],
     asks: &[Ask],
-) -> Result<bool, Memory>
-    ensures { IfOk result (λ b. b
-        ≡ list_any (ask_breaks rule (transaction_of tx.now) (asks_of all.now)) (asks_of asks.now)) }
-{
+) -> Result<bool, Memory> {
     for ask in asks {
         if is_broken_by(alloc, rule, tx, all, ask)? {
             return Ok(true);
@@ -94,83 +79,71 @@ fn has_breaking_ask(
     Ok(false)
 }
 
-/// What the form at the place asks, or nothing.
-fn asks_at(tx: &Transaction, place: usize) -> &[Ask]
-    ensures { asks_of result.now ≡ at (ask_lists tx.now.asks.items) place }
-{
-    match tx.asks.get(place) {
-        Some(asks) => asks.as_slice(),
+fn is_broken_by(
+    alloc: Global,
+    rule: Reason,
+    tx: &Transaction<'_>,
+    all: &[Ask],
+    ask: &Ask,
+) -> Result<bool, Memory> {
+    let db = &tx.db;
+    match rule {
+        Reason::NotAnAttribute => names::names_no_attribute(alloc, db, ask),
+        Reason::ProtectedAttribute => Ok(names::is_of_protected(db, ask)),
+        Reason::WrongType => names::has_wrong_type(alloc, db, ask),
+        Reason::NotUniqueLookup => names::has_lookup_with(alloc, LookupFault::NotUnique, db, ask),
+        Reason::NotAnEntity => names::names_no_entity(alloc, db, ask),
+        Reason::NestedWithoutId => Ok(matches!(ask, Ask::LacksId)),
+        Reason::TempidConflict => names::has_tempid_of_two(alloc, db, all, ask),
+        Reason::TempidNotAnEntity => names::has_tempid_of_none(alloc, all, ask),
+        Reason::CasMany => Ok(changes::compares_many(tx, ask)),
+        Reason::CasFailed => changes::compares_another(tx, ask),
+        _ => Ok(false),
+    }
+}
+
+/// Whether what one form changes breaks a rule on changes. What it asks includes what it finds and what its additions imply.
+fn changes_break(rule: Reason, tx: &Transaction<'_>, place: usize) -> bool {
+    let added = at(&tx.added, place);
+    let retracted = at(&tx.retracted, place);
+    match rule {
+        Reason::UniqueConflict => added.iter().any(|d| changes::shares_a_unique_value(tx, d)),
+        Reason::IncompleteAttribute => {
+            added.iter().any(|d| changes::describes_no_whole(tx, d))
+                || retracted.iter().any(|d| changes::describes_no_whole(tx, d))
+                || has_broken_by(rule, tx, place)
+        }
+        _ => has_broken_by(rule, tx, place),
+    }
+}
+
+/// Whether one of the datoms that the form asks, in whatever way, breaks the rule.
+fn has_broken_by(rule: Reason, tx: &Transaction<'_>, place: usize) -> bool {
+    for lists in [&tx.added, &tx.retracted, &tx.swept, &tx.replaced] {
+        if at(lists, place)
+            .iter()
+            .any(|d| is_broken_by_datom(rule, tx, d))
+        {
+            return true;
+        }
+    }
+    false
+}
+
+fn is_broken_by_datom(rule: Reason, tx: &Transaction<'_>, d: &Datom) -> bool {
+    match rule {
+        Reason::DatomsConflict => changes::conflicts(tx, d),
+        Reason::IncompleteAttribute => changes::alters_to_no_whole(tx, d),
+        Reason::AttributeFixed => changes::changes_what_stays(tx, d),
+        Reason::AlterationConflict => changes::breaks_a_promise(tx, d),
+        _ => false,
+    }
+}
+
+/// The list at the place, or none.
+fn at(lists: &[Vec<Datom>], place: usize) -> &[Datom] {
+    match lists.get(place) {
+        Some(list) => list.as_slice(),
         None => &[],
     }
-}
-
-fn asks_break(alloc: Global, rule: Reason, tx: &Transaction, place: usize) -> Result<bool, Memory>
-    ensures { IfOk result (λ b. b
-        ≡ list_any (ask_breaks rule (transaction_of tx.now) (joined (ask_lists tx.now.asks.items)))
-        (at (ask_lists tx.now.asks.items) place)) }
-{
-    let all = joined_asks(alloc, &tx.asks)?;
-    has_breaking_ask(alloc, rule, tx, &all, asks_at(tx, place))
-}
-
-/// Whether the form at the place breaks the rule.
-fn breaks(alloc: Global, rule: Reason, tx: &Transaction, place: usize) -> Result<bool, Memory>
-    ensures { IfOk result (λ b. b ≡ breaks_at rule (transaction_of tx.now) place) }
-{
-    match rule {
-        Reason::DatomsConflict => asks_faulty(alloc, DatomFault::Conflicts, tx, place),
-        Reason::UniqueConflict => breaks_unique_conflict(alloc, tx, place),
-        Reason::IncompleteAttribute => breaks_incomplete_attribute(alloc, tx, place),
-        Reason::AttributeFixed => asks_faulty(alloc, DatomFault::ChangesWhatStays, tx, place),
-        Reason::AlterationConflict => asks_faulty(alloc, DatomFault::BreaksAPromise, tx, place),
-        Reason::TooLarge => Ok(breaks_too_large(tx)),
-        Reason::Full => Ok(breaks_full(tx)),
-        _ => asks_break(alloc, rule, tx, place),
-    }
-}
-
-// ---- the first form, and the least rule
-
-fn first_form(alloc: Global, rule: Reason, tx: &Transaction) -> Result<Option<usize>, Memory>
-    ensures { IfOk result (λ place. place
-        ≡ by_place (transaction_of tx.now) (breaks_at rule (transaction_of tx.now))) }
-{
-    for place in 0..tx.asks.len() {
-        if breaks(alloc, rule, tx, place)? {
-            return Ok(Some(place));
-        }
-    }
-    Ok(None)
-}
-
-/// What is said of a transaction as a whole is said at its first form.
-fn first_place(alloc: Global, rule: Reason, tx: &Transaction) -> Result<Option<usize>, Memory>
-    ensures { IfOk result (λ place. place ≡ first_of (transaction_of tx.now) rule) }
-{
-    match rule {
-        Reason::TooLarge => Ok(if breaks_too_large(tx) { Some(0) } else { None }),
-        Reason::Full => Ok(if breaks_full(tx) { Some(0) } else { None }),
-        _ => first_form(alloc, rule, tx),
-    }
-}
-
-/// The first of the rules that is broken, with the first form that breaks it.
-fn least_of(alloc: Global, tx: &Transaction, rules: &[Reason]) -> Result<Option<Refusal>, Memory>
-    ensures { IfOk result
-        (λ refusal. refusal ≡ first_refusal (map (with_first (transaction_of tx.now)) rules.now)) }
-{
-    for rule in rules {
-        if let Some(at) = first_place(alloc, *rule, tx)? {
-            return Ok(Some(Refusal { reason: *rule, at }));
-        }
-    }
-    Ok(None)
-}
-
-/// Why the transaction is refused, if it is, where each of its forms has a shape.
-pub fn least_refusal(alloc: Global, tx: &Transaction) -> Result<Option<Refusal>, Memory>
-    ensures { IfOk result
-        (λ refusal. refusal ≡ first_refusal (broken_rules (transaction_of tx.now))) }
-{
-    least_of(alloc, tx, &RULES)
 }

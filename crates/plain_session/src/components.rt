@@ -11,47 +11,21 @@ use plain_reads::{Attribute, Range, attribute_named, attribute_of, covers};
 
 const BAD_COMPONENT: &str = "read/bad-component";
 
-#[derive(Clone, Copy)]
-enum Component {
-    Entity,
-    Attribute,
-    Value,
-    T,
-}
-
-fn parts_of(order: Order) -> [Component; 4] {
+/// The components of the index, in turn: entity, attribute, value and t.
+fn letters_of(order: Order) -> &'static [u8] {
     match order {
-        Order::Eavt => [
-            Component::Entity,
-            Component::Attribute,
-            Component::Value,
-            Component::T,
-        ],
-        Order::Aevt => [
-            Component::Attribute,
-            Component::Entity,
-            Component::Value,
-            Component::T,
-        ],
-        Order::Avet => [
-            Component::Attribute,
-            Component::Value,
-            Component::Entity,
-            Component::T,
-        ],
-        Order::Vaet => [
-            Component::Value,
-            Component::Attribute,
-            Component::Entity,
-            Component::T,
-        ],
+        Order::Eavt => b"eavt",
+        Order::Aevt => b"aevt",
+        Order::Avet => b"avet",
+        Order::Vaet => b"vaet",
     }
 }
 
 impl Sight<'_> {
     /// The probe that the components give. The first of them is the third member of its command.
     pub(crate) fn probe(&self, order: Order, forms: &[Edn]) -> Result<Probe, ReadStop> {
-        if forms.len() > 4 {
+        let letters = letters_of(order);
+        if forms.len() > letters.len() {
             return Err(ReadStop::Refused("read/not-a-command", 0));
         }
         let mut probe = Probe {
@@ -61,27 +35,21 @@ impl Sight<'_> {
             v: None,
             t: None,
         };
-        for (index, (part, form)) in parts_of(order).iter().zip(forms).enumerate() {
-            self.put(&mut probe, *part, form, index.saturating_add(2))?;
+        for (index, (letter, form)) in letters.iter().zip(forms).enumerate() {
+            self.put(&mut probe, *letter, form, index.saturating_add(2))?;
         }
         Ok(probe)
     }
 
-    fn put(
-        &self,
-        probe: &mut Probe,
-        part: Component,
-        form: &Edn,
-        at: usize,
-    ) -> Result<(), ReadStop> {
-        match part {
-            Component::Entity => probe.e = Some(or_refused(self.entity(form)?, BAD_COMPONENT, at)?),
-            Component::Attribute => probe.a = Some(self.attribute(probe.order, form, at)?.id),
-            Component::Value => {
+    fn put(&self, probe: &mut Probe, letter: u8, form: &Edn, at: usize) -> Result<(), ReadStop> {
+        match letter {
+            b'e' => probe.e = Some(or_refused(self.entity(form)?, BAD_COMPONENT, at)?),
+            b'a' => probe.a = Some(self.attribute(probe.order, form, at)?.id),
+            b'v' => {
                 let value = self.value(self.kind_behind(probe), form)?;
                 probe.v = Some(or_refused(value, BAD_COMPONENT, at)?);
             }
-            Component::T => probe.t = Some(or_refused(t_in(form), BAD_COMPONENT, at)?),
+            _ => probe.t = Some(or_refused(t_in(form), BAD_COMPONENT, at)?),
         }
         Ok(())
     }

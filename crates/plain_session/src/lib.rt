@@ -1,8 +1,8 @@
-//! What a session replies to the forms of its script, by the definitions, over a plain list of entries and slowly: what a faster
-//! session is compared with. Nothing of the product stands on it.
+//! What a session replies to the forms of its script, over a plain list of entries and slowly: what a faster session is compared
+//! with. Nothing of the product stands on it.
 //!
-//! Its contracts promise no reply. It is written to be read beside the definitions of commands, reads and replies, and stands on
-//! none of the code that it is compared with.
+//! It is written plainly, to be read beside the definitions of commands, reads and replies. It promises nothing but safety, so
+//! that a comparison says something that the proofs do not.
 #![tactic(auto)]
 
 mod commands;

@@ -1,13 +1,11 @@
 //! Points in time: the ends that as-of and since take, and those of a range of the log.
 use crate::stops::{ReadStop, or_refused};
 use edn_form::Edn;
-use fb_numbers::TRANSACTIONS;
+use fb_numbers::{GREATEST_T, TRANSACTIONS};
 use fb_values::Entry;
 use plain_reads::{basis, end_of_instant, end_of_number};
 
 const BAD_POINT: &str = "read/bad-point";
-
-const GREATEST_T: u64 = 2_147_483_647;
 
 /// The t behind the last transaction up to the point.
 pub(crate) fn end_of(entries: &[Entry], point: &Edn) -> Result<u64, ReadStop> {
@@ -25,16 +23,9 @@ pub(crate) fn t_in(form: &Edn) -> Option<u32> {
         return None;
     };
     let n = u64::try_from(*n).ok()?;
-    let t = if n <= GREATEST_T {
-        n
-    } else {
-        n.checked_sub(TRANSACTIONS)?
-    };
-    if t <= GREATEST_T {
-        u32::try_from(t).ok()
-    } else {
-        None
-    }
+    let t = n.checked_sub(TRANSACTIONS).unwrap_or(n);
+    let t = u32::try_from(t).ok()?;
+    if t <= GREATEST_T { Some(t) } else { None }
 }
 
 /// The t to begin with and the one to stop before.

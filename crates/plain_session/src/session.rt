@@ -1,7 +1,4 @@
 //! A session, from one command to the next.
-ghost use Rattle.std.specs.Prelude.{◌≡◌, IfOk};
-ghost use Rattle.fb_model.specs.Lawful.{IsLawful};
-
 use crate::commands::{Command, Turn, command_in};
 use crate::filters::{Filter, filter_named};
 use crate::points::end_of;
@@ -11,13 +8,10 @@ use crate::stops::{ReadStop, or_refused};
 use edn_form::Edn;
 use fb_history::EntryList;
 use fb_memory::Memory;
-use fb_model::{first_is_lawful, lawful_entries_make_lawful_histories};
 use fb_values::Entry;
 use plain_reads::{Window, basis};
 use plain_step::{Decision, Guard, NoGuard, step};
 use std::alloc::Global;
-use std::marker::Model;
-use tx_model::an_accepted_entry_is_lawful;
 
 /// What a session sees as it begins: every transaction, and no history.
 const WHOLE: Window = Window {
@@ -38,37 +32,12 @@ pub struct PlainSession {
     step: i64,
 }
 
-impl Model for PlainSession {
-    ghost use Rattle.std.specs.Prelude.{List};
-    ghost use Rattle.fb_values.specs.declared.facts.Entry.{Entry};
-    ghost use Rattle.fb_model.specs.Lawful.{IsLawful};
-
-    ghost Value = { List Entry };
-
-    ghost view = { λ session. session.entries.items };
-
-    ghost invariant = { λ session. IsLawful session.entries.items };
-}
-
 /// The history that has only the built-in schema.
-pub fn new_history(alloc: Global) -> Result<Vec<Entry>, Memory>
-    ensures { IfOk result (λ entries. IsLawful entries.items) }
-{
-    first_is_lawful();
+pub fn new_history(alloc: Global) -> Result<Vec<Entry>, Memory> {
     let first = EntryList::first(alloc)?;
     let mut entries = Vec::new(alloc);
     entries.push(first.at(0).copy()?)?;
     Ok(entries)
-}
-
-fn copy_entries(alloc: Global, entries: &[Entry]) -> Result<Vec<Entry>, Memory>
-    ensures { IfOk result (λ copy. copy.items ≡ entries.now) }
-{
-    let mut copy = Vec::new(alloc);
-    for entry in entries {
-        copy.push(entry.copy()?)?;
-    }
-    Ok(copy)
 }
 
 /// The reply to a transaction, where the clock reads this. The history grows by the entry.
@@ -78,12 +47,7 @@ pub fn transact<G: Guard>(
     data: &Edn,
     reading: i64,
     guard: &G,
-) -> Result<Edn, Memory>
-    requires { IsLawful entries.old.items }
-    ensures { IsLawful entries.new.items }
-{
-    an_accepted_entry_is_lawful();
-    lawful_entries_make_lawful_histories();
+) -> Result<Edn, Memory> {
     match step(alloc, entries, data, reading, guard)? {
         Decision::Refused(refusal) => {
             let keyword = refusal.reason.keyword();
@@ -114,9 +78,13 @@ impl PlainSession {
     pub fn copy(&self) -> Result<PlainSession, Memory> {
         let mut filters = Vec::new(self.alloc);
         filters.extend_from_slice(&self.filters)?;
+        let mut entries = Vec::new(self.alloc);
+        for entry in self.entries.iter() {
+            entries.push(entry.copy()?)?;
+        }
         Ok(PlainSession {
             alloc: self.alloc,
-            entries: copy_entries(self.alloc, &self.entries)?,
+            entries,
             window: self.window,
             filters,
             reading: self.reading,

@@ -36,7 +36,7 @@ impl<'a> Sight<'a> {
 
     /// The datoms of the range, in the index's order.
     pub(crate) fn scanned(&self, order: Order, range: &Range) -> Result<Vec<Datom>, Memory> {
-        let datoms = scan(self.alloc, self.entries, self.window, &[], order, range)?;
+        let datoms = scan(self.alloc, self.entries, self.window, order, range)?;
         self.selected(datoms)
     }
 
@@ -60,7 +60,7 @@ impl<'a> Sight<'a> {
             history: false,
             ..self.window
         };
-        let seen = view(self.alloc, self.entries, window, &[])?;
+        let seen = view(self.alloc, self.entries, window)?;
         Ok(entity_named(&self.selected(seen)?, &id))
     }
 

@@ -26,10 +26,10 @@ impl Indexes {
         let mut lists = Vec::new(alloc);
         for order in ORDERS {
             let all = Range::NotBelow(from_the_first(order));
-            lists.push(scan(alloc, entries, whole(true), &[], order, &all)?)?;
+            lists.push(scan(alloc, entries, whole(true), order, &all)?)?;
         }
         let five = Range::Between(AGE, Some(Value::Long(5)), Some(Value::Long(6)));
-        let aged_five = scan(alloc, entries, whole(false), &[], Order::Avet, &five)?;
+        let aged_five = scan(alloc, entries, whole(false), Order::Avet, &five)?;
         Ok(Indexes { lists, aged_five })
     }
 

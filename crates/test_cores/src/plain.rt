@@ -1,17 +1,12 @@
 //! What the plain program makes of the transactions.
-ghost use Rattle.std.specs.Prelude.{IfOk};
-ghost use Rattle.fb_model.specs.Lawful.{IsLawful};
-
 use crate::indexes::Indexes;
 use crate::rows::Row;
 use crate::run::CLOCK;
 use anyhow::{Result, bail};
 use fb_history::EntryList;
-use fb_model::{first_is_lawful, lawful_entries_make_lawful_histories};
 use fb_values::Entry;
 use plain_step::{Decision, NoGuard, step};
 use std::alloc::Global;
-use tx_model::an_accepted_entry_is_lawful;
 
 /// The indexes of the new database, and those after each of the transactions.
 pub(crate) fn indexes_after(alloc: Global, rows: &[Row]) -> Result<Vec<Indexes>> {
@@ -26,10 +21,7 @@ pub(crate) fn indexes_after(alloc: Global, rows: &[Row]) -> Result<Vec<Indexes>>
 }
 
 /// The history that has only the built-in schema.
-fn new_history(alloc: Global) -> Result<Vec<Entry>>
-    ensures { IfOk result (λ entries. IsLawful entries.items) }
-{
-    first_is_lawful();
+fn new_history(alloc: Global) -> Result<Vec<Entry>> {
     let first = EntryList::first(alloc)?;
     let mut entries = Vec::new(alloc);
     entries.push(first.at(0).copy()?)?;
@@ -37,12 +29,7 @@ fn new_history(alloc: Global) -> Result<Vec<Entry>>
 }
 
 /// The history grows by the transaction where that is accepted.
-fn transact(alloc: Global, entries: &mut Vec<Entry>, row: &Row) -> Result<()>
-    requires { IsLawful entries.old.items }
-    ensures { IsLawful entries.new.items }
-{
-    an_accepted_entry_is_lawful();
-    lawful_entries_make_lawful_histories();
+fn transact(alloc: Global, entries: &mut Vec<Entry>, row: &Row) -> Result<()> {
     match step(alloc, entries, &row.data, CLOCK, &NoGuard)? {
         Decision::Refused(refusal) if row.is_refused_by(refusal) => Ok(()),
         Decision::Accepted(entry, _) if row.is_accepted() => Ok(entries.push(entry)?),

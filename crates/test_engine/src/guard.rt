@@ -50,8 +50,6 @@ impl NoEmptyText {
 }
 
 impl Guard for NoEmptyText {
-    ghost bars = { λ guard h changes. model.empty_text_bar guard.bars changes };
-
     fn judge(&self, _entries: &[Entry], changes: &[Datom]) -> Result<Option<Bar>, Memory> {
         Ok(self.bar(changes))
     }

@@ -8,25 +8,12 @@ use edn_print::print;
 use fb_values::Entry;
 use fb_view::Snapshot;
 use std::alloc::Global;
-use std::marker::Model;
 
-/// A lawful history on which transactions are tried, one after another.
+/// A history on which transactions are tried, one after another.
 #[derive(Drop)]
 pub(crate) struct Run {
     entries: Vec<Entry>,
     snapshot: Snapshot,
-}
-
-impl Model for Run {
-    ghost use Rattle.std.specs.Prelude.{List};
-    ghost use Rattle.fb_values.specs.declared.facts.Entry.{Entry};
-    ghost use Rattle.fb_model.specs.Lawful.{IsLawful};
-
-    ghost Value = { List Entry };
-
-    ghost view = { λ run. run.entries.items };
-
-    ghost invariant = { λ run. IsLawful run.entries.items };
 }
 
 impl Run {

@@ -1,6 +1,0 @@
-pub mod Fewer
-pub mod Histories
-pub mod Joined
-pub mod Numbers
-pub mod Rooms
-pub mod Underscores
