@@ -1,12 +1,13 @@
 //! Pulls over plain lists and slowly: what a faster body is compared with. Nothing of the product stands on it.
 //!
 //! It is written plainly, to be read beside the definitions in `pull_model`. It promises nothing but safety, so that a comparison
-//! says something that the proofs do not.
+//! says something that the proofs do not. Beside it stands one law of views, in `laws`.
 #![tactic(auto)]
 
 mod found;
 mod items;
 mod keys;
+pub mod laws;
 mod made;
 mod patterns;
 mod pulls;

@@ -3,26 +3,32 @@ use crate::guard::NoEmptyText;
 use crate::run::Run;
 use anyhow::Result;
 use std::alloc::Global;
-use std::collections::BTreeMap;
 use test_data::{Dice, PEOPLE, SCHEMA};
 
 /// How many transactions are drawn for one history.
 const ROUND: u32 = 20;
 
-/// How many transactions were drawn, and how many of them each rule refused, by its keyword.
+/// How many transactions were drawn, and which rules refused them, by their keywords.
 #[derive(Drop)]
 pub(crate) struct Tally {
     pub(crate) drawn: u32,
-    pub(crate) refused: BTreeMap<Vec<u8>, u32>,
+    pub(crate) refused: Vec<Vec<u8>>,
 }
 
 impl Tally {
     fn count(&mut self, alloc: Global, reply: &[u8]) -> Result<()> {
         self.drawn = self.drawn.saturating_add(1);
-        if let Some(reason) = reason_in(alloc, reply)? {
-            let before = self.refused.get(&reason).copied().unwrap_or(0);
-            self.refused.insert(reason, before.saturating_add(1))?;
+        let Some(reason) = reason_in(reply) else {
+            return Ok(());
+        };
+        for other in self.refused.iter() {
+            if other.as_slice() == reason {
+                return Ok(());
+            }
         }
+        let mut copy = Vec::new(alloc);
+        copy.extend_from_slice(reason)?;
+        self.refused.push(copy)?;
         Ok(())
     }
 }
@@ -32,7 +38,7 @@ pub(crate) fn decided(alloc: Global, histories: u32, seed: u64) -> Result<Tally>
     let mut dice = Dice::new(seed);
     let mut tally = Tally {
         drawn: 0,
-        refused: BTreeMap::new(alloc),
+        refused: Vec::new(alloc),
     };
     for i in 0..histories {
         let guard = NoEmptyText { bars: i % 2 == 1 };
@@ -60,16 +66,7 @@ fn decide_round(
 }
 
 /// The keyword behind `{:refused `, if the reply begins with it.
-fn reason_in(alloc: Global, reply: &[u8]) -> Result<Option<Vec<u8>>> {
-    let Some(rest) = reply.strip_prefix(b"{:refused ") else {
-        return Ok(None);
-    };
-    let mut reason = Vec::new(alloc);
-    for byte in rest {
-        if *byte == b' ' {
-            break;
-        }
-        reason.push(*byte)?;
-    }
-    Ok(Some(reason))
+fn reason_in(reply: &[u8]) -> Option<&[u8]> {
+    let rest = reply.strip_prefix(b"{:refused ")?;
+    rest.split(|byte| *byte == b' ').next()
 }

@@ -2,7 +2,8 @@
 use anyhow::Result;
 use std::io::Write;
 
-/// Whether the lines are those that are wanted. Where they are not, the script is shown, and the first line that differs.
+/// Whether the lines are those that are wanted. Where they are not, the script is shown, and both from the first line on that
+/// differs.
 pub(crate) fn are_same<W: Write>(
     out: &mut W,
     name: &str,
@@ -13,28 +14,30 @@ pub(crate) fn are_same<W: Write>(
     if wanted == lines {
         return Ok(true);
     }
-    show(out, name.as_bytes(), script)?;
-    let mut others = lines.split_inclusive(|byte| *byte == b'\n');
-    for line in wanted.split_inclusive(|byte| *byte == b'\n') {
-        let Some(other) = others.next() else {
-            show(out, b"a line is missing", line)?;
-            return Ok(false);
-        };
-        if line != other {
-            show(out, b"there is", other)?;
-            show(out, b"and should be", line)?;
-            return Ok(false);
-        }
-    }
-    if let Some(other) = others.next() {
-        show(out, b"there is one line more", other)?;
+    let at = end_of_same_lines(wanted, lines);
+    for text in [
+        name.as_bytes(),
+        b":\n",
+        script,
+        b"should be answered by:\n",
+        wanted.get(at..).unwrap_or(wanted),
+        b"and is by:\n",
+        lines.get(at..).unwrap_or(lines),
+    ] {
+        out.write_all(text)?;
     }
     Ok(false)
 }
 
-fn show<W: Write>(out: &mut W, what: &[u8], bytes: &[u8]) -> Result<()> {
-    out.write_all(what)?;
-    out.write_all(b":\n")?;
-    out.write_all(bytes)?;
-    Ok(())
+/// How many bytes the lines have that both begin with.
+fn end_of_same_lines(wanted: &[u8], lines: &[u8]) -> usize {
+    let mut end: usize = 0;
+    let mut others = lines.split_inclusive(|byte| *byte == b'\n');
+    for line in wanted.split_inclusive(|byte| *byte == b'\n') {
+        if others.next() != Some(line) {
+            return end;
+        }
+        end = end.saturating_add(line.len());
+    }
+    end
 }

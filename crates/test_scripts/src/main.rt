@@ -6,6 +6,7 @@
 mod compared;
 mod drawn;
 mod fields;
+mod forms;
 mod merges;
 mod pen;
 mod plain;
@@ -19,6 +20,7 @@ use anyhow::Result;
 use rows::rows_in;
 use stage::Stage;
 use std::{fs, io};
+use tally::Answer;
 
 /// How many worlds are drawn, how many scripts in each of them, and from which seed.
 const WORLDS: u32 = 50;
@@ -46,10 +48,10 @@ fn main(rt: HostRuntime) -> Result<()> {
     )?;
     println!(rt;
         "{} of 13 commands answered, {} of 4 reads with a datom, {} of 6 refusals of reads, {} of transactions",
-        tally.answered.len(),
-        tally.found.len(),
-        tally.refused_reads.len(),
-        tally.refused_transactions.len()
+        tally.count_of(Answer::Given),
+        tally.count_of(Answer::Found),
+        tally.count_of(Answer::NoRead),
+        tally.count_of(Answer::NoTransaction)
     )?;
     Ok(())
 }

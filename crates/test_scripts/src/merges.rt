@@ -1,16 +1,13 @@
 //! The same script with a request for a merge behind each command.
+use crate::forms::next_form;
 use anyhow::{Result, bail};
-use edn_core::read_form;
 use std::alloc::Global;
 
 pub(crate) fn with_merges(alloc: Global, script: &[u8]) -> Result<Vec<u8>> {
     let mut more = Vec::new(alloc);
     let mut at = 0;
     for _ in 0..script.len() {
-        let Ok(read) = read_form(alloc, script, at) else {
-            bail!("a script cannot be read");
-        };
-        let Some((_, behind)) = read else {
+        let Some((_, behind)) = next_form(alloc, script, at)? else {
             break;
         };
         if let Some(command) = script.get(at..behind) {

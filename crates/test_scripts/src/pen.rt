@@ -91,12 +91,13 @@ impl Pen<'_> {
     /// A point in time.
     pub(crate) fn point(&mut self) -> Result<()> {
         let t = self.dice.roll(7);
-        match self.dice.roll(12) {
-            0..=5 => write!(self.out, "{t}")?,
-            6..=7 => write!(self.out, "131941395333{}", t + 12)?,
-            8..=10 => write!(self.out, "#inst \"2024-01-01T00:00:00.00{t}Z\"")?,
-            _ => self.write_one(&OTHER_POINTS)?,
-        }
+        let (before, n, behind) = match self.dice.roll(12) {
+            0..=5 => ("", t, ""),
+            6..=7 => ("131941395333", t + 12, ""),
+            8..=10 => ("#inst \"2024-01-01T00:00:00.00", t, "Z\""),
+            _ => return self.write_one(&OTHER_POINTS),
+        };
+        write!(self.out, "{before}{n}{behind}")?;
         Ok(())
     }
 
@@ -107,7 +108,7 @@ impl Pen<'_> {
             0..=17 => write!(self.out, "175921860444{user}")?,
             18..=21 => self.write_one(&NAMES)?,
             22 => self.write_one(&NO_NAMES)?,
-            _ => self.out.push_str("13194139533313")?,
+            _ => self.write("13194139533313")?,
         }
         Ok(())
     }

@@ -1,7 +1,7 @@
 //! Scripts by the plain session.
+use crate::forms::next_form;
 use crate::rows::Readings;
-use anyhow::{Result, bail};
-use edn_core::read_form;
+use anyhow::Result;
 use edn_print::print;
 use plain_session::PlainSession;
 use std::alloc::Global;
@@ -44,10 +44,7 @@ impl PlainScript {
         let bytes = commands.as_bytes();
         let mut at = 0;
         for _ in 0..bytes.len() {
-            let Ok(read) = read_form(self.alloc, bytes, at) else {
-                bail!("a script cannot be read");
-            };
-            let Some((form, behind)) = read else {
+            let Some((form, behind)) = next_form(self.alloc, bytes, at)? else {
                 break;
             };
             print(&self.session.reply(&form)?, &mut self.lines)?;

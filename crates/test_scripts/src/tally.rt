@@ -1,24 +1,33 @@
 //! What the drawn scripts reached.
+use crate::forms::next_form;
 use anyhow::{Result, bail};
-use edn_core::read_form;
 use edn_form::Edn;
 use std::alloc::Global;
-use std::collections::BTreeMap;
 
-/// How often each was met.
-pub(crate) type Counts = BTreeMap<Vec<u8>, u32>;
+/// What a line can say of the command that it answers.
+#[derive(Clone, Copy, PartialEq)]
+pub(crate) enum Answer {
+    /// It was not refused.
+    Given,
+    /// It was a read that a datom answered.
+    Found,
+    /// It was refused as a read, or as a transaction.
+    NoRead,
+    NoTransaction,
+}
+
+/// A kind of answer that was met, with the word of the command or the keyword of the refusal.
+#[derive(Drop)]
+struct Met {
+    answer: Answer,
+    name: Vec<u8>,
+}
 
 #[derive(Drop)]
 pub(crate) struct Tally {
     pub(crate) scripts: u32,
     pub(crate) lines: u32,
-    /// Commands that were not refused, by their words.
-    pub(crate) answered: Counts,
-    /// Reads that answered a datom, by their commands' words.
-    pub(crate) found: Counts,
-    /// Refusals, by their keywords.
-    pub(crate) refused_reads: Counts,
-    pub(crate) refused_transactions: Counts,
+    met: Vec<Met>,
 }
 
 impl Tally {
@@ -26,18 +35,20 @@ impl Tally {
         Tally {
             scripts: 0,
             lines: 0,
-            answered: BTreeMap::new(alloc),
-            found: BTreeMap::new(alloc),
-            refused_reads: BTreeMap::new(alloc),
-            refused_transactions: BTreeMap::new(alloc),
+            met: Vec::new(alloc),
         }
+    }
+
+    /// How many words or keywords were met with such an answer.
+    pub(crate) fn count_of(&self, answer: Answer) -> usize {
+        self.met.iter().filter(|met| met.answer == answer).count()
     }
 
     pub(crate) fn count(&mut self, alloc: Global, script: &[u8], lines: &[u8]) -> Result<()> {
         self.scripts = self.scripts.saturating_add(1);
         let mut at = 0;
         for line in lines.split_inclusive(|byte| *byte == b'\n') {
-            let Ok(Some((form, behind))) = read_form(alloc, script, at) else {
+            let Some((form, behind)) = next_form(alloc, script, at)? else {
                 bail!("a line answers no form");
             };
             self.lines = self.lines.saturating_add(1);
@@ -49,18 +60,30 @@ impl Tally {
 
     fn count_line(&mut self, alloc: Global, word: &str, line: &[u8]) -> Result<()> {
         let Some(rest) = line.strip_prefix(b"{:refused :") else {
-            add_one(alloc, &mut self.answered, word.as_bytes())?;
             if line.ends_with(b"]]}\n") || line.ends_with(b"]]}]}\n") {
-                add_one(alloc, &mut self.found, word.as_bytes())?;
+                self.meet(alloc, Answer::Found, word.as_bytes())?;
             }
-            return Ok(());
+            return self.meet(alloc, Answer::Given, word.as_bytes());
         };
         let keyword = rest.split(|byte| *byte == b' ').next().unwrap_or(b"");
-        if keyword.starts_with(b"read/") {
-            add_one(alloc, &mut self.refused_reads, keyword)
+        let answer = if keyword.starts_with(b"read/") {
+            Answer::NoRead
         } else {
-            add_one(alloc, &mut self.refused_transactions, keyword)
+            Answer::NoTransaction
+        };
+        self.meet(alloc, answer, keyword)
+    }
+
+    fn meet(&mut self, alloc: Global, answer: Answer, name: &[u8]) -> Result<()> {
+        for met in self.met.iter() {
+            if met.answer == answer && met.name.as_slice() == name {
+                return Ok(());
+            }
         }
+        let mut copy = Vec::new(alloc);
+        copy.extend_from_slice(name)?;
+        self.met.push(Met { answer, name: copy })?;
+        Ok(())
     }
 }
 
@@ -73,12 +96,4 @@ fn word_of(form: &Edn) -> &str {
         [Edn::Key(word), ..] => word.as_str(),
         _ => "",
     }
-}
-
-fn add_one(alloc: Global, counts: &mut Counts, name: &[u8]) -> Result<()> {
-    let mut key = Vec::new(alloc);
-    key.extend_from_slice(name)?;
-    let before = counts.get(&key).copied().unwrap_or(0);
-    counts.insert(key, before.saturating_add(1))?;
-    Ok(())
 }

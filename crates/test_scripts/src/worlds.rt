@@ -48,21 +48,24 @@ pub(crate) fn drawn_world(alloc: Global, dice: &mut Dice) -> Result<World> {
 impl World {
     /// With a cardinality, a uniqueness and an index as they fall.
     fn install(&mut self, dice: &mut Dice, field: Field) -> Result<()> {
-        self.commands.push_str("{:db/ident ")?;
-        self.commands.push_str(field.name)?;
-        self.commands.push_str(" :db/valueType ")?;
-        self.commands.push_str(field.kind)?;
-        self.commands.push_str(" :db/cardinality ")?;
-        self.commands.push_str(dice.pick(&CARDINALITIES))?;
-        if !field.values.is_empty() {
-            self.commands.push_str(dice.pick(&UNIQUENESSES))?;
+        let cardinality = dice.pick(&CARDINALITIES);
+        let more = if !field.values.is_empty() {
+            dice.pick(&UNIQUENESSES)
         } else if field.name == ":h/part" {
-            self.commands.push_str(" :db/isComponent true")?;
-        }
-        if dice.once_in(3) {
-            self.commands.push_str(" :db/index true")?;
-        }
-        self.commands.push_str("}\n")?;
+            " :db/isComponent true"
+        } else {
+            ""
+        };
+        let index = if dice.once_in(3) {
+            " :db/index true"
+        } else {
+            ""
+        };
+        write!(
+            self.commands,
+            "{{:db/ident {} :db/valueType {} :db/cardinality {cardinality}{more}{index}}}\n",
+            field.name, field.kind
+        )?;
         self.fields.push(field)?;
         Ok(())
     }
