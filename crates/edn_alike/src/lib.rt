@@ -14,6 +14,3 @@ pub use said::Said;
 pub use search::{first_key_twice, first_twice};
 pub use spelling::Spelling;
 pub use token::CodeToken;
-
-#[cfg(test)]
-mod tests;

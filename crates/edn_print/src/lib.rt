@@ -9,6 +9,3 @@ mod token;
 
 pub use fb_memory::Memory;
 pub use form::print;
-
-#[cfg(test)]
-mod tests;

@@ -18,6 +18,3 @@ pub use name::{is_keyword, is_symbol};
 pub use number::magnitude;
 pub use string::{StringStop, read_string};
 pub use token::{Token, What, judge, keyword_name};
-
-#[cfg(test)]
-mod tests;

@@ -11,6 +11,3 @@ pub use replies::{
     LogFault, write_basis, write_datoms, write_done, write_fault, write_receipt, write_refusal,
     write_transactions,
 };
-
-#[cfg(test)]
-mod tests;

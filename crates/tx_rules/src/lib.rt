@@ -16,6 +16,3 @@ mod whole;
 pub use laws::changes_are_of_one_entry;
 pub use recording::{entry, next_instant};
 pub use rules::least_refusal;
-
-#[cfg(test)]
-mod tests;
