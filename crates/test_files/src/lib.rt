@@ -1,11 +1,12 @@
-//! Tests of disks, journals and ports, in memory and of the system: bytes, faults and crashes.
+//! What no contract says of disks, journals and ports: what files and clocks of the system do, and that calls which take memory succeed.
+//! Each file is named for the crate that it tests.
 #![tactic(auto)]
 
 #[cfg(test)]
-mod disks;
+mod fb_disk;
 #[cfg(test)]
-mod journals;
+mod fb_journal;
 #[cfg(test)]
-mod memory;
+mod mem_ports;
 #[cfg(test)]
-mod system;
+mod real_ports;
