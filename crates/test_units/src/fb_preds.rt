@@ -58,7 +58,11 @@ fn filters_of_callers_are_found_and_asked(rt: HostRuntime) -> Result<(), Fail> {
     let late = Kept::new(Box::new(alloc, |d: &Datom| d.t > 5)?);
     table.keep(Text::of(alloc, "late")?, late)?;
     for (name, e, t, want) in ROWS {
-        assert_eq!(rt; answer(alloc, &table, name, e, t)?, want, "{name} of {e} at {t}");
+        assert_eq!(rt;
+            answer(alloc, &table, name, e, t)?,
+            want,
+            "{name} of {e} at {t}"
+        );
     }
     Ok(())
 }

@@ -5,6 +5,8 @@
 #[cfg(test)]
 mod edn_alike;
 #[cfg(test)]
+mod edn_form;
+#[cfg(test)]
 mod fb_memory;
 #[cfg(test)]
 mod fb_preds;
