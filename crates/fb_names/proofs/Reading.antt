@@ -192,6 +192,11 @@ module _ (h : List Entry) (w : Window) (Selects : Datom → Type 0) (a start end
   abbrev TheAttribute : Given Attribute
   TheAttribute = attribute_given (λ (attribute : Attribute). attribute) Avet (attribute_in (facts h) a)
 
+  pub attribute_refused : (r : Refusal) → Err r ≡ typed_or Avet 1 (attribute_in (facts h) a) → IsIndexRange h w Selects a start end (Err r)
+  attribute_refused r same =
+      given_refused h w Selects 1 TheAttribute OfAttribute r
+      (typed_refused h w Selects (λ (attribute : Attribute). attribute) Avet 1 (attribute_in (facts h) a) r same)
+
   module _ (x : Typed) (t : IsTyped Avet (attribute_in (facts h) a) x) where
     one : IsGiven h w Selects 1 TheAttribute (Ok t.attribute)
     one = attribute_held h w Selects 1 (λ (attribute : Attribute). attribute) Avet (attribute_in (facts h) a) t.attribute t.there t.held

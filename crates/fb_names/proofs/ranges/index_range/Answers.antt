@@ -10,8 +10,17 @@ use Rattle.read_model.specs.Components.{attribute_in, end_given, IsIndexRange}
 use Rattle.fb_names.specs.declared.ranges.ValueRange.{ValueRange}
 use Rattle.fb_names.specs.Answers.{IsGiven}
 use Rattle.fb_names.specs.Ranges.{range_of}
-use Rattle.fb_names.proofs.Reading.{stopped, typed_ok, start_refused, end_refused, range_found}
+use Rattle.fb_names.proofs.Reading.{stopped, typed_ok, attribute_refused, start_refused, end_refused, range_found}
 use Rattle.fb_names.proofs.ranges.index_range.Goals as goal
+
+pub returns-in_err-attribute : goal.returns-in_err-attribute
+returns-in_err-attribute g c =
+    let h = c.args.db.now.snapshot.entries in
+    let w = window_of c.args.db.now in
+    let selects = g.S.Selector.selects c.args.db.now.filter in
+    let p = err_from_is_err_and c.from_residual.result c.from_residual.ensures.1 in
+    rw (p.1, p.2) (attribute_refused h w selects (form_of c.args.a.now) (form_of c.args.start.now) (form_of c.args.end.now) c.in_err-attribute.field-0.0
+    (c.in_err-attribute.ensures h (c.schema.ensures.schema ∙ c.schema.ensures.stands.schema_is)))
 
 pub returns-in_err-start : goal.returns-in_err-start
 returns-in_err-start g c =
