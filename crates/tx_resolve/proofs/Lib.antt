@@ -16,3 +16,4 @@ pub mod Judged
 pub mod Whole
 pub mod Bridge
 pub mod Refusing
+mod Looking
