@@ -6,3 +6,4 @@ pub mod Replacing
 pub mod Entries
 pub mod Marking
 pub mod Recordings
+mod PieceByPiece
