@@ -14,3 +14,4 @@ pub mod Judging
 pub mod Holding
 pub mod Refusing
 pub mod Rising
+mod Keeping
