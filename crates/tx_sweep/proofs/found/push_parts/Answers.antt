@@ -1,9 +1,8 @@
-use Rattle.std.proofs.Common.{◌≡◌, ℕ, ◌+◌, ◌<◌, ◌≤◌, ◌++◌, List, [], ◌∷◌, Option, Some, None, length, drop, get_or, ap, sym, ◌∙◌, append_assoc}
+use Rattle.std.proofs.Common.{◌≡◌, ℕ, ◌+◌, ◌<◌, ◌≤◌, ◌++◌, List, [], ◌∷◌, Option, Some, None, length, drop, get_or, ap, refl, sym, ◌∙◌, append_assoc, arith}
 use Rattle.std.specs.Prelude.{filter_map}
 use Rattle.std.proofs.lemmas.List.{append-nil, at_drop_more, at_drop_all}
 use Rattle.tx_sweep.specs.Sweep.{part_to}
 use Rattle.tx_sweep.proofs.found.push_parts.Goals as goal
-use Rattle.tx_sweep.proofs.found.push_parts.Goals.{in-Some+in_ok-push, in_default}
 
 module _ {A B : Type 0} (f : A → Option B) (xs : List A) (i : ℕ) (old whole : List B) (so_far : old ++ filter_map f (drop i xs) ≡ whole) where
   module _ (x : A) (inside : i < length xs) (is : x ≡ get_or xs i x) (new : List B) where
@@ -28,13 +27,15 @@ module _ {A B : Type 0} (f : A → Option B) (xs : List A) (i : ℕ) (old whole 
 pub loop-d-preserved : goal.loop-d-preserved
 loop-d-preserved c =
     let f = part_to c.args.schema.now in
-    let whole = c.args.stack.now.items ++ filter_map f c.args.facts.now in
-    let d = c.d-item.result in
-    let new = c.match-part_in.stack.items in
-    elim c.match-part_in.branch [
-      | in-Some+in_ok-push w ↦ some_more f c.args.facts.now c.loop-d.d-index c.loop-d.stack.items whole c.loop-d.invariant d c.loop-d-test.true c.d-item.is new w.in-Some.part (sym c.part_in.ensures ∙ w.in-Some.is) (ap (λ v. v.items) w.stack-is ∙ w.in_ok-push.ensures.items)
-      | in_default w ↦ none_more f c.args.facts.now c.loop-d.d-index c.loop-d.stack.items whole c.loop-d.invariant d c.loop-d-test.true c.d-item.is new (sym c.part_in.ensures ∙ w.in_default.is) (ap (λ v. v.items) w.stack-is)
-    ]
+    let i = c.loop-d.d-index in
+    let facts = c.args.facts.now in
+    let old = c.loop-d.stack.items in
+    let whole = c.args.stack.now.items ++ filter_map f facts in
+    let grows : (y : ℕ) → c.part_in.result ≡ Some y → (old ++ y ∷ []) ++ filter_map f (drop (i + 1) facts) ≡ whole =
+    λ y found. some_more f facts i old whole c.loop-d.invariant c.d-item.result c.loop-d-test.true c.d-item.is (old ++ y ∷ []) y (sym c.part_in.ensures ∙ found) refl in
+    let stays : c.part_in.result ≡ None → old ++ filter_map f (drop (i + 1) facts) ≡ whole =
+    λ found. none_more f facts i old whole c.loop-d.invariant c.d-item.result c.loop-d-test.true c.d-item.is old (sym c.part_in.ensures ∙ found) refl in
+    grind (arith, grows, stays)
 
 pub returns : goal.returns
 returns c =
