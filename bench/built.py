@@ -28,6 +28,11 @@ def proved(crate):
     return program
 
 
+def bench(name):
+    """The words that start the benchmark of this name."""
+    return [proved("bench"), name]
+
+
 def plain(benchmark, folder):
     """Plain Rust's program, built into the folder."""
     program = os.path.join(folder, "plain")

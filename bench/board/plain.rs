@@ -1,5 +1,5 @@
 //! The yardstick of the board's benchmark in ordinary Rust: a lock with an empty body, and a shared snapshot under a
-//! read-write lock. The words are those of `bench_board`.
+//! read-write lock. The words are those of `bench board`.
 use std::hint::black_box;
 use std::process::ExitCode;
 use std::sync::{Arc, Mutex, RwLock};

@@ -1,0 +1,103 @@
+//! Deciding: `bench deciding FILE ROUNDS` reads transactions from FILE, records all but the last one, decides the last one ROUNDS times, and
+//! prints what it comes to.
+
+use crate::common::number;
+use anyhow::{Result, bail};
+use edn_core::read_form;
+use edn_form::Edn;
+use fb_view::Snapshot;
+use std::alloc::Global;
+use std::{fmt, fs};
+use tx_model::an_accepted_entry_is_lawful;
+use tx_refusals::Refusal;
+use tx_step::{NoGuard, TxStop, decide};
+
+/// The first of January 2024.
+const CLOCK: i64 = 1_704_067_200_000;
+
+pub(crate) fn perform(rt: &HostRuntime, words: &[String]) -> Result<bool> {
+    let [file, rounds] = words else {
+        return Ok(false);
+    };
+    let Some(rounds) = number(rounds.as_str()) else {
+        return Ok(false);
+    };
+    let forms = forms_of(rt, file.as_str())?;
+    let Some((last, before)) = forms.split_last() else {
+        bail!("there is no transaction");
+    };
+    let snapshot = recorded(rt.alloc(), before)?;
+    let told = decided_each(rt.alloc(), &snapshot, last, rounds)?;
+    println!(rt; "{told}")?;
+    Ok(true)
+}
+
+/// The forms of a file.
+fn forms_of(rt: &HostRuntime, file: &str) -> Result<Vec<Edn>> {
+    let bytes = fs::read(rt, file)?;
+    let mut forms = Vec::new(rt.alloc());
+    let mut at = 0;
+    for _ in 0..bytes.len() {
+        match read_form(rt.alloc(), &bytes, at) {
+            Ok(Some((form, behind))) => {
+                forms.push(form)?;
+                at = behind;
+            }
+            Ok(None) => break,
+            Err(_) => bail!("the text is no EDN"),
+        }
+    }
+    Ok(forms)
+}
+
+/// The database after the transactions, each of which has to be accepted.
+fn recorded(alloc: Global, forms: &[Edn]) -> Result<Snapshot> {
+    let mut snapshot = Snapshot::first(alloc)?;
+    for form in forms {
+        snapshot = with_form(alloc, &snapshot, form)?;
+    }
+    Ok(snapshot)
+}
+
+fn with_form(alloc: Global, snapshot: &Snapshot, form: &Edn) -> Result<Snapshot> {
+    an_accepted_entry_is_lawful();
+    match decide(alloc, form, snapshot, snapshot.schema(), CLOCK, &NoGuard) {
+        Ok(accepted) => Ok(snapshot.with_entry(accepted.entry)?),
+        Err(_) => bail!("a transaction of the database is refused"),
+    }
+}
+
+/// What a transaction comes to: how many datoms it records, or why it is refused.
+#[derive(Clone, Copy)]
+enum Told {
+    Datoms(usize),
+    Refused(Refusal),
+}
+
+impl fmt::Display for Told {
+    fn fmt<W: fmt::Write>(&self, f: &mut fmt::Formatter<W>) -> fmt::Result {
+        match self {
+            Told::Datoms(count) => write!(f, "{count} datoms"),
+            Told::Refused(refusal) => {
+                write!(f, "rule {} at {}", refusal.reason.number(), refusal.at)
+            }
+        }
+    }
+}
+
+/// What it comes to, decided so many times over, and once before.
+fn decided_each(alloc: Global, snapshot: &Snapshot, form: &Edn, rounds: u32) -> Result<Told> {
+    let mut told = decided(alloc, snapshot, form)?;
+    for _ in 0..rounds {
+        told = decided(alloc, snapshot, form)?;
+    }
+    Ok(told)
+}
+
+fn decided(alloc: Global, snapshot: &Snapshot, form: &Edn) -> Result<Told> {
+    match decide(alloc, form, snapshot, snapshot.schema(), CLOCK, &NoGuard) {
+        Ok(accepted) => Ok(Told::Datoms(accepted.entry.datoms.len())),
+        Err(TxStop::Refused(refusal)) => Ok(Told::Refused(refusal)),
+        Err(TxStop::Memory) => bail!("out of memory"),
+    }
+}

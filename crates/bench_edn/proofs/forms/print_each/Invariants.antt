@@ -1,5 +1,0 @@
-use Rattle.std.proofs.Common.{◌-◌, length}
-use Rattle.bench_edn.proofs.forms.print_each.Given as goal
-
-abbrev pub decreases-loop-lines : goal.decreases-loop-lines
-decreases-loop-lines g l = length l.bytes - l.at

@@ -1,5 +1,0 @@
-use Rattle.live_index.specs.Samples.{AreSamples}
-use Rattle.bench_segments.proofs.trees.samples.Given as goal
-
-abbrev pub invariant-loop-n : goal.invariant-loop-n
-invariant-loop-n l = AreSamples l.samples.items
