@@ -46,11 +46,18 @@ impl Sizes {
         let [count, merged, sought] = words else {
             return None;
         };
-        Some(Sizes {
-            count: number(count.as_str())?,
-            merged: number(merged.as_str())?,
-            sought: number(sought.as_str())?,
-        })
+        match (
+            number(count.as_str()),
+            number(merged.as_str()),
+            number(sought.as_str()),
+        ) {
+            (Some(count), Some(merged), Some(sought)) => Some(Sizes {
+                count,
+                merged,
+                sought,
+            }),
+            _ => None,
+        }
     }
 
     /// A number behind those of the trees' datoms.
