@@ -287,12 +287,10 @@ pub fn read_pattern(alloc: Global, f: &Edn) -> Result<Option<Pattern>, Memory> {
 
 /// The place of the first form that is no item.
 fn first_bad_from(alloc: Global, items: &Items) -> Result<Option<usize>, Memory> {
-    let mut place = 0;
-    for f in items.as_slice() {
+    for (place, f) in items.as_slice().iter().enumerate() {
         if item_of(alloc, f)?.is_none() {
             return Ok(Some(place));
         }
-        place += 1;
     }
     Ok(None)
 }
