@@ -1,0 +1,17 @@
+//! The entries of the log as bytes, and back. A reader answers what stands at a place of some bytes and the place behind it, or the
+//! byte at which the first field that does not fit begins; a writer adds to the bytes that are there.
+#![tactic(auto)]
+
+mod entries;
+mod faults;
+mod fields;
+mod room;
+mod tags;
+mod texts;
+mod values;
+
+pub use entries::{entry_bytes, entry_of, get_datom, put_datom};
+pub use faults::BytesFault;
+pub use fields::{get_format, get_i64, get_truth, get_u8, get_u32, get_u64, get_u128, put};
+pub use texts::{Words, get_text, put_text};
+pub use values::{get_value, put_value};
