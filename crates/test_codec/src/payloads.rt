@@ -1,0 +1,85 @@
+//! The documented payload, an entry of two datoms, and what it says when bytes of it are changed. In the documented log its
+//! bytes begin at 24.
+use fb_codec::{BytesFault, entry_bytes, entry_of};
+use std::alloc::Global;
+use std::test::Fail;
+
+const PAYLOAD: [u8; 67] = [
+    0x02, 0x00, 0x00, 0x00, 0x01, 0x00, 0x00, 0x01, 0x8c, 0xc2, 0x51, 0xf4, 0x00, 0x00, 0x00, 0x00,
+    0x02, 0x00, 0x00, 0x0c, 0x00, 0x00, 0x00, 0x00, 0x01, 0x00, 0x00, 0x00, 0x00, 0x00, 0x00, 0x00,
+    0x08, 0x06, 0x00, 0x00, 0x01, 0x8c, 0xc2, 0x51, 0xf4, 0x00, 0x01, 0x00, 0x00, 0x10, 0x00, 0x00,
+    0x00, 0x00, 0x01, 0x00, 0x00, 0x00, 0x00, 0x00, 0x00, 0x00, 0x07, 0x02, 0x00, 0x00, 0x00, 0x02,
+    0x68, 0x69, 0x01,
+];
+
+/// Bytes of the payload that are changed, each with its place, and the byte at which the payload breaks then, if it does.
+type Row = (&'static [(usize, u8)], Option<u64>);
+
+const ROWS: [Row; 14] = [
+    (&[], None),
+    (&[(0, 1)], None),
+    (&[(0, 9)], Some(0)),
+    (&[(13, 255), (14, 255), (15, 255), (16, 255)], Some(67)),
+    (&[(16, 1)], Some(43)),
+    (&[(33, 0)], Some(33)),
+    (&[(42, 2)], Some(42)),
+    (&[(59, 8)], None),
+    (&[(0, 1), (59, 8)], Some(59)),
+    (&[(59, 10)], Some(59)),
+    (&[(60, 255), (61, 255), (62, 255), (63, 255)], Some(64)),
+    (&[(59, 1), (64, 58)], Some(64)),
+    (&[(64, 0xc3)], Some(64)),
+    (&[(63, 1)], Some(65)),
+];
+
+fn changed(changes: &[(usize, u8)]) -> [u8; 67] {
+    let mut payload = PAYLOAD;
+    for (place, byte) in changes {
+        if let Some(old) = payload.get_mut(*place) {
+            *old = *byte;
+        }
+    }
+    payload
+}
+
+fn breaks_at(alloc: Global, payload: &[u8]) -> Result<Option<u64>, BytesFault> {
+    match entry_of(alloc, payload) {
+        Ok(_) => Ok(None),
+        Err(BytesFault::At { byte }) => Ok(Some(byte)),
+        Err(BytesFault::Memory) => Err(BytesFault::Memory),
+    }
+}
+
+#[test]
+fn payloads_with_bytes_changed_hold_an_entry_or_break_at_a_byte(
+    rt: HostRuntime,
+) -> Result<(), Fail> {
+    for (n, (changes, byte)) in ROWS.iter().enumerate() {
+        let payload = changed(changes);
+        assert_eq!(rt; breaks_at(rt.alloc(), &payload)?, *byte, "row {n}");
+    }
+    Ok(())
+}
+
+#[test]
+fn payloads_of_another_length_break_at_their_end(rt: HostRuntime) -> Result<(), Fail> {
+    let alloc = rt.alloc();
+    let mut longer = Vec::from_slice(alloc, &PAYLOAD)?;
+    longer.push(0)?;
+    assert_eq!(rt; breaks_at(alloc, &longer)?, Some(67));
+    assert_eq!(rt; breaks_at(alloc, &PAYLOAD[..66])?, Some(66));
+    assert_eq!(rt; breaks_at(alloc, &[])?, Some(0));
+    Ok(())
+}
+
+fn written_again(alloc: Global, payload: &[u8]) -> Result<Vec<u8>, BytesFault> {
+    let entry = entry_of(alloc, payload)?;
+    Ok(entry_bytes(alloc, &entry)?)
+}
+
+#[test]
+fn an_entry_is_written_as_it_was_read(rt: HostRuntime) -> Result<(), Fail> {
+    let written = written_again(rt.alloc(), &PAYLOAD)?;
+    assert_eq!(rt; written.as_slice(), PAYLOAD.as_slice());
+    Ok(())
+}
