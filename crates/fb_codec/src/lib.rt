@@ -1,5 +1,5 @@
-//! The entries of the log as bytes, and back. A reader answers what stands at a place of some bytes and the place behind it, or the
-//! byte at which the first field that does not fit begins; a writer adds to the bytes that are there.
+//! The entries of the log as bytes, and back. A reader answers what stands at a place of some bytes with the place behind
+//! it, or the byte at which the first field begins that does not fit. A writer adds the bytes of its field at the end.
 #![tactic(auto)]
 
 mod entries;

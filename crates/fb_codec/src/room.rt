@@ -10,7 +10,7 @@ const EMPTY_ENTRY: usize = 17;
 /// The bytes of a datom without its value.
 const BARE_DATOM: usize = 17;
 
-/// The bytes of an entry with these datoms, or the greatest number where they are more. No memory has such a room.
+/// The bytes of an entry with these datoms, or the greatest number if they are more: no memory has as much room.
 pub(crate) fn room_for(datoms: &[Datom]) -> usize
     ensures { result ≡ min (entry_size datoms.now) (2 ^ 64 - 1) }
 {

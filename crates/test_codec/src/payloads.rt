@@ -1,5 +1,5 @@
-//! The documented payload, an entry of two datoms, and what it says when bytes of it are changed. In the documented log its
-//! bytes begin at 24.
+//! The documented payload, an entry of two datoms, and the byte at which it breaks if some of its bytes are changed. It
+//! begins at byte 24 of the documented log.
 use fb_codec::{BytesFault, entry_bytes, entry_of};
 use std::alloc::Global;
 use std::test::Fail;
@@ -12,7 +12,7 @@ const PAYLOAD: [u8; 67] = [
     0x68, 0x69, 0x01,
 ];
 
-/// Bytes of the payload that are changed, each with its place, and the byte at which the payload breaks then, if it does.
+/// The places that are changed, each with its new byte, and the byte at which the payload then breaks, if it does.
 type Row = (&'static [(usize, u8)], Option<u64>);
 
 const ROWS: [Row; 14] = [
