@@ -11,16 +11,19 @@ use Rattle.log_model.specs.Storable.{is_u64, is_storable_value, is_storable_dato
 use Rattle.fb_codec.specs.Entries.{has_storable_value}
 
 -- four fields, each written behind what stood there
-pub four_written : (old a b c d with_a with_b with_c with_d : List ℕ) → with_a ≡ old ++ a → with_b ≡ with_a ++ b → with_c ≡ with_b ++ c → with_d ≡ with_c ++ d
+pub four_written : (old a b c d with_a with_b with_c with_d : List ℕ)
+    → with_a ≡ old ++ a → with_b ≡ with_a ++ b → with_c ≡ with_b ++ c → with_d ≡ with_c ++ d
     → with_d ≡ old ++ (a ++ b ++ c ++ d)
 four_written old a b c d with_a with_b with_c with_d is_a is_b is_c is_d =
     is_d
     ∙ ap (λ l. l ++ d) (is_c ∙ ap (λ l. l ++ c) (is_b ∙ ap (λ l. l ++ b) is_a ∙ append_assoc old a b) ∙ append_assoc old (a ++ b) c)
     ∙ append_assoc old (a ++ b ++ c) d
 
-pub datom_written : (d : Datom) (old with_e with_a with_v whole : List ℕ) → with_e ≡ old ++ u64_bytes d.e → with_a ≡ with_e ++ u64_bytes d.a → with_v ≡ with_a ++ value_bytes d.v
+pub datom_written : (d : Datom) (old with_e with_a with_v whole : List ℕ)
+    → with_e ≡ old ++ u64_bytes d.e → with_a ≡ with_e ++ u64_bytes d.a → with_v ≡ with_a ++ value_bytes d.v
     → whole ≡ with_v ++ truth_bytes d.added → whole ≡ old ++ datom_bytes d
-datom_written d old with_e with_a with_v whole = four_written old (u64_bytes d.e) (u64_bytes d.a) (value_bytes d.v) (truth_bytes d.added) with_e with_a with_v whole
+datom_written d old with_e with_a with_v whole =
+    four_written old (u64_bytes d.e) (u64_bytes d.a) (value_bytes d.v) (truth_bytes d.added) with_e with_a with_v whole
 
 -- the values of storable datoms are storable
 pub values_storable : (t : ℕ) (ds : List Datom) → list_all (is_storable_datom 2 t) ds ≡ true → list_all has_storable_value ds ≡ true

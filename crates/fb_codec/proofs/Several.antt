@@ -11,20 +11,23 @@ module _ {A : Type 0} (read : List ℕ → Reading A) where
   abbrev pub with_front : List A → Reading (List A) → Reading (List A)
   with_front front reading = mapped (λ more. front ++ more) reading
 
-  one_more : (front : List A) (a : A) (reading : Reading (List A)) → with_front front (mapped (λ more. a ∷ more) reading) ≡ with_front (front ++ a ∷ []) reading
+  one_more : (front : List A) (a : A) (reading : Reading (List A))
+      → with_front front (mapped (λ more. a ∷ more) reading) ≡ with_front (front ++ a ∷ []) reading
   one_more front a (found more rest) = ap (λ items. found items rest) (sym (append_assoc front (a ∷ []) more))
   one_more front a (misfit rest) = refl
 
   abbrev next : ℕ → A → List ℕ → Reading (List A)
   next n a rest = mapped (λ more. a ∷ more) (several read n rest)
 
-  module _ (front : List A) (count i : ℕ) (here : List ℕ) (total : Reading (List A)) (so_far : with_front front (several read (count - i) here) ≡ total) where
+  module _ (front : List A) (count i : ℕ) (here : List ℕ) (total : Reading (List A))
+      (so_far : with_front front (several read (count - i) here) ≡ total) where
     first_of : i < count → with_front front (and_then (read here) (next (count - (i + 1)))) ≡ total
     first_of below =
         let more : count - i ≡ suc (count - (i + 1)) = omega arith in
         ap (λ n. with_front front (several read n here)) (sym more) ∙ so_far
 
-    pub goes_on : (a : A) (rest : List ℕ) → i < count → read here ≡ found a rest → with_front (front ++ a ∷ []) (several read (count - (i + 1)) rest) ≡ total
+    pub goes_on : (a : A) (rest : List ℕ) → i < count → read here ≡ found a rest
+        → with_front (front ++ a ∷ []) (several read (count - (i + 1)) rest) ≡ total
     goes_on a rest below is =
         sym (one_more front a (several read (count - (i + 1)) rest))
         ∙ ap (λ r. with_front front (and_then r (next (count - (i + 1))))) (sym is)

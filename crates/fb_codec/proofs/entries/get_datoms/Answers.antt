@@ -10,9 +10,10 @@ pub returns-in_err-datom : goal.returns-in_err-datom
 returns-in_err-datom c =
     let bytes = c.args.bytes.now in
     let read = read_datom c.args.format c.args.t in
+    let total = several read c.args.count (drop c.args.at bytes) in
     let exit = err_from_is_err_and c.from_residual-in_err-datom.result c.from_residual-in_err-datom.ensures.1 in
     rw (exit.1, exit.2)
-    (stops read c.loop.datoms.items c.args.count c.loop.counter (drop c.loop.end bytes) (several read c.args.count (drop c.args.at bytes)) c.loop.invariant.so_far
+    (stops read c.loop.datoms.items c.args.count c.loop.counter (drop c.loop.end bytes) total c.loop.invariant.so_far
     bytes _ c.loop-test.true c.in_err-datom.ensures)
 
 pub loop-preserved : goal.loop-preserved
@@ -20,8 +21,10 @@ loop-preserved c =
     let bytes = c.args.bytes.now in
     let read = read_datom c.args.format c.args.t in
     let total = several read c.args.count (drop c.args.at bytes) in
-    let behind = drop c.in_ok-datom.next bytes in record {
+    let behind = drop c.in_ok-datom.next bytes in
+    let others = several read (c.args.count - (c.loop.counter + 1)) behind in record {
       within = c.in_ok-datom.ensures.0;
-      so_far = subst (λ (items : List Datom). with_front read items (several read (c.args.count - (c.loop.counter + 1)) behind) ≡ total) (sym c.in_ok-push.ensures.items)
-          (goes_on read c.loop.datoms.items c.args.count c.loop.counter (drop c.loop.end bytes) total c.loop.invariant.so_far c.in_ok-datom.datom behind c.loop-test.true c.in_ok-datom.ensures.1);
+      so_far = subst (λ (items : List Datom). with_front read items others ≡ total) (sym c.in_ok-push.ensures.items)
+          (goes_on read c.loop.datoms.items c.args.count c.loop.counter (drop c.loop.end bytes) total c.loop.invariant.so_far
+          c.in_ok-datom.datom behind c.loop-test.true c.in_ok-datom.ensures.1);
     }

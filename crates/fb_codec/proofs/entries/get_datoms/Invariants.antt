@@ -9,5 +9,6 @@ abbrev pub invariant-loop : goal.invariant-loop
 invariant-loop l =
     let read = read_datom l.format l.t in record {
       within : l.end ≤ length l.bytes;
-      so_far : with_front read l.datoms.items (several read (l.count - l.counter) (drop l.end l.bytes)) ≡ several read l.count (drop l.at l.bytes);
+      so_far : with_front read l.datoms.items (several read (l.count - l.counter) (drop l.end l.bytes))
+          ≡ several read l.count (drop l.at l.bytes);
     }
