@@ -7,7 +7,7 @@ use Rattle.log_model.specs.Payload.{Says, holds, breaks_at}
 use Rattle.fb_codec.specs.declared.faults.BytesFault.{BytesFault}
 use Rattle.fb_codec.specs.declared.faults.BytesFault.TheVariants.{At, Memory}
 
--- what was found, and the place behind it
+-- what was found, and the place after it
 abbrev pub Finds : {A : Type 0} → List ℕ → A → ℕ → Reading A → Type 0
 Finds bytes a end reading = (end ≤ length bytes) × (reading ≡ found a (drop end bytes))
 

@@ -11,6 +11,6 @@ use Rattle.log_model.specs.Storable.{is_storable_value}
 abbrev pub has_storable_value : Datom → Bool
 has_storable_value d = is_storable_value written_format d.v
 
--- an entry at the front, whatever stands behind it
+-- an entry at the front, whatever follows it
 abbrev pub reads_entry : List ℕ → Reading Entry
 reads_entry bytes = and_then (that_fits is_format read_u8 bytes) read_fields

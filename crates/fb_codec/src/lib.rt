@@ -1,5 +1,5 @@
-//! The entries of the log as bytes, and back. A reader answers what stands at a place of some bytes with the place behind
-//! it, or the byte at which the first field begins that does not fit. A writer adds the bytes of its field at the end.
+//! The entries of the log as bytes, and back. A reader takes bytes and a place in them, and answers what it reads there with
+//! the place after it, or the byte at which the first field begins that does not fit. A writer appends its field's bytes.
 #![tactic(auto)]
 
 mod entries;

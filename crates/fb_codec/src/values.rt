@@ -1,4 +1,4 @@
-//! Values: a tag, and what stands behind it.
+//! Values: a tag, and the content after it.
 ghost use Rattle.std.specs.Prelude.{◌≡◌, ◌≤◌, ◌<◌, ◌^◌, ◌++◌, ◌∷◌, ℕ, length, drop, IsTrue, IfOk, OnOk, IsErrOf};
 ghost use Rattle.fb_codec.specs.Answers.{Gives};
 ghost use Rattle.fb_codec.specs.Tags.{byte_of};
@@ -34,7 +34,7 @@ pub fn get_value(
     get_content(alloc, bytes, behind, tag)
 }
 
-/// What stands behind a tag.
+/// The content after a tag.
 fn get_content(
     alloc: Global,
     bytes: &[u8],

@@ -1,7 +1,5 @@
-//! Tests of payloads and values as bytes: the documented ones, and some with bytes changed.
+//! Tests of entries and values as bytes.
 #![tactic(auto)]
 
 #[cfg(test)]
-mod payloads;
-#[cfg(test)]
-mod values;
+mod fb_codec_tests;

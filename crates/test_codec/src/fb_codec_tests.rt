@@ -1,9 +1,9 @@
-//! The documented payload, an entry of two datoms, and the byte at which it breaks if some of its bytes are changed. It
-//! begins at byte 24 of the documented log.
-use fb_codec::{BytesFault, entry_bytes, entry_of};
+//! The documented payload, with bytes changed and as it is, and values of each type.
+use fb_codec::{BytesFault, entry_bytes, entry_of, get_value, put_value};
 use std::alloc::Global;
 use std::test::Fail;
 
+/// An entry of two datoms, the second of which has the text `hi`. In the documented log it begins at byte 24.
 const PAYLOAD: [u8; 67] = [
     0x02, 0x00, 0x00, 0x00, 0x01, 0x00, 0x00, 0x01, 0x8c, 0xc2, 0x51, 0xf4, 0x00, 0x00, 0x00, 0x00,
     0x02, 0x00, 0x00, 0x0c, 0x00, 0x00, 0x00, 0x00, 0x01, 0x00, 0x00, 0x00, 0x00, 0x00, 0x00, 0x00,
@@ -72,14 +72,46 @@ fn payloads_of_another_length_break_at_their_end(rt: HostRuntime) -> Result<(), 
     Ok(())
 }
 
-fn written_again(alloc: Global, payload: &[u8]) -> Result<Vec<u8>, BytesFault> {
+fn entry_again(alloc: Global, payload: &[u8]) -> Result<Vec<u8>, BytesFault> {
     let entry = entry_of(alloc, payload)?;
     Ok(entry_bytes(alloc, &entry)?)
 }
 
 #[test]
 fn an_entry_is_written_as_it_was_read(rt: HostRuntime) -> Result<(), Fail> {
-    let written = written_again(rt.alloc(), &PAYLOAD)?;
+    let written = entry_again(rt.alloc(), &PAYLOAD)?;
     assert_eq!(rt; written.as_slice(), PAYLOAD.as_slice());
+    Ok(())
+}
+
+/// A value of each type, and a long text besides.
+const VALUES: [&[u8]; 10] = [
+    b"\x01\0\0\0\x03a/b",
+    b"\x02\0\0\0\0",
+    b"\x02\0\0\0\x17ein Wort mit 23 Bytes\xc3\x9f",
+    b"\x03\0",
+    b"\x04\xff\xff\xff\xff\xff\xff\xff\xfe",
+    b"\x05\0\0\x10\0\0\0\0\x01",
+    b"\x06\0\0\x01\x8c\xc2Q\xf4\0",
+    b"\x07\0\x01\x02\x03\x04\x05\x06\x07\x08\x09\x0a\x0b\x0c\x0d\x0e\x0f",
+    b"\x08\0\0\0\x01/",
+    b"\x09\0\0\0\x03a:b",
+];
+
+/// The value at the front of the bytes, as bytes, and the place behind it.
+fn value_again(alloc: Global, bytes: &[u8]) -> Result<(Vec<u8>, usize), BytesFault> {
+    let (value, end) = get_value(alloc, bytes, 0, 2)?;
+    let mut out = Vec::new(alloc);
+    put_value(&value, &mut out)?;
+    Ok((out, end))
+}
+
+#[test]
+fn values_are_written_as_they_were_read(rt: HostRuntime) -> Result<(), Fail> {
+    for bytes in VALUES {
+        let (written, end) = value_again(rt.alloc(), bytes)?;
+        assert_eq!(rt; written.as_slice(), bytes);
+        assert_eq!(rt; end, bytes.len());
+    }
     Ok(())
 }

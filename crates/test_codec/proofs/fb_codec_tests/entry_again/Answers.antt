@@ -2,7 +2,7 @@ use Rattle.std.proofs.Common.{arith}
 use Rattle.log_model.proofs.Entries.{says-IsPayloadOf, written-storable}
 use Rattle.log_model.proofs.Logs.{AreBytes-All}
 use Rattle.test_codec.proofs.Bytes.{are_bytes}
-use Rattle.test_codec.proofs.payloads.written_again.Goals as goal
+use Rattle.test_codec.proofs.fb_codec_tests.entry_again.Goals as goal
 
 -- what is read may be written
 pub entry_bytes-requires : goal.entry_bytes-requires
