@@ -1,0 +1,3 @@
+mod Learned
+mod Found
+mod Notes

@@ -1,0 +1,4 @@
+pub mod Sight
+pub mod Turning
+pub mod Glancing
+pub mod Seating
