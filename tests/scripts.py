@@ -20,7 +20,7 @@ class Row:
 
     def add(self, line):
         if line.startswith("-> "):
-            self.blocks[-1][1].append(line[3:].encode())
+            self.blocks[-1][1].append(with_numbers(line[3:]).encode())
         elif line.startswith("clock "):
             self.has_clock = True
         elif line:

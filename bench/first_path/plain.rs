@@ -115,7 +115,7 @@ fn main() -> io::Result<()> {
         line.clear();
         let last = &entries[entries.len() - 1];
         match asked(&form) {
-            None => writeln!(line, "{{:refused :read/not-built :at 0 :basis {}}}", last.t)?,
+            None => writeln!(line, "{{:refused :read/not-a-command :at 0 :basis {}}}", last.t)?,
             Some((tempid, doc)) => {
                 let t = last.t + 1;
                 let instant = now().max(last.instant + 1);

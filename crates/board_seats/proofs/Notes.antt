@@ -6,11 +6,10 @@ use Rattle.atomic_table.specs.Seated.{TableId}
 use Rattle.atomic_table.proofs.Lists.{at_longer, at_last, at_snoc}
 use Rattle.board_rule.specs.declared.seat.BoardSeat.{BoardSeat}
 use Rattle.board_rule.specs.declared.view.Code.{Code}
-use Rattle.board_rule.specs.declared.view.Joined.{Joined}
 use Rattle.board_rule.specs.declared.view.View.{View}
-use Rattle.board_rule.specs.Views.{longer, note_of, both, starting, newcomer, IsIdle}
+use Rattle.board_rule.specs.Views.{longer, note_of, both, starting, IsIdle}
 use Rattle.board_rule.specs.Calls.{view_of, board_of}
-use Rattle.board_seats.specs.Seating.{AreNew, AreIdle, AreNoted, IsNoted, IsNoteOf}
+use Rattle.board_seats.specs.Seating.{AreNew, AreIdle, AreNoted, IsNoted}
 
 module _ {A : Type 0} where
   at_middle : (l m : List A) (a : A) (n : ℕ) → length l ≡ n → get_elem? (l ++ a ∷ m) n ≡ some a

@@ -8,5 +8,5 @@ mod turns;
 
 pub use board_rule::{Board, BoardSeat, Held, Mailed, Mails, Named};
 pub use glances::glance;
-pub use seating::{Opened, gather, open};
+pub use seating::{Opened, Seated, gather, open};
 pub use turns::{add, end, end_seen, enter};

@@ -1,6 +1,7 @@
 //! How a board is opened with a seat for each session, and how the seats come together again.
-ghost use Rattle.std.specs.Prelude.{◌≡◌, ◌+◌, ◌<◌, ◌≤◌, [], length, None, IfOk};
+ghost use Rattle.std.specs.Prelude.{◌≡◌, ◌+◌, ◌<◌, ◌≤◌, [], map, length, None, IfOk};
 ghost use Rattle.std.specs.List.{All};
+ghost use Rattle.board_rule.specs.declared.seat.BoardSeat.{BoardSeat};
 ghost use Rattle.board_rule.specs.Views.{worker, IsLawful, codes, starting, IsIdle};
 ghost use Rattle.board_rule.specs.Calls.{view_of, board_of};
 ghost use Rattle.board_seats.specs.Seating.{AreNew, AreIdle, AreNoted};
@@ -76,15 +77,23 @@ pub fn open<H: Named, S: Mailed + Named<Entry = H::Entry>>(
     })
 }
 
-/// Joins seats to the first one, which keeps a note of each.
-pub fn gather<H: Named, S: Mailed + Named<Entry = H::Entry>>(
+/// What a caller keeps a seat in.
+pub trait Seated: Drop {
+    ghost seat: { Self → BoardSeat };
+
+    fn into_seat(self) -> BoardSeat
+        ensures { result ≡ seat self };
+}
+
+/// Joins seats to the first one, which keeps a note of each. It takes no memory.
+pub fn gather<H: Named, S: Mailed + Named<Entry = H::Entry>, T: Seated>(
     board: &Board<H, S>,
     first: &mut BoardSeat,
-    mut seats: Vec<BoardSeat>,
+    mut seats: Vec<T>,
 )
     requires seat { board_of first.old ≡ board.now.table.shared.table_id }
     requires idle { IsIdle (view_of first.old) }
-    requires seats { AreIdle board.now.table.shared.table_id seats.items }
+    requires seats { AreIdle board.now.table.shared.table_id (map T.seat seats.items) }
     ensures seat { board_of first.new ≡ board_of first.old }
     ensures gathered { view_of first.new
         ≡ record (view_of first.old) {
@@ -92,9 +101,9 @@ pub fn gather<H: Named, S: Mailed + Named<Entry = H::Entry>>(
           seen = (view_of first.new).seen;
           joined = (view_of first.new).joined;
         } }
-    ensures noted { AreNoted seats.items (view_of first.new) }
+    ensures noted { AreNoted (map T.seat seats.items) (view_of first.new) }
 {
     while let Some(seat) = seats.pop() {
-        step_join(board, first, seat);
+        step_join(board, first, seat.into_seat());
     }
 }

@@ -13,13 +13,12 @@ use std::alloc::Global;
 /// The number of the one session.
 pub(crate) const SESSION: u32 = 0;
 
-/// How often the desk was called, and what it answered.
+/// How often the desk was called, and what it did then.
 #[derive(Clone, Copy)]
 pub struct Counts {
     pub calls: u64,
     pub glances: u64,
-    pub syncs: u64,
-    pub unaccepted: u64,
+    pub loads: u64,
 }
 
 /// The desk of a core's one session.
@@ -33,12 +32,12 @@ pub struct CoreDesk {
     ghost alone: { IsAlone core commits.items } by { Prim.hlevel props },
     ghost few_calls: { counts.calls ≤ 2 ^ 32 },
     ghost few_glances: { counts.glances ≤ counts.calls },
-    ghost few_syncs: { counts.syncs ≤ counts.calls },
-    ghost few_unaccepted: { counts.unaccepted ≤ counts.calls },
+    ghost few_loads: { counts.loads ≤ counts.calls },
 }
 
 impl CoreDesk {
-    ghost use Rattle.core_desk.specs.States.{state_of, as_opened};
+    ghost use Rattle.fb_desk.specs.Desks.{as_opened};
+    ghost use Rattle.core_desk.specs.States.{state_of};
 
     /// The desk of a core to which nobody has written since the opening. It takes no memory.
     pub fn new(alloc: Global, core: Core) -> CoreDesk
@@ -52,8 +51,7 @@ impl CoreDesk {
             counts: Counts {
                 calls: 0,
                 glances: 0,
-                syncs: 0,
-                unaccepted: 0,
+                loads: 0,
             },
         }
     }

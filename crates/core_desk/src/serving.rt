@@ -7,7 +7,7 @@ ghost use Rattle.fb_desk.specs.Desks.{GoesOn};
 use crate::alone::{CoreDesk, SESSION};
 use edn_form::Edn;
 use fb_core::{Draft, a_beginning_stays_one};
-use fb_desk::{Desk, Glance, Receipt, TxFault};
+use fb_desk::{Desk, Glance, Receipt, Reply, TxFault};
 use fb_memory::Memory;
 use fb_merge::{MergeStop, merged};
 use fb_ports::Clock;
@@ -72,24 +72,26 @@ impl Desk for CoreDesk {
         self.core.snapshot()
     }
 
-    fn transact<R: Threads + Wait + Sync, K: Clock, G: Guard<Snapshot>>(
+    fn transact<R: Threads + Wait + Sync, K: Clock, G: Guard<Snapshot>, A: Reply>(
         &mut self,
         _rt: &R,
         clock: &K,
         guard: &G,
         asked: &Edn,
+        reply: &mut A,
     ) -> Result<Receipt, TxFault> {
         refusals_do_not_depend_on_the_clock();
         make_room(&mut self.commits)?;
         match self.core.decide(asked, clock.now(), SESSION, guard) {
             Ok(draft) => {
                 let snapshot = draft.after().share()?;
+                reply.receipt(snapshot.basis(), draft.tempids())?;
                 Ok(self.accept(draft, snapshot))
             }
             Err(TxStop::Refused(refusal)) => {
                 let snapshot = self.core.snapshot().share()?;
                 self.counts.calls += 1;
-                self.counts.unaccepted += 1;
+                self.counts.loads += 1;
                 Err(TxFault::Refused { refusal, snapshot })
             }
             Err(TxStop::Memory) => Err(TxFault::Memory),
@@ -106,7 +108,7 @@ impl Desk for CoreDesk {
     fn sync<R: Threads + Wait + Sync>(&mut self, _rt: &R) -> Result<Snapshot, Memory> {
         let snapshot = self.core.snapshot().share()?;
         self.counts.calls += 1;
-        self.counts.syncs += 1;
+        self.counts.loads += 1;
         Ok(snapshot)
     }
 

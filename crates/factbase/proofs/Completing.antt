@@ -10,7 +10,7 @@ use Rattle.edn_core.specs.Answers.{fault_of}
 use Rattle.fb_ports.specs.Faults.{Rose}
 use Rattle.fb_ports.specs.Told.{Told}
 use Rattle.fb_view.specs.Kept.{Kept}
-use Rattle.script_model.specs.Words.{Command, run, sink_of}
+use Rattle.factbase.specs.Words.{Command, run, sink_of}
 use Rattle.script_model.specs.Script.{Ending, whole, fault, too_many, Script}
 use Rattle.script_model.proofs.OneScript.{OneReading, one_script}
 use Rattle.talk_model.specs.Session.{Setting}

@@ -10,13 +10,12 @@ use Rattle.fb_model.specs.FirstEntry.{first_entry}
 use Rattle.fb_core.specs.declared.shared.CoreParts.{CoreParts}
 use Rattle.fb_core.specs.Cores.{CoreStands}
 use Rattle.fb_core.specs.Worlds.{commits_behind}
-use Rattle.fb_desk.specs.Desks.{State}
-use Rattle.core_desk.specs.States.{as_opened}
+use Rattle.fb_desk.specs.Desks.{State, WentOn, as_opened}
 use Rattle.fb_ports.specs.Told.{Told}
 use Rattle.fb_view.specs.Kept.{Kept}
-use Rattle.script_model.specs.Words.{Command, run, sink_of}
+use Rattle.factbase.specs.Words.{Command, run, sink_of}
 use Rattle.talk_model.specs.Session.{setting}
-use Rattle.fb_session.specs.Sessions.{Terms, WentOn}
+use Rattle.fb_session.specs.Sessions.{Terms}
 use Rattle.fb_session.specs.Replies.{SessionRun, Replies}
 use Rattle.factbase.specs.declared.outcome.SessionOut.{SessionOut}
 use Rattle.factbase.specs.declared.outcome.Outcome.{Outcome}

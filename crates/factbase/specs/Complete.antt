@@ -7,7 +7,7 @@ use Rattle.edn_model.specs.Form.{Form}
 use Rattle.fb_view.specs.Kept.{Kept}
 use Rattle.fb_ports.specs.Faults.{Rose}
 use Rattle.fb_ports.specs.Told.{Told}
-use Rattle.script_model.specs.Words.{Command, run, sink_of}
+use Rattle.factbase.specs.Words.{Command, run, sink_of}
 use Rattle.script_model.specs.Script.{whole, Script}
 use Rattle.talk_model.specs.Session.{Setting, Standing, opened_at}
 use Rattle.talk_model.specs.Talk.{Exchange, forms_of, places_of, lines_of, commits_of, Talk}

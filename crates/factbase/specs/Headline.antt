@@ -10,7 +10,7 @@ use Rattle.fb_model.specs.History.{basis}
 use Rattle.fb_model.specs.Lawful.{IsLawful}
 use Rattle.fb_core.specs.Worlds.{commits_behind}
 use Rattle.fb_ports.specs.Told.{Told}
-use Rattle.script_model.specs.Words.{Command}
+use Rattle.factbase.specs.Words.{Command}
 use Rattle.fb_session.specs.Sessions.{Terms}
 use Rattle.fb_session.specs.Replies.{Replies}
 use Rattle.factbase.specs.declared.outcome.SessionOut.{SessionOut}

@@ -1,3 +1,4 @@
+pub mod Words
 pub mod StatusLines
 pub mod Outside
 pub mod Headline

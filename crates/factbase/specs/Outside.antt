@@ -3,7 +3,7 @@
 use Rattle.std.specs.Prelude.{ℕ, ◌+◌, Bool, List, [], ◌∷◌, Option, Some, None}
 use Rattle.fb_values.specs.declared.facts.Entry.{Entry}
 use Rattle.fb_ports.specs.Told.{Told}
-use Rattle.script_model.specs.Words.{Command, run, sink_of}
+use Rattle.factbase.specs.Words.{Command, run, sink_of}
 use Rattle.talk_model.specs.Session.{Setting, setting}
 use Rattle.fb_session.specs.Sessions.{Terms}
 use Rattle.fb_session.specs.Replies.{SessionRun}

@@ -1,6 +1,7 @@
 //! Factbase: a database of immutable facts.
 #![tactic(auto)]
 
+mod examples;
 mod lines;
 mod outcome;
 mod run;

@@ -5,7 +5,7 @@ ghost use Rattle.std.specs.List.{AllByRecursion};
 ghost use Rattle.fb_model.specs.History.{basis};
 ghost use Rattle.fb_model.specs.FirstEntry.{first_entry};
 ghost use Rattle.fb_ports.specs.Faults.{CountsOpening};
-ghost use Rattle.script_model.specs.Words.{command_of, sink_of};
+ghost use Rattle.factbase.specs.Words.{command_of, sink_of};
 ghost use Rattle.talk_model.specs.Prefixes.{Prefixes};
 ghost use Rattle.fb_session.specs.Sessions.{terms_of};
 ghost use Rattle.factbase.specs.Outside.{tells_of};

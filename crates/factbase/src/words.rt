@@ -1,7 +1,7 @@
 //! The words of the command line.
 ghost use Rattle.std.specs.Prelude.{◌≡◌, map, string_bytes, IfOk};
 ghost use Rattle.std.specs.Option.{option_map};
-ghost use Rattle.script_model.specs.Words.{run, is_name, command_of, sink_of};
+ghost use Rattle.factbase.specs.Words.{run, is_name, command_of, sink_of};
 
 use fb_ports::Memory;
 use std::alloc::Global;

@@ -3,27 +3,9 @@ use edn_form::Edn;
 use fb_text::Text;
 use fb_values::Order;
 
-/// A command, with the forms that stand behind its word.
+/// What is looked at, of what the session has seen, with the forms that stand behind its word.
 #[derive(Clone, Copy)]
-pub enum Command<'a> {
-    /// `[:transact forms]`
-    Transact(&'a Edn),
-    /// `[:db]`: what the session sees.
-    Db,
-    /// `[:sync]`: what there is to see.
-    Sync,
-    /// `[:as-of point]`
-    AsOf(&'a Edn),
-    /// `[:since point]`
-    Since(&'a Edn),
-    /// `[:history]`
-    History,
-    /// `[:filter :name]`
-    Filter(&'a Text),
-    /// `[:unfilter]`
-    Unfilter,
-    /// `[:request-index]`
-    RequestIndex,
+pub enum Look<'a> {
     /// `[:datoms index c ..]`
     Datoms(Order, &'a [Edn]),
     /// `[:seek index c ..]`
@@ -34,4 +16,57 @@ pub enum Command<'a> {
     TxRange(&'a Edn, &'a Edn),
     /// `[:pull pattern entity]`
     Pull(&'a Edn, &'a Edn),
+}
+
+/// What changes in the view of the looks behind it.
+#[derive(Clone, Copy)]
+pub enum Turn<'a> {
+    /// `[:as-of point]`
+    AsOf(&'a Edn),
+    /// `[:since point]`
+    Since(&'a Edn),
+    /// `[:history]`
+    History,
+    /// `[:filter :name]`
+    Filter(&'a Text),
+    /// `[:unfilter]`
+    Unfilter,
+}
+
+/// A command that is answered of what its session has seen.
+#[derive(Clone, Copy)]
+pub enum Read<'a> {
+    Look(Look<'a>),
+    Turn(Turn<'a>),
+    /// `[:request-index]`
+    RequestIndex,
+}
+
+#[derive(Clone, Copy)]
+pub enum Command<'a> {
+    /// `[:transact forms]`
+    Transact(&'a Edn),
+    /// `[:db]`: what the session sees.
+    Db,
+    /// `[:sync]`: what there is to see.
+    Sync,
+    Read(Read<'a>),
+}
+
+impl<'a> Command<'a> {
+    ghost use Rattle.std.specs.Prelude.{◌≡◌};
+    ghost use Rattle.talk_model.specs.Commands as model;
+    ghost use Rattle.fb_commands.specs.Asked.{asked, looked, turned};
+
+    pub(crate) fn look(what: Look<'a>) -> Command<'a>
+        ensures { asked result ≡ model.looks (looked what.entry) }
+    {
+        Command::Read(Read::Look(what))
+    }
+
+    pub(crate) fn turn(what: Turn<'a>) -> Command<'a>
+        ensures { asked result ≡ model.turns (turned what.entry) }
+    {
+        Command::Read(Read::Turn(what))
+    }
 }

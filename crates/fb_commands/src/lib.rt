@@ -4,5 +4,5 @@
 mod commands;
 mod reading;
 
-pub use commands::Command;
+pub use commands::{Command, Look, Read, Turn};
 pub use reading::command_in;

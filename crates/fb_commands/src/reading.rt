@@ -6,7 +6,7 @@ ghost use Rattle.edn_form.specs.View.{form_of, forms_of};
 ghost use Rattle.talk_model.specs.Commands as model;
 ghost use Rattle.fb_commands.specs.Asked.{asked};
 
-use crate::commands::Command;
+use crate::commands::{Command, Look, Read, Turn};
 use edn_form::Edn;
 use fb_text::Text;
 use fb_values::Order;
@@ -53,9 +53,9 @@ fn alone<'a>(word: &str) -> Option<Command<'a>>
     match word {
         "db" => Some(Command::Db),
         "sync" => Some(Command::Sync),
-        "history" => Some(Command::History),
-        "unfilter" => Some(Command::Unfilter),
-        "request-index" => Some(Command::RequestIndex),
+        "history" => Some(Command::turn(Turn::History)),
+        "unfilter" => Some(Command::turn(Turn::Unfilter)),
+        "request-index" => Some(Command::Read(Read::RequestIndex)),
         _ => None,
     }
 }
@@ -67,9 +67,9 @@ fn before_one<'a>(word: &str, x: &'a Edn) -> Option<Command<'a>>
 {
     match word {
         "transact" => Some(Command::Transact(x)),
-        "as-of" => Some(Command::AsOf(x)),
-        "since" => Some(Command::Since(x)),
-        "filter" => Some(Command::Filter(name_in(x)?)),
+        "as-of" => Some(Command::turn(Turn::AsOf(x))),
+        "since" => Some(Command::turn(Turn::Since(x))),
+        "filter" => Some(Command::turn(Turn::Filter(name_in(x)?))),
         _ => of_an_index(word, x, &[]),
     }
 }
@@ -81,8 +81,8 @@ fn before_two<'a>(word: &str, x: &'a Edn, y: &'a Edn, rest: &'a [Edn]) -> Option
         (model.beside word.now (model.before (form_of x.now ∷ form_of y.now ∷ []))) }
 {
     match word {
-        "tx-range" => Some(Command::TxRange(x, y)),
-        "pull" => Some(Command::Pull(x, y)),
+        "tx-range" => Some(Command::look(Look::TxRange(x, y))),
+        "pull" => Some(Command::look(Look::Pull(x, y))),
         _ => of_an_index(word, x, rest),
     }
 }
@@ -100,7 +100,7 @@ fn before_three<'a>(
         (model.before (form_of x.now ∷ form_of y.now ∷ form_of z.now ∷ []))) }
 {
     match word {
-        "index-range" => Some(Command::IndexRange(x, y, z)),
+        "index-range" => Some(Command::look(Look::IndexRange(x, y, z))),
         _ => of_an_index(word, x, rest),
     }
 }
@@ -112,8 +112,8 @@ fn of_an_index<'a>(word: &str, index: &'a Edn, components: &'a [Edn]) -> Option<
         (model.beside word.now (model.of_an_index (form_of index.now) (forms_of components.now))) }
 {
     match word {
-        "datoms" => Some(Command::Datoms(order_in(index)?, components)),
-        "seek" => Some(Command::Seek(order_in(index)?, components)),
+        "datoms" => Some(Command::look(Look::Datoms(order_in(index)?, components))),
+        "seek" => Some(Command::look(Look::Seek(order_in(index)?, components))),
         _ => None,
     }
 }

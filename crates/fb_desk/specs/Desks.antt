@@ -1,6 +1,6 @@
 -- What a session knows of the database through its desk, and what each answer of the desk says of that.
 -- Restates Transactions of Datomic's documentation (transact, db, sync); the rest is this project's own choice.
-use Rattle.std.specs.Prelude.{◌≡◌, ◌⊎◌, ℕ, ℤ, ◌+◌, ◌≤◌, Bool, true, false, List, [], ◌∷◌, ◌++◌, Option, Some, None}
+use Rattle.std.specs.Prelude.{◌≡◌, ◌⊎◌, ℕ, ℤ, ◌+◌, ◌^◌, ◌≤◌, Bool, true, false, List, [], ◌∷◌, ◌++◌, Option, Some, None}
 use Rattle.edn_model.specs.Form.{Form}
 use Rattle.fb_values.specs.declared.facts.Entry.{Entry}
 use Rattle.fb_model.specs.History.{basis}
@@ -14,11 +14,11 @@ use Rattle.fb_desk.specs.declared.answers.TxFault.TheVariants.{Refused, LogFault
 use Rattle.fb_desk.specs.declared.answers.Glance.{Glance}
 use Rattle.fb_desk.specs.declared.answers.Glance.TheVariants.{Fresh, Held}
 
--- how often a desk was asked what was mailed, answered all that there was, and answered a transaction that it did not accept
+-- how often a desk was asked what was mailed, and how often it read what there was in full: for each sync that it answered, and
+-- for each transaction that it answered and did not accept
 pub record Tally : Type 0 where
   pub glances : ℕ
-  pub syncs : ℕ
-  pub unaccepted : ℕ
+  pub loads : ℕ
 
 pub record State : Type 0 where
   -- the history of the last snapshot that the desk was answered
@@ -33,30 +33,51 @@ pub record State : Type 0 where
   pub tally : Tally
   -- how many calls it takes yet
   pub left : ℕ
+  -- which desk this is: no two desks of one database have the same
+  pub seat : List ℕ
+
+abbrev pub most_calls : ℕ
+most_calls = 2 ^ 32
+
+-- a database that has just been opened, of which nothing was asked
+abbrev pub as_opened : List Entry → State
+as_opened h = record {
+  entries = h;
+  opening = basis h;
+  commits = [];
+  stop = None;
+  teller = false;
+  tally = record { glances = 0; loads = 0 };
+  left = most_calls;
+  seat = [];
+}
 
 abbrev pub glanced : Tally → Tally
 glanced tally = record tally { glances = tally.glances + 1 }
 
-abbrev pub synced : Tally → Tally
-synced tally = record tally { syncs = tally.syncs + 1 }
+abbrev pub loaded : Tally → Tally
+loaded tally = record tally { loads = tally.loads + 1 }
 
-abbrev pub not_accepted : Tally → Tally
-not_accepted tally = record tally { unaccepted = tally.unaccepted + 1 }
-
--- The history has all that was seen before, since the same opening, and stays lawful. A log that has stopped stays so. A
--- call is used up at most.
-pub record GoesOn (old new : State) : Type 0 where
+-- The desk has seen all that was seen before, since the same opening, and what it has seen stays lawful. Once it was told of a
+-- log that has stopped, that stays so.
+pub record WentOn (old new : State) : Type 0 where
   pub more : List Entry
   pub entries : new.entries ≡ old.entries ++ more
   pub lawful : IsLawful old.entries → IsLawful new.entries
   pub opening : new.opening ≡ old.opening
   pub stop : (old.stop ≡ None) ⊎ ((new.stop ≡ old.stop) × (new.teller ≡ old.teller))
+  pub seat : new.seat ≡ old.seat
+
+-- by one call at most
+pub record GoesOn (old new : State) : Type 0 where
+  pub went_on : WentOn old new
   pub left : old.left ≤ new.left + 1
 
--- The transaction is the last of the history that is seen now: its entry is what the step gives after the entries before
--- it, which have all that was seen, at a number that the clock may read.
+-- The desk was told of no stop. The transaction is the last of the history that is seen now: its entry is what the step gives
+-- after the entries before it, which have all that was seen, at a number that the clock may read.
 pub record IsReceipt (may : ℤ → Type 0) (guard : Guard) (asked : Form) (old new : State)
     (receipt : Receipt) : Type 0 where
+  pub untold : old.stop ≡ None
   pub others : List Entry
   pub reading : ℤ
   pub may_be : may reading
@@ -73,12 +94,13 @@ pub record IsReceipt (may : ℤ → Type 0) (guard : Guard) (asked : Form) (old 
 -- no transaction of the desk was accepted, and this is the database that it was answered
 pub record IsNotAccepted (old new : State) (snapshot : Kept) : Type 0 where
   pub commits : new.commits ≡ old.commits
-  pub tally : new.tally ≡ not_accepted old.tally
+  pub tally : new.tally ≡ loaded old.tally
   pub snapshot_is : snapshot.entries ≡ new.entries
 
--- it is refused at the history that is seen now, whatever the clock reads
+-- the desk was told of no stop, and it is refused at the history that is seen now, whatever the clock reads
 pub record IsRefusal (guard : Guard) (asked : Form) (old new : State) (refusal : Refusal)
     (snapshot : Kept) : Type 0 where
+  pub untold : old.stop ≡ None
   pub step_is : (reading : ℤ) → step new.entries asked reading guard ≡ refused refusal
   pub rest : IsNotAccepted old new snapshot
 

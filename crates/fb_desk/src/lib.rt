@@ -6,4 +6,4 @@ mod answers;
 mod desk;
 
 pub use answers::{Glance, Receipt, TxFault};
-pub use desk::Desk;
+pub use desk::{Desk, Reply};

@@ -2,3 +2,4 @@ pub mod Orders
 pub mod Scanned
 pub mod Naming
 pub mod Answered
+pub mod Pulled

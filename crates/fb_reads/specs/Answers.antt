@@ -1,20 +1,35 @@
 -- What a read answers, and where its session stands behind it.
 -- This project's own choice.
-use Rattle.std.specs.Prelude.{ℕ, Bool, List, Result, Ok, Err}
+use Rattle.std.specs.Prelude.{ℕ, Bool, List, Option, is_some, map, Result, Ok, Err}
 use Rattle.edn_model.specs.Form.{Form}
+use Rattle.fb_values.specs.declared.facts.Datom.{Datom}
+use Rattle.fb_values.specs.declared.facts.Entry.{Entry}
 use Rattle.view_model.specs.Window.{Window}
 use Rattle.read_refusals.specs.declared.reasons.Reason.TheVariants.{NoFilter}
 use Rattle.read_refusals.specs.declared.reasons.Refusal.{Refusal}
 use Rattle.read_model.specs.Given.{refusal}
 use Rattle.talk_model.specs.Replies.{IsLineOf}
 use Rattle.talk_model.specs.Reads.{refused}
-use Rattle.talk_model.specs.Session.{Standing}
+use Rattle.talk_model.specs.Session.{Standing, Sight, SelectedBy}
+use Rattle.fb_preds.specs.Naming.{selected_by}
 use Rattle.fb_names.specs.declared.stops.NameStop.{NameStop}
 use Rattle.fb_names.specs.declared.stops.NameStop.TheVariants.{Refused, Memory}
 
 -- the line is that of such a reply
 abbrev pub Says : (Form → Type 0) → List ℕ → Type 0
 Says IsAnswer line = (reply : Form) × IsAnswer reply × IsLineOf reply line
+
+-- what a read has of a view whose filters stand at these places of a table
+abbrev pub sight_in : (List ℕ → Option ℕ) → (ℕ → List ℕ) → (ℕ → Datom → Type 0) → List Entry → Window
+    → List ℕ → Sight
+sight_in place_of name_at SelectsAt h w places =
+    record {
+      history = h;
+      window = w;
+      filters = map name_at places;
+      Selects = SelectedBy (selected_by place_of SelectsAt) (map name_at places);
+      is_filter = λ name. is_some (place_of name);
+    }
 
 -- the line is that of the refusal; there is none of want of memory
 abbrev pub IsRefused : ℕ → NameStop → List ℕ → Type 0

@@ -1,8 +1,9 @@
-//! Answers the commands of a session that record nothing, and what is no command: one line each, of what the session has
+//! Answers the reads of a session, and what is no command: one line each, of what the session has
 //! seen, and the change of what it sees.
 #![tactic(auto)]
 
 mod lines;
+mod pulls;
 mod reads;
 mod scans;
 mod views;

@@ -1,7 +1,7 @@
 //! The lines of refusals.
-ghost use Rattle.std.specs.Prelude.{OnOk, codes};
+ghost use Rattle.std.specs.Prelude.{OnOk};
 ghost use Rattle.read_model.specs.Components.{no_command};
-ghost use Rattle.talk_model.specs.Replies.{refusal_reply, IsLineOf};
+ghost use Rattle.talk_model.specs.Replies.{IsLineOf};
 ghost use Rattle.talk_model.specs.Reads.{refused};
 ghost use Rattle.fb_reads.specs.Answers.{IsRefused};
 
@@ -9,9 +9,6 @@ use fb_memory::Memory;
 use fb_names::NameStop;
 use fb_replies::write_refusal;
 use read_refusals::{Reason, Refusal};
-
-/// The keyword of what this program does not answer yet.
-const NOT_BUILT: &str = "read/not-built";
 
 pub fn refuse(line: &mut Vec<u8>, refusal: Refusal, basis: u32) -> Result<(), Memory>
     ensures { OnOk result (IsLineOf (refused basis refusal) line.new.items) }
@@ -38,12 +35,4 @@ pub fn not_a_command(line: &mut Vec<u8>, basis: u32) -> Result<(), Memory>
         at: 0,
     };
     refuse(line, refusal, basis)
-}
-
-/// The line of a Pull.
-pub fn not_built(line: &mut Vec<u8>, basis: u32) -> Result<(), Memory>
-    ensures { OnOk result
-        (IsLineOf (refusal_reply (codes "read/not-built") 0 basis) line.new.items) }
-{
-    write_refusal(line, NOT_BUILT, 0, basis)
 }

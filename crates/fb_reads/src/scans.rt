@@ -36,8 +36,7 @@ pub fn answer_datoms<S: Selector>(
     line: &mut Vec<u8>,
 ) -> Result<(), Memory>
     ensures { OnOk result (Says
-        (HasDatomsAt view.now.snapshot.entries (window_of view.now) (S.selects view.now.filter)
-        (basis view.now.snapshot.entries) order leading (forms_of given.now))
+        (HasDatomsAt view.now.snapshot.entries (window_of view.now) (S.selects view.now.filter) order leading (forms_of given.now))
         line.new.items) }
 {
     match components(alloc, view, order, given) {
@@ -58,8 +57,7 @@ pub fn answer_seek<S: Selector>(
     line: &mut Vec<u8>,
 ) -> Result<(), Memory>
     ensures { OnOk result (Says
-        (HasDatomsAt view.now.snapshot.entries (window_of view.now) (S.selects view.now.filter)
-        (basis view.now.snapshot.entries) order not_below (forms_of given.now))
+        (HasDatomsAt view.now.snapshot.entries (window_of view.now) (S.selects view.now.filter) order not_below (forms_of given.now))
         line.new.items) }
 {
     match components(alloc, view, order, given) {
@@ -82,7 +80,7 @@ pub fn answer_index_range<S: Selector>(
 ) -> Result<(), Memory>
     ensures { OnOk result (Says
         (HasDatomsBetween view.now.snapshot.entries (window_of view.now) (S.selects view.now.filter)
-        (basis view.now.snapshot.entries) (form_of a.now) (form_of start.now) (form_of end.now))
+        (form_of a.now) (form_of start.now) (form_of end.now))
         line.new.items) }
 {
     match fb_names::index_range(alloc, view, a, start, end) {
@@ -125,7 +123,7 @@ pub fn answer_tx_range(
 ) -> Result<(), Memory>
     ensures { OnOk result (Says
         (Shows (basis snapshot.now.entries)
-        (HasTransactions snapshot.now.entries (basis snapshot.now.entries))
+        (HasTransactions snapshot.now.entries)
         (model_log_range snapshot.now.entries (form_of start.now) (form_of end.now)))
         line.new.items) }
 {

@@ -1,4 +1,4 @@
-//! The commands that change what the reads behind them see. The line is written first, so that a view changes only where all
+//! The turns of a view: what changes in what the looks behind them see. The line is written first, so that a view changes only where all
 //! went well.
 ghost use Rattle.std.specs.Prelude.{◌≡◌, ◌∷◌, ◌++◌, [], OnOk, OnErr, if◌then◌else◌, is_some, map};
 ghost use Rattle.edn_form.specs.View.{form_of};
@@ -7,8 +7,8 @@ ghost use Rattle.view_model.specs.Window as window;
 ghost use Rattle.fb_db.specs.Seen.{window_of};
 ghost use Rattle.read_model.specs.Points.{point_in};
 ghost use Rattle.talk_model.specs.Replies.{done_reply, IsLineOf};
-ghost use Rattle.talk_model.specs.Reads.{Shows, IsDone, refused};
-ghost use Rattle.fb_reads.specs.Answers.{Says, narrowed, no_filter as model_no_filter};
+ghost use Rattle.talk_model.specs.Reads.{done_at, refused};
+ghost use Rattle.fb_reads.specs.Answers.{narrowed, no_filter as model_no_filter};
 
 use crate::lines::refuse;
 use edn_form::Edn;
@@ -26,8 +26,8 @@ pub fn see_as_of<S: Selector>(
     form: &Edn,
     line: &mut Vec<u8>,
 ) -> Result<(), Memory>
-    ensures line { OnOk result (Says
-        (Shows (basis view.old.snapshot.entries) (IsDone (basis view.old.snapshot.entries))
+    ensures line { OnOk result (IsLineOf
+        (done_at (basis view.old.snapshot.entries)
         (point_in view.old.snapshot.entries (form_of form.now)))
         line.new.items) }
     ensures window { OnOk result (window_of view.new
@@ -54,8 +54,8 @@ pub fn see_since<S: Selector>(
     form: &Edn,
     line: &mut Vec<u8>,
 ) -> Result<(), Memory>
-    ensures line { OnOk result (Says
-        (Shows (basis view.old.snapshot.entries) (IsDone (basis view.old.snapshot.entries))
+    ensures line { OnOk result (IsLineOf
+        (done_at (basis view.old.snapshot.entries)
         (point_in view.old.snapshot.entries (form_of form.now)))
         line.new.items) }
     ensures window { OnOk result (window_of view.new

@@ -6,9 +6,10 @@ use Rattle.edn_model.specs.Form as edn
 use Rattle.edn_model.specs.Form.{Form, forms, pairs}
 use Rattle.edn_model.specs.Canon.{Canon, CanonAll, CanonPairs}
 use Rattle.edn_print.specs.Printed.{Appends}
+use Rattle.edn_print.specs.Printable.{printable}
 use Rattle.fb_values.specs.declared.facts.Datom.{Datom}
 use Rattle.fb_values.specs.declared.facts.Entry.{Entry}
-use Rattle.talk_model.specs.Replies.{number, vector, map_of, tempid_pair, datom_form, transaction_form, receipt, basis_reply, done_reply, datoms_reply, transactions_reply, refusal_reply, fault_reply, IsLineOf}
+use Rattle.talk_model.specs.Replies.{number, vector, map_of, tempid_pair, datom_form, transaction_form, receipt, basis_reply, done_reply, datoms_reply, transactions_reply, pull_reply, refusal_reply, fault_reply, IsLineOf}
 use Rattle.fb_replies.specs.Faults.{place_text}
 
 -- ---- fields
@@ -88,6 +89,11 @@ pub transactions_line : (basis : ℕ) (facts : List Datom) (entries : List Entry
 transactions_line basis facts entries l0 l1 l2 l3 l4 e0 e1 e2 a e4 =
     let inside = vector_text (map (transaction_form facts) entries) a.text a.is in
     (numbered (codes "basis") basis (codes "txs") (in_brackets a.text), numbered_text (codes "basis") (codes "txs") basis (vector (map (transaction_form facts) entries)) (in_brackets a.text) inside, simp (e4, a.behind, e2, e1, e0, append_assoc, append-nil))
+
+pub pull_line : (basis : ℕ) (tree : Form) (l0 l1 l2 l3 l4 : List ℕ) → l0 ≡ codes "{:basis " → l1 ≡ l0 ++ decimal basis → l2 ≡ l1 ++ codes " :pull "
+    → Appends (Canon (printable tree)) l2 l3 → l4 ≡ l3 ++ codes "}\n" → IsLineOf (pull_reply basis tree) l4
+pull_line basis tree l0 l1 l2 l3 l4 e0 e1 e2 a e4 =
+    (numbered (codes "basis") basis (codes "pull") a.text, numbered_text (codes "basis") (codes "pull") basis (printable tree) a.text a.is, simp (e4, a.behind, e2, e1, e0, append_assoc, append-nil))
 
 -- of a keyword and two numbers
 abbrev placed : List ℕ → List ℕ → ℕ → ℕ → List ℕ

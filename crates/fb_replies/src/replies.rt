@@ -1,12 +1,15 @@
 //! The lines themselves. Each call puts the whole line, with its line feed, in place of what the buffer held. Where memory runs
 //! out nothing is promised of the buffer.
 ghost use Rattle.std.specs.Prelude.{◌≡◌, ◌++◌, IsTrue, OnOk, map};
-ghost use Rattle.talk_model.specs.Replies.{receipt, basis_reply, done_reply, datoms_reply, transactions_reply, refusal_reply, fault_reply, IsLineOf};
+ghost use Rattle.talk_model.specs.Replies.{receipt, basis_reply, done_reply, datoms_reply, transactions_reply, pull_reply, refusal_reply, fault_reply, IsLineOf};
+ghost use Rattle.edn_form.specs.View.{form_of};
 ghost use Rattle.fb_replies.specs.Texts.{have_texts, entries_have_texts};
 ghost use Rattle.fb_replies.specs.Faults.{word_of, place_text};
 
 use crate::datoms::{append_datoms, append_transactions};
 use crate::tokens::{append, append_count, append_tempids, begin};
+use edn_form::Edn;
+use edn_print::print;
 use fb_memory::Memory;
 use fb_schema::Schema;
 use fb_text::Text;
@@ -96,6 +99,17 @@ pub fn write_transactions(
     append(line, b" :txs [")?;
     append_transactions(line, schema, entries)?;
     append(line, b"]}\n")
+}
+
+/// `{:basis 3 :pull tree}`
+pub fn write_pull(line: &mut Vec<u8>, basis: u32, tree: &Edn) -> Result<(), Memory>
+    ensures { OnOk result (IsLineOf (pull_reply basis (form_of tree.now)) line.new.items) }
+{
+    begin(line, b"{:basis ")?;
+    append_count(line, u64::from(basis))?;
+    append(line, b" :pull ")?;
+    print(tree, line)?;
+    append(line, b"}\n")
 }
 
 /// `{:refused :read/bad-point :at 1 :basis 3}`: the keyword, without its colon, says why, and `at` is the place in the command.

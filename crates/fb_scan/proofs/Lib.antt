@@ -3,4 +3,5 @@ pub mod Meeting
 pub mod Ending
 pub mod Going
 pub mod Log
+pub mod NextAttribute
 pub mod Stepping

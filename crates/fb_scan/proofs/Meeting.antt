@@ -1,6 +1,6 @@
 -- What a walk from a probe on meets of an index is what the window sees of the history.
 use Rattle.std.proofs.Common.{◌≡◌, ◌∙◌, ℕ, ◌≤◌, inl, inr, Bool, true, false, not, List, [], ◌∷◌, refl, sym, ap, subst, arith}
-use Rattle.std.specs.Prelude.{Contains, filter}
+use Rattle.std.specs.Prelude.{Contains}
 use Rattle.std.specs.declared.cmp.Ordering.{Ordering}
 use Rattle.std.specs.declared.cmp.Ordering.TheVariants.{Less, Equal, Greater}
 use Rattle.std.proofs.lemmas.Bool.{true≢false, cases_Bool}
@@ -28,7 +28,7 @@ use Rattle.fb_view.specs.Merged.{merged}
 use Rattle.fb_view.proofs.Merging.{merged_rises, rising-filter, from_merged, into_merged}
 use Rattle.fb_view.proofs.Telling.{pair_stands, was_said, in_one}
 use Rattle.fb_view.proofs.Lasting.{rising_by_time, said_by_time, of_back}
-use Rattle.fb_scan.specs.Walks.{shown, seen_in}
+use Rattle.fb_scan.specs.Walks.{shown}
 use Rattle.fb_scan.proofs.Seeing.{shown-seen_in, seen_in_member, seen_moves}
 
 module _ (k : Kept) (stands : Stands k) (p : Probe) where

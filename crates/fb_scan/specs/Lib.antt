@@ -1,4 +1,5 @@
 pub mod Walks
 pub mod Ends
 pub mod Logs
-pub mod Takes
+pub mod Steps
+pub mod Attributes

@@ -1,6 +1,7 @@
 //! The scans of an index. A probe cannot be wrong, and of an attribute that an index does not hold there is no datom in
 //! it, so a scan ends without an answer only for want of memory.
-ghost use Rattle.std.specs.Prelude.{◌≡◌, IfOk, MatchOption};
+ghost use Rattle.std.specs.Prelude.{◌≡◌, List, take, IfOk, MatchOption};
+ghost use Rattle.fb_values.specs.declared.facts.Datom.{Datom};
 ghost use Rattle.fb_values.specs.declared.indexes.Order.TheVariants.{Avet};
 ghost use Rattle.view_model.specs.Scan.{IsScan, leading, not_below, between};
 ghost use Rattle.fb_db.specs.Seen.{window_of};
@@ -19,7 +20,23 @@ pub fn datoms<S: Selector>(alloc: Global, db: &Db<S>, probe: &Probe) -> Result<D
     ensures { IfOk result (λ ds. IsScan db.now.snapshot.entries (window_of db.now)
         (S.selects db.now.filter) probe.now.order (leading probe.now) ds) }
 {
-    collect(alloc, db, probe, End::Behind(probe))
+    collect(alloc, db, probe, End::Behind(probe), None)
+}
+
+/// The first of the datoms that have the probe's leading components, at most so many. No datom past the last of them is
+/// copied or tested.
+pub fn first<S: Selector>(
+    alloc: Global,
+    db: &Db<S>,
+    probe: &Probe,
+    most: usize,
+) -> Result<Datoms, Memory>
+    ensures { (all : List Datom)
+        → IsScan db.now.snapshot.entries (window_of db.now) (S.selects db.now.filter)
+        probe.now.order (leading probe.now) all
+        → IfOk result (λ ds. ds ≡ take most all) }
+{
+    collect(alloc, db, probe, End::Behind(probe), Some(most))
 }
 
 /// The datoms from the first one that is not below the probe to the end of the index.
@@ -27,7 +44,7 @@ pub fn seek<S: Selector>(alloc: Global, db: &Db<S>, probe: &Probe) -> Result<Dat
     ensures { IfOk result (λ ds. IsScan db.now.snapshot.entries (window_of db.now)
         (S.selects db.now.filter) probe.now.order (not_below probe.now) ds) }
 {
-    collect(alloc, db, probe, End::Never)
+    collect(alloc, db, probe, End::Never, None)
 }
 
 /// Values from the first one on and before the second. Where one is not given, that end is open.
@@ -49,7 +66,7 @@ pub fn index_range<S: Selector>(
 {
     let from = valued(attr, bounds.start);
     let to = valued(attr, bounds.end);
-    collect(alloc, db, &from, end_at(&to))
+    collect(alloc, db, &from, end_at(&to), None)
 }
 
 /// The attribute's datoms, or those with the value.

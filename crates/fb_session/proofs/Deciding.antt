@@ -1,10 +1,10 @@
 -- What a desk answers to a transaction is what the talk of its session says of that.
-use Rattle.std.proofs.Common.{◌≡◌, ◌≢◌, ℕ, ◌+◌, ◌-◌, ◌<◌, ◌≤◌, ℤ, Bool, true, false, ◌&&◌, List, [], ◌∷◌, ◌++◌, Option, Some, None, length, take, map, refl, sym, ap, ◌∙◌, subst, inl, inr, arith, length-append}
+use Rattle.std.proofs.Common.{◌≡◌, ◌≢◌, ℕ, ◌+◌, ◌-◌, ◌<◌, ◌≤◌, ℤ, Bool, true, false, List, [], ◌∷◌, ◌++◌, Option, Some, None, length, take, refl, sym, ap, ◌∙◌, subst, inl, inr, arith, length-append}
 use Rattle.std.specs.Prelude.{codes}
 use Rattle.std.specs.List.{slice_get}
 use Rattle.std.proofs.Math.Seq.{take-length}
 use Rattle.std.proofs.lemmas.List.{take-append-le}
-use Rattle.edn_model.specs.Form.{Form, pairs}
+use Rattle.edn_model.specs.Form.{Form}
 use Rattle.fb_values.specs.declared.facts.Entry.{Entry}
 use Rattle.fb_model.specs.History.{basis, upto}
 use Rattle.fb_model.proofs.LawfulHistories.{IsLawful-length}
@@ -13,17 +13,17 @@ use Rattle.tx_refusals.specs.Reasons.{keyword_of}
 use Rattle.tx_model.specs.Step.{step, refused}
 use Rattle.talk_model.specs.Commands.{Command, transact, command_in}
 use Rattle.talk_model.specs.Replies as reply
-use Rattle.talk_model.specs.Replies.{tempid_pair, IsLineOf}
+use Rattle.talk_model.specs.Replies.{IsLineOf}
 use Rattle.talk_model.specs.Session.{Standing, moved}
 use Rattle.talk_model.specs.Talk.{IsAccepted, IsRefused, IsNotTaken, IsStopped, AnswersCommand}
-use Rattle.talk_model.proofs.PlainText.{text, is_plain, are_plain_pairs, line}
 use Rattle.fb_desk.specs.Desks.{State, GoesOn, IsReceipt, IsLogFault}
 use Rattle.fb_desk.specs.Desks as desk
 use Rattle.fb_desk.specs.declared.answers.Receipt.{Receipt}
 use Rattle.fb_desk.specs.declared.answers.TxFault.{TxFault}
 use Rattle.fb_desk.specs.declared.answers.TxFault.TheVariants.{Refused, LogFault, Stopped, Memory}
 use Rattle.fb_session.specs.declared.session.Session.{Session}
-use Rattle.fb_session.specs.Sessions.{Terms, over, StandsAt, Sees, Received, Denied, Transacts, Stalls, Answered, Unanswered}
+use Rattle.fb_session.specs.Sessions.{Terms, over, StandsAt, Sees, Received, Denied, Transacts, Answered}
+use Rattle.fb_session.proofs.Counting.{counted_accepted, counted_denied}
 
 -- ---- histories
 
@@ -33,20 +33,6 @@ upto-basis h counted = ap (λ n. take n h) (sym counted) ∙ take-length h
 slice_get-seam : (h : List Entry) (entry : Entry) → slice_get (h ++ entry ∷ []) (length h) ≡ Some entry
 slice_get-seam [] entry = refl
 slice_get-seam (e ∷ h) entry = slice_get-seam h entry
-
--- ---- the line of a receipt
-
-tempids_plain : (tempids : List (List ℕ × ℕ)) → are_plain_pairs (pairs (map tempid_pair tempids)) ≡ true
-tempids_plain [] = refl
-tempids_plain (t ∷ tempids) = tempids_plain tempids
-
-receipt_plain : (t : ℕ) (tempids : List (List ℕ × ℕ)) → is_plain (reply.receipt t tempids) ≡ true
-receipt_plain t tempids = ap (λ (b : Bool). b && true) (tempids_plain tempids)
-
--- there is one, also where it was not built
-pub receipt_has_a_line : (t : ℕ) (tempids : List (List ℕ × ℕ)) → (bytes : List ℕ) × IsLineOf (reply.receipt t tempids) bytes
-receipt_has_a_line t tempids =
-    let bytes = text (reply.receipt t tempids) ++ 10 ∷ [] in (bytes, line (reply.receipt t tempids) bytes (receipt_plain t tempids) refl)
 
 -- ---- where the session stands
 
@@ -62,23 +48,26 @@ module _ {S : Type 0} (f : Terms) (names : S → List (List ℕ)) (was is : Stat
   counted_was = IsLawful-length was.entries stands.lawful
 
   pub counted_is : length is.entries ≡ basis is.entries + 1
-  counted_is = IsLawful-length is.entries (goes.lawful stands.lawful)
+  counted_is = IsLawful-length is.entries (goes.went_on.lawful stands.lawful)
 
   pub grown : before.place ≤ basis is.entries
   grown =
-      let longer : length is.entries ≡ length was.entries + length goes.more = ap (λ (h : List Entry). length h) goes.entries ∙ length-append was.entries goes.more in
+      let longer : length is.entries ≡ length was.entries + length goes.went_on.more = ap (λ (h : List Entry). length h) goes.went_on.entries ∙ length-append was.entries goes.went_on.more in
       omega (arith, counted_was, counted_is, longer, stands.place)
 
   pub still_told : before.told ≡ true → is.stop ≢ None
   still_told told none =
-      elim goes.stop [ inl untold ↦ stands.told told untold | inr same ↦ stands.told told (sym same.0 ∙ none) ]
+      elim goes.went_on.stop [ inl untold ↦ stands.told told untold | inr same ↦ stands.told told (sym same.0 ∙ none) ]
+
+  not_told : was.stop ≡ None → before.told ≡ false
+  not_told untold = not_true before.told (λ told. stands.told told untold)
 
   -- what is seen now, through the same window and filters
   pub stands_behind : (new : Session S) (after : Standing) → Sees old new is → after.place ≡ basis is.entries → after.window ≡ before.window → after.filters ≡ before.filters
       → (after.told ≡ true → is.stop ≢ None) → StandsAt new.view names is after
   stands_behind new after sees place window filters told =
       record {
-        lawful = goes.lawful stands.lawful;
+        lawful = goes.went_on.lawful stands.lawful;
         sees = sees.snapshot;
         place = place;
         window = window ∙ stands.window ∙ sym sees.window;
@@ -100,6 +89,7 @@ module _ {S : Type 0} (f : Terms) (names : S → List (List ℕ)) (was is : Stat
         let past_is : upto is.entries (receipt.t - 1) ≡ past =
         ap (λ n. take n is.entries) cut ∙ ap (take (length past)) r.entries ∙ take-append-le (length past) past (r.entry ∷ []) (omega arith) ∙ take-length past in
         record {
+          going = not_told r.untold;
           place = receipt.t;
           above = above;
           within = omega (arith, r.t);
@@ -114,10 +104,11 @@ module _ {S : Type 0} (f : Terms) (names : S → List (List ℕ)) (was is : Stat
           stands = refl;
         }
 
-    refused_in_talk : (refusal : Refusal) → ((reading : ℤ) → step is.entries asked reading f.guard ≡ refused refusal)
+    refused_in_talk : (refusal : Refusal) → was.stop ≡ None → ((reading : ℤ) → step is.entries asked reading f.guard ≡ refused refusal)
         → IsLineOf (reply.refusal_reply (keyword_of refusal.reason) refusal.at (basis is.entries)) bytes → IsRefused (over f is) before asked (moved before (basis is.entries)) bytes None
-    refused_in_talk refusal is_refused says =
+    refused_in_talk refusal untold is_refused says =
         record {
+          going = not_told untold;
           place = basis is.entries;
           from = grown;
           within = omega arith;
@@ -141,7 +132,7 @@ module _ {S : Type 0} (f : Terms) (names : S → List (List ℕ)) (was is : Stat
           within = omega arith;
           stops = r.stop ∙ ap Some r.at_is;
           is_teller = r.teller;
-          not_told = not_true before.told (λ told. stands.told told r.untold);
+          not_told = not_told r.untold;
           reading = r.reading;
           may_be = r.may_be;
           entry = r.entry;
@@ -153,7 +144,7 @@ module _ {S : Type 0} (f : Terms) (names : S → List (List ℕ)) (was is : Stat
         }
 
     stopped_in_talk : (at : ℕ) (snapshot : _) → desk.IsStopped was is at snapshot → IsLineOf (reply.fault_reply (codes "log-stopped") at (basis is.entries)) bytes
-        → IsStopped (over f is) before (moved before (basis is.entries)) bytes None
+        → IsStopped (over f is) before (record before { place = basis is.entries; told = true }) bytes None
     stopped_in_talk at snapshot r says =
         record {
           place = basis is.entries;
@@ -181,45 +172,42 @@ module _ {S : Type 0} (f : Terms) (names : S → List (List ℕ)) (was is : Stat
           answered = as_form (moved before receipt.t) bytes (Some receipt.t) (inl (accepted_in_talk asked bytes receipt r.is_receipt says));
           stands = stands_behind new (moved before receipt.t) r.sees r.is_receipt.t refl refl still_told;
           keeps = r.keeps;
+          counted = counted_accepted form asked was.tally is.tally asks r.is_receipt.tally;
         }
 
-    answered_fault : (why : TxFault) → Denied f.may f.guard asked old new was is why → Answered f form old new names was is before new.line.items
+    answered_fault : (why : TxFault) → Denied f.may f.guard asked old new was is why → Answered f form old new names was is before new.line.bytes.items
     answered_fault (Refused refusal snapshot) d =
         let after = moved before (basis is.entries) in
         record {
           after = after;
           commit = None;
-          answered = as_form after new.line.items None (inr (inl (refused_in_talk asked new.line.items refusal d.is_fault.step_is d.says)));
+          answered = as_form after new.line.bytes.items None (inr (inl (refused_in_talk asked new.line.bytes.items refusal d.is_fault.untold d.is_fault.step_is d.says)));
           stands = stands_behind new after d.sees refl refl refl still_told;
           keeps = d.keeps;
+          counted = counted_denied form asked was.tally is.tally asks d.is_fault.rest.tally;
         }
     answered_fault (LogFault at snapshot) d =
         let after = record before { place = basis is.entries; told = true } in
         record {
           after = after;
           commit = None;
-          answered = as_form after new.line.items None (inr (inr (inl (not_taken_in_talk asked new.line.items at snapshot d.is_fault d.says))));
+          answered = as_form after new.line.bytes.items None (inr (inr (inl (not_taken_in_talk asked new.line.bytes.items at snapshot d.is_fault d.says))));
           stands = stands_behind new after d.sees refl refl refl (λ _. some_none is.stop at d.is_fault.stop);
           keeps = d.keeps;
+          counted = counted_denied form asked was.tally is.tally asks d.is_fault.rest.tally;
         }
     answered_fault (Stopped at snapshot) d =
-        let after = moved before (basis is.entries) in
+        let after = record before { place = basis is.entries; told = true } in
         record {
           after = after;
           commit = None;
-          answered = as_form after new.line.items None (inr (inr (inr (stopped_in_talk asked new.line.items at snapshot d.is_fault d.says))));
-          stands = stands_behind new after d.sees refl refl refl still_told;
+          answered = as_form after new.line.bytes.items None (inr (inr (inr (stopped_in_talk asked new.line.bytes.items at snapshot d.is_fault d.says))));
+          stands = stands_behind new after d.sees refl refl refl (λ _. some_none is.stop at d.is_fault.stop);
           keeps = d.keeps;
+          counted = counted_denied form asked was.tally is.tally asks d.is_fault.rest.tally;
         }
     answered_fault Memory d = absurd d.says
 
-    pub answered_transaction : Transacts f.may f.guard asked old new was is → Answered f form old new names was is before new.line.items
+    pub answered_transaction : Transacts f.may f.guard asked old new was is → Answered f form old new names was is before new.line.bytes.items
     answered_transaction transacts =
-        elim transacts [ inl r ↦ answered_receipt r.0 new.line.items r.1 r.2 | inr d ↦ answered_fault d.0 d.1 ]
-
-    pub unanswered_transaction : Stalls f.may f.guard asked old new was is → Unanswered f form old new names was is before
-    unanswered_transaction stalls =
-        elim stalls [
-          | inl r ↦ (let l = receipt_has_a_line r.0.t r.0.tempids.items in inr (l.0, answered_receipt r.0 l.0 r.1 l.1))
-          | inr keeps ↦ inl keeps
-        ]
+        elim transacts [ inl r ↦ answered_receipt r.0 new.line.bytes.items r.1 r.2 | inr d ↦ answered_fault d.0 d.1 ]

@@ -1,7 +1,9 @@
 pub mod KnownBytes
 pub mod Results
+pub mod Counting
 pub mod Seeing
 pub mod Deciding
 pub mod Looking
 pub mod TalkingOn
 pub mod Serving
+pub mod LongerHistories

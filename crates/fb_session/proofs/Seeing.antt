@@ -1,5 +1,5 @@
 -- A session that sees another snapshot, and what it then keeps of what its desk answered.
-use Rattle.std.proofs.Common.{◌≡◌, ℕ, ℤ, List, [], ◌∷◌, ◌++◌, None, refl, sym, ap, ◌∙◌, subst, inl, inr, arith, append-nil, Option}
+use Rattle.std.proofs.Common.{◌≡◌, ℕ, ℤ, List, [], ◌∷◌, ◌++◌, None, refl, sym, ap, ◌∙◌, subst, inr, arith, append-nil, Option}
 use Rattle.std.specs.Prelude.{codes, option_to_list}
 use Rattle.edn_model.specs.Form.{Form}
 use Rattle.fb_values.specs.declared.facts.Entry.{Entry}
@@ -13,15 +13,18 @@ use Rattle.talk_model.specs.Session.{Standing}
 use Rattle.fb_view.specs.Kept.{Kept}
 use Rattle.fb_db.specs.Seen.{window_of}
 use Rattle.fb_db.specs.declared.db.Db.{Db}
-use Rattle.fb_desk.specs.Desks.{State, GoesOn, IsReceipt, IsRefusal, IsLogFault, IsStopped}
+use Rattle.fb_desk.specs.Desks.{State, WentOn, GoesOn, IsReceipt, IsRefusal, IsLogFault, IsStopped}
 use Rattle.fb_desk.specs.declared.answers.Receipt.{Receipt}
 use Rattle.fb_desk.specs.declared.answers.TxFault.TheVariants.{Refused, LogFault, Stopped}
 use Rattle.fb_session.specs.declared.session.Session.{Session}
 use Rattle.fb_session.specs.Sessions.{Terms, Sees, Shows, Keeps, Received, Denied, StandsAt, Answered, Unanswered}
 
 -- a desk that was not asked
+pub went_on-nothing : (desk : State) → WentOn desk desk
+went_on-nothing desk = record { more = []; entries = sym (append-nil desk.entries); lawful = λ lawful. lawful; opening = refl; stop = inr (refl, refl); seat = refl }
+
 pub goes_on-nowhere : (desk : State) → GoesOn desk desk
-goes_on-nowhere desk = record { more = []; entries = sym (append-nil desk.entries); lawful = λ lawful. lawful; opening = refl; stop = inr (refl, refl); left = omega arith }
+goes_on-nowhere desk = record { went_on = went_on-nothing desk; left = omega arith }
 
 module _ {S : Type 0} (old new : Session S) (was is : State) where
   pub keeps_nothing : new.commits.items ≡ old.commits.items → is.commits ≡ was.commits → Keeps old new was is None
@@ -37,15 +40,15 @@ module _ {S : Type 0} (old new : Session S) (was is : State) where
         }
 
     -- the line of the basis of what is seen
-    at_basis : (reply_at : ℕ → Form) → snapshot.entries ≡ is.entries → IsLineOf (reply_at (basis snapshot.entries)) new.line.items → IsLineOf (reply_at (basis is.entries)) new.line.items
-    at_basis reply_at same says = let P : List Entry → Type 0 = λ h. IsLineOf (reply_at (basis h)) new.line.items in subst P same says
+    at_basis : (reply_at : ℕ → Form) → snapshot.entries ≡ is.entries → IsLineOf (reply_at (basis snapshot.entries)) new.line.bytes.items → IsLineOf (reply_at (basis is.entries)) new.line.bytes.items
+    at_basis reply_at same says = let P : List Entry → Type 0 = λ h. IsLineOf (reply_at (basis h)) new.line.bytes.items in subst P same says
 
-    pub shows_from : snapshot.entries ≡ is.entries → IsLineOf (reply.basis_reply (basis snapshot.entries)) new.line.items → Shows old new is
+    pub shows_from : snapshot.entries ≡ is.entries → IsLineOf (reply.basis_reply (basis snapshot.entries)) new.line.bytes.items → Shows old new is
     shows_from same says = record { sees = sees_from same; says = at_basis reply.basis_reply same says }
 
     module _ (may : ℤ → Type 0) (guard : Guard) (asked : Form) (commits : new.commits.items ≡ old.commits.items) where
       pub denied_refused : (refusal : Refusal) → IsRefusal guard asked was is refusal snapshot
-          → IsLineOf (reply.refusal_reply (keyword_of refusal.reason) refusal.at (basis snapshot.entries)) new.line.items → Denied may guard asked old new was is (Refused refusal snapshot)
+          → IsLineOf (reply.refusal_reply (keyword_of refusal.reason) refusal.at (basis snapshot.entries)) new.line.bytes.items → Denied may guard asked old new was is (Refused refusal snapshot)
       denied_refused refusal r says =
           record {
             is_fault = r;
@@ -55,7 +58,7 @@ module _ {S : Type 0} (old new : Session S) (was is : State) where
           }
 
       pub denied_fault : (at : ℕ) → IsLogFault may guard asked was is at snapshot
-          → IsLineOf (reply.fault_reply (codes "log") at (basis snapshot.entries)) new.line.items → Denied may guard asked old new was is (LogFault at snapshot)
+          → IsLineOf (reply.fault_reply (codes "log") at (basis snapshot.entries)) new.line.bytes.items → Denied may guard asked old new was is (LogFault at snapshot)
       denied_fault at r says =
           record {
             is_fault = r;
@@ -65,7 +68,7 @@ module _ {S : Type 0} (old new : Session S) (was is : State) where
           }
 
       pub denied_stopped : (at : ℕ) → IsStopped was is at snapshot
-          → IsLineOf (reply.fault_reply (codes "log-stopped") at (basis snapshot.entries)) new.line.items → Denied may guard asked old new was is (Stopped at snapshot)
+          → IsLineOf (reply.fault_reply (codes "log-stopped") at (basis snapshot.entries)) new.line.bytes.items → Denied may guard asked old new was is (Stopped at snapshot)
       denied_stopped at r says =
           record {
             is_fault = r;
@@ -81,16 +84,16 @@ module _ {S : Type 0} (old new : Session S) (was is : State) where
 
 -- ---- a session that was given room before
 
-module _ {S : Type 0} (f : Terms) (form : Form) (old roomy new : Session S) (names : S → List (List ℕ)) (was is : State) (before : Standing) (same : roomy.commits.items ≡ old.commits.items) where
-  keeps_before : (commit : Option ℕ) → Keeps roomy new was is commit → Keeps old new was is commit
-  keeps_before commit keeps = record { commits = keeps.commits ∙ ap (λ cs. cs ++ option_to_list commit) same; desk = keeps.desk }
+keeps_before : {S : Type 0} (old roomy new : Session S) (was is : State) (commit : Option ℕ) → roomy.commits.items ≡ old.commits.items → Keeps roomy new was is commit → Keeps old new was is commit
+keeps_before old roomy new was is commit same keeps = record { commits = keeps.commits ∙ ap (λ cs. cs ++ option_to_list commit) same; desk = keeps.desk }
 
+pub unanswered_with_room : {S : Type 0} (form : Form) (old roomy new : Session S) (was is : State) → roomy.commits.items ≡ old.commits.items → Unanswered form roomy new was is → Unanswered form old new was is
+unanswered_with_room form old roomy new was is same u = record { keeps = keeps_before old roomy new was is None same u.keeps; counted = u.counted }
+
+module _ {S : Type 0} (f : Terms) (form : Form) (old roomy new : Session S) (names : S → List (List ℕ)) (was is : State) (before : Standing) (same : roomy.commits.items ≡ old.commits.items) where
   answered_before : (line : List ℕ) → Answered f form roomy new names was is before line → Answered f form old new names was is before line
   answered_before line a =
-      record { after = a.after; commit = a.commit; answered = a.answered; stands = a.stands; keeps = keeps_before a.commit a.keeps }
-
-  unanswered_before : Unanswered f form roomy new names was is before → Unanswered f form old new names was is before
-  unanswered_before u = elim u [ inl keeps ↦ inl (keeps_before None keeps) | inr part ↦ inr (part.0, answered_before part.0 part.1) ]
+      record { after = a.after; commit = a.commit; answered = a.answered; stands = a.stands; keeps = keeps_before old roomy new was is a.commit same a.keeps; counted = a.counted }
 
 -- and whose table stayed the same
 module _ {S : Type 0} (old roomy new : Session S) (fix : S → Terms) (names : S → List (List ℕ)) (form : Form) (was is : State) (view : roomy.view ≡ old.view) (same : roomy.commits.items ≡ old.commits.items) where
@@ -99,12 +102,6 @@ module _ {S : Type 0} (old roomy new : Session S) (fix : S → Terms) (names : S
   answered_with_room line told before stands =
       let Tells : Db S → Type 0 = λ v. StandsAt v names was before → Answered (fix v.filter) form roomy new names was is before line in
       answered_before (fix old.view.filter) form old roomy new names was is before same line (subst Tells view (told before) stands)
-
-  pub unanswered_with_room : ((before : Standing) → StandsAt roomy.view names was before → Unanswered (fix roomy.view.filter) form roomy new names was is before)
-      → (before : Standing) → StandsAt old.view names was before → Unanswered (fix old.view.filter) form old new names was is before
-  unanswered_with_room told before stands =
-      let Tells : Db S → Type 0 = λ v. StandsAt v names was before → Unanswered (fix v.filter) form roomy new names was is before in
-      unanswered_before (fix old.view.filter) form old roomy new names was is before same (subst Tells view (told before) stands)
 
 -- and whose place was kept behind
 pub answered_behind : {S : Type 0} (f : Terms) (form : Form) (old new later : Session S) (names : S → List (List ℕ)) (was is : State) (before : Standing) (line : List ℕ)
@@ -117,6 +114,7 @@ answered_behind {S} f form old new later names was is before line view commits a
       answered = a.answered;
       stands = subst Stands (sym view) a.stands;
       keeps = record { commits = commits ∙ a.keeps.commits; desk = a.keeps.desk };
+      counted = a.counted;
     }
 
 -- its place is that of its snapshot

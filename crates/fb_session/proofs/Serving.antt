@@ -1,21 +1,24 @@
 -- A session from its source to its end.
 use Rattle.std.proofs.Common.{◌≡◌, ℕ, false, ◌||◌, List, [], Option, length, refl, sym, ◌∙◌, subst, inl, arith, append-nil}
 use Rattle.std.specs.Prelude.{IsTrue, nat_lt}
+use Rattle.std.specs.Io.KnownBytes.{prepend_known}
 use Rattle.std.proofs.lemmas.Bool.{true≢false}
 use Rattle.fb_model.specs.History.{basis}
 use Rattle.talk_model.specs.Session.{opened_at}
 use Rattle.talk_model.specs.Prefixes.{Prefixes}
 use Rattle.talk_model.proofs.Places.{Prefixes-SeesAll}
-use Rattle.fb_desk.specs.Desks.{State}
+use Rattle.fb_desk.specs.Desks.{State, Tally}
 use Rattle.fb_session.specs.declared.outcome.Served.{Served}
 use Rattle.fb_session.specs.declared.outcome.SessionEnd.{SessionEnd}
 use Rattle.fb_session.specs.declared.outcome.SessionEnd.TheVariants as ended
 use Rattle.fb_session.specs.declared.reading.ReadStop.TheVariants as stopped
 use Rattle.fb_session.specs.Taken.{TakesAll, TakesSome}
 use Rattle.fb_session.specs.Replies.{AnswersSome, SessionRun, Replies}
+use Rattle.fb_session.specs.Asks.{Asks}
 use Rattle.fb_session.specs.Sessions.{Terms, over, IsPastReading, Talks}
 use Rattle.fb_session.proofs.KnownBytes.{append_known-none}
-use Rattle.fb_session.proofs.TalkingOn.{went_on-nothing}
+use Rattle.fb_session.proofs.Seeing.{went_on-nothing}
+use Rattle.fb_session.proofs.Counting.{counted-none}
 
 -- what it was handed and hands back
 abbrev pub run_of : (held left had has : Option (List ℕ)) → Served → SessionRun
@@ -52,6 +55,17 @@ none-answered f script start served p q =
       leaves = rw (p, q) refl;
     }
 
+pub asks-nothing : (held left : Option (List ℕ)) (script : List ℕ) (tally : Tally) (served : Served) → served.places ≡ [] → served.commits ≡ [] → held ≡ prepend_known script left → Asks held left served tally tally
+asks-nothing held left script tally served p q taken =
+    record {
+      script = script;
+      taken = taken;
+      forms = [];
+      read = record { end = 0; forms = refl; few = omega arith };
+      enough = rw p (omega arith, omega arith);
+      counted = rw q (counted-none tally);
+    }
+
 -- memory was refused before the first form was looked at
 pub talks-unopened : (f : Terms) (script : List ℕ) (start : State) (served : Served) (had : Option (List ℕ)) → served.end ≡ ended.Memory → served.places ≡ [] → served.commits ≡ []
     → Talks f script start start had had served
@@ -59,10 +73,12 @@ talks-unopened f script start served had e p q =
     record {
       written = [];
       gained = sym (append_known-none had);
-      answers = rw e (inl (none-answered f script start served p q));
+      answers = rw e (none-answered f script start served p q);
       prefixes = rw p (inl q);
       commits_are = rw q (sym (append-nil start.commits));
       went_on = went_on-nothing start;
+      asks = λ held left taken. asks-nothing held left script start.tally served p q taken;
+      seen = λ done. let wrong = sym e ∙ done in absurd (cc);
       past_reading = rw e tt;
     }
 
@@ -83,7 +99,7 @@ replies-unread f start served held left had e p q some =
       written = [];
       taken = some.taken;
       gained = sym (append_known-none had);
-      answers = rw e (inl (none-answered f some.bytes start served p q));
+      answers = rw e (none-answered f some.bytes start served p q);
       too_long = (λ same. let wrong = sym e ∙ same in absurd (cc), λ more. absurd (omega (arith, some.stopped)));
       all = rw e (λ line. absurd (no_line served.places served.commits p q line));
     }

@@ -1,4 +1,5 @@
 pub mod Taken
 pub mod Written
 pub mod Replies
+pub mod Asks
 pub mod Sessions

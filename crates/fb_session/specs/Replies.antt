@@ -1,7 +1,7 @@
 -- What a session promises of one script: its lines answer the script's forms, over the history that its desk has at the end,
 -- and each end has its cause.
 -- This project's own choice.
-use Rattle.std.specs.Prelude.{◌≡◌, ℕ, ◌<◌, ◌⊎◌, ◌↔◌, Bool, true, false, List, [], ◌∷◌, ◌++◌, Option, Some, None, IsTrue, length, nat_lt, ◌||◌}
+use Rattle.std.specs.Prelude.{◌≡◌, ℕ, ◌<◌, ◌↔◌, Bool, true, false, List, [], ◌∷◌, ◌++◌, Option, Some, None, IsTrue, length, nat_lt, ◌||◌}
 use Rattle.std.specs.List.{concat}
 use Rattle.std.specs.Io.KnownBytes.{prepend_known, append_known, IsAtEnd}
 use Rattle.edn_model.specs.Faults.{Fault}
@@ -49,25 +49,20 @@ pub record AnswersSome (s : Setting) (opening : ℕ) (script : List ℕ) (trace 
   pub leaves : trace ≡ trace_of exchanges
 
 -- Behind the lines that were written whole, one more form was answered, and may have committed: its t is the last commit then.
--- Of its line this much was written.
-pub record AnswersPart (s : Setting) (opening : ℕ) (script : List ℕ) (trace : Trace)
-    (out : List ℕ) : Type 0 where
+-- Its line broke off, short of its whole.
+pub record BreaksOff (s : Setting) (opening : ℕ) (script : List ℕ) (trace : Trace) : Type 0 where
   pub exchanges : List Exchange
   pub last : Exchange
   pub after : Standing
   pub read : Begins script (forms_of (exchanges ++ last ∷ []))
   pub talk : Talk s (opened_at opening) (exchanges ++ last ∷ []) after
+  pub out : List ℕ
+  pub missing : List ℕ
+  pub parts : last.line ≡ out ++ missing
+  pub short : 0 < length missing
   pub written : trace.written ≡ concat (lines_of exchanges) ++ out
   pub places : trace.places ≡ places_of exchanges
   pub commits : trace.commits ≡ commits_of (exchanges ++ last ∷ [])
-
--- the line of the form behind broke off, short of its whole
-pub record BreaksOff (s : Setting) (opening : ℕ) (script : List ℕ) (trace : Trace) : Type 0 where
-  pub out : List ℕ
-  pub missing : List ℕ
-  pub short : 0 < length missing
-  pub answers : AnswersPart s opening script trace out
-  pub parts : answers.last.line ≡ out ++ missing
 
 -- no form was answered, and nothing was written
 abbrev pub AnswersNone : Trace → Type 0
@@ -87,8 +82,7 @@ Answers s opening script trace ended.TooMany = AnswersAll s opening script too_m
 Answers s opening script trace ended.TooLong = AnswersNone trace
 Answers s opening script trace ended.ReadFault = AnswersNone trace
 Answers s opening script trace ended.WriteFault = BreaksOff s opening script trace
-Answers s opening script trace ended.Memory =
-    AnswersSome s opening script trace ⊎ AnswersPart s opening script trace []
+Answers s opening script trace ended.Memory = AnswersSome s opening script trace
 
 -- the ends that rest on the whole script
 abbrev pub rests_on_whole : SessionEnd → Bool

@@ -1,15 +1,14 @@
 -- What a session keeps while it answers forms: what its reads see, and what it answered so far.
 -- This project's own choice.
 use Rattle.std.specs.Prelude.{◌≡◌, ◌≢◌, ℕ, ℤ, ◌<◌, ◌≤◌, ◌⊎◌, Bool, true, List, [], ◌∷◌, ◌++◌, Option, Some, None, is_some, option_to_list, length, codes}
-use Rattle.std.specs.List.{concat}
-use Rattle.std.specs.Io.KnownBytes.{append_known}
+use Rattle.std.specs.List.{concat, last_or}
+use Rattle.std.specs.Io.KnownBytes.{prepend_known, append_known}
 use Rattle.edn_model.specs.Form.{Form}
 use Rattle.edn_model.specs.Grammar.{FormStands, OnlyGap}
 use Rattle.edn_model.specs.Faults.{FaultAt}
 use Rattle.edn_core.specs.Answers.{fault_of, MatchFault}
 use Rattle.edn_core.specs.declared.fault.EdnFault.TheVariants as edn
 use Rattle.fb_values.specs.declared.facts.Datom.{Datom}
-use Rattle.fb_values.specs.declared.facts.Entry.{Entry}
 use Rattle.fb_model.specs.History.{basis}
 use Rattle.fb_model.specs.Lawful.{IsLawful}
 use Rattle.tx_refusals.specs.Reasons.{keyword_of}
@@ -17,9 +16,9 @@ use Rattle.tx_model.specs.Step.{Guard}
 use Rattle.script_model.specs.Script.{most_commands, FormsBetween}
 use Rattle.talk_model.specs.Replies as reply
 use Rattle.talk_model.specs.Replies.{IsLineOf}
-use Rattle.talk_model.specs.Commands.{Command}
+use Rattle.talk_model.specs.Commands.{Read}
 use Rattle.talk_model.specs.Reads.{IsReply, behind}
-use Rattle.talk_model.specs.Session.{Setting, Standing, setting, opened_at, SelectedBy}
+use Rattle.talk_model.specs.Session.{Setting, Standing, Sight, setting, opened_at, SelectedBy}
 use Rattle.talk_model.specs.Talk.{IsAnswered, Exchange, forms_of, places_of, lines_of, commits_of, Talk}
 use Rattle.talk_model.specs.Prefixes.{SeesAll}
 use Rattle.fb_ports.specs.Faults.{Rose}
@@ -27,7 +26,7 @@ use Rattle.fb_preds.specs.Naming.{selected_by}
 use Rattle.fb_db.specs.Seen.{window_of}
 use Rattle.fb_db.specs.declared.db.Db.{Db}
 use Rattle.fb_reads.specs.Answers.{Says, standing_at}
-use Rattle.fb_desk.specs.Desks.{State, IsReceipt, IsFault}
+use Rattle.fb_desk.specs.Desks.{State, WentOn, IsReceipt, IsFault, loaded}
 use Rattle.fb_desk.specs.declared.answers.Receipt.{Receipt}
 use Rattle.fb_desk.specs.declared.answers.TxFault.{TxFault}
 use Rattle.fb_desk.specs.declared.answers.TxFault.TheVariants as fault
@@ -39,6 +38,7 @@ use Rattle.fb_session.specs.declared.serve.AnswerError.{AnswerError}
 use Rattle.fb_session.specs.declared.serve.AnswerError.TheVariants.{WriteFault, Memory}
 use Rattle.fb_session.specs.Written.{TakesPart}
 use Rattle.fb_session.specs.Replies.{Answers}
+use Rattle.fb_session.specs.Asks.{Counted, Asks}
 
 -- ---- what it is answered by
 
@@ -62,14 +62,6 @@ terms_of may guard place_of SelectsAt =
 -- with what its desk was answered by now
 abbrev pub over : Terms → State → Setting
 over f desk = setting f.may f.Selects f.guard f.is_filter desk.entries desk.stop desk.teller
-
--- The desk has seen more of the history, since the same opening. A stop of the log stays as it is known.
-pub record WentOn (old new : State) : Type 0 where
-  pub more : List Entry
-  pub entries : new.entries ≡ old.entries ++ more
-  pub lawful : IsLawful old.entries → IsLawful new.entries
-  pub opening : new.opening ≡ old.opening
-  pub stop : (old.stop ≡ None) ⊎ ((new.stop ≡ old.stop) × (new.teller ≡ old.teller))
 
 -- ---- between two commands
 
@@ -126,41 +118,47 @@ pub record Denied {S : Type 0} (may : ℤ → Type 0) (guard : Guard) (asked : F
   pub is_fault : IsFault may guard asked was is why
   pub sees : Sees old new is
   pub keeps : Keeps old new was is None
-  pub says : SaysFault why (basis is.entries) new.line.items
+  pub says : SaysFault why (basis is.entries) new.line.bytes.items
 
 abbrev pub Transacts : {S : Type 0} → (ℤ → Type 0) → Guard → Form → Session S → Session S → State
     → State → Type 0
 Transacts may guard asked old new was is =
     ((receipt : Receipt)
     × Received may guard asked old new was is receipt
-    × IsLineOf (reply.receipt receipt.t receipt.tempids.items) new.line.items)
+    × IsLineOf (reply.receipt receipt.t receipt.tempids.items) new.line.bytes.items)
     ⊎ ((why : TxFault) × Denied may guard asked old new was is why)
 
--- memory was refused, also where it was accepted and its line could not be built
-abbrev pub Stalls : {S : Type 0} → (ℤ → Type 0) → Guard → Form → Session S → Session S → State
-    → State → Type 0
-Stalls may guard asked old new was is =
-    ((receipt : Receipt) × Received may guard asked old new was is receipt)
-    ⊎ Keeps old new was is None
+-- where memory was refused, maybe after the desk had read all that there was
+abbrev pub LoadsOnceAtMost : State → State → Type 0
+LoadsOnceAtMost was is = (is.tally ≡ was.tally) ⊎ (is.tally ≡ loaded was.tally)
 
 -- ---- other commands
 
 -- what the desk was answered now is seen and shown
 pub record Shows {S : Type 0} (old new : Session S) (is : State) : Type 0 where
   pub sees : Sees old new is
-  pub says : IsLineOf (reply.basis_reply (basis is.entries)) new.line.items
+  pub says : IsLineOf (reply.basis_reply (basis is.entries)) new.line.bytes.items
 
--- the command is answered of what was seen before, and the view changes as it says
+-- what a read has of the view
+abbrev pub sight : {S : Type 0} → Db S → (S → List (List ℕ)) → (List ℕ → Bool)
+    → (List ℕ → Datom → Type 0) → Sight
+sight view names is_filter Selects =
+    record {
+      history = view.snapshot.entries;
+      window = window_of view;
+      filters = names view.filter;
+      Selects = SelectedBy Selects (names view.filter);
+      is_filter = is_filter;
+    }
+
+-- the read is answered of what was seen before, and the view changes as it says
 pub record Reads {S : Type 0} (old new : Db S) (names : S → List (List ℕ))
-    (is_filter : List ℕ → Bool) (Selects : List ℕ → Datom → Type 0) (command : Option Command)
+    (is_filter : List ℕ → Bool) (Selects : List ℕ → Datom → Type 0) (asked : Option Read)
     (line : List ℕ) : Type 0 where
-  pub says : Says
-      (IsReply old.snapshot.entries (basis old.snapshot.entries) is_filter (window_of old)
-      (SelectedBy Selects (names old.filter)) command)
-      line
+  pub says : Says (IsReply (sight old names is_filter Selects) asked) line
   pub stands : (place : ℕ) (told : Bool) → standing_at place told (window_of new) (names new.filter)
-      ≡ behind old.snapshot.entries is_filter
-      (standing_at place told (window_of old) (names old.filter)) command
+      ≡ behind (sight old names is_filter Selects)
+      (standing_at place told (window_of old) (names old.filter)) asked
   pub snapshot : new.snapshot ≡ old.snapshot
 
 -- ---- a form
@@ -173,12 +171,12 @@ pub record Answered {S : Type 0} (f : Terms) (form : Form) (old new : Session S)
   pub answered : IsAnswered (over f is) before form after line commit
   pub stands : StandsAt new.view names is after
   pub keeps : Keeps old new was is commit
+  pub counted : Counted (form ∷ []) (length (option_to_list commit)) was.tally is.tally
 
--- memory was refused: it was not answered, or its line was not built
-abbrev pub Unanswered : {S : Type 0} → Terms → Form → Session S → Session S → (S → List (List ℕ))
-    → State → State → Standing → Type 0
-Unanswered f form old new names was is before =
-    Keeps old new was is None ⊎ ((line : List ℕ) × Answered f form old new names was is before line)
+-- memory was refused: nothing was committed, and the desk may have been asked
+pub record Unanswered {S : Type 0} (form : Form) (old new : Session S) (was is : State) : Type 0 where
+  pub keeps : Keeps old new was is None
+  pub counted : (is.tally ≡ was.tally) ⊎ Counted (form ∷ []) 0 was.tally is.tally
 
 -- it was answered, and its line was written whole
 pub record Replied {S : Type 0} (f : Terms) (form : Form) (old new : Session S)
@@ -199,10 +197,9 @@ pub record RepliedPart {S : Type 0} (f : Terms) (form : Form) (old new : Session
   pub written : TakesPart line had has
 
 -- and where memory was refused nothing was written
-pub record RepliedNothing {S : Type 0} (f : Terms) (form : Form) (old new : Session S)
-    (names : S → List (List ℕ)) (was is : State) (before : Standing) (had has : Option (List ℕ))
-    : Type 0 where
-  pub unanswered : Unanswered f form old new names was is before
+pub record RepliedNothing {S : Type 0} (form : Form) (old new : Session S) (was is : State)
+    (had has : Option (List ℕ)) : Type 0 where
+  pub unanswered : Unanswered form old new was is
   pub places : new.places.items ≡ old.places.items
   pub written : has ≡ had
 
@@ -211,7 +208,7 @@ abbrev pub StopsAt : {S : Type 0} → Terms → Form → Session S → Session S
 StopsAt f form old new names was is before had has WriteFault =
     RepliedPart f form old new names was is before had has
 StopsAt f form old new names was is before had has Memory =
-    RepliedNothing f form old new names was is before had has
+    RepliedNothing form old new was is had has
 
 abbrev pub StopCount : AnswerError → ℕ → ℕ → Type 0
 StopCount WriteFault old new = Rose old new
@@ -239,6 +236,7 @@ pub record TalkSoFar {S : Type 0} (f : Terms) (bytes : List ℕ) (at : ℕ) (ses
   pub went_on : WentOn start now
   pub from : basis start.entries ≤ basis now.entries
   pub commits : now.commits ≡ start.commits ++ session.commits.items
+  pub counted : Counted (forms_of exchanges) (length session.commits.items) start.tally now.tally
   pub within : at ≤ length bytes
 
 -- a command stands behind this place, and there is room for it behind so many
@@ -285,4 +283,9 @@ pub record Talks (f : Terms) (script : List ℕ) (start now : State) (had has : 
   pub prefixes : SeesAll (basis now.entries) (basis start.entries) served.places served.commits
   pub commits_are : now.commits ≡ start.commits ++ served.commits
   pub went_on : WentOn start now
+  -- whatever source it was taken of
+  pub asks : (held left : Option (List ℕ)) → held ≡ prepend_known script left
+      → Asks held left served start.tally now.tally
+  pub seen : served.end ≡ ended.Done
+      → last_or (Some (basis start.entries)) served.places ≡ Some (basis now.entries)
   pub past_reading : IsPastReading served.end

@@ -1,6 +1,8 @@
 //! A session: the forms of one script, answered one after another at a desk.
 #![tactic(auto)]
 
+mod laws;
+mod line;
 mod outcome;
 mod reading;
 mod replying;
@@ -9,5 +11,6 @@ mod session;
 mod transactions;
 mod writing;
 
+pub use laws::{a_longer_history_keeps_prefixes, a_longer_history_keeps_replies};
 pub use outcome::{Places, Served, SessionEnd};
 pub use serve::serve_desk;

@@ -1,20 +1,19 @@
 //! Which command a form is, and its line.
 ghost use denote.Param.Send.{IsSync};
-ghost use Rattle.std.specs.Prelude.{◌≡◌, ◌<◌, IsTrue, OnOk, OnErr, vec_len, vec_capacity, is_some, map, None};
+ghost use Rattle.std.specs.Prelude.{◌≡◌, ◌<◌, OnOk, OnErr, vec_len, vec_capacity, is_some, map, None};
 ghost use Rattle.std.specs.Option.{option_map};
 ghost use Rattle.edn_form.specs.View.{form_of};
 ghost use Rattle.fb_model.specs.History.{basis};
-ghost use Rattle.talk_model.specs.Commands.{is_read};
 ghost use Rattle.talk_model.specs.Session.{Standing};
 ghost use Rattle.talk_model.specs.Replies.{basis_reply, IsLineOf};
 ghost use Rattle.fb_preds.specs.Naming.{selected_by};
-ghost use Rattle.fb_commands.specs.Asked.{asked};
-ghost use Rattle.fb_desk.specs.Desks.{GoesOn};
-ghost use Rattle.fb_session.specs.Sessions.{terms_of, StandsAt, Shows, Keeps, Reads, Answered, Unanswered};
+ghost use Rattle.fb_commands.specs.Asked.{read_of};
+ghost use Rattle.fb_desk.specs.Desks.{GoesOn, glanced, loaded};
+ghost use Rattle.fb_session.specs.Sessions.{terms_of, StandsAt, Shows, Keeps, LoadsOnceAtMost, Reads, Answered, Unanswered};
 
 use crate::session::Session;
 use edn_form::Edn;
-use fb_commands::{Command, command_in};
+use fb_commands::{Command, Read, command_in};
 use fb_desk::{Desk, Glance};
 use fb_memory::Memory;
 use fb_ports::Clock;
@@ -26,6 +25,21 @@ use std::alloc::Global;
 use std::sync::Wait;
 use std::thread::Threads;
 use tx_step::Guard;
+
+/// Asks for a merge, where that is asked.
+fn ring_for<R: Threads + Wait + Sync, T: Desk>(
+    rt: &R,
+    desk: &mut T,
+    asked: Read<'_>,
+) -> Result<(), Memory>
+    requires { IsSync R.row }
+    ensures { T.state desk.new ≡ T.state desk.old }
+{
+    match asked {
+        Read::RequestIndex => desk.ring(rt),
+        _ => Ok(()),
+    }
+}
 
 impl<P: FilterTable> Session<Picks<'_, P>> {
     /// Does what the form asks and builds its line.
@@ -50,16 +64,9 @@ impl<P: FilterTable> Session<Picks<'_, P>> {
             (terms_of (K.may_answer clock.now) (G.bars guard.now) (P.place_of table)
             (P.selects_at table))
             (form_of form.now) self.old self.new (λ p. map (P.name_at p.table.now) p.places.items)
-            (T.state desk.old) (T.state desk.new) before self.new.line.items) }
-        ensures err { let table = self.old.view.filter.table.now in OnErr result
-            ((before : Standing)
-            → StandsAt self.old.view (λ p. map (P.name_at p.table.now) p.places.items)
-            (T.state desk.old) before
-            → Unanswered
-            (terms_of (K.may_answer clock.now) (G.bars guard.now) (P.place_of table)
-            (P.selects_at table))
-            (form_of form.now) self.old self.new (λ p. map (P.name_at p.table.now) p.places.items)
-            (T.state desk.old) (T.state desk.new) before) }
+            (T.state desk.old) (T.state desk.new) before self.new.line.bytes.items) }
+        ensures err { OnErr result (Unanswered (form_of form.now) self.old self.new
+            (T.state desk.old) (T.state desk.new)) }
         ensures table { self.new.view.filter.table ≡ self.old.view.filter.table }
         ensures places { self.new.places ≡ self.old.places }
     {
@@ -67,27 +74,25 @@ impl<P: FilterTable> Session<Picks<'_, P>> {
             Some(Command::Transact(asked)) => self.transact(rt, desk, clock, guard, asked),
             Some(Command::Db) => self.look(desk),
             Some(Command::Sync) => self.catch_up(rt, desk),
-            Some(Command::RequestIndex) => {
-                desk.ring(rt)?;
-                self.read(alloc, Some(Command::RequestIndex))
+            Some(Command::Read(asked)) => {
+                ring_for(rt, desk, asked)?;
+                self.read(alloc, Some(asked))
             }
-            command => self.read(alloc, command),
+            None => self.read(alloc, None),
         }
     }
 
     /// Answers of what was seen before.
-    fn read(&mut self, alloc: Global, command: Option<Command<'_>>) -> Result<(), Memory>
-        requires { IsTrue (is_read (option_map (λ asks. asked asks) command)) }
-        ensures is_read { IsTrue (is_read (option_map (λ asks. asked asks) command.entry)) }
+    fn read(&mut self, alloc: Global, asked: Option<Read<'_>>) -> Result<(), Memory>
         ensures ok { let table = self.old.view.filter.table.now in OnOk result
             (Reads self.old.view self.new.view (λ p. map (P.name_at p.table.now) p.places.items)
             (λ name. is_some (P.place_of table name))
             (selected_by (P.place_of table) (P.selects_at table))
-            (option_map (λ asks. asked asks) command.entry) self.new.line.items) }
+            (option_map (λ read. read_of read) asked.entry) self.new.line.bytes.items) }
         ensures table { self.new.view.filter.table ≡ self.old.view.filter.table }
         ensures rest { self.new ≡ record self.old { view = self.new.view; line = self.new.line } }
     {
-        answer_read(alloc, &mut self.view, command, &mut self.line)
+        answer_read(alloc, &mut self.view, asked, &mut self.line.bytes)
     }
 }
 
@@ -98,6 +103,7 @@ impl<S: Selector> Session<S> {
         ensures goes_on { GoesOn (T.state desk.old) (T.state desk.new) }
         ensures shows { OnOk result (Shows self.old self.new (T.state desk.new)) }
         ensures keeps { Keeps self.old self.new (T.state desk.old) (T.state desk.new) None }
+        ensures tally { (T.state desk.new).tally ≡ glanced (T.state desk.old).tally }
         ensures filter { self.new.view.filter ≡ self.old.view.filter }
         ensures places { self.new.places ≡ self.old.places }
     {
@@ -117,6 +123,8 @@ impl<S: Selector> Session<S> {
         ensures goes_on { GoesOn (T.state desk.old) (T.state desk.new) }
         ensures shows { OnOk result (Shows self.old self.new (T.state desk.new)) }
         ensures keeps { Keeps self.old self.new (T.state desk.old) (T.state desk.new) None }
+        ensures tally { OnOk result ((T.state desk.new).tally ≡ loaded (T.state desk.old).tally) }
+        ensures loads { OnErr result (LoadsOnceAtMost (T.state desk.old) (T.state desk.new)) }
         ensures filter { self.new.view.filter ≡ self.old.view.filter }
         ensures places { self.new.places ≡ self.old.places }
     {
@@ -128,10 +136,10 @@ impl<S: Selector> Session<S> {
         ensures view { self.new.view ≡ record self.old.view { snapshot = snapshot } }
         ensures rest { self.new ≡ record self.old { view = self.new.view; line = self.new.line } }
         ensures line { OnOk result
-            (IsLineOf (basis_reply (basis snapshot.entries)) self.new.line.items) }
+            (IsLineOf (basis_reply (basis snapshot.entries)) self.new.line.bytes.items) }
     {
         self.see(snapshot);
         let basis = self.place();
-        write_basis(&mut self.line, basis)
+        write_basis(&mut self.line.bytes, basis)
     }
 }

@@ -1,14 +1,16 @@
 //! The loop over the forms of a script.
 ghost use denote.Param.Send.{IsSync};
-ghost use Rattle.std.specs.Prelude.{◌≡◌, ◌≤◌, ◌<◌, ◌+◌, ◌++◌, IfOk, IfErr, OnOk, length, is_some, map};
+ghost use Rattle.std.specs.Prelude.{◌≡◌, ◌≤◌, ◌<◌, ◌+◌, ◌++◌, Some, IfOk, IfErr, OnOk, length, is_some, map};
+ghost use Rattle.std.specs.List.{last_or};
 ghost use Rattle.edn_form.specs.View.{form_of};
 ghost use Rattle.fb_model.specs.History.{basis};
 ghost use Rattle.fb_preds.specs.Naming.{selected_by};
 ghost use Rattle.talk_model.specs.Prefixes.{Prefixes};
 ghost use Rattle.talk_model.specs.Session.{Standing, setting};
-ghost use Rattle.fb_desk.specs.Desks.{GoesOn};
+ghost use Rattle.fb_desk.specs.Desks.{GoesOn, WentOn};
+ghost use Rattle.fb_session.specs.Asks.{Asks};
 ghost use Rattle.fb_session.specs.Replies.{Replies, SourceCount, SinkCount};
-ghost use Rattle.fb_session.specs.Sessions.{terms_of, WentOn, StandsAt, IsOpened, Replied, StopsAt, StopCount, end_of, IsCommand, NoCommand, served_by, Talks};
+ghost use Rattle.fb_session.specs.Sessions.{terms_of, StandsAt, IsOpened, Replied, StopsAt, StopCount, end_of, IsCommand, NoCommand, served_by, Talks};
 
 use crate::outcome::{Served, SessionEnd};
 use crate::reading::{ReadStop, read_script};
@@ -96,6 +98,11 @@ pub fn serve_desk<
         (basis (T.state desk.new).entries) result.places result.commits }
     ensures commits { (T.state desk.new).commits ≡ (T.state desk.old).commits ++ result.commits }
     ensures went_on { WentOn (T.state desk.old) (T.state desk.new) }
+    ensures asked { Asks (I.left source.old) (I.left source.new) result
+        (T.state desk.old).tally (T.state desk.new).tally }
+    ensures seen { result.end ≡ SessionEnd.Done
+        → last_or (Some (basis (T.state desk.old).entries)) result.places
+        ≡ Some (basis (T.state desk.new).entries) }
     ensures source_count { SourceCount result.end (I.faults source.old) (I.faults source.new) }
     ensures sink_count { SinkCount result.end (O.faults sink.old) (O.faults sink.new) }
 {
@@ -252,7 +259,7 @@ impl<P: FilterTable> Session<Picks<'_, P>> {
     {
         self.make_room()?;
         self.reply(rt, alloc, desk, clock, guard, form)?;
-        if write_line(sink, self.line.as_slice()).is_err() {
+        if write_line(sink, self.line.bytes.as_slice()).is_err() {
             return Err(AnswerError::WriteFault);
         }
         let place = self.place();

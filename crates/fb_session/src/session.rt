@@ -3,6 +3,7 @@ ghost use Rattle.std.specs.Prelude.{◌≡◌, ◌<◌, IfOk, OnOk, vec_len, vec
 ghost use Rattle.fb_model.specs.History.{basis};
 ghost use Rattle.fb_session.specs.Sessions.{IsOpened, served_by};
 
+use crate::line::Line;
 use crate::outcome::{Places, Served, SessionEnd};
 use fb_db::Db;
 use fb_desk::Desk;
@@ -20,8 +21,7 @@ pub(crate) struct Session<S> {
     pub(crate) places: Vec<u32>,
     /// The t of each transaction that was committed.
     pub(crate) commits: Vec<u32>,
-    /// The line that is being built.
-    pub(crate) line: Vec<u8>,
+    pub(crate) line: Line,
 }
 
 impl<'p, P: FilterTable> Session<Picks<'p, P>> {
@@ -42,7 +42,7 @@ impl<'p, P: FilterTable> Session<Picks<'p, P>> {
             view: Db::of(snapshot, Picks::none(alloc, preds)),
             places: Vec::new(alloc),
             commits: Vec::new(alloc),
-            line: Vec::new(alloc),
+            line: Line::empty(alloc),
         })
     }
 }

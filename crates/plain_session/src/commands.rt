@@ -12,7 +12,8 @@ pub(crate) enum Command<'a> {
     Turn(Turn<'a>),
     RequestIndex,
     Look(Look<'a>),
-    Pull,
+    /// The pattern, and the entity's name.
+    Pull(&'a Edn, &'a Edn),
 }
 
 /// It changes what the session sees.
@@ -77,7 +78,7 @@ fn before_one<'a>(word: &str, x: &'a Edn) -> Option<Command<'a>> {
 fn before_two<'a>(word: &str, x: &'a Edn, y: &'a Edn) -> Option<Command<'a>> {
     match word {
         "tx-range" => Some(Command::Look(Look::TxRange(x, y))),
-        "pull" => Some(Command::Pull),
+        "pull" => Some(Command::Pull(x, y)),
         _ => None,
     }
 }

@@ -8,7 +8,10 @@
 mod commands;
 mod components;
 mod filters;
+mod found;
+mod patterns;
 mod points;
+mod pulls;
 mod reads;
 mod replies;
 mod session;

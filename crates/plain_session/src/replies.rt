@@ -8,7 +8,7 @@ use plain_reads::attribute_of;
 use std::alloc::Global;
 
 /// The number, which no number of a history reaches where it is past the greatest integer of a form.
-fn number(n: u64) -> Edn {
+pub(crate) fn number(n: u64) -> Edn {
     Edn::Int(i64::try_from(n).unwrap_or(i64::MAX))
 }
 
@@ -102,6 +102,12 @@ pub(crate) fn transactions(
     Ok(reply.with("txs", Edn::Vector(Items::of(list)))?.map())
 }
 
+/// `{:basis 3 :pull {:db/doc "hi"}}`
+pub(crate) fn pull(alloc: Global, basis: u32, tree: Edn) -> Result<Edn, Memory> {
+    let reply = Reply::new(alloc).with_number("basis", u64::from(basis))?;
+    Ok(reply.with("pull", tree)?.map())
+}
+
 fn vectors(alloc: Global, facts: &[Datom], datoms: &[Datom]) -> Result<Edn, Memory> {
     let mut list = Vec::new(alloc);
     for d in datoms {
@@ -132,7 +138,7 @@ fn attribute(facts: &[Datom], a: u64) -> Result<Edn, Memory> {
     })
 }
 
-fn value(v: &Value) -> Result<Edn, Memory> {
+pub(crate) fn value(v: &Value) -> Result<Edn, Memory> {
     Ok(match v {
         Value::Keyword(text) => Edn::Key(text.copy()?),
         Value::Str(text) | Value::Uri(text) => Edn::Str(text.copy()?),

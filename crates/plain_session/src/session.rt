@@ -121,7 +121,10 @@ impl PlainSession {
                 let sight = Sight::of(self.alloc, &self.entries, self.window, &self.filters)?;
                 sight.reply(look)
             }
-            Command::Pull => Err(ReadStop::Refused("read/not-built", 0)),
+            Command::Pull(pattern, entity) => {
+                let sight = Sight::of(self.alloc, &self.entries, self.window, &self.filters)?;
+                sight.pull(pattern, entity)
+            }
         }
     }
 

@@ -11,7 +11,7 @@ use std::alloc::Global;
 pub(crate) struct Sight<'a> {
     pub(crate) alloc: Global,
     pub(crate) entries: &'a [Entry],
-    window: Window,
+    pub(crate) window: Window,
     filters: &'a [Filter],
     /// What holds at the end of the whole history: names of attributes, their types and their indexes go by it.
     pub(crate) facts: Vec<Datom>,
@@ -56,12 +56,17 @@ impl<'a> Sight<'a> {
         let Some(id) = self.name_in(form)? else {
             return Ok(None);
         };
+        Ok(entity_named(&self.seen()?, &id))
+    }
+
+    /// The facts of the window without its history, under the filters.
+    pub(crate) fn seen(&self) -> Result<Vec<Datom>, Memory> {
         let window = Window {
             history: false,
             ..self.window
         };
         let seen = view(self.alloc, self.entries, window)?;
-        Ok(entity_named(&self.selected(seen)?, &id))
+        self.selected(seen)
     }
 
     /// The name that the form is: a number, an ident, or a lookup ref.

@@ -5,11 +5,12 @@ use Rattle.std.proofs.lemmas.Bool.{true≢false}
 use Rattle.fb_values.specs.declared.facts.Datom.{Datom}
 use Rattle.fb_values.specs.declared.facts.Value.{Value}
 use Rattle.fb_values.specs.declared.facts.Value.TheVariants.{Ref}
+use Rattle.edn_values.specs.Values.{form_of_value}
 use Rattle.fb_numbers.specs.Numbers.{type_ref}
 use Rattle.fb_model.specs.Facts.{value_eq, values_of}
 use Rattle.fb_model.specs.Schema.{Attribute, entity_in}
 use Rattle.pull_model.specs.Patterns.{Options, Pattern, attribute, Below, is_reversed, limit_of}
-use Rattle.pull_model.specs.Found.{Db, Found, absent, values, entities, found_forward, found_backward, found, meant, referring, form_of_value}
+use Rattle.pull_model.specs.Found.{Db, Found, absent, values, entities, found_forward, found_backward, found, meant, referring}
 use Rattle.pull_model.specs.Made.{Made, nothing, plain, limited, forms_made, collected, gathered, or_default}
 use Rattle.pull_model.specs.Tree.{told, limit_for, value_of, made_of}
 use Rattle.pull_model.specs.Measures.{without_attribute}

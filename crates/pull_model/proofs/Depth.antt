@@ -1,11 +1,14 @@
 -- What stands deeper than the limit tells in nothing: with more room the answer is the same.
-use Rattle.std.proofs.Common.{◌≡◌, ℕ, zero, suc, ◌+◌, ◌<◌, List, [], ◌∷◌, nat_lt, ap, sym, ◌∙◌, subst, arith, inl, inr, suc-add}
+use Rattle.std.proofs.Common.{◌≡◌, ℕ, zero, suc, ◌+◌, ◌<◌, List, [], ◌∷◌, nat_lt, ap, sym, ◌∙◌, subst, arith, inl, inr, suc-add, cond, Ok, Err}
 use Rattle.std.proofs.lemmas.Bool.{or_right, lt-ltb}
 use Rattle.pull_model.specs.Patterns.{Pattern, everything, one_less}
 use Rattle.pull_model.specs.Found.{Db}
 use Rattle.pull_model.specs.Made.{Made}
 use Rattle.pull_model.specs.Tree.{tree}
-use Rattle.pull_model.specs.Pull.{most_around, most_maps, unless_too_large, refused, too_large, answered}
+use Rattle.edn_model.specs.Form.{nil}
+use Rattle.read_refusals.specs.declared.reasons.Reason.TheVariants.{TooLarge}
+use Rattle.std.specs.Prelude.{unwrap_or}
+use Rattle.pull_model.specs.Pull.{most_around, most_maps, answered}
 use Rattle.pull_model.proofs.Agreement.{Same, Agree, same_inside, same_enclosed}
 
 has_depth : (room : ℕ) (db : Db) (pattern : Pattern) (above : List ℕ) (e : ℕ) → 0 < (tree room db pattern above e).depth
@@ -30,9 +33,9 @@ same_with_more (suc room) more db pattern above e =
     (same_enclosed room _ _ (same_inside room (tree room db) (tree (room + more) db) db pattern above e
     (agree_everywhere room (tree room db) (tree (room + more) db) db pattern (e ∷ above) (λ inner path n. same_with_more room more db inner path n))))
 
-refused_as_deep : (made : Made) → most_around < made.depth → answered made ≡ refused too_large
+refused_as_deep : (made : Made) → most_around < made.depth → answered made ≡ Err TooLarge
 refused_as_deep made deep =
-    ap (λ b. unless_too_large b made.form) (or_right (nat_lt most_maps made.maps) (nat_lt most_around made.depth) (lt-ltb most_around made.depth deep))
+    ap (λ b. cond b (Err TooLarge) (Ok (unwrap_or made.form nil))) (or_right (nat_lt most_maps made.maps) (nat_lt most_around made.depth) (lt-ltb most_around made.depth deep))
 
 same_answer : (made other : Made) → Same most_around made other → answered other ≡ answered made
 same_answer made other (inl low) = ap answered low.1

@@ -2,9 +2,9 @@
 use Rattle.std.proofs.Common.{◌≡◌, ℕ, ◌+◌, true, false, cond, is_some, is_none, refl, ap, sym, ◌∙◌, option_map, bytes_eq, codes, Option, Some, None}
 use Rattle.std.proofs.lemmas.Bool.{true≢false}
 use Rattle.edn_model.specs.Form as edn
-use Rattle.edn_model.specs.Form.{Form, Forms, no_forms, form}
+use Rattle.edn_model.specs.Form.{Form, Forms, no_forms, form, Pairs, pair}
 use Rattle.pull_model.specs.Patterns.{Pattern, no_items, item, Item, wildcard, one}
-use Rattle.pull_model.specs.Reading.{both, if_any, item_with_options, pattern_of, items_of, item_of, specifications_of, first_bad_from, first_bad_item}
+use Rattle.pull_model.specs.Reading.{both, if_any, item_with_options, specified, specification, below_of, pattern_of, items_of, item_of, specifications_of, first_bad_from, first_bad_item}
 
 if_any-twice : (p : Option Pattern) → if_any (if_any p) ≡ if_any p
 if_any-twice None = refl
@@ -49,6 +49,16 @@ if_any-both (Some no_items) b is = absurd (some≢none no_items is)
 if_any-both (Some (item i rest)) None is = refl
 if_any-both (Some (item i rest)) (Some q) is = refl
 
+-- a vector with an item, and a map with a pair, are patterns of at least one item where they are any
+pub if_any-items : (f : Form) (fs : Forms) → if_any (items_of (form f fs)) ≡ items_of (form f fs)
+if_any-items f fs = if_any-both (item_of f) (items_of fs) (if_any-item f)
+
+pub if_any-specifications : (key value : Form) (rest : Pairs)
+    → if_any (specifications_of (pair key value rest)) ≡ specifications_of (pair key value rest)
+if_any-specifications key value rest =
+    let i = specification (specified key) (below_of value) in
+    if_any-both (option_map one i) (specifications_of rest) (if_any-one i)
+
 pub pattern_or_bad_item : (f : Form) → is_some (pattern_of f) ≡ is_none (first_bad_item f)
 pattern_or_bad_item edn.nil = refl
 pattern_or_bad_item (edn.boolean b) = refl
@@ -58,7 +68,7 @@ pattern_or_bad_item (edn.symbol s) = refl
 pattern_or_bad_item (edn.keyword k) = refl
 pattern_or_bad_item (edn.list fs) = refl
 pattern_or_bad_item (edn.vector no_forms) = refl
-pattern_or_bad_item (edn.vector (form f fs)) = ap is_some (if_any-both (item_of f) (items_of fs) (if_any-item f)) ∙ all_items 0 (form f fs)
+pattern_or_bad_item (edn.vector (form f fs)) = ap is_some (if_any-items f fs) ∙ all_items 0 (form f fs)
 pattern_or_bad_item (edn.map ps) = refl
 pattern_or_bad_item (edn.set fs) = refl
 pattern_or_bad_item (edn.instant z) = refl

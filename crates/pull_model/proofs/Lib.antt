@@ -7,3 +7,6 @@ pub mod Distinct
 pub mod Items
 pub mod Absent
 pub mod Views
+pub mod Counts
+pub mod Names
+pub mod Rooms

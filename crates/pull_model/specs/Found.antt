@@ -1,23 +1,22 @@
 -- What a view has of an entity: the values of its attributes, the entities that refer to it, and
 -- its attributes' names.
 -- Datomic, Pull and Indexes. The order of values and of names is this project's own choice.
-use Rattle.std.specs.Prelude.{◌≡◌, ℕ, pos, Bool, false, not, ◌&&◌, List, [], ◌∷◌, map, filter, filter_map, ◌==◌, nat_eq, if◌then◌else◌, option_map, Option, Some, None}
+use Rattle.std.specs.Prelude.{◌≡◌, ℕ, Bool, false, not, ◌&&◌, List, [], ◌∷◌, map, filter, filter_map, ◌==◌, nat_eq, if◌then◌else◌, option_map, Option, Some, None}
 use Rattle.std.specs.Ordering.{is_lt}
-use Rattle.edn_model.specs.Form as edn
-use Rattle.edn_model.specs.Form.{Form}
 use Rattle.fb_values.specs.Orders.{text_cmp}
 use Rattle.fb_values.specs.declared.facts.Datom.{Datom}
 use Rattle.fb_values.specs.declared.facts.Entry.{Entry}
 use Rattle.fb_values.specs.declared.facts.Value.{Value}
-use Rattle.fb_values.specs.declared.facts.Value.TheVariants.{Keyword, Str, Bool as Boolean, Long, Ref, Instant, Uuid, Symbol, Uri}
+use Rattle.fb_values.specs.declared.facts.Value.TheVariants.{Ref}
 use Rattle.fb_values.specs.declared.indexes.Order.TheVariants.{Eavt}
 use Rattle.fb_numbers.specs.Numbers.{type_ref}
 use Rattle.fb_model.specs.Rising.{in_order, IsRisingListOf}
 use Rattle.fb_model.specs.Facts.{value_eq, values_of, facts}
 use Rattle.fb_model.specs.Schema.{Attribute, attribute_of, attribute_named, entity_in}
+use Rattle.tx_model.specs.Asks.{without_underscore}
 use Rattle.view_model.specs.Window.{Window, without_history}
 use Rattle.view_model.specs.View.{InView, facts_seen}
-use Rattle.pull_model.specs.Patterns.{is_reversed, forward_name}
+use Rattle.pull_model.specs.Patterns.{is_reversed}
 
 -- a database value, as a pull reads it
 pub record Db : Type 0 where
@@ -67,26 +66,13 @@ found_backward db e (Some attribute) =
 
 -- the attribute that a name means, forward or reversed
 abbrev pub meant : Db → List ℕ → Option Attribute
-meant db name = attribute_named db.schema (if is_reversed name then forward_name name else name)
+meant db name =
+    attribute_named db.schema (if is_reversed name then without_underscore name else name)
 
 abbrev pub found : Db → ℕ → List ℕ → Found
 found db e name =
     if is_reversed name then found_backward db e (meant db name)
     else found_forward db e (meant db name)
-
--- ---- values as forms
-
--- a uri is a string
-abbrev pub form_of_value : Value → Form
-form_of_value (Keyword k) = edn.keyword k
-form_of_value (Str s) = edn.string s
-form_of_value (Boolean b) = edn.boolean b
-form_of_value (Long n) = edn.integer n
-form_of_value (Ref n) = edn.integer (pos n)
-form_of_value (Instant n) = edn.instant n
-form_of_value (Uuid n) = edn.uuid n
-form_of_value (Symbol s) = edn.symbol s
-form_of_value (Uri s) = edn.string s
 
 -- ---- the attributes of an entity
 

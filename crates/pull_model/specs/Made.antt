@@ -1,9 +1,11 @@
 -- What a pull makes: a form or nothing, how many maps were made for it, and how deep they stand.
 -- This project's own choice; Datomic, Pull, has no such limits.
-use Rattle.std.specs.Prelude.{ℕ, ◌+◌, Bool, true, false, List, [], ◌∷◌, ◌++◌, max, take, filter_map, pos, Option, Some, None}
+use Rattle.std.specs.Prelude.{ℕ, ◌+◌, Bool, true, false, List, [], ◌∷◌, ◌++◌, max, take, filter_map, Option, Some, None}
 use Rattle.std.specs.Option.{option_or}
 use Rattle.edn_model.specs.Form as edn
 use Rattle.edn_model.specs.Form.{Form, forms, pairs}
+use Rattle.edn_values.specs.Values.{form_of_value}
+use Rattle.fb_values.specs.declared.facts.Value.TheVariants.{Ref}
 use Rattle.pull_model.specs.Patterns.{own_name, Limit, first, all}
 
 pub record Made : Type 0 where
@@ -22,7 +24,7 @@ plain f = record { form = Some f; maps = 0; depth = 0 }
 
 -- `{:db/id n}`
 abbrev pub stub_form : ℕ → Form
-stub_form n = edn.map (pairs ((edn.keyword own_name, edn.integer (pos n)) ∷ []))
+stub_form n = edn.map (pairs ((edn.keyword own_name, form_of_value (Ref n)) ∷ []))
 
 abbrev pub stub : ℕ → Made
 stub n = record { form = Some (stub_form n); maps = 1; depth = 1 }

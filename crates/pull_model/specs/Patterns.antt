@@ -2,9 +2,9 @@
 -- an attribute.
 -- Datomic, Pull (attribute specifications, wildcard, attribute with options, map specifications,
 -- recursion).
-use Rattle.std.specs.Prelude.{ℕ, zero, suc, ◌-◌, Bool, List, ◌++◌, bytes_eq, codes, if◌then◌else◌, drop, nat_le, Option, None, unwrap_or}
+use Rattle.std.specs.Prelude.{ℕ, zero, suc, ◌-◌, Bool, List, [], ◌∷◌, bytes_eq, codes, if◌then◌else◌, nat_le, Option, None, unwrap_or}
 use Rattle.edn_model.specs.Form.{Form, keyword}
-use Rattle.fb_model.specs.Words.{has_namespace, namespace, local_name, begins_with_one_of}
+use Rattle.fb_model.specs.Words.{underscore, local_name, begins_with_one_of}
 
 -- ---- names, each as the keyword that was written, without its colon
 
@@ -16,13 +16,7 @@ is_own name = bytes_eq name own_name
 
 -- the name begins with `_`: the entities that refer to this one are meant
 abbrev pub is_reversed : List ℕ → Bool
-is_reversed name = begins_with_one_of (codes "_") (local_name name)
-
--- the attribute's keyword of a reversed name
-abbrev pub forward_name : List ℕ → List ℕ
-forward_name name =
-    if has_namespace name then namespace name ++ codes "/" ++ drop 1 (local_name name)
-    else drop 1 (local_name name)
+is_reversed name = begins_with_one_of (underscore ∷ []) (local_name name)
 
 -- ---- options
 

@@ -1,6 +1,6 @@
 -- Which form is which pattern, and the first item that has no such form.
 -- Datomic, Pull (pattern grammar), without its list forms of limit and default and without :xform.
-use Rattle.std.specs.Prelude.{ℕ, ◌+◌, pos, Bool, false, ◌&&◌, List, [], ◌∷◌, bytes_eq, codes, if◌then◌else◌, nat_le, is_some, is_none, option_map, option_and_then, Option, Some, None}
+use Rattle.std.specs.Prelude.{ℕ, ◌+◌, pos, Bool, false, ◌&&◌, List, [], ◌∷◌, bytes_eq, codes, if◌then◌else◌, nat_le, is_some, is_none, option_map, option_and_then, ok_or, unwrap_or, Option, Some, None, Result}
 use Rattle.edn_model.specs.Form.{Form, nil, integer, string, symbol, keyword, vector, map, Forms, no_forms, form, Pairs, no_pairs, pair, items}
 use Rattle.pull_model.specs.Patterns.{Limit, first, all, Options, no_options, Pattern, no_items, item, Item, wildcard, own, attribute, Below, usual, under, times, unlimited, is_own, one, joined}
 
@@ -144,3 +144,7 @@ abbrev pub first_bad_item : Form → Option ℕ
 first_bad_item (vector no_forms) = Some 0
 first_bad_item (vector fs) = first_bad_from 0 fs
 first_bad_item f = Some 0
+
+-- the pattern that the form is, or the place of the first item of another form
+abbrev pub pattern_in : Form → Result Pattern ℕ
+pattern_in f = ok_or (pattern_of f) (unwrap_or (first_bad_item f) 0)

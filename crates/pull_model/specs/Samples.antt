@@ -1,5 +1,5 @@
 -- Histories and forms for the examples. This project's own choice.
-use Rattle.std.specs.Prelude.{ℕ, zero, suc, ◌+◌, ℤ, pos, negsuc, true, false, List, [], ◌∷◌, ◌++◌, map, codes, Some, None}
+use Rattle.std.specs.Prelude.{ℕ, zero, suc, ◌+◌, ℤ, pos, negsuc, Bool, true, false, List, [], ◌∷◌, ◌++◌, map, codes, Some, None, Result, Ok, Err}
 use Rattle.edn_model.specs.Form as edn
 use Rattle.edn_model.specs.Form.{Form, forms, pairs}
 use Rattle.fb_values.specs.declared.facts.Datom.{Datom}
@@ -8,11 +8,13 @@ use Rattle.fb_values.specs.declared.facts.Value.TheVariants.{Keyword, Str, Bool 
 use Rattle.fb_numbers.specs.Numbers.{user_entity, ident, value_type, cardinality, is_component, type_long, type_string, type_ref, type_uri, cardinality_one, cardinality_many}
 use Rattle.fb_model.specs.FirstEntry.{first_entry}
 use Rattle.fb_model.specs.Facts.{facts}
-use Rattle.view_model.specs.Window.{whole}
-use Rattle.view_model.specs.Names.{number}
+use Rattle.read_refusals.specs.declared.reasons.Reason.{Reason}
+use Rattle.read_refusals.specs.declared.reasons.Reason.TheVariants.{BadPattern}
+use Rattle.view_model.specs.Window.{Window, whole}
 use Rattle.view_model.specs.Samples.{datom, entry_at, texts}
 use Rattle.pull_model.specs.Found.{Db, db_of}
-use Rattle.pull_model.specs.Pull.{Answer, pull, made_by}
+use Rattle.pull_model.specs.Pull.{pull, pulled, made_by}
+use Rattle.pull_model.specs.Reading.{pattern_in}
 use Rattle.pull_model.specs.Patterns.{Options, no_options, Limit, Pattern, no_items, item, Item, own, attribute, Below, usual, unlimited}
 use Rattle.pull_model.specs.Made.{Made}
 
@@ -71,9 +73,23 @@ only f = vector (f ∷ [])
 abbrev pub entity : ℕ → Form
 entity n = below id (int n)
 
--- what a pull of an entity gives in the whole database
-abbrev pub tree_of : List Entry → List Form → ℕ → Answer
-tree_of h pattern n = pull h whole [] (vector pattern) (number n)
+-- ---- pulls by a form
+
+abbrev answer_by : Result Pattern ℕ → (Pattern → Result Form Reason) → Result Form Reason
+answer_by (Ok pattern) answer = answer pattern
+answer_by (Err place) answer = Err BadPattern
+
+-- what a pull by the form gives of an entity in a view
+abbrev pub tree_in : List Entry → Window → List (Datom → Bool) → Form → ℕ → Result Form Reason
+tree_in h w filters f n = answer_by (pattern_in f) (λ pattern. pull h w filters pattern n)
+
+-- in a database value
+abbrev pub tree_over : Db → Form → ℕ → Result Form Reason
+tree_over db f n = answer_by (pattern_in f) (λ pattern. pulled false db pattern n)
+
+-- by a pattern of these items in the whole database
+abbrev pub tree_of : List Entry → List Form → ℕ → Result Form Reason
+tree_of h pattern n = tree_in h whole [] (vector pattern) n
 
 -- ---- patterns as they are read
 

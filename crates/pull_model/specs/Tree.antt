@@ -1,12 +1,14 @@
 -- The tree that a pattern gives of an entity.
 -- Datomic, Pull. What `*` stands for beside other items, skipped keys, and what is told at a cycle
 -- and at the end of a recursion are this project's own choice.
-use Rattle.std.specs.Prelude.{ℕ, ◌+◌, zero, suc, pos, Bool, true, false, not, ◌||◌, List, [], ◌∷◌, ◌++◌, map, filter, fold, nat_eq, bytes_eq, None}
+use Rattle.std.specs.Prelude.{ℕ, ◌+◌, zero, suc, Bool, true, false, not, ◌||◌, List, [], ◌∷◌, ◌++◌, map, filter, fold, nat_eq, bytes_eq, None}
 use Rattle.std.specs.List.{list_any}
-use Rattle.edn_model.specs.Form.{Form, integer, keyword}
+use Rattle.edn_model.specs.Form.{Form, keyword}
 use Rattle.edn_model.specs.Likeness.{alike}
+use Rattle.edn_values.specs.Values.{form_of_value}
+use Rattle.fb_values.specs.declared.facts.Value.TheVariants.{Ref}
 use Rattle.pull_model.specs.Patterns.{own_name, Options, no_options, limit_of, key_of, Limit, first, Pattern, no_items, item, Item, wildcard, own, attribute, Below, usual, under, times, unlimited, everything, one_less}
-use Rattle.pull_model.specs.Found.{Db, Found, absent, values, entities, found, form_of_value, names_of_entity}
+use Rattle.pull_model.specs.Found.{Db, Found, absent, values, entities, found, names_of_entity}
 use Rattle.pull_model.specs.Made.{Made, nothing, plain, stub, limited, gathered, or_default, Inside, no_pairs_yet, with_pair, enclosed}
 
 -- ---- the items, in order
@@ -72,7 +74,7 @@ value_of trees pattern place path options below (entities several parts ns) =
 -- of the item at the place, for the last entity of the path
 abbrev pub made_of : (Pattern → List ℕ → ℕ → Made) → Db → Pattern → List ℕ → ℕ → ℕ → Item → Made
 made_of trees db pattern above e place wildcard = nothing
-made_of trees db pattern above e place (own options) = plain (integer (pos e))
+made_of trees db pattern above e place (own options) = plain (form_of_value (Ref e))
 made_of trees db pattern above e place (attribute name options below) =
     or_default options.default
     (value_of trees pattern place (e ∷ above) options below (found db e name))

@@ -1,7 +1,6 @@
 //! Examples, by computation: recursion and its path, and parts that are told whole.
-ghost use Rattle.std.specs.Prelude.{◌≡◌, [], ◌∷◌, codes};
+ghost use Rattle.std.specs.Prelude.{◌≡◌, [], ◌∷◌, codes, Ok};
 ghost use Rattle.fb_model.specs.Lawful.{IsLawful};
-ghost use Rattle.pull_model.specs.Pull.{pulled};
 ghost use Rattle.pull_model.specs.Samples.{text, int, vector, map_of, star, dots, id, below, entity, tree_of, name, friend, friend_of, friends, nameless_friend, lines, order_of, sku, orders, part, next, circle, with_default, only, ann, ben, cleo, name_is, friend_is, friend_of_is, named, the_order, first_line, both_lines, left, right_in_left};
 
 /// An item whose number is used up is left out: it gives no default, and `*` stands for its
@@ -9,12 +8,12 @@ ghost use Rattle.pull_model.specs.Samples.{text, int, vector, map_of, star, dots
 pub fn recursion()
     ensures no_default_at_the_end { tree_of friends
         (name ∷ below (with_default friend (text (codes "none"))) (int 1) ∷ []) ann
-        ≡ pulled (map_of (name_is (codes "A") ∷ friend_is (named (codes "B")) ∷ [])) }
+        ≡ Ok (map_of (name_is (codes "A") ∷ friend_is (named (codes "B")) ∷ [])) }
     ensures default_before_the_end { tree_of nameless_friend
         (name ∷ below (with_default friend (text (codes "none"))) (int 1) ∷ []) cleo
-        ≡ pulled (map_of (name_is (codes "C") ∷ (friend, text (codes "none")) ∷ [])) }
+        ≡ Ok (map_of (name_is (codes "C") ∷ (friend, text (codes "none")) ∷ [])) }
     ensures everything_at_the_end { tree_of friends (star ∷ below friend (int 1) ∷ []) ann
-        ≡ pulled (map_of (
+        ≡ Ok (map_of (
         (id, int ann)
         ∷ name_is (codes "A")
         ∷ friend_is (map_of ((id, int ben) ∷ friend_is (entity ann) ∷ name_is (codes "B") ∷ []))
@@ -23,7 +22,7 @@ pub fn recursion()
         ≡ tree_of friends (below sku dots ∷ []) ann }
     ensures each_its_own_number { tree_of friends
         (name ∷ map_of ((friend, int 1) ∷ (friend_of, int 1) ∷ []) ∷ []) ann
-        ≡ pulled (map_of (
+        ≡ Ok (map_of (
         name_is (codes "A")
         ∷ friend_is (map_of (name_is (codes "B") ∷ friend_of_is (entity ann) ∷ []))
         ∷ friend_of_is (map_of (name_is (codes "B") ∷ friend_is (entity ann) ∷ []))
@@ -34,7 +33,7 @@ pub fn recursion()
 pub fn paths()
     ensures shared { tree_of friends (name ∷ map_of ((friend, dots) ∷ (friend_of, dots) ∷ []) ∷ [])
         ann
-        ≡ pulled (map_of (
+        ≡ Ok (map_of (
         name_is (codes "A")
         ∷ friend_is
         (map_of (name_is (codes "B") ∷ friend_is (entity ann) ∷ friend_of_is (entity ann) ∷ []))
@@ -43,7 +42,7 @@ pub fn paths()
         ∷ [])) }
     ensures of_its_own { tree_of friends
         (below friend (vector (name ∷ below friend dots ∷ [])) ∷ []) ann
-        ≡ pulled (below friend (only (map_of (
+        ≡ Ok (below friend (only (map_of (
         name_is (codes "B")
         ∷ friend_is (map_of (name_is (codes "A") ∷ friend_is (entity ben) ∷ []))
         ∷ [])))) }
@@ -54,13 +53,13 @@ pub fn paths()
 pub fn parts()
     ensures lawful { IsLawful circle }
     ensures from_a_part { tree_of orders (below order_of (only lines) ∷ []) first_line
-        ≡ pulled (below order_of (below lines both_lines)) }
+        ≡ Ok (below order_of (below lines both_lines)) }
     ensures in_a_circle { tree_of circle (part ∷ []) left
-        ≡ pulled (below part (only right_in_left)) }
+        ≡ Ok (below part (only right_in_left)) }
     ensures with_recursion { tree_of circle (part ∷ below next dots ∷ []) left
-        ≡ pulled
+        ≡ Ok
         (map_of ((part, only right_in_left) ∷ (next, below part (only (entity left))) ∷ [])) }
     ensures with_a_pattern { tree_of orders (below lines (only sku) ∷ []) the_order
-        ≡ pulled
+        ≡ Ok
         (below lines (vector (below sku (text (codes "A")) ∷ below sku (text (codes "B")) ∷ []))) }
 {}

@@ -1,6 +1,6 @@
 //! Examples, by computation: which forms are patterns, and the first item that is none.
 ghost use Rattle.std.specs.Prelude.{◌≡◌, [], ◌∷◌, codes, negsuc, None, Some};
-ghost use Rattle.edn_model.specs.Form.{nil, integer};
+ghost use Rattle.edn_model.specs.Form.{nil, integer, symbol, list, forms};
 ghost use Rattle.pull_model.specs.Patterns.{wildcard, own, attribute, usual, under, times, unlimited, no_options, first, all};
 ghost use Rattle.pull_model.specs.Reading.{pattern_of, first_bad_item};
 ghost use Rattle.pull_model.specs.Samples.{key, text, int, vector, map_of, star, dots, id, below, with, name, friend, friend_of, renamed, with_default, with_limit, only, pattern_with, bare, as_alone, default_alone, limit_alone, doc_word};
@@ -54,6 +54,12 @@ pub fn options()
     ensures of_no_such_name { first_bad_item
         (vector (with name (codes "xform") (key (codes "f")) ∷ []))
         ≡ Some 0 }
+    ensures before_the_name { first_bad_item
+        (only (vector (symbol (codes "limit") ∷ friend ∷ int 1 ∷ [])))
+        ≡ Some 0 }
+    ensures in_a_list { first_bad_item
+        (only (list (forms (symbol (codes "limit") ∷ friend ∷ int 1 ∷ []))))
+        ≡ Some 0 }
     ensures of_everything { first_bad_item (only (with_limit star (int 1))) ≡ Some 0 }
 {}
 
@@ -65,6 +71,8 @@ pub fn no_patterns()
     ensures fifth { first_bad_item
         (vector (name ∷ id ∷ star ∷ friend ∷ text (codes "f/name") ∷ int 5 ∷ []))
         ≡ Some 4 }
+    ensures text_of_everything { first_bad_item (only (text (codes "*"))) ≡ Some 0 }
+    ensures text_of_dots { first_bad_item (only (below friend (text (codes "...")))) ≡ Some 0 }
     ensures another_symbol { first_bad_item (only dots) ≡ Some 0 }
     ensures second_pair { first_bad_item
         (vector (name ∷ map_of ((friend, only id) ∷ (friend_of, int 0) ∷ []) ∷ int 5 ∷ []))

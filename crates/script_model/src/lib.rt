@@ -1,6 +1,5 @@
-//! What a script and a command line are: the forms that bytes are, up to where they end, and the
-//! words of a command. The functions here are laws and examples: each has an empty body, and its
-//! contract is what is proved.
+//! What a script is: the forms that bytes are, up to where they end. The functions here are laws
+//! and examples: each has an empty body, and its contract is what is proved.
 #![tactic(auto)]
 
 mod examples;

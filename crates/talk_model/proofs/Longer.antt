@@ -6,8 +6,8 @@ use Rattle.fb_values.specs.declared.facts.Entry.{Entry}
 use Rattle.fb_model.specs.History.{basis, upto}
 use Rattle.fb_model.proofs.OneMoreEntry.{upto-append}
 use Rattle.tx_model.specs.Step.{step}
-use Rattle.talk_model.specs.Commands.{Command, transact, db, sync, command_in}
-use Rattle.talk_model.specs.Session.{Setting, Standing, grown, Stays, SelectedBy}
+use Rattle.talk_model.specs.Commands.{Read, Command, transact, db, sync, read, command_in}
+use Rattle.talk_model.specs.Session.{Setting, Standing, Sight, sight_of, grown, Stays}
 use Rattle.talk_model.specs.Reads.{IsReply, behind}
 use Rattle.talk_model.specs.Talk.{IsAccepted, IsRefused, IsNotTaken, IsStopped, IsShown, IsRead, AnswersCommand, IsAnswered, Exchange, Talk}
 use Rattle.talk_model.proofs.Steps.{answer_goes}
@@ -38,6 +38,7 @@ module _ (s : Setting) (more : List Entry) (stop : Option ℕ) (teller : Bool) (
     accepted_longer : (asked : Form) → IsAccepted s before asked after line commit → IsAccepted t before asked after line commit
     accepted_longer asked a =
         record {
+          going = a.going;
           place = a.place;
           above = a.above;
           within = omega (arith, a.within, grows);
@@ -55,6 +56,7 @@ module _ (s : Setting) (more : List Entry) (stop : Option ℕ) (teller : Bool) (
     refused_longer : (asked : Form) → IsRefused s before asked after line commit → IsRefused t before asked after line commit
     refused_longer asked r =
         record {
+          going = r.going;
           place = r.place;
           from = r.from;
           within = omega (arith, r.within, grows);
@@ -100,16 +102,16 @@ module _ (s : Setting) (more : List Entry) (stop : Option ℕ) (teller : Bool) (
     shown_longer r =
         record { place = r.place; from = r.from; within = omega (arith, r.within, grows); says = r.says; commits = r.commits; stands = r.stands }
 
-    read_longer : (command : Option Command) → IsRead s before command after line commit → IsRead t before command after line commit
-    read_longer command r =
-        let Reply : List Entry → Type 0 = λ past. IsReply past before.place s.is_filter before.window (SelectedBy s.Selects before.filters) command r.reply in
+    read_longer : (asked : Option Read) → IsRead s before asked after line commit → IsRead t before asked after line commit
+    read_longer asked r =
+        let Over : List Entry → Sight = λ past. record (sight_of s before) { history = past } in
         let past : upto s.history before.place ≡ upto (s.history ++ more) before.place = sym (same_past before.place seen) in
         record {
           reply = r.reply;
-          answers = subst Reply past r.answers;
+          answers = subst (λ h. IsReply (Over h) asked r.reply) past r.answers;
           says = r.says;
           commits = r.commits;
-          stands = r.stands ∙ ap (λ h. behind h s.is_filter before command) past;
+          stands = r.stands ∙ ap (λ h. behind (Over h) before asked) past;
         }
 
     command_longer : (command : Option Command) → AnswersCommand s before command after line commit → AnswersCommand t before command after line commit
@@ -123,7 +125,8 @@ module _ (s : Setting) (more : List Entry) (stop : Option ℕ) (teller : Bool) (
         ]
     command_longer (Some db) a = shown_longer a
     command_longer (Some sync) a = shown_longer a
-    command_longer command a = read_longer command a
+    command_longer (Some (read r)) a = read_longer (Some r) a
+    command_longer None a = read_longer None a
 
     pub answer_longer : (f : Form) → IsAnswered s before f after line commit → IsAnswered t before f after line commit
     answer_longer f a = command_longer (command_in f) a

@@ -1,6 +1,10 @@
 -- A read has one answer, and leaves its session where it was.
-use Rattle.std.proofs.Common.{ℕ, ◌≡◌, Bool, true, List, [], ◌∷◌, ◌++◌, Option, Some, None, Result, Ok, Err, ap, sym, ◌∙◌, subst}
+use Rattle.std.proofs.Common.{ℕ, ◌≡◌, ◌+◌, Bool, true, false, zero, suc, List, [], ◌∷◌, ◌++◌, Option, Some, None, Result, Ok, Err, take, refl, ap, sym, ◌∙◌, subst, arith}
+use Rattle.std.specs.Bool.{Decides}
+use Rattle.std.specs.Str.{bytes_eq}
+use Rattle.std.specs.Option.{option_map}
 use Rattle.std.proofs.lemmas.Bool.{true≢false}
+use Rattle.std.proofs.lemmas.Slice.Eq.{bytes_eq-Decides}
 use Rattle.edn_model.specs.Form.{Form}
 use Rattle.edn_print.proofs.Texts.{one_text}
 use Rattle.fb_values.specs.declared.facts.Datom.{Datom}
@@ -9,17 +13,24 @@ use Rattle.fb_values.specs.declared.indexes.Order.{Order}
 use Rattle.fb_values.specs.declared.indexes.Order.TheVariants.{Avet}
 use Rattle.fb_values.specs.declared.indexes.Probe.{Probe}
 use Rattle.fb_model.specs.Facts.{facts}
-use Rattle.fb_model.specs.History.{upto}
+use Rattle.fb_model.specs.History.{basis, upto}
+use Rattle.fb_model.specs.Lawful.{IsLawful, IsLawfulFrom}
 use Rattle.view_model.specs.Window.{Window}
+use Rattle.view_model.specs.Names.{Id}
 use Rattle.view_model.specs.Scan.{Range, leading, not_below}
 use Rattle.view_model.proofs.Scans.{IsRisingListOf-one}
 use Rattle.read_refusals.specs.declared.reasons.Refusal.{Refusal}
-use Rattle.read_model.specs.Points.{point_in, log_range}
+use Rattle.read_model.specs.Points.{log_range}
+use Rattle.read_model.specs.Names.{id_in, IsFound}
+use Rattle.read_model.proofs.Finding.{named_one}
+use Rattle.pull_model.specs.Patterns.{Pattern}
+use Rattle.pull_model.specs.Reading.{pattern_in}
+use Rattle.pull_model.proofs.Views.{not_without_a_list}
 use Rattle.talk_model.proofs.Reading.{components_one, range_one}
-use Rattle.talk_model.specs.Commands.{Command, transact, db, sync, command_in, is_read, is_look, as_of, since, history, filter, unfilter, request_index, datoms, seek, index_range, tx_range, pull}
+use Rattle.talk_model.specs.Commands.{Look, datoms, seek, index_range, tx_range, pull, Read, look, turn, request_index, Command, read, command_in}
 use Rattle.talk_model.specs.Replies.{datoms_reply, line_feed, IsLineOf}
-use Rattle.talk_model.specs.Session.{Setting, Standing, SelectedBy}
-use Rattle.talk_model.specs.Reads.{Shows, IsDone, HasDatoms, HasDatomsAt, HasDatomsBetween, HasTransactions, IsReply}
+use Rattle.talk_model.specs.Session.{Setting, Standing, Sight, sight_of}
+use Rattle.talk_model.specs.Reads.{Shows, HasDatoms, HasDatomsAt, HasDatomsBetween, HasTransactions, HasTree, HasPull, IsLook, IsReply}
 use Rattle.talk_model.specs.Talk.{IsRead, AnswersCommand, IsAnswered}
 use Rattle.talk_model.proofs.Steps.{behind-place}
 
@@ -27,46 +38,77 @@ pub one_line : (reply : Form) (line other : List ℕ) → IsLineOf reply line �
 one_line reply line other first second =
     first.2 ∙ ap (λ (text : List ℕ). text ++ line_feed ∷ []) (one_text reply first.0 second.0 first.1 second.1) ∙ sym second.2
 
+from_beginning : (before rest : List Entry) (n : ℕ) → IsLawfulFrom before rest → IsLawfulFrom before (take n rest)
+from_beginning before rest zero lawful = tt
+from_beginning before [] (suc n) lawful = tt
+from_beginning before (e ∷ rest) (suc n) lawful = (lawful.0, from_beginning (before ++ e ∷ []) rest n lawful.1)
+
+upto_lawful : (h : List Entry) (c : ℕ) → IsLawful h → IsLawful (upto h c)
+upto_lawful [] c lawful = absurd lawful
+upto_lawful (first ∷ rest) c lawful = let one : c + 1 ≡ suc c = omega arith in rw one (lawful.0, from_beginning (first ∷ []) rest c lawful.1)
+
+-- two lines that are not unequal are equal
+stable : (line other : List ℕ) → ((line ≡ other → ⊥) → ⊥) → line ≡ other
+stable line other not_unequal = by (bytes_eq line other) (bytes_eq-Decides line other)
+  where
+    by : (r : Bool) → Decides r (line ≡ other) → line ≡ other
+    by true decided = decided.0 refl
+    by false decided = absurd (not_unequal (λ same. true≢false (sym (decided.1 same))))
+
 shows_one : {X : Type 0} (basis : ℕ) (IsReplyTo : X → Form → Type 0) → ((x : X) (p q : Form) → IsReplyTo x p → IsReplyTo x q → p ≡ q)
     → (answer : Result X Refusal) (p q : Form) → Shows basis IsReplyTo answer p → Shows basis IsReplyTo answer q → p ≡ q
 shows_one basis IsReplyTo each (Ok x) p q first second = each x p q first second
 shows_one basis IsReplyTo each (Err r) p q first second = first ∙ sym second
 
-module _ (h : List Entry) (w : Window) (Selects : Datom → Type 0) (basis : ℕ) where
-  datoms_one : (order : Order) (range : Range) (p q : Form) → HasDatoms h w Selects basis order range p → HasDatoms h w Selects basis order range q → p ≡ q
+module _ (h : List Entry) (w : Window) (Selects : Datom → Type 0) where
+  datoms_one : (order : Order) (range : Range) (p q : Form) → HasDatoms h w Selects order range p → HasDatoms h w Selects order range q → p ≡ q
   datoms_one order range p q first second =
       let same = IsRisingListOf-one order _ first.0 second.0 first.1 second.1 in
-      first.2 ∙ ap (datoms_reply basis (facts h)) same ∙ sym second.2
+      first.2 ∙ ap (datoms_reply (basis h) (facts h)) same ∙ sym second.2
 
   at_one : (order : Order) (range : Probe → Range) (components : List Form) (p q : Form)
-      → HasDatomsAt h w Selects basis order range components p → HasDatomsAt h w Selects basis order range components q → p ≡ q
+      → HasDatomsAt h w Selects order range components p → HasDatomsAt h w Selects order range components q → p ≡ q
   at_one order range components p q first second =
       let same = components_one h w Selects order components first.0 second.0 first.1 second.1 in
-      let Shown : Result Probe Refusal → Type 0 = λ answer. Shows basis (λ probe. HasDatoms h w Selects basis order (range probe)) answer p in
-      shows_one basis (λ probe. HasDatoms h w Selects basis order (range probe)) (λ probe. datoms_one order (range probe)) second.0 p q (subst Shown same first.2) second.2
+      let Shown : Result Probe Refusal → Type 0 = λ answer. Shows (basis h) (λ probe. HasDatoms h w Selects order (range probe)) answer p in
+      shows_one (basis h) (λ probe. HasDatoms h w Selects order (range probe)) (λ probe. datoms_one order (range probe)) second.0 p q (subst Shown same first.2) second.2
 
-  between_one : (a start end p q : Form) → HasDatomsBetween h w Selects basis a start end p → HasDatomsBetween h w Selects basis a start end q → p ≡ q
+  between_one : (a start end p q : Form) → HasDatomsBetween h w Selects a start end p → HasDatomsBetween h w Selects a start end q → p ≡ q
   between_one a start end p q first second =
       let same = range_one h w Selects a start end first.0 second.0 first.1 second.1 in
-      let Shown : Result Range Refusal → Type 0 = λ answer. Shows basis (HasDatoms h w Selects basis Avet) answer p in
-      shows_one basis (HasDatoms h w Selects basis Avet) (datoms_one Avet) second.0 p q (subst Shown same first.2) second.2
+      let Shown : Result Range Refusal → Type 0 = λ answer. Shows (basis h) (HasDatoms h w Selects Avet) answer p in
+      shows_one (basis h) (HasDatoms h w Selects Avet) (datoms_one Avet) second.0 p q (subst Shown same first.2) second.2
 
-  pub reply_one : (is_filter : List ℕ → Bool) (command : Option Command) (p q : Form)
-      → IsReply h basis is_filter w Selects command p → IsReply h basis is_filter w Selects command q → p ≡ q
-  reply_one is_filter None p q x y = x ∙ sym y
-  reply_one is_filter (Some (as_of point)) p q x y = shows_one basis (IsDone basis) (λ end p q x y. x ∙ sym y) (point_in h point) p q x y
-  reply_one is_filter (Some (since point)) p q x y = shows_one basis (IsDone basis) (λ end p q x y. x ∙ sym y) (point_in h point) p q x y
-  reply_one is_filter (Some history) p q x y = x ∙ sym y
-  reply_one is_filter (Some (filter name)) p q x y = x ∙ sym y
-  reply_one is_filter (Some unfilter) p q x y = x ∙ sym y
-  reply_one is_filter (Some request_index) p q x y = x ∙ sym y
-  reply_one is_filter (Some (datoms order components)) p q x y = at_one order leading components p q x y
-  reply_one is_filter (Some (seek order components)) p q x y = at_one order not_below components p q x y
-  reply_one is_filter (Some (index_range a start end)) p q x y = between_one a start end p q x y
-  reply_one is_filter (Some (tx_range start end)) p q x y =
-      shows_one basis (HasTransactions h basis) (λ range p q x y. x ∙ sym y) (log_range h start end) p q x y
-  reply_one is_filter (Some (pull pattern entity)) p q x y = x ∙ sym y
-  reply_one is_filter command p q x y = absurd x
+  -- of pulls two replies are not unequal
+  module _ (lawful : IsLawful h) where
+    found_one : (id : Option Id) (x y : Option ℕ) → IsFound h w Selects id x → IsFound h w Selects id y → x ≡ y
+    found_one None x y is other = is ∙ sym other
+    found_one (Some id) x y is other = named_one h w Selects id x y is other
+
+    tree_one : (pattern : Pattern) (e : Option ℕ) (p q : Form) → HasTree h w Selects pattern e p → HasTree h w Selects pattern e q → (p ≡ q → ⊥) → ⊥
+    tree_one pattern None p q x y differ = differ (x ∙ sym y)
+    tree_one pattern (Some e) p q x y differ = not_without_a_list h w Selects lawful (λ db is. differ (x db is ∙ sym (y db is)))
+
+    pull_one : (pattern : Result Pattern ℕ) (entity p q : Form) → HasPull h w Selects pattern entity p → HasPull h w Selects pattern entity q → (p ≡ q → ⊥) → ⊥
+    pull_one (Err place) entity p q x y differ = differ (x ∙ sym y)
+    pull_one (Ok pattern) entity p q x y differ =
+        let same = found_one (id_in (facts h) entity) x.0 y.0 x.1 y.1 in
+        tree_one pattern y.0 p q (subst (λ (e : Option ℕ). HasTree h w Selects pattern e p) same x.2) y.2 differ
+
+module _ (s : Sight) (lawful : IsLawful s.history) where
+  look_one : (l : Look) (p q : Form) → IsLook s l p → IsLook s l q → (p ≡ q → ⊥) → ⊥
+  look_one (datoms order components) p q x y differ = differ (at_one s.history s.window s.Selects order leading components p q x y)
+  look_one (seek order components) p q x y differ = differ (at_one s.history s.window s.Selects order not_below components p q x y)
+  look_one (index_range a start end) p q x y differ = differ (between_one s.history s.window s.Selects a start end p q x y)
+  look_one (tx_range start end) p q x y differ =
+      differ (shows_one (basis s.history) (HasTransactions s.history) (λ range p q x y. x ∙ sym y) (log_range s.history start end) p q x y)
+  look_one (pull pattern entity) p q x y differ = pull_one s.history s.window s.Selects lawful (pattern_in pattern) entity p q x y differ
+
+  reply_one : (asked : Option Read) (p q : Form) → IsReply s asked p → IsReply s asked q → (p ≡ q → ⊥) → ⊥
+  reply_one None p q x y differ = differ (x ∙ sym y)
+  reply_one (Some (look l)) p q x y differ = look_one l p q x y differ
+  reply_one (Some (turn t)) p q x y differ = differ (x ∙ sym y)
+  reply_one (Some request_index) p q x y differ = differ (x ∙ sym y)
 
 -- a read takes its session to one standing, with one line
 pub record Same (after other : Standing) (line line' : List ℕ) (commit commit' : Option ℕ) : Type 0 where
@@ -74,44 +116,40 @@ pub record Same (after other : Standing) (line line' : List ℕ) (commit commit'
   pub lines : line ≡ line'
   pub commits : commit ≡ commit'
 
-pub read_one : (s : Setting) (before : Standing) (command : Option Command) (after other : Standing) (line line' : List ℕ) (commit commit' : Option ℕ)
-    → IsRead s before command after line commit → IsRead s before command other line' commit' → Same after other line line' commit commit'
-read_one s before command after other line line' commit commit' first second =
-    let same = reply_one (upto s.history before.place) before.window (SelectedBy s.Selects before.filters) before.place s.is_filter command first.reply second.reply first.answers second.answers in
-    let Line : Form → Type 0 = λ reply. IsLineOf reply line in
+read_one : (s : Setting) (before : Standing) (asked : Option Read) (after other : Standing) (line line' : List ℕ) (commit commit' : Option ℕ)
+    → IsLawful s.history → IsRead s before asked after line commit → IsRead s before asked other line' commit' → Same after other line line' commit commit'
+read_one s before asked after other line line' commit commit' lawful first second =
+    let same = reply_one (sight_of s before) (upto_lawful s.history before.place lawful) asked first.reply second.reply first.answers second.answers in
     record {
       standings = first.stands ∙ sym second.stands;
-      lines = one_line second.reply line line' (subst Line same first.says) second.says;
+      lines = stable line line' (λ differ. same (λ one. differ (one_line second.reply line line' (subst (λ reply. IsLineOf reply line) one first.says) second.says)));
       commits = first.commits ∙ sym second.commits;
     }
 
 -- ---- by the command of a form
 
 module _ (s : Setting) (before : Standing) where
-  reads : (command : Option Command) (after : Standing) (line : List ℕ) (commit : Option ℕ) → is_read command ≡ true → AnswersCommand s before command after line commit → IsRead s before command after line commit
-  reads (Some (transact asked)) after line commit read a = absurd (true≢false (sym read))
-  reads (Some db) after line commit read a = absurd (true≢false (sym read))
-  reads (Some sync) after line commit read a = absurd (true≢false (sym read))
-  reads command after line commit read a = a
+  reads : (asked : Option Read) (command : Option Command) (after : Standing) (line : List ℕ) (commit : Option ℕ)
+      → command ≡ option_map read asked → AnswersCommand s before command after line commit → IsRead s before asked after line commit
+  reads None command after line commit is a = subst (λ c. AnswersCommand s before c after line commit) is a
+  reads (Some r) command after line commit is a = subst (λ c. AnswersCommand s before c after line commit) is a
 
-  pub answer_one : (f : Form) (after other : Standing) (line line' : List ℕ) (commit commit' : Option ℕ) → is_read (command_in f) ≡ true
+  pub answer_one : (f : Form) (asked : Option Read) (after other : Standing) (line line' : List ℕ) (commit commit' : Option ℕ)
+      → IsLawful s.history → command_in f ≡ option_map read asked
       → IsAnswered s before f after line commit → IsAnswered s before f other line' commit' → Same after other line line' commit commit'
-  answer_one f after other line line' commit commit' read first second =
-      read_one s before (command_in f) after other line line' commit commit' (reads (command_in f) after line commit read first) (reads (command_in f) other line' commit' read second)
+  answer_one f asked after other line line' commit commit' lawful is first second =
+      read_one s before asked after other line line' commit commit' lawful (reads asked (command_in f) after line commit is first) (reads asked (command_in f) other line' commit' is second)
 
-  pub read_place : (f : Form) (after : Standing) (line : List ℕ) (commit : Option ℕ) → is_read (command_in f) ≡ true → IsAnswered s before f after line commit → after.place ≡ before.place
-  read_place f after line commit read a =
-      ap (λ (x : Standing). x.place) (reads (command_in f) after line commit read a).stands ∙ behind-place (upto s.history before.place) s.is_filter before (command_in f)
+  pub read_place : (f : Form) (asked : Option Read) (after : Standing) (line : List ℕ) (commit : Option ℕ)
+      → command_in f ≡ option_map read asked → IsAnswered s before f after line commit → after.place ≡ before.place
+  read_place f asked after line commit is a =
+      ap (λ (x : Standing). x.place) (reads asked (command_in f) after line commit is a).stands ∙ behind-place (sight_of s before) before asked
 
-  command_look : (command : Option Command) (after : Standing) (line : List ℕ) (commit : Option ℕ) → is_look command ≡ true → AnswersCommand s before command after line commit → after ≡ before
-  command_look (Some (datoms order components)) after line commit look a = a.stands
-  command_look (Some (seek order components)) after line commit look a = a.stands
-  command_look (Some (index_range x start end)) after line commit look a = a.stands
-  command_look (Some (tx_range start end)) after line commit look a = a.stands
-  command_look (Some (pull pattern entity)) after line commit look a = a.stands
-  command_look (Some request_index) after line commit look a = a.stands
-  command_look None after line commit look a = a.stands
-  command_look command after line commit look a = absurd (true≢false (sym look))
+  pub answer_look : (f : Form) (l : Look) (after : Standing) (line : List ℕ) (commit : Option ℕ) → command_in f ≡ Some (read (look l)) → IsAnswered s before f after line commit → after ≡ before
+  answer_look f l after line commit is a = (reads (Some (look l)) (command_in f) after line commit is a).stands
 
-  pub answer_look : (f : Form) (after : Standing) (line : List ℕ) (commit : Option ℕ) → is_look (command_in f) ≡ true → IsAnswered s before f after line commit → after ≡ before
-  answer_look f after line commit look a = command_look (command_in f) after line commit look a
+  pub answer_request : (f : Form) (after : Standing) (line : List ℕ) (commit : Option ℕ) → command_in f ≡ Some (read request_index) → IsAnswered s before f after line commit → after ≡ before
+  answer_request f after line commit is a = (reads (Some request_index) (command_in f) after line commit is a).stands
+
+  pub answer_none : (f : Form) (after : Standing) (line : List ℕ) (commit : Option ℕ) → command_in f ≡ None → IsAnswered s before f after line commit → after ≡ before
+  answer_none f after line commit is a = (reads None (command_in f) after line commit is a).stands

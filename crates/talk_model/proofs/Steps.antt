@@ -1,15 +1,14 @@
 -- What one form does to a standing, whatever its command is.
 use Rattle.std.proofs.Common.{◌≡◌, ℕ, ◌<◌, ◌≤◌, ◌⊎◌, Bool, true, false, cond, List, [], ◌∷◌, ◌++◌, refl, ap, sym, ◌∙◌, inl, inr, arith, Option, Some, None, Result, Ok, Err}
 use Rattle.edn_model.specs.Form.{Form}
-use Rattle.fb_values.specs.declared.facts.Entry.{Entry}
-use Rattle.fb_model.specs.History.{basis, upto}
+use Rattle.fb_model.specs.History.{basis}
 use Rattle.view_model.specs.Window.{Window}
 use Rattle.view_model.specs.Window as window
 use Rattle.read_refusals.specs.declared.reasons.Refusal.{Refusal}
 use Rattle.read_model.specs.Points.{point_in}
-use Rattle.talk_model.specs.Commands.{Command, transact, db, sync, as_of, since, history, filter, unfilter, command_in}
-use Rattle.talk_model.specs.Session.{Setting, Standing}
-use Rattle.talk_model.specs.Reads.{windowed, behind}
+use Rattle.talk_model.specs.Commands.{Turn, as_of, since, history, filter, unfilter, Read, look, turn, request_index, Command, transact, db, sync, read, command_in}
+use Rattle.talk_model.specs.Session.{Setting, Standing, Sight, sight_of}
+use Rattle.talk_model.specs.Reads.{windowed, turned, behind}
 use Rattle.talk_model.specs.Talk.{IsAccepted, IsRefused, IsNotTaken, IsStopped, IsShown, IsRead, AnswersCommand, IsAnswered}
 
 -- ---- reads
@@ -30,21 +29,31 @@ filtered-told : (b : Bool) (standing : Standing) (names : List (List ℕ)) → (
 filtered-told true standing names = refl
 filtered-told false standing names = refl
 
-pub behind-place : (h : List Entry) (is_filter : List ℕ → Bool) (standing : Standing) (command : Option Command) → (behind h is_filter standing command).place ≡ standing.place
-behind-place h is_filter standing (Some (as_of point)) = windowed-place standing window.as_of (point_in h point)
-behind-place h is_filter standing (Some (since point)) = windowed-place standing window.since (point_in h point)
-behind-place h is_filter standing (Some history) = refl
-behind-place h is_filter standing (Some (filter name)) = filtered-place (is_filter name) standing (standing.filters ++ name ∷ [])
-behind-place h is_filter standing (Some unfilter) = refl
-behind-place h is_filter standing command = refl
+turned-place : (s : Sight) (standing : Standing) (t : Turn) → (turned s standing t).place ≡ standing.place
+turned-place s standing (as_of point) = windowed-place standing window.as_of (point_in s.history point)
+turned-place s standing (since point) = windowed-place standing window.since (point_in s.history point)
+turned-place s standing history = refl
+turned-place s standing (filter name) = filtered-place (s.is_filter name) standing (standing.filters ++ name ∷ [])
+turned-place s standing unfilter = refl
 
-pub behind-told : (h : List Entry) (is_filter : List ℕ → Bool) (standing : Standing) (command : Option Command) → (behind h is_filter standing command).told ≡ standing.told
-behind-told h is_filter standing (Some (as_of point)) = windowed-told standing window.as_of (point_in h point)
-behind-told h is_filter standing (Some (since point)) = windowed-told standing window.since (point_in h point)
-behind-told h is_filter standing (Some history) = refl
-behind-told h is_filter standing (Some (filter name)) = filtered-told (is_filter name) standing (standing.filters ++ name ∷ [])
-behind-told h is_filter standing (Some unfilter) = refl
-behind-told h is_filter standing command = refl
+turned-told : (s : Sight) (standing : Standing) (t : Turn) → (turned s standing t).told ≡ standing.told
+turned-told s standing (as_of point) = windowed-told standing window.as_of (point_in s.history point)
+turned-told s standing (since point) = windowed-told standing window.since (point_in s.history point)
+turned-told s standing history = refl
+turned-told s standing (filter name) = filtered-told (s.is_filter name) standing (standing.filters ++ name ∷ [])
+turned-told s standing unfilter = refl
+
+pub behind-place : (s : Sight) (standing : Standing) (asked : Option Read) → (behind s standing asked).place ≡ standing.place
+behind-place s standing (Some (turn t)) = turned-place s standing t
+behind-place s standing (Some (look l)) = refl
+behind-place s standing (Some request_index) = refl
+behind-place s standing None = refl
+
+pub behind-told : (s : Sight) (standing : Standing) (asked : Option Read) → (behind s standing asked).told ≡ standing.told
+behind-told s standing (Some (turn t)) = turned-told s standing t
+behind-told s standing (Some (look l)) = refl
+behind-told s standing (Some request_index) = refl
+behind-told s standing None = refl
 
 -- ---- each form
 
@@ -79,10 +88,10 @@ module _ (s : Setting) (before after : Standing) (line : List ℕ) (commit : Opt
   shown_goes : IsShown s before after line commit → Goes s before after commit
   shown_goes r = moved_to s before after commit r.place r.from r.within r.commits (ap (λ (x : Standing). x.place) r.stands)
 
-  read_goes : (command : Option Command) → IsRead s before command after line commit → Goes s before after commit
-  read_goes command r =
+  read_goes : (asked : Option Read) → IsRead s before asked after line commit → Goes s before after commit
+  read_goes asked r =
       moved_to s before after commit before.place (omega arith) seen r.commits
-      (ap (λ (x : Standing). x.place) r.stands ∙ behind-place (upto s.history before.place) s.is_filter before command)
+      (ap (λ (x : Standing). x.place) r.stands ∙ behind-place (sight_of s before) before asked)
 
   command_goes : (command : Option Command) → AnswersCommand s before command after line commit → Goes s before after commit
   command_goes (Some (transact asked)) a =
@@ -92,7 +101,8 @@ module _ (s : Setting) (before after : Standing) (line : List ℕ) (commit : Opt
       ]
   command_goes (Some db) a = shown_goes a
   command_goes (Some sync) a = shown_goes a
-  command_goes command a = read_goes command a
+  command_goes (Some (read r)) a = read_goes (Some r) a
+  command_goes None a = read_goes None a
 
   pub answer_goes : (f : Form) → IsAnswered s before f after line commit → Goes s before after commit
   answer_goes f a = command_goes (command_in f) a

@@ -1,11 +1,40 @@
 -- The commands of a session: a vector whose first member is a keyword, the command's word.
 -- Datomic, Transactions, Database Filters, Indexes, Log API and Pull. The words are this project's
 -- own choice.
-use Rattle.std.specs.Prelude.{ℕ, Bool, true, false, List, [], ◌∷◌, if◌then◌else◌, bytes_eq, codes, Option, Some, None, option_map, option_and_then}
+use Rattle.std.specs.Prelude.{ℕ, List, [], ◌∷◌, if◌then◌else◌, bytes_eq, codes, Option, Some, None, option_map, option_and_then}
 use Rattle.edn_model.specs.Form as edn
 use Rattle.edn_model.specs.Form.{Form, items}
 use Rattle.fb_values.specs.declared.indexes.Order.{Order}
 use Rattle.fb_values.specs.declared.indexes.Order.TheVariants.{Eavt, Aevt, Avet, Vaet}
+
+-- what is looked at, of what the session has seen
+pub data Look : Type 0 where
+  -- [:datoms index c ..] and [:seek index c ..]
+  datoms : Order → List Form → Look
+  seek : Order → List Form → Look
+  -- [:index-range a start end]
+  index_range : Form → Form → Form → Look
+  -- [:tx-range start end]
+  tx_range : Form → Form → Look
+  -- [:pull pattern entity]
+  pull : Form → Form → Look
+
+-- what changes in the view of the looks behind it
+pub data Turn : Type 0 where
+  -- [:as-of point], [:since point] and [:history] narrow or widen the window
+  as_of : Form → Turn
+  since : Form → Turn
+  history : Turn
+  -- [:filter :name] adds a filter, and [:unfilter] takes back the window and the filters
+  filter : List ℕ → Turn
+  unfilter : Turn
+
+-- a command that is answered of what its session has seen
+pub data Read : Type 0 where
+  look : Look → Read
+  turn : Turn → Read
+  -- [:request-index]
+  request_index : Read
 
 pub data Command : Type 0 where
   -- [:transact forms]
@@ -13,25 +42,7 @@ pub data Command : Type 0 where
   -- [:db] and [:sync]: what the session sees, and what there is to see
   db : Command
   sync : Command
-  -- [:as-of point], [:since point] and [:history] narrow or widen the window of the reads behind
-  -- them
-  as_of : Form → Command
-  since : Form → Command
-  history : Command
-  -- [:filter :name] adds a filter, and [:unfilter] takes back the window and the filters
-  filter : List ℕ → Command
-  unfilter : Command
-  -- [:request-index]
-  request_index : Command
-  -- [:datoms index c ..] and [:seek index c ..]
-  datoms : Order → List Form → Command
-  seek : Order → List Form → Command
-  -- [:index-range a start end]
-  index_range : Form → Form → Form → Command
-  -- [:tx-range start end]
-  tx_range : Form → Form → Command
-  -- [:pull pattern entity]
-  pull : Form → Form → Command
+  read : Read → Command
 
 -- what stands beside the word in a list
 abbrev pub beside : {X : Type 0} → List ℕ → List (List ℕ × X) → Option X
@@ -52,32 +63,38 @@ order_in f = option_and_then order_of (name_in f)
 
 -- the commands whose word stands before these forms: those that begin with an index, and all of
 -- them
+abbrev pub looks : Look → Command
+looks l = read (look l)
+
+abbrev pub turns : Turn → Command
+turns t = read (turn t)
+
 abbrev pub of_an_index : Form → List Form → List (List ℕ × Option Command)
 of_an_index index components =
-    (codes "datoms", option_map (λ order. datoms order components) (order_in index))
-    ∷ (codes "seek", option_map (λ order. seek order components) (order_in index))
+    (codes "datoms", option_map (λ order. looks (datoms order components)) (order_in index))
+    ∷ (codes "seek", option_map (λ order. looks (seek order components)) (order_in index))
     ∷ []
 
 abbrev pub before : List Form → List (List ℕ × Option Command)
 before [] =
     (codes "db", Some db)
     ∷ (codes "sync", Some sync)
-    ∷ (codes "history", Some history)
-    ∷ (codes "unfilter", Some unfilter)
-    ∷ (codes "request-index", Some request_index)
+    ∷ (codes "history", Some (turns history))
+    ∷ (codes "unfilter", Some (turns unfilter))
+    ∷ (codes "request-index", Some (read request_index))
     ∷ []
 before (x ∷ []) =
     (codes "transact", Some (transact x))
-    ∷ (codes "as-of", Some (as_of x))
-    ∷ (codes "since", Some (since x))
-    ∷ (codes "filter", option_map filter (name_in x))
+    ∷ (codes "as-of", Some (turns (as_of x)))
+    ∷ (codes "since", Some (turns (since x)))
+    ∷ (codes "filter", option_map (λ name. turns (filter name)) (name_in x))
     ∷ of_an_index x []
 before (x ∷ y ∷ []) =
-    (codes "tx-range", Some (tx_range x y))
-    ∷ (codes "pull", Some (pull x y))
+    (codes "tx-range", Some (looks (tx_range x y)))
+    ∷ (codes "pull", Some (looks (pull x y)))
     ∷ of_an_index x (y ∷ [])
 before (x ∷ y ∷ z ∷ []) =
-    (codes "index-range", Some (index_range x y z)) ∷ of_an_index x (y ∷ z ∷ [])
+    (codes "index-range", Some (looks (index_range x y z))) ∷ of_an_index x (y ∷ z ∷ [])
 before (x ∷ more) = of_an_index x more
 
 abbrev pub command_of : List Form → Option Command
@@ -89,21 +106,3 @@ command_of fs = None
 abbrev pub command_in : Form → Option Command
 command_in (edn.vector fs) = command_of (items fs)
 command_in f = None
-
--- it is answered of what its session has seen, as is what is no command
-abbrev pub is_read : Option Command → Bool
-is_read (Some (transact x)) = false
-is_read (Some db) = false
-is_read (Some sync) = false
-is_read command = true
-
--- and it changes nothing of what the session sees
-abbrev pub is_look : Option Command → Bool
-is_look (Some (datoms order components)) = true
-is_look (Some (seek order components)) = true
-is_look (Some (index_range a start end)) = true
-is_look (Some (tx_range start end)) = true
-is_look (Some (pull pattern entity)) = true
-is_look (Some request_index) = true
-is_look None = true
-is_look command = false

@@ -1,27 +1,33 @@
 -- What a command that records nothing answers, of what its session has seen, and where the session
 -- stands behind it.
--- Datomic, Database Filters, Indexes and Log API.
-use Rattle.std.specs.Prelude.{◌≡◌, ℕ, Bool, List, [], ◌∷◌, ◌++◌, if◌then◌else◌, codes, Option, Some, None, Result, Ok, Err}
-use Rattle.edn_model.specs.Form as edn
+-- Datomic, Database Filters, Indexes, Log API and Pull.
+use Rattle.std.specs.Prelude.{◌≡◌, ℕ, List, [], ◌∷◌, ◌++◌, if◌then◌else◌, Option, Some, None, Result, Ok, Err}
 use Rattle.edn_model.specs.Form.{Form}
 use Rattle.fb_values.specs.declared.facts.Datom.{Datom}
 use Rattle.fb_values.specs.declared.facts.Entry.{Entry}
 use Rattle.fb_values.specs.declared.indexes.Order.{Order}
 use Rattle.fb_values.specs.declared.indexes.Order.TheVariants.{Avet}
 use Rattle.fb_values.specs.declared.indexes.Probe.{Probe}
+use Rattle.fb_model.specs.History.{basis}
 use Rattle.fb_model.specs.Facts.{facts}
 use Rattle.view_model.specs.Window as window
 use Rattle.view_model.specs.Window.{Window, whole, with_history}
-use Rattle.view_model.specs.Scan.{Range, leading, not_below, IsScan, scan, transactions}
-use Rattle.read_refusals.specs.declared.reasons.Reason.TheVariants.{NoFilter}
+use Rattle.view_model.specs.Scan.{Range, leading, not_below, IsScan, transactions}
+use Rattle.read_refusals.specs.declared.reasons.Reason.{Reason}
+use Rattle.read_refusals.specs.declared.reasons.Reason.TheVariants.{BadPattern, NoFilter, NotAnEntity}
 use Rattle.read_refusals.specs.declared.reasons.Refusal.{Refusal}
 use Rattle.read_refusals.specs.Reasons.{keyword_of}
 use Rattle.read_model.specs.Points.{point_in, log_range}
 use Rattle.read_model.specs.Given.{refusal}
-use Rattle.read_model.specs.Components.{AreComponents, IsIndexRange, no_command, components, index_range as range_of_index}
-use Rattle.talk_model.specs.Commands.{Command, as_of, since, history, filter, unfilter, request_index, datoms, seek, index_range, tx_range, pull}
-use Rattle.talk_model.specs.Replies.{done_reply, datoms_reply, transactions_reply, refusal_reply}
-use Rattle.talk_model.specs.Session.{Standing}
+use Rattle.read_model.specs.Names.{IsEntityOf}
+use Rattle.read_model.specs.Components.{AreComponents, IsIndexRange, no_command}
+use Rattle.pull_model.specs.Patterns.{Pattern}
+use Rattle.pull_model.specs.Reading.{pattern_in}
+use Rattle.pull_model.specs.Found.{Db, IsDb}
+use Rattle.pull_model.specs.Pull.{pulled}
+use Rattle.talk_model.specs.Commands.{Look, datoms, seek, index_range, tx_range, pull, Turn, as_of, since, history, filter, unfilter, Read, look, turn, request_index}
+use Rattle.talk_model.specs.Replies.{done_reply, datoms_reply, transactions_reply, pull_reply, refusal_reply}
+use Rattle.talk_model.specs.Session.{Sight, Standing}
 
 -- ---- replies
 
@@ -33,59 +39,86 @@ abbrev pub Shows : {X : Type 0} → ℕ → (X → Form → Type 0) → Result X
 Shows basis IsReplyTo (Ok x) reply = IsReplyTo x reply
 Shows basis IsReplyTo (Err r) reply = reply ≡ refused basis r
 
-abbrev pub IsDone : {X : Type 0} → ℕ → X → Form → Type 0
-IsDone basis x reply = reply ≡ done_reply basis
+-- ---- indexes and the log
 
 -- the datoms of a range of an index
-abbrev pub HasDatoms : List Entry → Window → (Datom → Type 0) → ℕ → Order → Range → Form → Type 0
-HasDatoms h w Selects basis order range reply =
+abbrev pub HasDatoms : List Entry → Window → (Datom → Type 0) → Order → Range → Form → Type 0
+HasDatoms h w Selects order range reply =
     (ds : List Datom)
     × IsScan h w Selects order range ds
-    × (reply ≡ datoms_reply basis (facts h) ds)
+    × (reply ≡ datoms_reply (basis h) (facts h) ds)
 
 -- those of a range that components tell
-abbrev pub HasDatomsAt : List Entry → Window → (Datom → Type 0) → ℕ → Order → (Probe → Range)
+abbrev pub HasDatomsAt : List Entry → Window → (Datom → Type 0) → Order → (Probe → Range)
     → List Form → Form → Type 0
-HasDatomsAt h w Selects basis order range fs reply =
+HasDatomsAt h w Selects order range fs reply =
     (answer : Result Probe Refusal) × AreComponents h w Selects order fs answer
-    × Shows basis (λ probe. HasDatoms h w Selects basis order (range probe)) answer reply
+    × Shows (basis h) (λ probe. HasDatoms h w Selects order (range probe)) answer reply
 
-abbrev pub HasDatomsBetween : List Entry → Window → (Datom → Type 0) → ℕ → Form → Form → Form → Form
+abbrev pub HasDatomsBetween : List Entry → Window → (Datom → Type 0) → Form → Form → Form → Form
     → Type 0
-HasDatomsBetween h w Selects basis a start end reply =
+HasDatomsBetween h w Selects a start end reply =
     (answer : Result Range Refusal) × IsIndexRange h w Selects a start end answer
-    × Shows basis (HasDatoms h w Selects basis Avet) answer reply
+    × Shows (basis h) (HasDatoms h w Selects Avet) answer reply
 
-abbrev pub HasTransactions : List Entry → ℕ → ℕ × ℕ → Form → Type 0
-HasTransactions h basis range reply =
-    reply ≡ transactions_reply basis (facts h) (transactions h range.0 range.1)
+abbrev pub HasTransactions : List Entry → ℕ × ℕ → Form → Type 0
+HasTransactions h range reply =
+    reply ≡ transactions_reply (basis h) (facts h) (transactions h range.0 range.1)
 
--- The reply to a command, or to what is none, at a history with this basis, where its reads see a
--- window of it under filters that select together what `Selects` says. The commands that are
--- missing here are answered at a turn of their own.
-abbrev pub IsReply : List Entry → ℕ → (List ℕ → Bool) → Window → (Datom → Type 0) → Option Command
-    → Form → Type 0
-IsReply h basis is_filter w Selects None reply = reply ≡ refused basis no_command
-IsReply h basis is_filter w Selects (Some (as_of point)) reply =
-    Shows basis (IsDone basis) (point_in h point) reply
-IsReply h basis is_filter w Selects (Some (since point)) reply =
-    Shows basis (IsDone basis) (point_in h point) reply
-IsReply h basis is_filter w Selects (Some history) reply = reply ≡ done_reply basis
-IsReply h basis is_filter w Selects (Some (filter name)) reply =
-    reply ≡ (if is_filter name then done_reply basis else refused basis (refusal NoFilter 1))
-IsReply h basis is_filter w Selects (Some unfilter) reply = reply ≡ done_reply basis
-IsReply h basis is_filter w Selects (Some request_index) reply = reply ≡ done_reply basis
-IsReply h basis is_filter w Selects (Some (datoms order fs)) reply =
-    HasDatomsAt h w Selects basis order leading fs reply
-IsReply h basis is_filter w Selects (Some (seek order fs)) reply =
-    HasDatomsAt h w Selects basis order not_below fs reply
-IsReply h basis is_filter w Selects (Some (index_range a start end)) reply =
-    HasDatomsBetween h w Selects basis a start end reply
-IsReply h basis is_filter w Selects (Some (tx_range start end)) reply =
-    Shows basis (HasTransactions h basis) (log_range h start end) reply
-IsReply h basis is_filter w Selects (Some (pull pattern entity)) reply =
-    reply ≡ refusal_reply (codes "read/not-built") 0 basis
-IsReply h basis is_filter w Selects command reply = ⊥
+-- ---- pulls
+
+-- the reply to what was pulled
+abbrev pub pull_shown : ℕ → Result Form Reason → Form
+pull_shown basis (Ok tree) = pull_reply basis tree
+pull_shown basis (Err reason) = refused basis (refusal reason 0)
+
+-- the tree of the entity that was found, by any list of the view's facts, of which there is one at
+-- most
+abbrev pub HasTree : List Entry → Window → (Datom → Type 0) → Pattern → Option ℕ → Form → Type 0
+HasTree h w Selects pattern None reply = reply ≡ refused (basis h) (refusal NotAnEntity 2)
+HasTree h w Selects pattern (Some e) reply =
+    (db : Db) → IsDb h w Selects db → reply ≡ pull_shown (basis h) (pulled w.history db pattern e)
+
+abbrev pub HasPull : List Entry → Window → (Datom → Type 0) → Result Pattern ℕ → Form → Form
+    → Type 0
+HasPull h w Selects (Err place) entity reply = reply ≡ refused (basis h) (refusal BadPattern place)
+HasPull h w Selects (Ok pattern) entity reply =
+    (e : Option ℕ) × IsEntityOf h w Selects entity e × HasTree h w Selects pattern e reply
+
+-- ---- reads
+
+abbrev pub IsLook : Sight → Look → Form → Type 0
+IsLook s (datoms order fs) reply =
+    HasDatomsAt s.history s.window s.Selects order leading fs reply
+IsLook s (seek order fs) reply =
+    HasDatomsAt s.history s.window s.Selects order not_below fs reply
+IsLook s (index_range a start end) reply =
+    HasDatomsBetween s.history s.window s.Selects a start end reply
+IsLook s (tx_range start end) reply =
+    Shows (basis s.history) (HasTransactions s.history) (log_range s.history start end) reply
+IsLook s (pull pattern entity) reply =
+    HasPull s.history s.window s.Selects (pattern_in pattern) entity reply
+
+-- where a point could be read
+abbrev pub done_at : ℕ → Result ℕ Refusal → Form
+done_at basis (Ok end) = done_reply basis
+done_at basis (Err r) = refused basis r
+
+abbrev pub turn_reply : Sight → Turn → Form
+turn_reply s (as_of point) = done_at (basis s.history) (point_in s.history point)
+turn_reply s (since point) = done_at (basis s.history) (point_in s.history point)
+turn_reply s history = done_reply (basis s.history)
+turn_reply s (filter name) =
+    if s.is_filter name then done_reply (basis s.history)
+    else refused (basis s.history) (refusal NoFilter 1)
+turn_reply s unfilter = done_reply (basis s.history)
+
+-- the reply to a read, or to what is no command
+abbrev pub IsReply : Sight → Option Read → Form → Type 0
+IsReply s None reply = reply ≡ refused (basis s.history) no_command
+IsReply s (Some (look l)) reply = IsLook s l reply
+IsReply s (Some (turn t)) reply = reply ≡ turn_reply s t
+IsReply s (Some request_index) reply = reply ≡ done_reply (basis s.history)
 
 -- ---- what changes
 
@@ -94,49 +127,16 @@ abbrev pub windowed : Standing → (ℕ → Window → Window) → Result ℕ Re
 windowed standing change (Ok end) = record standing { window = change end standing.window }
 windowed standing change (Err r) = standing
 
--- where the session stands behind the command, at the history that it has seen
-abbrev pub behind : List Entry → (List ℕ → Bool) → Standing → Option Command → Standing
-behind h is_filter standing (Some (as_of point)) = windowed standing window.as_of (point_in h point)
-behind h is_filter standing (Some (since point)) = windowed standing window.since (point_in h point)
-behind h is_filter standing (Some history) =
-    record standing { window = with_history standing.window }
-behind h is_filter standing (Some (filter name)) =
-    if is_filter name then record standing { filters = standing.filters ++ name ∷ [] } else standing
-behind h is_filter standing (Some unfilter) = record standing { window = whole; filters = [] }
-behind h is_filter standing command = standing
+abbrev pub turned : Sight → Standing → Turn → Standing
+turned s standing (as_of point) = windowed standing window.as_of (point_in s.history point)
+turned s standing (since point) = windowed standing window.since (point_in s.history point)
+turned s standing history = record standing { window = with_history standing.window }
+turned s standing (filter name) =
+    if s.is_filter name then record standing { filters = standing.filters ++ name ∷ [] }
+    else standing
+turned s standing unfilter = record standing { window = whole; filters = [] }
 
--- ---- the same, computed, where filters are tests
-
-abbrev pub shown : {X : Type 0} → ℕ → (X → Form) → Result X Refusal → Form
-shown basis reply_to (Ok x) = reply_to x
-shown basis reply_to (Err r) = refused basis r
-
--- the reply to a read; nil stands for that to the other commands
-abbrev pub reply : List Entry → ℕ → (List ℕ → Bool) → Window → List (Datom → Bool) → Option Command
-    → Form
-reply h basis is_filter w filters None = refused basis no_command
-reply h basis is_filter w filters (Some (as_of point)) =
-    shown basis (λ end. done_reply basis) (point_in h point)
-reply h basis is_filter w filters (Some (since point)) =
-    shown basis (λ end. done_reply basis) (point_in h point)
-reply h basis is_filter w filters (Some history) = done_reply basis
-reply h basis is_filter w filters (Some (filter name)) =
-    if is_filter name then done_reply basis else refused basis (refusal NoFilter 1)
-reply h basis is_filter w filters (Some unfilter) = done_reply basis
-reply h basis is_filter w filters (Some request_index) = done_reply basis
-reply h basis is_filter w filters (Some (datoms order fs)) =
-    shown basis (λ probe. datoms_reply basis (facts h) (scan h w filters order (leading probe)))
-    (components h w filters order fs)
-reply h basis is_filter w filters (Some (seek order fs)) =
-    shown basis (λ probe. datoms_reply basis (facts h) (scan h w filters order (not_below probe)))
-    (components h w filters order fs)
-reply h basis is_filter w filters (Some (index_range a start end)) =
-    shown basis (λ range. datoms_reply basis (facts h) (scan h w filters Avet range))
-    (range_of_index h w filters a start end)
-reply h basis is_filter w filters (Some (tx_range start end)) =
-    shown basis
-    (λ (range : ℕ × ℕ). transactions_reply basis (facts h) (transactions h range.0 range.1))
-    (log_range h start end)
-reply h basis is_filter w filters (Some (pull pattern entity)) =
-    refusal_reply (codes "read/not-built") 0 basis
-reply h basis is_filter w filters command = edn.nil
+-- where the session stands behind a read, or behind what is no command
+abbrev pub behind : Sight → Standing → Option Read → Standing
+behind s standing (Some (turn t)) = turned s standing t
+behind s standing asked = standing

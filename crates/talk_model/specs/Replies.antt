@@ -5,6 +5,7 @@ use Rattle.std.specs.Option.{option_map_or}
 use Rattle.edn_model.specs.Form as edn
 use Rattle.edn_model.specs.Form.{Form, forms, pairs}
 use Rattle.edn_model.specs.Canon.{Canon}
+use Rattle.edn_print.specs.Printable.{printable}
 use Rattle.edn_values.specs.Values.{form_of_value}
 use Rattle.fb_values.specs.declared.facts.Datom.{Datom}
 use Rattle.fb_values.specs.declared.facts.Entry.{Entry}
@@ -88,6 +89,12 @@ transactions_reply basis facts entries =
     (codes "basis", number basis)
     ∷ (codes "txs", vector (map (transaction_form facts) entries))
     ∷ [])
+
+-- {:basis 3 :pull tree}; an instant that has no text, which no script and no history has, stands as the
+-- nearest that has one
+abbrev pub pull_reply : ℕ → Form → Form
+pull_reply basis tree =
+    map_of ((codes "basis", number basis) ∷ (codes "pull", printable tree) ∷ [])
 
 -- {:refused :read/not-a-command :at 0 :basis 3}
 abbrev pub refusal_reply : List ℕ → ℕ → ℕ → Form

@@ -1,5 +1,5 @@
 -- Commands for the examples. This project's own choice.
-use Rattle.std.specs.Prelude.{◌≡◌, ◌⊎◌, ℕ, pos, Bool, true, false, List, [], ◌∷◌, codes, bytes_eq, Option}
+use Rattle.std.specs.Prelude.{◌≡◌, ◌⊎◌, ℕ, pos, Bool, true, false, List, [], ◌∷◌, codes, bytes_eq, Option, Some, None}
 use Rattle.edn_model.specs.Form as edn
 use Rattle.edn_model.specs.Form.{Form, forms, pairs}
 use Rattle.fb_values.specs.declared.facts.Datom.{Datom}
@@ -9,9 +9,10 @@ use Rattle.view_model.specs.Window.{Window, whole}
 use Rattle.view_model.specs.Samples.{ages, texts, minus_one}
 use Rattle.tx_model.specs.Step.{no_guard}
 use Rattle.tx_model.specs.Samples.{string, vector, add, doc}
-use Rattle.talk_model.specs.Commands.{command_in}
-use Rattle.talk_model.specs.Session.{Setting, setting, Standing, opened_at}
-use Rattle.talk_model.specs.Reads.{IsReply, reply, behind}
+use Rattle.talk_model.specs.Commands.{Read, Command, read, command_in}
+use Rattle.talk_model.specs.Session.{Setting, setting, Standing, Sight, opened_at}
+use Rattle.talk_model.specs.Reads.{IsReply, behind}
+use Rattle.talk_model.specs.Computed.{tested, reply}
 use Rattle.talk_model.specs.Talk.{Exchange}
 
 -- a vector of a word and what stands behind it
@@ -49,22 +50,44 @@ exchange form place line commit =
 
 -- ---- replies over the histories of the examples
 
--- the reply to a command at t 4, with all ages in view, where a filter selects additions
-abbrev pub IsReplyOverAges : Form → Form → Type 0
-IsReplyOverAges form reply =
-    IsReply ages 4 users_alone whole (λ d. d.added ≡ true) (command_in form) reply
+-- the read that the form is; every other form is none here
+abbrev pub read_of : Option Command → Option Read
+read_of (Some (read r)) = Some r
+read_of command = None
 
--- where a session that was opened at t 4 of the ages stands behind a command
+abbrev pub read_in : Form → Option Read
+read_in f = read_of (command_in f)
+
+-- all ages in view, where a filter selects additions
+abbrev pub over_ages : Sight
+over_ages =
+    record {
+      history = ages;
+      window = whole;
+      filters = [];
+      Selects = λ d. d.added ≡ true;
+      is_filter = users_alone;
+    }
+
+-- the reply to a read at t 4 of the ages
+abbrev pub IsReplyOverAges : Form → Form → Type 0
+IsReplyOverAges form reply = IsReply over_ages (read_in form) reply
+
+-- where a session that stood there at t 4 of the ages stands behind a read
+abbrev pub behind_read : Standing → Form → Standing
+behind_read standing form = behind over_ages standing (read_in form)
+
 abbrev pub standing_behind : Form → Standing
-standing_behind form = behind ages users_alone (opened_at 4) (command_in form)
+standing_behind form = behind_read (opened_at 4) form
 
 -- at t 4, with a window and the names of filters
 abbrev pub standing_with : Window → List (List ℕ) → Standing
 standing_with w filters = record { place = 4; window = w; filters = filters; told = false }
 
--- the reply to a command at t 1 of the texts, under a window and filters
+-- the reply to a read at t 1 of the texts, under a window and filters
 abbrev pub reply_over_texts : Window → List (Datom → Bool) → Form → Form
-reply_over_texts w filters form = reply texts 1 users_alone w filters (command_in form)
+reply_over_texts w filters form =
+    reply (tested texts w [] filters users_alone) filters (read_in form)
 
 -- [:datoms :eavt e], where e is the first user entity
 abbrev pub datoms_of_first : Form

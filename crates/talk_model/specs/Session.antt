@@ -5,6 +5,7 @@
 use Rattle.std.specs.Prelude.{◌≡◌, ◌⊎◌, ℕ, ℤ, Bool, false, List, [], ◌∷◌, ◌++◌, Option, None}
 use Rattle.fb_values.specs.declared.facts.Datom.{Datom}
 use Rattle.fb_values.specs.declared.facts.Entry.{Entry}
+use Rattle.fb_model.specs.History.{upto}
 use Rattle.view_model.specs.Window.{Window, whole}
 use Rattle.tx_model.specs.Step.{Guard}
 
@@ -28,8 +29,19 @@ pub record Standing : Type 0 where
   pub window : Window
   -- the names of its filters, in the order in which they were added
   pub filters : List (List ℕ)
-  -- whether it was told that the log did not take its transaction
+  -- whether it was told that the log has stopped
   pub told : Bool
+
+-- what a read has, and what its reply is said of
+pub record Sight : Type 1 where
+  -- what its session has seen of the history
+  pub history : List Entry
+  pub window : Window
+  -- the names of the filters, and what they select together
+  pub filters : List (List ℕ)
+  pub Selects : Datom → Type 0
+  -- which names are those of filters
+  pub is_filter : List ℕ → Bool
 
 -- of a session that is opened at this t
 abbrev pub opened_at : ℕ → Standing
@@ -43,6 +55,17 @@ moved standing t = record standing { place = t }
 abbrev pub SelectedBy : (List ℕ → Datom → Type 0) → List (List ℕ) → Datom → Type 0
 SelectedBy Selects [] d = Unit {0}
 SelectedBy Selects (name ∷ names) d = Selects name d × SelectedBy Selects names d
+
+-- of a session that stands there
+abbrev pub sight_of : Setting → Standing → Sight
+sight_of s standing =
+    record {
+      history = upto s.history standing.place;
+      window = standing.window;
+      filters = standing.filters;
+      Selects = SelectedBy s.Selects standing.filters;
+      is_filter = s.is_filter;
+    }
 
 -- the same setting with more of the history, and with what became of the log
 abbrev pub grown : Setting → List Entry → Option ℕ → Bool → Setting

@@ -8,18 +8,19 @@ use Rattle.fb_model.specs.History.{basis, upto}
 use Rattle.tx_refusals.specs.declared.reasons.Refusal.{Refusal}
 use Rattle.tx_refusals.specs.Reasons.{keyword_of}
 use Rattle.tx_model.specs.Step.{step, accepted, refused}
-use Rattle.talk_model.specs.Commands.{Command, transact, db, sync, command_in}
+use Rattle.talk_model.specs.Commands.{Read, Command, transact, db, sync, read, command_in}
 use Rattle.talk_model.specs.Replies.{receipt, basis_reply, refusal_reply, fault_reply, IsLineOf}
-use Rattle.talk_model.specs.Session.{Setting, Standing, moved, SelectedBy}
+use Rattle.talk_model.specs.Session.{Setting, Standing, sight_of, moved}
 use Rattle.talk_model.specs.Reads.{IsReply, behind}
 
 -- ---- transactions
 
--- The transaction is accepted at a place above what its session had seen: the entry there is what
--- the step gives after the entries before it, at a number that the clock may read, and the line is
--- that of its receipt.
+-- The session was told of no stop of the log, and its transaction is accepted at a place above what
+-- it had seen: the entry there is what the step gives after the entries before it, at a number that
+-- the clock may read, and the line is that of its receipt.
 pub record IsAccepted (s : Setting) (before : Standing) (asked : Form) (after : Standing)
     (line : List ℕ) (commit : Option ℕ) : Type 0 where
+  pub going : before.told ≡ false
   pub place : ℕ
   pub above : before.place < place
   pub within : place ≤ basis s.history
@@ -33,9 +34,11 @@ pub record IsAccepted (s : Setting) (before : Standing) (asked : Form) (after : 
   pub commits : commit ≡ Some place
   pub stands : after ≡ moved before place
 
--- It is refused at a place that the session sees from then on, whatever the clock reads.
+-- It was told of none, and it is refused at a place that the session sees from then on, whatever
+-- the clock reads.
 pub record IsRefused (s : Setting) (before : Standing) (asked : Form) (after : Standing)
     (line : List ℕ) (commit : Option ℕ) : Type 0 where
+  pub going : before.told ≡ false
   pub place : ℕ
   pub from : before.place ≤ place
   pub within : place ≤ basis s.history
@@ -64,7 +67,7 @@ pub record IsNotTaken (s : Setting) (before : Standing) (asked : Form) (after : 
   pub commits : commit ≡ None
   pub stands : after ≡ record before { place = place; told = true }
 
--- The log has stopped at the end of the history, and no transaction is looked at.
+-- The log has stopped at the end of the history, and no transaction is looked at from then on.
 pub record IsStopped (s : Setting) (before : Standing) (after : Standing) (line : List ℕ)
     (commit : Option ℕ) : Type 0 where
   pub place : ℕ
@@ -73,7 +76,7 @@ pub record IsStopped (s : Setting) (before : Standing) (after : Standing) (line 
   pub stops : s.stop ≡ Some (place + 1)
   pub says : IsLineOf (fault_reply (codes "log-stopped") (place + 1) place) line
   pub commits : commit ≡ None
-  pub stands : after ≡ moved before place
+  pub stands : after ≡ record before { place = place; told = true }
 
 -- ---- other commands
 
@@ -87,15 +90,14 @@ pub record IsShown (s : Setting) (before : Standing) (after : Standing) (line : 
   pub commits : commit ≡ None
   pub stands : after ≡ moved before place
 
--- The command, or what is none, is answered of what its session has seen.
-pub record IsRead (s : Setting) (before : Standing) (command : Option Command) (after : Standing)
+-- The read, or what is no command, is answered of what its session has seen.
+pub record IsRead (s : Setting) (before : Standing) (asked : Option Read) (after : Standing)
     (line : List ℕ) (commit : Option ℕ) : Type 0 where
   pub reply : Form
-  pub answers : IsReply (upto s.history before.place) before.place s.is_filter before.window
-      (SelectedBy s.Selects before.filters) command reply
+  pub answers : IsReply (sight_of s before) asked reply
   pub says : IsLineOf reply line
   pub commits : commit ≡ None
-  pub stands : after ≡ behind (upto s.history before.place) s.is_filter before command
+  pub stands : after ≡ behind (sight_of s before) before asked
 
 -- ---- each form
 
@@ -106,7 +108,9 @@ AnswersCommand s before (Some (transact asked)) after line commit =
     ⊎ (IsNotTaken s before asked after line commit ⊎ IsStopped s before after line commit))
 AnswersCommand s before (Some db) after line commit = IsShown s before after line commit
 AnswersCommand s before (Some sync) after line commit = IsShown s before after line commit
-AnswersCommand s before command after line commit = IsRead s before command after line commit
+AnswersCommand s before (Some (read r)) after line commit =
+    IsRead s before (Some r) after line commit
+AnswersCommand s before None after line commit = IsRead s before None after line commit
 
 -- In the setting the form takes the session from one standing to another, with this line, and
 -- commits a t or none.

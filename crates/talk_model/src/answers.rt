@@ -2,12 +2,10 @@
 ghost use Rattle.std.specs.Prelude.{◌≡◌, [], ◌∷◌, true, codes};
 ghost use Rattle.edn_model.specs.Form.{nil, string};
 ghost use Rattle.view_model.specs.Window.{whole, as_of, since, with_history};
-ghost use Rattle.view_model.specs.Samples.{ages};
-ghost use Rattle.talk_model.specs.Commands.{command_in};
+ghost use Rattle.tx_model.specs.Samples.{vector};
 ghost use Rattle.talk_model.specs.Replies.{refusal_reply, done_reply};
 ghost use Rattle.talk_model.specs.Session.{opened_at};
-ghost use Rattle.talk_model.specs.Reads.{behind};
-ghost use Rattle.talk_model.specs.Samples.{said, key, number, users_alone, minus_one_form, IsReplyOverAges, standing_behind, standing_with};
+ghost use Rattle.talk_model.specs.Samples.{said, key, number, minus_one_form, IsReplyOverAges, behind_read, standing_behind, standing_with};
 
 /// Each reason, at its place.
 pub fn refusals_of_reads()
@@ -33,8 +31,11 @@ pub fn refusals_of_reads()
         (refusal_reply (codes "read/not-in-index") 1 4) }
     ensures tx_range { IsReplyOverAges (said (codes "tx-range") (nil ∷ minus_one_form ∷ []))
         (refusal_reply (codes "read/bad-point") 2 4) }
-    ensures pull { IsReplyOverAges (said (codes "pull") (nil ∷ number 5 ∷ []))
-        (refusal_reply (codes "read/not-built") 0 4) }
+    ensures no_pattern { IsReplyOverAges (said (codes "pull") (nil ∷ number 5 ∷ []))
+        (refusal_reply (codes "read/bad-pattern") 0 4) }
+    ensures no_entity { IsReplyOverAges
+        (said (codes "pull") (vector (key (codes "db/id") ∷ []) ∷ string (codes "x") ∷ []))
+        (refusal_reply (codes "read/not-an-entity") 2 4) }
 {}
 
 /// What changes behind a command.
@@ -50,14 +51,14 @@ pub fn views_of_a_session()
         ≡ standing_with whole (codes "users" ∷ []) }
     ensures no_filter { standing_behind (said (codes "filter") (key (codes "user") ∷ []))
         ≡ opened_at 4 }
-    ensures unfilter { behind ages users_alone
+    ensures unfilter { behind_read
         (record {
           place = 4;
           window = since 3 (with_history whole);
           filters = codes "users" ∷ [];
           told = true;
         })
-        (command_in (said (codes "unfilter") []))
+        (said (codes "unfilter") [])
         ≡ record { place = 4; window = whole; filters = []; told = true } }
     ensures done { IsReplyOverAges (said (codes "as-of") (number 2 ∷ [])) (done_reply 4) }
     ensures known { IsReplyOverAges (said (codes "filter") (key (codes "users") ∷ []))

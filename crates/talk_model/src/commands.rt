@@ -14,32 +14,32 @@ pub fn words_of_commands()
     ensures db { command_in (said (codes "db") []) ≡ Some command.db }
     ensures sync { command_in (said (codes "sync") []) ≡ Some command.sync }
     ensures as_of { command_in (said (codes "as-of") (number 3 ∷ []))
-        ≡ Some (command.as_of (number 3)) }
+        ≡ Some (command.turns (command.as_of (number 3))) }
     ensures since { command_in (said (codes "since") (number 3 ∷ []))
-        ≡ Some (command.since (number 3)) }
-    ensures history { command_in (said (codes "history") []) ≡ Some command.history }
+        ≡ Some (command.turns (command.since (number 3))) }
+    ensures history { command_in (said (codes "history") []) ≡ Some (command.turns command.history) }
     ensures filter { command_in (said (codes "filter") (key (codes "users") ∷ []))
-        ≡ Some (command.filter (codes "users")) }
-    ensures unfilter { command_in (said (codes "unfilter") []) ≡ Some command.unfilter }
+        ≡ Some (command.turns (command.filter (codes "users"))) }
+    ensures unfilter { command_in (said (codes "unfilter") []) ≡ Some (command.turns command.unfilter) }
     ensures request_index { command_in (said (codes "request-index") [])
-        ≡ Some command.request_index }
+        ≡ Some (command.read command.request_index) }
     ensures datoms { command_in (said (codes "datoms") (key (codes "eavt") ∷ []))
-        ≡ Some (command.datoms Eavt []) }
+        ≡ Some (command.looks (command.datoms Eavt [])) }
     ensures one_component { command_in (said (codes "datoms") (key (codes "aevt") ∷ number 1 ∷ []))
-        ≡ Some (command.datoms Aevt (number 1 ∷ [])) }
+        ≡ Some (command.looks (command.datoms Aevt (number 1 ∷ []))) }
     ensures two_components { command_in
         (said (codes "seek") (key (codes "avet") ∷ number 1 ∷ number 2 ∷ []))
-        ≡ Some (command.seek Avet (number 1 ∷ number 2 ∷ [])) }
+        ≡ Some (command.looks (command.seek Avet (number 1 ∷ number 2 ∷ []))) }
     ensures four_components { command_in
         (said (codes "seek") (key (codes "vaet") ∷ number 1 ∷ number 2 ∷ number 3 ∷ number 4 ∷ []))
-        ≡ Some (command.seek Vaet (number 1 ∷ number 2 ∷ number 3 ∷ number 4 ∷ [])) }
+        ≡ Some (command.looks (command.seek Vaet (number 1 ∷ number 2 ∷ number 3 ∷ number 4 ∷ []))) }
     ensures index_range { command_in
         (said (codes "index-range") (key (codes "p/age") ∷ number 1 ∷ nil ∷ []))
-        ≡ Some (command.index_range (key (codes "p/age")) (number 1) nil) }
+        ≡ Some (command.looks (command.index_range (key (codes "p/age")) (number 1) nil)) }
     ensures tx_range { command_in (said (codes "tx-range") (nil ∷ number 3 ∷ []))
-        ≡ Some (command.tx_range nil (number 3)) }
+        ≡ Some (command.looks (command.tx_range nil (number 3))) }
     ensures pull { command_in (said (codes "pull") (nil ∷ number 3 ∷ []))
-        ≡ Some (command.pull nil (number 3)) }
+        ≡ Some (command.looks (command.pull nil (number 3))) }
 {}
 
 /// Near misses.

@@ -24,8 +24,8 @@ pub fn a_talk()
 {}
 
 /// The log does not take the second transaction: its session is told that this one was lost, and
-/// from then on that the log has stopped. What was recorded is still read, and a transaction that
-/// no log would see is still refused.
+/// from then on that the log has stopped, also of what would break a rule. What was recorded is
+/// still read.
 pub fn a_talk_over_a_stopped_log()
     ensures { Talk (alone texts (Some 2) true) (opened_at 1)
         (
@@ -34,7 +34,7 @@ pub fn a_talk_over_a_stopped_log()
         ∷ exchange (said (codes "transact") (text ∷ [])) 1
         (codes "{:fault :log-stopped :at 2 :basis 1}\n") None
         ∷ exchange (said (codes "transact") (key (codes "x") ∷ [])) 1
-        (codes "{:refused :db.error/not-a-form :at 0 :basis 1}\n") None
+        (codes "{:fault :log-stopped :at 2 :basis 1}\n") None
         ∷ exchange (said (codes "db") []) 1 (codes "{:basis 1}\n") None
         ∷ [])
         (record { place = 1; window = whole; filters = []; told = true }) }

@@ -1,13 +1,14 @@
 //! Talks, in whatever surroundings.
-ghost use Rattle.std.specs.Prelude.{◌≡◌, ℕ, ℤ, ◌≤◌, Bool, Option, List, [], ◌∷◌, ◌++◌, option_to_list};
+ghost use Rattle.std.specs.Prelude.{◌≡◌, ◌⊎◌, ℕ, ℤ, ◌≤◌, Bool, Option, Some, List, [], ◌∷◌, ◌++◌, option_to_list};
 ghost use Rattle.edn_model.specs.Form.{Form};
 ghost use Rattle.fb_values.specs.declared.facts.Datom.{Datom};
 ghost use Rattle.fb_values.specs.declared.facts.Entry.{Entry};
 ghost use Rattle.fb_model.specs.History.{basis};
 ghost use Rattle.fb_model.specs.Lawful.{IsLawful};
 ghost use Rattle.tx_model.specs.Step.{Guard};
+ghost use Rattle.talk_model.specs.Commands.{transact};
 ghost use Rattle.talk_model.specs.Session.{Standing, setting, Stays};
-ghost use Rattle.talk_model.specs.Talk.{IsAccepted, IsRefused, IsNotTaken, IsShown, IsAnswered, Exchange, places_of, commits_of, Talk};
+ghost use Rattle.talk_model.specs.Talk.{IsAccepted, IsRefused, IsNotTaken, IsStopped, IsShown, AnswersCommand, IsAnswered, Exchange, places_of, commits_of, Talk};
 ghost use Rattle.talk_model.specs.Prefixes.{SeesAll, Prefixes};
 ghost use Rattle.std.specs.List.Sorted.{IsStrictlyIncreasing};
 
@@ -76,14 +77,23 @@ pub fn commits_strictly_rise()
         → SeesAll basis opening ps cs → IsStrictlyIncreasing cs }
 {}
 
-/// A session is told once at most that the log did not take its transaction.
+/// A session is told once at most that the log did not take its transaction, and as the first that it
+/// is told of a stop: from then on each of its transactions is answered with that the log has stopped.
 pub fn a_session_is_told_once<S: Surroundings>()
-    ensures { (s : S) (guard : Guard) (is_filter : List ℕ → Bool) (h : List Entry) (stop : Option ℕ)
+    ensures once { (s : S) (guard : Guard) (is_filter : List ℕ → Bool) (h : List Entry) (stop : Option ℕ)
         (teller : Bool) (one two three four : Standing) (talk : List Exchange) (f g : Form)
         (line other : List ℕ) (commit last : Option ℕ)
         → let here = setting (S.may s) (S.selects s) guard is_filter h stop teller in
         IsNotTaken here one f two line commit → Talk here two talk three
         → ¬ IsNotTaken here three g four other last }
+    ensures for_good { (s : S) (guard : Guard) (is_filter : List ℕ → Bool) (h : List Entry)
+        (stop : Option ℕ) (teller : Bool) (one two three four : Standing) (talk : List Exchange)
+        (f g : Form) (line other : List ℕ) (commit last : Option ℕ)
+        → let here = setting (S.may s) (S.selects s) guard is_filter h stop teller in
+        IsNotTaken here one f two line commit ⊎ IsStopped here one two line commit
+        → Talk here two talk three
+        → AnswersCommand here three (Some (transact g)) four other last
+        → IsStopped here three four other last }
 {}
 
 /// At one place a transaction that is accepted, or refused, has one line, and so have `:db` and

@@ -1,8 +1,9 @@
 //! The four indexes of a history, as the plain program has them and as a core has them.
 use anyhow::Result;
 use fb_db::Db;
+use fb_numbers::{CARDINALITY, IDENT};
 use fb_preds::Selector;
-use fb_scan::{Bounds, index_range, seek};
+use fb_scan::{Bounds, first, index_range, next_attribute, seek};
 use fb_values::{Datom, Datoms, Entry, Order, Probe, Value};
 use fb_view::Snapshot;
 use plain_reads::{Range, Window, scan};
@@ -42,6 +43,13 @@ impl Indexes {
             if !are_same(own.as_slice(), list) {
                 return Ok(false);
             }
+            let few = first(alloc, &all, &from_the_first(*order), 3)?;
+            if !are_same(few.as_slice(), &list[..list.len().min(3)]) {
+                return Ok(false);
+            }
+        }
+        if next_attribute(&all, IDENT, CARDINALITY) != Some(CARDINALITY) {
+            return Ok(false);
         }
         let own = aged_five(alloc, snapshot)?;
         Ok(are_same(own.as_slice(), &self.aged_five))

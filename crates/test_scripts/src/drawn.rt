@@ -6,7 +6,7 @@ use std::alloc::Global;
 use test_data::{Dice, data};
 
 const OTHER_FORMS: [&str; 9] = [
-    "[:pull [*] 17592186044417]",
+    "[:pull]",
     "[:pull [:db/doc]]",
     "[:datoms]",
     "[:datoms :tvea]",
@@ -43,7 +43,7 @@ pub(crate) fn commands(alloc: Global, dice: &mut Dice, world: &World) -> Result<
 
 impl Pen<'_> {
     fn command(&mut self, alloc: Global) -> Result<()> {
-        match self.dice.roll(24) {
+        match self.dice.roll(32) {
             0..=4 => self.transact(),
             5 if self.world.is_shared => self.transact_shared(alloc),
             5 | 6 => self.change_schema(),
@@ -52,6 +52,7 @@ impl Pen<'_> {
             15..=17 => self.scan("[:seek "),
             18..=20 => self.index_range(),
             21 | 22 => self.tx_range(),
+            23..=30 => self.pull(),
             _ => self.other(),
         }
     }

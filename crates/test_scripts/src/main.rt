@@ -10,6 +10,7 @@ mod forms;
 mod merges;
 mod pen;
 mod plain;
+mod pulls;
 mod rows;
 mod session;
 mod stage;
@@ -47,7 +48,7 @@ fn main(rt: HostRuntime) -> Result<()> {
         tally.scripts, tally.lines
     )?;
     println!(rt;
-        "{} of 13 commands answered, {} of 4 reads with a datom, {} of 6 refusals of reads, {} of transactions",
+        "{} of 14 commands answered, {} of 5 reads with a find, {} of 9 refusals of reads, {} of transactions",
         tally.count_of(Answer::Given),
         tally.count_of(Answer::Found),
         tally.count_of(Answer::NoRead),

@@ -53,12 +53,11 @@ impl Row {
 
     fn add(&mut self, line: &str) -> Result<()> {
         if let Some(reply) = line.strip_prefix("-> ") {
-            self.replies.push_str(reply)?;
-            self.replies.push('\n')?;
+            add_line(&mut self.replies, reply)?;
         } else if let Some(words) = line.strip_prefix("clock ") {
             self.clock = readings_in(words)?;
         } else {
-            add_script(&mut self.script, line)?;
+            add_line(&mut self.script, line)?;
         }
         Ok(())
     }
@@ -74,20 +73,21 @@ fn readings_in(words: &str) -> Result<Readings> {
     })
 }
 
-fn add_script(script: &mut String, line: &str) -> Result<()> {
+/// Adds the line, with the numbers for which one in angle quotes stands, and a line feed.
+fn add_line(lines: &mut String, line: &str) -> Result<()> {
     match line.split_once('‹') {
-        None => script.push_str(line)?,
+        None => lines.push_str(line)?,
         Some((before, rest)) => {
             let Some((count, behind)) = rest.split_once('›') else {
                 bail!("an angle quote is not closed");
             };
-            script.push_str(before)?;
+            lines.push_str(before)?;
             for n in 0..count.parse::<u32>()? {
-                write!(script, "{n} ")?;
+                write!(lines, "{}{n}", if n == 0 { "" } else { " " })?;
             }
-            script.push_str(behind)?;
+            lines.push_str(behind)?;
         }
     }
-    script.push('\n')?;
+    lines.push('\n')?;
     Ok(())
 }

@@ -9,7 +9,7 @@ use std::alloc::Global;
 pub(crate) enum Answer {
     /// It was not refused.
     Given,
-    /// It was a read that a datom answered.
+    /// It was a read that a datom answered, or the tree of a pull.
     Found,
     /// It was refused as a read, or as a transaction.
     NoRead,
@@ -60,7 +60,7 @@ impl Tally {
 
     fn count_line(&mut self, alloc: Global, word: &str, line: &[u8]) -> Result<()> {
         let Some(rest) = line.strip_prefix(b"{:refused :") else {
-            if line.ends_with(b"]]}\n") || line.ends_with(b"]]}]}\n") {
+            if finds(word, line) {
                 self.meet(alloc, Answer::Found, word.as_bytes())?;
             }
             return self.meet(alloc, Answer::Given, word.as_bytes());
@@ -84,6 +84,14 @@ impl Tally {
         copy.extend_from_slice(name)?;
         self.met.push(Met { answer, name: copy })?;
         Ok(())
+    }
+}
+
+/// Whether the reply to a command with the word has a datom, or a tree.
+fn finds(word: &str, line: &[u8]) -> bool {
+    match word {
+        "pull" => !line.ends_with(b":pull nil}\n"),
+        _ => line.ends_with(b"]]}\n") || line.ends_with(b"]]}]}\n"),
     }
 }
 

@@ -14,6 +14,8 @@ mod fb_preds_tests;
 #[cfg(test)]
 mod fb_replies_tests;
 #[cfg(test)]
+mod held_facts_tests;
+#[cfg(test)]
 mod seg_tree_tests;
 #[cfg(test)]
 mod tx_laws_tests;

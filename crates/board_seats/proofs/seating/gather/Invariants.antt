@@ -1,4 +1,4 @@
-use Rattle.std.proofs.Common.{◌≡◌, ◌⊎◌, ℕ, ◌+◌, length}
+use Rattle.std.proofs.Common.{◌≡◌, ◌⊎◌, ℕ, ◌+◌, map, length}
 use mathlib.Core.Option.{some}
 use lib.ListN.{get_elem?}
 use Rattle.board_rule.specs.declared.seat.BoardSeat.{BoardSeat}
@@ -13,8 +13,8 @@ invariant-loop-seat g l =
     (board_of l.first ≡ board_of l.initial.first)
     × (let v : View Code = view_of l.initial.first in let w : View Code = view_of l.first in w ≡ record v { seats = w.seats; seen = w.seen; joined = w.joined })
     × ((view_of l.first).seats + length l.seats.items ≡ (view_of l.initial.first).seats + length l.initial.seats.items)
-    × AreIdle l.board.table.shared.table_id l.seats.items
-    × ((k : ℕ) (s : BoardSeat) → get_elem? l.initial.seats.items k ≡ some s → (get_elem? l.seats.items k ≡ some s) ⊎ IsNoted (view_of s) (view_of l.first))
+    × AreIdle l.board.table.shared.table_id (map g.T.Seated.seat l.seats.items)
+    × ((k : ℕ) (s : BoardSeat) → get_elem? (map g.T.Seated.seat l.initial.seats.items) k ≡ some s → (get_elem? (map g.T.Seated.seat l.seats.items) k ≡ some s) ⊎ IsNoted (view_of s) (view_of l.first))
 
 abbrev pub decreases-loop-seat : goal.decreases-loop-seat
 decreases-loop-seat g l = length l.seats.items

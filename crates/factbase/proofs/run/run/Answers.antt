@@ -1,6 +1,6 @@
 use Rattle.std.proofs.Common.{List, ℕ, ap, ◌∙◌, subst}
 use Rattle.std.specs.Prelude.{map, string_bytes}
-use Rattle.script_model.specs.Words.{command_of}
+use Rattle.factbase.specs.Words.{command_of}
 use Rattle.fb_session.specs.Sessions.{terms_of}
 use Rattle.factbase.specs.Outside.{tells_of}
 use Rattle.factbase.specs.Causes.{HasBegun}

@@ -2,7 +2,6 @@ use Rattle.std.proofs.Common.{ℕ, subst}
 use Rattle.std.specs.Prelude.{OnOk}
 use Rattle.std.proofs.lemmas.Result.{on_ok_weaker}
 use Rattle.edn_form.specs.View.{form_of}
-use Rattle.fb_model.specs.History.{basis}
 use Rattle.fb_db.specs.Seen.{window_of}
 use Rattle.fb_reads.specs.Answers.{IsRefused}
 use Rattle.fb_reads.proofs.Scanned.{found_between, stopped_between}
@@ -13,7 +12,7 @@ returns-in_ok-found-in-Ok g c =
     let view = c.args.view.now in
     let h = view.snapshot.entries in
     on_ok_weaker c.write_found.result
-    (found_between h (window_of view) (g.S.Selector.selects view.filter) (basis h) (form_of c.args.a.now) (form_of c.args.start.now) (form_of c.args.end.now) c.in-Ok.range _ c.write_found.new.line.items
+    (found_between h (window_of view) (g.S.Selector.selects view.filter) (form_of c.args.a.now) (form_of c.args.start.now) (form_of c.args.end.now) c.in-Ok.range _ c.write_found.new.line.items
     c.in-Ok.ensures c.in_ok-found-in-Ok.ensures)
     c.write_found.ensures
 
@@ -23,5 +22,5 @@ returns-in-Err g c =
     let h = view.snapshot.entries in
     let line = c.refuse_stop.new.line.items in
     on_ok_weaker c.refuse_stop.result
-    (stopped_between h (window_of view) (g.S.Selector.selects view.filter) (basis h) (form_of c.args.a.now) (form_of c.args.start.now) (form_of c.args.end.now) c.in-Err.stop line c.in-Err.ensures)
+    (stopped_between h (window_of view) (g.S.Selector.selects view.filter) (form_of c.args.a.now) (form_of c.args.start.now) (form_of c.args.end.now) c.in-Err.stop line c.in-Err.ensures)
     (subst (λ (n : ℕ). OnOk c.refuse_stop.result (IsRefused n c.in-Err.stop line)) c.basis.ensures.basis c.refuse_stop.ensures)

@@ -2,7 +2,6 @@ use Rattle.std.proofs.Common.{ℕ, subst}
 use Rattle.std.specs.Prelude.{OnOk}
 use Rattle.std.proofs.lemmas.Result.{on_ok_weaker}
 use Rattle.edn_form.specs.View.{forms_of}
-use Rattle.fb_model.specs.History.{basis}
 use Rattle.view_model.specs.Scan.{not_below}
 use Rattle.fb_db.specs.Seen.{window_of}
 use Rattle.fb_reads.specs.Answers.{IsRefused}
@@ -14,7 +13,7 @@ returns-in_ok-found-in-Ok g c =
     let view = c.args.view.now in
     let h = view.snapshot.entries in
     on_ok_weaker c.write_found.result
-    (found_at h (window_of view) (g.S.Selector.selects view.filter) (basis h) c.args.order not_below (forms_of c.args.given.now) c.in-Ok.probe _ c.write_found.new.line.items c.in-Ok.ensures c.in_ok-found-in-Ok.ensures)
+    (found_at h (window_of view) (g.S.Selector.selects view.filter) c.args.order not_below (forms_of c.args.given.now) c.in-Ok.probe _ c.write_found.new.line.items c.in-Ok.ensures c.in_ok-found-in-Ok.ensures)
     c.write_found.ensures
 
 pub returns-in-Err : goal.returns-in-Err
@@ -23,5 +22,5 @@ returns-in-Err g c =
     let h = view.snapshot.entries in
     let line = c.refuse_stop.new.line.items in
     on_ok_weaker c.refuse_stop.result
-    (stopped_at h (window_of view) (g.S.Selector.selects view.filter) (basis h) c.args.order not_below (forms_of c.args.given.now) c.in-Err.stop line c.in-Err.ensures)
+    (stopped_at h (window_of view) (g.S.Selector.selects view.filter) c.args.order not_below (forms_of c.args.given.now) c.in-Err.stop line c.in-Err.ensures)
     (subst (λ (n : ℕ). OnOk c.refuse_stop.result (IsRefused n c.in-Err.stop line)) c.basis.ensures.basis c.refuse_stop.ensures)

@@ -10,5 +10,6 @@ use Rattle.fb_scan.proofs.scans.datoms.Goals as goal
 pub returns : goal.returns
 returns g c =
     IfOk-weaker c.collect.result _ _
-    (λ ds is. walk_is_scan c.args.db.now.snapshot.entries (window_of c.args.db.now) (g.S.Selector.selects c.args.db.now.filter) c.args.probe.now (Behind c.args.probe) (leading c.args.probe.now) ds (λ d. leading_ends (probe_cmp c.args.probe.now d)) is)
+    (λ ds is. walk_is_scan c.args.db.now.snapshot.entries (window_of c.args.db.now) (g.S.Selector.selects c.args.db.now.filter)
+    c.args.probe.now (Behind c.args.probe) (leading c.args.probe.now) ds (λ d. leading_ends (probe_cmp c.args.probe.now d)) is)
     c.collect.ensures

@@ -6,5 +6,7 @@ use Rattle.fb_scan.proofs.scans.index_range.Goals as goal
 pub returns : goal.returns
 returns g c =
     IfOk-weaker c.collect.result _ _
-    (λ ds is. range_is_scan c.args.db.now.snapshot.entries (window_of c.args.db.now) (g.S.Selector.selects c.args.db.now.filter) c.valued-from.result _ c.end_at.result c.args.attr c.args.bounds.start c.args.bounds.end ds c.end_at.ensures c.valued-from.ensures c.valued-to.ensures is)
+    (λ ds is. range_is_scan c.args.db.now.snapshot.entries (window_of c.args.db.now) (g.S.Selector.selects c.args.db.now.filter)
+    c.valued-from.result _ c.end_at.result c.args.attr c.args.bounds.start c.args.bounds.end ds c.end_at.ensures c.valued-from.ensures
+    c.valued-to.ensures is)
     c.collect.ensures

@@ -1,34 +1,51 @@
-use Rattle.std.proofs.Common.{◌∙◌, List, sym, subst}
-use Rattle.std.specs.Option.{option_copied}
-use Rattle.fb_values.specs.declared.facts.Datom.{Datom}
-use Rattle.fb_schema.specs.Tables.{HasCoverage}
+use Rattle.std.proofs.Common.{◌≡◌, ◌∙◌, ap, sym, Some, length, arith}
 use Rattle.fb_db.specs.Seen.{window_of}
-use Rattle.fb_scan.proofs.Stepping.{walk_begins, walk_goes, walk_ends, walk_stops, walked_over}
+use Rattle.fb_scan.proofs.Stepping.{walk_begins, walk_goes, walk_rises, walk_ends, walk_is_full, none_upto, upto_more, full_is}
+use Rattle.fb_scan.proofs.Stepping.{not_full_is, shorter}
 use Rattle.fb_scan.proofs.walk.collect.Goals as goal
 
-pub loop-next-init : goal.loop-next-init
-loop-next-init g c =
-    walk_begins c.args.from.now (window_of c.args.db.now) c.covers-covers.result.now c.args.end (g.S.Selector.selects c.args.db.now.filter) c.both-both.result.tree.now c.both-both.result.live.now
-    c.new-found.result.items c.start.result c.next-next.result c.new-found.ensures.items c.start.ensures.ahead c.next-next.ensures
+pub loop-at-init : goal.loop-at-init
+loop-at-init g c = record {
+  going =
+      walk_begins c.args.db.now.snapshot (window_of c.args.db.now) (g.S.Selector.selects c.args.db.now.filter) c.args.from.now c.args.end
+      c.new-found.result.items c.start-at.result c.new-found.ensures.items c.start-at.ensures.at_hand;
+  upto = none_upto c.args.most c.new-found.result.items c.new-found.ensures.items;
+}
 
-pub loop-next-preserved : goal.loop-next-preserved
-loop-next-preserved g c =
-    walk_goes c.args.from.now (window_of c.args.db.now) c.covers-covers.result.now c.args.end (g.S.Selector.selects c.args.db.now.filter) c.both-both.result.tree.now c.both-both.result.live.now
-    c.loop-next.found.items c.take.new.found.items c.loop-next.next c.next-next-in-Some.result c.in-Some.datom c.in-Some.spot c.holds-held.result (option_copied c.datom_of.result)
-    c.loop-next.invariant c.in-Some.is (sym c.is_past.ensures ∙ c.if-is_past.false) c.next-next-in-Some.ensures c.datom_of.ensures c.holds-held.ensures c.in_ok-take.ensures
+pub next_seen-requires-clause-rising : goal.next_seen-requires-clause-rising
+next_seen-requires-clause-rising g c =
+    walk_rises c.args.db.now.snapshot (window_of c.args.db.now) (g.S.Selector.selects c.args.db.now.filter) c.args.from.now c.args.end
+    c.loop-at.found.items c.loop-at.at c.loop-at.invariant.going
 
-pub returns-then-is_past : goal.returns-then-is_past
-returns-then-is_past g c =
-    walked_over c.args.db.now.snapshot c.both-both.ensures.stands c.args.from.now (window_of c.args.db.now) c.covers-covers.result.now c.args.end (g.S.Selector.selects c.args.db.now.filter)
-    (subst (λ (schema : List Datom). HasCoverage c.covers-covers.result.now schema) c.schema.ensures.schema c.covers-covers.ensures)
-    c.both-both.result.tree.now c.both-both.result.live.now c.loop-next.found.items c.of.result c.both-both.ensures.tree c.both-both.ensures.live c.of.ensures
-    (walk_stops c.args.from.now (window_of c.args.db.now) c.covers-covers.result.now c.args.end (g.S.Selector.selects c.args.db.now.filter) c.both-both.result.tree.now c.both-both.result.live.now c.requires
-    c.loop-next.found.items c.loop-next.next c.in-Some.datom c.in-Some.spot c.loop-next.invariant c.in-Some.is (sym c.is_past.ensures ∙ c.if-is_past.true))
+pub returns-in_default : goal.returns-in_default
+returns-in_default g c =
+    walk_ends c.args.db.now.snapshot c.start-at.ensures.stands c.args.from.now (window_of c.args.db.now) c.args.end
+    (g.S.Selector.selects c.args.db.now.filter)
+    c.args.most c.loop-at.found.items c.of.result c.loop-at.at c.loop-at.invariant.going c.loop-at.invariant.upto c.in_default.ensures
+    c.of.ensures
+
+pub loop-at-preserved : goal.loop-at-preserved
+loop-at-preserved g c = record {
+  going =
+      walk_goes c.args.db.now.snapshot (window_of c.args.db.now) (g.S.Selector.selects c.args.db.now.filter) c.args.from.now c.args.end
+      c.loop-at.found.items c.copy_into.new.list.items c.in-Some.datom.now c.loop-at.at c.in-Some.behind
+      c.loop-at.invariant.going c.in-Some.ensures c.in_ok-copy_into.ensures.ok;
+  upto =
+      upto_more c.args.most c.loop-at.found.items c.copy_into.new.list.items c.in-Some.datom.now c.loop-at.invariant.upto
+      (let count : c.len.result ≡ length c.loop-at.found.items = omega arith in
+      λ full. not_full_is c.args.most c.len.result c.ne.result c.ne.ensures c.loop-at-test.true (full ∙ ap Some (sym count)))
+      c.in_ok-copy_into.ensures.ok;
+}
+
+pub loop-at-smaller : goal.loop-at-smaller
+loop-at-smaller g c =
+    shorter c.args.db.now.snapshot.entries (window_of c.args.db.now) (g.S.Selector.selects c.args.db.now.filter) c.args.from.now.order
+    c.args.end _ c.in-Some.datom.now _ c.in-Some.ensures
 
 pub returns : goal.returns
 returns g c =
-    walked_over c.args.db.now.snapshot c.both-both.ensures.stands c.args.from.now (window_of c.args.db.now) c.covers-covers.result.now c.args.end (g.S.Selector.selects c.args.db.now.filter)
-    (subst (λ (schema : List Datom). HasCoverage c.covers-covers.result.now schema) c.schema.ensures.schema c.covers-covers.ensures)
-    c.both-both.result.tree.now c.both-both.result.live.now c.loop-next.found.items c.of-2.result c.both-both.ensures.tree c.both-both.ensures.live c.of-2.ensures
-    (walk_ends c.args.from.now (window_of c.args.db.now) c.covers-covers.result.now c.args.end (g.S.Selector.selects c.args.db.now.filter) c.both-both.result.tree.now c.both-both.result.live.now
-    c.loop-next.found.items c.loop-next.next c.loop-next.invariant c.in_default.is)
+    let count : c.len.result ≡ length c.loop-at.found.items = omega arith in
+    walk_is_full c.args.db.now.snapshot c.start-at.ensures.stands c.args.from.now (window_of c.args.db.now) c.args.end
+    (g.S.Selector.selects c.args.db.now.filter)
+    c.args.most c.loop-at.found.items c.of-2.result c.loop-at.at c.loop-at.invariant.going
+    (full_is c.args.most c.len.result c.ne.result c.ne.ensures c.loop-at-test.false ∙ ap Some count) c.of-2.ensures

@@ -1,10 +1,14 @@
 use Rattle.std.proofs.Common.{length}
 use Rattle.fb_db.specs.Seen.{window_of}
-use Rattle.fb_scan.proofs.Stepping.{Walks, at_hand}
+use Rattle.fb_scan.specs.Steps.{at_hand}
+use Rattle.fb_scan.proofs.Stepping.{Goes, IsUpto}
 use Rattle.fb_scan.proofs.walk.collect.Given as goal
 
-abbrev pub invariant-loop-next : goal.invariant-loop-next
-invariant-loop-next g l = Walks l.from (window_of l.db) l.covers l.end (g.S.Selector.selects l.db.filter) l.both.tree.now l.both.live.now l.found.items l.next
+abbrev pub invariant-loop-at : goal.invariant-loop-at
+invariant-loop-at g l = record {
+  going : Goes l.db.snapshot (window_of l.db) (g.S.Selector.selects l.db.filter) l.from l.end l.found.items l.at;
+  upto : IsUpto l.most l.found.items;
+}
 
-abbrev pub decreases-loop-next : goal.decreases-loop-next
-decreases-loop-next g l = length (at_hand l.from.order l.both.tree.now l.both.live.now l.next)
+abbrev pub decreases-loop-at : goal.decreases-loop-at
+decreases-loop-at g l = length (at_hand l.db.snapshot l.from.order l.at)

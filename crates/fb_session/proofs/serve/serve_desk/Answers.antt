@@ -1,8 +1,8 @@
 use Rattle.std.proofs.Common.{ℕ, List, sym, subst}
 use Rattle.fb_session.specs.Taken.{TakesAll}
 use Rattle.fb_session.specs.Sessions.{terms_of}
-use Rattle.fb_session.proofs.Serving.{replies-whole, replies-unread, prefixes-talk}
-use Rattle.fb_session.proofs.TalkingOn.{went_on-nothing}
+use Rattle.fb_session.proofs.Serving.{replies-whole, replies-unread, prefixes-talk, asks-nothing}
+use Rattle.fb_session.proofs.Seeing.{went_on-nothing}
 use Rattle.fb_session.proofs.serve.serve_desk.Goals as goal
 
 pub returns-in-Ok-clause-replies : goal.returns-in-Ok-clause-replies
@@ -29,3 +29,28 @@ returns-in-Err-Memory-clause-replies g c =
 
 pub returns-in-Err-Memory-clause-went_on : goal.returns-in-Err-Memory-clause-went_on
 returns-in-Err-Memory-clause-went_on g c = went_on-nothing (g.T.Desk.state c.args.desk.now)
+
+pub returns-in-Ok-clause-asked : goal.returns-in-Ok-clause-asked
+returns-in-Ok-clause-asked g c =
+    let left = g.I.Source.left in
+    let Taken : List ℕ → Type 0 = λ bytes. TakesAll bytes (left c.args.source.now) (left c.read_script.new.source) in
+    let taken = subst Taken (sym c.as_slice.ensures.value) c.in-Ok.ensures.whole in
+    c.serve_script.ensures.answers.asks (left c.args.source.now) (left c.read_script.new.source) taken.taken
+
+pub returns-in-Ok-clause-seen : goal.returns-in-Ok-clause-seen
+returns-in-Ok-clause-seen g c = c.serve_script.ensures.answers.seen
+
+pub returns-in-Err-TooLong-clause-asked : goal.returns-in-Err-TooLong-clause-asked
+returns-in-Err-TooLong-clause-asked g c =
+    let some = rw c.in-Err-TooLong.field-0-is at c.in-Err-TooLong.ensures in
+    asks-nothing _ _ some.stopped.bytes _ c.nothing.result c.nothing.ensures.places c.nothing.ensures.commits some.stopped.taken
+
+pub returns-in-Err-Fault-clause-asked : goal.returns-in-Err-Fault-clause-asked
+returns-in-Err-Fault-clause-asked g c =
+    let some = rw c.in-Err-Fault.field-0-is at c.in-Err-Fault.ensures in
+    asks-nothing _ _ some.stopped.bytes _ c.nothing-in-Err-Fault.result c.nothing-in-Err-Fault.ensures.places c.nothing-in-Err-Fault.ensures.commits some.stopped.taken
+
+pub returns-in-Err-Memory-clause-asked : goal.returns-in-Err-Memory-clause-asked
+returns-in-Err-Memory-clause-asked g c =
+    let some = rw c.in-Err-Memory.field-0-is at c.in-Err-Memory.ensures in
+    asks-nothing _ _ some.stopped.bytes _ c.nothing-in-Err-Memory.result c.nothing-in-Err-Memory.ensures.places c.nothing-in-Err-Memory.ensures.commits some.stopped.taken

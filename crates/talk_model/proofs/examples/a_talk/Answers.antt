@@ -18,6 +18,7 @@ returns c =
       (
         opened_at 1,
         inl (record {
+          going = refl;
           place = 1;
           above = lit< tt;
           within = lit≤ tt;

@@ -2,8 +2,7 @@ use Rattle.std.proofs.Common.{pos, [], ◌∷◌, true, refl, inl, inr, lit≤}
 use Rattle.std.specs.Prelude.{codes}
 use Rattle.std.specs.Fmt.{digits}
 use Rattle.view_model.specs.Window.{whole}
-use Rattle.tx_model.specs.Step.{no_list}
-use Rattle.talk_model.specs.Replies.{basis_reply, refusal_reply, fault_reply}
+use Rattle.talk_model.specs.Replies.{basis_reply, fault_reply}
 use Rattle.talk_model.specs.Session.{Standing}
 use Rattle.talk_model.proofs.TextSteps.{second_text, second_step}
 use Rattle.talk_model.proofs.PlainText.{line}
@@ -45,16 +44,15 @@ returns c =
         refl,
         (
           told,
-          inr (inl (record {
+          inr (inr (inr (record {
             place = 1;
             from = lit≤ tt;
             within = lit≤ tt;
-            refusal = no_list;
-            step_is = λ reading. refl;
-            says = line (refusal_reply (codes "db.error/not-a-form") 0 1) (codes "{:refused :db.error/not-a-form :at 0 :basis 1}\n") refl refl;
+            stops = refl;
+            says = line (fault_reply (codes "log-stopped") 2 1) (codes "{:fault :log-stopped :at 2 :basis 1}\n") refl refl;
             commits = refl;
             stands = refl;
-          })),
+          }))),
           refl,
           (
             told,

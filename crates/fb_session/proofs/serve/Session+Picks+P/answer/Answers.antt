@@ -16,10 +16,7 @@ returns-in_err-reply-clause-err g c =
     let p = err_from_is_err_and c.from_residual-in_err-reply.result c.from_residual-in_err-reply.ensures.1 in
     rw (p.1, p.2)
     (λ before stands. record {
-      unanswered = unanswered_with_room c.args.self.now c.make_room.new.self c.reply.new.self
-          (λ p. terms_of (g.K.Clock.may_answer c.args.clock.now) (g.G.Guard.bars c.args.guard.now) (g.P.FilterTable.place_of p.table.now) (g.P.FilterTable.selects_at p.table.now))
-          (λ p. map (g.P.FilterTable.name_at p.table.now) p.places.items) (form_of c.args.form.now) (state c.args.desk.now) (state c.reply.new.desk) room.view room.commits
-          c.in_err-reply.ensures.err before stands;
+      unanswered = unanswered_with_room (form_of c.args.form.now) c.args.self.now c.make_room.new.self c.reply.new.self (state c.args.desk.now) (state c.reply.new.desk) room.commits c.in_err-reply.ensures.err;
       places = ap (λ v. v.items) c.in_err-reply.ensures.places ∙ room.places;
       written = refl;
     })
@@ -29,7 +26,7 @@ returns-then-is_err-clause-err g c = λ before stands.
     let state = g.T.Desk.state in
     let room = c.in_ok-make_room.ensures in
     record {
-      line = c.reply.new.self.line.items;
+      line = c.reply.new.self.line.bytes.items;
       answered = answered_with_room c.args.self.now c.make_room.new.self c.reply.new.self
           (λ p. terms_of (g.K.Clock.may_answer c.args.clock.now) (g.G.Guard.bars c.args.guard.now) (g.P.FilterTable.place_of p.table.now) (g.P.FilterTable.selects_at p.table.now))
           (λ p. map (g.P.FilterTable.name_at p.table.now) p.places.items) (form_of c.args.form.now) (state c.args.desk.now) (state c.reply.new.desk) room.view room.commits _
@@ -48,7 +45,7 @@ returns-clause-ok g c = λ before stands.
     c.in_ok-reply.ensures.ok before stands in
     let behind = answered_behind _ _ c.args.self.now c.reply.new.self (record c.reply.new.self { places = c.push_reserved.new.self }) _ _ _ before _ refl refl answered in
     record {
-      line = c.reply.new.self.line.items;
+      line = c.reply.new.self.line.bytes.items;
       answered = behind;
       places = c.push_reserved.ensures.items
           ∙ ap (λ ps. ps ++ c.place-place.result ∷ []) (ap (λ v. v.items) c.in_ok-reply.ensures.places ∙ room.places)

@@ -1,0 +1,70 @@
+use Rattle.std.proofs.Common.{◌≡◌, ◌∙◌, ℕ, ◌<◌, List, length, ap, sym, subst, arith}
+use Rattle.std.proofs.lemmas.Option.{slice_get_within}
+use mathlib.Core.Option.{some}
+use lib.ListN.{get_elem?, length-map}
+use Rattle.fb_model.specs.History.{basis}
+use Rattle.fb_model.proofs.LawfulHistories.{IsLawful-length}
+use Rattle.fb_view.specs.Kept.{Kept}
+use Rattle.board_rule.specs.declared.seat.BoardSeat.{BoardSeat}
+use Rattle.board_rule.specs.declared.view.Code.{Code}
+use Rattle.board_rule.specs.declared.view.View.{View}
+use Rattle.board_rule.specs.Views.{codes}
+use Rattle.board_rule.specs.Calls.{view_of, board_of}
+use Rattle.fb_conn.specs.declared.seats.Seat.{Seat}
+use Rattle.fb_conn.specs.Homes.{code_of}
+use Rattle.fb_conn.specs.Seats.{board_in}
+use Rattle.fb_conn.proofs.Places.{made_at, all_at}
+use Rattle.fb_conn.proofs.Histories.{each_follows}
+use Rattle.fb_conn.proofs.States.{as_new}
+use Rattle.fb_conn.proofs.conn.Conn.new.Goals as goal
+
+pub open-requires-clause-history : goal.open-requires-clause-history
+open-requires-clause-history g c = each_follows c.args.core.snapshot.entries c.snapshot.ensures.stands.snapshot.history.lawful
+
+pub returns-clause-seats : goal.returns-clause-seats
+returns-clause-seats g c = λ k seat at.
+    let h = c.args.core.snapshot.entries in let opened = c.in_ok-opened.opened in let made = c.in_ok-opened.ensures in let seats = c.in_ok-seats.seats.items in
+    let boards = c.in_ok-seats.ensures.boards in let count = IsLawful-length h c.snapshot.ensures.stands.snapshot.history.lawful in
+    let first : c.in_ok-last.last ≡ c.args.core.snapshot = c.in_ok-last.ensures ∙ c.snapshot.ensures.snapshot in
+    let last : seat.last.entries ≡ h = ap (λ (s : Kept). s.entries) (all_at (λ (s : Seat). s.last ≡ c.in_ok-last.last) seats k seat c.in_ok-seats.ensures.last at ∙ first) in
+    let new = made.seats k seat.board (subst (λ (l : List BoardSeat). get_elem? l k ≡ some seat.board) boards (made_at board_in seats k seat at)) in
+    let view = new.1 in let start : ℕ = opened.board.table.shared.key.start in
+    let begins : start ≡ basis h = omega (arith, made.board.2, count) in
+    let within : k < length seats = slice_get_within seats k seat at in
+    let wide : length seats ≡ opened.board.table.shared.key.sessions =
+    sym (length-map seats board_in) ∙ (ap (length {A = BoardSeat}) boards ∙ (made.count ∙ sym made.board.1)) in
+    let number : (view_of seat.board).number ≡ k = ap (λ (z : View Code). z.number) view in (
+      (
+        record {
+          on = new.0;
+          idle = (ap (λ (z : View Code). z.ticket) view, ap (λ (z : View Code). z.turn) view, ap (λ (z : View Code). z.grab) view);
+          alone = ap (λ (z : View Code). z.seats) view;
+          seen = ap (λ (z : View Code). z.seen) view ∙ ap (codes code_of) (sym last);
+        },
+        omega (arith, number, within, wide),
+      ),
+      number,
+      as_new (board_of seat.board) (view_of seat.board) seat.last.entries h start k (codes code_of h) view last begins,
+    )
+
+pub returns-clause-worker : goal.returns-clause-worker
+returns-clause-worker g c =
+    let h = c.args.core.snapshot.entries in let opened = c.in_ok-opened.opened in let made = c.in_ok-opened.ensures in let view = made.first in
+    let count = IsLawful-length h c.snapshot.ensures.stands.snapshot.history.lawful in let start : ℕ = opened.board.table.shared.key.start in
+    let begins : start ≡ basis h = omega (arith, made.board.2, count) in
+    let last : c.in_ok-last.last.entries ≡ h = ap (λ (s : Kept). s.entries) (c.in_ok-last.ensures ∙ c.snapshot.ensures.snapshot) in (
+      (
+        record {
+          on = made.board.0;
+          idle = (ap (λ (z : View Code). z.ticket) view, ap (λ (z : View Code). z.turn) view, ap (λ (z : View Code). z.grab) view);
+          alone = ap (λ (z : View Code). z.seats) view;
+          seen = ap (λ (z : View Code). z.seen) view ∙ ap (codes code_of) (sym last);
+        },
+        ap (λ (z : View Code). z.number) view,
+        ap (λ (z : View Code). z.commits) view,
+      ),
+      ap (λ (z : View Code). z.given) view ∙ (ap length c.of.ensures ∙ c.in_ok-mails.ensures.count),
+      ap (λ (z : View Code). z.covered) view,
+      ap (λ (z : View Code). z.start) view ∙ begins,
+      last,
+    )

@@ -1,0 +1,4 @@
+pub mod Homes
+pub mod Turns
+pub mod Seats
+pub mod Closing

@@ -1,0 +1,65 @@
+//! The worker's two turns: where a merge begins, and where its trees are adopted.
+ghost use Rattle.std.specs.Prelude.{◌≡◌, ◌+◌, ◌<◌, IfOk, OnOk, OnErr};
+ghost use Rattle.fb_model.specs.History.{basis};
+ghost use Rattle.view_model.specs.Stands.{RootStands};
+ghost use Rattle.seg_tree.specs.Indexes.{trees_of};
+ghost use Rattle.board_rule.specs.Views.{StartsWith};
+ghost use Rattle.board_rule.specs.Calls.{view_of};
+ghost use Rattle.fb_conn.specs.Seats.{IsWorkerOf, TookTurn};
+
+use crate::conn::Conn;
+use crate::seats::Seat;
+use board_seats::{end, enter};
+use fb_log::Log;
+use fb_memory::Memory;
+use fb_view::Snapshot;
+use seg_tree::Roots;
+use std::sync::Wait;
+
+impl<L: Log> Conn<L> {
+    /// The value from which a merge begins: the latest one, which the worker has seen from then on.
+    pub fn begin<R: Wait>(&self, rt: &R, seat: &mut Seat) -> Result<Snapshot, Memory>
+        requires seat { IsWorkerOf self.now seat.old }
+        requires draws { (view_of seat.old.board).draws < 4294967296 }
+        ensures seat { IsWorkerOf self.now seat.new }
+        ensures turn { TookTurn (view_of seat.old.board) (view_of seat.new.board) }
+        ensures covered { (view_of seat.new.board).covered ≡ (view_of seat.old.board).covered }
+        ensures snapshot { IfOk result (λ snapshot. (snapshot ≡ seat.new.last)
+            × StartsWith snapshot.entries seat.old.last.entries
+            × (snapshot.covered ≡ (view_of seat.new.board).covered)) }
+        ensures unchanged { OnErr result (seat.new.last ≡ seat.old.last) }
+    {
+        let held = enter(&self.board, rt, &mut seat.board);
+        self.show_latest(seat, held)
+    }
+
+    /// Adopts trees that were merged from the value of the last `begin`. What came since is live.
+    pub fn publish<R: Wait>(&self, rt: &R, seat: &mut Seat, roots: Roots) -> Result<(), Memory>
+        requires seat { IsWorkerOf self.now seat.old }
+        requires draws { (view_of seat.old.board).draws < 4294967296 }
+        requires roots { RootStands (trees_of roots) seat.old.last.entries
+            (basis seat.old.last.entries) }
+        ensures seat { IsWorkerOf self.now seat.new }
+        ensures turn { TookTurn (view_of seat.old.board) (view_of seat.new.board) }
+        ensures last { seat.new.last ≡ seat.old.last }
+        ensures adopted { OnOk result
+            ((view_of seat.new.board).covered ≡ basis seat.old.last.entries) }
+        ensures unchanged { OnErr result
+            ((view_of seat.new.board).covered ≡ (view_of seat.old.board).covered) }
+    {
+        let mut held = enter(&self.board, rt, &mut seat.board);
+        // A snapshot that is asked tells that it stands for its history.
+        let _basis = seat.last.basis();
+        match held.home.core.rebase(&seat.last, roots) {
+            Ok(rebased) => {
+                held.home.core.adopt(rebased);
+                end(&self.board, &mut seat.board, held);
+                Ok(())
+            }
+            Err(fault) => {
+                end(&self.board, &mut seat.board, held);
+                Err(fault)
+            }
+        }
+    }
+}

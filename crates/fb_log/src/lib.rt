@@ -1,0 +1,7 @@
+//! Where an entry goes before it is accepted: a joint between the connection and whatever keeps its log.
+#![tactic(auto)]
+
+mod logs;
+
+pub use fb_calls::Failed;
+pub use logs::{Log, NoLog};

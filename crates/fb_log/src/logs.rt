@@ -1,0 +1,62 @@
+//! The log as the connection sees it, and the log of a database that is kept in memory alone.
+ghost use Rattle.std.specs.Prelude.{List, [], ◌∷◌, ◌++◌, IfOk, OnOk, OnErr};
+ghost use Rattle.fb_values.specs.declared.facts.Entry.{Entry};
+ghost use Rattle.fb_model.specs.Lawful.{IsLawful, IsLawfulAfter};
+
+use fb_calls::Failed;
+use fb_memory::Memory;
+use fb_values::Entry;
+use std::alloc::Global;
+
+/// A log that entries are added to, one after another.
+pub trait Log: Drop {
+    /// An entry as it will stand in the log.
+    type Record: Drop;
+
+    /// The record is of this entry.
+    ghost is_of: { Self.Record → Entry → Type 0 };
+
+    /// By what the log was when the database was opened, and what it is now: it has all that makes this history, and
+    /// nothing has failed since.
+    ghost keeps: { Self → List Entry → Self → Type 0 };
+
+    /// It kept this history until it failed at this entry, which it may have or not.
+    ghost broke: { Self → List Entry → Entry → Self → Type 0 };
+
+    /// Makes the record of an entry that may follow a lawful history. Adding it takes no more memory.
+    fn record(&self, alloc: Global, entry: &Entry) -> Result<Self::Record, Memory>
+        requires { (h : List Entry) × IsLawful h × IsLawfulAfter h entry.now }
+        ensures { IfOk result (λ made. is_of made entry.now) };
+
+    /// Adds an entry by its record. It takes no memory. After a failure nothing more is to be added.
+    fn add(&mut self, made: &Self::Record) -> Result<(), Failed>
+        ensures kept { OnOk result
+            ((begun : Self) (h : List Entry) (entry : Entry) → is_of made.now entry
+            → IsLawfulAfter h entry → keeps begun h self.old
+            → keeps begun (h ++ entry ∷ []) self.new) }
+        ensures broke { OnErr result
+            ((begun : Self) (h : List Entry) (entry : Entry) → is_of made.now entry
+            → IsLawfulAfter h entry → keeps begun h self.old → broke begun h entry self.new) };
+}
+
+/// No log: the history is kept in memory alone, and nothing can fail.
+#[derive(Clone, Copy)]
+pub struct NoLog;
+
+impl Log for NoLog {
+    type Record = ();
+
+    ghost is_of = { λ _ _. Unit {0} };
+
+    ghost keeps = { λ _ _ _. Unit {0} };
+
+    ghost broke = { λ _ _ _ _. ⊥ };
+
+    fn record(&self, _alloc: Global, _entry: &Entry) -> Result<(), Memory> {
+        Ok(())
+    }
+
+    fn add(&mut self, _made: &()) -> Result<(), Failed> {
+        Ok(())
+    }
+}

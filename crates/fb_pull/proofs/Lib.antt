@@ -1,0 +1,7 @@
+pub mod Scans
+pub mod Refs
+pub mod Attributes
+pub mod Runs
+pub mod Limits
+pub mod Known
+pub mod Telling

@@ -1,0 +1,11 @@
+use Rattle.std.proofs.Common.{◌≡◌, ◌≤◌, length, drop}
+use Rattle.std.specs.Prelude.{filter_map}
+use Rattle.pull_model.specs.Found.{names_in_order}
+use Rattle.fb_pull.specs.Attributes.{name_of}
+use Rattle.fb_pull.proofs.names.names_in_order.Given as goal
+
+abbrev pub invariant-loop-i : goal.invariant-loop-i
+invariant-loop-i l = (l.i ≤ length l.attributes) × (l.list.items ≡ names_in_order (filter_map (name_of l.schema) (drop l.i l.attributes)))
+
+abbrev pub decreases-loop-i : goal.decreases-loop-i
+decreases-loop-i l = l.i

@@ -1,0 +1,9 @@
+-- The key of an item, as the definitions see it.
+-- Datomic, Pull (:as).
+use Rattle.edn_model.specs.Form as edn
+use Rattle.fb_pull.specs.declared.keys.Key.{Key}
+use Rattle.fb_pull.specs.declared.keys.Key.TheVariants.{Word, Str}
+
+abbrev pub key_in : Key → edn.Form
+key_in (Word text) = edn.keyword text.now
+key_in (Str text) = edn.string text.now

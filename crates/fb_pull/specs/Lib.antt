@@ -1,0 +1,9 @@
+pub mod Views
+pub mod Attributes
+pub mod Keys
+pub mod Below
+pub mod Finding
+pub mod Made
+pub mod Stands
+pub mod Telling
+pub mod Pulls

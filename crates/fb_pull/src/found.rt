@@ -1,0 +1,157 @@
+//! What is found under an item's name, as far as it may be told.
+ghost use Rattle.std.specs.Prelude.{◌≡◌, Some, IfOk};
+ghost use Rattle.fb_model.specs.Facts.{facts as facts_of};
+ghost use Rattle.fb_model.specs.Schema.{attribute_of};
+ghost use Rattle.fb_schema.specs.Parts.{attribute_in};
+ghost use Rattle.pull_model.specs.Found as model;
+ghost use Rattle.pull_model.specs.Tree as tree;
+ghost use Rattle.pull_pattern.specs.View.{options_in, limit_in};
+ghost use Rattle.fb_pull.specs.Finding.{Finds, most_in, most_entities};
+ghost use Rattle.fb_pull.specs.Views.{Sees};
+
+use crate::facts::{referred, referring, values};
+use edn_form::Edn;
+use fb_db::Db;
+use fb_memory::Memory;
+use fb_preds::Selector;
+use fb_schema::{Attribute, schemas_tell_of_attributes};
+use pull_pattern::{Limit, Name, Options};
+use std::alloc::Global;
+
+/// How many values are told where no limit is given.
+const USUAL_LIMIT: u32 = 1000;
+
+/// What is found under a name.
+#[derive(Drop)]
+pub enum Found {
+    /// The name is that of no attribute, or no entity can be meant by it.
+    Absent,
+    /// The forms of the values.
+    Values {
+        several: bool,
+        forms: Vec<Edn>,
+    },
+    /// Entities, which may be parts of this one.
+    Entities {
+        several: bool,
+        parts: bool,
+        list: Vec<u64>,
+    },
+}
+
+/// What is found of the entity under the name, forward or reversed: of entities one more than may be told as maps, which is one too
+/// many.
+pub fn found_under<S: Selector>(
+    alloc: Global,
+    db: &Db<S>,
+    e: u64,
+    name: &Name,
+    options: &Options,
+    maps: u32,
+) -> Result<Found, Memory>
+    ensures { (facts : model.Db) → Sees db.now (S.selects db.now.filter) facts
+        → IfOk result
+        (λ found. Finds (model.found facts e name.now) (options_in options.now) maps found) }
+{
+    schemas_tell_of_attributes();
+    match name.reversed() {
+        None => match db.snapshot.schema().named(name.written()) {
+            Some(attribute) => found_forward(alloc, db, e, attribute, options, maps),
+            None => Ok(Found::Absent),
+        },
+        Some(forward) => match db.snapshot.schema().named(forward) {
+            Some(attribute) => found_backward(alloc, db, e, attribute, options, maps),
+            None => Ok(Found::Absent),
+        },
+    }
+}
+
+fn found_forward<S: Selector>(
+    alloc: Global,
+    db: &Db<S>,
+    e: u64,
+    attribute: &Attribute,
+    options: &Options,
+    maps: u32,
+) -> Result<Found, Memory>
+    requires { attribute_of (facts_of db.now.snapshot.entries) attribute.now.id
+        ≡ Some (attribute_in attribute.now) }
+    ensures { (facts : model.Db) → Sees db.now (S.selects db.now.filter) facts
+        → IfOk result (λ found. Finds
+        (model.found_forward facts e (Some (attribute_in attribute.now))) (options_in options.now)
+        maps found) }
+{
+    let several = attribute.many;
+    let limit = limit_for(several, options);
+    if attribute.is_ref() {
+        let list = referred(alloc, db, e, attribute.id, most_entities(limit, maps))?;
+        return Ok(Found::Entities {
+            several,
+            parts: attribute.component,
+            list,
+        });
+    }
+    let forms = values(alloc, db, e, attribute.id, most_values(limit))?;
+    Ok(Found::Values { several, forms })
+}
+
+/// A part has one whole.
+fn found_backward<S: Selector>(
+    alloc: Global,
+    db: &Db<S>,
+    e: u64,
+    attribute: &Attribute,
+    options: &Options,
+    maps: u32,
+) -> Result<Found, Memory>
+    requires { attribute_of (facts_of db.now.snapshot.entries) attribute.now.id
+        ≡ Some (attribute_in attribute.now) }
+    ensures { (facts : model.Db) → Sees db.now (S.selects db.now.filter) facts
+        → IfOk result (λ found. Finds
+        (model.found_backward facts e (Some (attribute_in attribute.now))) (options_in options.now)
+        maps found) }
+{
+    if !attribute.is_ref() {
+        return Ok(Found::Absent);
+    }
+    let several = !attribute.component;
+    let limit = limit_for(several, options);
+    let list = referring(alloc, db, e, attribute.id, most_entities(limit, maps))?;
+    Ok(Found::Entities {
+        several,
+        parts: false,
+        list,
+    })
+}
+
+fn limit_for(several: bool, options: &Options) -> Limit
+    ensures { limit_in result ≡ tree.limit_for several (options_in options.now) }
+{
+    if !several {
+        return Limit::First(1);
+    }
+    match options.limit {
+        Some(limit) => limit,
+        None => Limit::First(USUAL_LIMIT),
+    }
+}
+
+fn most_values(limit: Limit) -> Option<usize>
+    ensures { result ≡ most_in (limit_in limit) }
+{
+    match limit {
+        Limit::First(n) => Some(n as usize),
+        Limit::All => None,
+    }
+}
+
+/// One entity more than the maps that may be made is too many.
+fn most_entities(limit: Limit, maps: u32) -> usize
+    ensures { result ≡ most_entities (limit_in limit) maps }
+{
+    let too_many = maps as usize + 1;
+    match limit {
+        Limit::First(n) => too_many.min(n as usize),
+        Limit::All => too_many,
+    }
+}

@@ -1,0 +1,377 @@
+//! The tree of an entity. It recurses as deep as maps may stand inside one another.
+ghost use Rattle.std.specs.Prelude.{◌≡◌, ◌∷◌, ◌&&◌, ◌==◌, [], not, map, fold, drop, List, ℕ, if◌then◌else◌, IfOk};
+ghost use Rattle.edn_form.specs.View.{form_of, pairs_of};
+ghost use Rattle.pull_model.specs.Found as found;
+ghost use Rattle.pull_model.specs.Found.{Db as Facts};
+ghost use Rattle.pull_model.specs.Made as made;
+ghost use Rattle.pull_model.specs.Patterns as patterns;
+ghost use Rattle.pull_model.specs.Tree as model;
+ghost use Rattle.pull_pattern.specs.View.{pattern_in, pattern_of, item_in, options_in, below_in};
+ghost use Rattle.fb_pull.specs.Below.{told_by};
+ghost use Rattle.fb_pull.specs.Finding.{Finds};
+ghost use Rattle.fb_pull.specs.Stands.{IsAt, made_at, inside_at};
+ghost use Rattle.fb_pull.specs.Telling.{Tells, TellsInside, TellsSeveral, Adds, IsInside, with_own};
+ghost use Rattle.fb_pull.specs.Views.{Sees};
+
+use crate::below::{Inner, inner_of, usual};
+use crate::found::{Found, found_under};
+use crate::keys::Key;
+use crate::made::{Inside, Limits, Several, Told, collected, number, or_default, stub};
+use crate::names::names_of_entity;
+use crate::stops::Stop;
+use edn_form::Edn;
+use fb_db::Db;
+use fb_memory::Memory;
+use fb_preds::Selector;
+use fb_text::Text;
+use pull_pattern::{Below, Item, Name, Options, Pattern};
+use std::alloc::Global;
+
+/// What a pull walks.
+#[derive(Drop)]
+pub struct Walk<'a, S> {
+    pub alloc: Global,
+    pub db: &'a Db<S>,
+}
+
+/// Where it stands: at an entity, with the path that led to it. The path begins with the entity itself.
+#[derive(Clone, Copy)]
+struct Stand<'a> {
+    pattern: &'a Pattern,
+    e: u64,
+    path: &'a [u64],
+    limits: Limits,
+}
+
+/// An item for an attribute.
+#[derive(Clone, Copy)]
+struct Asked<'a> {
+    place: usize,
+    name: &'a Name,
+    options: &'a Options,
+    below: &'a Below,
+}
+
+/// The tree of the entity under the pattern, where `above` led to it.
+#[cycle(tree)]
+pub fn tree<S: Selector>(
+    walk: &Walk<'_, S>,
+    pattern: &Pattern,
+    above: &[u64],
+    e: u64,
+    limits: Limits,
+) -> Result<Told, Stop>
+    ensures { (facts : Facts) → Sees walk.now.db.now (S.selects walk.now.db.now.filter) facts
+        → Tells (model.tree limits.depth facts (pattern_in pattern.now) above.now e) limits result }
+{
+    if limits.depth == 0 || limits.maps == 0 {
+        return Err(Stop::TooLarge);
+    }
+    let path = path_to(walk.alloc, e, above)?;
+    let at = Stand {
+        pattern,
+        e,
+        path: &path,
+        limits: Limits {
+            depth: limits.depth - 1,
+            maps: limits.maps - 1,
+        },
+    };
+    let inside = pairs(walk, &at)?;
+    Ok(Told {
+        maps: inside.maps.saturating_add(1),
+        form: inside.map(),
+    })
+}
+
+/// The pairs of the entity's map.
+#[cycle(tree)]
+fn pairs<S: Selector>(walk: &Walk<'_, S>, at: &Stand<'_>) -> Result<Inside, Stop>
+    requires { IsAt at.now }
+    ensures { (facts : Facts) → Sees walk.now.db.now (S.selects walk.now.db.now.filter) facts
+        → TellsInside (inside_at at.now facts) at.now.limits result }
+{
+    let items = at.pattern.items();
+    let mut inside = Inside::none(walk.alloc);
+    for (place, item) in items.iter().enumerate() {
+        add_item(walk, at, &mut inside, place, item)?;
+    }
+    Ok(inside)
+}
+
+/// Adds the pairs of an item.
+#[cycle(tree)]
+fn add_item<S: Selector>(
+    walk: &Walk<'_, S>,
+    at: &Stand<'_>,
+    inside: &mut Inside,
+    place: usize,
+    item: &Item,
+) -> Result<(), Stop>
+    requires { IsAt at.now }
+    ensures { (facts : Facts) → Sees walk.now.db.now (S.selects walk.now.db.now.filter) facts
+        → (before : made.Inside) → IsInside before at.now.limits inside.old
+        → Adds (fold (model.with_item (made_at at.now facts)) before
+        (model.items_from facts at.now.e (pattern_in at.now.pattern.now) place
+        (patterns.one (item_in item.now)))) at.now.limits inside.new result }
+{
+    match item {
+        Item::Wildcard => add_everything(walk, at, inside, place),
+        Item::Own(options) => Ok(add_own(walk.alloc, inside, at.e, options)?),
+        Item::Attribute {
+            name,
+            options,
+            below,
+        } => {
+            let asked = Asked {
+                place,
+                name,
+                options,
+                below,
+            };
+            add_attribute(walk, at, inside, &asked)
+        }
+    }
+}
+
+/// Adds the entity's number, and its attributes for which the pattern has no item.
+#[cycle(tree)]
+fn add_everything<S: Selector>(
+    walk: &Walk<'_, S>,
+    at: &Stand<'_>,
+    inside: &mut Inside,
+    place: usize,
+) -> Result<(), Stop>
+    requires { IsAt at.now }
+    ensures { (facts : Facts) → Sees walk.now.db.now (S.selects walk.now.db.now.filter) facts
+        → (before : made.Inside) → IsInside before at.now.limits inside.old
+        → Adds (fold (model.with_item (made_at at.now facts)) before
+        (map (λ i. (place, i))
+        (model.wildcard_items facts at.now.e (pattern_in at.now.pattern.now))))
+        at.now.limits inside.new result }
+{
+    add_own(walk.alloc, inside, at.e, &Options::none())?;
+    let names = names_of_entity(walk.alloc, walk.db, at.e)?;
+    for name in &names {
+        add_other(walk, at, inside, place, name)?;
+    }
+    Ok(())
+}
+
+/// Adds what the attribute tells, if the pattern has no item for it.
+#[cycle(tree)]
+fn add_other<S: Selector>(
+    walk: &Walk<'_, S>,
+    at: &Stand<'_>,
+    inside: &mut Inside,
+    place: usize,
+    name: &Text,
+) -> Result<(), Stop>
+    requires { IsAt at.now }
+    ensures { (facts : Facts) → Sees walk.now.db.now (S.selects walk.now.db.now.filter) facts
+        → (before : made.Inside) → IsInside before at.now.limits inside.old
+        → Adds (if model.has_item_for name.now (pattern_in at.now.pattern.now) then before
+        else model.with_item (made_at at.now facts) before
+        (place, patterns.attribute name.now patterns.no_options patterns.usual))
+        at.now.limits inside.new result }
+{
+    if has_item_for(name, at.pattern.items()) {
+        return Ok(());
+    }
+    let asked = Asked {
+        place,
+        name: &Name::of(walk.alloc, name)?,
+        options: &Options::none(),
+        below: &usual(),
+    };
+    add_attribute(walk, at, inside, &asked)
+}
+
+/// Adds what the attribute tells, if its key does not stand yet.
+#[cycle(tree)]
+fn add_attribute<S: Selector>(
+    walk: &Walk<'_, S>,
+    at: &Stand<'_>,
+    inside: &mut Inside,
+    asked: &Asked<'_>,
+) -> Result<(), Stop>
+    requires { IsAt at.now }
+    ensures { (facts : Facts) → Sees walk.now.db.now (S.selects walk.now.db.now.filter) facts
+        → (before : made.Inside) → IsInside before at.now.limits inside.old
+        → Adds (model.with_item (made_at at.now facts) before (
+          asked.now.place,
+          patterns.attribute asked.now.name.now (options_in asked.now.options.now)
+              (below_in asked.now.below.now),
+        )) at.now.limits inside.new result }
+{
+    let key = Key::of(asked.name.written(), asked.options);
+    if key.is_in(&inside.pairs) {
+        return Ok(());
+    }
+    let left = at.limits.maps.saturating_sub(inside.maps);
+    let told = value(walk, at, asked, left)?;
+    let form = or_default(told.form, &asked.options.default)?;
+    let maps = told.maps;
+    inside.add(key.form()?, Told { form, maps })?;
+    Ok(())
+}
+
+/// What the attribute tells, where so many maps may still be made.
+#[cycle(tree)]
+fn value<S: Selector>(
+    walk: &Walk<'_, S>,
+    at: &Stand<'_>,
+    asked: &Asked<'_>,
+    left: u32,
+) -> Result<Told, Stop>
+    ensures { (facts : Facts) → Sees walk.now.db.now (S.selects walk.now.db.now.filter) facts
+        → Tells (model.value_of (model.tree at.now.limits.depth facts)
+        (pattern_in at.now.pattern.now) asked.now.place at.now.path.now
+        (options_in asked.now.options.now) (below_in asked.now.below.now)
+        (found.found facts at.now.e asked.now.name.now))
+        (record { depth = at.now.limits.depth; maps = left }) result }
+{
+    match found_under(walk.alloc, walk.db, at.e, asked.name, asked.options, left)? {
+        Found::Absent => Ok(Told {
+            form: None,
+            maps: 0,
+        }),
+        Found::Values { several, forms } => Ok(Told {
+            form: collected(several, forms),
+            maps: 0,
+        }),
+        Found::Entities {
+            several,
+            parts,
+            list,
+        } => {
+            let inner = inner_of(walk.alloc, at.pattern, asked.place, asked.below, parts)?;
+            let limits = Limits {
+                depth: at.limits.depth,
+                maps: left,
+            };
+            let all = all_told(walk, at.path, &inner, &list, limits)?;
+            Ok(Told {
+                form: collected(several, all.forms),
+                maps: all.maps,
+            })
+        }
+    }
+}
+
+/// What is told of each of the entities.
+#[cycle(tree)]
+fn all_told<S: Selector>(
+    walk: &Walk<'_, S>,
+    path: &[u64],
+    inner: &Inner,
+    entities: &[u64],
+    limits: Limits,
+) -> Result<Several, Stop>
+    ensures { (facts : Facts) → Sees walk.now.db.now (S.selects walk.now.db.now.filter) facts
+        → TellsSeveral
+        (map (told_by (model.tree limits.depth facts) inner.now path.now) entities.now)
+        limits result }
+{
+    let mut all = Several::none(walk.alloc);
+    for n in entities {
+        let left = Limits {
+            depth: limits.depth,
+            maps: limits.maps.saturating_sub(all.maps),
+        };
+        let told = told(walk, path, inner, *n, left)?;
+        all.add(told)?;
+    }
+    Ok(all)
+}
+
+/// What is told of an entity.
+#[cycle(tree)]
+fn told<S: Selector>(
+    walk: &Walk<'_, S>,
+    path: &[u64],
+    inner: &Inner,
+    n: u64,
+    limits: Limits,
+) -> Result<Told, Stop>
+    ensures { (facts : Facts) → Sees walk.now.db.now (S.selects walk.now.db.now.filter) facts
+        → Tells (told_by (model.tree limits.depth facts) inner.now path.now n) limits result }
+{
+    match inner {
+        Inner::Number => number_alone(walk.alloc, n, limits),
+        Inner::Along(_) if is_on(path, n) => number_alone(walk.alloc, n, limits),
+        Inner::Along(pattern) => tree(walk, pattern, path, n, limits),
+        Inner::Apart(pattern) => tree(walk, pattern, &[], n, limits),
+    }
+}
+
+/// A map of the entity's number alone.
+fn number_alone(alloc: Global, n: u64, limits: Limits) -> Result<Told, Stop>
+    ensures { Tells (made.stub n) limits result }
+{
+    if limits.depth == 0 || limits.maps == 0 {
+        return Err(Stop::TooLarge);
+    }
+    Ok(Told {
+        form: Some(stub(alloc, n)?),
+        maps: 1,
+    })
+}
+
+/// Adds the entity's number, if the key does not stand yet.
+fn add_own(alloc: Global, inside: &mut Inside, e: u64, options: &Options) -> Result<(), Memory>
+    ensures pairs { IfOk result (λ _. pairs_of inside.new.pairs.items
+        ≡ with_own (pairs_of inside.old.pairs.items) (options_in options.now) e) }
+    ensures maps { IfOk result (λ _. inside.new.maps ≡ inside.old.maps) }
+{
+    let name = Text::of(alloc, "db/id")?;
+    let key = Key::of(&name, options);
+    if key.is_in(&inside.pairs) {
+        return Ok(());
+    }
+    inside.pairs.push((key.form()?, number(e)?))?;
+    Ok(())
+}
+
+fn has_item_for(name: &Text, items: &[Item]) -> bool
+    ensures { result ≡ model.has_item_for name.now (pattern_of items.now) }
+{
+    for item in items {
+        if is_for(item, name) {
+            return true;
+        }
+    }
+    false
+}
+
+fn is_for(item: &Item, name: &Text) -> bool
+    ensures { result ≡ model.has_item_for name.now (patterns.one (item_in item.now)) }
+{
+    match item {
+        Item::Attribute { name: other, .. } => other.written().as_str() == name.as_str(),
+        _ => false,
+    }
+}
+
+fn is_on(path: &[u64], n: u64) -> bool
+    ensures { result ≡ model.is_on path.now n }
+{
+    for m in path {
+        if n == *m {
+            return true;
+        }
+    }
+    false
+}
+
+/// The path to an entity, itself the first.
+fn path_to(alloc: Global, e: u64, above: &[u64]) -> Result<Vec<u64>, Memory>
+    ensures { IfOk result (λ path. path.items ≡ e ∷ above.now) }
+{
+    let mut path = Vec::with_capacity(alloc, above.len().saturating_add(1))?;
+    path.push(e)?;
+    for n in above {
+        path.push(*n)?;
+    }
+    Ok(path)
+}

@@ -1,0 +1,16 @@
+use Rattle.std.proofs.lemmas.Result.{IfOk-weaker}
+use Rattle.fb_values.specs.Orders.{probe_cmp}
+use Rattle.view_model.specs.Scan.{leading}
+use Rattle.fb_db.specs.Seen.{window_of}
+use Rattle.fb_scan.specs.declared.ends.End.TheVariants.{Behind}
+use Rattle.fb_scan.proofs.Ending.{leading_ends}
+use Rattle.fb_scan.proofs.Stepping.{first_of_scan}
+use Rattle.fb_scan.proofs.scans.first.Goals as goal
+
+pub returns : goal.returns
+returns g c = λ all scan.
+    IfOk-weaker c.collect.result _ _
+    (λ ds is. first_of_scan c.args.db.now.snapshot.entries (window_of c.args.db.now) (g.S.Selector.selects c.args.db.now.filter)
+    c.args.probe.now (Behind c.args.probe) (leading c.args.probe.now) ds all (λ d. leading_ends (probe_cmp c.args.probe.now d))
+    c.args.most is scan)
+    c.collect.ensures

@@ -1,0 +1,9 @@
+pub mod Firsts
+pub mod Steps
+pub mod Holding
+pub mod Maps
+pub mod Telling
+pub mod Holder
+pub mod Ranges
+pub mod Openings
+pub mod Searches

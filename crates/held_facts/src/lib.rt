@@ -1,0 +1,10 @@
+//! The facts that hold now, of a history that grows in place: for judging a log entry by entry. What is asked costs the
+//! logarithm of what holds, and what it answers, whatever held before.
+#![tactic(auto)]
+
+mod asked;
+mod facts;
+mod held;
+mod kept;
+
+pub use held::Held;

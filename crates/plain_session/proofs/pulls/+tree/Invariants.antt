@@ -1,0 +1,21 @@
+-- Each level has one less room, and within a level the functions call one another in this order.
+use Rattle.std.proofs.Common.{◌+◌, ◌*◌}
+use Rattle.plain_session.proofs.pulls.+tree.Given as goal
+
+abbrev pub decreases-tree : goal.decreases-tree
+decreases-tree l = 6 * l.room
+
+abbrev pub decreases-unless_met : goal.decreases-unless_met
+decreases-unless_met l = 6 * l.at.now.room + 1
+
+abbrev pub decreases-told : goal.decreases-told
+decreases-told l = 6 * l.at.now.room + 2
+
+abbrev pub decreases-all_told : goal.decreases-all_told
+decreases-all_told l = 6 * l.at.now.room + 3
+
+abbrev pub decreases-value_of : goal.decreases-value_of
+decreases-value_of l = 6 * l.at.now.room + 4
+
+abbrev pub decreases-add_pair : goal.decreases-add_pair
+decreases-add_pair l = 6 * l.at.now.room + 5

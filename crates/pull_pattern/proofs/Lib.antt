@@ -1,0 +1,5 @@
+pub mod Underscores
+pub mod Joined
+pub mod Optional
+pub mod Refused
+pub mod OneLess

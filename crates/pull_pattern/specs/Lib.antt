@@ -1,0 +1,4 @@
+pub mod Names
+pub mod View
+pub mod Items
+pub mod Answers

@@ -1,0 +1,136 @@
+//! What holds after entries that add and retract the same triples, written down by hand.
+use fb_facts::Facts;
+use fb_memory::Memory;
+use fb_values::{Datom, Datoms, Entry, Value};
+use held_facts::Held;
+use std::alloc::Global;
+use std::test::Fail;
+
+/// Two user entities, and two attributes.
+const ANN: u64 = 17_592_186_044_417;
+
+const BOB: u64 = 17_592_186_044_418;
+
+const LUCKY: u64 = 100;
+
+const FRIEND: u64 = 101;
+
+/// An entity, a lucky number of it, and whether that is added.
+type Said = (u64, i64, bool);
+
+/// The entries from t 1 on. Bob is also Ann's friend from t 1 on, and no longer from t 2 on.
+const ENTRIES: [&[Said]; 3] = [
+    &[(ANN, 7, true), (ANN, 5, true), (BOB, 5, true)],
+    &[(ANN, 5, false), (ANN, 7, true)],
+    &[(ANN, 5, true), (ANN, 7, false), (BOB, 6, false)],
+];
+
+/// After so many entries: Ann's lucky numbers, the holder of 5, the entity and the t of each lucky number, and Ann's facts
+/// and those that refer to Bob by their attributes.
+type Row = (
+    usize,
+    &'static [i64],
+    Option<u64>,
+    &'static [(u64, u32)],
+    &'static [u64],
+    &'static [u64],
+);
+
+const ROWS: [Row; 3] = [
+    (
+        1,
+        &[5, 7],
+        Some(ANN),
+        &[(ANN, 1), (ANN, 1), (BOB, 1)],
+        &[LUCKY, LUCKY, FRIEND],
+        &[FRIEND],
+    ),
+    (2, &[7], Some(BOB), &[(ANN, 2), (BOB, 1)], &[LUCKY], &[]),
+    (3, &[5], Some(ANN), &[(ANN, 3), (BOB, 1)], &[LUCKY], &[]),
+];
+
+fn entry(alloc: Global, t: u32, said: &[Said]) -> Result<Entry, Memory> {
+    let mut datoms = vec![in alloc; datom(ANN, FRIEND, Value::Ref(BOB), t, t == 1)]?;
+    for (e, n, added) in said {
+        datoms.push(datom(*e, LUCKY, Value::Long(*n), t, *added))?;
+    }
+    Ok(Entry {
+        t,
+        instant: i64::from(t),
+        datoms: Datoms::of(datoms),
+    })
+}
+
+fn datom(e: u64, a: u64, v: Value, t: u32, added: bool) -> Datom {
+    Datom { e, a, v, t, added }
+}
+
+/// The history of the first entries.
+fn after(alloc: Global, count: usize) -> Result<Held, Memory> {
+    let one = Held::first(alloc)?.add(entry(alloc, 1, ENTRIES[0])?)?;
+    if count == 1 {
+        return Ok(one);
+    }
+    let two = one.add(entry(alloc, 2, ENTRIES[1])?)?;
+    if count == 2 {
+        return Ok(two);
+    }
+    two.add(entry(alloc, 3, ENTRIES[2])?)
+}
+
+/// What is told of the facts, by the columns of a row.
+#[derive(Drop)]
+struct Columns {
+    values: Vec<i64>,
+    holder: Option<u64>,
+    under: Vec<(u64, u32)>,
+    of_ann: Vec<u64>,
+    to_bob: Vec<u64>,
+}
+
+fn told_after(alloc: Global, count: usize) -> Result<Columns, Memory> {
+    let held = after(alloc, count)?;
+    told(alloc, &held)
+}
+
+fn told(alloc: Global, held: &Held) -> Result<Columns, Memory> {
+    Ok(Columns {
+        values: values(alloc, held)?,
+        holder: held.holder(LUCKY, &Value::Long(5)),
+        under: under(alloc, held)?,
+        of_ann: attributes(alloc, held.facts_of(ANN)?)?,
+        to_bob: attributes(alloc, held.refs_to(BOB)?)?,
+    })
+}
+
+fn values(alloc: Global, held: &Held) -> Result<Vec<i64>, Memory> {
+    let mut numbers = Vec::new(alloc);
+    for v in &held.values_of(ANN, LUCKY)? {
+        if let Value::Long(n) = v {
+            numbers.push(*n)?;
+        }
+    }
+    Ok(numbers)
+}
+
+fn under(alloc: Global, held: &Held) -> Result<Vec<(u64, u32)>, Memory> {
+    let facts = held.facts_under(LUCKY)?;
+    Ok(facts.as_slice().iter().map(|d| (d.e, d.t)).collect(alloc)?)
+}
+
+fn attributes(alloc: Global, facts: Datoms) -> Result<Vec<u64>, Memory> {
+    Ok(facts.as_slice().iter().map(|d| d.a).collect(alloc)?)
+}
+
+#[test]
+fn what_holds_follows_the_entries(rt: HostRuntime) -> Result<(), Fail> {
+    for (count, values, holder, under, of_ann, to_bob) in ROWS {
+        let told = told_after(rt.alloc(), count)?;
+        assert_eq!(rt; told.values.as_slice(), values, "after {count} entries");
+        assert_eq!(rt; told.holder, holder, "after {count} entries");
+        assert_eq!(rt; told.under.as_slice(), under, "after {count} entries");
+        assert_eq!(rt; told.of_ann.as_slice(), of_ann, "after {count} entries");
+        assert_eq!(rt; told.to_bob.as_slice(), to_bob, "after {count} entries");
+    }
+    Ok(())
+}
