@@ -1,0 +1,4 @@
+pub mod Causes
+pub mod Laws
+pub mod Reading
+pub mod Trees

@@ -1,0 +1,17 @@
+//! The worker: it merges what is live into new trees beside the sessions, and has them kept before the sessions get them. What it
+//! leaves at the end is merged in the closed core.
+#![tactic(auto)]
+
+mod bases;
+mod ends;
+mod gates;
+mod settling;
+mod stores;
+mod working;
+
+pub use bases::Base;
+pub use ends::WorkEnd;
+pub use gates::{Gate, OpenGate, Point};
+pub use settling::settle;
+pub use stores::{KeepFault, NoStore, RootStore};
+pub use working::work;

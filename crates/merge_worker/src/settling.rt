@@ -1,0 +1,89 @@
+//! The merge that is left at the end.
+ghost use Rattle.std.specs.Prelude.{◌≡◌, ◌↔◌, ◌<◌, OnOk, OnErr, IsErrOf, IsTrue, IsFalse};
+ghost use Rattle.fb_calls.specs.Faults.{Rose};
+ghost use Rattle.fb_model.specs.History.{basis};
+ghost use Rattle.fb_core.specs.Cores.{live_datoms};
+ghost use Rattle.merge_worker.specs.declared.bases.Base.{Base};
+ghost use Rattle.merge_worker.specs.declared.ends.WorkEnd.{WorkEnd};
+ghost use Rattle.merge_worker.specs.declared.stores.KeepFault.{KeepFault};
+ghost use Rattle.merge_worker.specs.Work.{IsBaseOf, IsOldOrKept, is_due, IsOutOfIds};
+
+use crate::bases::Base;
+use crate::ends::WorkEnd;
+use crate::stores::{KeepFault, RootStore};
+use fb_core::{Core, a_beginning_stays_one};
+use std::alloc::Global;
+use std::thread::Threads;
+
+/// Merges a core that no session has any longer, where that is due. Only with `Shut` anything has changed.
+pub fn settle<T: RootStore, R: Threads + Sync>(
+    rt: &R,
+    alloc: Global,
+    core: &mut Core,
+    store: &mut T,
+    base: &mut Base,
+    merge_at: u64,
+) -> WorkEnd
+    requires merge_at { 0 < merge_at }
+    requires base { IsBaseOf base.old core.old.snapshot.entries core.old.snapshot.covered }
+    requires going { T.goes store.old }
+    ensures authors { core.new.authors ≡ core.old.authors }
+    ensures entries { core.new.snapshot.entries ≡ core.old.snapshot.entries }
+    ensures base { IsBaseOf base.new core.new.snapshot.entries core.new.snapshot.covered }
+    ensures kept { IsOldOrKept T.keeps base.old store.new base.new }
+    ensures stays { (older : Base) → T.keeps store.old older → T.keeps store.new older }
+    ensures unchanged { (result ≡ WorkEnd.Shut → ⊥)
+        → (core.new ≡ core.old) × (base.new ≡ base.old) }
+    ensures idle { IsFalse (is_due merge_at core.old.snapshot)
+        → (core.new ≡ core.old) × (base.new ≡ base.old) × (result ≡ WorkEnd.Shut) }
+    ensures shut { result ≡ WorkEnd.Shut → IsFalse (is_due merge_at core.new.snapshot) }
+    ensures fault { result ≡ WorkEnd.StoreFault → Rose (T.faults store.old) (T.faults store.new) }
+    ensures unfailed { (result ≡ WorkEnd.StoreFault → ⊥)
+        → T.goes store.new × (T.faults store.new ≡ T.faults store.old) }
+    ensures spent { result ≡ WorkEnd.Spent
+        ↔ (IsTrue (is_due merge_at core.old.snapshot) × IsOutOfIds core.old.snapshot) }
+{
+    if !core.due(merge_at) {
+        return WorkEnd::Shut;
+    }
+    let next = match Base::merged(rt, alloc, core.snapshot()) {
+        Ok(next) => next,
+        Err(stop) => return WorkEnd::from(stop),
+    };
+    match adopt(alloc, core, store, base, next) {
+        Ok(()) => WorkEnd::Shut,
+        Err(fault) => WorkEnd::from(fault),
+    }
+}
+
+/// Keeps trees of all that the core has, and adopts them. Before they are kept all memory is taken.
+fn adopt<T: RootStore>(
+    alloc: Global,
+    core: &mut Core,
+    store: &mut T,
+    base: &mut Base,
+    next: Base,
+) -> Result<(), KeepFault>
+    requires next { IsBaseOf next core.old.snapshot.entries (basis core.old.snapshot.entries) }
+    requires going { T.goes store.old }
+    ensures authors { core.new.authors ≡ core.old.authors }
+    ensures entries { core.new.snapshot.entries ≡ core.old.snapshot.entries }
+    ensures base { OnOk result
+        (IsBaseOf base.new core.new.snapshot.entries core.new.snapshot.covered) }
+    ensures kept { OnOk result (T.keeps store.new base.new) }
+    ensures stays { (older : Base) → T.keeps store.old older → T.keeps store.new older }
+    ensures merged { OnOk result (live_datoms core.new.snapshot.live ≡ 0) }
+    ensures unchanged { OnErr result ((core.new ≡ core.old) × (base.new ≡ base.old)) }
+    ensures fault { IsErrOf result KeepFault.Failed → Rose (T.faults store.old) (T.faults store.new) }
+    ensures unfailed { (IsErrOf result KeepFault.Failed → ⊥)
+        → T.goes store.new × (T.faults store.new ≡ T.faults store.old) }
+{
+    a_beginning_stays_one();
+    let roots = next.roots.share()?;
+    let begin = core.snapshot();
+    let rebased = core.rebase(begin, roots)?;
+    store.keep(alloc, &next)?;
+    core.adopt(rebased);
+    *base = next;
+    Ok(())
+}
