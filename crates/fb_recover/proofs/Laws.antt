@@ -1,5 +1,5 @@
 -- The first unlawful entry of a list, where one entry more stands behind it.
-use Rattle.std.proofs.Common.{◌≡◌, ℕ, List, [], ◌∷◌, ◌++◌, length, Option, Some, None, refl, sym, ◌∙◌, ap, subst, append_assoc}
+use Rattle.std.proofs.Common.{◌≡◌, ℕ, List, [], ◌∷◌, ◌++◌, length, Option, Some, None, sym, ◌∙◌, ap, subst, append_assoc}
 use Rattle.std.specs.List.{slice_get}
 use Rattle.std.specs.Option.{option_map_or}
 use Rattle.std.proofs.lemmas.List.{append-nil}
@@ -17,13 +17,6 @@ use Rattle.fb_recover.specs.Judging.{IsJudged, IsFollowed}
 -- the entry's t and the law, where it breaks one behind this history
 abbrev pub unlawful_behind : List Entry → Entry → Option (ℕ × ℕ)
 unlawful_behind h entry = option_map_or (λ (law : ℕ). Some (length h, law)) (least_law h entry) None
-
-pub first_unlawful-none : (h entries : List Entry) → IsLawfulFrom h entries → first_unlawful h entries ≡ None
-first_unlawful-none h [] lawful = refl
-first_unlawful-none h (x ∷ rest) lawful =
-    ap (λ (law : Option ℕ). option_map_or (λ (n : ℕ). Some (length h, n)) law (first_unlawful (h ++ x ∷ []) rest))
-    (least_law-lawful h x lawful.0)
-    ∙ first_unlawful-none (h ++ x ∷ []) rest lawful.1
 
 first_unlawful-push : (h entries : List Entry) (entry : Entry) → IsLawfulFrom h entries
     → first_unlawful h (entries ++ entry ∷ []) ≡ unlawful_behind (h ++ entries) entry
@@ -72,8 +65,12 @@ judged-followed entries entry h (Unlawful t law) is lawful followed =
 pub first-judged : (held entries : List Entry) (entry : Entry) (schema : List Datom) → IsLawful (first_entry ∷ []) → held ≡ first_entry ∷ []
     → entries ≡ first_entry ∷ [] → slice_get entries 0 ≡ Some entry → SchemaStands schema (entry ∷ []) → IsJudged [] (Lawful held schema)
 first-judged held entries entry schema lawful is others at stands =
-    let first : entry ≡ first_entry = cc in
-    (is, subst IsLawful (sym is) lawful, subst (λ (l : List Entry). SchemaStands schema l) (ap (λ (e : Entry). e ∷ []) first ∙ sym is) stands)
+    let first : entry ≡ first_entry = cc in (
+      is,
+      subst IsLawful (sym is) lawful,
+      subst (λ (l : List Entry). SchemaStands schema l)
+          (ap (λ (e : Entry). e ∷ []) first ∙ sym is) stands,
+    )
 
 pub lawful-followed : (h after : List Entry) (entry : Entry) (schema : List Datom) → IsLawful (h ++ entry ∷ []) → after ≡ h ++ entry ∷ []
     → SchemaStands schema (h ++ entry ∷ []) → IsFollowed h entry (Lawful after schema)

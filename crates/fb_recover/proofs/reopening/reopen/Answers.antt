@@ -23,8 +23,8 @@ returns-in-Ok-core_of-clause-count g c =
 pub returns-in-Ok-core_of-clause-any_moment_stands : goal.returns-in-Ok-core_of-clause-any_moment_stands
 returns-in-Ok-core_of-clause-any_moment_stands g c = λ file told.
     let d = g.D.Disk in
-    let run = c.in-Ok.ensures.any_moment_stands file told in
-    subst (λ disk. LeavesOnly d.moment d.images_since c.args.disk disk (λ image. d.images c.args.disk image ⊎ IsLogOf image c.in-Ok-core_of.core.snapshot.entries))
+    let run = c.in-Ok.ensures.any_moment_stands file told in let h = c.in-Ok-core_of.core.snapshot.entries in
+    subst (λ disk. LeavesOnly d.moment d.images_since c.args.disk disk (λ image. d.images c.args.disk image ⊎ IsLogOf image h))
     (sym c.of-log.ensures.disk)
     (weakened d.moment d.images_since c.args.disk _ _ _ run
     (λ image left. ⊎_elim (λ was. inl was)
@@ -32,4 +32,5 @@ returns-in-Ok-core_of-clause-any_moment_stands g c = λ file told.
 
 pub returns-in-Err-core_of-clause-why_not : goal.returns-in-Err-core_of-clause-why_not
 returns-in-Err-core_of-clause-why_not g c =
-    records-cause (g.D.Disk.bytes c.args.disk) c.in-Ok.started.1 c.in-Err-core_of.fault c.in-Err-core_of.ensures.fault c.in-Ok.ensures.stands
+    records-cause (g.D.Disk.bytes c.args.disk) c.in-Ok.started.1 c.in-Err-core_of.fault c.in-Err-core_of.ensures.fault
+    c.in-Ok.ensures.stands

@@ -10,4 +10,5 @@ returns-in-Lawful-clause-lawful c = λ entries was.
     (c.into_entries.ensures ∙ so_far.0, subst IsLawful (sym c.into_entries.ensures) so_far.1)
 
 pub returns-clause-unlawful : goal.returns-clause-unlawful
-returns-clause-unlawful c = λ entries was. unlawful-told entries c.in-Unlawful.t c.in-Unlawful.law (subst (IsJudged entries) c.in-Unlawful.is was)
+returns-clause-unlawful c = λ entries was.
+    unlawful-told entries c.in-Unlawful.t c.in-Unlawful.law (subst (IsJudged entries) c.in-Unlawful.is was)
