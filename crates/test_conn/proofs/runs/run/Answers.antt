@@ -1,0 +1,20 @@
+use Rattle.std.proofs.Common.{List, ℕ, sym, subst}
+use Rattle.fb_values.specs.declared.facts.Entry.{Entry}
+use Rattle.fb_view.specs.Kept.{Kept}
+use Rattle.merge_worker.specs.Work.{IsBaseOf}
+use Rattle.test_conn.proofs.runs.run.Goals as goal
+
+pub loop-turn-init : goal.loop-turn-init
+loop-turn-init g c =
+    let made = c.in_ok-conn.ensures in (made.count.0, λ k seat at. let own = made.seats k seat at in (own.0, own.1))
+
+pub merge_rest-requires-clause-base : goal.merge_rest-requires-clause-base
+merge_rest-requires-clause-base g c κs within =
+    let base = c.in_ok-base.base in let made = c.in_ok-conn.ensures.worker in let core = c.in_ok-core.core in
+    let own : IsBaseOf base core.snapshot.entries core.snapshot.covered =
+    subst (λ (k : Kept). IsBaseOf base k.entries k.covered) c.snapshot.ensures.snapshot c.in_ok-base.ensures in
+    subst (λ (n : ℕ). IsBaseOf base c.in_ok-conn.field-0.worker.last.entries n) (sym made.2)
+    (subst (λ (h : List Entry). IsBaseOf base h core.snapshot.covered) (sym made.4) own)
+
+pub close-requires-clause-seats : goal.close-requires-clause-seats
+close-requires-clause-seats g c = λ k seat at. let own = c.loop-turn.invariant.1 k seat at in (own.0.0, own.1)
