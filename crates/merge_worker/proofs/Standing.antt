@@ -12,7 +12,8 @@ use Rattle.seg_tree.specs.Indexes.{trees_of}
 use Rattle.merge_worker.specs.declared.bases.Base.{Base}
 use Rattle.merge_worker.specs.Work.{IsBaseOf}
 
-pub of_longer : (base : Base) (h now rest : List Entry) (c : ℕ) → IsLawful h → IsLawful now → now ≡ h ++ rest → IsBaseOf base h c → IsBaseOf base now c
+pub of_longer : (base : Base) (h now rest : List Entry) (c : ℕ) → IsLawful h → IsLawful now → now ≡ h ++ rest → IsBaseOf base h c
+    → IsBaseOf base now c
 of_longer base h now rest c first lawful begins of =
     let few = IsLawful-length h first in let all = IsLawful-length now lawful in
     let longer : length now ≡ length h + length rest = ap (λ (l : List Entry). length l) begins ∙ length-append h rest in
@@ -21,6 +22,8 @@ of_longer base h now rest c first lawful begins of =
       of.0,
       record {
         bound = omega (arith, few, all, longer, bound);
-        trees = λ order. subst (λ (l : List Entry). IsRisingListOf order (list_in (trees_of base.roots) order) (IsIndexed l order)) (sym past) (of.1.trees order);
+        trees = λ order.
+            subst (λ (l : List Entry). IsRisingListOf order (list_in (trees_of base.roots) order) (IsIndexed l order)) (sym past)
+            (of.1.trees order);
       },
     )

@@ -74,7 +74,8 @@ fn adopt<T: RootStore>(
     ensures stays { (older : Base) → T.keeps store.old older → T.keeps store.new older }
     ensures merged { OnOk result (live_datoms core.new.snapshot.live ≡ 0) }
     ensures unchanged { OnErr result ((core.new ≡ core.old) × (base.new ≡ base.old)) }
-    ensures fault { IsErrOf result KeepFault.Failed → Rose (T.faults store.old) (T.faults store.new) }
+    ensures fault { IsErrOf result KeepFault.Failed
+        → Rose (T.faults store.old) (T.faults store.new) }
     ensures unfailed { (IsErrOf result KeepFault.Failed → ⊥)
         → T.goes store.new × (T.faults store.new ≡ T.faults store.old) }
 {
