@@ -1,2 +1,7 @@
+pub mod Lists
+pub mod Telling
+pub mod Talking
 pub mod Running
+pub mod Causing
 pub mod Completing
+pub mod Crossing

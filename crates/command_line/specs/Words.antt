@@ -1,0 +1,157 @@
+-- What the words of a command line ask for.
+-- This project's own choice.
+use Rattle.std.specs.Prelude.{ℕ, ◌==◌, Bool, true, false, not, ◌&&◌, ◌||◌, List, [], ◌∷◌, ◌++◌, Option, Some, None, is_some, length, drop, take, if◌then◌else◌, nat_eq, nat_lt, nat_le, bytes_eq, codes}
+use Rattle.std.specs.List.{list_any, starts_with}
+use Rattle.std.specs.Str.{all_ascii_digits}
+use Rattle.std.specs.Str.Parse.{digits_value}
+use Rattle.command_line.specs.declared.commands.Options.{Options}
+use Rattle.command_line.specs.declared.walk.Place.{Place}
+use Rattle.command_line.specs.declared.walk.Place.TheVariants.{Anywhere, AtNumber, BehindOptions}
+
+-- what is to be done
+pub data Command : Type 0 where
+  -- scripts, over the history that a directory keeps
+  run : Options → List ℕ → List (List ℕ) → Command
+
+-- the scripts that it runs, in order
+abbrev pub scripts_of : Option Command → List (List ℕ)
+scripts_of None = []
+scripts_of (Some (run options directory scripts)) = scripts
+
+-- ---- names
+
+-- a dash and more is an option, and no name
+abbrev pub is_name : List ℕ → Bool
+is_name [] = true
+is_name (c ∷ []) = true
+is_name (c ∷ d ∷ rest) = not (c == 45)
+
+-- the name of standard input and of standard output
+abbrev pub standard : List ℕ
+standard = codes "-"
+
+-- where a script's lines go
+abbrev pub sink_of : List ℕ → List ℕ
+sink_of script = if bytes_eq script standard then standard else script ++ codes ".out"
+
+-- the name is the script's with `.out` behind it
+abbrev pub is_out_of : List ℕ → List ℕ → Bool
+is_out_of name script =
+    bytes_eq (take (length script) name) script
+    && bytes_eq (drop (length script) name) (codes ".out")
+
+-- two scripts are the same, or one would be where the other's lines go
+abbrev pub clash : List ℕ → List ℕ → Bool
+clash one other = bytes_eq one other || (is_out_of one other || is_out_of other one)
+
+-- no two of them clash
+abbrev pub are_apart : List (List ℕ) → Bool
+are_apart [] = true
+are_apart (name ∷ names) = not (list_any (clash name) names) && are_apart names
+
+abbrev pub most_scripts : ℕ
+most_scripts = 16
+
+-- they may run together
+abbrev pub are_scripts : List (List ℕ) → Bool
+are_scripts names =
+    nat_lt 0 (length names) && (nat_le (length names) most_scripts && are_apart names)
+
+-- ---- the number of `--merge-at`: how many live datoms make a merge due
+
+-- the number where none is said
+abbrev pub usual_merge_at : ℕ
+usual_merge_at = 65536
+
+abbrev pub greatest_merge_at : ℕ
+greatest_merge_at = 1000000
+
+abbrev pub begins_above_zero : List ℕ → Bool
+begins_above_zero [] = false
+begins_above_zero (c ∷ cs) = nat_le 49 c && nat_le c 57
+
+-- the number that a word of decimal digits writes, without a leading zero
+abbrev pub number_in : List ℕ → Option ℕ
+number_in word =
+    if begins_above_zero word
+    && (all_ascii_digits word && nat_le (digits_value 10 word) greatest_merge_at)
+    then Some (digits_value 10 word)
+    else None
+
+-- the number that is said, or else the usual one
+abbrev pub merge_at_in : Option (List ℕ) → Option ℕ
+merge_at_in None = Some usual_merge_at
+merge_at_in (Some word) = number_in word
+
+-- ---- the walk over the words behind the verb, from left to right
+
+-- what may stand next, the names so far, and the number that was said
+pub record Progress : Type 0 where
+  pub place : Place
+  pub names : List (List ℕ)
+  pub number : Option (List ℕ)
+
+abbrev pub start : Progress
+start = record { place = Anywhere; names = []; number = None }
+
+abbrev pub named : Progress → List ℕ → Progress
+named p word = record p { names = p.names ++ word ∷ [] }
+
+-- the word is the number of `--merge-at`, which stands once at most
+abbrev pub numbered : Progress → List ℕ → Option Progress
+numbered p word =
+    if is_some p.number then None else Some (record p { place = Anywhere; number = Some word })
+
+abbrev pub merge_at_is : List ℕ
+merge_at_is = codes "--merge-at="
+
+-- a step where an option may stand: `--` ends the options, `--merge-at` takes the next word or its own rest, and what else is no
+-- name makes no command
+abbrev pub step_anywhere : Progress → List ℕ → Option Progress
+step_anywhere p word =
+    if bytes_eq word (codes "--") then Some (record p { place = BehindOptions })
+    else (if bytes_eq word (codes "--merge-at") then Some (record p { place = AtNumber })
+    else (if starts_with nat_eq word merge_at_is
+    then numbered p (drop (length merge_at_is) word)
+    else (if is_name word then Some (named p word) else None)))
+
+abbrev pub step_at : Place → Progress → List ℕ → Option Progress
+step_at Anywhere p word = step_anywhere p word
+step_at AtNumber p word = numbered p word
+step_at BehindOptions p word = Some (named p word)
+
+abbrev pub step : Progress → List ℕ → Option Progress
+step p word = step_at p.place p word
+
+-- from there over the words, unless no command has them
+abbrev pub walked : Option Progress → List (List ℕ) → Option Progress
+walked None words = None
+walked (Some p) [] = Some p
+walked (Some p) (word ∷ words) = walked (step p word) words
+
+-- ---- the command
+
+-- Of the names the first is the directory. One that keeps its history on a disk is still no command.
+abbrev pub command_with : List (List ℕ) → Option ℕ → Option Command
+command_with [] merge_at = None
+command_with (directory ∷ scripts) None = None
+command_with (directory ∷ scripts) (Some merge_at) =
+    if bytes_eq directory (codes ":memory:") && are_scripts scripts
+    then Some (run (record { merge_at = merge_at }) directory scripts)
+    else None
+
+abbrev pub command_at : Place → Progress → Option Command
+command_at Anywhere p = command_with p.names (merge_at_in p.number)
+command_at AtNumber p = None
+command_at BehindOptions p = command_with p.names (merge_at_in p.number)
+
+-- the command that a walk over all words has found
+abbrev pub command_from : Option Progress → Option Command
+command_from None = None
+command_from (Some p) = command_at p.place p
+
+-- the command that the words behind the program's name are, or none
+abbrev pub command_of : List (List ℕ) → Option Command
+command_of [] = None
+command_of (verb ∷ words) =
+    if bytes_eq verb (codes "run") then command_from (walked (Some start) words) else None

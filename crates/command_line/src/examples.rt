@@ -1,0 +1,50 @@
+//! Which words are a command, and where its lines go, by computation.
+ghost use Rattle.std.specs.Prelude.{◌≡◌, [], ◌∷◌, Some, None, codes};
+ghost use Rattle.command_line.specs.Words.{run, command_of, sink_of};
+
+/// A name or more behind `run :memory:` is a command.
+pub fn words()
+    ensures standard_input { command_of (codes "run" ∷ codes ":memory:" ∷ codes "-" ∷ [])
+        ≡ Some (run (record { merge_at = 65536 }) (codes ":memory:") (codes "-" ∷ [])) }
+    ensures two_scripts { command_of (codes "run" ∷ codes ":memory:" ∷ codes "a" ∷ codes "b" ∷ [])
+        ≡ Some (run (record { merge_at = 65536 }) (codes ":memory:") (codes "a" ∷ codes "b" ∷ [])) }
+    ensures no_script { command_of (codes "run" ∷ codes ":memory:" ∷ []) ≡ None }
+    ensures directory { command_of (codes "run" ∷ codes "data" ∷ codes "-" ∷ []) ≡ None }
+    ensures verb { command_of (codes "check" ∷ codes ":memory:" ∷ codes "-" ∷ []) ≡ None }
+    ensures no_word { command_of [] ≡ None }
+{}
+
+/// Options stand anywhere in front of `--`, and `--merge-at` once at most.
+pub fn options()
+    ensures next_word { command_of
+        (codes "run" ∷ codes ":memory:" ∷ codes "--merge-at" ∷ codes "8" ∷ codes "a" ∷ [])
+        ≡ Some (run (record { merge_at = 8 }) (codes ":memory:") (codes "a" ∷ [])) }
+    ensures own_rest { command_of
+        (codes "run" ∷ codes ":memory:" ∷ codes "a" ∷ codes "--merge-at=1000000" ∷ [])
+        ≡ Some (run (record { merge_at = 1000000 }) (codes ":memory:") (codes "a" ∷ [])) }
+    ensures behind_options { command_of
+        (codes "run" ∷ codes ":memory:" ∷ codes "--" ∷ codes "-a" ∷ [])
+        ≡ Some (run (record { merge_at = 65536 }) (codes ":memory:") (codes "-a" ∷ [])) }
+    ensures unknown { command_of (codes "run" ∷ codes ":memory:" ∷ codes "-a" ∷ []) ≡ None }
+    ensures twice { command_of (codes "run" ∷ codes "--merge-at=1" ∷ codes "--merge-at=1"
+        ∷ codes ":memory:" ∷ codes "a" ∷ []) ≡ None }
+    ensures leading_zero { command_of
+        (codes "run" ∷ codes "--merge-at=08" ∷ codes ":memory:" ∷ codes "a" ∷ []) ≡ None }
+    ensures too_great { command_of
+        (codes "run" ∷ codes "--merge-at=1000001" ∷ codes ":memory:" ∷ codes "a" ∷ []) ≡ None }
+    ensures no_number { command_of
+        (codes "run" ∷ codes ":memory:" ∷ codes "a" ∷ codes "--merge-at" ∷ []) ≡ None }
+{}
+
+/// No script is where the lines of another one go.
+pub fn scripts()
+    ensures twice { command_of (codes "run" ∷ codes ":memory:" ∷ codes "a" ∷ codes "a" ∷ []) ≡ None }
+    ensures own_lines { command_of
+        (codes "run" ∷ codes ":memory:" ∷ codes "a.out" ∷ codes "a" ∷ []) ≡ None }
+{}
+
+/// The lines of a file go into a file beside it, and those of standard input to standard output.
+pub fn sinks()
+    ensures file { sink_of (codes "a.edn") ≡ codes "a.edn.out" }
+    ensures standard_output { sink_of (codes "-") ≡ codes "-" }
+{}
