@@ -18,6 +18,11 @@ abbrev pub scripts_of : Option Command → List (List ℕ)
 scripts_of None = []
 scripts_of (Some (run options directory scripts)) = scripts
 
+-- how many live datoms make a merge due
+abbrev pub merge_at_of : Option Command → Option ℕ
+merge_at_of None = None
+merge_at_of (Some (run options directory scripts)) = Some options.merge_at
+
 -- ---- names
 
 -- a dash and more is an option, and no name
@@ -70,11 +75,12 @@ abbrev pub begins_above_zero : List ℕ → Bool
 begins_above_zero [] = false
 begins_above_zero (c ∷ cs) = nat_le 49 c && nat_le c 57
 
--- the number that a word of decimal digits writes, without a leading zero
+-- the number from 1 on that a word of decimal digits writes, without a leading zero
 abbrev pub number_in : List ℕ → Option ℕ
 number_in word =
     if begins_above_zero word
-    && (all_ascii_digits word && nat_le (digits_value 10 word) greatest_merge_at)
+    && (all_ascii_digits word
+    && (nat_le 1 (digits_value 10 word) && nat_le (digits_value 10 word) greatest_merge_at))
     then Some (digits_value 10 word)
     else None
 

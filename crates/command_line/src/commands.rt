@@ -1,5 +1,5 @@
 //! What the words of a command line ask for.
-ghost use Rattle.std.specs.Prelude.{◌≡◌, true, map, Some, string_bytes, IfSome, IfOk};
+ghost use Rattle.std.specs.Prelude.{◌≡◌, ◌≤◌, true, map, Some, string_bytes, IfSome, IfOk};
 ghost use Rattle.std.specs.Option.{option_map};
 ghost use Rattle.command_line.specs.Words.{are_scripts, merge_at_in, start, walked, command_with, command_from, command_of};
 ghost use Rattle.command_line.specs.Views.{names_in, progress_of, command_by};
@@ -31,6 +31,7 @@ pub fn command_in<'a>(alloc: Global, words: &'a [String]) -> Result<Option<Run<'
         (λ run. option_map command_by run ≡ command_of (map string_bytes words.now)) }
     ensures scripts { IfOk result (λ run. IfSome run
         (λ run. are_scripts (names_in run.scripts.items) ≡ true)) }
+    ensures merge_at { IfOk result (λ run. IfSome run (λ run. 1 ≤ run.options.merge_at)) }
 {
     match words {
         [] => Ok(None),
@@ -50,6 +51,7 @@ fn run_in<'a>(alloc: Global, words: &'a [String]) -> Result<Option<Run<'a>>, Mem
         ≡ command_from (walked (Some start) (map string_bytes words.now))) }
     ensures scripts { IfOk result (λ run. IfSome run
         (λ run. are_scripts (names_in run.scripts.items) ≡ true)) }
+    ensures merge_at { IfOk result (λ run. IfSome run (λ run. 1 ≤ run.options.merge_at)) }
 {
     match walk_over(alloc, words)? {
         Some(walk) => Ok(run_of(walk)),
@@ -61,6 +63,7 @@ fn run_in<'a>(alloc: Global, words: &'a [String]) -> Result<Option<Run<'a>>, Mem
 fn run_of<'a>(walk: Walk<'a>) -> Option<Run<'a>>
     ensures run { option_map command_by result ≡ command_from (Some (progress_of walk.entry)) }
     ensures scripts { IfSome result (λ run. are_scripts (names_in run.scripts.items) ≡ true) }
+    ensures merge_at { IfSome result (λ run. 1 ≤ run.options.merge_at) }
 {
     match walk.place {
         Place::AtNumber => None,
@@ -73,6 +76,7 @@ fn run_with<'a>(mut names: Vec<&'a str>, number: Option<&'a str>) -> Option<Run<
     ensures run { option_map command_by result ≡ command_with (names_in names.entry.items)
         (merge_at_in (option_map (λ s. s.now) number.entry)) }
     ensures scripts { IfSome result (λ run. are_scripts (names_in run.scripts.items) ≡ true) }
+    ensures merge_at { IfSome result (λ run. 1 ≤ run.options.merge_at) }
 {
     if names.is_empty() {
         return None;

@@ -3,7 +3,7 @@ use Rattle.std.proofs.Common.{◌≡◌, ◌⊎◌, inl, inr, ℕ, Bool, true, f
 use Rattle.std.proofs.lemmas.Option.{IfSome_then}
 use Rattle.std.specs.Borrow.{Bor}
 use Rattle.command_line.specs.Views.{names_in}
-use Rattle.std.specs.Prelude.{◌==◌, ◌-◌, ◌<◌, ◌≤◌, get_or, take, drop, ◌&&◌, nat_lt, nat_le, IfSome, IfOk, OnErr, IsSome, Result, Ok, Err, string_bytes}
+use Rattle.std.specs.Prelude.{◌==◌, ◌-◌, ◌<◌, ◌≤◌, get_or, take, drop, ◌&&◌, nat_lt, nat_le, IfSome, IfOk, OnErr, IsSome, Result, Ok, Err, is_err, string_bytes}
 use Rattle.std.specs.List.{slice_get}
 use Rattle.std.proofs.lemmas.Bool.{ltb-true, leb-true}
 use Rattle.fb_ports.specs.Faults.{Rose}
@@ -53,13 +53,14 @@ early_none : (names : List (List ℕ)) → first_early names [] ≡ None
 early_none [] = refl
 early_none (name ∷ names) = refl
 
--- where no script is left, or no session, nothing is to be said
-pub says_nothing : {X S : Type 0} (name_of : X → List ℕ) (end_of : S → SessionEnd) (scripts : List X) (sessions : List S) (line : List ℕ)
-    → (length scripts < 1) ⊎ (length sessions < 1) → line ≡ [] → SaysWhy (why_of (first_early (map name_of scripts) (map end_of sessions))) 0 line
-says_nothing name_of end_of [] sessions line few none = (refl, none)
-says_nothing name_of end_of (x ∷ xs) [] line few none = (refl, none)
-says_nothing name_of end_of (x ∷ xs) (s ∷ ss) line (inl few) none = absurd (omega (arith, few))
-says_nothing name_of end_of (x ∷ xs) (s ∷ ss) line (inr few) none = absurd (omega (arith, few))
+-- where no script is left, or no session, the merges decide
+pub says_nothing : {X S : Type 0} (name_of : X → List ℕ) (end_of : S → SessionEnd) (scripts : List X) (sessions : List S) (unmerged : Bool)
+    (status : ℕ) (line : List ℕ) → (length scripts < 1) ⊎ (length sessions < 1) → SaysWhy (why_of None unmerged) status line
+    → SaysWhy (why_of (first_early (map name_of scripts) (map end_of sessions)) unmerged) status line
+says_nothing name_of end_of [] sessions unmerged status line few says = says
+says_nothing name_of end_of (x ∷ xs) [] unmerged status line few says = says
+says_nothing name_of end_of (x ∷ xs) (s ∷ ss) unmerged status line (inl few) says = absurd (omega (arith, few))
+says_nothing name_of end_of (x ∷ xs) (s ∷ ss) unmerged status line (inr few) says = absurd (omega (arith, few))
 
 first_not_done : (name : List ℕ) (names : List (List ℕ)) (how : SessionEnd) (ends : List SessionEnd) → (how ≡ ended.Done → ⊥)
     → first_early (name ∷ names) (how ∷ ends) ≡ Some (name, how)
@@ -71,8 +72,8 @@ first_not_done name names ended.ReadFault ends not = refl
 first_not_done name names ended.WriteFault ends not = refl
 first_not_done name names ended.Memory ends not = refl
 
-module _ {S : Type 0} (end_of : S → SessionEnd) (scripts : List (Bor (List ℕ))) (d : Bor (List ℕ)) (sessions : List S) (s : S) (status : ℕ) (line : List ℕ)
-    (some_script : 1 ≤ length scripts) (some : 1 ≤ length sessions) (is : s ≡ get_or sessions 0 s) where
+module _ {S : Type 0} (end_of : S → SessionEnd) (scripts : List (Bor (List ℕ))) (d : Bor (List ℕ)) (sessions : List S) (s : S) (unmerged : Bool) (status : ℕ)
+    (line : List ℕ) (some_script : 1 ≤ length scripts) (some : 1 ≤ length sessions) (is : s ≡ get_or sessions 0 s) where
   abbrev others : List (List ℕ)
   others = names_in (take (length scripts - 1) (drop 1 scripts))
 
@@ -86,16 +87,45 @@ module _ {S : Type 0} (end_of : S → SessionEnd) (scripts : List (Bor (List ℕ
       ∙ ap (λ (z : S). first_early ((get_or scripts 0 d).now ∷ others) (end_of z ∷ ends)) (sym is))
 
   -- the first session was done, so the rest decides
-  pub says_rest : end_of s ≡ ended.Done → SaysWhy (why_of (first_early others ends)) status line
-      → SaysWhy (why_of (first_early (names_in scripts) (map end_of sessions))) status line
+  pub says_rest : end_of s ≡ ended.Done → SaysWhy (why_of (first_early others ends) unmerged) status line
+      → SaysWhy (why_of (first_early (names_in scripts) (map end_of sessions)) unmerged) status line
   says_rest done rest =
-      subst (λ (e : Option (List ℕ × SessionEnd)). SaysWhy (why_of e) status line) (sym (cut ∙ first_done (get_or scripts 0 d).now others (end_of s) ends done)) rest
+      subst (λ (e : Option (List ℕ × SessionEnd)). SaysWhy (why_of e unmerged) status line) (sym (cut ∙ first_done (get_or scripts 0 d).now others (end_of s) ends done)) rest
 
   -- it was not, so it decides
   pub says_first : (end_of s ≡ ended.Done → ⊥) → ((status ≡ status_of_end (end_of s)) × (line ≡ line_of_end (get_or scripts 0 d).now (end_of s))) ⊎ OutOfMemory status line
-      → SaysWhy (why_of (first_early (names_in scripts) (map end_of sessions))) status line
+      → SaysWhy (why_of (first_early (names_in scripts) (map end_of sessions)) unmerged) status line
   says_first not said =
-      subst (λ (e : Option (List ℕ × SessionEnd)). SaysWhy (why_of e) status line) (sym (cut ∙ first_not_done (get_or scripts 0 d).now others (end_of s) ends not)) said
+      subst (λ (e : Option (List ℕ × SessionEnd)). SaysWhy (why_of e unmerged) status line) (sym (cut ∙ first_not_done (get_or scripts 0 d).now others (end_of s) ends not)) said
+
+-- ---- success
+
+-- where memory was refused to a merge, the status is not 0
+not_success : (names : List (List ℕ)) (ends : List SessionEnd) (status : ℕ) (line : List ℕ)
+    → SaysWhy (why_of (first_early names ends) true) status line → status ≡ 0 → ⊥
+not_success [] ends status line (inl says) zero = omega (arith, says.0, zero)
+not_success [] ends status line (inr says) zero = omega (arith, says.0, zero)
+not_success (name ∷ names) [] status line (inl says) zero = omega (arith, says.0, zero)
+not_success (name ∷ names) [] status line (inr says) zero = omega (arith, says.0, zero)
+not_success (name ∷ names) (ended.Done ∷ ends) status line says zero = not_success names ends status line says zero
+not_success (name ∷ names) (ended.Script why ∷ ends) status line (inl says) zero = omega (arith, says.0, zero)
+not_success (name ∷ names) (ended.Script why ∷ ends) status line (inr says) zero = omega (arith, says.0, zero)
+not_success (name ∷ names) (ended.TooLong ∷ ends) status line (inl says) zero = omega (arith, says.0, zero)
+not_success (name ∷ names) (ended.TooLong ∷ ends) status line (inr says) zero = omega (arith, says.0, zero)
+not_success (name ∷ names) (ended.TooMany ∷ ends) status line (inl says) zero = omega (arith, says.0, zero)
+not_success (name ∷ names) (ended.TooMany ∷ ends) status line (inr says) zero = omega (arith, says.0, zero)
+not_success (name ∷ names) (ended.ReadFault ∷ ends) status line (inl says) zero = omega (arith, says.0, zero)
+not_success (name ∷ names) (ended.ReadFault ∷ ends) status line (inr says) zero = omega (arith, says.0, zero)
+not_success (name ∷ names) (ended.WriteFault ∷ ends) status line (inl says) zero = omega (arith, says.0, zero)
+not_success (name ∷ names) (ended.WriteFault ∷ ends) status line (inr says) zero = omega (arith, says.0, zero)
+not_success (name ∷ names) (ended.Memory ∷ ends) status line (inl says) zero = omega (arith, says.0, zero)
+not_success (name ∷ names) (ended.Memory ∷ ends) status line (inr says) zero = omega (arith, says.0, zero)
+
+-- what a merge promises holds where the status is 0
+pub success_is_merged : {E : Type 0} (merged : Result (Unit {0}) E) (names : List (List ℕ)) (ends : List SessionEnd) (status : ℕ) (line : List ℕ)
+    (M : Type 0) → IfOk merged (λ _. M) → SaysWhy (why_of (first_early names ends) (is_err merged)) status line → status ≡ 0 → M
+success_is_merged (Ok u) names ends status line M promised says zero = promised
+success_is_merged (Err e) names ends status line M promised says zero = absurd (not_success names ends status line says zero)
 
 -- ---- names that are those of scripts
 
@@ -157,12 +187,14 @@ module _ {I O : Type 0} (told : Told) (tells : Tells I O) where
 -- ---- causes
 
 module _ {I O D : Type 0} (told : Told) (tells : Tells I O) (new : ℕ) (outcome : Outcome I O D) where
-  cause_why : (command : Option Command) (early : Option (List ℕ × SessionEnd)) → HaveRun told tells new command outcome early → CauseOf told tells new command outcome (why_of early)
-  cause_why command None ran = ran
-  cause_why command (Some p) ran = ran
+  cause_why : (command : Option Command) (early : Option (List ℕ × SessionEnd)) (unmerged : Bool) → HaveRun told tells new command outcome early
+      → CauseOf told tells new command outcome (why_of early unmerged)
+  cause_why command None false ran = ran
+  cause_why command None true ran = inr ran
+  cause_why command (Some p) unmerged ran = ran
 
   pub caused_by_memory : (command : Command) → NoSession outcome → IsOutOfMemory outcome → Causes told tells new (Some command) outcome
-  caused_by_memory command none refused = record { why = memory; says = inr refused; cause = (none, refl) }
+  caused_by_memory command none refused = record { why = memory; says = inr refused; cause = inl (none, refl) }
 
   -- whatever the words are
   pub caused_by_words : (command : Option Command) → new ≡ told.faults → NoSession outcome → IsOutOfMemory outcome → Causes told tells new command outcome
@@ -188,9 +220,9 @@ module _ {I O D : Type 0} (told : Told) (tells : Tells I O) (new : ℕ) (outcome
       let early = first_early (scripts_of (Some command)) (map (λ (s : SessionOut I O). s.end) outcome.sessions.items) in
       let each = counts_told told tells (scripts_of (Some command)) opened outcome.sessions.items has ran.each in
       record {
-        why = why_of early;
-        says = ran.says;
-        cause = cause_why (Some command) early (record {
+        why = why_of early ran.says.0;
+        says = ran.says.1;
+        cause = cause_why (Some command) early ran.says.0 (record {
           is_command = refl;
           host = same;
           each = each;

@@ -35,6 +35,9 @@ use Rattle.fb_conn.specs.contracts.letters.Letter as Letter
 use Rattle.fb_conn.specs.contracts.home.Home as Home
 use Rattle.fb_conn.specs.contracts.conn.Conn as Conn
 use Rattle.conn_desk.specs.contracts.desks.ConnDesk as ConnDesk
+use Rattle.merge_worker.proofs.bases.Base.TheSendSync as base
+use Rattle.merge_worker.proofs.ends.WorkEnd.TheSendSync as ended
+use Rattle.factbase.specs.contracts.merging.Worker as Worker
 use Rattle.factbase.specs.contracts.jobs.Job as Job
 use Rattle.factbase.proofs.outcome.SessionOut.TheSendSync as out
 use denote.Ref.{NamedLft}
@@ -78,9 +81,6 @@ Core-send = search (sendable, Snapshot-send, Authors-send) depth 20
 Draft-send : IsSend Draft.the_row
 Draft-send = search (sendable, heap.crosses, Snapshot-send, Authors-send) depth 60 fits 10000
 
-Letter-send : IsSend (Letter.the_field).row
-Letter-send = search (sendable, Snapshot-send) depth 20
-
 Letter-row : IsSend Letter.the_row
 Letter-row = search (sendable, Snapshot-send) depth 20
 
@@ -104,6 +104,14 @@ Desk-send ℓ L R g log = let conn = Conn-sync L R g log in
 
 NoLog-send : IsSend NoLog.the_row
 NoLog-send = search sendable
+
+-- the connection of a history that is kept in memory alone
+pub unlogged : IsSync (Conn.the_row NoLog.the_row unit ghosts)
+unlogged = Conn-sync NoLog.the_row unit ghosts NoLog-send
+
+-- the worker goes to a thread with its seat and its trees
+pub Worker-send : IsSend Worker.the_row
+Worker-send = declared_send Worker.the_type (Seat-row, (base.the_send, (ended.the_send, tt)))
 
 -- a session is sent with its desk, if its source and sink may be
 pub Job-send : (ℓ : NamedLft) (I O : RattleType) → IsSend I → IsSend O → IsSend (Job.the_row ℓ I O)

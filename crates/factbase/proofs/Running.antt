@@ -15,7 +15,6 @@ use Rattle.fb_view.specs.Kept.{Kept}
 use Rattle.fb_desk.specs.Desks.{State, as_opened}
 use Rattle.fb_conn.specs.declared.conn.Conn.{Conn}
 use Rattle.fb_conn.specs.declared.seats.Seat.{Seat}
-use Rattle.fb_conn.specs.declared.conn.Made.{Made}
 use Rattle.fb_conn.specs.declared.home.Stop.{Stop}
 use Rattle.fb_conn.specs.Homes.{LogStands}
 use Rattle.fb_conn.specs.Seats.{sessions_of, IsSeatOf, IsWorkerOf, state_of}
@@ -145,20 +144,19 @@ module _ {I O : Type 0} (terms : Terms) (tells : Tells I O) (last : Kept) (autho
 
 -- ---- the connection, as it was made and as it was closed
 
-pub is_made : {E L R : Type 0} (r : Result (Made L R) E) (n : ℕ) (entries : List Entry) (at c : ℕ) → entries ≡ first_entry ∷ []
-    → IfOk r (λ m. (length m.seats.items ≡ n) × (sessions_of m.conn ≡ n) × (m.conn.merge_at ≡ at))
-    → IfOk r (λ m. (k : ℕ) (seat : Seat) → slice_get m.seats.items k ≡ Some seat
-    → IsSeatOf m.conn seat × ((view_of seat.board).number ≡ k) × (state_of seat ≡ record (as_opened entries) { seat = (state_of seat).seat }))
-    → IfOk r (λ m. IsWorkerOf m.conn m.worker × ((view_of m.worker.board).given ≡ n) × ((view_of m.worker.board).covered ≡ c)
-    × ((view_of m.worker.board).start ≡ basis entries) × (m.worker.last.entries ≡ entries))
-    → IfOk r (IsMade n)
-is_made (Err e) n entries at c first count seats worker = tt
-is_made (Ok m) n entries at c first count seats worker = record {
-  count = count.0;
-  seats = λ k seat is. let s = seats k seat is in (s.0, s.1, s.2 ∙ ap (λ (h : List Entry). record (as_opened h) { seat = (state_of seat).seat }) first);
-  worker = worker.0;
-  given = worker.1;
-  start = worker.3 ∙ ap basis first;
+pub is_made : {L R : Type 0} (conn : Conn L R) (seats : List Seat) (worker : Seat) (n : ℕ) (entries : List Entry) (c : ℕ) → entries ≡ first_entry ∷ []
+    → length seats ≡ n
+    → ((k : ℕ) (seat : Seat) → slice_get seats k ≡ Some seat
+    → IsSeatOf conn seat × ((view_of seat.board).number ≡ k) × (state_of seat ≡ record (as_opened entries) { seat = (state_of seat).seat }))
+    → IsWorkerOf conn worker × ((view_of worker.board).given ≡ n) × ((view_of worker.board).covered ≡ c)
+    × ((view_of worker.board).start ≡ basis entries) × (worker.last.entries ≡ entries)
+    → IsMade n conn seats worker
+is_made conn seats worker n entries c first count opened is = record {
+  count = count;
+  opened = λ k seat at. let s = opened k seat at in (s.0, s.1, s.2 ∙ ap (λ (h : List Entry). record (as_opened h) { seat = (state_of seat).seat }) first);
+  worker_is = is.0;
+  given = is.1;
+  start = is.3 ∙ ap basis first;
 }
 
 -- a history that is kept in memory alone has no stop
@@ -167,22 +165,39 @@ pub never_stopped : (begun : NoLog) (entries : List Entry) (log : NoLog) (stoppe
 never_stopped begun entries log None torn stands = refl
 never_stopped begun entries log (Some stop) torn stands = absurd (stands.1.3)
 
-pub closes_of : {I O D : Type 0} (seats : List Seat) (outcome : Outcome I O D) (core parts : CoreParts) (start : ℕ) (stopped : Option Stop) → parts ≡ core
+pub never_torn : (begun : NoLog) (entries : List Entry) (log : NoLog) (stopped : Option Stop) (torn : Option Draft)
+    → LogStands (λ _ _ _. Unit {0}) (λ _ _ _ _. ⊥) begun entries log stopped torn → torn ≡ None
+never_torn begun entries log None None stands = refl
+never_torn begun entries log None (Some draft) stands = absurd stands
+never_torn begun entries log (Some stop) torn stands = absurd (stands.1.3)
+
+-- merging changes neither the entries nor their authors
+pub closes_of : {I O D : Type 0} (seats : List Seat) (outcome : Outcome I O D) (core parts : CoreParts) (start : ℕ) (stopped : Option Stop)
+    → parts.snapshot.entries ≡ core.snapshot.entries → parts.authors ≡ core.authors
     → outcome.last ≡ Some parts.snapshot → outcome.authors ≡ Some parts.authors → start ≡ 0 → stopped ≡ None → CoreStands core
     → start + length core.authors ≡ basis core.snapshot.entries → AllByRecursion (λ author. author < length seats) core.authors
     → ((k : ℕ) (seat : Seat) → slice_get seats k ≡ Some seat → IsTakenIn core start stopped k (state_of seat)) → Closes seats outcome
-closes_of seats outcome core parts start stopped same last authors begins never stands each_t by_seats taken = record {
-  last = core.snapshot;
-  authors = core.authors;
-  last_is = last ∙ ap (λ (p : CoreParts). Some p.snapshot) same;
-  authors_is = authors ∙ ap (λ (p : CoreParts). Some p.authors) same;
-  lawful = stands.snapshot.history.lawful;
-  each_t = subst (λ (n : ℕ). n + length core.authors ≡ basis core.snapshot.entries) begins each_t;
-  by_sessions = by_seats;
-  taken = λ k seat is.
-      subst (λ (q : Option Stop). IsTakenIn core 0 q k (state_of seat)) never
-      (subst (λ (n : ℕ). IsTakenIn core n stopped k (state_of seat)) begins (taken k seat is));
-}
+closes_of seats outcome core parts start stopped same by_same last authors begins never stands each_t by_seats taken =
+    let counted : start + length core.authors ≡ basis parts.snapshot.entries = each_t ∙ ap basis (sym same) in
+    record {
+      last = parts.snapshot;
+      authors = parts.authors;
+      last_is = last;
+      authors_is = authors;
+      lawful = subst IsLawful (sym same) stands.snapshot.history.lawful;
+      each_t = subst (λ (n : ℕ). n + length parts.authors ≡ basis parts.snapshot.entries) begins (ap (λ (who : List ℕ). start + length who) by_same ∙ counted);
+      by_sessions = subst (AllByRecursion (λ author. author < length seats)) (sym by_same) by_seats;
+      taken = λ k seat is.
+          let t = taken k seat is in
+          let now : IsTakenIn parts start stopped k (state_of seat) = record {
+            more = t.more;
+            entries = same ∙ t.entries;
+            commits = t.commits ∙ ap (commits_behind start k) (sym by_same);
+            stop = t.stop;
+          } in
+          subst (λ (q : Option Stop). IsTakenIn parts 0 q k (state_of seat)) never
+          (subst (λ (n : ℕ). IsTakenIn parts n stopped k (state_of seat)) begins now);
+    }
 
 -- ---- the outcome
 
@@ -211,7 +226,9 @@ module _ {I O D L R : Type 0} (terms : Terms) (tells : Tells I O) (conn : Conn L
       (rw (start, same) (all_prefixes terms tells closes.last closes.authors closes.lawful conn given opened seats sessions talked count is_new closes.taken))
 
   pub run_ended : (names : List (List ℕ))
-      → SaysWhy (why_of (first_early names (map (λ (s : SessionOut I O). s.end) sessions))) outcome.status (string_bytes outcome.line) → HaveEnded tells names opened outcome
+      → (unmerged : Bool)
+      × SaysWhy (why_of (first_early names (map (λ (s : SessionOut I O). s.end) sessions)) unmerged) outcome.status (string_bytes outcome.line)
+      → HaveEnded tells names opened outcome
   run_ended names says = record {
     each = rw same (all_counts terms tells closes.last closes.authors closes.lawful conn given opened seats sessions talked count is_new closes.taken);
     says = rw same says;

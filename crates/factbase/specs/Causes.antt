@@ -81,7 +81,8 @@ CauseOf told tells new command outcome usage =
 CauseOf told tells new command outcome (unopened name) = CannotOpen told new command outcome name
 CauseOf told tells new command outcome (ended_early name how) =
     HaveRun told tells new command outcome (Some (name, how))
-CauseOf told tells new command outcome memory = NoSession outcome × IsSome command
+CauseOf told tells new command outcome memory =
+    (NoSession outcome × IsSome command) ⊎ HaveRun told tells new command outcome None
 
 -- There is a reason why the run ended as it did. It is told by the status and the line, and has its cause.
 pub record Causes {I O D : Type 0} (told : Told) (tells : Tells I O) (new : ℕ)

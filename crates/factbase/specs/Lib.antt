@@ -2,6 +2,7 @@ pub mod StatusLines
 pub mod Outside
 pub mod Opening
 pub mod Jobs
+pub mod Merging
 pub mod Headline
 pub mod Causes
 pub mod Complete

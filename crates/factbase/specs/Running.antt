@@ -1,6 +1,6 @@
 -- How a run comes about: what its sessions are given, and what the closed database and the sessions leave.
 -- This project's own choice.
-use Rattle.std.specs.Prelude.{◌≡◌, ℕ, ◌+◌, ◌<◌, ◌==◌, List, [], ◌∷◌, map, length, Option, Some, None, IsSome, slice_get, string_bytes}
+use Rattle.std.specs.Prelude.{◌≡◌, ℕ, ◌+◌, ◌<◌, ◌==◌, Bool, List, [], ◌∷◌, map, length, Option, Some, None, IsSome, slice_get, string_bytes}
 use Rattle.std.specs.List.{AllByRecursion}
 use Rattle.fb_values.specs.declared.facts.Entry.{Entry}
 use Rattle.fb_model.specs.FirstEntry.{first_entry}
@@ -9,7 +9,7 @@ use Rattle.fb_model.specs.Lawful.{IsLawful}
 use Rattle.fb_view.specs.Kept.{Kept}
 use Rattle.fb_desk.specs.Desks.{as_opened}
 use Rattle.board_rule.specs.Calls.{view_of}
-use Rattle.fb_conn.specs.declared.conn.Made.{Made}
+use Rattle.fb_conn.specs.declared.conn.Conn.{Conn}
 use Rattle.fb_conn.specs.declared.seats.Seat.{Seat}
 use Rattle.fb_conn.specs.Seats.{IsSeatOf, IsWorkerOf, state_of}
 use Rattle.fb_conn.specs.Closing.{IsTakenIn}
@@ -22,14 +22,15 @@ use Rattle.factbase.specs.Outside.{Tells, run_from, setting_of, EachOf}
 use Rattle.factbase.specs.Causes.{SaysWhy}
 
 -- a connection of so many sessions to a new history, and the worker's seat
-pub record IsMade {L R : Type 0} (sessions : ℕ) (made : Made L R) : Type 0 where
-  pub count : length made.seats.items ≡ sessions
-  pub seats : (k : ℕ) (seat : Seat) → slice_get made.seats.items k ≡ Some seat
-      → IsSeatOf made.conn seat × ((view_of seat.board).number ≡ k)
+pub record IsMade {L R : Type 0} (sessions : ℕ) (conn : Conn L R) (seats : List Seat) (worker : Seat)
+    : Type 0 where
+  pub count : length seats ≡ sessions
+  pub opened : (k : ℕ) (seat : Seat) → slice_get seats k ≡ Some seat
+      → IsSeatOf conn seat × ((view_of seat.board).number ≡ k)
       × (state_of seat ≡ record (as_opened (first_entry ∷ [])) { seat = (state_of seat).seat })
-  pub worker : IsWorkerOf made.conn made.worker
-  pub given : (view_of made.worker.board).given ≡ sessions
-  pub start : (view_of made.worker.board).start ≡ 0
+  pub worker_is : IsWorkerOf conn worker
+  pub given : (view_of worker.board).given ≡ sessions
+  pub start : (view_of worker.board).start ≡ 0
 
 -- The closed database has one lawful history, whose entries behind the first are the sessions', and has taken in what each of their
 -- seats knew.
@@ -62,8 +63,9 @@ pub record HaveEnded {I O D : Type 0} (tells : Tells I O) (names : List (List �
     (opened : List (SessionOut I O)) (outcome : Outcome I O D) : Type 0 where
   pub each : EachOf (λ n (old new : SessionOut I O). CountsBy tells old new) 0 opened
       outcome.sessions.items
-  pub says : SaysWhy
-      (why_of (first_early names (map (λ (s : SessionOut I O). s.end) outcome.sessions.items)))
+  pub says : (unmerged : Bool) × SaysWhy
+      (why_of (first_early names (map (λ (s : SessionOut I O). s.end) outcome.sessions.items))
+      unmerged)
       outcome.status (string_bytes outcome.line)
   pub last : IsSome outcome.last
   pub authors : IsSome outcome.authors

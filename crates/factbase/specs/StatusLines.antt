@@ -1,6 +1,6 @@
 -- Why the program ends, with which status, and what it says of that on standard error.
 -- This project's own choice.
-use Rattle.std.specs.Prelude.{ℕ, List, [], ◌∷◌, ◌++◌, Option, Some, None, codes, decimal}
+use Rattle.std.specs.Prelude.{ℕ, Bool, true, false, List, [], ◌∷◌, ◌++◌, Option, Some, None, codes, decimal}
 use Rattle.edn_model.specs.Faults.{Fault, bad, unsupported, deep, cut}
 use Rattle.edn_core.specs.Answers.{fault_of}
 use Rattle.fb_session.specs.declared.outcome.SessionEnd.{SessionEnd}
@@ -87,7 +87,8 @@ first_early (name ∷ names) [] = None
 first_early (name ∷ names) (Done ∷ ends) = first_early names ends
 first_early (name ∷ names) (how ∷ ends) = Some (name, how)
 
--- what decides where sessions ran
-abbrev pub why_of : Option (List ℕ × SessionEnd) → Why
-why_of None = answered
-why_of (Some p) = ended_early p.0 p.1
+-- what decides where sessions ran, of which one may have ended early; else whether memory was refused to a merge
+abbrev pub why_of : Option (List ℕ × SessionEnd) → Bool → Why
+why_of None false = answered
+why_of None true = memory
+why_of (Some p) unmerged = ended_early p.0 p.1

@@ -1,14 +1,18 @@
-//! The sessions of a run: each has a desk of its own, and a thread where one can be made.
+//! The sessions of a run: each has a desk of its own, and a thread where one can be made. The worker runs beside them.
 ghost use denote.Param.Send.{IsSync};
 ghost use Rattle.std.specs.Prelude.{◌≡◌, ℕ, ◌+◌, ◌≤◌, ◌<◌, [], ◌∷◌, map, length, Some, IfOk, slice_get, slice_index_or, vec_len, vec_capacity};
 ghost use Rattle.std.specs.List.{All};
 ghost use Rattle.std.specs.Vec.Iter.{into_iter_items, into_iter_len};
 ghost use Rattle.fb_conn.specs.declared.seats.Seat.{Seat};
+ghost use Rattle.board_rule.specs.Calls.{view_of};
 ghost use Rattle.fb_conn.specs.Seats.{IsSeatOf, state_of};
+ghost use Rattle.merge_worker.specs.Work.{IsSameWorker};
 ghost use Rattle.fb_session.specs.Sessions.{terms_of};
 ghost use Rattle.factbase.specs.Outside.{tells_of};
 ghost use Rattle.factbase.specs.Jobs.{HasTalked, HaveTalked};
+ghost use Rattle.factbase.specs.Merging.{CanWork, HasNoFault};
 
+use crate::merging::{Worker, beside};
 use crate::outcome::SessionOut;
 use conn_desk::ConnDesk;
 use fb_conn::{Conn, Seat};
@@ -19,9 +23,9 @@ use fb_ports::{Clock, Sink, Source};
 use fb_preds::FilterTable;
 use fb_session::serve_desk;
 use fb_view::Snapshot;
+use merge_worker::Gate;
 use std::alloc::Global;
 use std::sync::Wait;
-use std::thread;
 use std::thread::Threads;
 use std::vec::IntoIter;
 
@@ -39,7 +43,8 @@ pub(crate) struct Ended<I, O> {
     pub(crate) seats: Vec<Seat>,
 }
 
-/// Runs the sessions that were opened, each at its seat. All memory that is wanted besides theirs is taken before any of them runs.
+/// Runs the sessions that were opened, each at its seat, and the worker beside them. All memory that is wanted besides theirs is
+/// taken before any of them runs.
 pub(crate) fn serve_all<
     R: Threads + Wait + Sync,
     I: Source + Send,
@@ -47,28 +52,46 @@ pub(crate) fn serve_all<
     K: Clock + Sync,
     G: Guard<Snapshot> + Sync,
     P: FilterTable + Sync,
+    W: Gate + Sync,
 >(
     rt: &R,
     alloc: Global,
     conn: &Conn<NoLog>,
+    worker: &mut Worker,
     seats: Vec<Seat>,
     opened: Vec<SessionOut<I, O>>,
     clock: &K,
     guard: &G,
     preds: &P,
+    gate: &W,
 ) -> Result<Ended<I, O>, Memory>
     requires seats { (k : ℕ) (seat : Seat) → slice_get seats.items k ≡ Some seat
         → IsSeatOf conn.now seat × (1_000_000 ≤ (state_of seat).left) }
     requires opened { length opened.items ≡ length seats.items }
-    ensures { IfOk result (λ ended. HaveTalked
+    requires worker { CanWork conn.now worker.old }
+    ensures talked { IfOk result (λ ended. HaveTalked
         (terms_of (K.may_answer clock.now) (G.bars guard.now) (P.place_of preds.now)
         (P.selects_at preds.now))
         (tells_of I.left I.faults O.contents O.faults) conn.now seats.items opened.items
         ended.seats.items ended.sessions.items) }
+    ensures worker { IfOk result (λ _. CanWork conn.now worker.new) }
+    ensures same { IfOk result (λ _.
+        IsSameWorker (view_of worker.old.seat.board) (view_of worker.new.seat.board)) }
+    ensures no_fault { IfOk result (λ _. HasNoFault worker.new.end) }
 {
     let room = room_for(alloc, seats.len())?;
     let mut jobs = jobs_of(alloc, conn, seats, opened)?;
-    serve_each(rt, alloc, jobs.as_mut_slice(), clock, guard, preds);
+    serve_each(
+        rt,
+        alloc,
+        conn,
+        worker,
+        jobs.as_mut_slice(),
+        clock,
+        guard,
+        preds,
+        gate,
+    );
     Ok(take_apart(jobs, room))
 }
 
@@ -130,7 +153,7 @@ fn job_of<'a, I: Drop, O: Drop>(
     }
 }
 
-/// Runs each of the sessions.
+/// Runs each of the sessions, and the worker beside them.
 fn serve_each<
     'a,
     R: Threads + Wait + Sync,
@@ -139,30 +162,40 @@ fn serve_each<
     K: Clock + Sync,
     G: Guard<Snapshot> + Sync,
     P: FilterTable + Sync,
->(rt: &R, alloc: Global, jobs: &mut [Job<'a, I, O>], clock: &K, guard: &G, preds: &P)
+    W: Gate + Sync,
+>(
+    rt: &R,
+    alloc: Global,
+    conn: &Conn<NoLog>,
+    worker: &mut Worker,
+    jobs: &mut [Job<'a, I, O>],
+    clock: &K,
+    guard: &G,
+    preds: &P,
+    gate: &W,
+)
     requires left { All (λ job. 1_000_000 ≤ (state_of job.desk.seat).left) jobs.old }
-    ensures { (k : ℕ) (d : _) → k < length jobs.old → HasTalked
+    requires worker { CanWork conn.now worker.old }
+    ensures talked { (k : ℕ) (d : _) → k < length jobs.old → HasTalked
         (terms_of (K.may_answer clock.now) (G.bars guard.now) (P.place_of preds.now)
         (P.selects_at preds.now))
         (tells_of I.left I.faults O.contents O.faults)
         (state_of (slice_index_or jobs.old k d).desk.seat)
         (state_of (slice_index_or jobs.new k d).desk.seat) (slice_index_or jobs.old k d).out
         (slice_index_or jobs.new k d).out }
+    ensures worker { CanWork conn.now worker.new }
+    ensures same { IsSameWorker (view_of worker.old.seat.board) (view_of worker.new.seat.board) }
+    ensures no_fault { HasNoFault worker.new.end }
 {
-    let threads = jobs.len().max(1);
-    thread::for_each_mut(
-        rt,
-        jobs,
-        threads,
-        &|_, job: &mut Job<I, O>|
-            requires { IsSync R.row × (1_000_000 ≤ (state_of job.old.desk.seat).left) }
-            ensures { HasTalked
-                (terms_of (K.may_answer clock.entry.now) (G.bars guard.entry.now)
-                (P.place_of preds.entry.now) (P.selects_at preds.entry.now))
-                (tells_of I.left I.faults O.contents O.faults) (state_of job.old.desk.seat)
-                (state_of job.new.desk.seat) job.old.out job.new.out }
-        { job.serve(rt, alloc, clock, guard, preds) },
-    );
+    let serve = |_, job: &mut Job<I, O>|
+        requires { IsSync R.row × (1_000_000 ≤ (state_of job.old.desk.seat).left) }
+        ensures { HasTalked
+            (terms_of (K.may_answer clock.entry.now) (G.bars guard.entry.now)
+            (P.place_of preds.entry.now) (P.selects_at preds.entry.now))
+            (tells_of I.left I.faults O.contents O.faults) (state_of job.old.desk.seat)
+            (state_of job.new.desk.seat) job.old.out job.new.out }
+    { job.serve(rt, alloc, clock, guard, preds) };
+    beside(rt, alloc, conn, gate, worker, &serve, jobs);
 }
 
 impl<I: Source, O: Sink> Job<'_, I, O> {

@@ -3,6 +3,7 @@
 
 mod jobs;
 mod lines;
+mod merging;
 mod opening;
 mod outcome;
 mod run;
@@ -10,6 +11,7 @@ mod run;
 use fb_core::NoGuard;
 use fb_ports::Memory;
 use fb_preds::shipped;
+use merge_worker::OpenGate;
 use real_ports::{RealHost, SystemClock};
 use std::env;
 use std::io::ErrorKind;
@@ -24,7 +26,16 @@ fn main(rt: HostRuntime) -> ExitCode {
     };
     let mut host = RealHost::new(rt);
     let clock = SystemClock::new(rt);
-    let outcome = run::run(&rt, rt.alloc(), &words, &mut host, &clock, &preds, &NoGuard);
+    let outcome = run::run(
+        &rt,
+        rt.alloc(),
+        &words,
+        &mut host,
+        &clock,
+        &preds,
+        &NoGuard,
+        &OpenGate,
+    );
     if !outcome.line.is_empty() {
         // Where standard error takes nothing, the status says it alone.
         let _ = rt.eprintln(outcome.line.as_str());

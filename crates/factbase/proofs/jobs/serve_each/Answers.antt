@@ -5,10 +5,10 @@ use denote.Signature.{named_lft}
 use Rattle.factbase.proofs.Crossing.{Job-send}
 use Rattle.factbase.proofs.jobs.serve_each.Goals as goal
 
-pub for_each_mut-requires-send-T : goal.for_each_mut-requires-send-T
-for_each_mut-requires-send-T g c κs within =
-    let job = Job-send (named_lft 12 6 tt κs) (param 1 g.row.I) (param 2 g.row.O) c.type_bounds.send-I c.type_bounds.send-O in
+pub beside-requires-send-J : goal.beside-requires-send-J
+beside-requires-send-J g c κs =
+    let job = Job-send (named_lft 16 8 tt κs) (param 1 g.row.I) (param 2 g.row.O) c.type_bounds.send-I c.type_bounds.send-O in
     param_send 1 _ (arg_send _ no _ job)
 
-pub returns : goal.returns
-returns g c = λ k d within. let r = (c.for_each_mut.ensures k d within).1 in rw (← r.argument_is, ← r.left) r.call
+pub returns-clause-talked : goal.returns-clause-talked
+returns-clause-talked g c = λ k d within. let r = (c.beside.ensures.jobs k d within).1 in rw (← r.argument_is, ← r.left) r.call

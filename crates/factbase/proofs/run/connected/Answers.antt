@@ -1,9 +1,16 @@
-use Rattle.std.proofs.Common.{◌∙◌, ap}
+use Rattle.std.proofs.Common.{◌∙◌, ap, sym, subst}
 use Rattle.fb_core.specs.declared.shared.CoreParts.{CoreParts}
+use Rattle.merge_worker.specs.Work.{IsBaseOf}
 use Rattle.factbase.proofs.Running.{is_made}
 use Rattle.factbase.proofs.run.connected.Goals as goal
 
-pub returns : goal.returns
-returns c =
-    is_made c.new.result c.args.sessions _ _ _ (ap (λ (p : CoreParts). p.snapshot.entries) c.in_ok-core.ensures ∙ c.in_ok-snapshot.ensures.entries)
-    c.new.ensures.count c.new.ensures.seats c.new.ensures.worker
+pub returns-clause-made : goal.returns-clause-made
+returns-clause-made c =
+    let e = c.in_ok-conn.ensures in
+    is_made _ _ _ _ _ _ (ap (λ (p : CoreParts). p.snapshot.entries) c.in_ok-core.ensures ∙ c.in_ok-snapshot.ensures.entries) e.count.0 e.seats e.worker
+
+pub returns-clause-worker : goal.returns-clause-worker
+returns-clause-worker c =
+    let w = c.in_ok-conn.ensures.worker in let base = c.in_ok-base.base in
+    let of_core = subst (λ s. IsBaseOf base s.entries s.covered) c.snapshot.ensures.snapshot c.in_ok-base.ensures in
+    (w.0, subst (λ h. IsBaseOf base h _) (sym w.4) (subst (λ n. IsBaseOf base _ n) (sym w.2) of_core))

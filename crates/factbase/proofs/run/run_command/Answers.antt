@@ -13,12 +13,12 @@ use Rattle.factbase.proofs.run.run_command.Goals as goal
 
 pub open_all-requires-clause-apart : goal.open_all-requires-clause-apart
 open_all-requires-clause-apart g c κs within =
-    (few_scripts (names_in c.as_slice.result.now) (subst (λ l. are_scripts (names_in l) ≡ true) (sym c.as_slice.ensures.value) c.requires)).2
+    (few_scripts (names_in c.as_slice.result.now) (subst (λ l. are_scripts (names_in l) ≡ true) (sym c.as_slice.ensures.value) c.requires.scripts)).2
 
 pub run_opened-requires-clause-few : goal.run_opened-requires-clause-few
 run_opened-requires-clause-few g c κs within =
     let tells = tells_of g.H.In.Source.left g.H.In.Source.faults g.H.Out.Sink.contents g.H.Out.Sink.faults in
-    let few = few_scripts (names_in c.args.command.now.scripts.items) c.requires in
+    let few = few_scripts (names_in c.args.command.now.scripts.items) c.requires.scripts in
     let count = each_len (λ n name s. IsOpenedFor (g.H.Host.told c.args.host.now) tells name s) 0 (names_in c.as_slice.result.now) c.in-Ok.opened.items c.in-Ok.ensures.opened.each in
     let same : length (names_in c.as_slice.result.now) ≡ length (names_in c.args.command.now.scripts.items) = ap (λ l. length (names_in l)) c.as_slice.ensures.value in
     (omega (arith, few.0, count, same), omega (arith, few.1, count, same))
