@@ -1,5 +1,5 @@
 -- Trees that are ahead, over a longer history and a store that has more.
-use Rattle.std.proofs.Common.{◌≡◌, ◌∙◌, ℕ, List, Option, None, Some, inl, inr, sym, subst}
+use Rattle.std.proofs.Common.{◌∙◌, ℕ, List, Option, None, Some, inl, inr, sym, subst}
 use Rattle.std.specs.Prelude.{IfSome}
 use Rattle.fb_values.specs.declared.facts.Entry.{Entry}
 use Rattle.merge_worker.specs.declared.bases.Base.{Base}

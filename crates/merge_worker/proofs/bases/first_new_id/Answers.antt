@@ -1,4 +1,4 @@
-use Rattle.std.proofs.Common.{◌≤◌, ℕ, arith, subst, sym}
+use Rattle.std.proofs.Common.{◌≤◌, arith}
 use Rattle.merge_worker.proofs.bases.first_new_id.Goals as goal
 
 pub returns-clause-fit : goal.returns-clause-fit
