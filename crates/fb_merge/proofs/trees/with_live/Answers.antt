@@ -30,4 +30,5 @@ returns-clause-stand g c =
     (sym c.live.ensures.live) own in
     let can = subst (λ (n : ℕ). CanMerge k.entries k.covered n coverage (trees_of base) c.live.result.now)
     (sym c.basis.ensures.basis) with_live in
-    subst (RootStands (trees_of c.in_ok-merged.merged) k.entries) c.basis.ensures.basis (c.in_ok-merged.ensures.stand k.entries k.covered can)
+    subst (RootStands (trees_of c.in_ok-merged.merged) k.entries) c.basis.ensures.basis
+    (c.in_ok-merged.ensures.stand k.entries k.covered can)
