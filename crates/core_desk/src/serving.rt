@@ -116,7 +116,8 @@ impl Desk for CoreDesk {
     fn ring<R: Threads + Wait + Sync>(&mut self, rt: &R) -> Result<(), Memory> {
         a_beginning_stays_one();
         let begin = self.core.snapshot();
-        let roots = match merged(rt, self.alloc, begin) {
+        let first_id = begin.roots().next_id();
+        let roots = match merged(rt, self.alloc, begin, first_id) {
             Ok(roots) => roots,
             Err(MergeStop::Spent) => return Ok(()),
             Err(MergeStop::Memory) => return Err(Memory),

@@ -1,15 +1,17 @@
--- What a value keeps may be merged.
+-- A value's live lists may be merged into trees that they go with.
 use Rattle.std.proofs.Common.{◌∙◌, ap, sym, subst, arith, List}
 use Rattle.fb_values.specs.declared.facts.Entry.{Entry}
 use Rattle.fb_values.specs.declared.indexes.Order.{Order}
 use Rattle.fb_covers.specs.Coverage.{Coverage}
-use Rattle.fb_model.specs.History.{basis, upto}
+use Rattle.fb_model.specs.History.{basis}
 use Rattle.fb_model.specs.Facts.{facts}
 use Rattle.fb_model.specs.Schema.{covers}
 use Rattle.fb_model.proofs.Times.{upto-basis}
 use Rattle.fb_schema.specs.Tables.{HasCoverage}
-use Rattle.fb_values.specs.Lists.{list_in}
+use Rattle.fb_values.specs.Lists.{Lists, list_in}
+use Rattle.view_model.specs.Stands.{RootStands}
 use Rattle.seg_tree.specs.Indexes.{tree_in, trees_of}
+use Rattle.seg_tree.specs.declared.roots.Roots.{Roots}
 use Rattle.seg_tree.specs.Nodes.{tree_datoms}
 use Rattle.seg_merge.specs.Merged.{IsMergeable}
 use Rattle.seg_merge.specs.Standing.{CanMerge}
@@ -17,12 +19,13 @@ use Rattle.fb_view.specs.Kept.{Kept, Stands}
 use Rattle.fb_view.proofs.Standing.{coverage_of}
 use Rattle.seg_tree.proofs.Indexes.{list_in-trees_of}
 
-pub can_merge : (k : Kept) (coverage : Coverage) → Stands k → HasCoverage coverage k.schema → CanMerge k.entries k.covered (basis k.entries) coverage (trees_of k.roots) k.live
-can_merge k coverage stands has = record {
+pub can_merge : (k : Kept) (roots : Lists) (coverage : Coverage) → Stands k → RootStands roots k.entries k.covered
+    → HasCoverage coverage k.schema → CanMerge k.entries k.covered (basis k.entries) coverage roots k.live
+can_merge k roots coverage stands trees has = record {
   lawful = stands.history.lawful;
-  roots_stand = stands.history.roots_stand;
+  roots_stand = trees;
   live_stands = stands.history.live_stands;
-  later = stands.history.roots_stand.bound;
+  later = trees.bound;
   bound = omega arith;
   coverage_is = λ order a.
       coverage_of k.schema k.entries coverage stands.schema_is has order a
@@ -30,5 +33,6 @@ can_merge k coverage stands has = record {
   still_covered = λ order d there early. ap (λ (h : List Entry). covers (facts h) order d.a) (upto-basis k.entries stands.history.lawful);
 }
 
-pub mergeable : (k : Kept) (order : Order) → IsMergeable order (list_in (trees_of k.roots) order) (list_in k.live order) → IsMergeable order (tree_datoms (tree_in k.roots order)) (list_in k.live order)
-mergeable k order is = subst (λ ds. IsMergeable order ds (list_in k.live order)) (list_in-trees_of k.roots order) is
+pub mergeable : (roots : Roots) (live : Lists) (order : Order) → IsMergeable order (list_in (trees_of roots) order) (list_in live order)
+    → IsMergeable order (tree_datoms (tree_in roots order)) (list_in live order)
+mergeable roots live order is = subst (λ ds. IsMergeable order ds (list_in live order)) (list_in-trees_of roots order) is

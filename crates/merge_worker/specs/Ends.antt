@@ -22,3 +22,10 @@ HasCause failed spent Shut = ⊥
 HasCause failed spent StoreFault = failed
 HasCause failed spent Spent = spent
 HasCause failed spent Memory = Unit {0}
+
+-- nothing failed
+abbrev pub IsUnfailed : WorkEnd → Type 0
+IsUnfailed Shut = Unit {0}
+IsUnfailed StoreFault = ⊥
+IsUnfailed Spent = Unit {0}
+IsUnfailed Memory = ⊥

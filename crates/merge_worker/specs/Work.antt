@@ -1,12 +1,14 @@
--- The trees that the worker has made last, and when it has to merge, or cannot.
+-- The trees that the worker makes and starts from, and when it has to merge, or cannot.
 -- This project's own choice.
-use Rattle.std.specs.Prelude.{◌≡◌, ◌⊎◌, ◌<◌, ◌+◌, ◌^◌, ℕ, Bool, List, nat_le}
+use Rattle.std.specs.Prelude.{◌≡◌, ◌⊎◌, ◌<◌, ◌≤◌, ◌+◌, ◌^◌, ℕ, Bool, List, Option, None, Some, IfSome, IsTrue, max, nat_le}
 use Rattle.fb_values.specs.declared.facts.Entry.{Entry}
 use Rattle.view_model.specs.Stands.{RootStands}
-use Rattle.seg_tree.specs.Ids.{next_above}
+use Rattle.seg_tree.specs.Ids.{next_above, IsInRow}
 use Rattle.seg_tree.specs.Indexes.{root_ids, trees_of}
+use Rattle.seg_tree.specs.declared.roots.Roots.{Roots}
 use Rattle.fb_view.specs.Kept.{Kept}
 use Rattle.fb_core.specs.Cores.{live_datoms}
+use Rattle.fb_merge.specs.Made.{SharesLeaves}
 use Rattle.board_rule.specs.declared.view.Code.{Code}
 use Rattle.board_rule.specs.declared.view.View.{View}
 use Rattle.merge_worker.specs.declared.bases.Base.{Base}
@@ -19,17 +21,51 @@ IsBaseOf base h covered = (base.c ≡ covered) × RootStands (trees_of base.root
 abbrev pub IsOldOrKept : {S : Type 0} → (S → Base → Type 0) → Base → S → Base → Type 0
 IsOldOrKept keeps old store new = (new ≡ old) ⊎ keeps store new
 
+-- ---- trees that are not adopted
+
+-- if there are any, they are of the history's entries up to their c
+abbrev pub AreAhead : Option Base → List Entry → Type 0
+AreAhead ahead h = IfSome ahead (λ trees. IsBaseOf trees h trees.c)
+
+-- they are those from before, or the store has them
+abbrev pub AreOldOrKept : {S : Type 0} → (S → Base → Type 0) → Option Base → S → Option Base
+    → Type 0
+AreOldOrKept keeps old store new = (new ≡ old) ⊎ IfSome new (keeps store)
+
+-- the trees from which the next merge starts: those that are not adopted, if there are any
+abbrev pub start_of : Base → Option Base → Base
+start_of base None = base
+start_of base (Some ahead) = ahead
+
+-- ---- merges
+
+-- the trees were made of older ones: their new nodes have the numbers from the first one on, none
+-- left out, which are above the ids of the older ones, and their other leaves are older leaves
+pub record AreMadeOf (first : ℕ) (old new : Roots) : Type 0 where
+  pub above : next_above (root_ids old) ≤ first
+  pub ids : IsInRow first (root_ids new)
+  pub older : SharesLeaves first old new
+
+-- the number of the first new node: neither the store nor the older trees have it, or a greater one
+abbrev pub first_id : ℕ → Base → ℕ
+first_id next start = max next (next_above (root_ids start.roots))
+
 -- so many of its datoms are live that they are to be merged
 abbrev pub is_due : ℕ → Kept → Bool
 is_due merge_at snapshot = nat_le merge_at (live_datoms snapshot.live)
 
--- the first new node of its merge would have too great a number
-abbrev pub IsOutOfIds : Kept → Type 0
-IsOutOfIds snapshot = 2 ^ 61 < next_above (root_ids snapshot.roots)
+-- the first new node of a merge would have too great a number
+abbrev pub IsOutOfIds : ℕ → Base → Type 0
+IsOutOfIds next start = 2 ^ 61 < first_id next start
 
 -- a round takes two turns of the 4,294,967,296 that a seat has
 abbrev pub IsOutOfTurns : View Code → Type 0
 IsOutOfTurns v = 4294967296 < v.draws + 2
+
+-- there are no turns for a round, or no numbers for the merge that is due
+abbrev pub IsSpent : ℕ → View Code → Kept → ℕ → Base → Type 0
+IsSpent merge_at v last next start =
+    IsOutOfTurns v ⊎ (IsTrue (is_due merge_at last) × IsOutOfIds next start)
 
 -- the seat was opened with the same board, and has the same sessions beside it
 abbrev pub IsSameWorker : View Code → View Code → Type 0

@@ -3,55 +3,68 @@ ghost use Rattle.std.specs.Prelude.{◌≡◌, ◌↔◌, ◌<◌, OnOk, OnErr, 
 ghost use Rattle.fb_calls.specs.Faults.{Rose};
 ghost use Rattle.fb_model.specs.History.{basis};
 ghost use Rattle.fb_core.specs.Cores.{live_datoms};
+ghost use Rattle.seg_tree.specs.declared.roots.Roots.{Roots};
 ghost use Rattle.merge_worker.specs.declared.bases.Base.{Base};
 ghost use Rattle.merge_worker.specs.declared.ends.WorkEnd.{WorkEnd};
 ghost use Rattle.merge_worker.specs.declared.stores.KeepFault.{KeepFault};
-ghost use Rattle.merge_worker.specs.Work.{IsBaseOf, IsOldOrKept, is_due, IsOutOfIds};
+ghost use Rattle.merge_worker.specs.Work.{IsBaseOf, IsOldOrKept, AreAhead, start_of, is_due, IsOutOfIds};
 
-use crate::bases::Base;
+use crate::bases::{Base, start};
 use crate::ends::WorkEnd;
 use crate::stores::{KeepFault, RootStore};
 use fb_core::{Core, a_beginning_stays_one};
 use std::alloc::Global;
 use std::thread::Threads;
 
-/// Merges a core that no session has any longer, where that is due. Only with `Shut` anything has changed.
+/// Merges a core that no session has any longer, where that is due. Only with `Shut` anything has changed. The merge starts from
+/// the trees `ahead`, if there are any, which are not adopted yet, and else from the base.
 pub fn settle<T: RootStore, R: Threads + Sync>(
     rt: &R,
     alloc: Global,
     core: &mut Core,
     store: &mut T,
     base: &mut Base,
+    ahead: &mut Option<Base>,
     merge_at: u64,
 ) -> WorkEnd
     requires merge_at { 0 < merge_at }
     requires base { IsBaseOf base.old core.old.snapshot.entries core.old.snapshot.covered }
+    requires ahead { AreAhead ahead.old core.old.snapshot.entries }
+    requires fits { T.fits store.old (start_of base.old ahead.old).roots }
     requires going { T.goes store.old }
     ensures authors { core.new.authors ≡ core.old.authors }
     ensures entries { core.new.snapshot.entries ≡ core.old.snapshot.entries }
     ensures base { IsBaseOf base.new core.new.snapshot.entries core.new.snapshot.covered }
+    ensures ahead { AreAhead ahead.new core.new.snapshot.entries }
+    ensures fits { (result ≡ WorkEnd.StoreFault → ⊥)
+        → T.fits store.new (start_of base.new ahead.new).roots }
     ensures kept { IsOldOrKept T.keeps base.old store.new base.new }
     ensures stays { (older : Base) → T.keeps store.old older → T.keeps store.new older }
     ensures unchanged { (result ≡ WorkEnd.Shut → ⊥)
-        → (core.new ≡ core.old) × (base.new ≡ base.old) }
+        → (core.new ≡ core.old) × (base.new ≡ base.old) × (ahead.new ≡ ahead.old) }
     ensures idle { IsFalse (is_due merge_at core.old.snapshot)
-        → (core.new ≡ core.old) × (base.new ≡ base.old) × (result ≡ WorkEnd.Shut) }
+        → (core.new ≡ core.old) × (base.new ≡ base.old) × (ahead.new ≡ ahead.old)
+        × (result ≡ WorkEnd.Shut) }
     ensures shut { result ≡ WorkEnd.Shut → IsFalse (is_due merge_at core.new.snapshot) }
     ensures fault { result ≡ WorkEnd.StoreFault → Rose (T.faults store.old) (T.faults store.new) }
     ensures unfailed { (result ≡ WorkEnd.StoreFault → ⊥)
         → T.goes store.new × (T.faults store.new ≡ T.faults store.old) }
     ensures spent { result ≡ WorkEnd.Spent
-        ↔ (IsTrue (is_due merge_at core.old.snapshot) × IsOutOfIds core.old.snapshot) }
+        ↔ (IsTrue (is_due merge_at core.old.snapshot)
+        × IsOutOfIds (T.next store.old) (start_of base.old ahead.old)) }
 {
     if !core.due(merge_at) {
         return WorkEnd::Shut;
     }
-    let next = match Base::merged(rt, alloc, core.snapshot()) {
+    let next = match Base::merged(rt, alloc, store, start(base, ahead), core.snapshot()) {
         Ok(next) => next,
         Err(stop) => return WorkEnd::from(stop),
     };
     match adopt(alloc, core, store, base, next) {
-        Ok(()) => WorkEnd::Shut,
+        Ok(()) => {
+            *ahead = None;
+            WorkEnd::Shut
+        }
         Err(fault) => WorkEnd::from(fault),
     }
 }
@@ -65,11 +78,15 @@ fn adopt<T: RootStore>(
     next: Base,
 ) -> Result<(), KeepFault>
     requires next { IsBaseOf next core.old.snapshot.entries (basis core.old.snapshot.entries) }
+    requires fits { T.fits store.old next.roots }
     requires going { T.goes store.old }
     ensures authors { core.new.authors ≡ core.old.authors }
     ensures entries { core.new.snapshot.entries ≡ core.old.snapshot.entries }
     ensures base { OnOk result
         (IsBaseOf base.new core.new.snapshot.entries core.new.snapshot.covered) }
+    ensures fit { OnOk result (T.fits store.new base.new.roots) }
+    ensures still_fit { IsErrOf result KeepFault.Memory
+        → (trees : Roots) → T.fits store.old trees → T.fits store.new trees }
     ensures kept { OnOk result (T.keeps store.new base.new) }
     ensures stays { (older : Base) → T.keeps store.old older → T.keeps store.new older }
     ensures merged { OnOk result (live_datoms core.new.snapshot.live ≡ 0) }

@@ -1,11 +1,12 @@
 //! Where trees are kept before they are adopted: a joint between the worker and whatever keeps them.
-ghost use Rattle.std.specs.Prelude.{◌≡◌, ℕ, List, OnOk, IsErrOf};
+ghost use Rattle.std.specs.Prelude.{◌≡◌, ◌≤◌, ℕ, List, OnOk, IsErrOf};
 ghost use Rattle.fb_calls.specs.Faults.{Rose};
 ghost use Rattle.fb_values.specs.declared.facts.Entry.{Entry};
 ghost use Rattle.fb_model.specs.Lawful.{IsLawful};
+ghost use Rattle.seg_tree.specs.declared.roots.Roots.{Roots};
 ghost use Rattle.merge_worker.specs.declared.bases.Base.{Base};
 ghost use Rattle.merge_worker.specs.declared.stores.KeepFault.{KeepFault};
-ghost use Rattle.merge_worker.specs.Work.{IsBaseOf};
+ghost use Rattle.merge_worker.specs.Work.{IsBaseOf, AreMadeOf};
 
 use crate::bases::Base;
 use fb_memory::Memory;
@@ -30,8 +31,7 @@ impl From<Memory> for KeepFault {
     }
 }
 
-/// A store of trees, which an opening of the database may find again. Which numbers the nodes of its trees have is its own
-/// affair: the worker numbers new nodes behind those of the value that it merges.
+/// A store of trees, which an opening of the database may find again.
 pub trait RootStore: Drop {
     /// How many calls of the outside have failed in it.
     ghost faults: { Self → ℕ };
@@ -42,12 +42,28 @@ pub trait RootStore: Drop {
     /// It has these trees.
     ghost keeps: { Self → Base → Type 0 };
 
+    /// A number that is above the ids of all nodes that it has.
+    ghost next: { Self → ℕ };
+
+    /// Each node of the trees whose id a node of the store has is that node.
+    ghost fits: { Self → Roots → Type 0 };
+
+    /// The least number that a new node may have. Trees fit if they were made of ones that fit, with new nodes numbered from here on.
+    fn next_id(&self) -> u64
+        ensures next { result ≡ next self.now }
+        ensures fit { (first : ℕ) (old new : Roots) → next self.now ≤ first
+            → fits self.now old → AreMadeOf first old new → fits self.now new };
+
     /// Keeps trees that stand for the first entries of a history. What it has it goes on having, whatever the answer.
     fn keep(&mut self, alloc: Global, base: &Base) -> Result<(), KeepFault>
         requires going { goes self.old }
         requires stand { (h : List Entry) × IsLawful h × IsBaseOf base.now h base.now.c }
+        requires fits { fits self.old base.now.roots }
         ensures kept { OnOk result (keeps self.new base.now) }
         ensures stays { (older : Base) → keeps self.old older → keeps self.new older }
+        ensures fit { OnOk result (fits self.new base.now.roots) }
+        ensures still_fit { IsErrOf result KeepFault.Memory
+            → (trees : Roots) → fits self.old trees → fits self.new trees }
         ensures fault { IsErrOf result KeepFault.Failed → Rose (faults self.old) (faults self.new) }
         ensures unfailed { (IsErrOf result KeepFault.Failed → ⊥)
             → goes self.new × (faults self.new ≡ faults self.old) };
@@ -63,6 +79,14 @@ impl RootStore for NoStore {
     ghost goes = { λ _. Unit {0} };
 
     ghost keeps = { λ _ _. Unit {0} };
+
+    ghost next = { λ _. 0 };
+
+    ghost fits = { λ _ _. Unit {0} };
+
+    fn next_id(&self) -> u64 {
+        0
+    }
 
     fn keep(&mut self, _alloc: Global, _base: &Base) -> Result<(), KeepFault> {
         Ok(())

@@ -1,19 +1,21 @@
 //! Merging beside the sessions, in rounds.
-ghost use Rattle.std.specs.Prelude.{◌≡◌, ◌⊎◌, ◌<◌, ◌+◌, IfOk, IfErr, OnOk, IsErrOf, IsFalse};
+ghost use Rattle.std.specs.Prelude.{◌≡◌, ◌↔◌, ℕ, ◌<◌, None, Some, IfOk, IfErr, OnOk, OnErr, IsErrOf, IsTrue, IsFalse};
 ghost use Rattle.fb_calls.specs.Faults.{Rose};
+ghost use Rattle.fb_model.specs.History.{basis};
 ghost use Rattle.board_rule.specs.Calls.{view_of};
 ghost use Rattle.fb_conn.specs.Seats.{IsWorkerOf};
 ghost use Rattle.merge_worker.specs.declared.bases.Base.{Base};
 ghost use Rattle.merge_worker.specs.declared.ends.WorkEnd.{WorkEnd};
-ghost use Rattle.merge_worker.specs.Work.{IsBaseOf, IsOldOrKept, is_due, IsOutOfIds, IsOutOfTurns, IsSameWorker};
-ghost use Rattle.merge_worker.specs.Ends.{HasCause};
+ghost use Rattle.merge_worker.specs.Work.{IsBaseOf, IsOldOrKept, AreAhead, AreOldOrKept, start_of, is_due, IsOutOfIds, IsOutOfTurns, IsSpent, IsSameWorker};
+ghost use Rattle.merge_worker.specs.Ends.{HasCause, IsUnfailed};
 
-use crate::bases::Base;
+use crate::bases::{Base, start};
 use crate::ends::WorkEnd;
 use crate::gates::{Gate, Point};
 use crate::stores::RootStore;
 use fb_conn::{Bell, Conn, Seat};
 use fb_log::Log;
+use fb_memory::Memory;
 use std::alloc::Global;
 use std::sync::Wait;
 use std::thread::Threads;
@@ -22,7 +24,8 @@ use std::thread::Threads;
 const MOST_TURNS: u64 = 4_294_967_294;
 
 /// Merges whenever a merge is due, until no session is left and none is due. The trees of a merge are kept before the sessions get
-/// them. Where nothing is due it sleeps until it is rung.
+/// them. A merge starts from the trees `ahead`, if there are any, which are not adopted yet, and else from the base. Trees that
+/// were kept and could not be adopted are ahead afterwards. Where nothing is due it sleeps until it is rung.
 pub fn work<L: Log, T: RootStore, R: Threads + Wait + Sync, G: Gate>(
     rt: &R,
     alloc: Global,
@@ -30,10 +33,13 @@ pub fn work<L: Log, T: RootStore, R: Threads + Wait + Sync, G: Gate>(
     seat: &mut Seat,
     store: &mut T,
     base: &mut Base,
+    ahead: &mut Option<Base>,
     gate: &G,
 ) -> WorkEnd
     requires seat { IsWorkerOf conn.now seat.old }
     requires base { IsBaseOf base.old seat.old.last.entries (view_of seat.old.board).covered }
+    requires ahead { AreAhead ahead.old seat.old.last.entries }
+    requires fits { T.fits store.old (start_of base.old ahead.old).roots }
     requires going { T.goes store.old }
     ensures seat { IsWorkerOf conn.now seat.new }
     ensures same { IsSameWorker (view_of seat.old.board) (view_of seat.new.board) }
@@ -42,21 +48,32 @@ pub fn work<L: Log, T: RootStore, R: Threads + Wait + Sync, G: Gate>(
     ensures base { IsBaseOf base.new seat.new.last.entries (view_of seat.new.board).covered }
     ensures kept { IsOldOrKept T.keeps base.old store.new base.new }
     ensures stays { (older : Base) → T.keeps store.old older → T.keeps store.new older }
+    ensures ahead { AreAhead ahead.new seat.new.last.entries }
+    ensures ahead_kept { AreOldOrKept T.keeps ahead.old store.new ahead.new }
+    ensures fits { (result ≡ WorkEnd.StoreFault → ⊥)
+        → T.fits store.new (start_of base.new ahead.new).roots }
     ensures shut { result ≡ WorkEnd.Shut → IsFalse (is_due conn.now.merge_at seat.new.last) }
     ensures fault { result ≡ WorkEnd.StoreFault → Rose (T.faults store.old) (T.faults store.new) }
     ensures unfailed { (result ≡ WorkEnd.StoreFault → ⊥)
         → T.goes store.new × (T.faults store.new ≡ T.faults store.old) }
+
+    // Where nothing fails, it ends with `Spent` exactly where no further round could merge.
     ensures spent { result ≡ WorkEnd.Spent
-        → IsOutOfTurns (view_of seat.new.board) ⊎ IsOutOfIds seat.new.last }
+        ↔ (IsUnfailed result
+        × IsSpent conn.now.merge_at (view_of seat.new.board) seat.new.last (T.next store.new)
+        (start_of base.new ahead.new)) }
 {
     let mut shut = false;
     for _ in rt.forever() {
-        let merged = match round(rt, alloc, conn, seat, store, base, gate) {
+        let merged = match round(rt, alloc, conn, seat, store, base, ahead, gate) {
             Ok(merged) => merged,
             Err(end) => return end,
         };
         if merged {
             continue;
+        }
+        if is_out_of_turns(seat) {
+            return WorkEnd::Spent;
         }
         if shut {
             return WorkEnd::Shut;
@@ -68,6 +85,13 @@ pub fn work<L: Log, T: RootStore, R: Threads + Wait + Sync, G: Gate>(
     unreachable!()
 }
 
+/// Whether the seat has no turns left for a round, which takes two.
+fn is_out_of_turns(seat: &Seat) -> bool
+    ensures { IsTrue result ↔ IsOutOfTurns (view_of seat.now.board) }
+{
+    seat.draws() > MOST_TURNS
+}
+
 /// Looks at the latest value, and merges it where that is due. It says whether it did.
 fn round<L: Log, T: RootStore, R: Threads + Wait + Sync, G: Gate>(
     rt: &R,
@@ -76,43 +100,51 @@ fn round<L: Log, T: RootStore, R: Threads + Wait + Sync, G: Gate>(
     seat: &mut Seat,
     store: &mut T,
     base: &mut Base,
+    ahead: &mut Option<Base>,
     gate: &G,
 ) -> Result<bool, WorkEnd>
     requires seat { IsWorkerOf conn.now seat.old }
     requires base { IsBaseOf base.old seat.old.last.entries (view_of seat.old.board).covered }
+    requires ahead { AreAhead ahead.old seat.old.last.entries }
+    requires fits { T.fits store.old (start_of base.old ahead.old).roots }
     requires going { T.goes store.old }
     ensures seat { IsWorkerOf conn.now seat.new }
     ensures same { IsSameWorker (view_of seat.old.board) (view_of seat.new.board) }
     ensures base { IsBaseOf base.new seat.new.last.entries (view_of seat.new.board).covered }
     ensures kept { IsOldOrKept T.keeps base.old store.new base.new }
     ensures stays { (older : Base) → T.keeps store.old older → T.keeps store.new older }
+    ensures ahead { AreAhead ahead.new seat.new.last.entries }
+    ensures ahead_kept { AreOldOrKept T.keeps ahead.old store.new ahead.new }
+    ensures fits { (IsErrOf result WorkEnd.StoreFault → ⊥)
+        → T.fits store.new (start_of base.new ahead.new).roots }
     ensures not_due { IfOk result (λ merged. IsFalse merged
         → IsFalse (is_due conn.now.merge_at seat.new.last)) }
     ensures end { IfErr result (HasCause (Rose (T.faults store.old) (T.faults store.new))
-        (IsOutOfTurns (view_of seat.new.board) ⊎ IsOutOfIds seat.new.last)) }
+        (IsSpent conn.now.merge_at (view_of seat.new.board) seat.new.last (T.next store.new)
+        (start_of base.new ahead.new))) }
     ensures unfailed { (IsErrOf result WorkEnd.StoreFault → ⊥)
         → T.goes store.new × (T.faults store.new ≡ T.faults store.old) }
 {
     if !begins(rt, conn, seat)? {
         return Ok(false);
     }
-    merge_last(rt, alloc, conn, seat, store, base, gate)?;
+    merge_last(rt, alloc, conn, seat, store, base, ahead, gate)?;
     Ok(true)
 }
 
-/// Takes the first turn of a round, which has two. It says whether the latest value, which the seat has from then on, is due.
+/// Takes the first turn of a round. It says whether the latest value, which the seat has from then on, is due.
 fn begins<L: Log, R: Wait>(rt: &R, conn: &Conn<L>, seat: &mut Seat) -> Result<bool, WorkEnd>
     requires seat { IsWorkerOf conn.now seat.old }
     ensures seat { IsWorkerOf conn.now seat.new }
     ensures same { IsSameWorker (view_of seat.old.board) (view_of seat.new.board) }
-    ensures base { (base : Base)
-        → IsBaseOf base seat.old.last.entries (view_of seat.old.board).covered
-        → IsBaseOf base seat.new.last.entries (view_of seat.new.board).covered }
+    ensures covered { (view_of seat.new.board).covered ≡ (view_of seat.old.board).covered }
+    ensures trees { (trees : Base) (c : ℕ) → IsBaseOf trees seat.old.last.entries c
+        → IsBaseOf trees seat.new.last.entries c }
     ensures turn { OnOk result ((view_of seat.new.board).draws < 4294967296) }
     ensures due { IfOk result (λ due. due ≡ is_due conn.now.merge_at seat.new.last) }
     ensures end { IfErr result (HasCause ⊥ (IsOutOfTurns (view_of seat.new.board))) }
 {
-    if seat.draws() > MOST_TURNS {
+    if is_out_of_turns(seat) {
         return Err(WorkEnd::Spent);
     }
     // A snapshot that is asked tells that it stands for its history.
@@ -131,19 +163,27 @@ fn merge_last<L: Log, T: RootStore, R: Threads + Wait + Sync, G: Gate>(
     seat: &mut Seat,
     store: &mut T,
     base: &mut Base,
+    ahead: &mut Option<Base>,
     gate: &G,
 ) -> Result<(), WorkEnd>
     requires seat { IsWorkerOf conn.now seat.old }
     requires turn { (view_of seat.old.board).draws < 4294967296 }
     requires base { IsBaseOf base.old seat.old.last.entries (view_of seat.old.board).covered }
+    requires ahead { AreAhead ahead.old seat.old.last.entries }
+    requires fits { T.fits store.old (start_of base.old ahead.old).roots }
     requires going { T.goes store.old }
     ensures seat { IsWorkerOf conn.now seat.new }
     ensures same { IsSameWorker (view_of seat.old.board) (view_of seat.new.board) }
+    ensures last { seat.new.last ≡ seat.old.last }
     ensures base { IsBaseOf base.new seat.new.last.entries (view_of seat.new.board).covered }
     ensures kept { IsOldOrKept T.keeps base.old store.new base.new }
     ensures stays { (older : Base) → T.keeps store.old older → T.keeps store.new older }
+    ensures ahead { AreAhead ahead.new seat.new.last.entries }
+    ensures ahead_kept { AreOldOrKept T.keeps ahead.old store.new ahead.new }
+    ensures fits { (IsErrOf result WorkEnd.StoreFault → ⊥)
+        → T.fits store.new (start_of base.new ahead.new).roots }
     ensures end { IfErr result (HasCause (Rose (T.faults store.old) (T.faults store.new))
-        (IsOutOfIds seat.new.last)) }
+        (IsOutOfIds (T.next store.new) (start_of base.new ahead.new))) }
     ensures unfailed { (IsErrOf result WorkEnd.StoreFault → ⊥)
         → T.goes store.new × (T.faults store.new ≡ T.faults store.old) }
 {
@@ -151,12 +191,65 @@ fn merge_last<L: Log, T: RootStore, R: Threads + Wait + Sync, G: Gate>(
     // A snapshot that is asked tells that it stands for its history.
     let _basis = begin.basis();
     gate.pass(Point::BeforeMerge);
-    let next = Base::merged(rt, alloc, begin)?;
+    let next = Base::merged(rt, alloc, store, start(base, ahead), begin)?;
     gate.pass(Point::AfterMerge);
     store.keep(alloc, &next)?;
     gate.pass(Point::BeforeAdopt);
-    let roots = next.roots.share()?;
-    conn.publish(rt, seat, roots)?;
-    *base = next;
+    adopt(rt, conn, seat, base, ahead, next)?;
     Ok(())
+}
+
+/// Adopts trees of the seat's last value, which are kept. They become the base, or, where memory runs out, are ahead of it.
+fn adopt<L: Log, R: Wait>(
+    rt: &R,
+    conn: &Conn<L>,
+    seat: &mut Seat,
+    base: &mut Base,
+    ahead: &mut Option<Base>,
+    next: Base,
+) -> Result<(), Memory>
+    requires seat { IsWorkerOf conn.now seat.old }
+    requires turn { (view_of seat.old.board).draws < 4294967296 }
+    requires base { IsBaseOf base.old seat.old.last.entries (view_of seat.old.board).covered }
+    requires next { IsBaseOf next seat.old.last.entries (basis seat.old.last.entries) }
+    ensures seat { IsWorkerOf conn.now seat.new }
+    ensures same { IsSameWorker (view_of seat.old.board) (view_of seat.new.board) }
+    ensures last { seat.new.last ≡ seat.old.last }
+    ensures base { IsBaseOf base.new seat.new.last.entries (view_of seat.new.board).covered }
+    ensures adopted { OnOk result ((base.new ≡ next) × (ahead.new ≡ None)) }
+    ensures kept { OnErr result ((base.new ≡ base.old) × (ahead.new ≡ Some next)) }
+{
+    match publish(rt, conn, seat, &next) {
+        Ok(()) => {
+            *base = next;
+            *ahead = None;
+            Ok(())
+        }
+        Err(fault) => {
+            *ahead = Some(next);
+            Err(fault)
+        }
+    }
+}
+
+/// Takes the second turn of a round, in which the trees are adopted.
+fn publish<L: Log, R: Wait>(
+    rt: &R,
+    conn: &Conn<L>,
+    seat: &mut Seat,
+    next: &Base,
+) -> Result<(), Memory>
+    requires seat { IsWorkerOf conn.now seat.old }
+    requires turn { (view_of seat.old.board).draws < 4294967296 }
+    requires next { IsBaseOf next.now seat.old.last.entries (basis seat.old.last.entries) }
+    ensures seat { IsWorkerOf conn.now seat.new }
+    ensures same { IsSameWorker (view_of seat.old.board) (view_of seat.new.board) }
+    ensures last { seat.new.last ≡ seat.old.last }
+    ensures adopted { OnOk result
+        ((view_of seat.new.board).covered ≡ basis seat.old.last.entries) }
+    ensures unchanged { OnErr result
+        ((view_of seat.new.board).covered ≡ (view_of seat.old.board).covered) }
+{
+    let roots = next.roots.share()?;
+    conn.publish(rt, seat, roots)
 }

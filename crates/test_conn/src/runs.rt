@@ -99,7 +99,18 @@ fn merge_rest<R: Threads + Wait + Sync>(
     ensures same { IsSameWorker (view_of worker.old.board) (view_of worker.new.board) }
 {
     conn.shut(rt);
-    match work(rt, alloc, conn, worker, &mut NoStore, base, &OpenGate) {
+    let mut ahead = None;
+    let end = work(
+        rt,
+        alloc,
+        conn,
+        worker,
+        &mut NoStore,
+        base,
+        &mut ahead,
+        &OpenGate,
+    );
+    match end {
         WorkEnd::Shut => Ok(()),
         _ => bail!("the worker ended before all was merged"),
     }

@@ -1,5 +1,6 @@
 //! One way through the table.
 use crate::indexes::Indexes;
+use crate::onto::{over_newer, over_older};
 use crate::rows::Row;
 use crate::run::{Run, reopened};
 use anyhow::{Result, bail};
@@ -43,10 +44,13 @@ impl Course {
     }
 }
 
-/// The database is opened anew over the trees that it has. Then it merges a last time.
+/// The database is opened anew over the trees that it has, and over ones that were made of newer and of older trees. Then it merges
+/// a last time.
 fn end<R: Threads + Sync>(rt: &R, alloc: Global, run: Run, wanted: &Indexes) -> Result<()> {
     let snapshot = run.core().snapshot();
     check(alloc, snapshot, wanted)?;
+    check(alloc, &over_newer(rt, alloc, snapshot)?, wanted)?;
+    check(alloc, &over_older(rt, alloc, snapshot)?, wanted)?;
     let core = reopened(alloc, snapshot)?;
     check(alloc, core.snapshot(), wanted)?;
     let mut run = run.begin_merge()?;

@@ -4,6 +4,7 @@
 
 mod course;
 mod indexes;
+mod onto;
 mod plain;
 mod rows;
 mod run;

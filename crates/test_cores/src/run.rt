@@ -68,7 +68,8 @@ impl Run {
 
     /// Merges what was live when the merge began, and adopts the trees.
     pub(crate) fn end_merge<R: Threads + Sync>(&mut self, rt: &R, alloc: Global) -> Result<()> {
-        let roots = merged(rt, alloc, &self.begin)?;
+        let first_id = self.begin.roots().next_id();
+        let roots = merged(rt, alloc, &self.begin, first_id)?;
         let rebased = self.core.rebase(&self.begin, roots)?;
         self.core.adopt(rebased);
         Ok(())

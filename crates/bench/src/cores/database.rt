@@ -72,7 +72,8 @@ fn transact(core: &mut Core, form: &Edn) -> Result<()> {
 fn merge<R: Threads + Sync>(rt: &R, alloc: Global, core: &mut Core) -> Result<()> {
     a_beginning_stays_one();
     let begin = core.snapshot().share()?;
-    let roots = merged(rt, alloc, &begin)?;
+    let first_id = begin.roots().next_id();
+    let roots = merged(rt, alloc, &begin, first_id)?;
     let rebased = core.rebase(&begin, roots)?;
     Ok(core.adopt(rebased))
 }
