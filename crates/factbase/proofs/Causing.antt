@@ -103,29 +103,29 @@ module _ {S : Type 0} (end_of : S → SessionEnd) (scripts : List (Bor (List ℕ
 -- where memory was refused to a merge, the status is not 0
 not_success : (names : List (List ℕ)) (ends : List SessionEnd) (status : ℕ) (line : List ℕ)
     → SaysWhy (why_of (first_early names ends) true) status line → status ≡ 0 → ⊥
-not_success [] ends status line (inl says) zero = omega (arith, says.0, zero)
-not_success [] ends status line (inr says) zero = omega (arith, says.0, zero)
-not_success (name ∷ names) [] status line (inl says) zero = omega (arith, says.0, zero)
-not_success (name ∷ names) [] status line (inr says) zero = omega (arith, says.0, zero)
-not_success (name ∷ names) (ended.Done ∷ ends) status line says zero = not_success names ends status line says zero
-not_success (name ∷ names) (ended.Script why ∷ ends) status line (inl says) zero = omega (arith, says.0, zero)
-not_success (name ∷ names) (ended.Script why ∷ ends) status line (inr says) zero = omega (arith, says.0, zero)
-not_success (name ∷ names) (ended.TooLong ∷ ends) status line (inl says) zero = omega (arith, says.0, zero)
-not_success (name ∷ names) (ended.TooLong ∷ ends) status line (inr says) zero = omega (arith, says.0, zero)
-not_success (name ∷ names) (ended.TooMany ∷ ends) status line (inl says) zero = omega (arith, says.0, zero)
-not_success (name ∷ names) (ended.TooMany ∷ ends) status line (inr says) zero = omega (arith, says.0, zero)
-not_success (name ∷ names) (ended.ReadFault ∷ ends) status line (inl says) zero = omega (arith, says.0, zero)
-not_success (name ∷ names) (ended.ReadFault ∷ ends) status line (inr says) zero = omega (arith, says.0, zero)
-not_success (name ∷ names) (ended.WriteFault ∷ ends) status line (inl says) zero = omega (arith, says.0, zero)
-not_success (name ∷ names) (ended.WriteFault ∷ ends) status line (inr says) zero = omega (arith, says.0, zero)
-not_success (name ∷ names) (ended.Memory ∷ ends) status line (inl says) zero = omega (arith, says.0, zero)
-not_success (name ∷ names) (ended.Memory ∷ ends) status line (inr says) zero = omega (arith, says.0, zero)
+not_success [] ends status line (inl says) none = omega (arith, says.0, none)
+not_success [] ends status line (inr says) none = omega (arith, says.0, none)
+not_success (name ∷ names) [] status line (inl says) none = omega (arith, says.0, none)
+not_success (name ∷ names) [] status line (inr says) none = omega (arith, says.0, none)
+not_success (name ∷ names) (ended.Done ∷ ends) status line says none = not_success names ends status line says none
+not_success (name ∷ names) (ended.Script why ∷ ends) status line (inl says) none = omega (arith, says.0, none)
+not_success (name ∷ names) (ended.Script why ∷ ends) status line (inr says) none = omega (arith, says.0, none)
+not_success (name ∷ names) (ended.TooLong ∷ ends) status line (inl says) none = omega (arith, says.0, none)
+not_success (name ∷ names) (ended.TooLong ∷ ends) status line (inr says) none = omega (arith, says.0, none)
+not_success (name ∷ names) (ended.TooMany ∷ ends) status line (inl says) none = omega (arith, says.0, none)
+not_success (name ∷ names) (ended.TooMany ∷ ends) status line (inr says) none = omega (arith, says.0, none)
+not_success (name ∷ names) (ended.ReadFault ∷ ends) status line (inl says) none = omega (arith, says.0, none)
+not_success (name ∷ names) (ended.ReadFault ∷ ends) status line (inr says) none = omega (arith, says.0, none)
+not_success (name ∷ names) (ended.WriteFault ∷ ends) status line (inl says) none = omega (arith, says.0, none)
+not_success (name ∷ names) (ended.WriteFault ∷ ends) status line (inr says) none = omega (arith, says.0, none)
+not_success (name ∷ names) (ended.Memory ∷ ends) status line (inl says) none = omega (arith, says.0, none)
+not_success (name ∷ names) (ended.Memory ∷ ends) status line (inr says) none = omega (arith, says.0, none)
 
 -- what a merge promises holds where the status is 0
-pub success_is_merged : {E : Type 0} (merged : Result (Unit {0}) E) (names : List (List ℕ)) (ends : List SessionEnd) (status : ℕ) (line : List ℕ)
-    (M : Type 0) → IfOk merged (λ _. M) → SaysWhy (why_of (first_early names ends) (is_err merged)) status line → status ≡ 0 → M
-success_is_merged (Ok u) names ends status line M promised says zero = promised
-success_is_merged (Err e) names ends status line M promised says zero = absurd (not_success names ends status line says zero)
+pub success_is_merged : {E : Type 0} (merged : Result (Unit {0}) E) (names : List (List ℕ)) (ends_are : List SessionEnd) (status : ℕ) (line : List ℕ)
+    (M : Type 0) → IfOk merged (λ _. M) → SaysWhy (why_of (first_early names ends_are) (is_err merged)) status line → status ≡ 0 → M
+success_is_merged (Ok u) names ends_are status line M promised says none = promised
+success_is_merged (Err e) names ends_are status line M promised says none = absurd (not_success names ends_are status line says none)
 
 -- ---- names that are those of scripts
 

@@ -167,8 +167,7 @@ never_stopped begun entries log (Some stop) torn stands = absurd (stands.1.3)
 
 pub never_torn : (begun : NoLog) (entries : List Entry) (log : NoLog) (stopped : Option Stop) (torn : Option Draft)
     → LogStands (λ _ _ _. Unit {0}) (λ _ _ _ _. ⊥) begun entries log stopped torn → torn ≡ None
-never_torn begun entries log None None stands = refl
-never_torn begun entries log None (Some draft) stands = absurd stands
+never_torn begun entries log None torn stands = stands.0
 never_torn begun entries log (Some stop) torn stands = absurd (stands.1.3)
 
 -- merging changes neither the entries nor their authors

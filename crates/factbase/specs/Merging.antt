@@ -1,6 +1,8 @@
 -- What the worker of a run has, and what is left to merge when the run has ended.
 -- This project's own choice.
-use Rattle.std.specs.Prelude.{◌≡◌, ◌⊎◌, ◌<◌, ℕ}
+use Rattle.std.specs.Prelude.{◌≡◌, ◌⊎◌, ◌<◌, ◌^◌, ℕ}
+use Rattle.seg_tree.specs.Ids.{next_above}
+use Rattle.seg_tree.specs.Indexes.{root_ids}
 use Rattle.fb_view.specs.Kept.{Kept}
 use Rattle.fb_core.specs.Cores.{live_datoms}
 use Rattle.board_rule.specs.Calls.{view_of}
@@ -8,7 +10,7 @@ use Rattle.fb_conn.specs.declared.conn.Conn.{Conn}
 use Rattle.fb_conn.specs.Seats.{IsWorkerOf}
 use Rattle.merge_worker.specs.declared.ends.WorkEnd.{WorkEnd}
 use Rattle.merge_worker.specs.declared.ends.WorkEnd.TheVariants.{StoreFault}
-use Rattle.merge_worker.specs.Work.{IsBaseOf, IsOutOfIds}
+use Rattle.merge_worker.specs.Work.{IsBaseOf}
 use Rattle.factbase.specs.declared.merging.Worker.{Worker}
 
 -- it has the worker's seat, and the trees that it knows to be adopted
@@ -23,4 +25,5 @@ HasNoFault end = end ≡ StoreFault → ⊥
 
 -- So few datoms are live that no merge is due, unless the numbers for the nodes of trees are used up.
 abbrev pub IsMerged : ℕ → Kept → Type 0
-IsMerged merge_at last = (live_datoms last.live < merge_at) ⊎ IsOutOfIds last
+IsMerged merge_at last =
+    (live_datoms last.live < merge_at) ⊎ (2 ^ 61 < next_above (root_ids last.roots))

@@ -91,6 +91,7 @@ fn merge<R: Threads + Wait + Sync, W: Gate>(
     ensures same { IsSameWorker (view_of worker.old.seat.board) (view_of worker.new.seat.board) }
     ensures no_fault { HasNoFault worker.new.end }
 {
+    let mut ahead = None;
     worker.end = work(
         rt,
         alloc,
@@ -98,6 +99,7 @@ fn merge<R: Threads + Wait + Sync, W: Gate>(
         &mut worker.seat,
         &mut NoStore,
         &mut worker.base,
+        &mut ahead,
         gate,
     );
 }
@@ -120,7 +122,8 @@ pub(crate) fn settled<R: Threads + Sync>(
         return Err(Memory);
     }
     let mut base = Base::of(core.snapshot())?;
-    match settle(rt, alloc, core, &mut NoStore, &mut base, merge_at) {
+    let mut ahead = None;
+    match settle(rt, alloc, core, &mut NoStore, &mut base, &mut ahead, merge_at) {
         WorkEnd::Memory => Err(Memory),
         WorkEnd::Shut | WorkEnd::Spent | WorkEnd::StoreFault => Ok(()),
     }

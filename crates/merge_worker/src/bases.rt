@@ -23,7 +23,9 @@ pub struct Base {
 impl Base {
     /// The trees of a database value.
     pub fn of(snapshot: &Snapshot) -> Result<Base, Memory>
-        ensures { IfOk result (λ base. IsBaseOf base snapshot.now.entries snapshot.now.covered) }
+        ensures stand { IfOk result
+            (λ base. IsBaseOf base snapshot.now.entries snapshot.now.covered) }
+        ensures roots { IfOk result (λ base. base.roots ≡ snapshot.now.roots) }
     {
         let roots = snapshot.roots().share()?;
         Ok(Base {

@@ -1,4 +1,6 @@
-use Rattle.std.proofs.Common.{refl, ap, sym, subst, ◌∙◌}
+use Rattle.std.proofs.Common.{refl, ap, sym, subst, ◌∙◌, map}
+use Rattle.std.specs.Prelude.{string_bytes}
+use Rattle.command_line.specs.Views.{names_in}
 use Rattle.fb_core.specs.declared.shared.CoreParts.{CoreParts}
 use Rattle.factbase.specs.Merging.{IsMerged}
 use Rattle.factbase.proofs.Causing.{success_is_merged}
@@ -13,8 +15,10 @@ returns-clause-closes g c =
     (never_stopped _ _ _ _ _ c.close-core.ensures.log) c.close-core.ensures.stands c.close-core.ensures.each_t c.close-core.ensures.by_sessions c.close-core.ensures.taken
 
 pub returns-clause-merged : goal.returns-clause-merged
-returns-clause-merged g c = λ zero.
-    let merged = success_is_merged c.settled-merged.result _ _ _ _ _ c.settled-merged.ensures.merged c.said-status.ensures (sym c.without_session.ensures.said.0 ∙ zero) in
+returns-clause-merged g c = λ none.
+    let at = IsMerged c.args.command.now.options.merge_at c.settled-merged.new.core.snapshot in
+    let merged = success_is_merged c.settled-merged.result (names_in c.as_slice.result.now) (map (λ s. s.end) c.as_slice-2.result.now) c.said-status.result.0
+    (string_bytes c.said-status.result.1) at c.settled-merged.ensures.merged c.said-status.ensures (sym c.without_session.ensures.said.0 ∙ none) in
     subst (λ (p : CoreParts). IsMerged c.args.command.now.options.merge_at p.snapshot) (sym c.into_parts-snapshot.ensures) merged
 
 pub returns-clause-no_device : goal.returns-clause-no_device

@@ -1,5 +1,6 @@
 use Rattle.std.proofs.Common.{◌∙◌, ap, sym, subst}
 use Rattle.fb_core.specs.declared.shared.CoreParts.{CoreParts}
+use Rattle.board_rule.specs.Calls.{view_of}
 use Rattle.merge_worker.specs.Work.{IsBaseOf}
 use Rattle.factbase.proofs.Running.{is_made}
 use Rattle.factbase.proofs.run.connected.Goals as goal
@@ -12,5 +13,7 @@ returns-clause-made c =
 pub returns-clause-worker : goal.returns-clause-worker
 returns-clause-worker c =
     let w = c.in_ok-conn.ensures.worker in let base = c.in_ok-base.base in
-    let of_core = subst (λ s. IsBaseOf base s.entries s.covered) c.snapshot.ensures.snapshot c.in_ok-base.ensures in
-    (w.0, subst (λ h. IsBaseOf base h _) (sym w.4) (subst (λ n. IsBaseOf base _ n) (sym w.2) of_core))
+    let core = c.in_ok-core.core.snapshot in
+    let of_core = subst (λ s. IsBaseOf base s.entries s.covered) c.snapshot.ensures.snapshot c.in_ok-base.ensures.stand in
+    (w.0, subst (λ h. IsBaseOf base h (view_of c.in_ok-conn.field-0.worker.board).covered) (sym w.4)
+    (subst (λ n. IsBaseOf base core.entries n) (sym w.2) of_core))

@@ -13,7 +13,7 @@ serve_all-requires-clause-seats g c κs within = λ k seat is.
     let m = c.in-Ok.ensures.made.opened k seat is in let left : (state_of seat).left ≡ 4294967296 = ap (λ (s : State). s.left) m.2 in (m.0, omega (arith, left))
 
 pub closed-requires-clause-seats : goal.closed-requires-clause-seats
-closed-requires-clause-seats g c = λ k seat is.
+closed-requires-clause-seats g c κs within = λ k seat is.
     let t = c.in-Ok-serve_all.ensures.talked in
     let was = there c.in-Ok.connection.seats.items k (omega (arith, slice_get_within _ k seat is, t.seat_count)) in
     let r = t.rested k was.0 seat was.1 is in (r.0, r.1 ∙ (c.in-Ok.ensures.made.opened k was.0 was.1).1)
