@@ -5,8 +5,6 @@ ghost use Rattle.disk_model.specs.Journal.{opened};
 ghost use Rattle.fb_journal.specs.Marks.{mark_bytes};
 ghost use Rattle.fb_journal.specs.Journals.{disk_of, mark_of, Keeps};
 ghost use Rattle.fb_journal.specs.Starts.{CountsStart, IsNotBad};
-ghost use Rattle.fb_journal.specs.Windows.{Shows, OnlyReads};
-ghost use Rattle.fb_journal.specs.Readings.{disk_in, left_in, HasRead, IsRead, IsFirstFault, LeavesBegun};
 
 use crate::gates::{Ahead, look_ahead};
 use crate::marks::MARK;
@@ -39,7 +37,7 @@ pub struct Reading<D: Disk> {
 }
 
 impl<D: Disk> Journal<D> {
-    ghost use Rattle.fb_journal.specs.Readings.{disk_in, HasRead};
+    ghost use Rattle.fb_journal.specs.Readings.{disk_in, HasRead, LeavesBegun};
     ghost use Rattle.fb_journal.specs.Starts.{IsWhyNot};
 
     /// Begins to read the journal of a disk, with a sync first. Of at most 16 bytes it makes a new journal.
@@ -76,6 +74,8 @@ impl<D: Disk> Journal<D> {
 }
 
 impl<D: Disk> Reading<D> {
+    ghost use Rattle.fb_journal.specs.Windows.{Shows, OnlyReads};
+    ghost use Rattle.fb_journal.specs.Readings.{disk_in, left_in, HasRead, IsRead, IsFirstFault};
     ghost use Rattle.fb_journal.specs.declared.starts.StartFault.{StartFault};
 
     /// Reads the next record's payload, in place of what the vector holds, and answers where the record stands; or answers

@@ -1,8 +1,7 @@
 //! Reading a file through a window, so that what is in memory of it does not grow with the file.
 ghost use Rattle.std.specs.Prelude.{◌≡◌, ◌≤◌, ◌<◌, ◌+◌, ◌-◌, ◌↔◌, ◌^◌, List, ℕ, Some, length, take, drop, min, IsTrue, IfOk, OnOk};
 ghost use Rattle.fb_calls.specs.Faults.{Counts};
-ghost use Rattle.disk_model.specs.Disk.{WhereTold};
-ghost use Rattle.fb_journal.specs.Windows.{Shows, Has, OnlyReads};
+ghost use Rattle.disk_model.specs.Disk.{Within, WhereTold, LeavesOnly};
 
 use crate::reads::fill;
 use fb_disk::{Disk, Failed};
@@ -22,6 +21,8 @@ pub(crate) struct Window {
 }
 
 impl Window {
+    ghost use Rattle.fb_journal.specs.Windows.{Shows, Has, OnlyReads};
+
     /// A window on a file of this length, of which it has nothing yet.
     pub(crate) fn new(alloc: Global, len: u64) -> Result<Window, AllocError>
         ensures { IfOk result (λ w. (w.len ≡ len) × (w.filled ≡ 0)) }
@@ -44,6 +45,7 @@ impl Window {
             self.old self.new }
         ensures counted { Counts result (D.faults disk.old) (D.faults disk.new) }
     {
+        let _len = self.len;
         if self.bytes.len() <= buf.len() {
             return Ok(fill(disk, at, buf)? == buf.len());
         }
@@ -78,7 +80,7 @@ impl Window {
     {
         let room = self.bytes.len().min((self.len - at) as usize);
         self.filled = 0;
-        let filled = fill(disk, at, &mut self.bytes[..room])?;
+        let filled = fill_front(disk, at, &mut self.bytes, room)?;
         self.start = at;
         self.filled = filled;
         Ok(())
@@ -106,4 +108,20 @@ impl Window {
             None => false,
         }
     }
+}
+
+/// Fills the first n bytes of a buffer with what stands from a place on.
+fn fill_front<D: Disk>(disk: &mut D, at: u64, buf: &mut [u8], n: usize) -> Result<usize, Failed>
+    requires within { n ≤ length buf.old }
+    requires room { at + n < 2 ^ 64 }
+    ensures within { IfOk result (λ filled. filled ≤ n) }
+    ensures read { IfOk result (λ filled. WhereTold (D.bytes disk.old)
+        (λ file. at + n ≤ length file
+        → (filled ≡ n) × (take n buf.new ≡ take n (drop at file)))) }
+    ensures bytes { D.bytes disk.new ≡ D.bytes disk.old }
+    ensures crash { Within (D.images disk.old) (D.images disk.new) }
+    ensures any_moment { LeavesOnly D.moment D.images_since disk.old disk.new (D.images disk.old) }
+    ensures counted { Counts result (D.faults disk.old) (D.faults disk.new) }
+{
+    fill(disk, at, &mut buf[..n])
 }
