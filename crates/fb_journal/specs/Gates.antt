@@ -1,7 +1,7 @@
 -- What stands at a gate of a file.
 -- This project's own choice.
 use Rattle.std.specs.Prelude.{◌≡◌, ◌≢◌, ◌≤◌, ◌<◌, ◌+◌, ℕ, List, length, get_or, take, drop, ⊤}
-use Rattle.std.specs.Int.{w64, from_be_bytes}
+use Rattle.std.specs.Int.{w64, to_be_bytes}
 use Rattle.disk_model.specs.Journal.{IsCutShort}
 use Rattle.fb_journal.specs.declared.gates.Ahead.{Ahead}
 use Rattle.fb_journal.specs.declared.gates.Ahead.TheVariants.{Closed, CutShort, Record}
@@ -11,7 +11,7 @@ abbrev pub StandsBehind : List ℕ → Ahead → Type 0
 StandsBehind rest Closed = ⊥
 StandsBehind rest CutShort = IsCutShort rest
 StandsBehind rest (Record len) =
-    (len ≡ from_be_bytes w64 (take 8 rest)) × (8 + len + 1 ≤ length rest)
+    (to_be_bytes w64 len ≡ take 8 rest) × (8 + len + 1 ≤ length rest)
 
 abbrev pub StandsAt : List ℕ → ℕ → Ahead → Type 0
 StandsAt file gate Closed = get_or file gate 0 ≢ 1

@@ -34,7 +34,7 @@ LeavesBegun bytes images moment since disk now = WhereTold (bytes disk) (λ file
 pub record HasRead {D : Type 0} {g : _} (bytes : D → Option (List ℕ)) (images : D → List ℕ → Type 0)
     (moment : D → ℕ) (since : D → ℕ → List ℕ → Type 0) (mark : List ℕ) (disk : D)
     (records : List (List ℕ)) (r : Reading D g) : Type 0 where
-  pub mark : mark_bytes r.mark ≡ mark
+  pub marked : mark_bytes r.mark ≡ mark
   pub count : r.records ≡ length records
   pub gate : r.gate ≡ length mark + length (opened records)
   pub lengths : HaveLengths records

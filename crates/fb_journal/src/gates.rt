@@ -1,5 +1,6 @@
 //! What stands at a gate of a file.
 ghost use Rattle.std.specs.Prelude.{◌≡◌, ◌≤◌, ◌<◌, ◌+◌, drop, IfOk};
+ghost use Rattle.std.specs.Int.{w64, to_be_bytes, from_be_bytes};
 ghost use Rattle.fb_calls.specs.Faults.{Counts};
 ghost use Rattle.disk_model.specs.Disk.{WhereTold};
 ghost use Rattle.fb_journal.specs.Gates.{StandsAt, StandsBehind, HasRoom};
@@ -57,10 +58,18 @@ fn look_behind<D: Disk>(disk: &mut D, window: &mut Window, at: u64) -> Result<Ah
     if !window.read(disk, at, &mut bytes)? {
         return Ok(Ahead::CutShort);
     }
-    let len = u64::from_be_bytes(bytes);
+    let len = number(&bytes);
     if len < room {
         Ok(Ahead::Record { len: len as usize })
     } else {
         Ok(Ahead::CutShort)
     }
+}
+
+/// The number that eight bytes are.
+fn number(bytes: &[u8; LENGTH]) -> u64
+    ensures value { result ≡ from_be_bytes w64 bytes.now }
+    ensures bytes { to_be_bytes w64 result ≡ bytes.now }
+{
+    u64::from_be_bytes(*bytes)
 }

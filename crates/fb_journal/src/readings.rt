@@ -33,6 +33,7 @@ pub struct Reading<D: Disk> {
     records: u64,
     gate: u64,
     ghost room: { gate < window.len },
+    ghost fits: { window.len < 2 ^ 64 },
     ghost few: { records ≤ gate },
 }
 
