@@ -1,8 +1,8 @@
 -- How a reading goes on: over calls that only read, over a record, to the end and to a fault.
-use Rattle.std.proofs.Common.{inl, inr, ⊎_elim, ◌⊎◌, ◌≡◌, ◌≢◌, ◌+◌, ◌≤◌, ◌<◌, ◌^◌, ◌∙◌, ℕ, List, [], ◌∷◌, ◌++◌, length, get_or, take, drop, Option, Some, None, refl, sym, ap, subst, arith, length-append}
+use Rattle.std.proofs.Common.{inl, inr, ◌≡◌, ◌≢◌, ◌+◌, ◌≤◌, ◌<◌, ◌∙◌, ℕ, List, [], ◌∷◌, ◌++◌, length, get_or, take, drop, Option, Some, sym, ap, subst, arith, length-append}
 use Rattle.std.proofs.lemmas.List.{drop_at, get_or-drop}
-use Rattle.disk_model.specs.Disk.{Only, WhereTold, LeavesOnly}
-use Rattle.disk_model.specs.Journal.{new_journal, opened, framed, HaveLengths, Holds, JournalStands, IsCutShort, BreaksBehind, JournalBreaks}
+use Rattle.disk_model.specs.Disk.{WhereTold}
+use Rattle.disk_model.specs.Journal.{new_journal, opened, framed, Holds, JournalStands, IsCutShort, BreaksBehind, JournalBreaks}
 use Rattle.disk_model.proofs.Journals.{opened-push, lengths-push, stands-holds}
 use Rattle.disk_model.proofs.Moments.{joined}
 use Rattle.fb_journal.specs.Marks.{mark_bytes}
@@ -10,8 +10,7 @@ use Rattle.fb_journal.specs.Starts.{IsNotBad}
 use Rattle.fb_journal.specs.Windows.{Shows, OnlyReads}
 use Rattle.fb_journal.specs.Gates.{StandsAt}
 use Rattle.fb_journal.specs.Readings.{IsBegun, LeavesBegun, HasRead, IsRead, IsFirstFault}
-use Rattle.fb_journal.specs.declared.gates.Ahead.{Ahead}
-use Rattle.fb_journal.specs.declared.gates.Ahead.TheVariants.{Closed, CutShort, Record}
+use Rattle.fb_journal.specs.declared.gates.Ahead.TheVariants.{CutShort, Record}
 use Rattle.fb_journal.specs.declared.readings.Reading.{Reading}
 use Rattle.fb_journal.specs.declared.starts.StartFault.{StartFault}
 use Rattle.fb_journal.specs.declared.starts.StartFault.TheVariants.{Disk, BadLog, Memory}

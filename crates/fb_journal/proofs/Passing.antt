@@ -1,5 +1,5 @@
 -- What stands at a gate and in front of the first one, as it is read.
-use Rattle.std.proofs.Common.{◌≡◌, ◌+◌, ◌≤◌, ◌<◌, ◌∙◌, Bool, true, ℕ, List, length, get_or, take, drop, refl, sym, ap, arith, length-take}
+use Rattle.std.proofs.Common.{◌≡◌, ◌+◌, ◌≤◌, ◌∙◌, true, ℕ, List, length, get_or, take, drop, refl, sym, ap, arith, length-take}
 use Rattle.std.specs.List.{starts_with}
 use lib.Dec.{eqb}
 use Rattle.std.proofs.lemmas.Bool.Decides.{Decides-eqb}

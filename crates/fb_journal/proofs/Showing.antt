@@ -1,8 +1,6 @@
 -- What a window has of a file.
-use Rattle.std.proofs.Common.{◌≡◌, ◌+◌, ◌-◌, ◌≤◌, ℕ, List, ◌++◌, length, take, drop, min, sym, ◌∙◌, ap, arith}
+use Rattle.std.proofs.Common.{◌≡◌, ◌+◌, ◌-◌, ◌≤◌, ℕ, List, ◌++◌, length, take, drop, sym, ◌∙◌, ap, arith}
 use Rattle.std.proofs.lemmas.List.{take-take, drop-take, drop-drop, take_at}
-use Rattle.fb_journal.specs.Windows.{Shows, Has}
-use Rattle.fb_journal.specs.declared.windows.Window.{Window}
 
 -- bytes of the window are those of the file
 pub copied : (items file : List ℕ) (start filled at n : ℕ) → start ≤ at → at + n ≤ start + filled → take filled items ≡ take filled (drop start file)

@@ -10,8 +10,8 @@ use Rattle.fb_journal.specs.declared.starts.StartFault.{StartFault}
 use Rattle.fb_journal.specs.declared.starts.StartFault.TheVariants.{Disk, BadLog, Memory}
 
 -- the disk that it reads from
-abbrev pub disk_in : {D : Type 0} {g : _} → Reading D g → D
-disk_in r = r.disk
+abbrev pub disk_from : {D : Type 0} {g : _} → Reading D g → D
+disk_from r = r.disk
 
 -- how many bytes there are behind the records that were read
 abbrev pub left_in : {D : Type 0} {g : _} → Reading D g → ℕ

@@ -38,7 +38,7 @@ pub struct Reading<D: Disk> {
 }
 
 impl<D: Disk> Journal<D> {
-    ghost use Rattle.fb_journal.specs.Readings.{disk_in, HasRead, LeavesBegun};
+    ghost use Rattle.fb_journal.specs.Readings.{disk_from, HasRead, LeavesBegun};
     ghost use Rattle.fb_journal.specs.Starts.{IsWhyNot};
 
     /// Begins to read the journal of a disk, with a sync first. Of at most 16 bytes it makes a new journal.
@@ -49,7 +49,7 @@ impl<D: Disk> Journal<D> {
         // A fault of the file is its first, and the disk's is counted.
         ensures why_not { IfErr result
             (λ s. IsWhyNot (mark_bytes mark) (D.bytes disk) s.fault s.before) }
-        ensures counted { MatchResult result (λ r. D.faults (disk_in r) ≡ D.faults disk)
+        ensures counted { MatchResult result (λ r. D.faults (disk_from r) ≡ D.faults disk)
             (λ s. CountsStart s.fault (D.faults disk) (D.faults s.disk)) }
 
         // A crash meanwhile leaves an image from before, or at most 16 bytes where there were no more: a new journal.
@@ -76,7 +76,7 @@ impl<D: Disk> Journal<D> {
 
 impl<D: Disk> Reading<D> {
     ghost use Rattle.fb_journal.specs.Windows.{Shows, OnlyReads};
-    ghost use Rattle.fb_journal.specs.Readings.{disk_in, left_in, HasRead, IsRead, IsFirstFault};
+    ghost use Rattle.fb_journal.specs.Readings.{disk_from, left_in, HasRead, IsRead, IsFirstFault};
     ghost use Rattle.fb_journal.specs.declared.starts.StartFault.{StartFault};
 
     /// Reads the next record's payload, in place of what the vector holds, and answers where the record stands; or answers
@@ -102,8 +102,8 @@ impl<D: Disk> Reading<D> {
             → IsFirstFault mark (D.bytes disk) records fault
             × HasRead D.bytes D.images D.moment D.images_since mark disk records self.new) }
         ensures counted { MatchResult result
-            (λ _. D.faults (disk_in self.new) ≡ D.faults (disk_in self.old))
-            (λ fault. CountsStart fault (D.faults (disk_in self.old)) (D.faults (disk_in self.new))) }
+            (λ _. D.faults (disk_from self.new) ≡ D.faults (disk_from self.old))
+            (λ fault. CountsStart fault (D.faults (disk_from self.old)) (D.faults (disk_from self.new))) }
 
         // The payload ends within 64 bits, and there is less to read.
         ensures within { IfOk result (λ next. MatchOption next ⊤
@@ -126,19 +126,19 @@ impl<D: Disk> Reading<D> {
         ensures len { OnOk result (length payload.new.items ≡ len) }
         ensures gone_on { OnOk result ((self.new.records ≡ self.old.records + 1)
             × (self.new.gate ≡ self.old.gate + 9 + len)) }
-        ensures read { OnOk result (WhereTold (D.bytes (disk_in self.old)) (λ file.
+        ensures read { OnOk result (WhereTold (D.bytes (disk_from self.old)) (λ file.
             Shows file self.old.window
             → payload.new.items ≡ take len (drop (self.old.gate + 9) file))) }
         ensures stays { OnErr result ((self.new.records ≡ self.old.records)
             × (self.new.gate ≡ self.old.gate)) }
         ensures mark { self.new.mark ≡ self.old.mark }
-        ensures leaves { OnlyReads D.bytes D.images D.moment D.images_since (disk_in self.old)
-            (disk_in self.new) self.old.window self.new.window }
-        ensures why_not { IfErr result (λ fault. WhereTold (D.bytes (disk_in self.old)) (λ file.
+        ensures leaves { OnlyReads D.bytes D.images D.moment D.images_since (disk_from self.old)
+            (disk_from self.new) self.old.window self.new.window }
+        ensures why_not { IfErr result (λ fault. WhereTold (D.bytes (disk_from self.old)) (λ file.
             Shows file self.old.window → IsNotBad fault)) }
         ensures counted { MatchResult result
-            (λ _. D.faults (disk_in self.new) ≡ D.faults (disk_in self.old))
-            (λ fault. CountsStart fault (D.faults (disk_in self.old)) (D.faults (disk_in self.new))) }
+            (λ _. D.faults (disk_from self.new) ≡ D.faults (disk_from self.old))
+            (λ fault. CountsStart fault (D.faults (disk_from self.old)) (D.faults (disk_from self.new))) }
     {
         payload.clear();
         payload.resize(len, 0)?;
@@ -168,7 +168,7 @@ impl<D: Disk> Reading<D> {
     pub fn finish(self) -> Journal<D>
         requires { (mark : List ℕ) × (disk : D) × (records : List (List ℕ))
             × IsRead D.bytes D.images D.moment D.images_since mark disk records self }
-        ensures disk { disk_of result ≡ disk_in self }
+        ensures disk { disk_of result ≡ disk_from self }
         ensures keeps { (mark : List ℕ) (disk : D) (records : List (List ℕ))
             → IsRead D.bytes D.images D.moment D.images_since mark disk records self
             → Keeps D.bytes D.images records result × (mark_of result ≡ mark) }
@@ -184,7 +184,7 @@ impl<D: Disk> Reading<D> {
 
     /// The disk, with all that was done to it.
     pub fn give_back(self) -> D
-        ensures { result ≡ disk_in self }
+        ensures { result ≡ disk_from self }
     {
         self.disk
     }

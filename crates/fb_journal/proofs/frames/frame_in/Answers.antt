@@ -1,5 +1,4 @@
-use Rattle.std.proofs.Common.{◌≡◌, ◌-◌, ◌++◌, [], ◌∷◌, List, ℕ, length, drop, ◌∙◌, ap, arith}
-use Rattle.disk_model.specs.Journal.{record_of}
+use Rattle.std.proofs.Common.{◌++◌, [], ◌∷◌, List, ℕ, drop, ◌∙◌, ap}
 use Rattle.fb_journal.proofs.Framing.{payload_in-bytes, record_of-payload_in, framed-in}
 use Rattle.fb_journal.proofs.frames.frame_in.Goals as goal
 

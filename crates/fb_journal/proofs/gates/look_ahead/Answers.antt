@@ -1,4 +1,4 @@
-use Rattle.std.proofs.Common.{◌≡◌, ◌∙◌, ℕ, List, get_or, sym}
+use Rattle.std.proofs.Common.{◌∙◌, sym}
 use Rattle.std.proofs.lemmas.Result.{IfOk-weaker}
 use Rattle.fb_journal.proofs.Passing.{first-byte, stands-open}
 use Rattle.fb_journal.proofs.gates.look_ahead.Goals as goal

@@ -1,4 +1,4 @@
-use Rattle.std.proofs.Common.{inr, ◌≡◌, ◌≤◌, ◌<◌, ◌+◌, ◌-◌, ◌∙◌, ℕ, List, length, get_or, take, drop, ap, subst, arith, length-drop}
+use Rattle.std.proofs.Common.{inr, ◌≡◌, ◌∙◌, ℕ, List, take, drop, ap, arith, length-drop}
 use Rattle.std.specs.Int.{w64, from_be_bytes}
 use Rattle.fb_journal.proofs.gates.look_behind.Goals as goal
 

@@ -1,4 +1,4 @@
-use Rattle.std.proofs.Common.{◌≡◌, ◌∙◌, ap, arith}
+use Rattle.std.proofs.Common.{◌∙◌}
 use Rattle.fb_journal.specs.Windows.{Shows}
 use Rattle.fb_journal.proofs.Appends.{length-mark_bytes}
 use Rattle.fb_journal.proofs.Passing.{none-shown, marked-by}

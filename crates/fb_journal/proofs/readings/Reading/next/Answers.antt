@@ -1,8 +1,7 @@
-use Rattle.std.proofs.Common.{◌≡◌, ◌≢◌, ◌+◌, ◌<◌, ◌∙◌, ℕ, List, length, get_or, take, drop, refl, sym, ap, subst, arith}
+use Rattle.std.proofs.Common.{◌∙◌, ℕ, refl, sym, subst, arith}
 use Rattle.std.proofs.lemmas.Result.{err_from_is_err_and}
 use Rattle.fb_journal.specs.Gates.{StandsAt}
 use Rattle.fb_journal.specs.Readings.{IsFirstFault}
-use Rattle.fb_journal.specs.declared.gates.Ahead.TheVariants.{Record}
 use Rattle.fb_journal.proofs.GoingOn.{reads-then, still-read, read-more, read-all, first-fault, other-fault}
 use Rattle.fb_journal.proofs.readings.Reading.next.Goals as goal
 

@@ -1,4 +1,4 @@
-use Rattle.std.proofs.Common.{◌≡◌, ◌≤◌, ◌+◌, ◌-◌, ◌∙◌, ℕ, List, length, take, drop, refl, ap, arith}
+use Rattle.std.proofs.Common.{◌≡◌, ◌+◌, ◌-◌, ◌∙◌, ℕ, List, length, take, drop, refl, ap, arith}
 use Rattle.fb_journal.specs.Windows.{Has}
 use Rattle.fb_journal.proofs.Showing.{copied}
 use Rattle.fb_journal.proofs.windows.Window.copy.Goals as goal

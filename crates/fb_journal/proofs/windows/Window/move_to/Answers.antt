@@ -1,4 +1,4 @@
-use Rattle.std.proofs.Common.{◌≡◌, ◌≤◌, ◌+◌, ◌-◌, ◌∙◌, ◌++◌, ℕ, List, length, take, drop, ap, sym, arith}
+use Rattle.std.proofs.Common.{◌≡◌, ◌≤◌, ◌+◌, ◌∙◌, ◌++◌, ℕ, length, take, drop, ap, sym, arith}
 use Rattle.fb_journal.proofs.Showing.{written-front}
 use Rattle.fb_journal.proofs.windows.Window.move_to.Goals as goal
 
