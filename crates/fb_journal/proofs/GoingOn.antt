@@ -1,10 +1,10 @@
 -- How a reading goes on: over calls that only read, over a record, to the end and to a fault.
-use Rattle.std.proofs.Common.{inl, inr, ◌≡◌, ◌≢◌, ◌+◌, ◌≤◌, ◌<◌, ◌∙◌, ℕ, List, [], ◌∷◌, ◌++◌, length, get_or, take, drop, Option, Some, sym, ap, subst, arith, length-append}
+use Rattle.std.proofs.Common.{inl, inr, ⊎_elim, ◌≡◌, ◌≢◌, ◌+◌, ◌≤◌, ◌<◌, ◌∙◌, ℕ, List, [], ◌∷◌, ◌++◌, length, get_or, take, drop, Option, Some, sym, ap, subst, arith, length-append}
 use Rattle.std.proofs.lemmas.List.{drop_at, get_or-drop}
 use Rattle.disk_model.specs.Disk.{WhereTold}
 use Rattle.disk_model.specs.Journal.{new_journal, opened, framed, Holds, JournalStands, IsCutShort, BreaksBehind, JournalBreaks}
 use Rattle.disk_model.proofs.Journals.{opened-push, lengths-push, stands-holds}
-use Rattle.disk_model.proofs.Moments.{joined}
+use Rattle.disk_model.proofs.Moments.{joined, weakened}
 use Rattle.fb_journal.specs.Marks.{mark_bytes}
 use Rattle.fb_journal.specs.Starts.{IsNotBad}
 use Rattle.fb_journal.specs.Windows.{Shows, OnlyReads}
@@ -125,11 +125,17 @@ module _ {D : Type 0} {g : _} (bytes : D → Option (List ℕ)) (images : D → 
   pub read-all : WhereTold (bytes r.disk) (λ file. Shows file r.window → get_or file r.gate 0 ≢ 1) → IsRead bytes images moment since mark disk records r
   read-all closed = record {
     read = has;
-    stands = λ was told.
-        let now = has.begun was told in
-        stands-begun was now.0 now.2 (holds-closed now.0 now.1 (closed now.0 now.1 (has.file now.0 now.1).1));
+    stands = stands;
     closed = λ file told. holds-closed file told (closed file told (has.file file told).1);
+    any_moment = λ was told.
+        weakened moment since disk r.disk _ _ (has.any_moment was told)
+        (λ image left. ⊎_elim (λ old. inl old) (λ short. inr (still_new mark records was image short.0 short.1 (stands was told))) left);
   }
+    where
+      stands : WhereTold (bytes disk) (λ file. JournalStands mark records file)
+      stands = λ was told.
+          let now = has.begun was told in
+          stands-begun was now.0 now.2 (holds-closed now.0 now.1 (closed now.0 now.1 (has.file now.0 now.1).1))
 
   breaks-here : (file : List ℕ) → bytes r.disk ≡ Some file → get_or file r.gate 0 ≡ 1 → IsCutShort (drop (r.gate + 1) file)
       → BreaksBehind mark records file r.records (r.gate + 1)

@@ -44,13 +44,15 @@ pub record HasRead {D : Type 0} {g : _} (bytes : D → Option (List ℕ)) (image
       × Shows file r.window × Only file (images r.disk))
   pub any_moment : LeavesBegun bytes images moment since disk r.disk
 
--- They are all that the file stands for.
+-- They are all that the file stands for, and so does what a crash meanwhile leaves, if it is no image from before.
 pub record IsRead {D : Type 0} {g : _} (bytes : D → Option (List ℕ)) (images : D → List ℕ → Type 0)
     (moment : D → ℕ) (since : D → ℕ → List ℕ → Type 0) (mark : List ℕ) (disk : D)
     (records : List (List ℕ)) (r : Reading D g) : Type 0 where
   pub read : HasRead bytes images moment since mark disk records r
   pub stands : WhereTold (bytes disk) (λ file. JournalStands mark records file)
   pub closed : WhereTold (bytes r.disk) (λ file. Holds mark records file)
+  pub any_moment : WhereTold (bytes disk) (λ _. LeavesOnly moment since disk r.disk
+      (λ image. images disk image ⊎ JournalStands mark records image))
 
 -- the file's first fault, behind these records, where it is one of the file
 abbrev pub IsFirstFault : List ℕ → Option (List ℕ) → List (List ℕ) → StartFault → Type 0
