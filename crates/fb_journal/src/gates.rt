@@ -21,7 +21,11 @@ pub(crate) enum Ahead {
 }
 
 /// Looks at a gate, and where it is open at the length behind it.
-pub(crate) fn look_ahead<D: Disk>(disk: &mut D, window: &mut Window, gate: u64) -> Result<Ahead, Failed>
+pub(crate) fn look_ahead<D: Disk>(
+    disk: &mut D,
+    window: &mut Window,
+    gate: u64,
+) -> Result<Ahead, Failed>
     requires { gate < window.old.len }
     ensures stands { IfOk result (λ ahead. WhereTold (D.bytes disk.old) (λ file. Shows file window.old
         → StandsAt file gate ahead)) }

@@ -38,7 +38,12 @@ pub(crate) fn begin<D: Disk>(alloc: Global, disk: &mut D, mark: Mark) -> Result<
 }
 
 /// A window on a file of this length, which begins with the mark.
-fn read_mark<D: Disk>(alloc: Global, disk: &mut D, mark: Mark, len: u64) -> Result<Window, StartFault>
+fn read_mark<D: Disk>(
+    alloc: Global,
+    disk: &mut D,
+    mark: Mark,
+    len: u64,
+) -> Result<Window, StartFault>
     requires longer { 16 < len }
     requires len { WhereTold (D.bytes disk.old) (λ file. len ≡ length file) }
     ensures file { IfOk result (λ window. WhereTold (D.bytes disk.old) (λ file.

@@ -37,7 +37,12 @@ impl Window {
 
     /// Reads what stands at a place, and answers whether that fills the buffer. What does not fit into a window is read past
     /// it.
-    pub(crate) fn read<D: Disk>(&mut self, disk: &mut D, at: u64, buf: &mut [u8]) -> Result<bool, Failed>
+    pub(crate) fn read<D: Disk>(
+        &mut self,
+        disk: &mut D,
+        at: u64,
+        buf: &mut [u8],
+    ) -> Result<bool, Failed>
         requires { at + length buf.old ≤ self.old.len }
         ensures read { IfOk result (λ whole. WhereTold (D.bytes disk.old) (λ file. Shows file self.old
             → IsTrue whole × (buf.new ≡ take (length buf.old) (drop at file)))) }

@@ -31,7 +31,10 @@ pub(crate) enum Found {
 
 /// The history that the records of a log hold, or what is wrong with the log first. A record that holds no entry is told
 /// once all records were found, since a fault of the journal behind it comes before it.
-pub(crate) fn history_of<D: Disk>(alloc: Global, log: &mut Reading<D>) -> Result<EntryList, OpenFault>
+pub(crate) fn history_of<D: Disk>(
+    alloc: Global,
+    log: &mut Reading<D>,
+) -> Result<EntryList, OpenFault>
     requires { (disk : D)
         × HasRead D.bytes D.images D.moment D.images_since log_mark disk [] log.old }
     ensures read { IfOk result (λ h. (disk : D)
