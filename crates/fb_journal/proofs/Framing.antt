@@ -23,8 +23,10 @@ pub framed-in : (bytes now was : List ℕ) (size : ℕ) → size ≡ length byte
     → now ≡ to_be_bytes w64 (length was - 8) ++ drop 8 was
     → take size (now ++ drop (length now) bytes) ≡ framed (drop 8 bytes)
 framed-in bytes now was size all long same is =
-    let told : now ≡ to_be_bytes w64 (length bytes - 8) ++ drop 8 bytes = is ∙ ap (λ (l : List ℕ). to_be_bytes w64 (length l - 8) ++ drop 8 l) same in
-    let whole : size ≡ length now = omega (arith, all, long, ap length told, length-drop 8 bytes, length-append (to_be_bytes w64 (length bytes - 8)) (drop 8 bytes)) in
+    let told : now ≡ to_be_bytes w64 (length bytes - 8) ++ drop 8 bytes =
+    is ∙ ap (λ (l : List ℕ). to_be_bytes w64 (length l - 8) ++ drop 8 l) same in
+    let whole : size ≡ length now = omega
+    (arith, all, long, ap length told, length-drop 8 bytes, length-append (to_be_bytes w64 (length bytes - 8)) (drop 8 bytes)) in
     take_at now (drop (length now) bytes) size (sym whole)
     ∙ told
     ∙ ap (λ (n : ℕ). to_be_bytes w64 n ++ drop 8 bytes) (sym (length-drop 8 bytes))

@@ -22,7 +22,8 @@ use Rattle.fb_journal.proofs.Walking.{front-more}
 -- ---- calls that only read
 
 module _ {D : Type 0} (bytes : D → Option (List ℕ)) (images : D → List ℕ → Type 0) (moment : D → ℕ) (since : D → ℕ → List ℕ → Type 0) where
-  pub reads-then : (old mid new : D) (v w z : Window) → OnlyReads bytes images moment since old mid v w → OnlyReads bytes images moment since mid new w z
+  pub reads-then : (old mid new : D) (v w z : Window) → OnlyReads bytes images moment since old mid v w
+      → OnlyReads bytes images moment since mid new w z
       → OnlyReads bytes images moment since old new v z
   reads-then old mid new v w z first second = record {
     same = second.same ∙ first.same;
@@ -68,7 +69,8 @@ module _ {D : Type 0} (bytes : D → Option (List ℕ)) (images : D → List ℕ
 
     -- and the one behind the gate
     pub read-more : (payload : List ℕ) (n : ℕ) → length payload ≡ n → new.records ≡ old.records + 1 → new.gate ≡ old.gate + 9 + n
-        → WhereTold (bytes old.disk) (λ file. Shows file old.window → StandsAt file old.gate (Record n) × (payload ≡ take n (drop (old.gate + 9) file)))
+        → WhereTold (bytes old.disk) (λ file. Shows file old.window
+        → StandsAt file old.gate (Record n) × (payload ≡ take n (drop (old.gate + 9) file)))
         → HasRead bytes images moment since mark disk (records ++ payload ∷ []) new
     read-more payload n size count gate stands = record {
       marked = ap mark_bytes same ∙ has.marked;
@@ -101,8 +103,9 @@ zero-gate : (mark : List ℕ) → length mark ≡ 15 → get_or (new_journal mar
 zero-gate mark fifteen =
     sym (get_or-drop 15 (new_journal mark) 0 0) ∙ ap (λ (l : List ℕ). get_or l 0 0) (drop_at mark (0 ∷ []) 15 fifteen)
 
-module _ {D : Type 0} {g : _} (bytes : D → Option (List ℕ)) (images : D → List ℕ → Type 0) (moment : D → ℕ) (since : D → ℕ → List ℕ → Type 0)
-    (mark : List ℕ) (disk : D) (records : List (List ℕ)) (r : Reading D g) (has : HasRead bytes images moment since mark disk records r) where
+module _ {D : Type 0} {g : _} (bytes : D → Option (List ℕ)) (images : D → List ℕ → Type 0) (moment : D → ℕ)
+    (since : D → ℕ → List ℕ → Type 0) (mark : List ℕ) (disk : D) (records : List (List ℕ)) (r : Reading D g)
+    (has : HasRead bytes images moment since mark disk records r) where
   fifteen : length mark ≡ 15
   fifteen = sym (ap length has.marked) ∙ length-mark_bytes r.mark
 
@@ -122,7 +125,8 @@ module _ {D : Type 0} {g : _} (bytes : D → Option (List ℕ)) (images : D → 
       still_new mark records now was short new_one.0 (stands-holds mark records now fifteen holds)
   stands-begun was now (inr longer) holds = inr (longer.0, subst (Holds mark records) longer.1 holds)
 
-  pub read-all : WhereTold (bytes r.disk) (λ file. Shows file r.window → get_or file r.gate 0 ≢ 1) → IsRead bytes images moment since mark disk records r
+  pub read-all : WhereTold (bytes r.disk) (λ file. Shows file r.window → get_or file r.gate 0 ≢ 1)
+      → IsRead bytes images moment since mark disk records r
   read-all closed = record {
     read = has;
     stands = stands;
@@ -162,7 +166,8 @@ module _ {D : Type 0} {g : _} (bytes : D → Option (List ℕ)) (images : D → 
       (longer.0, inr (subst (λ (f : List ℕ). BreaksBehind mark records f r.records (r.gate + 1)) longer.1 (breaks-here now told at.0 at.1)))
 
   pub first-fault : (fault : StartFault) → fault ≡ BadLog r.records (r.gate + 1)
-      → WhereTold (bytes r.disk) (λ file. Shows file r.window → StandsAt file r.gate CutShort) → IsFirstFault mark (bytes disk) records fault
+      → WhereTold (bytes r.disk) (λ file. Shows file r.window → StandsAt file r.gate CutShort)
+      → IsFirstFault mark (bytes disk) records fault
   first-fault fault is stands =
       subst (IsFirstFault mark (bytes disk) records) (sym is)
       (λ was told. let now = has.begun was told in breaks-begun was now.0 now.2 now.1 (stands now.0 now.1 (has.file now.0 now.1).1))
@@ -173,6 +178,7 @@ module _ {D : Type 0} {g : _} (bytes : D → Option (List ℕ)) (images : D → 
   no-fault Memory not_bad = tt
 
   -- a fault that is none of a file that is told
-  pub other-fault : (fault : StartFault) → WhereTold (bytes r.disk) (λ file. Shows file r.window → IsNotBad fault) → IsFirstFault mark (bytes disk) records fault
+  pub other-fault : (fault : StartFault) → WhereTold (bytes r.disk) (λ file. Shows file r.window → IsNotBad fault)
+      → IsFirstFault mark (bytes disk) records fault
   other-fault fault not_bad =
       no-fault fault (λ was told. let now = has.begun was told in not_bad now.0 now.1 (has.file now.0 now.1).1)

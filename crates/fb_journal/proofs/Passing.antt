@@ -17,7 +17,8 @@ first-byte file buf gate is =
     ∙ get_or-drop gate file 0 0
     ∙ ap (λ (n : ℕ). get_or file n 0) (omega arith)
 
-pub stands-open : (file : List ℕ) (gate : ℕ) (ahead : Ahead) → get_or file gate 0 ≡ 1 → StandsBehind (drop (gate + 1) file) ahead → StandsAt file gate ahead
+pub stands-open : (file : List ℕ) (gate : ℕ) (ahead : Ahead) → get_or file gate 0 ≡ 1 → StandsBehind (drop (gate + 1) file) ahead
+    → StandsAt file gate ahead
 stands-open file gate Closed is stands = absurd stands
 stands-open file gate CutShort is stands = (is, stands)
 stands-open file gate (Record len) is stands = (is, stands)

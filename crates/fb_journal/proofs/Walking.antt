@@ -20,7 +20,8 @@ small-front file at n small i = elim (cases_lt i n) [
 ]
 
 -- a length is written as the eight bytes that it was read from
-pub told-length : (rest : List ℕ) (n : ℕ) → 8 ≤ length rest → ((i : ℕ) → get_or (take 8 rest) i 0 < 256) → n ≡ from_be_bytes w64 (take 8 rest)
+pub told-length : (rest : List ℕ) (n : ℕ) → 8 ≤ length rest → ((i : ℕ) → get_or (take 8 rest) i 0 < 256)
+    → n ≡ from_be_bytes w64 (take 8 rest)
     → to_be_bytes w64 n ≡ take 8 rest
 told-length rest n room small is = be_bytes_8 (take 8 rest) n (omega (arith, room, length-take 8 rest)) small is
 

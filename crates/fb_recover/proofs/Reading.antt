@@ -44,7 +44,8 @@ bad-behind before (entry ∷ entries) (p ∷ part) payload rest byte are breaks 
 
 -- ---- one record more
 
-with-stays : (before : List (List ℕ)) (said : Says) (behind longer : RecordsSay) (nth at : ℕ) → (behind ≡ bad_at nth at → longer ≡ bad_at nth at)
+with-stays : (before : List (List ℕ)) (said : Says) (behind longer : RecordsSay) (nth at : ℕ)
+    → (behind ≡ bad_at nth at → longer ≡ bad_at nth at)
     → with_record before said behind ≡ bad_at nth at → with_record before said longer ≡ bad_at nth at
 with-stays before (holds entry) (hold entries) longer nth at later is = absurd (cc)
 with-stays before (holds entry) (bad_at n a) longer nth at later is = ap (with_entry entry) (later is)
@@ -63,7 +64,8 @@ pub misfit-stays : (records : List (List ℕ)) (payload : List ℕ) (nth at : �
     → HaveFound (records ++ payload ∷ []) (Misfit nth at)
 misfit-stays records payload nth at is = bad-stays [] records (payload ∷ []) nth at is
 
-pub found-more : (records : List (List ℕ)) (judged : Judged) (place : Place) (payload : List ℕ) (found : Found) → HaveFound records (Entries judged)
+pub found-more : (records : List (List ℕ)) (judged : Judged) (place : Place) (payload : List ℕ) (found : Found)
+    → HaveFound records (Entries judged)
     → place.nth ≡ length records → place.at ≡ byte_in_log records 0 → IsFound judged place payload found
     → HaveFound (records ++ payload ∷ []) found
 found-more records judged place payload (Entries next) have number here is =

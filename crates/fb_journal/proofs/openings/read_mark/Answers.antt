@@ -11,6 +11,7 @@ returns-then-starts_with-clause-file g c = λ file told.
       bytes = none-shown file c.in_ok-window.window c.in_ok-window.ensures.1;
     } in
     let read = c.in_ok-read.ensures.read file told first in (
-      marked-by file c.read.new.buf c.bytes.result.now _ c.if-starts_with.ensures.value read.1 c.bytes.ensures (length-mark_bytes c.args.mark),
+      marked-by file c.read.new.buf c.bytes.result.now _ c.if-starts_with.ensures.value read.1 c.bytes.ensures
+          (length-mark_bytes c.args.mark),
       c.read.ensures.leaves.shows file told first,
     )

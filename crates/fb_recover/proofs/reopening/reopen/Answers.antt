@@ -51,7 +51,8 @@ returns-in-Ok-core_of-clause-told g c = λ file told.
 pub returns-in-Ok-core_of-clause-any_moment : goal.returns-in-Ok-core_of-clause-any_moment
 returns-in-Ok-core_of-clause-any_moment g c = λ file told.
     let d = g.D.Disk in
-    subst (λ now. LeavesBegun d.bytes d.images d.moment d.images_since c.args.disk now) (sym (c.of-log.ensures.disk ∙ c.finish.ensures.disk))
+    subst (λ now. LeavesBegun d.bytes d.images d.moment d.images_since c.args.disk now)
+    (sym (c.of-log.ensures.disk ∙ c.finish.ensures.disk))
     (c.core_of.ensures.any_moment c.args.disk c.in-Ok.ensures.begins) file told
 
 pub returns-in-Ok-core_of-clause-any_moment_stands : goal.returns-in-Ok-core_of-clause-any_moment_stands

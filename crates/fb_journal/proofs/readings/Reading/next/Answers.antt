@@ -36,8 +36,8 @@ pub returns-in-Closed-clause-end : goal.returns-in-Closed-clause-end
 returns-in-Closed-clause-end g c = λ mark disk records has.
     let d = g.D.Disk in
     let leaves = c.look_ahead.ensures.leaves in
-    let now = still-read d.bytes d.images d.moment d.images_since g.met.D.Disk.counts_now mark disk records c.args.self.now _ leaves refl has
-    refl refl in
+    let now = still-read d.bytes d.images d.moment d.images_since g.met.D.Disk.counts_now mark disk records c.args.self.now _ leaves refl
+    has refl refl in
     read-all d.bytes d.images d.moment d.images_since mark disk records _ now
     (λ file told shows.
     let before = sym leaves.same ∙ told in
@@ -47,8 +47,8 @@ pub returns-in-CutShort-clause-why_not : goal.returns-in-CutShort-clause-why_not
 returns-in-CutShort-clause-why_not g c = λ mark disk records has.
     let d = g.D.Disk in
     let leaves = c.look_ahead.ensures.leaves in
-    let now = still-read d.bytes d.images d.moment d.images_since g.met.D.Disk.counts_now mark disk records c.args.self.now _ leaves refl has
-    refl refl in (
+    let now = still-read d.bytes d.images d.moment d.images_since g.met.D.Disk.counts_now mark disk records c.args.self.now _ leaves refl
+    has refl refl in (
       first-fault d.bytes d.images d.moment d.images_since mark disk records _ now c.broken.result c.broken.ensures
           (λ file told shows.
           let before = sym leaves.same ∙ told in

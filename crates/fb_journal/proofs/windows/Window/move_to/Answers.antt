@@ -13,7 +13,8 @@ returns-clause-leaves g c = record {
       let room : ℕ = c.min-room.result in
       let within : c.args.at + room ≤ length file = omega (arith, shows.len, c.requires, c.min-room.ensures) in
       let read = c.in_ok-filled.ensures.read file told within in
-      let size : w.bytes.len ≡ length c.fill_front.new.buf = omega (arith, w.bytes.ok.0, ap length c.deref_mut.ensures.value, c.fill_front.auto.buf) in
+      let size : w.bytes.len ≡ length c.fill_front.new.buf = omega
+      (arith, w.bytes.ok.0, ap length c.deref_mut.ensures.value, c.fill_front.auto.buf) in
       let most : room ≤ w.bytes.len = omega (arith, c.min-room.ensures, c.len.ensures) in record {
         len = shows.len;
         bytes = ap (λ (n : ℕ). take n (take w.bytes.len (c.fill_front.new.buf ++ drop (length c.fill_front.new.buf) w.bytes.items))) read.0
