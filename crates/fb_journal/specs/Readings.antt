@@ -44,7 +44,7 @@ pub record HasRead {D : Type 0} {g : _} (bytes : D → Option (List ℕ)) (image
       × Shows file r.window × Only file (images r.disk))
   pub any_moment : LeavesBegun bytes images moment since disk r.disk
 
--- They are all that the file stands for, and so does what a crash meanwhile leaves, if it is no image from before.
+-- They are all that the file stands for. What a crash meanwhile leaves stands for them too, or is an image from before.
 pub record IsRead {D : Type 0} {g : _} (bytes : D → Option (List ℕ)) (images : D → List ℕ → Type 0)
     (moment : D → ℕ) (since : D → ℕ → List ℕ → Type 0) (mark : List ℕ) (disk : D)
     (records : List (List ℕ)) (r : Reading D g) : Type 0 where

@@ -1,13 +1,13 @@
 //! Reading the records of a log as a history.
 ghost use Rattle.std.specs.Prelude.{◌≡◌, ◌<◌, ◌+◌, ◌^◌, ◌++◌, [], ◌∷◌, ℕ, List, length, IfOk, IfErr, MatchResult};
+ghost use Rattle.fb_values.specs.declared.facts.Entry.{Entry};
 ghost use Rattle.disk_model.specs.Disk.{WhereTold};
 ghost use Rattle.disk_model.specs.Journal.{log_mark};
 ghost use Rattle.log_model.specs.Log.{LogStands, byte_in_log, log_says};
 ghost use Rattle.fb_journal.specs.Readings.{disk_from, HasRead, IsRead, LeavesBegun};
 ghost use Rattle.fb_recover.specs.Faults.{TellsFault, IsCause, CountsOpening};
-ghost use Rattle.fb_values.specs.declared.facts.Entry.{Entry};
-ghost use Rattle.fb_recover.specs.Judging.{IsJudged};
 ghost use Rattle.fb_recover.specs.Finding.{IsFound, HaveFound};
+ghost use Rattle.fb_recover.specs.Judging.{IsJudged};
 
 use crate::OpenFault;
 use crate::judging::Judged;
