@@ -1,7 +1,8 @@
 -- The payload in the bytes of a record.
-use Rattle.std.proofs.Common.{◌≡◌, ◌+◌, ◌-◌, ℕ, List, [], ◌∷◌, length, ◌∙◌, ap, sym, arith, length-append}
+use Rattle.std.proofs.Common.{◌≡◌, ◌+◌, ◌-◌, ◌≤◌, ◌++◌, ℕ, List, [], ◌∷◌, length, take, drop, ◌∙◌, ap, sym, arith, length-append, length-drop}
+use Rattle.std.specs.Int.{w64, to_be_bytes}
 use Rattle.std.proofs.lemmas.List.{take_at}
-use Rattle.disk_model.specs.Journal.{record_of}
+use Rattle.disk_model.specs.Journal.{framed, record_of}
 use Rattle.fb_journal.specs.Frames.{payload_in}
 
 pub length-record : (payload : List ℕ) → length (record_of payload) ≡ length payload + 9
@@ -17,4 +18,15 @@ payload_in-bytes bytes payload is = ap payload_in is ∙ payload_in-record_of pa
 pub record_of-payload_in : (bytes payload : List ℕ) → bytes ≡ record_of payload → bytes ≡ record_of (payload_in bytes)
 record_of-payload_in bytes payload is = is ∙ ap record_of (sym (payload_in-bytes bytes payload is))
 
-pub ruleset frames = (payload_in-bytes, record_of-payload_in)
+-- bytes whose first eight gave way to the length of those behind them
+pub framed-in : (bytes now was : List ℕ) (size : ℕ) → size ≡ length bytes → 8 ≤ length bytes → was ≡ bytes
+    → now ≡ to_be_bytes w64 (length was - 8) ++ drop 8 was
+    → take size (now ++ drop (length now) bytes) ≡ framed (drop 8 bytes)
+framed-in bytes now was size all long same is =
+    let told : now ≡ to_be_bytes w64 (length bytes - 8) ++ drop 8 bytes =
+    is ∙ ap (λ (l : List ℕ). to_be_bytes w64 (length l - 8) ++ drop 8 l) same in
+    let whole : size ≡ length now = omega
+    (arith, all, long, ap length told, length-drop 8 bytes, length-append (to_be_bytes w64 (length bytes - 8)) (drop 8 bytes)) in
+    take_at now (drop (length now) bytes) size (sym whole)
+    ∙ told
+    ∙ ap (λ (n : ℕ). to_be_bytes w64 n ++ drop 8 bytes) (sym (length-drop 8 bytes))

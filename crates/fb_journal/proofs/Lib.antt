@@ -1,6 +1,9 @@
 pub mod Appends
 pub mod Filling
 pub mod Framing
+pub mod GoingOn
 pub mod Outcomes
+pub mod Passing
+pub mod Showing
 pub mod Starting
 pub mod Walking

@@ -11,7 +11,7 @@ use Rattle.fb_journal.specs.Payloads.{payload_at, payloads_of, AreWithin}
 use Rattle.fb_journal.specs.declared.payloads.Span.{Span}
 
 -- the first bytes of what stands from a place on are bytes
-small-front : (file : List ℕ) (at n : ℕ) → ((i : ℕ) → get_or file i 0 < 256) → (i : ℕ) → get_or (take n (drop at file)) i 0 < 256
+pub small-front : (file : List ℕ) (at n : ℕ) → ((i : ℕ) → get_or file i 0 < 256) → (i : ℕ) → get_or (take n (drop at file)) i 0 < 256
 small-front file at n small i = elim (cases_lt i n) [
   | inl below ↦ rw (get_or-take n (drop at file) i 0 below, get_or-drop at file i 0) (small (at + i))
   | inr past ↦
@@ -19,8 +19,14 @@ small-front file at n small i = elim (cases_lt i n) [
       rw (get_or_past (take n (drop at file)) i 0 end) (omega arith)
 ]
 
-module _ (file : List ℕ) (gate n : ℕ) (small : (i : ℕ) → get_or file i 0 < 256) (within : gate < length file) (open_gate : get_or file gate 0 ≡ 1)
-    (is : n ≡ from_be_bytes w64 (take 8 (drop (gate + 1) file))) (room : 8 + n + 1 ≤ length (drop (gate + 1) file)) where
+-- a length is written as the eight bytes that it was read from
+pub told-length : (rest : List ℕ) (n : ℕ) → 8 ≤ length rest → ((i : ℕ) → get_or (take 8 rest) i 0 < 256)
+    → n ≡ from_be_bytes w64 (take 8 rest)
+    → to_be_bytes w64 n ≡ take 8 rest
+told-length rest n room small is = be_bytes_8 (take 8 rest) n (omega (arith, room, length-take 8 rest)) small is
+
+module _ (file : List ℕ) (gate n : ℕ) (within : gate < length file) (open_gate : get_or file gate 0 ≡ 1)
+    (told : to_be_bytes w64 n ≡ take 8 (drop (gate + 1) file)) (room : 8 + n + 1 ≤ length (drop (gate + 1) file)) where
   abbrev rest : List ℕ
   rest = drop (gate + 1) file
 
@@ -30,11 +36,8 @@ module _ (file : List ℕ) (gate n : ℕ) (small : (i : ℕ) → get_or file i 0
   length-payload : length payload ≡ n
   length-payload = omega (arith, room, length-take n (drop (gate + 1 + 8) file), length-drop (gate + 1 + 8) file, length-drop (gate + 1) file)
 
-  length-eight : length (take 8 (drop (gate + 1) file)) ≡ 8
-  length-eight = omega (arith, room, length-take 8 (drop (gate + 1) file))
-
   bytes-length : to_be_bytes w64 (length payload) ≡ take 8 rest
-  bytes-length = be_bytes_8 (take 8 rest) (length payload) length-eight (small-front file (gate + 1) 8 small) (length-payload ∙ is)
+  bytes-length = ap (λ (k : ℕ). to_be_bytes w64 k) length-payload ∙ told
 
   behind : take (8 + n) rest ≡ framed payload
   behind =

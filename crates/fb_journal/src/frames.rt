@@ -1,7 +1,9 @@
 //! A record's bytes.
-ghost use Rattle.std.specs.Prelude.{◌≡◌, IfOk};
+ghost use Rattle.std.specs.Prelude.{◌≡◌, ◌≤◌, ◌-◌, ◌++◌, length, drop, IfOk};
+ghost use Rattle.std.specs.Int.{w64, to_be_bytes};
 ghost use Rattle.disk_model.specs.Journal.{record_of};
 
+use crate::records::LENGTH;
 use fb_memory::Memory;
 use std::alloc::Global;
 use std::marker::Model;
@@ -36,14 +38,33 @@ impl Framed {
     }
 }
 
-/// Makes the record of a payload. All the memory that adding it needs is taken here.
-#[tactic(auto, using(crate::proofs::Framing::frames))]
+/// Makes the record of a payload, of which it makes a copy. All the memory that adding it needs is taken here.
 pub fn frame(alloc: Global, payload: &[u8]) -> Result<Framed, Memory>
     ensures { IfOk result (λ f. f ≡ payload.now) }
 {
     let mut bytes = Vec::with_capacity(alloc, payload.len() + AROUND)?;
-    bytes.extend_from_slice(&(payload.len() as u64).to_be_bytes())?;
+    bytes.extend_from_slice(&[0; LENGTH])?;
     bytes.extend_from_slice(payload)?;
+    frame_in(bytes)
+}
+
+/// Makes the record of the payload behind the first 8 bytes, in place: its length is written over them. It takes no memory
+/// where the vector has room for one byte more.
+pub fn frame_in(bytes: Vec<u8>) -> Result<Framed, Memory>
+    requires { 8 ≤ length bytes.items }
+    ensures { IfOk result (λ f. f ≡ drop 8 bytes.items) }
+{
+    let mut bytes = bytes;
+    write_length(&mut bytes);
     bytes.push(0)?;
     Ok(Framed { bytes })
+}
+
+/// Writes how many bytes stand behind the first 8, over these.
+fn write_length(bytes: &mut [u8])
+    requires { 8 ≤ length bytes.old }
+    ensures { bytes.new ≡ to_be_bytes w64 (length bytes.old - 8) ++ drop 8 bytes.old }
+{
+    let len = (bytes.len() - LENGTH) as u64;
+    bytes[..LENGTH].copy_from_slice(&len.to_be_bytes());
 }

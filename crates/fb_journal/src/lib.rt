@@ -3,17 +3,22 @@
 #![tactic(auto)]
 
 mod frames;
+mod gates;
 mod journals;
 mod marks;
+mod openings;
 mod payloads;
+mod readings;
 mod reads;
 mod records;
 mod starts;
 mod stores;
+mod windows;
 
 pub use fb_memory::Memory;
-pub use frames::{Framed, frame};
+pub use frames::{Framed, frame, frame_in};
 pub use journals::{Journal, JournalFault};
 pub use marks::Mark;
 pub use payloads::Payloads;
+pub use readings::{Place, Reading};
 pub use starts::{StartFault, StartStop};

@@ -1,5 +1,5 @@
 //! Reading a file in bulk.
-ghost use Rattle.std.specs.Prelude.{◌≡◌, ◌≤◌, length, IfOk, OnOk};
+ghost use Rattle.std.specs.Prelude.{◌≡◌, ◌≤◌, ◌<◌, ◌+◌, ◌^◌, length, take, drop, IfOk, OnOk};
 ghost use Rattle.fb_calls.specs.Faults.{Counts};
 ghost use Rattle.disk_model.specs.Disk.{Only, Within, WhereTold, LeavesOnly};
 
@@ -19,11 +19,13 @@ pub(crate) fn settle<D: Disk>(disk: &mut D) -> Result<u64, Failed>
     disk.len()
 }
 
-/// Reads the file from its front until the buffer is full, or a read gives nothing.
-pub(crate) fn fill<D: Disk>(disk: &mut D, buf: &mut [u8]) -> Result<usize, Failed>
+/// Reads what stands from a place on until the buffer is full, or a read gives nothing.
+pub(crate) fn fill<D: Disk>(disk: &mut D, at: u64, buf: &mut [u8]) -> Result<usize, Failed>
+    requires { at + length buf.old < 2 ^ 64 }
     ensures within { IfOk result (λ n. n ≤ length buf.old) }
     ensures read { IfOk result (λ n. WhereTold (D.bytes disk.old)
-        (λ file. length buf.old ≡ length file → (n ≡ length file) × (buf.new ≡ file))) }
+        (λ file. at + length buf.old ≤ length file
+        → (n ≡ length buf.old) × (buf.new ≡ take (length buf.old) (drop at file)))) }
     ensures bytes { D.bytes disk.new ≡ D.bytes disk.old }
     ensures crash { Within (D.images disk.old) (D.images disk.new) }
     ensures any_moment { LeavesOnly D.moment D.images_since disk.old disk.new (D.images disk.old) }
@@ -31,7 +33,7 @@ pub(crate) fn fill<D: Disk>(disk: &mut D, buf: &mut [u8]) -> Result<usize, Faile
 {
     let mut filled = 0;
     while filled < buf.len() {
-        let count = disk.read_at(filled as u64, &mut buf[filled..])?;
+        let count = disk.read_at(at + filled as u64, &mut buf[filled..])?;
         if count == 0 {
             return Ok(filled);
         }

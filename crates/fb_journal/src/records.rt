@@ -12,10 +12,10 @@ use crate::{Mark, Payloads};
 use std::alloc::{AllocError, Global};
 
 /// The one byte at which a gate is open.
-const OPEN: u8 = 1;
+pub(crate) const OPEN: u8 = 1;
 
 /// The bytes of a payload's length.
-const LENGTH: usize = 8;
+pub(crate) const LENGTH: usize = 8;
 
 /// Where the records of a file end: at a closed gate, or at the first fault.
 #[derive(Clone, Copy)]

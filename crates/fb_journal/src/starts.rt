@@ -19,7 +19,7 @@ use std::alloc::{AllocError, AllocFailed, Global};
 use thiserror::Error;
 
 /// A file that is no longer is a new journal, whatever it holds: a crash while it was made may have left any of it.
-const NEW: u64 = 16;
+pub(crate) const NEW: u64 = 16;
 
 /// Why a journal did not start.
 #[derive(Clone, Copy, Debug, PartialEq, Eq, Error)]
@@ -192,7 +192,7 @@ fn open_records<D: Disk>(alloc: Global, disk: &mut D, mark: Mark) -> Result<Reco
         });
     }
     let mut file = vec![in alloc; 0u8; len as usize]?;
-    let count = fill(disk, &mut file)?;
+    let count = fill(disk, 0, &mut file)?;
     file.truncate(count);
     Ok(read_records(alloc, file, mark)?)
 }

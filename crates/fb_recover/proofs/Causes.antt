@@ -4,6 +4,7 @@ use Rattle.disk_model.specs.Disk.{WhereTold}
 use Rattle.disk_model.specs.Journal.{log_mark, JournalStands}
 use Rattle.log_model.specs.Log.{LogSays, log_says}
 use Rattle.fb_journal.specs.Starts.{IsWhyNot, CountsStart}
+use Rattle.fb_journal.specs.Readings.{IsFirstFault}
 use Rattle.fb_journal.specs.declared.starts.StartFault.{StartFault}
 use Rattle.fb_journal.specs.declared.starts.StartFault.TheVariants.{Disk as StartDisk, BadLog as StartBadLog, Memory as StartMemory}
 use Rattle.fb_recover.specs.declared.faults.OpenFault.{OpenFault}
@@ -21,6 +22,13 @@ pub start-counts : (start : StartFault) (old new : ℕ) → CountsStart start ol
 start-counts StartDisk old new counts = counts
 start-counts (StartBadLog nth at) old new counts = counts
 start-counts StartMemory old new counts = counts
+
+-- of the journal, where its records are read
+pub reading-cause : (told : Option (List ℕ)) (start : StartFault) (records : List (List ℕ)) → IsFirstFault log_mark told records start
+    → WhereTold told (IsCause (fault_of start))
+reading-cause told StartDisk records first = λ file is. tt
+reading-cause told StartMemory records first = λ file is. tt
+reading-cause told (StartBadLog nth at) records first = λ file is. (records, inr (nth, at, first file is, refl))
 
 -- of the records
 pub records-cause : (told : Option (List ℕ)) (records : List (List ℕ)) (fault : OpenFault) → TellsFault fault (log_says records)

@@ -1,44 +1,23 @@
--- What the records of a log say, read one after another, and where they lie in the file.
-use Rattle.std.proofs.Common.{◌≡◌, ◌≤◌, ◌<◌, ◌+◌, ℕ, zero, suc, List, [], ◌∷◌, ◌++◌, length, take, drop, get_or, refl, sym, ◌∙◌, ap, subst, arith, append_assoc, length-append, take-append-drop}
-use Rattle.std.proofs.lemmas.List.{append-nil, take_more, drop_more, take_all, length-take}
+-- What the records of a log say, read one after another.
+use Rattle.std.proofs.Common.{◌≡◌, ◌∙◌, ℕ, List, [], ◌∷◌, ◌++◌, length, Option, refl, sym, ap, subst, arith, append_assoc}
+use Rattle.std.proofs.lemmas.List.{append-nil}
 use Rattle.fb_values.specs.declared.facts.Entry.{Entry}
 use Rattle.fb_model.specs.FirstEntry.{first_entry}
 use Rattle.fb_model.specs.Lawful.{IsLawful}
-use Rattle.disk_model.specs.Journal.{log_mark, framed, opened}
-use Rattle.disk_model.proofs.Journals.{opened-push}
-use Rattle.log_model.specs.Payload.{Says, breaks_at, payload_says}
-use Rattle.log_model.specs.Storable.{IsPayloadOf}
-use Rattle.log_model.specs.Log.{ArePayloadsOf, LogStands, hold, bad_at, byte_in_log, with_entry, with_record, entries_behind, bad_record, told, log_says}
+use Rattle.disk_model.specs.Journal.{log_mark}
+use Rattle.log_model.specs.Payload.{Says, holds, breaks_at, payload_says}
+use Rattle.log_model.specs.Log.{RecordsSay, ArePayloadsOf, LogStands, hold, bad_at, byte_in_log, with_entry, with_record, entries_behind, told, log_says}
 use Rattle.log_model.proofs.Entries.{says-entry_bytes}
 use Rattle.disk_log.proofs.Histories.{payloads-push}
+use Rattle.fb_journal.specs.Readings.{HasRead}
+use Rattle.fb_journal.specs.declared.readings.Place.{Place}
+use Rattle.fb_journal.specs.declared.readings.Reading.{Reading}
 use Rattle.fb_recover.specs.declared.faults.OpenFault.{OpenFault}
-use Rattle.fb_recover.specs.declared.faults.OpenFault.TheVariants.{Disk, BadLog, Unlawful, Memory}
-use Rattle.fb_recover.specs.declared.records.Place.{Place}
 use Rattle.fb_recover.specs.declared.judging.Judged.{Judged}
+use Rattle.fb_recover.specs.declared.records.Found.{Found}
+use Rattle.fb_recover.specs.declared.records.Found.TheVariants.{Entries, Misfit}
 use Rattle.fb_recover.specs.Faults.{TellsFault}
-use Rattle.fb_recover.specs.Judging.{IsJudged}
-use Rattle.fb_recover.specs.Places.{IsMisfit}
-
--- ---- where they lie
-
-abbrev pub after : List (List ℕ) → ℕ → ℕ
-after records n = length (opened (take n records))
-
-pub after-within : (records : List (List ℕ)) (n : ℕ) → after records n ≤ length (opened records)
-after-within records zero = omega arith
-after-within [] (suc n) = omega arith
-after-within (p ∷ records) (suc n) = omega
-    (arith, after-within records n, length-append (framed p) (opened (take n records)), length-append (framed p) (opened records))
-
-pub after-next : (records : List (List ℕ)) (n : ℕ) → n < length records
-    → after records (n + 1) ≡ after records n + 9 + length (get_or records n [])
-after-next records n below =
-    let payload : List ℕ = get_or records n [] in
-    let more : opened (take (n + 1) records) ≡ opened (take n records) ++ 1 ∷ framed payload = ap opened (take_more records n [] below)
-    ∙ opened-push (take n records) payload in
-    omega (arith, ap length more, length-append (opened (take n records)) (1 ∷ framed payload))
-
--- ---- what they say
+use Rattle.fb_recover.specs.Finding.{HaveFound, IsFound}
 
 hold-behind : (before : List (List ℕ)) (entries : List Entry) (records : List (List ℕ)) → ArePayloadsOf entries records
     → entries_behind before records ≡ hold entries
@@ -63,41 +42,39 @@ bad-behind before (entry ∷ entries) (p ∷ part) payload rest byte are breaks 
     ∙ ap (with_entry entry) (bad-behind (before ++ p ∷ []) entries part payload rest byte are.1 breaks)
     ∙ ap (λ (l : List (List ℕ)). bad_at (length l) (byte_in_log l byte)) (append_assoc before (p ∷ []) part)
 
--- the n-th record holds no entry, and each before it does
-pub misfit-told : (entries : List Entry) (records : List (List ℕ)) (n : ℕ) (place : Place) (fault : OpenFault)
-    → ArePayloadsOf entries (take n records) → n < length records
-    → place.nth ≡ n → place.gate ≡ length log_mark + after records n → IsMisfit place (get_or records n []) fault
-    → TellsFault fault (log_says records)
-misfit-told entries records n place Memory are below nth_is gate_is misfit = tt
-misfit-told entries records n place Disk are below nth_is gate_is misfit = misfit
-misfit-told entries records n place (Unlawful t law) are below nth_is gate_is misfit = absurd misfit
-misfit-told entries records n place (BadLog nth at) are below nth_is gate_is misfit =
-    let payload : List ℕ = get_or records n [] in
-    let byte : ℕ = misfit.1.0 in
-    let whole : records ≡ take n records ++ payload ∷ drop (n + 1) records =
-    sym (take-append-drop n records) ∙ ap (λ (l : List (List ℕ)). take n records ++ l) (drop_more records n [] below) in
-    let said : entries_behind [] records ≡ bad_at (length (take n records)) (byte_in_log (take n records) byte) =
-    ap (entries_behind []) whole ∙ bad-behind [] entries (take n records) payload (drop (n + 1) records) byte are misfit.1.1 in
-    let many : length (take n records) ≡ nth = omega (arith, misfit.0, nth_is, below, length-take n records) in
-    let there : byte_in_log (take n records) byte ≡ at = omega (arith, misfit.1.2, gate_is) in
-    ap told said ∙ (λ i. bad_record (many i) (there i))
-
 -- ---- one record more
 
-pub record Goes (records : List (List ℕ)) (n : ℕ) (judged : Judged) : Type 0 where
-  pub entries : List Entry
-  pub payloads : ArePayloadsOf entries (take n records)
-  pub verdict : IsJudged entries judged
+with-stays : (before : List (List ℕ)) (said : Says) (behind longer : RecordsSay) (nth at : ℕ)
+    → (behind ≡ bad_at nth at → longer ≡ bad_at nth at)
+    → with_record before said behind ≡ bad_at nth at → with_record before said longer ≡ bad_at nth at
+with-stays before (holds entry) (hold entries) longer nth at later is = absurd (cc)
+with-stays before (holds entry) (bad_at n a) longer nth at later is = ap (with_entry entry) (later is)
+with-stays before (breaks_at byte) behind longer nth at later is = is
 
-pub goes-on : (records : List (List ℕ)) (n : ℕ) (judged next : Judged) (entry : Entry) → n < length records → Goes records n judged
-    → IsPayloadOf entry (get_or records n [])
-    → ((entries : List Entry) → IsJudged entries judged → IsJudged (entries ++ entry ∷ []) next) → Goes records (n + 1) next
-goes-on records n judged next entry below goes is more = record {
-  entries = goes.entries ++ entry ∷ [];
-  payloads = subst (λ (l : List (List ℕ)). ArePayloadsOf (goes.entries ++ entry ∷ []) l) (sym (take_more records n [] below))
-      (payloads-push goes.entries (take n records) entry (get_or records n []) goes.payloads is);
-  verdict = more goes.entries goes.verdict;
-}
+bad-stays : (before records more : List (List ℕ)) (nth at : ℕ) → entries_behind before records ≡ bad_at nth at
+    → entries_behind before (records ++ more) ≡ bad_at nth at
+bad-stays before [] more nth at is = absurd (cc)
+bad-stays before (payload ∷ records) more nth at is =
+    with-stays before (payload_says payload) (entries_behind (before ++ payload ∷ []) records)
+    (entries_behind (before ++ payload ∷ []) (records ++ more)) nth at
+    (bad-stays (before ++ payload ∷ []) records more nth at) is
+
+-- a misfit stays the first
+pub misfit-stays : (records : List (List ℕ)) (payload : List ℕ) (nth at : ℕ) → HaveFound records (Misfit nth at)
+    → HaveFound (records ++ payload ∷ []) (Misfit nth at)
+misfit-stays records payload nth at is = bad-stays [] records (payload ∷ []) nth at is
+
+pub found-more : (records : List (List ℕ)) (judged : Judged) (place : Place) (payload : List ℕ) (found : Found)
+    → HaveFound records (Entries judged)
+    → place.nth ≡ length records → place.at ≡ byte_in_log records 0 → IsFound judged place payload found
+    → HaveFound (records ++ payload ∷ []) found
+found-more records judged place payload (Entries next) have number here is =
+    (have.0 ++ is.0 ∷ [], payloads-push have.0 records is.0 payload have.1 is.1, is.2 have.0 have.2)
+found-more records judged place payload (Misfit nth at) have number here is =
+    let byte : ℕ = is.0 in
+    let many : length records ≡ nth = sym (is.2 ∙ number) in
+    let there : byte_in_log records byte ≡ at = omega (arith, is.3, here) in
+    bad-behind [] have.0 records payload [] byte have.1 is.1 ∙ (λ i. bad_at (many i) (there i))
 
 -- ---- at the end
 
@@ -110,6 +87,12 @@ pub told-whole : (records : List (List ℕ)) (entries : List Entry) (fault : Ope
     → TellsFault fault (told (hold entries)) → TellsFault fault (log_says records)
 told-whole records entries fault are tells = subst (TellsFault fault) (sym (ap told (hold-behind [] entries records are))) tells
 
-pub payloads-whole : (records : List (List ℕ)) (entries : List Entry) (n : ℕ) → length records ≤ n
-    → ArePayloadsOf entries (take n records) → ArePayloadsOf entries records
-payloads-whole records entries n all are = subst (λ (l : List (List ℕ)). ArePayloadsOf entries l) (take_all n records all) are
+-- ---- as they are read
+
+-- behind the records that a reading came to, these are found
+pub record Follows {D : Type 0} {g : _} (bytes : D → Option (List ℕ)) (images : D → List ℕ → Type 0) (moment : D → ℕ)
+    (since : D → ℕ → List ℕ → Type 0) (first now : Reading D g) (found : Found) : Type 0 where
+  pub records : List (List ℕ)
+  pub are : HaveFound records found
+  pub reads : (disk : D) → HasRead bytes images moment since log_mark disk [] first
+      → HasRead bytes images moment since log_mark disk records now

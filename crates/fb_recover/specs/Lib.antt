@@ -1,4 +1,4 @@
 pub mod Faults
+pub mod Finding
 pub mod Judging
 pub mod Openings
-pub mod Places

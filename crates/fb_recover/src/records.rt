@@ -1,68 +1,119 @@
 //! Reading the records of a log as a history.
-ghost use Rattle.std.specs.Prelude.{◌≡◌, ◌<◌, ◌+◌, ◌^◌, length, IfOk, IfErr};
-ghost use Rattle.disk_model.specs.Journal.{log_mark, opened};
-ghost use Rattle.log_model.specs.Log.{LogStands, log_says};
-ghost use Rattle.log_model.specs.Storable.{IsPayloadOf};
-ghost use Rattle.fb_recover.specs.Faults.{TellsFault};
-ghost use Rattle.fb_recover.specs.Places.{IsMisfit};
+ghost use Rattle.std.specs.Prelude.{◌≡◌, ◌<◌, ◌+◌, ◌^◌, ◌++◌, [], ◌∷◌, ℕ, List, length, IfOk, IfErr, MatchResult};
+ghost use Rattle.fb_values.specs.declared.facts.Entry.{Entry};
+ghost use Rattle.disk_model.specs.Disk.{WhereTold};
+ghost use Rattle.disk_model.specs.Journal.{log_mark};
+ghost use Rattle.log_model.specs.Log.{LogStands, byte_in_log, log_says};
+ghost use Rattle.fb_journal.specs.Readings.{disk_from, HasRead, IsRead, LeavesBegun};
+ghost use Rattle.fb_recover.specs.Faults.{TellsFault, IsCause, CountsOpening};
+ghost use Rattle.fb_recover.specs.Finding.{IsFound, HaveFound};
+ghost use Rattle.fb_recover.specs.Judging.{IsJudged};
 
 use crate::OpenFault;
 use crate::judging::Judged;
 use fb_codec::{BytesFault, entry_of};
+use fb_disk::Disk;
 use fb_history::EntryList;
-use fb_journal::Payloads;
-use fb_values::Entry;
+use fb_journal::{Place, Reading};
+use fb_memory::Memory;
 use log_model::{a_fault_lies_in_its_payload, a_payload_is_its_entrys_bytes};
 use std::alloc::Global;
 
-/// The bytes of the log's mark, behind which the gate of the first record stands.
-const MARK: u64 = 15;
-
-/// The bytes of a record in front of its payload: the gate, and the payload's length.
-const BEFORE_PAYLOAD: u64 = 9;
-
-/// Where a record stands in the file: its number, counted from 0, and the byte of its gate.
-#[derive(Clone, Copy)]
-pub(crate) struct Place {
-    pub(crate) nth: u64,
-    pub(crate) gate: u64,
+/// What the records so far are.
+#[derive(Drop)]
+pub(crate) enum Found {
+    /// Each holds an entry.
+    Entries { judged: Judged },
+    /// The first that holds none, and the byte of the file at which its first misfit begins. What the records behind it hold
+    /// is not read.
+    Misfit { nth: u64, at: u64 },
 }
 
-/// The history that the records hold, or what is wrong with them first.
-pub(crate) fn history_of(alloc: Global, payloads: &Payloads) -> Result<EntryList, OpenFault>
-    requires { length log_mark + length (opened payloads.now) + 1 < 2 ^ 64 }
-    ensures stands { IfOk result (λ h. LogStands payloads.now h) }
-    ensures fault { IfErr result (λ fault. TellsFault fault (log_says payloads.now)) }
+/// The history that the records of a log hold, or what is wrong with the log first. A record that holds no entry is told
+/// once all records were found, since a fault of the journal behind it comes before it.
+pub(crate) fn history_of<D: Disk>(
+    alloc: Global,
+    log: &mut Reading<D>,
+) -> Result<EntryList, OpenFault>
+    requires { (disk : D)
+        × HasRead D.bytes D.images D.moment D.images_since log_mark disk [] log.old }
+    ensures read { IfOk result (λ h. (disk : D)
+        → HasRead D.bytes D.images D.moment D.images_since log_mark disk [] log.old
+        → (records : List (List ℕ))
+        × IsRead D.bytes D.images D.moment D.images_since log_mark disk records log.new
+        × LogStands records h) }
+    ensures why_not { IfErr result (λ fault. (disk : D)
+        → HasRead D.bytes D.images D.moment D.images_since log_mark disk [] log.old
+        → WhereTold (D.bytes disk) (IsCause fault)) }
+    ensures counted { MatchResult result
+        (λ _. D.faults (disk_from log.new) ≡ D.faults (disk_from log.old))
+        (λ fault. CountsOpening fault (D.faults (disk_from log.old)) (D.faults (disk_from log.new))) }
+    ensures any_moment { (disk : D)
+        → HasRead D.bytes D.images D.moment D.images_since log_mark disk [] log.old
+        → LeavesBegun D.bytes D.images D.moment D.images_since disk (disk_from log.new) }
 {
-    let mut judged = Judged::first(alloc)?;
-    let mut gate = MARK;
-    for n in 0..payloads.len() {
-        let payload = payloads.at(n);
-        let place = Place {
-            nth: n as u64,
-            gate,
-        };
-        let entry = entry_at(alloc, payload, place)?;
-        judged = judged.with(alloc, entry)?;
-        gate += BEFORE_PAYLOAD + payload.len() as u64;
+    let mut found = Found::none(alloc)?;
+    let mut payload = Vec::new(alloc);
+    while let Some(place) = log.next(&mut payload)? {
+        found = found.with(alloc, place, &payload)?;
     }
-    judged.into_entries()
+    found.into_entries()
 }
 
-/// The entry of the record at this place.
-fn entry_at(alloc: Global, payload: &[u8], place: Place) -> Result<Entry, OpenFault>
-    requires { place.gate + 9 + length payload.now < 2 ^ 64 }
-    ensures entry { IfOk result (λ entry. IsPayloadOf entry payload.now) }
-    ensures fault { IfErr result (IsMisfit place payload.now) }
+impl Found {
+    /// No record yet.
+    fn none(alloc: Global) -> Result<Found, Memory>
+        ensures { IfOk result (HaveFound []) }
+    {
+        let judged = Judged::first(alloc)?;
+        Ok(Found::Entries { judged })
+    }
+
+    /// With the record that comes next, whose payload lies at this place.
+    fn with(self, alloc: Global, place: Place, payload: &[u8]) -> Result<Found, Memory>
+        requires within { place.at + length payload.now < 2 ^ 64 }
+        requires found { (records : List (List ℕ)) × HaveFound records self }
+        ensures { IfOk result (λ found. (records : List (List ℕ)) → HaveFound records self
+            → place.nth ≡ length records → place.at ≡ byte_in_log records 0
+            → HaveFound (records ++ payload.now ∷ []) found) }
+    {
+        match self {
+            Found::Entries { judged } => found_in(alloc, judged, place, payload),
+            Found::Misfit { nth, at } => Ok(Found::Misfit { nth, at }),
+        }
+    }
+
+    /// The history, or what is wrong with the records first.
+    fn into_entries(self) -> Result<EntryList, OpenFault>
+        ensures stands { IfOk result (λ h. (records : List (List ℕ)) → HaveFound records self
+            → LogStands records h) }
+        ensures fault { IfErr result (λ fault. (records : List (List ℕ)) → HaveFound records self
+            → TellsFault fault (log_says records)) }
+    {
+        match self {
+            Found::Entries { judged } => judged.into_entries(),
+            Found::Misfit { nth, at } => Err(OpenFault::BadLog { nth, at }),
+        }
+    }
+}
+
+/// The entries with that of a payload, or the payload's first misfit.
+fn found_in(alloc: Global, judged: Judged, place: Place, payload: &[u8]) -> Result<Found, Memory>
+    requires within { place.at + length payload.now < 2 ^ 64 }
+    requires judged { (entries : List Entry) × IsJudged entries judged }
+    ensures { IfOk result (IsFound judged place payload.now) }
 {
     a_payload_is_its_entrys_bytes();
     a_fault_lies_in_its_payload();
     match entry_of(alloc, payload) {
-        Ok(entry) => Ok(entry),
-        Err(BytesFault::At { byte }) => Err(OpenFault::BadLog {
+        Ok(entry) => {
+            let judged = judged.with(alloc, entry)?;
+            Ok(Found::Entries { judged })
+        }
+        Err(BytesFault::At { byte }) => Ok(Found::Misfit {
             nth: place.nth,
-            at: place.gate + BEFORE_PAYLOAD + byte,
+            at: place.at + byte,
         }),
-        Err(BytesFault::Memory) => Err(OpenFault::Memory),
+        Err(BytesFault::Memory) => Err(Memory),
     }
 }

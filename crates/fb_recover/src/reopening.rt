@@ -1,16 +1,17 @@
 //! Reopening.
-ghost use Rattle.std.specs.Prelude.{◌≡◌, ◌⊎◌, ◌≤◌, ◌<◌, ◌+◌, ◌^◌, [], ◌∷◌, length, IfOk, IfErr, MatchResult};
+ghost use Rattle.std.specs.Prelude.{◌≡◌, ◌⊎◌, ◌≤◌, [], ◌∷◌, ℕ, List, length, IfOk, IfErr, MatchResult};
 ghost use Rattle.fb_model.specs.FirstEntry.{first_entry};
 ghost use Rattle.fb_model.specs.History.{basis};
 ghost use Rattle.view_model.specs.Stands.{RootStands};
 ghost use Rattle.seg_tree.specs.Indexes.{trees_of};
 ghost use Rattle.disk_model.specs.Disk.{WhereTold, LeavesOnly};
-ghost use Rattle.disk_model.specs.Journal.{log_mark, opened};
-ghost use Rattle.log_model.specs.Log.{LogStands, log_says, IsLogOf};
+ghost use Rattle.disk_model.specs.Journal.{log_mark};
+ghost use Rattle.log_model.specs.Log.{LogStands, IsLogOf};
 ghost use Rattle.fb_journal.specs.Journals.{StaysTold};
+ghost use Rattle.fb_journal.specs.Readings.{disk_from, HasRead, IsRead, LeavesBegun};
 ghost use Rattle.fb_core.specs.Cores.{CoreStands};
 ghost use Rattle.disk_log.specs.Logs.{disk_in, count_in, KeepsHistory};
-ghost use Rattle.fb_recover.specs.Faults.{TellsFault, IsCause, CountsOpening};
+ghost use Rattle.fb_recover.specs.Faults.{IsCause, CountsOpening};
 ghost use Rattle.fb_recover.specs.Openings.{disk_after, AreNumberedFromOne};
 
 use crate::records::history_of;
@@ -18,7 +19,7 @@ use crate::{OpenFault, OpenStop};
 use disk_log::DiskLog;
 use fb_core::Core;
 use fb_disk::Disk;
-use fb_journal::{Journal, Mark, Payloads, StartStop};
+use fb_journal::{Journal, Mark, Reading, StartStop};
 use fb_memory::Memory;
 use fb_view::Snapshot;
 use seg_tree::Roots;
@@ -68,16 +69,16 @@ pub fn reopen<D: Disk>(alloc: Global, disk: D) -> Result<Opened<D>, OpenStop<D>>
         D.moment D.images_since disk (disk_in o.log)
         (λ image. D.images disk image ⊎ IsLogOf image o.core.snapshot.entries))) }
 {
-    let (journal, payloads) = match Journal::start(alloc, disk, Mark::Log) {
-        Ok(started) => started,
+    let mut reading = match Journal::open(alloc, disk, Mark::Log) {
+        Ok(reading) => reading,
         Err(StartStop { fault, disk, .. }) => {
             let fault = OpenFault::from(fault);
             return Err(OpenStop { fault, disk });
         }
     };
-    let log = DiskLog::of(journal);
-    match core_of(alloc, payloads) {
+    match core_of(alloc, &mut reading) {
         Ok(core) => {
+            let log = DiskLog::of(reading.finish());
             let (recovered, covered) = (core.basis(), core.covered());
             Ok(Opened {
                 core,
@@ -88,23 +89,34 @@ pub fn reopen<D: Disk>(alloc: Global, disk: D) -> Result<Opened<D>, OpenStop<D>>
         }
         Err(fault) => Err(OpenStop {
             fault,
-            disk: log.into_disk(),
+            disk: reading.give_back(),
         }),
     }
 }
 
-/// The core of the history that the records hold, or what is wrong with them first. The records' bytes are dropped before the
-/// entries are put into indexes.
-fn core_of(alloc: Global, payloads: Payloads) -> Result<Core, OpenFault>
-    requires { length log_mark + length (opened payloads) + 1 < 2 ^ 64 }
-    ensures stands { IfOk result (λ core. LogStands payloads core.snapshot.entries) }
+/// The core of the history that a log holds, or what is wrong with the log first.
+fn core_of<D: Disk>(alloc: Global, log: &mut Reading<D>) -> Result<Core, OpenFault>
+    requires { (disk : D)
+        × HasRead D.bytes D.images D.moment D.images_since log_mark disk [] log.old }
+    ensures read { IfOk result (λ core. (disk : D)
+        → HasRead D.bytes D.images D.moment D.images_since log_mark disk [] log.old
+        → (records : List (List ℕ))
+        × IsRead D.bytes D.images D.moment D.images_since log_mark disk records log.new
+        × LogStands records core.snapshot.entries) }
     ensures core { IfOk result (λ core. CoreStands core × (core.authors ≡ [])) }
     ensures covered { IfOk result (λ core. core.snapshot.covered ≡ 0) }
     ensures ids { IfOk result (λ core. AreNumberedFromOne core.snapshot.roots) }
-    ensures fault { IfErr result (λ fault. TellsFault fault (log_says payloads)) }
+    ensures why_not { IfErr result (λ fault. (disk : D)
+        → HasRead D.bytes D.images D.moment D.images_since log_mark disk [] log.old
+        → WhereTold (D.bytes disk) (IsCause fault)) }
+    ensures counted { MatchResult result
+        (λ _. D.faults (disk_from log.new) ≡ D.faults (disk_from log.old))
+        (λ fault. CountsOpening fault (D.faults (disk_from log.old)) (D.faults (disk_from log.new))) }
+    ensures any_moment { (disk : D)
+        → HasRead D.bytes D.images D.moment D.images_since log_mark disk [] log.old
+        → LeavesBegun D.bytes D.images D.moment D.images_since disk (disk_from log.new) }
 {
-    let entries = history_of(alloc, &payloads)?;
-    drop(payloads);
+    let entries = history_of(alloc, log)?;
     let roots = first_roots(alloc)?;
     Ok(Core::opened(alloc, entries, roots, 0)?)
 }

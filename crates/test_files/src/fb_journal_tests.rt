@@ -1,6 +1,6 @@
 //! A journal in a file of the system, whose bytes no contract knows, and one that is begun again.
-use fb_disk::{MemDisk, Memory};
-use fb_journal::{Journal, Mark, frame};
+use fb_disk::{Disk, MemDisk, Memory};
+use fb_journal::{Journal, Mark, Reading, frame, frame_in};
 use fb_ports::{Host, Part};
 use real_ports::RealHost;
 use std::alloc::Global;
@@ -70,5 +70,68 @@ fn count_after_a_reset(alloc: Global) -> Result<Option<usize>, Memory> {
 #[test]
 fn a_journal_goes_on_after_a_reset(rt: HostRuntime) -> Result<(), Fail> {
     assert_eq!(rt; count_after_a_reset(rt.alloc())?, Some(2));
+    Ok(())
+}
+
+/// The byte that each payload of a log has, and how often. Some of them span the end of a window, and one is longer.
+const RUNS: [(u8, u32); 6] = [
+    (1, 2),
+    (2, 700_000),
+    (3, 0),
+    (4, 700_000),
+    (5, 1_100_000),
+    (6, 3),
+];
+
+/// Adds these payloads to a new log of the directory. It says whether all calls succeed.
+fn add_runs<H: Host>(host: &mut H, alloc: Global, dir: &str) -> Result<bool, Memory> {
+    let Ok(disk) = host.disk(alloc, dir, Part::Log) else {
+        return Ok(false);
+    };
+    let Ok(mut journal) = Journal::anew(alloc, disk, Mark::Log) else {
+        return Ok(false);
+    };
+    for (byte, count) in RUNS {
+        let framed = frame_in(vec![in alloc; byte; count as usize + 8]?)?;
+        if journal.append(&framed).is_err() {
+            return Ok(false);
+        }
+    }
+    Ok(true)
+}
+
+/// Whether these are the records that are read, and no others.
+fn has_runs<D: Disk>(reading: &mut Reading<D>, alloc: Global) -> bool {
+    let mut payload = Vec::new(alloc);
+    for (byte, count) in RUNS {
+        if !matches!(reading.next(&mut payload), Ok(Some(_))) {
+            return false;
+        }
+        if payload.len() != count as usize || payload.iter().any(|b| *b != byte) {
+            return false;
+        }
+    }
+    matches!(reading.next(&mut payload), Ok(None))
+}
+
+/// Whether the log of the directory is read back.
+fn reads_runs<H: Host>(host: &mut H, alloc: Global, dir: &str) -> bool {
+    let Ok(disk) = host.disk(alloc, dir, Part::Log) else {
+        return false;
+    };
+    match Journal::open(alloc, disk, Mark::Log) {
+        Ok(mut reading) => has_runs(&mut reading, alloc),
+        Err(_) => false,
+    }
+}
+
+#[test]
+fn a_log_is_read_through_a_window(rt: HostRuntime) -> Result<(), Fail> {
+    std::fs::create_dir(&rt, "window")?;
+    let mut host = RealHost::new(rt);
+    assert!(rt; add_runs(&mut host, rt.alloc(), "window")?);
+    assert!(rt; reads_runs(&mut host, rt.alloc(), "window"));
+    std::fs::remove_file(&rt, "window/log")?;
+    std::fs::remove_dir(&rt, "window")?;
     Ok(())
 }

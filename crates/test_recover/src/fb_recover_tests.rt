@@ -18,7 +18,7 @@ const LOG: [u8; 92] = [
 /// The places that are changed, each with its new byte, and what opening then tells: the t of the last entry, or the fault.
 type Row = (&'static [(usize, u8)], Result<u32, OpenFault>);
 
-const ROWS: [Row; 15] = [
+const ROWS: [Row; 17] = [
     (&[], Ok(1)),
     (&[(24, 2)], Ok(1)),
     (&[(15, 0)], Ok(0)),
@@ -29,6 +29,14 @@ const ROWS: [Row; 15] = [
     (&[(24, 9)], Err(OpenFault::BadLog { nth: 0, at: 24 })),
     (&[(57, 0)], Err(OpenFault::BadLog { nth: 0, at: 57 })),
     (&[(66, 2)], Err(OpenFault::BadLog { nth: 0, at: 66 })),
+    (
+        &[(24, 9), (91, 1)],
+        Err(OpenFault::BadLog { nth: 1, at: 92 }),
+    ),
+    (
+        &[(28, 2), (91, 1)],
+        Err(OpenFault::BadLog { nth: 1, at: 92 }),
+    ),
     (&[(28, 2)], Err(OpenFault::Unlawful { t: 1, law: 1 })),
     (
         &[(31, 0), (32, 0), (33, 0), (34, 0), (35, 0)],

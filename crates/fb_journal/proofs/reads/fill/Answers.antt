@@ -1,4 +1,5 @@
-use Rattle.std.proofs.Common.{rules, ◌≡◌, ◌-◌, ◌≤◌, ◌++◌, ◌∙◌, ℕ, List, length, take, drop, arith, length-append, length-take, length-drop}
+use Rattle.std.proofs.Common.{rules, ◌≡◌, ◌+◌, ◌-◌, ◌≤◌, ◌++◌, ◌∙◌, ℕ, List, length, take, drop, sym, ap, arith, length-append, length-take, length-drop}
+use Rattle.std.proofs.lemmas.List.{drop-drop}
 use Rattle.disk_model.proofs.Moments.{goes_on}
 use Rattle.fb_journal.proofs.Filling.{filled-more}
 use Rattle.fb_journal.proofs.reads.fill.Goals as goal
@@ -21,8 +22,11 @@ loop-filled-preserved g c =
           c.read_at.ensures.time
           (λ image left. c.loop-filled.invariant.crash image (c.read_at.ensures.crash image left));
       read = λ file told all.
-          let long : length (take at buf ++ (part ++ behind)) ≡ length file = all in
-          let same : length buf ≡ length file = omega (arith, whole, long) in
+          let long : c.args.at + length (take at buf ++ (part ++ behind)) ≤ length file = all in
+          let room : c.args.at + length buf ≤ length file = omega (arith, whole, long) in
           let reads = c.in_ok-count.ensures.read file (c.loop-filled.invariant.bytes ∙ told) in
-          filled-more buf part behind file at c.in_ok-count.count c.loop-filled.invariant.within (c.loop-filled.invariant.read file told same) fits reads.bytes;
+          let more : take c.in_ok-count.count part ≡ take c.in_ok-count.count (drop at (drop c.args.at file)) =
+          reads.bytes ∙ ap (λ (l : List ℕ). take c.in_ok-count.count l) (sym (drop-drop at c.args.at file)) in
+          filled-more buf part behind (drop c.args.at file) at c.in_ok-count.count c.loop-filled.invariant.within
+          (c.loop-filled.invariant.read file told room) fits more;
     }

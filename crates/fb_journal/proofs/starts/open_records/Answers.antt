@@ -1,4 +1,5 @@
 use Rattle.std.proofs.Common.{inl, inr, ◌≡◌, ◌<◌, ◌≤◌, [], ◌∙◌, List, ℕ, Some, length, sym, ap, subst, arith}
+use Rattle.std.proofs.lemmas.List.{take_all}
 use Rattle.disk_model.specs.Disk.{Torn, WhereTold}
 use Rattle.disk_model.specs.Journal.{opened, new_journal, Holds}
 use Rattle.disk_model.proofs.Journals.{holds-new}
@@ -45,9 +46,10 @@ returns-then-len-le-NEW-clause-kept g c =
 pub returns-clause-reading : goal.returns-clause-reading
 returns-clause-reading g c = λ file told.
     let long : length c.deref_mut.result.now ≡ length file = omega (arith, ap length c.deref_mut.ensures.value, c.in_ok-file.file.ok, c.in_ok-file.ensures.len, c.in_ok-len.ensures.length file told) in
-    let read = c.in_ok-count.ensures.read file (c.in_ok-len.ensures.bytes ∙ told) long in
+    let read = c.in_ok-count.ensures.read file (c.in_ok-len.ensures.bytes ∙ told) (omega (arith, long)) in
     let whole : c.truncate.new.self.items ≡ file =
-    filled-whole c.in_ok-count.count c.in_ok-file.file.len c.fill.new.buf c.in_ok-file.file.items file c.truncate.new.self.items c.truncate.ensures.items (omega (arith, c.in_ok-file.ensures.len, c.in_ok-len.ensures.length file told)) read.0 read.1 in
+    filled-whole c.in_ok-count.count c.in_ok-file.file.len c.fill.new.buf c.in_ok-file.file.items file c.truncate.new.self.items c.truncate.ensures.items (omega (arith, c.in_ok-file.ensures.len, c.in_ok-len.ensures.length file told)) (read.0 ∙ long)
+    (read.1 ∙ take_all (length c.deref_mut.result.now) file (omega (arith, long))) in
     let longer : 16 < length file = omega (arith, c.in_ok-len.ensures.length file told, c.if-len-le-NEW.false) in
     let ends : EndsAt (mark_bytes c.args.mark) c.in_ok-read_records.field-0.payloads file c.in_ok-read_records.field-0.end =
     subst (λ (l : List ℕ). EndsAt (mark_bytes c.args.mark) c.in_ok-read_records.field-0.payloads l c.in_ok-read_records.field-0.end) whole c.in_ok-read_records.ensures.ends in
@@ -63,7 +65,8 @@ returns-clause-kept g c =
     (λ file told.
     let before : g.D.Disk.bytes c.args.disk.now ≡ Some file = sym c.in_ok-len.ensures.bytes ∙ sym c.fill.ensures.bytes ∙ told in
     let long : length c.deref_mut.result.now ≡ length file = omega (arith, ap length c.deref_mut.ensures.value, c.in_ok-file.file.ok, c.in_ok-file.ensures.len, c.in_ok-len.ensures.length file before) in
-    let read = c.in_ok-count.ensures.read file (c.in_ok-len.ensures.bytes ∙ before) long in
+    let read = c.in_ok-count.ensures.read file (c.in_ok-len.ensures.bytes ∙ before) (omega (arith, long)) in
     let whole : c.truncate.new.self.items ≡ file =
-    filled-whole c.in_ok-count.count c.in_ok-file.file.len c.fill.new.buf c.in_ok-file.file.items file c.truncate.new.self.items c.truncate.ensures.items (omega (arith, c.in_ok-file.ensures.len, c.in_ok-len.ensures.length file before)) read.0 read.1 in
+    filled-whole c.in_ok-count.count c.in_ok-file.file.len c.fill.new.buf c.in_ok-file.file.items file c.truncate.new.self.items c.truncate.ensures.items (omega (arith, c.in_ok-file.ensures.len, c.in_ok-len.ensures.length file before)) (read.0 ∙ long)
+    (read.1 ∙ take_all (length c.deref_mut.result.now) file (omega (arith, long))) in
     (whole, λ image left. c.in_ok-len.ensures.durable file before image (c.fill.ensures.crash image left)))

@@ -1,62 +1,83 @@
-use Rattle.std.proofs.Common.{◌≤◌, ◌<◌, ◌+◌, [], length, refl, ap, arith}
-use Rattle.std.proofs.lemmas.Result.{err_from_is_err_and, IfOk-weaker, IfErr-weaker}
-use Rattle.fb_recover.proofs.Reading.{after-within, after-next, goes-on, misfit-told, stands-whole, told-whole, payloads-whole}
+use Rattle.std.proofs.Common.{◌≡◌, ◌∙◌, ◌++◌, [], ◌∷◌, ℕ, List, sym, subst, arith}
+use Rattle.std.proofs.lemmas.Result.{err_from_is_err_and, IfOk-weaker, IfErr-weaker, MatchResult-from_both}
+use Rattle.disk_model.specs.Disk.{WhereTold}
+use Rattle.disk_model.specs.Journal.{log_mark}
+use Rattle.log_model.specs.Log.{byte_in_log, log_says}
+use Rattle.fb_recover.specs.Faults.{IsCause}
+use Rattle.fb_recover.specs.Finding.{HaveFound}
+use Rattle.fb_recover.proofs.Causes.{reading-cause, records-cause, records-count}
 use Rattle.fb_recover.proofs.records.history_of.Goals as goal
 
-pub entry_at-requires : goal.entry_at-requires
-entry_at-requires c =
-    let records = c.args.payloads.now in let n = c.loop-n.n in
-    let below : n < length records = omega (arith, c.loop-n-test.true, c.len-n-end.ensures) in
-    let next = after-next records n below in let within = after-within records (n + 1) in
-    omega (arith, c.requires, c.loop-n.invariant.gate, next, within, ap length c.at-payload.ensures)
+pub returns-in_err-place-clause-why_not : goal.returns-in_err-place-clause-why_not
+returns-in_err-place-clause-why_not g c =
+    let told = g.D.Disk.bytes in
+    let follows = c.loop-payload.invariant.follows in
+    let exit = err_from_is_err_and c.from_residual-in_err-place.result c.from_residual-in_err-place.ensures.1 in
+    rw (exit.1)
+    (λ disk has.
+    let first = c.in_err-place.ensures.why_not log_mark disk follows.records (follows.reads disk has) in
+    subst (λ fault. WhereTold (told disk) (IsCause fault)) (sym exit.2)
+    (reading-cause (told disk) c.in_err-place.field-0.0 follows.records first.0))
 
-pub loop-n-init : goal.loop-n-init
-loop-n-init c = record { gate = omega arith; goes = record { entries = []; payloads = tt; verdict = c.in_ok-judged.ensures } }
+pub returns-in_err-place-clause-any_moment : goal.returns-in_err-place-clause-any_moment
+returns-in_err-place-clause-any_moment g c = λ disk has.
+    let follows = c.loop-payload.invariant.follows in
+    let first = c.in_err-place.ensures.why_not log_mark disk follows.records (follows.reads disk has) in
+    first.1.any_moment
 
-pub with-requires : goal.with-requires
-with-requires c = (c.loop-n.invariant.goes.entries, c.loop-n.invariant.goes.verdict)
+pub returns-in_err-found-2-clause-any_moment : goal.returns-in_err-found-2-clause-any_moment
+returns-in_err-found-2-clause-any_moment g c = λ disk has.
+    let follows = c.loop-payload.invariant.follows in
+    let went = rw c.in-Some.is at c.in_ok-place.ensures.record in
+    (went log_mark disk follows.records (follows.reads disk has)).0.any_moment
 
-pub loop-n-preserved : goal.loop-n-preserved
-loop-n-preserved c =
-    let records = c.args.payloads.now in let n = c.loop-n.n in
-    let below : n < length records = omega (arith, c.loop-n-test.true, c.len-n-end.ensures) in record {
-      gate = omega (arith, c.loop-n.invariant.gate, after-next records n below, ap length c.at-payload.ensures);
-      goes = goes-on records n c.loop-n.judged c.in_ok-judged-2.judged c.in_ok-entry.entry below c.loop-n.invariant.goes
-          (rw c.at-payload.ensures at c.in_ok-entry.ensures.entry) c.in_ok-judged-2.ensures;
+pub loop-payload-preserved : goal.loop-payload-preserved
+loop-payload-preserved g c =
+    let follows = c.loop-payload.invariant.follows in
+    let records : List (List ℕ) = follows.records in
+    let went = rw c.in-Some.is at c.in_ok-place.ensures.record in
+    let here = went log_mark c.requires.0 records (follows.reads c.requires.0 c.requires.1) in
+    let place : c.in-Some.place.at ≡ byte_in_log records 0 = omega (arith, here.2) in record {
+      faults = c.in_ok-place.ensures.counted ∙ c.loop-payload.invariant.faults;
+      follows = record {
+        records = records ++ c.next.new.payload.items ∷ [];
+        are = subst (λ (p : List ℕ). HaveFound (records ++ p ∷ []) c.in_ok-found-2.found) c.deref.ensures.value
+            (c.in_ok-found-2.ensures records follows.are here.1 place);
+        reads = λ disk has. (went log_mark disk records (follows.reads disk has)).0;
+      };
     }
 
-pub overflow_add-gate-in-loop-n : goal.overflow_add-gate-in-loop-n
-overflow_add-gate-in-loop-n c =
-    let records = c.args.payloads.now in let n = c.loop-n.n in
-    let below : n < length records = omega (arith, c.loop-n-test.true, c.len-n-end.ensures) in
-    let next = after-next records n below in let within = after-within records (n + 1) in
-    omega (arith, c.requires, c.loop-n.invariant.gate, next, within, ap length c.at-payload.ensures)
-
-pub returns-in_err-entry-clause-fault : goal.returns-in_err-entry-clause-fault
-returns-in_err-entry-clause-fault c =
-    let records = c.args.payloads.now in let n = c.loop-n.n in
-    let below : n < length records = omega (arith, c.loop-n-test.true, c.len-n-end.ensures) in
-    let goes = c.loop-n.invariant.goes in
-    let exit = err_from_is_err_and c.from_residual-in_err-entry.result c.from_residual-in_err-entry.ensures.1 in
-    rw (exit.1, exit.2)
-    (misfit-told goes.entries records n (record { nth = n; gate = c.loop-n.gate }) c.in_err-entry.field-0.0
-    goes.payloads below refl c.loop-n.invariant.gate
-    (rw c.at-payload.ensures at c.in_err-entry.ensures.fault))
-
-pub returns-clause-stands : goal.returns-clause-stands
-returns-clause-stands c =
-    let records = c.args.payloads.now in let goes = c.loop-n.invariant.goes in
-    let all : length records ≤ c.loop-n.n = omega (arith, c.loop-n-test.false, c.len-n-end.ensures) in
+pub returns-clause-read : goal.returns-clause-read
+returns-clause-read g c =
+    let follows = c.loop-payload.invariant.follows in
+    let ended = rw c.in_default.is at c.in_ok-place.ensures.end in
     IfOk-weaker c.into_entries.result _ _
-    (λ h lawful. let is = lawful goes.entries goes.verdict in
-    stands-whole records goes.entries h (payloads-whole records goes.entries c.loop-n.n all goes.payloads) is.0 is.1)
-    c.into_entries.ensures.lawful
+    (λ h stands. λ disk has.
+    (follows.records, ended log_mark disk follows.records (follows.reads disk has), stands follows.records follows.are))
+    c.into_entries.ensures.stands
 
-pub returns-clause-fault : goal.returns-clause-fault
-returns-clause-fault c =
-    let records = c.args.payloads.now in let goes = c.loop-n.invariant.goes in
-    let all : length records ≤ c.loop-n.n = omega (arith, c.loop-n-test.false, c.len-n-end.ensures) in
+pub returns-clause-why_not : goal.returns-clause-why_not
+returns-clause-why_not g c =
+    let follows = c.loop-payload.invariant.follows in
+    let ended = rw c.in_default.is at c.in_ok-place.ensures.end in
     IfErr-weaker c.into_entries.result _ _
-    (λ fault tells. told-whole records goes.entries fault (payloads-whole records goes.entries c.loop-n.n all goes.payloads)
-    (tells goes.entries goes.verdict))
-    c.into_entries.ensures.unlawful
+    (λ fault tells. λ disk has.
+    records-cause (g.D.Disk.bytes disk) follows.records fault (tells follows.records follows.are)
+    (ended log_mark disk follows.records (follows.reads disk has)).stands)
+    c.into_entries.ensures.fault
+
+pub returns-clause-counted : goal.returns-clause-counted
+returns-clause-counted g c =
+    let follows = c.loop-payload.invariant.follows in
+    let same = c.in_ok-place.ensures.counted ∙ c.loop-payload.invariant.faults in
+    MatchResult-from_both c.into_entries.result _ _
+    (IfOk-weaker c.into_entries.result _ _ (λ h stands. same) c.into_entries.ensures.stands)
+    (IfErr-weaker c.into_entries.result _ _
+    (λ fault tells. records-count (log_says follows.records) fault _ _ (tells follows.records follows.are) same)
+    c.into_entries.ensures.fault)
+
+pub returns-clause-any_moment : goal.returns-clause-any_moment
+returns-clause-any_moment g c = λ disk has.
+    let follows = c.loop-payload.invariant.follows in
+    let ended = rw c.in_default.is at c.in_ok-place.ensures.end in
+    (ended log_mark disk follows.records (follows.reads disk has)).read.any_moment

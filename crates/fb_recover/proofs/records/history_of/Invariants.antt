@@ -1,10 +1,13 @@
-use Rattle.std.proofs.Common.{◌≡◌, ◌+◌, length}
-use Rattle.disk_model.specs.Journal.{log_mark}
-use Rattle.fb_recover.proofs.Reading.{after, Goes}
+use Rattle.std.proofs.Common.{◌≡◌}
+use Rattle.fb_journal.specs.Readings.{disk_from, left_in}
+use Rattle.fb_recover.proofs.Reading.{Follows}
 use Rattle.fb_recover.proofs.records.history_of.Given as goal
 
-abbrev pub invariant-loop-n : goal.invariant-loop-n
-invariant-loop-n l = record {
-  gate : l.gate ≡ length log_mark + after l.payloads l.n;
-  goes : Goes l.payloads l.n l.judged;
+abbrev pub invariant-loop-payload : goal.invariant-loop-payload
+invariant-loop-payload g l = record {
+  faults : g.D.Disk.faults (disk_from l.log) ≡ g.D.Disk.faults (disk_from l.initial.log);
+  follows : Follows g.D.Disk.bytes g.D.Disk.images g.D.Disk.moment g.D.Disk.images_since l.initial.log l.log l.found;
 }
+
+abbrev pub decreases-loop-payload : goal.decreases-loop-payload
+decreases-loop-payload g l = left_in l.log
