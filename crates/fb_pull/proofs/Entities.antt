@@ -1,7 +1,7 @@
 -- What is at hand of an entity, and what of it is under an attribute.
-use Rattle.std.proofs.Common.{◌≡◌, ◌∙◌, ℕ, zero, suc, ◌+◌, ◌≤◌, ◌<◌, Bool, true, false, cond, ◌&&◌, List, [], ◌∷◌, ◌++◌, length, take, drop}
-use Rattle.std.proofs.Common.{◌-◌, ◌≢◌, map, get_or, min, refl, sym, ap, subst, Option, Some, None, eqb, arith, append_assoc}
-use Rattle.std.specs.Prelude.{filter, filter_map, Contains, unwrap_or}
+use Rattle.std.proofs.Common.{◌≡◌, ◌∙◌, ℕ, suc, ◌+◌, ◌≤◌, ◌<◌, Bool, true, false, cond, ◌&&◌, List, [], ◌∷◌, ◌++◌, length, take, drop}
+use Rattle.std.proofs.Common.{◌-◌, ◌≢◌, get_or, min, refl, sym, ap, subst, Option, Some, None, eqb, arith, append_assoc}
+use Rattle.std.specs.Prelude.{filter, unwrap_or}
 use Rattle.std.specs.Ordering.{is_eq, nat_cmp, ordering_then}
 use Rattle.std.specs.declared.cmp.Ordering.{Ordering}
 use Rattle.std.specs.declared.cmp.Ordering.TheVariants.{Less, Equal, Greater}

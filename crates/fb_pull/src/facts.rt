@@ -145,12 +145,7 @@ fn entities(alloc: Global, datoms: &[Datom]) -> Result<Vec<u64>, Memory>
 }
 
 /// The forms of the values under the attribute among the datoms, at most so many.
-fn forms_among(
-    alloc: Global,
-    datoms: &[Datom],
-    a: u64,
-    most: usize,
-) -> Result<Vec<Edn>, Memory>
+fn forms_among(alloc: Global, datoms: &[Datom], a: u64, most: usize) -> Result<Vec<Edn>, Memory>
     ensures { IfOk result (λ list. forms_of list.items ≡ map form_of_value
         (map (λ d. d.v) (take most (filter (λ d. nat_eq d.a a) datoms.now)))) }
 {
@@ -166,12 +161,7 @@ fn forms_among(
 }
 
 /// The entities among the values under the attribute, of the first datoms.
-fn entities_among(
-    alloc: Global,
-    datoms: &[Datom],
-    a: u64,
-    most: usize,
-) -> Result<Vec<u64>, Memory>
+fn entities_among(alloc: Global, datoms: &[Datom], a: u64, most: usize) -> Result<Vec<u64>, Memory>
     ensures { IfOk result (λ list. list.items ≡ filter_map entity_in
         (map (λ d. d.v) (take most (filter (λ d. nat_eq d.a a) datoms.now)))) }
 {

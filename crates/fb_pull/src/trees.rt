@@ -241,7 +241,15 @@ fn value<S: Selector>(
         (found.found facts at.now.e asked.now.name.now))
         (record { depth = at.now.limits.depth; maps = left }) result }
 {
-    match found_under(walk.alloc, walk.db, at.near, at.e, asked.name, asked.options, left)? {
+    match found_under(
+        walk.alloc,
+        walk.db,
+        at.near,
+        at.e,
+        asked.name,
+        asked.options,
+        left,
+    )? {
         Found::Absent => Ok(Told {
             form: None,
             maps: 0,

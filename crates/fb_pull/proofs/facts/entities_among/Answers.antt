@@ -1,4 +1,4 @@
-use Rattle.std.proofs.Common.{◌≡◌, ◌∙◌, ◌≤◌, ℕ, List, ◌∷◌, ◌++◌, [], map, refl, sym, ap, arith, Option, Some, None, Vec, Global}
+use Rattle.std.proofs.Common.{◌≡◌, ◌∙◌, ◌≤◌, ℕ, List, ◌∷◌, ◌++◌, [], map, refl, ap, arith, Option, Some, None, Vec, Global}
 use Rattle.std.specs.Prelude.{filter_map}
 use Rattle.std.specs.List.{cons_option}
 use Rattle.fb_values.specs.declared.facts.Datom.{Datom}

@@ -6,4 +6,4 @@ use Rattle.fb_pull.proofs.facts.entities_among.Given as goal
 abbrev pub invariant-loop-d : goal.invariant-loop-d
 invariant-loop-d l =
     l.list.items ++ filter_map entity_in (map (λ d. d.v) (take l.left (filter (λ d. eqb d.a l.a) (drop l.d-index l.datoms)))) ≡ filter_map
-        entity_in (map (λ d. d.v) (take l.most (filter (λ d. eqb d.a l.a) l.datoms)))
+    entity_in (map (λ d. d.v) (take l.most (filter (λ d. eqb d.a l.a) l.datoms)))

@@ -1,4 +1,4 @@
-use Rattle.std.proofs.Common.{◌≡◌, ◌∙◌, ◌≤◌, ℕ, List, ◌∷◌, ◌++◌, [], map, refl, sym, ap, arith, Vec, Global}
+use Rattle.std.proofs.Common.{◌≡◌, ◌∙◌, ◌≤◌, ℕ, List, ◌∷◌, ◌++◌, [], map, refl, ap, arith, Vec, Global}
 use Rattle.std.proofs.lemmas.List.{map-append}
 use Rattle.edn_form.specs.View.{form_of, forms_of}
 use Rattle.edn_form.specs.declared.form.Edn.{Edn}

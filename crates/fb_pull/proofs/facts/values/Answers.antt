@@ -2,7 +2,6 @@ use Rattle.std.proofs.Common.{◌∙◌, ℕ, List, ap, sym, map, take}
 use Rattle.std.specs.Prelude.{filter}
 use Rattle.std.proofs.lemmas.Result.{IfOk-weaker}
 use Rattle.fb_values.specs.declared.facts.Datom.{Datom}
-use Rattle.fb_values.specs.declared.facts.Value.{Value}
 use Rattle.fb_model.specs.Schema.{is_about}
 use Rattle.edn_model.specs.Form.{Form}
 use Rattle.edn_values.specs.Values.{form_of_value}

@@ -1,10 +1,10 @@
-use Rattle.std.proofs.Common.{◌≡◌, ◌∙◌, ℕ, List, sym, ap, subst, arith, length, take, eqb}
-use Rattle.std.specs.Prelude.{filter, IfOk}
+use Rattle.std.proofs.Common.{sym, subst, arith, eqb}
+use Rattle.std.specs.Prelude.{filter}
 use Rattle.fb_values.specs.declared.facts.Datom.{Datom}
 use Rattle.fb_values.specs.declared.indexes.Probe.{Probe}
 use Rattle.view_model.specs.Scan.{leading, IsScan}
 use Rattle.fb_db.specs.Seen.{window_of}
-use Rattle.fb_pull.proofs.Entities.{of_entity, scan_entity, few_are_all}
+use Rattle.fb_pull.proofs.Entities.{scan_entity, few_are_all}
 use Rattle.fb_pull.proofs.near.at_hand.Goals as goal
 
 pub returns-then-len-lt-FEW : goal.returns-then-len-lt-FEW
