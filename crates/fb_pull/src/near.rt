@@ -12,7 +12,7 @@ use pull_pattern::Item;
 use std::alloc::Global;
 
 /// An entity has few datoms if it has fewer than these, which is how many one walk reads at most.
-const FEW: usize = 64;
+const FEW: usize = 32;
 
 /// What is at hand of an entity.
 #[derive(Drop)]

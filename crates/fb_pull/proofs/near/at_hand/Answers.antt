@@ -11,7 +11,7 @@ pub returns-then-len-lt-FEW : goal.returns-then-len-lt-FEW
 returns-then-len-lt-FEW g c = λ facts sees.
     let Selects = g.S.Selector.selects c.args.db.now.filter in
     let all = filter (λ (d : Datom). eqb d.e c.args.e) facts.seen in
-    few_are_all 64 c.in_ok-datoms.datoms all
+    few_are_all 32 c.in_ok-datoms.datoms all
     (c.in_ok-datoms.ensures all
     (subst (λ (p : Probe). IsScan c.args.db.now.snapshot.entries (window_of c.args.db.now) Selects p.order (leading p) all)
     (sym c.probe_of.ensures) (scan_entity c.args.db.now Selects facts sees c.args.e)))
