@@ -1,4 +1,5 @@
 pub mod Scans
+pub mod Entities
 pub mod Refs
 pub mod Attributes
 pub mod Runs

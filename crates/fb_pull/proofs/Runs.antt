@@ -1,5 +1,5 @@
 -- In the index by entity the datoms of an attribute stand together, so that one name for each attribute is enough.
-use Rattle.std.proofs.Common.{◌≡◌, ◌∙◌, ℕ, suc, ◌<◌, ◌≤◌, inl, inr, true, List, [], ◌∷◌, refl, sym, ap}
+use Rattle.std.proofs.Common.{◌≡◌, ◌∙◌, ℕ, suc, ◌+◌, length, drop, get_or, ◌<◌, ◌≤◌, inl, inr, true, List, [], ◌∷◌, refl, sym, ap}
 use Rattle.std.proofs.Common.{subst, Option, Some, None, eqb, arith}
 use Rattle.std.specs.Prelude.{filter, filter_map, Contains, ◌↔◌, option_map, not}
 use Rattle.std.specs.List.{All, cons_option}
@@ -7,6 +7,7 @@ use Rattle.std.specs.Ordering.{is_eq, is_gt, nat_cmp, ordering_then}
 use Rattle.std.specs.declared.cmp.Ordering.{Ordering}
 use Rattle.std.specs.declared.cmp.Ordering.TheVariants.{Less, Equal, Greater}
 use Rattle.std.proofs.lemmas.Bool.{true≢false, eqb-true, cases_lt}
+use Rattle.std.proofs.lemmas.List.{drop_more}
 use Rattle.std.proofs.lemmas.Bool.Decides.{nat_tests}
 use Rattle.fb_values.specs.declared.facts.Datom.{Datom}
 use Rattle.fb_values.specs.declared.indexes.Order.TheVariants.{Eavt}
@@ -24,12 +25,12 @@ use Rattle.fb_db.specs.Seen.{window_of}
 use Rattle.pull_model.specs.Found as model
 use Rattle.pull_model.specs.Found.{put_name, names_in_order}
 use Rattle.pull_model.proofs.Names.{put_twice}
-use Rattle.fb_pull.specs.Attributes.{Rise, name_of, put}
+use Rattle.fb_pull.specs.Attributes.{Rise, name_of, names_among, put}
 use Rattle.fb_pull.specs.Views.{Sees}
 
 -- ---- names
 
-put_again : (name : Option (List ℕ)) (names : List (List ℕ)) → put name (put name names) ≡ put name names
+pub put_again : (name : Option (List ℕ)) (names : List (List ℕ)) → put name (put name names) ≡ put name names
 put_again None names = refl
 put_again (Some name) names = put_twice name names
 
@@ -41,7 +42,7 @@ put_first name a rest = go (name a)
     go None = refl
     go (Some n) = refl
 
-put_datom : (name : ℕ → Option (List ℕ)) (x : Datom) (ds : List Datom)
+pub put_datom : (name : ℕ → Option (List ℕ)) (x : Datom) (ds : List Datom)
     → names_in_order (filter_map (λ (d : Datom). name d.a) (x ∷ ds)) ≡ put (name x.a)
     (names_in_order (filter_map (λ (d : Datom). name d.a) ds))
 put_datom name x ds = go (name x.a)
@@ -50,6 +51,24 @@ put_datom name x ds = go (name x.a)
         (names_in_order (filter_map (λ (d : Datom). name d.a) ds))
     go None = refl
     go (Some n) = refl
+
+pub first_of_names : (schema ds : List Datom) (i : ℕ) (d : Datom) → i < length ds → d ≡ get_or ds i d
+    → names_among schema (drop i ds) ≡ put (name_of schema d.a) (names_among schema (drop (i + 1) ds))
+first_of_names schema ds i d below is =
+    ap (names_among schema) (drop_more ds i d below ∙ ap (λ (x : Datom). x ∷ drop (i + 1) ds) (sym is))
+    ∙ put_datom (name_of schema) d (drop (i + 1) ds)
+
+-- a datom of the next one's attribute brings no name
+pub no_name_more : (schema ds : List Datom) (i : ℕ) (x y : Datom) → i + 1 < length ds → x ≡ get_or ds i x → y ≡ get_or ds (i + 1) y
+    → y.a ≡ x.a → names_among schema (drop (i + 1) ds) ≡ names_among schema (drop i ds)
+no_name_more schema ds i x y below x_is y_is same =
+    let rest = names_among schema (drop (i + 1 + 1) ds) in
+    let second = first_of_names schema ds (i + 1) y below y_is in
+    second
+    ∙ sym (put_again (name_of schema y.a) rest)
+    ∙ ap (put (name_of schema y.a)) (sym second)
+    ∙ ap (λ a. put (name_of schema a) (names_among schema (drop (i + 1) ds))) same
+    ∙ sym (first_of_names schema ds i x (omega (arith, below)) x_is)
 
 -- ---- runs
 
@@ -207,6 +226,12 @@ same_names : (f g : ℕ → Option (List ℕ)) → ((a : ℕ) → f a ≡ g a) �
 same_names f g same [] = refl
 same_names f g same (a ∷ list) = ap (λ o. cons_option o (filter_map f list)) (same a) ∙ ap (cons_option (g a)) (same_names f g same list)
 
+names_of_datoms : (f g : ℕ → Option (List ℕ)) → ((a : ℕ) → f a ≡ g a) → (ds : List Datom)
+    → filter_map (λ (d : Datom). f d.a) ds ≡ filter_map (λ (d : Datom). g d.a) ds
+names_of_datoms f g same [] = refl
+names_of_datoms f g same (d ∷ ds) =
+    ap (λ o. cons_option o (filter_map (λ (x : Datom). f x.a) ds)) (same d.a) ∙ ap (cons_option (g d.a)) (names_of_datoms f g same ds)
+
 module _ {S : Type 0} (db : Db S) (Selects : Datom → Type 0) (facts : model.Db) (sees : Sees db Selects facts) (e : ℕ) where
   abbrev of_entity : List Datom
   of_entity = filter (λ d. eqb d.e e) facts.seen
@@ -231,6 +256,14 @@ module _ {S : Type 0} (db : Db S) (Selects : Datom → Type 0) (facts : model.Db
     where
       same : (n m : ℕ) → n ≡ m → eqb n m ≡ true
       same n m is = grind (arith, nat_tests, is)
+
+  pub names_by_datoms : (schema ds : List Datom) → ((a : ℕ) → attribute_of schema a ≡ attribute_of (facts_of db.snapshot.entries) a)
+      → ds ≡ of_entity → names_among schema ds ≡ model.names_of_entity facts e
+  names_by_datoms schema ds same is =
+      ap names_in_order (names_of_datoms (name_of schema) (name_of facts.schema)
+      (λ a. ap (option_map (λ attribute. attribute.name)) (same a ∙ ap (λ (l : List Datom). attribute_of l a) (sym sees.schema_is)))
+      ds)
+      ∙ ap (names_among facts.schema) is
 
   pub names_by_attributes : (schema : List Datom) (list : List ℕ)
       → ((a : ℕ) → attribute_of schema a ≡ attribute_of (facts_of db.snapshot.entries) a) → Rise list

@@ -49,7 +49,7 @@ two_equal Equal Equal = refl
 two_equal Equal Greater = refl
 two_equal Greater y = refl
 
-number : (m n : ℕ) → is_eq (nat_cmp m n) ≡ eqb n m
+pub number : (m n : ℕ) → is_eq (nat_cmp m n) ≡ eqb n m
 number m n = first_of (grind arith, grind (arith, nat_tests))
 
 is_eq-reverse : (o : Ordering) → is_eq (ordering_reverse o) ≡ is_eq o

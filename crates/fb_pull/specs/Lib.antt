@@ -1,4 +1,5 @@
 pub mod Views
+pub mod Near
 pub mod Attributes
 pub mod Keys
 pub mod Below

@@ -1,16 +1,23 @@
 -- Where a pull stands, as the definitions see it.
 -- Datomic, Pull.
 use Rattle.std.specs.Prelude.{◌≡◌, ℕ, ◌∷◌, drop}
+use Rattle.fb_values.specs.declared.facts.Datom.{Datom}
+use Rattle.fb_db.specs.declared.db.Db as view
 use Rattle.pull_model.specs.Found.{Db}
 use Rattle.pull_model.specs.Made.{Made, Inside}
 use Rattle.pull_model.specs.Patterns.{Item}
 use Rattle.pull_model.specs.Tree.{tree, made_of, inside}
 use Rattle.pull_pattern.specs.View.{pattern_in}
 use Rattle.fb_pull.specs.declared.trees.Stand.{Stand}
+use Rattle.fb_pull.specs.Near.{IsNear}
 
 -- the path begins with the entity
 abbrev pub IsAt : Stand → Type 0
 IsAt at = at.path.now ≡ at.e ∷ drop 1 at.path.now
+
+-- what is at hand there is of the entity
+abbrev pub HasNear : {S : Type 0} → view.Db S → (Datom → Type 0) → Stand → Type 0
+HasNear db Selects at = IsNear db Selects at.e at.near.now
 
 -- what an item at a place makes there
 abbrev pub made_at : Stand → Db → ℕ → Item → Made

@@ -1,6 +1,6 @@
 //! What a pull reads of an entity: its values under an attribute, and the entities that refer to it by one. Each is one search of an
-//! index, and no more is read than is asked for.
-ghost use Rattle.std.specs.Prelude.{◌≡◌, List, map, take, filter, filter_map, true, IfOk};
+//! index, unless the entity's datoms are at hand, and no more is read than is asked for.
+ghost use Rattle.std.specs.Prelude.{◌≡◌, List, [], ◌∷◌, ◌++◌, map, take, filter, filter_map, nat_eq, true, IfOk};
 ghost use Rattle.edn_form.specs.View.{forms_of};
 ghost use Rattle.edn_values.specs.Values.{form_of_value};
 ghost use Rattle.fb_values.specs.declared.indexes.Order.TheVariants.{Vaet};
@@ -8,8 +8,10 @@ ghost use Rattle.fb_model.specs.Facts.{facts as facts_of, values_of};
 ghost use Rattle.fb_model.specs.Schema.{is_about, is_ref, entity_in, covers};
 ghost use Rattle.pull_model.specs.Found as model;
 ghost use Rattle.fb_pull.specs.Finding.{upto};
+ghost use Rattle.fb_pull.specs.Near.{IsNear};
 ghost use Rattle.fb_pull.specs.Views.{Sees};
 
+use crate::near::Near;
 use edn_form::Edn;
 use edn_values::as_edn;
 use fb_db::Db;
@@ -23,34 +25,51 @@ use std::alloc::Global;
 pub fn values<S: Selector>(
     alloc: Global,
     db: &Db<S>,
+    near: &Near,
     e: u64,
     a: u64,
     most: Option<usize>,
 ) -> Result<Vec<Edn>, Memory>
+    requires { IsNear db.now (S.selects db.now.filter) e near.now }
     ensures { (facts : model.Db) → Sees db.now (S.selects db.now.filter) facts
         → IfOk result (λ list. forms_of list.items
         ≡ map form_of_value (upto most (values_of facts.seen e a))) }
 {
-    let datoms = datoms_under(alloc, db, e, a, most)?;
-    forms(alloc, datoms.as_slice())
+    match near {
+        Near::Few(datoms) => {
+            let most = most.unwrap_or(datoms.len());
+            forms_among(alloc, datoms.as_slice(), a, most)
+        }
+        Near::Nothing => {
+            let datoms = datoms_under(alloc, db, e, a, most)?;
+            forms(alloc, datoms.as_slice())
+        }
+    }
 }
 
 /// The entities that the entity refers to by the attribute, at most so many.
 pub fn referred<S: Selector>(
     alloc: Global,
     db: &Db<S>,
+    near: &Near,
     e: u64,
     a: u64,
     most: usize,
 ) -> Result<Vec<u64>, Memory>
-    requires { is_ref (facts_of db.now.snapshot.entries) a ≡ true }
+    requires refers { is_ref (facts_of db.now.snapshot.entries) a ≡ true }
+    requires near { IsNear db.now (S.selects db.now.filter) e near.now }
     ensures { (facts : model.Db) → Sees db.now (S.selects db.now.filter) facts
         → IfOk result (λ list. list.items
         ≡ take most (filter_map entity_in (values_of facts.seen e a))) }
 {
     let _ = db.snapshot.entries();
-    let datoms = datoms_under(alloc, db, e, a, Some(most))?;
-    entities(alloc, datoms.as_slice())
+    match near {
+        Near::Few(datoms) => entities_among(alloc, datoms.as_slice(), a, most),
+        Near::Nothing => {
+            let datoms = datoms_under(alloc, db, e, a, Some(most))?;
+            entities(alloc, datoms.as_slice())
+        }
+    }
 }
 
 /// The entities that refer to the entity by the attribute, at most so many.
@@ -123,6 +142,49 @@ fn entities(alloc: Global, datoms: &[Datom]) -> Result<Vec<u64>, Memory>
         }
     }
     Ok(list)
+}
+
+/// The forms of the values under the attribute among the datoms, at most so many.
+fn forms_among(alloc: Global, datoms: &[Datom], a: u64, most: usize) -> Result<Vec<Edn>, Memory>
+    ensures { IfOk result (λ list. forms_of list.items ≡ map form_of_value
+        (map (λ d. d.v) (take most (filter (λ d. nat_eq d.a a) datoms.now)))) }
+{
+    let mut list = Vec::new(alloc);
+    let mut left = most;
+    for d in datoms {
+        if d.a == a && left > 0 {
+            list.push(as_edn(&d.v)?)?;
+            left -= 1;
+        }
+    }
+    Ok(list)
+}
+
+/// The entities among the values under the attribute, of the first datoms.
+fn entities_among(alloc: Global, datoms: &[Datom], a: u64, most: usize) -> Result<Vec<u64>, Memory>
+    ensures { IfOk result (λ list. list.items ≡ filter_map entity_in
+        (map (λ d. d.v) (take most (filter (λ d. nat_eq d.a a) datoms.now)))) }
+{
+    let mut list = Vec::new(alloc);
+    let mut left = most;
+    for d in datoms {
+        if d.a == a && left > 0 {
+            push_entity(&mut list, &d.v)?;
+            left -= 1;
+        }
+    }
+    Ok(list)
+}
+
+/// Adds the entity that the value is, if it is one.
+fn push_entity(list: &mut Vec<u64>, v: &Value) -> Result<(), Memory>
+    ensures { IfOk result
+        (λ _. list.new.items ≡ list.old.items ++ filter_map entity_in (v.now ∷ [])) }
+{
+    if let Value::Ref(n) = v {
+        list.push(*n)?;
+    }
+    Ok(())
 }
 
 /// The entities of which the datoms are.

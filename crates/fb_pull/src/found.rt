@@ -7,9 +7,11 @@ ghost use Rattle.pull_model.specs.Found as model;
 ghost use Rattle.pull_model.specs.Tree as tree;
 ghost use Rattle.pull_pattern.specs.View.{options_in, limit_in};
 ghost use Rattle.fb_pull.specs.Finding.{Finds, most_in, most_entities};
+ghost use Rattle.fb_pull.specs.Near.{IsNear};
 ghost use Rattle.fb_pull.specs.Views.{Sees};
 
 use crate::facts::{referred, referring, values};
+use crate::near::Near;
 use edn_form::Edn;
 use fb_db::Db;
 use fb_memory::Memory;
@@ -44,11 +46,13 @@ pub enum Found {
 pub fn found_under<S: Selector>(
     alloc: Global,
     db: &Db<S>,
+    near: &Near,
     e: u64,
     name: &Name,
     options: &Options,
     maps: u32,
 ) -> Result<Found, Memory>
+    requires { IsNear db.now (S.selects db.now.filter) e near.now }
     ensures { (facts : model.Db) → Sees db.now (S.selects db.now.filter) facts
         → IfOk result
         (λ found. Finds (model.found facts e name.now) (options_in options.now) maps found) }
@@ -56,7 +60,7 @@ pub fn found_under<S: Selector>(
     schemas_tell_of_attributes();
     match name.reversed() {
         None => match db.snapshot.schema().named(name.written()) {
-            Some(attribute) => found_forward(alloc, db, e, attribute, options, maps),
+            Some(attribute) => found_forward(alloc, db, near, e, attribute, options, maps),
             None => Ok(Found::Absent),
         },
         Some(forward) => match db.snapshot.schema().named(forward) {
@@ -69,13 +73,15 @@ pub fn found_under<S: Selector>(
 fn found_forward<S: Selector>(
     alloc: Global,
     db: &Db<S>,
+    near: &Near,
     e: u64,
     attribute: &Attribute,
     options: &Options,
     maps: u32,
 ) -> Result<Found, Memory>
-    requires { attribute_of (facts_of db.now.snapshot.entries) attribute.now.id
+    requires known { attribute_of (facts_of db.now.snapshot.entries) attribute.now.id
         ≡ Some (attribute_in attribute.now) }
+    requires near { IsNear db.now (S.selects db.now.filter) e near.now }
     ensures { (facts : model.Db) → Sees db.now (S.selects db.now.filter) facts
         → IfOk result (λ found. Finds
         (model.found_forward facts e (Some (attribute_in attribute.now))) (options_in options.now)
@@ -84,14 +90,14 @@ fn found_forward<S: Selector>(
     let several = attribute.many;
     let limit = limit_for(several, options);
     if attribute.is_ref() {
-        let list = referred(alloc, db, e, attribute.id, most_entities(limit, maps))?;
+        let list = referred(alloc, db, near, e, attribute.id, most_entities(limit, maps))?;
         return Ok(Found::Entities {
             several,
             parts: attribute.component,
             list,
         });
     }
-    let forms = values(alloc, db, e, attribute.id, most_values(limit))?;
+    let forms = values(alloc, db, near, e, attribute.id, most_values(limit))?;
     Ok(Found::Values { several, forms })
 }
 

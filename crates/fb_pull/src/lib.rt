@@ -8,6 +8,7 @@ mod found;
 mod keys;
 mod made;
 mod names;
+mod near;
 mod pulls;
 mod stops;
 mod trees;

@@ -1,5 +1,5 @@
-//! The names of an entity's attributes. One search finds each attribute, whatever its values are.
-ghost use Rattle.std.specs.Prelude.{◌≡◌, ℕ, ◌↔◌, Contains, option_map, filter_map, IfOk};
+//! The names of an entity's attributes. Where its datoms are not at hand, one search finds each attribute, whatever its values are.
+ghost use Rattle.std.specs.Prelude.{◌≡◌, ◌<◌, ◌+◌, ℕ, ◌↔◌, Contains, length, drop, option_map, filter_map, IfOk};
 ghost use Rattle.std.specs.Option.{option_copied};
 ghost use Rattle.fb_model.specs.Facts.{facts as facts_of};
 ghost use Rattle.fb_model.specs.Schema.{attribute_of};
@@ -8,27 +8,73 @@ ghost use Rattle.fb_scan.specs.Attributes.{HasAttribute};
 ghost use Rattle.fb_db.specs.Seen.{window_of};
 ghost use Rattle.fb_schema.specs.Described.{SchemaStands};
 ghost use Rattle.pull_model.specs.Found as model;
+ghost use Rattle.fb_pull.specs.Near.{IsNear};
 ghost use Rattle.fb_pull.specs.Views.{Sees};
-ghost use Rattle.fb_pull.specs.Attributes.{Rise, name_of, put};
+ghost use Rattle.fb_pull.specs.Attributes.{Rise, name_of, names_among, put};
 
+use crate::near::Near;
 use fb_db::Db;
 use fb_memory::Memory;
 use fb_preds::Selector;
 use fb_scan::next_attribute;
 use fb_schema::{Schema, schemas_tell_of_attributes};
 use fb_text::Text;
+use fb_values::Datom;
 use std::alloc::Global;
 use std::cmp::Ordering;
 use tx_model::lawful_histories_are_small;
 
 /// The names of the attributes that the entity has, in the order of their bytes.
-pub fn names_of_entity<S: Selector>(alloc: Global, db: &Db<S>, e: u64) -> Result<Vec<Text>, Memory>
+pub fn names_of_entity<S: Selector>(
+    alloc: Global,
+    db: &Db<S>,
+    near: &Near,
+    e: u64,
+) -> Result<Vec<Text>, Memory>
+    requires { IsNear db.now (S.selects db.now.filter) e near.now }
     ensures { (facts : model.Db) → Sees db.now (S.selects db.now.filter) facts
         → IfOk result (λ list. list.items ≡ model.names_of_entity facts e) }
 {
     schemas_tell_of_attributes();
-    let attributes = attributes_of(alloc, db, e)?;
-    names_in_order(alloc, db.snapshot.schema(), &attributes)
+    match near {
+        Near::Few(datoms) => names_among(alloc, db.snapshot.schema(), datoms.as_slice()),
+        Near::Nothing => {
+            let attributes = attributes_of(alloc, db, e)?;
+            names_in_order(alloc, db.snapshot.schema(), &attributes)
+        }
+    }
+}
+
+/// The names of the datoms' attributes, each once.
+fn names_among(alloc: Global, schema: &Schema, datoms: &[Datom]) -> Result<Vec<Text>, Memory>
+    ensures { IfOk result (λ list. list.items
+        ≡ names_among schema.now datoms.now) }
+{
+    let mut list = Vec::new(alloc);
+    let mut i = datoms.len();
+    while i > 0 {
+        i -= 1;
+        put_datom(&mut list, schema, datoms, i)?;
+    }
+    Ok(list)
+}
+
+/// Puts the name of the datom's attribute in its place, unless the next datom has put it there.
+fn put_datom(
+    list: &mut Vec<Text>,
+    schema: &Schema,
+    datoms: &[Datom],
+    i: usize,
+) -> Result<(), Memory>
+    requires { i < length datoms.now }
+    ensures { list.old.items ≡ names_among schema.now (drop (i + 1) datoms.now)
+        → IfOk result (λ _. list.new.items ≡ names_among schema.now (drop i datoms.now)) }
+{
+    let a = datoms[i].a;
+    if i + 1 < datoms.len() && datoms[i + 1].a == a {
+        return Ok(());
+    }
+    put_attribute(list, schema, a)
 }
 
 /// The attributes that the entity has, in the order of their numbers.

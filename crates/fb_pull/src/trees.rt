@@ -9,7 +9,7 @@ ghost use Rattle.pull_model.specs.Tree as model;
 ghost use Rattle.pull_pattern.specs.View.{pattern_in, pattern_of, item_in, options_in, below_in};
 ghost use Rattle.fb_pull.specs.Below.{told_by};
 ghost use Rattle.fb_pull.specs.Finding.{Finds};
-ghost use Rattle.fb_pull.specs.Stands.{IsAt, made_at, inside_at};
+ghost use Rattle.fb_pull.specs.Stands.{IsAt, HasNear, made_at, inside_at};
 ghost use Rattle.fb_pull.specs.Telling.{Tells, TellsInside, TellsSeveral, Adds, IsInside, with_own};
 ghost use Rattle.fb_pull.specs.Views.{Sees};
 
@@ -18,6 +18,7 @@ use crate::found::{Found, found_under};
 use crate::keys::Key;
 use crate::made::{Inside, Limits, Several, Told, collected, number, or_default, stub};
 use crate::names::names_of_entity;
+use crate::near::{Near, at_hand};
 use crate::stops::Stop;
 use edn_form::Edn;
 use fb_db::Db;
@@ -34,11 +35,12 @@ pub struct Walk<'a, S> {
     pub db: &'a Db<S>,
 }
 
-/// Where it stands: at an entity, with the path that led to it. The path begins with the entity itself.
+/// Where it stands: at an entity, with what is at hand of it, and the path that led to it, which begins with the entity itself.
 #[derive(Clone, Copy)]
 struct Stand<'a> {
     pattern: &'a Pattern,
     e: u64,
+    near: &'a Near,
     path: &'a [u64],
     limits: Limits,
 }
@@ -68,9 +70,11 @@ pub fn tree<S: Selector>(
         return Err(Stop::TooLarge);
     }
     let path = path_to(walk.alloc, e, above)?;
+    let near = at_hand(walk.alloc, walk.db, e, pattern.items())?;
     let at = Stand {
         pattern,
         e,
+        near: &near,
         path: &path,
         limits: Limits {
             depth: limits.depth - 1,
@@ -87,7 +91,8 @@ pub fn tree<S: Selector>(
 /// The pairs of the entity's map.
 #[cycle(tree)]
 fn pairs<S: Selector>(walk: &Walk<'_, S>, at: &Stand<'_>) -> Result<Inside, Stop>
-    requires { IsAt at.now }
+    requires path { IsAt at.now }
+    requires near { HasNear walk.now.db.now (S.selects walk.now.db.now.filter) at.now }
     ensures { (facts : Facts) → Sees walk.now.db.now (S.selects walk.now.db.now.filter) facts
         → TellsInside (inside_at at.now facts) at.now.limits result }
 {
@@ -108,7 +113,8 @@ fn add_item<S: Selector>(
     place: usize,
     item: &Item,
 ) -> Result<(), Stop>
-    requires { IsAt at.now }
+    requires path { IsAt at.now }
+    requires near { HasNear walk.now.db.now (S.selects walk.now.db.now.filter) at.now }
     ensures { (facts : Facts) → Sees walk.now.db.now (S.selects walk.now.db.now.filter) facts
         → (before : made.Inside) → IsInside before at.now.limits inside.old
         → Adds (fold (model.with_item (made_at at.now facts)) before
@@ -142,7 +148,8 @@ fn add_everything<S: Selector>(
     inside: &mut Inside,
     place: usize,
 ) -> Result<(), Stop>
-    requires { IsAt at.now }
+    requires path { IsAt at.now }
+    requires near { HasNear walk.now.db.now (S.selects walk.now.db.now.filter) at.now }
     ensures { (facts : Facts) → Sees walk.now.db.now (S.selects walk.now.db.now.filter) facts
         → (before : made.Inside) → IsInside before at.now.limits inside.old
         → Adds (fold (model.with_item (made_at at.now facts)) before
@@ -151,7 +158,7 @@ fn add_everything<S: Selector>(
         at.now.limits inside.new result }
 {
     add_own(walk.alloc, inside, at.e, &Options::none())?;
-    let names = names_of_entity(walk.alloc, walk.db, at.e)?;
+    let names = names_of_entity(walk.alloc, walk.db, at.near, at.e)?;
     for name in &names {
         add_other(walk, at, inside, place, name)?;
     }
@@ -167,7 +174,8 @@ fn add_other<S: Selector>(
     place: usize,
     name: &Text,
 ) -> Result<(), Stop>
-    requires { IsAt at.now }
+    requires path { IsAt at.now }
+    requires near { HasNear walk.now.db.now (S.selects walk.now.db.now.filter) at.now }
     ensures { (facts : Facts) → Sees walk.now.db.now (S.selects walk.now.db.now.filter) facts
         → (before : made.Inside) → IsInside before at.now.limits inside.old
         → Adds (if model.has_item_for name.now (pattern_in at.now.pattern.now) then before
@@ -195,7 +203,8 @@ fn add_attribute<S: Selector>(
     inside: &mut Inside,
     asked: &Asked<'_>,
 ) -> Result<(), Stop>
-    requires { IsAt at.now }
+    requires path { IsAt at.now }
+    requires near { HasNear walk.now.db.now (S.selects walk.now.db.now.filter) at.now }
     ensures { (facts : Facts) → Sees walk.now.db.now (S.selects walk.now.db.now.filter) facts
         → (before : made.Inside) → IsInside before at.now.limits inside.old
         → Adds (model.with_item (made_at at.now facts) before (
@@ -224,6 +233,7 @@ fn value<S: Selector>(
     asked: &Asked<'_>,
     left: u32,
 ) -> Result<Told, Stop>
+    requires { HasNear walk.now.db.now (S.selects walk.now.db.now.filter) at.now }
     ensures { (facts : Facts) → Sees walk.now.db.now (S.selects walk.now.db.now.filter) facts
         → Tells (model.value_of (model.tree at.now.limits.depth facts)
         (pattern_in at.now.pattern.now) asked.now.place at.now.path.now
@@ -231,7 +241,15 @@ fn value<S: Selector>(
         (found.found facts at.now.e asked.now.name.now))
         (record { depth = at.now.limits.depth; maps = left }) result }
 {
-    match found_under(walk.alloc, walk.db, at.e, asked.name, asked.options, left)? {
+    match found_under(
+        walk.alloc,
+        walk.db,
+        at.near,
+        at.e,
+        asked.name,
+        asked.options,
+        left,
+    )? {
         Found::Absent => Ok(Told {
             form: None,
             maps: 0,
