@@ -1,16 +1,14 @@
 -- What a run says, why, and what its scripts' names have to do with what was opened for them.
-use Rattle.std.proofs.Common.{◌≡◌, ◌⊎◌, inl, inr, ℕ, Bool, true, false, List, [], ◌∷◌, map, length, Option, Some, None, zero, suc, refl, sym, ap, ◌∙◌, subst, arith}
-use Rattle.std.proofs.lemmas.Option.{IfSome_then}
+use Rattle.std.proofs.Common.{◌≡◌, ◌⊎◌, inl, inr, ℕ, Bool, true, false, List, [], ◌∷◌, map, length, Option, Some, None, refl, sym, ap, ◌∙◌, subst, arith}
 use Rattle.std.specs.Borrow.{Bor}
 use Rattle.command_line.specs.Views.{names_in}
-use Rattle.std.specs.Prelude.{◌==◌, ◌-◌, ◌<◌, ◌≤◌, get_or, take, drop, ◌&&◌, nat_lt, nat_le, IfSome, IfOk, OnErr, IsSome, Result, Ok, Err, is_err, string_bytes}
+use Rattle.std.specs.Prelude.{◌==◌, ◌-◌, ◌<◌, ◌≤◌, get_or, take, drop, ◌&&◌, nat_lt, nat_le, IfOk, OnErr, Result, Ok, Err, is_err, string_bytes}
 use Rattle.std.specs.List.{slice_get}
 use Rattle.std.proofs.lemmas.Bool.{ltb-true, leb-true}
 use Rattle.fb_ports.specs.Faults.{Rose}
 use Rattle.fb_ports.specs.Told.{Told}
 use Rattle.fb_values.specs.declared.facts.Entry.{Entry}
-use Rattle.fb_view.specs.Kept.{Kept}
-use Rattle.command_line.specs.Words.{Command, scripts_of, are_scripts, are_apart, sink_of}
+use Rattle.command_line.specs.Words.{Command, scripts_of, are_scripts, are_apart}
 use Rattle.fb_session.specs.declared.outcome.SessionEnd.{SessionEnd}
 use Rattle.fb_session.specs.declared.outcome.SessionEnd.TheVariants as ended
 use Rattle.fb_session.specs.Sessions.{Terms}
@@ -20,8 +18,8 @@ use Rattle.factbase.specs.declared.outcome.Outcome.{Outcome}
 use Rattle.factbase.specs.Outside.{Tells, run_from, run_of, setting_of, EachOf}
 use Rattle.factbase.specs.Opening.{IsOpenedFor}
 use Rattle.factbase.specs.Headline.{EachReplies}
-use Rattle.factbase.specs.StatusLines.{Why, answered, usage, unopened, ended_early, memory, usage_line, cannot_open, out_of_memory, status_of_end, line_of_end, first_early, why_of}
-use Rattle.factbase.specs.Causes.{NoSession, OutOfMemory, IsOutOfMemory, SaysWhy, Counts, HaveRun, CannotOpen, CauseOf, Causes}
+use Rattle.factbase.specs.StatusLines.{usage, unopened, ended_early, memory, usage_line, cannot_open, out_of_memory, status_of_end, line_of_end, first_early, why_of}
+use Rattle.factbase.specs.Causes.{NoSession, OutOfMemory, IsOutOfMemory, SaysWhy, Counts, HaveRun, CauseOf, Causes}
 use Rattle.factbase.specs.Running.{RepliesBy, CountsBy, HaveEnded}
 use Rattle.factbase.proofs.Lists.{each_through, cut_first, names_cut}
 

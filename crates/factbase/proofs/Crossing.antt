@@ -92,7 +92,7 @@ Home-row L R log = declared_send (Home.the_type L R)
 pub Conn-sync : (L R : RattleType) (g : Ghosts L.Denot R.Denot) → IsSend L → IsSync (Conn.the_row L R g)
 Conn-sync L R g log =
     let shared = board.the_sync (Home.the_row L R) Letter.the_row Entry.the_row L unit (homes L R g no_dict no_dict no_dict) mailed letters
-        (Home-row L R log) Letter-row in
+    (Home-row L R log) Letter-row in
     declared_sync (Conn.the_type L R g) (handle.the_sync, (shared, (bell.the_sync, (search sendable, tt))))
 
 Seat-row : IsSend Seat.the_row

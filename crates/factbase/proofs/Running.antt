@@ -1,7 +1,7 @@
 -- What the closed database and the sessions that ran leave: one history, and what each session did in it.
 use Rattle.std.proofs.Common.{◌≡◌, ℕ, ◌+◌, ◌<◌, ◌≤◌, ◌⊎◌, inl, inr, Bool, false, List, [], ◌∷◌, ◌++◌, map, length, length-append, Option, Some, None, refl, sym, ap, ◌∙◌, subst, arith}
 use Rattle.std.proofs.lemmas.Option.{get_or_from_slice_get, slice_get_within}
-use Rattle.std.specs.Prelude.{◌==◌, slice_get, slice_index_or, IfSome, IfOk, Result, Ok, Err, unwrap_or, string_bytes}
+use Rattle.std.specs.Prelude.{◌==◌, slice_get, slice_index_or, IfSome, unwrap_or, string_bytes}
 use Rattle.std.specs.List.{AllByRecursion}
 use Rattle.std.specs.List.Sorted.{IsStrictlyIncreasing}
 use lib.ListN.{length-map}
@@ -17,7 +17,7 @@ use Rattle.fb_conn.specs.declared.conn.Conn.{Conn}
 use Rattle.fb_conn.specs.declared.seats.Seat.{Seat}
 use Rattle.fb_conn.specs.declared.home.Stop.{Stop}
 use Rattle.fb_conn.specs.Homes.{LogStands}
-use Rattle.fb_conn.specs.Seats.{sessions_of, IsSeatOf, IsWorkerOf, state_of}
+use Rattle.fb_conn.specs.Seats.{IsSeatOf, IsWorkerOf, state_of}
 use Rattle.fb_log.specs.declared.logs.NoLog.{NoLog}
 use Rattle.fb_core.specs.declared.shared.CoreParts.{CoreParts}
 use Rattle.fb_core.specs.declared.accepting.Draft.{Draft}

@@ -1,9 +1,9 @@
 -- What a host tells of scripts that are opened one after another is what it told at first.
-use Rattle.std.proofs.Common.{◌≡◌, ◌≢◌, ℕ, ◌+◌, Bool, true, false, List, [], ◌∷◌, ◌++◌, map, length, length-append, Some, None, zero, suc, refl, sym, ap, ◌∙◌, subst, arith}
+use Rattle.std.proofs.Common.{◌≡◌, ◌≢◌, ℕ, ◌+◌, Bool, true, false, List, [], ◌∷◌, ◌++◌, map, length, length-append, Some, suc, refl, sym, ap, ◌∙◌, subst, arith}
 use Rattle.std.proofs.lemmas.Bool.{not-true}
 use Rattle.std.proofs.lemmas.List.{append-nil, append_assoc, append_cancel_right}
 use Rattle.std.proofs.lemmas.Slice.Eq.{bytes_eq-Decides}
-use Rattle.std.specs.Prelude.{◌-◌, ◌<◌, ◌≤◌, ◌&&◌, ◌||◌, not, bytes_eq, codes, slice_get, get_or, take, drop, if◌then◌else◌, Result, Ok, Err, OnOk, IfErr}
+use Rattle.std.specs.Prelude.{◌-◌, ◌<◌, ◌≤◌, ◌&&◌, ◌||◌, not, bytes_eq, codes, get_or, take, drop, if◌then◌else◌, Result, Ok, Err, OnOk, IfErr}
 use Rattle.std.specs.Borrow.{Bor}
 use lib.ListN.{length-map}
 use Rattle.command_line.specs.Views.{names_in}
@@ -17,7 +17,7 @@ use Rattle.factbase.specs.declared.outcome.SessionOut.{SessionOut}
 use Rattle.factbase.specs.declared.opening.Unopened.{Unopened}
 use Rattle.factbase.specs.declared.opening.Unopened.TheVariants.{CannotOpen, Memory}
 use Rattle.factbase.specs.Outside.{Tells, IsSourceOf, IsSinkOf, EachOf}
-use Rattle.factbase.specs.Opening.{AddsSource, OpensSources, OpensSink, AddsSession, AddsSessions, IsOpenedFor, HasOpened, IsNotOpened, IsUnopened}
+use Rattle.factbase.specs.Opening.{AddsSource, OpensSources, AddsSession, AddsSessions, IsOpenedFor, HasOpened, IsNotOpened, IsUnopened}
 
 -- ---- names that are apart
 

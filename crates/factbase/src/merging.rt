@@ -33,15 +33,7 @@ pub(crate) fn beside<
     W: Gate + Sync,
     J: Send,
     F: Fn(usize, &mut J) + Sync,
->(
-    rt: &R,
-    alloc: Global,
-    conn: &Conn<NoLog>,
-    gate: &W,
-    worker: &mut Worker,
-    job: &F,
-    jobs: &mut [J],
-)
+>(rt: &R, alloc: Global, conn: &Conn<NoLog>, gate: &W, worker: &mut Worker, job: &F, jobs: &mut [J])
     requires worker { CanWork conn.now worker.old }
     requires accepts { AcceptsEach F.Fn job.now jobs.old }
     ensures worker { CanWork conn.now worker.new }
@@ -123,7 +115,15 @@ pub(crate) fn settled<R: Threads + Sync>(
     }
     let mut base = Base::of(core.snapshot())?;
     let mut ahead = None;
-    match settle(rt, alloc, core, &mut NoStore, &mut base, &mut ahead, merge_at) {
+    match settle(
+        rt,
+        alloc,
+        core,
+        &mut NoStore,
+        &mut base,
+        &mut ahead,
+        merge_at,
+    ) {
         WorkEnd::Memory => Err(Memory),
         WorkEnd::Shut | WorkEnd::Spent | WorkEnd::StoreFault => Ok(()),
     }

@@ -1,4 +1,4 @@
-use Rattle.std.proofs.Common.{◌≤◌, sym, arith}
+use Rattle.std.proofs.Common.{◌≤◌, arith}
 use Rattle.fb_conn.specs.Seats.{state_of}
 use Rattle.factbase.proofs.Talking.{at_seats, have_talked_in}
 use Rattle.factbase.proofs.jobs.serve_all.Goals as goal

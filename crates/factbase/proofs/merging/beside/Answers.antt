@@ -22,9 +22,16 @@ pub join_mut-requires-send-F : goal.join_mut-requires-send-F
 join_mut-requires-send-F g c κs within =
     let captures = type_at _ (ShrRef _ _ (param 0 g.row.R) ∷ ShrRef _ _ Global.the_row ∷ ShrRef _ _ (Conn.the_row NoLog.the_row unit ghosts)
     ∷ ShrRef _ _ (param 1 g.row.W) ∷ MutRef _ _ Worker.the_row ∷ []) in
-    param_send 1 _ (arg_send _ no _ (declared_send captures (as_row_send (row_field _) (shr_send _ _ _ c.type_bounds.sync-R),
-    (as_row_send (row_field _) (shr_send _ _ _ heap.sync), (as_row_send (row_field _) (shr_send _ _ _ unlogged),
-    (as_row_send (row_field _) (shr_send _ _ _ c.type_bounds.sync-W), (as_row_send (row_field _) (mut_send _ _ _ Worker-send), tt)))))))
+    param_send 1 _ (arg_send _ no _ (declared_send captures (
+      as_row_send (row_field _) (shr_send _ _ _ c.type_bounds.sync-R),
+      (
+        as_row_send (row_field _) (shr_send _ _ _ heap.sync),
+        (
+          as_row_send (row_field _) (shr_send _ _ _ unlogged),
+          (as_row_send (row_field _) (shr_send _ _ _ c.type_bounds.sync-W), (as_row_send (row_field _) (mut_send _ _ _ Worker-send), tt)),
+        ),
+      ),
+    )))
 
 pub returns-clause-jobs : goal.returns-clause-jobs
 returns-clause-jobs g c =

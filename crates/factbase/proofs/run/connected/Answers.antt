@@ -14,6 +14,8 @@ pub returns-clause-worker : goal.returns-clause-worker
 returns-clause-worker c =
     let w = c.in_ok-conn.ensures.worker in let base = c.in_ok-base.base in
     let core = c.in_ok-core.core.snapshot in
-    let of_core = subst (λ s. IsBaseOf base s.entries s.covered) c.snapshot.ensures.snapshot c.in_ok-base.ensures.stand in
-    (w.0, subst (λ h. IsBaseOf base h (view_of c.in_ok-conn.field-0.worker.board).covered) (sym w.4)
-    (subst (λ n. IsBaseOf base core.entries n) (sym w.2) of_core))
+    let of_core = subst (λ s. IsBaseOf base s.entries s.covered) c.snapshot.ensures.snapshot c.in_ok-base.ensures.stand in (
+      w.0,
+      subst (λ h. IsBaseOf base h (view_of c.in_ok-conn.field-0.worker.board).covered) (sym w.4)
+          (subst (λ n. IsBaseOf base core.entries n) (sym w.2) of_core),
+    )

@@ -1,4 +1,4 @@
-use Rattle.std.proofs.Common.{◌≡◌, ◌∙◌, ap, subst, refl, Some, None, map}
+use Rattle.std.proofs.Common.{◌∙◌, ap, subst, refl, Some, map}
 use Rattle.std.specs.Prelude.{IfSome, string_bytes}
 use Rattle.fb_session.specs.Sessions.{terms_of}
 use Rattle.command_line.specs.Words.{command_of, scripts_of}

@@ -1,11 +1,9 @@
-use Rattle.std.proofs.Common.{◌≡◌, true, sym, ◌∙◌, ap, subst, arith, length, List, ℕ, Some}
+use Rattle.std.proofs.Common.{◌≡◌, true, sym, ap, subst, arith, length, Some}
 use Rattle.std.proofs.lemmas.Option.{IfSome_then}
 use Rattle.std.specs.Prelude.{slice_get, string_bytes}
-use Rattle.fb_session.specs.Sessions.{terms_of}
 use Rattle.command_line.specs.Words.{are_scripts}
 use Rattle.command_line.specs.Views.{names_in, command_by}
 use Rattle.factbase.specs.Outside.{tells_of, EachOf}
-use Rattle.factbase.specs.Headline.{stop_of}
 use Rattle.factbase.specs.Opening.{IsOpenedFor}
 use Rattle.factbase.proofs.Lists.{each_len}
 use Rattle.factbase.proofs.Causing.{few_scripts, replies_told, caused_by_sessions, caused_by_memory, caused_by_host, says_line, says_memory}

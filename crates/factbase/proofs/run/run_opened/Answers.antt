@@ -1,9 +1,7 @@
-use Rattle.std.proofs.Common.{◌≡◌, ◌∙◌, ap, sym, inr, arith, rules, length}
+use Rattle.std.proofs.Common.{◌≡◌, ◌∙◌, ap, inr, arith, rules, length}
 use Rattle.std.proofs.lemmas.Option.{slice_get_within}
 use Rattle.fb_desk.specs.Desks.{State}
 use Rattle.fb_conn.specs.Seats.{state_of}
-use Rattle.fb_session.specs.Sessions.{terms_of}
-use Rattle.factbase.specs.Outside.{tells_of}
 use Rattle.factbase.proofs.Lists.{there}
 use Rattle.factbase.proofs.Running.{run_history, run_replies, run_prefixes, run_ended}
 use Rattle.factbase.proofs.run.run_opened.Goals as goal
