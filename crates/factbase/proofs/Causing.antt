@@ -37,7 +37,8 @@ says_memory status line (inl said) = (said.0, inl said.1)
 says_memory status line (inr said) = said
 
 -- how a session ended that was not done says why
-pub says_end : (name : List ℕ) (how : SessionEnd) (status : ℕ) (line : List ℕ) → ((status ≡ status_of_end how) × (line ≡ line_of_end name how)) ⊎ OutOfMemory status line
+pub says_end : (name : List ℕ) (how : SessionEnd) (status : ℕ) (line : List ℕ) → ((status ≡ status_of_end how) × (line ≡ line_of_end name
+    how)) ⊎ OutOfMemory status line
     → SaysWhy (ended_early name how) status line
 says_end name how status line said = said
 
@@ -70,7 +71,8 @@ first_not_done name names ended.ReadFault ends not = refl
 first_not_done name names ended.WriteFault ends not = refl
 first_not_done name names ended.Memory ends not = refl
 
-module _ {S : Type 0} (end_of : S → SessionEnd) (scripts : List (Bor (List ℕ))) (d : Bor (List ℕ)) (sessions : List S) (s : S) (unmerged : Bool) (status : ℕ)
+module _ {S : Type 0} (end_of : S → SessionEnd) (scripts : List (Bor (List ℕ))) (d : Bor (List ℕ)) (sessions : List S) (s : S) (unmerged :
+    Bool) (status : ℕ)
     (line : List ℕ) (some_script : 1 ≤ length scripts) (some : 1 ≤ length sessions) (is : s ≡ get_or sessions 0 s) where
   abbrev others : List (List ℕ)
   others = names_in (take (length scripts - 1) (drop 1 scripts))
@@ -88,13 +90,16 @@ module _ {S : Type 0} (end_of : S → SessionEnd) (scripts : List (Bor (List ℕ
   pub says_rest : end_of s ≡ ended.Done → SaysWhy (why_of (first_early others ends) unmerged) status line
       → SaysWhy (why_of (first_early (names_in scripts) (map end_of sessions)) unmerged) status line
   says_rest done rest =
-      subst (λ (e : Option (List ℕ × SessionEnd)). SaysWhy (why_of e unmerged) status line) (sym (cut ∙ first_done (get_or scripts 0 d).now others (end_of s) ends done)) rest
+      subst (λ (e : Option (List ℕ × SessionEnd)). SaysWhy (why_of e unmerged) status line) (sym (cut ∙ first_done (get_or scripts 0 d).now
+          others (end_of s) ends done)) rest
 
   -- it was not, so it decides
-  pub says_first : (end_of s ≡ ended.Done → ⊥) → ((status ≡ status_of_end (end_of s)) × (line ≡ line_of_end (get_or scripts 0 d).now (end_of s))) ⊎ OutOfMemory status line
+  pub says_first : (end_of s ≡ ended.Done → ⊥) → ((status ≡ status_of_end (end_of s)) × (line ≡ line_of_end (get_or scripts 0 d).now
+      (end_of s))) ⊎ OutOfMemory status line
       → SaysWhy (why_of (first_early (names_in scripts) (map end_of sessions)) unmerged) status line
   says_first not said =
-      subst (λ (e : Option (List ℕ × SessionEnd)). SaysWhy (why_of e unmerged) status line) (sym (cut ∙ first_not_done (get_or scripts 0 d).now others (end_of s) ends not)) said
+      subst (λ (e : Option (List ℕ × SessionEnd)). SaysWhy (why_of e unmerged) status line) (sym (cut ∙ first_not_done (get_or scripts 0
+          d).now others (end_of s) ends not)) said
 
 -- ---- success
 
@@ -120,7 +125,8 @@ not_success (name ∷ names) (ended.Memory ∷ ends) status line (inl says) none
 not_success (name ∷ names) (ended.Memory ∷ ends) status line (inr says) none = omega (arith, says.0, none)
 
 -- what a merge promises holds where the status is 0
-pub success_is_merged : {E : Type 0} (merged : Result (Unit {0}) E) (names : List (List ℕ)) (ends_are : List SessionEnd) (status : ℕ) (line : List ℕ)
+pub success_is_merged : {E : Type 0} (merged : Result (Unit {0}) E) (names : List (List ℕ)) (ends_are : List SessionEnd) (status : ℕ) (line
+    : List ℕ)
     (M : Type 0) → IfOk merged (λ _. M) → SaysWhy (why_of (first_early names ends_are) (is_err merged)) status line → status ≡ 0 → M
 success_is_merged (Ok u) names ends_are status line M promised says none = promised
 success_is_merged (Err e) names ends_are status line M promised says none = absurd (not_success names ends_are status line says none)
@@ -133,13 +139,15 @@ both false b e = absurd (cc)
 
 pub few_scripts : (names : List (List ℕ)) → are_scripts names ≡ true → (0 < length names) × (length names ≤ 16) × (are_apart names ≡ true)
 few_scripts names are =
-    let one = both (nat_lt 0 (length names)) (nat_le (length names) 16 && are_apart names) are in let two = both (nat_le (length names) 16) (are_apart names) one.1 in
+    let one = both (nat_lt 0 (length names)) (nat_le (length names) 16 && are_apart names) are in let two = both (nat_le (length names) 16)
+        (are_apart names) one.1 in
     (ltb-true 0 (length names) one.0, leb-true (length names) 16 two.0, two.1)
 
 -- ---- from what was opened to what the host told
 
 module _ {I O : Type 0} (terms : Terms) (told : Told) (tells : Tells I O) where
-  reply_of : (h : List Entry) (stop : Option ℕ) (opening teller m : ℕ) (name : List ℕ) (old new : SessionOut I O) → IsOpenedFor told tells name old
+  reply_of : (h : List Entry) (stop : Option ℕ) (opening teller m : ℕ) (name : List ℕ) (old new : SessionOut I O) → IsOpenedFor told tells
+      name old
       → Replies (setting_of terms h stop (teller == m)) opening (run_from tells old.source old.sink new)
       → Replies (setting_of terms h stop (teller == m)) opening (run_of told tells name new)
   reply_of h stop opening teller m name old new opened reply =
@@ -162,13 +170,16 @@ module _ {I O : Type 0} (terms : Terms) (told : Told) (tells : Tells I O) where
   replies_told h stop opening names opened sessions each replies = (
     replies.0,
     each_through (λ n name (s : SessionOut I O). IsOpenedFor told tells name s)
-        (λ n (old new : SessionOut I O). Replies (setting_of terms h stop (replies.0 == n)) opening (run_from tells old.source old.sink new))
+        (λ n (old new : SessionOut I O). Replies (setting_of terms h stop (replies.0 == n)) opening (run_from tells old.source old.sink
+            new))
         (λ n name (s : SessionOut I O). Replies (setting_of terms h stop (replies.0 == n)) opening (run_of told tells name s))
-        (λ m name old new opened reply. reply_of h stop opening replies.0 m name old new opened reply) 0 names opened sessions each replies.1,
+        (λ m name old new opened reply. reply_of h stop opening replies.0 m name old new opened reply) 0 names opened sessions each
+            replies.1,
   )
 
 module _ {I O : Type 0} (told : Told) (tells : Tells I O) where
-  counts_of : (name : List ℕ) (old new : SessionOut I O) → IsOpenedFor told tells name old → CountsBy tells old new → Counts told tells name new
+  counts_of : (name : List ℕ) (old new : SessionOut I O) → IsOpenedFor told tells name old → CountsBy tells old new → Counts told tells
+      name new
   counts_of name old new opened counts = record {
     source = subst (λ (n : ℕ). SourceCount new.end n (tells.source_faults new.source)) opened.source.faults counts.source;
     sink = subst (λ (n : ℕ). SinkCount new.end n (tells.sink_faults new.sink)) opened.sink.faults counts.sink;
@@ -180,12 +191,14 @@ module _ {I O : Type 0} (told : Told) (tells : Tells I O) where
       → EachOf (λ n name (s : SessionOut I O). Counts told tells name s) 0 names sessions
   counts_told names opened sessions each counts =
       each_through (λ n name (s : SessionOut I O). IsOpenedFor told tells name s) (λ n (old new : SessionOut I O). CountsBy tells old new)
-      (λ n name (s : SessionOut I O). Counts told tells name s) (λ m name old new opened counts. counts_of name old new opened counts) 0 names opened sessions each counts
+      (λ n name (s : SessionOut I O). Counts told tells name s) (λ m name old new opened counts. counts_of name old new opened counts) 0
+          names opened sessions each counts
 
 -- ---- causes
 
 module _ {I O D : Type 0} (told : Told) (tells : Tells I O) (new : ℕ) (outcome : Outcome I O D) where
-  cause_why : (command : Option Command) (early : Option (List ℕ × SessionEnd)) (unmerged : Bool) → HaveRun told tells new command outcome early
+  cause_why : (command : Option Command) (early : Option (List ℕ × SessionEnd)) (unmerged : Bool) → HaveRun told tells new command outcome
+      early
       → CauseOf told tells new command outcome (why_of early unmerged)
   cause_why command None false ran = ran
   cause_why command None true ran = inr ran
@@ -195,7 +208,8 @@ module _ {I O D : Type 0} (told : Told) (tells : Tells I O) (new : ℕ) (outcome
   caused_by_memory command none refused = record { why = memory; says = inr refused; cause = inl (none, refl) }
 
   -- whatever the words are
-  pub caused_by_words : (command : Option Command) → new ≡ told.faults → NoSession outcome → IsOutOfMemory outcome → Causes told tells new command outcome
+  pub caused_by_words : (command : Option Command) → new ≡ told.faults → NoSession outcome → IsOutOfMemory outcome → Causes told tells new
+      command outcome
   caused_by_words None same none refused = record { why = usage; says = inr refused; cause = (none, refl, same) }
   caused_by_words (Some command) same none refused = caused_by_memory command none refused
 
@@ -203,16 +217,20 @@ module _ {I O D : Type 0} (told : Told) (tells : Tells I O) (new : ℕ) (outcome
       → ((outcome.status ≡ 1) × (string_bytes outcome.line ≡ usage_line)) ⊎ IsOutOfMemory outcome → Causes told tells new command outcome
   caused_by_usage command is same none said = record { why = usage; says = said; cause = (none, sym is, same) }
 
-  pub caused_by_host : (command : Command) (name : List ℕ) → (place : ℕ) → slice_get (scripts_of (Some command)) place ≡ Some name → Rose told.faults new → NoSession outcome
-      → ((outcome.status ≡ 2) × (string_bytes outcome.line ≡ cannot_open name)) ⊎ IsOutOfMemory outcome → Causes told tells new (Some command) outcome
+  pub caused_by_host : (command : Command) (name : List ℕ) → (place : ℕ) → slice_get (scripts_of (Some command)) place ≡ Some name → Rose
+      told.faults new → NoSession outcome
+      → ((outcome.status ≡ 2) × (string_bytes outcome.line ≡ cannot_open name)) ⊎ IsOutOfMemory outcome → Causes told tells new (Some
+          command) outcome
   caused_by_host command name place named rose none said = record {
     why = unopened name;
     says = said;
     cause = record { none = none; host = rose; place = place; named = named };
   }
 
-  pub caused_by_sessions : (command : Command) (opened : List (SessionOut I O)) → EachOf (λ n name (s : SessionOut I O). IsOpenedFor told tells name s) 0 (scripts_of (Some command)) opened → new ≡ told.faults
-      → (NoSession outcome × IsOutOfMemory outcome) ⊎ HaveEnded tells (scripts_of (Some command)) opened outcome → Causes told tells new (Some command) outcome
+  pub caused_by_sessions : (command : Command) (opened : List (SessionOut I O)) → EachOf (λ n name (s : SessionOut I O). IsOpenedFor told
+      tells name s) 0 (scripts_of (Some command)) opened → new ≡ told.faults
+      → (NoSession outcome × IsOutOfMemory outcome) ⊎ HaveEnded tells (scripts_of (Some command)) opened outcome → Causes told tells new
+          (Some command) outcome
   caused_by_sessions command opened has same (inl none) = caused_by_memory command none.0 none.1
   caused_by_sessions command opened has same (inr ran) =
       let early = first_early (scripts_of (Some command)) (map (λ (s : SessionOut I O). s.end) outcome.sessions.items) in

@@ -37,7 +37,8 @@ use Rattle.factbase.specs.Complete.{HoldsForms, HoldsFormsAlone, NoneRose, EachH
 use Rattle.factbase.proofs.Causing.{first_done, says_memory}
 
 -- what was taken of a source that tells, up to its end, is what it held
-taken_whole : (held left : Option (List ℕ)) (bytes script : List ℕ) → held ≡ Some bytes → held ≡ prepend_known script left → IsAtEnd left → script ≡ bytes
+taken_whole : (held left : Option (List ℕ)) (bytes script : List ℕ) → held ≡ Some bytes → held ≡ prepend_known script left → IsAtEnd left →
+    script ≡ bytes
 taken_whole held None bytes script told taken at_end = let wrong = sym told ∙ taken in cc
 taken_whole held (Some xs) bytes script told taken at_end =
     let one : Some (script ++ xs) ≡ Some bytes = sym taken ∙ told in
@@ -45,7 +46,8 @@ taken_whole held (Some xs) bytes script told taken at_end =
     sym (append-nil script) ∙ ap (λ ys. script ++ ys) (sym at_end) ∙ same
 
 -- it is no more than was held
-taken_part : (held left : Option (List ℕ)) (bytes script : List ℕ) → held ≡ Some bytes → held ≡ prepend_known script left → longest_script < length script → longest_script < length bytes
+taken_part : (held left : Option (List ℕ)) (bytes script : List ℕ) → held ≡ Some bytes → held ≡ prepend_known script left → longest_script
+    < length script → longest_script < length bytes
 taken_part held None bytes script told taken long = let wrong = sym told ∙ taken in absurd cc
 taken_part held (Some xs) bytes script told taken long =
     let one : Some (script ++ xs) ≡ Some bytes = sym taken ∙ told in
@@ -60,11 +62,13 @@ same_reading held left script forms read ending holds taken at_end stands =
     one_script holds.script read forms ending whole (subst P same stands) holds.read
 
 -- forms alone have no fault behind them
-no_fault : (s : Setting) (opening : ℕ) (held left : Option (List ℕ)) (script : List ℕ) (trace : Trace) (forms : List Form) (why : Option (Fault × ℕ))
+no_fault : (s : Setting) (opening : ℕ) (held left : Option (List ℕ)) (script : List ℕ) (trace : Trace) (forms : List Form) (why : Option
+    (Fault × ℕ))
     → HoldsForms held forms → held ≡ prepend_known script left → IsAtEnd left → AnswersUpTo s opening script why trace → ⊥
 no_fault s opening held left script trace forms None holds taken at_end answers = answers
 no_fault s opening held left script trace forms (Some p) holds taken at_end answers =
-    let wrong = (same_reading held left script forms (forms_of answers.exchanges) (fault p.0 p.1) holds taken at_end answers.read).endings in
+    let wrong = (same_reading held left script forms (forms_of answers.exchanges) (fault p.0 p.1) holds taken at_end answers.read).endings
+        in
     absurd cc
 
 -- ---- one session
@@ -72,13 +76,15 @@ no_fault s opening held left script trace forms (Some p) holds taken at_end answ
 module _ (s : Setting) (opening : ℕ) (ran : SessionRun) (replies : Replies s opening ran) where
   -- it ended behind the last of its forms
   each_line : (forms : List Form) → HoldsForms ran.held forms → IsAtEnd ran.left
-      → AnswersAll s opening replies.script whole (record { written = replies.written; places = ran.places; commits = ran.commits }) → EachHasItsLine s opening forms ran
+      → AnswersAll s opening replies.script whole (record { written = replies.written; places = ran.places; commits = ran.commits }) →
+          EachHasItsLine s opening forms ran
   each_line forms holds at_end answers =
       record {
         exchanges = answers.exchanges;
         after = answers.after;
         talk = answers.talk;
-        forms_are = sym (same_reading ran.held ran.left replies.script forms (forms_of answers.exchanges) whole holds replies.taken at_end answers.read).forms;
+        forms_are = sym (same_reading ran.held ran.left replies.script forms (forms_of answers.exchanges) whole holds replies.taken at_end
+            answers.read).forms;
         places = ap (λ (t : Trace). t.places) answers.leaves;
         commits = ap (λ (t : Trace). t.commits) answers.leaves;
         gained = replies.gained ∙ ap (λ (t : Trace). append_known ran.had t.written) answers.leaves;
@@ -93,11 +99,13 @@ module _ (s : Setting) (opening : ℕ) (ran : SessionRun) (replies : Replies s o
       inl (refl, λ fs has. each_line fs has (all refl) (rw how at replies.answers))
   ends_well m k n j forms holds (ended.Script why) how source sink calm_source calm_sink =
       let all = rw how at replies.all in
-      absurd (no_fault s opening ran.held ran.left replies.script _ forms (fault_of why) holds replies.taken (all refl) (rw how at replies.answers))
+      absurd (no_fault s opening ran.held ran.left replies.script _ forms (fault_of why) holds replies.taken (all refl) (rw how at
+          replies.answers))
   ends_well m k n j forms holds ended.TooMany how source sink calm_source calm_sink =
       let all = rw how at replies.all in
       let answers = rw how at replies.answers in
-      let wrong = (same_reading ran.held ran.left replies.script forms (forms_of answers.exchanges) too_many holds replies.taken (all refl) answers.read).endings in
+      let wrong = (same_reading ran.held ran.left replies.script forms (forms_of answers.exchanges) too_many holds replies.taken (all refl)
+          answers.read).endings in
       absurd cc
   ends_well m k n j forms holds ended.TooLong how source sink calm_source calm_sink =
       let long = taken_part ran.held ran.left holds.script replies.script holds.told replies.taken (replies.too_long.0 how) in
@@ -108,15 +116,18 @@ module _ (s : Setting) (opening : ℕ) (ran : SessionRun) (replies : Replies s o
 
 -- ---- all of them
 
-module _ {I O : Type 0} (terms : Terms) (told : Told) (tells : Tells I O) (h : List Entry) (opening teller : ℕ) (lawful : IsLawful h) (seen : opening ≤ basis h) where
+module _ {I O : Type 0} (terms : Terms) (told : Told) (tells : Tells I O) (h : List Entry) (opening teller : ℕ) (lawful : IsLawful h) (seen
+    : opening ≤ basis h) where
   abbrev IsWhole : ℕ → List ℕ → SessionOut I O → Type 0
-  IsWhole n name s = (forms : List Form) → HoldsForms (told.sources name) forms → EachHasItsLine (setting_of terms h None false) opening forms (run_of told tells name s)
+  IsWhole n name s = (forms : List Form) → HoldsForms (told.sources name) forms → EachHasItsLine (setting_of terms h None false) opening
+      forms (run_of told tells name s)
 
   abbrev IsReplied : ℕ → List ℕ → SessionOut I O → Type 0
   IsReplied n name s = Replies (setting_of terms h None (teller == n)) opening (run_of told tells name s)
 
   -- where the log has not stopped nobody is its teller
-  untold : (flag : Bool) (run : SessionRun) → Replies (setting_of terms h None flag) opening run → Replies (setting_of terms h None false) opening run
+  untold : (flag : Bool) (run : SessionRun) → Replies (setting_of terms h None flag) opening run → Replies (setting_of terms h None false)
+      opening run
   untold flag run replies =
       let same : h ++ [] ≡ h = append-nil h in
       let least : basis h ≤ basis h = omega arith in
@@ -145,7 +156,8 @@ module _ {I O : Type 0} (terms : Terms) (told : Told) (tells : Tells I O) (h : L
               | inl rest ↦ inl (rest.0, (done.1, rest.1))
               | inr rest ↦ inr rest
             ]
-        | inr refused ↦ inr (x, sym first ∙ ap (λ (how : SessionEnd). first_early (x ∷ xs) (how ∷ map (λ (z : SessionOut I O). z.end) ss)) refused)
+        | inr refused ↦ inr (x, sym first ∙ ap (λ (how : SessionEnd). first_early (x ∷ xs) (how ∷ map (λ (z : SessionOut I O). z.end) ss))
+            refused)
       ]
 
 stands_behind : (n m k : ℕ) → n + m ≡ k → n ≤ k
@@ -153,19 +165,23 @@ stands_behind n m k same = omega (arith, same)
 
 -- ---- the run
 
-module _ {I O D : Type 0} (terms : Terms) (told : Told) (tells : Tells I O) (new : ℕ) (command : Command) (outcome : Outcome I O D) (last : Kept)
+module _ {I O D : Type 0} (terms : Terms) (told : Told) (tells : Tells I O) (new : ℕ) (command : Command) (outcome : Outcome I O D) (last :
+    Kept)
     (lawful : IsLawful last.entries) (seen : outcome.recovered ≤ basis last.entries) (kept : outcome.last ≡ Some last)
     (replies : EachReplies terms told tells outcome.recovered None (scripts_of (Some command)) outcome.sessions.items last.entries)
     (holds : AllByRecursion (λ name. HoldsFormsAlone (told.sources name)) (scripts_of (Some command)))
     (calm : NoneRose told tells new (scripts_of (Some command)) outcome.sessions.items) where
   ran_well : (early : Option (List ℕ × SessionEnd)) → HaveRun told tells new (Some command) outcome early
-      → ((early ≡ None) × EachOf (IsWhole terms told tells last.entries outcome.recovered replies.0 lawful seen) 0 (scripts_of (Some command)) outcome.sessions.items)
+      → ((early ≡ None) × EachOf (IsWhole terms told tells last.entries outcome.recovered replies.0 lawful seen) 0 (scripts_of (Some
+          command)) outcome.sessions.items)
       ⊎ ((name : List ℕ) × (early ≡ Some (name, ended.Memory)))
   ran_well early ran =
-      all_well terms told tells last.entries outcome.recovered replies.0 lawful seen 0 (scripts_of (Some command)) outcome.sessions.items early
+      all_well terms told tells last.entries outcome.recovered replies.0 lawful seen 0 (scripts_of (Some command)) outcome.sessions.items
+          early
       ran.each replies.1 holds calm.sources calm.sinks ran.first
 
-  pub answered_whole : outcome.status ≡ 0 → HaveRun told tells new (Some command) outcome None → AnsweredWhole terms told tells (scripts_of (Some command)) outcome
+  pub answered_whole : outcome.status ≡ 0 → HaveRun told tells new (Some command) outcome None → AnsweredWhole terms told tells (scripts_of
+      (Some command)) outcome
   answered_whole success ran = elim (ran_well None ran) [
     | inl well ↦ record { succeeded = success; last = last; kept = kept; each = well.1 }
     | inr wrong ↦ absurd (none-some _ wrong.1)
@@ -178,7 +194,8 @@ module _ {I O D : Type 0} (terms : Terms) (told : Told) (tells : Tells I O) (new
   ]
 
   pub refused : (name : List ℕ) (how : SessionEnd) → HaveRun told tells new (Some command) outcome (Some (name, how))
-      → ((outcome.status ≡ status_of_end how) × (string_bytes outcome.line ≡ line_of_end name how)) ⊎ IsOutOfMemory outcome → IsOutOfMemory outcome
+      → ((outcome.status ≡ status_of_end how) × (string_bytes outcome.line ≡ line_of_end name how)) ⊎ IsOutOfMemory outcome → IsOutOfMemory
+          outcome
   refused name how ran (inl said) =
       let memory_it = early_memory name how ran in (said.0 ∙ ap status_of_end memory_it, inl (said.1 ∙ ap (line_of_end name) memory_it))
   refused name how ran (inr said) = said
@@ -188,16 +205,20 @@ module _ {I O D : Type 0} (terms : Terms) (told : Told) (tells : Tells I O) (new
     (calm : NoneRose told tells new (scripts_of (Some command)) outcome.sessions.items) where
   -- the sessions ran, so there is a history
   module _ (lawful : IfSome outcome.last (λ last. IsLawful last.entries × (outcome.recovered ≤ basis last.entries)))
-      (replies : IfSome outcome.last (λ last. EachReplies terms told tells outcome.recovered None (scripts_of (Some command)) outcome.sessions.items last.entries)) where
-    whole_by : (last : Option Kept) → outcome.last ≡ last → IsSome last → outcome.status ≡ 0 → HaveRun told tells new (Some command) outcome None
+      (replies : IfSome outcome.last (λ last. EachReplies terms told tells outcome.recovered None (scripts_of (Some command))
+          outcome.sessions.items last.entries)) where
+    whole_by : (last : Option Kept) → outcome.last ≡ last → IsSome last → outcome.status ≡ 0 → HaveRun told tells new (Some command)
+        outcome None
         → AnsweredWhole terms told tells (scripts_of (Some command)) outcome
     whole_by None is there success ran = absurd (cc)
     whole_by (Some l) is there success ran =
         let stands = rw is at lawful in let says = rw is at replies in
         answered_whole terms told tells new command outcome l stands.0 stands.1 is says holds calm success ran
 
-    refused_by : (last : Option Kept) → outcome.last ≡ last → IsSome last → (name : List ℕ) (how : SessionEnd) → HaveRun told tells new (Some command) outcome (Some (name, how))
-        → ((outcome.status ≡ status_of_end how) × (string_bytes outcome.line ≡ line_of_end name how)) ⊎ IsOutOfMemory outcome → IsOutOfMemory outcome
+    refused_by : (last : Option Kept) → outcome.last ≡ last → IsSome last → (name : List ℕ) (how : SessionEnd) → HaveRun told tells new
+        (Some command) outcome (Some (name, how))
+        → ((outcome.status ≡ status_of_end how) × (string_bytes outcome.line ≡ line_of_end name how)) ⊎ IsOutOfMemory outcome →
+            IsOutOfMemory outcome
     refused_by None is there name how ran said = absurd (cc)
     refused_by (Some l) is there name how ran said =
         let stands = rw is at lawful in let says = rw is at replies in
@@ -211,18 +232,23 @@ module _ {I O D : Type 0} (terms : Terms) (told : Told) (tells : Tells I O) (new
     by_why (ended_early name how) says cause = inr (refused_by outcome.last refl cause.last name how cause says)
     by_why memory says cause = inr (says_memory outcome.status (string_bytes outcome.line) says)
 
-    pub complete_run : Causes told tells new (Some command) outcome → AnsweredWhole terms told tells (scripts_of (Some command)) outcome ⊎ IsOutOfMemory outcome
+    pub complete_run : Causes told tells new (Some command) outcome → AnsweredWhole terms told tells (scripts_of (Some command)) outcome ⊎
+        IsOutOfMemory outcome
     complete_run causes = by_why causes.why causes.says causes.cause
 
-pub complete_command : {I O D : Type 0} (terms : Terms) (told : Told) (tells : Tells I O) (new : ℕ) (command : Option Command) (outcome : Outcome I O D)
+pub complete_command : {I O D : Type 0} (terms : Terms) (told : Told) (tells : Tells I O) (new : ℕ) (command : Option Command) (outcome :
+    Outcome I O D)
     (authors : List ℕ) (commits : List (List ℕ)) → outcome.torn ≡ None
     → IfSome outcome.last (λ last. OneHistory last.entries outcome.recovered authors commits)
-    → IfSome outcome.last (λ last. EachReplies terms told tells outcome.recovered (stop_of outcome.torn) (scripts_of command) outcome.sessions.items last.entries)
+    → IfSome outcome.last (λ last. EachReplies terms told tells outcome.recovered (stop_of outcome.torn) (scripts_of command)
+        outcome.sessions.items last.entries)
     → Causes told tells new command outcome → Complete terms told tells new command outcome
 complete_command terms told tells new None outcome authors commits going history replies causes = tt
 complete_command terms told tells new (Some command) outcome authors commits going history replies causes =
     let lawful : IfSome outcome.last (λ last. IsLawful last.entries × (outcome.recovered ≤ basis last.entries)) =
-    IfSome_then outcome.last history (λ last one. (one.lawful, stands_behind outcome.recovered (length authors) (basis last.entries) one.each_t)) in
-    let ours = subst (λ (torn : Option Draft). IfSome outcome.last (λ last. EachReplies terms told tells outcome.recovered (stop_of torn) (scripts_of (Some command))
+    IfSome_then outcome.last history (λ last one. (one.lawful, stands_behind outcome.recovered (length authors) (basis last.entries)
+        one.each_t)) in
+    let ours = subst (λ (torn : Option Draft). IfSome outcome.last (λ last. EachReplies terms told tells outcome.recovered (stop_of torn)
+        (scripts_of (Some command))
     outcome.sessions.items last.entries)) going replies in
     λ holds calm. complete_run terms told tells new command outcome holds calm lawful ours causes

@@ -8,7 +8,8 @@ use Rattle.factbase.proofs.run.run_opened.Goals as goal
 
 pub serve_all-requires-clause-seats : goal.serve_all-requires-clause-seats
 serve_all-requires-clause-seats g c κs within = λ k seat is.
-    let m = c.in-Ok.ensures.made.opened k seat is in let left : (state_of seat).left ≡ 4294967296 = ap (λ (s : State). s.left) m.2 in (m.0, omega (arith, left))
+    let m = c.in-Ok.ensures.made.opened k seat is in let left : (state_of seat).left ≡ 4294967296 = ap (λ (s : State). s.left) m.2 in (m.0,
+        omega (arith, left))
 
 pub closed-requires-clause-seats : goal.closed-requires-clause-seats
 closed-requires-clause-seats g c κs within = λ k seat is.
@@ -20,26 +21,30 @@ pub returns-in-Ok-serve_all-clause-one_history : goal.returns-in-Ok-serve_all-cl
 returns-in-Ok-serve_all-clause-one_history g c =
     let count : length c.args.opened.items ≡ length c.in-Ok.connection.seats.items = first_of (search rules, grind arith) in
     let cl = c.closed.ensures in
-    run_history _ _ _ _ _ _ _ c.in-Ok-serve_all.ensures.talked count (λ k seat is. (c.in-Ok.ensures.made.opened k seat is).2) c.closed.result cl.closes cl.sessions
+    run_history _ _ _ _ _ _ _ c.in-Ok-serve_all.ensures.talked count (λ k seat is. (c.in-Ok.ensures.made.opened k seat is).2)
+        c.closed.result cl.closes cl.sessions
     cl.no_device.recovered cl.no_device.torn
 
 pub returns-in-Ok-serve_all-clause-replies : goal.returns-in-Ok-serve_all-clause-replies
 returns-in-Ok-serve_all-clause-replies g c =
     let count : length c.args.opened.items ≡ length c.in-Ok.connection.seats.items = first_of (search rules, grind arith) in
     let cl = c.closed.ensures in
-    run_replies _ _ _ _ _ _ _ c.in-Ok-serve_all.ensures.talked count (λ k seat is. (c.in-Ok.ensures.made.opened k seat is).2) c.closed.result cl.closes cl.sessions
+    run_replies _ _ _ _ _ _ _ c.in-Ok-serve_all.ensures.talked count (λ k seat is. (c.in-Ok.ensures.made.opened k seat is).2)
+        c.closed.result cl.closes cl.sessions
     cl.no_device.recovered cl.no_device.torn
 
 pub returns-in-Ok-serve_all-clause-prefixes : goal.returns-in-Ok-serve_all-clause-prefixes
 returns-in-Ok-serve_all-clause-prefixes g c =
     let count : length c.args.opened.items ≡ length c.in-Ok.connection.seats.items = first_of (search rules, grind arith) in
     let cl = c.closed.ensures in
-    run_prefixes _ _ _ _ _ _ _ c.in-Ok-serve_all.ensures.talked count (λ k seat is. (c.in-Ok.ensures.made.opened k seat is).2) c.closed.result cl.closes cl.sessions
+    run_prefixes _ _ _ _ _ _ _ c.in-Ok-serve_all.ensures.talked count (λ k seat is. (c.in-Ok.ensures.made.opened k seat is).2)
+        c.closed.result cl.closes cl.sessions
     cl.no_device.recovered cl.no_device.torn
 
 pub returns-in-Ok-serve_all-clause-ended : goal.returns-in-Ok-serve_all-clause-ended
 returns-in-Ok-serve_all-clause-ended g c =
     let count : length c.args.opened.items ≡ length c.in-Ok.connection.seats.items = first_of (search rules, grind arith) in
     let cl = c.closed.ensures in
-    inr (run_ended _ _ _ _ _ _ _ c.in-Ok-serve_all.ensures.talked count (λ k seat is. (c.in-Ok.ensures.made.opened k seat is).2) c.closed.result cl.closes cl.sessions
+    inr (run_ended _ _ _ _ _ _ _ c.in-Ok-serve_all.ensures.talked count (λ k seat is. (c.in-Ok.ensures.made.opened k seat is).2)
+        c.closed.result cl.closes cl.sessions
     cl.no_device.recovered cl.no_device.torn _ cl.said)
