@@ -1,16 +1,10 @@
 //! Factbase: a database of immutable facts.
 #![tactic(auto)]
 
-mod jobs;
-mod lines;
-mod merging;
-mod opening;
-mod outcome;
-mod run;
-
 use fb_core::NoGuard;
 use fb_ports::Memory;
 use fb_preds::shipped;
+use fb_run::run;
 use merge_worker::OpenGate;
 use real_ports::{RealHost, SystemClock};
 use std::env;
@@ -26,7 +20,7 @@ fn main(rt: HostRuntime) -> ExitCode {
     };
     let mut host = RealHost::new(rt);
     let clock = SystemClock::new(rt);
-    let outcome = run::run(
+    let outcome = run(
         &rt,
         rt.alloc(),
         &words,

@@ -1,6 +1,0 @@
--- A script fewer each time.
-use Rattle.std.proofs.Common.{length}
-use Rattle.factbase.proofs.run.+said.Given as goal
-
-abbrev pub decreases-said : goal.decreases-said
-decreases-said g l = length l.scripts.now

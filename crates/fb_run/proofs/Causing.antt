@@ -1,0 +1,249 @@
+-- What a run says, why, and what its scripts' names have to do with what was opened for them.
+use Rattle.std.proofs.Common.{◌≡◌, ◌⊎◌, inl, inr, ℕ, Bool, true, false, List, [], ◌∷◌, map, length, Option, Some, None, refl, sym, ap, ◌∙◌, subst, arith}
+use Rattle.std.specs.Borrow.{Bor}
+use Rattle.command_line.specs.Views.{names_in}
+use Rattle.std.specs.Prelude.{◌==◌, ◌-◌, ◌<◌, ◌≤◌, get_or, take, drop, ◌&&◌, nat_lt, nat_le, IfOk, OnErr, Result, Ok, Err, is_err, string_bytes}
+use Rattle.std.specs.List.{slice_get}
+use Rattle.std.proofs.lemmas.Bool.{ltb-true, leb-true}
+use Rattle.fb_ports.specs.Faults.{Rose}
+use Rattle.fb_ports.specs.Told.{Told}
+use Rattle.fb_values.specs.declared.facts.Entry.{Entry}
+use Rattle.command_line.specs.Words.{Command, scripts_of, are_scripts, are_apart}
+use Rattle.fb_session.specs.declared.outcome.SessionEnd.{SessionEnd}
+use Rattle.fb_session.specs.declared.outcome.SessionEnd.TheVariants as ended
+use Rattle.fb_session.specs.Sessions.{Terms}
+use Rattle.fb_session.specs.Replies.{SessionRun, Replies, SourceCount, SinkCount}
+use Rattle.fb_run.specs.declared.outcome.SessionOut.{SessionOut}
+use Rattle.fb_run.specs.declared.outcome.Outcome.{Outcome}
+use Rattle.fb_run.specs.Outside.{Tells, run_from, run_of, setting_of, EachOf}
+use Rattle.fb_run.specs.Opening.{IsOpenedFor}
+use Rattle.fb_run.specs.Headline.{EachReplies}
+use Rattle.fb_run.specs.StatusLines.{usage, unopened, ended_early, memory, usage_line, cannot_open, out_of_memory, status_of_end, line_of_end, first_early, why_of}
+use Rattle.fb_run.specs.Causes.{NoSession, OutOfMemory, IsOutOfMemory, SaysWhy, Counts, HaveRun, CauseOf, Causes}
+use Rattle.fb_run.specs.Running.{RepliesBy, CountsBy, HaveEnded}
+use Rattle.fb_run.proofs.Lists.{each_through, cut_first, names_cut}
+
+-- ---- what is said
+
+-- a line that was made is said, and else nothing
+pub says_line : {X E : Type 0} (bytes : X → List ℕ) (r : Result X E) (n status : ℕ) (text line : List ℕ)
+    → IfOk r (λ x. (status ≡ n) × (line ≡ bytes x)) → OnErr r ((status ≡ 9) × (line ≡ [])) → IfOk r (λ x. bytes x ≡ text)
+    → ((status ≡ n) × (line ≡ text)) ⊎ OutOfMemory status line
+says_line bytes (Ok x) n status text line said unsaid is = inl (said.0, said.1 ∙ is)
+says_line bytes (Err e) n status text line said unsaid is = inr (unsaid.0, inr unsaid.1)
+
+pub says_memory : (status : ℕ) (line : List ℕ) → ((status ≡ 9) × (line ≡ out_of_memory)) ⊎ OutOfMemory status line → OutOfMemory status line
+says_memory status line (inl said) = (said.0, inl said.1)
+says_memory status line (inr said) = said
+
+-- how a session ended that was not done says why
+pub says_end : (name : List ℕ) (how : SessionEnd) (status : ℕ) (line : List ℕ) → ((status ≡ status_of_end how) × (line ≡ line_of_end name
+    how)) ⊎ OutOfMemory status line
+    → SaysWhy (ended_early name how) status line
+says_end name how status line said = said
+
+-- ---- the first that ended early
+
+pub first_done : (name : List ℕ) (names : List (List ℕ)) (how : SessionEnd) (ends : List SessionEnd) → how ≡ ended.Done
+    → first_early (name ∷ names) (how ∷ ends) ≡ first_early names ends
+first_done name names how ends done = ap (λ (h : SessionEnd). first_early (name ∷ names) (h ∷ ends)) done
+
+early_none : (names : List (List ℕ)) → first_early names [] ≡ None
+early_none [] = refl
+early_none (name ∷ names) = refl
+
+-- where no script is left, or no session, the merges decide
+pub says_nothing : {X S : Type 0} (name_of : X → List ℕ) (end_of : S → SessionEnd) (scripts : List X) (sessions : List S) (unmerged : Bool)
+    (status : ℕ) (line : List ℕ) → (length scripts < 1) ⊎ (length sessions < 1) → SaysWhy (why_of None unmerged) status line
+    → SaysWhy (why_of (first_early (map name_of scripts) (map end_of sessions)) unmerged) status line
+says_nothing name_of end_of [] sessions unmerged status line few says = says
+says_nothing name_of end_of (x ∷ xs) [] unmerged status line few says = says
+says_nothing name_of end_of (x ∷ xs) (s ∷ ss) unmerged status line (inl few) says = absurd (omega (arith, few))
+says_nothing name_of end_of (x ∷ xs) (s ∷ ss) unmerged status line (inr few) says = absurd (omega (arith, few))
+
+first_not_done : (name : List ℕ) (names : List (List ℕ)) (how : SessionEnd) (ends : List SessionEnd) → (how ≡ ended.Done → ⊥)
+    → first_early (name ∷ names) (how ∷ ends) ≡ Some (name, how)
+first_not_done name names ended.Done ends not = absurd (not refl)
+first_not_done name names (ended.Script why) ends not = refl
+first_not_done name names ended.TooLong ends not = refl
+first_not_done name names ended.TooMany ends not = refl
+first_not_done name names ended.ReadFault ends not = refl
+first_not_done name names ended.WriteFault ends not = refl
+first_not_done name names ended.Memory ends not = refl
+
+module _ {S : Type 0} (end_of : S → SessionEnd) (scripts : List (Bor (List ℕ))) (d : Bor (List ℕ)) (sessions : List S) (s : S) (unmerged :
+    Bool) (status : ℕ)
+    (line : List ℕ) (some_script : 1 ≤ length scripts) (some : 1 ≤ length sessions) (is : s ≡ get_or sessions 0 s) where
+  abbrev others : List (List ℕ)
+  others = names_in (take (length scripts - 1) (drop 1 scripts))
+
+  abbrev ends : List SessionEnd
+  ends = map end_of (take (length sessions - 1) (drop 1 sessions))
+
+  cut : first_early (names_in scripts) (map end_of sessions) ≡ first_early ((get_or scripts 0 d).now ∷ others) (end_of s ∷ ends)
+  cut =
+      ap (λ (ns : List (List ℕ)). first_early ns (map end_of sessions)) (names_cut scripts d some_script)
+      ∙ (ap (λ (es : List SessionEnd). first_early ((get_or scripts 0 d).now ∷ others) es) (ap (map end_of) (cut_first sessions s some))
+      ∙ ap (λ (z : S). first_early ((get_or scripts 0 d).now ∷ others) (end_of z ∷ ends)) (sym is))
+
+  -- the first session was done, so the rest decides
+  pub says_rest : end_of s ≡ ended.Done → SaysWhy (why_of (first_early others ends) unmerged) status line
+      → SaysWhy (why_of (first_early (names_in scripts) (map end_of sessions)) unmerged) status line
+  says_rest done rest =
+      subst (λ (e : Option (List ℕ × SessionEnd)). SaysWhy (why_of e unmerged) status line) (sym (cut ∙ first_done (get_or scripts 0 d).now
+          others (end_of s) ends done)) rest
+
+  -- it was not, so it decides
+  pub says_first : (end_of s ≡ ended.Done → ⊥) → ((status ≡ status_of_end (end_of s)) × (line ≡ line_of_end (get_or scripts 0 d).now
+      (end_of s))) ⊎ OutOfMemory status line
+      → SaysWhy (why_of (first_early (names_in scripts) (map end_of sessions)) unmerged) status line
+  says_first not said =
+      subst (λ (e : Option (List ℕ × SessionEnd)). SaysWhy (why_of e unmerged) status line) (sym (cut ∙ first_not_done (get_or scripts 0
+          d).now others (end_of s) ends not)) said
+
+-- ---- success
+
+-- where memory was refused to a merge, the status is not 0
+not_success : (names : List (List ℕ)) (ends : List SessionEnd) (status : ℕ) (line : List ℕ)
+    → SaysWhy (why_of (first_early names ends) true) status line → status ≡ 0 → ⊥
+not_success [] ends status line (inl says) none = omega (arith, says.0, none)
+not_success [] ends status line (inr says) none = omega (arith, says.0, none)
+not_success (name ∷ names) [] status line (inl says) none = omega (arith, says.0, none)
+not_success (name ∷ names) [] status line (inr says) none = omega (arith, says.0, none)
+not_success (name ∷ names) (ended.Done ∷ ends) status line says none = not_success names ends status line says none
+not_success (name ∷ names) (ended.Script why ∷ ends) status line (inl says) none = omega (arith, says.0, none)
+not_success (name ∷ names) (ended.Script why ∷ ends) status line (inr says) none = omega (arith, says.0, none)
+not_success (name ∷ names) (ended.TooLong ∷ ends) status line (inl says) none = omega (arith, says.0, none)
+not_success (name ∷ names) (ended.TooLong ∷ ends) status line (inr says) none = omega (arith, says.0, none)
+not_success (name ∷ names) (ended.TooMany ∷ ends) status line (inl says) none = omega (arith, says.0, none)
+not_success (name ∷ names) (ended.TooMany ∷ ends) status line (inr says) none = omega (arith, says.0, none)
+not_success (name ∷ names) (ended.ReadFault ∷ ends) status line (inl says) none = omega (arith, says.0, none)
+not_success (name ∷ names) (ended.ReadFault ∷ ends) status line (inr says) none = omega (arith, says.0, none)
+not_success (name ∷ names) (ended.WriteFault ∷ ends) status line (inl says) none = omega (arith, says.0, none)
+not_success (name ∷ names) (ended.WriteFault ∷ ends) status line (inr says) none = omega (arith, says.0, none)
+not_success (name ∷ names) (ended.Memory ∷ ends) status line (inl says) none = omega (arith, says.0, none)
+not_success (name ∷ names) (ended.Memory ∷ ends) status line (inr says) none = omega (arith, says.0, none)
+
+-- what a merge promises holds where the status is 0
+pub success_is_merged : {E : Type 0} (merged : Result (Unit {0}) E) (names : List (List ℕ)) (ends_are : List SessionEnd) (status : ℕ) (line
+    : List ℕ)
+    (M : Type 0) → IfOk merged (λ _. M) → SaysWhy (why_of (first_early names ends_are) (is_err merged)) status line → status ≡ 0 → M
+success_is_merged (Ok u) names ends_are status line M promised says none = promised
+success_is_merged (Err e) names ends_are status line M promised says none = absurd (not_success names ends_are status line says none)
+
+-- ---- names that are those of scripts
+
+both : (a b : Bool) → (a && b) ≡ true → (a ≡ true) × (b ≡ true)
+both true b e = (refl, e)
+both false b e = absurd (cc)
+
+pub few_scripts : (names : List (List ℕ)) → are_scripts names ≡ true → (0 < length names) × (length names ≤ 16) × (are_apart names ≡ true)
+few_scripts names are =
+    let one = both (nat_lt 0 (length names)) (nat_le (length names) 16 && are_apart names) are in let two = both (nat_le (length names) 16)
+        (are_apart names) one.1 in
+    (ltb-true 0 (length names) one.0, leb-true (length names) 16 two.0, two.1)
+
+-- ---- from what was opened to what the host told
+
+module _ {I O : Type 0} (terms : Terms) (told : Told) (tells : Tells I O) where
+  reply_of : (h : List Entry) (stop : Option ℕ) (opening teller m : ℕ) (name : List ℕ) (old new : SessionOut I O) → IsOpenedFor told tells
+      name old
+      → Replies (setting_of terms h stop (teller == m)) opening (run_from tells old.source old.sink new)
+      → Replies (setting_of terms h stop (teller == m)) opening (run_of told tells name new)
+  reply_of h stop opening teller m name old new opened reply =
+      let P : Option (List ℕ) → Option (List ℕ) → SessionRun = λ held had. record {
+        held = held;
+        left = tells.left new.source;
+        had = had;
+        has = tells.contents new.sink;
+        places = new.places;
+        commits = new.commits;
+        end = new.end;
+      } in
+      let Q : SessionRun → Type 0 = Replies (setting_of terms h stop (teller == m)) opening in
+      subst (λ (had : Option (List ℕ)). Q (P (told.sources name) had)) opened.sink.contents
+      (subst (λ (held : Option (List ℕ)). Q (P held (tells.contents old.sink))) opened.source.left reply)
+
+  pub replies_told : (h : List Entry) (stop : Option ℕ) (opening : ℕ) (names : List (List ℕ)) (opened sessions : List (SessionOut I O))
+      → EachOf (λ n name (s : SessionOut I O). IsOpenedFor told tells name s) 0 names opened
+      → RepliesBy terms tells opening stop opened sessions h → EachReplies terms told tells opening stop names sessions h
+  replies_told h stop opening names opened sessions each replies = (
+    replies.0,
+    each_through (λ n name (s : SessionOut I O). IsOpenedFor told tells name s)
+        (λ n (old new : SessionOut I O). Replies (setting_of terms h stop (replies.0 == n)) opening (run_from tells old.source old.sink
+            new))
+        (λ n name (s : SessionOut I O). Replies (setting_of terms h stop (replies.0 == n)) opening (run_of told tells name s))
+        (λ m name old new opened reply. reply_of h stop opening replies.0 m name old new opened reply) 0 names opened sessions each
+            replies.1,
+  )
+
+module _ {I O : Type 0} (told : Told) (tells : Tells I O) where
+  counts_of : (name : List ℕ) (old new : SessionOut I O) → IsOpenedFor told tells name old → CountsBy tells old new → Counts told tells
+      name new
+  counts_of name old new opened counts = record {
+    source = subst (λ (n : ℕ). SourceCount new.end n (tells.source_faults new.source)) opened.source.faults counts.source;
+    sink = subst (λ (n : ℕ). SinkCount new.end n (tells.sink_faults new.sink)) opened.sink.faults counts.sink;
+  }
+
+  pub counts_told : (names : List (List ℕ)) (opened sessions : List (SessionOut I O))
+      → EachOf (λ n name (s : SessionOut I O). IsOpenedFor told tells name s) 0 names opened
+      → EachOf (λ n (old new : SessionOut I O). CountsBy tells old new) 0 opened sessions
+      → EachOf (λ n name (s : SessionOut I O). Counts told tells name s) 0 names sessions
+  counts_told names opened sessions each counts =
+      each_through (λ n name (s : SessionOut I O). IsOpenedFor told tells name s) (λ n (old new : SessionOut I O). CountsBy tells old new)
+      (λ n name (s : SessionOut I O). Counts told tells name s) (λ m name old new opened counts. counts_of name old new opened counts) 0
+          names opened sessions each counts
+
+-- ---- causes
+
+module _ {I O D : Type 0} (told : Told) (tells : Tells I O) (new : ℕ) (outcome : Outcome I O D) where
+  cause_why : (command : Option Command) (early : Option (List ℕ × SessionEnd)) (unmerged : Bool) → HaveRun told tells new command outcome
+      early
+      → CauseOf told tells new command outcome (why_of early unmerged)
+  cause_why command None false ran = ran
+  cause_why command None true ran = inr ran
+  cause_why command (Some p) unmerged ran = ran
+
+  pub caused_by_memory : (command : Command) → NoSession outcome → IsOutOfMemory outcome → Causes told tells new (Some command) outcome
+  caused_by_memory command none refused = record { why = memory; says = inr refused; cause = inl (none, refl) }
+
+  -- whatever the words are
+  pub caused_by_words : (command : Option Command) → new ≡ told.faults → NoSession outcome → IsOutOfMemory outcome → Causes told tells new
+      command outcome
+  caused_by_words None same none refused = record { why = usage; says = inr refused; cause = (none, refl, same) }
+  caused_by_words (Some command) same none refused = caused_by_memory command none refused
+
+  pub caused_by_usage : (command : Option Command) → None ≡ command → new ≡ told.faults → NoSession outcome
+      → ((outcome.status ≡ 1) × (string_bytes outcome.line ≡ usage_line)) ⊎ IsOutOfMemory outcome → Causes told tells new command outcome
+  caused_by_usage command is same none said = record { why = usage; says = said; cause = (none, sym is, same) }
+
+  pub caused_by_host : (command : Command) (name : List ℕ) → (place : ℕ) → slice_get (scripts_of (Some command)) place ≡ Some name → Rose
+      told.faults new → NoSession outcome
+      → ((outcome.status ≡ 2) × (string_bytes outcome.line ≡ cannot_open name)) ⊎ IsOutOfMemory outcome → Causes told tells new (Some
+          command) outcome
+  caused_by_host command name place named rose none said = record {
+    why = unopened name;
+    says = said;
+    cause = record { none = none; host = rose; place = place; named = named };
+  }
+
+  pub caused_by_sessions : (command : Command) (opened : List (SessionOut I O)) → EachOf (λ n name (s : SessionOut I O). IsOpenedFor told
+      tells name s) 0 (scripts_of (Some command)) opened → new ≡ told.faults
+      → (NoSession outcome × IsOutOfMemory outcome) ⊎ HaveEnded tells (scripts_of (Some command)) opened outcome → Causes told tells new
+          (Some command) outcome
+  caused_by_sessions command opened has same (inl none) = caused_by_memory command none.0 none.1
+  caused_by_sessions command opened has same (inr ran) =
+      let early = first_early (scripts_of (Some command)) (map (λ (s : SessionOut I O). s.end) outcome.sessions.items) in
+      let each = counts_told told tells (scripts_of (Some command)) opened outcome.sessions.items has ran.each in
+      record {
+        why = why_of early ran.says.0;
+        says = ran.says.1;
+        cause = cause_why (Some command) early ran.says.0 (record {
+          is_command = refl;
+          host = same;
+          each = each;
+          first = refl;
+          last = ran.last;
+          authors = ran.authors;
+        });
+      }

@@ -1,0 +1,254 @@
+-- Scripts with nothing wrong are answered whole.
+use Rattle.std.proofs.Common.{◌≡◌, ℕ, ◌+◌, ◌<◌, ◌≤◌, ◌⊎◌, Bool, false, List, [], ◌∷◌, ◌++◌, map, Option, Some, None, length, length-append, refl, ap, ◌∙◌, sym, subst, inl, inr, arith}
+use Rattle.std.proofs.lemmas.List.{append-nil}
+use Rattle.std.proofs.lemmas.Option.{none-some, some_pair_parts, IfSome_then}
+use Rattle.std.specs.Prelude.{◌==◌, IfSome, IsSome, string_bytes}
+use Rattle.std.specs.List.{AllByRecursion}
+use Rattle.std.specs.Io.KnownBytes.{prepend_known, append_known, IsAtEnd}
+use Rattle.edn_model.specs.Form.{Form}
+use Rattle.edn_model.specs.Faults.{Fault}
+use Rattle.edn_core.specs.Answers.{fault_of}
+use Rattle.fb_values.specs.declared.facts.Entry.{Entry}
+use Rattle.fb_model.specs.History.{basis}
+use Rattle.fb_model.specs.Lawful.{IsLawful}
+use Rattle.fb_model.proofs.LawfulHistories.{IsLawful-length}
+use Rattle.fb_core.specs.declared.accepting.Draft.{Draft}
+use Rattle.fb_ports.specs.Faults.{Rose}
+use Rattle.fb_ports.specs.Told.{Told}
+use Rattle.fb_view.specs.Kept.{Kept}
+use Rattle.command_line.specs.Words.{Command, scripts_of, sink_of}
+use Rattle.script_model.specs.Script.{Ending, whole, fault, too_many, Script}
+use Rattle.script_model.proofs.OneScript.{OneReading, one_script}
+use Rattle.talk_model.specs.Session.{Setting}
+use Rattle.talk_model.specs.Talk.{forms_of}
+use Rattle.fb_session.specs.declared.outcome.SessionEnd.{SessionEnd}
+use Rattle.fb_session.specs.declared.outcome.SessionEnd.TheVariants as ended
+use Rattle.fb_session.specs.Taken.{longest_script}
+use Rattle.fb_session.specs.Sessions.{Terms}
+use Rattle.fb_session.specs.Replies.{Trace, AnswersAll, AnswersUpTo, SessionRun, Replies, SourceCount, SinkCount}
+use Rattle.fb_session.proofs.LongerHistories.{replies_longer}
+use Rattle.fb_run.specs.declared.outcome.SessionOut.{SessionOut}
+use Rattle.fb_run.specs.declared.outcome.Outcome.{Outcome}
+use Rattle.fb_run.specs.Outside.{Tells, run_of, setting_of, EachOf, EachWhile}
+use Rattle.fb_run.specs.Headline.{OneHistory, stop_of, EachReplies}
+use Rattle.fb_run.specs.StatusLines.{Why, answered, usage, unopened, ended_early, memory, status_of_end, line_of_end, first_early}
+use Rattle.fb_run.specs.Causes.{IsOutOfMemory, SaysWhy, Counts, HaveRun, CauseOf, Causes}
+use Rattle.fb_run.specs.Complete.{HoldsForms, HoldsFormsAlone, NoneRose, EachHasItsLine, AnsweredWhole, Complete}
+use Rattle.fb_run.proofs.Causing.{first_done, says_memory}
+
+-- what was taken of a source that tells, up to its end, is what it held
+taken_whole : (held left : Option (List ℕ)) (bytes script : List ℕ) → held ≡ Some bytes → held ≡ prepend_known script left → IsAtEnd left →
+    script ≡ bytes
+taken_whole held None bytes script told taken at_end = let wrong = sym told ∙ taken in cc
+taken_whole held (Some xs) bytes script told taken at_end =
+    let one : Some (script ++ xs) ≡ Some bytes = sym taken ∙ told in
+    let same : script ++ xs ≡ bytes = cc in
+    sym (append-nil script) ∙ ap (λ ys. script ++ ys) (sym at_end) ∙ same
+
+-- it is no more than was held
+taken_part : (held left : Option (List ℕ)) (bytes script : List ℕ) → held ≡ Some bytes → held ≡ prepend_known script left → longest_script
+    < length script → longest_script < length bytes
+taken_part held None bytes script told taken long = let wrong = sym told ∙ taken in absurd cc
+taken_part held (Some xs) bytes script told taken long =
+    let one : Some (script ++ xs) ≡ Some bytes = sym taken ∙ told in
+    let same : script ++ xs ≡ bytes = cc in
+    rw (← same) (omega (arith, long, length-append script xs))
+
+same_reading : (held left : Option (List ℕ)) (script : List ℕ) (forms read : List Form) (ending : Ending) → HoldsForms held forms
+    → held ≡ prepend_known script left → IsAtEnd left → Script script read ending → OneReading read forms ending whole
+same_reading held left script forms read ending holds taken at_end stands =
+    let same = taken_whole held left holds.script script holds.told taken at_end in
+    let P : List ℕ → Type 0 = λ bytes. Script bytes read ending in
+    one_script holds.script read forms ending whole (subst P same stands) holds.read
+
+-- forms alone have no fault behind them
+no_fault : (s : Setting) (opening : ℕ) (held left : Option (List ℕ)) (script : List ℕ) (trace : Trace) (forms : List Form) (why : Option
+    (Fault × ℕ))
+    → HoldsForms held forms → held ≡ prepend_known script left → IsAtEnd left → AnswersUpTo s opening script why trace → ⊥
+no_fault s opening held left script trace forms None holds taken at_end answers = answers
+no_fault s opening held left script trace forms (Some p) holds taken at_end answers =
+    let wrong = (same_reading held left script forms (forms_of answers.exchanges) (fault p.0 p.1) holds taken at_end answers.read).endings
+        in
+    absurd cc
+
+-- ---- one session
+
+module _ (s : Setting) (opening : ℕ) (ran : SessionRun) (replies : Replies s opening ran) where
+  -- it ended behind the last of its forms
+  each_line : (forms : List Form) → HoldsForms ran.held forms → IsAtEnd ran.left
+      → AnswersAll s opening replies.script whole (record { written = replies.written; places = ran.places; commits = ran.commits }) →
+          EachHasItsLine s opening forms ran
+  each_line forms holds at_end answers =
+      record {
+        exchanges = answers.exchanges;
+        after = answers.after;
+        talk = answers.talk;
+        forms_are = sym (same_reading ran.held ran.left replies.script forms (forms_of answers.exchanges) whole holds replies.taken at_end
+            answers.read).forms;
+        places = ap (λ (t : Trace). t.places) answers.leaves;
+        commits = ap (λ (t : Trace). t.commits) answers.leaves;
+        gained = replies.gained ∙ ap (λ (t : Trace). append_known ran.had t.written) answers.leaves;
+      }
+
+  -- how a session ends whose source holds forms alone and where no count rose
+  pub ends_well : (m k n j : ℕ) (forms : List Form) → HoldsForms ran.held forms → (how : SessionEnd) → ran.end ≡ how
+      → SourceCount how m k → SinkCount how n j → ¬ Rose m k → ¬ Rose n j
+      → ((how ≡ ended.Done) × ((fs : List Form) → HoldsForms ran.held fs → EachHasItsLine s opening fs ran)) ⊎ (how ≡ ended.Memory)
+  ends_well m k n j forms holds ended.Done how source sink calm_source calm_sink =
+      let all = rw how at replies.all in
+      inl (refl, λ fs has. each_line fs has (all refl) (rw how at replies.answers))
+  ends_well m k n j forms holds (ended.Script why) how source sink calm_source calm_sink =
+      let all = rw how at replies.all in
+      absurd (no_fault s opening ran.held ran.left replies.script _ forms (fault_of why) holds replies.taken (all refl) (rw how at
+          replies.answers))
+  ends_well m k n j forms holds ended.TooMany how source sink calm_source calm_sink =
+      let all = rw how at replies.all in
+      let answers = rw how at replies.answers in
+      let wrong = (same_reading ran.held ran.left replies.script forms (forms_of answers.exchanges) too_many holds replies.taken (all refl)
+          answers.read).endings in
+      absurd cc
+  ends_well m k n j forms holds ended.TooLong how source sink calm_source calm_sink =
+      let long = taken_part ran.held ran.left holds.script replies.script holds.told replies.taken (replies.too_long.0 how) in
+      absurd (omega (arith, long, holds.fits))
+  ends_well m k n j forms holds ended.ReadFault how source sink calm_source calm_sink = absurd (calm_source source)
+  ends_well m k n j forms holds ended.WriteFault how source sink calm_source calm_sink = absurd (calm_sink sink)
+  ends_well m k n j forms holds ended.Memory how source sink calm_source calm_sink = inr refl
+
+-- ---- all of them
+
+module _ {I O : Type 0} (terms : Terms) (told : Told) (tells : Tells I O) (h : List Entry) (opening teller : ℕ) (lawful : IsLawful h) (seen
+    : opening ≤ basis h) where
+  abbrev IsWhole : ℕ → List ℕ → SessionOut I O → Type 0
+  IsWhole n name s = (forms : List Form) → HoldsForms (told.sources name) forms → EachHasItsLine (setting_of terms h None false) opening
+      forms (run_of told tells name s)
+
+  abbrev IsReplied : ℕ → List ℕ → SessionOut I O → Type 0
+  IsReplied n name s = Replies (setting_of terms h None (teller == n)) opening (run_of told tells name s)
+
+  -- where the log has not stopped nobody is its teller
+  untold : (flag : Bool) (run : SessionRun) → Replies (setting_of terms h None flag) opening run → Replies (setting_of terms h None false)
+      opening run
+  untold flag run replies =
+      let same : h ++ [] ≡ h = append-nil h in
+      let least : basis h ≤ basis h = omega arith in
+      let grows : basis h ≤ basis (h ++ []) = subst (λ (g : List Entry). basis h ≤ basis g) (sym same) least in
+      subst (λ (g : List Entry). Replies (setting_of terms g None false) opening run) same
+      (replies_longer (setting_of terms h None flag) [] None false (IsLawful-length h lawful) grows (inl refl) opening seen run replies)
+
+  -- the first that ended early ended for want of memory, or none did
+  all_well : (n : ℕ) (names : List (List ℕ)) (sessions : List (SessionOut I O)) (early : Option (List ℕ × SessionEnd))
+      → EachOf (λ m name (s : SessionOut I O). Counts told tells name s) n names sessions → EachOf IsReplied n names sessions
+      → AllByRecursion (λ name. HoldsFormsAlone (told.sources name)) names
+      → EachWhile (λ name (s : SessionOut I O). ¬ Rose (told.source_faults name) (tells.source_faults s.source)) names sessions
+      → EachWhile (λ name (s : SessionOut I O). ¬ Rose (told.sink_faults (sink_of name)) (tells.sink_faults s.sink)) names sessions
+      → first_early names (map (λ (s : SessionOut I O). s.end) sessions) ≡ early
+      → ((early ≡ None) × EachOf IsWhole n names sessions) ⊎ ((name : List ℕ) × (early ≡ Some (name, ended.Memory)))
+  all_well n [] [] early counts replies holds calm_sources calm_sinks first = inl (sym first, tt)
+  all_well n [] (s ∷ ss) early counts replies holds calm_sources calm_sinks first = absurd counts
+  all_well n (x ∷ xs) [] early counts replies holds calm_sources calm_sinks first = absurd counts
+  all_well n (x ∷ xs) (s ∷ ss) early counts replies holds calm_sources calm_sinks first =
+      let ours = untold (teller == n) (run_of told tells x s) replies.0 in
+      elim (ends_well (setting_of terms h None false) opening (run_of told tells x s) ours
+      (told.source_faults x) (tells.source_faults s.source) (told.sink_faults (sink_of x)) (tells.sink_faults s.sink) holds.0.0 holds.0.1
+      s.end refl counts.0.source counts.0.sink calm_sources.0 calm_sinks.0) [
+        | inl done ↦ elim (all_well (n + 1) xs ss early counts.1 replies.1 holds.1 calm_sources.1 calm_sinks.1
+            (sym (first_done x xs s.end (map (λ (z : SessionOut I O). z.end) ss) done.0) ∙ first)) [
+              | inl rest ↦ inl (rest.0, (done.1, rest.1))
+              | inr rest ↦ inr rest
+            ]
+        | inr refused ↦ inr (x, sym first ∙ ap (λ (how : SessionEnd). first_early (x ∷ xs) (how ∷ map (λ (z : SessionOut I O). z.end) ss))
+            refused)
+      ]
+
+stands_behind : (n m k : ℕ) → n + m ≡ k → n ≤ k
+stands_behind n m k same = omega (arith, same)
+
+-- ---- the run
+
+module _ {I O D : Type 0} (terms : Terms) (told : Told) (tells : Tells I O) (new : ℕ) (command : Command) (outcome : Outcome I O D) (last :
+    Kept)
+    (lawful : IsLawful last.entries) (seen : outcome.recovered ≤ basis last.entries) (kept : outcome.last ≡ Some last)
+    (replies : EachReplies terms told tells outcome.recovered None (scripts_of (Some command)) outcome.sessions.items last.entries)
+    (holds : AllByRecursion (λ name. HoldsFormsAlone (told.sources name)) (scripts_of (Some command)))
+    (calm : NoneRose told tells new (scripts_of (Some command)) outcome.sessions.items) where
+  ran_well : (early : Option (List ℕ × SessionEnd)) → HaveRun told tells new (Some command) outcome early
+      → ((early ≡ None) × EachOf (IsWhole terms told tells last.entries outcome.recovered replies.0 lawful seen) 0 (scripts_of (Some
+          command)) outcome.sessions.items)
+      ⊎ ((name : List ℕ) × (early ≡ Some (name, ended.Memory)))
+  ran_well early ran =
+      all_well terms told tells last.entries outcome.recovered replies.0 lawful seen 0 (scripts_of (Some command)) outcome.sessions.items
+          early
+      ran.each replies.1 holds calm.sources calm.sinks ran.first
+
+  pub answered_whole : outcome.status ≡ 0 → HaveRun told tells new (Some command) outcome None → AnsweredWhole terms told tells (scripts_of
+      (Some command)) outcome
+  answered_whole success ran = elim (ran_well None ran) [
+    | inl well ↦ record { succeeded = success; last = last; kept = kept; each = well.1 }
+    | inr wrong ↦ absurd (none-some _ wrong.1)
+  ]
+
+  early_memory : (name : List ℕ) (how : SessionEnd) → HaveRun told tells new (Some command) outcome (Some (name, how)) → how ≡ ended.Memory
+  early_memory name how ran = elim (ran_well (Some (name, how)) ran) [
+    | inl wrong ↦ absurd (none-some _ (sym wrong.0))
+    | inr refused ↦ (some_pair_parts name refused.0 how ended.Memory refused.1).1
+  ]
+
+  pub refused : (name : List ℕ) (how : SessionEnd) → HaveRun told tells new (Some command) outcome (Some (name, how))
+      → ((outcome.status ≡ status_of_end how) × (string_bytes outcome.line ≡ line_of_end name how)) ⊎ IsOutOfMemory outcome → IsOutOfMemory
+          outcome
+  refused name how ran (inl said) =
+      let memory_it = early_memory name how ran in (said.0 ∙ ap status_of_end memory_it, inl (said.1 ∙ ap (line_of_end name) memory_it))
+  refused name how ran (inr said) = said
+
+module _ {I O D : Type 0} (terms : Terms) (told : Told) (tells : Tells I O) (new : ℕ) (command : Command) (outcome : Outcome I O D)
+    (holds : AllByRecursion (λ name. HoldsFormsAlone (told.sources name)) (scripts_of (Some command)))
+    (calm : NoneRose told tells new (scripts_of (Some command)) outcome.sessions.items) where
+  -- the sessions ran, so there is a history
+  module _ (lawful : IfSome outcome.last (λ last. IsLawful last.entries × (outcome.recovered ≤ basis last.entries)))
+      (replies : IfSome outcome.last (λ last. EachReplies terms told tells outcome.recovered None (scripts_of (Some command))
+          outcome.sessions.items last.entries)) where
+    whole_by : (last : Option Kept) → outcome.last ≡ last → IsSome last → outcome.status ≡ 0 → HaveRun told tells new (Some command)
+        outcome None
+        → AnsweredWhole terms told tells (scripts_of (Some command)) outcome
+    whole_by None is there success ran = absurd (cc)
+    whole_by (Some l) is there success ran =
+        let stands = rw is at lawful in let says = rw is at replies in
+        answered_whole terms told tells new command outcome l stands.0 stands.1 is says holds calm success ran
+
+    refused_by : (last : Option Kept) → outcome.last ≡ last → IsSome last → (name : List ℕ) (how : SessionEnd) → HaveRun told tells new
+        (Some command) outcome (Some (name, how))
+        → ((outcome.status ≡ status_of_end how) × (string_bytes outcome.line ≡ line_of_end name how)) ⊎ IsOutOfMemory outcome →
+            IsOutOfMemory outcome
+    refused_by None is there name how ran said = absurd (cc)
+    refused_by (Some l) is there name how ran said =
+        let stands = rw is at lawful in let says = rw is at replies in
+        refused terms told tells new command outcome l stands.0 stands.1 is says holds calm name how ran said
+
+    by_why : (why : Why) → SaysWhy why outcome.status (string_bytes outcome.line) → CauseOf told tells new (Some command) outcome why
+        → AnsweredWhole terms told tells (scripts_of (Some command)) outcome ⊎ IsOutOfMemory outcome
+    by_why answered says cause = inl (whole_by outcome.last refl cause.last says.0 cause)
+    by_why usage says cause = absurd (none-some command (sym cause.1))
+    by_why (unopened name) says cause = absurd (calm.host cause.host)
+    by_why (ended_early name how) says cause = inr (refused_by outcome.last refl cause.last name how cause says)
+    by_why memory says cause = inr (says_memory outcome.status (string_bytes outcome.line) says)
+
+    pub complete_run : Causes told tells new (Some command) outcome → AnsweredWhole terms told tells (scripts_of (Some command)) outcome ⊎
+        IsOutOfMemory outcome
+    complete_run causes = by_why causes.why causes.says causes.cause
+
+pub complete_command : {I O D : Type 0} (terms : Terms) (told : Told) (tells : Tells I O) (new : ℕ) (command : Option Command) (outcome :
+    Outcome I O D)
+    (authors : List ℕ) (commits : List (List ℕ)) → outcome.torn ≡ None
+    → IfSome outcome.last (λ last. OneHistory last.entries outcome.recovered authors commits)
+    → IfSome outcome.last (λ last. EachReplies terms told tells outcome.recovered (stop_of outcome.torn) (scripts_of command)
+        outcome.sessions.items last.entries)
+    → Causes told tells new command outcome → Complete terms told tells new command outcome
+complete_command terms told tells new None outcome authors commits going history replies causes = tt
+complete_command terms told tells new (Some command) outcome authors commits going history replies causes =
+    let lawful : IfSome outcome.last (λ last. IsLawful last.entries × (outcome.recovered ≤ basis last.entries)) =
+    IfSome_then outcome.last history (λ last one. (one.lawful, stands_behind outcome.recovered (length authors) (basis last.entries)
+        one.each_t)) in
+    let ours = subst (λ (torn : Option Draft). IfSome outcome.last (λ last. EachReplies terms told tells outcome.recovered (stop_of torn)
+        (scripts_of (Some command))
+    outcome.sessions.items last.entries)) going replies in
+    λ holds calm. complete_run terms told tells new command outcome holds calm lawful ours causes

@@ -1,0 +1,72 @@
+-- What a run owes to scripts that have nothing wrong with them: each of their forms has its line.
+-- This project's own choice.
+use Rattle.std.specs.Prelude.{◌≡◌, ℕ, ◌≤◌, ◌⊎◌, false, List, Option, Some, None, length}
+use Rattle.std.specs.List.{concat, AllByRecursion}
+use Rattle.std.specs.Io.KnownBytes.{append_known}
+use Rattle.edn_model.specs.Form.{Form}
+use Rattle.fb_view.specs.Kept.{Kept}
+use Rattle.fb_ports.specs.Faults.{Rose}
+use Rattle.fb_ports.specs.Told.{Told}
+use Rattle.command_line.specs.Words.{Command, scripts_of, sink_of}
+use Rattle.script_model.specs.Script.{whole, Script}
+use Rattle.talk_model.specs.Session.{Setting, Standing, opened_at}
+use Rattle.talk_model.specs.Talk.{Exchange, forms_of, places_of, lines_of, commits_of, Talk}
+use Rattle.fb_session.specs.Sessions.{Terms}
+use Rattle.fb_session.specs.Taken.{longest_script}
+use Rattle.fb_session.specs.Replies.{SessionRun}
+use Rattle.fb_run.specs.declared.outcome.SessionOut.{SessionOut}
+use Rattle.fb_run.specs.declared.outcome.Outcome.{Outcome}
+use Rattle.fb_run.specs.Outside.{Tells, run_of, setting_of, EachOf, EachWhile}
+use Rattle.fb_run.specs.Causes.{IsOutOfMemory}
+
+-- the source holds these forms, within the limits, and nothing else
+pub record HoldsForms (held : Option (List ℕ)) (forms : List Form) : Type 0 where
+  pub script : List ℕ
+  pub told : held ≡ Some script
+  pub fits : length script ≤ longest_script
+  pub read : Script script forms whole
+
+-- it holds forms alone
+abbrev pub HoldsFormsAlone : Option (List ℕ) → Type 0
+HoldsFormsAlone held = (forms : List Form) × HoldsForms held forms
+
+-- no count of faults rose: not the host's, nor that of a session's source or sink
+pub record NoneRose {I O : Type 0} (told : Told) (tells : Tells I O) (new : ℕ)
+    (scripts : List (List ℕ)) (sessions : List (SessionOut I O)) : Type 0 where
+  pub host : ¬ Rose told.faults new
+  pub sources : EachWhile (λ name (s : SessionOut I O).
+      ¬ Rose (told.source_faults name) (tells.source_faults s.source)) scripts sessions
+  pub sinks : EachWhile (λ name (s : SessionOut I O).
+      ¬ Rose (told.sink_faults (sink_of name)) (tells.sink_faults s.sink)) scripts sessions
+
+-- each of the forms has its line, and the sink gained nothing else
+pub record EachHasItsLine (s : Setting) (opening : ℕ) (forms : List Form) (run : SessionRun)
+    : Type 0 where
+  pub exchanges : List Exchange
+  pub after : Standing
+  pub talk : Talk s (opened_at opening) exchanges after
+  pub forms_are : forms ≡ forms_of exchanges
+  pub places : run.places ≡ places_of exchanges
+  pub commits : run.commits ≡ commits_of exchanges
+  pub gained : run.has ≡ append_known run.had (concat (lines_of exchanges))
+
+-- the run succeeded, and each of its sessions answered all forms of its script; the log has not stopped
+pub record AnsweredWhole {I O D : Type 0} (terms : Terms) (told : Told) (tells : Tells I O)
+    (scripts : List (List ℕ)) (outcome : Outcome I O D) : Type 0 where
+  pub succeeded : outcome.status ≡ 0
+  pub last : Kept
+  pub kept : outcome.last ≡ Some last
+  pub each : EachOf (λ n name (s : SessionOut I O).
+      (forms : List Form) → HoldsForms (told.sources name) forms
+      → EachHasItsLine (setting_of terms last.entries None false) outcome.recovered forms
+      (run_of told tells name s)) 0 scripts outcome.sessions.items
+
+-- Where the words are a command, its scripts are forms within the limits, and no count of faults rises, each form of each of them is
+-- answered, or memory was refused.
+abbrev pub Complete : {I O D : Type 0} → Terms → Told → Tells I O → ℕ → Option Command
+    → Outcome I O D → Type 0
+Complete terms told tells new None outcome = Unit {0}
+Complete terms told tells new (Some command) outcome =
+    AllByRecursion (λ name. HoldsFormsAlone (told.sources name)) (scripts_of (Some command))
+    → NoneRose told tells new (scripts_of (Some command)) outcome.sessions.items
+    → AnsweredWhole terms told tells (scripts_of (Some command)) outcome ⊎ IsOutOfMemory outcome

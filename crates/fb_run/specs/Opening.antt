@@ -1,0 +1,88 @@
+-- What opening sources and sinks of scripts gives, and what the host tells from then on.
+-- This project's own choice.
+use Rattle.std.specs.Prelude.{◌≡◌, ℕ, List, [], ◌∷◌, ◌++◌, map, Some, slice_get}
+use Rattle.fb_ports.specs.Faults.{Rose}
+use Rattle.fb_ports.specs.Told.{Told}
+use Rattle.fb_ports.specs.Telling.{Same, SameBut}
+use Rattle.command_line.specs.Words.{sink_of}
+use Rattle.fb_run.specs.declared.outcome.SessionOut.{SessionOut}
+use Rattle.fb_run.specs.declared.opening.Unopened.{Unopened}
+use Rattle.fb_run.specs.declared.opening.Unopened.TheVariants.{CannotOpen, Memory}
+use Rattle.fb_run.specs.Outside.{Tells, IsSourceOf, IsSinkOf, EachOf}
+
+-- ---- sources
+
+-- the source of this name was added, and of all else the host tells what it told
+pub record AddsSource {I O : Type 0} (tells : Tells I O) (name : List ℕ) (had has : List I)
+    (old new : Told) : Type 0 where
+  pub source : I
+  pub is : IsSourceOf old tells name source
+  pub added : has ≡ had ++ source ∷ []
+  pub faults : new.faults ≡ old.faults
+  pub sources : SameBut name old.sources new.sources
+  pub source_faults : SameBut name old.source_faults new.source_faults
+  pub sinks : Same old.sinks new.sinks
+  pub sink_faults : Same old.sink_faults new.sink_faults
+
+-- the sources of all these names were added, and of sinks the host tells what it told
+pub record OpensSources {I O : Type 0} (tells : Tells I O) (names : List (List ℕ))
+    (had has : List I) (old new : Told) : Type 0 where
+  pub opened : List I
+  pub each : EachOf (λ n name source. IsSourceOf old tells name source) 0 names opened
+  pub added : has ≡ had ++ opened
+  pub faults : new.faults ≡ old.faults
+  pub sinks : Same old.sinks new.sinks
+  pub sink_faults : Same old.sink_faults new.sink_faults
+
+-- ---- sinks
+
+-- the sink for the lines of this name was opened, and of every other one the host tells what it told
+pub record OpensSink {I O : Type 0} (tells : Tells I O) (name : List ℕ) (old new : Told) (sink : O)
+    : Type 0 where
+  pub is : IsSinkOf old tells name sink
+  pub faults : new.faults ≡ old.faults
+  pub sinks : SameBut (sink_of name) old.sinks new.sinks
+  pub sink_faults : SameBut (sink_of name) old.sink_faults new.sink_faults
+
+-- a session with it and with the first of the sources was added, and these are the sources behind
+pub record AddsSession {I O : Type 0} (tells : Tells I O) (name : List ℕ) (sources behind : List I)
+    (had has : List (SessionOut I O)) (old new : Told) : Type 0 where
+  pub session : SessionOut I O
+  pub source : sources ≡ session.source ∷ behind
+  pub opens : OpensSink tells name old new session.sink
+  pub added : has ≡ had ++ session ∷ []
+
+-- a session for each of the names was added, each with its sink and one of the sources
+pub record AddsSessions {I O : Type 0} (tells : Tells I O) (names : List (List ℕ))
+    (sources : List I) (had has : List (SessionOut I O)) (old new : Told) : Type 0 where
+  pub opened : List (SessionOut I O)
+  pub each : EachOf (λ n name (s : SessionOut I O). IsSinkOf old tells name s.sink) 0 names opened
+  pub sources_are : map (λ (s : SessionOut I O). s.source) opened ≡ sources
+  pub added : has ≡ had ++ opened
+  pub faults : new.faults ≡ old.faults
+
+-- ---- both
+
+-- a session has the source and the sink of this name
+pub record IsOpenedFor {I O : Type 0} (told : Told) (tells : Tells I O) (name : List ℕ)
+    (session : SessionOut I O) : Type 0 where
+  pub source : IsSourceOf told tells name session.source
+  pub sink : IsSinkOf told tells name session.sink
+
+-- a session for each of the names was opened
+pub record HasOpened {I O : Type 0} (tells : Tells I O) (names : List (List ℕ)) (old new : Told)
+    (sessions : List (SessionOut I O)) : Type 0 where
+  pub each : EachOf (λ n name (s : SessionOut I O). IsOpenedFor old tells name s) 0 names sessions
+  pub faults : new.faults ≡ old.faults
+
+-- ---- what is not opened is so by the host's own fault, or for want of memory
+
+abbrev pub IsNotOpened : List ℕ → Told → Told → Unopened → Type 0
+IsNotOpened name old new (CannotOpen why) = (why.now ≡ name) × Rose old.faults new.faults
+IsNotOpened name old new Memory = Unit {0}
+
+-- it is one of these names
+abbrev pub IsUnopened : List (List ℕ) → Told → Told → Unopened → Type 0
+IsUnopened names old new (CannotOpen why) =
+    ((place : ℕ) × (slice_get names place ≡ Some why.now)) × Rose old.faults new.faults
+IsUnopened names old new Memory = Unit {0}

@@ -1,0 +1,254 @@
+//! The sessions of a run: each has a desk of its own, and a thread where one can be made. The worker runs beside them.
+ghost use denote.Param.Send.{IsSync};
+ghost use Rattle.std.specs.Prelude.{◌≡◌, ℕ, ◌+◌, ◌≤◌, ◌<◌, [], ◌∷◌, map, length, Some, IfOk, slice_get, slice_index_or, vec_len, vec_capacity};
+ghost use Rattle.std.specs.List.{All};
+ghost use Rattle.std.specs.Vec.Iter.{into_iter_items, into_iter_len};
+ghost use Rattle.fb_conn.specs.declared.seats.Seat.{Seat};
+ghost use Rattle.board_rule.specs.Calls.{view_of};
+ghost use Rattle.fb_conn.specs.Seats.{IsSeatOf, state_of};
+ghost use Rattle.merge_worker.specs.Work.{IsSameWorker};
+ghost use Rattle.fb_session.specs.Sessions.{terms_of};
+ghost use Rattle.fb_run.specs.Outside.{tells_of};
+ghost use Rattle.fb_run.specs.Jobs.{HasTalked, HaveTalked};
+ghost use Rattle.fb_run.specs.Merging.{CanWork, HasNoFault};
+
+use crate::merging::{Worker, beside};
+use crate::outcome::SessionOut;
+use conn_desk::ConnDesk;
+use fb_conn::{Conn, Seat};
+use fb_core::Guard;
+use fb_log::NoLog;
+use fb_memory::Memory;
+use fb_ports::{Clock, Sink, Source};
+use fb_preds::FilterTable;
+use fb_session::serve_desk;
+use fb_view::Snapshot;
+use merge_worker::Gate;
+use std::alloc::Global;
+use std::sync::Wait;
+use std::thread::Threads;
+use std::vec::IntoIter;
+
+/// A session, and its desk.
+#[derive(Drop)]
+pub struct Job<'a, I, O> {
+    desk: ConnDesk<'a, NoLog>,
+    out: SessionOut<I, O>,
+}
+
+/// Sessions and their seats, in one order.
+#[derive(Drop)]
+pub(crate) struct Ended<I, O> {
+    pub(crate) sessions: Vec<SessionOut<I, O>>,
+    pub(crate) seats: Vec<Seat>,
+}
+
+/// Runs the sessions that were opened, each at its seat, and the worker beside them. All memory that is wanted besides theirs is
+/// taken before any of them runs.
+pub(crate) fn serve_all<
+    R: Threads + Wait + Sync,
+    I: Source + Send,
+    O: Sink + Send,
+    K: Clock + Sync,
+    G: Guard<Snapshot> + Sync,
+    P: FilterTable + Sync,
+    W: Gate + Sync,
+>(
+    rt: &R,
+    alloc: Global,
+    conn: &Conn<NoLog>,
+    worker: &mut Worker,
+    seats: Vec<Seat>,
+    opened: Vec<SessionOut<I, O>>,
+    clock: &K,
+    guard: &G,
+    preds: &P,
+    gate: &W,
+) -> Result<Ended<I, O>, Memory>
+    requires seats { (k : ℕ) (seat : Seat) → slice_get seats.items k ≡ Some seat
+        → IsSeatOf conn.now seat × (1_000_000 ≤ (state_of seat).left) }
+    requires opened { length opened.items ≡ length seats.items }
+    requires worker { CanWork conn.now worker.old }
+    ensures talked { IfOk result (λ ended. HaveTalked
+        (terms_of (K.may_answer clock.now) (G.bars guard.now) (P.place_of preds.now)
+        (P.selects_at preds.now))
+        (tells_of I.left I.faults O.contents O.faults) conn.now seats.items opened.items
+        ended.seats.items ended.sessions.items) }
+    ensures worker { IfOk result (λ _. CanWork conn.now worker.new) }
+    ensures same { IfOk result (λ _.
+        IsSameWorker (view_of worker.old.seat.board) (view_of worker.new.seat.board)) }
+    ensures no_fault { IfOk result (λ _. HasNoFault worker.new.end) }
+{
+    let room = room_for(alloc, seats.len())?;
+    let mut jobs = jobs_of(alloc, conn, seats, opened)?;
+    serve_each(
+        rt,
+        alloc,
+        conn,
+        worker,
+        jobs.as_mut_slice(),
+        clock,
+        guard,
+        preds,
+        gate,
+    );
+    Ok(take_apart(jobs, room))
+}
+
+/// Room for so many sessions and seats.
+fn room_for<I: Drop, O: Drop>(alloc: Global, count: usize) -> Result<Ended<I, O>, Memory>
+    ensures empty { IfOk result
+        (λ room. (room.sessions.items ≡ []) × (room.seats.items ≡ [])) }
+    ensures room { IfOk result (λ room. (count ≤ vec_capacity room.sessions)
+        × (count ≤ vec_capacity room.seats)) }
+{
+    Ok(Ended {
+        sessions: Vec::with_capacity(alloc, count)?,
+        seats: Vec::with_capacity(alloc, count)?,
+    })
+}
+
+/// A desk for each of the sessions.
+fn jobs_of<'a, I: Drop, O: Drop>(
+    alloc: Global,
+    conn: &'a Conn<NoLog>,
+    seats: Vec<Seat>,
+    opened: Vec<SessionOut<I, O>>,
+) -> Result<Vec<Job<'a, I, O>>, Memory>
+    requires seats { All (λ seat. IsSeatOf conn.now seat) seats.items }
+    requires opened { length opened.items ≡ length seats.items }
+    ensures seats { IfOk result (λ jobs. map (λ job. job.desk.seat) jobs.items ≡ seats.items) }
+    ensures sessions { IfOk result (λ jobs. map (λ job. job.out) jobs.items ≡ opened.items) }
+    ensures desks { IfOk result (λ jobs. All (λ job. job.desk.conn.now ≡ conn.now) jobs.items) }
+{
+    let mut jobs = Vec::new(alloc);
+    let mut seats = seats.into_iter();
+    let mut opened = opened.into_iter();
+    while let Some(seat) = seats.next() {
+        let job = job_of(conn, seat, &mut opened);
+        jobs.push(job)?;
+    }
+    Ok(jobs)
+}
+
+/// The next of the sessions at this seat.
+fn job_of<'a, I: Drop, O: Drop>(
+    conn: &'a Conn<NoLog>,
+    seat: Seat,
+    opened: &mut IntoIter<SessionOut<I, O>>,
+) -> Job<'a, I, O>
+    requires seat { IsSeatOf conn.now seat }
+    requires some { 0 < into_iter_len opened.old }
+    ensures conn { result.desk.conn.now ≡ conn.now }
+    ensures seat { result.desk.seat ≡ seat }
+    ensures out { into_iter_items opened.old ≡ result.out ∷ into_iter_items opened.new }
+    ensures len { into_iter_len opened.new + 1 ≡ into_iter_len opened.old }
+{
+    match opened.next() {
+        Some(out) => Job {
+            desk: ConnDesk::new(conn, seat),
+            out,
+        },
+        None => unreachable!(),
+    }
+}
+
+/// Runs each of the sessions, and the worker beside them.
+fn serve_each<
+    'a,
+    R: Threads + Wait + Sync,
+    I: Source + Send,
+    O: Sink + Send,
+    K: Clock + Sync,
+    G: Guard<Snapshot> + Sync,
+    P: FilterTable + Sync,
+    W: Gate + Sync,
+>(
+    rt: &R,
+    alloc: Global,
+    conn: &Conn<NoLog>,
+    worker: &mut Worker,
+    jobs: &mut [Job<'a, I, O>],
+    clock: &K,
+    guard: &G,
+    preds: &P,
+    gate: &W,
+)
+    requires left { All (λ job. 1_000_000 ≤ (state_of job.desk.seat).left) jobs.old }
+    requires worker { CanWork conn.now worker.old }
+    ensures talked { (k : ℕ) (d : _) → k < length jobs.old → HasTalked
+        (terms_of (K.may_answer clock.now) (G.bars guard.now) (P.place_of preds.now)
+        (P.selects_at preds.now))
+        (tells_of I.left I.faults O.contents O.faults)
+        (state_of (slice_index_or jobs.old k d).desk.seat)
+        (state_of (slice_index_or jobs.new k d).desk.seat) (slice_index_or jobs.old k d).out
+        (slice_index_or jobs.new k d).out }
+    ensures worker { CanWork conn.now worker.new }
+    ensures same { IsSameWorker (view_of worker.old.seat.board) (view_of worker.new.seat.board) }
+    ensures no_fault { HasNoFault worker.new.end }
+{
+    let serve = |_, job: &mut Job<I, O>|
+        requires { IsSync R.row × (1_000_000 ≤ (state_of job.old.desk.seat).left) }
+        ensures { HasTalked
+            (terms_of (K.may_answer clock.entry.now) (G.bars guard.entry.now)
+            (P.place_of preds.entry.now) (P.selects_at preds.entry.now))
+            (tells_of I.left I.faults O.contents O.faults) (state_of job.old.desk.seat)
+            (state_of job.new.desk.seat) job.old.out job.new.out }
+    { job.serve(rt, alloc, clock, guard, preds) };
+    beside(rt, alloc, conn, gate, worker, &serve, jobs);
+}
+
+impl<I: Source, O: Sink> Job<'_, I, O> {
+    /// Runs the session.
+    fn serve<R: Threads + Wait + Sync, K: Clock, G: Guard<Snapshot>, P: FilterTable>(
+        &mut self,
+        rt: &R,
+        alloc: Global,
+        clock: &K,
+        guard: &G,
+        preds: &P,
+    )
+        requires sync { IsSync R.row }
+        requires left { 1_000_000 ≤ (state_of self.old.desk.seat).left }
+        ensures { HasTalked
+            (terms_of (K.may_answer clock.now) (G.bars guard.now) (P.place_of preds.now)
+            (P.selects_at preds.now))
+            (tells_of I.left I.faults O.contents O.faults) (state_of self.old.desk.seat)
+            (state_of self.new.desk.seat) self.old.out self.new.out }
+    {
+        let served = serve_desk(
+            rt,
+            alloc,
+            &mut self.out.source,
+            &mut self.out.sink,
+            &mut self.desk,
+            clock,
+            guard,
+            preds,
+        );
+        self.out.end = served.end;
+        self.out.places = served.places;
+        self.out.commits = served.commits;
+    }
+}
+
+/// What is left of the sessions, and their seats, for which there is room.
+fn take_apart<I: Drop, O: Drop>(jobs: Vec<Job<'_, I, O>>, room: Ended<I, O>) -> Ended<I, O>
+    requires empty { (room.sessions.items ≡ []) × (room.seats.items ≡ []) }
+    requires room { (vec_len jobs ≤ vec_capacity room.sessions)
+        × (vec_len jobs ≤ vec_capacity room.seats) }
+    ensures sessions { result.sessions.items ≡ map (λ job. job.out) jobs.entry.items }
+    ensures seats { result.seats.items ≡ map (λ job. job.desk.seat) jobs.entry.items }
+{
+    let Ended {
+        mut sessions,
+        mut seats,
+    } = room;
+    let mut jobs = jobs.into_iter();
+    while let Some(job) = jobs.next() {
+        let Job { desk, out } = job;
+        sessions.push_reserved(out);
+        seats.push_reserved(desk.into_seat());
+    }
+    Ended { sessions, seats }
+}

@@ -1,0 +1,13 @@
+//! The top call: it runs the command that the words of a command line are, over a host, a clock, filters, a guard and a gate, and
+//! hands back all that became of them.
+#![tactic(auto)]
+
+mod jobs;
+mod lines;
+mod merging;
+mod opening;
+mod outcome;
+mod run;
+
+pub use outcome::{Outcome, SessionOut};
+pub use run::run;

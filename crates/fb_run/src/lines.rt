@@ -1,0 +1,86 @@
+//! The lines of standard error.
+ghost use Rattle.std.specs.Prelude.{◌≡◌, ◌++◌, IfOk, string_bytes, codes, decimal};
+ghost use Rattle.edn_core.specs.Answers.{fault_of};
+ghost use Rattle.fb_run.specs.StatusLines.{usage_line, cannot_open, out_of_memory, script_line, fault_line, status_of_end, line_of_end};
+
+use edn_core::EdnFault;
+use fb_ports::Memory;
+use fb_session::SessionEnd;
+use std::alloc::Global;
+
+const USAGE: &str =
+    "factbase: usage: factbase run [--merge-at N] DIR SCRIPT.. | check DIR | load N";
+
+const OUT_OF_MEMORY: &str = "factbase: out of memory";
+
+pub(crate) fn usage(alloc: Global) -> Result<String, Memory>
+    ensures { IfOk result (λ line. string_bytes line ≡ usage_line) }
+{
+    Ok(String::from_str(alloc, USAGE)?)
+}
+
+pub(crate) fn cannot_open(alloc: Global, name: &str) -> Result<String, Memory>
+    ensures { IfOk result (λ line. string_bytes line ≡ cannot_open name.now) }
+{
+    Ok(format!(in alloc; "factbase: cannot open {name}")?)
+}
+
+/// The exit status for how a session ended.
+pub(crate) fn status_of_end(end: &SessionEnd) -> u8
+    ensures { result ≡ status_of_end end.now }
+{
+    match end {
+        SessionEnd::Done => 0,
+        SessionEnd::Script(_) | SessionEnd::TooLong | SessionEnd::TooMany => 5,
+        SessionEnd::ReadFault | SessionEnd::WriteFault => 6,
+        SessionEnd::Memory => 9,
+    }
+}
+
+/// The line for how the session of a script ended.
+pub(crate) fn line_of_end(alloc: Global, name: &str, end: &SessionEnd) -> Result<String, Memory>
+    ensures { IfOk result (λ line. string_bytes line ≡ line_of_end name.now end.now) }
+{
+    match end {
+        SessionEnd::Done => Ok(String::new(alloc)),
+        SessionEnd::Script(fault) => fault_line(alloc, name, *fault),
+        SessionEnd::TooLong => about(alloc, name, "too long"),
+        SessionEnd::TooMany => about(alloc, name, "too many commands"),
+        SessionEnd::ReadFault => about(alloc, name, "read fault"),
+        SessionEnd::WriteFault => about(alloc, name, "write fault"),
+        SessionEnd::Memory => out_of_memory(alloc),
+    }
+}
+
+/// A fault of a script.
+fn about(alloc: Global, name: &str, what: &str) -> Result<String, Memory>
+    ensures { IfOk result (λ line. string_bytes line ≡ script_line name.now what.now) }
+{
+    Ok(format!(in alloc; "factbase: script {name}: {what}")?)
+}
+
+/// What is at fault in a script, and at which byte.
+fn fault_line(alloc: Global, name: &str, fault: EdnFault) -> Result<String, Memory>
+    ensures { IfOk result (λ line. string_bytes line ≡ fault_line name.now (fault_of fault)) }
+{
+    match fault {
+        EdnFault::Bad { at } => at_byte(alloc, name, "bad", at),
+        EdnFault::Unsupported { at, .. } => at_byte(alloc, name, "unsupported", at),
+        EdnFault::Deep { at } => at_byte(alloc, name, "deep", at),
+        EdnFault::Cut { at } => at_byte(alloc, name, "cut", at),
+        EdnFault::Memory => out_of_memory(alloc),
+    }
+}
+
+fn at_byte(alloc: Global, name: &str, what: &str, at: usize) -> Result<String, Memory>
+    ensures { IfOk result (λ line. string_bytes line
+        ≡ script_line name.now (what.now ++ (codes " at byte " ++ decimal at))) }
+{
+    Ok(format!(in alloc; "factbase: script {name}: {what} at byte {at}")?)
+}
+
+pub(crate) fn out_of_memory(alloc: Global) -> Result<String, Memory>
+    ensures { IfOk result (λ line. string_bytes line ≡ out_of_memory) }
+{
+    Ok(String::from_str(alloc, OUT_OF_MEMORY)?)
+}

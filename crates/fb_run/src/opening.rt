@@ -1,0 +1,170 @@
+//! Opening what the scripts of a run need of the outside: all sources, and then all sinks.
+ghost use Rattle.std.specs.Prelude.{◌≡◌, ◌+◌, ◌<◌, true, length, IfOk, IfErr, OnOk};
+ghost use Rattle.std.specs.Vec.Iter.{into_iter_items, into_iter_len};
+ghost use Rattle.command_line.specs.Words.{are_apart};
+ghost use Rattle.command_line.specs.Views.{names_in};
+ghost use Rattle.fb_run.specs.Outside.{tells_of};
+ghost use Rattle.fb_run.specs.Opening.{AddsSource, OpensSources, OpensSink, AddsSession, AddsSessions, HasOpened, IsNotOpened, IsUnopened};
+
+use crate::outcome::SessionOut;
+use command_line::sink_name;
+use fb_ports::{Host, OpenFail};
+use fb_session::{Places, SessionEnd};
+use std::alloc::Global;
+use std::vec::IntoIter;
+
+/// Why not all was opened.
+#[derive(Drop)]
+pub(crate) enum Unopened<'a> {
+    /// The host could not open the source or the sink of this script.
+    CannotOpen(&'a str),
+    Memory,
+}
+
+/// Opens the sources of all scripts, and then their sinks. The sessions of these are still to be run.
+pub(crate) fn open_all<'a, H: Host>(
+    alloc: Global,
+    host: &mut H,
+    scripts: &[&'a str],
+) -> Result<Vec<SessionOut<H::In, H::Out>>, Unopened<'a>>
+    requires apart { are_apart (names_in scripts.now) ≡ true }
+    ensures opened { IfOk result (λ opened. HasOpened
+        (tells_of H.In.left H.In.faults H.Out.contents H.Out.faults) (names_in scripts.now)
+        (H.told host.old) (H.told host.new) opened.items) }
+    ensures stop { IfErr result
+        (IsUnopened (names_in scripts.now) (H.told host.old) (H.told host.new)) }
+{
+    let mut sources = Vec::new(alloc);
+    open_sources(alloc, host, scripts, &mut sources)?;
+    let mut sources = sources.into_iter();
+    let mut sessions = Vec::new(alloc);
+    open_sinks(alloc, host, scripts, &mut sources, &mut sessions)?;
+    Ok(sessions)
+}
+
+/// Opens the source of each script, in order. There are few.
+fn open_sources<'a, H: Host>(
+    alloc: Global,
+    host: &mut H,
+    scripts: &[&'a str],
+    sources: &mut Vec<H::In>,
+) -> Result<(), Unopened<'a>>
+    requires apart { are_apart (names_in scripts.now) ≡ true }
+    ensures opened { OnOk result (OpensSources
+        (tells_of H.In.left H.In.faults H.Out.contents H.Out.faults) (names_in scripts.now)
+        sources.old.items sources.new.items (H.told host.old) (H.told host.new)) }
+    ensures stop { IfErr result
+        (IsUnopened (names_in scripts.now) (H.told host.old) (H.told host.new)) }
+{
+    match scripts {
+        [] => Ok(()),
+        [name, rest @ ..] => {
+            add_source(alloc, host, *name, sources)?;
+            open_sources(alloc, host, rest, sources)
+        }
+    }
+}
+
+/// Opens the source of a script.
+fn add_source<'a, H: Host>(
+    alloc: Global,
+    host: &mut H,
+    name: &'a str,
+    sources: &mut Vec<H::In>,
+) -> Result<(), Unopened<'a>>
+    ensures opened { OnOk result (AddsSource
+        (tells_of H.In.left H.In.faults H.Out.contents H.Out.faults) name.now
+        sources.old.items sources.new.items (H.told host.old) (H.told host.new)) }
+    ensures stop { IfErr result (IsNotOpened name.now (H.told host.old) (H.told host.new)) }
+{
+    match host.source(alloc, name) {
+        Ok(source) => match sources.push(source) {
+            Ok(()) => Ok(()),
+            Err(_) => Err(Unopened::Memory),
+        },
+        Err(OpenFail::Failed) => Err(Unopened::CannotOpen(name)),
+        Err(OpenFail::Memory) => Err(Unopened::Memory),
+    }
+}
+
+/// Opens the sink of each script, in order, beside the next of the sources. There are few.
+fn open_sinks<'a, H: Host>(
+    alloc: Global,
+    host: &mut H,
+    scripts: &[&'a str],
+    sources: &mut IntoIter<H::In>,
+    sessions: &mut Vec<SessionOut<H::In, H::Out>>,
+) -> Result<(), Unopened<'a>>
+    requires apart { are_apart (names_in scripts.now) ≡ true }
+    requires sources { into_iter_len sources.old ≡ length scripts.now }
+    ensures opened { OnOk result (AddsSessions
+        (tells_of H.In.left H.In.faults H.Out.contents H.Out.faults) (names_in scripts.now)
+        (into_iter_items sources.old) sessions.old.items sessions.new.items (H.told host.old)
+        (H.told host.new)) }
+    ensures stop { IfErr result
+        (IsUnopened (names_in scripts.now) (H.told host.old) (H.told host.new)) }
+{
+    match scripts {
+        [] => Ok(()),
+        [name, rest @ ..] => {
+            add_session(alloc, host, *name, sources, sessions)?;
+            open_sinks(alloc, host, rest, sources, sessions)
+        }
+    }
+}
+
+/// Adds the session of a script, with the next of the sources.
+fn add_session<'a, H: Host>(
+    alloc: Global,
+    host: &mut H,
+    name: &'a str,
+    sources: &mut IntoIter<H::In>,
+    sessions: &mut Vec<SessionOut<H::In, H::Out>>,
+) -> Result<(), Unopened<'a>>
+    requires some { 0 < into_iter_len sources.old }
+    ensures opened { OnOk result (AddsSession
+        (tells_of H.In.left H.In.faults H.Out.contents H.Out.faults) name.now
+        (into_iter_items sources.old) (into_iter_items sources.new) sessions.old.items
+        sessions.new.items (H.told host.old) (H.told host.new)) }
+    ensures stop { IfErr result (IsNotOpened name.now (H.told host.old) (H.told host.new)) }
+    ensures len { into_iter_len sources.new + 1 ≡ into_iter_len sources.old }
+{
+    let source = match sources.next() {
+        Some(source) => source,
+        None => unreachable!(),
+    };
+    let sink = open_sink(alloc, host, name)?;
+    let session = SessionOut {
+        source,
+        sink,
+        // It stays so until the session has run.
+        end: SessionEnd::Memory,
+        places: Places::of(Vec::new(alloc)),
+        commits: Places::of(Vec::new(alloc)),
+    };
+    let Ok(()) = sessions.push(session) else {
+        return Err(Unopened::Memory);
+    };
+    Ok(())
+}
+
+/// Opens the sink for the lines of a script.
+fn open_sink<'a, H: Host>(
+    alloc: Global,
+    host: &mut H,
+    name: &'a str,
+) -> Result<H::Out, Unopened<'a>>
+    ensures opened { IfOk result (OpensSink
+        (tells_of H.In.left H.In.faults H.Out.contents H.Out.faults) name.now (H.told host.old)
+        (H.told host.new)) }
+    ensures stop { IfErr result (IsNotOpened name.now (H.told host.old) (H.told host.new)) }
+{
+    let Ok(lines) = sink_name(alloc, name) else {
+        return Err(Unopened::Memory);
+    };
+    match host.sink(alloc, lines.as_str()) {
+        Ok(sink) => Ok(sink),
+        Err(OpenFail::Failed) => Err(Unopened::CannotOpen(name)),
+        Err(OpenFail::Memory) => Err(Unopened::Memory),
+    }
+}
