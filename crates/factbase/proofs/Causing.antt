@@ -91,7 +91,7 @@ module _ {S : Type 0} (end_of : S → SessionEnd) (scripts : List (Bor (List ℕ
       → SaysWhy (why_of (first_early (names_in scripts) (map end_of sessions)) unmerged) status line
   says_rest done rest =
       subst (λ (e : Option (List ℕ × SessionEnd)). SaysWhy (why_of e unmerged) status line) (sym (cut ∙ first_done (get_or scripts 0 d).now
-          others (end_of s) ends done)) rest
+      others (end_of s) ends done)) rest
 
   -- it was not, so it decides
   pub says_first : (end_of s ≡ ended.Done → ⊥) → ((status ≡ status_of_end (end_of s)) × (line ≡ line_of_end (get_or scripts 0 d).now
@@ -99,7 +99,7 @@ module _ {S : Type 0} (end_of : S → SessionEnd) (scripts : List (Bor (List ℕ
       → SaysWhy (why_of (first_early (names_in scripts) (map end_of sessions)) unmerged) status line
   says_first not said =
       subst (λ (e : Option (List ℕ × SessionEnd)). SaysWhy (why_of e unmerged) status line) (sym (cut ∙ first_not_done (get_or scripts 0
-          d).now others (end_of s) ends not)) said
+      d).now others (end_of s) ends not)) said
 
 -- ---- success
 
@@ -140,7 +140,7 @@ both false b e = absurd (cc)
 pub few_scripts : (names : List (List ℕ)) → are_scripts names ≡ true → (0 < length names) × (length names ≤ 16) × (are_apart names ≡ true)
 few_scripts names are =
     let one = both (nat_lt 0 (length names)) (nat_le (length names) 16 && are_apart names) are in let two = both (nat_le (length names) 16)
-        (are_apart names) one.1 in
+    (are_apart names) one.1 in
     (ltb-true 0 (length names) one.0, leb-true (length names) 16 two.0, two.1)
 
 -- ---- from what was opened to what the host told
@@ -171,10 +171,10 @@ module _ {I O : Type 0} (terms : Terms) (told : Told) (tells : Tells I O) where
     replies.0,
     each_through (λ n name (s : SessionOut I O). IsOpenedFor told tells name s)
         (λ n (old new : SessionOut I O). Replies (setting_of terms h stop (replies.0 == n)) opening (run_from tells old.source old.sink
-            new))
+        new))
         (λ n name (s : SessionOut I O). Replies (setting_of terms h stop (replies.0 == n)) opening (run_of told tells name s))
         (λ m name old new opened reply. reply_of h stop opening replies.0 m name old new opened reply) 0 names opened sessions each
-            replies.1,
+        replies.1,
   )
 
 module _ {I O : Type 0} (told : Told) (tells : Tells I O) where
@@ -192,7 +192,7 @@ module _ {I O : Type 0} (told : Told) (tells : Tells I O) where
   counts_told names opened sessions each counts =
       each_through (λ n name (s : SessionOut I O). IsOpenedFor told tells name s) (λ n (old new : SessionOut I O). CountsBy tells old new)
       (λ n name (s : SessionOut I O). Counts told tells name s) (λ m name old new opened counts. counts_of name old new opened counts) 0
-          names opened sessions each counts
+      names opened sessions each counts
 
 -- ---- causes
 
@@ -220,7 +220,7 @@ module _ {I O D : Type 0} (told : Told) (tells : Tells I O) (new : ℕ) (outcome
   pub caused_by_host : (command : Command) (name : List ℕ) → (place : ℕ) → slice_get (scripts_of (Some command)) place ≡ Some name → Rose
       told.faults new → NoSession outcome
       → ((outcome.status ≡ 2) × (string_bytes outcome.line ≡ cannot_open name)) ⊎ IsOutOfMemory outcome → Causes told tells new (Some
-          command) outcome
+      command) outcome
   caused_by_host command name place named rose none said = record {
     why = unopened name;
     says = said;
@@ -230,7 +230,7 @@ module _ {I O D : Type 0} (told : Told) (tells : Tells I O) (new : ℕ) (outcome
   pub caused_by_sessions : (command : Command) (opened : List (SessionOut I O)) → EachOf (λ n name (s : SessionOut I O). IsOpenedFor told
       tells name s) 0 (scripts_of (Some command)) opened → new ≡ told.faults
       → (NoSession outcome × IsOutOfMemory outcome) ⊎ HaveEnded tells (scripts_of (Some command)) opened outcome → Causes told tells new
-          (Some command) outcome
+      (Some command) outcome
   caused_by_sessions command opened has same (inl none) = caused_by_memory command none.0 none.1
   caused_by_sessions command opened has same (inr ran) =
       let early = first_early (scripts_of (Some command)) (map (λ (s : SessionOut I O). s.end) outcome.sessions.items) in

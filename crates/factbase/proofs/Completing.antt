@@ -68,7 +68,7 @@ no_fault : (s : Setting) (opening : ℕ) (held left : Option (List ℕ)) (script
 no_fault s opening held left script trace forms None holds taken at_end answers = answers
 no_fault s opening held left script trace forms (Some p) holds taken at_end answers =
     let wrong = (same_reading held left script forms (forms_of answers.exchanges) (fault p.0 p.1) holds taken at_end answers.read).endings
-        in
+    in
     absurd cc
 
 -- ---- one session
@@ -77,7 +77,7 @@ module _ (s : Setting) (opening : ℕ) (ran : SessionRun) (replies : Replies s o
   -- it ended behind the last of its forms
   each_line : (forms : List Form) → HoldsForms ran.held forms → IsAtEnd ran.left
       → AnswersAll s opening replies.script whole (record { written = replies.written; places = ran.places; commits = ran.commits }) →
-          EachHasItsLine s opening forms ran
+      EachHasItsLine s opening forms ran
   each_line forms holds at_end answers =
       record {
         exchanges = answers.exchanges;
@@ -100,12 +100,12 @@ module _ (s : Setting) (opening : ℕ) (ran : SessionRun) (replies : Replies s o
   ends_well m k n j forms holds (ended.Script why) how source sink calm_source calm_sink =
       let all = rw how at replies.all in
       absurd (no_fault s opening ran.held ran.left replies.script _ forms (fault_of why) holds replies.taken (all refl) (rw how at
-          replies.answers))
+      replies.answers))
   ends_well m k n j forms holds ended.TooMany how source sink calm_source calm_sink =
       let all = rw how at replies.all in
       let answers = rw how at replies.answers in
       let wrong = (same_reading ran.held ran.left replies.script forms (forms_of answers.exchanges) too_many holds replies.taken (all refl)
-          answers.read).endings in
+      answers.read).endings in
       absurd cc
   ends_well m k n j forms holds ended.TooLong how source sink calm_source calm_sink =
       let long = taken_part ran.held ran.left holds.script replies.script holds.told replies.taken (replies.too_long.0 how) in
@@ -156,8 +156,11 @@ module _ {I O : Type 0} (terms : Terms) (told : Told) (tells : Tells I O) (h : L
               | inl rest ↦ inl (rest.0, (done.1, rest.1))
               | inr rest ↦ inr rest
             ]
-        | inr refused ↦ inr (x, sym first ∙ ap (λ (how : SessionEnd). first_early (x ∷ xs) (how ∷ map (λ (z : SessionOut I O). z.end) ss))
-            refused)
+        | inr refused ↦ inr (
+          x,
+          sym first ∙ ap (λ (how : SessionEnd). first_early (x ∷ xs) (how ∷ map (λ (z : SessionOut I O). z.end) ss))
+              refused,
+        )
       ]
 
 stands_behind : (n m k : ℕ) → n + m ≡ k → n ≤ k
@@ -173,11 +176,11 @@ module _ {I O D : Type 0} (terms : Terms) (told : Told) (tells : Tells I O) (new
     (calm : NoneRose told tells new (scripts_of (Some command)) outcome.sessions.items) where
   ran_well : (early : Option (List ℕ × SessionEnd)) → HaveRun told tells new (Some command) outcome early
       → ((early ≡ None) × EachOf (IsWhole terms told tells last.entries outcome.recovered replies.0 lawful seen) 0 (scripts_of (Some
-          command)) outcome.sessions.items)
+      command)) outcome.sessions.items)
       ⊎ ((name : List ℕ) × (early ≡ Some (name, ended.Memory)))
   ran_well early ran =
       all_well terms told tells last.entries outcome.recovered replies.0 lawful seen 0 (scripts_of (Some command)) outcome.sessions.items
-          early
+      early
       ran.each replies.1 holds calm.sources calm.sinks ran.first
 
   pub answered_whole : outcome.status ≡ 0 → HaveRun told tells new (Some command) outcome None → AnsweredWhole terms told tells (scripts_of
@@ -195,7 +198,7 @@ module _ {I O D : Type 0} (terms : Terms) (told : Told) (tells : Tells I O) (new
 
   pub refused : (name : List ℕ) (how : SessionEnd) → HaveRun told tells new (Some command) outcome (Some (name, how))
       → ((outcome.status ≡ status_of_end how) × (string_bytes outcome.line ≡ line_of_end name how)) ⊎ IsOutOfMemory outcome → IsOutOfMemory
-          outcome
+      outcome
   refused name how ran (inl said) =
       let memory_it = early_memory name how ran in (said.0 ∙ ap status_of_end memory_it, inl (said.1 ∙ ap (line_of_end name) memory_it))
   refused name how ran (inr said) = said
@@ -206,7 +209,7 @@ module _ {I O D : Type 0} (terms : Terms) (told : Told) (tells : Tells I O) (new
   -- the sessions ran, so there is a history
   module _ (lawful : IfSome outcome.last (λ last. IsLawful last.entries × (outcome.recovered ≤ basis last.entries)))
       (replies : IfSome outcome.last (λ last. EachReplies terms told tells outcome.recovered None (scripts_of (Some command))
-          outcome.sessions.items last.entries)) where
+      outcome.sessions.items last.entries)) where
     whole_by : (last : Option Kept) → outcome.last ≡ last → IsSome last → outcome.status ≡ 0 → HaveRun told tells new (Some command)
         outcome None
         → AnsweredWhole terms told tells (scripts_of (Some command)) outcome
@@ -218,7 +221,7 @@ module _ {I O D : Type 0} (terms : Terms) (told : Told) (tells : Tells I O) (new
     refused_by : (last : Option Kept) → outcome.last ≡ last → IsSome last → (name : List ℕ) (how : SessionEnd) → HaveRun told tells new
         (Some command) outcome (Some (name, how))
         → ((outcome.status ≡ status_of_end how) × (string_bytes outcome.line ≡ line_of_end name how)) ⊎ IsOutOfMemory outcome →
-            IsOutOfMemory outcome
+        IsOutOfMemory outcome
     refused_by None is there name how ran said = absurd (cc)
     refused_by (Some l) is there name how ran said =
         let stands = rw is at lawful in let says = rw is at replies in
@@ -241,14 +244,17 @@ pub complete_command : {I O D : Type 0} (terms : Terms) (told : Told) (tells : T
     (authors : List ℕ) (commits : List (List ℕ)) → outcome.torn ≡ None
     → IfSome outcome.last (λ last. OneHistory last.entries outcome.recovered authors commits)
     → IfSome outcome.last (λ last. EachReplies terms told tells outcome.recovered (stop_of outcome.torn) (scripts_of command)
-        outcome.sessions.items last.entries)
+    outcome.sessions.items last.entries)
     → Causes told tells new command outcome → Complete terms told tells new command outcome
 complete_command terms told tells new None outcome authors commits going history replies causes = tt
 complete_command terms told tells new (Some command) outcome authors commits going history replies causes =
     let lawful : IfSome outcome.last (λ last. IsLawful last.entries × (outcome.recovered ≤ basis last.entries)) =
-    IfSome_then outcome.last history (λ last one. (one.lawful, stands_behind outcome.recovered (length authors) (basis last.entries)
-        one.each_t)) in
+    IfSome_then outcome.last history (λ last one. (
+      one.lawful,
+      stands_behind outcome.recovered (length authors) (basis last.entries)
+          one.each_t,
+    )) in
     let ours = subst (λ (torn : Option Draft). IfSome outcome.last (λ last. EachReplies terms told tells outcome.recovered (stop_of torn)
-        (scripts_of (Some command))
+    (scripts_of (Some command))
     outcome.sessions.items last.entries)) going replies in
     λ holds calm. complete_run terms told tells new command outcome holds calm lawful ours causes

@@ -85,9 +85,23 @@ Letter-row : IsSend Letter.the_row
 Letter-row = search (sendable, Snapshot-send) depth 20
 
 Home-row : (L R : RattleType) → IsSend L → IsSend (Home.the_row L R)
-Home-row L R log = declared_send (Home.the_type L R)
-    (Core-send, (as_row_send (row_field L) log, (search sendable depth 30, (search (sendable, Draft-send) depth 30, (search heap.crosses
-        depth 20, tt)))))
+Home-row L R log = declared_send (Home.the_type L R) (
+  Core-send,
+  (
+    as_row_send (row_field L) log,
+    (
+      search sendable depth 30,
+      (
+        search (sendable, Draft-send) depth 30,
+        (
+          search heap.crosses
+              depth 20,
+          tt,
+        ),
+      ),
+    ),
+  ),
+)
 
 -- the connection is shared, whatever its log, if that may be sent
 pub Conn-sync : (L R : RattleType) (g : Ghosts L.Denot R.Denot) → IsSend L → IsSync (Conn.the_row L R g)

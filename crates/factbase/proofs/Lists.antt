@@ -37,9 +37,11 @@ module _ {A B : Type 0} where
   each_at P n [] [] same at = tt
   each_at P n [] (y ∷ ys) same at = absurd (omega (arith, same))
   each_at P n (x ∷ xs) [] same at = absurd (omega (arith, same))
-  each_at P n (x ∷ xs) (y ∷ ys) same at =
-      (at zero n x y (omega arith) refl refl, each_at P (n + 1) xs ys (omega (arith, same)) (λ k m a b is here there. at (suc k) m a b
-          (omega (arith, is)) here there))
+  each_at P n (x ∷ xs) (y ∷ ys) same at = (
+    at zero n x y (omega arith) refl refl,
+    each_at P (n + 1) xs ys (omega (arith, same)) (λ k m a b is here there. at (suc k) m a b
+        (omega (arith, is)) here there),
+  )
 
   pub each_len : (P : ℕ → A → B → Type 0) (n : ℕ) (xs : List A) (ys : List B) → EachOf P n xs ys → length xs ≡ length ys
   each_len P n [] [] each = refl

@@ -68,7 +68,7 @@ module _ {I O : Type 0} (terms : Terms) (tells : Tells I O) (last : Kept) (autho
       let count : length z.entries ≡ basis z.entries + 1 = IsLawful-length z.entries goes_on in
       let longer : IsLawful (z.entries ++ taken.more) = subst IsLawful taken.entries lawful in
       let counted : length (z.entries ++ taken.more) ≡ basis (z.entries ++ taken.more) + 1 = IsLawful-length (z.entries ++ taken.more)
-          longer in
+      longer in
       let grows : basis z.entries ≤ basis (z.entries ++ taken.more) = omega (arith, count, counted, length-append z.entries taken.more) in
       let within : basis z.entries ≤ basis last.entries = subst (λ (h : List Entry). basis z.entries ≤ basis h) (sym taken.entries) grows in
       let seen : 0 ≤ basis z.entries = omega arith in
@@ -76,10 +76,10 @@ module _ {I O : Type 0} (terms : Terms) (tells : Tells I O) (last : Kept) (autho
       subst (λ (n : ℕ). Prefixes n (basis z.entries) new.places new.commits) first talked.prefixes in
       let replies : Replies (setting_of terms z.entries z.stop z.teller) 0 (run_from tells old.source old.sink new) =
       subst (λ (n : ℕ). Replies (setting_of terms z.entries z.stop z.teller) n (run_from tells old.source old.sink new)) first
-          talked.replies in
+      talked.replies in
       let over : Replies (setting_of terms (z.entries ++ taken.more) None (0 == k)) 0 (run_from tells old.source old.sink new) =
       replies_longer (setting_of terms z.entries z.stop z.teller) taken.more None (0 == k) count grows (inl (no_stop z false taken.stop)) 0
-          seen _ replies in
+      seen _ replies in
       record {
         commits = sym ours ∙ taken.commits;
         rising = commits_rise _ _ _ _ talked.prefixes.committed_before;
@@ -94,7 +94,7 @@ module _ {I O : Type 0} (terms : Terms) (tells : Tells I O) (last : Kept) (autho
       (talked : HaveTalked terms tells conn given opened seats sessions) (count : length opened ≡ length given)
       (is_new : (k : ℕ) (seat : Seat) → slice_get given k ≡ Some seat → IsNew (state_of seat))
       (taken : (k : ℕ) (seat : Seat) → slice_get seats k ≡ Some seat → IsTakenIn (record { snapshot = last; authors = authors }) 0 None k
-          (state_of seat)) where
+      (state_of seat)) where
     part_at : (k : ℕ) (old new : SessionOut I O) → slice_get opened k ≡ Some old → slice_get sessions k ≡ Some new → k < length sessions →
         Part k old new
     part_at k old new is_old is_new_one within =
@@ -115,7 +115,7 @@ module _ {I O : Type 0} (terms : Terms) (tells : Tells I O) (last : Kept) (autho
         let new = there sessions k inside in
         let at = at_map (λ (s : SessionOut I O). s.commits) sessions k new.0 new.1 in
         get_or_from_slice_get (map (λ (s : SessionOut I O). s.commits) sessions) k new.0.commits [] at ∙ (new_at k new.0 new.1
-            inside).1.commits
+        inside).1.commits
 
     pub one_history : 0 + length authors ≡ basis last.entries → AllByRecursion (λ author. author < length seats) authors
         → OneHistory last.entries 0 authors (map (λ (s : SessionOut I O). s.commits) sessions)
@@ -166,8 +166,14 @@ pub is_made : {L R : Type 0} (conn : Conn L R) (seats : List Seat) (worker : Sea
     → IsMade n conn seats worker
 is_made conn seats worker n entries c first count opened is = record {
   count = count;
-  opened = λ k seat at. let s = opened k seat at in (s.0, s.1, s.2 ∙ ap (λ (h : List Entry). record (as_opened h) { seat = (state_of
-      seat).seat }) first);
+  opened = λ k seat at. let s = opened k seat at in (
+    s.0,
+    s.1,
+    s.2 ∙ ap (λ (h : List Entry). record (as_opened h) {
+      seat = (state_of
+          seat).seat;
+    }) first,
+  );
   worker_is = is.0;
   given = is.1;
   start = is.3 ∙ ap basis first;
@@ -218,18 +224,18 @@ closes_of seats outcome core parts start stopped same by_same last authors begin
 module _ {I O D L R : Type 0} (terms : Terms) (tells : Tells I O) (conn : Conn L R) (given : List Seat) (opened : List (SessionOut I O))
     (seats : List Seat)
     (sessions : List (SessionOut I O)) (talked : HaveTalked terms tells conn given opened seats sessions) (count : length opened ≡ length
-        given)
+    given)
     (is_new : (k : ℕ) (seat : Seat) → slice_get given k ≡ Some seat → IsNew (state_of seat)) (outcome : Outcome I O D) (closes : Closes
-        seats outcome)
+    seats outcome)
     (same : outcome.sessions.items ≡ sessions) (start : outcome.recovered ≡ 0) (going : outcome.torn ≡ None) where
   pub run_history : IfSome outcome.last (λ last. OneHistory last.entries outcome.recovered (unwrap_or outcome.authors [])
       (map (λ (s : SessionOut I O). s.commits) outcome.sessions.items))
   run_history =
       some_then (λ last. OneHistory last.entries outcome.recovered (unwrap_or outcome.authors []) (map (λ (s : SessionOut I O). s.commits)
-          outcome.sessions.items))
+      outcome.sessions.items))
       outcome.last closes.last closes.last_is
       (rw (start, same, closes.authors_is) (one_history terms tells closes.last closes.authors closes.lawful conn given opened seats
-          sessions talked count is_new closes.taken
+      sessions talked count is_new closes.taken
       closes.each_t closes.by_sessions))
 
   pub run_replies : IfSome outcome.last (λ last. RepliesBy terms tells outcome.recovered (stop_of outcome.torn) opened
@@ -238,21 +244,21 @@ module _ {I O D L R : Type 0} (terms : Terms) (tells : Tells I O) (conn : Conn L
       some_then (λ last. RepliesBy terms tells outcome.recovered (stop_of outcome.torn) opened outcome.sessions.items last.entries)
       outcome.last closes.last closes.last_is
       (rw (start, same, going) (all_replies terms tells closes.last closes.authors closes.lawful conn given opened seats sessions talked
-          count is_new closes.taken))
+      count is_new closes.taken))
 
   pub run_prefixes : IfSome outcome.last (λ last. AllByRecursion (λ (s : SessionOut I O). Prefixes outcome.recovered (basis last.entries)
       s.places s.commits) outcome.sessions.items)
   run_prefixes =
       some_then (λ last. AllByRecursion (λ (s : SessionOut I O). Prefixes outcome.recovered (basis last.entries) s.places s.commits)
-          outcome.sessions.items)
+      outcome.sessions.items)
       outcome.last closes.last closes.last_is
       (rw (start, same) (all_prefixes terms tells closes.last closes.authors closes.lawful conn given opened seats sessions talked count
-          is_new closes.taken))
+      is_new closes.taken))
 
   pub run_ended : (names : List (List ℕ))
       → (unmerged : Bool)
       × SaysWhy (why_of (first_early names (map (λ (s : SessionOut I O). s.end) sessions)) unmerged) outcome.status (string_bytes
-          outcome.line)
+      outcome.line)
       → HaveEnded tells names opened outcome
   run_ended names says = record {
     each = rw same (all_counts terms tells closes.last closes.authors closes.lawful conn given opened seats sessions talked count is_new

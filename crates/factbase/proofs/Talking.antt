@@ -41,7 +41,7 @@ module _ {I O : Type 0} (terms : Terms) (tells : Tells I O) where
     pub jobs_talked : (k : ℕ) (was now : Seat) (old new : SessionOut I O) → slice_get (map seat_in before) k ≡ Some was → slice_get (map
         seat_in after) k ≡ Some now
         → slice_get (map out_in before) k ≡ Some old → slice_get (map out_in after) k ≡ Some new → HasTalked terms tells (state_of was)
-            (state_of now) old new
+        (state_of now) old new
     jobs_talked k was now old new is_was is_now is_old is_new =
         let a = map_at seat_in before k was is_was in let b = map_at seat_in after k now is_now in
         let c = map_at out_in before k old is_old in let d = map_at out_in after k new is_new in
@@ -50,9 +50,9 @@ module _ {I O : Type 0} (terms : Terms) (tells : Tells I O) where
         subst (λ (s : Seat). HasTalked terms tells (state_of s) (state_of now) old new) a.2
         (subst (λ (s : Seat). HasTalked terms tells (state_of (seat_in a.0)) (state_of s) old new) b.2
         (subst (λ (o : SessionOut I O). HasTalked terms tells (state_of (seat_in a.0)) (state_of (seat_in b.0)) o new) (sym (ap out_in one)
-            ∙ c.2)
+        ∙ c.2)
         (subst (λ (o : SessionOut I O). HasTalked terms tells (state_of (seat_in a.0)) (state_of (seat_in b.0)) (out_in a.0) o) (sym (ap
-            out_in two) ∙ d.2) talked)))
+        out_in two) ∙ d.2) talked)))
 
     pub jobs_rested : (k : ℕ) (was now : Seat) → slice_get (map seat_in before) k ≡ Some was → slice_get (map seat_in after) k ≡ Some now
         → IsAtRest (table_of conn) now × ((view_of now.board).number ≡ (view_of was.board).number)
@@ -66,7 +66,7 @@ module _ {I O : Type 0} (terms : Terms) (tells : Tells I O) where
         let on : board_of (seat_in b.0).board ≡ table_of conn = both.1 ∙ (old.0.on ∙ ap (λ (c : Conn NoLog (Unit {0})). table_of c) ours) in
         let P : Seat → Type 0 = λ z. IsAtRest (table_of conn) z × ((view_of z.board).number ≡ (view_of was.board).number) in
         let Q : Seat → Type 0 = λ z. IsAtRest (table_of conn) (seat_in b.0) × ((view_of (seat_in b.0).board).number ≡ (view_of
-            z.board).number) in
+        z.board).number) in
         subst P b.2 (subst Q a.2 (record { on = on; idle = new.0.idle; alone = new.0.alone; seen = new.0.seen }, both.0))
 
 -- ---- making jobs, and what is left of them
@@ -80,7 +80,7 @@ module _ {A B : Type 0} (f : A → B) where
       ap (λ (l : List A). map f l ++ rest) pushed
       ∙ (ap (λ (l : List B). l ++ rest) (map-append f old (x ∷ []))
       ∙ (append_assoc (map f old) (f x ∷ []) rest ∙ (ap (λ (z : B). map f old ++ z ∷ rest) is ∙ (ap (λ (l : List B). map f old ++ l) (sym
-          cut) ∙ inv))))
+      cut) ∙ inv))))
 
   -- nothing stands next
   pub finish : (made : List A) (rest all : List B) → map f made ++ rest ≡ all → length rest ≡ 0 → map f made ≡ all
@@ -90,7 +90,7 @@ module _ {A B : Type 0} (f : A → B) where
 pub every : {A : Type 0} (P : A → Type 0) (xs ys : List A) → ys ≡ xs → All P xs → AllByRecursion P ys
 every P xs ys same all =
     subst (AllByRecursion P) (sym same) (all_at P xs (λ k x at. subst P (get_or_from_slice_get xs k x x at) (all k x (slice_get_within xs k
-        x at))))
+    x at))))
 
 -- what was lent as a slice is all there is
 written : {A : Type 0} (n : ℕ) (new old : List A) → length new ≡ length old → n ≡ length old → take n (new ++ drop (length new) old) ≡ new
@@ -111,10 +111,10 @@ module _ {I O : Type 0} where
       (sessions : List (SessionOut I O)) (before after : List (Job I O)) → map (λ (job : Job I O). job.desk.seat) before ≡ given
       → map (λ (job : Job I O). job.out) before ≡ opened → All (λ (job : Job I O). job.desk.conn.now ≡ conn) before
       → ((k : ℕ) (d : Job I O) → k < length before → HasTalked terms tells (state_of (slice_index_or before k d).desk.seat) (state_of
-          (slice_index_or after k d).desk.seat)
+      (slice_index_or after k d).desk.seat)
       (slice_index_or before k d).out (slice_index_or after k d).out)
       → length after ≡ length before → seats ≡ map (λ (job : Job I O). job.desk.seat) after → sessions ≡ map (λ (job : Job I O). job.out)
-          after
+      after
       → HaveTalked terms tells conn given opened seats sessions
   have_talked terms tells conn given opened seats sessions before after is_given is_opened desks ran same is_seats is_sessions =
       let one : length given ≡ length before = sym (ap length is_given) ∙ length-map before (λ (job : Job I O). job.desk.seat) in
@@ -125,33 +125,33 @@ module _ {I O : Type 0} where
         session_count = omega (arith, one, three, same);
         talked = λ k was now old new is_was is_now is_old is_new. jobs_talked terms tells conn before after same desks ran k was now old new
             (subst (λ (l : List Seat). slice_get l k ≡ Some was) (sym is_given) is_was) (subst (λ (l : List Seat). slice_get l k ≡ Some
-                now) is_seats is_now)
+            now) is_seats is_now)
             (subst (λ (l : List (SessionOut I O)). slice_get l k ≡ Some old) (sym is_opened) is_old)
             (subst (λ (l : List (SessionOut I O)). slice_get l k ≡ Some new) is_sessions is_new);
         rested = λ k was now is_was is_now. jobs_rested terms tells conn before after same desks ran k was now
             (subst (λ (l : List Seat). slice_get l k ≡ Some was) (sym is_given) is_was) (subst (λ (l : List Seat). slice_get l k ≡ Some
-                now) is_seats is_now);
+            now) is_seats is_now);
       }
 
   -- the same where the jobs were lent as a slice, and written back
   pub have_talked_in : (terms : Terms) (tells : Tells I O) (conn : Conn NoLog (Unit {0})) (given : List Seat) (opened : List (SessionOut I
       O)) (seats : List Seat)
       (sessions : List (SessionOut I O)) (before slice after : List (Job I O)) (n : ℕ) → map (λ (job : Job I O). job.desk.seat) before ≡
-          given
+      given
       → map (λ (job : Job I O). job.out) before ≡ opened → All (λ (job : Job I O). job.desk.conn.now ≡ conn) before → slice ≡ before
       → ((k : ℕ) (d : Job I O) → k < length slice → HasTalked terms tells (state_of (slice_index_or slice k d).desk.seat) (state_of
-          (slice_index_or after k d).desk.seat)
+      (slice_index_or after k d).desk.seat)
       (slice_index_or slice k d).out (slice_index_or after k d).out)
       → length after ≡ length slice → n ≡ length before → seats ≡ map (λ (job : Job I O). job.desk.seat) (take n (after ++ drop (length
-          after) before))
+      after) before))
       → sessions ≡ map (λ (job : Job I O). job.out) (take n (after ++ drop (length after) before)) → HaveTalked terms tells conn given
-          opened seats sessions
+      opened seats sessions
   have_talked_in terms tells conn given opened seats sessions before slice after n is_given is_opened desks lent ran same wide is_seats
       is_sessions =
       let count : length after ≡ length before = same ∙ ap length lent in
       let back : take n (after ++ drop (length after) before) ≡ after = written n after before count wide in
       have_talked terms tells conn given opened seats sessions before after is_given is_opened desks
       (subst (λ (l : List (Job I O)). (k : ℕ) (d : Job I O) → k < length l → HasTalked terms tells (state_of (slice_index_or l k
-          d).desk.seat)
+      d).desk.seat)
       (state_of (slice_index_or after k d).desk.seat) (slice_index_or l k d).out (slice_index_or after k d).out) lent ran)
       count (is_seats ∙ ap (map (λ (job : Job I O). job.desk.seat)) back) (is_sessions ∙ ap (map (λ (job : Job I O). job.out)) back)

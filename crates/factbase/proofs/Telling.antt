@@ -35,26 +35,39 @@ differs a b other same = let yes : bytes_eq a b ≡ true = (bytes_eq-Decides a b
 others : (name : List ℕ) (names : List (List ℕ)) → list_any (clash name) names ≡ false → AllByRecursion (λ other. other ≢ name) names
 others name [] e = tt
 others name (x ∷ xs) e =
-    let parts = neither (clash name x) (list_any (clash name) xs) e in
-    ((λ same. differs name x (neither (bytes_eq name x) (is_out_of name x || is_out_of x name) parts.0).0 (sym same)), others name xs
-        parts.1)
+    let parts = neither (clash name x) (list_any (clash name) xs) e in (
+      (λ same. differs name x (neither (bytes_eq name x) (is_out_of name x || is_out_of x name) parts.0).0 (sym same)),
+      others name xs
+          parts.1,
+    )
 
 -- the first of names that are apart differs from the others, which are apart too
 pub first_apart : (name : List ℕ) (names : List (List ℕ)) → are_apart (name ∷ names) ≡ true
     → AllByRecursion (λ other. other ≢ name) names × (are_apart names ≡ true)
 first_apart name names apart =
-    let parts = both (not (list_any (clash name) names)) (are_apart names) apart in (others name names (not-true (list_any (clash name)
-        names) parts.0), parts.1)
+    let parts = both (not (list_any (clash name) names)) (are_apart names) apart in (
+      others name names (not-true (list_any (clash name)
+          names) parts.0),
+      parts.1,
+    )
 
 sinks_apart : (a b : List ℕ) (t u : Bool) → bytes_eq a standard ≡ t → bytes_eq b standard ≡ u
     → (if t then standard else a ++ codes ".out") ≡ (if u then standard else b ++ codes ".out") → a ≡ b
 sinks_apart a b true true is_a is_b e = (bytes_eq-Decides a standard).0 is_a ∙ sym ((bytes_eq-Decides b standard).0 is_b)
 sinks_apart a b true false is_a is_b e =
-    let n : 1 ≡ length (b ++ codes ".out") = ap length e in let four : length (codes ".out") ≡ 4 = refl in absurd (omega (arith, n, four,
-        length-append b (codes ".out")))
+    let n : 1 ≡ length (b ++ codes ".out") = ap length e in let four : length (codes ".out") ≡ 4 = refl in absurd (omega (
+      arith,
+      n,
+      four,
+      length-append b (codes ".out"),
+    ))
 sinks_apart a b false true is_a is_b e =
-    let n : length (a ++ codes ".out") ≡ 1 = ap length e in let four : length (codes ".out") ≡ 4 = refl in absurd (omega (arith, n, four,
-        length-append a (codes ".out")))
+    let n : length (a ++ codes ".out") ≡ 1 = ap length e in let four : length (codes ".out") ≡ 4 = refl in absurd (omega (
+      arith,
+      n,
+      four,
+      length-append a (codes ".out"),
+    ))
 sinks_apart a b false false is_a is_b e = append_cancel_right a b (codes ".out") e
 
 sinks_differ : (a b : List ℕ) → a ≢ b → sink_of a ≢ sink_of b
@@ -64,8 +77,15 @@ sinks_differ a b ne e = ne (sinks_apart a b (bytes_eq a standard) (bytes_eq b st
 
 module _ {I O : Type 0} (tells : Tells I O) where
   pub no_sources : (had : List I) (told : Told) → OpensSources tells [] had had told told
-  no_sources had told = record { opened = []; each = tt; added = sym (append-nil had); faults = refl; sinks = λ n. refl; sink_faults = λ n.
-      refl }
+  no_sources had told = record {
+    opened = [];
+    each = tt;
+    added = sym (append-nil had);
+    faults = refl;
+    sinks = λ n. refl;
+    sink_faults = λ n.
+        refl;
+  }
 
   each_source : (name : List ℕ) (old mid : Told) → SameBut name old.sources mid.sources → SameBut name old.source_faults mid.source_faults
       → (n m : ℕ) (names : List (List ℕ)) (opened : List I) → AllByRecursion (λ other. other ≢ name) names
@@ -80,11 +100,14 @@ module _ {I O : Type 0} (tells : Tells I O) where
 
   pub more_sources : (name : List ℕ) (names : List (List ℕ)) (had mid has : List I) (old told new : Told) → are_apart (name ∷ names) ≡ true
       → AddsSource tells name had mid old told → OpensSources tells names mid has told new → OpensSources tells (name ∷ names) had has old
-          new
+      new
   more_sources name names had mid has old told new apart first rest = record {
     opened = first.source ∷ rest.opened;
-    each = (first.is, each_source name old told first.sources first.source_faults 0 1 names rest.opened (first_apart name names apart).0
-        rest.each);
+    each = (
+      first.is,
+      each_source name old told first.sources first.source_faults 0 1 names rest.opened (first_apart name names apart).0
+          rest.each,
+    );
     added = rest.added ∙ (ap (λ l. l ++ rest.opened) first.added ∙ append_assoc had (first.source ∷ []) rest.opened);
     faults = rest.faults ∙ first.faults;
     sinks = λ n. rest.sinks n ∙ first.sinks n;
@@ -101,7 +124,7 @@ module _ {I O : Type 0} (tells : Tells I O) where
       mid.sink_faults
       → (n m : ℕ) (names : List (List ℕ)) (opened : List (SessionOut I O)) → AllByRecursion (λ other. other ≢ name) names
       → EachOf (λ k x (s : SessionOut I O). IsSinkOf mid tells x s.sink) n names opened → EachOf (λ k x (s : SessionOut I O). IsSinkOf old
-          tells x s.sink) m names opened
+      tells x s.sink) m names opened
   each_sink name old mid bytes counts n m [] [] differ each = tt
   each_sink name old mid bytes counts n m [] (s ∷ ss) differ each = absurd each
   each_sink name old mid bytes counts n m (x ∷ xs) [] differ each = absurd each
@@ -114,12 +137,15 @@ module _ {I O : Type 0} (tells : Tells I O) where
   pub more_sessions : (name : List ℕ) (names : List (List ℕ)) (sources behind : List I) (had mid has : List (SessionOut I O)) (old told new
       : Told)
       → are_apart (name ∷ names) ≡ true → AddsSession tells name sources behind had mid old told → AddsSessions tells names behind mid has
-          told new
+      told new
       → AddsSessions tells (name ∷ names) sources had has old new
   more_sessions name names sources behind had mid has old told new apart first rest = record {
     opened = first.session ∷ rest.opened;
-    each = (first.opens.is, each_sink name old told first.opens.sinks first.opens.sink_faults 0 1 names rest.opened (first_apart name names
-        apart).0 rest.each);
+    each = (
+      first.opens.is,
+      each_sink name old told first.opens.sinks first.opens.sink_faults 0 1 names rest.opened (first_apart name names
+          apart).0 rest.each,
+    );
     sources_are = ap (λ l. first.session.source ∷ l) rest.sources_are ∙ sym first.source;
     added = rest.added ∙ (ap (λ l. l ++ rest.opened) first.added ∙ append_assoc had (first.session ∷ []) rest.opened);
     faults = rest.faults ∙ first.opens.faults;
@@ -146,7 +172,7 @@ module _ {I O : Type 0} (tells : Tells I O) where
   -- the sources were put into a list without others, and so were the sessions
   pub opened_all : (names : List (List ℕ)) (sources : List I) (sessions : List (SessionOut I O)) (old mid new : Told)
       → OpensSources tells names [] sources old mid → AddsSessions tells names sources [] sessions mid new → HasOpened tells names old new
-          sessions
+      sessions
   opened_all names sources sessions old mid new first second =
       let P : List I → Type 0 = λ xs. EachOf (λ k x s. IsSourceOf old tells x s) 0 names xs in
       let ours = subst P (sym first.added ∙ sym second.sources_are) first.each in
@@ -186,7 +212,7 @@ stop_step (Ok x) scripts old mid new some same not = tt
 stop_step (Err why) scripts old mid new some same not =
     let d : Bor (List ℕ) = record { ref_ptr = (0, 0); now = [] } in
     subst (λ (names : List (List ℕ)). IsUnopened names old new why) (sym (names_cut scripts d some)) (later_unopened (get_or scripts 0
-        d).now _ old mid new why same not)
+    d).now _ old mid new why same not)
 
 module _ {I O : Type 0} (tells : Tells I O) where
   pub sources_none : (scripts : List (Bor (List ℕ))) (had : List I) (told : Told) → length scripts < 1 → OpensSources tells (names_in
@@ -198,7 +224,7 @@ module _ {I O : Type 0} (tells : Tells I O) where
       told new : Told)
       → 1 ≤ length scripts → are_apart (names_in scripts) ≡ true → AddsSource tells (get_or scripts 0 d).now had mid old told
       → OnOk r (OpensSources tells (names_in (take (length scripts - 1) (drop 1 scripts))) mid has told new) → OnOk r (OpensSources tells
-          (names_in scripts) had has old new)
+      (names_in scripts) had has old new)
   sources_step (Err e) scripts d had mid has old told new some apart first rest = tt
   sources_step (Ok x) scripts d had mid has old told new some apart first rest =
       let cut = names_cut scripts d some in
@@ -209,7 +235,7 @@ module _ {I O : Type 0} (tells : Tells I O) where
   pub sessions_step : {E : Type 0} (r : Result (Unit {0}) E) (scripts : List (Bor (List ℕ))) (d : Bor (List ℕ)) (sources behind : List I)
       (had mid has : List (SessionOut I O))
       (old told new : Told) → 1 ≤ length scripts → are_apart (names_in scripts) ≡ true → AddsSession tells (get_or scripts 0 d).now sources
-          behind had mid old told
+      behind had mid old told
       → OnOk r (AddsSessions tells (names_in (take (length scripts - 1) (drop 1 scripts))) behind mid has told new)
       → OnOk r (AddsSessions tells (names_in scripts) sources had has old new)
   sessions_step (Err e) scripts d sources behind had mid has old told new some apart first rest = tt
@@ -217,7 +243,7 @@ module _ {I O : Type 0} (tells : Tells I O) where
       let cut = names_cut scripts d some in
       subst (λ (names : List (List ℕ)). AddsSessions tells names sources had has old new) (sym cut)
       (more_sessions tells (get_or scripts 0 d).now (names_in (take (length scripts - 1) (drop 1 scripts))) sources behind had mid has old
-          told new
+      told new
       (subst (λ (names : List (List ℕ)). are_apart names ≡ true) cut apart) first rest)
 
   pub count_sources : (scripts : List (Bor (List ℕ))) (had has : List I) (old new : Told) → OpensSources tells (names_in scripts) had has
@@ -226,12 +252,12 @@ module _ {I O : Type 0} (tells : Tells I O) where
       let wide = each_len (λ n name source. IsSourceOf old tells name source) 0 (names_in scripts) opens.opened opens.each in
       let whole : has ≡ opens.opened = opens.added ∙ ap (λ (l : List I). l ++ opens.opened) none in
       ap (length {A = I}) whole ∙ omega_eq (length opens.opened) (length (names_in scripts)) (length scripts) wide (length-map scripts (λ
-          s. s.now))
+      s. s.now))
 
   pub opened_by : (names : List (List ℕ)) (had has items : List I) (fresh sessions : List (SessionOut I O)) (old mid new : Told) → had ≡ []
       → fresh ≡ [] → items ≡ has
       → OpensSources tells names had has old mid → AddsSessions tells names items fresh sessions mid new → HasOpened tells names old new
-          sessions
+      sessions
   opened_by names had has items fresh sessions old mid new no_had no_fresh same first second =
       opened_all tells names has sessions old mid new (subst (λ (l : List I). OpensSources tells names l has old mid) no_had first)
       (subst (λ (l : List (SessionOut I O)). AddsSessions tells names has l sessions mid new) no_fresh

@@ -8,7 +8,7 @@ abbrev pub invariant-loop-seat : goal.invariant-loop-seat
 invariant-loop-seat g l =
     (map (λ job. job.desk.seat) l.jobs.items ++ into_iter_items l.seats ≡ into_iter_items l.initial.seats)
     × (map (λ job. job.out) l.jobs.items ++ into_iter_items l.opened ≡ into_iter_items l.initial.opened) × All (λ job. job.desk.conn.now ≡
-        l.conn) l.jobs.items
+    l.conn) l.jobs.items
     × AllByRecursion (λ seat. IsSeatOf l.conn seat) (into_iter_items l.seats) × (into_iter_len l.opened ≡ into_iter_len l.seats)
     × (length (into_iter_items l.seats) ≡ into_iter_len l.seats) × (length (into_iter_items l.opened) ≡ into_iter_len l.opened)
 

@@ -6,13 +6,15 @@ use Rattle.factbase.proofs.jobs.serve_all.Goals as goal
 pub serve_each-requires-clause-left : goal.serve_each-requires-clause-left
 serve_each-requires-clause-left g c κs within =
     at_seats (λ seat. 1000000 ≤ (state_of seat).left) _ _ _ c.as_mut_slice.ensures.value c.in_ok-jobs.ensures.seats (λ k seat is.
-        (c.requires.seats k seat is).1)
+    (c.requires.seats k seat is).1)
 
 pub returns-clause-talked : goal.returns-clause-talked
 returns-clause-talked g c =
     let a = c.in_ok-jobs.ensures in let e = c.as_mut_slice.ensures in
     have_talked_in _ _ c.args.conn.now _ _ _ _ c.in_ok-jobs.jobs.items c.as_mut_slice.result.now c.serve_each.new.jobs
-        c.in_ok-jobs.jobs.len a.seats a.sessions a.desks e.value
-    c.serve_each.ensures.talked (first_of (search (arith, c.serve_each.auto.jobs), omega (arith, c.serve_each.auto.jobs))) (omega (arith,
-        c.in_ok-jobs.jobs.ok.0))
+    c.in_ok-jobs.jobs.len a.seats a.sessions a.desks e.value
+    c.serve_each.ensures.talked (first_of (search (arith, c.serve_each.auto.jobs), omega (arith, c.serve_each.auto.jobs))) (omega (
+      arith,
+      c.in_ok-jobs.jobs.ok.0,
+    ))
     c.take_apart.ensures.seats c.take_apart.ensures.sessions

@@ -8,7 +8,7 @@ invariant-loop-job g l =
     (l.sessions.items ++ map (λ job. job.out) (into_iter_items l.jobs) ≡ map (λ job. job.out) (into_iter_items l.initial.jobs))
     × (l.seats.items ++ map (λ job. job.desk.seat) (into_iter_items l.jobs) ≡ map (λ job. job.desk.seat) (into_iter_items l.initial.jobs))
     × (vec_len l.sessions + into_iter_len l.jobs ≤ vec_capacity l.sessions) × (vec_len l.seats + into_iter_len l.jobs ≤ vec_capacity
-        l.seats)
+    l.seats)
     × (length (into_iter_items l.jobs) ≡ into_iter_len l.jobs)
 
 abbrev pub decreases-loop-job : goal.decreases-loop-job

@@ -10,7 +10,7 @@ returns-in_default g t c = says_nothing (λ s. s.now) (λ s. s.end) c.args.scrip
 pub returns-in_default-sessions : goal.returns-in_default-sessions
 returns-in_default-sessions g t c =
     says_nothing (λ s. s.now) (λ s. s.end) c.args.scripts.now c.args.sessions.now _ _ _ (inr c.in_default-sessions.len_below)
-        c.said_of_merges-in_default-sessions.ensures
+    c.said_of_merges-in_default-sessions.ensures
 
 pub returns-then-matches : goal.returns-then-matches
 returns-then-matches g t c = elim c.match-matches.branch [
@@ -26,7 +26,7 @@ returns-in-Ok g t c = elim c.match-matches.branch [
   | in_default-matches w ↦ says_first (λ s. s.end) c.args.scripts.now (record { ref_ptr = (0, 0); now = [] }) c.args.sessions.now
       c.session-item.result _ _ _
       c.in-len1-up.len_at_least c.in-len1-up-sessions.len_at_least c.session-item.is w.in_default-matches.not-Done (inl
-          (c.status_of_end.ensures, c.in-Ok.ensures))
+      (c.status_of_end.ensures, c.in-Ok.ensures))
 ]
 
 pub returns-in-Err : goal.returns-in-Err
@@ -34,6 +34,9 @@ returns-in-Err g t c = elim c.match-matches.branch [
   | in-Done w ↦ let a = w.matches-is in let b = c.if-matches.false in absurd (cc)
   | in_default-matches w ↦ says_first (λ s. s.end) c.args.scripts.now (record { ref_ptr = (0, 0); now = [] }) c.args.sessions.now
       c.session-item.result _ _ _
-      c.in-len1-up.len_at_least c.in-len1-up-sessions.len_at_least c.session-item.is w.in_default-matches.not-Done (inr (refl, inr
-          c.new.ensures.bytes))
+      c.in-len1-up.len_at_least c.in-len1-up-sessions.len_at_least c.session-item.is w.in_default-matches.not-Done (inr (
+        refl,
+        inr
+            c.new.ensures.bytes,
+      ))
 ]

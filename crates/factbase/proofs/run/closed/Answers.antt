@@ -12,17 +12,17 @@ returns-clause-closes g c =
     let whole = c.into_parts-snapshot.ensures in let settled = c.settled-merged.ensures in
     closes_of _ _ c.close-core.result.core c.into_parts-snapshot.result _ c.close-core.result.stopped
     (ap (λ (p : CoreParts). p.snapshot.entries) whole ∙ settled.entries) (ap (λ (p : CoreParts). p.authors) whole ∙ settled.authors) refl
-        refl c.requires.worker.2
+    refl c.requires.worker.2
     (never_stopped _ _ _ _ _ c.close-core.ensures.log) c.close-core.ensures.stands c.close-core.ensures.each_t
-        c.close-core.ensures.by_sessions c.close-core.ensures.taken
+    c.close-core.ensures.by_sessions c.close-core.ensures.taken
 
 pub returns-clause-merged : goal.returns-clause-merged
 returns-clause-merged g c = λ none.
     let at = IsMerged c.args.command.now.options.merge_at c.settled-merged.new.core.snapshot in
     let merged = success_is_merged c.settled-merged.result (names_in c.as_slice.result.now) (map (λ s. s.end) c.as_slice-2.result.now)
-        c.said-status.result.0
+    c.said-status.result.0
     (string_bytes c.said-status.result.1) at c.settled-merged.ensures.merged c.said-status.ensures (sym c.without_session.ensures.said.0 ∙
-        none) in
+    none) in
     subst (λ (p : CoreParts). IsMerged c.args.command.now.options.merge_at p.snapshot) (sym c.into_parts-snapshot.ensures) merged
 
 pub returns-clause-no_device : goal.returns-clause-no_device

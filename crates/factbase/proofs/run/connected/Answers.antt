@@ -9,7 +9,7 @@ pub returns-clause-made : goal.returns-clause-made
 returns-clause-made c =
     let e = c.in_ok-conn.ensures in
     is_made _ _ _ _ _ _ (ap (λ (p : CoreParts). p.snapshot.entries) c.in_ok-core.ensures ∙ c.in_ok-snapshot.ensures.entries) e.count.0
-        e.seats e.worker
+    e.seats e.worker
 
 pub returns-clause-worker : goal.returns-clause-worker
 returns-clause-worker c =

@@ -13,26 +13,26 @@ use Rattle.factbase.proofs.run.run.Goals as goal
 pub returns-in-Ok-Some-clause-replies : goal.returns-in-Ok-Some-clause-replies
 returns-in-Ok-Some-clause-replies g c =
     let terms = terms_of (g.K.Clock.may_answer c.args.clock.now) (g.G.Guard.bars c.args.guard.now) (g.P.FilterTable.place_of
-        c.args.preds.now) (g.P.FilterTable.selects_at c.args.preds.now) in
+    c.args.preds.now) (g.P.FilterTable.selects_at c.args.preds.now) in
     let tells = tells_of g.H.In.Source.left g.H.In.Source.faults g.H.Out.Sink.contents g.H.Out.Sink.faults in
     let is = rw c.in-Ok-Some.field-0-is at c.in-Ok-Some.ensures.run in
     let r = c.run_command.result in
     subst (λ command. IfSome r.last (λ last. EachReplies terms (g.H.Host.told c.args.host.now) tells r.recovered (stop_of r.torn)
-        (scripts_of command) r.sessions.items last.entries))
+    (scripts_of command) r.sessions.items last.entries))
     (is ∙ ap (λ ws. command_of (map string_bytes ws)) c.as_slice.ensures.value) c.run_command.ensures.replies
 
 pub returns-in-Ok-Some-clause-complete : goal.returns-in-Ok-Some-clause-complete
 returns-in-Ok-Some-clause-complete g c =
     let terms = terms_of (g.K.Clock.may_answer c.args.clock.now) (g.G.Guard.bars c.args.guard.now) (g.P.FilterTable.place_of
-        c.args.preds.now) (g.P.FilterTable.selects_at c.args.preds.now) in
+    c.args.preds.now) (g.P.FilterTable.selects_at c.args.preds.now) in
     let tells = tells_of g.H.In.Source.left g.H.In.Source.faults g.H.Out.Sink.contents g.H.Out.Sink.faults in
     let is = rw c.in-Ok-Some.field-0-is at c.in-Ok-Some.ensures.run in
     let r = c.run_command.result in
     let new = (g.H.Host.told c.run_command.new.host).faults in
     subst (λ command. Complete terms (g.H.Host.told c.args.host.now) tells new command r) (is ∙ ap (λ ws. command_of (map string_bytes ws))
-        c.as_slice.ensures.value)
+    c.as_slice.ensures.value)
     (complete_command terms (g.H.Host.told c.args.host.now) tells new (Some (command_by c.in-Ok-Some.command)) r _ _
-        c.run_command.ensures.no_device.torn
+    c.run_command.ensures.no_device.torn
     c.run_command.ensures.one_history c.run_command.ensures.replies c.run_command.ensures.causes)
 
 pub returns-in-Ok-None-clause-causes : goal.returns-in-Ok-None-clause-causes
@@ -40,13 +40,13 @@ returns-in-Ok-None-clause-causes g c =
     let tells = tells_of g.H.In.Source.left g.H.In.Source.faults g.H.Out.Sink.contents g.H.Out.Sink.faults in
     let is = rw c.in-Ok-None.field-0-is at c.in-Ok-None.ensures.run in
     caused_by_usage (g.H.Host.told c.args.host.now) tells _ c.without_session.result _ (is ∙ ap (λ ws. command_of (map string_bytes ws))
-        c.as_slice.ensures.value) refl
+    c.as_slice.ensures.value) refl
     c.without_session.ensures.none (says_line string_bytes c.usage.result 1 _ _ _ c.without_session.ensures.said
-        c.without_session.ensures.unsaid c.usage.ensures)
+    c.without_session.ensures.unsaid c.usage.ensures)
 
 pub returns-in-Err-clause-causes : goal.returns-in-Err-clause-causes
 returns-in-Err-clause-causes g c =
     let tells = tells_of g.H.In.Source.left g.H.In.Source.faults g.H.Out.Sink.contents g.H.Out.Sink.faults in
     caused_by_words (g.H.Host.told c.args.host.now) tells _ c.without_session-in-Err.result _ refl c.without_session-in-Err.ensures.none
     (says_memory _ _ (says_line string_bytes c.out_of_memory.result 9 _ _ _ c.without_session-in-Err.ensures.said
-        c.without_session-in-Err.ensures.unsaid c.out_of_memory.ensures))
+    c.without_session-in-Err.ensures.unsaid c.out_of_memory.ensures))

@@ -8,8 +8,10 @@ use Rattle.factbase.proofs.run.run_opened.Goals as goal
 
 pub serve_all-requires-clause-seats : goal.serve_all-requires-clause-seats
 serve_all-requires-clause-seats g c κs within = λ k seat is.
-    let m = c.in-Ok.ensures.made.opened k seat is in let left : (state_of seat).left ≡ 4294967296 = ap (λ (s : State). s.left) m.2 in (m.0,
-        omega (arith, left))
+    let m = c.in-Ok.ensures.made.opened k seat is in let left : (state_of seat).left ≡ 4294967296 = ap (λ (s : State). s.left) m.2 in (
+      m.0,
+      omega (arith, left),
+    )
 
 pub closed-requires-clause-seats : goal.closed-requires-clause-seats
 closed-requires-clause-seats g c κs within = λ k seat is.
@@ -22,7 +24,7 @@ returns-in-Ok-serve_all-clause-one_history g c =
     let count : length c.args.opened.items ≡ length c.in-Ok.connection.seats.items = first_of (search rules, grind arith) in
     let cl = c.closed.ensures in
     run_history _ _ _ _ _ _ _ c.in-Ok-serve_all.ensures.talked count (λ k seat is. (c.in-Ok.ensures.made.opened k seat is).2)
-        c.closed.result cl.closes cl.sessions
+    c.closed.result cl.closes cl.sessions
     cl.no_device.recovered cl.no_device.torn
 
 pub returns-in-Ok-serve_all-clause-replies : goal.returns-in-Ok-serve_all-clause-replies
@@ -30,7 +32,7 @@ returns-in-Ok-serve_all-clause-replies g c =
     let count : length c.args.opened.items ≡ length c.in-Ok.connection.seats.items = first_of (search rules, grind arith) in
     let cl = c.closed.ensures in
     run_replies _ _ _ _ _ _ _ c.in-Ok-serve_all.ensures.talked count (λ k seat is. (c.in-Ok.ensures.made.opened k seat is).2)
-        c.closed.result cl.closes cl.sessions
+    c.closed.result cl.closes cl.sessions
     cl.no_device.recovered cl.no_device.torn
 
 pub returns-in-Ok-serve_all-clause-prefixes : goal.returns-in-Ok-serve_all-clause-prefixes
@@ -38,7 +40,7 @@ returns-in-Ok-serve_all-clause-prefixes g c =
     let count : length c.args.opened.items ≡ length c.in-Ok.connection.seats.items = first_of (search rules, grind arith) in
     let cl = c.closed.ensures in
     run_prefixes _ _ _ _ _ _ _ c.in-Ok-serve_all.ensures.talked count (λ k seat is. (c.in-Ok.ensures.made.opened k seat is).2)
-        c.closed.result cl.closes cl.sessions
+    c.closed.result cl.closes cl.sessions
     cl.no_device.recovered cl.no_device.torn
 
 pub returns-in-Ok-serve_all-clause-ended : goal.returns-in-Ok-serve_all-clause-ended
@@ -46,5 +48,5 @@ returns-in-Ok-serve_all-clause-ended g c =
     let count : length c.args.opened.items ≡ length c.in-Ok.connection.seats.items = first_of (search rules, grind arith) in
     let cl = c.closed.ensures in
     inr (run_ended _ _ _ _ _ _ _ c.in-Ok-serve_all.ensures.talked count (λ k seat is. (c.in-Ok.ensures.made.opened k seat is).2)
-        c.closed.result cl.closes cl.sessions
+    c.closed.result cl.closes cl.sessions
     cl.no_device.recovered cl.no_device.torn _ cl.said)
