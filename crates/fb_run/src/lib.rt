@@ -7,7 +7,7 @@ mod lines;
 mod merging;
 mod opening;
 mod outcome;
-mod run;
+mod top;
 
 pub use outcome::{Outcome, SessionOut};
-pub use run::run;
+pub use top::run;

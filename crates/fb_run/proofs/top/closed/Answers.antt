@@ -5,7 +5,7 @@ use Rattle.fb_core.specs.declared.shared.CoreParts.{CoreParts}
 use Rattle.fb_run.specs.Merging.{IsMerged}
 use Rattle.fb_run.proofs.Causing.{success_is_merged}
 use Rattle.fb_run.proofs.Running.{closes_of, never_stopped, never_torn}
-use Rattle.fb_run.proofs.run.closed.Goals as goal
+use Rattle.fb_run.proofs.top.closed.Goals as goal
 
 pub returns-clause-closes : goal.returns-clause-closes
 returns-clause-closes g c =

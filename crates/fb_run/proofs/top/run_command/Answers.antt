@@ -7,7 +7,7 @@ use Rattle.fb_run.specs.Outside.{tells_of, EachOf}
 use Rattle.fb_run.specs.Opening.{IsOpenedFor}
 use Rattle.fb_run.proofs.Lists.{each_len}
 use Rattle.fb_run.proofs.Causing.{few_scripts, replies_told, caused_by_sessions, caused_by_memory, caused_by_host, says_line, says_memory}
-use Rattle.fb_run.proofs.run.run_command.Goals as goal
+use Rattle.fb_run.proofs.top.run_command.Goals as goal
 
 pub open_all-requires-clause-apart : goal.open_all-requires-clause-apart
 open_all-requires-clause-apart g c κs within =

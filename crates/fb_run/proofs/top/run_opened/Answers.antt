@@ -4,7 +4,7 @@ use Rattle.fb_desk.specs.Desks.{State}
 use Rattle.fb_conn.specs.Seats.{state_of}
 use Rattle.fb_run.proofs.Lists.{there}
 use Rattle.fb_run.proofs.Running.{run_history, run_replies, run_prefixes, run_ended}
-use Rattle.fb_run.proofs.run.run_opened.Goals as goal
+use Rattle.fb_run.proofs.top.run_opened.Goals as goal
 
 pub serve_all-requires-clause-seats : goal.serve_all-requires-clause-seats
 serve_all-requires-clause-seats g c κs within = λ k seat is.

@@ -3,7 +3,7 @@ use Rattle.fb_core.specs.declared.shared.CoreParts.{CoreParts}
 use Rattle.board_rule.specs.Calls.{view_of}
 use Rattle.merge_worker.specs.Work.{IsBaseOf}
 use Rattle.fb_run.proofs.Running.{is_made}
-use Rattle.fb_run.proofs.run.connected.Goals as goal
+use Rattle.fb_run.proofs.top.connected.Goals as goal
 
 pub returns-clause-made : goal.returns-clause-made
 returns-clause-made c =

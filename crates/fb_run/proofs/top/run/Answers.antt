@@ -8,7 +8,7 @@ use Rattle.fb_run.specs.Headline.{stop_of, EachReplies}
 use Rattle.fb_run.specs.Complete.{Complete}
 use Rattle.fb_run.proofs.Causing.{caused_by_usage, caused_by_words, says_line, says_memory}
 use Rattle.fb_run.proofs.Completing.{complete_command}
-use Rattle.fb_run.proofs.run.run.Goals as goal
+use Rattle.fb_run.proofs.top.run.Goals as goal
 
 pub returns-in-Ok-Some-clause-replies : goal.returns-in-Ok-Some-clause-replies
 returns-in-Ok-Some-clause-replies g c =

@@ -1,7 +1,7 @@
 use Rattle.std.proofs.Common.{inl, inr, refl, []}
 use Rattle.fb_run.proofs.Causing.{says_nothing, says_rest, says_first}
-use Rattle.fb_run.proofs.run.+said.Goals as goal
-use Rattle.fb_run.proofs.run.+said.Goals.{in-Done, in_default-matches}
+use Rattle.fb_run.proofs.top.+said.Goals as goal
+use Rattle.fb_run.proofs.top.+said.Goals.{in-Done, in_default-matches}
 
 pub returns-in_default : goal.returns-in_default
 returns-in_default g t c = says_nothing (λ s. s.now) (λ s. s.end) c.args.scripts.now c.args.sessions.now _ _ _ (inl c.in_default.len_below)
