@@ -137,12 +137,12 @@ walked (Some p) (word ∷ words) = walked (step p word) words
 
 -- ---- the command
 
--- Of the names the first is the directory. One that keeps its history on a disk is still no command.
+-- Of the names the first is the directory, and the others are the scripts.
 abbrev pub command_with : List (List ℕ) → Option ℕ → Option Command
 command_with [] merge_at = None
 command_with (directory ∷ scripts) None = None
 command_with (directory ∷ scripts) (Some merge_at) =
-    if bytes_eq directory (codes ":memory:") && are_scripts scripts
+    if are_scripts scripts
     then Some (run (record { merge_at = merge_at }) directory scripts)
     else None
 

@@ -83,7 +83,7 @@ fn run_with<'a>(mut names: Vec<&'a str>, number: Option<&'a str>) -> Option<Run<
     }
     let directory = names.remove(0);
     let merge_at = merge_at_in(number)?;
-    if directory != ":memory:" || !are_scripts(names.as_slice()) {
+    if !are_scripts(names.as_slice()) {
         return None;
     }
     Some(Run {

@@ -2,14 +2,15 @@
 ghost use Rattle.std.specs.Prelude.{◌≡◌, [], ◌∷◌, Some, None, codes};
 ghost use Rattle.command_line.specs.Words.{run, command_of, sink_of};
 
-/// A name or more behind `run :memory:` is a command.
+/// A name or more behind `run` and a directory is a command.
 pub fn words()
     ensures standard_input { command_of (codes "run" ∷ codes ":memory:" ∷ codes "-" ∷ [])
         ≡ Some (run (record { merge_at = 65536 }) (codes ":memory:") (codes "-" ∷ [])) }
     ensures two_scripts { command_of (codes "run" ∷ codes ":memory:" ∷ codes "a" ∷ codes "b" ∷ [])
         ≡ Some (run (record { merge_at = 65536 }) (codes ":memory:") (codes "a" ∷ codes "b" ∷ [])) }
     ensures no_script { command_of (codes "run" ∷ codes ":memory:" ∷ []) ≡ None }
-    ensures directory { command_of (codes "run" ∷ codes "data" ∷ codes "-" ∷ []) ≡ None }
+    ensures directory { command_of (codes "run" ∷ codes "data" ∷ codes "-" ∷ [])
+        ≡ Some (run (record { merge_at = 65536 }) (codes "data") (codes "-" ∷ [])) }
     ensures verb { command_of (codes "check" ∷ codes ":memory:" ∷ codes "-" ∷ []) ≡ None }
     ensures no_word { command_of [] ≡ None }
 {}
