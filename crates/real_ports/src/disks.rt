@@ -7,8 +7,9 @@ use fb_calls::raise;
 use fb_disk::MemDisk;
 use fb_ports::{Disk, Failed, OpenFail, Part};
 use std::alloc::Global;
-use std::fs::{File, OpenOptions};
+use std::fs::{File, OpenOptions, TryLockError};
 use std::io;
+use std::io::ErrorKind;
 use std::marker::Model;
 use std::os::unix::fs::FileExt;
 
@@ -35,7 +36,8 @@ impl Model for FileDisk {
 
 impl FileDisk {
     /// The file of this path in a directory that must be there. A missing file is made empty. Its entry in the directory
-    /// is on the disk before this answers, also where an earlier run made the file and broke off.
+    /// is on the disk before this answers, also where an earlier run made the file and broke off. A file that another
+    /// program holds locked, as this one holds its own, is not opened.
     fn open(rt: &HostRuntime, dir: &str, path: &str) -> io::Result<FileDisk>
         ensures { IfOk result (λ d. d ≡ 0) }
     {
@@ -45,6 +47,10 @@ impl FileDisk {
             .write(true)
             .create(true)
             .open(rt, path)?;
+        // Where a file system has no locks, none is held.
+        if let Err(TryLockError::WouldBlock) = file.try_lock() {
+            return Err(io::Error::from(ErrorKind::WouldBlock));
+        }
         dir.sync_all()?;
         Ok(FileDisk { file, faults: 0 })
     }

@@ -128,6 +128,26 @@ fn a_log_is_there_at_the_next_opening(rt: HostRuntime) -> Result<(), Fail> {
     Ok(())
 }
 
+/// Whether the log of a directory opens while it is open, and once it was closed.
+fn opens_beside_and_behind<H: Host>(host: &mut H, alloc: Global, dir: &str) -> (bool, bool) {
+    let held = host.disk(alloc, dir, Part::Log);
+    let beside = held.is_ok() && host.disk(alloc, dir, Part::Log).is_ok();
+    drop(held);
+    (beside, host.disk(alloc, dir, Part::Log).is_ok())
+}
+
+#[test]
+fn a_directory_is_open_once_at_a_time(rt: HostRuntime) -> Result<(), Fail> {
+    std::fs::create_dir(&rt, "held")?;
+    let mut host = RealHost::new(rt);
+    let opens = opens_beside_and_behind(&mut host, rt.alloc(), "held");
+    assert_eq!(rt; opens, (false, true));
+    assert_eq!(rt; host.faults(), 1);
+    std::fs::remove_file(&rt, "held/log")?;
+    std::fs::remove_dir(&rt, "held")?;
+    Ok(())
+}
+
 /// The faults of a file after a write past the greatest place.
 fn faults_past_the_end<H: Host>(host: &mut H, alloc: Global, dir: &str) -> u64 {
     match host.disk(alloc, dir, Part::Segments) {
