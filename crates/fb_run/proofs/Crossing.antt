@@ -1,5 +1,5 @@
--- What of a run crosses threads: a session with its desk is sent to one, and the connection is shared with all. Entries, authors and the
--- live index have trees, of which a search has to be told.
+-- What of a run crosses threads: a session with its desk is sent to one, and the connection is shared with all, whatever its log. Entries,
+-- authors and the live index have trees, of which a search has to be told.
 use denote.RattleType.{RattleType}
 use denote.Param.Send.{IsSend, IsSync, sendable}
 use denote.Param.SendFields.{as_row_send, declared_sync, declared_send}
@@ -28,8 +28,6 @@ use Rattle.board_rule.proofs.seat.BoardSeat.TheSendSync as board_seat
 use Rattle.board_rule.proofs.board.Board.TheSendSync as board
 use Rattle.fb_conn.proofs.bell.Doorbell.TheSendSync as bell
 use Rattle.fb_log.specs.declared.logs.Log.{Ghosts}
-use Rattle.fb_log.specs.contracts.logs.NoLog as NoLog
-use Rattle.fb_log.specs.contracts.logs.NoLogLog.TheImpl.{ghosts}
 use Rattle.fb_conn.specs.contracts.seats.Seat as Seat
 use Rattle.fb_conn.specs.contracts.letters.Letter as Letter
 use Rattle.fb_conn.specs.contracts.home.Home as Home
@@ -117,18 +115,11 @@ Desk-send : (ℓ : NamedLft) (L R : RattleType) (g : Ghosts L.Denot R.Denot) →
 Desk-send ℓ L R g log = let conn = Conn-sync L R g log in
     declared_send (ConnDesk.the_type ℓ L R g) (search (sendable, conn) depth 20, (Seat-row, tt))
 
-NoLog-send : IsSend NoLog.the_row
-NoLog-send = search sendable
-
--- the connection of a history that is kept in memory alone
-pub unlogged : IsSync (Conn.the_row NoLog.the_row unit ghosts)
-unlogged = Conn-sync NoLog.the_row unit ghosts NoLog-send
-
 -- the worker goes to a thread with its seat and its trees
 pub Worker-send : IsSend Worker.the_row
 Worker-send = declared_send Worker.the_type (Seat-row, (base.the_send, (ended.the_send, tt)))
 
--- a session is sent with its desk, if its source and sink may be
-pub Job-send : (ℓ : NamedLft) (I O : RattleType) → IsSend I → IsSend O → IsSend (Job.the_row ℓ I O)
-Job-send ℓ I O source sink =
-    declared_send (Job.the_type ℓ I O) (Desk-send ℓ NoLog.the_row unit ghosts NoLog-send, (out.the_send I O source sink, tt))
+-- a session is sent with its desk, if the log, its source and its sink may be
+pub Job-send : (ℓ : NamedLft) (I O L R : RattleType) (g : Ghosts L.Denot R.Denot) → IsSend I → IsSend O → IsSend L → IsSend (Job.the_row ℓ I O L R g)
+Job-send ℓ I O L R g source sink log =
+    declared_send (Job.the_type ℓ I O L R g) (Desk-send ℓ L R g log, (out.the_send I O source sink, tt))

@@ -11,7 +11,6 @@ use Rattle.fb_conn.specs.declared.conn.Conn.{Conn}
 use Rattle.fb_conn.specs.declared.seats.Seat.{Seat}
 use Rattle.fb_conn.specs.Seats.{table_of, IsAtRest, state_of}
 use Rattle.fb_conn.proofs.States.{same_table}
-use Rattle.fb_log.specs.declared.logs.NoLog.{NoLog}
 use Rattle.fb_session.specs.Sessions.{Terms}
 use Rattle.fb_run.specs.declared.jobs.Job.{Job}
 use Rattle.fb_run.specs.declared.outcome.SessionOut.{SessionOut}
@@ -19,24 +18,24 @@ use Rattle.fb_run.specs.Outside.{Tells}
 use Rattle.fb_run.specs.Jobs.{HasTalked, HaveTalked}
 use Rattle.fb_run.proofs.Lists.{all_at, map_at, at_map}
 
-module _ {I O : Type 0} (terms : Terms) (tells : Tells I O) where
-  abbrev seat_in : Job I O → Seat
+module _ {I O L R : Type 0} (terms : Terms) (tells : Tells I O) where
+  abbrev seat_in : Job I O L R → Seat
   seat_in job = job.desk.seat
 
-  abbrev out_in : Job I O → SessionOut I O
+  abbrev out_in : Job I O L R → SessionOut I O
   out_in job = job.out
 
-  abbrev JobTalked : Job I O → Job I O → Type 0
+  abbrev JobTalked : Job I O L R → Job I O L R → Type 0
   JobTalked old new = HasTalked terms tells (state_of old.desk.seat) (state_of new.desk.seat) old.out new.out
 
-  module _ (conn : Conn NoLog (Unit {0})) (before after : List (Job I O)) (same : length after ≡ length before)
-      (desks : All (λ (job : Job I O). job.desk.conn.now ≡ conn) before)
-      (ran : (k : ℕ) (d : Job I O) → k < length before → JobTalked (slice_index_or before k d) (slice_index_or after k d)) where
-    ran_at : (k : ℕ) (old new : Job I O) → slice_get before k ≡ Some old → slice_get after k ≡ Some new → k < length before → JobTalked old
+  module _ (conn : Conn L R) (before after : List (Job I O L R)) (same : length after ≡ length before)
+      (desks : All (λ (job : Job I O L R). job.desk.conn.now ≡ conn) before)
+      (ran : (k : ℕ) (d : Job I O L R) → k < length before → JobTalked (slice_index_or before k d) (slice_index_or after k d)) where
+    ran_at : (k : ℕ) (old new : Job I O L R) → slice_get before k ≡ Some old → slice_get after k ≡ Some new → k < length before → JobTalked old
         new
     ran_at k old new was now within =
-        subst (λ (a : Job I O). JobTalked a new) (get_or_from_slice_get before k old old was)
-        (subst (λ (b : Job I O). JobTalked (slice_index_or before k old) b) (get_or_from_slice_get after k new old now) (ran k old within))
+        subst (λ (a : Job I O L R). JobTalked a new) (get_or_from_slice_get before k old old was)
+        (subst (λ (b : Job I O L R). JobTalked (slice_index_or before k old) b) (get_or_from_slice_get after k new old now) (ran k old within))
 
     pub jobs_talked : (k : ℕ) (was now : Seat) (old new : SessionOut I O) → slice_get (map seat_in before) k ≡ Some was → slice_get (map
         seat_in after) k ≡ Some now
@@ -60,10 +59,10 @@ module _ {I O : Type 0} (terms : Terms) (tells : Tells I O) where
         let a = map_at seat_in before k was is_was in let b = map_at seat_in after k now is_now in
         let within = slice_get_within before k a.0 a.1 in let talked = ran_at k a.0 b.0 a.1 b.1 within in
         let ours : a.0.desk.conn.now ≡ conn =
-        subst (λ (j : Job I O). j.desk.conn.now ≡ conn) (get_or_from_slice_get before k a.0 a.0 a.1) (desks k a.0 within) in
+        subst (λ (j : Job I O L R). j.desk.conn.now ≡ conn) (get_or_from_slice_get before k a.0 a.0 a.1) (desks k a.0 within) in
         let old = a.0.desk.seated in let new = b.0.desk.seated in
         let both = same_table _ _ _ _ talked.went_on.seat in
-        let on : board_of (seat_in b.0).board ≡ table_of conn = both.1 ∙ (old.0.on ∙ ap (λ (c : Conn NoLog (Unit {0})). table_of c) ours) in
+        let on : board_of (seat_in b.0).board ≡ table_of conn = both.1 ∙ (old.0.on ∙ ap (λ (c : Conn L R). table_of c) ours) in
         let P : Seat → Type 0 = λ z. IsAtRest (table_of conn) z × ((view_of z.board).number ≡ (view_of was.board).number) in
         let Q : Seat → Type 0 = λ z. IsAtRest (table_of conn) (seat_in b.0) × ((view_of (seat_in b.0).board).number ≡ (view_of
         z.board).number) in
@@ -97,29 +96,29 @@ written : {A : Type 0} (n : ℕ) (new old : List A) → length new ≡ length ol
 written n new old same is = ap (λ (m : ℕ). take m (new ++ drop (length new) old)) (is ∙ sym same) ∙ take-append_seam new (drop (length new)
     old)
 
-module _ {I O : Type 0} where
-  pub at_seats : (P : Seat → Type 0) (jobs slice : List (Job I O)) (seats : List Seat) → slice ≡ jobs → map (λ (job : Job I O).
+module _ {I O L R : Type 0} where
+  pub at_seats : (P : Seat → Type 0) (jobs slice : List (Job I O L R)) (seats : List Seat) → slice ≡ jobs → map (λ (job : Job I O L R).
       job.desk.seat) jobs ≡ seats
-      → ((k : ℕ) (seat : Seat) → slice_get seats k ≡ Some seat → P seat) → All (λ (job : Job I O). P job.desk.seat) slice
+      → ((k : ℕ) (seat : Seat) → slice_get seats k ≡ Some seat → P seat) → All (λ (job : Job I O L R). P job.desk.seat) slice
   at_seats P jobs slice seats same is at =
-      subst (All (λ (job : Job I O). P job.desk.seat)) (sym same) (λ k d within.
+      subst (All (λ (job : Job I O L R). P job.desk.seat)) (sym same) (λ k d within.
       at k (slice_index_or jobs k d).desk.seat (subst (λ (l : List Seat). slice_get l k ≡ Some (slice_index_or jobs k d).desk.seat) is
-      (at_map (λ (job : Job I O). job.desk.seat) jobs k (slice_index_or jobs k d) (slice_get-get_or jobs k d within))))
+      (at_map (λ (job : Job I O L R). job.desk.seat) jobs k (slice_index_or jobs k d) (slice_get-get_or jobs k d within))))
 
-  pub have_talked : (terms : Terms) (tells : Tells I O) (conn : Conn NoLog (Unit {0})) (given : List Seat) (opened : List (SessionOut I O))
+  pub have_talked : (terms : Terms) (tells : Tells I O) (conn : Conn L R) (given : List Seat) (opened : List (SessionOut I O))
       (seats : List Seat)
-      (sessions : List (SessionOut I O)) (before after : List (Job I O)) → map (λ (job : Job I O). job.desk.seat) before ≡ given
-      → map (λ (job : Job I O). job.out) before ≡ opened → All (λ (job : Job I O). job.desk.conn.now ≡ conn) before
-      → ((k : ℕ) (d : Job I O) → k < length before → HasTalked terms tells (state_of (slice_index_or before k d).desk.seat) (state_of
+      (sessions : List (SessionOut I O)) (before after : List (Job I O L R)) → map (λ (job : Job I O L R). job.desk.seat) before ≡ given
+      → map (λ (job : Job I O L R). job.out) before ≡ opened → All (λ (job : Job I O L R). job.desk.conn.now ≡ conn) before
+      → ((k : ℕ) (d : Job I O L R) → k < length before → HasTalked terms tells (state_of (slice_index_or before k d).desk.seat) (state_of
       (slice_index_or after k d).desk.seat)
       (slice_index_or before k d).out (slice_index_or after k d).out)
-      → length after ≡ length before → seats ≡ map (λ (job : Job I O). job.desk.seat) after → sessions ≡ map (λ (job : Job I O). job.out)
+      → length after ≡ length before → seats ≡ map (λ (job : Job I O L R). job.desk.seat) after → sessions ≡ map (λ (job : Job I O L R). job.out)
       after
       → HaveTalked terms tells conn given opened seats sessions
   have_talked terms tells conn given opened seats sessions before after is_given is_opened desks ran same is_seats is_sessions =
-      let one : length given ≡ length before = sym (ap length is_given) ∙ length-map before (λ (job : Job I O). job.desk.seat) in
-      let two : length seats ≡ length after = ap length is_seats ∙ length-map after (λ (job : Job I O). job.desk.seat) in
-      let three : length sessions ≡ length after = ap length is_sessions ∙ length-map after (λ (job : Job I O). job.out) in
+      let one : length given ≡ length before = sym (ap length is_given) ∙ length-map before (λ (job : Job I O L R). job.desk.seat) in
+      let two : length seats ≡ length after = ap length is_seats ∙ length-map after (λ (job : Job I O L R). job.desk.seat) in
+      let three : length sessions ≡ length after = ap length is_sessions ∙ length-map after (λ (job : Job I O L R). job.out) in
       record {
         seat_count = omega (arith, one, two, same);
         session_count = omega (arith, one, three, same);
@@ -134,24 +133,24 @@ module _ {I O : Type 0} where
       }
 
   -- the same where the jobs were lent as a slice, and written back
-  pub have_talked_in : (terms : Terms) (tells : Tells I O) (conn : Conn NoLog (Unit {0})) (given : List Seat) (opened : List (SessionOut I
+  pub have_talked_in : (terms : Terms) (tells : Tells I O) (conn : Conn L R) (given : List Seat) (opened : List (SessionOut I
       O)) (seats : List Seat)
-      (sessions : List (SessionOut I O)) (before slice after : List (Job I O)) (n : ℕ) → map (λ (job : Job I O). job.desk.seat) before ≡
+      (sessions : List (SessionOut I O)) (before slice after : List (Job I O L R)) (n : ℕ) → map (λ (job : Job I O L R). job.desk.seat) before ≡
       given
-      → map (λ (job : Job I O). job.out) before ≡ opened → All (λ (job : Job I O). job.desk.conn.now ≡ conn) before → slice ≡ before
-      → ((k : ℕ) (d : Job I O) → k < length slice → HasTalked terms tells (state_of (slice_index_or slice k d).desk.seat) (state_of
+      → map (λ (job : Job I O L R). job.out) before ≡ opened → All (λ (job : Job I O L R). job.desk.conn.now ≡ conn) before → slice ≡ before
+      → ((k : ℕ) (d : Job I O L R) → k < length slice → HasTalked terms tells (state_of (slice_index_or slice k d).desk.seat) (state_of
       (slice_index_or after k d).desk.seat)
       (slice_index_or slice k d).out (slice_index_or after k d).out)
-      → length after ≡ length slice → n ≡ length before → seats ≡ map (λ (job : Job I O). job.desk.seat) (take n (after ++ drop (length
+      → length after ≡ length slice → n ≡ length before → seats ≡ map (λ (job : Job I O L R). job.desk.seat) (take n (after ++ drop (length
       after) before))
-      → sessions ≡ map (λ (job : Job I O). job.out) (take n (after ++ drop (length after) before)) → HaveTalked terms tells conn given
+      → sessions ≡ map (λ (job : Job I O L R). job.out) (take n (after ++ drop (length after) before)) → HaveTalked terms tells conn given
       opened seats sessions
   have_talked_in terms tells conn given opened seats sessions before slice after n is_given is_opened desks lent ran same wide is_seats
       is_sessions =
       let count : length after ≡ length before = same ∙ ap length lent in
       let back : take n (after ++ drop (length after) before) ≡ after = written n after before count wide in
       have_talked terms tells conn given opened seats sessions before after is_given is_opened desks
-      (subst (λ (l : List (Job I O)). (k : ℕ) (d : Job I O) → k < length l → HasTalked terms tells (state_of (slice_index_or l k
+      (subst (λ (l : List (Job I O L R)). (k : ℕ) (d : Job I O L R) → k < length l → HasTalked terms tells (state_of (slice_index_or l k
       d).desk.seat)
       (state_of (slice_index_or after k d).desk.seat) (slice_index_or l k d).out (slice_index_or after k d).out) lent ran)
-      count (is_seats ∙ ap (map (λ (job : Job I O). job.desk.seat)) back) (is_sessions ∙ ap (map (λ (job : Job I O). job.out)) back)
+      count (is_seats ∙ ap (map (λ (job : Job I O L R). job.desk.seat)) back) (is_sessions ∙ ap (map (λ (job : Job I O L R). job.out)) back)

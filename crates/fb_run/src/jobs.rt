@@ -12,12 +12,12 @@ ghost use Rattle.fb_run.specs.Outside.{tells_of};
 ghost use Rattle.fb_run.specs.Jobs.{HasTalked, HaveTalked};
 ghost use Rattle.fb_run.specs.Merging.{CanWork, HasNoFault};
 
-use crate::merging::{Worker, beside};
+use crate::merging::{Worker, beside, merge};
 use crate::outcome::SessionOut;
 use conn_desk::ConnDesk;
 use fb_conn::{Conn, Seat};
 use fb_core::Guard;
-use fb_log::NoLog;
+use fb_log::Log;
 use fb_memory::Memory;
 use fb_ports::{Clock, Sink, Source};
 use fb_preds::FilterTable;
@@ -31,8 +31,8 @@ use std::vec::IntoIter;
 
 /// A session, and its desk.
 #[derive(Drop)]
-pub struct Job<'a, I, O> {
-    desk: ConnDesk<'a, NoLog>,
+pub struct Job<'a, I, O, L: Log> {
+    desk: ConnDesk<'a, L>,
     out: SessionOut<I, O>,
 }
 
@@ -43,10 +43,11 @@ pub(crate) struct Ended<I, O> {
     pub(crate) seats: Vec<Seat>,
 }
 
-/// Runs the sessions that were opened, each at its seat, and the worker beside them. All memory that is wanted besides theirs is
-/// taken before any of them runs.
+/// Runs the sessions that were opened, each at its seat, and the worker beside them, over any log that may be sent to a thread. All
+/// memory that is wanted besides theirs is taken before any of them runs.
 pub(crate) fn serve_all<
     R: Threads + Wait + Sync,
+    L: Log + Send,
     I: Source + Send,
     O: Sink + Send,
     K: Clock + Sync,
@@ -56,7 +57,7 @@ pub(crate) fn serve_all<
 >(
     rt: &R,
     alloc: Global,
-    conn: &Conn<NoLog>,
+    conn: &Conn<L>,
     worker: &mut Worker,
     seats: Vec<Seat>,
     opened: Vec<SessionOut<I, O>>,
@@ -65,6 +66,8 @@ pub(crate) fn serve_all<
     preds: &P,
     gate: &W,
 ) -> Result<Ended<I, O>, Memory>
+where
+    L::Record: Send,
     requires seats { (k : ℕ) (seat : Seat) → slice_get seats.items k ≡ Some seat
         → IsSeatOf conn.now seat × (1_000_000 ≤ (state_of seat).left) }
     requires opened { length opened.items ≡ length seats.items }
@@ -109,12 +112,12 @@ fn room_for<I: Drop, O: Drop>(alloc: Global, count: usize) -> Result<Ended<I, O>
 }
 
 /// A desk for each of the sessions.
-fn jobs_of<'a, I: Drop, O: Drop>(
+fn jobs_of<'a, L: Log, I: Drop, O: Drop>(
     alloc: Global,
-    conn: &'a Conn<NoLog>,
+    conn: &'a Conn<L>,
     seats: Vec<Seat>,
     opened: Vec<SessionOut<I, O>>,
-) -> Result<Vec<Job<'a, I, O>>, Memory>
+) -> Result<Vec<Job<'a, I, O, L>>, Memory>
     requires seats { All (λ seat. IsSeatOf conn.now seat) seats.items }
     requires opened { length opened.items ≡ length seats.items }
     ensures seats { IfOk result (λ jobs. map (λ job. job.desk.seat) jobs.items ≡ seats.items) }
@@ -132,11 +135,11 @@ fn jobs_of<'a, I: Drop, O: Drop>(
 }
 
 /// The next of the sessions at this seat.
-fn job_of<'a, I: Drop, O: Drop>(
-    conn: &'a Conn<NoLog>,
+fn job_of<'a, L: Log, I: Drop, O: Drop>(
+    conn: &'a Conn<L>,
     seat: Seat,
     opened: &mut IntoIter<SessionOut<I, O>>,
-) -> Job<'a, I, O>
+) -> Job<'a, I, O, L>
     requires seat { IsSeatOf conn.now seat }
     requires some { 0 < into_iter_len opened.old }
     ensures conn { result.desk.conn.now ≡ conn.now }
@@ -157,6 +160,7 @@ fn job_of<'a, I: Drop, O: Drop>(
 fn serve_each<
     'a,
     R: Threads + Wait + Sync,
+    L: Log + Send,
     I: Source + Send,
     O: Sink + Send,
     K: Clock + Sync,
@@ -166,14 +170,16 @@ fn serve_each<
 >(
     rt: &R,
     alloc: Global,
-    conn: &Conn<NoLog>,
+    conn: &Conn<L>,
     worker: &mut Worker,
-    jobs: &mut [Job<'a, I, O>],
+    jobs: &mut [Job<'a, I, O, L>],
     clock: &K,
     guard: &G,
     preds: &P,
     gate: &W,
 )
+where
+    L::Record: Send,
     requires left { All (λ job. 1_000_000 ≤ (state_of job.desk.seat).left) jobs.old }
     requires worker { CanWork conn.now worker.old }
     ensures talked { (k : ℕ) (d : _) → k < length jobs.old → HasTalked
@@ -187,7 +193,7 @@ fn serve_each<
     ensures same { IsSameWorker (view_of worker.old.seat.board) (view_of worker.new.seat.board) }
     ensures no_fault { HasNoFault worker.new.end }
 {
-    let serve = |_, job: &mut Job<I, O>|
+    let serve = |_, job: &mut Job<I, O, L>|
         requires { IsSync R.row × (1_000_000 ≤ (state_of job.old.desk.seat).left) }
         ensures { HasTalked
             (terms_of (K.may_answer clock.entry.now) (G.bars guard.entry.now)
@@ -195,10 +201,17 @@ fn serve_each<
             (tells_of I.left I.faults O.contents O.faults) (state_of job.old.desk.seat)
             (state_of job.new.desk.seat) job.old.out job.new.out }
     { job.serve(rt, alloc, clock, guard, preds) };
-    beside(rt, alloc, conn, gate, worker, &serve, jobs);
+    let mut merges = ||
+        requires { IsSync R.row × CanWork conn.now worker.now }
+        ensures { CanWork conn.entry.now worker.exit.now
+            × IsSameWorker (view_of worker.entry.now.seat.board)
+            (view_of worker.exit.now.seat.board)
+            × HasNoFault worker.exit.now.end }
+    { merge(rt, alloc, conn, gate, worker) };
+    beside(rt, conn, &mut merges, &serve, jobs);
 }
 
-impl<I: Source, O: Sink> Job<'_, I, O> {
+impl<I: Source, O: Sink, L: Log> Job<'_, I, O, L> {
     /// Runs the session.
     fn serve<R: Threads + Wait + Sync, K: Clock, G: Guard<Snapshot>, P: FilterTable>(
         &mut self,
@@ -233,7 +246,10 @@ impl<I: Source, O: Sink> Job<'_, I, O> {
 }
 
 /// What is left of the sessions, and their seats, for which there is room.
-fn take_apart<I: Drop, O: Drop>(jobs: Vec<Job<'_, I, O>>, room: Ended<I, O>) -> Ended<I, O>
+fn take_apart<L: Log, I: Drop, O: Drop>(
+    jobs: Vec<Job<'_, I, O, L>>,
+    room: Ended<I, O>,
+) -> Ended<I, O>
     requires empty { (room.sessions.items ≡ []) × (room.seats.items ≡ []) }
     requires room { (vec_len jobs ≤ vec_capacity room.sessions)
         × (vec_len jobs ≤ vec_capacity room.seats) }

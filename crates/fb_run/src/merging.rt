@@ -10,7 +10,7 @@ ghost use Rattle.fb_run.specs.Merging.{CanWork, HasNoFault, IsMerged};
 
 use fb_conn::{Conn, Seat};
 use fb_core::Core;
-use fb_log::NoLog;
+use fb_log::Log;
 use fb_memory::Memory;
 use merge_worker::{Base, Gate, NoStore, WorkEnd, settle, work};
 use std::alloc::Global;
@@ -30,35 +30,27 @@ pub(crate) struct Worker {
 /// worker has no thread, it comes behind them.
 pub(crate) fn beside<
     R: Threads + Wait + Sync,
-    W: Gate + Sync,
+    L: Log,
+    M: FnMut() + Send,
     J: Send,
     F: Fn(usize, &mut J) + Sync,
->(rt: &R, alloc: Global, conn: &Conn<NoLog>, gate: &W, worker: &mut Worker, job: &F, jobs: &mut [J])
-    requires worker { CanWork conn.now worker.old }
+>(rt: &R, conn: &Conn<L>, merges: &mut M, job: &F, jobs: &mut [J])
+    requires merges { M.pre merges.old }
     requires accepts { AcceptsEach F.Fn job.now jobs.old }
-    ensures worker { CanWork conn.now worker.new }
-    ensures same { IsSameWorker (view_of worker.old.seat.board) (view_of worker.new.seat.board) }
-    ensures no_fault { HasNoFault worker.new.end }
+    ensures merges { M.step merges.old tt merges.new }
     ensures jobs { ChangesEach F.Fn job.now jobs.old jobs.new }
 {
-    let mut merges = ||
-        requires { IsSync R.row × CanWork conn.now worker.now }
-        ensures { CanWork conn.entry.now worker.exit.now
-            × IsSameWorker (view_of worker.entry.now.seat.board)
-            (view_of worker.exit.now.seat.board)
-            × HasNoFault worker.exit.now.end }
-    { merge(rt, alloc, conn, gate, worker) };
     let mut sessions = ||
         requires { IsSync R.row × IsSync F.row × IsSend J.row × AcceptsEach F.Fn job.now jobs.now }
         ensures { ChangesEach F.Fn job.entry.now jobs.entry.now jobs.exit.now }
     { do_each(rt, conn, job, jobs) };
-    join_mut(rt, &mut merges, &mut sessions);
+    join_mut(rt, merges, &mut sessions);
 }
 
 /// Does each of the jobs, and then tells the worker that none is left.
-fn do_each<R: Threads + Wait + Sync, J: Send, F: Fn(usize, &mut J) + Sync>(
+fn do_each<R: Threads + Wait + Sync, L: Log, J: Send, F: Fn(usize, &mut J) + Sync>(
     rt: &R,
-    conn: &Conn<NoLog>,
+    conn: &Conn<L>,
     job: &F,
     jobs: &mut [J],
 )
@@ -71,10 +63,10 @@ fn do_each<R: Threads + Wait + Sync, J: Send, F: Fn(usize, &mut J) + Sync>(
 }
 
 /// Merges beside the sessions, until the last of them has ended.
-fn merge<R: Threads + Wait + Sync, W: Gate>(
+pub(crate) fn merge<R: Threads + Wait + Sync, L: Log, W: Gate>(
     rt: &R,
     alloc: Global,
-    conn: &Conn<NoLog>,
+    conn: &Conn<L>,
     gate: &W,
     worker: &mut Worker,
 )
