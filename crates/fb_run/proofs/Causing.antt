@@ -2,7 +2,7 @@
 use Rattle.std.proofs.Common.{◌≡◌, ◌⊎◌, inl, inr, ℕ, Bool, true, false, List, [], ◌∷◌, map, length, Option, Some, None, refl, sym, ap, ◌∙◌, subst, arith}
 use Rattle.std.specs.Borrow.{Bor}
 use Rattle.command_line.specs.Views.{names_in}
-use Rattle.std.specs.Prelude.{◌==◌, ◌-◌, ◌<◌, ◌≤◌, get_or, take, drop, ◌&&◌, nat_lt, nat_le, IfOk, OnErr, Result, Ok, Err, is_err, string_bytes}
+use Rattle.std.specs.Prelude.{◌==◌, ◌-◌, ◌<◌, ◌≤◌, get_or, take, drop, ◌&&◌, nat_lt, nat_le, IfOk, OnErr, Result, Ok, Err, is_err, IsSome, IfSome, string_bytes}
 use Rattle.std.specs.List.{slice_get}
 use Rattle.std.proofs.lemmas.Bool.{ltb-true, leb-true}
 use Rattle.fb_ports.specs.Faults.{Rose}
@@ -15,11 +15,20 @@ use Rattle.fb_session.specs.Sessions.{Terms}
 use Rattle.fb_session.specs.Replies.{SessionRun, Replies, SourceCount, SinkCount}
 use Rattle.fb_run.specs.declared.outcome.SessionOut.{SessionOut}
 use Rattle.fb_run.specs.declared.outcome.Outcome.{Outcome}
-use Rattle.fb_run.specs.Outside.{Tells, run_from, run_of, setting_of, EachOf}
+use Rattle.disk_model.specs.Disk.{WhereTold}
+use Rattle.fb_core.specs.declared.accepting.Draft.{Draft}
+use Rattle.fb_recover.specs.Faults.{IsCause, CountsOpening}
+use Rattle.fb_recover.specs.declared.faults.OpenFault.{OpenFault}
+use Rattle.fb_recover.specs.declared.faults.OpenFault.TheVariants as fault
+use Rattle.fb_ports.specs.declared.hosts.Part.TheVariants.{Log}
+use Rattle.fb_run.specs.Outside.{Tells, DiskTells, run_from, run_of, setting_of, EachOf}
+use Rattle.fb_view.specs.Kept.{Kept}
+use Rattle.fb_run.specs.Logs.{LogHolds}
+use Rattle.fb_run.specs.Database.{IsBadLog}
 use Rattle.fb_run.specs.Opening.{IsOpenedFor}
-use Rattle.fb_run.specs.Headline.{EachReplies}
-use Rattle.fb_run.specs.StatusLines.{usage, unopened, ended_early, memory, usage_line, cannot_open, out_of_memory, status_of_end, line_of_end, first_early, why_of}
-use Rattle.fb_run.specs.Causes.{NoSession, OutOfMemory, IsOutOfMemory, SaysWhy, Counts, HaveRun, CauseOf, Causes}
+use Rattle.fb_run.specs.Headline.{EachReplies, stop_of}
+use Rattle.fb_run.specs.StatusLines.{usage, unopened, ended_early, memory, usage_line, cannot_open, out_of_memory, status_of_end, line_of_end, first_early, why_of, why_not}
+use Rattle.fb_run.specs.Causes.{NoSession, HasNoDisk, OutOfMemory, IsOutOfMemory, SaysWhy, Counts, HaveRun, directory_of, IsNotOpened, CauseOf, Causes}
 use Rattle.fb_run.specs.Running.{RepliesBy, CountsBy, HaveEnded}
 use Rattle.fb_run.proofs.Lists.{each_through, cut_first, names_cut}
 
@@ -52,14 +61,15 @@ early_none : (names : List (List ℕ)) → first_early names [] ≡ None
 early_none [] = refl
 early_none (name ∷ names) = refl
 
--- where no script is left, or no session, the merges decide
-pub says_nothing : {X S : Type 0} (name_of : X → List ℕ) (end_of : S → SessionEnd) (scripts : List X) (sessions : List S) (unmerged : Bool)
-    (status : ℕ) (line : List ℕ) → (length scripts < 1) ⊎ (length sessions < 1) → SaysWhy (why_of None unmerged) status line
-    → SaysWhy (why_of (first_early (map name_of scripts) (map end_of sessions)) unmerged) status line
-says_nothing name_of end_of [] sessions unmerged status line few says = says
-says_nothing name_of end_of (x ∷ xs) [] unmerged status line few says = says
-says_nothing name_of end_of (x ∷ xs) (s ∷ ss) unmerged status line (inl few) says = absurd (omega (arith, few))
-says_nothing name_of end_of (x ∷ xs) (s ∷ ss) unmerged status line (inr few) says = absurd (omega (arith, few))
+-- where no script is left, or no session, the log and the merges decide
+pub says_nothing : {X S : Type 0} (name_of : X → List ℕ) (end_of : S → SessionEnd) (scripts : List X) (sessions : List S) (stop : Option ℕ)
+    (unmerged : Bool)
+    (status : ℕ) (line : List ℕ) → (length scripts < 1) ⊎ (length sessions < 1) → SaysWhy (why_of None stop unmerged) status line
+    → SaysWhy (why_of (first_early (map name_of scripts) (map end_of sessions)) stop unmerged) status line
+says_nothing name_of end_of [] sessions stop unmerged status line few says = says
+says_nothing name_of end_of (x ∷ xs) [] stop unmerged status line few says = says
+says_nothing name_of end_of (x ∷ xs) (s ∷ ss) stop unmerged status line (inl few) says = absurd (omega (arith, few))
+says_nothing name_of end_of (x ∷ xs) (s ∷ ss) stop unmerged status line (inr few) says = absurd (omega (arith, few))
 
 first_not_done : (name : List ℕ) (names : List (List ℕ)) (how : SessionEnd) (ends : List SessionEnd) → (how ≡ ended.Done → ⊥)
     → first_early (name ∷ names) (how ∷ ends) ≡ Some (name, how)
@@ -71,8 +81,8 @@ first_not_done name names ended.ReadFault ends not = refl
 first_not_done name names ended.WriteFault ends not = refl
 first_not_done name names ended.Memory ends not = refl
 
-module _ {S : Type 0} (end_of : S → SessionEnd) (scripts : List (Bor (List ℕ))) (d : Bor (List ℕ)) (sessions : List S) (s : S) (unmerged :
-    Bool) (status : ℕ)
+module _ {S : Type 0} (end_of : S → SessionEnd) (scripts : List (Bor (List ℕ))) (d : Bor (List ℕ)) (sessions : List S) (s : S) (stop :
+    Option ℕ) (unmerged : Bool) (status : ℕ)
     (line : List ℕ) (some_script : 1 ≤ length scripts) (some : 1 ≤ length sessions) (is : s ≡ get_or sessions 0 s) where
   abbrev others : List (List ℕ)
   others = names_in (take (length scripts - 1) (drop 1 scripts))
@@ -87,49 +97,56 @@ module _ {S : Type 0} (end_of : S → SessionEnd) (scripts : List (Bor (List ℕ
       ∙ ap (λ (z : S). first_early ((get_or scripts 0 d).now ∷ others) (end_of z ∷ ends)) (sym is))
 
   -- the first session was done, so the rest decides
-  pub says_rest : end_of s ≡ ended.Done → SaysWhy (why_of (first_early others ends) unmerged) status line
-      → SaysWhy (why_of (first_early (names_in scripts) (map end_of sessions)) unmerged) status line
+  pub says_rest : end_of s ≡ ended.Done → SaysWhy (why_of (first_early others ends) stop unmerged) status line
+      → SaysWhy (why_of (first_early (names_in scripts) (map end_of sessions)) stop unmerged) status line
   says_rest done rest =
-      subst (λ (e : Option (List ℕ × SessionEnd)). SaysWhy (why_of e unmerged) status line) (sym (cut ∙ first_done (get_or scripts 0 d).now
+      subst (λ (e : Option (List ℕ × SessionEnd)). SaysWhy (why_of e stop unmerged) status line) (sym (cut ∙ first_done (get_or scripts 0
+      d).now
       others (end_of s) ends done)) rest
 
   -- it was not, so it decides
   pub says_first : (end_of s ≡ ended.Done → ⊥) → ((status ≡ status_of_end (end_of s)) × (line ≡ line_of_end (get_or scripts 0 d).now
       (end_of s))) ⊎ OutOfMemory status line
-      → SaysWhy (why_of (first_early (names_in scripts) (map end_of sessions)) unmerged) status line
+      → SaysWhy (why_of (first_early (names_in scripts) (map end_of sessions)) stop unmerged) status line
   says_first not said =
-      subst (λ (e : Option (List ℕ × SessionEnd)). SaysWhy (why_of e unmerged) status line) (sym (cut ∙ first_not_done (get_or scripts 0
+      subst (λ (e : Option (List ℕ × SessionEnd)). SaysWhy (why_of e stop unmerged) status line) (sym (cut ∙ first_not_done (get_or scripts
+      0
       d).now others (end_of s) ends not)) said
 
 -- ---- success
 
 -- where memory was refused to a merge, the status is not 0
-not_success : (names : List (List ℕ)) (ends : List SessionEnd) (status : ℕ) (line : List ℕ)
-    → SaysWhy (why_of (first_early names ends) true) status line → status ≡ 0 → ⊥
-not_success [] ends status line (inl says) none = omega (arith, says.0, none)
-not_success [] ends status line (inr says) none = omega (arith, says.0, none)
-not_success (name ∷ names) [] status line (inl says) none = omega (arith, says.0, none)
-not_success (name ∷ names) [] status line (inr says) none = omega (arith, says.0, none)
-not_success (name ∷ names) (ended.Done ∷ ends) status line says none = not_success names ends status line says none
-not_success (name ∷ names) (ended.Script why ∷ ends) status line (inl says) none = omega (arith, says.0, none)
-not_success (name ∷ names) (ended.Script why ∷ ends) status line (inr says) none = omega (arith, says.0, none)
-not_success (name ∷ names) (ended.TooLong ∷ ends) status line (inl says) none = omega (arith, says.0, none)
-not_success (name ∷ names) (ended.TooLong ∷ ends) status line (inr says) none = omega (arith, says.0, none)
-not_success (name ∷ names) (ended.TooMany ∷ ends) status line (inl says) none = omega (arith, says.0, none)
-not_success (name ∷ names) (ended.TooMany ∷ ends) status line (inr says) none = omega (arith, says.0, none)
-not_success (name ∷ names) (ended.ReadFault ∷ ends) status line (inl says) none = omega (arith, says.0, none)
-not_success (name ∷ names) (ended.ReadFault ∷ ends) status line (inr says) none = omega (arith, says.0, none)
-not_success (name ∷ names) (ended.WriteFault ∷ ends) status line (inl says) none = omega (arith, says.0, none)
-not_success (name ∷ names) (ended.WriteFault ∷ ends) status line (inr says) none = omega (arith, says.0, none)
-not_success (name ∷ names) (ended.Memory ∷ ends) status line (inl says) none = omega (arith, says.0, none)
-not_success (name ∷ names) (ended.Memory ∷ ends) status line (inr says) none = omega (arith, says.0, none)
+no_success : (stop : Option ℕ) (status : ℕ) (line : List ℕ) → SaysWhy (why_of None stop true) status line → status ≡ 0 → ⊥
+no_success None status line (inl says) none = omega (arith, says.0, none)
+no_success None status line (inr says) none = omega (arith, says.0, none)
+no_success (Some t) status line (inl says) none = omega (arith, says.0, none)
+no_success (Some t) status line (inr says) none = omega (arith, says.0, none)
+
+not_success : (names : List (List ℕ)) (ends : List SessionEnd) (stop : Option ℕ) (status : ℕ) (line : List ℕ)
+    → SaysWhy (why_of (first_early names ends) stop true) status line → status ≡ 0 → ⊥
+not_success [] ends stop status line says none = no_success stop status line says none
+not_success (name ∷ names) [] stop status line says none = no_success stop status line says none
+not_success (name ∷ names) (ended.Done ∷ ends) stop status line says none = not_success names ends stop status line says none
+not_success (name ∷ names) (ended.Script why ∷ ends) stop status line (inl says) none = omega (arith, says.0, none)
+not_success (name ∷ names) (ended.Script why ∷ ends) stop status line (inr says) none = omega (arith, says.0, none)
+not_success (name ∷ names) (ended.TooLong ∷ ends) stop status line (inl says) none = omega (arith, says.0, none)
+not_success (name ∷ names) (ended.TooLong ∷ ends) stop status line (inr says) none = omega (arith, says.0, none)
+not_success (name ∷ names) (ended.TooMany ∷ ends) stop status line (inl says) none = omega (arith, says.0, none)
+not_success (name ∷ names) (ended.TooMany ∷ ends) stop status line (inr says) none = omega (arith, says.0, none)
+not_success (name ∷ names) (ended.ReadFault ∷ ends) stop status line (inl says) none = omega (arith, says.0, none)
+not_success (name ∷ names) (ended.ReadFault ∷ ends) stop status line (inr says) none = omega (arith, says.0, none)
+not_success (name ∷ names) (ended.WriteFault ∷ ends) stop status line (inl says) none = omega (arith, says.0, none)
+not_success (name ∷ names) (ended.WriteFault ∷ ends) stop status line (inr says) none = omega (arith, says.0, none)
+not_success (name ∷ names) (ended.Memory ∷ ends) stop status line (inl says) none = omega (arith, says.0, none)
+not_success (name ∷ names) (ended.Memory ∷ ends) stop status line (inr says) none = omega (arith, says.0, none)
 
 -- what a merge promises holds where the status is 0
-pub success_is_merged : {E : Type 0} (merged : Result (Unit {0}) E) (names : List (List ℕ)) (ends_are : List SessionEnd) (status : ℕ) (line
-    : List ℕ)
-    (M : Type 0) → IfOk merged (λ _. M) → SaysWhy (why_of (first_early names ends_are) (is_err merged)) status line → status ≡ 0 → M
-success_is_merged (Ok u) names ends_are status line M promised says none = promised
-success_is_merged (Err e) names ends_are status line M promised says none = absurd (not_success names ends_are status line says none)
+pub success_is_merged : {E : Type 0} (merged : Result (Unit {0}) E) (names : List (List ℕ)) (ends_are : List SessionEnd) (stop : Option ℕ)
+    (status : ℕ) (line : List ℕ)
+    (M : Type 0) → IfOk merged (λ _. M) → SaysWhy (why_of (first_early names ends_are) stop (is_err merged)) status line → status ≡ 0 → M
+success_is_merged (Ok u) names ends_are stop status line M promised says none = promised
+success_is_merged (Err e) names ends_are stop status line M promised says none = absurd (not_success names ends_are stop status line says
+    none)
 
 -- ---- names that are those of scripts
 
@@ -196,54 +213,106 @@ module _ {I O : Type 0} (told : Told) (tells : Tells I O) where
 
 -- ---- causes
 
-module _ {I O D : Type 0} (told : Told) (tells : Tells I O) (new : ℕ) (outcome : Outcome I O D) where
-  cause_why : (command : Option Command) (early : Option (List ℕ × SessionEnd)) (unmerged : Bool) → HaveRun told tells new command outcome
-      early
-      → CauseOf told tells new command outcome (why_of early unmerged)
-  cause_why command None false ran = ran
-  cause_why command None true ran = inr ran
-  cause_why command (Some p) unmerged ran = ran
+-- the log stopped where a transaction is torn, and then its count rose
+module _ {I O D : Type 0} (told : Told) (disks : DiskTells D) (outcome : Outcome I O D) (dir : List ℕ) where
+  torn_by : (last : Option Kept) (log : Option D) → outcome.log ≡ log
+      → IfSome last (λ l. IfSome log (LogHolds told disks dir l.entries outcome.recovered outcome.torn)) → IsSome last → IsSome log
+      → IsSome outcome.torn → (disk : D) × (outcome.log ≡ Some disk) × Rose (told.disk_faults dir Log) (disks.faults disk)
+  torn_by None log is holds there both torn = absurd (cc)
+  torn_by (Some l) None is holds there both torn = absurd (cc)
+  torn_by (Some l) (Some disk) is holds there both torn = (disk, is, holds.failed torn)
 
-  pub caused_by_memory : (command : Command) → NoSession outcome → IsOutOfMemory outcome → Causes told tells new (Some command) outcome
+  pub counts_torn : IfSome outcome.last (λ l. IfSome outcome.log (LogHolds told disks dir l.entries outcome.recovered outcome.torn))
+      → IsSome outcome.last → IsSome outcome.log
+      → IsSome outcome.torn → (disk : D) × (outcome.log ≡ Some disk) × Rose (told.disk_faults dir Log) (disks.faults disk)
+  counts_torn holds there both torn = torn_by outcome.last outcome.log refl holds there both torn
+
+module _ {I O D : Type 0} (told : Told) (tells : Tells I O) (disks : DiskTells D) (new : ℕ) (outcome : Outcome I O D) where
+  cause_why : (command : Command) (early : Option (List ℕ × SessionEnd)) (torn : Option Draft) (unmerged : Bool) → outcome.torn ≡ torn
+      → IfSome outcome.last (λ l. IfSome outcome.log (LogHolds told disks (directory_of (Some command)) l.entries outcome.recovered
+      outcome.torn))
+      → HaveRun told tells new (Some command) outcome early
+      → CauseOf told tells disks new (Some command) outcome (why_of early (stop_of torn) unmerged)
+  cause_why command None None false is holds ran = (ran, is)
+  cause_why command None None true is holds ran = inr (ran, is)
+  cause_why command None (Some draft) unmerged is holds ran = (
+    ran,
+    ap stop_of is,
+    counts_torn told disks outcome (directory_of (Some command)) holds ran.last ran.disks.log (subst IsSome (sym is)
+        refl),
+  )
+  cause_why command (Some p) torn unmerged is holds ran = ran
+
+  pub caused_by_memory : (command : Command) → NoSession outcome → IsOutOfMemory outcome → Causes told tells disks new (Some command)
+      outcome
   caused_by_memory command none refused = record { why = memory; says = inr refused; cause = inl (none, refl) }
 
   -- whatever the words are
-  pub caused_by_words : (command : Option Command) → new ≡ told.faults → NoSession outcome → IsOutOfMemory outcome → Causes told tells new
-      command outcome
-  caused_by_words None same none refused = record { why = usage; says = inr refused; cause = (none, refl, same) }
-  caused_by_words (Some command) same none refused = caused_by_memory command none refused
+  pub caused_by_words : (command : Option Command) → new ≡ told.faults → NoSession outcome → HasNoDisk outcome → IsOutOfMemory outcome →
+      Causes told tells disks new command outcome
+  caused_by_words None same none no_disk refused = record { why = usage; says = inr refused; cause = (none, no_disk, refl, same) }
+  caused_by_words (Some command) same none no_disk refused = caused_by_memory command none refused
 
-  pub caused_by_usage : (command : Option Command) → None ≡ command → new ≡ told.faults → NoSession outcome
-      → ((outcome.status ≡ 1) × (string_bytes outcome.line ≡ usage_line)) ⊎ IsOutOfMemory outcome → Causes told tells new command outcome
-  caused_by_usage command is same none said = record { why = usage; says = said; cause = (none, sym is, same) }
+  pub caused_by_usage : (command : Option Command) → None ≡ command → new ≡ told.faults → NoSession outcome → HasNoDisk outcome
+      → ((outcome.status ≡ 1) × (string_bytes outcome.line ≡ usage_line)) ⊎ IsOutOfMemory outcome → Causes told tells disks new command
+      outcome
+  caused_by_usage command is same none no_disk said = record { why = usage; says = said; cause = (none, no_disk, sym is, same) }
 
-  pub caused_by_host : (command : Command) (name : List ℕ) → (place : ℕ) → slice_get (scripts_of (Some command)) place ≡ Some name → Rose
-      told.faults new → NoSession outcome
-      → ((outcome.status ≡ 2) × (string_bytes outcome.line ≡ cannot_open name)) ⊎ IsOutOfMemory outcome → Causes told tells new (Some
+  pub caused_by_host : (command : Command) (name : List ℕ) → (place : ℕ) → slice_get (directory_of (Some command) ∷ scripts_of (Some
+      command)) place ≡ Some name → Rose told.faults new → NoSession outcome → HasNoDisk outcome
+      → ((outcome.status ≡ 2) × (string_bytes outcome.line ≡ cannot_open name)) ⊎ IsOutOfMemory outcome → Causes told tells disks new (Some
       command) outcome
-  caused_by_host command name place named rose none said = record {
+  caused_by_host command name place named rose none no_disk said = record {
     why = unopened name;
     says = said;
-    cause = record { none = none; host = rose; place = place; named = named };
+    cause = record { none = none; disks = no_disk; host = rose; place = place; named = named };
   }
+
+  by_fault : (command : Command) (fault : OpenFault) (log : D) → outcome.log ≡ Some log → IsNotOpened told disks new (Some command) outcome
+      → WhereTold (told.disks (directory_of (Some command)) Log) (IsCause fault)
+      → CountsOpening fault (told.disk_faults (directory_of (Some command)) Log) (disks.faults log)
+      → CauseOf told tells disks new (Some command) outcome (why_not fault)
+  by_fault command fault.Disk log is not_opened cause counted = (not_opened, (log, is, counted))
+  by_fault command (fault.BadLog nth at) log is not_opened cause counted = (not_opened, cause)
+  by_fault command (fault.Unlawful t law) log is not_opened cause counted = (not_opened, cause)
+  by_fault command fault.Memory log is not_opened cause counted = inl (not_opened.none, refl)
+
+  -- a fault of the log's disk, or of its file
+  pub caused_by_log : (command : Command) (fault : OpenFault) (log segments : D) → new ≡ told.faults → NoSession outcome
+      → outcome.log ≡ Some log → outcome.segments ≡ Some segments → IsBadLog told disks (directory_of (Some command)) fault log
+      → SaysWhy (why_not fault) outcome.status (string_bytes outcome.line) → Causes told tells disks new (Some command) outcome
+  caused_by_log command fault log segments same none log_is segments_is bad said =
+      let not_opened : IsNotOpened told disks new (Some command) outcome = record {
+        is_command = refl;
+        none = none;
+        host = same;
+        segments = subst IsSome (sym segments_is) refl;
+        log = log;
+        log_is = log_is;
+        unharmed = bad.unharmed;
+      } in
+      record { why = why_not fault; says = said; cause = by_fault command fault log log_is not_opened bad.cause bad.counted }
 
   pub caused_by_sessions : (command : Command) (opened : List (SessionOut I O)) → EachOf (λ n name (s : SessionOut I O). IsOpenedFor told
       tells name s) 0 (scripts_of (Some command)) opened → new ≡ told.faults
-      → (NoSession outcome × IsOutOfMemory outcome) ⊎ HaveEnded tells (scripts_of (Some command)) opened outcome → Causes told tells new
-      (Some command) outcome
-  caused_by_sessions command opened has same (inl none) = caused_by_memory command none.0 none.1
-  caused_by_sessions command opened has same (inr ran) =
+      → IfSome outcome.last (λ l. IfSome outcome.log (LogHolds told disks (directory_of (Some command)) l.entries outcome.recovered
+      outcome.torn))
+      → (NoSession outcome × IsOutOfMemory outcome) ⊎ HaveEnded tells (scripts_of (Some command)) opened outcome → Causes told tells disks
+      new (Some command) outcome
+  caused_by_sessions command opened has same holds (inl none) = caused_by_memory command none.0 none.1
+  caused_by_sessions command opened has same holds (inr ran) =
       let early = first_early (scripts_of (Some command)) (map (λ (s : SessionOut I O). s.end) outcome.sessions.items) in
       let each = counts_told told tells (scripts_of (Some command)) opened outcome.sessions.items has ran.each in
       record {
-        why = why_of early ran.says.0;
+        why = why_of early (stop_of outcome.torn) ran.says.0;
         says = ran.says.1;
-        cause = cause_why (Some command) early ran.says.0 (record {
+        cause = cause_why command early outcome.torn ran.says.0 refl holds (record {
           is_command = refl;
           host = same;
           each = each;
           first = refl;
           last = ran.last;
           authors = ran.authors;
+          disks = ran.disks;
         });
       }

@@ -29,12 +29,17 @@ use Rattle.fb_session.specs.Replies.{Trace, AnswersAll, AnswersUpTo, SessionRun,
 use Rattle.fb_session.proofs.LongerHistories.{replies_longer}
 use Rattle.fb_run.specs.declared.outcome.SessionOut.{SessionOut}
 use Rattle.fb_run.specs.declared.outcome.Outcome.{Outcome}
-use Rattle.fb_run.specs.Outside.{Tells, run_of, setting_of, EachOf, EachWhile}
+use Rattle.disk_model.specs.Disk.{WhereTold}
+use Rattle.log_model.specs.Log.{LogSays, stands_for, bad_record as bad_record_there, unlawful as unlawful_there, FileSays}
+use Rattle.log_model.proofs.LogFiles.{one_said, IsLogOf-says}
+use Rattle.fb_ports.specs.declared.hosts.Part.TheVariants.{Log}
+use Rattle.fb_run.specs.Outside.{Tells, DiskTells, run_of, setting_of, EachOf, EachWhile}
+use Rattle.fb_run.specs.Logs.{LogHolds}
 use Rattle.fb_run.specs.Headline.{OneHistory, stop_of, EachReplies}
-use Rattle.fb_run.specs.StatusLines.{Why, answered, usage, unopened, ended_early, memory, status_of_end, line_of_end, first_early}
-use Rattle.fb_run.specs.Causes.{IsOutOfMemory, SaysWhy, Counts, HaveRun, CauseOf, Causes}
-use Rattle.fb_run.specs.Complete.{HoldsForms, HoldsFormsAlone, NoneRose, EachHasItsLine, AnsweredWhole, Complete}
-use Rattle.fb_run.proofs.Causing.{first_done, says_memory}
+use Rattle.fb_run.specs.StatusLines.{Why, answered, usage, unopened, disk_failed, bad_record, unlawful, ended_early, log_stopped, memory, status_of_end, line_of_end, first_early}
+use Rattle.fb_run.specs.Causes.{HasDisks, IsOutOfMemory, SaysWhy, Counts, HaveRun, directory_of, CauseOf, Causes}
+use Rattle.fb_run.specs.Complete.{HoldsForms, HoldsFormsAlone, HoldsHistory, NoneRose, EachHasItsLine, AnsweredWhole, Complete}
+use Rattle.fb_run.proofs.Causing.{first_done, says_memory, counts_torn}
 
 -- what was taken of a source that tells, up to its end, is what it held
 taken_whole : (held left : Option (List ℕ)) (bytes script : List ℕ) → held ≡ Some bytes → held ≡ prepend_known script left → IsAtEnd left →
@@ -168,12 +173,13 @@ stands_behind n m k same = omega (arith, same)
 
 -- ---- the run
 
-module _ {I O D : Type 0} (terms : Terms) (told : Told) (tells : Tells I O) (new : ℕ) (command : Command) (outcome : Outcome I O D) (last :
-    Kept)
+module _ {I O D : Type 0} (terms : Terms) (told : Told) (tells : Tells I O) (disks : DiskTells D) (new : ℕ) (command : Command) (outcome :
+    Outcome
+    I O D) (last : Kept)
     (lawful : IsLawful last.entries) (seen : outcome.recovered ≤ basis last.entries) (kept : outcome.last ≡ Some last)
     (replies : EachReplies terms told tells outcome.recovered None (scripts_of (Some command)) outcome.sessions.items last.entries)
     (holds : AllByRecursion (λ name. HoldsFormsAlone (told.sources name)) (scripts_of (Some command)))
-    (calm : NoneRose told tells new (scripts_of (Some command)) outcome.sessions.items) where
+    (calm : NoneRose told tells disks new (directory_of (Some command)) (scripts_of (Some command)) outcome) where
   ran_well : (early : Option (List ℕ × SessionEnd)) → HaveRun told tells new (Some command) outcome early
       → ((early ≡ None) × EachOf (IsWhole terms told tells last.entries outcome.recovered replies.0 lawful seen) 0 (scripts_of (Some
       command)) outcome.sessions.items)
@@ -203,20 +209,58 @@ module _ {I O D : Type 0} (terms : Terms) (told : Told) (tells : Tells I O) (new
       let memory_it = early_memory name how ran in (said.0 ∙ ap status_of_end memory_it, inl (said.1 ∙ ap (line_of_end name) memory_it))
   refused name how ran (inr said) = said
 
-module _ {I O D : Type 0} (terms : Terms) (told : Told) (tells : Tells I O) (new : ℕ) (command : Command) (outcome : Outcome I O D)
+-- the log of a history says nothing else
+says_history : (held : Option (List ℕ)) (said : LogSays) → HoldsHistory held → WhereTold held (λ file. FileSays file said)
+    → (h : List Entry) × (stands_for h ≡ said)
+says_history held said holds says = (
+  holds.history,
+  one_said holds.file (stands_for holds.history) said (IsLogOf-says holds.file holds.history holds.is) (says holds.file
+      holds.told),
+)
+
+module _ {I O D : Type 0} (terms : Terms) (told : Told) (tells : Tells I O) (disks : DiskTells D) (new : ℕ) (command : Command) (outcome :
+    Outcome I O D)
+    (log : HoldsHistory (told.disks (directory_of (Some command)) Log))
     (holds : AllByRecursion (λ name. HoldsFormsAlone (told.sources name)) (scripts_of (Some command)))
-    (calm : NoneRose told tells new (scripts_of (Some command)) outcome.sessions.items) where
+    (calm : NoneRose told tells disks new (directory_of (Some command)) (scripts_of (Some command)) outcome) where
+  no_bad_record : (nth at : ℕ) → WhereTold (told.disks (directory_of (Some command)) Log) (λ file. FileSays file (bad_record_there nth at))
+      → ⊥
+  no_bad_record nth at says = let wrong = (says_history _ _ log says).1 in absurd (cc)
+
+  no_unlawful : (t law : ℕ) → WhereTold (told.disks (directory_of (Some command)) Log) (λ file. FileSays file (unlawful_there t law)) → ⊥
+  no_unlawful t law says = let wrong = (says_history _ _ log says).1 in absurd (cc)
+
   -- the sessions ran, so there is a history
   module _ (lawful : IfSome outcome.last (λ last. IsLawful last.entries × (outcome.recovered ≤ basis last.entries)))
-      (replies : IfSome outcome.last (λ last. EachReplies terms told tells outcome.recovered None (scripts_of (Some command))
-      outcome.sessions.items last.entries)) where
+      (replies : IfSome outcome.last (λ last. EachReplies terms told tells outcome.recovered (stop_of outcome.torn) (scripts_of (Some
+      command)) outcome.sessions.items last.entries))
+      (kept : IfSome outcome.last (λ last. IfSome outcome.log (LogHolds told disks (directory_of (Some command)) last.entries
+      outcome.recovered outcome.torn))) where
+    -- and where its log's count did not rise, nothing is torn
+    not_torn : (torn : Option Draft) → outcome.torn ≡ torn → IsSome outcome.last → HasDisks outcome → torn ≡ None
+    not_torn None is there both = refl
+    not_torn (Some draft) is there both =
+        let rose = counts_torn told disks outcome (directory_of (Some command)) kept there both.log (subst IsSome (sym is) refl) in
+        absurd (calm.parts Log rose.0 rose.1 rose.2)
+
+    going : {early : Option (List ℕ × SessionEnd)} → HaveRun told tells new (Some command) outcome early → outcome.torn ≡ None
+    going ran = not_torn outcome.torn refl ran.last ran.disks
+
+    unstopped : (h : List Entry) → outcome.torn ≡ None
+        → EachReplies terms told tells outcome.recovered (stop_of outcome.torn) (scripts_of (Some command)) outcome.sessions.items h
+        → EachReplies terms told tells outcome.recovered None (scripts_of (Some command)) outcome.sessions.items h
+    unstopped h none says =
+        subst (λ (torn : Option Draft). EachReplies terms told tells outcome.recovered (stop_of torn) (scripts_of (Some command))
+        outcome.sessions.items h) none says
+
     whole_by : (last : Option Kept) → outcome.last ≡ last → IsSome last → outcome.status ≡ 0 → HaveRun told tells new (Some command)
         outcome None
         → AnsweredWhole terms told tells (scripts_of (Some command)) outcome
     whole_by None is there success ran = absurd (cc)
     whole_by (Some l) is there success ran =
         let stands = rw is at lawful in let says = rw is at replies in
-        answered_whole terms told tells new command outcome l stands.0 stands.1 is says holds calm success ran
+        answered_whole terms told tells disks new command outcome l stands.0 stands.1 is (unstopped l.entries (going ran) says) holds calm
+        success ran
 
     refused_by : (last : Option Kept) → outcome.last ≡ last → IsSome last → (name : List ℕ) (how : SessionEnd) → HaveRun told tells new
         (Some command) outcome (Some (name, how))
@@ -225,36 +269,41 @@ module _ {I O D : Type 0} (terms : Terms) (told : Told) (tells : Tells I O) (new
     refused_by None is there name how ran said = absurd (cc)
     refused_by (Some l) is there name how ran said =
         let stands = rw is at lawful in let says = rw is at replies in
-        refused terms told tells new command outcome l stands.0 stands.1 is says holds calm name how ran said
+        refused terms told tells disks new command outcome l stands.0 stands.1 is (unstopped l.entries (going ran) says) holds calm name how
+        ran said
 
-    by_why : (why : Why) → SaysWhy why outcome.status (string_bytes outcome.line) → CauseOf told tells new (Some command) outcome why
+    by_why : (why : Why) → SaysWhy why outcome.status (string_bytes outcome.line) → CauseOf told tells disks new (Some command) outcome why
         → AnsweredWhole terms told tells (scripts_of (Some command)) outcome ⊎ IsOutOfMemory outcome
-    by_why answered says cause = inl (whole_by outcome.last refl cause.last says.0 cause)
-    by_why usage says cause = absurd (none-some command (sym cause.1))
+    by_why answered says cause = inl (whole_by outcome.last refl cause.0.last says.0 cause.0)
+    by_why usage says cause = absurd (none-some command (sym cause.2))
     by_why (unopened name) says cause = absurd (calm.host cause.host)
+    by_why (disk_failed part) says cause = absurd (calm.parts part cause.1.0 cause.1.1 cause.1.2)
+    by_why (bad_record nth at) says cause = absurd (no_bad_record nth at cause.1)
+    by_why (unlawful t law) says cause = absurd (no_unlawful t law cause.1)
     by_why (ended_early name how) says cause = inr (refused_by outcome.last refl cause.last name how cause says)
+    by_why (log_stopped t) says cause = absurd (calm.parts Log cause.2.0 cause.2.1 cause.2.2)
     by_why memory says cause = inr (says_memory outcome.status (string_bytes outcome.line) says)
 
-    pub complete_run : Causes told tells new (Some command) outcome → AnsweredWhole terms told tells (scripts_of (Some command)) outcome ⊎
-        IsOutOfMemory outcome
+    pub complete_run : Causes told tells disks new (Some command) outcome → AnsweredWhole terms told tells (scripts_of (Some command))
+        outcome
+        ⊎ IsOutOfMemory outcome
     complete_run causes = by_why causes.why causes.says causes.cause
 
-pub complete_command : {I O D : Type 0} (terms : Terms) (told : Told) (tells : Tells I O) (new : ℕ) (command : Option Command) (outcome :
-    Outcome I O D)
-    (authors : List ℕ) (commits : List (List ℕ)) → outcome.torn ≡ None
+pub complete_command : {I O D : Type 0} (terms : Terms) (told : Told) (tells : Tells I O) (disks : DiskTells D) (new : ℕ) (command : Option
+    Command) (outcome : Outcome I O D)
+    (authors : List ℕ) (commits : List (List ℕ))
     → IfSome outcome.last (λ last. OneHistory last.entries outcome.recovered authors commits)
     → IfSome outcome.last (λ last. EachReplies terms told tells outcome.recovered (stop_of outcome.torn) (scripts_of command)
     outcome.sessions.items last.entries)
-    → Causes told tells new command outcome → Complete terms told tells new command outcome
-complete_command terms told tells new None outcome authors commits going history replies causes = tt
-complete_command terms told tells new (Some command) outcome authors commits going history replies causes =
+    → IfSome outcome.last (λ last. IfSome outcome.log (LogHolds told disks (directory_of command) last.entries outcome.recovered
+    outcome.torn))
+    → Causes told tells disks new command outcome → Complete terms told tells disks new command outcome
+complete_command terms told tells disks new None outcome authors commits history replies kept causes = tt
+complete_command terms told tells disks new (Some command) outcome authors commits history replies kept causes =
     let lawful : IfSome outcome.last (λ last. IsLawful last.entries × (outcome.recovered ≤ basis last.entries)) =
     IfSome_then outcome.last history (λ last one. (
       one.lawful,
       stands_behind outcome.recovered (length authors) (basis last.entries)
           one.each_t,
     )) in
-    let ours = subst (λ (torn : Option Draft). IfSome outcome.last (λ last. EachReplies terms told tells outcome.recovered (stop_of torn)
-    (scripts_of (Some command))
-    outcome.sessions.items last.entries)) going replies in
-    λ holds calm. complete_run terms told tells new command outcome holds calm lawful ours causes
+    λ log holds calm. complete_run terms told tells disks new command outcome log holds calm lawful replies kept causes

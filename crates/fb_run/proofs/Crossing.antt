@@ -120,6 +120,7 @@ pub Worker-send : IsSend Worker.the_row
 Worker-send = declared_send Worker.the_type (Seat-row, (base.the_send, (ended.the_send, tt)))
 
 -- a session is sent with its desk, if the log, its source and its sink may be
-pub Job-send : (ℓ : NamedLft) (I O L R : RattleType) (g : Ghosts L.Denot R.Denot) → IsSend I → IsSend O → IsSend L → IsSend (Job.the_row ℓ I O L R g)
+pub Job-send : (ℓ : NamedLft) (I O L R : RattleType) (g : Ghosts L.Denot R.Denot) → IsSend I → IsSend O → IsSend L → IsSend (Job.the_row ℓ I
+    O L R g)
 Job-send ℓ I O L R g source sink log =
     declared_send (Job.the_type ℓ I O L R g) (Desk-send ℓ L R g log, (out.the_send I O source sink, tt))

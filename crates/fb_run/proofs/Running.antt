@@ -1,15 +1,17 @@
 -- What the closed database and the sessions that ran leave: one history, and what each session did in it.
-use Rattle.std.proofs.Common.{◌≡◌, ℕ, ◌+◌, ◌<◌, ◌≤◌, ◌⊎◌, inl, inr, Bool, false, List, [], ◌∷◌, ◌++◌, map, length, length-append, Option, Some, None, refl, sym, ap, ◌∙◌, subst, arith}
+use Rattle.std.proofs.Common.{◌≡◌, ℕ, ◌+◌, ◌<◌, ◌≤◌, ◌⊎◌, inl, inr, Bool, List, [], ◌∷◌, ◌++◌, map, length, length-append, Option, Some, None, refl, sym, ap, ◌∙◌, subst, arith}
 use Rattle.std.proofs.lemmas.Option.{get_or_from_slice_get, slice_get_within}
-use Rattle.std.specs.Prelude.{◌==◌, slice_get, slice_index_or, IfSome, unwrap_or, string_bytes}
+use Rattle.std.proofs.lemmas.List.{append_assoc}
+use Rattle.std.proofs.Math.Seq.{take-append_seam}
+use Rattle.std.specs.Prelude.{◌==◌, fold, take, option_map, slice_get, slice_index_or, IfSome, IsSome, unwrap_or, string_bytes}
 use Rattle.std.specs.List.{AllByRecursion}
 use Rattle.std.specs.List.Sorted.{IsStrictlyIncreasing}
 use lib.ListN.{length-map}
 use Rattle.fb_values.specs.declared.facts.Entry.{Entry}
-use Rattle.fb_model.specs.FirstEntry.{first_entry}
-use Rattle.fb_model.specs.History.{basis}
-use Rattle.fb_model.specs.Lawful.{IsLawful}
-use Rattle.fb_model.proofs.LawfulHistories.{IsLawful-first, IsLawful-length}
+use Rattle.fb_model.specs.History.{basis, upto}
+use Rattle.fb_model.specs.Lawful.{IsLawful, IsLawfulAfter}
+use Rattle.fb_model.proofs.LawfulHistories.{IsLawful-length}
+use Rattle.fb_model.proofs.Times.{next_t}
 use Rattle.fb_core.specs.Worlds.{commits_behind}
 use Rattle.fb_view.specs.Kept.{Kept}
 use Rattle.fb_desk.specs.Desks.{State, as_opened}
@@ -18,82 +20,119 @@ use Rattle.fb_conn.specs.declared.seats.Seat.{Seat}
 use Rattle.fb_conn.specs.declared.home.Stop.{Stop}
 use Rattle.fb_conn.specs.Homes.{LogStands}
 use Rattle.fb_conn.specs.Seats.{IsSeatOf, IsWorkerOf, state_of}
-use Rattle.fb_log.specs.declared.logs.NoLog.{NoLog}
 use Rattle.fb_core.specs.declared.shared.CoreParts.{CoreParts}
 use Rattle.fb_core.specs.declared.accepting.Draft.{Draft}
-use Rattle.fb_core.specs.Cores.{CoreStands}
+use Rattle.fb_core.specs.Cores.{CoreStands, entry_of}
+use Rattle.disk_log.specs.declared.logs.DiskLog.{DiskLog}
+use Rattle.disk_log.specs.Disks.{HasKept, HasBroken}
+use Rattle.disk_log.specs.Logs.{disk_in, count_in, KeepsHistory, BrokeAt}
 use Rattle.board_rule.specs.Calls.{view_of}
-use Rattle.fb_conn.specs.Closing.{IsTakenIn}
+use Rattle.fb_conn.specs.Closing.{at_of, is_author, IsTakenIn}
 use Rattle.talk_model.specs.Prefixes.{Prefixes}
 use Rattle.talk_model.proofs.Places.{commits_rise}
 use Rattle.fb_session.specs.Sessions.{Terms}
 use Rattle.fb_session.specs.Replies.{Replies}
 use Rattle.fb_session.proofs.LongerHistories.{replies_longer, prefixes_longer}
 use Rattle.fb_run.specs.declared.outcome.SessionOut.{SessionOut}
-use Rattle.fb_run.specs.Outside.{Tells, run_from, setting_of, EachOf}
+use Rattle.fb_run.specs.Outside.{Tells, DiskTells, run_from, setting_of, EachOf}
 use Rattle.fb_run.specs.Jobs.{HasTalked, HaveTalked}
 use Rattle.fb_run.specs.declared.outcome.Outcome.{Outcome}
 use Rattle.fb_run.specs.StatusLines.{first_early, why_of}
 use Rattle.fb_run.specs.Causes.{SaysWhy}
 use Rattle.fb_run.specs.Headline.{OneHistory, stop_of}
-use Rattle.fb_run.specs.Running.{IsMade, Closes, CountsBy, RepliesBy, HaveEnded}
+use Rattle.fb_run.specs.declared.database.Directory.{Directory}
+use Rattle.fb_run.specs.Running.{IsMade, Closes, LeavesLog, LeavesDisks, GoesOnFrom, CountsBy, RepliesBy, HaveEnded}
 use Rattle.fb_run.proofs.Lists.{some_then, there, all_at, map_at, at_map, each_at}
 
--- a state as it was opened over a new history
-abbrev pub IsNew : State → Type 0
-IsNew s = s ≡ record (as_opened (first_entry ∷ [])) { seat = s.seat }
+-- a state as it was opened over this history
+abbrev pub IsNew : List Entry → State → Type 0
+IsNew h s = s ≡ record (as_opened h) { seat = s.seat }
 
-module _ {I O : Type 0} (terms : Terms) (tells : Tells I O) (last : Kept) (authors : List ℕ) (lawful : IsLawful last.entries) where
+-- the session whose transaction the log did not take
+abbrev pub teller_of : Option Stop → ℕ
+teller_of None = 0
+teller_of (Some stop) = stop.author
+
+module _ {I O : Type 0} (terms : Terms) (tells : Tells I O) (h : List Entry) (begun : IsLawful h) (r : ℕ) (start : basis h ≡ r) (stopped :
+    Option Stop) (last : Kept)
+    (authors : List ℕ) (lawful : IsLawful last.entries) where
+  abbrev stop : Option ℕ
+  stop = option_map at_of stopped
+
   -- what the session of this number did, in the words of the one history
   record Part (k : ℕ) (old new : SessionOut I O) : Type 0 where
-    commits : new.commits ≡ commits_behind 0 k authors
+    commits : new.commits ≡ commits_behind r k authors
     rising : IsStrictlyIncreasing new.commits
-    prefixes : Prefixes 0 (basis last.entries) new.places new.commits
-    replies : Replies (setting_of terms last.entries None (0 == k)) 0 (run_from tells old.source old.sink new)
+    prefixes : Prefixes r (basis last.entries) new.places new.commits
+    replies : Replies (setting_of terms last.entries stop (teller_of stopped == k)) r (run_from tells old.source old.sink new)
     counts : CountsBy tells old new
 
-  no_stop : (z : State) (flag : Bool) → (z.stop ≡ None) ⊎ ((z.stop ≡ None) × (z.teller ≡ flag)) → z.stop ≡ None
-  no_stop z flag (inl e) = e
-  no_stop z flag (inr p) = p.0
+  stays_by : (z : State) (who : Option Stop) (k : ℕ) → (z.stop ≡ None) ⊎ ((z.stop ≡ option_map at_of who) × (z.teller ≡ is_author k who))
+      → (z.stop ≡ None) ⊎ ((option_map at_of who ≡ z.stop) × ((teller_of who == k) ≡ z.teller))
+  stays_by z None k (inl none) = inl none
+  stays_by z None k (inr one) = inl one.0
+  stays_by z (Some who) k (inl none) = inl none
+  stays_by z (Some who) k (inr one) = inr (sym one.0, sym one.1)
 
-  part_of : (k : ℕ) (s z : State) (old new : SessionOut I O) → IsNew s → HasTalked terms tells s z old new
-      → IsTakenIn (record { snapshot = last; authors = authors }) 0 None k z → Part k old new
+  -- the history goes on from the opening's
+  grown_by : (k : ℕ) (s z : State) (old new : SessionOut I O) → IsNew h s → HasTalked terms tells s z old new
+      → IsTakenIn (record { snapshot = last; authors = authors }) r stopped k z → (more : List Entry) × (last.entries ≡ h ++ more)
+  grown_by k s z old new is_new talked taken =
+      let entries : s.entries ≡ h = ap (λ (x : State). x.entries) is_new in (
+        talked.went_on.more ++ taken.more,
+        taken.entries
+            ∙ (ap (λ (l : List Entry). l ++ taken.more) (talked.went_on.entries ∙ ap (λ (l : List Entry). l ++ talked.went_on.more) entries)
+            ∙ append_assoc h talked.went_on.more taken.more),
+      )
+
+  part_of : (k : ℕ) (s z : State) (old new : SessionOut I O) → IsNew h s → HasTalked terms tells s z old new
+      → IsTakenIn (record { snapshot = last; authors = authors }) r stopped k z → Part k old new
   part_of k s z old new is_new talked taken =
-      let entries : s.entries ≡ first_entry ∷ [] = ap (λ (x : State). x.entries) is_new in
-      let first : basis s.entries ≡ 0 = ap basis entries in
+      let entries : s.entries ≡ h = ap (λ (x : State). x.entries) is_new in
+      let first : basis s.entries ≡ r = ap basis entries ∙ start in
       let nothing : s.commits ≡ [] = ap (λ (x : State). x.commits) is_new in
       let ours : z.commits ≡ new.commits = talked.commits ∙ ap (λ (c : List ℕ). c ++ new.commits) nothing in
-      let begun : IsLawful s.entries = subst IsLawful (sym entries) IsLawful-first in
-      let goes_on : IsLawful z.entries = talked.went_on.lawful begun in
+      let begins : IsLawful s.entries = subst IsLawful (sym entries) begun in
+      let goes_on : IsLawful z.entries = talked.went_on.lawful begins in
       let count : length z.entries ≡ basis z.entries + 1 = IsLawful-length z.entries goes_on in
       let longer : IsLawful (z.entries ++ taken.more) = subst IsLawful taken.entries lawful in
       let counted : length (z.entries ++ taken.more) ≡ basis (z.entries ++ taken.more) + 1 = IsLawful-length (z.entries ++ taken.more)
       longer in
       let grows : basis z.entries ≤ basis (z.entries ++ taken.more) = omega (arith, count, counted, length-append z.entries taken.more) in
-      let within : basis z.entries ≤ basis last.entries = subst (λ (h : List Entry). basis z.entries ≤ basis h) (sym taken.entries) grows in
-      let seen : 0 ≤ basis z.entries = omega arith in
-      let prefixes : Prefixes 0 (basis z.entries) new.places new.commits =
+      let within : basis z.entries ≤ basis last.entries = subst (λ (l : List Entry). basis z.entries ≤ basis l) (sym taken.entries) grows in
+      let seen : r ≤ basis z.entries =
+      omega (
+        arith,
+        count,
+        first,
+        IsLawful-length s.entries begins,
+        ap length talked.went_on.entries,
+        length-append s.entries talked.went_on.more,
+      ) in
+      let prefixes : Prefixes r (basis z.entries) new.places new.commits =
       subst (λ (n : ℕ). Prefixes n (basis z.entries) new.places new.commits) first talked.prefixes in
-      let replies : Replies (setting_of terms z.entries z.stop z.teller) 0 (run_from tells old.source old.sink new) =
+      let replies : Replies (setting_of terms z.entries z.stop z.teller) r (run_from tells old.source old.sink new) =
       subst (λ (n : ℕ). Replies (setting_of terms z.entries z.stop z.teller) n (run_from tells old.source old.sink new)) first
       talked.replies in
-      let over : Replies (setting_of terms (z.entries ++ taken.more) None (0 == k)) 0 (run_from tells old.source old.sink new) =
-      replies_longer (setting_of terms z.entries z.stop z.teller) taken.more None (0 == k) count grows (inl (no_stop z false taken.stop)) 0
-      seen _ replies in
+      let over : Replies (setting_of terms (z.entries ++ taken.more) stop (teller_of stopped == k)) r (run_from tells old.source old.sink
+      new) =
+      replies_longer (setting_of terms z.entries z.stop z.teller) taken.more stop (teller_of stopped == k) count grows (stays_by z stopped k
+      taken.stop) r seen _ replies in
       record {
         commits = sym ours ∙ taken.commits;
         rising = commits_rise _ _ _ _ talked.prefixes.committed_before;
-        prefixes = prefixes_longer 0 (basis z.entries) (basis last.entries) new.places new.commits within prefixes;
-        replies = subst (λ (h : List Entry). Replies (setting_of terms h None (0 == k)) 0 (run_from tells old.source old.sink new)) (sym
-            taken.entries) over;
+        prefixes = prefixes_longer r (basis z.entries) (basis last.entries) new.places new.commits within prefixes;
+        replies = subst (λ (l : List Entry). Replies (setting_of terms l stop (teller_of stopped == k)) r (run_from tells old.source
+            old.sink
+            new)) (sym taken.entries) over;
         counts = record { source = talked.source_count; sink = talked.sink_count };
       }
 
   module _ {L R : Type 0} (conn : Conn L R) (given : List Seat) (opened : List (SessionOut I O)) (seats : List Seat) (sessions : List
       (SessionOut I O))
       (talked : HaveTalked terms tells conn given opened seats sessions) (count : length opened ≡ length given)
-      (is_new : (k : ℕ) (seat : Seat) → slice_get given k ≡ Some seat → IsNew (state_of seat))
-      (taken : (k : ℕ) (seat : Seat) → slice_get seats k ≡ Some seat → IsTakenIn (record { snapshot = last; authors = authors }) 0 None k
+      (is_new : (k : ℕ) (seat : Seat) → slice_get given k ≡ Some seat → IsNew h (state_of seat))
+      (taken : (k : ℕ) (seat : Seat) → slice_get seats k ≡ Some seat → IsTakenIn (record { snapshot = last; authors = authors }) r stopped k
       (state_of seat)) where
     part_at : (k : ℕ) (old new : SessionOut I O) → slice_get opened k ≡ Some old → slice_get sessions k ≡ Some new → k < length sessions →
         Part k old new
@@ -109,7 +148,7 @@ module _ {I O : Type 0} (terms : Terms) (tells : Tells I O) (last : Kept) (autho
         let old = there opened k (omega (arith, within, talked.session_count, count)) in (old.0, part_at k old.0 new old.1 is within)
 
     own : (k : ℕ) → k < length (map (λ (s : SessionOut I O). s.commits) sessions)
-        → slice_index_or (map (λ (s : SessionOut I O). s.commits) sessions) k [] ≡ commits_behind 0 k authors
+        → slice_index_or (map (λ (s : SessionOut I O). s.commits) sessions) k [] ≡ commits_behind r k authors
     own k within =
         let inside : k < length sessions = omega (arith, within, length-map sessions (λ (s : SessionOut I O). s.commits)) in
         let new = there sessions k inside in
@@ -117,8 +156,17 @@ module _ {I O : Type 0} (terms : Terms) (tells : Tells I O) (last : Kept) (autho
         get_or_from_slice_get (map (λ (s : SessionOut I O). s.commits) sessions) k new.0.commits [] at ∙ (new_at k new.0 new.1
         inside).1.commits
 
-    pub one_history : 0 + length authors ≡ basis last.entries → AllByRecursion (λ author. author < length seats) authors
-        → OneHistory last.entries 0 authors (map (λ (s : SessionOut I O). s.commits) sessions)
+    -- there is a session, and what it had seen begins with the opening's history
+    pub opened_history : 0 < length sessions → (more : List Entry) × (last.entries ≡ h ++ more)
+    opened_history some =
+        let was = there given 0 (omega (arith, some, talked.session_count)) in
+        let now = there seats 0 (omega (arith, some, talked.session_count, talked.seat_count)) in
+        let old = there opened 0 (omega (arith, some, talked.session_count, count)) in let new = there sessions 0 some in
+        grown_by 0 (state_of was.0) (state_of now.0) old.0 new.0 (is_new 0 was.0 was.1)
+        (talked.talked 0 was.0 now.0 old.0 new.0 was.1 now.1 old.1 new.1) (taken 0 now.0 now.1)
+
+    pub one_history : r + length authors ≡ basis last.entries → AllByRecursion (λ author. author < length seats) authors
+        → OneHistory last.entries r authors (map (λ (s : SessionOut I O). s.commits) sessions)
     one_history each_t by_seats =
         let wide : length seats ≡ length (map (λ (s : SessionOut I O). s.commits) sessions) =
         omega (arith, talked.seat_count, talked.session_count, length-map sessions (λ (s : SessionOut I O). s.commits)) in
@@ -132,20 +180,22 @@ module _ {I O : Type 0} (terms : Terms) (tells : Tells I O) (last : Kept) (autho
               subst IsStrictlyIncreasing new.2 (new_at k new.0 new.1 (slice_get_within sessions k new.0 new.1)).1.rising);
         }
 
-    pub all_prefixes : AllByRecursion (λ (s : SessionOut I O). Prefixes 0 (basis last.entries) s.places s.commits) sessions
-    all_prefixes = all_at (λ (s : SessionOut I O). Prefixes 0 (basis last.entries) s.places s.commits) sessions (λ k new at. (new_at k new
+    pub all_prefixes : AllByRecursion (λ (s : SessionOut I O). Prefixes r (basis last.entries) s.places s.commits) sessions
+    all_prefixes = all_at (λ (s : SessionOut I O). Prefixes r (basis last.entries) s.places s.commits) sessions (λ k new at. (new_at k new
         at (slice_get_within sessions k new at)).1.prefixes)
 
     same_count : length opened ≡ length sessions
     same_count = omega (arith, count, talked.session_count)
 
-    pub all_replies : RepliesBy terms tells 0 None opened sessions last.entries
+    pub all_replies : RepliesBy terms tells r stop opened sessions last.entries
     all_replies = (
-      0,
-      each_at (λ n (old new : SessionOut I O). Replies (setting_of terms last.entries None (0 == n)) 0 (run_from tells old.source old.sink
+      teller_of stopped,
+      each_at (λ n (old new : SessionOut I O). Replies (setting_of terms last.entries stop (teller_of stopped == n)) r (run_from tells
+          old.source old.sink
           new)) 0 opened sessions same_count (λ k m old new is is_old is_new_one.
           let same : m ≡ k = omega (arith, is) in
-          subst (λ (n : ℕ). Replies (setting_of terms last.entries None (0 == n)) 0 (run_from tells old.source old.sink new)) (sym same)
+          subst (λ (n : ℕ). Replies (setting_of terms last.entries stop (teller_of stopped == n)) r (run_from tells old.source old.sink
+          new)) (sym same)
           (part_at k old new is_old is_new_one (slice_get_within sessions k new is_new_one)).replies),
     )
 
@@ -156,51 +206,80 @@ module _ {I O : Type 0} (terms : Terms) (tells : Tells I O) (last : Kept) (autho
 
 -- ---- the connection, as it was made and as it was closed
 
-pub is_made : {L R : Type 0} (conn : Conn L R) (seats : List Seat) (worker : Seat) (n : ℕ) (entries : List Entry) (c : ℕ) → entries ≡
-    first_entry ∷ []
+pub is_made : {L R : Type 0} (conn : Conn L R) (seats : List Seat) (worker : Seat) (n : ℕ) (entries : List Entry) (c : ℕ)
     → length seats ≡ n
     → ((k : ℕ) (seat : Seat) → slice_get seats k ≡ Some seat
     → IsSeatOf conn seat × ((view_of seat.board).number ≡ k) × (state_of seat ≡ record (as_opened entries) { seat = (state_of seat).seat }))
     → IsWorkerOf conn worker × ((view_of worker.board).given ≡ n) × ((view_of worker.board).covered ≡ c)
     × ((view_of worker.board).start ≡ basis entries) × (worker.last.entries ≡ entries)
-    → IsMade n conn seats worker
-is_made conn seats worker n entries c first count opened is = record {
+    → IsMade n entries conn seats worker
+is_made conn seats worker n entries c count opened is = record {
   count = count;
-  opened = λ k seat at. let s = opened k seat at in (
-    s.0,
-    s.1,
-    s.2 ∙ ap (λ (h : List Entry). record (as_opened h) {
-      seat = (state_of
-          seat).seat;
-    }) first,
-  );
+  opened = opened;
   worker_is = is.0;
   given = is.1;
-  start = is.3 ∙ ap basis first;
+  start = is.3;
 }
 
--- a history that is kept in memory alone has no stop
-pub never_stopped : (begun : NoLog) (entries : List Entry) (log : NoLog) (stopped : Option Stop) (torn : Option Draft)
-    → LogStands (λ _ _ _. Unit {0}) (λ _ _ _ _. ⊥) begun entries log stopped torn → stopped ≡ None
-never_stopped begun entries log None torn stands = refl
-never_stopped begun entries log (Some stop) torn stands = absurd (stands.1.3)
+-- ---- the log
 
-pub never_torn : (begun : NoLog) (entries : List Entry) (log : NoLog) (stopped : Option Stop) (torn : Option Draft)
-    → LogStands (λ _ _ _. Unit {0}) (λ _ _ _ _. ⊥) begun entries log stopped torn → torn ≡ None
-never_torn begun entries log None torn stands = stands.0
-never_torn begun entries log (Some stop) torn stands = absurd (stands.1.3)
+by_last : (h : List Entry) (n : ℕ) (e : Entry) → n ≡ e.t → fold (λ _ (entry : Entry). entry.t) n h ≡ (fold (λ _ (entry : Entry). entry) e
+    h).t
+by_last [] n e same = same
+by_last (x ∷ xs) n e same = by_last xs x.t x refl
 
--- merging changes neither the entries nor their authors
-pub closes_of : {I O D : Type 0} (seats : List Seat) (outcome : Outcome I O D) (core parts : CoreParts) (start : ℕ) (stopped : Option Stop)
+-- the t of the torn transaction is the next one
+next_of : (h : List Entry) (draft : Draft) → IsLawfulAfter h (entry_of draft) → basis draft.after.entries ≡ basis h + 1
+next_of h draft next = by_last draft.after.entries 0 _ refl ∙ next_t h (entry_of draft) next
+
+pub torn_at : {D : Type 0} {g : _} (disks : DiskTells D) (begun log : DiskLog D g) (h : List Entry) (stopped : Option Stop) (torn : Option
+    Draft) → IsLawful h
+    → LogStands (KeepsHistory disks.bytes disks.images disks.faults disks.moment disks.images_since)
+    (BrokeAt disks.bytes disks.images disks.faults disks.moment disks.images_since) begun h log stopped torn
+    → stop_of torn ≡ option_map at_of stopped
+torn_at disks begun log h None torn lawful stands = ap stop_of stands.0
+torn_at disks begun log h (Some who) torn lawful stands =
+    let draft : Draft = stands.1.0 in
+    let t : basis draft.after.entries ≡ who.at = omega (arith, next_of h draft stands.1.2, IsLawful-length h lawful, stands.0) in
+    ap stop_of stands.1.1 ∙ ap (λ (n : ℕ). Some n) t
+
+module _ {D : Type 0} {g : _} (disks : DiskTells D) (begun log : DiskLog D g) (disk : D)
+    (kept : (from : DiskLog D g) (h : List Entry) → KeepsHistory disks.bytes disks.images disks.faults disks.moment disks.images_since from
+    h
+    log
+    → HasKept disks.bytes disks.images disks.faults disks.moment disks.images_since (count_in from) (disk_in from) h disk)
+    (broke : (from : DiskLog D g) (h : List Entry) (entry : Entry) → BrokeAt disks.bytes disks.images disks.faults disks.moment
+    disks.images_since from h entry log
+    → HasBroken disks.bytes disks.images disks.faults disks.moment disks.images_since (count_in from) (disk_in from) h entry disk) where
+  pub leaves_log : (h : List Entry) (stopped : Option Stop) (torn : Option Draft)
+      → LogStands (KeepsHistory disks.bytes disks.images disks.faults disks.moment disks.images_since)
+      (BrokeAt disks.bytes disks.images disks.faults disks.moment disks.images_since) begun h log stopped torn
+      → LeavesLog disks (count_in begun) (disk_in begun) h torn disk
+  leaves_log h None None stands = kept begun h stands.1
+  leaves_log h None (Some draft) stands = let wrong = stands.0 in absurd (cc)
+  leaves_log h (Some who) None stands = let wrong = stands.1.1 in absurd (cc)
+  leaves_log h (Some who) (Some draft) stands =
+      let one : Some draft ≡ Some stands.1.0 = stands.1.1 in
+      let same : draft ≡ stands.1.0 = cc in
+      subst (λ (d : Draft). LeavesLog disks (count_in begun) (disk_in begun) h (Some d) disk) (sym same)
+      (record { lawful = stands.1.2; t = next_of h stands.1.0 stands.1.2 }, broke begun h (entry_of stands.1.0) stands.1.3)
+
+-- ---- the database, as it was closed: merging changes neither the entries nor their authors
+
+pub closes_of : {I O D : Type 0} (seats : List Seat) (outcome : Outcome I O D) (core parts : CoreParts) (start r : ℕ) (stopped : Option
+    Stop)
     → parts.snapshot.entries ≡ core.snapshot.entries → parts.authors ≡ core.authors
-    → outcome.last ≡ Some parts.snapshot → outcome.authors ≡ Some parts.authors → start ≡ 0 → stopped ≡ None → CoreStands core
+    → outcome.last ≡ Some parts.snapshot → outcome.authors ≡ Some parts.authors → start ≡ r → stop_of outcome.torn ≡ option_map at_of
+    stopped
+    → CoreStands core
     → start + length core.authors ≡ basis core.snapshot.entries → AllByRecursion (λ author. author < length seats) core.authors
-    → ((k : ℕ) (seat : Seat) → slice_get seats k ≡ Some seat → IsTakenIn core start stopped k (state_of seat)) → Closes seats outcome
-closes_of seats outcome core parts start stopped same by_same last authors begins never stands each_t by_seats taken =
+    → ((k : ℕ) (seat : Seat) → slice_get seats k ≡ Some seat → IsTakenIn core start stopped k (state_of seat)) → Closes seats r outcome
+closes_of seats outcome core parts start r stopped same by_same last authors begins torn stands each_t by_seats taken =
     let counted : start + length core.authors ≡ basis parts.snapshot.entries = each_t ∙ ap basis (sym same) in
     record {
       last = parts.snapshot;
       authors = parts.authors;
+      stopped = stopped;
       last_is = last;
       authors_is = authors;
       lawful = subst IsLawful (sym same) stands.snapshot.history.lawful;
@@ -215,27 +294,34 @@ closes_of seats outcome core parts start stopped same by_same last authors begin
             commits = t.commits ∙ ap (commits_behind start k) (sym by_same);
             stop = t.stop;
           } in
-          subst (λ (q : Option Stop). IsTakenIn parts 0 q k (state_of seat)) never
-          (subst (λ (n : ℕ). IsTakenIn parts n stopped k (state_of seat)) begins now);
+          subst (λ (n : ℕ). IsTakenIn parts n stopped k (state_of seat)) begins now;
+      torn = torn;
     }
 
 -- ---- the outcome
+
+-- a history that goes on from the opening's has it up to the opening's basis
+opened_upto : (h l more : List Entry) (r : ℕ) → IsLawful h → basis h ≡ r → l ≡ h ++ more → upto l r ≡ h
+opened_upto h l more r lawful start is =
+    let count : r + 1 ≡ length h = omega (arith, IsLawful-length h lawful, start) in
+    ap (λ (n : ℕ). take n l) count ∙ (ap (take (length h)) is ∙ take-append_seam h more)
 
 module _ {I O D L R : Type 0} (terms : Terms) (tells : Tells I O) (conn : Conn L R) (given : List Seat) (opened : List (SessionOut I O))
     (seats : List Seat)
     (sessions : List (SessionOut I O)) (talked : HaveTalked terms tells conn given opened seats sessions) (count : length opened ≡ length
     given)
-    (is_new : (k : ℕ) (seat : Seat) → slice_get given k ≡ Some seat → IsNew (state_of seat)) (outcome : Outcome I O D) (closes : Closes
-    seats outcome)
-    (same : outcome.sessions.items ≡ sessions) (start : outcome.recovered ≡ 0) (going : outcome.torn ≡ None) where
+    (h : List Entry) (begun : IsLawful h) (r : ℕ) (opens : basis h ≡ r)
+    (is_new : (k : ℕ) (seat : Seat) → slice_get given k ≡ Some seat → IsNew h (state_of seat)) (outcome : Outcome I O D) (closes : Closes
+    seats r outcome)
+    (same : outcome.sessions.items ≡ sessions) (start : outcome.recovered ≡ r) where
   pub run_history : IfSome outcome.last (λ last. OneHistory last.entries outcome.recovered (unwrap_or outcome.authors [])
       (map (λ (s : SessionOut I O). s.commits) outcome.sessions.items))
   run_history =
       some_then (λ last. OneHistory last.entries outcome.recovered (unwrap_or outcome.authors []) (map (λ (s : SessionOut I O). s.commits)
       outcome.sessions.items))
       outcome.last closes.last closes.last_is
-      (rw (start, same, closes.authors_is) (one_history terms tells closes.last closes.authors closes.lawful conn given opened seats
-      sessions talked count is_new closes.taken
+      (rw (start, same, closes.authors_is) (one_history terms tells h begun r opens closes.stopped closes.last closes.authors closes.lawful
+      conn given opened seats sessions talked count is_new closes.taken
       closes.each_t closes.by_sessions))
 
   pub run_replies : IfSome outcome.last (λ last. RepliesBy terms tells outcome.recovered (stop_of outcome.torn) opened
@@ -243,8 +329,8 @@ module _ {I O D L R : Type 0} (terms : Terms) (tells : Tells I O) (conn : Conn L
   run_replies =
       some_then (λ last. RepliesBy terms tells outcome.recovered (stop_of outcome.torn) opened outcome.sessions.items last.entries)
       outcome.last closes.last closes.last_is
-      (rw (start, same, going) (all_replies terms tells closes.last closes.authors closes.lawful conn given opened seats sessions talked
-      count is_new closes.taken))
+      (rw (start, same, closes.torn) (all_replies terms tells h begun r opens closes.stopped closes.last closes.authors closes.lawful conn
+      given opened seats sessions talked count is_new closes.taken))
 
   pub run_prefixes : IfSome outcome.last (λ last. AllByRecursion (λ (s : SessionOut I O). Prefixes outcome.recovered (basis last.entries)
       s.places s.commits) outcome.sessions.items)
@@ -252,18 +338,36 @@ module _ {I O D L R : Type 0} (terms : Terms) (tells : Tells I O) (conn : Conn L
       some_then (λ last. AllByRecursion (λ (s : SessionOut I O). Prefixes outcome.recovered (basis last.entries) s.places s.commits)
       outcome.sessions.items)
       outcome.last closes.last closes.last_is
-      (rw (start, same) (all_prefixes terms tells closes.last closes.authors closes.lawful conn given opened seats sessions talked count
-      is_new closes.taken))
+      (rw (start, same) (all_prefixes terms tells h begun r opens closes.stopped closes.last closes.authors closes.lawful conn given opened
+      seats sessions talked count is_new closes.taken))
 
-  pub run_ended : (names : List (List ℕ))
+  pub run_opening : {g : _} (directory : Directory D g) → directory.core.snapshot.entries ≡ h → directory.recovered ≡ r → 0 < length
+      sessions
+      → IfSome outcome.last (λ last. GoesOnFrom directory last.entries outcome)
+  run_opening directory is_h is_r some =
+      let grown = opened_history terms tells h begun r opens closes.stopped closes.last closes.authors closes.lawful conn given opened seats
+      sessions talked count is_new closes.taken some in
+      some_then (λ last. GoesOnFrom directory last.entries outcome) outcome.last closes.last closes.last_is
+      (record {
+        recovered = start ∙ sym is_r;
+        within = subst (λ (n : ℕ). n ≤ basis closes.last.entries) (sym start) (omega (arith, closes.each_t));
+        opened = ap (upto closes.last.entries) start ∙ (opened_upto h closes.last.entries grown.0 r begun opens grown.1 ∙ sym is_h);
+      })
+
+  pub run_ended : (names : List (List ℕ)) (disks : DiskTells D) (n : ℕ) (was segments : D)
+      → IfSome outcome.last (λ last. LeavesDisks disks n was segments last.entries outcome)
       → (unmerged : Bool)
-      × SaysWhy (why_of (first_early names (map (λ (s : SessionOut I O). s.end) sessions)) unmerged) outcome.status (string_bytes
-      outcome.line)
+      × SaysWhy (why_of (first_early names (map (λ (s : SessionOut I O). s.end) sessions)) (stop_of outcome.torn) unmerged) outcome.status
+      (string_bytes outcome.line)
       → HaveEnded tells names opened outcome
-  run_ended names says = record {
-    each = rw same (all_counts terms tells closes.last closes.authors closes.lawful conn given opened seats sessions talked count is_new
-        closes.taken);
-    says = rw same says;
-    last = rw closes.last_is refl;
-    authors = rw closes.authors_is refl;
-  }
+  run_ended names disks n was segments leaves says =
+      let left : LeavesDisks disks n was segments closes.last.entries outcome =
+      subst (λ (o : Option Kept). IfSome o (λ last. LeavesDisks disks n was segments last.entries outcome)) closes.last_is leaves in
+      record {
+        each = rw same (all_counts terms tells h begun r opens closes.stopped closes.last closes.authors closes.lawful conn given opened
+            seats sessions talked count is_new closes.taken);
+        says = rw same says;
+        last = rw closes.last_is refl;
+        authors = rw closes.authors_is refl;
+        disks = record { log = subst IsSome (sym left.log_is) refl; segments = subst IsSome (sym left.segments_is) refl };
+      }

@@ -31,11 +31,13 @@ module _ {I O L R : Type 0} (terms : Terms) (tells : Tells I O) where
   module _ (conn : Conn L R) (before after : List (Job I O L R)) (same : length after ≡ length before)
       (desks : All (λ (job : Job I O L R). job.desk.conn.now ≡ conn) before)
       (ran : (k : ℕ) (d : Job I O L R) → k < length before → JobTalked (slice_index_or before k d) (slice_index_or after k d)) where
-    ran_at : (k : ℕ) (old new : Job I O L R) → slice_get before k ≡ Some old → slice_get after k ≡ Some new → k < length before → JobTalked old
+    ran_at : (k : ℕ) (old new : Job I O L R) → slice_get before k ≡ Some old → slice_get after k ≡ Some new → k < length before → JobTalked
+        old
         new
     ran_at k old new was now within =
         subst (λ (a : Job I O L R). JobTalked a new) (get_or_from_slice_get before k old old was)
-        (subst (λ (b : Job I O L R). JobTalked (slice_index_or before k old) b) (get_or_from_slice_get after k new old now) (ran k old within))
+        (subst (λ (b : Job I O L R). JobTalked (slice_index_or before k old) b) (get_or_from_slice_get after k new old now) (ran k old
+        within))
 
     pub jobs_talked : (k : ℕ) (was now : Seat) (old new : SessionOut I O) → slice_get (map seat_in before) k ≡ Some was → slice_get (map
         seat_in after) k ≡ Some now
@@ -112,7 +114,8 @@ module _ {I O L R : Type 0} where
       → ((k : ℕ) (d : Job I O L R) → k < length before → HasTalked terms tells (state_of (slice_index_or before k d).desk.seat) (state_of
       (slice_index_or after k d).desk.seat)
       (slice_index_or before k d).out (slice_index_or after k d).out)
-      → length after ≡ length before → seats ≡ map (λ (job : Job I O L R). job.desk.seat) after → sessions ≡ map (λ (job : Job I O L R). job.out)
+      → length after ≡ length before → seats ≡ map (λ (job : Job I O L R). job.desk.seat) after → sessions ≡ map (λ (job : Job I O L R).
+      job.out)
       after
       → HaveTalked terms tells conn given opened seats sessions
   have_talked terms tells conn given opened seats sessions before after is_given is_opened desks ran same is_seats is_sessions =
@@ -135,7 +138,8 @@ module _ {I O L R : Type 0} where
   -- the same where the jobs were lent as a slice, and written back
   pub have_talked_in : (terms : Terms) (tells : Tells I O) (conn : Conn L R) (given : List Seat) (opened : List (SessionOut I
       O)) (seats : List Seat)
-      (sessions : List (SessionOut I O)) (before slice after : List (Job I O L R)) (n : ℕ) → map (λ (job : Job I O L R). job.desk.seat) before ≡
+      (sessions : List (SessionOut I O)) (before slice after : List (Job I O L R)) (n : ℕ) → map (λ (job : Job I O L R). job.desk.seat)
+      before ≡
       given
       → map (λ (job : Job I O L R). job.out) before ≡ opened → All (λ (job : Job I O L R). job.desk.conn.now ≡ conn) before → slice ≡ before
       → ((k : ℕ) (d : Job I O L R) → k < length slice → HasTalked terms tells (state_of (slice_index_or slice k d).desk.seat) (state_of

@@ -1,30 +1,51 @@
 -- What causes the status of a run, the line that it says and what it hands back.
 -- This project's own choice.
-use Rattle.std.specs.Prelude.{◌≡◌, ℕ, ◌⊎◌, List, [], map, Option, Some, None, IsSome, slice_get, string_bytes}
+use Rattle.std.specs.Prelude.{◌≡◌, ℕ, ◌⊎◌, List, [], ◌∷◌, map, Option, Some, None, IsSome, slice_get, string_bytes}
+use Rattle.disk_model.specs.Disk.{WhereTold}
+use Rattle.log_model.specs.Log.{FileSays, bad_record as bad_record_there, unlawful as unlawful_there}
 use Rattle.fb_ports.specs.Faults.{Rose}
 use Rattle.fb_ports.specs.Told.{Told}
-use Rattle.command_line.specs.Words.{Command, scripts_of, sink_of}
+use Rattle.fb_ports.specs.declared.hosts.Part.{Part}
+use Rattle.fb_ports.specs.declared.hosts.Part.TheVariants.{Log, Segments}
+use Rattle.command_line.specs.Words.{Command, run, scripts_of, sink_of}
 use Rattle.fb_session.specs.declared.outcome.SessionEnd.{SessionEnd}
 use Rattle.fb_session.specs.Replies.{SourceCount, SinkCount}
 use Rattle.fb_run.specs.declared.outcome.SessionOut.{SessionOut}
 use Rattle.fb_run.specs.declared.outcome.Outcome.{Outcome}
-use Rattle.fb_run.specs.Outside.{Tells, EachOf}
-use Rattle.fb_run.specs.StatusLines.{Why, answered, usage, unopened, ended_early, memory, out_of_memory, status_of, line_of, first_early}
+use Rattle.fb_run.specs.Outside.{Tells, DiskTells, EachOf}
+use Rattle.fb_run.specs.Headline.{stop_of}
+use Rattle.fb_run.specs.Logs.{IsUnharmed}
+use Rattle.fb_run.specs.StatusLines.{Why, answered, usage, unopened, disk_failed, bad_record, unlawful, ended_early, log_stopped, memory, out_of_memory, status_of, line_of, first_early}
 
--- what is handed back has no part that only a log, a console or a generator would fill
-pub record HasNoDevice {I O D : Type 0} (outcome : Outcome I O D) : Type 0 where
+-- ---- what is handed back
+
+-- no part of it is one that only a console or a generator would fill
+pub record HasNoConsole {I O D : Type 0} (outcome : Outcome I O D) : Type 0 where
   pub console : outcome.console ≡ None
   pub loads : outcome.loads.items ≡ []
+
+-- the disk of this part of the directory
+abbrev pub part_of : {I O D : Type 0} → Outcome I O D → Part → Option D
+part_of outcome Log = outcome.log
+part_of outcome Segments = outcome.segments
+
+-- both disks
+pub record HasDisks {I O D : Type 0} (outcome : Outcome I O D) : Type 0 where
+  pub log : IsSome outcome.log
+  pub segments : IsSome outcome.segments
+
+-- neither of them
+pub record HasNoDisk {I O D : Type 0} (outcome : Outcome I O D) : Type 0 where
   pub log : outcome.log ≡ None
   pub segments : outcome.segments ≡ None
-  pub torn : outcome.torn ≡ None
-  pub recovered : outcome.recovered ≡ 0
 
 -- no session ran
 pub record NoSession {I O D : Type 0} (outcome : Outcome I O D) : Type 0 where
   pub sessions : outcome.sessions.items ≡ []
   pub authors : outcome.authors ≡ None
   pub last : outcome.last ≡ None
+  pub torn : outcome.torn ≡ None
+  pub recovered : outcome.recovered ≡ 0
   pub covered : outcome.covered ≡ 0
 
 -- ---- what is said
@@ -64,29 +85,69 @@ pub record HaveRun {I O D : Type 0} (told : Told) (tells : Tells I O) (new : ℕ
       outcome.sessions.items) ≡ early
   pub last : IsSome outcome.last
   pub authors : IsSome outcome.authors
+  pub disks : HasDisks outcome
 
--- the host could not open the source or the sink of one of the scripts
+-- the directory that a command names, or none
+abbrev pub directory_of : Option Command → List ℕ
+directory_of None = []
+directory_of (Some (run options directory scripts)) = directory
+
+-- the host could not open the directory, or the source or the sink of one of the scripts
 pub record CannotOpen {I O D : Type 0} (told : Told) (new : ℕ) (command : Option Command)
     (outcome : Outcome I O D) (name : List ℕ) : Type 0 where
   pub none : NoSession outcome
+  pub disks : HasNoDisk outcome
   pub host : Rose told.faults new
   pub place : ℕ
-  pub named : slice_get (scripts_of command) place ≡ Some name
+  pub named : slice_get (directory_of command ∷ scripts_of command) place ≡ Some name
 
-abbrev pub CauseOf : {I O D : Type 0} → Told → Tells I O → ℕ → Option Command → Outcome I O D
-    → Why → Type 0
-CauseOf told tells new command outcome answered = HaveRun told tells new command outcome None
-CauseOf told tells new command outcome usage =
-    NoSession outcome × (command ≡ None) × (new ≡ told.faults)
-CauseOf told tells new command outcome (unopened name) = CannotOpen told new command outcome name
-CauseOf told tells new command outcome (ended_early name how) =
+-- the directory's disks were opened, and its log was not
+pub record IsNotOpened {I O D : Type 0} (told : Told) (disks : DiskTells D) (new : ℕ)
+    (command : Option Command) (outcome : Outcome I O D) : Type 0 where
+  pub is_command : IsSome command
+  pub none : NoSession outcome
+  pub host : new ≡ told.faults
+  pub segments : IsSome outcome.segments
+  pub log : D
+  pub log_is : outcome.log ≡ Some log
+  pub unharmed : IsUnharmed told disks (directory_of command) log
+
+abbrev pub CauseOf : {I O D : Type 0} → Told → Tells I O → DiskTells D → ℕ → Option Command
+    → Outcome I O D → Why → Type 0
+CauseOf told tells disks new command outcome answered =
+    HaveRun told tells new command outcome None × (outcome.torn ≡ None)
+CauseOf told tells disks new command outcome usage =
+    NoSession outcome × HasNoDisk outcome × (command ≡ None) × (new ≡ told.faults)
+CauseOf told tells disks new command outcome (unopened name) =
+    CannotOpen told new command outcome name
+CauseOf {I} {O} {D} told tells disks new command outcome (disk_failed part) =
+    IsNotOpened told disks new command outcome
+    × ((disk : D)
+    × (part_of outcome part ≡ Some disk)
+    × Rose (told.disk_faults (directory_of command) part) (disks.faults disk))
+CauseOf told tells disks new command outcome (bad_record nth at) =
+    IsNotOpened told disks new command outcome
+    × WhereTold (told.disks (directory_of command) Log)
+    (λ file. FileSays file (bad_record_there nth at))
+CauseOf told tells disks new command outcome (unlawful t law) =
+    IsNotOpened told disks new command outcome
+    × WhereTold (told.disks (directory_of command) Log)
+    (λ file. FileSays file (unlawful_there t law))
+CauseOf told tells disks new command outcome (ended_early name how) =
     HaveRun told tells new command outcome (Some (name, how))
-CauseOf told tells new command outcome memory =
-    (NoSession outcome × IsSome command) ⊎ HaveRun told tells new command outcome None
+CauseOf {I} {O} {D} told tells disks new command outcome (log_stopped t) =
+    HaveRun told tells new command outcome None
+    × (stop_of outcome.torn ≡ Some t)
+    × ((log : D)
+    × (outcome.log ≡ Some log)
+    × Rose (told.disk_faults (directory_of command) Log) (disks.faults log))
+CauseOf told tells disks new command outcome memory =
+    (NoSession outcome × IsSome command)
+    ⊎ (HaveRun told tells new command outcome None × (outcome.torn ≡ None))
 
 -- There is a reason why the run ended as it did. It is told by the status and the line, and has its cause.
-pub record Causes {I O D : Type 0} (told : Told) (tells : Tells I O) (new : ℕ)
+pub record Causes {I O D : Type 0} (told : Told) (tells : Tells I O) (disks : DiskTells D) (new : ℕ)
     (command : Option Command) (outcome : Outcome I O D) : Type 0 where
   pub why : Why
   pub says : SaysWhy why outcome.status (string_bytes outcome.line)
-  pub cause : CauseOf told tells new command outcome why
+  pub cause : CauseOf told tells disks new command outcome why

@@ -4,8 +4,12 @@ use Rattle.std.specs.Prelude.{◌≡◌, ℕ, ◌≤◌, ◌⊎◌, false, List,
 use Rattle.std.specs.List.{concat, AllByRecursion}
 use Rattle.std.specs.Io.KnownBytes.{append_known}
 use Rattle.edn_model.specs.Form.{Form}
+use Rattle.fb_values.specs.declared.facts.Entry.{Entry}
 use Rattle.fb_view.specs.Kept.{Kept}
+use Rattle.log_model.specs.Log.{IsLogOf}
 use Rattle.fb_ports.specs.Faults.{Rose}
+use Rattle.fb_ports.specs.declared.hosts.Part.{Part}
+use Rattle.fb_ports.specs.declared.hosts.Part.TheVariants.{Log}
 use Rattle.fb_ports.specs.Told.{Told}
 use Rattle.command_line.specs.Words.{Command, scripts_of, sink_of}
 use Rattle.script_model.specs.Script.{whole, Script}
@@ -16,8 +20,8 @@ use Rattle.fb_session.specs.Taken.{longest_script}
 use Rattle.fb_session.specs.Replies.{SessionRun}
 use Rattle.fb_run.specs.declared.outcome.SessionOut.{SessionOut}
 use Rattle.fb_run.specs.declared.outcome.Outcome.{Outcome}
-use Rattle.fb_run.specs.Outside.{Tells, run_of, setting_of, EachOf, EachWhile}
-use Rattle.fb_run.specs.Causes.{IsOutOfMemory}
+use Rattle.fb_run.specs.Outside.{Tells, DiskTells, run_of, setting_of, EachOf, EachWhile}
+use Rattle.fb_run.specs.Causes.{directory_of, part_of, IsOutOfMemory}
 
 -- the source holds these forms, within the limits, and nothing else
 pub record HoldsForms (held : Option (List ℕ)) (forms : List Form) : Type 0 where
@@ -30,14 +34,25 @@ pub record HoldsForms (held : Option (List ℕ)) (forms : List Form) : Type 0 wh
 abbrev pub HoldsFormsAlone : Option (List ℕ) → Type 0
 HoldsFormsAlone held = (forms : List Form) × HoldsForms held forms
 
--- no count of faults rose: not the host's, nor that of a session's source or sink
-pub record NoneRose {I O : Type 0} (told : Told) (tells : Tells I O) (new : ℕ)
-    (scripts : List (List ℕ)) (sessions : List (SessionOut I O)) : Type 0 where
+-- the log tells its bytes, and they are the log of a history
+pub record HoldsHistory (held : Option (List ℕ)) : Type 0 where
+  pub file : List ℕ
+  pub told : held ≡ Some file
+  pub history : List Entry
+  pub is : IsLogOf file history
+
+-- no count of faults rose: not the host's, nor that of a disk that is handed back, nor that of a session's source or sink
+pub record NoneRose {I O D : Type 0} (told : Told) (tells : Tells I O) (disks : DiskTells D)
+    (new : ℕ) (dir : List ℕ) (scripts : List (List ℕ)) (outcome : Outcome I O D) : Type 0 where
   pub host : ¬ Rose told.faults new
+  pub parts : (part : Part) (disk : D) → part_of outcome part ≡ Some disk
+      → ¬ Rose (told.disk_faults dir part) (disks.faults disk)
   pub sources : EachWhile (λ name (s : SessionOut I O).
-      ¬ Rose (told.source_faults name) (tells.source_faults s.source)) scripts sessions
+      ¬ Rose (told.source_faults name) (tells.source_faults s.source)) scripts
+      outcome.sessions.items
   pub sinks : EachWhile (λ name (s : SessionOut I O).
-      ¬ Rose (told.sink_faults (sink_of name)) (tells.sink_faults s.sink)) scripts sessions
+      ¬ Rose (told.sink_faults (sink_of name)) (tells.sink_faults s.sink)) scripts
+      outcome.sessions.items
 
 -- each of the forms has its line, and the sink gained nothing else
 pub record EachHasItsLine (s : Setting) (opening : ℕ) (forms : List Form) (run : SessionRun)
@@ -61,12 +76,14 @@ pub record AnsweredWhole {I O D : Type 0} (terms : Terms) (told : Told) (tells :
       → EachHasItsLine (setting_of terms last.entries None false) outcome.recovered forms
       (run_of told tells name s)) 0 scripts outcome.sessions.items
 
--- Where the words are a command, its scripts are forms within the limits, and no count of faults rises, each form of each of them is
--- answered, or memory was refused.
-abbrev pub Complete : {I O D : Type 0} → Terms → Told → Tells I O → ℕ → Option Command
-    → Outcome I O D → Type 0
-Complete terms told tells new None outcome = Unit {0}
-Complete terms told tells new (Some command) outcome =
-    AllByRecursion (λ name. HoldsFormsAlone (told.sources name)) (scripts_of (Some command))
-    → NoneRose told tells new (scripts_of (Some command)) outcome.sessions.items
+-- Where the words are a command, its log is that of a history, its scripts are forms within the limits, and no count of faults rises,
+-- each form of each of them is answered, or memory was refused.
+abbrev pub Complete : {I O D : Type 0} → Terms → Told → Tells I O → DiskTells D → ℕ
+    → Option Command → Outcome I O D → Type 0
+Complete terms told tells disks new None outcome = Unit {0}
+Complete terms told tells disks new (Some command) outcome =
+    HoldsHistory (told.disks (directory_of (Some command)) Log)
+    → AllByRecursion (λ name. HoldsFormsAlone (told.sources name)) (scripts_of (Some command))
+    → NoneRose told tells disks new (directory_of (Some command)) (scripts_of (Some command))
+    outcome
     → AnsweredWhole terms told tells (scripts_of (Some command)) outcome ⊎ IsOutOfMemory outcome

@@ -4,6 +4,8 @@ pub mod Opening
 pub mod Jobs
 pub mod Merging
 pub mod Headline
+pub mod Logs
 pub mod Causes
 pub mod Complete
+pub mod Database
 pub mod Running

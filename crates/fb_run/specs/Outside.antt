@@ -2,7 +2,9 @@
 -- This project's own choice.
 use Rattle.std.specs.Prelude.{◌≡◌, ℕ, ◌+◌, Bool, List, [], ◌∷◌, Option}
 use Rattle.fb_values.specs.declared.facts.Entry.{Entry}
+use Rattle.fb_ports.specs.declared.hosts.Part.{Part}
 use Rattle.fb_ports.specs.Told.{Told}
+use Rattle.fb_ports.specs.Telling.{Alike}
 use Rattle.command_line.specs.Words.{sink_of}
 use Rattle.talk_model.specs.Session.{Setting, setting}
 use Rattle.fb_session.specs.Sessions.{Terms}
@@ -26,6 +28,29 @@ tells_of left source_faults contents sink_faults =
       contents = contents;
       sink_faults = sink_faults;
     }
+
+-- ---- what disks tell: their bytes and counts of faults; what a crash may leave now; their moment, and what a crash at some moment
+-- since one might have left
+
+pub record DiskTells (D : Type 0) : Type 1 where
+  pub bytes : D → Option (List ℕ)
+  pub faults : D → ℕ
+  pub images : D → List ℕ → Type 0
+  pub moment : D → ℕ
+  pub images_since : D → ℕ → List ℕ → Type 0
+
+abbrev pub disks_of : {D : Type 0} → (D → Option (List ℕ)) → (D → ℕ) → (D → List ℕ → Type 0)
+    → (D → ℕ) → (D → ℕ → List ℕ → Type 0) → DiskTells D
+disks_of bytes faults images moment images_since =
+    record {
+      bytes = bytes;
+      faults = faults;
+      images = images;
+      moment = moment;
+      images_since = images_since;
+    }
+
+-- ---- what was handed out for a session
 
 -- what a session was handed, as this source and this sink told it, and what it hands back
 abbrev pub run_from : {I O : Type 0} → Tells I O → I → O → SessionOut I O → SessionRun
@@ -73,6 +98,14 @@ pub record IsSinkOf {I O : Type 0} (told : Told) (tells : Tells I O) (name : Lis
     : Type 0 where
   pub contents : tells.contents sink ≡ told.sinks (sink_of name)
   pub faults : tells.sink_faults sink ≡ told.sink_faults (sink_of name)
+
+-- a disk is as the host told of this part of the directory
+pub record IsDiskOf {D : Type 0} (told : Told) (disks : DiskTells D) (dir : List ℕ) (part : Part)
+    (disk : D) : Type 0 where
+  pub bytes : disks.bytes disk ≡ told.disks dir part
+  pub faults : disks.faults disk ≡ told.disk_faults dir part
+  pub images : Alike (told.disk_images dir part) (disks.images disk)
+  pub moment : disks.moment disk ≡ told.disk_moment dir part
 
 -- ---- lists that go together
 

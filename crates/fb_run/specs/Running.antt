@@ -1,10 +1,9 @@
 -- How a run comes about: what its sessions are given, and what the closed database and the sessions leave.
 -- This project's own choice.
-use Rattle.std.specs.Prelude.{◌≡◌, ℕ, ◌+◌, ◌<◌, ◌==◌, Bool, List, [], ◌∷◌, map, length, Option, Some, None, IsSome, slice_get, string_bytes}
+use Rattle.std.specs.Prelude.{◌≡◌, ℕ, ◌+◌, ◌<◌, ◌≤◌, ◌==◌, Bool, List, map, length, Option, Some, None, option_map, IsSome, slice_get, string_bytes}
 use Rattle.std.specs.List.{AllByRecursion}
 use Rattle.fb_values.specs.declared.facts.Entry.{Entry}
-use Rattle.fb_model.specs.FirstEntry.{first_entry}
-use Rattle.fb_model.specs.History.{basis}
+use Rattle.fb_model.specs.History.{basis, upto}
 use Rattle.fb_model.specs.Lawful.{IsLawful}
 use Rattle.fb_view.specs.Kept.{Kept}
 use Rattle.fb_desk.specs.Desks.{as_opened}
@@ -12,38 +11,72 @@ use Rattle.board_rule.specs.Calls.{view_of}
 use Rattle.fb_conn.specs.declared.conn.Conn.{Conn}
 use Rattle.fb_conn.specs.declared.seats.Seat.{Seat}
 use Rattle.fb_conn.specs.Seats.{IsSeatOf, IsWorkerOf, state_of}
-use Rattle.fb_conn.specs.Closing.{IsTakenIn}
+use Rattle.fb_conn.specs.declared.home.Stop.{Stop}
+use Rattle.fb_conn.specs.Closing.{at_of, IsTakenIn}
+use Rattle.fb_core.specs.declared.accepting.Draft.{Draft}
+use Rattle.fb_core.specs.Cores.{entry_of}
+use Rattle.disk_log.specs.Disks.{HasKept, HasBroken}
 use Rattle.fb_session.specs.Sessions.{Terms}
 use Rattle.fb_session.specs.Replies.{Replies, SourceCount, SinkCount}
 use Rattle.fb_run.specs.declared.outcome.SessionOut.{SessionOut}
 use Rattle.fb_run.specs.declared.outcome.Outcome.{Outcome}
 use Rattle.fb_run.specs.StatusLines.{first_early, why_of}
-use Rattle.fb_run.specs.Outside.{Tells, run_from, setting_of, EachOf}
-use Rattle.fb_run.specs.Causes.{SaysWhy}
+use Rattle.fb_run.specs.declared.database.Directory.{Directory}
+use Rattle.fb_run.specs.Outside.{Tells, DiskTells, run_from, setting_of, EachOf}
+use Rattle.fb_run.specs.Headline.{stop_of}
+use Rattle.fb_run.specs.Logs.{IsNext}
+use Rattle.fb_run.specs.Causes.{HasDisks, SaysWhy}
 
--- a connection of so many sessions to a new history, and the worker's seat
-pub record IsMade {L R : Type 0} (sessions : ℕ) (conn : Conn L R) (seats : List Seat) (worker : Seat)
-    : Type 0 where
+-- a connection of so many sessions to this history, and the worker's seat
+pub record IsMade {L R : Type 0} (sessions : ℕ) (h : List Entry) (conn : Conn L R)
+    (seats : List Seat) (worker : Seat) : Type 0 where
   pub count : length seats ≡ sessions
   pub opened : (k : ℕ) (seat : Seat) → slice_get seats k ≡ Some seat
       → IsSeatOf conn seat × ((view_of seat.board).number ≡ k)
-      × (state_of seat ≡ record (as_opened (first_entry ∷ [])) { seat = (state_of seat).seat })
+      × (state_of seat ≡ record (as_opened h) { seat = (state_of seat).seat })
   pub worker_is : IsWorkerOf conn worker
   pub given : (view_of worker.board).given ≡ sessions
-  pub start : (view_of worker.board).start ≡ 0
+  pub start : (view_of worker.board).start ≡ basis h
 
--- The closed database has one lawful history, whose entries behind the first are the sessions', and has taken in what each of their
--- seats knew.
-pub record Closes {I O D : Type 0} (seats : List Seat) (outcome : Outcome I O D) : Type 0 where
+-- The closed database has one lawful history, whose entries behind the opening's are the sessions', and has taken in what each of
+-- their seats knew. The log stopped or did not, and what is torn is what it did not take.
+pub record Closes {I O D : Type 0} (seats : List Seat) (opening : ℕ) (outcome : Outcome I O D)
+    : Type 0 where
   pub last : Kept
   pub authors : List ℕ
+  pub stopped : Option Stop
   pub last_is : outcome.last ≡ Some last
   pub authors_is : outcome.authors ≡ Some authors
   pub lawful : IsLawful last.entries
-  pub each_t : 0 + length authors ≡ basis last.entries
+  pub each_t : opening + length authors ≡ basis last.entries
   pub by_sessions : AllByRecursion (λ author. author < length seats) authors
   pub taken : (k : ℕ) (seat : Seat) → slice_get seats k ≡ Some seat
-      → IsTakenIn (record { snapshot = last; authors = authors }) 0 None k (state_of seat)
+      → IsTakenIn (record { snapshot = last; authors = authors }) opening stopped k (state_of seat)
+  pub torn : stop_of outcome.torn ≡ option_map at_of stopped
+
+-- what became of the log's disk since it was opened with the entries 0 to r: it kept the history, or failed at what is torn
+abbrev pub LeavesLog : {D : Type 0} → DiskTells D → ℕ → D → List Entry → Option Draft → D → Type 0
+LeavesLog disks r begun h None log =
+    HasKept disks.bytes disks.images disks.faults disks.moment disks.images_since r begun h log
+LeavesLog disks r begun h (Some draft) log =
+    IsNext h draft
+    × HasBroken disks.bytes disks.images disks.faults disks.moment disks.images_since r begun h
+    (entry_of draft) log
+
+-- both disks are handed back: that of the segments, of which nothing was asked, and the log's
+pub record LeavesDisks {I O D : Type 0} (disks : DiskTells D) (r : ℕ) (begun segments : D)
+    (h : List Entry) (outcome : Outcome I O D) : Type 0 where
+  pub segments_is : outcome.segments ≡ Some segments
+  pub log : D
+  pub log_is : outcome.log ≡ Some log
+  pub left : LeavesLog disks r begun h outcome.torn log
+
+-- the run goes on from the history that was opened
+pub record GoesOnFrom {I O D : Type 0} {g : _} (directory : Directory D g) (h : List Entry)
+    (outcome : Outcome I O D) : Type 0 where
+  pub recovered : outcome.recovered ≡ directory.recovered
+  pub within : outcome.recovered ≤ basis h
+  pub opened : upto h outcome.recovered ≡ directory.core.snapshot.entries
 
 -- the sessions answered what they were opened with, over the one history since its opening
 abbrev pub RepliesBy : {I O : Type 0} → Terms → Tells I O → ℕ → Option ℕ → List (SessionOut I O)
@@ -65,7 +98,8 @@ pub record HaveEnded {I O D : Type 0} (tells : Tells I O) (names : List (List �
       outcome.sessions.items
   pub says : (unmerged : Bool) × SaysWhy
       (why_of (first_early names (map (λ (s : SessionOut I O). s.end) outcome.sessions.items))
-      unmerged)
+      (stop_of outcome.torn) unmerged)
       outcome.status (string_bytes outcome.line)
   pub last : IsSome outcome.last
   pub authors : IsSome outcome.authors
+  pub disks : HasDisks outcome

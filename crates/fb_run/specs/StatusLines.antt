@@ -3,6 +3,10 @@
 use Rattle.std.specs.Prelude.{ℕ, Bool, true, false, List, [], ◌∷◌, ◌++◌, Option, Some, None, codes, decimal}
 use Rattle.edn_model.specs.Faults.{Fault, bad, unsupported, deep, cut}
 use Rattle.edn_core.specs.Answers.{fault_of}
+use Rattle.fb_ports.specs.declared.hosts.Part.{Part}
+use Rattle.fb_ports.specs.declared.hosts.Part.TheVariants.{Log, Segments}
+use Rattle.fb_recover.specs.declared.faults.OpenFault.{OpenFault}
+use Rattle.fb_recover.specs.declared.faults.OpenFault.TheVariants.{Disk, BadLog, Unlawful, Memory as OutOfMemory}
 use Rattle.fb_session.specs.declared.outcome.SessionEnd.{SessionEnd}
 use Rattle.fb_session.specs.declared.outcome.SessionEnd.TheVariants.{Done, Script, TooLong, TooMany, ReadFault, WriteFault, Memory}
 
@@ -16,6 +20,26 @@ cannot_open name = codes "factbase: cannot open " ++ name
 
 abbrev pub out_of_memory : List ℕ
 out_of_memory = codes "factbase: out of memory"
+
+abbrev pub name_of : Part → List ℕ
+name_of Log = codes "log"
+name_of Segments = codes "segments"
+
+abbrev pub disk_fault : Part → List ℕ
+disk_fault part = codes "factbase: disk fault on " ++ name_of part
+
+-- a record of the log, and the byte of the file
+abbrev pub record_line : ℕ → ℕ → List ℕ
+record_line nth at =
+    codes "factbase: bad log: record " ++ (decimal nth ++ (codes " at byte " ++ decimal at))
+
+-- an entry of the log, and the law that it breaks
+abbrev pub law_line : ℕ → ℕ → List ℕ
+law_line t law =
+    codes "factbase: bad log: t " ++ (decimal t ++ (codes " breaks law " ++ decimal law))
+
+abbrev pub stopped_line : ℕ → List ℕ
+stopped_line t = codes "factbase: log stopped at t " ++ decimal t
 
 -- what went wrong with a script
 abbrev pub script_line : List ℕ → List ℕ → List ℕ
@@ -61,22 +85,38 @@ pub data Why : Type 0 where
   usage : Why
   -- the host could not open what has this name
   unopened : List ℕ → Why
+  -- a call of this disk of the directory failed while the log was opened
+  disk_failed : Part → Why
+  -- the log's first record that is none or holds no entry, and the byte of the file
+  bad_record : ℕ → ℕ → Why
+  -- the log's first entry that may not follow those before it, and the least law that it breaks
+  unlawful : ℕ → ℕ → Why
   -- the session of the script with this name is the first, by number, that did not answer all of it
   ended_early : List ℕ → SessionEnd → Why
+  -- the log did not take the entry of this t
+  log_stopped : ℕ → Why
   memory : Why
 
 abbrev pub status_of : Why → ℕ
 status_of answered = 0
 status_of usage = 1
 status_of (unopened name) = 2
+status_of (disk_failed part) = 3
+status_of (bad_record nth at) = 4
+status_of (unlawful t law) = 4
 status_of (ended_early name how) = status_of_end how
+status_of (log_stopped t) = 7
 status_of memory = 9
 
 abbrev pub line_of : Why → List ℕ
 line_of answered = []
 line_of usage = usage_line
 line_of (unopened name) = cannot_open name
+line_of (disk_failed part) = disk_fault part
+line_of (bad_record nth at) = record_line nth at
+line_of (unlawful t law) = law_line t law
 line_of (ended_early name how) = line_of_end name how
+line_of (log_stopped t) = stopped_line t
 line_of memory = out_of_memory
 
 -- ---- the first session that ended early
@@ -87,8 +127,18 @@ first_early (name ∷ names) [] = None
 first_early (name ∷ names) (Done ∷ ends) = first_early names ends
 first_early (name ∷ names) (how ∷ ends) = Some (name, how)
 
--- what decides where sessions ran, of which one may have ended early; else whether memory was refused to a merge
-abbrev pub why_of : Option (List ℕ × SessionEnd) → Bool → Why
-why_of None false = answered
-why_of None true = memory
-why_of (Some p) unmerged = ended_early p.0 p.1
+-- What decides where sessions ran: the first that ended early; else the t that the log did not take; else whether memory was refused
+-- to a merge.
+abbrev pub why_of : Option (List ℕ × SessionEnd) → Option ℕ → Bool → Why
+why_of (Some p) stop unmerged = ended_early p.0 p.1
+why_of None (Some t) unmerged = log_stopped t
+why_of None None true = memory
+why_of None None false = answered
+
+-- ---- why a log is not opened
+
+abbrev pub why_not : OpenFault → Why
+why_not Disk = disk_failed Log
+why_not (BadLog nth at) = bad_record nth at
+why_not (Unlawful t law) = unlawful t law
+why_not OutOfMemory = memory

@@ -2,6 +2,8 @@
 //! hands back all that became of them.
 #![tactic(auto)]
 
+mod database;
+mod ending;
 mod jobs;
 mod lines;
 mod merging;

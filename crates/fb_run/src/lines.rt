@@ -1,10 +1,12 @@
 //! The lines of standard error.
 ghost use Rattle.std.specs.Prelude.{◌≡◌, ◌++◌, IfOk, string_bytes, codes, decimal};
 ghost use Rattle.edn_core.specs.Answers.{fault_of};
-ghost use Rattle.fb_run.specs.StatusLines.{usage_line, cannot_open, out_of_memory, script_line, fault_line, status_of_end, line_of_end};
+ghost use Rattle.fb_run.specs.StatusLines.{usage_line, cannot_open, out_of_memory, disk_fault, record_line, law_line, stopped_line, script_line, fault_line, status_of_end, line_of_end, status_of, line_of, why_not};
+ghost use Rattle.fb_ports.specs.declared.hosts.Part.TheVariants.{Log};
 
 use edn_core::EdnFault;
 use fb_ports::Memory;
+use fb_recover::OpenFault;
 use fb_session::SessionEnd;
 use std::alloc::Global;
 
@@ -12,6 +14,8 @@ const USAGE: &str =
     "factbase: usage: factbase run [--merge-at N] DIR SCRIPT.. | check DIR | load N";
 
 const OUT_OF_MEMORY: &str = "factbase: out of memory";
+
+const LOG_DISK_FAULT: &str = "factbase: disk fault on log";
 
 pub(crate) fn usage(alloc: Global) -> Result<String, Memory>
     ensures { IfOk result (λ line. string_bytes line ≡ usage_line) }
@@ -23,6 +27,48 @@ pub(crate) fn cannot_open(alloc: Global, name: &str) -> Result<String, Memory>
     ensures { IfOk result (λ line. string_bytes line ≡ cannot_open name.now) }
 {
     Ok(format!(in alloc; "factbase: cannot open {name}")?)
+}
+
+/// The exit status for why a log was not opened.
+pub(crate) fn status_of_fault(fault: OpenFault) -> u8
+    ensures { result ≡ status_of (why_not fault) }
+{
+    match fault {
+        OpenFault::Disk => 3,
+        OpenFault::BadLog { .. } | OpenFault::Unlawful { .. } => 4,
+        OpenFault::Memory => 9,
+    }
+}
+
+/// The line for why a log was not opened.
+pub(crate) fn line_of_fault(alloc: Global, fault: OpenFault) -> Result<String, Memory>
+    ensures { IfOk result (λ line. string_bytes line ≡ line_of (why_not fault)) }
+{
+    match fault {
+        OpenFault::Disk => Ok(String::from_str(alloc, LOG_DISK_FAULT)?),
+        OpenFault::BadLog { nth, at } => bad_record(alloc, nth, at),
+        OpenFault::Unlawful { t, law } => unlawful(alloc, t, law),
+        OpenFault::Memory => out_of_memory(alloc),
+    }
+}
+
+fn bad_record(alloc: Global, nth: u64, at: u64) -> Result<String, Memory>
+    ensures { IfOk result (λ line. string_bytes line ≡ record_line nth at) }
+{
+    Ok(format!(in alloc; "factbase: bad log: record {nth} at byte {at}")?)
+}
+
+fn unlawful(alloc: Global, t: u32, law: u8) -> Result<String, Memory>
+    ensures { IfOk result (λ line. string_bytes line ≡ law_line t law) }
+{
+    Ok(format!(in alloc; "factbase: bad log: t {t} breaks law {law}")?)
+}
+
+/// The line for the t that the log did not take.
+pub(crate) fn log_stopped(alloc: Global, t: u32) -> Result<String, Memory>
+    ensures { IfOk result (λ line. string_bytes line ≡ stopped_line t) }
+{
+    Ok(format!(in alloc; "factbase: log stopped at t {t}")?)
 }
 
 /// The exit status for how a session ended.

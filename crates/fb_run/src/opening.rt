@@ -1,19 +1,59 @@
-//! Opening what the scripts of a run need of the outside: all sources, and then all sinks.
-ghost use Rattle.std.specs.Prelude.{◌≡◌, ◌+◌, ◌<◌, true, length, IfOk, IfErr, OnOk};
+//! Opening what a run needs of the outside: the directory, and then what its scripts need, all sources and then all sinks.
+ghost use Rattle.std.specs.Prelude.{◌≡◌, ◌+◌, ◌<◌, ◌∷◌, true, length, IfOk, IfErr, OnOk};
 ghost use Rattle.std.specs.Vec.Iter.{into_iter_items, into_iter_len};
 ghost use Rattle.command_line.specs.Words.{are_apart};
 ghost use Rattle.command_line.specs.Views.{names_in};
-ghost use Rattle.fb_run.specs.Outside.{tells_of};
+ghost use Rattle.fb_run.specs.Outside.{tells_of, disks_of};
+ghost use Rattle.fb_run.specs.Database.{IsOpened, IsUnready};
 ghost use Rattle.fb_run.specs.Opening.{AddsSource, OpensSources, OpensSink, AddsSession, AddsSessions, HasOpened, IsNotOpened, IsUnopened};
 
+use crate::database::{Directory, Unready, open_directory};
 use crate::outcome::SessionOut;
-use command_line::sink_name;
+use command_line::{Run, sink_name};
+use fb_disk::Disk;
 use fb_ports::{Host, OpenFail};
 use fb_session::{Places, SessionEnd};
 use std::alloc::Global;
 use std::vec::IntoIter;
 
-/// Why not all was opened.
+/// What a run begins with: the database, and the sessions of its scripts.
+#[derive(Drop)]
+pub(crate) struct Ready<I, O, D: Disk> {
+    pub(crate) directory: Directory<D>,
+    pub(crate) sessions: Vec<SessionOut<I, O>>,
+}
+
+/// Opens the directory of a run, and then what its scripts need.
+pub(crate) fn open_run<'a, H: Host>(
+    alloc: Global,
+    host: &mut H,
+    command: &Run<'a>,
+) -> Result<Ready<H::In, H::Out, H::Disk>, Unready<'a, H::Disk>>
+    requires apart { are_apart (names_in command.now.scripts.items) ≡ true }
+    ensures directory { IfOk result (λ ready. IsOpened (H.told host.old)
+        (disks_of H.Disk.bytes H.Disk.faults H.Disk.images H.Disk.moment H.Disk.images_since)
+        command.now.directory.now ready.directory) }
+    ensures sessions { IfOk result (λ ready. HasOpened
+        (tells_of H.In.left H.In.faults H.Out.contents H.Out.faults)
+        (names_in command.now.scripts.items) (H.told host.old) (H.told host.new)
+        ready.sessions.items) }
+    ensures stop { IfErr result (IsUnready (H.told host.old) (H.told host.new)
+        (disks_of H.Disk.bytes H.Disk.faults H.Disk.images H.Disk.moment H.Disk.images_since)
+        command.now.directory.now
+        (command.now.directory.now ∷ names_in command.now.scripts.items)) }
+{
+    let directory = open_directory(alloc, host, command.directory)?;
+    match open_all(alloc, host, command.scripts.as_slice()) {
+        Ok(sessions) => Ok(Ready {
+            directory,
+            sessions,
+        }),
+        Err(Unopened::CannotOpen(name)) => Err(Unready::CannotOpen(name)),
+        Err(Unopened::Memory) => Err(Unready::Memory),
+    }
+}
+
+/// Why not all was opened that the scripts need.
 #[derive(Drop)]
 pub(crate) enum Unopened<'a> {
     /// The host could not open the source or the sink of this script.

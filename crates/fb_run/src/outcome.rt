@@ -17,7 +17,7 @@ pub struct SessionOut<I, O> {
     pub commits: Places,
 }
 
-/// What a run hands back. The parts of a log, a console and a generator are empty until the program has these.
+/// What a run hands back. The parts of a console and a generator are empty until the program has these.
 #[derive(Drop)]
 pub struct Outcome<I, O, D> {
     /// The program's exit status.
@@ -30,14 +30,14 @@ pub struct Outcome<I, O, D> {
     pub console: Option<O>,
     /// The sessions of a generator.
     pub loads: Vec<SessionOut<MemSource, MemSink>>,
-    /// The two disks of the directory.
+    /// The two disks of the directory, where sessions ran, and where its log was not opened.
     pub log: Option<D>,
     pub segments: Option<D>,
     /// For each t behind the opening's the number of its session, where sessions ran.
     pub authors: Option<Authors>,
     /// The last value of the database, where sessions ran: its entries are the one history.
     pub last: Option<Snapshot>,
-    /// What the log did not take.
+    /// The transaction whose entry the log did not take, and may have in part.
     pub torn: Option<Draft>,
     /// The t up to which the history was there at the opening.
     pub recovered: u32,

@@ -1,20 +1,16 @@
-use Rattle.std.proofs.Common.{◌∙◌, ap, sym, subst}
-use Rattle.fb_core.specs.declared.shared.CoreParts.{CoreParts}
+use Rattle.std.proofs.Common.{sym, subst}
 use Rattle.board_rule.specs.Calls.{view_of}
 use Rattle.merge_worker.specs.Work.{IsBaseOf}
 use Rattle.fb_run.proofs.Running.{is_made}
-use Rattle.fb_run.proofs.top.connected.Goals as goal
+use Rattle.fb_run.proofs.database.connected.Goals as goal
 
 pub returns-clause-made : goal.returns-clause-made
-returns-clause-made c =
-    let e = c.in_ok-conn.ensures in
-    is_made _ _ _ _ _ _ (ap (λ (p : CoreParts). p.snapshot.entries) c.in_ok-core.ensures ∙ c.in_ok-snapshot.ensures.entries) e.count.0
-    e.seats e.worker
+returns-clause-made g c = let e = c.in_ok-conn.ensures in is_made _ _ _ _ _ _ e.count.0 e.seats e.worker
 
 pub returns-clause-worker : goal.returns-clause-worker
-returns-clause-worker c =
+returns-clause-worker g c =
     let w = c.in_ok-conn.ensures.worker in let base = c.in_ok-base.base in
-    let core = c.in_ok-core.core.snapshot in
+    let core = c.args.directory.core.snapshot in
     let of_core = subst (λ s. IsBaseOf base s.entries s.covered) c.snapshot.ensures.snapshot c.in_ok-base.ensures.stand in (
       w.0,
       subst (λ h. IsBaseOf base h (view_of c.in_ok-conn.field-0.worker.board).covered) (sym w.4)

@@ -1,0 +1,180 @@
+-- What opening a directory gives, in the words of what the host told before, and what the run leaves of the log.
+use Rattle.std.proofs.Common.{◌≡◌, ℕ, ◌+◌, ◌≤◌, ◌⊎◌, inl, inr, List, [], ◌∷◌, ◌++◌, length, Option, Some, None, sym, ap, ◌∙◌, subst, ⊎_elim, arith}
+use Rattle.std.proofs.lemmas.List.{take-append-le, length-take}
+use Rattle.std.specs.Prelude.{IfSome}
+use Rattle.fb_values.specs.declared.facts.Entry.{Entry}
+use Rattle.fb_model.specs.History.{basis, upto}
+use Rattle.fb_model.specs.Lawful.{IsLawful}
+use Rattle.fb_model.proofs.LawfulHistories.{IsLawful-length}
+use Rattle.fb_model.proofs.OneMoreEntry.{basis-push}
+use Rattle.fb_model.proofs.Times.{next_t}
+use Rattle.disk_model.specs.Disk.{WhereTold, LeavesOnly}
+use Rattle.log_model.specs.Log.{IsLogOf}
+use Rattle.disk_log.specs.Disks.{IsLogFrom, HasKept, HasBroken}
+use Rattle.disk_log.specs.Logs.{disk_in}
+use Rattle.fb_core.specs.declared.accepting.Draft.{Draft}
+use Rattle.fb_core.specs.Cores.{entry_of}
+use Rattle.fb_view.specs.Kept.{Kept}
+use Rattle.fb_ports.specs.Faults.{Rose}
+use Rattle.fb_ports.specs.declared.hosts.Part.TheVariants.{Log}
+use Rattle.fb_ports.specs.Told.{Told}
+use Rattle.fb_run.specs.declared.database.Directory.{Directory}
+use Rattle.fb_run.specs.declared.database.Unready.{Unready}
+use Rattle.fb_run.specs.declared.database.Unready.TheVariants.{CannotOpen, BadLog, Memory}
+use Rattle.fb_run.specs.declared.outcome.SessionOut.{SessionOut}
+use Rattle.fb_run.specs.declared.outcome.Outcome.{Outcome}
+use Rattle.fb_run.specs.Outside.{Tells, DiskTells, EachOf}
+use Rattle.fb_run.specs.Opening.{IsOpenedFor, HasOpened}
+use Rattle.fb_run.specs.Logs.{LogHolds}
+use Rattle.fb_run.specs.Database.{SameStreams, IsOpened, IsUnopenedPart, IsUnready}
+use Rattle.fb_run.specs.Running.{LeavesLog, LeavesDisks, GoesOnFrom}
+
+-- ---- what is opened behind the directory
+
+pub unready_part : {D : Type 0} (disks : DiskTells D) (dir : List ℕ) (old mid new : Told) (why : Unready D) → mid.faults ≡ old.faults
+    → IsUnopenedPart mid new dir why → IsUnready old new disks dir (dir ∷ []) why
+unready_part disks dir old mid new (CannotOpen name) same not = ((0, ap Some (sym not.0)), subst (λ n. Rose n new.faults) same not.1)
+unready_part disks dir old mid new (BadLog fault log segments) same not = absurd not
+unready_part disks dir old mid new Memory same not = tt
+
+module _ {I O : Type 0} (tells : Tells I O) (old mid : Told) (streams : SameStreams old mid) where
+  one_over : (name : List ℕ) (s : SessionOut I O) → IsOpenedFor mid tells name s → IsOpenedFor old tells name s
+  one_over name s opened = record {
+    source = record {
+      left = opened.source.left ∙ streams.sources name;
+      faults = opened.source.faults ∙ streams.source_faults name;
+    };
+    sink = record {
+      contents = opened.sink.contents ∙ streams.sinks _;
+      faults = opened.sink.faults ∙ streams.sink_faults _;
+    };
+  }
+
+  each_over : (n : ℕ) (names : List (List ℕ)) (sessions : List (SessionOut I O))
+      → EachOf (λ m name (s : SessionOut I O). IsOpenedFor mid tells name s) n names sessions
+      → EachOf (λ m name (s : SessionOut I O). IsOpenedFor old tells name s) n names sessions
+  each_over n [] [] each = tt
+  each_over n [] (s ∷ ss) each = absurd each
+  each_over n (x ∷ xs) [] each = absurd each
+  each_over n (x ∷ xs) (s ∷ ss) each = (one_over x s each.0, each_over (n + 1) xs ss each.1)
+
+  pub opened_over : (names : List (List ℕ)) (new : Told) (sessions : List (SessionOut I O)) → HasOpened tells names mid new sessions
+      → HasOpened tells names old new sessions
+  opened_over names new sessions opened =
+      record { each = each_over 0 names sessions opened.each; faults = opened.faults ∙ streams.faults }
+
+-- ---- the log
+
+-- a history has what it had up to an earlier t, also with an entry more
+within_upto : (h before : List Entry) (r : ℕ) → IsLawful before → basis before ≡ r → upto h r ≡ before → r + 1 ≤ length h
+within_upto h before r lawful start is =
+    let whole : length (upto h r) ≡ r + 1 = omega (arith, ap length is, IsLawful-length before lawful, start) in
+    omega (arith, length-take (r + 1) h, whole)
+
+longer_upto : (h before more : List Entry) (r : ℕ) → IsLawful before → basis before ≡ r → upto h r ≡ before → upto (h ++ more) r ≡ before
+longer_upto h before more r lawful start is =
+    take-append-le (r + 1) h more (within_upto h before r lawful start is) ∙ is
+
+module _ {D : Type 0} {g : _} (told : Told) (disks : DiskTells D) (dir : List ℕ) (directory : Directory D g) (opened : IsOpened told disks
+    dir directory) (h : List Entry) (opening : ℕ)
+    (recovered : opening ≡ directory.recovered) (within : opening ≤ basis h) (begins : upto h opening ≡ directory.core.snapshot.entries)
+    (log : D) where
+  abbrev before : List Entry
+  before = directory.core.snapshot.entries
+
+  lawful : IsLawful before
+  lawful = opened.reopened.core.snapshot.history.lawful
+
+  start : basis before ≡ opening
+  start = sym opened.reopened.recovered ∙ sym recovered
+
+  abbrev begun : D
+  begun = disk_in directory.log
+
+  -- where the host told, the disk tells as the log is opened
+  told_then : (file : List ℕ) → told.disks dir Log ≡ Some file → (later : List ℕ) × (disks.bytes begun ≡ Some later)
+  told_then file is = opened.reopened.told file (opened.log.bytes ∙ is)
+
+  unfailed : disks.faults begun ≡ told.disk_faults dir Log
+  unfailed = opened.reopened.unfailed ∙ opened.log.faults
+
+  -- what a crash leaves since the host handed out the disk, if this is what it leaves since the log was opened
+  any_moment : (l : List Entry) → opening ≤ basis l → upto l opening ≡ before
+      → WhereTold (disks.bytes begun) (λ _. LeavesOnly disks.moment disks.images_since begun log (IsLogFrom opening l))
+      → WhereTold (told.disks dir Log) (λ _. (image : List ℕ) → disks.images_since log (told.disk_moment dir Log) image
+      → told.disk_images dir Log image ⊎ IsLogFrom opening l image)
+  any_moment l least is later = λ file told_is image since.
+      let first = opened.reopened.any_moment file (opened.log.bytes ∙ told_is) in
+      let then_told = told_then file told_is in
+      let second = later then_told.0 then_told.1 in
+      let here = subst (λ (t : ℕ). disks.images_since log t image) (sym opened.log.moment) since in
+      let from : IsLogOf image before → IsLogFrom opening l image =
+      λ stands. (opening, omega arith, least, subst (IsLogOf image) (sym is) stands) in
+      ⊎_elim
+      (λ (was : disks.images_since begun (disks.moment opened.disk) image). ⊎_elim
+      (λ (left : disks.images opened.disk image). inl ((opened.log.images image).0 left))
+      (λ (stands : IsLogOf image before). inr (from stands)) (first.each image was))
+      (λ (stands : IsLogFrom opening l image). inr stands)
+      (second.before (disks.moment opened.disk) image first.later here)
+
+  pub log_holds : (torn : Option Draft) → LeavesLog disks directory.recovered begun h torn log
+      → LogHolds told disks dir h opening torn log
+  log_holds None left =
+      let kept : HasKept disks.bytes disks.images disks.faults disks.moment disks.images_since opening begun h log =
+      subst (λ (r : ℕ). HasKept disks.bytes disks.images disks.faults disks.moment disks.images_since r begun h log) (sym recovered) left in
+      record {
+        stopped = tt;
+        failed = λ some. absurd (cc);
+        unfailed = λ _. kept.unfailed ∙ unfailed;
+        at_end = λ file is image here.
+            let later = told_then file is in inl (kept.left later.0 later.1 image here);
+        any_moment = any_moment h within begins kept.any_moment;
+      }
+  log_holds (Some draft) left =
+      let broken : HasBroken disks.bytes disks.images disks.faults disks.moment disks.images_since opening begun h (entry_of draft) log =
+      subst (λ (r : ℕ). HasBroken disks.bytes disks.images disks.faults disks.moment disks.images_since r begun h (entry_of draft) log) (sym
+      recovered) left.1 in
+      let entry = entry_of draft in
+      let least : opening ≤ basis (h ++ entry ∷ []) = omega (arith, within, basis-push h entry, next_t h entry left.0.lawful) in
+      record {
+        stopped = left.0;
+        failed = λ _. subst (λ (n : ℕ). Rose n (disks.faults log)) unfailed broken.failed;
+        unfailed = λ none. absurd (cc);
+        at_end = λ file is image here. let later = told_then file is in broken.left later.0 later.1 image here;
+        any_moment = any_moment (h ++ entry ∷ []) least (longer_upto h before (entry ∷ []) opening lawful start begins) broken.any_moment;
+      }
+
+  -- the file was the log of the history so far
+  pub opening_is : WhereTold (told.disks dir Log) (λ file. IsLogOf file (upto h opening))
+  opening_is = λ file is.
+      subst (IsLogOf file) (sym begins) (opened.reopened.history file (opened.log.bytes ∙ is))
+
+module _ {I O D : Type 0} {g : _} (told : Told) (disks : DiskTells D) (dir : List ℕ) (directory : Directory D g) (opened : IsOpened told
+    disks
+    dir directory) (outcome : Outcome I O D)
+    (h : List Entry) (goes_on : GoesOnFrom directory h outcome) where
+  pub run_opens : WhereTold (told.disks dir Log) (λ file. IsLogOf file (upto h outcome.recovered))
+  run_opens =
+      opening_is told disks dir directory opened h outcome.recovered goes_on.recovered goes_on.within goes_on.opened (disk_in directory.log)
+
+  pub run_log : (segments : D) → LeavesDisks disks directory.recovered (disk_in directory.log) segments h outcome
+      → IfSome outcome.log (LogHolds told disks dir h outcome.recovered outcome.torn)
+  run_log segments leaves =
+      subst (λ (o : Option D). IfSome o (LogHolds told disks dir h outcome.recovered outcome.torn)) (sym leaves.log_is)
+      (log_holds told disks dir directory opened h outcome.recovered goes_on.recovered goes_on.within goes_on.opened leaves.log outcome.torn
+      leaves.left)
+
+module _ {I O D : Type 0} {g : _} (told : Told) (disks : DiskTells D) (dir : List ℕ) (directory : Directory D g) (opened : IsOpened told
+    disks
+    dir directory) (outcome : Outcome I O D)
+    (segments : D) where
+  logs_by : (last : Option Kept) → IfSome last (λ l. GoesOnFrom directory l.entries outcome)
+      → IfSome last (λ l. LeavesDisks disks directory.recovered (disk_in directory.log) segments l.entries outcome)
+      → IfSome last (λ l. IfSome outcome.log (LogHolds told disks dir l.entries outcome.recovered outcome.torn))
+  logs_by None goes_on leaves = tt
+  logs_by (Some l) goes_on leaves = run_log told disks dir directory opened outcome l.entries goes_on segments leaves
+
+  pub run_logs : IfSome outcome.last (λ l. GoesOnFrom directory l.entries outcome)
+      → IfSome outcome.last (λ l. LeavesDisks disks directory.recovered (disk_in directory.log) segments l.entries outcome)
+      → IfSome outcome.last (λ l. IfSome outcome.log (LogHolds told disks dir l.entries outcome.recovered outcome.torn))
+  run_logs goes_on leaves = logs_by outcome.last goes_on leaves

@@ -1,0 +1,22 @@
+use Rattle.std.proofs.Common.{◌≡◌, Err, refl, arith, rules}
+use Rattle.fb_run.specs.Outside.{disks_of}
+use Rattle.fb_run.proofs.Directories.{unready_part}
+use Rattle.fb_run.proofs.database.open_directory.Goals as goal
+
+pub returns-in_err-log-clause-stop : goal.returns-in_err-log-clause-stop
+returns-in_err-log-clause-stop g c =
+    let disks = disks_of g.H.Disk.Disk.bytes g.H.Disk.Disk.faults g.H.Disk.Disk.images g.H.Disk.Disk.moment g.H.Disk.Disk.images_since in
+    let e : c.from_residual.result ≡ Err c.in_err-log.field-0.0 = first_of (search rules, grind arith) in
+    rw e
+    (unready_part disks c.args.dir.now (g.H.Host.told c.args.host.now) (g.H.Host.told c.args.host.now) (g.H.Host.told c.open_part.new.host)
+    _
+    refl c.in_err-log.ensures.stop)
+
+pub returns-in_err-segments-clause-stop : goal.returns-in_err-segments-clause-stop
+returns-in_err-segments-clause-stop g c =
+    let disks = disks_of g.H.Disk.Disk.bytes g.H.Disk.Disk.faults g.H.Disk.Disk.images g.H.Disk.Disk.moment g.H.Disk.Disk.images_since in
+    let e : c.from_residual-in_err-segments.result ≡ Err c.in_err-segments.field-0.0 = first_of (search rules, grind arith) in
+    rw e
+    (unready_part disks c.args.dir.now (g.H.Host.told c.args.host.now) (g.H.Host.told c.open_part.new.host) (g.H.Host.told
+    c.open_part-2.new.host) _
+    c.in_ok-log.ensures.unfailed c.in_err-segments.ensures.stop)
