@@ -5,6 +5,7 @@
 //! the history, and slot s + 1 the last snapshot mailed to session s.
 ghost use Rattle.std.specs.Prelude.{◌≡◌, ◌+◌, ◌<◌};
 
+use crate::beds::Beds;
 use crate::named::{Mailed, Named};
 use crate::view::{Code, View};
 use atomic_table::{Table, TableRule};
@@ -51,6 +52,7 @@ impl<H: Named, S: Mailed + Named<Entry = H::Entry>> TableRule<SlotValue<H, S>, V
 #[derive(Drop)]
 pub struct Board<H: Named, S: Mailed + Named<Entry = H::Entry>> {
     pub(crate) table: Table<SlotValue<H, S>, View<Code>, Begun<H>, OneHistory<H, S>, Global>,
+    pub(crate) beds: Beds,
     ghost sized: { (table.shared.table_id.words ≡ table.shared.key.sessions + 3) × (table.shared.table_id.slots ≡ table.shared.key.sessions + 1) × (table.shared.key.sessions < 2147483648) },
 }
 
@@ -62,16 +64,25 @@ impl<H: Named, S: Mailed + Named<Entry = H::Entry>> Board<H, S> {
         (self.table.slot_count() - 1) as u32
     }
 
-    /// Sleeps while the ticket served is `served`, until a wake. It may also return for no reason.
-    pub fn park<R: Wait>(&self, rt: &R, served: u64) {
-        self.table.shared.park(rt, 1, (served & 0xffff_ffff) as u32);
+    /// Whether the ticket is the one behind the ticket served.
+    pub fn is_next(&self, ticket: u64) -> bool {
+        self.table.shared.peek(1).checked_add(1) == Some(ticket)
     }
 
-    /// Wakes whoever sleeps, if a ticket is drawn that is not served yet.
+    /// Says that who waits for the ticket is about to sleep. It has to look once more before it does.
+    pub fn lie_down(&self, ticket: u64) {
+        self.beds.take(ticket);
+    }
+
+    /// Sleeps until the ticket is served, or is the next one. It may also return for no reason.
+    pub fn sleep<R: Wait>(&self, rt: &R, ticket: u64) {
+        self.beds.sleep(rt, ticket);
+    }
+
+    /// Wakes who sleeps for the ticket served, and who sleeps for the next one.
     pub fn wake(&self) {
-        let shared = &self.table.shared;
-        if shared.peek(0) > shared.peek(1) {
-            shared.wake_all(1);
-        }
+        let served = self.table.shared.peek(1);
+        self.beds.wake(served);
+        self.beds.wake(served.wrapping_add(1));
     }
 }

@@ -7,6 +7,7 @@ ghost use Rattle.board_rule.specs.Board.{mailed_as};
 ghost use Rattle.board_rule.specs.declared.board.SlotValue.TheVariants.{Core};
 ghost use Rattle.board_rule.specs.Calls.{view_of, board_of};
 
+use crate::beds::Beds;
 use crate::board::{Begun, Board, SlotValue};
 use crate::mails::Mails;
 use crate::named::{Mailed, Named};
@@ -98,7 +99,10 @@ impl<H: Named, S: Mailed + Named<Entry = H::Entry>> Board<H, S> {
         let slots = lay_slots(alloc, home, mailed)?;
         match Table::new(alloc, words.as_slice(), slots, &about) {
             Ok((table, seat)) => Ok((
-                Board { table },
+                Board {
+                    table,
+                    beds: Beds::new(),
+                },
                 BoardSeat {
                     number: u32::MAX,
                     given: 0,
@@ -123,7 +127,7 @@ impl<H: Named, S: Mailed + Named<Entry = H::Entry>> Board<H, S> {
         ensures whole { IsWhole (codes H.Entry.row.coded.code (H.entries result)) (H.authors result)
             (H.marks result) (view_of seat) }
     {
-        let Board { table } = self;
+        let Board { table, beds: _ } = self;
         let BoardSeat {
             number: _,
             given: _,

@@ -1,6 +1,7 @@
 //! The board: one history for all threads, kept by a rule that holds between any two single atomic steps.
 #![tactic(auto)]
 
+mod beds;
 mod board;
 mod ends;
 mod held;

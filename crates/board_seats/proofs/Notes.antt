@@ -9,7 +9,7 @@ use Rattle.board_rule.specs.declared.view.Code.{Code}
 use Rattle.board_rule.specs.declared.view.View.{View}
 use Rattle.board_rule.specs.Views.{longer, note_of, both, starting, IsIdle}
 use Rattle.board_rule.specs.Calls.{view_of, board_of}
-use Rattle.board_seats.specs.Seating.{AreNew, AreIdle, AreNoted, IsNoted}
+use Rattle.board_seats.specs.Seating.{AreNew, AreIdle, AreNoted, IsNoted, HasSeen}
 
 module _ {A : Type 0} where
   at_middle : (l m : List A) (a : A) (n : ℕ) → length l ≡ n → get_elem? (l ++ a ∷ m) n ≡ some a
@@ -68,13 +68,21 @@ module _ (w u w' : View Code) (joins : w' ≡ both w u) where
   still_noted : (x : View Code) → IsNoted x w → IsNoted x w'
   still_noted x h = (h.0, h.1, ap (λ (z : View Code). get_elem? z.joined h.0) joins ∙ at_longer w.joined (note_of w u ∷ u.joined) h.0 h.1 h.2, h.3)
 
+  note_here : get_elem? w'.joined (length w.joined) ≡ some (note_of w u)
+  note_here = ap (λ (z : View Code). get_elem? z.joined (length w.joined)) joins ∙ at_middle w.joined u.joined (note_of w u) (length w.joined) refl
+
   now_noted : IsNoted u w'
   now_noted = (
     length w.joined,
     note_of w u,
-    ap (λ (z : View Code). get_elem? z.joined (length w.joined)) joins ∙ at_middle w.joined u.joined (note_of w u) (length w.joined) refl,
+    note_here,
     record { number = refl; seen = refl; commits = refl; stop = refl },
   )
+
+  -- the note has what the first seat had seen
+  pub still_seen : (l : List Code) → HasSeen l w → HasSeen l w'
+  still_seen l (inl seen) = inr (length w.joined, note_of w u, note_here, seen)
+  still_seen l (inr h) = inr (h.0, h.1, ap (λ (z : View Code). get_elem? z.joined h.0) joins ∙ at_longer w.joined (note_of w u ∷ u.joined) h.0 h.1 h.2, h.3)
 
 -- each of the seats is still to be joined, or is noted
 abbrev pub AreTaken : List BoardSeat → List BoardSeat → View Code → Type 0

@@ -1,6 +1,6 @@
 -- What is known of seats as a board is opened, and what is kept of them as they come together.
 -- This project's own choice.
-use Rattle.std.specs.Prelude.{◌≡◌, ℕ, List}
+use Rattle.std.specs.Prelude.{◌≡◌, ◌⊎◌, ℕ, List}
 use mathlib.Core.Option.{some}
 use lib.ListN.{get_elem?}
 use Rattle.atomic_table.specs.Seated.{TableId}
@@ -36,3 +36,12 @@ IsNoted u w = (i : ℕ) × (p : Joined Code) × (get_elem? w.joined i ≡ some p
 -- each of these seats is noted in the view w
 abbrev pub AreNoted : List BoardSeat → View Code → Type 0
 AreNoted seats w = (k : ℕ) (s : BoardSeat) → get_elem? seats k ≡ some s → IsNoted (view_of s) w
+
+-- the list is what the seat with this view has seen, or had seen before a seat was joined to it
+abbrev pub HasSeen : List Code → View Code → Type 0
+HasSeen l w =
+    (w.seen ≡ l)
+    ⊎ ((i : ℕ)
+    × (p : Joined Code)
+    × (get_elem? w.joined i ≡ some p)
+    × (p.beside ≡ l))

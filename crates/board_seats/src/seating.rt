@@ -4,7 +4,7 @@ ghost use Rattle.std.specs.List.{All};
 ghost use Rattle.board_rule.specs.declared.seat.BoardSeat.{BoardSeat};
 ghost use Rattle.board_rule.specs.Views.{worker, IsLawful, codes, starting, IsIdle};
 ghost use Rattle.board_rule.specs.Calls.{view_of, board_of};
-ghost use Rattle.board_seats.specs.Seating.{AreNew, AreIdle, AreNoted};
+ghost use Rattle.board_seats.specs.Seating.{AreNew, AreIdle, AreNoted, HasSeen};
 
 use board_rule::{Board, BoardSeat, Mailed, Mails, Named, step_join, step_split};
 use fb_memory::Memory;
@@ -85,7 +85,7 @@ pub trait Seated: Drop {
         ensures { result ≡ seat self };
 }
 
-/// Joins seats to the first one, which keeps a note of each. It takes no memory.
+/// Joins seats to the first one, which keeps a note of each, and of what it had seen itself. It takes no memory.
 pub fn gather<H: Named, S: Mailed + Named<Entry = H::Entry>, T: Seated>(
     board: &Board<H, S>,
     first: &mut BoardSeat,
@@ -102,6 +102,7 @@ pub fn gather<H: Named, S: Mailed + Named<Entry = H::Entry>, T: Seated>(
           joined = (view_of first.new).joined;
         } }
     ensures noted { AreNoted (map T.seat seats.items) (view_of first.new) }
+    ensures own { HasSeen (view_of first.old).seen (view_of first.new) }
 {
     while let Some(seat) = seats.pop() {
         step_join(board, first, seat.into_seat());

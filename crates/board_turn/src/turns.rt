@@ -1,5 +1,5 @@
 //! A turn, from the ticket to its end.
-ghost use Rattle.std.specs.Prelude.{◌≡◌, ℕ, ◌+◌, ◌<◌, List, [], ◌∷◌, ◌++◌, length, Some, None, MatchOption, MatchBool};
+ghost use Rattle.std.specs.Prelude.{◌≡◌, ℕ, ◌+◌, ◌<◌, List, [], ◌∷◌, ◌++◌, length, Some, None, MatchBool};
 ghost use Rattle.board_rule.specs.declared.view.Code.{Code};
 ghost use Rattle.board_rule.specs.declared.view.Story.{Story};
 ghost use Rattle.board_rule.specs.declared.view.At.TheVariants.{Away};
@@ -14,9 +14,13 @@ use board_rule::{
 };
 use std::hint::spin_loop;
 use std::sync::Wait;
+use std::thread::yield_now;
 
-/// How often a seat looks before it sleeps.
+/// How often a seat looks before it lets another thread run, or sleeps. It takes a few microseconds.
 const LOOKS: u32 = 64;
+
+/// How many times over who is next in line does that before it sleeps. It outlasts a turn with two syncs of a disk.
+const ROUNDS: u32 = 64;
 
 /// Draws a ticket for a turn.
 pub fn draw<H: Named, S: Mailed + Named<Entry = H::Entry>>(
@@ -32,28 +36,23 @@ pub fn draw<H: Named, S: Mailed + Named<Entry = H::Entry>>(
     step_draw(board, seat);
 }
 
-/// Looks once. Where the turn has not come, it answers the ticket served.
+/// Looks once, and says whether the turn has come.
 fn look<'a, H: Named, S: Mailed + Named<Entry = H::Entry>>(
     board: &'a Board<H, S>,
     seat: &mut BoardSeat,
-) -> Option<u64>
+) -> bool
     requires seat { board_of seat.old ≡ board.now.table.shared.table_id }
     requires waits { (view_of seat.old).turn ≡ None }
     ensures seat { board_of seat.new ≡ board_of seat.old }
-    ensures turn { MatchOption result
+    ensures turn { MatchBool result
         ((y : Story Code)
         × (view_of seat.new ≡ began (view_of seat.old) y)
         × IsTold (AreLawful H.Entry.row.coded.code H.follows) (view_of seat.old) y)
-        (λ _. view_of seat.new ≡ view_of seat.old) }
+        (view_of seat.new ≡ view_of seat.old) }
 {
     let ticket = seat.ticket();
     let nothing: Note<'a, H> = Note::Nothing;
-    let served = step_look(board, seat, nothing);
-    if ticket == Some(served) {
-        None
-    } else {
-        Some(served)
-    }
+    ticket == Some(step_look(board, seat, nothing))
 }
 
 /// Looks a few times, and says whether the turn has come.
@@ -71,7 +70,7 @@ fn comes_soon<H: Named, S: Mailed + Named<Entry = H::Entry>>(
         (view_of seat.new ≡ view_of seat.old) }
 {
     for _ in 0..LOOKS {
-        if look(board, seat).is_none() {
+        if look(board, seat) {
             return true;
         }
         spin_loop();
@@ -79,44 +78,72 @@ fn comes_soon<H: Named, S: Mailed + Named<Entry = H::Entry>>(
     false
 }
 
-/// Sleeps until the turn has come. Whoever leaves wakes it.
-fn sleep_until_turn<H: Named, S: Mailed + Named<Entry = H::Entry>, R: Wait>(
+/// Whether the seat's turn is the next one.
+fn is_next<H: Named, S: Mailed + Named<Entry = H::Entry>>(
     board: &Board<H, S>,
-    rt: &R,
+    seat: &BoardSeat,
+) -> bool {
+    match seat.ticket() {
+        Some(ticket) => board.is_next(ticket),
+        None => false,
+    }
+}
+
+/// Looks for as long as it makes sense to stay awake, and says whether the turn has come. Who is next in line looks on, since a
+/// wake may take longer than a turn.
+fn comes_while_awake<H: Named, S: Mailed + Named<Entry = H::Entry>>(
+    board: &Board<H, S>,
     seat: &mut BoardSeat,
-)
+) -> bool
     requires seat { board_of seat.old ≡ board.now.table.shared.table_id }
     requires waits { (view_of seat.old).turn ≡ None }
     ensures seat { board_of seat.new ≡ board_of seat.old }
-    ensures turn { (y : Story Code)
+    ensures turn { MatchBool result
+        ((y : Story Code)
         × (view_of seat.new ≡ began (view_of seat.old) y)
-        × IsTold (AreLawful H.Entry.row.coded.code H.follows) (view_of seat.old) y }
+        × IsTold (AreLawful H.Entry.row.coded.code H.follows) (view_of seat.old) y)
+        (view_of seat.new ≡ view_of seat.old) }
 {
-    for _ in rt.forever() {
-        match look(board, seat) {
-            None => return,
-            Some(served) => board.park(rt, served),
+    for _ in 0..ROUNDS {
+        if comes_soon(board, seat) {
+            return true;
         }
+        if !is_next(board, seat) {
+            return false;
+        }
+        yield_now();
     }
-    unreachable!()
+    false
 }
 
+/// Looks for a while and then sleeps, until the turn has come. Whoever leaves wakes it.
 fn wait_for_turn<H: Named, S: Mailed + Named<Entry = H::Entry>, R: Wait>(
     board: &Board<H, S>,
     rt: &R,
     seat: &mut BoardSeat,
 )
     requires seat { board_of seat.old ≡ board.now.table.shared.table_id }
+    requires ticket { (t : ℕ) × ((view_of seat.old).ticket ≡ Some t) }
     requires waits { (view_of seat.old).turn ≡ None }
     ensures seat { board_of seat.new ≡ board_of seat.old }
     ensures turn { (y : Story Code)
         × (view_of seat.new ≡ began (view_of seat.old) y)
         × IsTold (AreLawful H.Entry.row.coded.code H.follows) (view_of seat.old) y }
 {
-    if comes_soon(board, seat) {
-        return;
+    let Some(ticket) = seat.ticket() else {
+        unreachable!()
+    };
+    for _ in rt.forever() {
+        if comes_while_awake(board, seat) {
+            return;
+        }
+        board.lie_down(ticket);
+        if look(board, seat) {
+            return;
+        }
+        board.sleep(rt, ticket);
     }
-    sleep_until_turn(board, rt, seat);
+    unreachable!()
 }
 
 /// Waits for the turn of the drawn ticket, and takes the value that stands for the history. Its origin is that of the
@@ -176,7 +203,8 @@ pub fn commit<H: Named, S: Mailed + Named<Entry = H::Entry>>(
     step_commit(board, seat, &held.home);
 }
 
-/// Ends the turn: the value, whose origin no turn changes, goes back to its slot, and its marks are the named ones. Wakes whoever waits for the next turn.
+/// Ends the turn: the value, whose origin no turn changes, goes back to its slot, and its marks are the named ones. Wakes who is served now, and who is
+/// next.
 pub fn leave<H: Named, S: Mailed + Named<Entry = H::Entry>>(
     board: &Board<H, S>,
     seat: &mut BoardSeat,

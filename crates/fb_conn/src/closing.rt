@@ -3,6 +3,7 @@ ghost use Rattle.std.specs.Prelude.{◌≡◌, ℕ, ◌+◌, ◌<◌, length, So
 ghost use Rattle.std.specs.List.{slice_get, AllByRecursion};
 ghost use Rattle.fb_model.specs.History.{basis};
 ghost use Rattle.fb_core.specs.Cores.{CoreStands};
+ghost use Rattle.board_rule.specs.Views.{StartsWith};
 ghost use Rattle.board_rule.specs.Calls.{view_of};
 ghost use Rattle.fb_conn.specs.declared.seats.Seat.{Seat};
 ghost use Rattle.fb_conn.specs.Homes.{LogStands};
@@ -40,6 +41,7 @@ impl<L: Log> Conn<L> {
             result.core.authors }
         ensures taken { (k : ℕ) (seat : Seat) → slice_get seats.items k ≡ Some seat
             → IsTakenIn result.core (view_of worker.board).start result.stopped k (state_of seat) }
+        ensures last { StartsWith result.core.snapshot.entries worker.last.entries }
         ensures covered { result.core.snapshot.covered ≡ (view_of worker.board).covered }
         ensures log { LogStands L.keeps L.broke
             (begun_of self) result.core.snapshot.entries

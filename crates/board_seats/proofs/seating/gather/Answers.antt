@@ -4,7 +4,7 @@ use Rattle.board_rule.specs.declared.seat.BoardSeat.{BoardSeat}
 use Rattle.board_rule.specs.declared.view.Code.{Code}
 use Rattle.board_rule.specs.declared.view.View.{View}
 use Rattle.board_rule.specs.Calls.{view_of}
-use Rattle.board_seats.proofs.Notes.{last_idle, others_idle, joined_once, taken_on}
+use Rattle.board_seats.proofs.Notes.{last_idle, others_idle, joined_once, still_seen, taken_on}
 use Rattle.board_seats.proofs.seating.gather.Goals as goal
 
 -- the seat of what was taken from the end is the last of the seats
@@ -40,4 +40,5 @@ loop-seat-preserved g c =
       omega (arith, ap (length {A = _}) c.in-Some.ensures.items, length-append rest (c.in-Some.seat ∷ [])),
       others_idle _ (map f all) (map f rest) s last inv.3,
       taken_on (map f rest) s w w' joins _ (map f all) last inv.4,
+      still_seen w (view_of s) w' joins v.seen inv.5,
     )

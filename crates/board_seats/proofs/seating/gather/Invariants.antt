@@ -5,7 +5,7 @@ use Rattle.board_rule.specs.declared.seat.BoardSeat.{BoardSeat}
 use Rattle.board_rule.specs.declared.view.Code.{Code}
 use Rattle.board_rule.specs.declared.view.View.{View}
 use Rattle.board_rule.specs.Calls.{view_of, board_of}
-use Rattle.board_seats.specs.Seating.{AreIdle, IsNoted}
+use Rattle.board_seats.specs.Seating.{AreIdle, IsNoted, HasSeen}
 use Rattle.board_seats.proofs.seating.gather.Given as goal
 
 abbrev pub invariant-loop-seat : goal.invariant-loop-seat
@@ -15,6 +15,7 @@ invariant-loop-seat g l =
     × ((view_of l.first).seats + length l.seats.items ≡ (view_of l.initial.first).seats + length l.initial.seats.items)
     × AreIdle l.board.table.shared.table_id (map g.T.Seated.seat l.seats.items)
     × ((k : ℕ) (s : BoardSeat) → get_elem? (map g.T.Seated.seat l.initial.seats.items) k ≡ some s → (get_elem? (map g.T.Seated.seat l.seats.items) k ≡ some s) ⊎ IsNoted (view_of s) (view_of l.first))
+    × HasSeen (view_of l.initial.first).seen (view_of l.first)
 
 abbrev pub decreases-loop-seat : goal.decreases-loop-seat
 decreases-loop-seat g l = length l.seats.items

@@ -1,4 +1,6 @@
-use Rattle.std.proofs.Common.{◌≡◌, ◌+◌, ap, sym, subst, ◌∙◌, Some}
+use Rattle.std.proofs.Common.{◌≡◌, ◌+◌, ◌<◌, ◌≤◌, false, get_or, ap, sym, subst, ◌∙◌, Some, arith}
+use Rattle.std.proofs.lemmas.List.{get_or-set_other}
+use Rattle.std.specs.Slots.{slots_filled, slots_len}
 use mathlib.Core.Option.{some-injective}
 use Rattle.board_rule.specs.Seat.{first_of}
 use Rattle.board_rule.specs.Views.{IsLawful, IsWhole, codes}
@@ -23,3 +25,11 @@ returns g c =
       origin = sym (ap g.H.Named.origin is) ∙ e.3.1;
       whole = subst (IsWhole (codes f (g.H.Named.entries home)) (g.H.Named.authors home) (g.H.Named.marks home)) u (subst (λ h. IsWhole (codes f (g.H.Named.entries h)) (g.H.Named.authors h) (g.H.Named.marks h) c.into_seat.result.me.0) is e.4);
     }
+
+-- every slot is full but slot 0, which was taken
+pub clear-requires-clause-full : goal.clear-requires-clause-full
+clear-requires-clause-full g c k at_least within =
+    let t = c.take.ensures.others in let before = c.close_with-closed.result.slots in
+    ap (λ l. get_or l k false) t.1
+    ∙ get_or-set_other (slots_filled before) 0 k false false (omega arith)
+    ∙ c.close_with-closed.ensures.values.1 k (omega arith) (subst (λ n. k < n) t.2 within)

@@ -1,13 +1,15 @@
-use Rattle.std.proofs.Common.{◌≡◌, ◌∙◌, ℕ, ◌+◌, [], length, ap, sym, subst, arith}
+use Rattle.std.proofs.Common.{◌≡◌, ◌⊎◌, inl, inr, ◌∙◌, ℕ, ◌+◌, List, [], length, ap, sym, subst, arith}
 use lib.ListN.{length-map}
 use Rattle.fb_values.specs.contracts.facts.Entry as an_entry
 use Rattle.fb_model.proofs.LawfulHistories.{IsLawful-length}
 use Rattle.board_rule.specs.declared.seat.BoardSeat.{BoardSeat}
 use Rattle.board_rule.specs.declared.view.Code.{Code}
+use Rattle.board_rule.specs.declared.view.Marks.{Marks}
 use Rattle.board_rule.specs.declared.view.View.{View}
-use Rattle.board_rule.specs.Views.{worker, StartsWith, code, codes, commits_of, IsIdle}
+use Rattle.board_rule.specs.Views.{worker, StartsWith, code, codes, commits_of, IsIdle, IsWhole}
 use Rattle.board_rule.specs.Calls.{view_of, board_of}
 use Rattle.board_rule.proofs.Codes.{starts_inj}
+use Rattle.board_seats.specs.Seating.{HasSeen}
 use Rattle.fb_conn.specs.Homes.{code_of}
 use Rattle.fb_conn.specs.Seats.{board_in}
 use Rattle.fb_conn.proofs.Places.{made_of, made_at}
@@ -35,6 +37,17 @@ returns-clause-by_sessions g c =
     all_below n (first.start + 1) who
     (no_other_commits n (first.start + 1) who (λ z past ne. whole.unwritten z (omega (arith, given, past)) ne)
     (ap (λ (m : ℕ). commits_of m (first.start + 1) who) (sym number) ∙ (sym whole.commits ∙ none)))
+
+-- what the view had seen, or had seen as a seat was joined to it, the closed history begins with
+own_seen : (l es : List Code) (who : List ℕ) (m : Marks) (w : View Code) → IsWhole es who m w → HasSeen l w → StartsWith es l
+own_seen l es who m w whole (inl is) = subst (StartsWith es) is whole.seen
+own_seen l es who m w whole (inr h) = subst (StartsWith es) h.3 (whole.joined_seen h.0 h.1 h.2).1
+
+pub returns-clause-last : goal.returns-clause-last
+returns-clause-last g c =
+    let home = c.close-home.result in let h = home.core.snapshot.entries in let last = c.args.worker.last.entries in
+    let begins = own_seen _ (codes code_of h) home.core.authors _ (view_of c.gather.new.first) c.close-home.ensures.whole c.gather.ensures.own in
+    starts_inj an_entry.the_row.coded h last (subst (StartsWith (codes code_of h)) c.requires.worker.0.0.seen begins)
 
 pub returns-clause-taken : goal.returns-clause-taken
 returns-clause-taken g c = λ k seat at.

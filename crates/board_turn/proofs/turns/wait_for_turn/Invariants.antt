@@ -1,6 +1,6 @@
 use Rattle.std.proofs.Common.{◌≡◌}
 use Rattle.board_rule.specs.Calls.{view_of, board_of}
-use Rattle.board_turn.proofs.turns.sleep_until_turn.Given as goal
+use Rattle.board_turn.proofs.turns.wait_for_turn.Given as goal
 
 abbrev pub invariant-loop : goal.invariant-loop
 invariant-loop g l =

@@ -1,0 +1,6 @@
+use Rattle.std.proofs.Common.{◌≡◌}
+use Rattle.board_rule.specs.Calls.{view_of, board_of}
+use Rattle.board_turn.proofs.turns.comes_while_awake.Given as goal
+
+abbrev pub invariant-loop : goal.invariant-loop
+invariant-loop g l = (board_of l.seat ≡ board_of l.initial.seat) × (view_of l.seat ≡ view_of l.initial.seat)
