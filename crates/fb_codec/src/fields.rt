@@ -12,10 +12,10 @@ use fb_memory::Memory;
 pub(crate) const OLDER_FORMAT: u8 = 1;
 
 /// The format that is written.
-pub(crate) const WRITTEN_FORMAT: u8 = 2;
+pub const WRITTEN_FORMAT: u8 = 2;
 
 /// The field at this place does not fit.
-pub(crate) fn misfit(at: usize) -> BytesFault
+pub fn misfit(at: usize) -> BytesFault
     ensures { result ≡ At at }
 {
     BytesFault::At { byte: at as u64 }

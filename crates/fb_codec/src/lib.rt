@@ -12,6 +12,8 @@ mod values;
 
 pub use entries::{entry_bytes, entry_of, get_datom, put_datom};
 pub use faults::BytesFault;
-pub use fields::{get_format, get_i64, get_truth, get_u8, get_u32, get_u64, get_u128, put};
+pub use fields::{
+    WRITTEN_FORMAT, get_format, get_i64, get_truth, get_u8, get_u32, get_u64, get_u128, misfit, put,
+};
 pub use texts::{Words, get_text, put_text};
 pub use values::{get_value, put_value};

@@ -1,10 +1,12 @@
 pub mod BigEndian
+pub mod CountedLists
 pub mod Entries
 pub mod Fields
 pub mod KeptRoots
 pub mod LogFiles
 pub mod Logs
 pub mod MergeRecords
+pub mod NodesOfFiles
 pub mod Numbers
 pub mod Sizes
 pub mod StorableHistories

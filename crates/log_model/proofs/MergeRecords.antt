@@ -298,7 +298,7 @@ abbrev IsBad : MergeSays → Type 0
 IsBad (merges merge) = ⊥
 IsBad (bad_from byte) = Unit {0}
 
-merge_said_by-merges : (payload : List ℕ) (r : Reading MergeRecord) (merge : MergeRecord) → merge_said_by payload r ≡ merges merge → (rest : List ℕ) × IsFound r merge rest
+pub merge_said_by-merges : (payload : List ℕ) (r : Reading MergeRecord) (merge : MergeRecord) → merge_said_by payload r ≡ merges merge → (rest : List ℕ) × IsFound r merge rest
 merge_said_by-merges payload (found x rest) merge is = (rest, (ap (merge_in merge) is, refl))
 merge_said_by-merges payload (misfit rest) merge is = absurd (subst IsBad is tt)
 

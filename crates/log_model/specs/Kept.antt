@@ -1,13 +1,18 @@
 -- Kept roots: the trees of a file of segments after each of its merges, and the newest of them that
 -- a history agrees with.
 -- This project's own choice; Datomic, Indexes, tells of the merging.
-use Rattle.std.specs.Prelude.{◌≡◌, ◌⊎◌, ℕ, List, [], ◌∷◌, ◌++◌, filter, fold, flat_map, nat_eq, Contains}
+use Rattle.std.specs.Prelude.{◌≡◌, ◌⊎◌, ℕ, ◌^◌, Bool, List, [], ◌∷◌, ◌++◌, length, filter, fold, flat_map, nat_eq, nat_le, All, Contains}
+use Rattle.std.specs.List.{list_any}
 use Rattle.fb_values.specs.declared.facts.Datom.{Datom}
 use Rattle.fb_values.specs.declared.facts.Entry.{Entry}
+use Rattle.fb_values.specs.declared.indexes.Order.{Order}
 use Rattle.fb_values.specs.Lists.{Lists}
+use Rattle.fb_model.specs.History.{said}
+use Rattle.fb_model.specs.Facts.{facts}
+use Rattle.fb_model.specs.Schema.{covers}
 use Rattle.disk_model.specs.Journal.{segments_mark, JournalStands, JournalBreaks}
 use Rattle.view_model.specs.Stands.{RootStands}
-use Rattle.log_model.specs.Nodes.{Nodes, no_nodes, with_leaf, with_directory, MergeRecord}
+use Rattle.log_model.specs.Nodes.{Nodes, no_nodes, with_leaf, with_directory, ids_in, ids_below, MergeRecord}
 use Rattle.log_model.specs.Merges.{MergeSays, merges, bad_from, record_says}
 
 -- four trees, read from left to right, and how far they go
@@ -59,7 +64,38 @@ kept_behind nodes (payload ∷ records) =
 abbrev pub kept_roots : List (List ℕ) → List KeptRoot
 kept_roots records = kept_behind no_nodes records
 
+-- ---- the nodes of a file
+
+-- those of the records before the first bad one
+abbrev pub nodes_by : Nodes → MergeSays → (Nodes → Nodes) → Nodes
+nodes_by nodes (bad_from byte) behind = nodes
+nodes_by nodes (merges merge) behind = behind (with_nodes nodes merge)
+
+abbrev pub nodes_behind : Nodes → List (List ℕ) → Nodes
+nodes_behind nodes [] = nodes
+nodes_behind nodes (payload ∷ records) =
+    nodes_by nodes (record_says nodes payload) (λ next. nodes_behind next records)
+
+abbrev pub nodes_of : List (List ℕ) → Nodes
+nodes_of records = nodes_behind no_nodes records
+
+-- none of the records is bad
+abbrev pub are_good : List (List ℕ) → Bool
+are_good records = nat_eq (length (kept_roots records)) (length records)
+
+-- behind such an id no merge may number nodes
+abbrev pub has_great_id : Nodes → Bool
+has_great_id nodes = list_any (nat_le (2 ^ 61)) (ids_in nodes)
+
+-- the nodes have each id of the tree with these directories
+abbrev pub HasTree : Nodes → List ℕ → Type 0
+HasTree nodes ids = All (Contains (ids_in nodes)) (flat_map (ids_below nodes) ids)
+
 -- ---- the root that a history is opened with
+
+-- how many datoms the index has
+abbrev pub index_len : List Entry → Order → ℕ
+index_len h order = length (filter (λ d. covers (facts h) order d.a) (said h))
 
 -- its trees are the indexes of the entries up to its c
 abbrev pub Agrees : List Entry → KeptRoot → Type 0

@@ -5,6 +5,7 @@
 mod examples;
 mod laws;
 mod merges;
+mod trees;
 
 pub use examples::{
     bad_journals, bad_logs, first_payload, payloads_that_break, payloads_with_other_fields,
@@ -20,4 +21,8 @@ pub use merges::{
     a_file_keeps_one_list_of_roots, a_merge_record_is_read_back, bad_merge_records, merge_records,
     more_records_keep_the_roots, one_root_is_the_newest_that_agrees, roots_of_a_file,
     roots_that_agree_with_nothing,
+};
+pub use trees::{
+    a_counted_list_is_the_index, later_nodes_change_no_tree, no_two_nodes_have_one_id,
+    one_more_record_keeps_one_more_root,
 };
