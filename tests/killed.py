@@ -31,6 +31,8 @@ def killed(program, folder, run, after):
         names.append(os.path.join(folder, f"{session}.edn"))
         with open(names[-1], "w") as file:
             file.write(script(run, session))
+        if os.path.exists(names[-1] + ".out"):
+            os.remove(names[-1] + ".out")
     running = subprocess.Popen([program, "run", os.path.join(folder, "data"), *names])
     time.sleep(after)
     running.kill()
