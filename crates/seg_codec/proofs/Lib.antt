@@ -1,0 +1,14 @@
+pub mod Among
+pub mod Counted
+pub mod Finding
+pub mod InNodes
+pub mod Kept
+pub mod LackingIds
+pub mod Listing
+pub mod Over
+pub mod Passing
+pub mod Placing
+pub mod Reaching
+pub mod RecordFields
+pub mod Rows
+pub mod SeveralOver

@@ -1,0 +1,62 @@
+use Rattle.std.proofs.Common.{◌≡◌, ◌+◌, ◌-◌, ◌∷◌, ◌++◌, [], drop, refl, sym, subst, ap, ◌∙◌, arith}
+use Rattle.std.proofs.lemmas.Result.{err_from_is_err_and}
+use Rattle.log_model.specs.Nodes.{Nodes, with_directory}
+use Rattle.log_model.specs.Merges.{several_over, read_directory}
+use Rattle.seg_codec.proofs.SeveralOver.{fold-push, with_front, with_none, goes_on, is_done, stops}
+use Rattle.seg_codec.proofs.directories.add_directories.Goals as goal
+
+pub loop-init : goal.loop-init
+loop-init c =
+    let all : c.args.count - 0 ≡ c.args.count = omega arith in record {
+      within = c.requires;
+      so_far = (
+        [],
+        refl,
+        with_none _ ∙ ap (λ n. several_over read_directory with_directory c.args.nodes.now n
+            (drop c.args.at c.args.bytes.now)) all,
+      );
+    }
+
+pub loop-preserved : goal.loop-preserved
+loop-preserved c =
+    let bytes = c.args.bytes.now in
+    let was = c.loop.invariant.so_far in
+    let one = c.in_ok-next.ensures in
+    let behind = drop c.in_ok-next.next bytes in
+    let total = several_over read_directory with_directory c.args.nodes.now c.args.count (drop c.args.at bytes) in record {
+      within = one.2.0;
+      so_far = (
+        was.0 ++ one.0 ∷ [],
+        one.1 ∙ ap (λ (n : Nodes). with_directory n one.0) was.1 ∙ sym (fold-push with_directory c.args.nodes.now was.0 one.0),
+        subst (λ (n : Nodes). with_front (was.0 ++ one.0 ∷ [])
+            (several_over read_directory with_directory n (c.args.count - (c.loop.counter + 1)) behind) ≡ total) (sym one.1)
+            (goes_on read_directory with_directory was.0 c.loop.nodes c.args.count c.loop.counter
+            (drop c.loop.end bytes) total was.2 one.0 behind c.loop-test.true one.2.1),
+      );
+    }
+
+pub returns-in_err-next : goal.returns-in_err-next
+returns-in_err-next c =
+    let bytes = c.args.bytes.now in
+    let was = c.loop.invariant.so_far in
+    let exit = err_from_is_err_and c.from_residual.result c.from_residual.ensures.1 in
+    let total = several_over read_directory with_directory c.args.nodes.now c.args.count (drop c.args.at bytes) in
+    rw (exit.1, exit.2) (
+      (was.0, c.in_err-next.ensures.0 ∙ was.1),
+      stops read_directory with_directory was.0 c.loop.nodes c.args.count c.loop.counter
+          (drop c.loop.end bytes) total was.2 bytes _ c.loop-test.true c.in_err-next.ensures.1,
+    )
+
+pub returns : goal.returns
+returns c =
+    let bytes = c.args.bytes.now in
+    let was = c.loop.invariant.so_far in
+    let total = several_over read_directory with_directory c.args.nodes.now c.args.count (drop c.args.at bytes) in (
+      was.0,
+      was.1,
+      (
+        c.loop.invariant.within,
+        is_done read_directory with_directory was.0 c.loop.nodes c.args.count c.loop.counter
+            (drop c.loop.end bytes) total was.2 c.loop-test.false,
+      ),
+    )

@@ -1,0 +1,62 @@
+//! Merge records that are read.
+ghost use Rattle.std.specs.Prelude.{◌≤◌, length, drop};
+ghost use Rattle.log_model.specs.Fields.{at_end};
+ghost use Rattle.log_model.specs.Merges.{record_says, read_roots};
+ghost use Rattle.seg_codec.specs.Told.{Tells, Reads, TellsRoots};
+
+use crate::directories::get_directories;
+use crate::leaves::get_leaves;
+use crate::nodes::Nodes;
+use crate::roots::get_roots;
+use fb_codec::{BytesFault, get_format, get_u32, misfit};
+use seg_tree::Roots;
+use std::alloc::Global;
+
+/// The trees of a record over the nodes before it, and their c. The record's nodes are added; after an error the nodes are
+/// as they were.
+pub fn record_of(
+    alloc: Global,
+    payload: &[u8],
+    nodes: &mut Nodes,
+) -> Result<(Roots, u32), BytesFault>
+    ensures { Tells nodes.old nodes.new result (record_says nodes.old payload.now) }
+{
+    let known = nodes.counts();
+    match read_record(alloc, payload, nodes) {
+        Ok(found) => Ok(found),
+        Err(fault) => {
+            nodes.cut(known);
+            Err(fault)
+        }
+    }
+}
+
+fn read_record(alloc: Global, payload: &[u8], nodes: &mut Nodes) -> Result<(Roots, u32), BytesFault>
+    ensures { Reads nodes.old nodes.new result (record_says nodes.old payload.now) }
+{
+    let (format, behind_format) = get_format(payload, 0)?;
+    let (c, behind_c) = get_u32(payload, behind_format)?;
+    let behind_leaves = get_leaves(alloc, payload, behind_c, format, nodes)?;
+    let behind_directories = get_directories(alloc, payload, behind_leaves, nodes)?;
+    let roots = get_last_roots(alloc, payload, behind_directories, nodes)?;
+    Ok((roots, c))
+}
+
+/// The trees of the roots, behind which the payload ends.
+fn get_last_roots(
+    alloc: Global,
+    payload: &[u8],
+    at: usize,
+    nodes: &Nodes,
+) -> Result<Roots, BytesFault>
+    requires { at ≤ length payload.now }
+    ensures { TellsRoots nodes.now payload.now result
+        (at_end (read_roots nodes.now (drop at payload.now))) }
+{
+    let (ids, end) = get_roots(alloc, payload, at, nodes)?;
+    if end < payload.len() {
+        return Err(misfit(end));
+    }
+    let trees = nodes.trees(alloc, &ids)?;
+    Ok(trees)
+}
