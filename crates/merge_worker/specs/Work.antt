@@ -17,6 +17,10 @@ use Rattle.merge_worker.specs.declared.bases.Base.{Base}
 abbrev pub IsBaseOf : Base → List Entry → ℕ → Type 0
 IsBaseOf base h covered = (base.c ≡ covered) × RootStands (trees_of base.roots) h covered
 
+-- trees of the old history's first entries are of the new one's too
+abbrev pub AreStill : List Entry → List Entry → Type 0
+AreStill old new = (trees : Base) (c : ℕ) → IsBaseOf trees old c → IsBaseOf trees new c
+
 -- the trees are those from before, or the store has them
 abbrev pub IsOldOrKept : {S : Type 0} → (S → Base → Type 0) → Base → S → Base → Type 0
 IsOldOrKept keeps old store new = (new ≡ old) ⊎ keeps store new
@@ -58,7 +62,7 @@ is_due merge_at snapshot = nat_le merge_at (live_datoms snapshot.live)
 abbrev pub IsOutOfIds : ℕ → Base → Type 0
 IsOutOfIds next start = 2 ^ 61 < first_id next start
 
--- a round takes two turns of the 4,294,967,296 that a seat has
+-- a round takes two turns at least of the 4,294,967,296 that a seat has
 abbrev pub IsOutOfTurns : View Code → Type 0
 IsOutOfTurns v = 4294967296 < v.draws + 2
 
