@@ -41,7 +41,8 @@ begins_within h older lawful begins =
     let taken : min (basis older + 1) (length h) ≡ basis older + 1 = sym (length-take (basis older + 1) h) ∙ ap length begins ∙ counted in
     omega (arith, taken)
 
-pub beginning_stays : (h older : List Entry) (entry : Entry) → IsLawful older → upto h (basis older) ≡ older → upto (h ++ entry ∷ []) (basis older) ≡ older
+pub beginning_stays : (h older : List Entry) (entry : Entry) → IsLawful older → upto h (basis older) ≡ older
+    → upto (h ++ entry ∷ []) (basis older) ≡ older
 beginning_stays h older entry lawful begins =
     upto-append h (entry ∷ []) (basis older) (begins_within h older lawful begins) ∙ begins
 

@@ -1,4 +1,4 @@
-use Rattle.std.proofs.Common.{◌≡◌, ◌∙◌, ◌++◌, ◌∷◌, [], List, length, take, ap, sym, subst, arith, Some}
+use Rattle.std.proofs.Common.{◌≡◌, ◌∙◌, ℕ, ◌++◌, ◌∷◌, [], List, length, take, ap, sym, subst, arith, Some}
 use Rattle.std.specs.List.{slice_get}
 use Rattle.fb_values.specs.declared.facts.Entry.{Entry}
 use Rattle.fb_model.specs.History.{upto}
@@ -28,18 +28,24 @@ loop-t-init c =
       stands = subst Stands (sym same) from.stands;
     }
 
+read_in : (listed h : List Entry) (t : ℕ) (entry : Entry) → listed ≡ h → slice_get listed t ≡ Some entry → slice_get h t ≡ Some entry
+read_in listed h t entry same read = subst (λ (l : List Entry). slice_get l t ≡ Some entry) same read
+
 pub with_entry-requires : goal.with_entry-requires
 with_entry-requires c =
     let h = c.args.latest.now.entries in let entry = c.at.result.now in let inv = c.loop-t.invariant in
-    let read : slice_get h c.loop-t.t ≡ Some entry = subst (λ (l : List Entry). slice_get l c.loop-t.t ≡ Some entry) c.entries-entries.ensures.entries c.at.ensures in
+    let read = read_in _ h c.loop-t.t entry c.entries-entries.ensures.entries c.at.ensures in
     let next = next_of h c.loop-t.t entry c.basis-basis.ensures.stands.history.lawful inv.later read in
-    subst (λ (l : List Entry). IsLawfulAfter l c.in_ok-copy.field-0) (sym inv.entries) (subst (IsLawfulAfter (take c.loop-t.t h)) (sym c.in_ok-copy.ensures) next)
+    let copied = subst (IsLawfulAfter (take c.loop-t.t h)) (sym c.in_ok-copy.ensures) next in
+    subst (λ (l : List Entry). IsLawfulAfter l c.in_ok-copy.field-0) (sym inv.entries) copied
 
 pub loop-t-preserved : goal.loop-t-preserved
 loop-t-preserved c =
-    let h = c.args.latest.now.entries in let entry = c.at.result.now in let inv = c.loop-t.invariant in let new = c.in_ok-snapshot-2.ensures in
-    let read : slice_get h c.loop-t.t ≡ Some entry = subst (λ (l : List Entry). slice_get l c.loop-t.t ≡ Some entry) c.entries-entries.ensures.entries c.at.ensures in
-    let longer : c.in_ok-snapshot-2.snapshot.entries ≡ take c.loop-t.t h ++ entry ∷ [] = new.entries ∙ (λ i. inv.entries i ++ c.in_ok-copy.ensures i ∷ []) in
+    let h = c.args.latest.now.entries in let entry = c.at.result.now in
+    let inv = c.loop-t.invariant in let new = c.in_ok-snapshot-2.ensures in
+    let read = read_in _ h c.loop-t.t entry c.entries-entries.ensures.entries c.at.ensures in
+    let longer : c.in_ok-snapshot-2.snapshot.entries ≡ take c.loop-t.t h ++ entry ∷ [] =
+        new.entries ∙ (λ i. inv.entries i ++ c.in_ok-copy.ensures i ∷ []) in
     let listed = ap (λ (l : List Entry). length l) c.entries-entries.ensures.entries in
     record {
       later = omega arith;

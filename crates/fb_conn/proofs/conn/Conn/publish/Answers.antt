@@ -5,7 +5,9 @@ use Rattle.fb_conn.proofs.conn.Conn.publish.Goals as goal
 
 pub rebase_on-requires : goal.rebase_on-requires
 rebase_on-requires g c =
-    let h = c.enter-held.result.home.core.snapshot.entries in let last = c.args.seat.now.last.entries in let first = c.args.ahead.now.entries in
+    let h = c.enter-held.result.home.core.snapshot.entries in
+    let last = c.args.seat.now.last.entries in let first = c.args.ahead.now.entries in
     let seen = (c.enter-held.ensures.learns last c.requires.seat.0.seen).seen in let past = c.requires.ahead in
-    let begins : h ≡ first ++ (past.0 ++ seen.0) = seen.1 ∙ (ap (λ (l : List Entry). l ++ seen.0) past.1 ∙ append_assoc first past.0 seen.0) in
+    let begins : h ≡ first ++ (past.0 ++ seen.0) =
+        seen.1 ∙ (ap (λ (l : List Entry). l ++ seen.0) past.1 ∙ append_assoc first past.0 seen.0) in
     record { begins = begins_there h first (past.0 ++ seen.0) c.basis-basis.ensures.stands.history.lawful begins }
