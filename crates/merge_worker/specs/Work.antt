@@ -8,7 +8,7 @@ use Rattle.seg_tree.specs.Indexes.{root_ids, trees_of}
 use Rattle.seg_tree.specs.declared.roots.Roots.{Roots}
 use Rattle.fb_view.specs.Kept.{Kept}
 use Rattle.fb_core.specs.Cores.{live_datoms}
-use Rattle.fb_merge.specs.Made.{SharesLeaves}
+use Rattle.fb_merge.specs.Made.{SharesLeaves, SharesNoDirectory}
 use Rattle.board_rule.specs.declared.view.Code.{Code}
 use Rattle.board_rule.specs.declared.view.View.{View}
 use Rattle.merge_worker.specs.declared.bases.Base.{Base}
@@ -43,12 +43,13 @@ start_of base (Some ahead) = ahead
 
 -- ---- merges
 
--- the trees were made of older ones: their new nodes have the numbers from the first one on, none
--- left out, which are above the ids of the older ones, and their other leaves are older leaves
+-- The trees were made of older ones: their new nodes have the numbers from the first one on, none left
+-- out, which are above the ids of the older ones, and their other nodes are older leaves.
 pub record AreMadeOf (first : ℕ) (old new : Roots) : Type 0 where
   pub above : next_above (root_ids old) ≤ first
   pub ids : IsInRow first (root_ids new)
   pub older : SharesLeaves first old new
+  pub directories : SharesNoDirectory first new
 
 -- the number of the first new node: neither the store nor the older trees have it, or a greater one
 abbrev pub first_id : ℕ → Base → ℕ
