@@ -45,7 +45,7 @@ loop-t-preserved c =
     let inv = c.loop-t.invariant in let new = c.in_ok-snapshot-2.ensures in
     let read = read_in _ h c.loop-t.t entry c.entries-entries.ensures.entries c.at.ensures in
     let longer : c.in_ok-snapshot-2.snapshot.entries ≡ take c.loop-t.t h ++ entry ∷ [] =
-        new.entries ∙ (λ i. inv.entries i ++ c.in_ok-copy.ensures i ∷ []) in
+    new.entries ∙ (λ i. inv.entries i ++ c.in_ok-copy.ensures i ∷ []) in
     let listed = ap (λ (l : List Entry). length l) c.entries-entries.ensures.entries in
     record {
       later = omega arith;

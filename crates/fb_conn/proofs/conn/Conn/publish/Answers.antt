@@ -9,5 +9,5 @@ rebase_on-requires g c =
     let last = c.args.seat.now.last.entries in let first = c.args.ahead.now.entries in
     let seen = (c.enter-held.ensures.learns last c.requires.seat.0.seen).seen in let past = c.requires.ahead in
     let begins : h ≡ first ++ (past.0 ++ seen.0) =
-        seen.1 ∙ (ap (λ (l : List Entry). l ++ seen.0) past.1 ∙ append_assoc first past.0 seen.0) in
+    seen.1 ∙ (ap (λ (l : List Entry). l ++ seen.0) past.1 ∙ append_assoc first past.0 seen.0) in
     record { begins = begins_there h first (past.0 ++ seen.0) c.basis-basis.ensures.stands.history.lawful begins }
