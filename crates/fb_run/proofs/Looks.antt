@@ -46,42 +46,42 @@ has_told contents faults line sent was now outcome (Err e) same is whole part co
 -- what a look begins with, in the words of what the host told before
 module _ {I O D : Type 0} {g : _} (old mid new : Told) (tells : Tells I O) (disks : DiskTells D) (dir name : List ℕ)
     (directory : Directory D g) (opened : IsOpened old disks dir directory) (streams : SameStreams old mid) (standard_is : name ≡ standard)
-    where
-  abbrev h : List Entry
-  h = directory.core.snapshot.entries
+  where
+    abbrev h : List Entry
+    h = directory.core.snapshot.entries
 
-  look_of : (look : Look O D g) → look.directory ≡ directory
-      → string_bytes look.answer.line ≡ history_line directory.recovered directory.core.snapshot.covered
-      → OpensSink tells name mid new look.answer.console → IsLook old new tells disks dir look
-  look_of look is line sink =
-      let its = subst (λ (n : List ℕ). OpensSink tells n mid new look.answer.console) standard_is sink in
-      record {
-        history = h;
-        opening = λ file held. opened.reopened.history file (opened.log.bytes ∙ held);
-        line = line
-            ∙ (ap (λ (m : ℕ). history_line m directory.core.snapshot.covered) opened.reopened.recovered
-            ∙ ap (λ (m : ℕ). history_line (basis h) m) opened.reopened.covered);
-        console = record {
-          contents = its.is.contents ∙ streams.sinks standard;
-          faults = its.is.faults ∙ streams.sink_faults standard;
-        };
-        host = its.faults ∙ streams.faults;
-        unfailed = ap (λ (d : Directory D g). disks.faults (disk_in d.log)) is ∙ (opened.reopened.unfailed ∙ opened.log.faults);
-        unharmed = subst (λ (d : Directory D g). AreUnharmed old disks dir (disks_in d)) (sym is)
-            (opened_unharmed old disks dir directory opened);
-      }
+    look_of : (look : Look O D g) → look.directory ≡ directory
+        → string_bytes look.answer.line ≡ history_line directory.recovered directory.core.snapshot.covered
+        → OpensSink tells name mid new look.answer.console → IsLook old new tells disks dir look
+    look_of look is line sink =
+        let its = subst (λ (n : List ℕ). OpensSink tells n mid new look.answer.console) standard_is sink in
+        record {
+          history = h;
+          opening = λ file held. opened.reopened.history file (opened.log.bytes ∙ held);
+          line = line
+              ∙ (ap (λ (m : ℕ). history_line m directory.core.snapshot.covered) opened.reopened.recovered
+              ∙ ap (λ (m : ℕ). history_line (basis h) m) opened.reopened.covered);
+          console = record {
+            contents = its.is.contents ∙ streams.sinks standard;
+            faults = its.is.faults ∙ streams.sink_faults standard;
+          };
+          host = its.faults ∙ streams.faults;
+          unfailed = ap (λ (d : Directory D g). disks.faults (disk_in d.log)) is ∙ (opened.reopened.unfailed ∙ opened.log.faults);
+          unharmed = subst (λ (d : Directory D g). AreUnharmed old disks dir (disks_in d)) (sym is)
+              (opened_unharmed old disks dir directory opened);
+        }
 
-  pub is_look : {E : Type 0} (r : Result (Look O D g) E) → IfOk r (λ look. look.directory ≡ directory)
-      → IfOk r (λ look. string_bytes look.answer.line ≡ history_line directory.recovered directory.core.snapshot.covered)
-      → IfOk r (λ look. OpensSink tells name mid new look.answer.console) → IfOk r (IsLook old new tells disks dir)
-  is_look (Ok look) is line sink = look_of look is line sink
-  is_look (Err e) is line sink = tt
+    pub is_look : {E : Type 0} (r : Result (Look O D g) E) → IfOk r (λ look. look.directory ≡ directory)
+        → IfOk r (λ look. string_bytes look.answer.line ≡ history_line directory.recovered directory.core.snapshot.covered)
+        → IfOk r (λ look. OpensSink tells name mid new look.answer.console) → IfOk r (IsLook old new tells disks dir)
+    is_look (Ok look) is line sink = look_of look is line sink
+    is_look (Err e) is line sink = tt
 
-  pub is_unready : {T : Type 0} (r : Result T (Unready D)) → IfErr r (IsUnanswered mid new name directory)
-      → IfErr r (IsUnready old new disks dir (dir ∷ standard ∷ []))
-  is_unready (Ok x) not = tt
-  is_unready (Err unready) not =
-      let its = subst (λ (n : List ℕ). IsNotOpened n mid new not.why) standard_is not.not in
-      subst (λ (u : Unready D). IsUnready old new disks dir (dir ∷ standard ∷ []) u) (sym not.is)
-      (unready_later disks dir (standard ∷ []) old mid new (disks_in directory) not.why streams.faults
-      (opened_unharmed old disks dir directory opened) (first_unopened standard [] mid new not.why its))
+    pub is_unready : {T : Type 0} (r : Result T (Unready D)) → IfErr r (IsUnanswered mid new name directory)
+        → IfErr r (IsUnready old new disks dir (dir ∷ standard ∷ []))
+    is_unready (Ok x) not = tt
+    is_unready (Err unready) not =
+        let its = subst (λ (n : List ℕ). IsNotOpened n mid new not.why) standard_is not.not in
+        subst (λ (u : Unready D). IsUnready old new disks dir (dir ∷ standard ∷ []) u) (sym not.is)
+        (unready_later disks dir (standard ∷ []) old mid new (disks_in directory) not.why streams.faults
+        (opened_unharmed old disks dir directory opened) (first_unopened standard [] mid new not.why its))

@@ -77,9 +77,9 @@ pub record IsRefused {D : Type 0} (disks : DiskTells D) (disk segments : D) (unr
   pub fault : OpenFault
   pub log : D
   pub is : unready ≡ record {
-      why = BadLog fault;
-      disks = Some (record { log = log; segments = segments });
-    }
+    why = BadLog fault;
+    disks = Some (record { log = log; segments = segments });
+  }
   pub cause : WhereTold (disks.bytes disk) (IsCause fault)
   pub counted : CountsOpening fault (disks.faults disk) (disks.faults log)
   pub unharmed : WhereTold (disks.bytes disk) (λ file. LeavesOnly disks.moment disks.images_since

@@ -38,9 +38,9 @@ pub record IsUnanswered {D : Type 0} {g : _} (old new : Told) (name : List ℕ)
   pub why : Unopened
   pub not : IsNotOpened name old new why
   pub is : unready ≡ record {
-      why = obstacle.Unopened why;
-      disks = Some (disks_in directory);
-    }
+    why = obstacle.Unopened why;
+    disks = Some (disks_in directory);
+  }
 
 -- the console took the line, or failed before its end, and the outcome says so
 pub record HasTold {I O D : Type 0} (contents : O → Option (List ℕ)) (faults : O → ℕ)

@@ -192,9 +192,7 @@ fn obstructed<I: Drop, O: Drop, D: Drop>(alloc: Global, why: Obstacle<'_>) -> Ou
         Obstacle::Unopened(Unopened::CannotOpen(name)) => {
             without_session(alloc, 2, cannot_open(alloc, name))
         }
-        Obstacle::Unopened(Unopened::Memory) => {
-            without_session(alloc, 9, out_of_memory(alloc))
-        }
+        Obstacle::Unopened(Unopened::Memory) => { without_session(alloc, 9, out_of_memory(alloc)) }
         Obstacle::BadLog(fault) => {
             without_session(alloc, status_of_fault(fault), line_of_fault(alloc, fault))
         }
