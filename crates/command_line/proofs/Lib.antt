@@ -1,4 +1,10 @@
 pub mod Digits
-pub mod Parts
-pub mod Walking
-pub mod Naming
+pub mod Rows
+pub mod Dashes
+pub mod Told
+pub mod Walks
+pub mod RunSpots
+pub mod RunSteps
+pub mod RunWords
+pub mod CheckWords
+pub mod Reading

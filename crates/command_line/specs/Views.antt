@@ -1,22 +1,24 @@
 -- What the program's own words for a command stand for.
 -- This project's own choice.
-use Rattle.std.specs.Prelude.{ℕ, List, Option, map}
-use Rattle.std.specs.Option.{option_map}
+use Rattle.std.specs.Prelude.{◌≡◌, ◌≤◌, ℕ, true, List, map}
 use Rattle.std.specs.Borrow.{Bor}
 use Rattle.command_line.specs.declared.commands.Run.{Run}
-use Rattle.command_line.specs.declared.walk.Walk.{Walk}
-use Rattle.command_line.specs.Words.{Command, run, Progress}
+use Rattle.command_line.specs.declared.commands.Request.{Request}
+use Rattle.command_line.specs.declared.commands.Request.TheVariants.{Run as Runs, Check as Checks}
+use Rattle.command_line.specs.Words.{Command, run, check, are_scripts}
 
 -- the texts behind references
 abbrev pub names_in : List (Bor (List ℕ)) → List (List ℕ)
 names_in = map (λ s. s.now)
 
-abbrev pub progress_of : Walk → Progress
-progress_of walk = record {
-  place = walk.place;
-  names = names_in walk.names.items;
-  number = option_map (λ s. s.now) walk.number;
-}
+abbrev pub run_by : Run → Command
+run_by r = run r.options r.directory.now (names_in r.scripts.items)
 
-abbrev pub command_by : Run → Command
-command_by r = run r.options r.directory.now (names_in r.scripts.items)
+abbrev pub command_by : Request → Command
+command_by (Runs r) = run_by r
+command_by (Checks directory) = check directory.now
+
+-- its scripts may run together, and merges become due
+abbrev pub CanRun : Request → Type 0
+CanRun (Runs r) = (are_scripts (names_in r.scripts.items) ≡ true) × (1 ≤ r.options.merge_at)
+CanRun (Checks directory) = Unit {0}

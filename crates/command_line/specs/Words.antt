@@ -5,23 +5,25 @@ use Rattle.std.specs.List.{list_any, starts_with}
 use Rattle.std.specs.Str.{all_ascii_digits}
 use Rattle.std.specs.Str.Parse.{digits_value}
 use Rattle.command_line.specs.declared.commands.Options.{Options}
-use Rattle.command_line.specs.declared.walk.Place.{Place}
-use Rattle.command_line.specs.declared.walk.Place.TheVariants.{Anywhere, AtNumber, BehindOptions}
 
 -- what is to be done
 pub data Command : Type 0 where
   -- scripts, over the history that a directory keeps
   run : Options → List ℕ → List (List ℕ) → Command
+  -- a look at the history that a directory keeps
+  check : List ℕ → Command
 
 -- the scripts that it runs, in order
 abbrev pub scripts_of : Option Command → List (List ℕ)
 scripts_of None = []
 scripts_of (Some (run options directory scripts)) = scripts
+scripts_of (Some (check directory)) = []
 
 -- how many live datoms make a merge due
 abbrev pub merge_at_of : Option Command → Option ℕ
 merge_at_of None = None
 merge_at_of (Some (run options directory scripts)) = Some options.merge_at
+merge_at_of (Some (check directory)) = None
 
 -- ---- names
 
@@ -91,6 +93,14 @@ merge_at_in (Some word) = number_in word
 
 -- ---- the walk over the words behind the verb, from left to right
 
+pub data Place : Type 0 where
+  -- an option or a name may stand next
+  Anywhere : Place
+  -- the number of `--merge-at`
+  AtNumber : Place
+  -- names alone, since `--` has ended the options
+  BehindOptions : Place
+
 -- what may stand next, the names so far, and the number that was said
 pub record Progress : Type 0 where
   pub place : Place
@@ -156,8 +166,17 @@ abbrev pub command_from : Option Progress → Option Command
 command_from None = None
 command_from (Some p) = command_at p.place p
 
+-- a look at one directory; there is no option, and `--` may stand on either side of the name
+abbrev pub check_of : List (List ℕ) → Option Command
+check_of (word ∷ []) = if is_name word then Some (check word) else None
+check_of (word ∷ other ∷ []) =
+    if bytes_eq word (codes "--") then Some (check other)
+    else (if bytes_eq other (codes "--") && is_name word then Some (check word) else None)
+check_of words = None
+
 -- the command that the words behind the program's name are, or none
 abbrev pub command_of : List (List ℕ) → Option Command
 command_of [] = None
 command_of (verb ∷ words) =
-    if bytes_eq verb (codes "run") then command_from (walked (Some start) words) else None
+    if bytes_eq verb (codes "run") then command_from (walked (Some start) words)
+    else (if bytes_eq verb (codes "check") then check_of words else None)

@@ -1,12 +1,15 @@
 //! What the words of a command line ask for.
-ghost use Rattle.std.specs.Prelude.{◌≡◌, ◌≤◌, true, map, Some, string_bytes, IfSome, IfOk};
+ghost use Rattle.std.specs.Prelude.{◌≡◌, ◌≤◌, ◌∷◌, true, map, Some, string_bytes, IfSome, IfOk};
 ghost use Rattle.std.specs.Option.{option_map};
-ghost use Rattle.command_line.specs.Words.{are_scripts, merge_at_in, start, walked, command_with, command_from, command_of};
-ghost use Rattle.command_line.specs.Views.{names_in, progress_of, command_by};
+ghost use Rattle.clap.specs.Words.{found_of, rows_of};
+ghost use Rattle.command_line.specs.ByClap.{run_told};
+ghost use Rattle.command_line.specs.Words.{check, are_scripts, merge_at_in, start, walked, command_with, command_from, check_of, command_of};
+ghost use Rattle.command_line.specs.Views.{names_in, run_by, command_by, CanRun};
 
+use crate::by_clap::{check_command, matches_in, run_command};
 use crate::numbers::merge_at_in;
 use crate::scripts::are_scripts;
-use crate::walk::{Place, Walk, walk_over};
+use clap::ArgMatches;
 use fb_memory::Memory;
 use std::alloc::Global;
 
@@ -25,70 +28,103 @@ pub struct Run<'a> {
     pub scripts: Vec<&'a str>,
 }
 
+/// What the words of a command line ask for.
+#[derive(Drop)]
+pub enum Request<'a> {
+    Run(Run<'a>),
+    /// A look at the history that this directory keeps.
+    Check(&'a str),
+}
+
 /// The command that the words behind the program's name are, where they are one.
-pub fn command_in<'a>(alloc: Global, words: &'a [String]) -> Result<Option<Run<'a>>, Memory>
-    ensures run { IfOk result
-        (λ run. option_map command_by run ≡ command_of (map string_bytes words.now)) }
-    ensures scripts { IfOk result (λ run. IfSome run
-        (λ run. are_scripts (names_in run.scripts.items) ≡ true)) }
-    ensures merge_at { IfOk result (λ run. IfSome run (λ run. 1 ≤ run.options.merge_at)) }
+pub fn command_in<'a>(alloc: Global, words: &'a [String]) -> Result<Option<Request<'a>>, Memory>
+    ensures asks { IfOk result
+        (λ asked. option_map command_by asked ≡ command_of (map string_bytes words.now)) }
+    ensures runs { IfOk result (λ asked. IfSome asked CanRun) }
 {
-    match words {
-        [] => Ok(None),
-        [verb, rest @ ..] => {
-            if verb.as_str() == "run" {
-                run_in(alloc, rest)
-            } else {
-                Ok(None)
-            }
-        }
+    let [verb, rest @ ..] = words else {
+        return Ok(None);
+    };
+    if verb.as_str() == "run" {
+        return match run_in(alloc, rest)? {
+            Some(run) => Ok(Some(Request::Run(run))),
+            None => Ok(None),
+        };
+    }
+    if verb.as_str() != "check" {
+        return Ok(None);
+    }
+    match directory_in(alloc, rest)? {
+        Some(directory) => Ok(Some(Request::Check(directory))),
+        None => Ok(None),
+    }
+}
+
+/// The directory at which the words behind the verb ask to look.
+fn directory_in<'a>(alloc: Global, words: &'a [String]) -> Result<Option<&'a str>, Memory>
+    ensures { IfOk result (λ directory. option_map (λ d. check d.now) directory
+        ≡ check_of (map string_bytes words.now)) }
+{
+    match matches_in(check_command(alloc)?, words)? {
+        Some(matches) => Ok(matches.get_str("DIR")),
+        None => Ok(None),
     }
 }
 
 /// The run that the words behind the verb ask for.
 fn run_in<'a>(alloc: Global, words: &'a [String]) -> Result<Option<Run<'a>>, Memory>
-    ensures run { IfOk result (λ run. option_map command_by run
+    ensures run { IfOk result (λ run. option_map run_by run
         ≡ command_from (walked (Some start) (map string_bytes words.now))) }
     ensures scripts { IfOk result (λ run. IfSome run
         (λ run. are_scripts (names_in run.scripts.items) ≡ true)) }
     ensures merge_at { IfOk result (λ run. IfSome run (λ run. 1 ≤ run.options.merge_at)) }
 {
-    match walk_over(alloc, words)? {
-        Some(walk) => Ok(run_of(walk)),
+    match matches_in(run_command(alloc)?, words)? {
+        Some(matches) => run_of(alloc, &matches),
         None => Ok(None),
     }
 }
 
-/// The run that a walk over all words has found.
-fn run_of<'a>(walk: Walk<'a>) -> Option<Run<'a>>
-    ensures run { option_map command_by result ≡ command_from (Some (progress_of walk.entry)) }
-    ensures scripts { IfSome result (λ run. are_scripts (names_in run.scripts.items) ≡ true) }
-    ensures merge_at { IfSome result (λ run. 1 ≤ run.options.merge_at) }
+/// The run that the matches ask for.
+fn run_of<'a>(alloc: Global, matches: &ArgMatches<'a>) -> Result<Option<Run<'a>>, Memory>
+    ensures run { IfOk result (λ run. option_map run_by run
+        ≡ run_told (rows_of (found_of matches.now))) }
+    ensures scripts { IfOk result (λ run. IfSome run
+        (λ run. are_scripts (names_in run.scripts.items) ≡ true)) }
+    ensures merge_at { IfOk result (λ run. IfSome run (λ run. 1 ≤ run.options.merge_at)) }
 {
-    match walk.place {
-        Place::AtNumber => None,
-        Place::Anywhere | Place::BehindOptions => run_with(walk.names, walk.number),
-    }
+    let Some(directory) = matches.get_str("DIR") else {
+        return Ok(None);
+    };
+    let Some(scripts) = matches.get_strs("SCRIPT") else {
+        return Ok(None);
+    };
+    run_with(alloc, directory, scripts, matches.get_str("merge-at"))
 }
 
-/// The run with these names, of which the first is the directory.
-fn run_with<'a>(mut names: Vec<&'a str>, number: Option<&'a str>) -> Option<Run<'a>>
-    ensures run { option_map command_by result ≡ command_with (names_in names.entry.items)
-        (merge_at_in (option_map (λ s. s.now) number.entry)) }
-    ensures scripts { IfSome result (λ run. are_scripts (names_in run.scripts.items) ≡ true) }
-    ensures merge_at { IfSome result (λ run. 1 ≤ run.options.merge_at) }
+/// The run of these scripts, where they may run together and the number is one.
+fn run_with<'a>(
+    alloc: Global,
+    directory: &'a str,
+    scripts: &[&'a str],
+    number: Option<&'a str>,
+) -> Result<Option<Run<'a>>, Memory>
+    ensures run { IfOk result (λ run. option_map run_by run
+        ≡ command_with (directory.entry.now ∷ names_in scripts.now)
+        (merge_at_in (option_map (λ s. s.now) number.entry))) }
+    ensures scripts { IfOk result (λ run. IfSome run
+        (λ run. are_scripts (names_in run.scripts.items) ≡ true)) }
+    ensures merge_at { IfOk result (λ run. IfSome run (λ run. 1 ≤ run.options.merge_at)) }
 {
-    if names.is_empty() {
-        return None;
+    let Some(merge_at) = merge_at_in(number) else {
+        return Ok(None);
+    };
+    if !are_scripts(scripts) {
+        return Ok(None);
     }
-    let directory = names.remove(0);
-    let merge_at = merge_at_in(number)?;
-    if !are_scripts(names.as_slice()) {
-        return None;
-    }
-    Some(Run {
+    Ok(Some(Run {
         options: Options { merge_at },
         directory,
-        scripts: names,
-    })
+        scripts: scripts.iter().copied().collect(alloc)?,
+    }))
 }

@@ -1,6 +1,6 @@
 //! Which words are a command, and where its lines go, by computation.
 ghost use Rattle.std.specs.Prelude.{◌≡◌, [], ◌∷◌, Some, None, codes};
-ghost use Rattle.command_line.specs.Words.{run, command_of, sink_of};
+ghost use Rattle.command_line.specs.Words.{run, check, command_of, sink_of};
 
 /// A name or more behind `run` and a directory is a command.
 pub fn words()
@@ -11,8 +11,20 @@ pub fn words()
     ensures no_script { command_of (codes "run" ∷ codes ":memory:" ∷ []) ≡ None }
     ensures directory { command_of (codes "run" ∷ codes "data" ∷ codes "-" ∷ [])
         ≡ Some (run (record { merge_at = 65536 }) (codes "data") (codes "-" ∷ [])) }
-    ensures verb { command_of (codes "check" ∷ codes ":memory:" ∷ codes "-" ∷ []) ≡ None }
+    ensures verb { command_of (codes "look" ∷ codes ":memory:" ∷ codes "-" ∷ []) ≡ None }
     ensures no_word { command_of [] ≡ None }
+{}
+
+/// A look at a directory names it alone.
+pub fn looks()
+    ensures one { command_of (codes "check" ∷ codes "data" ∷ []) ≡ Some (check (codes "data")) }
+    ensures behind_options { command_of (codes "check" ∷ codes "--" ∷ codes "-a" ∷ [])
+        ≡ Some (check (codes "-a")) }
+    ensures no_more { command_of (codes "check" ∷ codes "data" ∷ codes "--" ∷ [])
+        ≡ Some (check (codes "data")) }
+    ensures option { command_of (codes "check" ∷ codes "-a" ∷ []) ≡ None }
+    ensures two { command_of (codes "check" ∷ codes "data" ∷ codes "more" ∷ []) ≡ None }
+    ensures none { command_of (codes "check" ∷ []) ≡ None }
 {}
 
 /// Options stand anywhere in front of `--`, and `--merge-at` once at most.
@@ -37,9 +49,37 @@ pub fn options()
         (codes "run" ∷ codes ":memory:" ∷ codes "a" ∷ codes "--merge-at" ∷ []) ≡ None }
 {}
 
+/// What looks odd: a dash alone and the empty word are names, and what begins with a dash is no number.
+pub fn odd_words()
+    ensures dashes { command_of (codes "run" ∷ codes "-" ∷ codes "-" ∷ [])
+        ≡ Some (run (record { merge_at = 65536 }) (codes "-") (codes "-" ∷ [])) }
+    ensures empty { command_of (codes "run" ∷ [] ∷ [] ∷ [])
+        ≡ Some (run (record { merge_at = 65536 }) [] ([] ∷ [])) }
+    ensures end_at_the_end { command_of (codes "run" ∷ codes "data" ∷ codes "a" ∷ codes "--" ∷ [])
+        ≡ Some (run (record { merge_at = 65536 }) (codes "data") (codes "a" ∷ [])) }
+    ensures second_end { command_of (codes "run" ∷ codes "--" ∷ codes "data" ∷ codes "--" ∷ [])
+        ≡ Some (run (record { merge_at = 65536 }) (codes "data") (codes "--" ∷ [])) }
+    ensures between_scripts { command_of
+        (codes "run" ∷ codes "data" ∷ codes "a" ∷ codes "--merge-at" ∷ codes "8" ∷ codes "b" ∷ [])
+        ≡ Some (run (record { merge_at = 8 }) (codes "data") (codes "a" ∷ codes "b" ∷ [])) }
+    ensures end_for_number { command_of
+        (codes "run" ∷ codes "--merge-at" ∷ codes "--" ∷ codes "data" ∷ codes "a" ∷ []) ≡ None }
+    ensures less_than_none { command_of
+        (codes "run" ∷ codes "--merge-at" ∷ codes "-5" ∷ codes "data" ∷ codes "a" ∷ []) ≡ None }
+    ensures no_digits { command_of
+        (codes "run" ∷ codes "--merge-at=" ∷ codes "data" ∷ codes "a" ∷ []) ≡ None }
+    ensures shortened { command_of
+        (codes "run" ∷ codes "--merge=8" ∷ codes "data" ∷ codes "a" ∷ []) ≡ None }
+    ensures other_option { command_of
+        (codes "run" ∷ codes "--strict=x" ∷ codes "data" ∷ codes "a" ∷ []) ≡ None }
+    ensures help { command_of
+        (codes "run" ∷ codes "data" ∷ codes "a" ∷ codes "--help" ∷ []) ≡ None }
+{}
+
 /// No script is where the lines of another one go.
 pub fn scripts()
-    ensures twice { command_of (codes "run" ∷ codes ":memory:" ∷ codes "a" ∷ codes "a" ∷ []) ≡ None }
+    ensures twice { command_of
+        (codes "run" ∷ codes ":memory:" ∷ codes "a" ∷ codes "a" ∷ []) ≡ None }
     ensures own_lines { command_of
         (codes "run" ∷ codes ":memory:" ∷ codes "a.out" ∷ codes "a" ∷ []) ≡ None }
 {}

@@ -1,5 +1,6 @@
 -- What a run says, why, and what its scripts' names have to do with what was opened for them.
-use Rattle.std.proofs.Common.{◌≡◌, ◌⊎◌, inl, inr, ℕ, Bool, true, false, List, [], ◌∷◌, map, length, Option, Some, None, refl, sym, ap, ◌∙◌, subst, arith}
+use Rattle.std.proofs.Common.{◌≡◌, ◌⊎◌, inl, inr, ℕ, Bool, true, false, List, [], ◌∷◌, map, length, Option, Some, None, zero, suc, refl, sym, ap, ◌∙◌, subst, arith}
+use Rattle.std.specs.Option.{option_map}
 use Rattle.std.specs.Borrow.{Bor}
 use Rattle.command_line.specs.Views.{names_in}
 use Rattle.std.specs.Prelude.{◌==◌, ◌-◌, ◌<◌, ◌≤◌, get_or, take, drop, ◌&&◌, nat_lt, nat_le, IfOk, OnErr, Result, Ok, Err, is_err, IsSome, IfSome, string_bytes}
@@ -8,7 +9,7 @@ use Rattle.std.proofs.lemmas.Bool.{ltb-true, leb-true}
 use Rattle.fb_ports.specs.Faults.{Rose}
 use Rattle.fb_ports.specs.Told.{Told}
 use Rattle.fb_values.specs.declared.facts.Entry.{Entry}
-use Rattle.command_line.specs.Words.{Command, scripts_of, are_scripts, are_apart}
+use Rattle.command_line.specs.Words.{Command, check, scripts_of, are_scripts, are_apart, standard}
 use Rattle.fb_session.specs.declared.outcome.SessionEnd.{SessionEnd}
 use Rattle.fb_session.specs.declared.outcome.SessionEnd.TheVariants as ended
 use Rattle.fb_session.specs.Sessions.{Terms}
@@ -16,19 +17,27 @@ use Rattle.fb_session.specs.Replies.{SessionRun, Replies, SourceCount, SinkCount
 use Rattle.fb_run.specs.declared.outcome.SessionOut.{SessionOut}
 use Rattle.fb_run.specs.declared.outcome.Outcome.{Outcome}
 use Rattle.disk_model.specs.Disk.{WhereTold}
+use Rattle.disk_log.specs.Logs.{disk_in}
 use Rattle.fb_core.specs.declared.accepting.Draft.{Draft}
 use Rattle.fb_recover.specs.Faults.{IsCause, CountsOpening}
 use Rattle.fb_recover.specs.declared.faults.OpenFault.{OpenFault}
 use Rattle.fb_recover.specs.declared.faults.OpenFault.TheVariants as fault
-use Rattle.fb_ports.specs.declared.hosts.Part.TheVariants.{Log}
-use Rattle.fb_run.specs.Outside.{Tells, DiskTells, run_from, run_of, setting_of, EachOf}
+use Rattle.fb_ports.specs.declared.hosts.Part.TheVariants.{Log, Segments}
+use Rattle.fb_run.specs.declared.database.Disks.{Disks}
+use Rattle.fb_run.specs.declared.database.Obstacle.{Obstacle}
+use Rattle.fb_run.specs.declared.database.Obstacle.TheVariants as obstacle
+use Rattle.fb_run.specs.declared.database.Unready.{Unready}
+use Rattle.fb_run.specs.declared.opening.Unopened.TheVariants as unopened
+use Rattle.fb_run.specs.declared.looking.Look.{Look}
+use Rattle.fb_run.specs.Outside.{Tells, DiskTells, IsDiskOf, run_from, run_of, setting_of, EachOf}
 use Rattle.fb_view.specs.Kept.{Kept}
-use Rattle.fb_run.specs.Logs.{LogHolds}
-use Rattle.fb_run.specs.Database.{IsBadLog}
+use Rattle.fb_run.specs.Logs.{IsUnharmed, LogHolds}
+use Rattle.fb_run.specs.Database.{why_unready, AreUnharmed, LeavesBehind, IsObstacle, IsUnready}
+use Rattle.fb_run.specs.Looking.{IsLook, HasTold}
 use Rattle.fb_run.specs.Opening.{IsOpenedFor}
 use Rattle.fb_run.specs.Headline.{EachReplies, stop_of}
-use Rattle.fb_run.specs.StatusLines.{usage, unopened, ended_early, memory, usage_line, cannot_open, out_of_memory, status_of_end, line_of_end, first_early, why_of, why_not}
-use Rattle.fb_run.specs.Causes.{NoSession, HasNoDisk, OutOfMemory, IsOutOfMemory, SaysWhy, Counts, HaveRun, directory_of, IsNotOpened, CauseOf, Causes}
+use Rattle.fb_run.specs.StatusLines.{looked, usage, ended_early, console_failed, memory, usage_line, out_of_memory, status_of_end, line_of_end, first_early, why_of, why_not}
+use Rattle.fb_run.specs.Causes.{HasDisks, NoSession, HasNoDisk, OutOfMemory, IsOutOfMemory, SaysWhy, Counts, IsRun, HaveRun, directory_of, names_of, HandsBack, IsNotOpened, TookWhole, TookPart, HasLooked, CauseOf, HasConsole, Causes}
 use Rattle.fb_run.specs.Running.{RepliesBy, CountsBy, HaveEnded}
 use Rattle.fb_run.proofs.Lists.{each_through, cut_first, names_cut}
 
@@ -227,6 +236,49 @@ module _ {I O D : Type 0} (told : Told) (disks : DiskTells D) (outcome : Outcome
       → IsSome outcome.torn → (disk : D) × (outcome.log ≡ Some disk) × Rose (told.disk_faults dir Log) (disks.faults disk)
   counts_torn holds there both torn = torn_by outcome.last outcome.log refl holds there both torn
 
+module _ {I O D : Type 0} (outcome : Outcome I O D) (none : outcome.console ≡ None) where
+  console_why : (early : Option (List ℕ × SessionEnd)) (stop : Option ℕ) (unmerged : Bool)
+      → HasConsole (why_of early stop unmerged) outcome
+  console_why (Some p) stop unmerged = none
+  console_why None (Some t) unmerged = none
+  console_why None None true = none
+  console_why None None false = none
+
+  console_not : (fault : OpenFault) → HasConsole (why_not fault) outcome
+  console_not fault.Disk = none
+  console_not (fault.BadLog nth at) = none
+  console_not (fault.Unlawful t law) = none
+  console_not fault.Memory = none
+
+  console_unready : (why : Obstacle) → HasConsole (why_unready why) outcome
+  console_unready (obstacle.Unopened (unopened.CannotOpen name)) = none
+  console_unready (obstacle.Unopened unopened.Memory) = none
+  console_unready (obstacle.BadLog fault) = console_not fault
+
+-- what is handed back are the disks that are left
+module _ {I O D : Type 0} (outcome : Outcome I O D) (left : Option (Disks D))
+    (log_is : outcome.log ≡ option_map (λ (d : Disks D). d.log) left)
+    (segments_is : outcome.segments ≡ option_map (λ (d : Disks D). d.segments) left) where
+  log_left : (both : Disks D) → left ≡ Some both → outcome.log ≡ Some both.log
+  log_left both is = log_is ∙ ap (option_map (λ (d : Disks D). d.log)) is
+
+  segments_left : (both : Disks D) → left ≡ Some both → outcome.segments ≡ Some both.segments
+  segments_left both is = segments_is ∙ ap (option_map (λ (d : Disks D). d.segments)) is
+
+  both_left : (l : Option (Disks D)) → left ≡ l → IsSome l → HasDisks outcome
+  both_left None is some = absurd (cc)
+  both_left (Some both) is some = record {
+    log = subst IsSome (sym (log_left both is)) refl;
+    segments = subst IsSome (sym (segments_left both is)) refl;
+  }
+
+  hands_back : (place : ℕ) → LeavesBehind place left → HandsBack place outcome
+  hands_back zero none = record {
+    log = log_is ∙ ap (option_map (λ (d : Disks D). d.log)) none;
+    segments = segments_is ∙ ap (option_map (λ (d : Disks D). d.segments)) none;
+  }
+  hands_back (suc place) some = both_left left refl some
+
 module _ {I O D : Type 0} (told : Told) (tells : Tells I O) (disks : DiskTells D) (new : ℕ) (outcome : Outcome I O D) where
   cause_why : (command : Command) (early : Option (List ℕ × SessionEnd)) (torn : Option Draft) (unmerged : Bool) → outcome.torn ≡ torn
       → IfSome outcome.last (λ l. IfSome outcome.log (LogHolds told disks (directory_of (Some command)) l.entries outcome.recovered
@@ -243,30 +295,24 @@ module _ {I O D : Type 0} (told : Told) (tells : Tells I O) (disks : DiskTells D
   )
   cause_why command (Some p) torn unmerged is holds ran = ran
 
-  pub caused_by_memory : (command : Command) → NoSession outcome → IsOutOfMemory outcome → Causes told tells disks new (Some command)
-      outcome
-  caused_by_memory command none refused = record { why = memory; says = inr refused; cause = inl (none, refl) }
+  pub caused_by_memory : (command : Command) → NoSession outcome → outcome.console ≡ None → IsOutOfMemory outcome
+      → Causes told tells disks new (Some command) outcome
+  caused_by_memory command none no_console refused =
+      record { why = memory; says = inr refused; cause = inl (none, refl); console = no_console }
 
   -- whatever the words are
-  pub caused_by_words : (command : Option Command) → new ≡ told.faults → NoSession outcome → HasNoDisk outcome → IsOutOfMemory outcome →
-      Causes told tells disks new command outcome
-  caused_by_words None same none no_disk refused = record { why = usage; says = inr refused; cause = (none, no_disk, refl, same) }
-  caused_by_words (Some command) same none no_disk refused = caused_by_memory command none refused
+  pub caused_by_words : (command : Option Command) → new ≡ told.faults → NoSession outcome → HasNoDisk outcome → outcome.console ≡ None
+      → IsOutOfMemory outcome → Causes told tells disks new command outcome
+  caused_by_words None same none no_disk no_console refused =
+      record { why = usage; says = inr refused; cause = (none, no_disk, refl, same); console = no_console }
+  caused_by_words (Some command) same none no_disk no_console refused = caused_by_memory command none no_console refused
 
   pub caused_by_usage : (command : Option Command) → None ≡ command → new ≡ told.faults → NoSession outcome → HasNoDisk outcome
+      → outcome.console ≡ None
       → ((outcome.status ≡ 1) × (string_bytes outcome.line ≡ usage_line)) ⊎ IsOutOfMemory outcome → Causes told tells disks new command
       outcome
-  caused_by_usage command is same none no_disk said = record { why = usage; says = said; cause = (none, no_disk, sym is, same) }
-
-  pub caused_by_host : (command : Command) (name : List ℕ) → (place : ℕ) → slice_get (directory_of (Some command) ∷ scripts_of (Some
-      command)) place ≡ Some name → Rose told.faults new → NoSession outcome → HasNoDisk outcome
-      → ((outcome.status ≡ 2) × (string_bytes outcome.line ≡ cannot_open name)) ⊎ IsOutOfMemory outcome → Causes told tells disks new (Some
-      command) outcome
-  caused_by_host command name place named rose none no_disk said = record {
-    why = unopened name;
-    says = said;
-    cause = record { none = none; disks = no_disk; host = rose; place = place; named = named };
-  }
+  caused_by_usage command is same none no_disk no_console said =
+      record { why = usage; says = said; cause = (none, no_disk, sym is, same); console = no_console }
 
   by_fault : (command : Command) (fault : OpenFault) (log : D) → outcome.log ≡ Some log → IsNotOpened told disks new (Some command) outcome
       → WhereTold (told.disks (directory_of (Some command)) Log) (IsCause fault)
@@ -277,37 +323,21 @@ module _ {I O D : Type 0} (told : Told) (tells : Tells I O) (disks : DiskTells D
   by_fault command (fault.Unlawful t law) log is not_opened cause counted = (not_opened, cause)
   by_fault command fault.Memory log is not_opened cause counted = inl (not_opened.none, refl)
 
-  -- a fault of the log's disk, or of its file
-  pub caused_by_log : (command : Command) (fault : OpenFault) (log segments : D) → new ≡ told.faults → NoSession outcome
-      → outcome.log ≡ Some log → outcome.segments ≡ Some segments → IsBadLog told disks (directory_of (Some command)) fault log
-      → SaysWhy (why_not fault) outcome.status (string_bytes outcome.line) → Causes told tells disks new (Some command) outcome
-  caused_by_log command fault log segments same none log_is segments_is bad said =
-      let not_opened : IsNotOpened told disks new (Some command) outcome = record {
-        is_command = refl;
-        none = none;
-        host = same;
-        segments = subst IsSome (sym segments_is) refl;
-        log = log;
-        log_is = log_is;
-        unharmed = bad.unharmed;
-      } in
-      record { why = why_not fault; says = said; cause = by_fault command fault log log_is not_opened bad.cause bad.counted }
-
   pub caused_by_sessions : (command : Command) (opened : List (SessionOut I O)) → EachOf (λ n name (s : SessionOut I O). IsOpenedFor told
-      tells name s) 0 (scripts_of (Some command)) opened → new ≡ told.faults
+      tells name s) 0 (scripts_of (Some command)) opened → IsRun (Some command) → new ≡ told.faults → outcome.console ≡ None
       → IfSome outcome.last (λ l. IfSome outcome.log (LogHolds told disks (directory_of (Some command)) l.entries outcome.recovered
       outcome.torn))
       → (NoSession outcome × IsOutOfMemory outcome) ⊎ HaveEnded tells (scripts_of (Some command)) opened outcome → Causes told tells disks
       new (Some command) outcome
-  caused_by_sessions command opened has same holds (inl none) = caused_by_memory command none.0 none.1
-  caused_by_sessions command opened has same holds (inr ran) =
+  caused_by_sessions command opened has is_run same no_console holds (inl none) = caused_by_memory command none.0 no_console none.1
+  caused_by_sessions command opened has is_run same no_console holds (inr ran) =
       let early = first_early (scripts_of (Some command)) (map (λ (s : SessionOut I O). s.end) outcome.sessions.items) in
       let each = counts_told told tells (scripts_of (Some command)) opened outcome.sessions.items has ran.each in
       record {
         why = why_of early (stop_of outcome.torn) ran.says.0;
         says = ran.says.1;
         cause = cause_why command early outcome.torn ran.says.0 refl holds (record {
-          is_command = refl;
+          is_run = is_run;
           host = same;
           each = each;
           first = refl;
@@ -315,4 +345,119 @@ module _ {I O D : Type 0} (told : Told) (tells : Tells I O) (disks : DiskTells D
           authors = ran.authors;
           disks = ran.disks;
         });
+        console = console_why outcome no_console early (stop_of outcome.torn) ran.says.0;
       }
+
+-- ---- a command that can't begin
+
+module _ {I O D : Type 0} (told new : Told) (tells : Tells I O) (disks : DiskTells D) (outcome : Outcome I O D) (command : Command)
+    (none : NoSession outcome) (left : Option (Disks D))
+    (log_is : outcome.log ≡ option_map (λ (d : Disks D). d.log) left)
+    (segments_is : outcome.segments ≡ option_map (λ (d : Disks D). d.segments) left)
+    (unharmed : IfSome left (AreUnharmed told disks (directory_of (Some command)))) where
+  cause_unready : (why : Obstacle) → IsObstacle told new disks (directory_of (Some command)) (names_of (Some command)) left why
+      → CauseOf told tells disks new.faults (Some command) outcome (why_unready why)
+  cause_unready (obstacle.Unopened (unopened.CannotOpen name)) is = record {
+    none = none;
+    host = is.1;
+    place = is.0.0;
+    named = is.0.1;
+    disks = hands_back outcome left log_is segments_is is.0.0 is.0.2;
+  }
+  cause_unready (obstacle.Unopened unopened.Memory) is = inl (none, refl)
+  cause_unready (obstacle.BadLog fault) is =
+      let both = is.1.both in
+      let log = log_left outcome left log_is segments_is both is.1.is in
+      let segments = segments_left outcome left log_is segments_is both is.1.is in
+      let its = subst (λ (o : Option (Disks D)). IfSome o (AreUnharmed told disks (directory_of (Some command)))) is.1.is unharmed in
+      let not_opened : IsNotOpened told disks new.faults (Some command) outcome = record {
+        is_command = refl;
+        none = none;
+        host = is.0;
+        segments = subst IsSome (sym segments) refl;
+        log = both.log;
+        log_is = log;
+        unharmed = its.log;
+      } in
+      by_fault told tells disks new.faults outcome command fault both.log log not_opened is.1.cause is.1.counted
+
+  -- what is handed back is unharmed
+  unharmed_by : (l : Option (Disks D)) → left ≡ l → IfSome l (AreUnharmed told disks (directory_of (Some command)))
+      → IfSome outcome.log (IsUnharmed told disks (directory_of (Some command)))
+      × IfSome outcome.segments (IsDiskOf told disks (directory_of (Some command)) Segments)
+  unharmed_by None is its = (
+    subst (λ (o : Option D). IfSome o (IsUnharmed told disks (directory_of (Some command)))) (sym (log_is ∙ ap (option_map (λ (d : Disks D).
+        d.log)) is)) tt,
+    subst (λ (o : Option D). IfSome o (IsDiskOf told disks (directory_of (Some command)) Segments)) (sym (segments_is ∙ ap (option_map (λ
+        (d : Disks D). d.segments)) is)) tt,
+  )
+  unharmed_by (Some both) is its = (
+    subst (λ (o : Option D). IfSome o (IsUnharmed told disks (directory_of (Some command))))
+        (sym (log_left outcome left log_is segments_is both is)) its.log,
+    subst (λ (o : Option D). IfSome o (IsDiskOf told disks (directory_of (Some command)) Segments))
+        (sym (segments_left outcome left log_is segments_is both is)) its.segments,
+  )
+
+module _ {I O D : Type 0} (told new : Told) (tells : Tells I O) (disks : DiskTells D) (outcome : Outcome I O D) (command : Command)
+    (unready : Unready D)
+    (is : IsUnready told new disks (directory_of (Some command)) (names_of (Some command)) unready) (none : NoSession outcome)
+    (log_is : outcome.log ≡ option_map (λ (d : Disks D). d.log) unready.disks)
+    (segments_is : outcome.segments ≡ option_map (λ (d : Disks D). d.segments) unready.disks) where
+  pub caused_by_unready : outcome.console ≡ None → SaysWhy (why_unready unready.why) outcome.status (string_bytes outcome.line)
+      → Causes told tells disks new.faults (Some command) outcome
+  caused_by_unready no_console said = record {
+    why = why_unready unready.why;
+    says = said;
+    cause = cause_unready told new tells disks outcome command none unready.disks log_is segments_is is.unharmed unready.why is.why;
+    console = console_unready outcome no_console unready.why;
+  }
+
+  pub unready_unharmed : IfSome outcome.log (IsUnharmed told disks (directory_of (Some command)))
+      × IfSome outcome.segments (IsDiskOf told disks (directory_of (Some command)) Segments)
+  unready_unharmed =
+      unharmed_by told new tells disks outcome command none unready.disks log_is segments_is is.unharmed unready.disks refl is.unharmed
+
+-- ---- a look at a directory
+
+module _ {I O D : Type 0} {g : _} (told new : Told) (tells : Tells I O) (disks : DiskTells D) (outcome : Outcome I O D) (dir : List ℕ)
+    (look : Look O D g) (is : IsLook told new tells disks dir look) (none : NoSession outcome)
+    (log_is : outcome.log ≡ Some (disk_in look.directory.log)) (segments_is : outcome.segments ≡ Some look.directory.segments)
+    (has : HasTold tells.contents tells.sink_faults (string_bytes look.answer.line) look.answer.console outcome) where
+  has_looked : (Took : List ℕ → Option (List ℕ) → Option (List ℕ) → ℕ → ℕ → Type 0)
+      → Took (string_bytes look.answer.line) (tells.contents look.answer.console) (tells.contents has.now)
+      (tells.sink_faults look.answer.console) (tells.sink_faults has.now)
+      → HasLooked told tells disks new.faults (Some (check dir)) outcome Took
+  has_looked Took took = record {
+    directory = dir;
+    is_check = refl;
+    none = none;
+    host = is.host;
+    history = is.history;
+    opening = is.opening;
+    segments = subst IsSome (sym segments_is) refl;
+    log = disk_in look.directory.log;
+    log_is = log_is;
+    log_unfailed = is.unfailed;
+    console = has.now;
+    console_is = has.console_is;
+    took = subst (λ (l : List ℕ). Took l (told.sinks standard) (tells.contents has.now) (told.sink_faults standard)
+        (tells.sink_faults has.now)) is.line
+        (subst (λ (had : Option (List ℕ)). Took (string_bytes look.answer.line) had (tells.contents has.now) (told.sink_faults standard)
+        (tells.sink_faults has.now)) is.console.contents
+        (subst (λ (n : ℕ). Took (string_bytes look.answer.line) (tells.contents look.answer.console) (tells.contents has.now) n
+        (tells.sink_faults has.now)) is.console.faults took));
+  }
+
+  pub caused_by_look : Causes told tells disks new.faults (Some (check dir)) outcome
+  caused_by_look =
+      let there : IsSome outcome.console = subst IsSome (sym has.console_is) refl in
+      elim has.took [
+        | inl whole ↦ record { why = looked; says = whole.0; cause = has_looked TookWhole whole.1; console = there }
+        | inr part ↦ record { why = console_failed; says = part.0; cause = has_looked TookPart part.1; console = there }
+      ]
+
+  pub look_unharmed : IfSome outcome.log (IsUnharmed told disks dir) × IfSome outcome.segments (IsDiskOf told disks dir Segments)
+  look_unharmed = (
+    subst (λ (o : Option D). IfSome o (IsUnharmed told disks dir)) (sym log_is) is.unharmed.log,
+    subst (λ (o : Option D). IfSome o (IsDiskOf told disks dir Segments)) (sym segments_is) is.unharmed.segments,
+  )

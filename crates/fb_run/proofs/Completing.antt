@@ -16,7 +16,7 @@ use Rattle.fb_core.specs.declared.accepting.Draft.{Draft}
 use Rattle.fb_ports.specs.Faults.{Rose}
 use Rattle.fb_ports.specs.Told.{Told}
 use Rattle.fb_view.specs.Kept.{Kept}
-use Rattle.command_line.specs.Words.{Command, scripts_of, sink_of}
+use Rattle.command_line.specs.Words.{Command, run as runs, check, scripts_of, sink_of}
 use Rattle.script_model.specs.Script.{Ending, whole, fault, too_many, Script}
 use Rattle.script_model.proofs.OneScript.{OneReading, one_script}
 use Rattle.talk_model.specs.Session.{Setting}
@@ -36,8 +36,8 @@ use Rattle.fb_ports.specs.declared.hosts.Part.TheVariants.{Log}
 use Rattle.fb_run.specs.Outside.{Tells, DiskTells, run_of, setting_of, EachOf, EachWhile}
 use Rattle.fb_run.specs.Logs.{LogHolds}
 use Rattle.fb_run.specs.Headline.{OneHistory, stop_of, EachReplies}
-use Rattle.fb_run.specs.StatusLines.{Why, answered, usage, unopened, disk_failed, bad_record, unlawful, ended_early, log_stopped, memory, status_of_end, line_of_end, first_early}
-use Rattle.fb_run.specs.Causes.{HasDisks, IsOutOfMemory, SaysWhy, Counts, HaveRun, directory_of, CauseOf, Causes}
+use Rattle.fb_run.specs.StatusLines.{Why, answered, looked, usage, unopened, disk_failed, bad_record, unlawful, ended_early, console_failed, log_stopped, memory, status_of_end, line_of_end, first_early}
+use Rattle.fb_run.specs.Causes.{HasDisks, IsOutOfMemory, SaysWhy, Counts, IsRun, HaveRun, directory_of, CauseOf, Causes}
 use Rattle.fb_run.specs.Complete.{HoldsForms, HoldsFormsAlone, HoldsHistory, NoneRose, EachHasItsLine, AnsweredWhole, Complete}
 use Rattle.fb_run.proofs.Causing.{first_done, says_memory, counts_torn}
 
@@ -230,6 +230,25 @@ module _ {I O D : Type 0} (terms : Terms) (told : Told) (tells : Tells I O) (dis
   no_unlawful : (t law : ℕ) → WhereTold (told.disks (directory_of (Some command)) Log) (λ file. FileSays file (unlawful_there t law)) → ⊥
   no_unlawful t law says = let wrong = (says_history _ _ log says).1 in absurd (cc)
 
+  -- a look at a directory that has nothing wrong succeeds
+  looked_by : (IsRun (Some command) → ⊥) → (why : Why) → SaysWhy why outcome.status (string_bytes outcome.line)
+      → CauseOf told tells disks new (Some command) outcome why → (outcome.status ≡ 0) ⊎ IsOutOfMemory outcome
+  looked_by not answered says cause = absurd (not cause.0.is_run)
+  looked_by not looked says cause = inl says.0
+  looked_by not usage says cause = absurd (none-some command (sym cause.2))
+  looked_by not (unopened name) says cause = absurd (calm.host cause.host)
+  looked_by not (disk_failed part) says cause = absurd (calm.parts part cause.1.0 cause.1.1 cause.1.2)
+  looked_by not (bad_record nth at) says cause = absurd (no_bad_record nth at cause.1)
+  looked_by not (unlawful t law) says cause = absurd (no_unlawful t law cause.1)
+  looked_by not (ended_early name how) says cause = absurd (not cause.is_run)
+  looked_by not console_failed says cause = absurd (calm.console cause.console cause.console_is cause.took.failed)
+  looked_by not (log_stopped t) says cause = absurd (not cause.0.is_run)
+  looked_by not memory says cause = inr (says_memory outcome.status (string_bytes outcome.line) says)
+
+  pub complete_check : (IsRun (Some command) → ⊥) → Causes told tells disks new (Some command) outcome
+      → (outcome.status ≡ 0) ⊎ IsOutOfMemory outcome
+  complete_check not causes = looked_by not causes.why causes.says causes.cause
+
   -- the sessions ran, so there is a history
   module _ (lawful : IfSome outcome.last (λ last. IsLawful last.entries × (outcome.recovered ≤ basis last.entries)))
       (replies : IfSome outcome.last (λ last. EachReplies terms told tells outcome.recovered (stop_of outcome.torn) (scripts_of (Some
@@ -272,22 +291,30 @@ module _ {I O D : Type 0} (terms : Terms) (told : Told) (tells : Tells I O) (dis
         refused terms told tells disks new command outcome l stands.0 stands.1 is (unstopped l.entries (going ran) says) holds calm name how
         ran said
 
-    by_why : (why : Why) → SaysWhy why outcome.status (string_bytes outcome.line) → CauseOf told tells disks new (Some command) outcome why
+    by_why : IsRun (Some command) → (why : Why) → SaysWhy why outcome.status (string_bytes outcome.line) → CauseOf told tells disks new (Some command) outcome why
         → AnsweredWhole terms told tells (scripts_of (Some command)) outcome ⊎ IsOutOfMemory outcome
-    by_why answered says cause = inl (whole_by outcome.last refl cause.0.last says.0 cause.0)
-    by_why usage says cause = absurd (none-some command (sym cause.2))
-    by_why (unopened name) says cause = absurd (calm.host cause.host)
-    by_why (disk_failed part) says cause = absurd (calm.parts part cause.1.0 cause.1.1 cause.1.2)
-    by_why (bad_record nth at) says cause = absurd (no_bad_record nth at cause.1)
-    by_why (unlawful t law) says cause = absurd (no_unlawful t law cause.1)
-    by_why (ended_early name how) says cause = inr (refused_by outcome.last refl cause.last name how cause says)
-    by_why (log_stopped t) says cause = absurd (calm.parts Log cause.2.0 cause.2.1 cause.2.2)
-    by_why memory says cause = inr (says_memory outcome.status (string_bytes outcome.line) says)
+    by_why is_run answered says cause = inl (whole_by outcome.last refl cause.0.last says.0 cause.0)
+    by_why is_run looked says cause = absurd (subst IsRun cause.is_check is_run)
+    by_why is_run usage says cause = absurd (none-some command (sym cause.2))
+    by_why is_run (unopened name) says cause = absurd (calm.host cause.host)
+    by_why is_run (disk_failed part) says cause = absurd (calm.parts part cause.1.0 cause.1.1 cause.1.2)
+    by_why is_run (bad_record nth at) says cause = absurd (no_bad_record nth at cause.1)
+    by_why is_run (unlawful t law) says cause = absurd (no_unlawful t law cause.1)
+    by_why is_run (ended_early name how) says cause = inr (refused_by outcome.last refl cause.last name how cause says)
+    by_why is_run console_failed says cause = absurd (subst IsRun cause.is_check is_run)
+    by_why is_run (log_stopped t) says cause = absurd (calm.parts Log cause.2.0 cause.2.1 cause.2.2)
+    by_why is_run memory says cause = inr (says_memory outcome.status (string_bytes outcome.line) says)
 
-    pub complete_run : Causes told tells disks new (Some command) outcome → AnsweredWhole terms told tells (scripts_of (Some command))
+    pub complete_run : IsRun (Some command) → Causes told tells disks new (Some command) outcome → AnsweredWhole terms told tells (scripts_of (Some command))
         outcome
         ⊎ IsOutOfMemory outcome
-    complete_run causes = by_why causes.why causes.says causes.cause
+    complete_run is_run causes = by_why is_run causes.why causes.says causes.cause
+
+pub complete_look : {I O D : Type 0} (terms : Terms) (told : Told) (tells : Tells I O) (disks : DiskTells D) (new : ℕ) (dir : List ℕ)
+    (outcome : Outcome I O D)
+    → Causes told tells disks new (Some (check dir)) outcome → Complete terms told tells disks new (Some (check dir)) outcome
+complete_look terms told tells disks new dir outcome causes =
+    λ log holds calm. complete_check terms told tells disks new (check dir) outcome log holds calm (λ wrong. wrong) causes
 
 pub complete_command : {I O D : Type 0} (terms : Terms) (told : Told) (tells : Tells I O) (disks : DiskTells D) (new : ℕ) (command : Option
     Command) (outcome : Outcome I O D)
@@ -299,11 +326,13 @@ pub complete_command : {I O D : Type 0} (terms : Terms) (told : Told) (tells : T
     outcome.torn))
     → Causes told tells disks new command outcome → Complete terms told tells disks new command outcome
 complete_command terms told tells disks new None outcome authors commits history replies kept causes = tt
-complete_command terms told tells disks new (Some command) outcome authors commits history replies kept causes =
+complete_command terms told tells disks new (Some (check dir)) outcome authors commits history replies kept causes =
+    complete_look terms told tells disks new dir outcome causes
+complete_command terms told tells disks new (Some (runs options dir scripts)) outcome authors commits history replies kept causes =
     let lawful : IfSome outcome.last (λ last. IsLawful last.entries × (outcome.recovered ≤ basis last.entries)) =
     IfSome_then outcome.last history (λ last one. (
       one.lawful,
       stands_behind outcome.recovered (length authors) (basis last.entries)
           one.each_t,
     )) in
-    λ log holds calm. complete_run terms told tells disks new command outcome log holds calm lawful replies kept causes
+    λ log holds calm. complete_run terms told tells disks new (runs options dir scripts) outcome log holds calm lawful replies kept tt causes

@@ -1,7 +1,7 @@
 -- What opening a directory gives, in the words of what the host told before, and what the run leaves of the log.
-use Rattle.std.proofs.Common.{◌≡◌, ℕ, ◌+◌, ◌≤◌, ◌⊎◌, inl, inr, List, [], ◌∷◌, ◌++◌, length, Option, Some, None, sym, ap, ◌∙◌, subst, ⊎_elim, arith}
+use Rattle.std.proofs.Common.{◌≡◌, ℕ, ◌+◌, ◌≤◌, ◌⊎◌, inl, inr, List, [], ◌∷◌, ◌++◌, length, Option, Some, None, suc, refl, sym, ap, ◌∙◌, subst, ⊎_elim, arith}
 use Rattle.std.proofs.lemmas.List.{take-append-le, length-take}
-use Rattle.std.specs.Prelude.{IfSome}
+use Rattle.std.specs.Prelude.{IsSome, IfSome, Result, Ok, Err, IfErr}
 use Rattle.fb_values.specs.declared.facts.Entry.{Entry}
 use Rattle.fb_model.specs.History.{basis, upto}
 use Rattle.fb_model.specs.Lawful.{IsLawful}
@@ -16,26 +16,110 @@ use Rattle.fb_core.specs.declared.accepting.Draft.{Draft}
 use Rattle.fb_core.specs.Cores.{entry_of}
 use Rattle.fb_view.specs.Kept.{Kept}
 use Rattle.fb_ports.specs.Faults.{Rose}
-use Rattle.fb_ports.specs.declared.hosts.Part.TheVariants.{Log}
+use Rattle.fb_ports.specs.declared.hosts.Part.TheVariants.{Log, Segments}
 use Rattle.fb_ports.specs.Told.{Told}
+use Rattle.fb_ports.specs.Telling.{StaysButDisk}
+use Rattle.fb_recover.specs.Faults.{CountsOpening}
 use Rattle.fb_run.specs.declared.database.Directory.{Directory}
+use Rattle.fb_run.specs.declared.database.Disks.{Disks}
+use Rattle.fb_run.specs.declared.database.Obstacle.{Obstacle}
+use Rattle.fb_run.specs.declared.database.Obstacle.TheVariants as obstacle
 use Rattle.fb_run.specs.declared.database.Unready.{Unready}
-use Rattle.fb_run.specs.declared.database.Unready.TheVariants.{CannotOpen, BadLog, Memory}
+use Rattle.fb_run.specs.declared.opening.Unopened.{Unopened}
+use Rattle.fb_run.specs.declared.opening.Unopened.TheVariants as unopened
 use Rattle.fb_run.specs.declared.outcome.SessionOut.{SessionOut}
 use Rattle.fb_run.specs.declared.outcome.Outcome.{Outcome}
-use Rattle.fb_run.specs.Outside.{Tells, DiskTells, EachOf}
-use Rattle.fb_run.specs.Opening.{IsOpenedFor, HasOpened}
-use Rattle.fb_run.specs.Logs.{LogHolds}
-use Rattle.fb_run.specs.Database.{SameStreams, IsOpened, IsUnopenedPart, IsUnready}
+use Rattle.fb_run.specs.Outside.{Tells, DiskTells, IsDiskOf, EachOf}
+use Rattle.fb_run.specs.Opening.{IsOpenedFor, HasOpened, IsUnopened}
+use Rattle.fb_run.specs.Logs.{IsUnharmed, LogHolds}
+use Rattle.fb_run.specs.Database.{SameStreams, IsOpened, IsRefused, IsUnopenedBy, IsUnopenedPart, AreUnharmed, IsObstacle, IsUnready, disks_in}
+use Rattle.fb_run.specs.Causes.{HasNoDisk}
 use Rattle.fb_run.specs.Running.{LeavesLog, LeavesDisks, GoesOnFrom}
 
 -- ---- what is opened behind the directory
 
-pub unready_part : {D : Type 0} (disks : DiskTells D) (dir : List ℕ) (old mid new : Told) (why : Unready D) → mid.faults ≡ old.faults
-    → IsUnopenedPart mid new dir why → IsUnready old new disks dir (dir ∷ []) why
-unready_part disks dir old mid new (CannotOpen name) same not = ((0, ap Some (sym not.0)), subst (λ n. Rose n new.faults) same not.1)
-unready_part disks dir old mid new (BadLog fault log segments) same not = absurd not
-unready_part disks dir old mid new Memory same not = tt
+module _ {D : Type 0} (disks : DiskTells D) (dir : List ℕ) (names : List (List ℕ)) (old mid new : Told) where
+  part_obstacle : (left : Option (Disks D)) (why : Obstacle) → mid.faults ≡ old.faults → left ≡ None → IsUnopenedBy mid new dir why
+      → IsObstacle old new disks dir (dir ∷ names) left why
+  part_obstacle left (obstacle.Unopened (unopened.CannotOpen name)) same none not =
+      ((0, ap Some (sym not.0), none), subst (λ n. Rose n new.faults) same not.1)
+  part_obstacle left (obstacle.Unopened unopened.Memory) same none not = tt
+  part_obstacle left (obstacle.BadLog fault) same none not = absurd not
+
+  pub unready_part : (unready : Unready D) → mid.faults ≡ old.faults → IsUnopenedPart mid new dir unready
+      → IsUnready old new disks dir (dir ∷ names) unready
+  unready_part unready same not = record {
+    why = part_obstacle unready.disks unready.why same not.0 not.1;
+    unharmed = subst (λ (o : Option (Disks D)). IfSome o (AreUnharmed old disks dir)) (sym not.0) tt;
+  }
+
+  later_obstacle : (left : Option (Disks D)) (why : Unopened) → mid.faults ≡ old.faults → IsSome left → IsUnopened names mid new why
+      → IsObstacle old new disks dir (dir ∷ names) left (obstacle.Unopened why)
+  later_obstacle left (unopened.CannotOpen name) same some not =
+      ((suc not.0.0, not.0.1, some), subst (λ n. Rose n new.faults) same not.1)
+  later_obstacle left unopened.Memory same some not = tt
+
+  -- what has a later name was not opened
+  pub unready_later : (both : Disks D) (why : Unopened) → mid.faults ≡ old.faults → AreUnharmed old disks dir both
+      → IsUnopened names mid new why
+      → IsUnready old new disks dir (dir ∷ names) (record { why = obstacle.Unopened why; disks = Some both })
+  unready_later both why same unharmed not =
+      record { why = later_obstacle (Some both) why same refl not; unharmed = unharmed }
+
+-- opening the log changes nothing that the host tells of the segments
+pub other_part : {D : Type 0} (disks : DiskTells D) (dir : List ℕ) (old mid : Told) (disk : D) → StaysButDisk dir Log old mid
+    → IsDiskOf mid disks dir Segments disk → IsDiskOf old disks dir Segments disk
+other_part disks dir old mid disk stays is = record {
+  bytes = is.bytes ∙ stays.disks dir Segments (λ _ e. absurd (cc));
+  faults = is.faults ∙ stays.disk_faults dir Segments (λ _ e. absurd (cc));
+  images = λ image.
+      let later = is.images image in
+      let first = stays.disk_images dir Segments (λ _ e. absurd (cc)) image in (λ x. first.0 (later.0 x), λ x. later.1 (first.1 x));
+  moment = is.moment ∙ stays.disk_moment dir Segments (λ _ e. absurd (cc));
+}
+
+module _ {D : Type 0} (told : Told) (disks : DiskTells D) (dir : List ℕ) (disk : D) (is : IsDiskOf told disks dir Log disk) where
+  unharmed_log : (log : D) → WhereTold (disks.bytes disk) (λ file. LeavesOnly disks.moment disks.images_since disk log
+      (λ image. disks.images disk image ⊎ ((length file ≤ 16) × (length image ≤ 16)))) → IsUnharmed told disks dir log
+  unharmed_log log leaves = λ file told_is image since.
+      ⊎_elim
+      (λ (left : disks.images disk image). inl ((is.images image).0 left))
+      (λ (few : (length file ≤ 16) × (length image ≤ 16)). inr few)
+      ((leaves file (is.bytes ∙ told_is)).each image
+      (subst (λ (t : ℕ). disks.images_since log t image) (sym is.moment) since))
+
+  -- the log of a directory was refused
+  pub unready_log : (names : List (List ℕ)) (new : Told) (segments : D) (unready : Unready D)
+      → IsDiskOf told disks dir Segments segments → new.faults ≡ told.faults → IsRefused disks disk segments unready
+      → IsUnready told new disks dir names unready
+  unready_log names new segments unready its same refused =
+      let both : Disks D = record { log = refused.log; segments = segments } in
+      subst (λ (u : Unready D). IsUnready told new disks dir names u) (sym refused.is) (record {
+        why = (
+          same,
+          record {
+            both = both;
+            is = refl;
+            cause = λ file told_is. refused.cause file (is.bytes ∙ told_is);
+            counted = subst (λ (n : ℕ). CountsOpening refused.fault n (disks.faults refused.log)) is.faults refused.counted;
+          },
+        );
+        unharmed = record { log = unharmed_log refused.log refused.unharmed; segments = its };
+      })
+
+  pub not_reopened : {T : Type 0} (r : Result T (Unready D)) (names : List (List ℕ)) (new : Told) (segments : D)
+      → IsDiskOf told disks dir Segments segments → new.faults ≡ told.faults → IfErr r (IsRefused disks disk segments)
+      → IfErr r (IsUnready told new disks dir names)
+  not_reopened (Ok x) names new segments its same refused = tt
+  not_reopened (Err unready) names new segments its same refused = unready_log names new segments unready its same refused
+
+-- a directory that was opened is left as it was
+pub opened_unharmed : {D : Type 0} {g : _} (told : Told) (disks : DiskTells D) (dir : List ℕ) (directory : Directory D g)
+    → IsOpened told disks dir directory → AreUnharmed told disks dir (disks_in directory)
+opened_unharmed told disks dir directory opened = record {
+  log = unharmed_log told disks dir opened.disk opened.log (disk_in directory.log) opened.reopened.unharmed;
+  segments = opened.segments;
+}
 
 module _ {I O : Type 0} (tells : Tells I O) (old mid : Told) (streams : SameStreams old mid) where
   one_over : (name : List ℕ) (s : SessionOut I O) → IsOpenedFor mid tells name s → IsOpenedFor old tells name s
@@ -168,6 +252,15 @@ module _ {I O D : Type 0} {g : _} (told : Told) (disks : DiskTells D) (dir : Lis
     disks
     dir directory) (outcome : Outcome I O D)
     (segments : D) where
+  -- the segments' disk is the one that was opened, or none is handed back
+  pub run_segments : (last : Option Kept) → outcome.last ≡ last
+      → IfSome last (λ l. LeavesDisks disks directory.recovered (disk_in directory.log) directory.segments l.entries outcome)
+      → (outcome.last ≡ None → HasNoDisk outcome) → IfSome outcome.segments (IsDiskOf told disks dir Segments)
+  run_segments None is leaves none =
+      subst (λ (o : Option D). IfSome o (IsDiskOf told disks dir Segments)) (sym (none is).segments) tt
+  run_segments (Some l) is leaves none =
+      subst (λ (o : Option D). IfSome o (IsDiskOf told disks dir Segments)) (sym leaves.segments_is) opened.segments
+
   logs_by : (last : Option Kept) → IfSome last (λ l. GoesOnFrom directory l.entries outcome)
       → IfSome last (λ l. LeavesDisks disks directory.recovered (disk_in directory.log) segments l.entries outcome)
       → IfSome last (λ l. IfSome outcome.log (LogHolds told disks dir l.entries outcome.recovered outcome.torn))

@@ -5,4 +5,5 @@ pub mod Running
 pub mod Directories
 pub mod Causing
 pub mod Completing
+pub mod Looks
 pub mod Crossing

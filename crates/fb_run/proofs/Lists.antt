@@ -1,5 +1,5 @@
 -- Lists that go together, by places and as wholes.
-use Rattle.std.proofs.Common.{◌≡◌, ℕ, ◌+◌, ◌-◌, ◌<◌, ◌≤◌, zero, suc, List, [], ◌∷◌, map, length, get_or, take, drop, Option, Some, refl, sym, ap, subst, arith}
+use Rattle.std.proofs.Common.{◌≡◌, ℕ, ◌+◌, ◌-◌, ◌<◌, ◌≤◌, zero, suc, List, [], ◌∷◌, map, length, get_or, take, drop, Option, Some, None, refl, sym, ap, subst, arith}
 use Rattle.std.proofs.lemmas.List.{take_rest}
 use Rattle.std.specs.Prelude.{IfSome}
 use Rattle.std.specs.Borrow.{Bor}
@@ -9,6 +9,9 @@ use Rattle.fb_run.specs.Outside.{EachOf}
 
 pub some_then : {A : Type 0} (P : A → Type 0) (o : Option A) (x : A) → o ≡ Some x → P x → IfSome o P
 some_then P o x is p = subst (λ z. IfSome z P) (sym is) p
+
+pub none_then : {A : Type 0} (P : A → Type 0) (o : Option A) → o ≡ None → IfSome o P
+none_then P o is = subst (λ z. IfSome z P) (sym is) tt
 
 module _ {A : Type 0} where
   pub there : (xs : List A) (k : ℕ) → k < length xs → (x : A) × (slice_get xs k ≡ Some x)

@@ -1,21 +1,25 @@
 -- What causes the status of a run, the line that it says and what it hands back.
 -- This project's own choice.
-use Rattle.std.specs.Prelude.{◌≡◌, ℕ, ◌⊎◌, List, [], ◌∷◌, map, Option, Some, None, IsSome, slice_get, string_bytes}
+use Rattle.std.specs.Prelude.{◌≡◌, ℕ, zero, suc, ◌⊎◌, List, [], ◌∷◌, map, Option, Some, None, IsSome, slice_get, string_bytes}
+use Rattle.std.specs.Io.KnownBytes.{append_known}
+use Rattle.fb_values.specs.declared.facts.Entry.{Entry}
+use Rattle.fb_model.specs.History.{basis}
 use Rattle.disk_model.specs.Disk.{WhereTold}
-use Rattle.log_model.specs.Log.{FileSays, bad_record as bad_record_there, unlawful as unlawful_there}
+use Rattle.log_model.specs.Log.{IsLogOf, FileSays, bad_record as bad_record_there, unlawful as unlawful_there}
 use Rattle.fb_ports.specs.Faults.{Rose}
 use Rattle.fb_ports.specs.Told.{Told}
 use Rattle.fb_ports.specs.declared.hosts.Part.{Part}
 use Rattle.fb_ports.specs.declared.hosts.Part.TheVariants.{Log, Segments}
-use Rattle.command_line.specs.Words.{Command, run, scripts_of, sink_of}
+use Rattle.command_line.specs.Words.{Command, run, check, scripts_of, sink_of, standard}
 use Rattle.fb_session.specs.declared.outcome.SessionEnd.{SessionEnd}
 use Rattle.fb_session.specs.Replies.{SourceCount, SinkCount}
+use Rattle.fb_session.specs.Written.{TakesPart}
 use Rattle.fb_run.specs.declared.outcome.SessionOut.{SessionOut}
 use Rattle.fb_run.specs.declared.outcome.Outcome.{Outcome}
 use Rattle.fb_run.specs.Outside.{Tells, DiskTells, EachOf}
 use Rattle.fb_run.specs.Headline.{stop_of}
 use Rattle.fb_run.specs.Logs.{IsUnharmed}
-use Rattle.fb_run.specs.StatusLines.{Why, answered, usage, unopened, disk_failed, bad_record, unlawful, ended_early, log_stopped, memory, out_of_memory, status_of, line_of, first_early}
+use Rattle.fb_run.specs.StatusLines.{Why, answered, looked, usage, unopened, disk_failed, bad_record, unlawful, ended_early, console_failed, log_stopped, memory, out_of_memory, history_line, status_of, line_of, first_early}
 
 -- ---- what is handed back
 
@@ -60,6 +64,7 @@ IsOutOfMemory outcome = OutOfMemory outcome.status (string_bytes outcome.line)
 -- the status and the line of why the program ends; where there is something to say, memory may be refused to it
 abbrev pub SaysWhy : Why → ℕ → List ℕ → Type 0
 SaysWhy answered status line = (status ≡ 0) × (line ≡ [])
+SaysWhy looked status line = (status ≡ 0) × (line ≡ [])
 SaysWhy why status line =
     ((status ≡ status_of why) × (line ≡ line_of why)) ⊎ OutOfMemory status line
 
@@ -73,11 +78,17 @@ pub record Counts {I O : Type 0} (told : Told) (tells : Tells I O) (name : List 
   pub sink :
       SinkCount session.end (told.sink_faults (sink_of name)) (tells.sink_faults session.sink)
 
+-- scripts are to be run
+abbrev pub IsRun : Option Command → Type 0
+IsRun None = ⊥
+IsRun (Some (run options directory scripts)) = Unit {0}
+IsRun (Some (check directory)) = ⊥
+
 -- a session ran for each script, and this is the first that ended early
 pub record HaveRun {I O D : Type 0} (told : Told) (tells : Tells I O) (new : ℕ)
     (command : Option Command) (outcome : Outcome I O D) (early : Option (List ℕ × SessionEnd))
     : Type 0 where
-  pub is_command : IsSome command
+  pub is_run : IsRun command
   pub host : new ≡ told.faults
   pub each : EachOf (λ n name (s : SessionOut I O). Counts told tells name s) 0
       (scripts_of command) outcome.sessions.items
@@ -91,15 +102,27 @@ pub record HaveRun {I O D : Type 0} (told : Told) (tells : Tells I O) (new : ℕ
 abbrev pub directory_of : Option Command → List ℕ
 directory_of None = []
 directory_of (Some (run options directory scripts)) = directory
+directory_of (Some (check directory)) = directory
 
--- the host could not open the directory, or the source or the sink of one of the scripts
+-- what it opens: its directory first, and then its scripts' sources and sinks, or the console
+abbrev pub names_of : Option Command → List (List ℕ)
+names_of None = []
+names_of (Some (run options directory scripts)) = directory ∷ scripts
+names_of (Some (check directory)) = directory ∷ standard ∷ []
+
+-- both disks are handed back, unless the directory itself was not opened
+abbrev pub HandsBack : {I O D : Type 0} → ℕ → Outcome I O D → Type 0
+HandsBack zero outcome = HasNoDisk outcome
+HandsBack (suc place) outcome = HasDisks outcome
+
+-- the host could not open what has this name
 pub record CannotOpen {I O D : Type 0} (told : Told) (new : ℕ) (command : Option Command)
     (outcome : Outcome I O D) (name : List ℕ) : Type 0 where
   pub none : NoSession outcome
-  pub disks : HasNoDisk outcome
   pub host : Rose told.faults new
   pub place : ℕ
-  pub named : slice_get (directory_of command ∷ scripts_of command) place ≡ Some name
+  pub named : slice_get (names_of command) place ≡ Some name
+  pub disks : HandsBack place outcome
 
 -- the directory's disks were opened, and its log was not
 pub record IsNotOpened {I O D : Type 0} (told : Told) (disks : DiskTells D) (new : ℕ)
@@ -112,10 +135,43 @@ pub record IsNotOpened {I O D : Type 0} (told : Told) (disks : DiskTells D) (new
   pub log_is : outcome.log ≡ Some log
   pub unharmed : IsUnharmed told disks (directory_of command) log
 
+-- a sink took the whole line
+pub record TookWhole (line : List ℕ) (had has : Option (List ℕ)) (old new : ℕ) : Type 0 where
+  pub gained : has ≡ append_known had line
+  pub unfailed : new ≡ old
+
+-- it failed, and took less than the whole
+pub record TookPart (line : List ℕ) (had has : Option (List ℕ)) (old new : ℕ) : Type 0 where
+  pub part : TakesPart line had has
+  pub failed : Rose old new
+
+-- The directory's log was that of a history. The console took the line about it, so far; all that has been accepted is live, and
+-- the trees are of the first entry alone.
+pub record HasLooked {I O D : Type 0} (told : Told) (tells : Tells I O) (disks : DiskTells D)
+    (new : ℕ) (command : Option Command) (outcome : Outcome I O D)
+    (Took : List ℕ → Option (List ℕ) → Option (List ℕ) → ℕ → ℕ → Type 0) : Type 0 where
+  pub directory : List ℕ
+  pub is_check : command ≡ Some (check directory)
+  pub none : NoSession outcome
+  pub host : new ≡ told.faults
+  pub history : List Entry
+  pub opening : WhereTold (told.disks directory Log) (λ file. IsLogOf file history)
+  pub segments : IsSome outcome.segments
+  pub log : D
+  pub log_is : outcome.log ≡ Some log
+  pub log_unfailed : disks.faults log ≡ told.disk_faults directory Log
+  pub console : O
+  pub console_is : outcome.console ≡ Some console
+  pub took : Took (history_line (basis history) 0)
+      (told.sinks standard) (tells.contents console)
+      (told.sink_faults standard) (tells.sink_faults console)
+
 abbrev pub CauseOf : {I O D : Type 0} → Told → Tells I O → DiskTells D → ℕ → Option Command
     → Outcome I O D → Why → Type 0
 CauseOf told tells disks new command outcome answered =
     HaveRun told tells new command outcome None × (outcome.torn ≡ None)
+CauseOf told tells disks new command outcome looked =
+    HasLooked told tells disks new command outcome TookWhole
 CauseOf told tells disks new command outcome usage =
     NoSession outcome × HasNoDisk outcome × (command ≡ None) × (new ≡ told.faults)
 CauseOf told tells disks new command outcome (unopened name) =
@@ -135,6 +191,8 @@ CauseOf told tells disks new command outcome (unlawful t law) =
     (λ file. FileSays file (unlawful_there t law))
 CauseOf told tells disks new command outcome (ended_early name how) =
     HaveRun told tells new command outcome (Some (name, how))
+CauseOf told tells disks new command outcome console_failed =
+    HasLooked told tells disks new command outcome TookPart
 CauseOf {I} {O} {D} told tells disks new command outcome (log_stopped t) =
     HaveRun told tells new command outcome None
     × (stop_of outcome.torn ≡ Some t)
@@ -145,9 +203,16 @@ CauseOf told tells disks new command outcome memory =
     (NoSession outcome × IsSome command)
     ⊎ (HaveRun told tells new command outcome None × (outcome.torn ≡ None))
 
+-- a console is handed back where there was a line for it
+abbrev pub HasConsole : {I O D : Type 0} → Why → Outcome I O D → Type 0
+HasConsole looked outcome = IsSome outcome.console
+HasConsole console_failed outcome = IsSome outcome.console
+HasConsole why outcome = outcome.console ≡ None
+
 -- There is a reason why the run ended as it did. It is told by the status and the line, and has its cause.
 pub record Causes {I O D : Type 0} (told : Told) (tells : Tells I O) (disks : DiskTells D) (new : ℕ)
     (command : Option Command) (outcome : Outcome I O D) : Type 0 where
   pub why : Why
   pub says : SaysWhy why outcome.status (string_bytes outcome.line)
   pub cause : CauseOf told tells disks new command outcome why
+  pub console : HasConsole why outcome

@@ -11,7 +11,7 @@ use Rattle.fb_ports.specs.Faults.{Rose}
 use Rattle.fb_ports.specs.declared.hosts.Part.{Part}
 use Rattle.fb_ports.specs.declared.hosts.Part.TheVariants.{Log}
 use Rattle.fb_ports.specs.Told.{Told}
-use Rattle.command_line.specs.Words.{Command, scripts_of, sink_of}
+use Rattle.command_line.specs.Words.{Command, run, check, scripts_of, sink_of, standard}
 use Rattle.script_model.specs.Script.{whole, Script}
 use Rattle.talk_model.specs.Session.{Setting, Standing, opened_at}
 use Rattle.talk_model.specs.Talk.{Exchange, forms_of, places_of, lines_of, commits_of, Talk}
@@ -41,7 +41,8 @@ pub record HoldsHistory (held : Option (List ℕ)) : Type 0 where
   pub history : List Entry
   pub is : IsLogOf file history
 
--- no count of faults rose: not the host's, nor that of a disk that is handed back, nor that of a session's source or sink
+-- no count of faults rose: not the host's, nor that of a disk that is handed back, nor that of a session's source or sink or of the
+-- console
 pub record NoneRose {I O D : Type 0} (told : Told) (tells : Tells I O) (disks : DiskTells D)
     (new : ℕ) (dir : List ℕ) (scripts : List (List ℕ)) (outcome : Outcome I O D) : Type 0 where
   pub host : ¬ Rose told.faults new
@@ -53,6 +54,8 @@ pub record NoneRose {I O D : Type 0} (told : Told) (tells : Tells I O) (disks : 
   pub sinks : EachWhile (λ name (s : SessionOut I O).
       ¬ Rose (told.sink_faults (sink_of name)) (tells.sink_faults s.sink)) scripts
       outcome.sessions.items
+  pub console : (console : O) → outcome.console ≡ Some console
+      → ¬ Rose (told.sink_faults standard) (tells.sink_faults console)
 
 -- each of the forms has its line, and the sink gained nothing else
 pub record EachHasItsLine (s : Setting) (opening : ℕ) (forms : List Form) (run : SessionRun)
@@ -76,8 +79,15 @@ pub record AnsweredWhole {I O D : Type 0} (terms : Terms) (told : Told) (tells :
       → EachHasItsLine (setting_of terms last.entries None false) outcome.recovered forms
       (run_of told tells name s)) 0 scripts outcome.sessions.items
 
+-- the run answered each form of its scripts; or the look at the directory, which has no script, succeeded, so it told its line
+abbrev pub Succeeds : {I O D : Type 0} → Terms → Told → Tells I O → Command → Outcome I O D
+    → Type 0
+Succeeds terms told tells (run options directory scripts) outcome =
+    AnsweredWhole terms told tells scripts outcome
+Succeeds terms told tells (check directory) outcome = outcome.status ≡ 0
+
 -- Where the words are a command, its log is that of a history, its scripts are forms within the limits, and no count of faults rises,
--- each form of each of them is answered, or memory was refused.
+-- it succeeds, or memory was refused.
 abbrev pub Complete : {I O D : Type 0} → Terms → Told → Tells I O → DiskTells D → ℕ
     → Option Command → Outcome I O D → Type 0
 Complete terms told tells disks new None outcome = Unit {0}
@@ -86,4 +96,4 @@ Complete terms told tells disks new (Some command) outcome =
     → AllByRecursion (λ name. HoldsFormsAlone (told.sources name)) (scripts_of (Some command))
     → NoneRose told tells disks new (directory_of (Some command)) (scripts_of (Some command))
     outcome
-    → AnsweredWhole terms told tells (scripts_of (Some command)) outcome ⊎ IsOutOfMemory outcome
+    → Succeeds terms told tells command outcome ⊎ IsOutOfMemory outcome

@@ -1,6 +1,6 @@
 -- What opening a directory gives: its disks, and the database that its log holds.
 -- This project's own choice.
-use Rattle.std.specs.Prelude.{◌≡◌, ◌⊎◌, ◌≤◌, ℕ, List, [], length, Some, slice_get}
+use Rattle.std.specs.Prelude.{◌≡◌, ◌⊎◌, ◌≤◌, ℕ, zero, suc, List, [], length, Option, Some, None, IsSome, IfSome, slice_get}
 use Rattle.fb_model.specs.History.{basis}
 use Rattle.disk_model.specs.Disk.{WhereTold, LeavesOnly}
 use Rattle.log_model.specs.Log.{IsLogOf}
@@ -14,8 +14,12 @@ use Rattle.fb_ports.specs.declared.hosts.Part.TheVariants.{Log, Segments}
 use Rattle.fb_ports.specs.Told.{Told}
 use Rattle.fb_ports.specs.Telling.{Same}
 use Rattle.fb_run.specs.declared.database.Directory.{Directory}
+use Rattle.fb_run.specs.declared.database.Disks.{Disks}
+use Rattle.fb_run.specs.declared.database.Obstacle.{Obstacle}
+use Rattle.fb_run.specs.declared.database.Obstacle.TheVariants.{Unopened, BadLog}
 use Rattle.fb_run.specs.declared.database.Unready.{Unready}
-use Rattle.fb_run.specs.declared.database.Unready.TheVariants.{CannotOpen, BadLog, Memory}
+use Rattle.fb_run.specs.declared.opening.Unopened.TheVariants.{CannotOpen, Memory}
+use Rattle.fb_run.specs.StatusLines.{Why, unopened, memory, why_not}
 use Rattle.fb_run.specs.Outside.{DiskTells, IsDiskOf}
 use Rattle.fb_run.specs.Logs.{IsUnharmed}
 
@@ -35,6 +39,7 @@ pub record IsReopened {D : Type 0} {g : _} (disks : DiskTells D) (disk : D)
   pub core : CoreStands directory.core
   pub fresh : directory.core.authors ≡ []
   pub recovered : directory.recovered ≡ basis directory.core.snapshot.entries
+  pub covered : directory.core.snapshot.covered ≡ 0
   pub keeps : KeepsHistory disks.bytes disks.images disks.faults disks.moment disks.images_since
       directory.log directory.core.snapshot.entries directory.log
   pub count : count_in directory.log ≡ directory.recovered
@@ -43,6 +48,9 @@ pub record IsReopened {D : Type 0} {g : _} (disks : DiskTells D) (disk : D)
   pub any_moment : WhereTold (disks.bytes disk) (λ _. LeavesOnly disks.moment disks.images_since
       disk (disk_in directory.log)
       (λ image. disks.images disk image ⊎ IsLogOf image directory.core.snapshot.entries))
+  pub unharmed : WhereTold (disks.bytes disk) (λ file. LeavesOnly disks.moment disks.images_since
+      disk (disk_in directory.log)
+      (λ image. disks.images disk image ⊎ ((length file ≤ 16) × (length image ≤ 16))))
 
 -- the directory's disks are as the host told of them, and the log was reopened
 pub record IsOpened {D : Type 0} {g : _} (told : Told) (disks : DiskTells D) (dir : List ℕ)
@@ -52,37 +60,73 @@ pub record IsOpened {D : Type 0} {g : _} (told : Told) (disks : DiskTells D) (di
   pub segments : IsDiskOf told disks dir Segments directory.segments
   pub reopened : IsReopened disks disk directory
 
--- what is wrong with the log over a disk: the disk's file says so, or its count rose
-pub record IsRefusal {D : Type 0} (disks : DiskTells D) (disk : D) (fault : OpenFault) (log : D)
+-- its disks
+abbrev pub disks_in : {D : Type 0} {g : _} → Directory D g → Disks D
+disks_in directory = record { log = disk_in directory.log; segments = directory.segments }
+
+-- ---- why a command can't begin
+
+abbrev pub why_unready : Obstacle → Why
+why_unready (Unopened (CannotOpen name)) = unopened name.now
+why_unready (Unopened Memory) = memory
+why_unready (BadLog fault) = why_not fault
+
+-- the log over a disk is not that of a database: the disk's file says so, or its count rose
+pub record IsRefused {D : Type 0} (disks : DiskTells D) (disk segments : D) (unready : Unready D)
     : Type 0 where
+  pub fault : OpenFault
+  pub log : D
+  pub is : unready ≡ record {
+    why = BadLog fault;
+    disks = Some (record { log = log; segments = segments });
+  }
   pub cause : WhereTold (disks.bytes disk) (IsCause fault)
   pub counted : CountsOpening fault (disks.faults disk) (disks.faults log)
-  pub any_moment : WhereTold (disks.bytes disk) (λ file. LeavesOnly disks.moment disks.images_since
+  pub unharmed : WhereTold (disks.bytes disk) (λ file. LeavesOnly disks.moment disks.images_since
       disk log (λ image. disks.images disk image ⊎ ((length file ≤ 16) × (length image ≤ 16))))
 
-abbrev pub IsRefused : {D : Type 0} → DiskTells D → D → Unready D → Type 0
-IsRefused disks disk (CannotOpen name) = ⊥
-IsRefused disks disk (BadLog fault log segments) = IsRefusal disks disk fault log
-IsRefused disks disk Memory = ⊥
+-- the host could not open a part of the directory, and no disk is left
+abbrev pub IsUnopenedBy : Told → Told → List ℕ → Obstacle → Type 0
+IsUnopenedBy old new dir (Unopened (CannotOpen name)) =
+    (name.now ≡ dir) × Rose old.faults new.faults
+IsUnopenedBy old new dir (Unopened Memory) = Unit {0}
+IsUnopenedBy old new dir (BadLog fault) = ⊥
 
--- the same in what the host told of the disk
-pub record IsBadLog {D : Type 0} (told : Told) (disks : DiskTells D) (dir : List ℕ)
-    (fault : OpenFault) (log : D) : Type 0 where
-  pub cause : WhereTold (told.disks dir Log) (IsCause fault)
-  pub counted : CountsOpening fault (told.disk_faults dir Log) (disks.faults log)
-  pub unharmed : IsUnharmed told disks dir log
-
--- the host could not open a part of the directory
 abbrev pub IsUnopenedPart : {D : Type 0} → Told → Told → List ℕ → Unready D → Type 0
-IsUnopenedPart old new dir (CannotOpen name) = (name.now ≡ dir) × Rose old.faults new.faults
-IsUnopenedPart old new dir (BadLog fault log segments) = ⊥
-IsUnopenedPart old new dir Memory = Unit {0}
+IsUnopenedPart old new dir unready =
+    (unready.disks ≡ None) × IsUnopenedBy old new dir unready.why
 
--- why a run in the directory can't begin: the host could not open what has one of these names, or the log is bad
-abbrev pub IsUnready : {D : Type 0} → Told → Told → DiskTells D → List ℕ → List (List ℕ)
-    → Unready D → Type 0
-IsUnready old new disks dir names (CannotOpen name) =
-    ((place : ℕ) × (slice_get names place ≡ Some name.now)) × Rose old.faults new.faults
-IsUnready old new disks dir names (BadLog fault log segments) =
-    (new.faults ≡ old.faults) × IsBadLog old disks dir fault log
-IsUnready old new disks dir names Memory = Unit {0}
+-- the log is unharmed, and nothing was asked of the segments' disk
+pub record AreUnharmed {D : Type 0} (told : Told) (disks : DiskTells D) (dir : List ℕ)
+    (both : Disks D) : Type 0 where
+  pub log : IsUnharmed told disks dir both.log
+  pub segments : IsDiskOf told disks dir Segments both.segments
+
+-- the log is bad, in the words of what the host told of its disk
+pub record IsBadLog {D : Type 0} (told : Told) (disks : DiskTells D) (dir : List ℕ)
+    (fault : OpenFault) (left : Option (Disks D)) : Type 0 where
+  pub both : Disks D
+  pub is : left ≡ Some both
+  pub cause : WhereTold (told.disks dir Log) (IsCause fault)
+  pub counted : CountsOpening fault (told.disk_faults dir Log) (disks.faults both.log)
+
+-- The disks of the directory, which is the first of the names, are left where what has a later name was not opened.
+abbrev pub LeavesBehind : {D : Type 0} → ℕ → Option (Disks D) → Type 0
+LeavesBehind zero left = left ≡ None
+LeavesBehind (suc place) left = IsSome left
+
+-- the host could not open what has one of these names, or the log is bad
+abbrev pub IsObstacle : {D : Type 0} → Told → Told → DiskTells D → List ℕ → List (List ℕ)
+    → Option (Disks D) → Obstacle → Type 0
+IsObstacle old new disks dir names left (Unopened (CannotOpen name)) =
+    ((place : ℕ) × (slice_get names place ≡ Some name.now) × LeavesBehind place left)
+    × Rose old.faults new.faults
+IsObstacle old new disks dir names left (Unopened Memory) = Unit {0}
+IsObstacle old new disks dir names left (BadLog fault) =
+    (new.faults ≡ old.faults) × IsBadLog old disks dir fault left
+
+-- why a command over the directory can't begin, and what is left of its disks
+pub record IsUnready {D : Type 0} (old new : Told) (disks : DiskTells D) (dir : List ℕ)
+    (names : List (List ℕ)) (unready : Unready D) : Type 0 where
+  pub why : IsObstacle old new disks dir names unready.disks unready.why
+  pub unharmed : IfSome unready.disks (AreUnharmed old disks dir)

@@ -8,4 +8,5 @@ pub mod Logs
 pub mod Causes
 pub mod Complete
 pub mod Database
+pub mod Looking
 pub mod Running

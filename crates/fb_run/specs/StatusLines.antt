@@ -10,7 +10,14 @@ use Rattle.fb_recover.specs.declared.faults.OpenFault.TheVariants.{Disk, BadLog,
 use Rattle.fb_session.specs.declared.outcome.SessionEnd.{SessionEnd}
 use Rattle.fb_session.specs.declared.outcome.SessionEnd.TheVariants.{Done, Script, TooLong, TooMany, ReadFault, WriteFault, Memory}
 
--- ---- lines
+-- ---- the line of a look at a directory: the basis of its history, and the t up to which it stands in trees
+
+abbrev pub history_line : ℕ → ℕ → List ℕ
+history_line basis covered =
+    codes "{:basis "
+    ++ (decimal basis ++ (codes " :covered " ++ (decimal covered ++ codes "}\n")))
+
+-- ---- the lines of standard error
 
 abbrev pub usage_line : List ℕ
 usage_line = codes "factbase: usage: factbase run [--merge-at N] DIR SCRIPT.. | check DIR | load N"
@@ -40,6 +47,10 @@ law_line t law =
 
 abbrev pub stopped_line : ℕ → List ℕ
 stopped_line t = codes "factbase: log stopped at t " ++ decimal t
+
+-- what went wrong with the console
+abbrev pub console_fault : List ℕ
+console_fault = codes "factbase: console: write fault"
 
 -- what went wrong with a script
 abbrev pub script_line : List ℕ → List ℕ → List ℕ
@@ -81,6 +92,8 @@ line_of_end name Memory = out_of_memory
 pub data Why : Type 0 where
   -- each script was answered
   answered : Why
+  -- the history of the directory was told on the console
+  looked : Why
   -- the words are no command
   usage : Why
   -- the host could not open what has this name
@@ -93,29 +106,35 @@ pub data Why : Type 0 where
   unlawful : ℕ → ℕ → Why
   -- the session of the script with this name is the first, by number, that did not answer all of it
   ended_early : List ℕ → SessionEnd → Why
+  -- the console did not take the whole line
+  console_failed : Why
   -- the log did not take the entry of this t
   log_stopped : ℕ → Why
   memory : Why
 
 abbrev pub status_of : Why → ℕ
 status_of answered = 0
+status_of looked = 0
 status_of usage = 1
 status_of (unopened name) = 2
 status_of (disk_failed part) = 3
 status_of (bad_record nth at) = 4
 status_of (unlawful t law) = 4
 status_of (ended_early name how) = status_of_end how
+status_of console_failed = 6
 status_of (log_stopped t) = 7
 status_of memory = 9
 
 abbrev pub line_of : Why → List ℕ
 line_of answered = []
+line_of looked = []
 line_of usage = usage_line
 line_of (unopened name) = cannot_open name
 line_of (disk_failed part) = disk_fault part
 line_of (bad_record nth at) = record_line nth at
 line_of (unlawful t law) = law_line t law
 line_of (ended_early name how) = line_of_end name how
+line_of console_failed = console_fault
 line_of (log_stopped t) = stopped_line t
 line_of memory = out_of_memory
 

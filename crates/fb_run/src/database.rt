@@ -1,15 +1,17 @@
 //! The database that a directory keeps: what opening its two disks gives, and the connection of sessions to it.
-ghost use Rattle.std.specs.Prelude.{◌≡◌, ◌<◌, ◌≤◌, ◌∷◌, [], IfOk, IfErr};
+ghost use Rattle.std.specs.Prelude.{◌≡◌, ◌<◌, ◌≤◌, ◌∷◌, [], ℕ, List, IfOk, IfErr};
 ghost use Rattle.board_rule.specs.Calls.{view_of};
 ghost use Rattle.fb_conn.specs.Seats.{begun_of};
 ghost use Rattle.disk_log.specs.Logs.{KeepsHistory};
 ghost use Rattle.fb_ports.specs.Telling.{StaysButDisk};
 ghost use Rattle.fb_run.specs.Outside.{disks_of, IsDiskOf};
 ghost use Rattle.fb_run.specs.Merging.{CanWork};
-ghost use Rattle.fb_run.specs.Database.{SameStreams, IsReopened, IsRefused, IsOpened, IsUnopenedPart, IsUnready};
+ghost use Rattle.fb_run.specs.Database.{SameStreams, IsReopened, IsRefused, IsOpened, IsUnopenedPart, IsUnready, disks_in};
 ghost use Rattle.fb_run.specs.Running.{IsMade};
 
+use crate::lines::Reach;
 use crate::merging::Worker;
+use crate::opening::Unopened;
 use disk_log::DiskLog;
 use fb_conn::{Conn, Made, Seat};
 use fb_core::Core;
@@ -19,6 +21,13 @@ use fb_ports::{Host, OpenFail, Part};
 use fb_recover::{OpenFault, OpenStop, Opened, reopen};
 use merge_worker::{Base, WorkEnd};
 use std::alloc::Global;
+
+/// The two disks of a directory.
+#[derive(Drop)]
+pub(crate) struct Disks<D> {
+    pub(crate) log: D,
+    pub(crate) segments: D,
+}
 
 /// The database that the log of a directory holds, and the disk for its segments.
 #[derive(Drop)]
@@ -30,18 +39,43 @@ pub(crate) struct Directory<D: Disk> {
     pub(crate) recovered: u32,
 }
 
-/// Why a run can't begin.
+impl<D: Disk> Directory<D> {
+    /// How far its history goes, and how far its trees do.
+    pub(crate) fn reach(&self) -> Reach
+        ensures basis { result.basis ≡ self.now.recovered }
+        ensures covered { result.covered ≡ self.now.core.snapshot.covered }
+    {
+        Reach {
+            basis: self.recovered,
+            covered: self.core.covered(),
+        }
+    }
+
+    /// The disks, of which nothing was asked since the directory was opened.
+    pub(crate) fn into_disks(self) -> Disks<D>
+        ensures { result ≡ disks_in self }
+    {
+        Disks {
+            log: self.log.into_disk(),
+            segments: self.segments,
+        }
+    }
+}
+
+/// Why a command can't begin, and the disks that were opened for it.
 #[derive(Drop)]
-pub(crate) enum Unready<'a, D> {
-    /// The host could not open the directory of this name, or the source or the sink of the script.
-    CannotOpen(&'a str),
-    /// The log is not that of a database, or its disk failed. Both disks are handed back.
-    BadLog {
-        fault: OpenFault,
-        log: D,
-        segments: D,
-    },
-    Memory,
+pub(crate) struct Unready<'a, D> {
+    pub(crate) why: Obstacle<'a>,
+    /// None where one of them could not be opened.
+    pub(crate) disks: Option<Disks<D>>,
+}
+
+/// What keeps a command from beginning.
+#[derive(Drop)]
+pub(crate) enum Obstacle<'a> {
+    Unopened(Unopened<'a>),
+    /// The log is not that of a database, or its disk failed.
+    BadLog(OpenFault),
 }
 
 /// Opens both disks of a directory, and then the database.
@@ -54,9 +88,10 @@ pub(crate) fn open_directory<'a, H: Host>(
         (disks_of H.Disk.bytes H.Disk.faults H.Disk.images H.Disk.moment H.Disk.images_since)
         dir.now) }
     ensures streams { IfOk result (λ _. SameStreams (H.told host.old) (H.told host.new)) }
-    ensures stop { IfErr result (IsUnready (H.told host.old) (H.told host.new)
+    ensures stop { (names : List (List ℕ)) → IfErr result (IsUnready (H.told host.old)
+        (H.told host.new)
         (disks_of H.Disk.bytes H.Disk.faults H.Disk.images H.Disk.moment H.Disk.images_since)
-        dir.now (dir.now ∷ [])) }
+        dir.now (dir.now ∷ names)) }
 {
     let log = open_part(alloc, host, dir, Part::Log)?;
     let segments = open_part(alloc, host, dir, Part::Segments)?;
@@ -77,11 +112,15 @@ fn open_part<'a, H: Host>(
     ensures others { StaysButDisk dir.now part (H.told host.old) (H.told host.new) }
     ensures stop { IfErr result (IsUnopenedPart (H.told host.old) (H.told host.new) dir.now) }
 {
-    match host.disk(alloc, dir, part) {
-        Ok(disk) => Ok(disk),
-        Err(OpenFail::Failed) => Err(Unready::CannotOpen(dir)),
-        Err(OpenFail::Memory) => Err(Unready::Memory),
-    }
+    let why = match host.disk(alloc, dir, part) {
+        Ok(disk) => return Ok(disk),
+        Err(OpenFail::Failed) => Unopened::CannotOpen(dir),
+        Err(OpenFail::Memory) => Unopened::Memory,
+    };
+    Err(Unready {
+        why: Obstacle::Unopened(why),
+        disks: None,
+    })
 }
 
 /// Opens the database of a log.
@@ -90,7 +129,7 @@ fn reopened<'a, D: Disk>(alloc: Global, log: D, segments: D) -> Result<Directory
         (IsReopened (disks_of D.bytes D.faults D.images D.moment D.images_since) log) }
     ensures segments { IfOk result (λ directory. directory.segments ≡ segments) }
     ensures refused { IfErr result
-        (IsRefused (disks_of D.bytes D.faults D.images D.moment D.images_since) log) }
+        (IsRefused (disks_of D.bytes D.faults D.images D.moment D.images_since) log segments) }
 {
     match reopen(alloc, log) {
         Ok(
@@ -106,10 +145,12 @@ fn reopened<'a, D: Disk>(alloc: Global, log: D, segments: D) -> Result<Directory
             segments,
             recovered,
         }),
-        Err(OpenStop { fault, disk }) => Err(Unready::BadLog {
-            fault,
-            log: disk,
-            segments,
+        Err(OpenStop { fault, disk }) => Err(Unready {
+            why: Obstacle::BadLog(fault),
+            disks: Some(Disks {
+                log: disk,
+                segments,
+            }),
         }),
     }
 }

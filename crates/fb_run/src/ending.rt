@@ -1,23 +1,27 @@
 //! How a run ends: what became of the database, the status and the line.
 ghost use Rattle.std.specs.Prelude.{◌≡◌, ℕ, ◌≤◌, Bool, [], map, length, Some, None, is_err, slice_get, string_bytes, IfSome, IfOk, OnErr};
+ghost use Rattle.std.specs.Option.{option_map};
 ghost use Rattle.command_line.specs.Views.{names_in};
 ghost use Rattle.board_rule.specs.Calls.{view_of};
 ghost use Rattle.disk_log.specs.Logs.{disk_in, count_in};
 ghost use Rattle.fb_conn.specs.declared.seats.Seat.{Seat};
 ghost use Rattle.fb_conn.specs.Seats.{table_of, begun_of, IsAtRest, IsWorkerOf};
-ghost use Rattle.fb_run.specs.StatusLines.{first_early, why_of, why_not};
+ghost use Rattle.fb_run.specs.StatusLines.{first_early, why_of};
+ghost use Rattle.fb_run.specs.Database.{why_unready};
 ghost use Rattle.fb_run.specs.Outside.{disks_of};
 ghost use Rattle.fb_run.specs.Headline.{stop_of};
 ghost use Rattle.fb_run.specs.Causes.{HasNoConsole, HasNoDisk, NoSession, SaysWhy};
 ghost use Rattle.fb_run.specs.Merging.{HasNoFault, IsMerged};
 ghost use Rattle.fb_run.specs.Running.{Closes, LeavesDisks};
 
-use crate::database::Rest;
+use crate::database::{Disks, Obstacle, Rest, Unready};
 use crate::jobs::Ended;
 use crate::lines::{
-    line_of_end, line_of_fault, log_stopped, out_of_memory, status_of_end, status_of_fault,
+    cannot_open, line_of_end, line_of_fault, log_stopped, out_of_memory, status_of_end,
+    status_of_fault,
 };
 use crate::merging::{Worker, settled};
+use crate::opening::Unopened;
 use crate::outcome::{Outcome, SessionOut};
 use command_line::Run;
 use disk_log::DiskLog;
@@ -25,7 +29,6 @@ use fb_conn::{Closed, Conn};
 use fb_core::{CoreParts, Draft};
 use fb_disk::Disk;
 use fb_memory::Memory;
-use fb_recover::OpenFault;
 use fb_session::SessionEnd;
 use std::alloc::Global;
 use std::thread::Threads;
@@ -156,22 +159,43 @@ fn said_of_merges(alloc: Global, merged: &Result<(), Memory>) -> (u8, String)
     }
 }
 
-/// The outcome where the log was not opened.
-pub(crate) fn not_opened<I: Drop, O: Drop, D: Drop>(
+/// The outcome of a command that can't begin.
+pub(crate) fn not_begun<I: Drop, O: Drop, D: Drop>(
     alloc: Global,
-    fault: OpenFault,
-    log: D,
-    segments: D,
+    unready: Unready<'_, D>,
 ) -> Outcome<I, O, D>
     ensures none { NoSession result }
     ensures no_console { HasNoConsole result }
-    ensures disks { (result.log ≡ Some log) × (result.segments ≡ Some segments) }
-    ensures said { SaysWhy (why_not fault) result.status (string_bytes result.line) }
+    ensures log { result.log ≡ option_map (λ disks. disks.log) unready.entry.disks }
+    ensures segments { result.segments ≡ option_map (λ disks. disks.segments) unready.entry.disks }
+    ensures said { SaysWhy (why_unready unready.entry.why) result.status (string_bytes result.line) }
 {
+    let Unready { why, disks } = unready;
+    let (log, segments) = match disks {
+        Some(Disks { log, segments }) => (Some(log), Some(segments)),
+        None => (None, None),
+    };
     Outcome {
-        log: Some(log),
-        segments: Some(segments),
-        ..without_session(alloc, status_of_fault(fault), line_of_fault(alloc, fault))
+        log,
+        segments,
+        ..obstructed(alloc, why)
+    }
+}
+
+/// The outcome where this obstacle is all that there is to tell.
+fn obstructed<I: Drop, O: Drop, D: Drop>(alloc: Global, why: Obstacle<'_>) -> Outcome<I, O, D>
+    ensures none { NoSession result }
+    ensures no_console { HasNoConsole result }
+    ensures said { SaysWhy (why_unready why.entry) result.status (string_bytes result.line) }
+{
+    match why {
+        Obstacle::Unopened(Unopened::CannotOpen(name)) => {
+            without_session(alloc, 2, cannot_open(alloc, name))
+        }
+        Obstacle::Unopened(Unopened::Memory) => { without_session(alloc, 9, out_of_memory(alloc)) }
+        Obstacle::BadLog(fault) => {
+            without_session(alloc, status_of_fault(fault), line_of_fault(alloc, fault))
+        }
     }
 }
 

@@ -6,6 +6,7 @@ mod database;
 mod ending;
 mod jobs;
 mod lines;
+mod looking;
 mod merging;
 mod opening;
 mod outcome;

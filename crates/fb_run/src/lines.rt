@@ -1,7 +1,7 @@
-//! The lines of standard error.
+//! The lines of standard error, and that of a look at a directory.
 ghost use Rattle.std.specs.Prelude.{◌≡◌, ◌++◌, IfOk, string_bytes, codes, decimal};
 ghost use Rattle.edn_core.specs.Answers.{fault_of};
-ghost use Rattle.fb_run.specs.StatusLines.{usage_line, cannot_open, out_of_memory, disk_fault, record_line, law_line, stopped_line, script_line, fault_line, status_of_end, line_of_end, status_of, line_of, why_not};
+ghost use Rattle.fb_run.specs.StatusLines.{usage_line, cannot_open, out_of_memory, disk_fault, record_line, law_line, stopped_line, console_fault, history_line, script_line, fault_line, status_of_end, line_of_end, status_of, line_of, why_not};
 ghost use Rattle.fb_ports.specs.declared.hosts.Part.TheVariants.{Log};
 
 use edn_core::EdnFault;
@@ -16,6 +16,15 @@ const USAGE: &str =
 const OUT_OF_MEMORY: &str = "factbase: out of memory";
 
 const LOG_DISK_FAULT: &str = "factbase: disk fault on log";
+
+const CONSOLE_FAULT: &str = "factbase: console: write fault";
+
+/// How far a history goes, and how far its trees do.
+#[derive(Clone, Copy)]
+pub(crate) struct Reach {
+    pub(crate) basis: u32,
+    pub(crate) covered: u32,
+}
 
 pub(crate) fn usage(alloc: Global) -> Result<String, Memory>
     ensures { IfOk result (λ line. string_bytes line ≡ usage_line) }
@@ -62,6 +71,20 @@ fn unlawful(alloc: Global, t: u32, law: u8) -> Result<String, Memory>
     ensures { IfOk result (λ line. string_bytes line ≡ law_line t law) }
 {
     Ok(format!(in alloc; "factbase: bad log: t {t} breaks law {law}")?)
+}
+
+/// What a look at a directory tells of its history.
+pub(crate) fn history_line(alloc: Global, reach: Reach) -> Result<String, Memory>
+    ensures { IfOk result (λ line. string_bytes line ≡ history_line reach.basis reach.covered) }
+{
+    let Reach { basis, covered } = reach;
+    Ok(format!(in alloc; "{{:basis {basis} :covered {covered}}}\n")?)
+}
+
+pub(crate) fn console_fault(alloc: Global) -> Result<String, Memory>
+    ensures { IfOk result (λ line. string_bytes line ≡ console_fault) }
+{
+    Ok(String::from_str(alloc, CONSOLE_FAULT)?)
 }
 
 /// The line for the t that the log did not take.

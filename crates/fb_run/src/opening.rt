@@ -7,7 +7,7 @@ ghost use Rattle.fb_run.specs.Outside.{tells_of, disks_of};
 ghost use Rattle.fb_run.specs.Database.{IsOpened, IsUnready};
 ghost use Rattle.fb_run.specs.Opening.{AddsSource, OpensSources, OpensSink, AddsSession, AddsSessions, HasOpened, IsNotOpened, IsUnopened};
 
-use crate::database::{Directory, Unready, open_directory};
+use crate::database::{Directory, Obstacle, Unready, open_directory};
 use crate::outcome::SessionOut;
 use command_line::{Run, sink_name};
 use fb_disk::Disk;
@@ -48,15 +48,17 @@ pub(crate) fn open_run<'a, H: Host>(
             directory,
             sessions,
         }),
-        Err(Unopened::CannotOpen(name)) => Err(Unready::CannotOpen(name)),
-        Err(Unopened::Memory) => Err(Unready::Memory),
+        Err(why) => Err(Unready {
+            why: Obstacle::Unopened(why),
+            disks: Some(directory.into_disks()),
+        }),
     }
 }
 
-/// Why not all was opened that the scripts need.
+/// Why not all was opened that a command needs.
 #[derive(Drop)]
 pub(crate) enum Unopened<'a> {
-    /// The host could not open the source or the sink of this script.
+    /// The host could not open the directory of this name, the console, or the source or the sink of a script.
     CannotOpen(&'a str),
     Memory,
 }
@@ -189,7 +191,7 @@ fn add_session<'a, H: Host>(
 }
 
 /// Opens the sink for the lines of a script.
-fn open_sink<'a, H: Host>(
+pub(crate) fn open_sink<'a, H: Host>(
     alloc: Global,
     host: &mut H,
     name: &'a str,

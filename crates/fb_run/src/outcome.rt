@@ -17,7 +17,7 @@ pub struct SessionOut<I, O> {
     pub commits: Places,
 }
 
-/// What a run hands back. The parts of a console and a generator are empty until the program has these.
+/// What a command hands back. The sessions of a generator are none until the program has one.
 #[derive(Drop)]
 pub struct Outcome<I, O, D> {
     /// The program's exit status.
@@ -26,11 +26,11 @@ pub struct Outcome<I, O, D> {
     pub line: String,
     /// One for each script, in order.
     pub sessions: Vec<SessionOut<I, O>>,
-    /// Where a command's own answer was written.
+    /// Where the answer of a look at a directory was written, in whole or in part.
     pub console: Option<O>,
     /// The sessions of a generator.
     pub loads: Vec<SessionOut<MemSource, MemSink>>,
-    /// The two disks of the directory, where sessions ran, and where its log was not opened.
+    /// The two disks of the directory, where it was opened. Want of memory may keep them.
     pub log: Option<D>,
     pub segments: Option<D>,
     /// For each t behind the opening's the number of its session, where sessions ran.
@@ -39,7 +39,7 @@ pub struct Outcome<I, O, D> {
     pub last: Option<Snapshot>,
     /// The transaction whose entry the log did not take, and may have in part.
     pub torn: Option<Draft>,
-    /// The t up to which the history was there at the opening.
+    /// The t up to which the history was there at the opening, where sessions ran.
     pub recovered: u32,
     /// The last t in the trees of the last value.
     pub covered: u32,

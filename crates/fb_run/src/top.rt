@@ -6,27 +6,28 @@ ghost use Rattle.fb_model.specs.History.{basis, upto};
 ghost use Rattle.disk_model.specs.Disk.{WhereTold};
 ghost use Rattle.log_model.specs.Log.{IsLogOf};
 ghost use Rattle.command_line.specs.Words.{are_scripts, command_of, scripts_of, merge_at_of};
-ghost use Rattle.command_line.specs.Views.{names_in, command_by};
+ghost use Rattle.command_line.specs.Views.{names_in, run_by};
 ghost use Rattle.disk_log.specs.Logs.{disk_in};
 ghost use Rattle.talk_model.specs.Prefixes.{Prefixes};
 ghost use Rattle.fb_ports.specs.declared.hosts.Part.{Part};
 ghost use Rattle.fb_session.specs.Sessions.{terms_of};
-ghost use Rattle.fb_run.specs.Outside.{tells_of, disks_of};
+ghost use Rattle.fb_run.specs.Outside.{tells_of, disks_of, IsDiskOf};
 ghost use Rattle.fb_run.specs.Headline.{OneHistory, stop_of, EachReplies};
-ghost use Rattle.fb_run.specs.Logs.{LogHolds};
+ghost use Rattle.fb_run.specs.Logs.{LogHolds, IsUnharmed};
 ghost use Rattle.fb_run.specs.Causes.{directory_of, HasNoConsole, HasNoDisk, NoSession, IsOutOfMemory, Causes};
 ghost use Rattle.fb_run.specs.Complete.{Complete};
 ghost use Rattle.fb_run.specs.Merging.{IsMerged};
 ghost use Rattle.fb_run.specs.Database.{IsReopened};
 ghost use Rattle.fb_run.specs.Running.{RepliesBy, HaveEnded, LeavesDisks, GoesOnFrom};
 
-use crate::database::{Connection, Unready, connected};
-use crate::ending::{closed, not_opened, without_session};
+use crate::database::{Connection, connected};
+use crate::ending::{closed, not_begun, without_session};
 use crate::jobs::serve_all;
-use crate::lines::{cannot_open, out_of_memory, usage};
+use crate::lines::{out_of_memory, usage};
+use crate::looking::check_directory;
 use crate::opening::{Ready, open_run};
 use crate::outcome::{Outcome, SessionOut};
-use command_line::{Run, command_in};
+use command_line::{Request, Run, command_in};
 use fb_core::Guard;
 use fb_disk::Disk;
 use fb_memory::Memory;
@@ -108,11 +109,22 @@ pub fn run<
         → IfSome (merge_at_of (command_of (map string_bytes words.now.items)))
         (λ merge_at. IsMerged merge_at last)) }
 
-    // The parts that nothing fills yet.
-    ensures no_console { HasNoConsole result }
+    // Where no session ran, the log is unharmed; and of the segments' disk nothing was asked.
+    ensures unharmed { result.last ≡ None → IfSome result.log (IsUnharmed (H.told host.old)
+        (disks_of H.Disk.bytes H.Disk.faults H.Disk.images H.Disk.moment H.Disk.images_since)
+        (directory_of (command_of (map string_bytes words.now.items)))) }
+    ensures segments { IfSome result.segments (IsDiskOf (H.told host.old)
+        (disks_of H.Disk.bytes H.Disk.faults H.Disk.images H.Disk.moment H.Disk.images_since)
+        (directory_of (command_of (map string_bytes words.now.items))) Part.Segments) }
+
+    // Nothing fills these yet.
+    ensures no_loads { result.loads.items ≡ [] }
 {
     match command_in(alloc, words.as_slice()) {
-        Ok(Some(command)) => run_command(rt, alloc, &command, host, clock, preds, guard, gate),
+        Ok(Some(Request::Run(command))) => {
+            run_command(rt, alloc, &command, host, clock, preds, guard, gate)
+        }
+        Ok(Some(Request::Check(directory))) => check_directory(alloc, host, directory),
         Ok(None) => without_session(alloc, 1, usage(alloc)),
         Err(Memory) => without_session(alloc, 9, out_of_memory(alloc)),
     }
@@ -158,7 +170,13 @@ fn run_command<
     ensures causes { Causes (H.told host.old)
         (tells_of H.In.left H.In.faults H.Out.contents H.Out.faults)
         (disks_of H.Disk.bytes H.Disk.faults H.Disk.images H.Disk.moment H.Disk.images_since)
-        (H.told host.new).faults (Some (command_by command.now)) result }
+        (H.told host.new).faults (Some (run_by command.now)) result }
+    ensures unharmed { result.last ≡ None → IfSome result.log (IsUnharmed (H.told host.old)
+        (disks_of H.Disk.bytes H.Disk.faults H.Disk.images H.Disk.moment H.Disk.images_since)
+        command.now.directory.now) }
+    ensures segments { IfSome result.segments (IsDiskOf (H.told host.old)
+        (disks_of H.Disk.bytes H.Disk.faults H.Disk.images H.Disk.moment H.Disk.images_since)
+        command.now.directory.now Part.Segments) }
     ensures covered { IfSome result.last (λ last. result.covered ≡ last.covered) }
     ensures merged { IfSome result.last
         (λ last. result.status ≡ 0 → IsMerged command.now.options.merge_at last) }
@@ -166,15 +184,7 @@ fn run_command<
 {
     match open_run(alloc, host, command) {
         Ok(ready) => run_opened(rt, alloc, command, ready, clock, preds, guard, gate),
-        Err(Unready::CannotOpen(name)) => without_session(alloc, 2, cannot_open(alloc, name)),
-        Err(
-            Unready::BadLog {
-                fault,
-                log,
-                segments,
-            },
-        ) => not_opened(alloc, fault, log, segments),
-        Err(Unready::Memory) => without_session(alloc, 9, out_of_memory(alloc)),
+        Err(unready) => not_begun(alloc, unready),
     }
 }
 
@@ -216,6 +226,7 @@ fn run_opened<
     ensures disks { IfSome result.last (λ last. LeavesDisks
         (disks_of D.bytes D.faults D.images D.moment D.images_since) ready.directory.recovered
         (disk_in ready.directory.log) ready.directory.segments last.entries result) }
+    ensures none { result.last ≡ None → HasNoDisk result }
     ensures ended { (NoSession result × IsOutOfMemory result) ⊎ HaveEnded
         (tells_of I.left I.faults O.contents O.faults) (names_in command.now.scripts.items)
         ready.sessions.items result }

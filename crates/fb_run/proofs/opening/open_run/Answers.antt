@@ -1,10 +1,9 @@
-use Rattle.std.proofs.Common.{◌≡◌, subst, suc, Some}
-use Rattle.std.specs.Prelude.{slice_get}
+use Rattle.std.proofs.Common.{sym, subst}
 use Rattle.command_line.specs.Views.{names_in}
-use Rattle.fb_ports.specs.Faults.{Rose}
-use Rattle.fb_run.specs.Outside.{tells_of}
-use Rattle.fb_run.specs.Opening.{HasOpened}
-use Rattle.fb_run.proofs.Directories.{opened_over}
+use Rattle.fb_run.specs.Outside.{tells_of, disks_of}
+use Rattle.fb_run.specs.Opening.{HasOpened, IsUnopened}
+use Rattle.fb_run.specs.Database.{AreUnharmed}
+use Rattle.fb_run.proofs.Directories.{opened_over, opened_unharmed, unready_later}
 use Rattle.fb_run.proofs.opening.open_run.Goals as goal
 
 pub returns-in-Ok-clause-sessions : goal.returns-in-Ok-clause-sessions
@@ -16,9 +15,15 @@ returns-in-Ok-clause-sessions g c =
     opened_over tells (g.H.Host.told c.args.host.now) mid c.in_ok-directory.ensures.streams (names_in c.args.command.now.scripts.items) new
     c.in-Ok.sessions.items ours
 
-pub returns-in-Err-CannotOpen-clause-stop : goal.returns-in-Err-CannotOpen-clause-stop
-returns-in-Err-CannotOpen-clause-stop g c =
+pub returns-in-Err-clause-stop : goal.returns-in-Err-clause-stop
+returns-in-Err-clause-stop g c =
+    let disks = disks_of g.H.Disk.Disk.bytes g.H.Disk.Disk.faults g.H.Disk.Disk.images g.H.Disk.Disk.moment g.H.Disk.Disk.images_since in
+    let old = g.H.Host.told c.args.host.now in
+    let mid = g.H.Host.told c.open_directory.new.host in
     let new = g.H.Host.told c.open_all.new.host in
-    let stop = rw c.in-Err-CannotOpen.field-0-is at c.in-Err-CannotOpen.ensures.stop in
-    let named = subst (λ l. slice_get (names_in l) stop.0.0 ≡ Some c.in-Err-CannotOpen.name.now) c.as_slice.ensures.value stop.0.1 in
-    ((suc stop.0.0, named), subst (λ n. Rose n new.faults) c.in_ok-directory.ensures.streams.faults stop.1)
+    let dir = c.args.command.now.directory.now in
+    let not = subst (λ l. IsUnopened (names_in l) mid new c.in-Err.why) c.as_slice.ensures.value c.in-Err.ensures.stop in
+    let both = subst (λ d. AreUnharmed old disks dir d) (sym c.into_disks.ensures)
+    (opened_unharmed old disks dir c.in_ok-directory.directory c.in_ok-directory.ensures.opened) in
+    unready_later disks dir (names_in c.args.command.now.scripts.items) old mid new c.into_disks.result c.in-Err.why
+    c.in_ok-directory.ensures.streams.faults both not

@@ -2,7 +2,7 @@ use Rattle.std.proofs.Common.{◌∙◌, ap, subst, refl, Some, map}
 use Rattle.std.specs.Prelude.{IfSome, string_bytes}
 use Rattle.fb_session.specs.Sessions.{terms_of}
 use Rattle.command_line.specs.Words.{command_of, scripts_of}
-use Rattle.command_line.specs.Views.{command_by}
+use Rattle.command_line.specs.Views.{run_by}
 use Rattle.fb_run.specs.Outside.{tells_of, disks_of}
 use Rattle.fb_model.specs.History.{upto}
 use Rattle.disk_model.specs.Disk.{WhereTold}
@@ -13,59 +13,63 @@ use Rattle.fb_run.specs.Logs.{LogHolds}
 use Rattle.fb_run.specs.Headline.{stop_of, EachReplies}
 use Rattle.fb_run.specs.Complete.{Complete}
 use Rattle.fb_run.proofs.Causing.{caused_by_usage, caused_by_words, says_line, says_memory}
-use Rattle.fb_run.proofs.Completing.{complete_command}
+use Rattle.fb_run.proofs.Completing.{complete_command, complete_look}
 use Rattle.fb_run.proofs.top.run.Goals as goal
 
-pub returns-in-Ok-Some-clause-replies : goal.returns-in-Ok-Some-clause-replies
-returns-in-Ok-Some-clause-replies g c =
+pub returns-in-Ok-Some-Run-clause-replies : goal.returns-in-Ok-Some-Run-clause-replies
+returns-in-Ok-Some-Run-clause-replies g c =
     let terms = terms_of (g.K.Clock.may_answer c.args.clock.now) (g.G.Guard.bars c.args.guard.now) (g.P.FilterTable.place_of
     c.args.preds.now) (g.P.FilterTable.selects_at c.args.preds.now) in
     let tells = tells_of g.H.In.Source.left g.H.In.Source.faults g.H.Out.Sink.contents g.H.Out.Sink.faults in
-    let is = rw c.in-Ok-Some.field-0-is at c.in-Ok-Some.ensures.run in
+    let some = rw c.in-Ok-Some-Run.field-0-is at c.in-Ok-Some-Run.ensures.asks in
+    let is = rw c.in-Ok-Some-Run.field-0-0-is at some in
     let r = c.run_command.result in
     subst (λ command. IfSome r.last (λ last. EachReplies terms (g.H.Host.told c.args.host.now) tells r.recovered (stop_of r.torn)
     (scripts_of command) r.sessions.items last.entries))
     (is ∙ ap (λ ws. command_of (map string_bytes ws)) c.as_slice.ensures.value) c.run_command.ensures.replies
 
-pub returns-in-Ok-Some-clause-opening : goal.returns-in-Ok-Some-clause-opening
-returns-in-Ok-Some-clause-opening g c =
-    let is = rw c.in-Ok-Some.field-0-is at c.in-Ok-Some.ensures.run in
+pub returns-in-Ok-Some-Run-clause-opening : goal.returns-in-Ok-Some-Run-clause-opening
+returns-in-Ok-Some-Run-clause-opening g c =
+    let some = rw c.in-Ok-Some-Run.field-0-is at c.in-Ok-Some-Run.ensures.asks in
+    let is = rw c.in-Ok-Some-Run.field-0-0-is at some in
     let r = c.run_command.result in
     subst (λ command. IfSome r.last (λ last. WhereTold ((g.H.Host.told c.args.host.now).disks (directory_of command) part.Log)
     (λ file. IsLogOf file (upto last.entries r.recovered))))
     (is ∙ ap (λ ws. command_of (map string_bytes ws)) c.as_slice.ensures.value) c.run_command.ensures.opening
 
-pub returns-in-Ok-Some-clause-log : goal.returns-in-Ok-Some-clause-log
-returns-in-Ok-Some-clause-log g c =
+pub returns-in-Ok-Some-Run-clause-log : goal.returns-in-Ok-Some-Run-clause-log
+returns-in-Ok-Some-Run-clause-log g c =
     let disks = disks_of g.H.Disk.Disk.bytes g.H.Disk.Disk.faults g.H.Disk.Disk.images g.H.Disk.Disk.moment g.H.Disk.Disk.images_since in
-    let is = rw c.in-Ok-Some.field-0-is at c.in-Ok-Some.ensures.run in
+    let some = rw c.in-Ok-Some-Run.field-0-is at c.in-Ok-Some-Run.ensures.asks in
+    let is = rw c.in-Ok-Some-Run.field-0-0-is at some in
     let r = c.run_command.result in
     subst (λ command. IfSome r.last (λ last. IfSome r.log (LogHolds (g.H.Host.told c.args.host.now) disks (directory_of command)
     last.entries r.recovered r.torn)))
     (is ∙ ap (λ ws. command_of (map string_bytes ws)) c.as_slice.ensures.value) c.run_command.ensures.log
 
-pub returns-in-Ok-Some-clause-complete : goal.returns-in-Ok-Some-clause-complete
-returns-in-Ok-Some-clause-complete g c =
+pub returns-in-Ok-Some-Run-clause-complete : goal.returns-in-Ok-Some-Run-clause-complete
+returns-in-Ok-Some-Run-clause-complete g c =
     let terms = terms_of (g.K.Clock.may_answer c.args.clock.now) (g.G.Guard.bars c.args.guard.now) (g.P.FilterTable.place_of
     c.args.preds.now) (g.P.FilterTable.selects_at c.args.preds.now) in
     let tells = tells_of g.H.In.Source.left g.H.In.Source.faults g.H.Out.Sink.contents g.H.Out.Sink.faults in
     let disks = disks_of g.H.Disk.Disk.bytes g.H.Disk.Disk.faults g.H.Disk.Disk.images g.H.Disk.Disk.moment g.H.Disk.Disk.images_since in
-    let is = rw c.in-Ok-Some.field-0-is at c.in-Ok-Some.ensures.run in
+    let some = rw c.in-Ok-Some-Run.field-0-is at c.in-Ok-Some-Run.ensures.asks in
+    let is = rw c.in-Ok-Some-Run.field-0-0-is at some in
     let r = c.run_command.result in
     let new = (g.H.Host.told c.run_command.new.host).faults in
     subst (λ command. Complete terms (g.H.Host.told c.args.host.now) tells disks new command r) (is ∙ ap (λ ws. command_of (map string_bytes
     ws)) c.as_slice.ensures.value)
-    (complete_command terms (g.H.Host.told c.args.host.now) tells disks new (Some (command_by c.in-Ok-Some.command)) r _ _
+    (complete_command terms (g.H.Host.told c.args.host.now) tells disks new (Some (run_by c.in-Ok-Some-Run.command)) r _ _
     c.run_command.ensures.one_history c.run_command.ensures.replies c.run_command.ensures.log c.run_command.ensures.causes)
 
 pub returns-in-Ok-None-clause-causes : goal.returns-in-Ok-None-clause-causes
 returns-in-Ok-None-clause-causes g c =
     let tells = tells_of g.H.In.Source.left g.H.In.Source.faults g.H.Out.Sink.contents g.H.Out.Sink.faults in
     let disks = disks_of g.H.Disk.Disk.bytes g.H.Disk.Disk.faults g.H.Disk.Disk.images g.H.Disk.Disk.moment g.H.Disk.Disk.images_since in
-    let is = rw c.in-Ok-None.field-0-is at c.in-Ok-None.ensures.run in
+    let is = rw c.in-Ok-None.field-0-is at c.in-Ok-None.ensures.asks in
     caused_by_usage (g.H.Host.told c.args.host.now) tells disks _ c.without_session.result _ (is ∙ ap (λ ws. command_of (map string_bytes
     ws)) c.as_slice.ensures.value) refl
-    c.without_session.ensures.none c.without_session.ensures.no_disk
+    c.without_session.ensures.none c.without_session.ensures.no_disk c.without_session.ensures.no_console.console
     (says_line string_bytes c.usage.result 1 _ _ _ c.without_session.ensures.said c.without_session.ensures.unsaid c.usage.ensures)
 
 pub returns-in-Err-clause-causes : goal.returns-in-Err-clause-causes
@@ -73,6 +77,20 @@ returns-in-Err-clause-causes g c =
     let tells = tells_of g.H.In.Source.left g.H.In.Source.faults g.H.Out.Sink.contents g.H.Out.Sink.faults in
     let disks = disks_of g.H.Disk.Disk.bytes g.H.Disk.Disk.faults g.H.Disk.Disk.images g.H.Disk.Disk.moment g.H.Disk.Disk.images_since in
     caused_by_words (g.H.Host.told c.args.host.now) tells disks _ c.without_session-in-Err.result _ refl
-    c.without_session-in-Err.ensures.none c.without_session-in-Err.ensures.no_disk
+    c.without_session-in-Err.ensures.none c.without_session-in-Err.ensures.no_disk c.without_session-in-Err.ensures.no_console.console
     (says_memory _ _ (says_line string_bytes c.out_of_memory.result 9 _ _ _ c.without_session-in-Err.ensures.said
     c.without_session-in-Err.ensures.unsaid c.out_of_memory.ensures))
+
+pub returns-in-Ok-Some-Check-clause-complete : goal.returns-in-Ok-Some-Check-clause-complete
+returns-in-Ok-Some-Check-clause-complete g c =
+    let terms = terms_of (g.K.Clock.may_answer c.args.clock.now) (g.G.Guard.bars c.args.guard.now) (g.P.FilterTable.place_of
+    c.args.preds.now) (g.P.FilterTable.selects_at c.args.preds.now) in
+    let tells = tells_of g.H.In.Source.left g.H.In.Source.faults g.H.Out.Sink.contents g.H.Out.Sink.faults in
+    let disks = disks_of g.H.Disk.Disk.bytes g.H.Disk.Disk.faults g.H.Disk.Disk.images g.H.Disk.Disk.moment g.H.Disk.Disk.images_since in
+    let some = rw c.in-Ok-Some-Check.field-0-is at c.in-Ok-Some-Check.ensures.asks in
+    let is = rw c.in-Ok-Some-Check.field-0-0-is at some in
+    let r = c.check_directory.result in
+    let new = (g.H.Host.told c.check_directory.new.host).faults in
+    subst (λ command. Complete terms (g.H.Host.told c.args.host.now) tells disks new command r) (is ∙ ap (λ ws. command_of (map string_bytes
+    ws)) c.as_slice.ensures.value)
+    (complete_look terms (g.H.Host.told c.args.host.now) tells disks new c.in-Ok-Some-Check.directory.now r c.check_directory.ensures.causes)

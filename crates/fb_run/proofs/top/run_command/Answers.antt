@@ -1,12 +1,12 @@
-use Rattle.std.proofs.Common.{arith}
+use Rattle.std.proofs.Common.{refl, arith}
 use Rattle.std.proofs.lemmas.Option.{IfSome_then}
-use Rattle.std.specs.Prelude.{string_bytes}
-use Rattle.command_line.specs.Views.{names_in, command_by}
+use Rattle.command_line.specs.Views.{names_in, run_by}
 use Rattle.fb_run.specs.Outside.{tells_of, disks_of}
 use Rattle.fb_run.specs.Opening.{IsOpenedFor}
-use Rattle.fb_run.proofs.Lists.{each_len}
-use Rattle.fb_run.proofs.Directories.{run_opens, run_logs}
-use Rattle.fb_run.proofs.Causing.{few_scripts, replies_told, caused_by_sessions, caused_by_memory, caused_by_host, caused_by_log, says_line, says_memory}
+use Rattle.fb_run.specs.Logs.{IsUnharmed}
+use Rattle.fb_run.proofs.Lists.{each_len, none_then}
+use Rattle.fb_run.proofs.Directories.{run_opens, run_logs, run_segments}
+use Rattle.fb_run.proofs.Causing.{few_scripts, replies_told, caused_by_sessions, caused_by_unready, unready_unharmed}
 use Rattle.fb_run.proofs.top.run_command.Goals as goal
 
 pub open_run-requires-clause-apart : goal.open_run-requires-clause-apart
@@ -42,38 +42,44 @@ pub returns-in-Ok-clause-causes : goal.returns-in-Ok-clause-causes
 returns-in-Ok-clause-causes g c =
     let tells = tells_of g.H.In.Source.left g.H.In.Source.faults g.H.Out.Sink.contents g.H.Out.Sink.faults in
     let disks = disks_of g.H.Disk.Disk.bytes g.H.Disk.Disk.faults g.H.Disk.Disk.images g.H.Disk.Disk.moment g.H.Disk.Disk.images_since in
-    caused_by_sessions (g.H.Host.told c.args.host.now) tells disks _ c.run_opened.result (command_by c.args.command.now)
-    c.in-Ok.ready.sessions.items c.in-Ok.ensures.sessions.each c.in-Ok.ensures.sessions.faults
+    caused_by_sessions (g.H.Host.told c.args.host.now) tells disks _ c.run_opened.result (run_by c.args.command.now)
+    c.in-Ok.ready.sessions.items c.in-Ok.ensures.sessions.each tt c.in-Ok.ensures.sessions.faults c.run_opened.ensures.no_console.console
     (run_logs (g.H.Host.told c.args.host.now) disks c.args.command.now.directory.now c.in-Ok.ready.directory c.in-Ok.ensures.directory
     c.run_opened.result c.in-Ok.ready.directory.segments c.run_opened.ensures.opening c.run_opened.ensures.disks)
     c.run_opened.ensures.ended
 
-pub returns-in-Err-CannotOpen-clause-causes : goal.returns-in-Err-CannotOpen-clause-causes
-returns-in-Err-CannotOpen-clause-causes g c =
-    let tells = tells_of g.H.In.Source.left g.H.In.Source.faults g.H.Out.Sink.contents g.H.Out.Sink.faults in
+pub returns-in-Ok-clause-unharmed : goal.returns-in-Ok-clause-unharmed
+returns-in-Ok-clause-unharmed g c = λ none.
     let disks = disks_of g.H.Disk.Disk.bytes g.H.Disk.Disk.faults g.H.Disk.Disk.images g.H.Disk.Disk.moment g.H.Disk.Disk.images_since in
-    let stop = rw c.in-Err-CannotOpen.field-0-is at c.in-Err-CannotOpen.ensures.stop in
-    caused_by_host (g.H.Host.told c.args.host.now) tells disks _ c.without_session.result (command_by c.args.command.now)
-    c.in-Err-CannotOpen.name.now stop.0.0 stop.0.1 stop.1
-    c.without_session.ensures.none c.without_session.ensures.no_disk
-    (says_line string_bytes c.cannot_open.result 2 _ _ _ c.without_session.ensures.said c.without_session.ensures.unsaid
-    c.cannot_open.ensures)
+    none_then (IsUnharmed (g.H.Host.told c.args.host.now) disks c.args.command.now.directory.now) c.run_opened.result.log
+    (c.run_opened.ensures.none none).log
 
-pub returns-in-Err-BadLog-clause-causes : goal.returns-in-Err-BadLog-clause-causes
-returns-in-Err-BadLog-clause-causes g c =
-    let tells = tells_of g.H.In.Source.left g.H.In.Source.faults g.H.Out.Sink.contents g.H.Out.Sink.faults in
+pub returns-in-Ok-clause-segments : goal.returns-in-Ok-clause-segments
+returns-in-Ok-clause-segments g c =
     let disks = disks_of g.H.Disk.Disk.bytes g.H.Disk.Disk.faults g.H.Disk.Disk.images g.H.Disk.Disk.moment g.H.Disk.Disk.images_since in
-    let bad = rw c.in-Err-BadLog.field-0-is at c.in-Err-BadLog.ensures.stop in
-    let out = c.not_opened.ensures in
-    caused_by_log (g.H.Host.told c.args.host.now) tells disks _ c.not_opened.result (command_by c.args.command.now) c.in-Err-BadLog.fault
-    c.in-Err-BadLog.log c.in-Err-BadLog.segments bad.0 out.none out.disks.0 out.disks.1 bad.1 out.said
+    run_segments (g.H.Host.told c.args.host.now) disks c.args.command.now.directory.now c.in-Ok.ready.directory c.in-Ok.ensures.directory
+    c.run_opened.result c.in-Ok.ready.directory.segments c.run_opened.result.last refl c.run_opened.ensures.disks c.run_opened.ensures.none
 
-pub returns-in-Err-Memory-clause-causes : goal.returns-in-Err-Memory-clause-causes
-returns-in-Err-Memory-clause-causes g c =
+pub returns-in-Err-clause-causes : goal.returns-in-Err-clause-causes
+returns-in-Err-clause-causes g c =
     let tells = tells_of g.H.In.Source.left g.H.In.Source.faults g.H.Out.Sink.contents g.H.Out.Sink.faults in
     let disks = disks_of g.H.Disk.Disk.bytes g.H.Disk.Disk.faults g.H.Disk.Disk.images g.H.Disk.Disk.moment g.H.Disk.Disk.images_since in
-    let said = says_line string_bytes c.out_of_memory.result 9 _ _ _ c.without_session-in-Err-Memory.ensures.said
-    c.without_session-in-Err-Memory.ensures.unsaid
-    c.out_of_memory.ensures in
-    caused_by_memory (g.H.Host.told c.args.host.now) tells disks _ c.without_session-in-Err-Memory.result (command_by c.args.command.now)
-    c.without_session-in-Err-Memory.ensures.none (says_memory _ _ said)
+    let out = c.not_begun.ensures in
+    caused_by_unready (g.H.Host.told c.args.host.now) (g.H.Host.told c.open_run.new.host) tells disks c.not_begun.result
+    (run_by c.args.command.now) c.in-Err.unready c.in-Err.ensures.stop out.none out.log out.segments out.no_console.console out.said
+
+pub returns-in-Err-clause-unharmed : goal.returns-in-Err-clause-unharmed
+returns-in-Err-clause-unharmed g c = λ none.
+    let tells = tells_of g.H.In.Source.left g.H.In.Source.faults g.H.Out.Sink.contents g.H.Out.Sink.faults in
+    let disks = disks_of g.H.Disk.Disk.bytes g.H.Disk.Disk.faults g.H.Disk.Disk.images g.H.Disk.Disk.moment g.H.Disk.Disk.images_since in
+    let out = c.not_begun.ensures in
+    (unready_unharmed (g.H.Host.told c.args.host.now) (g.H.Host.told c.open_run.new.host) tells disks c.not_begun.result
+    (run_by c.args.command.now) c.in-Err.unready c.in-Err.ensures.stop out.none out.log out.segments).0
+
+pub returns-in-Err-clause-segments : goal.returns-in-Err-clause-segments
+returns-in-Err-clause-segments g c =
+    let tells = tells_of g.H.In.Source.left g.H.In.Source.faults g.H.Out.Sink.contents g.H.Out.Sink.faults in
+    let disks = disks_of g.H.Disk.Disk.bytes g.H.Disk.Disk.faults g.H.Disk.Disk.images g.H.Disk.Disk.moment g.H.Disk.Disk.images_since in
+    let out = c.not_begun.ensures in
+    (unready_unharmed (g.H.Host.told c.args.host.now) (g.H.Host.told c.open_run.new.host) tells disks c.not_begun.result
+    (run_by c.args.command.now) c.in-Err.unready c.in-Err.ensures.stop out.none out.log out.segments).1

@@ -1,0 +1,30 @@
+-- What the matches on the words of each verb ask for is what the definition says.
+use Rattle.std.proofs.Common.{◌≡◌, ◌∙◌, List, Option, Some, ap, map, string_bytes, true, sym}
+use Rattle.std.specs.Option.{option_map}
+use Rattle.std.specs.Prelude.{String, option_and_then}
+use Rattle.clap.specs.Words.{App, Row, Text, found_of, is_simple_and_free, rows_of}
+use Rattle.clap.specs.declared.parser.matches.ArgMatches.{ArgMatches}
+use Rattle.command_line.specs.Words.{check_of, command_from, start, walked}
+use Rattle.command_line.specs.ByClap.{check_app, check_told, run_app, run_told, told}
+use Rattle.command_line.proofs.CheckWords.{check_words}
+use Rattle.command_line.proofs.Dashes.{are_texts}
+use Rattle.command_line.proofs.RunWords.{run_words}
+
+abbrev rows_in : Option ArgMatches → Option (List Row)
+rows_in = option_map (λ m. rows_of (found_of m))
+
+-- what `matches_in` says
+abbrev IsTold : App → List Text → Option ArgMatches → Type 0
+IsTold app words got = is_simple_and_free app ≡ true → rows_in got ≡ told app words
+
+module _ {Z : Type 0} (app : App) (words : List (String Z)) (got m : Option ArgMatches) (is : got ≡ m)
+    (by : IsTold app (map string_bytes words) got) where
+  pub run_reads : app ≡ run_app → option_and_then run_told (rows_in m) ≡ command_from (walked (Some start) (map string_bytes words))
+  run_reads e =
+      ap (λ o. option_and_then run_told (rows_in o)) (sym is) ∙ ap (option_and_then run_told) (by (ap is_simple_and_free e))
+      ∙ ap (λ a. option_and_then run_told (told a (map string_bytes words))) e ∙ run_words (map string_bytes words) (are_texts words)
+
+  pub check_reads : app ≡ check_app → option_and_then check_told (rows_in m) ≡ check_of (map string_bytes words)
+  check_reads e =
+      ap (λ o. option_and_then check_told (rows_in o)) (sym is) ∙ ap (option_and_then check_told) (by (ap is_simple_and_free e))
+      ∙ ap (λ a. option_and_then check_told (told a (map string_bytes words))) e ∙ check_words (map string_bytes words) (are_texts words)

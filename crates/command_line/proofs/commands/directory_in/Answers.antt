@@ -1,0 +1,19 @@
+use Rattle.std.proofs.Common.{◌∙◌, None, Some, ap, codes}
+use Rattle.std.specs.Option.{option_map}
+use Rattle.clap.specs.Words.{app_of, found_of}
+use Rattle.clap.proofs.WalkLemmas.{first_value-rows}
+use Rattle.command_line.specs.Words.{check}
+use Rattle.command_line.proofs.Reading.{check_reads}
+use Rattle.command_line.proofs.Told.{checks}
+use Rattle.command_line.proofs.commands.directory_in.Goals as goal
+
+pub returns-in-Some : goal.returns-in-Some
+returns-in-Some c =
+    checks c.get_str.result ∙ ap (option_map check) (c.get_str.ensures ∙ first_value-rows (found_of c.in-Some.matches) (codes "DIR"))
+    ∙ check_reads (app_of c.in_ok-check_command.field-0) c.args.words.now c.in_ok-matches.field-0 (Some c.in-Some.matches) c.in-Some.is
+    c.in_ok-matches.ensures c.in_ok-check_command.ensures
+
+pub returns-in-None : goal.returns-in-None
+returns-in-None c =
+    check_reads (app_of c.in_ok-check_command.field-0) c.args.words.now c.in_ok-matches.field-0 None c.in-None.is c.in_ok-matches.ensures
+    c.in_ok-check_command.ensures

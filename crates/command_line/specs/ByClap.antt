@@ -1,0 +1,60 @@
+-- The commands of `clap` that read the words behind a verb, and what is taken from their matches.
+-- This project's own choice.
+use Rattle.std.specs.Prelude.{true, List, [], ◌∷◌, Option, Some, None, ℕ, codes}
+use Rattle.std.specs.Option.{option_map}
+use Rattle.clap.specs.Words.{App, Row, Rule, Text, all_of, first_of, fault_of, matches_of, new_app, new_rule, with_rule, Kinds}
+use Rattle.clap.specs.declared.builder.ArgAction.TheVariants.{Set, Append}
+use Rattle.command_line.specs.Words.{Command, check, command_with, merge_at_in}
+
+-- no program's name in front, and neither `--help` nor `--version`
+abbrev pub plain_app : Text → App
+plain_app name = record (new_app name) {
+  top = record (new_app name).top {
+    no_binary_name = true;
+    disable_help_flag = true;
+    disable_version_flag = true;
+  };
+}
+
+abbrev pub merge_at_rule : Rule
+merge_at_rule = record (new_rule (codes "merge-at")) {
+  long = Some (codes "merge-at");
+  action = Some Set;
+}
+
+abbrev pub directory_rule : Rule
+directory_rule = record (new_rule (codes "DIR")) { required = true }
+
+-- Append, since an option may stand between two scripts.
+abbrev pub script_rule : Rule
+script_rule = record (new_rule (codes "SCRIPT")) { required = true; action = Some Append }
+
+abbrev pub run_app : App
+run_app =
+    with_rule (with_rule (with_rule (plain_app (codes "run")) merge_at_rule) directory_rule)
+    script_rule
+
+abbrev pub check_app : App
+check_app = with_rule (plain_app (codes "check")) directory_rule
+
+-- the matches where there is no fault
+abbrev pub without_fault : Kinds → List Row → Option (List Row)
+without_fault [] rows = Some rows
+without_fault (k ∷ ks) rows = None
+
+-- the matches that the command has on these words, where it takes them
+abbrev pub told : App → List Text → Option (List Row)
+told app words = without_fault (fault_of app words) (matches_of app words)
+
+abbrev pub run_with : Option Text → Option (List Text) → Option ℕ → Option Command
+run_with (Some directory) (Some scripts) merge_at = command_with (directory ∷ scripts) merge_at
+run_with _ _ merge_at = None
+
+-- the run that the matches ask for
+abbrev pub run_told : List Row → Option Command
+run_told rows = run_with (first_of (codes "DIR") rows) (all_of (codes "SCRIPT") rows)
+    (merge_at_in (first_of (codes "merge-at") rows))
+
+-- the look that they ask for
+abbrev pub check_told : List Row → Option Command
+check_told rows = option_map check (first_of (codes "DIR") rows)
