@@ -41,7 +41,7 @@ old_ids_of_nodes first (d ∷ tree) =
     let whole = count-append first (directory_ids d) (node_ids tree) in
     let own = count-append first (leaf_ids d.leaves) (d.id ∷ []) in
     let leaves = ap length (filter-append (λ (l : LeafNode). is_old first l.id) d.leaves (tree_leaves tree))
-        ∙ length-append (old_leaves first d.leaves) (old_leaves first (tree_leaves tree)) in
+    ∙ length-append (old_leaves first d.leaves) (old_leaves first (tree_leaves tree)) in
     omega (arith, whole, own, leaves, old_ids_of_leaves first d.leaves, with_one first d tree, old_ids_of_nodes first tree)
 
 none_old : (first : ℕ) (tree : List DirectoryNode) → length (old_directories first tree) ≡ 0 → HasNewDirectories first tree
