@@ -1,5 +1,5 @@
 -- Trees whose nodes were counted have a record.
-use Rattle.std.proofs.Common.{◌≡◌, ◌≤◌, ◌<◌, ◌+◌, ◌^◌, ℕ, List, [], ◌∷◌, ◌++◌, length, map, sym, subst, ap, arith, length-append}
+use Rattle.std.proofs.Common.{◌≡◌, ◌≤◌, ◌<◌, ◌+◌, ◌^◌, ℕ, List, [], ◌∷◌, ◌++◌, length, subst, arith, length-append}
 use Rattle.std.specs.Prelude.{All, IsTrue, max}
 use Rattle.std.proofs.lemmas.List.Elements.{All-nil, All-cons, All-contains}
 use Rattle.log_model.specs.Payload.{written_format}
@@ -21,9 +21,9 @@ small_ids : (ds : List DirectoryNode) (most : ℕ) → next_above (node_ids ds) 
 small_ids [] most below = All-nil (λ d. d.id < most)
 small_ids (d ∷ ds) most below =
     let whole : next_above (directory_ids d ++ node_ids ds) ≡ max (next_above (directory_ids d)) (next_above (node_ids ds)) =
-        next_above_append (directory_ids d) (node_ids ds) in
+    next_above_append (directory_ids d) (node_ids ds) in
     let first : next_above (directory_ids d) ≡ max (next_above (leaf_ids d.leaves)) (next_above (d.id ∷ [])) =
-        next_above_append (leaf_ids d.leaves) (d.id ∷ []) in
+    next_above_append (leaf_ids d.leaves) (d.id ∷ []) in
     All-cons (λ d. d.id < most) d ds (omega (arith, below, whole, first)) (small_ids ds most (omega (arith, below, whole)))
 
 module _ (trees : Roots) (eavt aevt avet vaet : Counts) (e : IsCounted trees.eavt eavt) (a : IsCounted trees.aevt aevt)

@@ -39,9 +39,9 @@ module _ (records : List (List ℕ)) (payload : List ℕ) (old new : Found) (was
   found_more trees c merged items still_good =
       let merge : MergeRecord = merged.merge in
       let says : record_says (nodes_of records) payload ≡ merges merge =
-          subst (λ (n : Nodes). record_says n payload ≡ merges merge) has.nodes merged.said in
+      subst (λ (n : Nodes). record_says n payload ≡ merges merge) has.nodes merged.said in
       let nodes_is : new.nodes ≡ with_nodes (nodes_of records) merge =
-          merged.nodes ∙ ap (λ (n : Nodes). with_nodes n merge) has.nodes in record {
+      merged.nodes ∙ ap (λ (n : Nodes). with_nodes n merge) has.nodes in record {
         nodes = nodes_is ∙ sym (one_more_nodes records payload merge good says);
         kept = subst (AreKept (records ++ payload ∷ [])) (sym items)
             (one_more_kept records payload merge good says old.kept.items trees c
@@ -55,7 +55,7 @@ module _ (records : List (List ℕ)) (payload : List ℕ) (old new : Found) (was
       → HasFound (records ++ payload ∷ []) new
   found_bad byte bad nodes items no_more =
       let says : record_says (nodes_of records) payload ≡ bad_from byte =
-          subst (λ (n : Nodes). record_says n payload ≡ bad_from byte) has.nodes bad in
+      subst (λ (n : Nodes). record_says n payload ≡ bad_from byte) has.nodes bad in
       let stops = bad_record_stops records payload byte [] says in record {
         nodes = nodes ∙ has.nodes ∙ sym stops.1;
         kept = same_kept records (records ++ payload ∷ []) new.kept.items stops.0 stops.1

@@ -1,13 +1,13 @@
 -- What a store keeps behind a record more.
-use Rattle.std.proofs.Common.{◌≡◌, ◌<◌, ◌^◌, ◌⊎◌, inl, inr, ⊎_elim, ℕ, true, List, [], ◌∷◌, ◌++◌, length, Option, refl, sym, ◌∙◌, ap, subst, arith}
+use Rattle.std.proofs.Common.{◌≡◌, ◌<◌, ◌^◌, inl, inr, ⊎_elim, ℕ, true, List, [], ◌∷◌, ◌++◌, length, Option, refl, sym, ◌∙◌, ap, subst}
 use Rattle.disk_model.specs.Disk.{WhereTold, LeavesOnly}
 use Rattle.disk_model.specs.Journal.{segments_mark, JournalStands}
 use Rattle.disk_model.proofs.Journals.{stands-holds}
 use Rattle.disk_model.proofs.Moments.{started}
 use Rattle.log_model.specs.Payload.{written_format}
-use Rattle.log_model.specs.Nodes.{Nodes, ids_in, MergeRecord, record_bytes_in}
+use Rattle.log_model.specs.Nodes.{Nodes, MergeRecord, record_bytes_in}
 use Rattle.log_model.specs.Merges.{record_says, merges, IsRecordOf}
-use Rattle.log_model.specs.Kept.{KeptRoot, with_nodes, kept_root, kept_roots, nodes_of, are_good, FileKeeps}
+use Rattle.log_model.specs.Kept.{KeptRoot, with_nodes, kept_roots, nodes_of, are_good}
 use Rattle.log_model.proofs.MergeRecords.{IsRecordOf-says}
 use Rattle.log_model.proofs.NodesOfFiles.{one_more_root, one_more_nodes, one_more_good, distinct-nodes}
 use Rattle.fb_journal.specs.Journals.{mark_of, Keeps, IsBeforeOrAfter}
@@ -33,14 +33,14 @@ next_record ids trees c payload distinct writable small bytes records good are f
     let nodes : Nodes = nodes_of records in
     let merge : MergeRecord = merge_of nodes trees c in
     let written : payload ≡ record_bytes_in written_format merge =
-        bytes ∙ ap (record_bytes_in written_format) (same_ids nodes ids trees c are) in
+    bytes ∙ ap (record_bytes_in written_format) (same_ids nodes ids trees c are) in
     let is : IsRecordOf nodes merge payload =
-        subst (IsRecordOf nodes merge) (sym written) (record_over nodes trees c (distinct-nodes records) distinct fits writable small) in
+    subst (IsRecordOf nodes merge) (sym written) (record_over nodes trees c (distinct-nodes records) distinct fits writable small) in
     let says : record_says nodes payload ≡ merges merge = IsRecordOf-says nodes merge payload is in
     let after : nodes_of (records ++ payload ∷ []) ≡ with_nodes nodes merge = one_more_nodes records payload merge good says in
     let stand : AreTreesOf (with_nodes nodes merge) (roots_of trees) trees = trees_there nodes trees c fits in
     let there : AreTreesOf (nodes_of (records ++ payload ∷ [])) (roots_of trees) trees =
-        subst (λ (n : Nodes). AreTreesOf n (roots_of trees) trees) (sym after) stand in record {
+    subst (λ (n : Nodes). AreTreesOf n (roots_of trees) trees) (sym after) stand in record {
       good = one_more_good records payload merge good says;
       keeps = record {
         roots = one_more_root records payload merge good says
@@ -75,8 +75,8 @@ module _ {D : Type 0} {g : _} (bytes : D → Option (List ℕ)) (images : D → 
   nothing_done only_now records store root keeps = λ file told.
       let kept = keeps.journal.file file told in
       let stands : JournalStands segments_mark records file =
-          subst (λ (m : List ℕ). JournalStands m records file) store.marked
-          (stands-holds (mark_of store.journal) records file (ap length store.marked) kept.0) in
+      subst (λ (m : List ℕ). JournalStands m records file) store.marked
+      (stands-holds (mark_of store.journal) records file (ap length store.marked) kept.0) in
       started moment since (disk_in store) (KeepsOneMore (kept_roots records) root) (λ image left. inl (
         records,
         inl (subst (λ (f : List ℕ). JournalStands segments_mark records f) (sym (kept.1 image (only_now (disk_in store) image left))) stands),

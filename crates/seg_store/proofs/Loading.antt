@@ -1,9 +1,8 @@
 -- What is loaded where the store goes on behind the records that were read, and where its file starts anew.
-use Rattle.std.proofs.Common.{◌≡◌, inl, inr, ℕ, List, [], Option, refl, ap, ◌∙◌}
-use Rattle.std.specs.Prelude.{All}
+use Rattle.std.proofs.Common.{inl, inr, ℕ, List, [], Option, refl}
 use Rattle.std.proofs.lemmas.List.Elements.{All-weaker}
 use Rattle.disk_model.specs.Disk.{WhereTold}
-use Rattle.log_model.specs.Nodes.{Roots as FileRoots, ids_in, is_among}
+use Rattle.log_model.specs.Nodes.{Roots as FileRoots}
 use Rattle.log_model.specs.Kept.{nodes_of}
 use Rattle.seg_codec.specs.Trees.{AreTreesOf, Fits}
 use Rattle.seg_codec.proofs.Among.{All-made}

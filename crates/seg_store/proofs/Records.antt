@@ -1,14 +1,13 @@
 -- One record more behind those that were read: what it keeps, or that it is bad.
-use Rattle.std.proofs.Common.{◌≡◌, ◌≤◌, ◌<◌, ◌+◌, ℕ, suc, Bool, true, false, List, [], ◌∷◌, ◌++◌, length, map, refl, sym, ◌∙◌, ap, subst, arith, length-append}
+use Rattle.std.proofs.Common.{◌≡◌, ◌≤◌, ◌<◌, ℕ, suc, Bool, true, false, List, [], ◌∷◌, ◌++◌, length, refl, sym, ◌∙◌, ap, subst, arith, length-append}
 use Rattle.std.specs.Prelude.{nat_eq, All}
 use Rattle.std.proofs.lemmas.Bool.{true≢false, eqb-true, eq-eqb, eqb-false, ne_eqb}
-use Rattle.std.proofs.lemmas.List.{append-nil, map-append}
+use Rattle.std.proofs.lemmas.List.{map-append}
 use Rattle.std.proofs.lemmas.List.Elements.{All-push, All-weaker}
-use Rattle.log_model.specs.Nodes.{Nodes, Roots as FileRoots, no_nodes, ids_in, MergeRecord}
+use Rattle.log_model.specs.Nodes.{Nodes, Roots as FileRoots, no_nodes, MergeRecord}
 use Rattle.log_model.specs.Merges.{MergeSays, merges, bad_from, record_says}
 use Rattle.log_model.specs.Kept.{with_nodes, kept_root, kept_by, kept_behind, kept_roots, nodes_by, nodes_behind, nodes_of, are_good}
-use Rattle.log_model.proofs.NodesOfFiles.{one_more_root, one_more_nodes, one_more_good, bad_record_stops, distinct-with, distinct-nodes}
-use Rattle.seg_tree.specs.Indexes.{trees_of}
+use Rattle.log_model.proofs.NodesOfFiles.{one_more_root, one_more_nodes, bad_record_stops, distinct-with, distinct-nodes}
 use Rattle.seg_tree.specs.declared.roots.Roots.{Roots}
 use Rattle.seg_codec.specs.Trees.{AreTreesOf}
 use Rattle.seg_codec.proofs.Kept.{trees_later, kept_lists}

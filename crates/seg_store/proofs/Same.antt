@@ -7,7 +7,7 @@ use Rattle.fb_journal.specs.declared.journals.Journal.{Journal}
 use Rattle.fb_journal.specs.declared.journals.JournalFault.{JournalFault}
 use Rattle.fb_journal.specs.declared.journals.JournalFault.TheVariants.{Disk as JournalDisk, Stopped as JournalStopped}
 use Rattle.seg_store.specs.declared.stores.KeepFault.{KeepFault}
-use Rattle.seg_store.specs.declared.stores.KeepFault.TheVariants.{Disk, Stopped}
+use Rattle.seg_store.specs.declared.stores.KeepFault.TheVariants.{Stopped}
 use Rattle.seg_store.specs.declared.stores.SegStore.{SegStore}
 use Rattle.seg_store.specs.Faults.{keep_fault_of}
 

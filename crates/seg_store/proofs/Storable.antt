@@ -11,13 +11,13 @@ use Rattle.fb_values.specs.Lists.{list_in}
 use Rattle.fb_model.specs.History.{said, upto}
 use Rattle.fb_model.specs.Lawful.{IsLawful}
 use Rattle.fb_model.proofs.Members.{member_passes}
-use Rattle.view_model.specs.Stands.{IsIndexed, RootStands}
+use Rattle.view_model.specs.Stands.{RootStands}
 use Rattle.log_model.specs.Payload.{written_format}
 use Rattle.log_model.specs.Storable.{is_u32, is_storable_datom, IsStorable}
 use Rattle.log_model.specs.Merges.{is_storable_dated}
 use Rattle.log_model.proofs.StorableHistories.{all_storable}
 use Rattle.seg_tree.specs.Nodes.{LeafNode, DirectoryNode, leaf_datoms, tree_datoms, tree_leaves}
-use Rattle.seg_tree.specs.Indexes.{tree_in, trees_of}
+use Rattle.seg_tree.specs.Indexes.{trees_of}
 use Rattle.seg_tree.specs.declared.roots.Roots.{Roots}
 use Rattle.seg_tree.proofs.Making.{tree_datoms-leaves}
 use Rattle.seg_codec.proofs.Among.{All-made}
@@ -32,7 +32,7 @@ entry_dated entry storable = All-made IsDated entry.datoms (λ d member.
     let parts = and_parts _ _ storable in
     let t_small : is_u32 entry.t ≡ true = (and_parts _ _ (and_parts _ _ parts.0).0).0 in
     let is : is_storable_datom written_format entry.t d ≡ true =
-        member_passes (is_storable_datom written_format entry.t) entry.datoms d parts.1 member in
+    member_passes (is_storable_datom written_format entry.t) entry.datoms d parts.1 member in
     let own : d.t ≡ entry.t = eqb-true d.t entry.t (and_parts _ _ is).1 in
     and_from _ _ (subst (λ (t : ℕ). is_storable_datom written_format t d ≡ true) (sym own) is)
     (subst (λ (t : ℕ). is_u32 t ≡ true) (sym own) t_small))

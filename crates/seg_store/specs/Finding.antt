@@ -4,7 +4,7 @@ use Rattle.std.specs.Prelude.{◌≡◌, ℕ, List, Option, true, false, IsTrue}
 use Rattle.disk_model.specs.Disk.{WhereTold}
 use Rattle.disk_model.specs.Journal.{segments_mark}
 use Rattle.log_model.specs.Kept.{nodes_of, are_good}
-use Rattle.fb_journal.specs.Readings.{HasRead, IsRead}
+use Rattle.fb_journal.specs.Readings.{IsRead}
 use Rattle.fb_journal.specs.declared.readings.Reading.{Reading}
 use Rattle.seg_store.specs.declared.found.Found.{Found}
 use Rattle.seg_store.specs.Loads.{AreKept, AreRecordsOf, IsFaulty}

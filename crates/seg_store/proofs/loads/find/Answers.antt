@@ -1,4 +1,4 @@
-use Rattle.std.proofs.Common.{◌≡◌, ℕ, List, [], ◌∷◌, ◌++◌, subst}
+use Rattle.std.proofs.Common.{ℕ, List, [], ◌∷◌, ◌++◌, subst}
 use Rattle.disk_model.specs.Journal.{segments_mark}
 use Rattle.seg_store.specs.Finding.{HasFound}
 use Rattle.seg_store.proofs.Finding.{found_all, found_broken}

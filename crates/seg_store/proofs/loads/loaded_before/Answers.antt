@@ -1,4 +1,4 @@
-use Rattle.std.proofs.Common.{◌≡◌, Vec, Option, ℕ, List, inr, sym, subst}
+use Rattle.std.proofs.Common.{Vec, inr, sym, subst}
 use Rattle.std.specs.declared.alloc.Global.{Global}
 use Rattle.std.proofs.lemmas.Result.{IfOk-weaker}
 use Rattle.fb_journal.specs.Starts.{IsWhyNot}
@@ -17,7 +17,7 @@ returns-in-Ok-clause-loaded g c =
     IfOk-weaker c.anew.result _ _
     (λ loaded is. λ told why.
     let breaks : WhereTold told (λ file. JournalBreaks segments_mark before file c.in-BadLog.nth c.in-BadLog.at) =
-        subst (λ (fault : StartFault). IsWhyNot segments_mark told fault before) c.in-BadLog.is why in
+    subst (λ (fault : StartFault). IsWhyNot segments_mark told fault before) c.in-BadLog.is why in
     loaded_anew d.bytes d.images told before loaded
     (λ file was. inr (c.in-BadLog.nth, c.in-BadLog.at, breaks file was))
     (subst (λ (kept : Vec KeptTrees Global). AreKept before kept.items) (sym is.1) c.in-Ok.ensures.kept)

@@ -1,4 +1,4 @@
-use Rattle.std.proofs.Common.{◌≡◌, ◌∙◌, Vec, ap, sym, subst}
+use Rattle.std.proofs.Common.{◌∙◌, Vec, ap, sym, subst}
 use Rattle.std.specs.declared.alloc.Global.{Global}
 use Rattle.std.proofs.lemmas.Result.{IfOk-weaker}
 use Rattle.log_model.specs.Nodes.{ids_in, is_among}

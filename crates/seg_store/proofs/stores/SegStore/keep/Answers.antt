@@ -1,4 +1,5 @@
-use Rattle.std.proofs.Common.{◌≡◌, ◌∙◌, ◌++◌, ℕ, List, length, take, ap, sym, subst}
+use Rattle.std.proofs.Common.{◌≡◌, ◌∙◌, ◌++◌, ℕ, List, length, take, ap, sym, subst, arith}
+use Rattle.std.proofs.lemmas.List.{take-append-le, take_all}
 use Rattle.disk_model.specs.Disk.{WhereTold, LeavesOnly}
 use Rattle.disk_model.proofs.Moments.{weakened}
 use Rattle.log_model.specs.Kept.{kept_roots}
@@ -14,7 +15,7 @@ use Rattle.seg_store.proofs.stores.SegStore.keep.Goals as goal
 
 -- what was before more is there once it is cut off again
 cut_back : (xs ys : List ℕ) → take (length xs) (xs ++ ys) ≡ xs
-cut_back xs ys = take-append-length xs ys
+cut_back xs ys = take-append-le (length xs) xs ys (omega arith) ∙ take_all (length xs) xs (omega arith)
 
 pub returns-in_err-framed-clause-any_moment : goal.returns-in_err-framed-clause-any_moment
 returns-in_err-framed-clause-any_moment g c = λ records keeps fits file told.

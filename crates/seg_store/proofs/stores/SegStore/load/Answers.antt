@@ -2,7 +2,9 @@ use Rattle.std.proofs.lemmas.Result.{IfOk-weaker}
 use Rattle.seg_store.proofs.stores.SegStore.load.Goals as goal
 
 pub loaded_behind-requires : goal.loaded_behind-requires
-loaded_behind-requires g c = (c.args.disk, c.in-Ok-found_in.ensures.found c.args.disk c.in-Ok.ensures.begins)
+loaded_behind-requires g c =
+    let all = c.in-Ok-found_in.ensures.found c.args.disk c.in-Ok.ensures.begins in
+    (c.args.disk, all.0, all.1)
 
 pub returns-in-Ok-found_in-clause-kept : goal.returns-in-Ok-found_in-clause-kept
 returns-in-Ok-found_in-clause-kept g c =
