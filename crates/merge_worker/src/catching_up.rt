@@ -13,8 +13,8 @@ use fb_memory::Memory;
 use fb_view::Snapshot;
 use std::sync::Wait;
 
-/// So few entries may be left for the turn in which trees are adopted. Each takes some ten microseconds.
-const FEW: u32 = 64;
+/// So few datoms may be left for the turn in which trees are adopted. Each takes some microseconds.
+const FEW: usize = 192;
 
 /// How often the worker catches up before that turn at most. Each time has less to add than the one before, since sessions add entries
 /// more slowly than it does.
@@ -44,7 +44,7 @@ pub(crate) fn take_latest<L: Log, R: Wait>(
     Ok(latest)
 }
 
-/// Adds to a value over newer trees what came since, until only a few entries are missing.
+/// Adds to a value over newer trees what came since, until only a few datoms are missing.
 pub(crate) fn catch_up<L: Log, R: Wait>(
     rt: &R,
     conn: &Conn<L>,
@@ -70,7 +70,7 @@ pub(crate) fn catch_up<L: Log, R: Wait>(
     Ok(ahead)
 }
 
-/// Adds what came since to a value over newer trees, where that is more than a few entries, and the seat has turns left. It says
+/// Adds what came since to a value over newer trees, where that is more than a few datoms, and the seat has turns left. It says
 /// whether it did.
 fn catches_up<L: Log, R: Wait>(
     rt: &R,
@@ -93,9 +93,24 @@ fn catches_up<L: Log, R: Wait>(
         return Ok(false);
     }
     let latest = take_latest(rt, conn, seat)?;
-    if latest.basis().saturating_sub(ahead.basis()) <= FEW {
+    // A snapshot that is asked tells that it stands for its history.
+    let _basis = ahead.basis();
+    if is_near(ahead, &latest) {
         return Ok(false);
     }
     *ahead = caught_up(ahead, &latest)?;
     Ok(true)
+}
+
+/// Whether only a few datoms came since. Entries are of very different lengths, so datoms tell how long it takes to add them.
+fn is_near(ahead: &Snapshot, latest: &Snapshot) -> bool {
+    let entries = latest.entries();
+    let mut missing: usize = 0;
+    for t in ahead.basis().saturating_add(1)..entries.len() {
+        missing = missing.saturating_add(entries.at(t).datoms.len());
+        if missing > FEW {
+            return false;
+        }
+    }
+    true
 }

@@ -10,7 +10,7 @@ caught_up-requires g c =
     let past = c.requires.ahead in let more = c.in_ok-latest.ensures.latest.1 in
     let begins : h ≡ first ++ (past.0 ++ more.0) =
     more.1 ∙ (ap (λ (l : List Entry). l ++ more.0) past.1 ∙ append_assoc first past.0 more.0) in
-    record { begins = begins_there h first (past.0 ++ more.0) c.basis-2.ensures.stands.history.lawful begins }
+    record { begins = begins_there h first (past.0 ++ more.0) c.basis-basis.ensures.stands.history.lawful begins }
 
 pub returns-clause-ahead : goal.returns-clause-ahead
 returns-clause-ahead g c =
