@@ -14,13 +14,13 @@ use board_rule::{
 };
 use std::hint::spin_loop;
 use std::sync::Wait;
-use std::thread::yield_now;
 
-/// How often a seat looks before it lets another thread run, or sleeps. It takes a few microseconds.
+/// How often a seat looks before it sleeps. It takes a few microseconds.
 const LOOKS: u32 = 64;
 
-/// How many times over who is next in line does that before it sleeps. It outlasts a turn with two syncs of a disk.
-const ROUNDS: u32 = 64;
+/// How many times over who is next in line does that. It outlasts most turns in memory, and is short beside what another thread may
+/// take of the processor, which the holder of the turn may be waiting for. So nobody yields to others either.
+const ROUNDS: u32 = 16;
 
 /// Draws a ticket for a turn.
 pub fn draw<H: Named, S: Mailed + Named<Entry = H::Entry>>(
@@ -111,7 +111,6 @@ fn comes_while_awake<H: Named, S: Mailed + Named<Entry = H::Entry>>(
         if !is_next(board, seat) {
             return false;
         }
-        yield_now();
     }
     false
 }

@@ -1,8 +1,5 @@
 //! The worker's two turns: where a merge begins, and where its trees are adopted.
 ghost use Rattle.std.specs.Prelude.{◌≡◌, ◌+◌, ◌<◌, IfOk, OnOk, OnErr};
-ghost use Rattle.fb_model.specs.History.{basis};
-ghost use Rattle.view_model.specs.Stands.{RootStands};
-ghost use Rattle.seg_tree.specs.Indexes.{trees_of};
 ghost use Rattle.board_rule.specs.Views.{StartsWith};
 ghost use Rattle.board_rule.specs.Calls.{view_of};
 ghost use Rattle.fb_conn.specs.Seats.{IsWorkerOf, TookTurn};
@@ -13,7 +10,6 @@ use board_seats::{end, enter};
 use fb_log::Log;
 use fb_memory::Memory;
 use fb_view::Snapshot;
-use seg_tree::Roots;
 use std::sync::Wait;
 
 impl<L: Log> Conn<L> {
@@ -33,24 +29,23 @@ impl<L: Log> Conn<L> {
         self.show_latest(seat, held)
     }
 
-    /// Adopts trees that were merged from the value of the last `begin`. What came since is live.
-    pub fn publish<R: Wait>(&self, rt: &R, seat: &mut Seat, roots: Roots) -> Result<(), Memory>
+    /// Adopts the trees under `ahead`, which is of a beginning of what the worker has seen. What came since is added in the turn.
+    pub fn publish<R: Wait>(&self, rt: &R, seat: &mut Seat, ahead: &Snapshot) -> Result<(), Memory>
         requires seat { IsWorkerOf self.now seat.old }
         requires draws { (view_of seat.old.board).draws < 4294967296 }
-        requires roots { RootStands (trees_of roots) seat.old.last.entries
-            (basis seat.old.last.entries) }
+        requires ahead { StartsWith seat.old.last.entries ahead.now.entries }
         ensures seat { IsWorkerOf self.now seat.new }
         ensures turn { TookTurn (view_of seat.old.board) (view_of seat.new.board) }
         ensures last { seat.new.last ≡ seat.old.last }
         ensures adopted { OnOk result
-            ((view_of seat.new.board).covered ≡ basis seat.old.last.entries) }
+            ((view_of seat.new.board).covered ≡ ahead.now.covered) }
         ensures unchanged { OnErr result
             ((view_of seat.new.board).covered ≡ (view_of seat.old.board).covered) }
     {
         let mut held = enter(&self.board, rt, &mut seat.board);
         // A snapshot that is asked tells that it stands for its history.
-        let _basis = seat.last.basis();
-        match held.home.core.rebase(&seat.last, roots) {
+        let _basis = ahead.basis();
+        match held.home.core.rebase_on(ahead) {
             Ok(rebased) => {
                 held.home.core.adopt(rebased);
                 end(&self.board, &mut seat.board, held);

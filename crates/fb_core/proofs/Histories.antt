@@ -34,12 +34,17 @@ last_of-is h entry read = fold_last first_entry h entry read
 pub next_basis : (h : List Entry) (entry : Entry) → IsLawfulAfter h entry → basis (h ++ entry ∷ []) ≡ basis h + 1
 next_basis h entry next = basis-push h entry ∙ next_t h entry next
 
-pub beginning_stays : (h older : List Entry) (entry : Entry) → IsLawful older → upto h (basis older) ≡ older → upto (h ++ entry ∷ []) (basis older) ≡ older
-beginning_stays h older entry lawful begins =
+-- a history has more entries than the t of any of its beginnings
+pub begins_within : (h older : List Entry) → IsLawful older → upto h (basis older) ≡ older → basis older < length h
+begins_within h older lawful begins =
     let counted = IsLawful-length older lawful in
     let taken : min (basis older + 1) (length h) ≡ basis older + 1 = sym (length-take (basis older + 1) h) ∙ ap length begins ∙ counted in
-    let within : basis older < length h = omega (arith, taken) in
-    upto-append h (entry ∷ []) (basis older) within ∙ begins
+    omega (arith, taken)
+
+pub beginning_stays : (h older : List Entry) (entry : Entry) → IsLawful older → upto h (basis older) ≡ older
+    → upto (h ++ entry ∷ []) (basis older) ≡ older
+beginning_stays h older entry lawful begins =
+    upto-append h (entry ∷ []) (basis older) (begins_within h older lawful begins) ∙ begins
 
 pub latest_stays : (h : List Entry) (entry : Entry) → IsLawful h → upto (h ++ entry ∷ []) (basis h) ≡ h
 latest_stays h entry lawful = beginning_stays h h entry lawful (upto-basis h lawful)

@@ -3,6 +3,7 @@ ghost use Rattle.std.specs.Prelude.{◌≡◌, IfOk};
 ghost use Rattle.fb_model.specs.History.{basis, upto};
 ghost use Rattle.view_model.specs.Stands.{RootStands};
 ghost use Rattle.seg_tree.specs.Indexes.{trees_of};
+ghost use Rattle.fb_view.specs.Kept.{Stands};
 
 use crate::shared::Core;
 use fb_memory::Memory;
@@ -32,6 +33,18 @@ impl Core {
         Ok(Rebased { snapshot })
     }
 
+    /// Its latest value over the trees of `ahead`, which is of a beginning of its history. Only what came since then is added.
+    pub fn rebase_on(&self, ahead: &Snapshot) -> Result<Rebased, Memory>
+        requires begins { upto self.now.snapshot.entries (basis ahead.now.entries)
+            ≡ ahead.now.entries }
+        ensures rebase { IfOk result (λ rebased. IsRebaseOf self.now rebased) }
+        ensures roots { IfOk result (λ rebased. rebased.snapshot.roots ≡ ahead.now.roots) }
+        ensures covered { IfOk result (λ rebased. rebased.snapshot.covered ≡ ahead.now.covered) }
+    {
+        let snapshot = caught_up(ahead, self.snapshot())?;
+        Ok(Rebased { snapshot })
+    }
+
     /// The newer trees stand from now on. The history and its authors stay. It takes no memory.
     pub fn adopt(&mut self, rebased: Rebased)
         requires { IsRebaseOf self.old rebased }
@@ -39,4 +52,24 @@ impl Core {
     {
         self.parts.snapshot = rebased.snapshot;
     }
+}
+
+/// A database value over the trees of `ahead`, which is of a beginning of its history. Only what came since then is added.
+pub fn caught_up(ahead: &Snapshot, latest: &Snapshot) -> Result<Snapshot, Memory>
+    requires begins { upto latest.now.entries (basis ahead.now.entries) ≡ ahead.now.entries }
+    ensures entries { IfOk result (λ snapshot. snapshot.entries ≡ latest.now.entries) }
+    ensures roots { IfOk result (λ snapshot. snapshot.roots ≡ ahead.now.roots) }
+    ensures covered { IfOk result (λ snapshot. snapshot.covered ≡ ahead.now.covered) }
+    ensures stands { IfOk result (λ snapshot. Stands snapshot) }
+{
+    // A snapshot that is asked tells that it stands for its history.
+    let _basis = latest.basis();
+    let entries = latest.entries();
+    let len = entries.len();
+    let from = ahead.basis() + 1;
+    let mut snapshot = ahead.share()?;
+    for t in from..len {
+        snapshot = snapshot.with_entry(entries.at(t).copy()?)?;
+    }
+    Ok(snapshot)
 }

@@ -4,7 +4,7 @@ ghost use Rattle.fb_model.specs.History.{basis};
 ghost use Rattle.view_model.specs.Stands.{RootStands};
 ghost use Rattle.seg_tree.specs.Ids.{next_above, IsInRow};
 ghost use Rattle.seg_tree.specs.Indexes.{root_ids, trees_of};
-ghost use Rattle.fb_merge.specs.Made.{SharesLeaves};
+ghost use Rattle.fb_merge.specs.Made.{SharesLeaves, SharesNoDirectory};
 ghost use Rattle.fb_merge.specs.declared.stop.MergeStop.{MergeStop};
 
 use crate::stop::MergeStop;
@@ -30,6 +30,7 @@ pub fn merged<R: Threads + Sync>(
         (λ roots. RootStands (trees_of roots) begin.now.entries (basis begin.now.entries)) }
     ensures ids { IfOk result (λ roots. IsInRow first_id (root_ids roots)) }
     ensures older { IfOk result (λ roots. SharesLeaves first_id begin.now.roots roots) }
+    ensures directories { IfOk result (SharesNoDirectory first_id) }
     ensures spent { IsErrOf result MergeStop.Spent ↔ (2 ^ 61 < first_id) }
 {
     let merged = merged_onto(rt, alloc, begin.roots(), begin.covered(), begin, first_id)?;
@@ -52,6 +53,7 @@ pub fn merged_onto<R: Threads + Sync>(
         (λ roots. RootStands (trees_of roots) begin.now.entries (basis begin.now.entries)) }
     ensures ids { IfOk result (λ roots. IsInRow first_id (root_ids roots)) }
     ensures older { IfOk result (λ roots. SharesLeaves first_id base.now roots) }
+    ensures directories { IfOk result (SharesNoDirectory first_id) }
     ensures spent { IsErrOf result MergeStop.Spent ↔ (2 ^ 61 < first_id) }
 {
     if first_id > GREATEST_FIRST_ID {
@@ -91,6 +93,7 @@ fn with_live<R: Threads + Sync>(
         (λ roots. RootStands (trees_of roots) beside.now.entries (basis beside.now.entries)) }
     ensures ids { IfOk result (λ roots. IsInRow first_id (root_ids roots)) }
     ensures older { IfOk result (λ roots. SharesLeaves first_id base.now roots) }
+    ensures directories { IfOk result (SharesNoDirectory first_id) }
 {
     what_stands_may_be_merged();
     let merged = merge4(

@@ -38,7 +38,8 @@ not_below_itself order d below = true≢false (sym below ∙ ap is_lt (tied_itse
 AreApart-rising : (order : Order) (ds : List Datom) → rises order ds ≡ true → AreApart ds
 AreApart-rising order [] rising = tt
 AreApart-rising order (d ∷ ds) rising = (
-  (λ other later same. not_below_itself order other (subst (λ x. is_lt (key_cmp order x other) ≡ true) same (first_is_least order d ds other rising later))),
+  (λ other later same. not_below_itself order other
+      (subst (λ x. is_lt (key_cmp order x other) ≡ true) same (first_is_least order d ds other rising later))),
   AreApart-rising order ds (tail d ds rising),
 )
   where
@@ -46,10 +47,15 @@ AreApart-rising order (d ∷ ds) rising = (
     tail x [] is = refl
     tail x (y ∷ xs) is = (and_parts _ _ is).1
 
-AreApart-append : (ds es : List Datom) → AreApart ds → AreApart es → ((x y : Datom) → Contains ds x → Contains es y → x ≡ y → ⊥) → AreApart (ds ++ es)
+AreApart-append : (ds es : List Datom) → AreApart ds → AreApart es → ((x y : Datom) → Contains ds x → Contains es y → x ≡ y → ⊥)
+    → AreApart (ds ++ es)
 AreApart-append [] es one other apart = other
 AreApart-append (d ∷ ds) es one other apart = (
-  (λ y member same. elim (Contains-append_cases ds es y member) [ inl first ↦ one.0 y first same | inr later ↦ apart d y (here d ds) later same ]),
+  (λ y member same. elim (Contains-append_cases ds es y member) [
+    | inl first ↦ one.0 y first same
+    | inr later ↦ apart d y
+        (here d ds) later same
+  ]),
   AreApart-append ds es one.1 other (λ x y first later. apart x y (there d x ds first) later),
 )
 
@@ -65,11 +71,13 @@ AreApart-said : (h : List Entry) → IsLawful h → AreApart (said h)
 AreApart-said =
     of_lawful (λ h. AreApart (said h)) (AreApart-rising Eavt (said (first_entry ∷ [])) refl)
     (λ h entry lawful before next. rw said-push
-    (AreApart-append (said h) entry.datoms before (AreApart-rising Eavt entry.datoms (and_parts _ _ (and_parts _ _ next.datoms_in_order).0).1)
+    (AreApart-append (said h) entry.datoms before
+    (AreApart-rising Eavt entry.datoms (and_parts _ _ (and_parts _ _ next.datoms_in_order).0).1)
     (λ x y early late same.
     later (basis h) x.t y.t
     (leb-true x.t (basis h) (member_passes (λ d. leb d.t (basis h)) (said h) x (said_t h lawful) early))
-    (eqb-true y.t (basis h + 1) (member_passes (λ d. eqb d.t (basis h + 1)) entry.datoms y (own_t h entry next) late)) (ap (λ (d : Datom). d.t) same))))
+    (eqb-true y.t (basis h + 1) (member_passes (λ d. eqb d.t (basis h + 1)) entry.datoms y (own_t h entry next) late))
+    (ap (λ (d : Datom). d.t) same))))
   where
     later : (b t u : ℕ) → t ≤ b → u ≡ b + 1 → t ≡ u → ⊥
     later b t u low is same = omega arith
@@ -90,17 +98,23 @@ split d (e ∷ es) member =
     ]
 
 -- without the datom between them
-without : (d other : Datom) (before behind : List Datom) → (d ≡ other → ⊥) → Contains (before ++ d ∷ behind) other → Contains (before ++ behind) other
+without : (d other : Datom) (before behind : List Datom) → (d ≡ other → ⊥) → Contains (before ++ d ∷ behind) other
+    → Contains (before ++ behind) other
 without d other before behind apart member =
     elim (Contains-append_cases before (d ∷ behind) other member) [
       | inl first ↦ Contains-append_left before behind other first
-      | inr rest ↦ elim (cases_of d other behind rest) [ inl same ↦ absurd (apart same) | inr later ↦ Contains-append_right before behind other later ]
+      | inr rest ↦ elim (cases_of d other behind rest) [
+        | inl same ↦ absurd
+            (apart same)
+        | inr later ↦ Contains-append_right before behind other later
+      ]
     ]
 
 abbrev IsWithin : List Datom → List Datom → Type 0
 IsWithin ds es = (d : Datom) → Contains ds d → Contains es d
 
-others_within : (d : Datom) (ds es : List Datom) → AreApart (d ∷ ds) → IsWithin (d ∷ ds) es → (s : Split d es) → IsWithin ds (s.before ++ s.behind)
+others_within : (d : Datom) (ds es : List Datom) → AreApart (d ∷ ds) → IsWithin (d ∷ ds) es → (s : Split d es)
+    → IsWithin ds (s.before ++ s.behind)
 others_within d ds es apart within s other later =
     without d other s.before s.behind (apart.0 other later) (subst (λ l. Contains l other) s.is (within other (there d other ds later)))
 
@@ -119,7 +133,8 @@ all_of_it : (ds es : List Datom) → AreApart ds → IsWithin ds es → length e
 all_of_it [] es apart within short d member = absurd (omega (arith, member.1, short))
 all_of_it (d ∷ ds) es apart within short other member =
     let s = split d es (within d (here d ds)) in
-    let rest = all_of_it ds (s.before ++ s.behind) apart.1 (others_within d ds es apart within s) (omega (arith, short, split-length d es s)) in
+    let rest = all_of_it ds (s.before ++ s.behind) apart.1 (others_within d ds es apart within s)
+    (omega (arith, short, split-length d es s)) in
     elim (Contains-append_cases s.before (d ∷ s.behind) other (subst (λ l. Contains l other) s.is member)) [
       | inl first ↦ there d other ds (rest other (Contains-append_left s.before s.behind other first))
       | inr more ↦ elim (cases_of d other s.behind more) [
@@ -140,21 +155,27 @@ module _ (h : List Entry) (order : Order) where
   of_indexed : (d : Datom) → IsIndexed h order d → Contains (filter is_held (said h)) d
   of_indexed d is = keep is_held (said h) d is.is_said is.is_covered
 
-  pub counted : (ds : List Datom) → rises order ds ≡ true → All (IsIndexed h order) ds → length ds ≡ index_len h order → IsRisingListOf order ds (IsIndexed h order)
+  pub counted : (ds : List Datom) → rises order ds ≡ true → All (IsIndexed h order) ds → length ds ≡ index_len h order
+      → IsRisingListOf order ds (IsIndexed h order)
   counted ds rising each long = record {
     rising = rising;
     members = λ d. (
       (λ member. All-contains (IsIndexed h order) ds d each member),
-      (λ is. all_of_it ds (filter is_held (said h)) (AreApart-rising order ds rising) (λ x member. of_indexed x (All-contains (IsIndexed h order) ds x each member)) (omega (arith, long)) d (of_indexed d is)),
+      (λ is. all_of_it ds (filter is_held (said h)) (AreApart-rising order ds rising)
+          (λ x member. of_indexed x (All-contains (IsIndexed h order) ds x each member)) (omega (arith, long)) d (of_indexed d is)),
     );
   }
 
   pub length_of : (ds : List Datom) → AreApart (said h) → IsRisingListOf order ds (IsIndexed h order) → length ds ≡ index_len h order
   length_of ds apart is =
-      let few = no_longer ds (filter is_held (said h)) (AreApart-rising order ds is.rising) (λ d member. of_indexed d ((is.members d).0 member)) in
-      let many = no_longer (filter is_held (said h)) ds (AreApart-filter is_held (said h) apart) (λ d member. (is.members d).1 (indexed_of d member)) in
+      let few = no_longer ds (filter is_held (said h)) (AreApart-rising order ds is.rising)
+      (λ d member. of_indexed d ((is.members d).0 member)) in
+      let many = no_longer (filter is_held (said h)) ds (AreApart-filter is_held (said h) apart)
+      (λ d member. (is.members d).1 (indexed_of d member)) in
       omega (arith, few, many)
 
-pub length_upto : (h : List Entry) (c : ℕ) (order : Order) (ds : List Datom) → IsLawful h → IsRisingListOf order ds (IsIndexed (upto h c) order) → length ds ≡ index_len (upto h c) order
+pub length_upto : (h : List Entry) (c : ℕ) (order : Order) (ds : List Datom) → IsLawful h
+    → IsRisingListOf order ds (IsIndexed (upto h c) order) → length ds ≡ index_len (upto h c) order
 length_upto h c order ds lawful is =
-    length_of (upto h c) order ds (subst AreApart (sym (said-upto h lawful c)) (AreApart-filter (λ d. leb d.t c) (said h) (AreApart-said h lawful))) is
+    length_of (upto h c) order ds (subst AreApart (sym (said-upto h lawful c)) (AreApart-filter (λ d. leb d.t c) (said h)
+    (AreApart-said h lawful))) is

@@ -8,7 +8,7 @@ use Rattle.seg_tree.specs.Indexes.{root_ids, trees_of}
 use Rattle.seg_tree.specs.declared.roots.Roots.{Roots}
 use Rattle.fb_view.specs.Kept.{Kept}
 use Rattle.fb_core.specs.Cores.{live_datoms}
-use Rattle.fb_merge.specs.Made.{SharesLeaves}
+use Rattle.fb_merge.specs.Made.{SharesLeaves, SharesNoDirectory}
 use Rattle.board_rule.specs.declared.view.Code.{Code}
 use Rattle.board_rule.specs.declared.view.View.{View}
 use Rattle.merge_worker.specs.declared.bases.Base.{Base}
@@ -16,6 +16,10 @@ use Rattle.merge_worker.specs.declared.bases.Base.{Base}
 -- the trees are of the history's entries up to the t `covered`
 abbrev pub IsBaseOf : Base → List Entry → ℕ → Type 0
 IsBaseOf base h covered = (base.c ≡ covered) × RootStands (trees_of base.roots) h covered
+
+-- trees of the old history's first entries are of the new one's too
+abbrev pub AreStill : List Entry → List Entry → Type 0
+AreStill old new = (trees : Base) (c : ℕ) → IsBaseOf trees old c → IsBaseOf trees new c
 
 -- the trees are those from before, or the store has them
 abbrev pub IsOldOrKept : {S : Type 0} → (S → Base → Type 0) → Base → S → Base → Type 0
@@ -39,12 +43,13 @@ start_of base (Some ahead) = ahead
 
 -- ---- merges
 
--- the trees were made of older ones: their new nodes have the numbers from the first one on, none
--- left out, which are above the ids of the older ones, and their other leaves are older leaves
+-- The trees were made of older ones: their new nodes have the numbers from the first one on, none left
+-- out, which are above the ids of the older ones, and their other nodes are older leaves.
 pub record AreMadeOf (first : ℕ) (old new : Roots) : Type 0 where
   pub above : next_above (root_ids old) ≤ first
   pub ids : IsInRow first (root_ids new)
   pub older : SharesLeaves first old new
+  pub directories : SharesNoDirectory first new
 
 -- the number of the first new node: neither the store nor the older trees have it, or a greater one
 abbrev pub first_id : ℕ → Base → ℕ
@@ -58,7 +63,7 @@ is_due merge_at snapshot = nat_le merge_at (live_datoms snapshot.live)
 abbrev pub IsOutOfIds : ℕ → Base → Type 0
 IsOutOfIds next start = 2 ^ 61 < first_id next start
 
--- a round takes two turns of the 4,294,967,296 that a seat has
+-- a round takes two turns at least of the 4,294,967,296 that a seat has
 abbrev pub IsOutOfTurns : View Code → Type 0
 IsOutOfTurns v = 4294967296 < v.draws + 2
 

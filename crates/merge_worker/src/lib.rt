@@ -3,6 +3,7 @@
 #![tactic(auto)]
 
 mod bases;
+mod catching_up;
 mod ends;
 mod gates;
 mod settling;

@@ -6,10 +6,11 @@ ghost use Rattle.board_rule.specs.Calls.{view_of};
 ghost use Rattle.fb_conn.specs.Seats.{IsWorkerOf};
 ghost use Rattle.merge_worker.specs.declared.bases.Base.{Base};
 ghost use Rattle.merge_worker.specs.declared.ends.WorkEnd.{WorkEnd};
-ghost use Rattle.merge_worker.specs.Work.{IsBaseOf, IsOldOrKept, AreAhead, AreOldOrKept, start_of, is_due, IsOutOfIds, IsOutOfTurns, IsSpent, IsSameWorker};
+ghost use Rattle.merge_worker.specs.Work.{IsBaseOf, IsOldOrKept, AreAhead, AreOldOrKept, start_of, is_due, IsOutOfIds, IsOutOfTurns, IsSpent, IsSameWorker, AreStill};
 ghost use Rattle.merge_worker.specs.Ends.{HasCause, IsUnfailed};
 
 use crate::bases::{Base, start};
+use crate::catching_up::{catch_up, take_latest};
 use crate::ends::WorkEnd;
 use crate::gates::{Gate, Point};
 use crate::stores::RootStore;
@@ -85,8 +86,8 @@ pub fn work<L: Log, T: RootStore, R: Threads + Wait + Sync, G: Gate>(
     unreachable!()
 }
 
-/// Whether the seat has no turns left for a round, which takes two.
-fn is_out_of_turns(seat: &Seat) -> bool
+/// Whether the seat has no turns left for a round, which takes two at least.
+pub(crate) fn is_out_of_turns(seat: &Seat) -> bool
     ensures { IsTrue result ↔ IsOutOfTurns (view_of seat.now.board) }
 {
     seat.draws() > MOST_TURNS
@@ -138,8 +139,7 @@ fn begins<L: Log, R: Wait>(rt: &R, conn: &Conn<L>, seat: &mut Seat) -> Result<bo
     ensures seat { IsWorkerOf conn.now seat.new }
     ensures same { IsSameWorker (view_of seat.old.board) (view_of seat.new.board) }
     ensures covered { (view_of seat.new.board).covered ≡ (view_of seat.old.board).covered }
-    ensures trees { (trees : Base) (c : ℕ) → IsBaseOf trees seat.old.last.entries c
-        → IsBaseOf trees seat.new.last.entries c }
+    ensures trees { AreStill seat.old.last.entries seat.new.last.entries }
     ensures turn { OnOk result ((view_of seat.new.board).draws < 4294967296) }
     ensures due { IfOk result (λ due. due ≡ is_due conn.now.merge_at seat.new.last) }
     ensures end { IfErr result (HasCause ⊥ (IsOutOfTurns (view_of seat.new.board))) }
@@ -147,11 +147,7 @@ fn begins<L: Log, R: Wait>(rt: &R, conn: &Conn<L>, seat: &mut Seat) -> Result<bo
     if is_out_of_turns(seat) {
         return Err(WorkEnd::Spent);
     }
-    // A snapshot that is asked tells that it stands for its history.
-    let last = seat.last();
-    let _basis = last.basis();
-    let latest = conn.begin(rt, seat)?;
-    let _latest = latest.basis();
+    let latest = take_latest(rt, conn, seat)?;
     Ok(conn.due(&latest))
 }
 
@@ -174,7 +170,7 @@ fn merge_last<L: Log, T: RootStore, R: Threads + Wait + Sync, G: Gate>(
     requires going { T.goes store.old }
     ensures seat { IsWorkerOf conn.now seat.new }
     ensures same { IsSameWorker (view_of seat.old.board) (view_of seat.new.board) }
-    ensures last { seat.new.last ≡ seat.old.last }
+    ensures last { IsErrOf result WorkEnd.Spent → seat.new.last ≡ seat.old.last }
     ensures base { IsBaseOf base.new seat.new.last.entries (view_of seat.new.board).covered }
     ensures kept { IsOldOrKept T.keeps base.old store.new base.new }
     ensures stays { (older : Base) → T.keeps store.old older → T.keeps store.new older }
@@ -214,10 +210,11 @@ fn adopt<L: Log, R: Wait>(
     requires next { IsBaseOf next seat.old.last.entries (basis seat.old.last.entries) }
     ensures seat { IsWorkerOf conn.now seat.new }
     ensures same { IsSameWorker (view_of seat.old.board) (view_of seat.new.board) }
-    ensures last { seat.new.last ≡ seat.old.last }
+    ensures trees { AreStill seat.old.last.entries seat.new.last.entries }
     ensures base { IsBaseOf base.new seat.new.last.entries (view_of seat.new.board).covered }
     ensures adopted { OnOk result ((base.new ≡ next) × (ahead.new ≡ None)) }
     ensures kept { OnErr result ((base.new ≡ base.old) × (ahead.new ≡ Some next)) }
+    ensures ahead { OnErr result (AreAhead ahead.new seat.new.last.entries) }
 {
     match publish(rt, conn, seat, &next) {
         Ok(()) => {
@@ -232,7 +229,7 @@ fn adopt<L: Log, R: Wait>(
     }
 }
 
-/// Takes the second turn of a round, in which the trees are adopted.
+/// Takes the last turn of a round, in which the trees are adopted, once most of what came meanwhile has been added to them.
 fn publish<L: Log, R: Wait>(
     rt: &R,
     conn: &Conn<L>,
@@ -244,12 +241,16 @@ fn publish<L: Log, R: Wait>(
     requires next { IsBaseOf next.now seat.old.last.entries (basis seat.old.last.entries) }
     ensures seat { IsWorkerOf conn.now seat.new }
     ensures same { IsSameWorker (view_of seat.old.board) (view_of seat.new.board) }
-    ensures last { seat.new.last ≡ seat.old.last }
-    ensures adopted { OnOk result
-        ((view_of seat.new.board).covered ≡ basis seat.old.last.entries) }
+    ensures trees { AreStill seat.old.last.entries seat.new.last.entries }
+    ensures adopted { OnOk result ((view_of seat.new.board).covered ≡ next.now.c) }
     ensures unchanged { OnErr result
         ((view_of seat.new.board).covered ≡ (view_of seat.old.board).covered) }
 {
     let roots = next.roots.share()?;
-    conn.publish(rt, seat, roots)
+    let last = seat.last();
+    // A snapshot that is asked tells that it stands for its history.
+    let _basis = last.basis();
+    let fresh = last.rebased(last, roots)?;
+    let ahead = catch_up(rt, conn, seat, fresh)?;
+    conn.publish(rt, seat, &ahead)
 }

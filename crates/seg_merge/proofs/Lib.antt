@@ -7,6 +7,7 @@ pub mod Ranges
 pub mod Pieces
 pub mod Numbers
 pub mod Distinct
+pub mod Directories
 pub mod Samples
 pub mod Standing
 pub mod Orders

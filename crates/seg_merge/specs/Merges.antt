@@ -1,6 +1,6 @@
 -- What the merge of the four trees is to give.
 -- Restates Indexes of Datomic's documentation (the merging of recent datoms); ids and kept leaves are this project's own choice.
-use Rattle.std.specs.Prelude.{◌<◌, ℕ, List, Contains}
+use Rattle.std.specs.Prelude.{◌<◌, ◌≤◌, ℕ, List, Contains}
 use Rattle.std.specs.List.{All}
 use Rattle.fb_values.specs.declared.facts.Datom.{Datom}
 use Rattle.fb_values.specs.declared.indexes.Order.{Order}
@@ -21,3 +21,7 @@ pub record IsPlan (order : Order) (coverage : Coverage) (c : ℕ) (tree : List D
 abbrev pub HasOlderLeaves : ℕ → List LeafNode → List LeafNode → Type 0
 HasOlderLeaves first old new =
     (leaf : LeafNode) → Contains new leaf → leaf.id < first → Contains old leaf
+
+-- no directory has an older id
+abbrev pub HasNewDirectories : ℕ → List DirectoryNode → Type 0
+HasNewDirectories first tree = All (λ directory. first ≤ directory.id) tree

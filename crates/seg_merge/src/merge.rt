@@ -10,7 +10,7 @@ ghost use Rattle.seg_tree.specs.Nodes.{tree_datoms, tree_leaves};
 ghost use Rattle.seg_tree.specs.Ids.{next_above, AreDistinct, IsInRow, old_leaves};
 ghost use Rattle.seg_tree.specs.Indexes.{tree_in, trees_of, root_ids};
 ghost use Rattle.seg_merge.specs.Merged.{IsMergeable, IsMerged, KeepsLeaves, due_of};
-ghost use Rattle.seg_merge.specs.Merges.{IsPlan, HasOlderLeaves};
+ghost use Rattle.seg_merge.specs.Merges.{IsPlan, HasOlderLeaves, HasNewDirectories};
 ghost use Rattle.seg_merge.specs.Standing.{CanMerge};
 ghost use Rattle.view_model.specs.Stands.{RootStands};
 
@@ -51,6 +51,8 @@ pub fn merge4<R: Threads + Sync>(
     ensures older { IfOk result (λ new. (order : Order)
         → HasOlderLeaves first_id (tree_leaves (tree_in roots.now order))
         (tree_leaves (tree_in new order))) }
+    ensures directories { IfOk result (λ new. (order : Order)
+        → HasNewDirectories first_id (tree_in new order)) }
     ensures ids { IfOk result (λ new. IsInRow first_id (root_ids new)) }
     ensures distinct { IfOk result (λ new. AreDistinct (root_ids new)) }
 
@@ -129,6 +131,8 @@ impl Plans {
             → tree_datoms (tree_in roots order) ≡ (plan_in self order).datoms) }
         ensures kept { IfOk result (λ roots. (order : Order)
             → old_leaves first (tree_leaves (tree_in roots order)) ≡ (plan_in self order).kept) }
+        ensures directories { IfOk result (λ roots. (order : Order)
+            → HasNewDirectories first (tree_in roots order)) }
         ensures ids { IfOk result (λ roots. IsInRow first (root_ids roots)) }
     {
         let (eavt, second) = self.eavt.build(alloc, first)?;

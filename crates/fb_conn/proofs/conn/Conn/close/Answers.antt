@@ -1,4 +1,4 @@
-use Rattle.std.proofs.Common.{◌≡◌, ◌⊎◌, inl, inr, ◌∙◌, ℕ, ◌+◌, List, [], length, ap, sym, subst, arith}
+use Rattle.std.proofs.Common.{◌≡◌, inl, inr, ◌∙◌, ℕ, ◌+◌, List, [], length, ap, sym, subst, arith}
 use lib.ListN.{length-map}
 use Rattle.fb_values.specs.contracts.facts.Entry as an_entry
 use Rattle.fb_model.proofs.LawfulHistories.{IsLawful-length}

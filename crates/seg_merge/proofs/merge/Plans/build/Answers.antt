@@ -1,6 +1,7 @@
 use Rattle.std.proofs.Common.{◌≤◌, arith}
 use Rattle.fb_values.specs.declared.indexes.Order.TheVariants.{Eavt, Aevt, Avet, Vaet}
 use Rattle.seg_merge.proofs.Orders.{older_than, kept_first, in_each_order, FourBuilt, built_in_row, built_distinct}
+use Rattle.seg_merge.proofs.Directories.{built_directories, later_directories}
 use Rattle.seg_merge.proofs.merge.Plans.build.Goals as goal
 
 pub build-requires-clause-older : goal.build-requires-clause-older
@@ -61,3 +62,15 @@ returns-clause-ids c =
       v_older = c.requires.older Avet;
       r_older = c.requires.older Vaet;
     })
+
+pub returns-clause-directories : goal.returns-clause-directories
+returns-clause-directories c =
+    let first = c.args.first in
+    let b = c.in_ok-eavt.ensures.behind in
+    let d : first ≤ c.in_ok-aevt.third = omega (arith, b, c.in_ok-aevt.ensures.behind) in
+    let e : first ≤ c.in_ok-avet.fourth = omega (arith, d, c.in_ok-avet.ensures.behind) in
+    in_each_order _
+    (built_directories _ _ _ c.in_ok-eavt.ensures)
+    (later_directories first c.in_ok-eavt.second c.in_ok-aevt.aevt b (built_directories _ _ _ c.in_ok-aevt.ensures))
+    (later_directories first c.in_ok-aevt.third c.in_ok-avet.avet d (built_directories _ _ _ c.in_ok-avet.ensures))
+    (later_directories first c.in_ok-avet.fourth c.in_ok-vaet.vaet e (built_directories _ _ _ c.in_ok-vaet.ensures))

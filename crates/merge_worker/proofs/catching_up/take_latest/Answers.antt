@@ -2,7 +2,7 @@ use Rattle.std.proofs.Common.{◌≡◌, ◌∙◌, ◌++◌, ap, sym, subst}
 use Rattle.fb_model.specs.Lawful.{IsLawful}
 use Rattle.fb_view.specs.Kept.{Kept}
 use Rattle.merge_worker.proofs.Standing.{of_longer}
-use Rattle.merge_worker.proofs.working.begins.Goals as goal
+use Rattle.merge_worker.proofs.catching_up.take_latest.Goals as goal
 
 pub returns-clause-trees : goal.returns-clause-trees
 returns-clause-trees g c = λ trees n of.

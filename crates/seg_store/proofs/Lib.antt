@@ -1,0 +1,9 @@
+pub mod Fitting
+pub mod Records
+pub mod Keeping
+pub mod Finding
+pub mod Counting
+pub mod Loading
+pub mod Same
+pub mod Next
+pub mod Storable

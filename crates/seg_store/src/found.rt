@@ -1,0 +1,64 @@
+//! What a file of segments keeps, found record by record.
+ghost use Rattle.std.specs.Prelude.{◌≡◌, ◌++◌, [], ◌∷◌, ℕ, List, IfOk, OnOk};
+ghost use Rattle.seg_store.specs.Finding.{HasFound};
+
+use crate::loads::KeptTrees;
+use fb_codec::BytesFault;
+use fb_journal::Payloads;
+use fb_memory::Memory;
+use seg_codec::{Nodes, record_of};
+use std::alloc::Global;
+
+/// What the records so far keep.
+#[derive(Drop)]
+pub(crate) struct Found {
+    pub(crate) nodes: Nodes,
+    pub(crate) kept: Vec<KeptTrees>,
+    /// Nothing was bad so far.
+    pub(crate) good: bool,
+}
+
+impl Found {
+    /// No record yet.
+    pub(crate) fn none(alloc: Global) -> Found
+        ensures { HasFound [] result }
+    {
+        Found {
+            nodes: Nodes::new(alloc),
+            kept: Vec::new(alloc),
+            good: true,
+        }
+    }
+
+    /// The next record. Behind a bad one nothing counts.
+    pub(crate) fn add(&mut self, alloc: Global, payload: &[u8]) -> Result<(), Memory>
+        ensures { OnOk result ((records : List (List ℕ)) → HasFound records self.old
+            → HasFound (records ++ payload.now ∷ []) self.new) }
+    {
+        if !self.good {
+            return Ok(());
+        }
+        match record_of(alloc, payload, &mut self.nodes) {
+            Ok((roots, c)) => {
+                self.kept.push(KeptTrees { roots, c })?;
+                Ok(())
+            }
+            Err(BytesFault::At { .. }) => {
+                self.good = false;
+                Ok(())
+            }
+            Err(BytesFault::Memory) => Err(Memory),
+        }
+    }
+
+    /// What payloads keep.
+    pub(crate) fn of(alloc: Global, payloads: &Payloads) -> Result<Found, Memory>
+        ensures { IfOk result (HasFound payloads.now) }
+    {
+        let mut found = Found::none(alloc);
+        for n in 0..payloads.len() {
+            found.add(alloc, payloads.at(n))?;
+        }
+        Ok(found)
+    }
+}

@@ -1,0 +1,220 @@
+//! Loading a file of segments.
+ghost use Rattle.std.specs.Prelude.{◌≡◌, ◌<◌, ◌++◌, [], ◌∷◌, ℕ, List, Option, false, map, IfOk, MatchResult, IsTrue};
+ghost use Rattle.disk_model.specs.Disk.{WhereTold};
+ghost use Rattle.disk_model.specs.Journal.{segments_mark};
+ghost use Rattle.log_model.specs.Kept.{FileKeeps};
+ghost use Rattle.fb_journal.specs.Readings.{disk_from, left_in, HasRead};
+ghost use Rattle.fb_journal.specs.Starts.{CountsStart, IsWhyNot};
+ghost use Rattle.seg_store.specs.Stores.{disk_in, StoreKeeps};
+ghost use Rattle.seg_store.specs.Loads.{kept_of, IsLoaded, CountsLoad};
+ghost use Rattle.seg_store.specs.Finding.{HasFound, HasAllFound};
+
+use crate::found::Found;
+use crate::stores::SegStore;
+use fb_disk::Disk;
+use fb_journal::{Journal, Mark, Reading, StartFault, StartStop};
+use fb_memory::Memory;
+use seg_codec::Ids;
+use seg_tree::Roots;
+use std::alloc::Global;
+use thiserror::Error;
+
+/// The four trees of a kept root, and how far they go.
+#[derive(Drop)]
+pub struct KeptTrees {
+    pub roots: Roots,
+    pub c: u32,
+}
+
+/// A store, and the roots that its file kept as it was loaded, the oldest first.
+#[derive(Drop)]
+pub struct Loaded<D: Disk> {
+    pub store: SegStore<D>,
+    pub kept: Vec<KeptTrees>,
+}
+
+/// Why a file was not loaded. That its bytes are no good is no reason.
+#[derive(Clone, Copy, Debug, PartialEq, Eq, Error)]
+pub enum LoadFault {
+    /// A call of the disk failed in this call.
+    #[error("a call of the disk failed")]
+    Disk,
+    #[error("out of memory")]
+    Memory,
+}
+
+/// A load that did not succeed: why, and the disk.
+#[derive(Drop)]
+pub struct LoadStop<D: Disk> {
+    pub fault: LoadFault,
+    pub disk: D,
+}
+
+impl From<Memory> for LoadFault {
+    ghost use Rattle.std.specs.Prelude.{◌≡◌};
+    ghost use Rattle.seg_store.specs.declared.loads.LoadFault.{LoadFault};
+
+    ghost from_gives = { λ _ fault. fault ≡ LoadFault.Memory };
+
+    fn from(_: Memory) -> LoadFault {
+        LoadFault::Memory
+    }
+}
+
+impl<D: Disk> SegStore<D> {
+    /// Loads the roots that a file keeps, which are those before its first bad record, or before the first fault of its
+    /// journal. A file that has either starts anew, and so does one of at most 16 bytes.
+    pub fn load(alloc: Global, disk: D) -> Result<Loaded<D>, LoadStop<D>>
+        ensures kept { IfOk result (λ loaded. WhereTold (D.bytes disk)
+            (λ file. FileKeeps file (map kept_of loaded.kept.items))) }
+        ensures loaded { IfOk result (IsLoaded D.bytes D.images (D.bytes disk)) }
+
+        // A fault of the disk is counted.
+        ensures counted { MatchResult result
+            (λ loaded. D.faults (disk_in loaded.store) ≡ D.faults disk)
+            (λ stop. CountsLoad stop.fault (D.faults disk) (D.faults stop.disk)) }
+    {
+        let mut file = match Journal::open(alloc, disk, Mark::Segments) {
+            Ok(file) => file,
+            Err(stop) => return loaded_before(alloc, stop),
+        };
+        match found_in(alloc, &mut file) {
+            Ok(found) => loaded_behind(alloc, found, file),
+            Err(fault) => Err(LoadStop {
+                fault,
+                disk: file.give_back(),
+            }),
+        }
+    }
+}
+
+/// What was found, and a store that goes on behind the records, or with a file that starts anew where something was bad.
+fn loaded_behind<D: Disk>(
+    alloc: Global,
+    found: Found,
+    file: Reading<D>,
+) -> Result<Loaded<D>, LoadStop<D>>
+    requires { (disk : D) × (records : List (List ℕ))
+        × HasAllFound D.bytes D.images D.moment D.images_since disk records file found }
+    ensures loaded { IfOk result (λ loaded. (disk : D) (records : List (List ℕ))
+        → HasAllFound D.bytes D.images D.moment D.images_since disk records file found
+        → IsLoaded D.bytes D.images (D.bytes disk) loaded) }
+    ensures counted { MatchResult result
+        (λ loaded. D.faults (disk_in loaded.store) ≡ D.faults (disk_from file))
+        (λ stop. CountsLoad stop.fault (D.faults (disk_from file)) (D.faults stop.disk)) }
+{
+    let Found { nodes, kept, good } = found;
+    if !good {
+        return anew(alloc, file.give_back(), kept);
+    }
+    match nodes.into_ids() {
+        Ok(ids) => {
+            let journal = file.finish();
+            let store = SegStore { journal, ids };
+            Ok(Loaded { store, kept })
+        }
+        Err(Memory) => Err(LoadStop {
+            fault: LoadFault::Memory,
+            disk: file.give_back(),
+        }),
+    }
+}
+
+/// What a journal tells that did not start.
+fn loaded_before<D: Disk>(alloc: Global, stop: StartStop<D>) -> Result<Loaded<D>, LoadStop<D>>
+    ensures loaded { IfOk result (λ loaded. (told : Option (List ℕ))
+        → IsWhyNot segments_mark told stop.fault stop.before
+        → IsLoaded D.bytes D.images told loaded) }
+    ensures counted { (old : ℕ) → CountsStart stop.fault old (D.faults stop.disk)
+        → MatchResult result (λ loaded. D.faults (disk_in loaded.store) ≡ old)
+        (λ stopped. CountsLoad stopped.fault old (D.faults stopped.disk)) }
+{
+    let StartStop {
+        fault,
+        disk,
+        before,
+    } = stop;
+    let fault = match fault {
+        StartFault::BadLog { .. } => match Found::of(alloc, &before) {
+            Ok(found) => return anew(alloc, disk, found.kept),
+            Err(Memory) => LoadFault::Memory,
+        },
+        StartFault::Disk => LoadFault::Disk,
+        StartFault::Memory => LoadFault::Memory,
+    };
+    Err(LoadStop { fault, disk })
+}
+
+/// These trees, and a store whose file starts anew.
+fn anew<D: Disk>(alloc: Global, disk: D, kept: Vec<KeptTrees>) -> Result<Loaded<D>, LoadStop<D>>
+    ensures anew { IfOk result
+        (λ loaded. StoreKeeps D.bytes D.images [] loaded.store × (loaded.kept ≡ kept)) }
+    ensures counted { MatchResult result
+        (λ loaded. D.faults (disk_in loaded.store) ≡ D.faults disk)
+        (λ stop. CountsLoad stop.fault (D.faults disk) (D.faults stop.disk)) }
+{
+    match Journal::anew(alloc, disk, Mark::Segments) {
+        Ok(journal) => {
+            let ids = Ids::new(alloc);
+            let store = SegStore { journal, ids };
+            Ok(Loaded { store, kept })
+        }
+        Err(StartStop { disk, .. }) => Err(LoadStop {
+            fault: LoadFault::Disk,
+            disk,
+        }),
+    }
+}
+
+/// What the records of a file keep, up to its journal's first fault where it has one.
+fn found_in<D: Disk>(alloc: Global, file: &mut Reading<D>) -> Result<Found, LoadFault>
+    ensures found { IfOk result (λ found. (disk : D)
+        → HasRead D.bytes D.images D.moment D.images_since segments_mark disk [] file.old
+        → (records : List (List ℕ))
+        × HasAllFound D.bytes D.images D.moment D.images_since disk records file.new found) }
+    ensures counted { MatchResult result
+        (λ _. D.faults (disk_from file.new) ≡ D.faults (disk_from file.old))
+        (λ fault. CountsLoad fault (D.faults (disk_from file.old)) (D.faults (disk_from file.new))) }
+{
+    let mut found = Found::none(alloc);
+    let mut payload = Vec::new(alloc);
+    while find(alloc, file, &mut payload, &mut found)? {}
+    Ok(found)
+}
+
+/// Finds what the next record keeps, and answers whether there was one.
+fn find<D: Disk>(
+    alloc: Global,
+    file: &mut Reading<D>,
+    payload: &mut Vec<u8>,
+    found: &mut Found,
+) -> Result<bool, LoadFault>
+    ensures record { IfOk result (λ more. IsTrue more → (records : List (List ℕ))
+        → ((disk : D)
+        → HasRead D.bytes D.images D.moment D.images_since segments_mark disk records file.old
+        → HasRead D.bytes D.images D.moment D.images_since segments_mark disk
+        (records ++ payload.new.items ∷ []) file.new)
+        × (HasFound records found.old → HasFound (records ++ payload.new.items ∷ []) found.new)) }
+    ensures end { IfOk result (λ more. more ≡ false → (disk : D) (records : List (List ℕ))
+        → HasRead D.bytes D.images D.moment D.images_since segments_mark disk records file.old
+        → HasFound records found.old
+        → HasAllFound D.bytes D.images D.moment D.images_since disk records file.new found.new) }
+    ensures less { IfOk result (λ more. IsTrue more → left_in file.new < left_in file.old) }
+    ensures counted { MatchResult result
+        (λ _. D.faults (disk_from file.new) ≡ D.faults (disk_from file.old))
+        (λ fault. CountsLoad fault (D.faults (disk_from file.old)) (D.faults (disk_from file.new))) }
+{
+    match file.next(payload) {
+        Ok(Some(_)) => {
+            found.add(alloc, payload)?;
+            Ok(true)
+        }
+        Ok(None) => Ok(false),
+        Err(StartFault::BadLog { .. }) => {
+            found.good = false;
+            Ok(false)
+        }
+        Err(StartFault::Disk) => Err(LoadFault::Disk),
+        Err(StartFault::Memory) => Err(LoadFault::Memory),
+    }
+}
