@@ -33,7 +33,7 @@ use Rattle.fb_conn.specs.contracts.letters.Letter as Letter
 use Rattle.fb_conn.specs.contracts.home.Home as Home
 use Rattle.fb_conn.specs.contracts.conn.Conn as Conn
 use Rattle.conn_desk.specs.contracts.desks.ConnDesk as ConnDesk
-use Rattle.merge_worker.proofs.bases.Base.TheSendSync as base
+use Rattle.fb_roots.proofs.bases.Base.TheSendSync as base
 use Rattle.merge_worker.proofs.ends.WorkEnd.TheSendSync as ended
 use Rattle.fb_run.specs.contracts.merging.Worker as Worker
 use Rattle.fb_run.specs.contracts.jobs.Job as Job

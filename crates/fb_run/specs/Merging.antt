@@ -8,9 +8,9 @@ use Rattle.fb_core.specs.Cores.{live_datoms}
 use Rattle.board_rule.specs.Calls.{view_of}
 use Rattle.fb_conn.specs.declared.conn.Conn.{Conn}
 use Rattle.fb_conn.specs.Seats.{IsWorkerOf}
+use Rattle.fb_roots.specs.Bases.{IsBaseOf}
 use Rattle.merge_worker.specs.declared.ends.WorkEnd.{WorkEnd}
 use Rattle.merge_worker.specs.declared.ends.WorkEnd.TheVariants.{StoreFault}
-use Rattle.merge_worker.specs.Work.{IsBaseOf}
 use Rattle.fb_run.specs.declared.merging.Worker.{Worker}
 
 -- it has the worker's seat, and the trees that it knows to be adopted

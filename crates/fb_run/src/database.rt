@@ -19,7 +19,7 @@ use fb_disk::Disk;
 use fb_memory::Memory;
 use fb_ports::{Host, OpenFail, Part};
 use fb_recover::{OpenFault, OpenStop, Opened, reopen};
-use merge_worker::{Base, WorkEnd};
+use merge_worker::{WorkEnd, base_of};
 use std::alloc::Global;
 
 /// The two disks of a directory.
@@ -195,7 +195,7 @@ pub(crate) fn connected<D: Disk>(
         segments,
         recovered,
     } = directory;
-    let base = Base::of(core.snapshot())?;
+    let base = base_of(core.snapshot())?;
     let Made {
         conn,
         seats,

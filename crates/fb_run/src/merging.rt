@@ -12,7 +12,8 @@ use fb_conn::{Conn, Seat};
 use fb_core::Core;
 use fb_log::Log;
 use fb_memory::Memory;
-use merge_worker::{Base, Gate, NoStore, WorkEnd, settle, work};
+use fb_roots::{Base, NoStore};
+use merge_worker::{Gate, WorkEnd, base_of, settle, work};
 use std::alloc::Global;
 use std::sync::Wait;
 use std::thread;
@@ -105,7 +106,7 @@ pub(crate) fn settled<R: Threads + Sync>(
     if let WorkEnd::Memory = end {
         return Err(Memory);
     }
-    let mut base = Base::of(core.snapshot())?;
+    let mut base = base_of(core.snapshot())?;
     let mut ahead = None;
     match settle(
         rt,

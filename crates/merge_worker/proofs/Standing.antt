@@ -9,8 +9,8 @@ use Rattle.fb_model.proofs.LawfulHistories.{IsLawful-length}
 use Rattle.fb_model.proofs.OneMoreEntry.{upto-append}
 use Rattle.view_model.specs.Stands.{IsIndexed}
 use Rattle.seg_tree.specs.Indexes.{trees_of}
-use Rattle.merge_worker.specs.declared.bases.Base.{Base}
-use Rattle.merge_worker.specs.Work.{IsBaseOf}
+use Rattle.fb_roots.specs.declared.bases.Base.{Base}
+use Rattle.fb_roots.specs.Bases.{IsBaseOf}
 
 pub of_longer : (base : Base) (h now rest : List Entry) (c : ℕ) → IsLawful h → IsLawful now → now ≡ h ++ rest → IsBaseOf base h c
     → IsBaseOf base now c

@@ -2,8 +2,8 @@
 -- This project's own choice.
 use Rattle.fb_merge.specs.declared.stop.MergeStop.{MergeStop}
 use Rattle.fb_merge.specs.declared.stop.MergeStop.TheVariants.{Memory as NoMemory, Spent as NoIds}
-use Rattle.merge_worker.specs.declared.stores.KeepFault.{KeepFault}
-use Rattle.merge_worker.specs.declared.stores.KeepFault.TheVariants.{Memory as NoRoom, Failed}
+use Rattle.fb_roots.specs.declared.stores.KeepFault.{KeepFault}
+use Rattle.fb_roots.specs.declared.stores.KeepFault.TheVariants.{Memory as NoRoom, Failed}
 use Rattle.merge_worker.specs.declared.ends.WorkEnd.{WorkEnd}
 use Rattle.merge_worker.specs.declared.ends.WorkEnd.TheVariants.{Shut, StoreFault, Spent, Memory}
 

@@ -1,29 +1,23 @@
 -- The trees that the worker makes and starts from, and when it has to merge, or cannot.
 -- This project's own choice.
-use Rattle.std.specs.Prelude.{◌≡◌, ◌⊎◌, ◌<◌, ◌≤◌, ◌+◌, ◌^◌, ℕ, Bool, List, Option, None, Some, IfSome, IsTrue, max, nat_le}
+use Rattle.std.specs.Prelude.{◌≡◌, ◌⊎◌, ◌<◌, ◌+◌, ◌^◌, ℕ, Bool, List, Option, None, Some, IfSome, IsTrue, max, nat_le}
 use Rattle.fb_values.specs.declared.facts.Entry.{Entry}
-use Rattle.view_model.specs.Stands.{RootStands}
-use Rattle.seg_tree.specs.Ids.{next_above, IsInRow}
-use Rattle.seg_tree.specs.Indexes.{root_ids, trees_of}
-use Rattle.seg_tree.specs.declared.roots.Roots.{Roots}
+use Rattle.seg_tree.specs.Ids.{next_above}
+use Rattle.seg_tree.specs.Indexes.{root_ids}
 use Rattle.fb_view.specs.Kept.{Kept}
 use Rattle.fb_core.specs.Cores.{live_datoms}
-use Rattle.fb_merge.specs.Made.{SharesLeaves, SharesNoDirectory}
 use Rattle.board_rule.specs.declared.view.Code.{Code}
 use Rattle.board_rule.specs.declared.view.View.{View}
-use Rattle.merge_worker.specs.declared.bases.Base.{Base}
-
--- the trees are of the history's entries up to the t `covered`
-abbrev pub IsBaseOf : Base → List Entry → ℕ → Type 0
-IsBaseOf base h covered = (base.c ≡ covered) × RootStands (trees_of base.roots) h covered
+use Rattle.fb_roots.specs.declared.bases.Base.{Base}
+use Rattle.fb_roots.specs.Bases.{IsBaseOf}
 
 -- trees of the old history's first entries are of the new one's too
 abbrev pub AreStill : List Entry → List Entry → Type 0
 AreStill old new = (trees : Base) (c : ℕ) → IsBaseOf trees old c → IsBaseOf trees new c
 
 -- the trees are those from before, or the store has them
-abbrev pub IsOldOrKept : {S : Type 0} → (S → Base → Type 0) → Base → S → Base → Type 0
-IsOldOrKept keeps old store new = (new ≡ old) ⊎ keeps store new
+abbrev pub IsOldOrKept : {S : Type 0} → (Base → S → Type 0) → Base → S → Base → Type 0
+IsOldOrKept keeps old store new = (new ≡ old) ⊎ keeps new store
 
 -- ---- trees that are not adopted
 
@@ -32,9 +26,9 @@ abbrev pub AreAhead : Option Base → List Entry → Type 0
 AreAhead ahead h = IfSome ahead (λ trees. IsBaseOf trees h trees.c)
 
 -- they are those from before, or the store has them
-abbrev pub AreOldOrKept : {S : Type 0} → (S → Base → Type 0) → Option Base → S → Option Base
+abbrev pub AreOldOrKept : {S : Type 0} → (Base → S → Type 0) → Option Base → S → Option Base
     → Type 0
-AreOldOrKept keeps old store new = (new ≡ old) ⊎ IfSome new (keeps store)
+AreOldOrKept keeps old store new = (new ≡ old) ⊎ IfSome new (λ trees. keeps trees store)
 
 -- the trees from which the next merge starts: those that are not adopted, if there are any
 abbrev pub start_of : Base → Option Base → Base
@@ -42,14 +36,6 @@ start_of base None = base
 start_of base (Some ahead) = ahead
 
 -- ---- merges
-
--- The trees were made of older ones: their new nodes have the numbers from the first one on, none left
--- out, which are above the ids of the older ones, and their other nodes are older leaves.
-pub record AreMadeOf (first : ℕ) (old new : Roots) : Type 0 where
-  pub above : next_above (root_ids old) ≤ first
-  pub ids : IsInRow first (root_ids new)
-  pub older : SharesLeaves first old new
-  pub directories : SharesNoDirectory first new
 
 -- the number of the first new node: neither the store nor the older trees have it, or a greater one
 abbrev pub first_id : ℕ → Base → ℕ

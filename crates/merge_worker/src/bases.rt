@@ -1,62 +1,53 @@
-//! Trees that the worker has made, or starts from.
+//! Trees that the worker makes, or starts from.
 ghost use Rattle.std.specs.Prelude.{◌≡◌, ◌↔◌, IfOk, IsErrOf};
 ghost use Rattle.fb_model.specs.History.{basis};
 ghost use Rattle.seg_tree.specs.declared.roots.Roots.{Roots};
+ghost use Rattle.fb_roots.specs.Bases.{IsBaseOf, AreMadeOf};
 ghost use Rattle.fb_merge.specs.declared.stop.MergeStop.{MergeStop};
-ghost use Rattle.merge_worker.specs.Work.{IsBaseOf, AreMadeOf, IsOutOfIds, start_of, first_id};
+ghost use Rattle.merge_worker.specs.Work.{IsOutOfIds, start_of, first_id};
 
-use crate::stores::RootStore;
 use fb_memory::Memory;
 use fb_merge::{MergeStop, merged_onto};
+use fb_roots::{Base, RootStore};
 use fb_view::Snapshot;
-use seg_tree::Roots;
 use std::alloc::Global;
 use std::thread::Threads;
 
-/// Trees of the entries up to `c`.
-#[derive(Drop)]
-pub struct Base {
-    pub roots: Roots,
-    pub c: u32,
+/// The trees of a database value.
+pub fn base_of(snapshot: &Snapshot) -> Result<Base, Memory>
+    ensures stand { IfOk result
+        (λ base. IsBaseOf base snapshot.now.entries snapshot.now.covered) }
+    ensures roots { IfOk result (λ base. base.roots ≡ snapshot.now.roots) }
+{
+    let roots = snapshot.roots().share()?;
+    Ok(Base {
+        roots,
+        c: snapshot.covered(),
+    })
 }
 
-impl Base {
-    /// The trees of a database value.
-    pub fn of(snapshot: &Snapshot) -> Result<Base, Memory>
-        ensures stand { IfOk result
-            (λ base. IsBaseOf base snapshot.now.entries snapshot.now.covered) }
-        ensures roots { IfOk result (λ base. base.roots ≡ snapshot.now.roots) }
-    {
-        let roots = snapshot.roots().share()?;
-        Ok(Base {
-            roots,
-            c: snapshot.covered(),
-        })
-    }
-
-    /// The trees of all entries of a database value, made of ones that fit the store. They fit it too.
-    pub(crate) fn merged<T: RootStore, R: Threads + Sync>(
-        rt: &R,
-        alloc: Global,
-        store: &T,
-        start: &Base,
-        begin: &Snapshot,
-    ) -> Result<Base, MergeStop>
-        requires start { IsBaseOf start.now begin.now.entries start.now.c }
-        requires fits { T.fits store.now start.now.roots }
-        ensures stand { IfOk result
-            (λ base. IsBaseOf base begin.now.entries (basis begin.now.entries)) }
-        ensures fits { IfOk result (λ base. T.fits store.now base.roots) }
-        ensures spent { IsErrOf result MergeStop.Spent
-            ↔ IsOutOfIds (T.next store.now) start.now }
-    {
-        let first = first_new_id(store, start);
-        let roots = merged_onto(rt, alloc, &start.roots, start.c, begin, first)?;
-        Ok(Base {
-            roots,
-            c: begin.basis(),
-        })
-    }
+/// The trees of all entries of a database value, made of ones that fit the store. They fit it too.
+pub(crate) fn merged_base<T: RootStore, R: Threads + Sync>(
+    rt: &R,
+    alloc: Global,
+    store: &T,
+    start: &Base,
+    begin: &Snapshot,
+) -> Result<Base, MergeStop>
+    requires start { IsBaseOf start.now begin.now.entries start.now.c }
+    requires fits { T.fits store.now start.now.roots }
+    ensures stand { IfOk result
+        (λ base. IsBaseOf base begin.now.entries (basis begin.now.entries)) }
+    ensures fits { IfOk result (λ base. T.fits store.now base.roots) }
+    ensures spent { IsErrOf result MergeStop.Spent
+        ↔ IsOutOfIds (T.next store.now) start.now }
+{
+    let first = first_new_id(store, start);
+    let roots = merged_onto(rt, alloc, &start.roots, start.c, begin, first)?;
+    Ok(Base {
+        roots,
+        c: begin.basis(),
+    })
 }
 
 /// The number of a merge's first new node, which no node of the store has and none of the trees that it starts from.

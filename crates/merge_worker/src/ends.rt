@@ -1,7 +1,7 @@
 //! Why the worker ends.
-use crate::stores::KeepFault;
 use fb_memory::Memory;
 use fb_merge::MergeStop;
+use fb_roots::KeepFault;
 
 /// Why the worker has ended.
 #[derive(Clone, Copy, Debug, PartialEq, Eq)]

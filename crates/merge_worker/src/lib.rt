@@ -7,12 +7,10 @@ mod catching_up;
 mod ends;
 mod gates;
 mod settling;
-mod stores;
 mod working;
 
-pub use bases::Base;
+pub use bases::base_of;
 pub use ends::WorkEnd;
 pub use gates::{Gate, OpenGate, Point};
 pub use settling::settle;
-pub use stores::{KeepFault, NoStore, RootStore};
 pub use working::work;

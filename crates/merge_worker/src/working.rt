@@ -4,19 +4,20 @@ ghost use Rattle.fb_calls.specs.Faults.{Rose};
 ghost use Rattle.fb_model.specs.History.{basis};
 ghost use Rattle.board_rule.specs.Calls.{view_of};
 ghost use Rattle.fb_conn.specs.Seats.{IsWorkerOf};
-ghost use Rattle.merge_worker.specs.declared.bases.Base.{Base};
+ghost use Rattle.fb_roots.specs.declared.bases.Base.{Base};
+ghost use Rattle.fb_roots.specs.Bases.{IsBaseOf};
 ghost use Rattle.merge_worker.specs.declared.ends.WorkEnd.{WorkEnd};
-ghost use Rattle.merge_worker.specs.Work.{IsBaseOf, IsOldOrKept, AreAhead, AreOldOrKept, start_of, is_due, IsOutOfIds, IsOutOfTurns, IsSpent, IsSameWorker, AreStill};
+ghost use Rattle.merge_worker.specs.Work.{IsOldOrKept, AreAhead, AreOldOrKept, start_of, is_due, IsOutOfIds, IsOutOfTurns, IsSpent, IsSameWorker, AreStill};
 ghost use Rattle.merge_worker.specs.Ends.{HasCause, IsUnfailed};
 
-use crate::bases::{Base, start};
+use crate::bases::{merged_base, start};
 use crate::catching_up::{catch_up, take_latest};
 use crate::ends::WorkEnd;
 use crate::gates::{Gate, Point};
-use crate::stores::RootStore;
 use fb_conn::{Bell, Conn, Seat};
 use fb_log::Log;
 use fb_memory::Memory;
+use fb_roots::{Base, RootStore};
 use std::alloc::Global;
 use std::sync::Wait;
 use std::thread::Threads;
@@ -41,22 +42,25 @@ pub fn work<L: Log, T: RootStore, R: Threads + Wait + Sync, G: Gate>(
     requires base { IsBaseOf base.old seat.old.last.entries (view_of seat.old.board).covered }
     requires ahead { AreAhead ahead.old seat.old.last.entries }
     requires fits { T.fits store.old (start_of base.old ahead.old).roots }
-    requires going { T.goes store.old }
     ensures seat { IsWorkerOf conn.now seat.new }
     ensures same { IsSameWorker (view_of seat.old.board) (view_of seat.new.board) }
 
     // The adopted trees are of the same entries as the base, which is the one from before, or is kept.
     ensures base { IsBaseOf base.new seat.new.last.entries (view_of seat.new.board).covered }
-    ensures kept { IsOldOrKept T.keeps base.old store.new base.new }
-    ensures stays { (older : Base) → T.keeps store.old older → T.keeps store.new older }
+    ensures kept { (begun : T) → T.goes begun store.old
+        → IsOldOrKept (T.keeps begun) base.old store.new base.new }
+    ensures stays { (begun : T) (older : Base) → T.goes begun store.old
+        → T.keeps begun older store.old → T.keeps begun older store.new }
     ensures ahead { AreAhead ahead.new seat.new.last.entries }
-    ensures ahead_kept { AreOldOrKept T.keeps ahead.old store.new ahead.new }
+    ensures ahead_kept { (begun : T) → T.goes begun store.old
+        → AreOldOrKept (T.keeps begun) ahead.old store.new ahead.new }
     ensures fits { (result ≡ WorkEnd.StoreFault → ⊥)
         → T.fits store.new (start_of base.new ahead.new).roots }
     ensures shut { result ≡ WorkEnd.Shut → IsFalse (is_due conn.now.merge_at seat.new.last) }
     ensures fault { result ≡ WorkEnd.StoreFault → Rose (T.faults store.old) (T.faults store.new) }
     ensures unfailed { (result ≡ WorkEnd.StoreFault → ⊥)
-        → T.goes store.new × (T.faults store.new ≡ T.faults store.old) }
+        → ((begun : T) → T.goes begun store.old → T.goes begun store.new)
+        × (T.faults store.new ≡ T.faults store.old) }
 
     // Where nothing fails, it ends with `Spent` exactly where no further round could merge.
     ensures spent { result ≡ WorkEnd.Spent
@@ -108,14 +112,16 @@ fn round<L: Log, T: RootStore, R: Threads + Wait + Sync, G: Gate>(
     requires base { IsBaseOf base.old seat.old.last.entries (view_of seat.old.board).covered }
     requires ahead { AreAhead ahead.old seat.old.last.entries }
     requires fits { T.fits store.old (start_of base.old ahead.old).roots }
-    requires going { T.goes store.old }
     ensures seat { IsWorkerOf conn.now seat.new }
     ensures same { IsSameWorker (view_of seat.old.board) (view_of seat.new.board) }
     ensures base { IsBaseOf base.new seat.new.last.entries (view_of seat.new.board).covered }
-    ensures kept { IsOldOrKept T.keeps base.old store.new base.new }
-    ensures stays { (older : Base) → T.keeps store.old older → T.keeps store.new older }
+    ensures kept { (begun : T) → T.goes begun store.old
+        → IsOldOrKept (T.keeps begun) base.old store.new base.new }
+    ensures stays { (begun : T) (older : Base) → T.goes begun store.old
+        → T.keeps begun older store.old → T.keeps begun older store.new }
     ensures ahead { AreAhead ahead.new seat.new.last.entries }
-    ensures ahead_kept { AreOldOrKept T.keeps ahead.old store.new ahead.new }
+    ensures ahead_kept { (begun : T) → T.goes begun store.old
+        → AreOldOrKept (T.keeps begun) ahead.old store.new ahead.new }
     ensures fits { (IsErrOf result WorkEnd.StoreFault → ⊥)
         → T.fits store.new (start_of base.new ahead.new).roots }
     ensures not_due { IfOk result (λ merged. IsFalse merged
@@ -124,7 +130,8 @@ fn round<L: Log, T: RootStore, R: Threads + Wait + Sync, G: Gate>(
         (IsSpent conn.now.merge_at (view_of seat.new.board) seat.new.last (T.next store.new)
         (start_of base.new ahead.new))) }
     ensures unfailed { (IsErrOf result WorkEnd.StoreFault → ⊥)
-        → T.goes store.new × (T.faults store.new ≡ T.faults store.old) }
+        → ((begun : T) → T.goes begun store.old → T.goes begun store.new)
+        × (T.faults store.new ≡ T.faults store.old) }
 {
     if !begins(rt, conn, seat)? {
         return Ok(false);
@@ -167,27 +174,30 @@ fn merge_last<L: Log, T: RootStore, R: Threads + Wait + Sync, G: Gate>(
     requires base { IsBaseOf base.old seat.old.last.entries (view_of seat.old.board).covered }
     requires ahead { AreAhead ahead.old seat.old.last.entries }
     requires fits { T.fits store.old (start_of base.old ahead.old).roots }
-    requires going { T.goes store.old }
     ensures seat { IsWorkerOf conn.now seat.new }
     ensures same { IsSameWorker (view_of seat.old.board) (view_of seat.new.board) }
     ensures last { IsErrOf result WorkEnd.Spent → seat.new.last ≡ seat.old.last }
     ensures base { IsBaseOf base.new seat.new.last.entries (view_of seat.new.board).covered }
-    ensures kept { IsOldOrKept T.keeps base.old store.new base.new }
-    ensures stays { (older : Base) → T.keeps store.old older → T.keeps store.new older }
+    ensures kept { (begun : T) → T.goes begun store.old
+        → IsOldOrKept (T.keeps begun) base.old store.new base.new }
+    ensures stays { (begun : T) (older : Base) → T.goes begun store.old
+        → T.keeps begun older store.old → T.keeps begun older store.new }
     ensures ahead { AreAhead ahead.new seat.new.last.entries }
-    ensures ahead_kept { AreOldOrKept T.keeps ahead.old store.new ahead.new }
+    ensures ahead_kept { (begun : T) → T.goes begun store.old
+        → AreOldOrKept (T.keeps begun) ahead.old store.new ahead.new }
     ensures fits { (IsErrOf result WorkEnd.StoreFault → ⊥)
         → T.fits store.new (start_of base.new ahead.new).roots }
     ensures end { IfErr result (HasCause (Rose (T.faults store.old) (T.faults store.new))
         (IsOutOfIds (T.next store.new) (start_of base.new ahead.new))) }
     ensures unfailed { (IsErrOf result WorkEnd.StoreFault → ⊥)
-        → T.goes store.new × (T.faults store.new ≡ T.faults store.old) }
+        → ((begun : T) → T.goes begun store.old → T.goes begun store.new)
+        × (T.faults store.new ≡ T.faults store.old) }
 {
     let begin = seat.last();
     // A snapshot that is asked tells that it stands for its history.
     let _basis = begin.basis();
     gate.pass(Point::BeforeMerge);
-    let next = Base::merged(rt, alloc, store, start(base, ahead), begin)?;
+    let next = merged_base(rt, alloc, store, start(base, ahead), begin)?;
     gate.pass(Point::AfterMerge);
     store.keep(alloc, &next)?;
     gate.pass(Point::BeforeAdopt);

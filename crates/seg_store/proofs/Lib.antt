@@ -7,3 +7,4 @@ pub mod Loading
 pub mod Same
 pub mod Next
 pub mod Storable
+pub mod Rooting

@@ -4,3 +4,4 @@ pub mod Stores
 pub mod Loads
 pub mod Finding
 pub mod Counts
+pub mod Keeping

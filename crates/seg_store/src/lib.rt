@@ -5,6 +5,7 @@ mod counts;
 mod found;
 mod laws;
 mod loads;
+mod roots;
 mod stores;
 
 pub use laws::{trees_made_of_fitting_ones_fit, trees_of_a_lawful_history_are_storable};

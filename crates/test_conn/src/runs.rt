@@ -2,7 +2,8 @@
 ghost use Rattle.std.specs.Prelude.{◌≡◌};
 ghost use Rattle.board_rule.specs.Calls.{view_of};
 ghost use Rattle.fb_conn.specs.Seats.{IsWorkerOf};
-ghost use Rattle.merge_worker.specs.Work.{IsBaseOf, IsSameWorker};
+ghost use Rattle.fb_roots.specs.Bases.{IsBaseOf};
+ghost use Rattle.merge_worker.specs.Work.{IsSameWorker};
 ghost use Rattle.test_conn.specs.Seated.{AreSessions};
 
 use crate::answers::{Answer, ask};
@@ -14,8 +15,9 @@ use crate::orders::Script;
 use anyhow::{Result, bail};
 use fb_conn::{Closed, Conn, Made, Seat};
 use fb_core::{Core, CoreParts};
+use fb_roots::{Base, NoStore};
 use fb_view::Snapshot;
-use merge_worker::{Base, NoStore, OpenGate, WorkEnd, work};
+use merge_worker::{OpenGate, WorkEnd, base_of, work};
 use std::alloc::Global;
 use std::sync::Wait;
 use std::thread::Threads;
@@ -70,7 +72,7 @@ fn run<R: Threads + Wait + Sync>(
         fails_at: Some(fails_at),
     };
     let core = Core::of(alloc, Snapshot::first(alloc)?)?;
-    let mut base = Base::of(core.snapshot())?;
+    let mut base = base_of(core.snapshot())?;
     let Made {
         conn,
         mut seats,

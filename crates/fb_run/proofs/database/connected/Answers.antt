@@ -1,6 +1,6 @@
 use Rattle.std.proofs.Common.{sym, subst}
 use Rattle.board_rule.specs.Calls.{view_of}
-use Rattle.merge_worker.specs.Work.{IsBaseOf}
+use Rattle.fb_roots.specs.Bases.{IsBaseOf}
 use Rattle.fb_run.proofs.Running.{is_made}
 use Rattle.fb_run.proofs.database.connected.Goals as goal
 

@@ -1,7 +1,7 @@
 use Rattle.std.proofs.Common.{sym, subst}
 use Rattle.fb_model.proofs.Times.{upto-basis}
 use Rattle.fb_view.specs.Kept.{Kept}
-use Rattle.merge_worker.specs.Work.{IsBaseOf}
+use Rattle.fb_roots.specs.Bases.{IsBaseOf}
 use Rattle.merge_worker.proofs.working.publish.Goals as goal
 
 pub rebased-requires-clause-begins : goal.rebased-requires-clause-begins

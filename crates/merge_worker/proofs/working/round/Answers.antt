@@ -1,5 +1,5 @@
 use Rattle.std.proofs.Common.{ℕ, sym, subst}
-use Rattle.merge_worker.specs.Work.{IsBaseOf}
+use Rattle.fb_roots.specs.Bases.{IsBaseOf}
 use Rattle.merge_worker.proofs.Ahead.{ahead_of_longer}
 use Rattle.merge_worker.proofs.working.round.Goals as goal
 

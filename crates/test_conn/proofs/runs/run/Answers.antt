@@ -1,7 +1,7 @@
 use Rattle.std.proofs.Common.{List, ℕ, sym, subst}
 use Rattle.fb_values.specs.declared.facts.Entry.{Entry}
 use Rattle.fb_view.specs.Kept.{Kept}
-use Rattle.merge_worker.specs.Work.{IsBaseOf}
+use Rattle.fb_roots.specs.Bases.{IsBaseOf}
 use Rattle.test_conn.proofs.runs.run.Goals as goal
 
 pub loop-turn-init : goal.loop-turn-init

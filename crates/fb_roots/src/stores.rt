@@ -1,12 +1,12 @@
-//! Where trees are kept before they are adopted: a joint between the worker and whatever keeps them.
+//! The store of trees as the worker sees it, and that of a database whose trees are had in memory alone.
 ghost use Rattle.std.specs.Prelude.{◌≡◌, ◌≤◌, ℕ, List, OnOk, IsErrOf};
 ghost use Rattle.fb_calls.specs.Faults.{Rose};
 ghost use Rattle.fb_values.specs.declared.facts.Entry.{Entry};
 ghost use Rattle.fb_model.specs.Lawful.{IsLawful};
 ghost use Rattle.seg_tree.specs.declared.roots.Roots.{Roots};
-ghost use Rattle.merge_worker.specs.declared.bases.Base.{Base};
-ghost use Rattle.merge_worker.specs.declared.stores.KeepFault.{KeepFault};
-ghost use Rattle.merge_worker.specs.Work.{IsBaseOf, AreMadeOf};
+ghost use Rattle.fb_roots.specs.declared.bases.Base.{Base};
+ghost use Rattle.fb_roots.specs.declared.stores.KeepFault.{KeepFault};
+ghost use Rattle.fb_roots.specs.Bases.{IsBaseOf, AreMadeOf};
 
 use crate::bases::Base;
 use fb_memory::Memory;
@@ -36,16 +36,16 @@ pub trait RootStore: Drop {
     /// How many calls of the outside have failed in it.
     ghost faults: { Self → ℕ };
 
-    /// None of its calls has failed.
-    ghost goes: { Self → Type 0 };
+    /// By what the store was when the database was opened, and what it is now: none of its calls has failed since.
+    ghost goes: { Self → Self → Type 0 };
 
-    /// It has these trees.
-    ghost keeps: { Self → Base → Type 0 };
+    /// By the same two: it has these trees.
+    ghost keeps: { Self → Base → Self → Type 0 };
 
     /// A number that is above the ids of all nodes that it has.
     ghost next: { Self → ℕ };
 
-    /// Each node of the trees whose id a node of the store has is that node.
+    /// No call of it has failed, and each node of the trees whose id a node of it has is that node.
     ghost fits: { Self → Roots → Type 0 };
 
     /// The least number that a new node may have. Trees fit if they were made of ones that fit, with new nodes numbered from here on.
@@ -56,17 +56,19 @@ pub trait RootStore: Drop {
 
     /// Keeps trees that stand for the first entries of a history. What it has it goes on having, whatever the answer.
     fn keep(&mut self, alloc: Global, base: &Base) -> Result<(), KeepFault>
-        requires going { goes self.old }
         requires stand { (h : List Entry) × IsLawful h × IsBaseOf base.now h base.now.c }
         requires fits { fits self.old base.now.roots }
-        ensures kept { OnOk result (keeps self.new base.now) }
-        ensures stays { (older : Base) → keeps self.old older → keeps self.new older }
+        ensures kept { OnOk result ((begun : Self) → goes begun self.old
+            → keeps begun base.now self.new) }
+        ensures stays { (begun : Self) (older : Base) → goes begun self.old
+            → keeps begun older self.old → keeps begun older self.new }
         ensures fit { OnOk result (fits self.new base.now.roots) }
         ensures still_fit { IsErrOf result KeepFault.Memory
             → (trees : Roots) → fits self.old trees → fits self.new trees }
         ensures fault { IsErrOf result KeepFault.Failed → Rose (faults self.old) (faults self.new) }
         ensures unfailed { (IsErrOf result KeepFault.Failed → ⊥)
-            → goes self.new × (faults self.new ≡ faults self.old) };
+            → ((begun : Self) → goes begun self.old → goes begun self.new)
+            × (faults self.new ≡ faults self.old) };
 }
 
 /// No store: trees are had in memory alone, which no opening finds again, and nothing can fail.
@@ -76,9 +78,9 @@ pub struct NoStore;
 impl RootStore for NoStore {
     ghost faults = { λ _. 0 };
 
-    ghost goes = { λ _. Unit {0} };
+    ghost goes = { λ _ _. Unit {0} };
 
-    ghost keeps = { λ _ _. Unit {0} };
+    ghost keeps = { λ _ _ _. Unit {0} };
 
     ghost next = { λ _. 0 };
 

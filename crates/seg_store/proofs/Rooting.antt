@@ -1,0 +1,78 @@
+-- What a crash leaves of a store that keeps trees, over a call that keeps others.
+use Rattle.std.proofs.Common.{◌≡◌, ◌≤◌, inl, inr, ℕ, List, [], ◌∷◌, ◌++◌, length, Option, refl, sym, ap, subst}
+use Rattle.std.specs.Prelude.{Contains}
+use Rattle.std.proofs.lemmas.List.Elements.{Contains-append_left, Contains-append_right}
+use Rattle.disk_model.specs.Disk.{WhereTold, LeavesOnly}
+use Rattle.disk_model.specs.Journal.{segments_mark, JournalStands}
+use Rattle.disk_model.proofs.Journals.{stands-holds}
+use Rattle.log_model.specs.Kept.{KeptRoot, FileKeeps, kept_roots, nodes_of}
+use Rattle.log_model.proofs.KeptRoots.{one_keeping}
+use Rattle.fb_journal.specs.Journals.{mark_of, StaysTold}
+use Rattle.fb_roots.specs.declared.bases.Base.{Base}
+use Rattle.seg_codec.specs.Trees.{Fits}
+use Rattle.seg_codec.proofs.Among.{member_here}
+use Rattle.seg_store.specs.declared.stores.SegStore.{SegStore}
+use Rattle.seg_store.specs.Trees.{root_of, KeepsRoot}
+use Rattle.seg_store.specs.Stores.{disk_in, StoreKeeps, KeepsOneMore}
+use Rattle.seg_store.specs.Keeping.{GoesOn, FileHas, HasKept, FitsStore}
+
+held_by_more : (before : List KeptRoot) (root held : KeptRoot) (image : List ℕ) → Contains before held → KeepsOneMore before root image
+    → FileHas image held
+held_by_more before root held image there (inl was) = (before, was, there)
+held_by_more before root held image there (inr more) = (before ++ root ∷ [], more, Contains-append_left before (root ∷ []) held there)
+
+module _ {D : Type 0} {g : _} (bytes : D → Option (List ℕ)) (images : D → List ℕ → Type 0) where
+  -- what a crash leaves of a store that keeps the records
+  left_of : (records : List (List ℕ)) (store : SegStore D g) → StoreKeeps bytes images records store
+      → WhereTold (bytes (disk_in store)) (λ _. (image : List ℕ) → images (disk_in store) image → FileKeeps image (kept_roots records))
+  left_of records store keeps = λ file told image left.
+      let kept = keeps.journal.file file told in
+      let stands : JournalStands segments_mark records file =
+      subst (λ (m : List ℕ). JournalStands m records file) store.marked
+      (stands-holds (mark_of store.journal) records file (ap length store.marked) kept.0) in
+      (records, inl (subst (λ (f : List ℕ). JournalStands segments_mark records f) (sym (kept.1 image left)) stands), refl)
+
+  -- the trees of the newest record
+  pub newest_kept : (records : List (List ℕ)) (payload : List ℕ) (base : Base) (begun old new : SegStore D g)
+      → KeepsRoot records payload base.roots base.c → StoreKeeps bytes images (records ++ payload ∷ []) new
+      → StaysTold (bytes (disk_in old)) (bytes (disk_in new)) → GoesOn bytes images begun old
+      → HasKept bytes images begun base new
+  newest_kept records payload base begun old new keeps store told goes = λ file was image left.
+      let root : KeptRoot = root_of base.roots base.c in
+      let mid = goes.told file was in
+      let now = told mid.0 mid.1 in (
+        kept_roots (records ++ payload ∷ []),
+        left_of (records ++ payload ∷ []) new store now.0 now.1 image left,
+        subst (λ (kept : List KeptRoot). Contains kept root) (sym keeps.roots)
+            (Contains-append_right (kept_roots records) (root ∷ []) root (member_here root [])),
+      )
+
+  pub goes_further : (records : List (List ℕ)) (begun old new : SegStore D g) → StoreKeeps bytes images records new
+      → StaysTold (bytes (disk_in old)) (bytes (disk_in new)) → GoesOn bytes images begun old → GoesOn bytes images begun new
+  goes_further records begun old new store told goes = record {
+    records = records;
+    store = store;
+    told = λ file was. let mid = goes.told file was in told mid.0 mid.1;
+  }
+
+  -- trees that were kept before a call that keeps others, whatever it answers
+  pub still_kept : (moment : D → ℕ) (since : D → ℕ → List ℕ → Type 0) → ((disk : D) → WhereTold (bytes disk) (images disk))
+      → ((disk : D) (t : ℕ) (image : List ℕ) → t ≤ moment disk → images disk image → since disk t image)
+      → (base : Base) (old new : SegStore D g)
+      → ((records : List (List ℕ)) → StoreKeeps bytes images records old → Fits (nodes_of records) base.roots
+      → WhereTold (bytes (disk_in old))
+      (λ _. LeavesOnly moment since (disk_in old) (disk_in new) (KeepsOneMore (kept_roots records) (root_of base.roots base.c))))
+      → FitsStore bytes images old base.roots
+      → (begun : SegStore D g) (older : Base) → GoesOn bytes images begun old → HasKept bytes images begun older old
+      → HasKept bytes images begun older new
+  still_kept moment since reads_an_image counts_now base old new run fits begun older goes kept = λ file was image left.
+      let records : List (List ℕ) = fits.records in
+      let held : KeptRoot = root_of older.roots older.c in
+      let mid = goes.told file was in
+      let read = reads_an_image (disk_in old) mid.0 mid.1 in
+      let had = kept file was mid.0 read in
+      let same : had.0 ≡ kept_roots records =
+      one_keeping mid.0 had.0 (kept_roots records) had.1 (left_of records old fits.keeps mid.0 mid.1 mid.0 read) in
+      let now = run records fits.keeps fits.fits mid.0 mid.1 in
+      held_by_more (kept_roots records) (root_of base.roots base.c) held image (subst (λ (roots : List KeptRoot). Contains roots held) same had.2)
+      (now.each image (counts_now (disk_in new) (moment (disk_in old)) image now.later left))
