@@ -1,6 +1,6 @@
 -- What the value in slot 0 of the board stands for, and when its log goes with it.
 -- This project's own choice.
-use Rattle.std.specs.Prelude.{◌≡◌, ℕ, List, [], ◌∷◌, length, Option, Some, None, option_map}
+use Rattle.std.specs.Prelude.{◌≡◌, ℕ, List, [], ◌∷◌, ◌++◌, length, Option, Some, None, option_map}
 use base.Stored.{Gv}
 use Rattle.fb_values.specs.declared.facts.Entry.{Entry}
 use Rattle.fb_values.specs.contracts.facts.Entry as an_entry
@@ -37,6 +37,7 @@ module _ {L : Type 0} (keeps : L → List Entry → L → Type 0)
       (stop.at ≡ length entries)
       × ((draft : Draft)
       × (torn ≡ Some draft)
+      × (draft.after.entries ≡ entries ++ entry_of draft ∷ [])
       × IsLawfulAfter entries (entry_of draft)
       × broke begun entries (entry_of draft) log)
 

@@ -240,7 +240,7 @@ pub torn_at : {D : Type 0} {g : _} (disks : DiskTells D) (begun log : DiskLog D 
 torn_at disks begun log h None torn lawful stands = ap stop_of stands.0
 torn_at disks begun log h (Some who) torn lawful stands =
     let draft : Draft = stands.1.0 in
-    let t : basis draft.after.entries ≡ who.at = omega (arith, next_of h draft stands.1.2, IsLawful-length h lawful, stands.0) in
+    let t : basis draft.after.entries ≡ who.at = omega (arith, next_of h draft stands.1.3, IsLawful-length h lawful, stands.0) in
     ap stop_of stands.1.1 ∙ ap (λ (n : ℕ). Some n) t
 
 module _ {D : Type 0} {g : _} (disks : DiskTells D) (begun log : DiskLog D g) (disk : D)
@@ -262,7 +262,10 @@ module _ {D : Type 0} {g : _} (disks : DiskTells D) (begun log : DiskLog D g) (d
       let one : Some draft ≡ Some stands.1.0 = stands.1.1 in
       let same : draft ≡ stands.1.0 = cc in
       subst (λ (d : Draft). LeavesLog disks (count_in begun) (disk_in begun) h (Some d) disk) (sym same)
-      (record { lawful = stands.1.2; t = next_of h stands.1.0 stands.1.2 }, broke begun h (entry_of stands.1.0) stands.1.3)
+      (
+        record { lawful = stands.1.3; entries = stands.1.2; t = next_of h stands.1.0 stands.1.3 },
+        broke begun h (entry_of stands.1.0) stands.1.4,
+      )
 
 -- ---- the database, as it was closed: merging changes neither the entries nor their authors
 

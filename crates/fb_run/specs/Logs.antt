@@ -23,6 +23,7 @@ with_torn h (Some draft) = h ++ entry_of draft ∷ []
 -- the transaction would have been the next one of the history
 pub record IsNext (h : List Entry) (draft : Draft) : Type 0 where
   pub lawful : IsLawfulAfter h (entry_of draft)
+  pub entries : draft.after.entries ≡ h ++ entry_of draft ∷ []
   pub t : basis draft.after.entries ≡ basis h + 1
 
 -- The log has this history, which goes on from the opening's basis; or it failed at the torn transaction, and may have its entry or
