@@ -5,6 +5,7 @@ ghost use Rattle.fb_journal.specs.Marks.{mark_bytes};
 ghost use Rattle.fb_journal.specs.Readings.{IsBegun, LeavesBegun};
 ghost use Rattle.fb_journal.specs.Starts.{CountsStart, IsWhyNot};
 ghost use Rattle.fb_journal.specs.Windows.{Shows};
+ghost use Rattle.fb_journal.specs.declared.starts.StartFault.{StartFault};
 
 use crate::marks::MARK;
 use crate::reads::settle;
@@ -24,6 +25,8 @@ pub(crate) fn begin<D: Disk>(alloc: Global, disk: &mut D, mark: Mark) -> Result<
     ensures room { IfOk result (λ window. 15 < window.len) }
     ensures why_not { IfErr result
         (λ fault. IsWhyNot (mark_bytes mark) (D.bytes disk.old) fault []) }
+    ensures bytes { IfErr result (λ fault. (nth at : ℕ) → fault ≡ StartFault.BadLog nth at
+        → D.bytes disk.new ≡ D.bytes disk.old) }
     ensures counted { MatchResult result (λ _. D.faults disk.new ≡ D.faults disk.old)
         (λ fault. CountsStart fault (D.faults disk.old) (D.faults disk.new)) }
     ensures any_moment { LeavesBegun D.bytes D.images D.moment D.images_since disk.old disk.new }

@@ -40,6 +40,7 @@ pub struct Reading<D: Disk> {
 impl<D: Disk> Journal<D> {
     ghost use Rattle.fb_journal.specs.Readings.{disk_from, HasRead, LeavesBegun};
     ghost use Rattle.fb_journal.specs.Starts.{IsWhyNot};
+    ghost use Rattle.fb_journal.specs.declared.starts.StartFault.{StartFault};
 
     /// Begins to read the journal of a disk, with a sync first. Of at most 16 bytes it makes a new journal.
     pub fn open(alloc: Global, disk: D, mark: Mark) -> Result<Reading<D>, StartStop<D>>
@@ -49,6 +50,9 @@ impl<D: Disk> Journal<D> {
         // A fault of the file is its first, and the disk's is counted.
         ensures why_not { IfErr result
             (λ s. IsWhyNot (mark_bytes mark) (D.bytes disk) s.fault s.before) }
+        ensures before { IfErr result (λ s. s.before ≡ []) }
+        ensures bytes { IfErr result (λ s. (nth at : ℕ) → s.fault ≡ StartFault.BadLog nth at
+            → D.bytes s.disk ≡ D.bytes disk) }
         ensures counted { MatchResult result (λ r. D.faults (disk_from r) ≡ D.faults disk)
             (λ s. CountsStart s.fault (D.faults disk) (D.faults s.disk)) }
 
