@@ -39,7 +39,7 @@ pub trait RootStore: Drop {
     /// By what the store was when the database was opened, and what it is now: none of its calls has failed since.
     ghost goes: { Self → Self → Type 0 };
 
-    /// By the same two: it has these trees.
+    /// By what the store was when the database was opened, and what it is now: it has these trees.
     ghost keeps: { Self → Base → Self → Type 0 };
 
     /// A number that is above the ids of all nodes that it has.

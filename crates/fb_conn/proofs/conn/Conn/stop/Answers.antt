@@ -11,7 +11,8 @@ pub end_seen-requires-clause-sound : goal.end_seen-requires-clause-sound
 end_seen-requires-clause-sound g c =
     let h = c.args.held.home.core.snapshot.entries in let draft = c.args.draft in let own = c.requires.draft in
     let at : c.basis-at.result ≡ basis draft.after.entries = c.basis-at.ensures.basis ∙ ap (λ (k : Kept). basis k.entries) c.after.ensures in
-    (at ∙ (ap basis own.entries ∙ (next_basis h (entry_of draft) own.next ∙ sym (IsLawful-length h c.requires.stands.snapshot.history.lawful))), (draft, refl, own.entries, own.next, c.requires.broke))
+    let next = next_basis h (entry_of draft) own.next ∙ sym (IsLawful-length h c.requires.stands.snapshot.history.lawful) in
+    (at ∙ (ap basis own.entries ∙ next), (draft, refl, own.entries, own.next, c.requires.broke))
 
 pub returns-clause-fault : goal.returns-clause-fault
 returns-clause-fault g c =
