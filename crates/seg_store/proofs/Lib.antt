@@ -7,4 +7,5 @@ pub mod Loading
 pub mod Same
 pub mod Next
 pub mod Storable
+pub mod Numbering
 pub mod Rooting

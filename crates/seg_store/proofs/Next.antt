@@ -12,11 +12,11 @@ among_below (x ∷ ids) id is = elim (or_cases (nat_eq id x) (is_among ids id) i
   | inr later ↦ omega (arith, among_below ids id later)
 ]
 
-some : (ids : List ℕ) → 1 ≤ next_above ids
+pub some : (ids : List ℕ) → 1 ≤ next_above ids
 some [] = omega arith
 some (x ∷ ids) = omega (arith, some ids)
 
-least : (ids : List ℕ) (n : ℕ) → 1 ≤ n → ((id : ℕ) → is_among ids id ≡ true → id < n) → next_above ids ≤ n
+pub least : (ids : List ℕ) (n : ℕ) → 1 ≤ n → ((id : ℕ) → is_among ids id ≡ true → id < n) → next_above ids ≤ n
 least [] n above each = omega (arith, above)
 least (x ∷ ids) n above each =
     omega (

@@ -1,5 +1,5 @@
 -- What a crash leaves of a store that keeps trees, over a call that keeps others.
-use Rattle.std.proofs.Common.{◌≡◌, ◌≤◌, inl, inr, ℕ, List, [], ◌∷◌, ◌++◌, length, Option, refl, sym, ap, subst}
+use Rattle.std.proofs.Common.{◌≡◌, ◌≤◌, inl, inr, ℕ, List, [], ◌∷◌, ◌++◌, length, Option, refl, sym, ap, subst, arith}
 use Rattle.std.specs.Prelude.{Contains}
 use Rattle.std.proofs.lemmas.List.Elements.{Contains-append_left, Contains-append_right}
 use Rattle.disk_model.specs.Disk.{WhereTold, LeavesOnly}
@@ -9,12 +9,15 @@ use Rattle.log_model.specs.Kept.{KeptRoot, FileKeeps, kept_roots, nodes_of}
 use Rattle.log_model.proofs.KeptRoots.{one_keeping}
 use Rattle.fb_journal.specs.Journals.{mark_of, StaysTold}
 use Rattle.fb_roots.specs.declared.bases.Base.{Base}
-use Rattle.seg_codec.specs.Trees.{Fits}
+use Rattle.seg_tree.specs.Ids.{next_above}
+use Rattle.seg_tree.specs.Indexes.{root_ids}
+use Rattle.seg_codec.specs.Trees.{Fits, ids_lacking}
 use Rattle.seg_codec.proofs.Among.{member_here}
 use Rattle.seg_store.specs.declared.stores.SegStore.{SegStore}
 use Rattle.seg_store.specs.Trees.{root_of, KeepsRoot}
-use Rattle.seg_store.specs.Stores.{disk_in, StoreKeeps, KeepsOneMore}
+use Rattle.seg_store.specs.Stores.{disk_in, next_in, StoreKeeps, KeepsOneMore}
 use Rattle.seg_store.specs.Keeping.{GoesOn, FileHas, HasKept, FitsStore}
+use Rattle.seg_store.proofs.Numbering.{below_with, no_less}
 
 held_by_more : (before : List KeptRoot) (root held : KeptRoot) (image : List ℕ) → Contains before held → KeepsOneMore before root image
     → FileHas image held
@@ -35,17 +38,20 @@ module _ {D : Type 0} {g : _} (bytes : D → Option (List ℕ)) (images : D → 
   -- the trees of the newest record
   pub newest_kept : (records : List (List ℕ)) (payload : List ℕ) (base : Base) (begun old new : SegStore D g)
       → KeepsRoot records payload base.roots base.c → StoreKeeps bytes images (records ++ payload ∷ []) new
-      → StaysTold (bytes (disk_in old)) (bytes (disk_in new)) → GoesOn bytes images begun old
-      → HasKept bytes images begun base new
-  newest_kept records payload base begun old new keeps store told goes = λ file was image left.
-      let root : KeptRoot = root_of base.roots base.c in
-      let mid = goes.told file was in
-      let now = told mid.0 mid.1 in (
-        kept_roots (records ++ payload ∷ []),
-        left_of (records ++ payload ∷ []) new store now.0 now.1 image left,
-        subst (λ (kept : List KeptRoot). Contains kept root) (sym keeps.roots)
-            (Contains-append_right (kept_roots records) (root ∷ []) root (member_here root [])),
-      )
+      → StaysTold (bytes (disk_in old)) (bytes (disk_in new)) → new.ids ≡ old.ids ++ ids_lacking old.ids base.roots
+      → GoesOn bytes images begun old → HasKept bytes images begun base new
+  newest_kept records payload base begun old new keeps store told ids goes = record {
+    root = λ file was image left.
+        let root : KeptRoot = root_of base.roots base.c in
+        let mid = goes.told file was in
+        let now = told mid.0 mid.1 in (
+          kept_roots (records ++ payload ∷ []),
+          left_of (records ++ payload ∷ []) new store now.0 now.1 image left,
+          subst (λ (kept : List KeptRoot). Contains kept root) (sym keeps.roots)
+              (Contains-append_right (kept_roots records) (root ∷ []) root (member_here root [])),
+        );
+    below = subst (λ (l : List ℕ). next_above (root_ids base.roots) ≤ next_above l) (sym ids) (below_with old.ids base.roots);
+  }
 
   pub goes_further : (records : List (List ℕ)) (begun old new : SegStore D g) → StoreKeeps bytes images records new
       → StaysTold (bytes (disk_in old)) (bytes (disk_in new)) → GoesOn bytes images begun old → GoesOn bytes images begun new
@@ -62,17 +68,28 @@ module _ {D : Type 0} {g : _} (bytes : D → Option (List ℕ)) (images : D → 
       → ((records : List (List ℕ)) → StoreKeeps bytes images records old → Fits (nodes_of records) base.roots
       → WhereTold (bytes (disk_in old))
       (λ _. LeavesOnly moment since (disk_in old) (disk_in new) (KeepsOneMore (kept_roots records) (root_of base.roots base.c))))
-      → FitsStore bytes images old base.roots
+      → FitsStore bytes images old base.roots → next_in old ≤ next_in new
       → (begun : SegStore D g) (older : Base) → GoesOn bytes images begun old → HasKept bytes images begun older old
       → HasKept bytes images begun older new
-  still_kept moment since reads_an_image counts_now base old new run fits begun older goes kept = λ file was image left.
-      let records : List (List ℕ) = fits.records in
-      let held : KeptRoot = root_of older.roots older.c in
-      let mid = goes.told file was in
-      let read = reads_an_image (disk_in old) mid.0 mid.1 in
-      let had = kept file was mid.0 read in
-      let same : had.0 ≡ kept_roots records =
-      one_keeping mid.0 had.0 (kept_roots records) had.1 (left_of records old fits.keeps mid.0 mid.1 mid.0 read) in
-      let now = run records fits.keeps fits.fits mid.0 mid.1 in
-      held_by_more (kept_roots records) (root_of base.roots base.c) held image (subst (λ (roots : List KeptRoot). Contains roots held) same had.2)
-      (now.each image (counts_now (disk_in new) (moment (disk_in old)) image now.later left))
+  still_kept moment since reads_an_image counts_now base old new run fits no_fewer begun older goes kept = record {
+    root = λ file was image left.
+        let records : List (List ℕ) = fits.records in
+        let held : KeptRoot = root_of older.roots older.c in
+        let mid = goes.told file was in
+        let read = reads_an_image (disk_in old) mid.0 mid.1 in
+        let had = kept.root file was mid.0 read in
+        let same : had.0 ≡ kept_roots records =
+        one_keeping mid.0 had.0 (kept_roots records) had.1 (left_of records old fits.keeps mid.0 mid.1 mid.0 read) in
+        let now = run records fits.keeps fits.fits mid.0 mid.1 in
+        held_by_more (kept_roots records) (root_of base.roots base.c) held image
+        (subst (λ (roots : List KeptRoot). Contains roots held) same had.2)
+        (now.each image (counts_now (disk_in new) (moment (disk_in old)) image now.later left));
+    below = omega (arith, kept.below, no_fewer);
+  }
+
+-- what the next number is, by the ids
+pub next_as : {D : Type 0} {g : _} (old new : SegStore D g) → new.ids ≡ old.ids → next_in old ≤ next_in new
+next_as old new same = omega (arith, ap next_above same)
+
+pub next_with : {D : Type 0} {g : _} (old new : SegStore D g) (more : List ℕ) → new.ids ≡ old.ids ++ more → next_in old ≤ next_in new
+next_with old new more are = omega (arith, ap next_above are, no_less old.ids more)

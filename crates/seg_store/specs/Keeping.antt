@@ -1,16 +1,18 @@
 -- A store on a disk as the worker sees it, by what it was when the database was opened, and what it
 -- is now.
 -- This project's own choice.
-use Rattle.std.specs.Prelude.{ℕ, List, Option, Contains}
+use Rattle.std.specs.Prelude.{◌≤◌, ℕ, List, Option, Contains}
 use Rattle.disk_model.specs.Disk.{WhereTold}
 use Rattle.log_model.specs.Kept.{KeptRoot, FileKeeps, nodes_of}
 use Rattle.fb_journal.specs.Journals.{StaysTold}
 use Rattle.seg_tree.specs.declared.roots.Roots.{Roots}
+use Rattle.seg_tree.specs.Ids.{next_above}
+use Rattle.seg_tree.specs.Indexes.{root_ids}
 use Rattle.seg_codec.specs.Trees.{Fits}
 use Rattle.fb_roots.specs.declared.bases.Base.{Base}
 use Rattle.seg_store.specs.declared.stores.SegStore.{SegStore}
 use Rattle.seg_store.specs.Trees.{root_of}
-use Rattle.seg_store.specs.Stores.{disk_in, StoreKeeps}
+use Rattle.seg_store.specs.Stores.{disk_in, next_in, StoreKeeps}
 
 -- The store goes on, and its disk tells its bytes if it told them then.
 pub record GoesOn {D : Type 0} {g : _} (bytes : D → Option (List ℕ))
@@ -23,13 +25,14 @@ pub record GoesOn {D : Type 0} {g : _} (bytes : D → Option (List ℕ))
 abbrev pub FileHas : List ℕ → KeptRoot → Type 0
 FileHas file root = (kept : List KeptRoot) × FileKeeps file kept × Contains kept root
 
--- where the disk told its bytes then, a crash now leaves a file that keeps the trees and their c as
--- a root
-abbrev pub HasKept : {D : Type 0} {g : _} → (D → Option (List ℕ)) → (D → List ℕ → Type 0)
-    → SegStore D g → Base → SegStore D g → Type 0
-HasKept bytes images begun base now =
-    WhereTold (bytes (disk_in begun))
-    (λ _. (image : List ℕ) → images (disk_in now) image → FileHas image (root_of base.roots base.c))
+-- Where the disk told its bytes then, a crash now leaves a file that keeps the trees and their c as
+-- a root. New nodes get numbers above those of the trees.
+pub record HasKept {D : Type 0} {g : _} (bytes : D → Option (List ℕ))
+    (images : D → List ℕ → Type 0) (begun : SegStore D g) (base : Base) (now : SegStore D g)
+    : Type 0 where
+  pub root : WhereTold (bytes (disk_in begun)) (λ _. (image : List ℕ) → images (disk_in now) image
+      → FileHas image (root_of base.roots base.c))
+  pub below : next_above (root_ids base.roots) ≤ next_in now
 
 -- the store goes on, and the trees fit the nodes of its file
 pub record FitsStore {D : Type 0} {g : _} (bytes : D → Option (List ℕ))

@@ -3,8 +3,10 @@ ghost use Rattle.std.specs.Prelude.{◌≡◌, ◌<◌, ◌++◌, [], ◌∷◌,
 ghost use Rattle.disk_model.specs.Disk.{WhereTold};
 ghost use Rattle.disk_model.specs.Journal.{segments_mark};
 ghost use Rattle.log_model.specs.Kept.{FileKeeps};
+ghost use Rattle.fb_journal.specs.Journals.{StaysTold};
 ghost use Rattle.fb_journal.specs.Readings.{disk_from, left_in, HasRead};
 ghost use Rattle.fb_journal.specs.Starts.{CountsStart, IsWhyNot};
+ghost use Rattle.fb_journal.specs.declared.starts.StartFault.{StartFault};
 ghost use Rattle.seg_store.specs.Stores.{disk_in, StoreKeeps};
 ghost use Rattle.seg_store.specs.Loads.{kept_of, IsLoaded, CountsLoad};
 ghost use Rattle.seg_store.specs.Finding.{HasFound, HasAllFound};
@@ -68,6 +70,8 @@ impl<D: Disk> SegStore<D> {
         ensures kept { IfOk result (λ loaded. WhereTold (D.bytes disk)
             (λ file. FileKeeps file (map kept_of loaded.kept.items))) }
         ensures loaded { IfOk result (IsLoaded D.bytes D.images (D.bytes disk)) }
+        ensures told { IfOk result
+            (λ loaded. StaysTold (D.bytes disk) (D.bytes (disk_in loaded.store))) }
 
         // A fault of the disk is counted.
         ensures counted { MatchResult result
@@ -99,6 +103,8 @@ fn loaded_behind<D: Disk>(
     ensures loaded { IfOk result (λ loaded. (disk : D) (records : List (List ℕ))
         → HasAllFound D.bytes D.images D.moment D.images_since disk records file found
         → IsLoaded D.bytes D.images (D.bytes disk) loaded) }
+    ensures told { IfOk result
+        (λ loaded. StaysTold (D.bytes (disk_from file)) (D.bytes (disk_in loaded.store))) }
     ensures counted { MatchResult result
         (λ loaded. D.faults (disk_in loaded.store) ≡ D.faults (disk_from file))
         (λ stop. CountsLoad stop.fault (D.faults (disk_from file)) (D.faults stop.disk)) }
@@ -125,6 +131,9 @@ fn loaded_before<D: Disk>(alloc: Global, stop: StartStop<D>) -> Result<Loaded<D>
     ensures loaded { IfOk result (λ loaded. (told : Option (List ℕ))
         → IsWhyNot segments_mark told stop.fault stop.before
         → IsLoaded D.bytes D.images told loaded) }
+    ensures told { IfOk result (λ loaded. (told : Option (List ℕ))
+        → ((nth at : ℕ) → stop.fault ≡ StartFault.BadLog nth at → D.bytes stop.disk ≡ told)
+        → StaysTold told (D.bytes (disk_in loaded.store))) }
     ensures counted { (old : ℕ) → CountsStart stop.fault old (D.faults stop.disk)
         → MatchResult result (λ loaded. D.faults (disk_in loaded.store) ≡ old)
         (λ stopped. CountsLoad stopped.fault old (D.faults stopped.disk)) }
@@ -149,6 +158,8 @@ fn loaded_before<D: Disk>(alloc: Global, stop: StartStop<D>) -> Result<Loaded<D>
 fn anew<D: Disk>(alloc: Global, disk: D, kept: Vec<KeptTrees>) -> Result<Loaded<D>, LoadStop<D>>
     ensures anew { IfOk result
         (λ loaded. StoreKeeps D.bytes D.images [] loaded.store × (loaded.kept ≡ kept)) }
+    ensures told { IfOk result
+        (λ loaded. StaysTold (D.bytes disk) (D.bytes (disk_in loaded.store))) }
     ensures counted { MatchResult result
         (λ loaded. D.faults (disk_in loaded.store) ≡ D.faults disk)
         (λ stop. CountsLoad stop.fault (D.faults disk) (D.faults stop.disk)) }

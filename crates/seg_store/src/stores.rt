@@ -1,5 +1,5 @@
 //! A store of roots on a disk.
-ghost use Rattle.std.specs.Prelude.{◌≡◌, ◌⊎◌, ◌≤◌, ◌^◌, ◌++◌, [], ◌∷◌, ℕ, List, take, None, Some, IfOk, OnOk, OnErr, IsErrOf, IsTrue};
+ghost use Rattle.std.specs.Prelude.{◌≡◌, ◌⊎◌, ◌≤◌, ◌^◌, ◌++◌, [], ◌∷◌, ℕ, List, take, None, Some, IfOk, OnOk, OnErr, IsErrOf, IsTrue, MatchResult};
 ghost use Rattle.fb_calls.specs.Faults.{Rose};
 ghost use Rattle.disk_model.specs.Disk.{WhereTold, LeavesOnly};
 ghost use Rattle.disk_model.specs.Journal.{segments_mark};
@@ -91,6 +91,11 @@ impl<D: Disk> SegStore<D> {
         ensures told { OnOk result
             (StaysTold (D.bytes (disk_in self.old)) (D.bytes (disk_in self.new))) }
 
+        // The ids are those that were there and, at Ok, those of all nodes of the trees.
+        ensures ids { MatchResult result
+            (λ _. self.new.ids ≡ self.old.ids ++ ids_lacking self.old.ids roots.now)
+            (λ _. self.new.ids ≡ self.old.ids) }
+
         // It fails only where the disk did, and then stops at this record.
         ensures counted { OnOk result (D.faults (disk_in self.new) ≡ D.faults (disk_in self.old)) }
         ensures cause { IsErrOf result KeepFault.Disk
@@ -147,8 +152,9 @@ impl<D: Disk> SegStore<D> {
     fn add(&mut self, framed: &Framed, known: usize) -> Result<(), KeepFault>
         ensures added { OnOk result ((records : List (List ℕ))
             → Keeps D.bytes D.images records self.old.journal
-            → Keeps D.bytes D.images (records ++ framed.now ∷ []) self.new.journal
-            × (self.new.ids ≡ self.old.ids)) }
+            → Keeps D.bytes D.images (records ++ framed.now ∷ []) self.new.journal) }
+        ensures ids { MatchResult result (λ _. self.new.ids ≡ self.old.ids)
+            (λ _. self.new.ids ≡ take known self.old.ids) }
         ensures any_moment { (records : List (List ℕ))
             → Keeps D.bytes D.images records self.old.journal
             → WhereTold (D.bytes (disk_in self.old)) (λ _. LeavesOnly D.moment D.images_since

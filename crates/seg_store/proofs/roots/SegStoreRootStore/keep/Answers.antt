@@ -1,4 +1,5 @@
-use Rattle.seg_store.proofs.Rooting.{newest_kept, still_kept}
+use Rattle.seg_codec.specs.Trees.{ids_lacking}
+use Rattle.seg_store.proofs.Rooting.{newest_kept, still_kept, next_as, next_with}
 use Rattle.seg_store.proofs.roots.SegStoreRootStore.keep.Goals as goal
 
 pub keep-requires : goal.keep-requires
@@ -10,22 +11,25 @@ pub returns-in-Ok-clause-kept : goal.returns-in-Ok-clause-kept
 returns-in-Ok-clause-kept g c = λ begun.
     let d = g.D.Disk in let fits = c.requires.fits in let kept = c.in-Ok.ensures.kept fits.records fits.keeps fits.fits in
     newest_kept d.bytes d.images fits.records kept.0 c.args.base.now begun c.args.self.now c.keep.new.self kept.2 kept.1
-    c.in-Ok.ensures.told
+    c.in-Ok.ensures.told c.in-Ok.ensures.ids
 
 pub returns-in-Ok-clause-stays : goal.returns-in-Ok-clause-stays
 returns-in-Ok-clause-stays g c =
     let d = g.D.Disk in let law = g.met.D.Disk in
     still_kept d.bytes d.images d.moment d.images_since law.reads_an_image law.counts_now c.args.base.now c.args.self.now c.keep.new.self
     c.keep.ensures.any_moment c.requires.fits
+    (next_with c.args.self.now c.keep.new.self (ids_lacking c.args.self.now.ids c.args.base.now.roots) c.in-Ok.ensures.ids)
 
 pub returns-in-Err-Memory-clause-stays : goal.returns-in-Err-Memory-clause-stays
 returns-in-Err-Memory-clause-stays g c =
     let d = g.D.Disk in let law = g.met.D.Disk in
     still_kept d.bytes d.images d.moment d.images_since law.reads_an_image law.counts_now c.args.base.now c.args.self.now c.keep.new.self
     c.keep.ensures.any_moment c.requires.fits
+    (next_as c.args.self.now c.keep.new.self c.in-Err-Memory.ensures.ids)
 
 pub returns-in-Err-Disk-clause-stays : goal.returns-in-Err-Disk-clause-stays
 returns-in-Err-Disk-clause-stays g c =
     let d = g.D.Disk in let law = g.met.D.Disk in
     still_kept d.bytes d.images d.moment d.images_since law.reads_an_image law.counts_now c.args.base.now c.args.self.now c.keep.new.self
     c.keep.ensures.any_moment c.requires.fits
+    (next_as c.args.self.now c.keep.new.self c.in-Err-Disk.ensures.ids)
