@@ -19,10 +19,16 @@ use Rattle.fb_run.specs.declared.outcome.Outcome.{Outcome}
 use Rattle.disk_model.specs.Disk.{WhereTold}
 use Rattle.disk_log.specs.Logs.{disk_in}
 use Rattle.fb_core.specs.declared.accepting.Draft.{Draft}
-use Rattle.fb_recover.specs.Faults.{IsCause, CountsOpening}
+use Rattle.fb_recover.specs.Faults.{IsCause, CountsOpening, IsOfLog}
 use Rattle.fb_recover.specs.declared.faults.OpenFault.{OpenFault}
 use Rattle.fb_recover.specs.declared.faults.OpenFault.TheVariants as fault
+use Rattle.fb_ports.specs.declared.hosts.Part.{Part}
 use Rattle.fb_ports.specs.declared.hosts.Part.TheVariants.{Log, Segments}
+use Rattle.seg_store.specs.Stores.{disk_in as segments_in}
+use Rattle.merge_worker.specs.declared.ends.WorkEnd.{WorkEnd}
+use Rattle.merge_worker.specs.declared.ends.WorkEnd.TheVariants.{Shut, StoreFault, Spent, Memory as NoMemory}
+use Rattle.fb_run.specs.declared.merging.Trees.{Trees}
+use Rattle.fb_run.specs.Merging.{CountsMerges}
 use Rattle.fb_run.specs.declared.database.Disks.{Disks}
 use Rattle.fb_run.specs.declared.database.Obstacle.{Obstacle}
 use Rattle.fb_run.specs.declared.database.Obstacle.TheVariants as obstacle
@@ -32,12 +38,12 @@ use Rattle.fb_run.specs.declared.looking.Look.{Look}
 use Rattle.fb_run.specs.Outside.{Tells, DiskTells, IsDiskOf, run_from, run_of, setting_of, EachOf}
 use Rattle.fb_view.specs.Kept.{Kept}
 use Rattle.fb_run.specs.Logs.{IsUnharmed, LogHolds}
-use Rattle.fb_run.specs.Database.{why_unready, AreUnharmed, LeavesBehind, IsObstacle, IsUnready}
+use Rattle.fb_run.specs.Database.{why_unready, LeaveLogUnharmed, LeavesBehind, IsObstacle, IsUnready}
 use Rattle.fb_run.specs.Looking.{IsLook, HasTold}
 use Rattle.fb_run.specs.Opening.{IsOpenedFor}
 use Rattle.fb_run.specs.Headline.{EachReplies, stop_of}
 use Rattle.fb_run.specs.StatusLines.{looked, usage, ended_early, console_failed, memory, usage_line, out_of_memory, status_of_end, line_of_end, first_early, why_of, why_not}
-use Rattle.fb_run.specs.Causes.{HasDisks, NoSession, HasNoDisk, OutOfMemory, IsOutOfMemory, SaysWhy, Counts, IsRun, HaveRun, directory_of, names_of, HandsBack, IsNotOpened, TookWhole, TookPart, HasLooked, CauseOf, HasConsole, Causes}
+use Rattle.fb_run.specs.Causes.{HasDisks, NoSession, HasNoDisk, OutOfMemory, IsOutOfMemory, SaysWhy, Counts, IsRun, HaveRun, directory_of, names_of, HandsBack, IsNotOpened, IsUntouched, IsUnfailed, TookWhole, TookPart, HasLooked, CauseOf, HasConsole, Causes}
 use Rattle.fb_run.specs.Running.{RepliesBy, CountsBy, HaveEnded}
 use Rattle.fb_run.proofs.Lists.{each_through, cut_first, names_cut}
 
@@ -72,13 +78,13 @@ early_none (name ∷ names) = refl
 
 -- where no script is left, or no session, the log and the merges decide
 pub says_nothing : {X S : Type 0} (name_of : X → List ℕ) (end_of : S → SessionEnd) (scripts : List X) (sessions : List S) (stop : Option ℕ)
-    (unmerged : Bool)
-    (status : ℕ) (line : List ℕ) → (length scripts < 1) ⊎ (length sessions < 1) → SaysWhy (why_of None stop unmerged) status line
-    → SaysWhy (why_of (first_early (map name_of scripts) (map end_of sessions)) stop unmerged) status line
-says_nothing name_of end_of [] sessions stop unmerged status line few says = says
-says_nothing name_of end_of (x ∷ xs) [] stop unmerged status line few says = says
-says_nothing name_of end_of (x ∷ xs) (s ∷ ss) stop unmerged status line (inl few) says = absurd (omega (arith, few))
-says_nothing name_of end_of (x ∷ xs) (s ∷ ss) stop unmerged status line (inr few) says = absurd (omega (arith, few))
+    (end : WorkEnd)
+    (status : ℕ) (line : List ℕ) → (length scripts < 1) ⊎ (length sessions < 1) → SaysWhy (why_of None stop end) status line
+    → SaysWhy (why_of (first_early (map name_of scripts) (map end_of sessions)) stop end) status line
+says_nothing name_of end_of [] sessions stop end status line few says = says
+says_nothing name_of end_of (x ∷ xs) [] stop end status line few says = says
+says_nothing name_of end_of (x ∷ xs) (s ∷ ss) stop end status line (inl few) says = absurd (omega (arith, few))
+says_nothing name_of end_of (x ∷ xs) (s ∷ ss) stop end status line (inr few) says = absurd (omega (arith, few))
 
 first_not_done : (name : List ℕ) (names : List (List ℕ)) (how : SessionEnd) (ends : List SessionEnd) → (how ≡ ended.Done → ⊥)
     → first_early (name ∷ names) (how ∷ ends) ≡ Some (name, how)
@@ -91,7 +97,7 @@ first_not_done name names ended.WriteFault ends not = refl
 first_not_done name names ended.Memory ends not = refl
 
 module _ {S : Type 0} (end_of : S → SessionEnd) (scripts : List (Bor (List ℕ))) (d : Bor (List ℕ)) (sessions : List S) (s : S) (stop :
-    Option ℕ) (unmerged : Bool) (status : ℕ)
+    Option ℕ) (end : WorkEnd) (status : ℕ)
     (line : List ℕ) (some_script : 1 ≤ length scripts) (some : 1 ≤ length sessions) (is : s ≡ get_or sessions 0 s) where
   abbrev others : List (List ℕ)
   others = names_in (take (length scripts - 1) (drop 1 scripts))
@@ -106,56 +112,75 @@ module _ {S : Type 0} (end_of : S → SessionEnd) (scripts : List (Bor (List ℕ
       ∙ ap (λ (z : S). first_early ((get_or scripts 0 d).now ∷ others) (end_of z ∷ ends)) (sym is))
 
   -- the first session was done, so the rest decides
-  pub says_rest : end_of s ≡ ended.Done → SaysWhy (why_of (first_early others ends) stop unmerged) status line
-      → SaysWhy (why_of (first_early (names_in scripts) (map end_of sessions)) stop unmerged) status line
+  pub says_rest : end_of s ≡ ended.Done → SaysWhy (why_of (first_early others ends) stop end) status line
+      → SaysWhy (why_of (first_early (names_in scripts) (map end_of sessions)) stop end) status line
   says_rest done rest =
-      subst (λ (e : Option (List ℕ × SessionEnd)). SaysWhy (why_of e stop unmerged) status line) (sym (cut ∙ first_done (get_or scripts 0
+      subst (λ (e : Option (List ℕ × SessionEnd)). SaysWhy (why_of e stop end) status line) (sym (cut ∙ first_done (get_or scripts 0
       d).now
       others (end_of s) ends done)) rest
 
   -- it was not, so it decides
   pub says_first : (end_of s ≡ ended.Done → ⊥) → ((status ≡ status_of_end (end_of s)) × (line ≡ line_of_end (get_or scripts 0 d).now
       (end_of s))) ⊎ OutOfMemory status line
-      → SaysWhy (why_of (first_early (names_in scripts) (map end_of sessions)) stop unmerged) status line
+      → SaysWhy (why_of (first_early (names_in scripts) (map end_of sessions)) stop end) status line
   says_first not said =
-      subst (λ (e : Option (List ℕ × SessionEnd)). SaysWhy (why_of e stop unmerged) status line) (sym (cut ∙ first_not_done (get_or scripts
+      subst (λ (e : Option (List ℕ × SessionEnd)). SaysWhy (why_of e stop end) status line) (sym (cut ∙ first_not_done (get_or scripts
       0
       d).now others (end_of s) ends not)) said
 
+-- what is said of the same is the same
+pub says_same : (names others : List (List ℕ)) (ends those : List SessionEnd) (stop told : Option ℕ) (end : WorkEnd) (status n : ℕ)
+    (line text : List ℕ) → names ≡ others → ends ≡ those → stop ≡ told → n ≡ status → text ≡ line
+    → SaysWhy (why_of (first_early names ends) stop end) status line → SaysWhy (why_of (first_early others those) told end) n text
+says_same names others ends those stop told end status n line text by_names by_ends by_stop by_status by_line says =
+    rw (← by_names, ← by_ends, ← by_stop, by_status, by_line) says
+
 -- ---- success
 
--- where memory was refused to a merge, the status is not 0
-no_success : (stop : Option ℕ) (status : ℕ) (line : List ℕ) → SaysWhy (why_of None stop true) status line → status ≡ 0 → ⊥
-no_success None status line (inl says) none = omega (arith, says.0, none)
-no_success None status line (inr says) none = omega (arith, says.0, none)
-no_success (Some t) status line (inl says) none = omega (arith, says.0, none)
-no_success (Some t) status line (inr says) none = omega (arith, says.0, none)
+-- where merging ended for want of memory or of its store, the status is not 0
+abbrev Fails : WorkEnd → Type 0
+Fails Shut = ⊥
+Fails StoreFault = Unit {0}
+Fails Spent = ⊥
+Fails NoMemory = Unit {0}
 
-not_success : (names : List (List ℕ)) (ends : List SessionEnd) (stop : Option ℕ) (status : ℕ) (line : List ℕ)
-    → SaysWhy (why_of (first_early names ends) stop true) status line → status ≡ 0 → ⊥
-not_success [] ends stop status line says none = no_success stop status line says none
-not_success (name ∷ names) [] stop status line says none = no_success stop status line says none
-not_success (name ∷ names) (ended.Done ∷ ends) stop status line says none = not_success names ends stop status line says none
-not_success (name ∷ names) (ended.Script why ∷ ends) stop status line (inl says) none = omega (arith, says.0, none)
-not_success (name ∷ names) (ended.Script why ∷ ends) stop status line (inr says) none = omega (arith, says.0, none)
-not_success (name ∷ names) (ended.TooLong ∷ ends) stop status line (inl says) none = omega (arith, says.0, none)
-not_success (name ∷ names) (ended.TooLong ∷ ends) stop status line (inr says) none = omega (arith, says.0, none)
-not_success (name ∷ names) (ended.TooMany ∷ ends) stop status line (inl says) none = omega (arith, says.0, none)
-not_success (name ∷ names) (ended.TooMany ∷ ends) stop status line (inr says) none = omega (arith, says.0, none)
-not_success (name ∷ names) (ended.ReadFault ∷ ends) stop status line (inl says) none = omega (arith, says.0, none)
-not_success (name ∷ names) (ended.ReadFault ∷ ends) stop status line (inr says) none = omega (arith, says.0, none)
-not_success (name ∷ names) (ended.WriteFault ∷ ends) stop status line (inl says) none = omega (arith, says.0, none)
-not_success (name ∷ names) (ended.WriteFault ∷ ends) stop status line (inr says) none = omega (arith, says.0, none)
-not_success (name ∷ names) (ended.Memory ∷ ends) stop status line (inl says) none = omega (arith, says.0, none)
-not_success (name ∷ names) (ended.Memory ∷ ends) stop status line (inr says) none = omega (arith, says.0, none)
+no_success : (stop : Option ℕ) (end : WorkEnd) (status : ℕ) (line : List ℕ) → Fails end → SaysWhy (why_of None stop end) status line
+    → status ≡ 0 → ⊥
+no_success None Shut status line fails says none = fails
+no_success None StoreFault status line fails (inl says) none = omega (arith, says.0, none)
+no_success None StoreFault status line fails (inr says) none = omega (arith, says.0, none)
+no_success None Spent status line fails says none = fails
+no_success None NoMemory status line fails (inl says) none = omega (arith, says.0, none)
+no_success None NoMemory status line fails (inr says) none = omega (arith, says.0, none)
+no_success (Some t) end status line fails (inl says) none = omega (arith, says.0, none)
+no_success (Some t) end status line fails (inr says) none = omega (arith, says.0, none)
 
--- what a merge promises holds where the status is 0
-pub success_is_merged : {E : Type 0} (merged : Result (Unit {0}) E) (names : List (List ℕ)) (ends_are : List SessionEnd) (stop : Option ℕ)
-    (status : ℕ) (line : List ℕ)
-    (M : Type 0) → IfOk merged (λ _. M) → SaysWhy (why_of (first_early names ends_are) stop (is_err merged)) status line → status ≡ 0 → M
-success_is_merged (Ok u) names ends_are stop status line M promised says none = promised
-success_is_merged (Err e) names ends_are stop status line M promised says none = absurd (not_success names ends_are stop status line says
-    none)
+pub not_success : (names : List (List ℕ)) (ends : List SessionEnd) (stop : Option ℕ) (end : WorkEnd) (status : ℕ) (line : List ℕ)
+    → Fails end → SaysWhy (why_of (first_early names ends) stop end) status line → status ≡ 0 → ⊥
+not_success [] ends stop end status line fails says none = no_success stop end status line fails says none
+not_success (name ∷ names) [] stop end status line fails says none = no_success stop end status line fails says none
+not_success (name ∷ names) (ended.Done ∷ ends) stop end status line fails says none =
+    not_success names ends stop end status line fails says none
+not_success (name ∷ names) (ended.Script why ∷ ends) stop end status line fails (inl says) none = omega (arith, says.0, none)
+not_success (name ∷ names) (ended.Script why ∷ ends) stop end status line fails (inr says) none = omega (arith, says.0, none)
+not_success (name ∷ names) (ended.TooLong ∷ ends) stop end status line fails (inl says) none = omega (arith, says.0, none)
+not_success (name ∷ names) (ended.TooLong ∷ ends) stop end status line fails (inr says) none = omega (arith, says.0, none)
+not_success (name ∷ names) (ended.TooMany ∷ ends) stop end status line fails (inl says) none = omega (arith, says.0, none)
+not_success (name ∷ names) (ended.TooMany ∷ ends) stop end status line fails (inr says) none = omega (arith, says.0, none)
+not_success (name ∷ names) (ended.ReadFault ∷ ends) stop end status line fails (inl says) none = omega (arith, says.0, none)
+not_success (name ∷ names) (ended.ReadFault ∷ ends) stop end status line fails (inr says) none = omega (arith, says.0, none)
+not_success (name ∷ names) (ended.WriteFault ∷ ends) stop end status line fails (inl says) none = omega (arith, says.0, none)
+not_success (name ∷ names) (ended.WriteFault ∷ ends) stop end status line fails (inr says) none = omega (arith, says.0, none)
+not_success (name ∷ names) (ended.Memory ∷ ends) stop end status line fails (inl says) none = omega (arith, says.0, none)
+not_success (name ∷ names) (ended.Memory ∷ ends) stop end status line fails (inr says) none = omega (arith, says.0, none)
+
+-- where the status is 0, merging came to its end
+pub success_is_merged : (end : WorkEnd) (names : List (List ℕ)) (ends : List SessionEnd) (stop : Option ℕ) (status : ℕ)
+    (line : List ℕ) → SaysWhy (why_of (first_early names ends) stop end) status line → status ≡ 0 → (end ≡ Shut) ⊎ (end ≡ Spent)
+success_is_merged Shut names ends stop status line says none = inl refl
+success_is_merged StoreFault names ends stop status line says none = absurd (not_success names ends stop StoreFault status line tt says none)
+success_is_merged Spent names ends stop status line says none = inr refl
+success_is_merged NoMemory names ends stop status line says none = absurd (not_success names ends stop NoMemory status line tt says none)
 
 -- ---- names that are those of scripts
 
@@ -237,15 +262,17 @@ module _ {I O D : Type 0} (told : Told) (disks : DiskTells D) (outcome : Outcome
   counts_torn holds there both torn = torn_by outcome.last outcome.log refl holds there both torn
 
 module _ {I O D : Type 0} (outcome : Outcome I O D) (none : outcome.console ≡ None) where
-  console_why : (early : Option (List ℕ × SessionEnd)) (stop : Option ℕ) (unmerged : Bool)
-      → HasConsole (why_of early stop unmerged) outcome
-  console_why (Some p) stop unmerged = none
-  console_why None (Some t) unmerged = none
-  console_why None None true = none
-  console_why None None false = none
+  console_why : (early : Option (List ℕ × SessionEnd)) (stop : Option ℕ) (end : WorkEnd)
+      → HasConsole (why_of early stop end) outcome
+  console_why (Some p) stop end = none
+  console_why None (Some t) end = none
+  console_why None None Shut = none
+  console_why None None StoreFault = none
+  console_why None None Spent = none
+  console_why None None NoMemory = none
 
   console_not : (fault : OpenFault) → HasConsole (why_not fault) outcome
-  console_not fault.Disk = none
+  console_not (fault.Disk part) = none
   console_not (fault.BadLog nth at) = none
   console_not (fault.Unlawful t law) = none
   console_not fault.Memory = none
@@ -253,7 +280,7 @@ module _ {I O D : Type 0} (outcome : Outcome I O D) (none : outcome.console ≡ 
   console_unready : (why : Obstacle) → HasConsole (why_unready why) outcome
   console_unready (obstacle.Unopened (unopened.CannotOpen name)) = none
   console_unready (obstacle.Unopened unopened.Memory) = none
-  console_unready (obstacle.BadLog fault) = console_not fault
+  console_unready (obstacle.NotReopened fault) = console_not fault
 
 -- what is handed back are the disks that are left
 module _ {I O D : Type 0} (outcome : Outcome I O D) (left : Option (Disks D))
@@ -280,20 +307,24 @@ module _ {I O D : Type 0} (outcome : Outcome I O D) (left : Option (Disks D))
   hands_back (suc place) some = both_left left refl some
 
 module _ {I O D : Type 0} (told : Told) (tells : Tells I O) (disks : DiskTells D) (new : ℕ) (outcome : Outcome I O D) where
-  cause_why : (command : Command) (early : Option (List ℕ × SessionEnd)) (torn : Option Draft) (unmerged : Bool) → outcome.torn ≡ torn
+  cause_why : (command : Command) (early : Option (List ℕ × SessionEnd)) (torn : Option Draft) (end : WorkEnd) → outcome.torn ≡ torn
       → IfSome outcome.last (λ l. IfSome outcome.log (LogHolds told disks (directory_of (Some command)) l.entries outcome.recovered
       outcome.torn))
+      → (segments : D) → outcome.segments ≡ Some segments
+      → CountsMerges end (told.disk_faults (directory_of (Some command)) Segments) (disks.faults segments)
       → HaveRun told tells new (Some command) outcome early
-      → CauseOf told tells disks new (Some command) outcome (why_of early (stop_of torn) unmerged)
-  cause_why command None None false is holds ran = (ran, is)
-  cause_why command None None true is holds ran = inr (ran, is)
-  cause_why command None (Some draft) unmerged is holds ran = (
+      → CauseOf told tells disks new (Some command) outcome (why_of early (stop_of torn) end)
+  cause_why command None None Shut is holds segments there counted ran = (ran, is, (segments, there, counted))
+  cause_why command None None StoreFault is holds segments there counted ran = (ran, is, (segments, there, counted))
+  cause_why command None None Spent is holds segments there counted ran = (ran, is, (segments, there, counted))
+  cause_why command None None NoMemory is holds segments there counted ran = inr (ran, is)
+  cause_why command None (Some draft) end is holds segments there counted ran = (
     ran,
     ap stop_of is,
     counts_torn told disks outcome (directory_of (Some command)) holds ran.last ran.disks.log (subst IsSome (sym is)
         refl),
   )
-  cause_why command (Some p) torn unmerged is holds ran = ran
+  cause_why command (Some p) torn end is holds segments there counted ran = ran
 
   pub caused_by_memory : (command : Command) → NoSession outcome → outcome.console ≡ None → IsOutOfMemory outcome
       → Causes told tells disks new (Some command) outcome
@@ -314,38 +345,51 @@ module _ {I O D : Type 0} (told : Told) (tells : Tells I O) (disks : DiskTells D
   caused_by_usage command is same none no_disk no_console said =
       record { why = usage; says = said; cause = (none, no_disk, sym is, same); console = no_console }
 
-  by_fault : (command : Command) (fault : OpenFault) (log : D) → outcome.log ≡ Some log → IsNotOpened told disks new (Some command) outcome
+  by_fault : (command : Command) (fault : OpenFault) (log segments : D) → outcome.log ≡ Some log → outcome.segments ≡ Some segments
+      → IsNotOpened told disks new (Some command) outcome
       → WhereTold (told.disks (directory_of (Some command)) Log) (IsCause fault)
-      → CountsOpening fault (told.disk_faults (directory_of (Some command)) Log) (disks.faults log)
+      → CountsOpening fault Log (told.disk_faults (directory_of (Some command)) Log) (disks.faults log)
+      → CountsOpening fault Segments (told.disk_faults (directory_of (Some command)) Segments) (disks.faults segments)
+      → (IsOfLog fault → IsUntouched told disks (Some command) outcome)
       → CauseOf told tells disks new (Some command) outcome (why_not fault)
-  by_fault command fault.Disk log is not_opened cause counted = (not_opened, (log, is, counted))
-  by_fault command (fault.BadLog nth at) log is not_opened cause counted = (not_opened, cause)
-  by_fault command (fault.Unlawful t law) log is not_opened cause counted = (not_opened, cause)
-  by_fault command fault.Memory log is not_opened cause counted = inl (not_opened.none, refl)
+  by_fault command (fault.Disk Log) log segments is there not_opened cause counted also untouched =
+      (not_opened, untouched tt, (log, is, counted))
+  by_fault command (fault.Disk Segments) log segments is there not_opened cause counted also untouched =
+      (not_opened, cause, (segments, there, also))
+  by_fault command (fault.BadLog nth at) log segments is there not_opened cause counted also untouched = (not_opened, untouched tt, cause)
+  by_fault command (fault.Unlawful t law) log segments is there not_opened cause counted also untouched = (not_opened, untouched tt, cause)
+  by_fault command fault.Memory log segments is there not_opened cause counted also untouched = inl (not_opened.none, refl)
 
-  pub caused_by_sessions : (command : Command) (opened : List (SessionOut I O)) → EachOf (λ n name (s : SessionOut I O). IsOpenedFor told
-      tells name s) 0 (scripts_of (Some command)) opened → IsRun (Some command) → new ≡ told.faults → outcome.console ≡ None
+  pub caused_by_sessions : {g : _} (command : Command) (opened : List (SessionOut I O)) (merge_at : ℕ) (begun : Trees D g)
+      → EachOf (λ n name (s : SessionOut I O). IsOpenedFor told tells name s) 0 (scripts_of (Some command)) opened
+      → IsRun (Some command) → new ≡ told.faults → outcome.console ≡ None
+      → disks.faults (segments_in begun.store) ≡ told.disk_faults (directory_of (Some command)) Segments
       → IfSome outcome.last (λ l. IfSome outcome.log (LogHolds told disks (directory_of (Some command)) l.entries outcome.recovered
       outcome.torn))
-      → (NoSession outcome × IsOutOfMemory outcome) ⊎ HaveEnded tells (scripts_of (Some command)) opened outcome → Causes told tells disks
-      new (Some command) outcome
-  caused_by_sessions command opened has is_run same no_console holds (inl none) = caused_by_memory command none.0 no_console none.1
-  caused_by_sessions command opened has is_run same no_console holds (inr ran) =
+      → (NoSession outcome × IsOutOfMemory outcome)
+      ⊎ HaveEnded tells disks merge_at (scripts_of (Some command)) opened begun outcome
+      → Causes told tells disks new (Some command) outcome
+  caused_by_sessions command opened merge_at begun has is_run same no_console unfailed holds (inl none) =
+      caused_by_memory command none.0 no_console none.1
+  caused_by_sessions command opened merge_at begun has is_run same no_console unfailed holds (inr ran) =
       let early = first_early (scripts_of (Some command)) (map (λ (s : SessionOut I O). s.end) outcome.sessions.items) in
       let each = counts_told told tells (scripts_of (Some command)) opened outcome.sessions.items has ran.each in
+      let ends = ran.ends in
+      let counted : CountsMerges ends.end (told.disk_faults (directory_of (Some command)) Segments) (disks.faults ends.segments) =
+      subst (λ (n : ℕ). CountsMerges ends.end n (disks.faults ends.segments)) unfailed ends.trees.counts in
       record {
-        why = why_of early (stop_of outcome.torn) ran.says.0;
-        says = ran.says.1;
-        cause = cause_why command early outcome.torn ran.says.0 refl holds (record {
+        why = why_of early (stop_of outcome.torn) ends.end;
+        says = ends.says;
+        cause = cause_why command early outcome.torn ends.end refl holds ends.segments ends.segments_is counted (record {
           is_run = is_run;
           host = same;
           each = each;
           first = refl;
-          last = ran.last;
+          last = subst IsSome (sym ends.last_is) refl;
           authors = ran.authors;
           disks = ran.disks;
         });
-        console = console_why outcome no_console early (stop_of outcome.torn) ran.says.0;
+        console = console_why outcome no_console early (stop_of outcome.torn) ends.end;
       }
 
 -- ---- a command that can't begin
@@ -354,7 +398,7 @@ module _ {I O D : Type 0} (told new : Told) (tells : Tells I O) (disks : DiskTel
     (none : NoSession outcome) (left : Option (Disks D))
     (log_is : outcome.log ≡ option_map (λ (d : Disks D). d.log) left)
     (segments_is : outcome.segments ≡ option_map (λ (d : Disks D). d.segments) left)
-    (unharmed : IfSome left (AreUnharmed told disks (directory_of (Some command)))) where
+    (unharmed : IfSome left (LeaveLogUnharmed told disks (directory_of (Some command)))) where
   cause_unready : (why : Obstacle) → IsObstacle told new disks (directory_of (Some command)) (names_of (Some command)) left why
       → CauseOf told tells disks new.faults (Some command) outcome (why_unready why)
   cause_unready (obstacle.Unopened (unopened.CannotOpen name)) is = record {
@@ -365,11 +409,11 @@ module _ {I O D : Type 0} (told new : Told) (tells : Tells I O) (disks : DiskTel
     disks = hands_back outcome left log_is segments_is is.0.0 is.0.2;
   }
   cause_unready (obstacle.Unopened unopened.Memory) is = inl (none, refl)
-  cause_unready (obstacle.BadLog fault) is =
+  cause_unready (obstacle.NotReopened fault) is =
       let both = is.1.both in
       let log = log_left outcome left log_is segments_is both is.1.is in
       let segments = segments_left outcome left log_is segments_is both is.1.is in
-      let its = subst (λ (o : Option (Disks D)). IfSome o (AreUnharmed told disks (directory_of (Some command)))) is.1.is unharmed in
+      let its = subst (λ (o : Option (Disks D)). IfSome o (LeaveLogUnharmed told disks (directory_of (Some command)))) is.1.is unharmed in
       let not_opened : IsNotOpened told disks new.faults (Some command) outcome = record {
         is_command = refl;
         none = none;
@@ -377,26 +421,22 @@ module _ {I O D : Type 0} (told new : Told) (tells : Tells I O) (disks : DiskTel
         segments = subst IsSome (sym segments) refl;
         log = both.log;
         log_is = log;
-        unharmed = its.log;
+        unharmed = its;
       } in
-      by_fault told tells disks new.faults outcome command fault both.log log not_opened is.1.cause is.1.counted
+      by_fault told tells disks new.faults outcome command fault both.log both.segments log segments not_opened is.1.cause is.1.counted
+      is.1.segments_counted
+      (λ of. subst (λ (o : Option D). IfSome o (IsDiskOf told disks (directory_of (Some command)) Segments)) (sym segments)
+      (is.1.untouched of))
 
-  -- what is handed back is unharmed
-  unharmed_by : (l : Option (Disks D)) → left ≡ l → IfSome l (AreUnharmed told disks (directory_of (Some command)))
+  -- what is handed back of the log is unharmed
+  unharmed_by : (l : Option (Disks D)) → left ≡ l → IfSome l (LeaveLogUnharmed told disks (directory_of (Some command)))
       → IfSome outcome.log (IsUnharmed told disks (directory_of (Some command)))
-      × IfSome outcome.segments (IsDiskOf told disks (directory_of (Some command)) Segments)
-  unharmed_by None is its = (
-    subst (λ (o : Option D). IfSome o (IsUnharmed told disks (directory_of (Some command)))) (sym (log_is ∙ ap (option_map (λ (d : Disks D).
-        d.log)) is)) tt,
-    subst (λ (o : Option D). IfSome o (IsDiskOf told disks (directory_of (Some command)) Segments)) (sym (segments_is ∙ ap (option_map (λ
-        (d : Disks D). d.segments)) is)) tt,
-  )
-  unharmed_by (Some both) is its = (
-    subst (λ (o : Option D). IfSome o (IsUnharmed told disks (directory_of (Some command))))
-        (sym (log_left outcome left log_is segments_is both is)) its.log,
-    subst (λ (o : Option D). IfSome o (IsDiskOf told disks (directory_of (Some command)) Segments))
-        (sym (segments_left outcome left log_is segments_is both is)) its.segments,
-  )
+  unharmed_by None is its =
+      subst (λ (o : Option D). IfSome o (IsUnharmed told disks (directory_of (Some command))))
+      (sym (log_is ∙ ap (option_map (λ (d : Disks D). d.log)) is)) tt
+  unharmed_by (Some both) is its =
+      subst (λ (o : Option D). IfSome o (IsUnharmed told disks (directory_of (Some command))))
+      (sym (log_left outcome left log_is segments_is both is)) its
 
 module _ {I O D : Type 0} (told new : Told) (tells : Tells I O) (disks : DiskTells D) (outcome : Outcome I O D) (command : Command)
     (unready : Unready D)
@@ -413,7 +453,6 @@ module _ {I O D : Type 0} (told new : Told) (tells : Tells I O) (disks : DiskTel
   }
 
   pub unready_unharmed : IfSome outcome.log (IsUnharmed told disks (directory_of (Some command)))
-      × IfSome outcome.segments (IsDiskOf told disks (directory_of (Some command)) Segments)
   unready_unharmed =
       unharmed_by told new tells disks outcome command none unready.disks log_is segments_is is.unharmed unready.disks refl is.unharmed
 
@@ -421,8 +460,12 @@ module _ {I O D : Type 0} (told new : Told) (tells : Tells I O) (disks : DiskTel
 
 module _ {I O D : Type 0} {g : _} (told new : Told) (tells : Tells I O) (disks : DiskTells D) (outcome : Outcome I O D) (dir : List ℕ)
     (look : Look O D g) (is : IsLook told new tells disks dir look) (none : NoSession outcome)
-    (log_is : outcome.log ≡ Some (disk_in look.directory.log)) (segments_is : outcome.segments ≡ Some look.directory.segments)
+    (log_is : outcome.log ≡ Some (disk_in look.directory.log)) (segments_is : outcome.segments ≡ Some (segments_in look.directory.store))
     (has : HasTold tells.contents tells.sink_faults (string_bytes look.answer.line) look.answer.console outcome) where
+  look_unfailed : (part : Part) → IsUnfailed told disks (Some (check dir)) outcome part
+  look_unfailed Log = (disk_in look.directory.log, log_is, is.unfailed)
+  look_unfailed Segments = (segments_in look.directory.store, segments_is, is.segments_unfailed)
+
   has_looked : (Took : List ℕ → Option (List ℕ) → Option (List ℕ) → ℕ → ℕ → Type 0)
       → Took (string_bytes look.answer.line) (tells.contents look.answer.console) (tells.contents has.now)
       (tells.sink_faults look.answer.console) (tells.sink_faults has.now)
@@ -434,10 +477,9 @@ module _ {I O D : Type 0} {g : _} (told new : Told) (tells : Tells I O) (disks :
     host = is.host;
     history = is.history;
     opening = is.opening;
-    segments = subst IsSome (sym segments_is) refl;
-    log = disk_in look.directory.log;
-    log_is = log_is;
-    log_unfailed = is.unfailed;
+    covered = is.covered;
+    coverage = is.coverage;
+    unfailed = look_unfailed;
     console = has.now;
     console_is = has.console_is;
     took = subst (λ (l : List ℕ). Took l (told.sinks standard) (tells.contents has.now) (told.sink_faults standard)
@@ -456,8 +498,5 @@ module _ {I O D : Type 0} {g : _} (told new : Told) (tells : Tells I O) (disks :
         | inr part ↦ record { why = console_failed; says = part.0; cause = has_looked TookPart part.1; console = there }
       ]
 
-  pub look_unharmed : IfSome outcome.log (IsUnharmed told disks dir) × IfSome outcome.segments (IsDiskOf told disks dir Segments)
-  look_unharmed = (
-    subst (λ (o : Option D). IfSome o (IsUnharmed told disks dir)) (sym log_is) is.unharmed.log,
-    subst (λ (o : Option D). IfSome o (IsDiskOf told disks dir Segments)) (sym segments_is) is.unharmed.segments,
-  )
+  pub look_unharmed : IfSome outcome.log (IsUnharmed told disks dir)
+  look_unharmed = subst (λ (o : Option D). IfSome o (IsUnharmed told disks dir)) (sym log_is) is.unharmed

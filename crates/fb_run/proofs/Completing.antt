@@ -32,11 +32,11 @@ use Rattle.fb_run.specs.declared.outcome.Outcome.{Outcome}
 use Rattle.disk_model.specs.Disk.{WhereTold}
 use Rattle.log_model.specs.Log.{LogSays, stands_for, bad_record as bad_record_there, unlawful as unlawful_there, FileSays}
 use Rattle.log_model.proofs.LogFiles.{one_said, IsLogOf-says}
-use Rattle.fb_ports.specs.declared.hosts.Part.TheVariants.{Log}
+use Rattle.fb_ports.specs.declared.hosts.Part.TheVariants.{Log, Segments}
 use Rattle.fb_run.specs.Outside.{Tells, DiskTells, run_of, setting_of, EachOf, EachWhile}
 use Rattle.fb_run.specs.Logs.{LogHolds}
 use Rattle.fb_run.specs.Headline.{OneHistory, stop_of, EachReplies}
-use Rattle.fb_run.specs.StatusLines.{Why, answered, looked, usage, unopened, disk_failed, bad_record, unlawful, ended_early, console_failed, log_stopped, memory, status_of_end, line_of_end, first_early}
+use Rattle.fb_run.specs.StatusLines.{Why, answered, looked, usage, unopened, disk_failed, bad_record, unlawful, ended_early, console_failed, log_stopped, segments_failed, memory, status_of_end, line_of_end, first_early}
 use Rattle.fb_run.specs.Causes.{HasDisks, IsOutOfMemory, SaysWhy, Counts, IsRun, HaveRun, directory_of, CauseOf, Causes}
 use Rattle.fb_run.specs.Complete.{HoldsForms, HoldsFormsAlone, HoldsHistory, NoneRose, EachHasItsLine, AnsweredWhole, Complete}
 use Rattle.fb_run.proofs.Causing.{first_done, says_memory, counts_torn}
@@ -237,12 +237,13 @@ module _ {I O D : Type 0} (terms : Terms) (told : Told) (tells : Tells I O) (dis
   looked_by not looked says cause = inl says.0
   looked_by not usage says cause = absurd (none-some command (sym cause.2))
   looked_by not (unopened name) says cause = absurd (calm.host cause.host)
-  looked_by not (disk_failed part) says cause = absurd (calm.parts part cause.1.0 cause.1.1 cause.1.2)
-  looked_by not (bad_record nth at) says cause = absurd (no_bad_record nth at cause.1)
-  looked_by not (unlawful t law) says cause = absurd (no_unlawful t law cause.1)
+  looked_by not (disk_failed part) says cause = absurd (calm.parts part cause.2.0 cause.2.1 cause.2.2)
+  looked_by not (bad_record nth at) says cause = absurd (no_bad_record nth at cause.2)
+  looked_by not (unlawful t law) says cause = absurd (no_unlawful t law cause.2)
   looked_by not (ended_early name how) says cause = absurd (not cause.is_run)
   looked_by not console_failed says cause = absurd (calm.console cause.console cause.console_is cause.took.failed)
   looked_by not (log_stopped t) says cause = absurd (not cause.0.is_run)
+  looked_by not segments_failed says cause = absurd (not cause.0.is_run)
   looked_by not memory says cause = inr (says_memory outcome.status (string_bytes outcome.line) says)
 
   pub complete_check : (IsRun (Some command) → ⊥) → Causes told tells disks new (Some command) outcome
@@ -297,12 +298,13 @@ module _ {I O D : Type 0} (terms : Terms) (told : Told) (tells : Tells I O) (dis
     by_why is_run looked says cause = absurd (subst IsRun cause.is_check is_run)
     by_why is_run usage says cause = absurd (none-some command (sym cause.2))
     by_why is_run (unopened name) says cause = absurd (calm.host cause.host)
-    by_why is_run (disk_failed part) says cause = absurd (calm.parts part cause.1.0 cause.1.1 cause.1.2)
-    by_why is_run (bad_record nth at) says cause = absurd (no_bad_record nth at cause.1)
-    by_why is_run (unlawful t law) says cause = absurd (no_unlawful t law cause.1)
+    by_why is_run (disk_failed part) says cause = absurd (calm.parts part cause.2.0 cause.2.1 cause.2.2)
+    by_why is_run (bad_record nth at) says cause = absurd (no_bad_record nth at cause.2)
+    by_why is_run (unlawful t law) says cause = absurd (no_unlawful t law cause.2)
     by_why is_run (ended_early name how) says cause = inr (refused_by outcome.last refl cause.last name how cause says)
     by_why is_run console_failed says cause = absurd (subst IsRun cause.is_check is_run)
     by_why is_run (log_stopped t) says cause = absurd (calm.parts Log cause.2.0 cause.2.1 cause.2.2)
+    by_why is_run segments_failed says cause = absurd (calm.parts Segments cause.2.0 cause.2.1 cause.2.2)
     by_why is_run memory says cause = inr (says_memory outcome.status (string_bytes outcome.line) says)
 
     pub complete_run : IsRun (Some command) → Causes told tells disks new (Some command) outcome → AnsweredWhole terms told tells (scripts_of (Some command))

@@ -35,6 +35,9 @@ use Rattle.fb_conn.specs.contracts.conn.Conn as Conn
 use Rattle.conn_desk.specs.contracts.desks.ConnDesk as ConnDesk
 use Rattle.fb_roots.proofs.bases.Base.TheSendSync as base
 use Rattle.merge_worker.proofs.ends.WorkEnd.TheSendSync as ended
+use Rattle.fb_disk.specs.declared.disks.Disk.{Ghosts as DiskGhosts}
+use Rattle.seg_store.proofs.stores.SegStore.TheSendSync as store
+use Rattle.fb_run.specs.contracts.merging.Trees as Trees
 use Rattle.fb_run.specs.contracts.merging.Worker as Worker
 use Rattle.fb_run.specs.contracts.jobs.Job as Job
 use Rattle.fb_run.proofs.outcome.SessionOut.TheSendSync as out
@@ -115,9 +118,12 @@ Desk-send : (ℓ : NamedLft) (L R : RattleType) (g : Ghosts L.Denot R.Denot) →
 Desk-send ℓ L R g log = let conn = Conn-sync L R g log in
     declared_send (ConnDesk.the_type ℓ L R g) (search (sendable, conn) depth 20, (Seat-row, tt))
 
--- the worker goes to a thread with its seat and its trees
-pub Worker-send : IsSend Worker.the_row
-Worker-send = declared_send Worker.the_type (Seat-row, (base.the_send, (ended.the_send, tt)))
+-- the worker goes to a thread with its seat and its trees, if the disk of their store may be sent
+Trees-send : (D : RattleType) (g : DiskGhosts D.Denot) → IsSend D → IsSend (Trees.the_row D g)
+Trees-send D g disk = declared_send (Trees.the_type D g) (base.the_send, (search (sendable, base.the_send) depth 20, (store.the_send D g disk, tt)))
+
+pub Worker-send : (D : RattleType) (g : DiskGhosts D.Denot) → IsSend D → IsSend (Worker.the_row D g)
+Worker-send D g disk = declared_send (Worker.the_type D g) (Seat-row, (Trees-send D g disk, (ended.the_send, tt)))
 
 -- a session is sent with its desk, if the log, its source and its sink may be
 pub Job-send : (ℓ : NamedLft) (I O L R : RattleType) (g : Ghosts L.Denot R.Denot) → IsSend I → IsSend O → IsSend L → IsSend (Job.the_row ℓ I

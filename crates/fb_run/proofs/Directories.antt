@@ -32,9 +32,8 @@ use Rattle.fb_run.specs.declared.outcome.Outcome.{Outcome}
 use Rattle.fb_run.specs.Outside.{Tells, DiskTells, IsDiskOf, EachOf}
 use Rattle.fb_run.specs.Opening.{IsOpenedFor, HasOpened, IsUnopened}
 use Rattle.fb_run.specs.Logs.{IsUnharmed, LogHolds}
-use Rattle.fb_run.specs.Database.{SameStreams, IsOpened, IsRefused, IsUnopenedBy, IsUnopenedPart, AreUnharmed, IsObstacle, IsUnready, disks_in}
-use Rattle.fb_run.specs.Causes.{HasNoDisk}
-use Rattle.fb_run.specs.Running.{LeavesLog, LeavesDisks, GoesOnFrom}
+use Rattle.fb_run.specs.Database.{SameStreams, IsOpened, IsRefused, IsUnopenedBy, IsUnopenedPart, LeaveLogUnharmed, IsObstacle, IsUnready, disks_in}
+use Rattle.fb_run.specs.Running.{LeavesLog, HandsLogBack, GoesOnFrom}
 
 -- ---- what is opened behind the directory
 
@@ -44,13 +43,13 @@ module _ {D : Type 0} (disks : DiskTells D) (dir : List ℕ) (names : List (List
   part_obstacle left (obstacle.Unopened (unopened.CannotOpen name)) same none not =
       ((0, ap Some (sym not.0), none), subst (λ n. Rose n new.faults) same not.1)
   part_obstacle left (obstacle.Unopened unopened.Memory) same none not = tt
-  part_obstacle left (obstacle.BadLog fault) same none not = absurd not
+  part_obstacle left (obstacle.NotReopened fault) same none not = absurd not
 
   pub unready_part : (unready : Unready D) → mid.faults ≡ old.faults → IsUnopenedPart mid new dir unready
       → IsUnready old new disks dir (dir ∷ names) unready
   unready_part unready same not = record {
     why = part_obstacle unready.disks unready.why same not.0 not.1;
-    unharmed = subst (λ (o : Option (Disks D)). IfSome o (AreUnharmed old disks dir)) (sym not.0) tt;
+    unharmed = subst (λ (o : Option (Disks D)). IfSome o (LeaveLogUnharmed old disks dir)) (sym not.0) tt;
   }
 
   later_obstacle : (left : Option (Disks D)) (why : Unopened) → mid.faults ≡ old.faults → IsSome left → IsUnopened names mid new why
@@ -60,7 +59,7 @@ module _ {D : Type 0} (disks : DiskTells D) (dir : List ℕ) (names : List (List
   later_obstacle left unopened.Memory same some not = tt
 
   -- what has a later name was not opened
-  pub unready_later : (both : Disks D) (why : Unopened) → mid.faults ≡ old.faults → AreUnharmed old disks dir both
+  pub unready_later : (both : Disks D) (why : Unopened) → mid.faults ≡ old.faults → LeaveLogUnharmed old disks dir both
       → IsUnopened names mid new why
       → IsUnready old new disks dir (dir ∷ names) (record { why = obstacle.Unopened why; disks = Some both })
   unready_later both why same unharmed not =
@@ -88,12 +87,12 @@ module _ {D : Type 0} (told : Told) (disks : DiskTells D) (dir : List ℕ) (disk
       ((leaves file (is.bytes ∙ told_is)).each image
       (subst (λ (t : ℕ). disks.images_since log t image) (sym is.moment) since))
 
-  -- the log of a directory was refused
+  -- the database of a directory was not reopened
   pub unready_log : (names : List (List ℕ)) (new : Told) (segments : D) (unready : Unready D)
       → IsDiskOf told disks dir Segments segments → new.faults ≡ told.faults → IsRefused disks disk segments unready
       → IsUnready told new disks dir names unready
   unready_log names new segments unready its same refused =
-      let both : Disks D = record { log = refused.log; segments = segments } in
+      let both : Disks D = record { log = refused.log; segments = refused.file } in
       subst (λ (u : Unready D). IsUnready told new disks dir names u) (sym refused.is) (record {
         why = (
           same,
@@ -101,10 +100,13 @@ module _ {D : Type 0} (told : Told) (disks : DiskTells D) (dir : List ℕ) (disk
             both = both;
             is = refl;
             cause = λ file told_is. refused.cause file (is.bytes ∙ told_is);
-            counted = subst (λ (n : ℕ). CountsOpening refused.fault n (disks.faults refused.log)) is.faults refused.counted;
+            counted = subst (λ (n : ℕ). CountsOpening refused.fault Log n (disks.faults refused.log)) is.faults refused.counted;
+            segments_counted = subst (λ (n : ℕ). CountsOpening refused.fault Segments n (disks.faults refused.file)) its.faults
+                refused.segments_counted;
+            untouched = λ of. subst (IsDiskOf told disks dir Segments) (sym (refused.untouched of)) its;
           },
         );
-        unharmed = record { log = unharmed_log refused.log refused.unharmed; segments = its };
+        unharmed = unharmed_log refused.log refused.unharmed;
       })
 
   pub not_reopened : {T : Type 0} (r : Result T (Unready D)) (names : List (List ℕ)) (new : Told) (segments : D)
@@ -115,11 +117,9 @@ module _ {D : Type 0} (told : Told) (disks : DiskTells D) (dir : List ℕ) (disk
 
 -- a directory that was opened is left as it was
 pub opened_unharmed : {D : Type 0} {g : _} (told : Told) (disks : DiskTells D) (dir : List ℕ) (directory : Directory D g)
-    → IsOpened told disks dir directory → AreUnharmed told disks dir (disks_in directory)
-opened_unharmed told disks dir directory opened = record {
-  log = unharmed_log told disks dir opened.disk opened.log (disk_in directory.log) opened.reopened.unharmed;
-  segments = opened.segments;
-}
+    → IsOpened told disks dir directory → LeaveLogUnharmed told disks dir (disks_in directory)
+opened_unharmed told disks dir directory opened =
+    unharmed_log told disks dir opened.disk opened.log (disk_in directory.log) opened.reopened.unharmed
 
 module _ {I O : Type 0} (tells : Tells I O) (old mid : Told) (streams : SameStreams old mid) where
   one_over : (name : List ℕ) (s : SessionOut I O) → IsOpenedFor mid tells name s → IsOpenedFor old tells name s
@@ -241,33 +241,23 @@ module _ {I O D : Type 0} {g : _} (told : Told) (disks : DiskTells D) (dir : Lis
   run_opens =
       opening_is told disks dir directory opened h outcome.recovered goes_on.recovered goes_on.within goes_on.opened (disk_in directory.log)
 
-  pub run_log : (segments : D) → LeavesDisks disks directory.recovered (disk_in directory.log) segments h outcome
+  pub run_log : HandsLogBack disks directory.recovered (disk_in directory.log) h outcome
       → IfSome outcome.log (LogHolds told disks dir h outcome.recovered outcome.torn)
-  run_log segments leaves =
+  run_log leaves =
       subst (λ (o : Option D). IfSome o (LogHolds told disks dir h outcome.recovered outcome.torn)) (sym leaves.log_is)
       (log_holds told disks dir directory opened h outcome.recovered goes_on.recovered goes_on.within goes_on.opened leaves.log outcome.torn
       leaves.left)
 
 module _ {I O D : Type 0} {g : _} (told : Told) (disks : DiskTells D) (dir : List ℕ) (directory : Directory D g) (opened : IsOpened told
     disks
-    dir directory) (outcome : Outcome I O D)
-    (segments : D) where
-  -- the segments' disk is the one that was opened, or none is handed back
-  pub run_segments : (last : Option Kept) → outcome.last ≡ last
-      → IfSome last (λ l. LeavesDisks disks directory.recovered (disk_in directory.log) directory.segments l.entries outcome)
-      → (outcome.last ≡ None → HasNoDisk outcome) → IfSome outcome.segments (IsDiskOf told disks dir Segments)
-  run_segments None is leaves none =
-      subst (λ (o : Option D). IfSome o (IsDiskOf told disks dir Segments)) (sym (none is).segments) tt
-  run_segments (Some l) is leaves none =
-      subst (λ (o : Option D). IfSome o (IsDiskOf told disks dir Segments)) (sym leaves.segments_is) opened.segments
-
+    dir directory) (outcome : Outcome I O D) where
   logs_by : (last : Option Kept) → IfSome last (λ l. GoesOnFrom directory l.entries outcome)
-      → IfSome last (λ l. LeavesDisks disks directory.recovered (disk_in directory.log) segments l.entries outcome)
+      → IfSome last (λ l. HandsLogBack disks directory.recovered (disk_in directory.log) l.entries outcome)
       → IfSome last (λ l. IfSome outcome.log (LogHolds told disks dir l.entries outcome.recovered outcome.torn))
   logs_by None goes_on leaves = tt
-  logs_by (Some l) goes_on leaves = run_log told disks dir directory opened outcome l.entries goes_on segments leaves
+  logs_by (Some l) goes_on leaves = run_log told disks dir directory opened outcome l.entries goes_on leaves
 
   pub run_logs : IfSome outcome.last (λ l. GoesOnFrom directory l.entries outcome)
-      → IfSome outcome.last (λ l. LeavesDisks disks directory.recovered (disk_in directory.log) segments l.entries outcome)
+      → IfSome outcome.last (λ l. HandsLogBack disks directory.recovered (disk_in directory.log) l.entries outcome)
       → IfSome outcome.last (λ l. IfSome outcome.log (LogHolds told disks dir l.entries outcome.recovered outcome.torn))
   run_logs goes_on leaves = logs_by outcome.last goes_on leaves

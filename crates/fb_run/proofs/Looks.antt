@@ -4,6 +4,7 @@ use Rattle.fb_values.specs.declared.facts.Entry.{Entry}
 use Rattle.fb_model.specs.History.{basis}
 use Rattle.command_line.specs.Words.{standard}
 use Rattle.disk_log.specs.Logs.{disk_in}
+use Rattle.seg_store.specs.Stores.{disk_in as segments_in}
 use Rattle.fb_ports.specs.Told.{Told}
 use Rattle.std.specs.Prelude.{Result, Ok, Err, IfOk, IfErr, OnOk, OnErr, MatchResult, string_bytes}
 use Rattle.std.specs.Io.KnownBytes.{append_known}
@@ -16,7 +17,7 @@ use Rattle.fb_run.specs.declared.looking.Look.{Look}
 use Rattle.fb_run.specs.StatusLines.{looked, console_failed, history_line}
 use Rattle.fb_run.specs.Outside.{Tells, DiskTells}
 use Rattle.fb_run.specs.Opening.{OpensSink, IsNotOpened}
-use Rattle.fb_run.specs.Database.{SameStreams, IsOpened, AreUnharmed, IsUnready, disks_in}
+use Rattle.fb_run.specs.Database.{SameStreams, IsOpened, LeaveLogUnharmed, IsUnready, disks_in}
 use Rattle.fb_run.specs.Causes.{SaysWhy}
 use Rattle.fb_run.specs.Looking.{IsLook, IsUnanswered, HasTold}
 use Rattle.fb_run.proofs.Directories.{opened_unharmed, unready_later}
@@ -58,16 +59,18 @@ module _ {I O D : Type 0} {g : _} (old mid new : Told) (tells : Tells I O) (disk
         record {
           history = h;
           opening = λ file held. opened.reopened.history file (opened.log.bytes ∙ held);
-          line = line
-              ∙ (ap (λ (m : ℕ). history_line m directory.core.snapshot.covered) opened.reopened.recovered
-              ∙ ap (λ (m : ℕ). history_line (basis h) m) opened.reopened.covered);
+          covered = directory.core.snapshot.covered;
+          coverage = λ file held. opened.reopened.coverage file (opened.segments.bytes ∙ held);
+          line = line ∙ ap (λ (m : ℕ). history_line m directory.core.snapshot.covered) opened.reopened.recovered;
           console = record {
             contents = its.is.contents ∙ streams.sinks standard;
             faults = its.is.faults ∙ streams.sink_faults standard;
           };
           host = its.faults ∙ streams.faults;
           unfailed = ap (λ (d : Directory D g). disks.faults (disk_in d.log)) is ∙ (opened.reopened.unfailed ∙ opened.log.faults);
-          unharmed = subst (λ (d : Directory D g). AreUnharmed old disks dir (disks_in d)) (sym is)
+          segments_unfailed = ap (λ (d : Directory D g). disks.faults (segments_in d.store)) is
+              ∙ (opened.reopened.segments_unfailed ∙ opened.segments.faults);
+          unharmed = subst (λ (d : Directory D g). LeaveLogUnharmed old disks dir (disks_in d)) (sym is)
               (opened_unharmed old disks dir directory opened);
         }
 

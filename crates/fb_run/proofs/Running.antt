@@ -37,11 +37,10 @@ use Rattle.fb_run.specs.declared.outcome.SessionOut.{SessionOut}
 use Rattle.fb_run.specs.Outside.{Tells, DiskTells, run_from, setting_of, EachOf}
 use Rattle.fb_run.specs.Jobs.{HasTalked, HaveTalked}
 use Rattle.fb_run.specs.declared.outcome.Outcome.{Outcome}
-use Rattle.fb_run.specs.StatusLines.{first_early, why_of}
-use Rattle.fb_run.specs.Causes.{SaysWhy}
 use Rattle.fb_run.specs.Headline.{OneHistory, stop_of}
 use Rattle.fb_run.specs.declared.database.Directory.{Directory}
-use Rattle.fb_run.specs.Running.{IsMade, Closes, LeavesLog, LeavesDisks, GoesOnFrom, CountsBy, RepliesBy, HaveEnded}
+use Rattle.fb_run.specs.declared.merging.Trees.{Trees}
+use Rattle.fb_run.specs.Running.{IsMade, Closes, LeavesLog, HandsLogBack, GoesOnFrom, CountsBy, RepliesBy, EndsWith, HaveEnded}
 use Rattle.fb_run.proofs.Lists.{some_then, there, all_at, map_at, at_map, each_at}
 
 -- a state as it was opened over this history
@@ -357,20 +356,17 @@ module _ {I O D L R : Type 0} (terms : Terms) (tells : Tells I O) (conn : Conn L
         opened = ap (upto closes.last.entries) start ∙ (opened_upto h closes.last.entries grown.0 r begun opens grown.1 ∙ sym is_h);
       })
 
-  pub run_ended : (names : List (List ℕ)) (disks : DiskTells D) (n : ℕ) (was segments : D)
-      → IfSome outcome.last (λ last. LeavesDisks disks n was segments last.entries outcome)
-      → (unmerged : Bool)
-      × SaysWhy (why_of (first_early names (map (λ (s : SessionOut I O). s.end) sessions)) (stop_of outcome.torn) unmerged) outcome.status
-      (string_bytes outcome.line)
-      → HaveEnded tells names opened outcome
-  run_ended names disks n was segments leaves says =
-      let left : LeavesDisks disks n was segments closes.last.entries outcome =
-      subst (λ (o : Option Kept). IfSome o (λ last. LeavesDisks disks n was segments last.entries outcome)) closes.last_is leaves in
+  pub run_ended : {g : _} (names : List (List ℕ)) (disks : DiskTells D) (merge_at n : ℕ) (was : D) (trees : Trees D g)
+      → IfSome outcome.last (λ last. HandsLogBack disks n was last.entries outcome)
+      → EndsWith disks merge_at names trees outcome
+      → HaveEnded tells disks merge_at names opened trees outcome
+  run_ended names disks merge_at n was trees leaves ends =
+      let left : HandsLogBack disks n was closes.last.entries outcome =
+      subst (λ (o : Option Kept). IfSome o (λ last. HandsLogBack disks n was last.entries outcome)) closes.last_is leaves in
       record {
         each = rw same (all_counts terms tells h begun r opens closes.stopped closes.last closes.authors closes.lawful conn given opened
             seats sessions talked count is_new closes.taken);
-        says = rw same says;
-        last = rw closes.last_is refl;
+        ends = ends;
         authors = rw closes.authors_is refl;
-        disks = record { log = subst IsSome (sym left.log_is) refl; segments = subst IsSome (sym left.segments_is) refl };
+        disks = record { log = subst IsSome (sym left.log_is) refl; segments = subst IsSome (sym ends.segments_is) refl };
       }

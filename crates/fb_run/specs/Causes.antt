@@ -1,6 +1,6 @@
 -- What causes the status of a run, the line that it says and what it hands back.
 -- This project's own choice.
-use Rattle.std.specs.Prelude.{◌≡◌, ℕ, zero, suc, ◌⊎◌, List, [], ◌∷◌, map, Option, Some, None, IsSome, slice_get, string_bytes}
+use Rattle.std.specs.Prelude.{◌≡◌, ℕ, zero, suc, ◌⊎◌, List, [], ◌∷◌, map, Option, Some, None, IsSome, IfSome, slice_get, string_bytes}
 use Rattle.std.specs.Io.KnownBytes.{append_known}
 use Rattle.fb_values.specs.declared.facts.Entry.{Entry}
 use Rattle.fb_model.specs.History.{basis}
@@ -16,10 +16,11 @@ use Rattle.fb_session.specs.Replies.{SourceCount, SinkCount}
 use Rattle.fb_session.specs.Written.{TakesPart}
 use Rattle.fb_run.specs.declared.outcome.SessionOut.{SessionOut}
 use Rattle.fb_run.specs.declared.outcome.Outcome.{Outcome}
-use Rattle.fb_run.specs.Outside.{Tells, DiskTells, EachOf}
+use Rattle.fb_run.specs.Outside.{Tells, DiskTells, IsDiskOf, EachOf}
 use Rattle.fb_run.specs.Headline.{stop_of}
 use Rattle.fb_run.specs.Logs.{IsUnharmed}
-use Rattle.fb_run.specs.StatusLines.{Why, answered, looked, usage, unopened, disk_failed, bad_record, unlawful, ended_early, console_failed, log_stopped, memory, out_of_memory, history_line, status_of, line_of, first_early}
+use Rattle.fb_recover.specs.Openings.{HasCoverage}
+use Rattle.fb_run.specs.StatusLines.{Why, answered, looked, usage, unopened, disk_failed, bad_record, unlawful, ended_early, console_failed, log_stopped, segments_failed, memory, out_of_memory, history_line, status_of, line_of, first_early}
 
 -- ---- what is handed back
 
@@ -124,7 +125,7 @@ pub record CannotOpen {I O D : Type 0} (told : Told) (new : ℕ) (command : Opti
   pub named : slice_get (names_of command) place ≡ Some name
   pub disks : HandsBack place outcome
 
--- the directory's disks were opened, and its log was not
+-- the directory's disks were opened, and its database was not
 pub record IsNotOpened {I O D : Type 0} (told : Told) (disks : DiskTells D) (new : ℕ)
     (command : Option Command) (outcome : Outcome I O D) : Type 0 where
   pub is_command : IsSome command
@@ -134,6 +135,35 @@ pub record IsNotOpened {I O D : Type 0} (told : Told) (disks : DiskTells D) (new
   pub log : D
   pub log_is : outcome.log ≡ Some log
   pub unharmed : IsUnharmed told disks (directory_of command) log
+
+-- nothing was asked of the segments' disk
+abbrev pub IsUntouched : {I O D : Type 0} → Told → DiskTells D → Option Command → Outcome I O D
+    → Type 0
+IsUntouched told disks command outcome =
+    IfSome outcome.segments (IsDiskOf told disks (directory_of command) Segments)
+
+-- The log is judged whole before anything is asked of the segments' disk.
+abbrev pub IsInTurn : {I O D : Type 0} → Told → DiskTells D → Option Command → Outcome I O D
+    → Part → Type 0
+IsInTurn told disks command outcome Log = IsUntouched told disks command outcome
+IsInTurn told disks command outcome Segments =
+    WhereTold (told.disks (directory_of command) Log)
+    (λ file. (history : List Entry) × IsLogOf file history)
+
+-- the disk of this part failed, or it did not
+abbrev pub Failed : {I O D : Type 0} → Told → DiskTells D → Option Command → Outcome I O D → Part
+    → Type 0
+Failed {I} {O} {D} told disks command outcome part =
+    (disk : D)
+    × (part_of outcome part ≡ Some disk)
+    × Rose (told.disk_faults (directory_of command) part) (disks.faults disk)
+
+abbrev pub IsUnfailed : {I O D : Type 0} → Told → DiskTells D → Option Command → Outcome I O D
+    → Part → Type 0
+IsUnfailed {I} {O} {D} told disks command outcome part =
+    (disk : D)
+    × (part_of outcome part ≡ Some disk)
+    × (disks.faults disk ≡ told.disk_faults (directory_of command) part)
 
 -- a sink took the whole line
 pub record TookWhole (line : List ℕ) (had has : Option (List ℕ)) (old new : ℕ) : Type 0 where
@@ -145,8 +175,7 @@ pub record TookPart (line : List ℕ) (had has : Option (List ℕ)) (old new : �
   pub part : TakesPart line had has
   pub failed : Rose old new
 
--- The directory's log was that of a history. The console took the line about it, so far; all that has been accepted is live, and
--- the trees are of the first entry alone.
+-- The directory's log was that of a history. The console took the line about it and about how far its trees go, so far.
 pub record HasLooked {I O D : Type 0} (told : Told) (tells : Tells I O) (disks : DiskTells D)
     (new : ℕ) (command : Option Command) (outcome : Outcome I O D)
     (Took : List ℕ → Option (List ℕ) → Option (List ℕ) → ℕ → ℕ → Type 0) : Type 0 where
@@ -156,13 +185,12 @@ pub record HasLooked {I O D : Type 0} (told : Told) (tells : Tells I O) (disks :
   pub host : new ≡ told.faults
   pub history : List Entry
   pub opening : WhereTold (told.disks directory Log) (λ file. IsLogOf file history)
-  pub segments : IsSome outcome.segments
-  pub log : D
-  pub log_is : outcome.log ≡ Some log
-  pub log_unfailed : disks.faults log ≡ told.disk_faults directory Log
+  pub covered : ℕ
+  pub coverage : WhereTold (told.disks directory Segments) (HasCoverage history covered)
+  pub unfailed : (part : Part) → IsUnfailed told disks command outcome part
   pub console : O
   pub console_is : outcome.console ≡ Some console
-  pub took : Took (history_line (basis history) 0)
+  pub took : Took (history_line (basis history) covered)
       (told.sinks standard) (tells.contents console)
       (told.sink_faults standard) (tells.sink_faults console)
 
@@ -170,35 +198,39 @@ abbrev pub CauseOf : {I O D : Type 0} → Told → Tells I O → DiskTells D →
     → Outcome I O D → Why → Type 0
 CauseOf told tells disks new command outcome answered =
     HaveRun told tells new command outcome None × (outcome.torn ≡ None)
+    × IsUnfailed told disks command outcome Segments
 CauseOf told tells disks new command outcome looked =
     HasLooked told tells disks new command outcome TookWhole
 CauseOf told tells disks new command outcome usage =
     NoSession outcome × HasNoDisk outcome × (command ≡ None) × (new ≡ told.faults)
 CauseOf told tells disks new command outcome (unopened name) =
     CannotOpen told new command outcome name
-CauseOf {I} {O} {D} told tells disks new command outcome (disk_failed part) =
+CauseOf told tells disks new command outcome (disk_failed part) =
     IsNotOpened told disks new command outcome
-    × ((disk : D)
-    × (part_of outcome part ≡ Some disk)
-    × Rose (told.disk_faults (directory_of command) part) (disks.faults disk))
+    × IsInTurn told disks command outcome part
+    × Failed told disks command outcome part
 CauseOf told tells disks new command outcome (bad_record nth at) =
     IsNotOpened told disks new command outcome
+    × IsInTurn told disks command outcome Log
     × WhereTold (told.disks (directory_of command) Log)
     (λ file. FileSays file (bad_record_there nth at))
 CauseOf told tells disks new command outcome (unlawful t law) =
     IsNotOpened told disks new command outcome
+    × IsInTurn told disks command outcome Log
     × WhereTold (told.disks (directory_of command) Log)
     (λ file. FileSays file (unlawful_there t law))
 CauseOf told tells disks new command outcome (ended_early name how) =
     HaveRun told tells new command outcome (Some (name, how))
 CauseOf told tells disks new command outcome console_failed =
     HasLooked told tells disks new command outcome TookPart
-CauseOf {I} {O} {D} told tells disks new command outcome (log_stopped t) =
+CauseOf told tells disks new command outcome (log_stopped t) =
     HaveRun told tells new command outcome None
     × (stop_of outcome.torn ≡ Some t)
-    × ((log : D)
-    × (outcome.log ≡ Some log)
-    × Rose (told.disk_faults (directory_of command) Log) (disks.faults log))
+    × Failed told disks command outcome Log
+CauseOf told tells disks new command outcome segments_failed =
+    HaveRun told tells new command outcome None
+    × (outcome.torn ≡ None)
+    × Failed told disks command outcome Segments
 CauseOf told tells disks new command outcome memory =
     (NoSession outcome × IsSome command)
     ⊎ (HaveRun told tells new command outcome None × (outcome.torn ≡ None))

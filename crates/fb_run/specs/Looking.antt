@@ -5,9 +5,10 @@ use Rattle.fb_values.specs.declared.facts.Entry.{Entry}
 use Rattle.fb_model.specs.History.{basis}
 use Rattle.disk_model.specs.Disk.{WhereTold}
 use Rattle.log_model.specs.Log.{IsLogOf}
-use Rattle.fb_ports.specs.declared.hosts.Part.TheVariants.{Log}
+use Rattle.fb_ports.specs.declared.hosts.Part.TheVariants.{Log, Segments}
 use Rattle.fb_ports.specs.Told.{Told}
 use Rattle.disk_log.specs.Logs.{disk_in}
+use Rattle.seg_store.specs.Stores.{disk_in as segments_in}
 use Rattle.command_line.specs.Words.{standard}
 use Rattle.fb_run.specs.declared.database.Directory.{Directory}
 use Rattle.fb_run.specs.declared.database.Obstacle.TheVariants as obstacle
@@ -18,19 +19,25 @@ use Rattle.fb_run.specs.declared.outcome.Outcome.{Outcome}
 use Rattle.fb_run.specs.StatusLines.{looked, console_failed, history_line}
 use Rattle.fb_run.specs.Outside.{Tells, DiskTells, IsSinkOf}
 use Rattle.fb_run.specs.Opening.{IsNotOpened}
-use Rattle.fb_run.specs.Database.{AreUnharmed, disks_in}
+use Rattle.fb_recover.specs.Openings.{HasCoverage}
+use Rattle.fb_run.specs.Database.{LeaveLogUnharmed, disks_in}
 use Rattle.fb_run.specs.Causes.{SaysWhy, TookWhole, TookPart}
 
--- the directory's log is that of a history, about which the line is, and the console is as the host told of it
+-- the directory's log is that of a history, about which the line is and how far its trees go, and the console is as the host told of
+-- it
 pub record IsLook {I O D : Type 0} {g : _} (old new : Told) (tells : Tells I O) (disks : DiskTells D)
     (dir : List ℕ) (look : Look O D g) : Type 0 where
   pub history : List Entry
   pub opening : WhereTold (old.disks dir Log) (λ file. IsLogOf file history)
-  pub line : string_bytes look.answer.line ≡ history_line (basis history) 0
+  pub covered : ℕ
+  pub coverage : WhereTold (old.disks dir Segments) (HasCoverage history covered)
+  pub line : string_bytes look.answer.line ≡ history_line (basis history) covered
   pub console : IsSinkOf old tells standard look.answer.console
   pub host : new.faults ≡ old.faults
   pub unfailed : disks.faults (disk_in look.directory.log) ≡ old.disk_faults dir Log
-  pub unharmed : AreUnharmed old disks dir (disks_in look.directory)
+  pub segments_unfailed :
+      disks.faults (segments_in look.directory.store) ≡ old.disk_faults dir Segments
+  pub unharmed : LeaveLogUnharmed old disks dir (disks_in look.directory)
 
 -- the host could not open the console of this name, and the disks of the directory are left
 pub record IsUnanswered {D : Type 0} {g : _} (old new : Told) (name : List ℕ)

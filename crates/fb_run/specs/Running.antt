@@ -1,6 +1,6 @@
 -- How a run comes about: what its sessions are given, and what the closed database and the sessions leave.
 -- This project's own choice.
-use Rattle.std.specs.Prelude.{◌≡◌, ℕ, ◌+◌, ◌<◌, ◌≤◌, ◌==◌, Bool, List, map, length, Option, Some, None, option_map, IsSome, slice_get, string_bytes}
+use Rattle.std.specs.Prelude.{◌≡◌, ℕ, ◌+◌, ◌<◌, ◌≤◌, ◌==◌, List, map, length, Option, Some, None, option_map, IsSome, slice_get, string_bytes}
 use Rattle.std.specs.List.{AllByRecursion}
 use Rattle.fb_values.specs.declared.facts.Entry.{Entry}
 use Rattle.fb_model.specs.History.{basis, upto}
@@ -22,6 +22,9 @@ use Rattle.fb_run.specs.declared.outcome.SessionOut.{SessionOut}
 use Rattle.fb_run.specs.declared.outcome.Outcome.{Outcome}
 use Rattle.fb_run.specs.StatusLines.{first_early, why_of}
 use Rattle.fb_run.specs.declared.database.Directory.{Directory}
+use Rattle.fb_run.specs.declared.merging.Trees.{Trees}
+use Rattle.merge_worker.specs.declared.ends.WorkEnd.{WorkEnd}
+use Rattle.fb_run.specs.Merging.{LeavesTrees}
 use Rattle.fb_run.specs.Outside.{Tells, DiskTells, run_from, setting_of, EachOf}
 use Rattle.fb_run.specs.Headline.{stop_of}
 use Rattle.fb_run.specs.Logs.{IsNext}
@@ -63,10 +66,9 @@ LeavesLog disks r begun h (Some draft) log =
     × HasBroken disks.bytes disks.images disks.faults disks.moment disks.images_since r begun h
     (entry_of draft) log
 
--- both disks are handed back: that of the segments, of which nothing was asked, and the log's
-pub record LeavesDisks {I O D : Type 0} (disks : DiskTells D) (r : ℕ) (begun segments : D)
-    (h : List Entry) (outcome : Outcome I O D) : Type 0 where
-  pub segments_is : outcome.segments ≡ Some segments
+-- the log's disk is handed back
+pub record HandsLogBack {I O D : Type 0} (disks : DiskTells D) (r : ℕ) (begun : D) (h : List Entry)
+    (outcome : Outcome I O D) : Type 0 where
   pub log : D
   pub log_is : outcome.log ≡ Some log
   pub left : LeavesLog disks r begun h outcome.torn log
@@ -91,15 +93,26 @@ pub record CountsBy {I O : Type 0} (tells : Tells I O) (old new : SessionOut I O
   pub source : SourceCount new.end (tells.source_faults old.source) (tells.source_faults new.source)
   pub sink : SinkCount new.end (tells.sink_faults old.sink) (tells.sink_faults new.sink)
 
--- the sessions ran, and what is said is of the first that ended early
-pub record HaveEnded {I O D : Type 0} (tells : Tells I O) (names : List (List ℕ))
-    (opened : List (SessionOut I O)) (outcome : Outcome I O D) : Type 0 where
+-- The run ended, and its trees with it. What is said is of the first session that ended early, else of the log, else of the trees.
+pub record EndsWith {I O D : Type 0} {g : _} (disks : DiskTells D) (merge_at : ℕ)
+    (names : List (List ℕ)) (begun : Trees D g) (outcome : Outcome I O D) : Type 0 where
+  pub end : WorkEnd
+  pub says : SaysWhy
+      (why_of (first_early names (map (λ (s : SessionOut I O). s.end) outcome.sessions.items))
+      (stop_of outcome.torn) end)
+      outcome.status (string_bytes outcome.line)
+  pub last : Kept
+  pub last_is : outcome.last ≡ Some last
+  pub segments : D
+  pub segments_is : outcome.segments ≡ Some segments
+  pub trees : LeavesTrees disks merge_at begun end last segments
+
+-- the sessions ran
+pub record HaveEnded {I O D : Type 0} {g : _} (tells : Tells I O) (disks : DiskTells D)
+    (merge_at : ℕ) (names : List (List ℕ)) (opened : List (SessionOut I O)) (begun : Trees D g)
+    (outcome : Outcome I O D) : Type 0 where
   pub each : EachOf (λ n (old new : SessionOut I O). CountsBy tells old new) 0 opened
       outcome.sessions.items
-  pub says : (unmerged : Bool) × SaysWhy
-      (why_of (first_early names (map (λ (s : SessionOut I O). s.end) outcome.sessions.items))
-      (stop_of outcome.torn) unmerged)
-      outcome.status (string_bytes outcome.line)
-  pub last : IsSome outcome.last
+  pub ends : EndsWith disks merge_at names begun outcome
   pub authors : IsSome outcome.authors
   pub disks : HasDisks outcome

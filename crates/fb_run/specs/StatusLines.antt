@@ -1,12 +1,14 @@
 -- Why the program ends, with which status, and what it says of that on standard error.
 -- This project's own choice.
-use Rattle.std.specs.Prelude.{ℕ, Bool, true, false, List, [], ◌∷◌, ◌++◌, Option, Some, None, codes, decimal}
+use Rattle.std.specs.Prelude.{ℕ, List, [], ◌∷◌, ◌++◌, Option, Some, None, codes, decimal}
 use Rattle.edn_model.specs.Faults.{Fault, bad, unsupported, deep, cut}
 use Rattle.edn_core.specs.Answers.{fault_of}
 use Rattle.fb_ports.specs.declared.hosts.Part.{Part}
 use Rattle.fb_ports.specs.declared.hosts.Part.TheVariants.{Log, Segments}
 use Rattle.fb_recover.specs.declared.faults.OpenFault.{OpenFault}
 use Rattle.fb_recover.specs.declared.faults.OpenFault.TheVariants.{Disk, BadLog, Unlawful, Memory as OutOfMemory}
+use Rattle.merge_worker.specs.declared.ends.WorkEnd.{WorkEnd}
+use Rattle.merge_worker.specs.declared.ends.WorkEnd.TheVariants.{Shut, StoreFault, Spent, Memory as NoMemory}
 use Rattle.fb_session.specs.declared.outcome.SessionEnd.{SessionEnd}
 use Rattle.fb_session.specs.declared.outcome.SessionEnd.TheVariants.{Done, Script, TooLong, TooMany, ReadFault, WriteFault, Memory}
 
@@ -47,6 +49,9 @@ law_line t law =
 
 abbrev pub stopped_line : ℕ → List ℕ
 stopped_line t = codes "factbase: log stopped at t " ++ decimal t
+
+abbrev pub segment_fault : List ℕ
+segment_fault = codes "factbase: segment fault"
 
 -- what went wrong with the console
 abbrev pub console_fault : List ℕ
@@ -98,7 +103,7 @@ pub data Why : Type 0 where
   usage : Why
   -- the host could not open what has this name
   unopened : List ℕ → Why
-  -- a call of this disk of the directory failed while the log was opened
+  -- a call of this disk of the directory failed while the database was opened
   disk_failed : Part → Why
   -- the log's first record that is none or holds no entry, and the byte of the file
   bad_record : ℕ → ℕ → Why
@@ -110,6 +115,8 @@ pub data Why : Type 0 where
   console_failed : Why
   -- the log did not take the entry of this t
   log_stopped : ℕ → Why
+  -- the file of segments did not take the trees of a merge
+  segments_failed : Why
   memory : Why
 
 abbrev pub status_of : Why → ℕ
@@ -123,6 +130,7 @@ status_of (unlawful t law) = 4
 status_of (ended_early name how) = status_of_end how
 status_of console_failed = 6
 status_of (log_stopped t) = 7
+status_of segments_failed = 8
 status_of memory = 9
 
 abbrev pub line_of : Why → List ℕ
@@ -136,6 +144,7 @@ line_of (unlawful t law) = law_line t law
 line_of (ended_early name how) = line_of_end name how
 line_of console_failed = console_fault
 line_of (log_stopped t) = stopped_line t
+line_of segments_failed = segment_fault
 line_of memory = out_of_memory
 
 -- ---- the first session that ended early
@@ -146,18 +155,23 @@ first_early (name ∷ names) [] = None
 first_early (name ∷ names) (Done ∷ ends) = first_early names ends
 first_early (name ∷ names) (how ∷ ends) = Some (name, how)
 
--- What decides where sessions ran: the first that ended early; else the t that the log did not take; else whether memory was refused
--- to a merge.
-abbrev pub why_of : Option (List ℕ × SessionEnd) → Option ℕ → Bool → Why
-why_of (Some p) stop unmerged = ended_early p.0 p.1
-why_of None (Some t) unmerged = log_stopped t
-why_of None None true = memory
-why_of None None false = answered
+-- how merging ended
+abbrev pub why_merged : WorkEnd → Why
+why_merged Shut = answered
+why_merged StoreFault = segments_failed
+why_merged Spent = answered
+why_merged NoMemory = memory
 
--- ---- why a log is not opened
+-- What decides where sessions ran: the first that ended early; else the t that the log did not take; else how merging ended.
+abbrev pub why_of : Option (List ℕ × SessionEnd) → Option ℕ → WorkEnd → Why
+why_of (Some p) stop end = ended_early p.0 p.1
+why_of None (Some t) end = log_stopped t
+why_of None None end = why_merged end
+
+-- ---- why a database is not opened
 
 abbrev pub why_not : OpenFault → Why
-why_not Disk = disk_failed Log
+why_not (Disk part) = disk_failed part
 why_not (BadLog nth at) = bad_record nth at
 why_not (Unlawful t law) = unlawful t law
 why_not OutOfMemory = memory

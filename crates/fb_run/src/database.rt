@@ -5,12 +5,12 @@ ghost use Rattle.fb_conn.specs.Seats.{begun_of};
 ghost use Rattle.disk_log.specs.Logs.{KeepsHistory};
 ghost use Rattle.fb_ports.specs.Telling.{StaysButDisk};
 ghost use Rattle.fb_run.specs.Outside.{disks_of, IsDiskOf};
-ghost use Rattle.fb_run.specs.Merging.{CanWork};
+ghost use Rattle.fb_run.specs.Merging.{CanWork, trees_in};
 ghost use Rattle.fb_run.specs.Database.{SameStreams, IsReopened, IsRefused, IsOpened, IsUnopenedPart, IsUnready, disks_in};
 ghost use Rattle.fb_run.specs.Running.{IsMade};
 
 use crate::lines::Reach;
-use crate::merging::Worker;
+use crate::merging::{Trees, Worker};
 use crate::opening::Unopened;
 use disk_log::DiskLog;
 use fb_conn::{Conn, Made, Seat};
@@ -20,6 +20,7 @@ use fb_memory::Memory;
 use fb_ports::{Host, OpenFail, Part};
 use fb_recover::{OpenFault, OpenStop, Opened, reopen};
 use merge_worker::{WorkEnd, base_of};
+use seg_store::SegStore;
 use std::alloc::Global;
 
 /// The two disks of a directory.
@@ -29,12 +30,12 @@ pub(crate) struct Disks<D> {
     pub(crate) segments: D,
 }
 
-/// The database that the log of a directory holds, and the disk for its segments.
+/// The database that the log of a directory holds, and the store of its trees.
 #[derive(Drop)]
 pub(crate) struct Directory<D: Disk> {
     pub(crate) core: Core,
     pub(crate) log: DiskLog<D>,
-    pub(crate) segments: D,
+    pub(crate) store: SegStore<D>,
     /// The t of the last entry that the log has.
     pub(crate) recovered: u32,
 }
@@ -51,13 +52,13 @@ impl<D: Disk> Directory<D> {
         }
     }
 
-    /// The disks, of which nothing was asked since the directory was opened.
+    /// The disks, of which nothing was asked since the database was opened.
     pub(crate) fn into_disks(self) -> Disks<D>
         ensures { result ≡ disks_in self }
     {
         Disks {
             log: self.log.into_disk(),
-            segments: self.segments,
+            segments: self.store.give_back(),
         }
     }
 }
@@ -74,8 +75,8 @@ pub(crate) struct Unready<'a, D> {
 #[derive(Drop)]
 pub(crate) enum Obstacle<'a> {
     Unopened(Unopened<'a>),
-    /// The log is not that of a database, or its disk failed.
-    BadLog(OpenFault),
+    /// The log is not that of a database, or a disk failed.
+    NotReopened(OpenFault),
 }
 
 /// Opens both disks of a directory, and then the database.
@@ -123,43 +124,39 @@ fn open_part<'a, H: Host>(
     })
 }
 
-/// Opens the database of a log.
+/// Opens the database that a log holds, with the trees of the segments.
 fn reopened<'a, D: Disk>(alloc: Global, log: D, segments: D) -> Result<Directory<D>, Unready<'a, D>>
     ensures opened { IfOk result
-        (IsReopened (disks_of D.bytes D.faults D.images D.moment D.images_since) log) }
-    ensures segments { IfOk result (λ directory. directory.segments ≡ segments) }
+        (IsReopened (disks_of D.bytes D.faults D.images D.moment D.images_since) log segments) }
     ensures refused { IfErr result
         (IsRefused (disks_of D.bytes D.faults D.images D.moment D.images_since) log segments) }
 {
-    match reopen(alloc, log) {
+    match reopen(alloc, log, segments) {
         Ok(
             Opened {
                 core,
                 log,
+                store,
                 recovered,
                 covered: _,
             },
         ) => Ok(Directory {
             core,
             log,
-            segments,
+            store,
             recovered,
         }),
-        Err(OpenStop { fault, disk }) => Err(Unready {
-            why: Obstacle::BadLog(fault),
-            disks: Some(Disks {
-                log: disk,
+        Err(
+            OpenStop {
+                fault,
+                log,
                 segments,
-            }),
+            },
+        ) => Err(Unready {
+            why: Obstacle::NotReopened(fault),
+            disks: Some(Disks { log, segments }),
         }),
     }
-}
-
-/// What stays as it was while sessions run: the disk of the segments, and the t up to which the history was there.
-#[derive(Drop)]
-pub(crate) struct Rest<D> {
-    pub(crate) segments: D,
-    pub(crate) recovered: u32,
 }
 
 /// A connection with the seats of its sessions, and its worker.
@@ -167,8 +164,7 @@ pub(crate) struct Rest<D> {
 pub(crate) struct Connection<D: Disk> {
     pub(crate) conn: Conn<DiskLog<D>>,
     pub(crate) seats: Vec<Seat>,
-    pub(crate) worker: Worker,
-    pub(crate) rest: Rest<D>,
+    pub(crate) worker: Worker<D>,
 }
 
 /// The connection of so many sessions to a database that was opened.
@@ -185,15 +181,11 @@ pub(crate) fn connected<D: Disk>(
     ensures made { IfOk result (λ made. IsMade sessions directory.core.snapshot.entries made.conn
         made.seats.items made.worker.seat) }
     ensures worker { IfOk result (λ made. CanWork made.conn made.worker) }
+    ensures trees { IfOk result (λ made. made.worker.trees ≡ trees_in directory) }
     ensures begun { IfOk result (λ made. begun_of made.conn ≡ directory.log) }
-    ensures segments { IfOk result (λ made. made.rest.segments ≡ directory.segments) }
-    ensures recovered { IfOk result (λ made. made.rest.recovered ≡ directory.recovered) }
 {
     let Directory {
-        core,
-        log,
-        segments,
-        recovered,
+        core, log, store, ..
     } = directory;
     let base = base_of(core.snapshot())?;
     let Made {
@@ -201,15 +193,16 @@ pub(crate) fn connected<D: Disk>(
         seats,
         worker: seat,
     } = Conn::new(alloc, core, log, sessions, merge_at)?;
+    let trees = Trees {
+        base,
+        ahead: None,
+        store,
+    };
     // It stays so until the worker has ended.
     let end = WorkEnd::Shut;
     Ok(Connection {
         conn,
         seats,
-        worker: Worker { seat, base, end },
-        rest: Rest {
-            segments,
-            recovered,
-        },
+        worker: Worker { seat, trees, end },
     })
 }

@@ -1,26 +1,27 @@
 //! How a run ends: what became of the database, the status and the line.
-ghost use Rattle.std.specs.Prelude.{◌≡◌, ℕ, ◌≤◌, Bool, [], map, length, Some, None, is_err, slice_get, string_bytes, IfSome, IfOk, OnErr};
+ghost use Rattle.std.specs.Prelude.{◌≡◌, ℕ, ◌≤◌, [], map, length, Some, None, slice_get, string_bytes, IfSome, IfOk, OnErr};
 ghost use Rattle.std.specs.Option.{option_map};
 ghost use Rattle.command_line.specs.Views.{names_in};
 ghost use Rattle.board_rule.specs.Calls.{view_of};
 ghost use Rattle.disk_log.specs.Logs.{disk_in, count_in};
 ghost use Rattle.fb_conn.specs.declared.seats.Seat.{Seat};
-ghost use Rattle.fb_conn.specs.Seats.{table_of, begun_of, IsAtRest, IsWorkerOf};
+ghost use Rattle.fb_conn.specs.Seats.{table_of, begun_of, IsAtRest};
+ghost use Rattle.merge_worker.specs.declared.ends.WorkEnd.{WorkEnd};
 ghost use Rattle.fb_run.specs.StatusLines.{first_early, why_of};
 ghost use Rattle.fb_run.specs.Database.{why_unready};
 ghost use Rattle.fb_run.specs.Outside.{disks_of};
 ghost use Rattle.fb_run.specs.Headline.{stop_of};
 ghost use Rattle.fb_run.specs.Causes.{HasNoConsole, HasNoDisk, NoSession, SaysWhy};
-ghost use Rattle.fb_run.specs.Merging.{HasNoFault, IsMerged};
-ghost use Rattle.fb_run.specs.Running.{Closes, LeavesDisks};
+ghost use Rattle.fb_run.specs.Merging.{TreesFit, CanWork, HaveMerged};
+ghost use Rattle.fb_run.specs.Running.{Closes, HandsLogBack, EndsWith};
 
-use crate::database::{Disks, Obstacle, Rest, Unready};
+use crate::database::{Disks, Obstacle, Unready};
 use crate::jobs::Ended;
 use crate::lines::{
-    cannot_open, line_of_end, line_of_fault, log_stopped, out_of_memory, status_of_end,
-    status_of_fault,
+    cannot_open, line_of_end, line_of_fault, log_stopped, out_of_memory, segment_fault,
+    status_of_end, status_of_fault,
 };
-use crate::merging::{Worker, settled};
+use crate::merging::{Trees, Worker, settled};
 use crate::opening::Unopened;
 use crate::outcome::{Outcome, SessionOut};
 use command_line::Run;
@@ -30,6 +31,7 @@ use fb_core::{CoreParts, Draft};
 use fb_disk::Disk;
 use fb_memory::Memory;
 use fb_session::SessionEnd;
+use merge_worker::WorkEnd;
 use std::alloc::Global;
 use std::thread::Threads;
 
@@ -39,58 +41,64 @@ pub(crate) fn closed<R: Threads + Sync, I: Drop, O: Drop, D: Disk>(
     alloc: Global,
     command: &Run<'_>,
     conn: Conn<DiskLog<D>>,
-    worker: Worker,
+    worker: Worker<D>,
     ended: Ended<I, O>,
-    rest: Rest<D>,
+    recovered: u32,
 ) -> Outcome<I, O, D>
     requires merge_at { 1 ≤ command.now.options.merge_at }
     requires seats { (k : ℕ) (seat : Seat) → slice_get ended.seats.items k ≡ Some seat
         → IsAtRest (table_of conn) seat × ((view_of seat.board).number ≡ k) }
-    requires worker { IsWorkerOf conn worker.seat
-        × ((view_of worker.seat.board).given ≡ length ended.seats.items)
-        × ((view_of worker.seat.board).start ≡ rest.recovered) }
-    requires no_fault { HasNoFault worker.end }
+    requires worker { ((view_of worker.seat.board).given ≡ length ended.seats.items)
+        × ((view_of worker.seat.board).start ≡ recovered) }
+    requires can_work { CanWork conn worker }
+    requires fit { (worker.end ≡ WorkEnd.StoreFault → ⊥)
+        → TreesFit (disks_of D.bytes D.faults D.images D.moment D.images_since) worker.trees }
     ensures sessions { result.sessions.items ≡ ended.sessions.items }
-    ensures recovered { result.recovered ≡ rest.recovered }
-    ensures said { (unmerged : Bool) × SaysWhy
-        (why_of (first_early (names_in command.now.scripts.items)
-        (map (λ s. s.end) ended.sessions.items)) (stop_of result.torn) unmerged)
-        result.status (string_bytes result.line) }
-    ensures closes { Closes ended.seats.items rest.recovered result }
-    ensures disks { IfSome result.last (λ last. LeavesDisks
+    ensures recovered { result.recovered ≡ recovered }
+    ensures closes { Closes ended.seats.items recovered result }
+    ensures log { IfSome result.last (λ last. HandsLogBack
         (disks_of D.bytes D.faults D.images D.moment D.images_since)
-        (count_in (begun_of conn)) (disk_in (begun_of conn)) rest.segments last.entries result) }
+        (count_in (begun_of conn)) (disk_in (begun_of conn)) last.entries result) }
+    ensures ends { (begun : _) → begun.ahead ≡ None
+        → HaveMerged (disks_of D.bytes D.faults D.images D.moment D.images_since) begun worker.trees
+        worker.end
+        → EndsWith (disks_of D.bytes D.faults D.images D.moment D.images_since)
+        command.now.options.merge_at (names_in command.now.scripts.items) begun result }
     ensures covered { IfSome result.last (λ last. result.covered ≡ last.covered) }
-    ensures merged { IfSome result.last
-        (λ last. result.status ≡ 0 → IsMerged command.now.options.merge_at last) }
     ensures no_console { HasNoConsole result }
 {
     let Ended { sessions, seats } = ended;
-    let Worker { seat, base: _, end } = worker;
+    let Worker {
+        seat,
+        mut trees,
+        end,
+    } = worker;
+    // A snapshot that is asked tells that it stands for its history.
+    let _basis = seat.last().basis();
     let Closed {
         mut core,
         log,
         stopped: _,
         torn,
     } = conn.close(seats, seat);
-    let merged = settled(rt, alloc, &mut core, end, command.options.merge_at);
+    let end = settled(rt, alloc, &mut core, &mut trees, end, command.options.merge_at);
     let (status, line) = said(
         alloc,
         command.scripts.as_slice(),
         sessions.as_slice(),
         stop_in(&torn),
-        &merged,
+        end,
     );
     let CoreParts { snapshot, authors } = core.into_parts();
     Outcome {
         sessions,
         log: Some(log.into_disk()),
-        segments: Some(rest.segments),
+        segments: Some(trees.store.give_back()),
         authors: Some(authors),
         covered: snapshot.covered(),
         last: Some(snapshot),
         torn,
-        recovered: rest.recovered,
+        recovered,
         ..without_session(alloc, status, Ok(line))
     }
 }
@@ -112,20 +120,20 @@ fn said<I: Drop, O: Drop>(
     scripts: &[&str],
     sessions: &[SessionOut<I, O>],
     stop: Option<u32>,
-    merged: &Result<(), Memory>,
+    end: WorkEnd,
 ) -> (u8, String)
     ensures { SaysWhy
-        (why_of (first_early (names_in scripts.now) (map (λ s. s.end) sessions.now)) stop
-        (is_err merged.now)) result.0 (string_bytes result.1) }
+        (why_of (first_early (names_in scripts.now) (map (λ s. s.end) sessions.now)) stop end)
+        result.0 (string_bytes result.1) }
 {
     let [script, scripts @ ..] = scripts else {
-        return said_of_log(alloc, stop, merged);
+        return said_of_log(alloc, stop, end);
     };
     let [session, sessions @ ..] = sessions else {
-        return said_of_log(alloc, stop, merged);
+        return said_of_log(alloc, stop, end);
     };
     if matches!(session.end, SessionEnd::Done) {
-        return said(alloc, scripts, sessions, stop, merged);
+        return said(alloc, scripts, sessions, stop, end);
     }
     match line_of_end(alloc, *script, &session.end) {
         Ok(line) => (status_of_end(&session.end), line),
@@ -134,11 +142,11 @@ fn said<I: Drop, O: Drop>(
 }
 
 /// The status and the line where each session answered all of its script: a log that stopped decides.
-fn said_of_log(alloc: Global, stop: Option<u32>, merged: &Result<(), Memory>) -> (u8, String)
-    ensures { SaysWhy (why_of None stop (is_err merged.now)) result.0 (string_bytes result.1) }
+fn said_of_log(alloc: Global, stop: Option<u32>, end: WorkEnd) -> (u8, String)
+    ensures { SaysWhy (why_of None stop end) result.0 (string_bytes result.1) }
 {
     let Some(t) = stop else {
-        return said_of_merges(alloc, merged);
+        return said_of_merges(alloc, end);
     };
     match log_stopped(alloc, t) {
         Ok(line) => (7, line),
@@ -146,15 +154,17 @@ fn said_of_log(alloc: Global, stop: Option<u32>, merged: &Result<(), Memory>) ->
     }
 }
 
-/// The status and the line where the log took every entry, too.
-fn said_of_merges(alloc: Global, merged: &Result<(), Memory>) -> (u8, String)
-    ensures { SaysWhy (why_of None None (is_err merged.now)) result.0 (string_bytes result.1) }
+/// The status and the line where the log took every entry, too: they say how merging ended.
+fn said_of_merges(alloc: Global, end: WorkEnd) -> (u8, String)
+    ensures { SaysWhy (why_of None None end) result.0 (string_bytes result.1) }
 {
-    if merged.is_ok() {
-        return (0, String::new(alloc));
-    }
-    match out_of_memory(alloc) {
-        Ok(line) => (9, line),
+    let (status, line) = match end {
+        WorkEnd::Shut | WorkEnd::Spent => (0, Ok(String::new(alloc))),
+        WorkEnd::StoreFault => (8, segment_fault(alloc)),
+        WorkEnd::Memory => (9, out_of_memory(alloc)),
+    };
+    match line {
+        Ok(line) => (status, line),
         Err(Memory) => (9, String::new(alloc)),
     }
 }
@@ -193,7 +203,7 @@ fn obstructed<I: Drop, O: Drop, D: Drop>(alloc: Global, why: Obstacle<'_>) -> Ou
             without_session(alloc, 2, cannot_open(alloc, name))
         }
         Obstacle::Unopened(Unopened::Memory) => { without_session(alloc, 9, out_of_memory(alloc)) }
-        Obstacle::BadLog(fault) => {
+        Obstacle::NotReopened(fault) => {
             without_session(alloc, status_of_fault(fault), line_of_fault(alloc, fault))
         }
     }

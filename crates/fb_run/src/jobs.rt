@@ -4,19 +4,18 @@ ghost use Rattle.std.specs.Prelude.{◌≡◌, ℕ, ◌+◌, ◌≤◌, ◌<◌,
 ghost use Rattle.std.specs.List.{All};
 ghost use Rattle.std.specs.Vec.Iter.{into_iter_items, into_iter_len};
 ghost use Rattle.fb_conn.specs.declared.seats.Seat.{Seat};
-ghost use Rattle.board_rule.specs.Calls.{view_of};
 ghost use Rattle.fb_conn.specs.Seats.{IsSeatOf, state_of};
-ghost use Rattle.merge_worker.specs.Work.{IsSameWorker};
 ghost use Rattle.fb_session.specs.Sessions.{terms_of};
-ghost use Rattle.fb_run.specs.Outside.{tells_of};
+ghost use Rattle.fb_run.specs.Outside.{tells_of, disks_of};
 ghost use Rattle.fb_run.specs.Jobs.{HasTalked, HaveTalked};
-ghost use Rattle.fb_run.specs.Merging.{CanWork, HasNoFault};
+ghost use Rattle.fb_run.specs.Merging.{TreesFit, CanWork, HasWorked};
 
 use crate::merging::{Worker, beside, merge};
 use crate::outcome::SessionOut;
 use conn_desk::ConnDesk;
 use fb_conn::{Conn, Seat};
 use fb_core::Guard;
+use fb_disk::Disk;
 use fb_log::Log;
 use fb_memory::Memory;
 use fb_ports::{Clock, Sink, Source};
@@ -54,11 +53,12 @@ pub(crate) fn serve_all<
     G: Guard<Snapshot> + Sync,
     P: FilterTable + Sync,
     W: Gate + Sync,
+    D: Disk + Send,
 >(
     rt: &R,
     alloc: Global,
     conn: &Conn<L>,
-    worker: &mut Worker,
+    worker: &mut Worker<D>,
     seats: Vec<Seat>,
     opened: Vec<SessionOut<I, O>>,
     clock: &K,
@@ -71,16 +71,17 @@ where
     requires seats { (k : ℕ) (seat : Seat) → slice_get seats.items k ≡ Some seat
         → IsSeatOf conn.now seat × (1_000_000 ≤ (state_of seat).left) }
     requires opened { length opened.items ≡ length seats.items }
-    requires worker { CanWork conn.now worker.old }
+    requires can_work { CanWork conn.now worker.old }
+    requires fit { TreesFit (disks_of D.bytes D.faults D.images D.moment D.images_since)
+        worker.old.trees }
     ensures talked { IfOk result (λ ended. HaveTalked
         (terms_of (K.may_answer clock.now) (G.bars guard.now) (P.place_of preds.now)
         (P.selects_at preds.now))
         (tells_of I.left I.faults O.contents O.faults) conn.now seats.items opened.items
         ended.seats.items ended.sessions.items) }
-    ensures worker { IfOk result (λ _. CanWork conn.now worker.new) }
-    ensures same { IfOk result (λ _.
-        IsSameWorker (view_of worker.old.seat.board) (view_of worker.new.seat.board)) }
-    ensures no_fault { IfOk result (λ _. HasNoFault worker.new.end) }
+    ensures worked { IfOk result (λ _. HasWorked
+        (disks_of D.bytes D.faults D.images D.moment D.images_since) conn.now worker.old
+        worker.new) }
 {
     let room = room_for(alloc, seats.len())?;
     let mut jobs = jobs_of(alloc, conn, seats, opened)?;
@@ -167,11 +168,12 @@ fn serve_each<
     G: Guard<Snapshot> + Sync,
     P: FilterTable + Sync,
     W: Gate + Sync,
+    D: Disk + Send,
 >(
     rt: &R,
     alloc: Global,
     conn: &Conn<L>,
-    worker: &mut Worker,
+    worker: &mut Worker<D>,
     jobs: &mut [Job<'a, I, O, L>],
     clock: &K,
     guard: &G,
@@ -181,7 +183,9 @@ fn serve_each<
 where
     L::Record: Send,
     requires left { All (λ job. 1_000_000 ≤ (state_of job.desk.seat).left) jobs.old }
-    requires worker { CanWork conn.now worker.old }
+    requires can_work { CanWork conn.now worker.old }
+    requires fit { TreesFit (disks_of D.bytes D.faults D.images D.moment D.images_since)
+        worker.old.trees }
     ensures talked { (k : ℕ) (d : _) → k < length jobs.old → HasTalked
         (terms_of (K.may_answer clock.now) (G.bars guard.now) (P.place_of preds.now)
         (P.selects_at preds.now))
@@ -189,9 +193,8 @@ where
         (state_of (slice_index_or jobs.old k d).desk.seat)
         (state_of (slice_index_or jobs.new k d).desk.seat) (slice_index_or jobs.old k d).out
         (slice_index_or jobs.new k d).out }
-    ensures worker { CanWork conn.now worker.new }
-    ensures same { IsSameWorker (view_of worker.old.seat.board) (view_of worker.new.seat.board) }
-    ensures no_fault { HasNoFault worker.new.end }
+    ensures worked { HasWorked (disks_of D.bytes D.faults D.images D.moment D.images_since)
+        conn.now worker.old worker.new }
 {
     let serve = |_, job: &mut Job<I, O, L>|
         requires { IsSync R.row × (1_000_000 ≤ (state_of job.old.desk.seat).left) }
@@ -202,11 +205,11 @@ where
             (state_of job.new.desk.seat) job.old.out job.new.out }
     { job.serve(rt, alloc, clock, guard, preds) };
     let mut merges = ||
-        requires { IsSync R.row × CanWork conn.now worker.now }
-        ensures { CanWork conn.entry.now worker.exit.now
-            × IsSameWorker (view_of worker.entry.now.seat.board)
-            (view_of worker.exit.now.seat.board)
-            × HasNoFault worker.exit.now.end }
+        requires { IsSync R.row × CanWork conn.now worker.now
+            × TreesFit (disks_of D.bytes D.faults D.images D.moment D.images_since)
+            worker.now.trees }
+        ensures { HasWorked (disks_of D.bytes D.faults D.images D.moment D.images_since)
+            conn.entry.now worker.entry.now worker.exit.now }
     { merge(rt, alloc, conn, gate, worker) };
     beside(rt, conn, &mut merges, &serve, jobs);
 }

@@ -1,11 +1,10 @@
 //! The lines of standard error, and that of a look at a directory.
 ghost use Rattle.std.specs.Prelude.{◌≡◌, ◌++◌, IfOk, string_bytes, codes, decimal};
 ghost use Rattle.edn_core.specs.Answers.{fault_of};
-ghost use Rattle.fb_run.specs.StatusLines.{usage_line, cannot_open, out_of_memory, disk_fault, record_line, law_line, stopped_line, console_fault, history_line, script_line, fault_line, status_of_end, line_of_end, status_of, line_of, why_not};
-ghost use Rattle.fb_ports.specs.declared.hosts.Part.TheVariants.{Log};
+ghost use Rattle.fb_run.specs.StatusLines.{usage_line, cannot_open, out_of_memory, disk_fault, record_line, law_line, stopped_line, segment_fault, console_fault, history_line, script_line, fault_line, status_of_end, line_of_end, status_of, line_of, why_not};
 
 use edn_core::EdnFault;
-use fb_ports::Memory;
+use fb_ports::{Memory, Part};
 use fb_recover::OpenFault;
 use fb_session::SessionEnd;
 use std::alloc::Global;
@@ -16,6 +15,10 @@ const USAGE: &str =
 const OUT_OF_MEMORY: &str = "factbase: out of memory";
 
 const LOG_DISK_FAULT: &str = "factbase: disk fault on log";
+
+const SEGMENTS_DISK_FAULT: &str = "factbase: disk fault on segments";
+
+const SEGMENT_FAULT: &str = "factbase: segment fault";
 
 const CONSOLE_FAULT: &str = "factbase: console: write fault";
 
@@ -38,27 +41,37 @@ pub(crate) fn cannot_open(alloc: Global, name: &str) -> Result<String, Memory>
     Ok(format!(in alloc; "factbase: cannot open {name}")?)
 }
 
-/// The exit status for why a log was not opened.
+/// The exit status for why a database was not opened.
 pub(crate) fn status_of_fault(fault: OpenFault) -> u8
     ensures { result ≡ status_of (why_not fault) }
 {
     match fault {
-        OpenFault::Disk => 3,
+        OpenFault::Disk { .. } => 3,
         OpenFault::BadLog { .. } | OpenFault::Unlawful { .. } => 4,
         OpenFault::Memory => 9,
     }
 }
 
-/// The line for why a log was not opened.
+/// The line for why a database was not opened.
 pub(crate) fn line_of_fault(alloc: Global, fault: OpenFault) -> Result<String, Memory>
     ensures { IfOk result (λ line. string_bytes line ≡ line_of (why_not fault)) }
 {
     match fault {
-        OpenFault::Disk => Ok(String::from_str(alloc, LOG_DISK_FAULT)?),
+        OpenFault::Disk { which } => disk_fault(alloc, which),
         OpenFault::BadLog { nth, at } => bad_record(alloc, nth, at),
         OpenFault::Unlawful { t, law } => unlawful(alloc, t, law),
         OpenFault::Memory => out_of_memory(alloc),
     }
+}
+
+fn disk_fault(alloc: Global, which: Part) -> Result<String, Memory>
+    ensures { IfOk result (λ line. string_bytes line ≡ disk_fault which) }
+{
+    let line = match which {
+        Part::Log => LOG_DISK_FAULT,
+        Part::Segments => SEGMENTS_DISK_FAULT,
+    };
+    Ok(String::from_str(alloc, line)?)
 }
 
 fn bad_record(alloc: Global, nth: u64, at: u64) -> Result<String, Memory>
@@ -92,6 +105,13 @@ pub(crate) fn log_stopped(alloc: Global, t: u32) -> Result<String, Memory>
     ensures { IfOk result (λ line. string_bytes line ≡ stopped_line t) }
 {
     Ok(format!(in alloc; "factbase: log stopped at t {t}")?)
+}
+
+/// The line for trees that the file of segments did not take.
+pub(crate) fn segment_fault(alloc: Global) -> Result<String, Memory>
+    ensures { IfOk result (λ line. string_bytes line ≡ segment_fault) }
+{
+    Ok(String::from_str(alloc, SEGMENT_FAULT)?)
 }
 
 /// The exit status for how a session ended.

@@ -3,10 +3,10 @@ ghost use Rattle.std.specs.Prelude.{◌≡◌, ◌∷◌, [], Some, string_bytes
 ghost use Rattle.std.specs.Io.KnownBytes.{append_known};
 ghost use Rattle.command_line.specs.Words.{check, standard};
 ghost use Rattle.disk_log.specs.Logs.{disk_in};
+ghost use Rattle.seg_store.specs.Stores.{disk_in as segments_in};
 ghost use Rattle.fb_ports.specs.Faults.{Counts};
-ghost use Rattle.fb_ports.specs.declared.hosts.Part.{Part};
 ghost use Rattle.fb_session.specs.Written.{TakesPart};
-ghost use Rattle.fb_run.specs.Outside.{tells_of, disks_of, IsDiskOf};
+ghost use Rattle.fb_run.specs.Outside.{tells_of, disks_of};
 ghost use Rattle.fb_run.specs.Logs.{IsUnharmed};
 ghost use Rattle.fb_run.specs.Opening.{OpensSink, IsNotOpened};
 ghost use Rattle.fb_run.specs.Database.{IsUnready};
@@ -34,9 +34,6 @@ pub(crate) fn check_directory<H: Host>(
 ) -> Outcome<H::In, H::Out, H::Disk>
     ensures none { NoSession result }
     ensures no_loads { result.loads.items ≡ [] }
-    ensures segments { IfSome result.segments (IsDiskOf (H.told host.old)
-        (disks_of H.Disk.bytes H.Disk.faults H.Disk.images H.Disk.moment H.Disk.images_since)
-        directory.now Part.Segments) }
     ensures unharmed { IfSome result.log (IsUnharmed (H.told host.old)
         (disks_of H.Disk.bytes H.Disk.faults H.Disk.images H.Disk.moment H.Disk.images_since)
         directory.now) }
@@ -150,7 +147,7 @@ fn looked<I: Drop, O: Sink, D: Disk>(alloc: Global, look: Look<O, D>) -> Outcome
     ensures none { NoSession result }
     ensures no_loads { result.loads.items ≡ [] }
     ensures log { result.log ≡ Some (disk_in look.directory.log) }
-    ensures segments { result.segments ≡ Some look.directory.segments }
+    ensures segments { result.segments ≡ Some (segments_in look.directory.store) }
     ensures told { HasTold O.contents O.faults (string_bytes look.answer.line)
         look.answer.console result }
 {

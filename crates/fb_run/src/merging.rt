@@ -1,30 +1,37 @@
 //! The worker of a run: it merges beside the sessions, and what it leaves is merged when they have ended.
-ghost use Rattle.std.specs.Prelude.{◌≡◌, ◌≤◌, IfOk};
+ghost use Rattle.std.specs.Prelude.{◌≡◌, ◌≤◌, None};
 ghost use Rattle.std.specs.Fork.{AcceptsEach, ChangesEach};
 ghost use Rattle.std.specs.Thread.{IsSend, IsSync};
-ghost use Rattle.fb_model.specs.History.{basis};
-ghost use Rattle.board_rule.specs.Calls.{view_of};
 ghost use Rattle.merge_worker.specs.declared.ends.WorkEnd.{WorkEnd};
-ghost use Rattle.merge_worker.specs.Work.{IsSameWorker};
-ghost use Rattle.fb_run.specs.Merging.{CanWork, HasNoFault, IsMerged};
+ghost use Rattle.fb_run.specs.Outside.{disks_of};
+ghost use Rattle.fb_run.specs.Merging.{TreesStand, TreesFit, CanWork, HaveMerged, HasWorked, HaveSettled};
 
 use fb_conn::{Conn, Seat};
 use fb_core::Core;
+use fb_disk::Disk;
 use fb_log::Log;
-use fb_memory::Memory;
-use fb_roots::{Base, NoStore};
-use merge_worker::{Gate, WorkEnd, base_of, settle, work};
+use fb_roots::Base;
+use merge_worker::{Gate, WorkEnd, settle, work};
+use seg_store::SegStore;
 use std::alloc::Global;
 use std::sync::Wait;
 use std::thread;
 use std::thread::{Threads, join_mut};
 
-/// What the worker has: its seat, the trees that were adopted last, and how it ended.
+/// What the worker has: its seat, its trees, and how it ended.
 #[derive(Drop)]
-pub(crate) struct Worker {
+pub(crate) struct Worker<D: Disk> {
     pub(crate) seat: Seat,
-    pub(crate) base: Base,
+    pub(crate) trees: Trees<D>,
     pub(crate) end: WorkEnd,
+}
+
+/// The trees that were adopted last, those that are kept and were not adopted yet, and the store that keeps them.
+#[derive(Drop)]
+pub(crate) struct Trees<D: Disk> {
+    pub(crate) base: Base,
+    pub(crate) ahead: Option<Base>,
+    pub(crate) store: SegStore<D>,
 }
 
 /// Does each of the jobs, in a thread of its own where one can be made, and merges beside them until the last is done. Where the
@@ -64,60 +71,62 @@ fn do_each<R: Threads + Wait + Sync, L: Log, J: Send, F: Fn(usize, &mut J) + Syn
 }
 
 /// Merges beside the sessions, until the last of them has ended.
-pub(crate) fn merge<R: Threads + Wait + Sync, L: Log, W: Gate>(
+pub(crate) fn merge<R: Threads + Wait + Sync, L: Log, W: Gate, D: Disk>(
     rt: &R,
     alloc: Global,
     conn: &Conn<L>,
     gate: &W,
-    worker: &mut Worker,
+    worker: &mut Worker<D>,
 )
-    requires { CanWork conn.now worker.old }
-    ensures can_work { CanWork conn.now worker.new }
-    ensures same { IsSameWorker (view_of worker.old.seat.board) (view_of worker.new.seat.board) }
-    ensures no_fault { HasNoFault worker.new.end }
+    requires can_work { CanWork conn.now worker.old }
+    requires fit { TreesFit (disks_of D.bytes D.faults D.images D.moment D.images_since)
+        worker.old.trees }
+    ensures { HasWorked (disks_of D.bytes D.faults D.images D.moment D.images_since) conn.now
+        worker.old worker.new }
 {
-    let mut ahead = None;
     worker.end = work(
         rt,
         alloc,
         conn,
         &mut worker.seat,
-        &mut NoStore,
-        &mut worker.base,
-        &mut ahead,
+        &mut worker.trees.store,
+        &mut worker.trees.base,
+        &mut worker.trees.ahead,
         gate,
     );
 }
 
-/// Merges what a worker that ended so has left, where that is due. Afterwards no merge is due, or memory was refused to one.
-pub(crate) fn settled<R: Threads + Sync>(
+/// Merges what a worker that ended so has left, where that is due, and says how merging ended.
+pub(crate) fn settled<R: Threads + Sync, D: Disk>(
     rt: &R,
     alloc: Global,
     core: &mut Core,
+    trees: &mut Trees<D>,
     end: WorkEnd,
     merge_at: u64,
-) -> Result<(), Memory>
+) -> WorkEnd
     requires merge_at { 1 ≤ merge_at }
-    requires no_fault { HasNoFault end }
+    requires stand { TreesStand trees.old core.old.snapshot.entries core.old.snapshot.covered }
+    requires fit { (end ≡ WorkEnd.StoreFault → ⊥)
+        → TreesFit (disks_of D.bytes D.faults D.images D.moment D.images_since) trees.old }
     ensures authors { core.new.authors ≡ core.old.authors }
     ensures entries { core.new.snapshot.entries ≡ core.old.snapshot.entries }
-    ensures merged { IfOk result (λ _. IsMerged merge_at core.new.snapshot) }
+    ensures stand { TreesStand trees.new core.new.snapshot.entries core.new.snapshot.covered }
+    ensures settled { (begun : _) → begun.ahead ≡ None
+        → HaveMerged (disks_of D.bytes D.faults D.images D.moment D.images_since) begun trees.old end
+        → HaveSettled (disks_of D.bytes D.faults D.images D.moment D.images_since) merge_at begun
+        trees.new result core.new.snapshot }
 {
-    if let WorkEnd::Memory = end {
-        return Err(Memory);
-    }
-    let mut base = base_of(core.snapshot())?;
-    let mut ahead = None;
-    match settle(
-        rt,
-        alloc,
-        core,
-        &mut NoStore,
-        &mut base,
-        &mut ahead,
-        merge_at,
-    ) {
-        WorkEnd::Memory => Err(Memory),
-        WorkEnd::Shut | WorkEnd::Spent | WorkEnd::StoreFault => Ok(()),
+    match end {
+        WorkEnd::StoreFault | WorkEnd::Memory => end,
+        WorkEnd::Shut | WorkEnd::Spent => settle(
+            rt,
+            alloc,
+            core,
+            &mut trees.store,
+            &mut trees.base,
+            &mut trees.ahead,
+            merge_at,
+        ),
     }
 }

@@ -11,14 +11,14 @@ ghost use Rattle.disk_log.specs.Logs.{disk_in};
 ghost use Rattle.talk_model.specs.Prefixes.{Prefixes};
 ghost use Rattle.fb_ports.specs.declared.hosts.Part.{Part};
 ghost use Rattle.fb_session.specs.Sessions.{terms_of};
-ghost use Rattle.fb_run.specs.Outside.{tells_of, disks_of, IsDiskOf};
+ghost use Rattle.fb_run.specs.Outside.{tells_of, disks_of};
 ghost use Rattle.fb_run.specs.Headline.{OneHistory, stop_of, EachReplies};
 ghost use Rattle.fb_run.specs.Logs.{LogHolds, IsUnharmed};
 ghost use Rattle.fb_run.specs.Causes.{directory_of, HasNoConsole, HasNoDisk, NoSession, IsOutOfMemory, Causes};
 ghost use Rattle.fb_run.specs.Complete.{Complete};
-ghost use Rattle.fb_run.specs.Merging.{IsMerged};
+ghost use Rattle.fb_run.specs.Merging.{trees_in, GoAsFar, IsMerged};
 ghost use Rattle.fb_run.specs.Database.{IsReopened};
-ghost use Rattle.fb_run.specs.Running.{RepliesBy, HaveEnded, LeavesDisks, GoesOnFrom};
+ghost use Rattle.fb_run.specs.Running.{RepliesBy, HaveEnded, HandsLogBack, GoesOnFrom};
 
 use crate::database::{Connection, connected};
 use crate::ending::{closed, not_begun, without_session};
@@ -103,19 +103,24 @@ pub fn run<
         (disks_of H.Disk.bytes H.Disk.faults H.Disk.images H.Disk.moment H.Disk.images_since)
         (H.told host.new).faults (command_of (map string_bytes words.now.items)) result }
 
-    // What the history stands on. Where the program succeeds, no merge is due any longer.
+    // How far the trees go: as far as those that the database was opened with, which are the newest that the segments kept and the
+    // history agrees with, or as far as ones that the segments keep at the end. Where the program succeeds, no merge is due any longer.
     ensures covered { IfSome result.last (λ last. result.covered ≡ last.covered) }
+    ensures coverage { IfSome result.last (λ last. IfSome result.segments (GoAsFar
+        (H.told host.old)
+        (disks_of H.Disk.bytes H.Disk.faults H.Disk.images H.Disk.moment H.Disk.images_since)
+        (directory_of (command_of (map string_bytes words.now.items)))
+        (upto last.entries result.recovered) last)) }
     ensures merged { IfSome result.last (λ last. result.status ≡ 0
         → IfSome (merge_at_of (command_of (map string_bytes words.now.items)))
-        (λ merge_at. IsMerged merge_at last)) }
+        (λ merge_at. IfSome result.segments (IsMerged (H.told host.old)
+        (disks_of H.Disk.bytes H.Disk.faults H.Disk.images H.Disk.moment H.Disk.images_since)
+        (directory_of (command_of (map string_bytes words.now.items))) merge_at last))) }
 
-    // Where no session ran, the log is unharmed; and of the segments' disk nothing was asked.
+    // Where no session ran, the log is unharmed.
     ensures unharmed { result.last ≡ None → IfSome result.log (IsUnharmed (H.told host.old)
         (disks_of H.Disk.bytes H.Disk.faults H.Disk.images H.Disk.moment H.Disk.images_since)
         (directory_of (command_of (map string_bytes words.now.items)))) }
-    ensures segments { IfSome result.segments (IsDiskOf (H.told host.old)
-        (disks_of H.Disk.bytes H.Disk.faults H.Disk.images H.Disk.moment H.Disk.images_since)
-        (directory_of (command_of (map string_bytes words.now.items))) Part.Segments) }
 
     // Nothing fills these yet.
     ensures no_loads { result.loads.items ≡ [] }
@@ -174,12 +179,15 @@ fn run_command<
     ensures unharmed { result.last ≡ None → IfSome result.log (IsUnharmed (H.told host.old)
         (disks_of H.Disk.bytes H.Disk.faults H.Disk.images H.Disk.moment H.Disk.images_since)
         command.now.directory.now) }
-    ensures segments { IfSome result.segments (IsDiskOf (H.told host.old)
-        (disks_of H.Disk.bytes H.Disk.faults H.Disk.images H.Disk.moment H.Disk.images_since)
-        command.now.directory.now Part.Segments) }
     ensures covered { IfSome result.last (λ last. result.covered ≡ last.covered) }
-    ensures merged { IfSome result.last
-        (λ last. result.status ≡ 0 → IsMerged command.now.options.merge_at last) }
+    ensures coverage { IfSome result.last (λ last. IfSome result.segments (GoAsFar
+        (H.told host.old)
+        (disks_of H.Disk.bytes H.Disk.faults H.Disk.images H.Disk.moment H.Disk.images_since)
+        command.now.directory.now (upto last.entries result.recovered) last)) }
+    ensures merged { IfSome result.last (λ last. result.status ≡ 0
+        → IfSome result.segments (IsMerged (H.told host.old)
+        (disks_of H.Disk.bytes H.Disk.faults H.Disk.images H.Disk.moment H.Disk.images_since)
+        command.now.directory.now command.now.options.merge_at last)) }
     ensures no_console { HasNoConsole result }
 {
     match open_run(alloc, host, command) {
@@ -210,8 +218,9 @@ fn run_opened<
 ) -> Outcome<I, O, D>
     requires few { (0 < length ready.sessions.items) × (length ready.sessions.items ≤ 16) }
     requires merge_at { 1 ≤ command.now.options.merge_at }
-    requires reopened { (disk : D) × IsReopened
-        (disks_of D.bytes D.faults D.images D.moment D.images_since) disk ready.directory }
+    requires reopened { (disk : D) × (segments : D) × IsReopened
+        (disks_of D.bytes D.faults D.images D.moment D.images_since) disk segments
+        ready.directory }
     ensures one_history { IfSome result.last (λ last. OneHistory last.entries result.recovered
         (unwrap_or result.authors []) (map (λ s. s.commits) result.sessions.items)) }
     ensures replies { IfSome result.last (λ last. RepliesBy
@@ -223,16 +232,16 @@ fn run_opened<
         (λ s. Prefixes result.recovered (basis last.entries) s.places s.commits)
         result.sessions.items) }
     ensures opening { IfSome result.last (λ last. GoesOnFrom ready.directory last.entries result) }
-    ensures disks { IfSome result.last (λ last. LeavesDisks
+    ensures log { IfSome result.last (λ last. HandsLogBack
         (disks_of D.bytes D.faults D.images D.moment D.images_since) ready.directory.recovered
-        (disk_in ready.directory.log) ready.directory.segments last.entries result) }
+        (disk_in ready.directory.log) last.entries result) }
     ensures none { result.last ≡ None → HasNoDisk result }
     ensures ended { (NoSession result × IsOutOfMemory result) ⊎ HaveEnded
-        (tells_of I.left I.faults O.contents O.faults) (names_in command.now.scripts.items)
-        ready.sessions.items result }
+        (tells_of I.left I.faults O.contents O.faults)
+        (disks_of D.bytes D.faults D.images D.moment D.images_since)
+        command.now.options.merge_at (names_in command.now.scripts.items) ready.sessions.items
+        (trees_in ready.directory) result }
     ensures covered { IfSome result.last (λ last. result.covered ≡ last.covered) }
-    ensures merged { IfSome result.last
-        (λ last. result.status ≡ 0 → IsMerged command.now.options.merge_at last) }
     ensures no_console { HasNoConsole result }
 {
     let Ready {
@@ -240,6 +249,7 @@ fn run_opened<
         sessions,
     } = ready;
     let count = sessions.len() as u32;
+    let recovered = directory.recovered;
     let Ok(connection) = connected(alloc, directory, count, command.options.merge_at) else {
         return without_session(alloc, 9, out_of_memory(alloc));
     };
@@ -247,7 +257,6 @@ fn run_opened<
         conn,
         seats,
         mut worker,
-        rest,
     } = connection;
     match serve_all(
         rt,
@@ -261,7 +270,7 @@ fn run_opened<
         preds,
         gate,
     ) {
-        Ok(ended) => closed(rt, alloc, command, conn, worker, ended, rest),
+        Ok(ended) => closed(rt, alloc, command, conn, worker, ended, recovered),
         Err(Memory) => without_session(alloc, 9, out_of_memory(alloc)),
     }
 }

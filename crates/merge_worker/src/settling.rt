@@ -55,6 +55,7 @@ pub fn settle<T: RootStore, R: Threads + Sync>(
     ensures spent { result ≡ WorkEnd.Spent
         ↔ (IsTrue (is_due merge_at core.old.snapshot)
         × IsOutOfIds (T.next store.old) (start_of base.old ahead.old)) }
+    ensures unspent { result ≡ WorkEnd.Spent → store.new ≡ store.old }
 {
     if !core.due(merge_at) {
         return WorkEnd::Shut;

@@ -7,7 +7,8 @@ use Rattle.log_model.specs.Nodes.{Nodes, MergeRecord}
 use Rattle.log_model.specs.Merges.{merges, bad_from, record_says}
 use Rattle.log_model.specs.Kept.{with_nodes, nodes_of, are_good}
 use Rattle.log_model.proofs.NodesOfFiles.{one_more_nodes, one_more_good, bad_record_stops}
-use Rattle.fb_journal.specs.Readings.{HasRead, IsRead}
+use Rattle.fb_journal.specs.Journals.{StaysTold}
+use Rattle.fb_journal.specs.Readings.{disk_from, HasRead, IsRead}
 use Rattle.fb_journal.specs.declared.readings.Reading.{Reading}
 use Rattle.seg_codec.specs.Trees.{AreTreesOf}
 use Rattle.seg_codec.specs.Told.{IsMerged}
@@ -67,6 +68,10 @@ module _ (records : List (List ℕ)) (payload : List ℕ) (old new : Found) (was
 
 module _ {D : Type 0} {g : _} (bytes : D → Option (List ℕ)) (images : D → List ℕ → Type 0) (moment : D → ℕ)
     (since : D → ℕ → List ℕ → Type 0) (disk : D) (records : List (List ℕ)) (file : Reading D g) (found : Found) (has : HasFound records found) where
+  -- the disk that it reads from tells its bytes still
+  still_told : HasRead bytes images moment since segments_mark disk records file → StaysTold (bytes disk) (bytes (disk_from file))
+  still_told read = λ f told. let begun = read.begun f told in (begun.0, begun.1)
+
   pub found_all : IsRead bytes images moment since segments_mark disk records file
       → HasAllFound bytes images moment since disk records file found
   found_all read = record {
@@ -75,16 +80,19 @@ module _ {D : Type 0} {g : _} (bytes : D → Option (List ℕ)) (images : D → 
     records_are = λ f told. inl (read.stands f told);
     good = λ is. (sym has.good ∙ is, read);
     faulty = λ is. λ f told. inl (sym has.good ∙ is);
+    told = still_told read.read;
   }
 
   pub found_broken : (nth at : ℕ) → WhereTold (bytes disk) (λ f. JournalBreaks segments_mark records f nth at)
+      → HasRead bytes images moment since segments_mark disk records file
       → HasAllFound bytes images moment since disk records file (record found { good = false })
-  found_broken nth at breaks = record {
+  found_broken nth at breaks read = record {
     nodes = has.nodes;
     kept = has.kept;
     records_are = λ f told. inr (nth, at, breaks f told);
     good = λ is. absurd (true≢false (sym is));
     faulty = λ is. λ f told. inr (nth, at, breaks f told);
+    told = still_told read;
   }
 
 -- what was found so far, and where the file is that was opened

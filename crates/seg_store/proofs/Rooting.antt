@@ -1,10 +1,11 @@
 -- What a crash leaves of a store that keeps trees, over a call that keeps others.
-use Rattle.std.proofs.Common.{◌≡◌, ◌≤◌, inl, inr, ℕ, List, [], ◌∷◌, ◌++◌, length, Option, refl, sym, ap, subst, arith}
+use Rattle.std.proofs.Common.{◌≡◌, ◌≤◌, ◌<◌, ◌^◌, inl, inr, ℕ, List, [], ◌∷◌, ◌++◌, length, Option, refl, sym, ap, subst, arith}
 use Rattle.std.specs.Prelude.{Contains}
 use Rattle.std.proofs.lemmas.List.Elements.{Contains-append_left, Contains-append_right}
 use Rattle.disk_model.specs.Disk.{WhereTold, LeavesOnly}
 use Rattle.disk_model.specs.Journal.{segments_mark, JournalStands}
 use Rattle.disk_model.proofs.Journals.{stands-holds}
+use Rattle.log_model.specs.Nodes.{ids_in}
 use Rattle.log_model.specs.Kept.{KeptRoot, FileKeeps, kept_roots, nodes_of}
 use Rattle.log_model.proofs.KeptRoots.{one_keeping}
 use Rattle.fb_journal.specs.Journals.{mark_of, StaysTold}
@@ -16,8 +17,8 @@ use Rattle.seg_codec.proofs.Among.{member_here}
 use Rattle.seg_store.specs.declared.stores.SegStore.{SegStore}
 use Rattle.seg_store.specs.Trees.{root_of, KeepsRoot}
 use Rattle.seg_store.specs.Stores.{disk_in, next_in, StoreKeeps, KeepsOneMore}
-use Rattle.seg_store.specs.Keeping.{GoesOn, FileHas, HasKept, FitsStore}
-use Rattle.seg_store.proofs.Numbering.{below_with, no_less}
+use Rattle.seg_store.specs.Keeping.{GoesOn, FileHas, HasGreatNode, HasKept, FitsStore}
+use Rattle.seg_store.proofs.Numbering.{below_with, no_less, great_too}
 
 held_by_more : (before : List KeptRoot) (root held : KeptRoot) (image : List ℕ) → Contains before held → KeepsOneMore before root image
     → FileHas image held
@@ -26,14 +27,24 @@ held_by_more before root held image there (inr more) = (before ++ root ∷ [], m
 
 module _ {D : Type 0} {g : _} (bytes : D → Option (List ℕ)) (images : D → List ℕ → Type 0) where
   -- what a crash leaves of a store that keeps the records
-  left_of : (records : List (List ℕ)) (store : SegStore D g) → StoreKeeps bytes images records store
-      → WhereTold (bytes (disk_in store)) (λ _. (image : List ℕ) → images (disk_in store) image → FileKeeps image (kept_roots records))
-  left_of records store keeps = λ file told image left.
+  stands_left : (records : List (List ℕ)) (store : SegStore D g) → StoreKeeps bytes images records store
+      → WhereTold (bytes (disk_in store)) (λ _. (image : List ℕ) → images (disk_in store) image → JournalStands segments_mark records image)
+  stands_left records store keeps = λ file told image left.
       let kept = keeps.journal.file file told in
       let stands : JournalStands segments_mark records file =
       subst (λ (m : List ℕ). JournalStands m records file) store.marked
       (stands-holds (mark_of store.journal) records file (ap length store.marked) kept.0) in
-      (records, inl (subst (λ (f : List ℕ). JournalStands segments_mark records f) (sym (kept.1 image left)) stands), refl)
+      subst (λ (f : List ℕ). JournalStands segments_mark records f) (sym (kept.1 image left)) stands
+
+  left_of : (records : List (List ℕ)) (store : SegStore D g) → StoreKeeps bytes images records store
+      → WhereTold (bytes (disk_in store)) (λ _. (image : List ℕ) → images (disk_in store) image → FileKeeps image (kept_roots records))
+  left_of records store keeps = λ file told image left. (records, inl (stands_left records store keeps file told image left), refl)
+
+  -- where the store has a great number, so has each file that a crash leaves
+  pub great_left : (records : List (List ℕ)) (store : SegStore D g) → StoreKeeps bytes images records store → 2 ^ 61 < next_in store
+      → WhereTold (bytes (disk_in store)) (λ _. (image : List ℕ) → images (disk_in store) image → HasGreatNode image)
+  great_left records store keeps great = λ file told image left.
+      (records, inl (stands_left records store keeps file told image left), great_too store.ids (ids_in (nodes_of records)) keeps.ids great)
 
   -- the trees of the newest record
   pub newest_kept : (records : List (List ℕ)) (payload : List ℕ) (base : Base) (begun old new : SegStore D g)

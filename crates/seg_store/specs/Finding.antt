@@ -4,7 +4,8 @@ use Rattle.std.specs.Prelude.{◌≡◌, ℕ, List, Option, true, false, IsTrue}
 use Rattle.disk_model.specs.Disk.{WhereTold}
 use Rattle.disk_model.specs.Journal.{segments_mark}
 use Rattle.log_model.specs.Kept.{nodes_of, are_good}
-use Rattle.fb_journal.specs.Readings.{IsRead}
+use Rattle.fb_journal.specs.Journals.{StaysTold}
+use Rattle.fb_journal.specs.Readings.{disk_from, IsRead}
 use Rattle.fb_journal.specs.declared.readings.Reading.{Reading}
 use Rattle.seg_store.specs.declared.found.Found.{Found}
 use Rattle.seg_store.specs.Loads.{AreKept, AreRecordsOf, IsFaulty}
@@ -26,3 +27,4 @@ pub record HasAllFound {D : Type 0} {g : _} (bytes : D → Option (List ℕ))
   pub good : found.good ≡ true → IsTrue (are_good records)
       × IsRead bytes images moment since segments_mark disk records file
   pub faulty : found.good ≡ false → WhereTold (bytes disk) (IsFaulty records)
+  pub told : StaysTold (bytes disk) (bytes (disk_from file))

@@ -1,9 +1,9 @@
 -- A store on a disk as the worker sees it, by what it was when the database was opened, and what it
 -- is now.
 -- This project's own choice.
-use Rattle.std.specs.Prelude.{◌≤◌, ℕ, List, Option, Contains}
+use Rattle.std.specs.Prelude.{◌≤◌, ℕ, List, Option, Contains, IsTrue}
 use Rattle.disk_model.specs.Disk.{WhereTold}
-use Rattle.log_model.specs.Kept.{KeptRoot, FileKeeps, nodes_of}
+use Rattle.log_model.specs.Kept.{KeptRoot, FileKeeps, nodes_of, has_great_id}
 use Rattle.fb_journal.specs.Journals.{StaysTold}
 use Rattle.seg_tree.specs.declared.roots.Roots.{Roots}
 use Rattle.seg_tree.specs.Ids.{next_above}
@@ -13,6 +13,7 @@ use Rattle.fb_roots.specs.declared.bases.Base.{Base}
 use Rattle.seg_store.specs.declared.stores.SegStore.{SegStore}
 use Rattle.seg_store.specs.Trees.{root_of}
 use Rattle.seg_store.specs.Stores.{disk_in, next_in, StoreKeeps}
+use Rattle.seg_store.specs.Loads.{AreRecordsOf}
 
 -- The store goes on, and its disk tells its bytes if it told them then.
 pub record GoesOn {D : Type 0} {g : _} (bytes : D → Option (List ℕ))
@@ -40,3 +41,8 @@ pub record FitsStore {D : Type 0} {g : _} (bytes : D → Option (List ℕ))
   pub records : List (List ℕ)
   pub keeps : StoreKeeps bytes images records store
   pub fits : Fits (nodes_of records) trees
+
+-- the file has a node with a number behind which no merge may go
+abbrev pub HasGreatNode : List ℕ → Type 0
+HasGreatNode file =
+    (records : List (List ℕ)) × AreRecordsOf records file × IsTrue (has_great_id (nodes_of records))

@@ -1,4 +1,4 @@
-use Rattle.std.proofs.Common.{sym, subst}
+use Rattle.std.proofs.Common.{refl, sym, ap, subst}
 use Rattle.board_rule.specs.Calls.{view_of}
 use Rattle.fb_roots.specs.Bases.{IsBaseOf}
 use Rattle.fb_run.proofs.Running.{is_made}
@@ -13,6 +13,9 @@ returns-clause-worker g c =
     let core = c.args.directory.core.snapshot in
     let of_core = subst (λ s. IsBaseOf base s.entries s.covered) c.snapshot.ensures.snapshot c.in_ok-base.ensures.stand in (
       w.0,
-      subst (λ h. IsBaseOf base h (view_of c.in_ok-conn.field-0.worker.board).covered) (sym w.4)
-          (subst (λ n. IsBaseOf base core.entries n) (sym w.2) of_core),
+      record {
+        base = subst (λ h. IsBaseOf base h (view_of c.in_ok-conn.field-0.worker.board).covered) (sym w.4)
+            (subst (λ n. IsBaseOf base core.entries n) (sym w.2) of_core);
+        ahead = tt;
+      },
     )

@@ -16,16 +16,8 @@ returns-in-Ok-clause-unharmed g c =
     let tells = tells_of g.H.In.Source.left g.H.In.Source.faults g.H.Out.Sink.contents g.H.Out.Sink.faults in
     let disks = disks_of g.H.Disk.Disk.bytes g.H.Disk.Disk.faults g.H.Disk.Disk.images g.H.Disk.Disk.moment g.H.Disk.Disk.images_since in
     let out = c.looked.ensures in
-    (look_unharmed (g.H.Host.told c.args.host.now) (g.H.Host.told c.open_look.new.host) tells disks c.looked.result c.args.directory.now
-    c.in-Ok.look c.in-Ok.ensures.look out.none out.log out.segments out.told).0
-
-pub returns-in-Ok-clause-segments : goal.returns-in-Ok-clause-segments
-returns-in-Ok-clause-segments g c =
-    let tells = tells_of g.H.In.Source.left g.H.In.Source.faults g.H.Out.Sink.contents g.H.Out.Sink.faults in
-    let disks = disks_of g.H.Disk.Disk.bytes g.H.Disk.Disk.faults g.H.Disk.Disk.images g.H.Disk.Disk.moment g.H.Disk.Disk.images_since in
-    let out = c.looked.ensures in
-    (look_unharmed (g.H.Host.told c.args.host.now) (g.H.Host.told c.open_look.new.host) tells disks c.looked.result c.args.directory.now
-    c.in-Ok.look c.in-Ok.ensures.look out.none out.log out.segments out.told).1
+    look_unharmed (g.H.Host.told c.args.host.now) (g.H.Host.told c.open_look.new.host) tells disks c.looked.result c.args.directory.now
+    c.in-Ok.look c.in-Ok.ensures.look out.none out.log out.segments out.told
 
 pub returns-in-Err-clause-causes : goal.returns-in-Err-clause-causes
 returns-in-Err-clause-causes g c =
@@ -40,13 +32,5 @@ returns-in-Err-clause-unharmed g c =
     let tells = tells_of g.H.In.Source.left g.H.In.Source.faults g.H.Out.Sink.contents g.H.Out.Sink.faults in
     let disks = disks_of g.H.Disk.Disk.bytes g.H.Disk.Disk.faults g.H.Disk.Disk.images g.H.Disk.Disk.moment g.H.Disk.Disk.images_since in
     let out = c.not_begun.ensures in
-    (unready_unharmed (g.H.Host.told c.args.host.now) (g.H.Host.told c.open_look.new.host) tells disks c.not_begun.result
-    (check c.args.directory.now) c.in-Err.unready c.in-Err.ensures.stop out.none out.log out.segments).0
-
-pub returns-in-Err-clause-segments : goal.returns-in-Err-clause-segments
-returns-in-Err-clause-segments g c =
-    let tells = tells_of g.H.In.Source.left g.H.In.Source.faults g.H.Out.Sink.contents g.H.Out.Sink.faults in
-    let disks = disks_of g.H.Disk.Disk.bytes g.H.Disk.Disk.faults g.H.Disk.Disk.images g.H.Disk.Disk.moment g.H.Disk.Disk.images_since in
-    let out = c.not_begun.ensures in
-    (unready_unharmed (g.H.Host.told c.args.host.now) (g.H.Host.told c.open_look.new.host) tells disks c.not_begun.result
-    (check c.args.directory.now) c.in-Err.unready c.in-Err.ensures.stop out.none out.log out.segments).1
+    unready_unharmed (g.H.Host.told c.args.host.now) (g.H.Host.told c.open_look.new.host) tells disks c.not_begun.result
+    (check c.args.directory.now) c.in-Err.unready c.in-Err.ensures.stop out.none out.log out.segments

@@ -1,11 +1,13 @@
-use Rattle.std.proofs.Common.{refl, arith}
+use Rattle.std.proofs.Common.{◌∙◌, arith}
 use Rattle.std.proofs.lemmas.Option.{IfSome_then}
 use Rattle.command_line.specs.Views.{names_in, run_by}
 use Rattle.fb_run.specs.Outside.{tells_of, disks_of}
 use Rattle.fb_run.specs.Opening.{IsOpenedFor}
 use Rattle.fb_run.specs.Logs.{IsUnharmed}
 use Rattle.fb_run.proofs.Lists.{each_len, none_then}
-use Rattle.fb_run.proofs.Directories.{run_opens, run_logs, run_segments}
+use Rattle.fb_run.specs.Merging.{trees_in}
+use Rattle.fb_run.proofs.Directories.{run_opens, run_logs}
+use Rattle.fb_run.proofs.Merging.{run_covers, run_merges}
 use Rattle.fb_run.proofs.Causing.{few_scripts, replies_told, caused_by_sessions, caused_by_unready, unready_unharmed}
 use Rattle.fb_run.proofs.top.run_command.Goals as goal
 
@@ -36,16 +38,18 @@ pub returns-in-Ok-clause-log : goal.returns-in-Ok-clause-log
 returns-in-Ok-clause-log g c =
     let disks = disks_of g.H.Disk.Disk.bytes g.H.Disk.Disk.faults g.H.Disk.Disk.images g.H.Disk.Disk.moment g.H.Disk.Disk.images_since in
     run_logs (g.H.Host.told c.args.host.now) disks c.args.command.now.directory.now c.in-Ok.ready.directory c.in-Ok.ensures.directory
-    c.run_opened.result c.in-Ok.ready.directory.segments c.run_opened.ensures.opening c.run_opened.ensures.disks
+    c.run_opened.result c.run_opened.ensures.opening c.run_opened.ensures.log
 
 pub returns-in-Ok-clause-causes : goal.returns-in-Ok-clause-causes
 returns-in-Ok-clause-causes g c =
     let tells = tells_of g.H.In.Source.left g.H.In.Source.faults g.H.Out.Sink.contents g.H.Out.Sink.faults in
     let disks = disks_of g.H.Disk.Disk.bytes g.H.Disk.Disk.faults g.H.Disk.Disk.images g.H.Disk.Disk.moment g.H.Disk.Disk.images_since in
     caused_by_sessions (g.H.Host.told c.args.host.now) tells disks _ c.run_opened.result (run_by c.args.command.now)
-    c.in-Ok.ready.sessions.items c.in-Ok.ensures.sessions.each tt c.in-Ok.ensures.sessions.faults c.run_opened.ensures.no_console.console
+    c.in-Ok.ready.sessions.items _ (trees_in c.in-Ok.ready.directory) c.in-Ok.ensures.sessions.each tt c.in-Ok.ensures.sessions.faults
+    c.run_opened.ensures.no_console.console
+    (c.in-Ok.ensures.directory.reopened.segments_unfailed ∙ c.in-Ok.ensures.directory.segments.faults)
     (run_logs (g.H.Host.told c.args.host.now) disks c.args.command.now.directory.now c.in-Ok.ready.directory c.in-Ok.ensures.directory
-    c.run_opened.result c.in-Ok.ready.directory.segments c.run_opened.ensures.opening c.run_opened.ensures.disks)
+    c.run_opened.result c.run_opened.ensures.opening c.run_opened.ensures.log)
     c.run_opened.ensures.ended
 
 pub returns-in-Ok-clause-unharmed : goal.returns-in-Ok-clause-unharmed
@@ -54,11 +58,19 @@ returns-in-Ok-clause-unharmed g c = λ none.
     none_then (IsUnharmed (g.H.Host.told c.args.host.now) disks c.args.command.now.directory.now) c.run_opened.result.log
     (c.run_opened.ensures.none none).log
 
-pub returns-in-Ok-clause-segments : goal.returns-in-Ok-clause-segments
-returns-in-Ok-clause-segments g c =
+pub returns-in-Ok-clause-coverage : goal.returns-in-Ok-clause-coverage
+returns-in-Ok-clause-coverage g c =
+    let tells = tells_of g.H.In.Source.left g.H.In.Source.faults g.H.Out.Sink.contents g.H.Out.Sink.faults in
     let disks = disks_of g.H.Disk.Disk.bytes g.H.Disk.Disk.faults g.H.Disk.Disk.images g.H.Disk.Disk.moment g.H.Disk.Disk.images_since in
-    run_segments (g.H.Host.told c.args.host.now) disks c.args.command.now.directory.now c.in-Ok.ready.directory c.in-Ok.ensures.directory
-    c.run_opened.result c.in-Ok.ready.directory.segments c.run_opened.result.last refl c.run_opened.ensures.disks c.run_opened.ensures.none
+    run_covers (g.H.Host.told c.args.host.now) tells disks c.args.command.now.directory.now c.in-Ok.ready.directory
+    c.in-Ok.ensures.directory _ _ _ c.run_opened.result c.run_opened.ensures.ended c.run_opened.ensures.opening
+
+pub returns-in-Ok-clause-merged : goal.returns-in-Ok-clause-merged
+returns-in-Ok-clause-merged g c =
+    let tells = tells_of g.H.In.Source.left g.H.In.Source.faults g.H.Out.Sink.contents g.H.Out.Sink.faults in
+    let disks = disks_of g.H.Disk.Disk.bytes g.H.Disk.Disk.faults g.H.Disk.Disk.images g.H.Disk.Disk.moment g.H.Disk.Disk.images_since in
+    run_merges (g.H.Host.told c.args.host.now) tells disks c.args.command.now.directory.now c.in-Ok.ready.directory
+    c.in-Ok.ensures.directory _ _ _ c.run_opened.result c.run_opened.ensures.ended
 
 pub returns-in-Err-clause-causes : goal.returns-in-Err-clause-causes
 returns-in-Err-clause-causes g c =
@@ -73,13 +85,5 @@ returns-in-Err-clause-unharmed g c = λ none.
     let tells = tells_of g.H.In.Source.left g.H.In.Source.faults g.H.Out.Sink.contents g.H.Out.Sink.faults in
     let disks = disks_of g.H.Disk.Disk.bytes g.H.Disk.Disk.faults g.H.Disk.Disk.images g.H.Disk.Disk.moment g.H.Disk.Disk.images_since in
     let out = c.not_begun.ensures in
-    (unready_unharmed (g.H.Host.told c.args.host.now) (g.H.Host.told c.open_run.new.host) tells disks c.not_begun.result
-    (run_by c.args.command.now) c.in-Err.unready c.in-Err.ensures.stop out.none out.log out.segments).0
-
-pub returns-in-Err-clause-segments : goal.returns-in-Err-clause-segments
-returns-in-Err-clause-segments g c =
-    let tells = tells_of g.H.In.Source.left g.H.In.Source.faults g.H.Out.Sink.contents g.H.Out.Sink.faults in
-    let disks = disks_of g.H.Disk.Disk.bytes g.H.Disk.Disk.faults g.H.Disk.Disk.images g.H.Disk.Disk.moment g.H.Disk.Disk.images_since in
-    let out = c.not_begun.ensures in
-    (unready_unharmed (g.H.Host.told c.args.host.now) (g.H.Host.told c.open_run.new.host) tells disks c.not_begun.result
-    (run_by c.args.command.now) c.in-Err.unready c.in-Err.ensures.stop out.none out.log out.segments).1
+    unready_unharmed (g.H.Host.told c.args.host.now) (g.H.Host.told c.open_run.new.host) tells disks c.not_begun.result
+    (run_by c.args.command.now) c.in-Err.unready c.in-Err.ensures.stop out.none out.log out.segments

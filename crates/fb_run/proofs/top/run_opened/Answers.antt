@@ -1,11 +1,12 @@
 use Rattle.std.proofs.Common.{◌≡◌, ◌∙◌, refl, sym, ap, subst, inr, arith, rules, length}
 use Rattle.std.proofs.lemmas.Option.{slice_get_within, IfSome_then}
 use Rattle.fb_desk.specs.Desks.{State}
-use Rattle.fb_conn.specs.Seats.{begun_of, state_of}
+use Rattle.fb_conn.specs.Seats.{state_of}
 use Rattle.fb_run.proofs.Lists.{there}
 use Rattle.disk_log.specs.Logs.{disk_in, count_in}
 use Rattle.fb_run.specs.Outside.{disks_of}
-use Rattle.fb_run.specs.Running.{LeavesDisks}
+use Rattle.fb_run.specs.Merging.{trees_in, HaveMerged}
+use Rattle.fb_run.specs.Running.{HandsLogBack}
 use Rattle.fb_run.proofs.Running.{run_history, run_replies, run_prefixes, run_opening, run_ended}
 use Rattle.fb_run.proofs.top.run_opened.Goals as goal
 
@@ -25,61 +26,63 @@ closed-requires-clause-seats g c κs within = λ k seat is.
 pub returns-in-Ok-serve_all-clause-one_history : goal.returns-in-Ok-serve_all-clause-one_history
 returns-in-Ok-serve_all-clause-one_history g c =
     let count : length c.args.ready.sessions.items ≡ length c.in-Ok.connection.seats.items = first_of (search rules, grind arith) in
-    let re = c.requires.reopened.1 in
+    let re = c.requires.reopened.2 in
     let cl = c.closed.ensures in
     run_history _ _ _ _ _ _ _ c.in-Ok-serve_all.ensures.talked count c.args.ready.directory.core.snapshot.entries
     re.core.snapshot.history.lawful _
-    (sym re.recovered ∙ sym c.in-Ok.ensures.recovered) (λ k seat is. (c.in-Ok.ensures.made.opened k seat is).2) c.closed.result cl.closes
+    (sym re.recovered) (λ k seat is. (c.in-Ok.ensures.made.opened k seat is).2) c.closed.result cl.closes
     cl.sessions cl.recovered
 
 pub returns-in-Ok-serve_all-clause-replies : goal.returns-in-Ok-serve_all-clause-replies
 returns-in-Ok-serve_all-clause-replies g c =
     let count : length c.args.ready.sessions.items ≡ length c.in-Ok.connection.seats.items = first_of (search rules, grind arith) in
-    let re = c.requires.reopened.1 in
+    let re = c.requires.reopened.2 in
     let cl = c.closed.ensures in
     run_replies _ _ _ _ _ _ _ c.in-Ok-serve_all.ensures.talked count c.args.ready.directory.core.snapshot.entries
     re.core.snapshot.history.lawful _
-    (sym re.recovered ∙ sym c.in-Ok.ensures.recovered) (λ k seat is. (c.in-Ok.ensures.made.opened k seat is).2) c.closed.result cl.closes
+    (sym re.recovered) (λ k seat is. (c.in-Ok.ensures.made.opened k seat is).2) c.closed.result cl.closes
     cl.sessions cl.recovered
 
 pub returns-in-Ok-serve_all-clause-prefixes : goal.returns-in-Ok-serve_all-clause-prefixes
 returns-in-Ok-serve_all-clause-prefixes g c =
     let count : length c.args.ready.sessions.items ≡ length c.in-Ok.connection.seats.items = first_of (search rules, grind arith) in
-    let re = c.requires.reopened.1 in
+    let re = c.requires.reopened.2 in
     let cl = c.closed.ensures in
     run_prefixes _ _ _ _ _ _ _ c.in-Ok-serve_all.ensures.talked count c.args.ready.directory.core.snapshot.entries
     re.core.snapshot.history.lawful _
-    (sym re.recovered ∙ sym c.in-Ok.ensures.recovered) (λ k seat is. (c.in-Ok.ensures.made.opened k seat is).2) c.closed.result cl.closes
+    (sym re.recovered) (λ k seat is. (c.in-Ok.ensures.made.opened k seat is).2) c.closed.result cl.closes
     cl.sessions cl.recovered
 
 pub returns-in-Ok-serve_all-clause-opening : goal.returns-in-Ok-serve_all-clause-opening
 returns-in-Ok-serve_all-clause-opening g c =
     let count : length c.args.ready.sessions.items ≡ length c.in-Ok.connection.seats.items = first_of (search rules, grind arith) in
-    let re = c.requires.reopened.1 in
+    let re = c.requires.reopened.2 in
     let cl = c.closed.ensures in
     run_opening _ _ _ _ _ _ _ c.in-Ok-serve_all.ensures.talked count c.args.ready.directory.core.snapshot.entries
     re.core.snapshot.history.lawful _
-    (sym re.recovered ∙ sym c.in-Ok.ensures.recovered) (λ k seat is. (c.in-Ok.ensures.made.opened k seat is).2) c.closed.result cl.closes
-    cl.sessions cl.recovered c.args.ready.directory refl (sym c.in-Ok.ensures.recovered)
+    (sym re.recovered) (λ k seat is. (c.in-Ok.ensures.made.opened k seat is).2) c.closed.result cl.closes
+    cl.sessions cl.recovered c.args.ready.directory refl refl
     (omega (arith, count, c.requires.few.0, c.in-Ok-serve_all.ensures.talked.session_count))
 
-pub returns-in-Ok-serve_all-clause-disks : goal.returns-in-Ok-serve_all-clause-disks
-returns-in-Ok-serve_all-clause-disks g c =
+pub returns-in-Ok-serve_all-clause-log : goal.returns-in-Ok-serve_all-clause-log
+returns-in-Ok-serve_all-clause-log g c =
     let disks = disks_of g.D.Disk.bytes g.D.Disk.faults g.D.Disk.images g.D.Disk.moment g.D.Disk.images_since in
     let directory = c.args.ready.directory in
     let out = c.closed.result in
-    let was = begun_of c.in-Ok.connection.conn in
-    IfSome_then out.last c.closed.ensures.disks (λ last leaves.
-    subst (λ n. LeavesDisks disks n (disk_in directory.log) directory.segments last.entries out) c.requires.reopened.1.count
-    (subst (λ log. LeavesDisks disks (count_in log) (disk_in log) directory.segments last.entries out) c.in-Ok.ensures.begun
-    (subst (λ d. LeavesDisks disks (count_in was) (disk_in was) d last.entries out) c.in-Ok.ensures.segments leaves)))
+    IfSome_then out.last c.closed.ensures.log (λ last leaves.
+    subst (λ n. HandsLogBack disks n (disk_in directory.log) last.entries out) c.requires.reopened.2.count
+    (subst (λ log. HandsLogBack disks (count_in log) (disk_in log) last.entries out) c.in-Ok.ensures.begun leaves))
 
 pub returns-in-Ok-serve_all-clause-ended : goal.returns-in-Ok-serve_all-clause-ended
 returns-in-Ok-serve_all-clause-ended g c =
+    let disks = disks_of g.D.Disk.bytes g.D.Disk.faults g.D.Disk.images g.D.Disk.moment g.D.Disk.images_since in
     let count : length c.args.ready.sessions.items ≡ length c.in-Ok.connection.seats.items = first_of (search rules, grind arith) in
-    let re = c.requires.reopened.1 in
+    let re = c.requires.reopened.2 in
     let cl = c.closed.ensures in
     inr (run_ended _ _ _ _ _ _ _ c.in-Ok-serve_all.ensures.talked count c.args.ready.directory.core.snapshot.entries
     re.core.snapshot.history.lawful _
-    (sym re.recovered ∙ sym c.in-Ok.ensures.recovered) (λ k seat is. (c.in-Ok.ensures.made.opened k seat is).2) c.closed.result cl.closes
-    cl.sessions cl.recovered _ _ _ _ _ cl.disks cl.said)
+    (sym re.recovered) (λ k seat is. (c.in-Ok.ensures.made.opened k seat is).2) c.closed.result cl.closes
+    cl.sessions cl.recovered _ disks _ _ _ (trees_in c.args.ready.directory) cl.log
+    (cl.ends (trees_in c.args.ready.directory) refl
+    (subst (λ trees. HaveMerged disks trees c.serve_all.new.worker.trees c.serve_all.new.worker.end) c.in-Ok.ensures.trees
+    c.in-Ok-serve_all.ensures.worked.merged)))

@@ -23,4 +23,4 @@ returns-in-Err-BadLog-clause-end g c = λ none disk records read has.
     let d = g.D.Disk in
     let why = rw c.in-Err-BadLog.field-0-is at c.in-Err-BadLog.ensures.why_not in
     found_broken d.bytes d.images d.moment d.images_since disk records c.next.new.self c.args.found.now has
-    c.in-Err-BadLog.field-0-0 c.in-Err-BadLog.field-0-1 (why segments_mark disk records read).0
+    c.in-Err-BadLog.field-0-0 c.in-Err-BadLog.field-0-1 (why segments_mark disk records read).0 (why segments_mark disk records read).1
