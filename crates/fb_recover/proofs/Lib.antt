@@ -1,4 +1,6 @@
+pub mod Basing
 pub mod Causes
+pub mod Joining
 pub mod Laws
 pub mod Reading
 pub mod Trees
