@@ -6,7 +6,9 @@ use Rattle.seg_agree.proofs.Walking.{leaves_step, none_left}
 use Rattle.seg_agree.proofs.walks.len_of.Goals as goal
 
 pub loop-leaf-init : goal.loop-leaf-init
-loop-leaf-init c = record { rest = ap (λ l. length (leaf_datoms l)) c.leaves-leaf-items.ensures.leaves; small = omega arith }
+loop-leaf-init c =
+    let all = ap (λ l. length (leaf_datoms l)) c.leaves-leaf-items.ensures.leaves in
+    record { rest = omega (arith, all); small = omega arith }
 
 pub overflow_add-len : goal.overflow_add-len
 overflow_add-len c =
