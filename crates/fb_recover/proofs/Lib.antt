@@ -1,4 +1,4 @@
-pub mod Basing
+pub mod Agreeing
 pub mod Causes
 pub mod Joining
 pub mod Laws

@@ -28,7 +28,7 @@ pub(crate) struct Based<D: Disk> {
 
 /// The newest root of the file that the history agrees with. Where there is none, the trees of the first entry; a file that
 /// keeps roots then starts anew.
-pub(crate) fn based<D: Disk>(
+pub(crate) fn find_base<D: Disk>(
     alloc: Global,
     entries: &EntryList,
     segments: D,

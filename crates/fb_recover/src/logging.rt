@@ -32,7 +32,7 @@ pub(crate) struct LogStop<D: Disk> {
 }
 
 /// Opens a log. After the first sync its file is only read, unless it is a new one.
-pub(crate) fn logged<D: Disk>(alloc: Global, disk: D) -> Result<Logged<D>, LogStop<D>>
+pub(crate) fn open_log<D: Disk>(alloc: Global, disk: D) -> Result<Logged<D>, LogStop<D>>
     ensures history { IfOk result
         (λ l. WhereTold (D.bytes disk) (λ file. IsLogOf file l.entries)) }
     ensures lawful { IfOk result (λ l. IsLawful l.entries) }

@@ -15,8 +15,8 @@ ghost use Rattle.fb_recover.specs.Faults.{IsCause, CountsOpening};
 ghost use Rattle.fb_recover.specs.Openings.{log_after, AreNumberedFromOne, AreOfFile, FitsStore, HasCoverage, AgreesWithNone};
 ghost use Rattle.fb_recover.specs.Joining.{IsJoined, IsStopped, IsOpenedOn, IsStoppedOn};
 
-use crate::basing::{Based, based};
-use crate::logging::{LogStop, Logged, logged};
+use crate::basing::{Based, find_base};
+use crate::logging::{LogStop, Logged, open_log};
 use crate::{OpenFault, OpenStop};
 use disk_log::DiskLog;
 use fb_core::Core;
@@ -91,7 +91,7 @@ pub fn reopen<D: Disk>(alloc: Global, log: D, segments: D) -> Result<Opened<D>, 
         D.moment D.images_since log (disk_in o.log)
         (λ image. D.images log image ⊎ IsLogOf image o.core.snapshot.entries))) }
 {
-    match logged(alloc, log) {
+    match open_log(alloc, log) {
         Ok(logged) => opened_on(alloc, logged, segments),
         Err(LogStop { fault, disk: log }) => Err(OpenStop {
             fault,
@@ -111,7 +111,7 @@ fn opened_on<D: Disk>(
     ensures opened { IfOk result (IsOpenedOn D.bytes D.images D.faults logged segments) }
     ensures stopped { IfErr result (IsStoppedOn D.faults logged segments) }
 {
-    match based(alloc, &logged.entries, segments) {
+    match find_base(alloc, &logged.entries, segments) {
         Ok(based) => joined(alloc, logged, based),
         Err(
             LoadStop {

@@ -1,4 +1,4 @@
-use Rattle.std.proofs.Common.{◌⊎◌, ◌∙◌, sym, ap, subst}
+use Rattle.std.proofs.Common.{[], ◌⊎◌, ◌∙◌, sym, ap, subst}
 use Rattle.std.proofs.lemmas.Result.{IfOk-weaker, IfErr-weaker, MatchResult-from_both}
 use Rattle.disk_model.specs.Disk.{WhereTold, LeavesOnly}
 use Rattle.log_model.specs.Log.{IsLogOf}
@@ -115,7 +115,7 @@ returns-in-Ok-clause-any_moment g c = λ file told.
     (sym
     (log-stays d.bytes d.images d.faults c.in-Ok.logged c.args.segments c.opened_on.result c.opened_on.ensures.opened
     c.opened_on.ensures.stopped))
-    c.logged.ensures.any_moment file told
+    (rw c.in-Ok.is at c.open_log.ensures.any_moment) file told
 
 pub returns-in-Ok-clause-any_moment_stands : goal.returns-in-Ok-clause-any_moment_stands
 returns-in-Ok-clause-any_moment_stands g c =
@@ -131,7 +131,7 @@ returns-in-Ok-clause-any_moment_stands g c =
     c.opened_on.ensures.opened
 
 pub returns-in-Err-clause-counted : goal.returns-in-Err-clause-counted
-returns-in-Err-clause-counted g c = log-counts c.in-Err.fault _ _ c.in-Err.ensures.counted
+returns-in-Err-clause-counted g c = log-counts c.in-Err.field-0.fault _ _ c.in-Err.ensures.counted
 
 pub returns-in-Err-clause-segments_counted : goal.returns-in-Err-clause-segments_counted
-returns-in-Err-clause-segments_counted g c = log-spares c.in-Err.fault _ _ _ c.in-Err.ensures.counted
+returns-in-Err-clause-segments_counted g c = log-spares c.in-Err.field-0.fault _ _ _ c.in-Err.ensures.counted

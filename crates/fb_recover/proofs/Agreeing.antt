@@ -1,6 +1,6 @@
 -- The trees that a history is opened with: those of the newest root that it agrees with, or of its first entry.
-use Rattle.std.proofs.Common.{◌≡◌, ◌⊎◌, ◌∙◌, inl, inr, ⊎_elim, ℕ, List, [], ◌∷◌, Option, Some, length, map, refl, sym, ap, subst}
-use Rattle.std.specs.Prelude.{Contains, IsTrue}
+use Rattle.std.proofs.Common.{◌≡◌, ◌⊎◌, ◌∙◌, inl, inr, ⊎_elim, ℕ, List, [], ◌∷◌, Option, Some, Result, Ok, Err, length, map, refl, sym, ap, subst}
+use Rattle.std.specs.Prelude.{Contains, IsTrue, IfOk}
 use Rattle.std.proofs.lemmas.Bool.{eqb-true}
 use Rattle.std.proofs.lemmas.List.{nil_from_length}
 use Rattle.std.proofs.lemmas.List.Elements.{All-contains}
@@ -26,6 +26,10 @@ use Rattle.fb_recover.specs.Basing.{IsBased}
 use Rattle.fb_recover.specs.declared.basing.Based.{Based}
 use Rattle.fb_recover.proofs.Trees.{first-stands}
 
+pub IfOk-both : {T E : Type 0} (r : Result T E) (P Q : T → Type 0) → IfOk r P → IfOk r Q → IfOk r (λ x. P x × Q x)
+IfOk-both (Ok x) P Q p q = (p, q)
+IfOk-both (Err e) P Q p q = tt
+
 no_root_no_record : (records : List (List ℕ)) → kept_roots records ≡ [] → IsTrue (are_good records) → records ≡ []
 no_root_no_record records none good =
     let same : length (kept_roots records) ≡ length records = eqb-true (length (kept_roots records)) (length records) good in
@@ -43,14 +47,15 @@ module _ {D : Type 0} {g : _} (bytes : D → Option (List ℕ)) (images : D → 
       is.store
 
   -- the newest root that the history agrees with
-  pub based_found : (loaded : Loaded D g) (trees : KeptTrees) (based : Based D g) → based.store ≡ loaded.store → based.trees ≡ trees
-      → IsLoaded bytes images told loaded
+  pub based_found : (loaded : Loaded D g) (trees : KeptTrees) → IsLoaded bytes images told loaded
       → WhereTold told (λ file. FileKeeps file (map kept_of loaded.kept.items))
-      → IsNewest h loaded.kept.items (Some trees) → IsBased bytes images told h based
-  based_found loaded trees based store are is keeps newest =
-      let member = newest.0 in let root = newest.1 in
-      subst (λ (b : Based D g). IsBased bytes images told h b) (λ i. record { store = sym store i; trees = sym are i })
-      (record {
+      → IsNewest h loaded.kept.items (Some trees)
+      → IsBased bytes images told h (record { store = loaded.store; trees = trees })
+  based_found loaded trees is keeps newest =
+      let member = newest.0 in
+      let root = newest.1 in
+      let there = All-contains (λ (k : KeptTrees). (ids : FileRoots) × AreTreesOf (nodes_of is.read) ids k.roots) loaded.kept.items trees
+      is.kept.there member in record {
         stands = root.agrees;
         coverage = λ file was. (map kept_of loaded.kept.items, keeps file was, inl (kept_of trees, root, refl));
         fits = record {
@@ -58,17 +63,12 @@ module _ {D : Type 0} {g : _} (bytes : D → Option (List ℕ)) (images : D → 
           keeps = is.store;
           fits = All-contains (λ (k : KeptTrees). Fits (nodes_of is.records) k.roots) loaded.kept.items trees is.fits member;
         };
-        ids = inr
-            (is.read, is.file,
-            All-contains (λ (k : KeptTrees). (ids : FileRoots) × AreTreesOf (nodes_of is.read) ids k.roots) loaded.kept.items trees is.kept.there
-            member);
+        ids = inr (is.read, is.file, there.0, there.1);
         anew = λ file was none.
-            let same : none.0 ≡ map kept_of loaded.kept.items = one_keeping file none.0 (map kept_of loaded.kept.items) none.1 (keeps file was) in
-            absurd
-            (none.2 (kept_of trees)
-            (subst (λ (kept : List KeptRoot). Contains kept (kept_of trees)) (sym same) (mapped_member kept_of loaded.kept.items trees member))
-            root.agrees);
-      })
+            let same = one_keeping file none.0 (map kept_of loaded.kept.items) none.1 (keeps file was) in
+            let kept = subst (λ (roots : List KeptRoot). Contains roots (kept_of trees)) (sym same)
+            (mapped_member kept_of loaded.kept.items trees member) in absurd (none.2 (kept_of trees) kept root.agrees);
+      }
 
   -- the first entry
   pub based_first : (loaded : Loaded D g) (based : Based D g) → IsLawful h

@@ -7,7 +7,7 @@ use Rattle.fb_journal.specs.Readings.{LeavesBegun}
 use Rattle.disk_log.proofs.Histories.{stands-count}
 use Rattle.fb_recover.specs.Faults.{IsCause}
 use Rattle.fb_recover.proofs.Causes.{start-cause}
-use Rattle.fb_recover.proofs.logging.logged.Goals as goal
+use Rattle.fb_recover.proofs.logging.open_log.Goals as goal
 
 pub returns-in-Err-clause-why_not : goal.returns-in-Err-clause-why_not
 returns-in-Err-clause-why_not g c = λ file told.
