@@ -9,7 +9,7 @@ use Rattle.fb_journal.specs.declared.starts.StartFault.{StartFault}
 use Rattle.fb_journal.specs.declared.starts.StartFault.TheVariants.{Disk as StartDisk, BadLog as StartBadLog, Memory as StartMemory}
 use Rattle.fb_recover.specs.declared.faults.OpenFault.{OpenFault}
 use Rattle.fb_recover.specs.declared.faults.OpenFault.TheVariants.{Disk, BadLog, Unlawful, Memory}
-use Rattle.fb_recover.specs.Faults.{fault_of, TellsFault, IsCause, CountsOpening}
+use Rattle.fb_recover.specs.Faults.{fault_of, TellsFault, IsCause, CountsLog}
 
 -- of the start
 pub start-cause : (told : Option (List ℕ)) (start : StartFault) (before : List (List ℕ)) → IsWhyNot log_mark told start before
@@ -18,7 +18,7 @@ start-cause told StartDisk before why = λ file is. tt
 start-cause told StartMemory before why = λ file is. tt
 start-cause told (StartBadLog nth at) before why = λ file is. (before, inr (nth, at, why file is, refl))
 
-pub start-counts : (start : StartFault) (old new : ℕ) → CountsStart start old new → CountsOpening (fault_of start) old new
+pub start-counts : (start : StartFault) (old new : ℕ) → CountsStart start old new → CountsLog (fault_of start) old new
 start-counts StartDisk old new counts = counts
 start-counts (StartBadLog nth at) old new counts = counts
 start-counts StartMemory old new counts = counts
@@ -37,10 +37,10 @@ pub records-cause : (told : Option (List ℕ)) (records : List (List ℕ)) (faul
 records-cause told records (BadLog nth at) tells stands = λ file is. (records, inl (stands file is, sym tells))
 records-cause told records (Unlawful t law) tells stands = λ file is. (records, inl (stands file is, sym tells))
 records-cause told records Memory tells stands = λ file is. tt
-records-cause told records Disk tells stands = absurd tells
+records-cause told records (Disk which) tells stands = absurd tells
 
-pub records-count : (says : LogSays) (fault : OpenFault) (old new : ℕ) → TellsFault fault says → new ≡ old → CountsOpening fault old new
+pub records-count : (says : LogSays) (fault : OpenFault) (old new : ℕ) → TellsFault fault says → new ≡ old → CountsLog fault old new
 records-count says (BadLog nth at) old new tells same = same
 records-count says (Unlawful t law) old new tells same = same
 records-count says Memory old new tells same = same
-records-count says Disk old new tells same = absurd tells
+records-count says (Disk which) old new tells same = absurd tells

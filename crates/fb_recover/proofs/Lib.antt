@@ -1,4 +1,6 @@
+pub mod Agreeing
 pub mod Causes
+pub mod Joining
 pub mod Laws
 pub mod Reading
 pub mod Trees

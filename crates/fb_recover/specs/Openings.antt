@@ -1,17 +1,49 @@
--- The disk after an opening, and the trees that it makes.
+-- The log's disk after an opening, and what the trees and the store are that a database is opened with.
 -- This project's own choice.
-use Rattle.std.specs.Prelude.{◌≡◌, length, Result, Ok, Err}
+use Rattle.std.specs.Prelude.{◌≡◌, ◌⊎◌, ℕ, List, [], length, Option, Result, Ok, Err}
 use Rattle.std.specs.List.{range_with_len}
-use Rattle.seg_tree.specs.Indexes.{root_ids}
+use Rattle.fb_values.specs.declared.facts.Entry.{Entry}
+use Rattle.disk_model.specs.Disk.{WhereTold}
+use Rattle.view_model.specs.Stands.{RootStands}
+use Rattle.log_model.specs.Nodes.{Roots as FileRoots}
+use Rattle.log_model.specs.Kept.{KeptRoot, FileKeeps, NoneAgrees, IsCoverage, nodes_of}
+use Rattle.seg_tree.specs.Indexes.{root_ids, trees_of}
 use Rattle.seg_tree.specs.declared.roots.Roots.{Roots}
+use Rattle.seg_codec.specs.Trees.{AreTreesOf, Fits}
+use Rattle.seg_store.specs.Stores.{StoreKeeps}
+use Rattle.seg_store.specs.Loads.{AreRecordsOf}
+use Rattle.seg_store.specs.declared.stores.SegStore.{SegStore}
 use Rattle.disk_log.specs.Logs.{disk_in}
 use Rattle.fb_recover.specs.declared.faults.OpenStop.{OpenStop}
 use Rattle.fb_recover.specs.declared.reopening.Opened.{Opened}
 
-abbrev pub disk_after : {D : Type 0} {g : _} → Result (Opened D g) (OpenStop D) → D
-disk_after (Ok opened) = disk_in opened.log
-disk_after (Err stop) = stop.disk
+abbrev pub log_after : {D : Type 0} {g : _} → Result (Opened D g) (OpenStop D) → D
+log_after (Ok opened) = disk_in opened.log
+log_after (Err stop) = stop.log
+
+-- ---- the trees and the store
 
 -- the ids of the nodes are 1, 2, 3 and so on
 abbrev pub AreNumberedFromOne : Roots → Type 0
 AreNumberedFromOne roots = root_ids roots ≡ range_with_len 1 (length (root_ids roots))
+
+-- each node of the trees is one of a file, which is this one where it is told
+abbrev pub AreOfFile : Option (List ℕ) → Roots → Type 0
+AreOfFile told roots =
+    (records : List (List ℕ)) × WhereTold told (AreRecordsOf records)
+    × (ids : FileRoots) × AreTreesOf (nodes_of records) ids roots
+
+-- the store goes on, and each node of the trees whose id its file has is that node
+pub record FitsStore {D : Type 0} {g : _} (bytes : D → Option (List ℕ))
+    (images : D → List ℕ → Type 0) (store : SegStore D g) (trees : Roots) : Type 0 where
+  pub records : List (List ℕ)
+  pub keeps : StoreKeeps bytes images records store
+  pub fits : Fits (nodes_of records) trees
+
+-- The file keeps roots, and so far go the trees of the newest that the history agrees with.
+abbrev pub HasCoverage : List Entry → ℕ → List ℕ → Type 0
+HasCoverage h c file = (kept : List KeptRoot) × FileKeeps file kept × IsCoverage h kept c
+
+-- the history agrees with no root that the file keeps
+abbrev pub AgreesWithNone : List Entry → List ℕ → Type 0
+AgreesWithNone h file = (kept : List KeptRoot) × FileKeeps file kept × NoneAgrees h kept

@@ -2,15 +2,17 @@
 use fb_disk::Disk;
 use fb_journal::StartFault;
 use fb_memory::Memory;
+use fb_ports::Part;
+use seg_store::LoadFault;
 use thiserror::Error;
 
 #[derive(Clone, Copy, Debug, PartialEq, Eq, Error)]
 pub enum OpenFault {
-    /// A call of the log's disk failed.
-    #[error("a call of the disk failed")]
-    Disk,
-    /// The first record that is none, or whose payload holds no entry, and the byte of the file at which its first misfit
-    /// begins. Both are counted from 0.
+    /// A call of this part's disk failed.
+    #[error("a call of a disk failed")]
+    Disk { which: Part },
+    /// The first record of the log that is none, or whose payload holds no entry, and the byte of the file at which its first
+    /// misfit begins. Both are counted from 0.
     #[error("record {nth} at byte {at}")]
     BadLog { nth: u64, at: u64 },
     /// Each record holds an entry; this one is the first that may not follow those before it, by the least law that it
@@ -21,11 +23,12 @@ pub enum OpenFault {
     Memory,
 }
 
-/// An opening that did not succeed: why, and the disk.
+/// An opening that did not succeed: why, and the two disks.
 #[derive(Drop)]
 pub struct OpenStop<D: Disk> {
     pub fault: OpenFault,
-    pub disk: D,
+    pub log: D,
+    pub segments: D,
 }
 
 impl From<Memory> for OpenFault {
@@ -47,9 +50,25 @@ impl From<StartFault> for OpenFault {
 
     fn from(start: StartFault) -> OpenFault {
         match start {
-            StartFault::Disk => OpenFault::Disk,
+            StartFault::Disk => OpenFault::Disk { which: Part::Log },
             StartFault::BadLog { nth, at } => OpenFault::BadLog { nth, at },
             StartFault::Memory => OpenFault::Memory,
+        }
+    }
+}
+
+impl From<LoadFault> for OpenFault {
+    ghost use Rattle.std.specs.Prelude.{◌≡◌};
+    ghost use Rattle.fb_recover.specs.Faults.{fault_of_load};
+
+    ghost from_gives = { λ load fault. fault ≡ fault_of_load load };
+
+    fn from(load: LoadFault) -> OpenFault {
+        match load {
+            LoadFault::Disk => OpenFault::Disk {
+                which: Part::Segments,
+            },
+            LoadFault::Memory => OpenFault::Memory,
         }
     }
 }

@@ -5,7 +5,7 @@ ghost use Rattle.disk_model.specs.Disk.{WhereTold};
 ghost use Rattle.disk_model.specs.Journal.{log_mark};
 ghost use Rattle.log_model.specs.Log.{LogStands, byte_in_log, log_says};
 ghost use Rattle.fb_journal.specs.Readings.{disk_from, HasRead, IsRead, LeavesBegun};
-ghost use Rattle.fb_recover.specs.Faults.{TellsFault, IsCause, CountsOpening};
+ghost use Rattle.fb_recover.specs.Faults.{TellsFault, IsCause, CountsLog};
 ghost use Rattle.fb_recover.specs.Finding.{IsFound, HaveFound};
 ghost use Rattle.fb_recover.specs.Judging.{IsJudged};
 
@@ -47,7 +47,7 @@ pub(crate) fn history_of<D: Disk>(
         → WhereTold (D.bytes disk) (IsCause fault)) }
     ensures counted { MatchResult result
         (λ _. D.faults (disk_from log.new) ≡ D.faults (disk_from log.old))
-        (λ fault. CountsOpening fault (D.faults (disk_from log.old)) (D.faults (disk_from log.new))) }
+        (λ fault. CountsLog fault (D.faults (disk_from log.old)) (D.faults (disk_from log.new))) }
     ensures any_moment { (disk : D)
         → HasRead D.bytes D.images D.moment D.images_since log_mark disk [] log.old
         → LeavesBegun D.bytes D.images D.moment D.images_since disk (disk_from log.new) }

@@ -1,28 +1,28 @@
 //! Reopening.
-ghost use Rattle.std.specs.Prelude.{◌≡◌, ◌⊎◌, ◌≤◌, [], ◌∷◌, ℕ, List, length, IfOk, IfErr, MatchResult};
-ghost use Rattle.fb_model.specs.FirstEntry.{first_entry};
+ghost use Rattle.std.specs.Prelude.{◌≡◌, ◌⊎◌, ◌≤◌, [], ℕ, List, length, IfOk, IfErr, MatchResult};
 ghost use Rattle.fb_model.specs.History.{basis};
+ghost use Rattle.fb_model.specs.Lawful.{IsLawful};
 ghost use Rattle.view_model.specs.Stands.{RootStands};
 ghost use Rattle.seg_tree.specs.Indexes.{trees_of};
 ghost use Rattle.disk_model.specs.Disk.{WhereTold, LeavesOnly};
-ghost use Rattle.disk_model.specs.Journal.{log_mark};
-ghost use Rattle.log_model.specs.Log.{LogStands, IsLogOf};
+ghost use Rattle.log_model.specs.Log.{IsLogOf};
 ghost use Rattle.fb_journal.specs.Journals.{StaysTold};
-ghost use Rattle.fb_journal.specs.Readings.{disk_from, HasRead, IsRead, LeavesBegun};
 ghost use Rattle.fb_core.specs.Cores.{CoreStands};
+ghost use Rattle.seg_store.specs.Stores.{disk_in as segments_in, StoreKeeps};
 ghost use Rattle.disk_log.specs.Logs.{disk_in, count_in, KeepsHistory};
+ghost use Rattle.fb_ports.specs.declared.hosts.Part.TheVariants.{Log, Segments};
 ghost use Rattle.fb_recover.specs.Faults.{IsCause, CountsOpening};
-ghost use Rattle.fb_recover.specs.Openings.{disk_after, AreNumberedFromOne};
+ghost use Rattle.fb_recover.specs.Openings.{log_after, AreNumberedFromOne, AreOfFile, FitsStore, HasCoverage, AgreesWithNone};
+ghost use Rattle.fb_recover.specs.Joining.{IsJoined, IsStopped, IsOpenedOn, IsStoppedOn};
 
-use crate::records::history_of;
+use crate::basing::{Based, find_base};
+use crate::logging::{LogStop, Logged, open_log};
 use crate::{OpenFault, OpenStop};
 use disk_log::DiskLog;
 use fb_core::Core;
 use fb_disk::Disk;
-use fb_journal::{Journal, Mark, Reading, StartStop};
 use fb_memory::Memory;
-use fb_view::Snapshot;
-use seg_tree::Roots;
+use seg_store::{LoadStop, SegStore};
 use std::alloc::Global;
 
 /// A database that was opened.
@@ -30,102 +30,130 @@ use std::alloc::Global;
 pub struct Opened<D: Disk> {
     pub core: Core,
     pub log: DiskLog<D>,
+    pub store: SegStore<D>,
     /// The t of the last entry that the log has.
     pub recovered: u32,
     /// The t of the last entry that the trees are of.
     pub covered: u32,
 }
 
-/// Opens the database of a log. The trees are of the first entry alone, and all others are live. After the first sync the
-/// log's file is only read, unless it is a new one.
-pub fn reopen<D: Disk>(alloc: Global, disk: D) -> Result<Opened<D>, OpenStop<D>>
+/// Opens the database of a log and of a file of segments. The trees are those of the newest root that the file keeps and the
+/// history agrees with, and the entries behind them are live. Where there is none, the trees are of the first entry alone, and
+/// a file that keeps roots starts anew.
+///
+/// After the first sync the log's file is only read, unless it is a new one. Nothing is asked of the segments before the
+/// whole log is judged. What their file holds changes no answer.
+pub fn reopen<D: Disk>(alloc: Global, log: D, segments: D) -> Result<Opened<D>, OpenStop<D>>
     // The file is the log of the history that the core has.
     ensures history { IfOk result
-        (λ o. WhereTold (D.bytes disk) (λ file. IsLogOf file o.core.snapshot.entries)) }
+        (λ o. WhereTold (D.bytes log) (λ file. IsLogOf file o.core.snapshot.entries)) }
     ensures core { IfOk result (λ o. CoreStands o.core × (o.core.authors ≡ [])) }
     ensures recovered { IfOk result (λ o. o.recovered ≡ basis o.core.snapshot.entries) }
-    ensures covered { IfOk result
-        (λ o. (o.covered ≡ o.core.snapshot.covered) × (o.covered ≡ 0)) }
-    ensures ids { IfOk result (λ o. AreNumberedFromOne o.core.snapshot.roots) }
+
+    // The trees are the newest of the file of segments that the history agrees with.
+    ensures covered { IfOk result (λ o. o.covered ≡ o.core.snapshot.covered) }
+    ensures coverage { IfOk result (λ o. WhereTold (D.bytes segments)
+        (HasCoverage o.core.snapshot.entries o.covered)) }
+
+    // They fit the file that the store goes on with. Their nodes are numbered from 1 on, or are those of the file before.
+    ensures fits { IfOk result
+        (λ o. FitsStore D.bytes D.images o.store o.core.snapshot.roots) }
+    ensures ids { IfOk result (λ o. AreNumberedFromOne o.core.snapshot.roots
+        ⊎ AreOfFile (D.bytes segments) o.core.snapshot.roots) }
+
+    // Where no root agrees, the store's file has none from now on.
+    ensures anew { IfOk result (λ o. WhereTold (D.bytes segments)
+        (λ file. AgreesWithNone o.core.snapshot.entries file
+        → AreNumberedFromOne o.core.snapshot.roots
+        × StoreKeeps D.bytes D.images [] o.store)) }
 
     // The log keeps that history, as it was opened.
     ensures keeps { IfOk result (λ o. KeepsHistory D.bytes D.images D.faults D.moment
         D.images_since o.log o.core.snapshot.entries o.log) }
     ensures count { IfOk result (λ o. count_in o.log ≡ o.recovered) }
-    ensures told { IfOk result (λ o. StaysTold (D.bytes disk) (D.bytes (disk_in o.log))) }
+    ensures told { IfOk result (λ o. StaysTold (D.bytes log) (D.bytes (disk_in o.log))) }
 
-    // A fault of the log is what its file says, and the disk's is counted.
-    ensures why_not { IfErr result (λ s. WhereTold (D.bytes disk) (IsCause s.fault)) }
-    ensures counted { MatchResult result (λ o. D.faults (disk_in o.log) ≡ D.faults disk)
-        (λ s. CountsOpening s.fault (D.faults disk) (D.faults s.disk)) }
+    // A fault of the log is what its file says, one of the segments comes over a good log, and those of the disks are counted.
+    ensures why_not { IfErr result (λ s. WhereTold (D.bytes log) (IsCause s.fault)) }
+    ensures counted { MatchResult result (λ o. D.faults (disk_in o.log) ≡ D.faults log)
+        (λ s. CountsOpening s.fault Log (D.faults log) (D.faults s.log)) }
+    ensures segments_counted { MatchResult result
+        (λ o. D.faults (segments_in o.store) ≡ D.faults segments)
+        (λ s. CountsOpening s.fault Segments (D.faults segments) (D.faults s.segments)) }
 
     // A crash at any moment leaves an image from before, or at most 16 bytes where there were no more: a new log.
-    ensures any_moment { WhereTold (D.bytes disk) (λ file. LeavesOnly D.moment D.images_since
-        disk (disk_after result)
-        (λ image. D.images disk image ⊎ ((length file ≤ 16) × (length image ≤ 16)))) }
+    ensures any_moment { WhereTold (D.bytes log) (λ file. LeavesOnly D.moment D.images_since
+        log (log_after result)
+        (λ image. D.images log image ⊎ ((length file ≤ 16) × (length image ≤ 16)))) }
 
     // So it leaves an image from before, or the log of the same history.
-    ensures any_moment_stands { IfOk result (λ o. WhereTold (D.bytes disk) (λ _. LeavesOnly
-        D.moment D.images_since disk (disk_in o.log)
-        (λ image. D.images disk image ⊎ IsLogOf image o.core.snapshot.entries))) }
+    ensures any_moment_stands { IfOk result (λ o. WhereTold (D.bytes log) (λ _. LeavesOnly
+        D.moment D.images_since log (disk_in o.log)
+        (λ image. D.images log image ⊎ IsLogOf image o.core.snapshot.entries))) }
 {
-    let mut reading = match Journal::open(alloc, disk, Mark::Log) {
-        Ok(reading) => reading,
-        Err(StartStop { fault, disk, .. }) => {
-            let fault = OpenFault::from(fault);
-            return Err(OpenStop { fault, disk });
-        }
-    };
-    match core_of(alloc, &mut reading) {
-        Ok(core) => {
-            let log = DiskLog::of(reading.finish());
-            let (recovered, covered) = (core.basis(), core.covered());
-            Ok(Opened {
-                core,
-                log,
-                recovered,
-                covered,
-            })
-        }
-        Err(fault) => Err(OpenStop {
+    match open_log(alloc, log) {
+        Ok(logged) => opened_on(alloc, logged, segments),
+        Err(LogStop { fault, disk: log }) => Err(OpenStop {
             fault,
-            disk: reading.give_back(),
+            log,
+            segments,
         }),
     }
 }
 
-/// The core of the history that a log holds, or what is wrong with the log first.
-fn core_of<D: Disk>(alloc: Global, log: &mut Reading<D>) -> Result<Core, OpenFault>
-    requires { (disk : D)
-        × HasRead D.bytes D.images D.moment D.images_since log_mark disk [] log.old }
-    ensures read { IfOk result (λ core. (disk : D)
-        → HasRead D.bytes D.images D.moment D.images_since log_mark disk [] log.old
-        → (records : List (List ℕ))
-        × IsRead D.bytes D.images D.moment D.images_since log_mark disk records log.new
-        × LogStands records core.snapshot.entries) }
-    ensures core { IfOk result (λ core. CoreStands core × (core.authors ≡ [])) }
-    ensures covered { IfOk result (λ core. core.snapshot.covered ≡ 0) }
-    ensures ids { IfOk result (λ core. AreNumberedFromOne core.snapshot.roots) }
-    ensures why_not { IfErr result (λ fault. (disk : D)
-        → HasRead D.bytes D.images D.moment D.images_since log_mark disk [] log.old
-        → WhereTold (D.bytes disk) (IsCause fault)) }
-    ensures counted { MatchResult result
-        (λ _. D.faults (disk_from log.new) ≡ D.faults (disk_from log.old))
-        (λ fault. CountsOpening fault (D.faults (disk_from log.old)) (D.faults (disk_from log.new))) }
-    ensures any_moment { (disk : D)
-        → HasRead D.bytes D.images D.moment D.images_since log_mark disk [] log.old
-        → LeavesBegun D.bytes D.images D.moment D.images_since disk (disk_from log.new) }
+/// The database of a history and of a file of segments.
+fn opened_on<D: Disk>(
+    alloc: Global,
+    logged: Logged<D>,
+    segments: D,
+) -> Result<Opened<D>, OpenStop<D>>
+    requires { IsLawful logged.entries }
+    ensures opened { IfOk result (IsOpenedOn D.bytes D.images D.faults logged segments) }
+    ensures stopped { IfErr result (IsStoppedOn D.faults logged segments) }
 {
-    let entries = history_of(alloc, log)?;
-    let roots = first_roots(alloc)?;
-    Ok(Core::opened(alloc, entries, roots, 0)?)
+    match find_base(alloc, &logged.entries, segments) {
+        Ok(based) => joined(alloc, logged, based),
+        Err(
+            LoadStop {
+                fault,
+                disk: segments,
+            },
+        ) => Err(OpenStop {
+            fault: OpenFault::from(fault),
+            log: logged.log.into_disk(),
+            segments,
+        }),
+    }
 }
 
-/// The trees of the first entry.
-fn first_roots(alloc: Global) -> Result<Roots, Memory>
-    ensures stands { IfOk result (λ roots. RootStands (trees_of roots) (first_entry ∷ []) 0) }
-    ensures ids { IfOk result (λ roots. AreNumberedFromOne roots) }
+/// The database of a history and of trees of its first entries.
+fn joined<D: Disk>(
+    alloc: Global,
+    logged: Logged<D>,
+    based: Based<D>,
+) -> Result<Opened<D>, OpenStop<D>>
+    requires lawful { IsLawful logged.entries }
+    requires stands { RootStands (trees_of based.trees.roots) logged.entries based.trees.c }
+    ensures joined { IfOk result (IsJoined logged based) }
+    ensures stopped { IfErr result (IsStopped logged based) }
 {
-    let first = Snapshot::first(alloc)?;
-    first.roots().share()
+    let Logged { entries, log } = logged;
+    let Based { store, trees } = based;
+    match Core::opened(alloc, entries, trees.roots, trees.c) {
+        Ok(core) => {
+            let (recovered, covered) = (core.basis(), core.covered());
+            Ok(Opened {
+                core,
+                log,
+                store,
+                recovered,
+                covered,
+            })
+        }
+        Err(Memory) => Err(OpenStop {
+            fault: OpenFault::Memory,
+            log: log.into_disk(),
+            segments: store.give_back(),
+        }),
+    }
 }

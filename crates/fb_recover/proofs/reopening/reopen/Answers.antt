@@ -1,73 +1,137 @@
-use Rattle.std.proofs.Common.{◌⊎◌, ◌∙◌, inl, inr, ⊎_elim, sym, ap, subst}
-use Rattle.disk_model.specs.Disk.{LeavesOnly}
-use Rattle.disk_model.specs.Journal.{log_mark}
-use Rattle.disk_model.proofs.Moments.{weakened}
+use Rattle.std.proofs.Common.{[], ◌⊎◌, ◌∙◌, sym, ap, subst}
+use Rattle.std.proofs.lemmas.Result.{IfOk-weaker, IfErr-weaker, MatchResult-from_both}
+use Rattle.disk_model.specs.Disk.{WhereTold, LeavesOnly}
 use Rattle.log_model.specs.Log.{IsLogOf}
 use Rattle.fb_journal.specs.Readings.{LeavesBegun}
-use Rattle.disk_log.proofs.Histories.{stands-count}
-use Rattle.fb_recover.specs.Faults.{IsCause}
-use Rattle.fb_recover.proofs.Causes.{start-cause}
+use Rattle.disk_log.specs.Logs.{disk_in, count_in, KeepsHistory}
+use Rattle.seg_store.specs.Stores.{StoreKeeps}
+use Rattle.fb_model.specs.History.{basis}
+use Rattle.fb_recover.specs.Openings.{AreNumberedFromOne, AreOfFile, FitsStore, HasCoverage, AgreesWithNone}
+use Rattle.fb_recover.proofs.Joining.{log-counts, log-spares, behind-cause, behind-spares, log-stays}
 use Rattle.fb_recover.proofs.reopening.reopen.Goals as goal
 
-pub returns-in-Err-clause-why_not : goal.returns-in-Err-clause-why_not
-returns-in-Err-clause-why_not g c = λ file told.
-    let stop = c.in-Err.field-0 in
-    let cause = start-cause (g.D.Disk.bytes c.args.disk) stop.fault stop.before c.in-Err.ensures.why_not file told in
-    subst (λ fault. IsCause fault file) (sym c.from-fault.ensures) cause
+pub returns-in-Ok-clause-history : goal.returns-in-Ok-clause-history
+returns-in-Ok-clause-history g c =
+    IfOk-weaker c.opened_on.result _ _
+    (λ o is. λ file told. subst (IsLogOf file) (sym is.joined.entries) (c.in-Ok.ensures.history file told))
+    c.opened_on.ensures.opened
 
-pub finish-requires : goal.finish-requires
-finish-requires g c =
-    let all = c.in-Ok-core_of.ensures.read c.args.disk c.in-Ok.ensures.begins in
-    (log_mark, c.args.disk, all.0, all.1)
+pub returns-in-Ok-clause-core : goal.returns-in-Ok-clause-core
+returns-in-Ok-clause-core g c = IfOk-weaker c.opened_on.result _ _ (λ o is. is.joined.core) c.opened_on.ensures.opened
 
-pub of-log-requires : goal.of-log-requires
-of-log-requires g c =
-    let all = c.in-Ok-core_of.ensures.read c.args.disk c.in-Ok.ensures.begins in
-    (c.finish.ensures.keeps log_mark c.args.disk all.0 all.1).1
+pub returns-in-Ok-clause-recovered : goal.returns-in-Ok-clause-recovered
+returns-in-Ok-clause-recovered g c = IfOk-weaker c.opened_on.result _ _ (λ o is. is.joined.recovered) c.opened_on.ensures.opened
 
-pub returns-in-Ok-core_of-clause-history : goal.returns-in-Ok-core_of-clause-history
-returns-in-Ok-core_of-clause-history g c = λ file told.
-    let all = c.in-Ok-core_of.ensures.read c.args.disk c.in-Ok.ensures.begins in
-    record { records = all.0; journal = all.1.stands file told; stands = all.2 }
+pub returns-in-Ok-clause-covered : goal.returns-in-Ok-clause-covered
+returns-in-Ok-clause-covered g c = IfOk-weaker c.opened_on.result _ _ (λ o is. is.joined.covered) c.opened_on.ensures.opened
 
-pub returns-in-Ok-core_of-clause-keeps : goal.returns-in-Ok-core_of-clause-keeps
-returns-in-Ok-core_of-clause-keeps g c =
-    let all = c.in-Ok-core_of.ensures.read c.args.disk c.in-Ok.ensures.begins in
-    c.of-log.ensures.keeps all.0 c.in-Ok-core_of.core.snapshot.entries (c.finish.ensures.keeps log_mark c.args.disk all.0 all.1).0 all.2
+pub returns-in-Ok-clause-coverage : goal.returns-in-Ok-clause-coverage
+returns-in-Ok-clause-coverage g c =
+    IfOk-weaker c.opened_on.result _ _
+    (λ o is. λ file told.
+    let j = is.joined in
+    subst (λ h. HasCoverage h o.covered file) (sym j.entries)
+    (subst (λ n. HasCoverage c.in-Ok.logged.entries n file) (sym (j.covered ∙ j.c)) (is.is.coverage file told)))
+    c.opened_on.ensures.opened
 
-pub returns-in-Ok-core_of-clause-count : goal.returns-in-Ok-core_of-clause-count
-returns-in-Ok-core_of-clause-count g c =
-    let all = c.in-Ok-core_of.ensures.read c.args.disk c.in-Ok.ensures.begins in
-    c.of-log.ensures.count all.0 (c.finish.ensures.keeps log_mark c.args.disk all.0 all.1).0
-    ∙ stands-count all.0 c.in-Ok-core_of.core.snapshot.entries all.2
-    ∙ sym c.basis-recovered.ensures.basis
-
-pub returns-in-Ok-core_of-clause-told : goal.returns-in-Ok-core_of-clause-told
-returns-in-Ok-core_of-clause-told g c = λ file told.
-    let all = c.in-Ok-core_of.ensures.read c.args.disk c.in-Ok.ensures.begins in
-    let now = all.1.read.begun file told in
-    (now.0, ap g.D.Disk.bytes (c.of-log.ensures.disk ∙ c.finish.ensures.disk) ∙ now.1)
-
-pub returns-in-Ok-core_of-clause-any_moment : goal.returns-in-Ok-core_of-clause-any_moment
-returns-in-Ok-core_of-clause-any_moment g c = λ file told.
+pub returns-in-Ok-clause-fits : goal.returns-in-Ok-clause-fits
+returns-in-Ok-clause-fits g c =
     let d = g.D.Disk in
-    subst (λ now. LeavesBegun d.bytes d.images d.moment d.images_since c.args.disk now)
-    (sym (c.of-log.ensures.disk ∙ c.finish.ensures.disk))
-    (c.core_of.ensures.any_moment c.args.disk c.in-Ok.ensures.begins) file told
+    IfOk-weaker c.opened_on.result _ _
+    (λ o is.
+    let j = is.joined in
+    subst (λ store. FitsStore d.bytes d.images store o.core.snapshot.roots) (sym j.store)
+    (subst (FitsStore d.bytes d.images is.based.store) (sym j.roots) is.is.fits))
+    c.opened_on.ensures.opened
 
-pub returns-in-Ok-core_of-clause-any_moment_stands : goal.returns-in-Ok-core_of-clause-any_moment_stands
-returns-in-Ok-core_of-clause-any_moment_stands g c = λ file told.
-    let d = g.D.Disk in
-    let all = c.in-Ok-core_of.ensures.read c.args.disk c.in-Ok.ensures.begins in
-    let h = c.in-Ok-core_of.core.snapshot.entries in
-    subst (λ disk. LeavesOnly d.moment d.images_since c.args.disk disk (λ image. d.images c.args.disk image ⊎ IsLogOf image h))
-    (sym (c.of-log.ensures.disk ∙ c.finish.ensures.disk))
-    (weakened d.moment d.images_since c.args.disk _ _ _ (all.1.any_moment file told)
-    (λ image left. ⊎_elim (λ was. inl was)
-    (λ stands. inr (record { records = all.0; journal = stands; stands = all.2 })) left))
+pub returns-in-Ok-clause-ids : goal.returns-in-Ok-clause-ids
+returns-in-Ok-clause-ids g c =
+    IfOk-weaker c.opened_on.result _ _
+    (λ o is. subst (λ roots. AreNumberedFromOne roots ⊎ AreOfFile (g.D.Disk.bytes c.args.segments) roots) (sym is.joined.roots) is.is.ids)
+    c.opened_on.ensures.opened
 
-pub returns-in-Err-core_of-clause-any_moment : goal.returns-in-Err-core_of-clause-any_moment
-returns-in-Err-core_of-clause-any_moment g c = λ file told.
+pub returns-in-Ok-clause-anew : goal.returns-in-Ok-clause-anew
+returns-in-Ok-clause-anew g c =
     let d = g.D.Disk in
-    subst (λ now. LeavesBegun d.bytes d.images d.moment d.images_since c.args.disk now) (sym c.give_back.ensures)
-    (c.core_of.ensures.any_moment c.args.disk c.in-Ok.ensures.begins) file told
+    IfOk-weaker c.opened_on.result _ _
+    (λ o is. λ file told none.
+    let j = is.joined in
+    let first = is.is.anew file told (subst (λ h. AgreesWithNone h file) j.entries none) in
+    (subst AreNumberedFromOne (sym j.roots) first.0, subst (StoreKeeps d.bytes d.images []) (sym j.store) first.1))
+    c.opened_on.ensures.opened
+
+pub returns-in-Ok-clause-keeps : goal.returns-in-Ok-clause-keeps
+returns-in-Ok-clause-keeps g c =
+    let d = g.D.Disk in
+    IfOk-weaker c.opened_on.result _ _
+    (λ o is.
+    let j = is.joined in
+    subst (λ log. KeepsHistory d.bytes d.images d.faults d.moment d.images_since log o.core.snapshot.entries log) (sym j.log)
+    (subst (λ h. KeepsHistory d.bytes d.images d.faults d.moment d.images_since c.in-Ok.logged.log h c.in-Ok.logged.log) (sym j.entries)
+    c.in-Ok.ensures.keeps))
+    c.opened_on.ensures.opened
+
+pub returns-in-Ok-clause-count : goal.returns-in-Ok-clause-count
+returns-in-Ok-clause-count g c =
+    IfOk-weaker c.opened_on.result _ _
+    (λ o is. let j = is.joined in
+    ap count_in j.log ∙ c.in-Ok.ensures.count ∙ ap basis (sym j.entries) ∙ sym j.recovered)
+    c.opened_on.ensures.opened
+
+pub returns-in-Ok-clause-told : goal.returns-in-Ok-clause-told
+returns-in-Ok-clause-told g c =
+    IfOk-weaker c.opened_on.result _ _
+    (λ o is. λ file told.
+    let later = c.in-Ok.ensures.told file told in
+    (later.0, ap (λ log. g.D.Disk.bytes (disk_in log)) is.joined.log ∙ later.1))
+    c.opened_on.ensures.opened
+
+pub returns-in-Ok-clause-why_not : goal.returns-in-Ok-clause-why_not
+returns-in-Ok-clause-why_not g c =
+    IfErr-weaker c.opened_on.result _ _
+    (λ s is. λ file told. behind-cause s.fault c.in-Ok.logged.entries file is.fault (c.in-Ok.ensures.history file told))
+    c.opened_on.ensures.stopped
+
+pub returns-in-Ok-clause-counted : goal.returns-in-Ok-clause-counted
+returns-in-Ok-clause-counted g c =
+    let d = g.D.Disk in
+    MatchResult-from_both c.opened_on.result _ _
+    (IfOk-weaker c.opened_on.result _ _ (λ o is. ap (λ log. d.faults (disk_in log)) is.joined.log ∙ c.in-Ok.ensures.counted)
+    c.opened_on.ensures.opened)
+    (IfErr-weaker c.opened_on.result _ _
+    (λ s is. behind-spares s.fault (d.faults c.args.log) (d.faults s.log) is.fault (ap d.faults is.log ∙ c.in-Ok.ensures.counted))
+    c.opened_on.ensures.stopped)
+
+pub returns-in-Ok-clause-segments_counted : goal.returns-in-Ok-clause-segments_counted
+returns-in-Ok-clause-segments_counted g c =
+    MatchResult-from_both c.opened_on.result _ _
+    (IfOk-weaker c.opened_on.result _ _ (λ o is. is.counted) c.opened_on.ensures.opened)
+    (IfErr-weaker c.opened_on.result _ _ (λ s is. is.counted) c.opened_on.ensures.stopped)
+
+pub returns-in-Ok-clause-any_moment : goal.returns-in-Ok-clause-any_moment
+returns-in-Ok-clause-any_moment g c = λ file told.
+    let d = g.D.Disk in
+    subst (λ now. LeavesBegun d.bytes d.images d.moment d.images_since c.args.log now)
+    (sym
+    (log-stays d.bytes d.images d.faults c.in-Ok.logged c.args.segments c.opened_on.result c.opened_on.ensures.opened
+    c.opened_on.ensures.stopped))
+    (rw c.in-Ok.is at c.open_log.ensures.any_moment) file told
+
+pub returns-in-Ok-clause-any_moment_stands : goal.returns-in-Ok-clause-any_moment_stands
+returns-in-Ok-clause-any_moment_stands g c =
+    let d = g.D.Disk in
+    IfOk-weaker c.opened_on.result _ _
+    (λ o is. λ file told.
+    let j = is.joined in
+    subst (λ log. LeavesOnly d.moment d.images_since c.args.log (disk_in log)
+    (λ image. d.images c.args.log image ⊎ IsLogOf image o.core.snapshot.entries)) (sym j.log)
+    (subst (λ h. LeavesOnly d.moment d.images_since c.args.log (disk_in c.in-Ok.logged.log)
+    (λ image. d.images c.args.log image ⊎ IsLogOf image h)) (sym j.entries)
+    (c.in-Ok.ensures.any_moment_stands file told)))
+    c.opened_on.ensures.opened
+
+pub returns-in-Err-clause-counted : goal.returns-in-Err-clause-counted
+returns-in-Err-clause-counted g c = log-counts c.in-Err.field-0.fault _ _ c.in-Err.ensures.counted
+
+pub returns-in-Err-clause-segments_counted : goal.returns-in-Err-clause-segments_counted
+returns-in-Err-clause-segments_counted g c = log-spares c.in-Err.field-0.fault _ _ _ c.in-Err.ensures.counted

@@ -6,7 +6,7 @@ use Rattle.seg_tree.specs.Indexes.{trees_of}
 use Rattle.seg_tree.specs.declared.roots.Roots.{Roots}
 use Rattle.fb_recover.specs.Openings.{AreNumberedFromOne}
 use Rattle.fb_recover.proofs.Trees.{first-roots}
-use Rattle.fb_recover.proofs.reopening.first_roots.Goals as goal
+use Rattle.fb_recover.proofs.basing.first_roots.Goals as goal
 
 pub returns-clause-stands : goal.returns-clause-stands
 returns-clause-stands c =

@@ -1,0 +1,87 @@
+-- The trees that a history is opened with: those of the newest root that it agrees with, or of its first entry.
+use Rattle.std.proofs.Common.{◌≡◌, ◌⊎◌, ◌∙◌, inl, inr, ⊎_elim, ℕ, List, [], ◌∷◌, Option, Some, Result, Ok, Err, length, map, refl, sym, ap, subst}
+use Rattle.std.specs.Prelude.{Contains, IsTrue, IfOk}
+use Rattle.std.proofs.lemmas.Bool.{eqb-true}
+use Rattle.std.proofs.lemmas.List.{nil_from_length}
+use Rattle.std.proofs.lemmas.List.Elements.{All-contains}
+use Rattle.fb_values.specs.declared.facts.Entry.{Entry}
+use Rattle.fb_model.specs.FirstEntry.{first_entry}
+use Rattle.fb_model.specs.Lawful.{IsLawful}
+use Rattle.disk_model.specs.Disk.{WhereTold}
+use Rattle.view_model.specs.Stands.{RootStands}
+use Rattle.log_model.specs.Nodes.{Roots as FileRoots}
+use Rattle.log_model.specs.Kept.{KeptRoot, FileKeeps, NoneAgrees, kept_roots, nodes_of, are_good}
+use Rattle.log_model.proofs.KeptRoots.{one_keeping}
+use Rattle.seg_tree.specs.Indexes.{trees_of}
+use Rattle.seg_codec.specs.Trees.{AreTreesOf, Fits}
+use Rattle.seg_codec.proofs.Among.{mapped_member}
+use Rattle.seg_store.specs.declared.loads.KeptTrees.{KeptTrees}
+use Rattle.seg_store.specs.declared.loads.Loaded.{Loaded}
+use Rattle.seg_store.specs.Stores.{StoreKeeps}
+use Rattle.seg_store.specs.Loads.{kept_of, IsLoaded}
+use Rattle.seg_store.proofs.Fitting.{fits_none}
+use Rattle.seg_agree.specs.Newest.{IsNewest}
+use Rattle.fb_recover.specs.Openings.{AreNumberedFromOne}
+use Rattle.fb_recover.specs.Basing.{IsBased}
+use Rattle.fb_recover.specs.declared.basing.Based.{Based}
+use Rattle.fb_recover.proofs.Trees.{first-stands}
+
+pub IfOk-both : {T E : Type 0} (r : Result T E) (P Q : T → Type 0) → IfOk r P → IfOk r Q → IfOk r (λ x. P x × Q x)
+IfOk-both (Ok x) P Q p q = (p, q)
+IfOk-both (Err e) P Q p q = tt
+
+no_root_no_record : (records : List (List ℕ)) → kept_roots records ≡ [] → IsTrue (are_good records) → records ≡ []
+no_root_no_record records none good =
+    let same : length (kept_roots records) ≡ length records = eqb-true (length (kept_roots records)) (length records) good in
+    nil_from_length records (sym same ∙ ap length none)
+
+module _ {D : Type 0} {g : _} (bytes : D → Option (List ℕ)) (images : D → List ℕ → Type 0) (told : Option (List ℕ)) (h : List Entry) where
+  -- a store that keeps no root has no record
+  pub no_record : (loaded : Loaded D g) → IsLoaded bytes images told loaded → loaded.kept.items ≡ [] → StoreKeeps bytes images [] loaded.store
+  no_record loaded is none =
+      let roots : kept_roots is.read ≡ [] = sym is.kept.roots ∙ ap (λ (kept : List KeptTrees). map kept_of kept) none in
+      subst (λ (records : List (List ℕ)). StoreKeeps bytes images records loaded.store)
+      (⊎_elim
+      (λ same. same ∙ no_root_no_record is.read roots (subst (λ (records : List (List ℕ)). IsTrue (are_good records)) same is.store.good))
+      (λ anew. anew.0) is.goes_on)
+      is.store
+
+  -- the newest root that the history agrees with
+  pub based_found : (loaded : Loaded D g) (trees : KeptTrees) → IsLoaded bytes images told loaded
+      → WhereTold told (λ file. FileKeeps file (map kept_of loaded.kept.items))
+      → IsNewest h loaded.kept.items (Some trees)
+      → IsBased bytes images told h (record { store = loaded.store; trees = trees })
+  based_found loaded trees is keeps newest =
+      let member = newest.0 in
+      let root = newest.1 in
+      let there = All-contains (λ (k : KeptTrees). (ids : FileRoots) × AreTreesOf (nodes_of is.read) ids k.roots) loaded.kept.items trees
+      is.kept.there member in record {
+        stands = root.agrees;
+        coverage = λ file was. (map kept_of loaded.kept.items, keeps file was, inl (kept_of trees, root, refl));
+        fits = record {
+          records = is.records;
+          keeps = is.store;
+          fits = All-contains (λ (k : KeptTrees). Fits (nodes_of is.records) k.roots) loaded.kept.items trees is.fits member;
+        };
+        ids = inr (is.read, is.file, there.0, there.1);
+        anew = λ file was none.
+            let same = one_keeping file none.0 (map kept_of loaded.kept.items) none.1 (keeps file was) in
+            let kept = subst (λ (roots : List KeptRoot). Contains roots (kept_of trees)) (sym same)
+            (mapped_member kept_of loaded.kept.items trees member) in absurd (none.2 (kept_of trees) kept root.agrees);
+      }
+
+  -- the first entry
+  pub based_first : (loaded : Loaded D g) (based : Based D g) → IsLawful h
+      → WhereTold told (λ file. FileKeeps file (map kept_of loaded.kept.items))
+      → NoneAgrees h (map kept_of loaded.kept.items)
+      → StoreKeeps bytes images [] based.store
+      → RootStands (trees_of based.trees.roots) (first_entry ∷ []) 0 × (based.trees.c ≡ 0)
+      → AreNumberedFromOne based.trees.roots → IsBased bytes images told h based
+  based_first loaded based lawful keeps none empty stands ids = record {
+    stands = subst (λ (c : ℕ). RootStands (trees_of based.trees.roots) h c) (sym stands.1)
+        (first-stands (trees_of based.trees.roots) h lawful stands.0);
+    coverage = λ file was. (map kept_of loaded.kept.items, keeps file was, inr (none, stands.1));
+    fits = record { records = []; keeps = empty; fits = fits_none based.trees.roots };
+    ids = inl ids;
+    anew = λ file was agrees. (ids, empty);
+  }

@@ -1,0 +1,21 @@
+-- The trees and the store that a history is opened with.
+-- This project's own choice.
+use Rattle.std.specs.Prelude.{◌⊎◌, ℕ, List, [], Option}
+use Rattle.fb_values.specs.declared.facts.Entry.{Entry}
+use Rattle.disk_model.specs.Disk.{WhereTold}
+use Rattle.view_model.specs.Stands.{RootStands}
+use Rattle.seg_tree.specs.Indexes.{trees_of}
+use Rattle.seg_store.specs.Stores.{StoreKeeps}
+use Rattle.fb_recover.specs.Openings.{AreNumberedFromOne, AreOfFile, FitsStore, HasCoverage, AgreesWithNone}
+use Rattle.fb_recover.specs.declared.basing.Based.{Based}
+
+-- The trees are those of the newest root of the file that the history agrees with, or of the first entry, and they fit the
+-- store.
+pub record IsBased {D : Type 0} {g : _} (bytes : D → Option (List ℕ)) (images : D → List ℕ → Type 0)
+    (told : Option (List ℕ)) (h : List Entry) (based : Based D g) : Type 0 where
+  pub stands : RootStands (trees_of based.trees.roots) h based.trees.c
+  pub coverage : WhereTold told (HasCoverage h based.trees.c)
+  pub fits : FitsStore bytes images based.store based.trees.roots
+  pub ids : AreNumberedFromOne based.trees.roots ⊎ AreOfFile told based.trees.roots
+  pub anew : WhereTold told (λ file. AgreesWithNone h file
+      → AreNumberedFromOne based.trees.roots × StoreKeeps bytes images [] based.store)

@@ -1,0 +1,115 @@
+//! The trees that a history is opened with, and the store whose file they fit.
+ghost use Rattle.std.specs.Prelude.{◌≡◌, [], ◌∷◌, ℕ, List, true, false, IfOk, MatchResult};
+ghost use Rattle.disk_model.specs.Disk.{WhereTold};
+ghost use Rattle.fb_model.specs.FirstEntry.{first_entry};
+ghost use Rattle.fb_model.specs.Lawful.{IsLawful};
+ghost use Rattle.view_model.specs.Stands.{RootStands};
+ghost use Rattle.seg_tree.specs.Indexes.{trees_of};
+ghost use Rattle.seg_store.specs.Stores.{disk_in as segments_in, StoreKeeps};
+ghost use Rattle.seg_store.specs.Loads.{CountsLoad};
+ghost use Rattle.fb_recover.specs.Openings.{AreNumberedFromOne};
+ghost use Rattle.fb_recover.specs.Basing.{IsBased};
+
+use fb_disk::Disk;
+use fb_history::EntryList;
+use fb_memory::Memory;
+use fb_view::Snapshot;
+use seg_agree::newest_agreeing;
+use seg_store::{KeptTrees, LoadFault, LoadStop, Loaded, SegStore};
+use seg_tree::Roots;
+use std::alloc::Global;
+
+/// Trees that a history is opened with, and the store whose file they fit.
+#[derive(Drop)]
+pub(crate) struct Based<D: Disk> {
+    pub(crate) store: SegStore<D>,
+    pub(crate) trees: KeptTrees,
+}
+
+/// The newest root of the file that the history agrees with. Where there is none, the trees of the first entry; a file that
+/// keeps roots then starts anew.
+pub(crate) fn find_base<D: Disk>(
+    alloc: Global,
+    entries: &EntryList,
+    segments: D,
+) -> Result<Based<D>, LoadStop<D>>
+    requires { IsLawful entries.now }
+    ensures based { IfOk result (IsBased D.bytes D.images (D.bytes segments) entries.now) }
+    ensures counted { MatchResult result
+        (λ b. D.faults (segments_in b.store) ≡ D.faults segments)
+        (λ s. CountsLoad s.fault (D.faults segments) (D.faults s.disk)) }
+{
+    let Loaded { store, kept } = match SegStore::load(alloc, segments) {
+        Ok(loaded) => loaded,
+        Err(stop) => return Err(stop),
+    };
+    let keeps_some = !kept.is_empty();
+    match newest_agreeing(alloc, entries, kept) {
+        Ok(Some(trees)) => Ok(Based { store, trees }),
+        Ok(None) => of_first(alloc, store, keeps_some),
+        Err(Memory) => Err(LoadStop {
+            fault: LoadFault::Memory,
+            disk: store.give_back(),
+        }),
+    }
+}
+
+/// The trees of the first entry, and the store with a file that keeps no roots. It kept some, or none.
+fn of_first<D: Disk>(
+    alloc: Global,
+    store: SegStore<D>,
+    keeps_some: bool,
+) -> Result<Based<D>, LoadStop<D>>
+    requires keeps { (records : List (List ℕ)) × StoreKeeps D.bytes D.images records store }
+    requires none { keeps_some ≡ false → StoreKeeps D.bytes D.images [] store }
+    ensures empty { IfOk result (λ b. StoreKeeps D.bytes D.images [] b.store) }
+    ensures stands { IfOk result
+        (λ b. RootStands (trees_of b.trees.roots) (first_entry ∷ []) 0 × (b.trees.c ≡ 0)) }
+    ensures ids { IfOk result (λ b. AreNumberedFromOne b.trees.roots) }
+    ensures counted { MatchResult result
+        (λ b. D.faults (segments_in b.store) ≡ D.faults (segments_in store))
+        (λ s. CountsLoad s.fault (D.faults (segments_in store)) (D.faults s.disk)) }
+{
+    match first_roots(alloc) {
+        Ok(roots) => {
+            let store = emptied(store, keeps_some)?;
+            let trees = KeptTrees { roots, c: 0 };
+            Ok(Based { store, trees })
+        }
+        Err(Memory) => Err(LoadStop {
+            fault: LoadFault::Memory,
+            disk: store.give_back(),
+        }),
+    }
+}
+
+/// The store, with a file that starts anew where it keeps roots.
+fn emptied<D: Disk>(store: SegStore<D>, keeps_some: bool) -> Result<SegStore<D>, LoadStop<D>>
+    requires keeps { (records : List (List ℕ)) × StoreKeeps D.bytes D.images records store }
+    requires none { keeps_some ≡ false → StoreKeeps D.bytes D.images [] store }
+    ensures empty { IfOk result (StoreKeeps D.bytes D.images []) }
+    ensures counted { MatchResult result
+        (λ now. D.faults (segments_in now) ≡ D.faults (segments_in store))
+        (λ s. CountsLoad s.fault (D.faults (segments_in store)) (D.faults s.disk)) }
+{
+    let mut store = store;
+    if !keeps_some {
+        return Ok(store);
+    }
+    match store.reset() {
+        Ok(()) => Ok(store),
+        Err(_) => Err(LoadStop {
+            fault: LoadFault::Disk,
+            disk: store.give_back(),
+        }),
+    }
+}
+
+/// The trees of the first entry.
+fn first_roots(alloc: Global) -> Result<Roots, Memory>
+    ensures stands { IfOk result (λ roots. RootStands (trees_of roots) (first_entry ∷ []) 0) }
+    ensures ids { IfOk result AreNumberedFromOne }
+{
+    let first = Snapshot::first(alloc)?;
+    first.roots().share()
+}

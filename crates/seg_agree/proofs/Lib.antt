@@ -1,0 +1,6 @@
+pub mod Counting
+pub mod Descending
+pub mod Entries
+pub mod Searching
+pub mod Trees
+pub mod Walking
