@@ -5,8 +5,10 @@ use Rattle.fb_values.specs.declared.facts.Entry.{Entry}
 use Rattle.disk_model.specs.Disk.{WhereTold}
 use Rattle.view_model.specs.Stands.{RootStands}
 use Rattle.seg_tree.specs.Indexes.{trees_of}
-use Rattle.seg_store.specs.Stores.{StoreKeeps}
-use Rattle.fb_recover.specs.Openings.{AreNumberedFromOne, AreOfFile, FitsStore, HasCoverage, AgreesWithNone}
+use Rattle.fb_journal.specs.Journals.{StaysTold}
+use Rattle.seg_store.specs.Stores.{disk_in as segments_in, StoreKeeps}
+use Rattle.seg_store.specs.Keeping.{FitsStore}
+use Rattle.fb_recover.specs.Openings.{AreNumberedFromOne, AreOfFile, HasCoverage, AgreesWithNone}
 use Rattle.fb_recover.specs.declared.basing.Based.{Based}
 
 -- The trees are those of the newest root of the file that the history agrees with, or of the first entry, and they fit the
@@ -19,3 +21,4 @@ pub record IsBased {D : Type 0} {g : _} (bytes : D → Option (List ℕ)) (image
   pub ids : AreNumberedFromOne based.trees.roots ⊎ AreOfFile told based.trees.roots
   pub anew : WhereTold told (λ file. AgreesWithNone h file
       → AreNumberedFromOne based.trees.roots × StoreKeeps bytes images [] based.store)
+  pub told : StaysTold told (bytes (segments_in based.store))

@@ -37,6 +37,14 @@ IsCause Memory file = ⊤
 IsCause (Disk Log) file = ⊤
 IsCause (Disk Segments) file = (h : List Entry) × IsLogOf file h
 
+-- it is one of the log, of its disk or of its file
+abbrev pub IsOfLog : OpenFault → Type 0
+IsOfLog (Disk Log) = ⊤
+IsOfLog (Disk Segments) = ⊥
+IsOfLog (BadLog nth at) = ⊤
+IsOfLog (Unlawful t law) = ⊤
+IsOfLog Memory = ⊥
+
 -- a fault of this part's disk raised the disk's count, and nothing else did
 abbrev pub CountsOpening : OpenFault → Part → ℕ → ℕ → Type 0
 CountsOpening (Disk Log) Log old new = Rose old new

@@ -9,10 +9,8 @@ use Rattle.log_model.specs.Nodes.{Roots as FileRoots}
 use Rattle.log_model.specs.Kept.{KeptRoot, FileKeeps, NoneAgrees, IsCoverage, nodes_of}
 use Rattle.seg_tree.specs.Indexes.{root_ids, trees_of}
 use Rattle.seg_tree.specs.declared.roots.Roots.{Roots}
-use Rattle.seg_codec.specs.Trees.{AreTreesOf, Fits}
-use Rattle.seg_store.specs.Stores.{StoreKeeps}
+use Rattle.seg_codec.specs.Trees.{AreTreesOf}
 use Rattle.seg_store.specs.Loads.{AreRecordsOf}
-use Rattle.seg_store.specs.declared.stores.SegStore.{SegStore}
 use Rattle.disk_log.specs.Logs.{disk_in}
 use Rattle.fb_recover.specs.declared.faults.OpenStop.{OpenStop}
 use Rattle.fb_recover.specs.declared.reopening.Opened.{Opened}
@@ -32,13 +30,6 @@ abbrev pub AreOfFile : Option (List ℕ) → Roots → Type 0
 AreOfFile told roots =
     (records : List (List ℕ)) × WhereTold told (AreRecordsOf records)
     × (ids : FileRoots) × AreTreesOf (nodes_of records) ids roots
-
--- the store goes on, and each node of the trees whose id its file has is that node
-pub record FitsStore {D : Type 0} {g : _} (bytes : D → Option (List ℕ))
-    (images : D → List ℕ → Type 0) (store : SegStore D g) (trees : Roots) : Type 0 where
-  pub records : List (List ℕ)
-  pub keeps : StoreKeeps bytes images records store
-  pub fits : Fits (nodes_of records) trees
 
 -- The file keeps roots, and so far go the trees of the newest that the history agrees with.
 abbrev pub HasCoverage : List Entry → ℕ → List ℕ → Type 0

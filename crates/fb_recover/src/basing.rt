@@ -6,6 +6,7 @@ ghost use Rattle.fb_model.specs.Lawful.{IsLawful};
 ghost use Rattle.view_model.specs.Stands.{RootStands};
 ghost use Rattle.seg_tree.specs.Indexes.{trees_of};
 ghost use Rattle.seg_store.specs.Stores.{disk_in as segments_in, StoreKeeps};
+ghost use Rattle.fb_journal.specs.Journals.{StaysTold};
 ghost use Rattle.seg_store.specs.Loads.{CountsLoad};
 ghost use Rattle.fb_recover.specs.Openings.{AreNumberedFromOne};
 ghost use Rattle.fb_recover.specs.Basing.{IsBased};
@@ -63,6 +64,8 @@ fn of_first<D: Disk>(
     requires keeps { (records : List (List ℕ)) × StoreKeeps D.bytes D.images records store }
     requires none { keeps_some ≡ false → StoreKeeps D.bytes D.images [] store }
     ensures empty { IfOk result (λ b. StoreKeeps D.bytes D.images [] b.store) }
+    ensures told { IfOk result
+        (λ b. StaysTold (D.bytes (segments_in store)) (D.bytes (segments_in b.store))) }
     ensures stands { IfOk result
         (λ b. RootStands (trees_of b.trees.roots) (first_entry ∷ []) 0 × (b.trees.c ≡ 0)) }
     ensures ids { IfOk result (λ b. AreNumberedFromOne b.trees.roots) }
@@ -88,6 +91,8 @@ fn emptied<D: Disk>(store: SegStore<D>, keeps_some: bool) -> Result<SegStore<D>,
     requires keeps { (records : List (List ℕ)) × StoreKeeps D.bytes D.images records store }
     requires none { keeps_some ≡ false → StoreKeeps D.bytes D.images [] store }
     ensures empty { IfOk result (StoreKeeps D.bytes D.images []) }
+    ensures told { IfOk result
+        (λ now. StaysTold (D.bytes (segments_in store)) (D.bytes (segments_in now))) }
     ensures counted { MatchResult result
         (λ now. D.faults (segments_in now) ≡ D.faults (segments_in store))
         (λ s. CountsLoad s.fault (D.faults (segments_in store)) (D.faults s.disk)) }

@@ -1,5 +1,5 @@
 //! Reopening.
-ghost use Rattle.std.specs.Prelude.{◌≡◌, ◌⊎◌, ◌≤◌, [], ℕ, List, length, IfOk, IfErr, MatchResult};
+ghost use Rattle.std.specs.Prelude.{◌≡◌, ◌⊎◌, ◌≤◌, ◌<◌, ◌^◌, [], ℕ, List, length, IfOk, IfErr, MatchResult};
 ghost use Rattle.fb_model.specs.History.{basis};
 ghost use Rattle.fb_model.specs.Lawful.{IsLawful};
 ghost use Rattle.view_model.specs.Stands.{RootStands};
@@ -11,8 +11,11 @@ ghost use Rattle.fb_core.specs.Cores.{CoreStands};
 ghost use Rattle.seg_store.specs.Stores.{disk_in as segments_in, StoreKeeps};
 ghost use Rattle.disk_log.specs.Logs.{disk_in, count_in, KeepsHistory};
 ghost use Rattle.fb_ports.specs.declared.hosts.Part.TheVariants.{Log, Segments};
-ghost use Rattle.fb_recover.specs.Faults.{IsCause, CountsOpening};
-ghost use Rattle.fb_recover.specs.Openings.{log_after, AreNumberedFromOne, AreOfFile, FitsStore, HasCoverage, AgreesWithNone};
+ghost use Rattle.fb_recover.specs.Faults.{IsCause, IsOfLog, CountsOpening};
+ghost use Rattle.seg_tree.specs.Ids.{next_above};
+ghost use Rattle.seg_tree.specs.Indexes.{root_ids};
+ghost use Rattle.seg_store.specs.Keeping.{HasGreatNode, FitsStore};
+ghost use Rattle.fb_recover.specs.Openings.{log_after, AreNumberedFromOne, AreOfFile, HasCoverage, AgreesWithNone};
 ghost use Rattle.fb_recover.specs.Joining.{IsJoined, IsStopped, IsOpenedOn, IsStoppedOn};
 
 use crate::basing::{Based, find_base};
@@ -61,6 +64,10 @@ pub fn reopen<D: Disk>(alloc: Global, log: D, segments: D) -> Result<Opened<D>, 
     ensures ids { IfOk result (λ o. AreNumberedFromOne o.core.snapshot.roots
         ⊎ AreOfFile (D.bytes segments) o.core.snapshot.roots) }
 
+    // Where they have a number behind which no merge may go, the file had it before.
+    ensures great { IfOk result (λ o. WhereTold (D.bytes segments)
+        (λ file. 2 ^ 61 < next_above (root_ids o.core.snapshot.roots) → HasGreatNode file)) }
+
     // Where no root agrees, the store's file has none from now on.
     ensures anew { IfOk result (λ o. WhereTold (D.bytes segments)
         (λ file. AgreesWithNone o.core.snapshot.entries file
@@ -72,6 +79,8 @@ pub fn reopen<D: Disk>(alloc: Global, log: D, segments: D) -> Result<Opened<D>, 
         D.images_since o.log o.core.snapshot.entries o.log) }
     ensures count { IfOk result (λ o. count_in o.log ≡ o.recovered) }
     ensures told { IfOk result (λ o. StaysTold (D.bytes log) (D.bytes (disk_in o.log))) }
+    ensures segments_told { IfOk result
+        (λ o. StaysTold (D.bytes segments) (D.bytes (segments_in o.store))) }
 
     // A fault of the log is what its file says, one of the segments comes over a good log, and those of the disks are counted.
     ensures why_not { IfErr result (λ s. WhereTold (D.bytes log) (IsCause s.fault)) }
@@ -80,6 +89,9 @@ pub fn reopen<D: Disk>(alloc: Global, log: D, segments: D) -> Result<Opened<D>, 
     ensures segments_counted { MatchResult result
         (λ o. D.faults (segments_in o.store) ≡ D.faults segments)
         (λ s. CountsOpening s.fault Segments (D.faults segments) (D.faults s.segments)) }
+
+    // With a fault of the log nothing was asked of the segments.
+    ensures untouched { IfErr result (λ s. IsOfLog s.fault → s.segments ≡ segments) }
 
     // A crash at any moment leaves an image from before, or at most 16 bytes where there were no more: a new log.
     ensures any_moment { WhereTold (D.bytes log) (λ file. LeavesOnly D.moment D.images_since

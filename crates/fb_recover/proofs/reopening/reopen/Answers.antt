@@ -6,7 +6,8 @@ use Rattle.fb_journal.specs.Readings.{LeavesBegun}
 use Rattle.disk_log.specs.Logs.{disk_in, count_in, KeepsHistory}
 use Rattle.seg_store.specs.Stores.{StoreKeeps}
 use Rattle.fb_model.specs.History.{basis}
-use Rattle.fb_recover.specs.Openings.{AreNumberedFromOne, AreOfFile, FitsStore, HasCoverage, AgreesWithNone}
+use Rattle.seg_store.specs.Keeping.{FitsStore}
+use Rattle.fb_recover.specs.Openings.{AreNumberedFromOne, AreOfFile, HasCoverage, AgreesWithNone}
 use Rattle.fb_recover.proofs.Joining.{log-counts, log-spares, behind-cause, behind-spares, log-stays}
 use Rattle.fb_recover.proofs.reopening.reopen.Goals as goal
 
