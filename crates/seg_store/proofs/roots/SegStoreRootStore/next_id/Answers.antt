@@ -1,6 +1,5 @@
 use Rattle.std.proofs.Common.{◌≤◌, ℕ, sym, ◌∙◌, subst}
 use Rattle.log_model.specs.Kept.{nodes_of}
-use Rattle.fb_roots.specs.Bases.{AreMadeOf}
 use Rattle.seg_store.proofs.roots.SegStoreRootStore.next_id.Goals as goal
 
 pub returns-clause-fit : goal.returns-clause-fit
