@@ -1,8 +1,7 @@
 -- What a database is that was opened on the history of a log, or was not.
-use Rattle.std.proofs.Common.{◌≡◌, ◌⊎◌, ◌∙◌, inl, inr, ⊎_elim, ℕ, List, Result, Ok, Err, refl, sym, ap, subst}
+use Rattle.std.proofs.Common.{◌≡◌, ◌⊎◌, inl, inr, ℕ, List, Result, Ok, Err, refl, sym, ap, subst}
 use Rattle.std.specs.Prelude.{IfOk, IfErr, Option}
 use Rattle.fb_values.specs.declared.facts.Entry.{Entry}
-use Rattle.fb_calls.specs.Faults.{Rose}
 use Rattle.fb_ports.specs.declared.hosts.Part.TheVariants.{Log, Segments}
 use Rattle.log_model.specs.Log.{IsLogOf}
 use Rattle.seg_store.specs.declared.loads.LoadFault.{LoadFault}

@@ -48,8 +48,8 @@ pub totals_more : (h : List Entry) (totals more : List ℕ) (t sum : ℕ) → mo
 totals_more h totals more t sum is long each last = (
   ap length is ∙ length-append totals (sum ∷ []) ∙ ap (λ n. n + 1) long,
   below_more _ t
-  (λ k below. ap (λ l. get_or l k 0) is ∙ get_or-append totals (sum ∷ []) 0 k (omega (arith, below, long)) ∙ each k below)
-  (ap (λ l. get_or l t 0) is ∙ ap (λ n. get_or (totals ++ sum ∷ []) n 0) (sym long) ∙ get_or-append_seam totals sum [] 0 ∙ last),
+      (λ k below. ap (λ l. get_or l k 0) is ∙ get_or-append totals (sum ∷ []) 0 k (omega (arith, below, long)) ∙ each k below)
+      (ap (λ l. get_or l t 0) is ∙ ap (λ n. get_or (totals ++ sum ∷ []) n 0) (sym long) ∙ get_or-append_seam totals sum [] 0 ∙ last),
 )
 
 -- the indexes by entity have them all

@@ -1,10 +1,10 @@
 -- Going down a list of kept roots.
-use Rattle.std.proofs.Common.{◌≡◌, ◌<◌, List, [], ◌∷◌, ◌++◌, map, refl, sym, ap, ◌∙◌, subst, arith, inl, inr, Some, None, append_assoc}
+use Rattle.std.proofs.Common.{◌≡◌, List, [], ◌∷◌, ◌++◌, map, refl, sym, ap, ◌∙◌, subst, arith, inl, inr, Some, None, append_assoc}
 use Rattle.std.specs.Prelude.{Contains}
 use Rattle.std.proofs.lemmas.List.{map-append}
 use Rattle.std.proofs.lemmas.List.Elements.{Contains-append_cases, Contains-append_left, Contains-push_cases, Contains-push}
 use Rattle.fb_values.specs.declared.facts.Entry.{Entry}
-use Rattle.log_model.specs.Kept.{KeptRoot, Agrees, NoneAgrees, IsNewestAgreeing}
+use Rattle.log_model.specs.Kept.{KeptRoot, Agrees, NoneAgrees}
 use Rattle.seg_store.specs.Loads.{kept_of}
 use Rattle.seg_store.specs.declared.loads.KeptTrees.{KeptTrees}
 use Rattle.seg_agree.specs.Newest.{IsNewest}
@@ -56,10 +56,9 @@ pub found_newest : (h : List Entry) (kept older left : List KeptTrees) (trees : 
     → older ≡ left ++ trees ∷ []
     → Agrees h (kept_of trees) → IsNewest h kept (Some trees)
 found_newest h kept older left trees passed popped agrees =
-    let place = place_at kept older left passed.newer trees passed.place popped in
-    (
+    let place = place_at kept older left passed.newer trees passed.place popped in (
       subst (λ l. Contains l trees) (sym (passed.place ∙ ap (λ l. l ++ passed.newer) popped))
-      (Contains-append_left (left ++ trees ∷ []) passed.newer trees (Contains-push left trees)),
+          (Contains-append_left (left ++ trees ∷ []) passed.newer trees (Contains-push left trees)),
       record {
         older = map kept_of left;
         newer = map kept_of passed.newer;

@@ -1,10 +1,10 @@
 -- Four trees are the indexes of the first entries of a history where each of them is.
-use Rattle.std.proofs.Common.{◌≡◌, ◌<◌, ◌≤◌, ◌+◌, ℕ, List, length, arith}
+use Rattle.std.proofs.Common.{◌<◌, ◌≤◌, ℕ, List, length, arith}
 use Rattle.fb_values.specs.declared.facts.Entry.{Entry}
 use Rattle.fb_values.specs.Lists.{list_in}
 use Rattle.fb_values.specs.declared.indexes.Order.{Order}
 use Rattle.fb_values.specs.declared.indexes.Order.TheVariants.{Eavt, Aevt, Avet, Vaet}
-use Rattle.fb_model.specs.History.{basis, upto}
+use Rattle.fb_model.specs.History.{upto}
 use Rattle.fb_model.specs.Lawful.{IsLawful}
 use Rattle.fb_model.proofs.LawfulHistories.{IsLawful-length}
 use Rattle.view_model.specs.Stands.{RootStands}

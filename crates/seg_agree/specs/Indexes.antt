@@ -1,6 +1,6 @@
 -- Lists of datoms beside an index of the first entries of a history.
 -- This project's own choice.
-use Rattle.std.specs.Prelude.{◌≡◌, ◌<◌, ◌+◌, ℕ, Bool, true, List, length, slice_index, All, IsTrue, Option, Some, None}
+use Rattle.std.specs.Prelude.{◌≡◌, ◌<◌, ℕ, Bool, true, List, length, slice_index, All, IsTrue, Option, Some, None}
 use Rattle.std.specs.Ordering.{is_lt}
 use Rattle.fb_values.specs.declared.facts.Datom.{Datom}
 use Rattle.fb_values.specs.declared.facts.Entry.{Entry}

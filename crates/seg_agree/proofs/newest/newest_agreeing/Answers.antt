@@ -1,7 +1,6 @@
-use Rattle.std.proofs.Common.{◌≡◌, ◌∙◌, List, ℕ, sym, subst, arith}
+use Rattle.std.proofs.Common.{◌∙◌, sym, arith}
 use Rattle.std.proofs.lemmas.Bool.{true≢false}
 use Rattle.std.proofs.lemmas.List.{nil_from_length}
-use Rattle.seg_agree.specs.Indexes.{AreTotals}
 use Rattle.seg_agree.proofs.Descending.{nothing_passed, passed_more, found_newest, none_newest}
 use Rattle.seg_agree.proofs.newest.newest_agreeing.Goals as goal
 

@@ -1,4 +1,4 @@
-use Rattle.std.proofs.Common.{◌≡◌, ◌∙◌, ap, sym, length, arith}
+use Rattle.std.proofs.Common.{◌≡◌, ◌∙◌, length, arith}
 use Rattle.seg_agree.proofs.Counting.{total_with, totals_more}
 use Rattle.seg_agree.proofs.totals.totals_of.Goals as goal
 

@@ -1,4 +1,4 @@
-use Rattle.std.proofs.Common.{◌≡◌, ◌≤◌, ◌∙◌, ap, sym, length, map, arith}
+use Rattle.std.proofs.Common.{◌∙◌, ap, sym, length, map, arith}
 use Rattle.std.specs.Arc.{arc_value}
 use Rattle.std.proofs.lemmas.List.{length-map}
 use Rattle.seg_tree.specs.Nodes.{LeafNode, leaf_datoms}

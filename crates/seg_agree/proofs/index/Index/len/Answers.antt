@@ -18,5 +18,5 @@ returns c =
     let at_end : c.loop-t.t ≡ c.args.self.now.c + 1 = omega arith in
     c.loop-t.invariant
     ∙ ap (λ n. length (filter (λ (d : Datom). held c.args.self.now.covers.now c.args.self.now.order d.a)
-        (said (take n c.args.self.now.entries.now)))) at_end
+    (said (take n c.args.self.now.entries.now)))) at_end
     ∙ held_len c.args.self.now.covers.now c.args.self.now.entries.now c.args.self.now.c c.args.self.now.order c.requires.covers

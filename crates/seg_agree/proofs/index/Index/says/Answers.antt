@@ -15,8 +15,7 @@ is_among-requires c =
 pub returns-then-d-self : goal.returns-then-d-self
 returns-then-d-self c =
     let h = c.args.self.now.entries.now in
-    let d = c.args.d.now in
-    (
+    let d = c.args.d.now in (
       (λ is. has_said_upto h c.args.self.now.c c.at.result.now d c.requires.lawful c.if-d-self.true c.at.ensures
           (subst (λ (ds : List Datom). Contains ds d) c.as_slice.ensures (c.is_among.ensures.0 is))),
       (λ member. c.is_among.ensures.1 (subst (λ (ds : List Datom). Contains ds d) (sym c.as_slice.ensures)
@@ -26,6 +25,9 @@ returns-then-d-self c =
 pub returns-else-d-self : goal.returns-else-d-self
 returns-else-d-self c = (
   (λ is. absurd (omega (arith, leb-true c.args.d.now.t c.args.self.now.c is, c.if-d-self.false))),
-  (λ member. absurd (omega (arith, c.if-d-self.false,
-      said_upto_early c.args.self.now.entries.now c.args.self.now.c c.args.d.now c.requires.lawful member))),
+  (λ member. absurd (omega (
+    arith,
+    c.if-d-self.false,
+    said_upto_early c.args.self.now.entries.now c.args.self.now.c c.args.d.now c.requires.lawful member,
+  ))),
 )
