@@ -1,13 +1,12 @@
 -- The log's disk after an opening, and what the trees and the store are that a database is opened with.
 -- This project's own choice.
-use Rattle.std.specs.Prelude.{◌≡◌, ◌⊎◌, ℕ, List, [], length, Option, Result, Ok, Err}
+use Rattle.std.specs.Prelude.{◌≡◌, ℕ, List, length, Option, Result, Ok, Err}
 use Rattle.std.specs.List.{range_with_len}
 use Rattle.fb_values.specs.declared.facts.Entry.{Entry}
 use Rattle.disk_model.specs.Disk.{WhereTold}
-use Rattle.view_model.specs.Stands.{RootStands}
 use Rattle.log_model.specs.Nodes.{Roots as FileRoots}
 use Rattle.log_model.specs.Kept.{KeptRoot, FileKeeps, NoneAgrees, IsCoverage, nodes_of}
-use Rattle.seg_tree.specs.Indexes.{root_ids, trees_of}
+use Rattle.seg_tree.specs.Indexes.{root_ids}
 use Rattle.seg_tree.specs.declared.roots.Roots.{Roots}
 use Rattle.seg_codec.specs.Trees.{AreTreesOf}
 use Rattle.seg_store.specs.Loads.{AreRecordsOf}
