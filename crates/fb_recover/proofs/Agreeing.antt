@@ -1,5 +1,5 @@
 -- The trees that a history is opened with: those of the newest root that it agrees with, or of its first entry.
-use Rattle.std.proofs.Common.{◌≡◌, ◌∙◌, inl, inr, ⊎_elim, ℕ, List, [], ◌∷◌, Option, Some, Result, Ok, Err, length, map, refl, sym, ap, subst}
+use Rattle.std.proofs.Common.{◌≡◌, ◌∙◌, ◌≤◌, ◌^◌, inl, inr, ⊎_elim, ℕ, List, [], ◌∷◌, Option, Some, Result, Ok, Err, length, map, refl, sym, ap, subst, arith}
 use Rattle.std.specs.Prelude.{Contains, IsTrue, IfOk}
 use Rattle.std.proofs.lemmas.Bool.{eqb-true}
 use Rattle.std.proofs.lemmas.List.{nil_from_length}
@@ -12,23 +12,29 @@ use Rattle.view_model.specs.Stands.{RootStands}
 use Rattle.log_model.specs.Nodes.{Roots as FileRoots}
 use Rattle.log_model.specs.Kept.{KeptRoot, FileKeeps, NoneAgrees, kept_roots, nodes_of, are_good}
 use Rattle.log_model.proofs.KeptRoots.{one_keeping}
-use Rattle.seg_tree.specs.Indexes.{trees_of}
+use Rattle.fb_journal.specs.Journals.{StaysTold}
+use Rattle.seg_tree.specs.Ids.{next_above}
+use Rattle.seg_tree.specs.Indexes.{root_ids, trees_of}
 use Rattle.seg_codec.specs.Trees.{AreTreesOf, Fits}
 use Rattle.seg_codec.proofs.Among.{mapped_member}
 use Rattle.seg_store.specs.declared.loads.KeptTrees.{KeptTrees}
 use Rattle.seg_store.specs.declared.loads.Loaded.{Loaded}
-use Rattle.seg_store.specs.Stores.{StoreKeeps}
+use Rattle.seg_store.specs.Stores.{disk_in, StoreKeeps}
 use Rattle.seg_store.specs.Loads.{kept_of, IsLoaded}
 use Rattle.seg_store.proofs.Fitting.{fits_none}
 use Rattle.seg_agree.specs.Newest.{IsNewest}
 use Rattle.fb_recover.specs.Openings.{AreNumberedFromOne}
 use Rattle.fb_recover.specs.Basing.{IsBased}
 use Rattle.fb_recover.specs.declared.basing.Based.{Based}
+use Rattle.fb_recover.proofs.Greatness.{great_there}
 use Rattle.fb_recover.proofs.Trees.{first-stands}
 
 pub IfOk-both : {T E : Type 0} (r : Result T E) (P Q : T → Type 0) → IfOk r P → IfOk r Q → IfOk r (λ x. P x × Q x)
 IfOk-both (Ok x) P Q p q = (p, q)
 IfOk-both (Err e) P Q p q = tt
+
+pub told_on : (first second third : Option (List ℕ)) → StaysTold first second → StaysTold second third → StaysTold first third
+told_on first second third begun later = λ file was. let then = begun file was in later then.0 then.1
 
 no_root_no_record : (records : List (List ℕ)) → kept_roots records ≡ [] → IsTrue (are_good records) → records ≡ []
 no_root_no_record records none good =
@@ -49,9 +55,10 @@ module _ {D : Type 0} {g : _} (bytes : D → Option (List ℕ)) (images : D → 
   -- the newest root that the history agrees with
   pub based_found : (loaded : Loaded D g) (trees : KeptTrees) → IsLoaded bytes images told loaded
       → WhereTold told (λ file. FileKeeps file (map kept_of loaded.kept.items))
+      → StaysTold told (bytes (disk_in loaded.store))
       → IsNewest h loaded.kept.items (Some trees)
       → IsBased bytes images told h (record { store = loaded.store; trees = trees })
-  based_found loaded trees is keeps newest =
+  based_found loaded trees is keeps stays newest =
       let member = newest.0 in
       let root = newest.1 in
       let there = All-contains (λ (k : KeptTrees). (ids : FileRoots) × AreTreesOf (nodes_of is.read) ids k.roots) loaded.kept.items trees
@@ -64,10 +71,12 @@ module _ {D : Type 0} {g : _} (bytes : D → Option (List ℕ)) (images : D → 
           fits = All-contains (λ (k : KeptTrees). Fits (nodes_of is.records) k.roots) loaded.kept.items trees is.fits member;
         };
         ids = inr (is.read, is.file, there.0, there.1);
+        great = λ file was above. (is.read, is.file file was, great_there (nodes_of is.read) there.0 trees.roots there.1 above);
         anew = λ file was none.
             let same = one_keeping file none.0 (map kept_of loaded.kept.items) none.1 (keeps file was) in
             let kept = subst (λ (roots : List KeptRoot). Contains roots (kept_of trees)) (sym same)
             (mapped_member kept_of loaded.kept.items trees member) in absurd (none.2 (kept_of trees) kept root.agrees);
+        stays = stays;
       }
 
   -- the first entry
@@ -76,12 +85,15 @@ module _ {D : Type 0} {g : _} (bytes : D → Option (List ℕ)) (images : D → 
       → NoneAgrees h (map kept_of loaded.kept.items)
       → StoreKeeps bytes images [] based.store
       → RootStands (trees_of based.trees.roots) (first_entry ∷ []) 0 × (based.trees.c ≡ 0)
-      → AreNumberedFromOne based.trees.roots → IsBased bytes images told h based
-  based_first loaded based lawful keeps none empty stands ids = record {
+      → AreNumberedFromOne based.trees.roots → next_above (root_ids based.trees.roots) ≤ 2 ^ 61
+      → StaysTold told (bytes (disk_in based.store)) → IsBased bytes images told h based
+  based_first loaded based lawful keeps none empty stands ids few stays = record {
     stands = subst (λ (c : ℕ). RootStands (trees_of based.trees.roots) h c) (sym stands.1)
         (first-stands (trees_of based.trees.roots) h lawful stands.0);
     coverage = λ file was. (map kept_of loaded.kept.items, keeps file was, inr (none, stands.1));
     fits = record { records = []; keeps = empty; fits = fits_none based.trees.roots };
     ids = inl ids;
+    great = λ file was above. absurd (omega (arith, above, few));
     anew = λ file was agrees. (ids, empty);
+    stays = stays;
   }

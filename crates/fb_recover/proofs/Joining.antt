@@ -13,7 +13,7 @@ use Rattle.fb_recover.specs.declared.faults.OpenFault.TheVariants.{Disk, BadLog,
 use Rattle.fb_recover.specs.declared.faults.OpenStop.{OpenStop}
 use Rattle.fb_recover.specs.declared.logging.Logged.{Logged}
 use Rattle.fb_recover.specs.declared.reopening.Opened.{Opened}
-use Rattle.fb_recover.specs.Faults.{fault_of_load, IsCause, CountsLog, CountsOpening}
+use Rattle.fb_recover.specs.Faults.{fault_of_load, IsCause, IsOfLog, CountsLog, CountsOpening}
 use Rattle.fb_recover.specs.Openings.{log_after}
 use Rattle.fb_recover.specs.Joining.{IsOpenedOn, IsStoppedOn}
 
@@ -46,6 +46,10 @@ behind-cause fault h file (inr is) held = subst (λ (f : OpenFault). IsCause f f
 pub behind-spares : (fault : OpenFault) (old new : ℕ) → IsBehindLog fault → new ≡ old → CountsOpening fault Log old new
 behind-spares fault old new (inl is) same = subst (λ (f : OpenFault). CountsOpening f Log old new) (sym is) same
 behind-spares fault old new (inr is) same = subst (λ (f : OpenFault). CountsOpening f Log old new) (sym is) same
+
+pub behind-apart : (fault : OpenFault) → IsBehindLog fault → IsOfLog fault → ⊥
+behind-apart fault (inl is) log = subst IsOfLog is log
+behind-apart fault (inr is) log = subst IsOfLog is log
 
 pub load-behind : (load : LoadFault) → IsBehindLog (fault_of_load load)
 load-behind LoadDisk = inr refl

@@ -1,5 +1,6 @@
 pub mod Agreeing
 pub mod Causes
+pub mod Greatness
 pub mod Joining
 pub mod Laws
 pub mod Reading

@@ -1,13 +1,14 @@
 -- The trees and the store that a history is opened with.
 -- This project's own choice.
-use Rattle.std.specs.Prelude.{◌⊎◌, ℕ, List, [], Option}
+use Rattle.std.specs.Prelude.{◌⊎◌, ◌<◌, ◌^◌, ℕ, List, [], Option}
 use Rattle.fb_values.specs.declared.facts.Entry.{Entry}
 use Rattle.disk_model.specs.Disk.{WhereTold}
 use Rattle.view_model.specs.Stands.{RootStands}
-use Rattle.seg_tree.specs.Indexes.{trees_of}
+use Rattle.seg_tree.specs.Ids.{next_above}
+use Rattle.seg_tree.specs.Indexes.{root_ids, trees_of}
 use Rattle.fb_journal.specs.Journals.{StaysTold}
 use Rattle.seg_store.specs.Stores.{disk_in as segments_in, StoreKeeps}
-use Rattle.seg_store.specs.Keeping.{FitsStore}
+use Rattle.seg_store.specs.Keeping.{HasGreatNode, FitsStore}
 use Rattle.fb_recover.specs.Openings.{AreNumberedFromOne, AreOfFile, HasCoverage, AgreesWithNone}
 use Rattle.fb_recover.specs.declared.basing.Based.{Based}
 
@@ -19,6 +20,8 @@ pub record IsBased {D : Type 0} {g : _} (bytes : D → Option (List ℕ)) (image
   pub coverage : WhereTold told (HasCoverage h based.trees.c)
   pub fits : FitsStore bytes images based.store based.trees.roots
   pub ids : AreNumberedFromOne based.trees.roots ⊎ AreOfFile told based.trees.roots
+  pub great : WhereTold told
+      (λ file. 2 ^ 61 < next_above (root_ids based.trees.roots) → HasGreatNode file)
   pub anew : WhereTold told (λ file. AgreesWithNone h file
       → AreNumberedFromOne based.trees.roots × StoreKeeps bytes images [] based.store)
-  pub told : StaysTold told (bytes (segments_in based.store))
+  pub stays : StaysTold told (bytes (segments_in based.store))

@@ -1,10 +1,11 @@
 //! The trees that a history is opened with, and the store whose file they fit.
-ghost use Rattle.std.specs.Prelude.{◌≡◌, [], ◌∷◌, ℕ, List, true, false, IfOk, MatchResult};
+ghost use Rattle.std.specs.Prelude.{◌≡◌, ◌≤◌, ◌^◌, [], ◌∷◌, ℕ, List, true, false, IfOk, MatchResult};
 ghost use Rattle.disk_model.specs.Disk.{WhereTold};
 ghost use Rattle.fb_model.specs.FirstEntry.{first_entry};
 ghost use Rattle.fb_model.specs.Lawful.{IsLawful};
 ghost use Rattle.view_model.specs.Stands.{RootStands};
-ghost use Rattle.seg_tree.specs.Indexes.{trees_of};
+ghost use Rattle.seg_tree.specs.Ids.{next_above};
+ghost use Rattle.seg_tree.specs.Indexes.{root_ids, trees_of};
 ghost use Rattle.seg_store.specs.Stores.{disk_in as segments_in, StoreKeeps};
 ghost use Rattle.fb_journal.specs.Journals.{StaysTold};
 ghost use Rattle.seg_store.specs.Loads.{CountsLoad};
@@ -69,6 +70,7 @@ fn of_first<D: Disk>(
     ensures stands { IfOk result
         (λ b. RootStands (trees_of b.trees.roots) (first_entry ∷ []) 0 × (b.trees.c ≡ 0)) }
     ensures ids { IfOk result (λ b. AreNumberedFromOne b.trees.roots) }
+    ensures few { IfOk result (λ b. next_above (root_ids b.trees.roots) ≤ 2 ^ 61) }
     ensures counted { MatchResult result
         (λ b. D.faults (segments_in b.store) ≡ D.faults (segments_in store))
         (λ s. CountsLoad s.fault (D.faults (segments_in store)) (D.faults s.disk)) }
@@ -114,7 +116,13 @@ fn emptied<D: Disk>(store: SegStore<D>, keeps_some: bool) -> Result<SegStore<D>,
 fn first_roots(alloc: Global) -> Result<Roots, Memory>
     ensures stands { IfOk result (λ roots. RootStands (trees_of roots) (first_entry ∷ []) 0) }
     ensures ids { IfOk result AreNumberedFromOne }
+    ensures few { IfOk result (λ roots. next_above (root_ids roots) ≤ 2 ^ 61) }
 {
     let first = Snapshot::first(alloc)?;
-    first.roots().share()
+    let roots = first.roots();
+    if roots.next_id() > 1 << 61 {
+        // No memory holds as many nodes.
+        return Err(Memory);
+    }
+    roots.share()
 }

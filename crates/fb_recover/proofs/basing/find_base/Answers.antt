@@ -1,14 +1,15 @@
 use Rattle.std.proofs.Common.{subst}
 use Rattle.std.proofs.lemmas.Result.{IfOk-weaker}
+use Rattle.seg_store.specs.Stores.{disk_in}
 use Rattle.seg_agree.specs.Newest.{IsNewest}
-use Rattle.fb_recover.proofs.Agreeing.{IfOk-both, based_found, based_first}
+use Rattle.fb_recover.proofs.Agreeing.{IfOk-both, told_on, based_found, based_first}
 use Rattle.fb_recover.proofs.basing.find_base.Goals as goal
 
 pub returns-in-Ok-Some-clause-based : goal.returns-in-Ok-Some-clause-based
 returns-in-Ok-Some-clause-based g c =
     let d = g.D.Disk in
     let load = c.in-Ok.ensures in
-    based_found d.bytes d.images (d.bytes c.args.segments) c.args.entries.now c.in-Ok.loaded c.in-Ok-Some.trees load.loaded load.kept
+    based_found d.bytes d.images (d.bytes c.args.segments) c.args.entries.now c.in-Ok.loaded c.in-Ok-Some.trees load.loaded load.kept load.told
     (subst (IsNewest c.args.entries.now c.in-Ok.loaded.kept.items) c.in-Ok-Some.field-0-is c.in-Ok-Some.ensures)
 
 pub returns-in-Ok-None-clause-based : goal.returns-in-Ok-None-clause-based
@@ -19,5 +20,8 @@ returns-in-Ok-None-clause-based g c =
     let none = subst (IsNewest c.args.entries.now c.in-Ok.loaded.kept.items) c.in-Ok-None.field-0-is c.in-Ok-None.ensures in
     IfOk-weaker c.of_first.result _ _
     (λ b has. based_first d.bytes d.images (d.bytes c.args.segments) c.args.entries.now c.in-Ok.loaded b c.requires load.kept none has.0
-    has.1.0 has.1.1)
-    (IfOk-both c.of_first.result _ _ first.empty (IfOk-both c.of_first.result _ _ first.stands first.ids))
+    has.1.0 has.1.1.0 has.1.1.1.0
+    (told_on (d.bytes c.args.segments) (d.bytes (disk_in c.in-Ok.loaded.store)) (d.bytes (disk_in b.store)) load.told has.1.1.1.1))
+    (IfOk-both c.of_first.result _ _ first.empty
+    (IfOk-both c.of_first.result _ _ first.stands
+    (IfOk-both c.of_first.result _ _ first.ids (IfOk-both c.of_first.result _ _ first.few first.told))))

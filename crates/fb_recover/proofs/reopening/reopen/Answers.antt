@@ -1,14 +1,17 @@
-use Rattle.std.proofs.Common.{[], ◌⊎◌, ◌∙◌, sym, ap, subst}
+use Rattle.std.proofs.Common.{[], ◌⊎◌, ◌∙◌, ◌<◌, ◌^◌, sym, ap, subst}
 use Rattle.std.proofs.lemmas.Result.{IfOk-weaker, IfErr-weaker, MatchResult-from_both}
 use Rattle.disk_model.specs.Disk.{LeavesOnly}
 use Rattle.log_model.specs.Log.{IsLogOf}
+use Rattle.fb_journal.specs.Journals.{StaysTold}
 use Rattle.fb_journal.specs.Readings.{LeavesBegun}
 use Rattle.disk_log.specs.Logs.{disk_in, count_in, KeepsHistory}
-use Rattle.seg_store.specs.Stores.{StoreKeeps}
+use Rattle.seg_tree.specs.Ids.{next_above}
+use Rattle.seg_tree.specs.Indexes.{root_ids}
+use Rattle.seg_store.specs.Stores.{disk_in as segments_in, StoreKeeps}
+use Rattle.seg_store.specs.Keeping.{HasGreatNode, FitsStore}
 use Rattle.fb_model.specs.History.{basis}
-use Rattle.seg_store.specs.Keeping.{FitsStore}
 use Rattle.fb_recover.specs.Openings.{AreNumberedFromOne, AreOfFile, HasCoverage, AgreesWithNone}
-use Rattle.fb_recover.proofs.Joining.{log-counts, log-spares, behind-cause, behind-spares, log-stays}
+use Rattle.fb_recover.proofs.Joining.{log-counts, log-spares, behind-cause, behind-spares, behind-apart, log-stays}
 use Rattle.fb_recover.proofs.reopening.reopen.Goals as goal
 
 pub returns-in-Ok-clause-history : goal.returns-in-Ok-clause-history
@@ -51,6 +54,14 @@ returns-in-Ok-clause-ids g c =
     (λ o is. subst (λ roots. AreNumberedFromOne roots ⊎ AreOfFile (g.D.Disk.bytes c.args.segments) roots) (sym is.joined.roots) is.is.ids)
     c.opened_on.ensures.opened
 
+pub returns-in-Ok-clause-great : goal.returns-in-Ok-clause-great
+returns-in-Ok-clause-great g c =
+    let d = g.D.Disk in
+    IfOk-weaker c.opened_on.result _ _
+    (λ o is. subst (λ roots. WhereTold (d.bytes c.args.segments) (λ file. 2 ^ 61 < next_above (root_ids roots) → HasGreatNode file))
+    (sym is.joined.roots) is.is.great)
+    c.opened_on.ensures.opened
+
 pub returns-in-Ok-clause-anew : goal.returns-in-Ok-clause-anew
 returns-in-Ok-clause-anew g c =
     let d = g.D.Disk in
@@ -87,6 +98,13 @@ returns-in-Ok-clause-told g c =
     (later.0, ap (λ log. g.D.Disk.bytes (disk_in log)) is.joined.log ∙ later.1))
     c.opened_on.ensures.opened
 
+pub returns-in-Ok-clause-segments_told : goal.returns-in-Ok-clause-segments_told
+returns-in-Ok-clause-segments_told g c =
+    let d = g.D.Disk in
+    IfOk-weaker c.opened_on.result _ _
+    (λ o is. subst (λ store. StaysTold (d.bytes c.args.segments) (d.bytes (segments_in store))) (sym is.joined.store) is.is.stays)
+    c.opened_on.ensures.opened
+
 pub returns-in-Ok-clause-why_not : goal.returns-in-Ok-clause-why_not
 returns-in-Ok-clause-why_not g c =
     IfErr-weaker c.opened_on.result _ _
@@ -108,6 +126,10 @@ returns-in-Ok-clause-segments_counted g c =
     MatchResult-from_both c.opened_on.result _ _
     (IfOk-weaker c.opened_on.result _ _ (λ o is. is.counted) c.opened_on.ensures.opened)
     (IfErr-weaker c.opened_on.result _ _ (λ s is. is.counted) c.opened_on.ensures.stopped)
+
+pub returns-in-Ok-clause-untouched : goal.returns-in-Ok-clause-untouched
+returns-in-Ok-clause-untouched g c =
+    IfErr-weaker c.opened_on.result _ _ (λ s is. λ log. absurd (behind-apart s.fault is.fault log)) c.opened_on.ensures.stopped
 
 pub returns-in-Ok-clause-any_moment : goal.returns-in-Ok-clause-any_moment
 returns-in-Ok-clause-any_moment g c = λ file told.
