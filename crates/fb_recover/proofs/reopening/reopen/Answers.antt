@@ -1,6 +1,6 @@
 use Rattle.std.proofs.Common.{[], ◌⊎◌, ◌∙◌, ◌<◌, ◌^◌, sym, ap, subst}
 use Rattle.std.proofs.lemmas.Result.{IfOk-weaker, IfErr-weaker, MatchResult-from_both}
-use Rattle.disk_model.specs.Disk.{LeavesOnly}
+use Rattle.disk_model.specs.Disk.{WhereTold, LeavesOnly}
 use Rattle.log_model.specs.Log.{IsLogOf}
 use Rattle.fb_journal.specs.Journals.{StaysTold}
 use Rattle.fb_journal.specs.Readings.{LeavesBegun}
