@@ -177,10 +177,10 @@ not_success (name ∷ names) (ended.Memory ∷ ends) stop end status line fails 
 -- where the status is 0, merging came to its end
 pub success_is_merged : (end : WorkEnd) (names : List (List ℕ)) (ends : List SessionEnd) (stop : Option ℕ) (status : ℕ)
     (line : List ℕ) → SaysWhy (why_of (first_early names ends) stop end) status line → status ≡ 0 → (end ≡ Shut) ⊎ (end ≡ Spent)
-success_is_merged Shut names ends stop status line says none = inl refl
-success_is_merged StoreFault names ends stop status line says none = absurd (not_success names ends stop StoreFault status line tt says none)
-success_is_merged Spent names ends stop status line says none = inr refl
-success_is_merged NoMemory names ends stop status line says none = absurd (not_success names ends stop NoMemory status line tt says none)
+success_is_merged Shut names hows stop status line says none = inl refl
+success_is_merged StoreFault names hows stop status line says none = absurd (not_success names hows stop StoreFault status line tt says none)
+success_is_merged Spent names hows stop status line says none = inr refl
+success_is_merged NoMemory names hows stop status line says none = absurd (not_success names hows stop NoMemory status line tt says none)
 
 -- ---- names that are those of scripts
 
@@ -387,7 +387,7 @@ module _ {I O D : Type 0} (told : Told) (tells : Tells I O) (disks : DiskTells D
           first = refl;
           last = subst IsSome (sym ends.last_is) refl;
           authors = ran.authors;
-          disks = ran.disks;
+          disks = ran.both;
         });
         console = console_why outcome no_console early (stop_of outcome.torn) ends.end;
       }

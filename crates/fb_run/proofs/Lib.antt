@@ -6,5 +6,5 @@ pub mod Directories
 pub mod Causing
 pub mod Completing
 pub mod Looks
-pub mod Merging
+pub mod Settling
 pub mod Crossing

@@ -260,8 +260,7 @@ module _ {D : Type 0} {g : _} (disks : DiskTells D) (begun log : DiskLog D g) (d
   leaves_log h (Some who) (Some draft) stands =
       let one : Some draft ≡ Some stands.1.0 = stands.1.1 in
       let same : draft ≡ stands.1.0 = cc in
-      subst (λ (d : Draft). LeavesLog disks (count_in begun) (disk_in begun) h (Some d) disk) (sym same)
-      (
+      subst (λ (d : Draft). LeavesLog disks (count_in begun) (disk_in begun) h (Some d) disk) (sym same) (
         record { lawful = stands.1.3; entries = stands.1.2; t = next_of h stands.1.0 stands.1.3 },
         broke begun h (entry_of stands.1.0) stands.1.4,
       )
@@ -368,5 +367,5 @@ module _ {I O D L R : Type 0} (terms : Terms) (tells : Tells I O) (conn : Conn L
             seats sessions talked count is_new closes.taken);
         ends = ends;
         authors = rw closes.authors_is refl;
-        disks = record { log = subst IsSome (sym left.log_is) refl; segments = subst IsSome (sym ends.segments_is) refl };
+        both = record { log = subst IsSome (sym left.log_is) refl; segments = subst IsSome (sym ends.segments_is) refl };
       }

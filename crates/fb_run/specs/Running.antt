@@ -115,4 +115,4 @@ pub record HaveEnded {I O D : Type 0} {g : _} (tells : Tells I O) (disks : DiskT
       outcome.sessions.items
   pub ends : EndsWith disks merge_at names begun outcome
   pub authors : IsSome outcome.authors
-  pub disks : HasDisks outcome
+  pub both : HasDisks outcome

@@ -185,7 +185,10 @@ pub(crate) fn connected<D: Disk>(
     ensures begun { IfOk result (λ made. begun_of made.conn ≡ directory.log) }
 {
     let Directory {
-        core, log, store, ..
+        core,
+        log,
+        store,
+        ..
     } = directory;
     let base = base_of(core.snapshot())?;
     let Made {

@@ -81,7 +81,14 @@ pub(crate) fn closed<R: Threads + Sync, I: Drop, O: Drop, D: Disk>(
         stopped: _,
         torn,
     } = conn.close(seats, seat);
-    let end = settled(rt, alloc, &mut core, &mut trees, end, command.options.merge_at);
+    let end = settled(
+        rt,
+        alloc,
+        &mut core,
+        &mut trees,
+        end,
+        command.options.merge_at,
+    );
     let (status, line) = said(
         alloc,
         command.scripts.as_slice(),

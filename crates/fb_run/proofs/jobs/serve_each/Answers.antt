@@ -27,7 +27,8 @@ beside-requires-send-J g c κs within =
 pub beside-requires-send-M : goal.beside-requires-send-M
 beside-requires-send-M g c κs within =
     let conn = Conn-sync (param 1 g.row.L) (param 9 g.row.L-Record) g.L.Log c.type_bounds.send-L in
-    let captures = type_at _ (ShrRef _ _ (param 0 g.row.R) ∷ ShrRef _ _ Global.the_row ∷ ShrRef _ _ (Conn.the_row (param 1 g.row.L) (param 8
+    let worker = Worker-send (param 8 g.row.D) g.D.Disk c.type_bounds.send-D in
+    let captures = type_at _ (ShrRef _ _ (param 0 g.row.R) ∷ ShrRef _ _ Global.the_row ∷ ShrRef _ _ (Conn.the_row (param 1 g.row.L) (param 9
     g.row.L-Record) g.L.Log)
     ∷ ShrRef _ _ (param 7 g.row.W) ∷ MutRef _ _ (Worker.the_row (param 8 g.row.D) g.D.Disk) ∷ []) in
     param_send 2 _ (arg_send _ no _ (declared_send captures (
@@ -36,7 +37,7 @@ beside-requires-send-M g c κs within =
         as_row_send (row_field _) (shr_send _ _ _ heap.sync),
         (
           as_row_send (row_field _) (shr_send _ _ _ conn),
-          (as_row_send (row_field _) (shr_send _ _ _ c.type_bounds.sync-W), (as_row_send (row_field _) (mut_send _ _ _ (Worker-send (param 8 g.row.D) g.D.Disk c.type_bounds.send-D)), tt)),
+          (as_row_send (row_field _) (shr_send _ _ _ c.type_bounds.sync-W), (as_row_send (row_field _) (mut_send _ _ _ worker), tt)),
         ),
       ),
     )))

@@ -2,7 +2,7 @@ use Rattle.std.proofs.Common.{sym, subst}
 use Rattle.command_line.specs.Views.{names_in}
 use Rattle.fb_run.specs.Outside.{tells_of, disks_of}
 use Rattle.fb_run.specs.Opening.{HasOpened, IsUnopened}
-use Rattle.fb_run.specs.Database.{AreUnharmed}
+use Rattle.fb_run.specs.Database.{LeaveLogUnharmed}
 use Rattle.fb_run.proofs.Directories.{opened_over, opened_unharmed, unready_later}
 use Rattle.fb_run.proofs.opening.open_run.Goals as goal
 
@@ -23,7 +23,7 @@ returns-in-Err-clause-stop g c =
     let new = g.H.Host.told c.open_all.new.host in
     let dir = c.args.command.now.directory.now in
     let not = subst (λ l. IsUnopened (names_in l) mid new c.in-Err.why) c.as_slice.ensures.value c.in-Err.ensures.stop in
-    let both = subst (λ d. AreUnharmed old disks dir d) (sym c.into_disks.ensures)
+    let both = subst (λ d. LeaveLogUnharmed old disks dir d) (sym c.into_disks.ensures)
     (opened_unharmed old disks dir c.in_ok-directory.directory c.in_ok-directory.ensures.opened) in
     unready_later disks dir (names_in c.args.command.now.scripts.items) old mid new c.into_disks.result c.in-Err.why
     c.in_ok-directory.ensures.streams.faults both not

@@ -1,7 +1,7 @@
-use Rattle.std.proofs.Common.{◌∙◌, ap, subst, refl, Some, map}
+use Rattle.std.proofs.Common.{◌≡◌, ◌∙◌, ap, subst, refl, Some, map}
 use Rattle.std.specs.Prelude.{IfSome, string_bytes}
 use Rattle.fb_session.specs.Sessions.{terms_of}
-use Rattle.command_line.specs.Words.{command_of, scripts_of}
+use Rattle.command_line.specs.Words.{command_of, scripts_of, merge_at_of}
 use Rattle.command_line.specs.Views.{run_by}
 use Rattle.fb_run.specs.Outside.{tells_of, disks_of}
 use Rattle.fb_model.specs.History.{upto}
@@ -10,6 +10,7 @@ use Rattle.log_model.specs.Log.{IsLogOf}
 use Rattle.fb_ports.specs.declared.hosts.Part.TheVariants as part
 use Rattle.fb_run.specs.Causes.{directory_of}
 use Rattle.fb_run.specs.Logs.{LogHolds}
+use Rattle.fb_run.specs.Merging.{GoAsFar, IsMerged}
 use Rattle.fb_run.specs.Headline.{stop_of, EachReplies}
 use Rattle.fb_run.specs.Complete.{Complete}
 use Rattle.fb_run.proofs.Causing.{caused_by_usage, caused_by_words, says_line, says_memory}
@@ -46,6 +47,26 @@ returns-in-Ok-Some-Run-clause-log g c =
     subst (λ command. IfSome r.last (λ last. IfSome r.log (LogHolds (g.H.Host.told c.args.host.now) disks (directory_of command)
     last.entries r.recovered r.torn)))
     (is ∙ ap (λ ws. command_of (map string_bytes ws)) c.as_slice.ensures.value) c.run_command.ensures.log
+
+pub returns-in-Ok-Some-Run-clause-coverage : goal.returns-in-Ok-Some-Run-clause-coverage
+returns-in-Ok-Some-Run-clause-coverage g c =
+    let disks = disks_of g.H.Disk.Disk.bytes g.H.Disk.Disk.faults g.H.Disk.Disk.images g.H.Disk.Disk.moment g.H.Disk.Disk.images_since in
+    let some = rw c.in-Ok-Some-Run.field-0-is at c.in-Ok-Some-Run.ensures.asks in
+    let is = rw c.in-Ok-Some-Run.field-0-0-is at some in
+    let r = c.run_command.result in
+    subst (λ command. IfSome r.last (λ last. IfSome r.segments (GoAsFar (g.H.Host.told c.args.host.now) disks (directory_of command)
+    (upto last.entries r.recovered) last)))
+    (is ∙ ap (λ ws. command_of (map string_bytes ws)) c.as_slice.ensures.value) c.run_command.ensures.coverage
+
+pub returns-in-Ok-Some-Run-clause-merged : goal.returns-in-Ok-Some-Run-clause-merged
+returns-in-Ok-Some-Run-clause-merged g c =
+    let disks = disks_of g.H.Disk.Disk.bytes g.H.Disk.Disk.faults g.H.Disk.Disk.images g.H.Disk.Disk.moment g.H.Disk.Disk.images_since in
+    let some = rw c.in-Ok-Some-Run.field-0-is at c.in-Ok-Some-Run.ensures.asks in
+    let is = rw c.in-Ok-Some-Run.field-0-0-is at some in
+    let r = c.run_command.result in
+    subst (λ command. IfSome r.last (λ last. r.status ≡ 0 → IfSome (merge_at_of command) (λ merge_at. IfSome r.segments
+    (IsMerged (g.H.Host.told c.args.host.now) disks (directory_of command) merge_at last))))
+    (is ∙ ap (λ ws. command_of (map string_bytes ws)) c.as_slice.ensures.value) c.run_command.ensures.merged
 
 pub returns-in-Ok-Some-Run-clause-complete : goal.returns-in-Ok-Some-Run-clause-complete
 returns-in-Ok-Some-Run-clause-complete g c =

@@ -7,7 +7,7 @@ use Rattle.fb_run.specs.Logs.{IsUnharmed}
 use Rattle.fb_run.proofs.Lists.{each_len, none_then}
 use Rattle.fb_run.specs.Merging.{trees_in}
 use Rattle.fb_run.proofs.Directories.{run_opens, run_logs}
-use Rattle.fb_run.proofs.Merging.{run_covers, run_merges}
+use Rattle.fb_run.proofs.Settling.{run_covers, run_merges}
 use Rattle.fb_run.proofs.Causing.{few_scripts, replies_told, caused_by_sessions, caused_by_unready, unready_unharmed}
 use Rattle.fb_run.proofs.top.run_command.Goals as goal
 

@@ -1,6 +1,6 @@
 -- What becomes of a run's trees, from the opening to the end.
 use Rattle.std.proofs.Common.{◌≡◌, ◌⊎◌, ◌<◌, ◌≤◌, ◌^◌, inl, inr, ℕ, Bool, true, false, List, ◌++◌, Option, Some, None, refl, sym, ap, ◌∙◌, subst, arith}
-use Rattle.std.specs.Prelude.{IfSome, nat_lt}
+use Rattle.std.specs.Prelude.{IfSome, nat_lt, map, string_bytes}
 use Rattle.std.proofs.lemmas.Bool.{ltb-true, ltb-false}
 use Rattle.std.proofs.lemmas.Option.{IfSome_then}
 use Rattle.fb_calls.specs.Faults.{Rose}
@@ -31,6 +31,7 @@ use Rattle.fb_run.specs.declared.outcome.SessionOut.{SessionOut}
 use Rattle.fb_run.specs.declared.outcome.Outcome.{Outcome}
 use Rattle.fb_run.specs.Outside.{Tells, DiskTells}
 use Rattle.fb_run.specs.Database.{IsOpened}
+use Rattle.fb_run.specs.Headline.{stop_of}
 use Rattle.fb_run.specs.Causes.{NoSession, IsOutOfMemory}
 use Rattle.fb_run.specs.Merging.{TreesStand, TreesFit, trees_in, CountsMerges, HaveMerged, NumbersAreUsedUp, HaveSettled, LeavesTrees, GoAsFar, IsMerged}
 use Rattle.fb_run.specs.Running.{GoesOnFrom, EndsWith, HaveEnded}
@@ -162,7 +163,7 @@ module _ {D : Type 0} {g : _} (told : Told) (disks : DiskTells D) (dir : List �
       let held = opened.segments.bytes ∙ is in
       elim trees.covers [
         | inl same ↦ inl (subst (λ (h : List Entry). HasCoverage h last.covered file) (sym begins)
-          (subst (λ (c : ℕ). HasCoverage directory.core.snapshot.entries c file) (sym same) (opened.reopened.coverage file held)))
+            (subst (λ (c : ℕ). HasCoverage directory.core.snapshot.entries c file) (sym same) (opened.reopened.coverage file held)))
         | inr left ↦ let then = opened.reopened.segments_told file held in inr (left then.0 then.1)
       ]
 
@@ -205,7 +206,8 @@ module _ {I O D : Type 0} {g : _} (told : Told) (tells : Tells I O) (disks : Dis
       let e = ends l is in
       let leaves = subst (λ (k : Kept). LeavesTrees disks merge_at (trees_in directory) e.0.end k e.0.segments) e.1 e.0.trees in
       subst (λ (o : Option D). IfSome o (IsMerged told disks dir merge_at l)) (sym e.0.segments_is)
-      (none_due told disks dir directory opened merge_at e.0.end l e.0.segments leaves (success_is_merged e.0.end _ _ _ _ _ e.0.says success))
+      (none_due told disks dir directory opened merge_at e.0.end l e.0.segments leaves (success_is_merged e.0.end names (map (λ (s : SessionOut I O). s.end)
+      outcome.sessions.items) (stop_of outcome.torn) outcome.status (string_bytes outcome.line) e.0.says success))
 
   pub run_merges : IfSome outcome.last (λ l. outcome.status ≡ 0 → IfSome outcome.segments (IsMerged told disks dir merge_at l))
   run_merges = merged_by outcome.last refl

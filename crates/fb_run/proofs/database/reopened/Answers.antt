@@ -1,0 +1,24 @@
+use Rattle.std.proofs.Common.{subst}
+use Rattle.fb_recover.specs.Openings.{HasCoverage}
+use Rattle.fb_run.proofs.database.reopened.Goals as goal
+
+pub returns-in-Ok-clause-opened : goal.returns-in-Ok-clause-opened
+returns-in-Ok-clause-opened g c =
+    let e = c.in-Ok.ensures in
+    record {
+      history = e.history;
+      core = e.core.0;
+      fresh = e.core.1;
+      recovered = e.recovered;
+      keeps = e.keeps;
+      count = e.count;
+      told = e.told;
+      unfailed = e.counted;
+      any_moment = e.any_moment_stands;
+      unharmed = e.any_moment;
+      coverage = λ file told. subst (λ n. HasCoverage c.in-Ok.field-0.core.snapshot.entries n file) e.covered (e.coverage file told);
+      fit = e.fits;
+      great = e.great;
+      segments_told = e.segments_told;
+      segments_unfailed = e.segments_counted;
+    }
