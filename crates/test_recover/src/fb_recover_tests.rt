@@ -1,6 +1,7 @@
 //! The documented log, as it is and with bytes changed, opened as a database.
 use fb_disk::{Disk, MemDisk};
 use fb_memory::Memory;
+use fb_ports::Part;
 use fb_recover::{OpenFault, reopen};
 use std::alloc::Global;
 use std::test::Fail;
@@ -59,11 +60,12 @@ fn changed(changes: &[(usize, u8)]) -> [u8; 92] {
 
 /// What opening a disk with these bytes tells.
 fn told(alloc: Global, bytes: &[u8]) -> Result<Result<u32, OpenFault>, Memory> {
-    let mut disk = MemDisk::new(alloc, 1_000, Vec::new(alloc))?;
-    if disk.write_at(0, bytes).is_err() {
-        return Ok(Err(OpenFault::Disk));
+    let mut log = MemDisk::new(alloc, 1_000, Vec::new(alloc))?;
+    let segments = MemDisk::new(alloc, 1_000, Vec::new(alloc))?;
+    if log.write_at(0, bytes).is_err() {
+        return Ok(Err(OpenFault::Disk { which: Part::Log }));
     }
-    Ok(match reopen(alloc, disk) {
+    Ok(match reopen(alloc, log, segments) {
         Ok(opened) => Ok(opened.recovered),
         Err(stop) => Err(stop.fault),
     })

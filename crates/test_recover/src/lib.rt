@@ -3,6 +3,5 @@
 
 #[cfg(test)]
 mod fb_recover_tests;
-
 #[cfg(test)]
 mod seg_agree_tests;
