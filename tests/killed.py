@@ -3,9 +3,10 @@ holds what was answered.
 
     python3 tests/killed.py PROGRAM [KILLS]
 
-Each run goes on in the directory of the one before. Session k of run r adds the documents `r-k-0`, `r-k-1`, .. one by one. After a kill
-the history must hold, of each session, every document that was answered and at most one more, in order, and everything that it
-held before. The last line says how many transactions were found, and how often the one more was there.
+Each run goes on in the directory of the one before, and merges often. Session k of run r adds the documents `r-k-0`, `r-k-1`, .. one by
+one. After a kill the history must hold, of each session, every document that was answered and at most one more, in order, and everything
+that it held before. The last line says how many transactions were found, how often the one more was there, and of how many the last kill
+left trees.
 """
 import os
 import random
@@ -17,6 +18,7 @@ import time
 
 SESSIONS = 2
 MOST = 2000
+MERGE_AT = 100
 
 
 def script(run, session):
@@ -33,7 +35,8 @@ def killed(program, folder, run, after):
             file.write(script(run, session))
         if os.path.exists(names[-1] + ".out"):
             os.remove(names[-1] + ".out")
-    running = subprocess.Popen([program, "run", os.path.join(folder, "data"), *names])
+    words = ["run", "--merge-at", str(MERGE_AT), os.path.join(folder, "data"), *names]
+    running = subprocess.Popen([program, *words])
     time.sleep(after)
     running.kill()
     running.wait()
@@ -61,6 +64,13 @@ def documents(program, folder):
     found = re.findall(rb':db/doc "(\d+-\d+-\d+)" (\d+) true', done.stdout)
     found.sort(key=lambda pair: int(pair[1]))
     return [doc.decode() for doc, _ in found], basis
+
+
+def covered(program, folder):
+    """How many of the transactions stand in trees that were kept."""
+    done = subprocess.run([program, "check", os.path.join(folder, "data")], capture_output=True,
+                          check=True)
+    return int(re.match(rb"{:basis \d+ :covered (\d+)}", done.stdout).group(1))
 
 
 def judge(before, now, run, counts):
@@ -92,7 +102,9 @@ def main():
                 sys.exit(f"run {run}: {len(now)} documents at basis {basis}")
             more += judge(before, now, run, counts)
             before = now
-    print(f"killed {kills} times: {len(before)} transactions, {more} of them unanswered")
+        kept = covered(program, folder)
+    print(f"killed {kills} times: {len(before)} transactions, {more} of them unanswered, "
+          f"{kept} in kept trees")
 
 
 main()
