@@ -5,7 +5,7 @@ use Rattle.std.specs.Prelude.{Result}
 use Rattle.std.specs.Result.{OkIff}
 use Rattle.std.specs.Str.{all_ascii_digits}
 use Rattle.std.specs.Str.Parse.{digits_value, ParsesUnsigned}
-use Rattle.command_line.specs.Words.{begins_above_zero, number_in}
+use Rattle.command_line.specs.Words.{begins_above_zero, number_up_to}
 
 abbrev pub IsDigits : List ℕ → Type 0
 IsDigits word = all_ascii_digits word ≡ true
@@ -22,19 +22,22 @@ pub parses : {E : Type 0} (word : List ℕ) (r : Result ℕ E) → ParsesUnsigne
 parses word r parsed begins = parse_plain own 64 word r parsed (no_plus word begins)
 
 -- what is read of such a word, by whether it is all digits and not too great
-pub no_number : (word : List ℕ) → (all_ascii_digits word ≡ true → 1 ≤ digits_value 10 word → digits_value 10 word ≤ 1000000 → ⊥) → None ≡
-    number_in word
-no_number word not = grind arith
+pub no_number : (greatest : ℕ) (word : List ℕ)
+    → (all_ascii_digits word ≡ true → 1 ≤ digits_value 10 word → digits_value 10 word ≤ greatest → ⊥)
+    → None ≡ number_up_to greatest word
+no_number greatest word not = grind arith
 
-pub a_number : (word : List ℕ) (n : ℕ) → begins_above_zero word ≡ true → all_ascii_digits word ≡ true → n ≡ digits_value 10 word → 1 ≤ n →
-    n ≤ 1000000
-    → Some n ≡ number_in word
-a_number word n begins digits is least most = grind arith
+pub a_number : (greatest : ℕ) (word : List ℕ) (n : ℕ) → begins_above_zero word ≡ true → all_ascii_digits word ≡ true
+    → n ≡ digits_value 10 word → 1 ≤ n → n ≤ greatest
+    → Some n ≡ number_up_to greatest word
+a_number greatest word n begins digits is least most = grind arith
 
 nonempty : (word : List ℕ) → begins_above_zero word ≡ true → 0 < length word
 nonempty [] begins = absurd (cc)
 nonempty (c ∷ cs) begins = omega arith
 
-pub none_parsed : (word : List ℕ) → begins_above_zero word ≡ true → ¬ (IsDigits word × (0 < length word) × (digits_value 10 word < 2 ^ 64))
-    → None ≡ number_in word
-none_parsed word begins none = no_number word (λ digits least most. none (digits, nonempty word begins, omega (arith, most)))
+pub none_parsed : (greatest : ℕ) (word : List ℕ) → greatest < 2 ^ 64 → begins_above_zero word ≡ true
+    → ¬ (IsDigits word × (0 < length word) × (digits_value 10 word < 2 ^ 64))
+    → None ≡ number_up_to greatest word
+none_parsed greatest word small begins none =
+    no_number greatest word (λ digits least most. none (digits, nonempty word begins, omega (arith, most)))

@@ -6,5 +6,5 @@ pub mod Walks
 pub mod RunSpots
 pub mod RunSteps
 pub mod RunWords
-pub mod CheckWords
+pub mod NameWords
 pub mod Reading

@@ -4,9 +4,9 @@ use Rattle.std.specs.Option.{option_map}
 use Rattle.std.specs.Prelude.{String, option_and_then}
 use Rattle.clap.specs.Words.{App, Row, Text, found_of, is_simple_and_free, rows_of}
 use Rattle.clap.specs.declared.parser.matches.ArgMatches.{ArgMatches}
-use Rattle.command_line.specs.Words.{check_of, command_from, start, walked}
-use Rattle.command_line.specs.ByClap.{check_app, check_told, run_app, run_told, told}
-use Rattle.command_line.proofs.CheckWords.{check_words}
+use Rattle.command_line.specs.Words.{one_name, command_from, start, walked}
+use Rattle.command_line.specs.ByClap.{name_app, name_told, run_app, run_told, told}
+use Rattle.command_line.proofs.NameWords.{name_words}
 use Rattle.command_line.proofs.Dashes.{are_texts}
 use Rattle.command_line.proofs.RunWords.{run_words}
 
@@ -24,7 +24,7 @@ module _ {Z : Type 0} (app : App) (words : List (String Z)) (got m : Option ArgM
       ap (λ o. option_and_then run_told (rows_in o)) (sym is) ∙ ap (option_and_then run_told) (by (ap is_simple_and_free e))
       ∙ ap (λ a. option_and_then run_told (told a (map string_bytes words))) e ∙ run_words (map string_bytes words) (are_texts words)
 
-  pub check_reads : app ≡ check_app → option_and_then check_told (rows_in m) ≡ check_of (map string_bytes words)
-  check_reads e =
-      ap (λ o. option_and_then check_told (rows_in o)) (sym is) ∙ ap (option_and_then check_told) (by (ap is_simple_and_free e))
-      ∙ ap (λ a. option_and_then check_told (told a (map string_bytes words))) e ∙ check_words (map string_bytes words) (are_texts words)
+  pub name_reads : app ≡ name_app → option_and_then name_told (rows_in m) ≡ one_name (map string_bytes words)
+  name_reads e =
+      ap (λ o. option_and_then name_told (rows_in o)) (sym is) ∙ ap (option_and_then name_told) (by (ap is_simple_and_free e))
+      ∙ ap (λ a. option_and_then name_told (told a (map string_bytes words))) e ∙ name_words (map string_bytes words) (are_texts words)

@@ -9,7 +9,7 @@ use Rattle.clap.specs.Faults.{check_fault, defaults_fault, walk_fault}
 use Rattle.clap.specs.Simple.{built, matches_of}
 use Rattle.clap.specs.declared.error.kind.ErrorKind.TheVariants.{ArgumentConflict}
 use Rattle.clap.proofs.FaultLemmas.{leaf_fault}
-use Rattle.command_line.specs.Words.{Anywhere, AtNumber, BehindOptions, Command, Place, Progress, command_from, command_with, is_name, merge_at_in, merge_at_is, number_in, numbered, start, walked as goes}
+use Rattle.command_line.specs.Words.{Anywhere, AtNumber, BehindOptions, Command, Place, Progress, command_from, command_with, is_name, merge_at_in, merge_at_is, greatest_merge_at, number_up_to, numbered, start, walked as goes}
 use Rattle.command_line.specs.ByClap.{run_app, run_told, told, without_fault}
 use Rattle.command_line.proofs.Dashes.{AreTexts, IsNameWord, IsStray, Meaning, asks, ends, meaning_of, naming, says, stray}
 use Rattle.command_line.proofs.RunSpots.{Has, IsIdle, Spot, Stands, asking, at, idle_after, one_option, rested, rows_at, rules, second_number, shape, stands_by_name, stands_by_number, stands_rested, waiting_after, with_name, with_number}
@@ -40,7 +40,7 @@ stepped is_end is_option says_it is_name names number word =
     (cond says_it (numbered (progress Anywhere names number) (drop (length merge_at_is) word))
     (cond is_name (Some (progress Anywhere (names ++ word ∷ []) number)) None)))
 
-module _ (v : Text) (bad : number_in v ≡ None) where
+module _ (v : Text) (bad : number_up_to greatest_merge_at v ≡ None) where
   bad_step : (a b c d : Bool) (names : List Text) (word : Text) (words : List Text)
       → ((place : Place) (names : List Text) → reads place names (Some v) words ≡ None)
       → command_from (goes (stepped a b c d names (Some v) word) words) ≡ None
@@ -140,7 +140,7 @@ stray_reads names number word words is = sym ((λ i.
     command_from (goes (stepped (is.other.end i) (is.other.option i) (is.other.says i) (is.is i) names number word) words))
     ∙ ap command_from (refused words))
 
-no_number_reads : (names : List Text) (number : Option Text) (word : Text) (words : List Text) → number_in word ≡ None
+no_number_reads : (names : List Text) (number : Option Text) (word : Text) (words : List Text) → number_up_to greatest_merge_at word ≡ None
     → None ≡ reads AtNumber names number (word ∷ words)
 no_number_reads names None word words bad = sym (stays_bad word bad words Anywhere names)
 no_number_reads names (Some first) word words bad = sym (ap command_from (refused words))

@@ -1,14 +1,13 @@
 -- What a parse says of the matches and of the faults.
 use Rattle.std.proofs.Common.{◌≡◌, ◌∙◌, true, refl, sym, ap, List, [], ◌∷◌, Option, Some, None, codes}
 use Rattle.std.specs.Option.{option_map}
-use Rattle.std.specs.Borrow.{Bor}
 use Rattle.clap.specs.Words.{App, HasMatchesOf, IsAmong, Kinds, Row, Text, fault_of, first_value, found_of, is_simple_and_free, matched_of, matches_of, raw_values, rows_of}
 use Rattle.clap.specs.declared.error.kind.ErrorKind.{ErrorKind}
 use Rattle.clap.specs.declared.parser.matches.ArgMatches.{ArgMatches}
 use Rattle.clap.proofs.WalkLemmas.{both, first_value-rows, raw_values-rows}
 use Rattle.clap.specs.declared.parser.matches.Found.{Found}
 use Rattle.command_line.specs.ByClap.{run_told, run_with, told, without_fault}
-use Rattle.command_line.specs.Words.{check, merge_at_in}
+use Rattle.command_line.specs.Words.{merge_at_in}
 
 pub told_matches : (a : App) (words : List Text) (m : ArgMatches) → is_simple_and_free a ≡ true → fault_of a words ≡ []
     → HasMatchesOf a words m
@@ -30,8 +29,3 @@ asks_for f directory scripts number d s n =
     let s_is = s ∙ raw_values-rows f (codes "SCRIPT") in
     let n_is = n ∙ first_value-rows f (codes "merge-at") in
     λ i. run_with (d_is i) (s_is i) (merge_at_in (n_is i))
-
--- the text behind a reference, if there is one
-pub checks : (d : Option (Bor Text)) → option_map (λ s. check s.now) d ≡ option_map check (option_map (λ s. s.now) d)
-checks None = refl
-checks (Some d) = refl

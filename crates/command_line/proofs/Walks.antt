@@ -7,7 +7,6 @@ use Rattle.clap.specs.Simple.{Shape}
 use Rattle.clap.specs.Kinds.{Kinds, or_else}
 use Rattle.clap.specs.Faults.{check_fault, defaults_fault, settle_fault, turn_fault, walk_fault}
 use Rattle.clap.specs.declared.error.kind.ErrorKind.{ErrorKind}
-use Rattle.command_line.specs.Words.{Command}
 use Rattle.command_line.specs.ByClap.{without_fault}
 use Rattle.command_line.proofs.Dashes.{held}
 
@@ -24,20 +23,20 @@ pub first_fails : (a b : Kinds) (k : ErrorKind) (ks : Kinds) → a ≡ k ∷ ks 
 first_fails a b k ks e = ap (λ x. or_else x b) e
 
 -- what the rows ask for
-module _ (shape : Shape) (ask : List Row → Option Command) where
+module _ {A : Type 0} (shape : Shape) (ask : List Row → Option A) where
   -- what is left to do behind the words, by the faults of the walk and of what is pending
-  abbrev pub ends_by : Kinds → Kinds → Held → Option Command
+  abbrev pub ends_by : Kinds → Kinds → Held → Option A
   ends_by of_walk of_pending end =
       let rows = (settled shape.rules end).rows in
       let given = finished shape.rules end in
       let fault = or_else of_walk (or_else of_pending (or_else (defaults_fault rows shape.rules) (check_fault shape given false))) in
       option_and_then ask (without_fault fault given)
 
-  abbrev pub comes_of : Kinds → Held → Option Command
+  abbrev pub comes_of : Kinds → Held → Option A
   comes_of of_walk end = ends_by of_walk (settle_fault shape.rules false end) end
 
   -- what comes of the words from there on
-  abbrev pub outcome : Walk → List Text → Option Command
+  abbrev pub outcome : Walk → List Text → Option A
   outcome w words = comes_of (walk_fault shape [] w words) (fold (walked shape.rules []) w words).held
 
   pub passes : (w after : Walk) (word : Text) (words : List Text) → turn_fault shape [] w word ≡ [] → walked shape.rules [] w word ≡ after

@@ -1,10 +1,9 @@
 -- The commands of `clap` that read the words behind a verb, and what is taken from their matches.
 -- This project's own choice.
 use Rattle.std.specs.Prelude.{true, List, [], ◌∷◌, Option, Some, None, ℕ, codes}
-use Rattle.std.specs.Option.{option_map}
 use Rattle.clap.specs.Words.{App, Row, Rule, Text, all_of, first_of, fault_of, matches_of, new_app, new_rule, with_rule, Kinds}
 use Rattle.clap.specs.declared.builder.ArgAction.TheVariants.{Set, Append}
-use Rattle.command_line.specs.Words.{Command, check, command_with, merge_at_in}
+use Rattle.command_line.specs.Words.{Command, command_with, merge_at_in}
 
 -- no program's name in front, and neither `--help` nor `--version`
 abbrev pub plain_app : Text → App
@@ -34,8 +33,12 @@ run_app =
     with_rule (with_rule (with_rule (plain_app (codes "run")) merge_at_rule) directory_rule)
     script_rule
 
-abbrev pub check_app : App
-check_app = with_rule (plain_app (codes "check")) directory_rule
+-- one name, behind `check` and `load`
+abbrev pub name_rule : Rule
+name_rule = record (new_rule (codes "NAME")) { required = true }
+
+abbrev pub name_app : App
+name_app = with_rule (plain_app (codes "factbase")) name_rule
 
 -- the matches where there is no fault
 abbrev pub without_fault : Kinds → List Row → Option (List Row)
@@ -55,6 +58,6 @@ abbrev pub run_told : List Row → Option Command
 run_told rows = run_with (first_of (codes "DIR") rows) (all_of (codes "SCRIPT") rows)
     (merge_at_in (first_of (codes "merge-at") rows))
 
--- the look that they ask for
-abbrev pub check_told : List Row → Option Command
-check_told rows = option_map check (first_of (codes "DIR") rows)
+-- the name that they have
+abbrev pub name_told : List Row → Option Text
+name_told = first_of (codes "NAME")

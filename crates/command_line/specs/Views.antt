@@ -4,8 +4,8 @@ use Rattle.std.specs.Prelude.{◌≡◌, ◌≤◌, ℕ, true, List, map}
 use Rattle.std.specs.Borrow.{Bor}
 use Rattle.command_line.specs.declared.commands.Run.{Run}
 use Rattle.command_line.specs.declared.commands.Request.{Request}
-use Rattle.command_line.specs.declared.commands.Request.TheVariants.{Run as Runs, Check as Checks}
-use Rattle.command_line.specs.Words.{Command, run, check, are_scripts}
+use Rattle.command_line.specs.declared.commands.Request.TheVariants.{Run as Runs, Check as Checks, Load as Loads}
+use Rattle.command_line.specs.Words.{Command, run, check, load, are_scripts}
 
 -- the texts behind references
 abbrev pub names_in : List (Bor (List ℕ)) → List (List ℕ)
@@ -17,8 +17,10 @@ run_by r = run r.options r.directory.now (names_in r.scripts.items)
 abbrev pub command_by : Request → Command
 command_by (Runs r) = run_by r
 command_by (Checks directory) = check directory.now
+command_by (Loads count) = load count
 
 -- its scripts may run together, and merges become due
 abbrev pub CanRun : Request → Type 0
 CanRun (Runs r) = (are_scripts (names_in r.scripts.items) ≡ true) × (1 ≤ r.options.merge_at)
 CanRun (Checks directory) = Unit {0}
+CanRun (Loads count) = Unit {0}

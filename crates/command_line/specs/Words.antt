@@ -1,7 +1,8 @@
 -- What the words of a command line ask for.
 -- This project's own choice.
-use Rattle.std.specs.Prelude.{ℕ, ◌==◌, Bool, true, false, not, ◌&&◌, ◌||◌, List, [], ◌∷◌, ◌++◌, Option, Some, None, is_some, length, drop, take, if◌then◌else◌, nat_eq, nat_lt, nat_le, bytes_eq, codes}
+use Rattle.std.specs.Prelude.{ℕ, ◌==◌, Bool, true, false, not, ◌&&◌, ◌||◌, List, [], ◌∷◌, ◌++◌, Option, Some, None, is_some, length, drop, take, option_and_then, if◌then◌else◌, nat_eq, nat_lt, nat_le, bytes_eq, codes}
 use Rattle.std.specs.List.{list_any, starts_with}
+use Rattle.std.specs.Option.{option_map}
 use Rattle.std.specs.Str.{all_ascii_digits}
 use Rattle.std.specs.Str.Parse.{digits_value}
 use Rattle.command_line.specs.declared.commands.Options.{Options}
@@ -12,18 +13,26 @@ pub data Command : Type 0 where
   run : Options → List ℕ → List (List ℕ) → Command
   -- a look at the history that a directory keeps
   check : List ℕ → Command
+  -- the generator, each of whose sessions records so many numbers
+  load : ℕ → Command
 
 -- the scripts that it runs, in order
 abbrev pub scripts_of : Option Command → List (List ℕ)
 scripts_of None = []
 scripts_of (Some (run options directory scripts)) = scripts
 scripts_of (Some (check directory)) = []
+scripts_of (Some (load count)) = []
+
+-- how many live datoms make a merge due in a run of the generator
+abbrev pub load_merge_at : ℕ
+load_merge_at = 10000
 
 -- how many live datoms make a merge due
 abbrev pub merge_at_of : Option Command → Option ℕ
 merge_at_of None = None
 merge_at_of (Some (run options directory scripts)) = Some options.merge_at
 merge_at_of (Some (check directory)) = None
+merge_at_of (Some (load count)) = Some load_merge_at
 
 -- ---- names
 
@@ -64,32 +73,36 @@ abbrev pub are_scripts : List (List ℕ) → Bool
 are_scripts names =
     nat_lt 0 (length names) && (nat_le (length names) most_scripts && are_apart names)
 
--- ---- the number of `--merge-at`: how many live datoms make a merge due
+-- ---- numbers
 
--- the number where none is said
+-- how many live datoms make a merge due where `--merge-at` says nothing
 abbrev pub usual_merge_at : ℕ
 usual_merge_at = 65536
 
 abbrev pub greatest_merge_at : ℕ
 greatest_merge_at = 1000000
 
+-- how many numbers a session of the generator records at most
+abbrev pub greatest_load : ℕ
+greatest_load = 5000
+
 abbrev pub begins_above_zero : List ℕ → Bool
 begins_above_zero [] = false
 begins_above_zero (c ∷ cs) = nat_le 49 c && nat_le c 57
 
--- the number from 1 on that a word of decimal digits writes, without a leading zero
-abbrev pub number_in : List ℕ → Option ℕ
-number_in word =
+-- the number from 1 to the greatest that a word of decimal digits writes, without a leading zero
+abbrev pub number_up_to : ℕ → List ℕ → Option ℕ
+number_up_to greatest word =
     if begins_above_zero word
     && (all_ascii_digits word
-    && (nat_le 1 (digits_value 10 word) && nat_le (digits_value 10 word) greatest_merge_at))
+    && (nat_le 1 (digits_value 10 word) && nat_le (digits_value 10 word) greatest))
     then Some (digits_value 10 word)
     else None
 
--- the number that is said, or else the usual one
+-- the number of `--merge-at` that is said, or else the usual one
 abbrev pub merge_at_in : Option (List ℕ) → Option ℕ
 merge_at_in None = Some usual_merge_at
-merge_at_in (Some word) = number_in word
+merge_at_in (Some word) = number_up_to greatest_merge_at word
 
 -- ---- the walk over the words behind the verb, from left to right
 
@@ -166,17 +179,26 @@ abbrev pub command_from : Option Progress → Option Command
 command_from None = None
 command_from (Some p) = command_at p.place p
 
--- a look at one directory; there is no option, and `--` may stand on either side of the name
+-- the one name that the words give; there is no option, and `--` may stand on either side of the name
+abbrev pub one_name : List (List ℕ) → Option (List ℕ)
+one_name (word ∷ []) = if is_name word then Some word else None
+one_name (word ∷ other ∷ []) =
+    if bytes_eq word (codes "--") then Some other
+    else (if bytes_eq other (codes "--") && is_name word then Some word else None)
+one_name words = None
+
+-- a look at one directory
 abbrev pub check_of : List (List ℕ) → Option Command
-check_of (word ∷ []) = if is_name word then Some (check word) else None
-check_of (word ∷ other ∷ []) =
-    if bytes_eq word (codes "--") then Some (check other)
-    else (if bytes_eq other (codes "--") && is_name word then Some (check word) else None)
-check_of words = None
+check_of words = option_map check (one_name words)
+
+-- the generator, by one number
+abbrev pub load_of : List (List ℕ) → Option Command
+load_of words = option_map load (option_and_then (number_up_to greatest_load) (one_name words))
 
 -- the command that the words behind the program's name are, or none
 abbrev pub command_of : List (List ℕ) → Option Command
 command_of [] = None
 command_of (verb ∷ words) =
     if bytes_eq verb (codes "run") then command_from (walked (Some start) words)
-    else (if bytes_eq verb (codes "check") then check_of words else None)
+    else (if bytes_eq verb (codes "check") then check_of words
+    else (if bytes_eq verb (codes "load") then load_of words else None))

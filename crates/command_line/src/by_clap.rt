@@ -2,7 +2,7 @@
 ghost use Rattle.std.specs.Prelude.{◌≡◌, map, string_bytes, true, IfOk};
 ghost use Rattle.std.specs.Option.{option_map};
 ghost use Rattle.clap.specs.Words.{app_of, found_of, is_simple_and_free, rows_of};
-ghost use Rattle.command_line.specs.ByClap.{plain_app, run_app, check_app, told};
+ghost use Rattle.command_line.specs.ByClap.{plain_app, run_app, name_app, told};
 
 use clap::error::ErrorKind;
 use clap::{Arg, ArgAction, ArgMatches, Command};
@@ -25,12 +25,12 @@ pub(crate) fn run_command<'a>(alloc: Global) -> Result<Command<'a>, Memory>
     Ok(command.arg(merge_at)?.arg(directory)?.arg(script)?)
 }
 
-/// `DIR`
-pub(crate) fn check_command<'a>(alloc: Global) -> Result<Command<'a>, Memory>
-    ensures { IfOk result (λ command. app_of command ≡ check_app) }
+/// One name, as it stands behind `check` and behind `load`.
+pub(crate) fn name_command<'a>(alloc: Global) -> Result<Command<'a>, Memory>
+    ensures { IfOk result (λ command. app_of command ≡ name_app) }
 {
-    let directory = Arg::new(alloc, "DIR").required(true);
-    Ok(plain(alloc, "check").arg(directory)?)
+    let name = Arg::new(alloc, "NAME").required(true);
+    Ok(plain(alloc, "factbase").arg(name)?)
 }
 
 /// A command with no arguments yet, which reads `--help` and `--version` as any other word.

@@ -3,11 +3,11 @@ ghost use Rattle.std.specs.Prelude.{◌≡◌, ◌≤◌, ◌∷◌, true, map, 
 ghost use Rattle.std.specs.Option.{option_map};
 ghost use Rattle.clap.specs.Words.{found_of, rows_of};
 ghost use Rattle.command_line.specs.ByClap.{run_told};
-ghost use Rattle.command_line.specs.Words.{check, are_scripts, merge_at_in, start, walked, command_with, command_from, check_of, command_of};
+ghost use Rattle.command_line.specs.Words.{load, are_scripts, merge_at_in, start, walked, command_with, command_from, one_name, load_of, command_of};
 ghost use Rattle.command_line.specs.Views.{names_in, run_by, command_by, CanRun};
 
-use crate::by_clap::{check_command, matches_in, run_command};
-use crate::numbers::merge_at_in;
+use crate::by_clap::{matches_in, name_command, run_command};
+use crate::numbers::{load_in, merge_at_in};
 use crate::scripts::are_scripts;
 use clap::ArgMatches;
 use fb_memory::Memory;
@@ -34,6 +34,8 @@ pub enum Request<'a> {
     Run(Run<'a>),
     /// A look at the history that this directory keeps.
     Check(&'a str),
+    /// The generator, each of whose sessions records so many numbers.
+    Load(u32),
 }
 
 /// The command that the words behind the program's name are, where they are one.
@@ -51,22 +53,39 @@ pub fn command_in<'a>(alloc: Global, words: &'a [String]) -> Result<Option<Reque
             None => Ok(None),
         };
     }
-    if verb.as_str() != "check" {
+    if verb.as_str() == "check" {
+        return match name_in(alloc, rest)? {
+            Some(directory) => Ok(Some(Request::Check(directory))),
+            None => Ok(None),
+        };
+    }
+    if verb.as_str() != "load" {
         return Ok(None);
     }
-    match directory_in(alloc, rest)? {
-        Some(directory) => Ok(Some(Request::Check(directory))),
+    match count_in(alloc, rest)? {
+        Some(count) => Ok(Some(Request::Load(count))),
         None => Ok(None),
     }
 }
 
-/// The directory at which the words behind the verb ask to look.
-fn directory_in<'a>(alloc: Global, words: &'a [String]) -> Result<Option<&'a str>, Memory>
-    ensures { IfOk result (λ directory. option_map (λ d. check d.now) directory
-        ≡ check_of (map string_bytes words.now)) }
+/// How many numbers the words behind `load` ask for.
+fn count_in(alloc: Global, words: &[String]) -> Result<Option<u32>, Memory>
+    ensures { IfOk result
+        (λ count. option_map load count ≡ load_of (map string_bytes words.now)) }
 {
-    match matches_in(check_command(alloc)?, words)? {
-        Some(matches) => Ok(matches.get_str("DIR")),
+    match name_in(alloc, words)? {
+        Some(word) => Ok(load_in(word)),
+        None => Ok(None),
+    }
+}
+
+/// The one name that the words behind the verb are.
+fn name_in<'a>(alloc: Global, words: &'a [String]) -> Result<Option<&'a str>, Memory>
+    ensures { IfOk result (λ name. option_map (λ s. s.now) name
+        ≡ one_name (map string_bytes words.now)) }
+{
+    match matches_in(name_command(alloc)?, words)? {
+        Some(matches) => Ok(matches.get_str("NAME")),
         None => Ok(None),
     }
 }

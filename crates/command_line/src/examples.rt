@@ -1,6 +1,6 @@
 //! Which words are a command, and where its lines go, by computation.
 ghost use Rattle.std.specs.Prelude.{◌≡◌, [], ◌∷◌, Some, None, codes};
-ghost use Rattle.command_line.specs.Words.{run, check, command_of, sink_of};
+ghost use Rattle.command_line.specs.Words.{run, check, load, command_of, sink_of};
 
 /// A name or more behind `run` and a directory is a command.
 pub fn words()
@@ -25,6 +25,20 @@ pub fn looks()
     ensures option { command_of (codes "check" ∷ codes "-a" ∷ []) ≡ None }
     ensures two { command_of (codes "check" ∷ codes "data" ∷ codes "more" ∷ []) ≡ None }
     ensures none { command_of (codes "check" ∷ []) ≡ None }
+{}
+
+/// The generator has one number, from 1 to 5000.
+pub fn loads()
+    ensures one { command_of (codes "load" ∷ codes "4" ∷ []) ≡ Some (load 4) }
+    ensures greatest { command_of (codes "load" ∷ codes "5000" ∷ []) ≡ Some (load 5000) }
+    ensures behind_options { command_of (codes "load" ∷ codes "--" ∷ codes "4" ∷ [])
+        ≡ Some (load 4) }
+    ensures too_great { command_of (codes "load" ∷ codes "5001" ∷ []) ≡ None }
+    ensures zero { command_of (codes "load" ∷ codes "0" ∷ []) ≡ None }
+    ensures leading_zero { command_of (codes "load" ∷ codes "04" ∷ []) ≡ None }
+    ensures no_number { command_of (codes "load" ∷ codes "-" ∷ []) ≡ None }
+    ensures two { command_of (codes "load" ∷ codes "4" ∷ codes "4" ∷ []) ≡ None }
+    ensures none { command_of (codes "load" ∷ []) ≡ None }
 {}
 
 /// Options stand anywhere in front of `--`, and `--merge-at` once at most.

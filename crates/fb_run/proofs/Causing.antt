@@ -3,8 +3,7 @@ use Rattle.std.proofs.Common.{◌≡◌, ◌⊎◌, inl, inr, ℕ, Bool, true, f
 use Rattle.std.specs.Option.{option_map}
 use Rattle.std.specs.Borrow.{Bor}
 use Rattle.command_line.specs.Views.{names_in}
-use Rattle.std.specs.Prelude.{◌==◌, ◌-◌, ◌<◌, ◌≤◌, get_or, take, drop, ◌&&◌, nat_lt, nat_le, IfOk, OnErr, Result, Ok, Err, is_err, IsSome, IfSome, string_bytes}
-use Rattle.std.specs.List.{slice_get}
+use Rattle.std.specs.Prelude.{◌==◌, ◌-◌, ◌<◌, ◌≤◌, get_or, take, drop, ◌&&◌, nat_lt, nat_le, IfOk, OnErr, Result, Ok, Err, IsSome, IfSome, string_bytes}
 use Rattle.std.proofs.lemmas.Bool.{ltb-true, leb-true}
 use Rattle.fb_ports.specs.Faults.{Rose}
 use Rattle.fb_ports.specs.Told.{Told}
@@ -42,7 +41,8 @@ use Rattle.fb_run.specs.Database.{why_unready, LeaveLogUnharmed, LeavesBehind, I
 use Rattle.fb_run.specs.Looking.{IsLook, HasTold}
 use Rattle.fb_run.specs.Opening.{IsOpenedFor}
 use Rattle.fb_run.specs.Headline.{EachReplies, stop_of}
-use Rattle.fb_run.specs.StatusLines.{looked, usage, ended_early, console_failed, memory, usage_line, out_of_memory, status_of_end, line_of_end, first_early, why_of, why_not}
+use Rattle.fb_run.specs.Generated.{loads_of}
+use Rattle.fb_run.specs.StatusLines.{reported, usage, ended_early, console_failed, memory, usage_line, out_of_memory, status_of_end, line_of_end, first_early, why_of, why_not}
 use Rattle.fb_run.specs.Causes.{HasDisks, NoSession, HasNoDisk, OutOfMemory, IsOutOfMemory, SaysWhy, Counts, IsRun, HaveRun, directory_of, names_of, HandsBack, IsNotOpened, IsUntouched, IsUnfailed, TookWhole, TookPart, HasLooked, CauseOf, HasConsole, Causes}
 use Rattle.fb_run.specs.Running.{RepliesBy, CountsBy, HaveEnded}
 use Rattle.fb_run.proofs.Lists.{each_through, cut_first, names_cut}
@@ -182,6 +182,15 @@ success_is_merged StoreFault names hows stop status line says none = absurd (not
 success_is_merged Spent names hows stop status line says none = inr refl
 success_is_merged NoMemory names hows stop status line says none = absurd (not_success names hows stop NoMemory status line tt says none)
 
+-- where merging came to its end, no count rose
+pub unfailed_well : (end : WorkEnd) (old new : ℕ) → (end ≡ Shut) ⊎ (end ≡ Spent) → CountsMerges end old new → new ≡ old
+unfailed_well Shut old new well counted = counted
+unfailed_well StoreFault old new (inl wrong) counted = absurd (cc)
+unfailed_well StoreFault old new (inr wrong) counted = absurd (cc)
+unfailed_well Spent old new well counted = counted
+unfailed_well NoMemory old new (inl wrong) counted = absurd (cc)
+unfailed_well NoMemory old new (inr wrong) counted = absurd (cc)
+
 -- ---- names that are those of scripts
 
 both : (a b : Bool) → (a && b) ≡ true → (a ≡ true) × (b ≡ true)
@@ -262,7 +271,7 @@ module _ {I O D : Type 0} (told : Told) (disks : DiskTells D) (outcome : Outcome
   counts_torn holds there both torn = torn_by outcome.last outcome.log refl holds there both torn
 
 module _ {I O D : Type 0} (outcome : Outcome I O D) (none : outcome.console ≡ None) where
-  console_why : (early : Option (List ℕ × SessionEnd)) (stop : Option ℕ) (end : WorkEnd)
+  pub console_why : (early : Option (List ℕ × SessionEnd)) (stop : Option ℕ) (end : WorkEnd)
       → HasConsole (why_of early stop end) outcome
   console_why (Some p) stop end = none
   console_why None (Some t) end = none
@@ -312,19 +321,19 @@ module _ {I O D : Type 0} (told : Told) (tells : Tells I O) (disks : DiskTells D
       outcome.torn))
       → (segments : D) → outcome.segments ≡ Some segments
       → CountsMerges end (told.disk_faults (directory_of (Some command)) Segments) (disks.faults segments)
-      → HaveRun told tells new (Some command) outcome early
+      → HaveRun told tells new (Some command) outcome early → loads_of (Some command) ≡ []
       → CauseOf told tells disks new (Some command) outcome (why_of early (stop_of torn) end)
-  cause_why command None None Shut is holds segments there counted ran = (ran, is, (segments, there, counted))
-  cause_why command None None StoreFault is holds segments there counted ran = (ran, is, (segments, there, counted))
-  cause_why command None None Spent is holds segments there counted ran = (ran, is, (segments, there, counted))
-  cause_why command None None NoMemory is holds segments there counted ran = inr (ran, is)
-  cause_why command None (Some draft) end is holds segments there counted ran = (
+  cause_why command None None Shut is holds segments there counted ran scripts = (ran, is, (segments, there, counted), scripts)
+  cause_why command None None StoreFault is holds segments there counted ran scripts = (ran, is, (segments, there, counted))
+  cause_why command None None Spent is holds segments there counted ran scripts = (ran, is, (segments, there, counted), scripts)
+  cause_why command None None NoMemory is holds segments there counted ran scripts = inr (ran, is)
+  cause_why command None (Some draft) end is holds segments there counted ran scripts = (
     ran,
     ap stop_of is,
     counts_torn told disks outcome (directory_of (Some command)) holds ran.last ran.disks.log (subst IsSome (sym is)
         refl),
   )
-  cause_why command (Some p) torn end is holds segments there counted ran = ran
+  cause_why command (Some p) torn end is holds segments there counted ran scripts = ran
 
   pub caused_by_memory : (command : Command) → NoSession outcome → outcome.console ≡ None → IsOutOfMemory outcome
       → Causes told tells disks new (Some command) outcome
@@ -362,16 +371,16 @@ module _ {I O D : Type 0} (told : Told) (tells : Tells I O) (disks : DiskTells D
 
   pub caused_by_sessions : {g : _} (command : Command) (opened : List (SessionOut I O)) (merge_at : ℕ) (begun : Trees D g)
       → EachOf (λ n name (s : SessionOut I O). IsOpenedFor told tells name s) 0 (scripts_of (Some command)) opened
-      → IsRun (Some command) → new ≡ told.faults → outcome.console ≡ None
+      → IsRun (Some command) → loads_of (Some command) ≡ [] → outcome.loads.items ≡ [] → new ≡ told.faults → outcome.console ≡ None
       → disks.faults (segments_in begun.store) ≡ told.disk_faults (directory_of (Some command)) Segments
       → IfSome outcome.last (λ l. IfSome outcome.log (LogHolds told disks (directory_of (Some command)) l.entries outcome.recovered
       outcome.torn))
       → (NoSession outcome × IsOutOfMemory outcome)
       ⊎ HaveEnded tells disks merge_at (scripts_of (Some command)) opened begun outcome
       → Causes told tells disks new (Some command) outcome
-  caused_by_sessions command opened merge_at begun has is_run same no_console unfailed holds (inl none) =
+  caused_by_sessions command opened merge_at begun has is_run scripts no_loads same no_console unfailed holds (inl none) =
       caused_by_memory command none.0 no_console none.1
-  caused_by_sessions command opened merge_at begun has is_run same no_console unfailed holds (inr ran) =
+  caused_by_sessions command opened merge_at begun has is_run scripts no_loads same no_console unfailed holds (inr ran) =
       let early = first_early (scripts_of (Some command)) (map (λ (s : SessionOut I O). s.end) outcome.sessions.items) in
       let each = counts_told told tells (scripts_of (Some command)) opened outcome.sessions.items has ran.each in
       let ends = ran.ends in
@@ -384,11 +393,12 @@ module _ {I O D : Type 0} (told : Told) (tells : Tells I O) (disks : DiskTells D
           is_run = is_run;
           host = same;
           each = each;
-          first = refl;
+          loads = rw (scripts, no_loads) tt;
+          first = rw (scripts, no_loads) refl;
           last = subst IsSome (sym ends.last_is) refl;
           authors = ran.authors;
           disks = ran.both;
-        });
+        }) scripts;
         console = console_why outcome no_console early (stop_of outcome.torn) ends.end;
       }
 
@@ -494,8 +504,8 @@ module _ {I O D : Type 0} {g : _} (told new : Told) (tells : Tells I O) (disks :
   caused_by_look =
       let there : IsSome outcome.console = subst IsSome (sym has.console_is) refl in
       elim has.took [
-        | inl whole ↦ record { why = looked; says = whole.0; cause = has_looked TookWhole whole.1; console = there }
-        | inr part ↦ record { why = console_failed; says = part.0; cause = has_looked TookPart part.1; console = there }
+        | inl whole ↦ record { why = reported; says = whole.0; cause = inl (has_looked TookWhole whole.1); console = there }
+        | inr part ↦ record { why = console_failed; says = part.0; cause = inl (has_looked TookPart part.1); console = there }
       ]
 
   pub look_unharmed : IfSome outcome.log (IsUnharmed told disks dir)

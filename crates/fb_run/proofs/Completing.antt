@@ -16,7 +16,8 @@ use Rattle.fb_core.specs.declared.accepting.Draft.{Draft}
 use Rattle.fb_ports.specs.Faults.{Rose}
 use Rattle.fb_ports.specs.Told.{Told}
 use Rattle.fb_view.specs.Kept.{Kept}
-use Rattle.command_line.specs.Words.{Command, run as runs, check, scripts_of, sink_of}
+use Rattle.command_line.specs.Words.{Command, run as runs, check, load, scripts_of, sink_of}
+use Rattle.command_line.specs.declared.commands.Options.{Options}
 use Rattle.script_model.specs.Script.{Ending, whole, fault, too_many, Script}
 use Rattle.script_model.proofs.OneScript.{OneReading, one_script}
 use Rattle.talk_model.specs.Session.{Setting}
@@ -36,7 +37,8 @@ use Rattle.fb_ports.specs.declared.hosts.Part.TheVariants.{Log, Segments}
 use Rattle.fb_run.specs.Outside.{Tells, DiskTells, run_of, setting_of, EachOf, EachWhile}
 use Rattle.fb_run.specs.Logs.{LogHolds}
 use Rattle.fb_run.specs.Headline.{OneHistory, stop_of, EachReplies}
-use Rattle.fb_run.specs.StatusLines.{Why, answered, looked, usage, unopened, disk_failed, bad_record, unlawful, ended_early, console_failed, log_stopped, segments_failed, memory, status_of_end, line_of_end, first_early}
+use Rattle.fb_run.specs.StatusLines.{Why, answered, reported, usage, unopened, disk_failed, bad_record, unlawful, ended_early, console_failed, log_stopped, segments_failed, memory, status_of_end, line_of_end, first_early}
+use Rattle.fb_run.specs.Generated.{loads_of, told_in_memory, in_memory}
 use Rattle.fb_run.specs.Causes.{HasDisks, IsOutOfMemory, SaysWhy, Counts, IsRun, HaveRun, directory_of, CauseOf, Causes}
 use Rattle.fb_run.specs.Complete.{HoldsForms, HoldsFormsAlone, HoldsHistory, NoneRose, EachHasItsLine, AnsweredWhole, Complete}
 use Rattle.fb_run.proofs.Causing.{first_done, says_memory, counts_torn}
@@ -123,11 +125,11 @@ module _ (s : Setting) (opening : ℕ) (ran : SessionRun) (replies : Replies s o
 
 module _ {I O : Type 0} (terms : Terms) (told : Told) (tells : Tells I O) (h : List Entry) (opening teller : ℕ) (lawful : IsLawful h) (seen
     : opening ≤ basis h) where
-  abbrev IsWhole : ℕ → List ℕ → SessionOut I O → Type 0
+  abbrev pub IsWhole : ℕ → List ℕ → SessionOut I O → Type 0
   IsWhole n name s = (forms : List Form) → HoldsForms (told.sources name) forms → EachHasItsLine (setting_of terms h None false) opening
       forms (run_of told tells name s)
 
-  abbrev IsReplied : ℕ → List ℕ → SessionOut I O → Type 0
+  abbrev pub IsReplied : ℕ → List ℕ → SessionOut I O → Type 0
   IsReplied n name s = Replies (setting_of terms h None (teller == n)) opening (run_of told tells name s)
 
   -- where the log has not stopped nobody is its teller
@@ -141,7 +143,7 @@ module _ {I O : Type 0} (terms : Terms) (told : Told) (tells : Tells I O) (h : L
       (replies_longer (setting_of terms h None flag) [] None false (IsLawful-length h lawful) grows (inl refl) opening seen run replies)
 
   -- the first that ended early ended for want of memory, or none did
-  all_well : (n : ℕ) (names : List (List ℕ)) (sessions : List (SessionOut I O)) (early : Option (List ℕ × SessionEnd))
+  pub all_well : (n : ℕ) (names : List (List ℕ)) (sessions : List (SessionOut I O)) (early : Option (List ℕ × SessionEnd))
       → EachOf (λ m name (s : SessionOut I O). Counts told tells name s) n names sessions → EachOf IsReplied n names sessions
       → AllByRecursion (λ name. HoldsFormsAlone (told.sources name)) names
       → EachWhile (λ name (s : SessionOut I O). ¬ Rose (told.source_faults name) (tells.source_faults s.source)) names sessions
@@ -168,7 +170,12 @@ module _ {I O : Type 0} (terms : Terms) (told : Told) (tells : Tells I O) (h : L
         )
       ]
 
-stands_behind : (n m k : ℕ) → n + m ≡ k → n ≤ k
+-- beside an empty list there is another
+pub nothing_beside : {A B : Type 0} (P : ℕ → A → B → Type 0) (n : ℕ) (ys : List B) → EachOf P n [] ys → ys ≡ []
+nothing_beside P n [] each = refl
+nothing_beside P n (y ∷ ys) each = absurd each
+
+pub stands_behind : (n m k : ℕ) → n + m ≡ k → n ≤ k
 stands_behind n m k same = omega (arith, same)
 
 -- ---- the run
@@ -179,7 +186,12 @@ module _ {I O D : Type 0} (terms : Terms) (told : Told) (tells : Tells I O) (dis
     (lawful : IsLawful last.entries) (seen : outcome.recovered ≤ basis last.entries) (kept : outcome.last ≡ Some last)
     (replies : EachReplies terms told tells outcome.recovered None (scripts_of (Some command)) outcome.sessions.items last.entries)
     (holds : AllByRecursion (λ name. HoldsFormsAlone (told.sources name)) (scripts_of (Some command)))
-    (calm : NoneRose told tells disks new (directory_of (Some command)) (scripts_of (Some command)) outcome) where
+    (calm : NoneRose told tells disks new (Some command) outcome) (scripts : loads_of (Some command) ≡ []) where
+  no_loads : {early : Option (List ℕ × SessionEnd)} → HaveRun told tells new (Some command) outcome early → outcome.loads.items ≡ []
+  no_loads ran =
+      nothing_beside {A = List ℕ} (λ n name s. Counts (told_in_memory told (Some command)) in_memory name s) 0 outcome.loads.items
+      (rw scripts at ran.loads)
+
   ran_well : (early : Option (List ℕ × SessionEnd)) → HaveRun told tells new (Some command) outcome early
       → ((early ≡ None) × EachOf (IsWhole terms told tells last.entries outcome.recovered replies.0 lawful seen) 0 (scripts_of (Some
       command)) outcome.sessions.items)
@@ -187,12 +199,11 @@ module _ {I O D : Type 0} (terms : Terms) (told : Told) (tells : Tells I O) (dis
   ran_well early ran =
       all_well terms told tells last.entries outcome.recovered replies.0 lawful seen 0 (scripts_of (Some command)) outcome.sessions.items
       early
-      ran.each replies.1 holds calm.sources calm.sinks ran.first
+      ran.each replies.1 holds calm.sessions.sources calm.sessions.sinks (rw (scripts, no_loads ran) at ran.first)
 
-  pub answered_whole : outcome.status ≡ 0 → HaveRun told tells new (Some command) outcome None → AnsweredWhole terms told tells (scripts_of
-      (Some command)) outcome
+  pub answered_whole : outcome.status ≡ 0 → HaveRun told tells new (Some command) outcome None → AnsweredWhole terms told tells (Some command) outcome
   answered_whole success ran = elim (ran_well None ran) [
-    | inl well ↦ record { succeeded = success; last = last; kept = kept; each = well.1 }
+    | inl well ↦ record { succeeded = success; last = last; kept = kept; each = well.1; loads = rw (scripts, no_loads ran) tt }
     | inr wrong ↦ absurd (none-some _ wrong.1)
   ]
 
@@ -222,26 +233,27 @@ module _ {I O D : Type 0} (terms : Terms) (told : Told) (tells : Tells I O) (dis
     Outcome I O D)
     (log : HoldsHistory (told.disks (directory_of (Some command)) Log))
     (holds : AllByRecursion (λ name. HoldsFormsAlone (told.sources name)) (scripts_of (Some command)))
-    (calm : NoneRose told tells disks new (directory_of (Some command)) (scripts_of (Some command)) outcome) where
-  no_bad_record : (nth at : ℕ) → WhereTold (told.disks (directory_of (Some command)) Log) (λ file. FileSays file (bad_record_there nth at))
+    (calm : NoneRose told tells disks new (Some command) outcome) where
+  pub no_bad_record : (nth at : ℕ) → WhereTold (told.disks (directory_of (Some command)) Log) (λ file. FileSays file (bad_record_there nth at))
       → ⊥
   no_bad_record nth at says = let wrong = (says_history _ _ log says).1 in absurd (cc)
 
-  no_unlawful : (t law : ℕ) → WhereTold (told.disks (directory_of (Some command)) Log) (λ file. FileSays file (unlawful_there t law)) → ⊥
+  pub no_unlawful : (t law : ℕ) → WhereTold (told.disks (directory_of (Some command)) Log) (λ file. FileSays file (unlawful_there t law)) → ⊥
   no_unlawful t law says = let wrong = (says_history _ _ log says).1 in absurd (cc)
 
   -- a look at a directory that has nothing wrong succeeds
   looked_by : (IsRun (Some command) → ⊥) → (why : Why) → SaysWhy why outcome.status (string_bytes outcome.line)
       → CauseOf told tells disks new (Some command) outcome why → (outcome.status ≡ 0) ⊎ IsOutOfMemory outcome
   looked_by not answered says cause = absurd (not cause.0.is_run)
-  looked_by not looked says cause = inl says.0
+  looked_by not reported says cause = inl says.0
   looked_by not usage says cause = absurd (none-some command (sym cause.2))
   looked_by not (unopened name) says cause = absurd (calm.host cause.host)
   looked_by not (disk_failed part) says cause = absurd (calm.parts part cause.2.0 cause.2.1 cause.2.2)
   looked_by not (bad_record nth at) says cause = absurd (no_bad_record nth at cause.2)
   looked_by not (unlawful t law) says cause = absurd (no_unlawful t law cause.2)
   looked_by not (ended_early name how) says cause = absurd (not cause.is_run)
-  looked_by not console_failed says cause = absurd (calm.console cause.console cause.console_is cause.took.failed)
+  looked_by not console_failed says (inl looked) = absurd (calm.console looked.console looked.console_is looked.took.failed)
+  looked_by not console_failed says (inr loaded) = absurd (calm.console loaded.console loaded.console_is loaded.took.failed)
   looked_by not (log_stopped t) says cause = absurd (not cause.0.is_run)
   looked_by not segments_failed says cause = absurd (not cause.0.is_run)
   looked_by not memory says cause = inr (says_memory outcome.status (string_bytes outcome.line) says)
@@ -255,7 +267,10 @@ module _ {I O D : Type 0} (terms : Terms) (told : Told) (tells : Tells I O) (dis
       (replies : IfSome outcome.last (λ last. EachReplies terms told tells outcome.recovered (stop_of outcome.torn) (scripts_of (Some
       command)) outcome.sessions.items last.entries))
       (kept : IfSome outcome.last (λ last. IfSome outcome.log (LogHolds told disks (directory_of (Some command)) last.entries
-      outcome.recovered outcome.torn))) where
+      outcome.recovered outcome.torn))) (scripts : loads_of (Some command) ≡ []) where
+    not_load : (count : ℕ) → Some command ≡ Some (load count) → ⊥
+    not_load count is = let wrong = sym (ap loads_of is) ∙ scripts in absurd (cc)
+
     -- and where its log's count did not rise, nothing is torn
     not_torn : (torn : Option Draft) → outcome.torn ≡ torn → IsSome outcome.last → HasDisks outcome → torn ≡ None
     not_torn None is there both = refl
@@ -275,12 +290,12 @@ module _ {I O D : Type 0} (terms : Terms) (told : Told) (tells : Tells I O) (dis
 
     whole_by : (last : Option Kept) → outcome.last ≡ last → IsSome last → outcome.status ≡ 0 → HaveRun told tells new (Some command)
         outcome None
-        → AnsweredWhole terms told tells (scripts_of (Some command)) outcome
+        → AnsweredWhole terms told tells (Some command) outcome
     whole_by None is there success ran = absurd (cc)
     whole_by (Some l) is there success ran =
         let stands = rw is at lawful in let says = rw is at replies in
         answered_whole terms told tells disks new command outcome l stands.0 stands.1 is (unstopped l.entries (going ran) says) holds calm
-        success ran
+        scripts success ran
 
     refused_by : (last : Option Kept) → outcome.last ≡ last → IsSome last → (name : List ℕ) (how : SessionEnd) → HaveRun told tells new
         (Some command) outcome (Some (name, how))
@@ -289,26 +304,27 @@ module _ {I O D : Type 0} (terms : Terms) (told : Told) (tells : Tells I O) (dis
     refused_by None is there name how ran said = absurd (cc)
     refused_by (Some l) is there name how ran said =
         let stands = rw is at lawful in let says = rw is at replies in
-        refused terms told tells disks new command outcome l stands.0 stands.1 is (unstopped l.entries (going ran) says) holds calm name how
+        refused terms told tells disks new command outcome l stands.0 stands.1 is (unstopped l.entries (going ran) says) holds calm scripts name how
         ran said
 
     by_why : IsRun (Some command) → (why : Why) → SaysWhy why outcome.status (string_bytes outcome.line) → CauseOf told tells disks new (Some command) outcome why
-        → AnsweredWhole terms told tells (scripts_of (Some command)) outcome ⊎ IsOutOfMemory outcome
+        → AnsweredWhole terms told tells (Some command) outcome ⊎ IsOutOfMemory outcome
     by_why is_run answered says cause = inl (whole_by outcome.last refl cause.0.last says.0 cause.0)
-    by_why is_run looked says cause = absurd (subst IsRun cause.is_check is_run)
+    by_why is_run reported says (inl looked) = absurd (subst IsRun looked.is_check is_run)
+    by_why is_run reported says (inr loaded) = absurd (not_load loaded.count loaded.is_load)
     by_why is_run usage says cause = absurd (none-some command (sym cause.2))
     by_why is_run (unopened name) says cause = absurd (calm.host cause.host)
     by_why is_run (disk_failed part) says cause = absurd (calm.parts part cause.2.0 cause.2.1 cause.2.2)
     by_why is_run (bad_record nth at) says cause = absurd (no_bad_record nth at cause.2)
     by_why is_run (unlawful t law) says cause = absurd (no_unlawful t law cause.2)
     by_why is_run (ended_early name how) says cause = inr (refused_by outcome.last refl cause.last name how cause says)
-    by_why is_run console_failed says cause = absurd (subst IsRun cause.is_check is_run)
+    by_why is_run console_failed says (inl looked) = absurd (subst IsRun looked.is_check is_run)
+    by_why is_run console_failed says (inr loaded) = absurd (not_load loaded.count loaded.is_load)
     by_why is_run (log_stopped t) says cause = absurd (calm.parts Log cause.2.0 cause.2.1 cause.2.2)
     by_why is_run segments_failed says cause = absurd (calm.parts Segments cause.2.0 cause.2.1 cause.2.2)
     by_why is_run memory says cause = inr (says_memory outcome.status (string_bytes outcome.line) says)
 
-    pub complete_run : IsRun (Some command) → Causes told tells disks new (Some command) outcome → AnsweredWhole terms told tells (scripts_of (Some command))
-        outcome
+    pub complete_run : IsRun (Some command) → Causes told tells disks new (Some command) outcome → AnsweredWhole terms told tells (Some command) outcome
         ⊎ IsOutOfMemory outcome
     complete_run is_run causes = by_why is_run causes.why causes.says causes.cause
 
@@ -316,25 +332,22 @@ pub complete_look : {I O D : Type 0} (terms : Terms) (told : Told) (tells : Tell
     (outcome : Outcome I O D)
     → Causes told tells disks new (Some (check dir)) outcome → Complete terms told tells disks new (Some (check dir)) outcome
 complete_look terms told tells disks new dir outcome causes =
-    λ log holds calm. complete_check terms told tells disks new (check dir) outcome log holds calm (λ wrong. wrong) causes
+    λ log holds none calm. complete_check terms told tells disks new (check dir) outcome log holds calm (λ wrong. wrong) causes
 
-pub complete_command : {I O D : Type 0} (terms : Terms) (told : Told) (tells : Tells I O) (disks : DiskTells D) (new : ℕ) (command : Option
-    Command) (outcome : Outcome I O D)
-    (authors : List ℕ) (commits : List (List ℕ))
+pub complete_scripts : {I O D : Type 0} (terms : Terms) (told : Told) (tells : Tells I O) (disks : DiskTells D) (new : ℕ)
+    (options : Options) (dir : List ℕ) (scripts : List (List ℕ)) (outcome : Outcome I O D) (authors : List ℕ) (commits : List (List ℕ))
     → IfSome outcome.last (λ last. OneHistory last.entries outcome.recovered authors commits)
-    → IfSome outcome.last (λ last. EachReplies terms told tells outcome.recovered (stop_of outcome.torn) (scripts_of command)
-    outcome.sessions.items last.entries)
-    → IfSome outcome.last (λ last. IfSome outcome.log (LogHolds told disks (directory_of command) last.entries outcome.recovered
-    outcome.torn))
-    → Causes told tells disks new command outcome → Complete terms told tells disks new command outcome
-complete_command terms told tells disks new None outcome authors commits history replies kept causes = tt
-complete_command terms told tells disks new (Some (check dir)) outcome authors commits history replies kept causes =
-    complete_look terms told tells disks new dir outcome causes
-complete_command terms told tells disks new (Some (runs options dir scripts)) outcome authors commits history replies kept causes =
+    → IfSome outcome.last (λ last. EachReplies terms told tells outcome.recovered (stop_of outcome.torn) scripts outcome.sessions.items
+    last.entries)
+    → IfSome outcome.last (λ last. IfSome outcome.log (LogHolds told disks dir last.entries outcome.recovered outcome.torn))
+    → Causes told tells disks new (Some (runs options dir scripts)) outcome
+    → Complete terms told tells disks new (Some (runs options dir scripts)) outcome
+complete_scripts terms told tells disks new options dir scripts outcome authors commits history replies kept causes =
     let lawful : IfSome outcome.last (λ last. IsLawful last.entries × (outcome.recovered ≤ basis last.entries)) =
     IfSome_then outcome.last history (λ last one. (
       one.lawful,
       stands_behind outcome.recovered (length authors) (basis last.entries)
           one.each_t,
     )) in
-    λ log holds calm. complete_run terms told tells disks new (runs options dir scripts) outcome log holds calm lawful replies kept tt causes
+    λ log holds none calm. complete_run terms told tells disks new (runs options dir scripts) outcome log holds calm lawful replies kept
+    refl tt causes

@@ -8,3 +8,6 @@ pub mod Completing
 pub mod Looks
 pub mod Settling
 pub mod Crossing
+pub mod Ahead
+pub mod Loads
+pub mod LoadsWhole

@@ -1,7 +1,6 @@
 -- What a look at a directory begins with, and what becomes of its line.
 use Rattle.std.proofs.Common.{◌≡◌, inl, inr, ℕ, List, [], ◌∷◌, Option, Some, sym, ap, ◌∙◌, subst}
 use Rattle.fb_values.specs.declared.facts.Entry.{Entry}
-use Rattle.fb_model.specs.History.{basis}
 use Rattle.command_line.specs.Words.{standard}
 use Rattle.disk_log.specs.Logs.{disk_in}
 use Rattle.seg_store.specs.Stores.{disk_in as segments_in}
@@ -14,7 +13,7 @@ use Rattle.fb_run.specs.declared.outcome.Outcome.{Outcome}
 use Rattle.fb_run.specs.declared.database.Directory.{Directory}
 use Rattle.fb_run.specs.declared.database.Unready.{Unready}
 use Rattle.fb_run.specs.declared.looking.Look.{Look}
-use Rattle.fb_run.specs.StatusLines.{looked, console_failed, history_line}
+use Rattle.fb_run.specs.StatusLines.{reported, console_failed, history_line}
 use Rattle.fb_run.specs.Outside.{Tells, DiskTells}
 use Rattle.fb_run.specs.Opening.{OpensSink, IsNotOpened}
 use Rattle.fb_run.specs.Database.{SameStreams, IsOpened, LeaveLogUnharmed, IsUnready, disks_in}
@@ -27,7 +26,7 @@ pub has_told : {I O D E : Type 0} (contents : O → Option (List ℕ)) (faults :
     (outcome : Outcome I O D) (r : Result (Unit {0}) E) → sent ≡ line → outcome.console ≡ Some now
     → OnOk r (contents now ≡ append_known (contents was) sent) → OnErr r (TakesPart sent (contents was) (contents now))
     → Counts r (faults was) (faults now)
-    → MatchResult r (λ _. SaysWhy looked outcome.status (string_bytes outcome.line))
+    → MatchResult r (λ _. SaysWhy reported outcome.status (string_bytes outcome.line))
     (λ _. SaysWhy console_failed outcome.status (string_bytes outcome.line))
     → HasTold contents faults line was outcome
 has_told contents faults line sent was now outcome (Ok u) same is whole part counted said = record {

@@ -1,5 +1,5 @@
 -- What becomes of a run's trees, from the opening to the end.
-use Rattle.std.proofs.Common.{◌≡◌, ◌⊎◌, ◌<◌, ◌≤◌, ◌^◌, inl, inr, ℕ, Bool, true, false, List, ◌++◌, Option, Some, None, refl, sym, ap, ◌∙◌, subst, arith}
+use Rattle.std.proofs.Common.{◌≡◌, ◌⊎◌, ◌<◌, ◌^◌, inl, inr, ℕ, Bool, true, false, List, ◌++◌, Option, Some, None, refl, sym, ap, ◌∙◌, subst, arith}
 use Rattle.std.specs.Prelude.{IfSome, nat_lt, map, string_bytes}
 use Rattle.std.proofs.lemmas.Bool.{ltb-true, ltb-false}
 use Rattle.std.proofs.lemmas.Option.{IfSome_then}
@@ -7,13 +7,12 @@ use Rattle.fb_calls.specs.Faults.{Rose}
 use Rattle.fb_values.specs.declared.facts.Entry.{Entry}
 use Rattle.fb_model.specs.History.{upto}
 use Rattle.fb_model.specs.Lawful.{IsLawful}
-use Rattle.disk_model.specs.Disk.{WhereTold}
 use Rattle.view_model.specs.Stands.{RootStands}
 use Rattle.seg_tree.specs.Ids.{next_above}
 use Rattle.seg_tree.specs.Indexes.{root_ids, trees_of}
 use Rattle.seg_store.specs.Trees.{root_of}
 use Rattle.seg_store.specs.Stores.{disk_in, next_in}
-use Rattle.seg_store.specs.Keeping.{GoesOn, HasGreatNode, HasKept}
+use Rattle.seg_store.specs.Keeping.{GoesOn, HasKept}
 use Rattle.seg_store.specs.declared.stores.SegStore.{SegStore}
 use Rattle.seg_store.proofs.Rooting.{great_left}
 use Rattle.fb_recover.specs.Openings.{HasCoverage}
@@ -24,7 +23,7 @@ use Rattle.fb_ports.specs.Told.{Told}
 use Rattle.merge_worker.proofs.Standing.{of_longer}
 use Rattle.merge_worker.specs.declared.ends.WorkEnd.{WorkEnd}
 use Rattle.merge_worker.specs.declared.ends.WorkEnd.TheVariants.{Shut, StoreFault, Spent, Memory}
-use Rattle.merge_worker.specs.Work.{IsOldOrKept, AreOldOrKept, start_of, IsOutOfIds}
+use Rattle.merge_worker.specs.Work.{IsOldOrKept, start_of, IsOutOfIds}
 use Rattle.fb_run.specs.declared.database.Directory.{Directory}
 use Rattle.fb_run.specs.declared.merging.Trees.{Trees}
 use Rattle.fb_run.specs.declared.outcome.SessionOut.{SessionOut}

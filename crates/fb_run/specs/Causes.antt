@@ -1,16 +1,17 @@
 -- What causes the status of a run, the line that it says and what it hands back.
 -- This project's own choice.
-use Rattle.std.specs.Prelude.{◌≡◌, ℕ, zero, suc, ◌⊎◌, List, [], ◌∷◌, map, Option, Some, None, IsSome, IfSome, slice_get, string_bytes}
+use Rattle.std.specs.Prelude.{◌≡◌, ℕ, zero, suc, ◌⊎◌, List, [], ◌∷◌, ◌++◌, codes, map, Option, Some, None, IsSome, IfSome, slice_get, string_bytes}
 use Rattle.std.specs.Io.KnownBytes.{append_known}
 use Rattle.fb_values.specs.declared.facts.Entry.{Entry}
 use Rattle.fb_model.specs.History.{basis}
 use Rattle.disk_model.specs.Disk.{WhereTold}
 use Rattle.log_model.specs.Log.{IsLogOf, FileSays, bad_record as bad_record_there, unlawful as unlawful_there}
+use Rattle.fb_view.specs.Kept.{Kept}
 use Rattle.fb_ports.specs.Faults.{Rose}
 use Rattle.fb_ports.specs.Told.{Told}
 use Rattle.fb_ports.specs.declared.hosts.Part.{Part}
 use Rattle.fb_ports.specs.declared.hosts.Part.TheVariants.{Log, Segments}
-use Rattle.command_line.specs.Words.{Command, run, check, scripts_of, sink_of, standard}
+use Rattle.command_line.specs.Words.{Command, run, check, load, scripts_of, sink_of, standard}
 use Rattle.fb_session.specs.declared.outcome.SessionEnd.{SessionEnd}
 use Rattle.fb_session.specs.Replies.{SourceCount, SinkCount}
 use Rattle.fb_session.specs.Written.{TakesPart}
@@ -18,16 +19,17 @@ use Rattle.fb_run.specs.declared.outcome.SessionOut.{SessionOut}
 use Rattle.fb_run.specs.declared.outcome.Outcome.{Outcome}
 use Rattle.fb_run.specs.Outside.{Tells, DiskTells, IsDiskOf, EachOf}
 use Rattle.fb_run.specs.Headline.{stop_of}
+use Rattle.fb_run.specs.Generated.{loads_of, told_in_memory, in_memory}
+use Rattle.fb_run.specs.Summary.{IsSummary}
 use Rattle.fb_run.specs.Logs.{IsUnharmed}
 use Rattle.fb_recover.specs.Openings.{HasCoverage}
-use Rattle.fb_run.specs.StatusLines.{Why, answered, looked, usage, unopened, disk_failed, bad_record, unlawful, ended_early, console_failed, log_stopped, segments_failed, memory, out_of_memory, history_line, status_of, line_of, first_early}
+use Rattle.fb_run.specs.StatusLines.{Why, answered, reported, usage, unopened, disk_failed, bad_record, unlawful, ended_early, console_failed, log_stopped, segments_failed, memory, out_of_memory, history_line, status_of, line_of, first_early}
 
 -- ---- what is handed back
 
--- no part of it is one that only a console or a generator would fill
-pub record HasNoConsole {I O D : Type 0} (outcome : Outcome I O D) : Type 0 where
-  pub console : outcome.console ≡ None
-  pub loads : outcome.loads.items ≡ []
+-- no line went out to a console
+abbrev pub HasNoConsole : {I O D : Type 0} → Outcome I O D → Type 0
+HasNoConsole outcome = outcome.console ≡ None
 
 -- the disk of this part of the directory
 abbrev pub part_of : {I O D : Type 0} → Outcome I O D → Part → Option D
@@ -47,6 +49,7 @@ pub record HasNoDisk {I O D : Type 0} (outcome : Outcome I O D) : Type 0 where
 -- no session ran
 pub record NoSession {I O D : Type 0} (outcome : Outcome I O D) : Type 0 where
   pub sessions : outcome.sessions.items ≡ []
+  pub loads : outcome.loads.items ≡ []
   pub authors : outcome.authors ≡ None
   pub last : outcome.last ≡ None
   pub torn : outcome.torn ≡ None
@@ -65,7 +68,7 @@ IsOutOfMemory outcome = OutOfMemory outcome.status (string_bytes outcome.line)
 -- the status and the line of why the program ends; where there is something to say, memory may be refused to it
 abbrev pub SaysWhy : Why → ℕ → List ℕ → Type 0
 SaysWhy answered status line = (status ≡ 0) × (line ≡ [])
-SaysWhy looked status line = (status ≡ 0) × (line ≡ [])
+SaysWhy reported status line = (status ≡ 0) × (line ≡ [])
 SaysWhy why status line =
     ((status ≡ status_of why) × (line ≡ line_of why)) ⊎ OutOfMemory status line
 
@@ -79,13 +82,19 @@ pub record Counts {I O : Type 0} (told : Told) (tells : Tells I O) (name : List 
   pub sink :
       SinkCount session.end (told.sink_faults (sink_of name)) (tells.sink_faults session.sink)
 
--- scripts are to be run
+-- sessions are to be run
 abbrev pub IsRun : Option Command → Type 0
 IsRun None = ⊥
 IsRun (Some (run options directory scripts)) = Unit {0}
 IsRun (Some (check directory)) = ⊥
+IsRun (Some (load count)) = Unit {0}
 
--- a session ran for each script, and this is the first that ended early
+-- how the sessions ended: those of the generator, or those of scripts
+abbrev pub ends_of : {I O D : Type 0} → Outcome I O D → List SessionEnd
+ends_of outcome =
+    map (λ s. s.end) outcome.loads.items ++ map (λ s. s.end) outcome.sessions.items
+
+-- a session ran for each script, or by each number of the generator's, and this is the first that ended early
 pub record HaveRun {I O D : Type 0} (told : Told) (tells : Tells I O) (new : ℕ)
     (command : Option Command) (outcome : Outcome I O D) (early : Option (List ℕ × SessionEnd))
     : Type 0 where
@@ -93,8 +102,9 @@ pub record HaveRun {I O D : Type 0} (told : Told) (tells : Tells I O) (new : ℕ
   pub host : new ≡ told.faults
   pub each : EachOf (λ n name (s : SessionOut I O). Counts told tells name s) 0
       (scripts_of command) outcome.sessions.items
-  pub first : first_early (scripts_of command) (map (λ (s : SessionOut I O). s.end)
-      outcome.sessions.items) ≡ early
+  pub loads : EachOf (λ n name s. Counts (told_in_memory told command) in_memory name s) 0
+      (loads_of command) outcome.loads.items
+  pub first : first_early (loads_of command ++ scripts_of command) (ends_of outcome) ≡ early
   pub last : IsSome outcome.last
   pub authors : IsSome outcome.authors
   pub disks : HasDisks outcome
@@ -104,12 +114,14 @@ abbrev pub directory_of : Option Command → List ℕ
 directory_of None = []
 directory_of (Some (run options directory scripts)) = directory
 directory_of (Some (check directory)) = directory
+directory_of (Some (load count)) = codes ":memory:"
 
 -- what it opens: its directory first, and then its scripts' sources and sinks, or the console
 abbrev pub names_of : Option Command → List (List ℕ)
 names_of None = []
 names_of (Some (run options directory scripts)) = directory ∷ scripts
 names_of (Some (check directory)) = directory ∷ standard ∷ []
+names_of (Some (load count)) = codes ":memory:" ∷ standard ∷ []
 
 -- both disks are handed back, unless the directory itself was not opened
 abbrev pub HandsBack : {I O D : Type 0} → ℕ → Outcome I O D → Type 0
@@ -194,13 +206,40 @@ pub record HasLooked {I O D : Type 0} (told : Told) (tells : Tells I O) (disks :
       (told.sinks standard) (tells.contents console)
       (told.sink_faults standard) (tells.sink_faults console)
 
+-- The sessions of the generator answered all of their scripts. The console took the line about what they left, so far.
+pub record HasLoaded {I O D : Type 0} (told : Told) (tells : Tells I O) (disks : DiskTells D)
+    (new : ℕ) (command : Option Command) (outcome : Outcome I O D)
+    (Took : List ℕ → Option (List ℕ) → Option (List ℕ) → ℕ → ℕ → Type 0) : Type 0 where
+  pub count : ℕ
+  pub is_load : command ≡ Some (load count)
+  pub ran : HaveRun told tells new command outcome None
+  pub taken : outcome.torn ≡ None
+  pub unfailed : IsUnfailed told disks command outcome Segments
+  pub last : Kept
+  pub last_is : outcome.last ≡ Some last
+  pub line : List ℕ
+  pub summary : IsSummary last.entries line
+  pub console : O
+  pub console_is : outcome.console ≡ Some console
+  pub took : Took line (told.sinks standard) (tells.contents console)
+      (told.sink_faults standard) (tells.sink_faults console)
+
+-- the line of the command went out to the console, so far
+abbrev pub Reports : {I O D : Type 0} → Told → Tells I O → DiskTells D → ℕ → Option Command
+    → Outcome I O D
+    → (List ℕ → Option (List ℕ) → Option (List ℕ) → ℕ → ℕ → Type 0) → Type 0
+Reports told tells disks new command outcome Took =
+    HasLooked told tells disks new command outcome Took
+    ⊎ HasLoaded told tells disks new command outcome Took
+
 abbrev pub CauseOf : {I O D : Type 0} → Told → Tells I O → DiskTells D → ℕ → Option Command
     → Outcome I O D → Why → Type 0
 CauseOf told tells disks new command outcome answered =
     HaveRun told tells new command outcome None × (outcome.torn ≡ None)
     × IsUnfailed told disks command outcome Segments
-CauseOf told tells disks new command outcome looked =
-    HasLooked told tells disks new command outcome TookWhole
+    × (loads_of command ≡ [])
+CauseOf told tells disks new command outcome reported =
+    Reports told tells disks new command outcome TookWhole
 CauseOf told tells disks new command outcome usage =
     NoSession outcome × HasNoDisk outcome × (command ≡ None) × (new ≡ told.faults)
 CauseOf told tells disks new command outcome (unopened name) =
@@ -222,7 +261,7 @@ CauseOf told tells disks new command outcome (unlawful t law) =
 CauseOf told tells disks new command outcome (ended_early name how) =
     HaveRun told tells new command outcome (Some (name, how))
 CauseOf told tells disks new command outcome console_failed =
-    HasLooked told tells disks new command outcome TookPart
+    Reports told tells disks new command outcome TookPart
 CauseOf told tells disks new command outcome (log_stopped t) =
     HaveRun told tells new command outcome None
     × (stop_of outcome.torn ≡ Some t)
@@ -237,7 +276,7 @@ CauseOf told tells disks new command outcome memory =
 
 -- a console is handed back where there was a line for it
 abbrev pub HasConsole : {I O D : Type 0} → Why → Outcome I O D → Type 0
-HasConsole looked outcome = IsSome outcome.console
+HasConsole reported outcome = IsSome outcome.console
 HasConsole console_failed outcome = IsSome outcome.console
 HasConsole why outcome = outcome.console ≡ None
 

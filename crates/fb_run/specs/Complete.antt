@@ -11,7 +11,7 @@ use Rattle.fb_ports.specs.Faults.{Rose}
 use Rattle.fb_ports.specs.declared.hosts.Part.{Part}
 use Rattle.fb_ports.specs.declared.hosts.Part.TheVariants.{Log}
 use Rattle.fb_ports.specs.Told.{Told}
-use Rattle.command_line.specs.Words.{Command, run, check, scripts_of, sink_of, standard}
+use Rattle.command_line.specs.Words.{Command, check, scripts_of, sink_of, standard}
 use Rattle.script_model.specs.Script.{whole, Script}
 use Rattle.talk_model.specs.Session.{Setting, Standing, opened_at}
 use Rattle.talk_model.specs.Talk.{Exchange, forms_of, places_of, lines_of, commits_of, Talk}
@@ -21,6 +21,7 @@ use Rattle.fb_session.specs.Replies.{SessionRun}
 use Rattle.fb_run.specs.declared.outcome.SessionOut.{SessionOut}
 use Rattle.fb_run.specs.declared.outcome.Outcome.{Outcome}
 use Rattle.fb_run.specs.Outside.{Tells, DiskTells, run_of, setting_of, EachOf, EachWhile}
+use Rattle.fb_run.specs.Generated.{loads_of, generated, told_in_memory, in_memory}
 use Rattle.fb_run.specs.Causes.{directory_of, part_of, IsOutOfMemory}
 
 -- the source holds these forms, within the limits, and nothing else
@@ -41,19 +42,24 @@ pub record HoldsHistory (held : Option (List ℕ)) : Type 0 where
   pub history : List Entry
   pub is : IsLogOf file history
 
+-- no count of a session's source or sink rose
+pub record StreamsStay {I O : Type 0} (told : Told) (tells : Tells I O) (names : List (List ℕ))
+    (sessions : List (SessionOut I O)) : Type 0 where
+  pub sources : EachWhile (λ name (s : SessionOut I O).
+      ¬ Rose (told.source_faults name) (tells.source_faults s.source)) names sessions
+  pub sinks : EachWhile (λ name (s : SessionOut I O).
+      ¬ Rose (told.sink_faults (sink_of name)) (tells.sink_faults s.sink)) names sessions
+
 -- no count of faults rose: not the host's, nor that of a disk that is handed back, nor that of a session's source or sink or of the
 -- console
 pub record NoneRose {I O D : Type 0} (told : Told) (tells : Tells I O) (disks : DiskTells D)
-    (new : ℕ) (dir : List ℕ) (scripts : List (List ℕ)) (outcome : Outcome I O D) : Type 0 where
+    (new : ℕ) (command : Option Command) (outcome : Outcome I O D) : Type 0 where
   pub host : ¬ Rose told.faults new
   pub parts : (part : Part) (disk : D) → part_of outcome part ≡ Some disk
-      → ¬ Rose (told.disk_faults dir part) (disks.faults disk)
-  pub sources : EachWhile (λ name (s : SessionOut I O).
-      ¬ Rose (told.source_faults name) (tells.source_faults s.source)) scripts
-      outcome.sessions.items
-  pub sinks : EachWhile (λ name (s : SessionOut I O).
-      ¬ Rose (told.sink_faults (sink_of name)) (tells.sink_faults s.sink)) scripts
-      outcome.sessions.items
+      → ¬ Rose (told.disk_faults (directory_of command) part) (disks.faults disk)
+  pub sessions : StreamsStay told tells (scripts_of command) outcome.sessions.items
+  pub loads : StreamsStay (told_in_memory told command) in_memory (loads_of command)
+      outcome.loads.items
   pub console : (console : O) → outcome.console ≡ Some console
       → ¬ Rose (told.sink_faults standard) (tells.sink_faults console)
 
@@ -68,23 +74,33 @@ pub record EachHasItsLine (s : Setting) (opening : ℕ) (forms : List Form) (run
   pub commits : run.commits ≡ commits_of exchanges
   pub gained : run.has ≡ append_known run.had (concat (lines_of exchanges))
 
--- the run succeeded, and each of its sessions answered all forms of its script; the log has not stopped
+-- each of these sessions answered all forms of its script; the log has not stopped
+abbrev pub EachAnswers : {I O : Type 0} → Terms → Told → Tells I O → ℕ → List Entry
+    → List (List ℕ) → List (SessionOut I O) → Type 0
+EachAnswers {I} {O} terms told tells opening h names sessions =
+    EachOf (λ n name (s : SessionOut I O).
+    (forms : List Form) → HoldsForms (told.sources name) forms
+    → EachHasItsLine (setting_of terms h None false) opening forms (run_of told tells name s))
+    0 names sessions
+
+-- the run succeeded, and each of its sessions answered all forms of its script
 pub record AnsweredWhole {I O D : Type 0} (terms : Terms) (told : Told) (tells : Tells I O)
-    (scripts : List (List ℕ)) (outcome : Outcome I O D) : Type 0 where
+    (command : Option Command) (outcome : Outcome I O D) : Type 0 where
   pub succeeded : outcome.status ≡ 0
   pub last : Kept
   pub kept : outcome.last ≡ Some last
-  pub each : EachOf (λ n name (s : SessionOut I O).
-      (forms : List Form) → HoldsForms (told.sources name) forms
-      → EachHasItsLine (setting_of terms last.entries None false) outcome.recovered forms
-      (run_of told tells name s)) 0 scripts outcome.sessions.items
+  pub each : EachAnswers terms told tells outcome.recovered last.entries (scripts_of command)
+      outcome.sessions.items
+  pub loads : EachAnswers terms (told_in_memory told command) in_memory outcome.recovered
+      last.entries (loads_of command) outcome.loads.items
 
--- the run answered each form of its scripts; or the look at the directory, which has no script, succeeded, so it told its line
+-- each form of its scripts, or of the generator's, was answered; or the look at the directory, which has no script, succeeded, so it
+-- told its line
 abbrev pub Succeeds : {I O D : Type 0} → Terms → Told → Tells I O → Command → Outcome I O D
     → Type 0
-Succeeds terms told tells (run options directory scripts) outcome =
-    AnsweredWhole terms told tells scripts outcome
 Succeeds terms told tells (check directory) outcome = outcome.status ≡ 0
+Succeeds terms told tells command outcome =
+    AnsweredWhole terms told tells (Some command) outcome
 
 -- Where the words are a command, its log is that of a history, its scripts are forms within the limits, and no count of faults rises,
 -- it succeeds, or memory was refused.
@@ -94,6 +110,7 @@ Complete terms told tells disks new None outcome = Unit {0}
 Complete terms told tells disks new (Some command) outcome =
     HoldsHistory (told.disks (directory_of (Some command)) Log)
     → AllByRecursion (λ name. HoldsFormsAlone (told.sources name)) (scripts_of (Some command))
-    → NoneRose told tells disks new (directory_of (Some command)) (scripts_of (Some command))
-    outcome
+    → AllByRecursion (λ name. HoldsFormsAlone (generated (Some command) name))
+    (loads_of (Some command))
+    → NoneRose told tells disks new (Some command) outcome
     → Succeeds terms told tells command outcome ⊎ IsOutOfMemory outcome

@@ -1,12 +1,15 @@
 pub mod StatusLines
 pub mod Outside
+pub mod Generated
 pub mod Opening
 pub mod Jobs
 pub mod Merging
 pub mod Headline
+pub mod Summary
 pub mod Logs
 pub mod Causes
 pub mod Complete
 pub mod Database
 pub mod Looking
+pub mod Loading
 pub mod Running

@@ -16,7 +16,7 @@ use Rattle.fb_run.specs.declared.database.Unready.{Unready}
 use Rattle.fb_run.specs.declared.opening.Unopened.{Unopened}
 use Rattle.fb_run.specs.declared.looking.Look.{Look}
 use Rattle.fb_run.specs.declared.outcome.Outcome.{Outcome}
-use Rattle.fb_run.specs.StatusLines.{looked, console_failed, history_line}
+use Rattle.fb_run.specs.StatusLines.{reported, console_failed, history_line}
 use Rattle.fb_run.specs.Outside.{Tells, DiskTells, IsSinkOf}
 use Rattle.fb_run.specs.Opening.{IsNotOpened}
 use Rattle.fb_recover.specs.Openings.{HasCoverage}
@@ -55,7 +55,7 @@ pub record HasTold {I O D : Type 0} (contents : O → Option (List ℕ)) (faults
   pub now : O
   pub console_is : outcome.console ≡ Some now
   pub took :
-      (SaysWhy looked outcome.status (string_bytes outcome.line)
+      (SaysWhy reported outcome.status (string_bytes outcome.line)
       × TookWhole line (contents was) (contents now) (faults was) (faults now))
       ⊎ (SaysWhy console_failed outcome.status (string_bytes outcome.line)
       × TookPart line (contents was) (contents now) (faults was) (faults now))

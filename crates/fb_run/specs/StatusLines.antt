@@ -97,8 +97,8 @@ line_of_end name Memory = out_of_memory
 pub data Why : Type 0 where
   -- each script was answered
   answered : Why
-  -- the history of the directory was told on the console
-  looked : Why
+  -- the console took the line of a look, or that of the generator
+  reported : Why
   -- the words are no command
   usage : Why
   -- the host could not open what has this name
@@ -121,7 +121,7 @@ pub data Why : Type 0 where
 
 abbrev pub status_of : Why → ℕ
 status_of answered = 0
-status_of looked = 0
+status_of reported = 0
 status_of usage = 1
 status_of (unopened name) = 2
 status_of (disk_failed part) = 3
@@ -135,7 +135,7 @@ status_of memory = 9
 
 abbrev pub line_of : Why → List ℕ
 line_of answered = []
-line_of looked = []
+line_of reported = []
 line_of usage = usage_line
 line_of (unopened name) = cannot_open name
 line_of (disk_failed part) = disk_fault part

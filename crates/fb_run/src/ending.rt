@@ -66,6 +66,7 @@ pub(crate) fn closed<R: Threads + Sync, I: Drop, O: Drop, D: Disk>(
         command.now.options.merge_at (names_in command.now.scripts.items) begun result }
     ensures covered { IfSome result.last (λ last. result.covered ≡ last.covered) }
     ensures no_console { HasNoConsole result }
+    ensures no_loads { result.loads.items ≡ [] }
 {
     let Ended { sessions, seats } = ended;
     let Worker {

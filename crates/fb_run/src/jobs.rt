@@ -11,6 +11,7 @@ ghost use Rattle.fb_run.specs.Jobs.{HasTalked, HaveTalked};
 ghost use Rattle.fb_run.specs.Merging.{TreesFit, CanWork, HasWorked};
 
 use crate::merging::{Worker, beside, merge};
+use crate::opening::Start;
 use crate::outcome::SessionOut;
 use conn_desk::ConnDesk;
 use fb_conn::{Conn, Seat};
@@ -65,6 +66,7 @@ pub(crate) fn serve_all<
     guard: &G,
     preds: &P,
     gate: &W,
+    start: Start,
 ) -> Result<Ended<I, O>, Memory>
 where
     L::Record: Send,
@@ -85,7 +87,7 @@ where
 {
     let room = room_for(alloc, seats.len())?;
     let mut jobs = jobs_of(alloc, conn, seats, opened)?;
-    serve_each(
+    serve_from(
         rt,
         alloc,
         conn,
@@ -95,6 +97,7 @@ where
         guard,
         preds,
         gate,
+        start,
     );
     Ok(take_apart(jobs, room))
 }
@@ -155,6 +158,111 @@ fn job_of<'a, L: Log, I: Drop, O: Drop>(
         },
         None => unreachable!(),
     }
+}
+
+/// Runs the sessions, all together or the last ahead, and the worker beside them.
+fn serve_from<
+    'a,
+    R: Threads + Wait + Sync,
+    L: Log + Send,
+    I: Source + Send,
+    O: Sink + Send,
+    K: Clock + Sync,
+    G: Guard<Snapshot> + Sync,
+    P: FilterTable + Sync,
+    W: Gate + Sync,
+    D: Disk + Send,
+>(
+    rt: &R,
+    alloc: Global,
+    conn: &Conn<L>,
+    worker: &mut Worker<D>,
+    jobs: &mut [Job<'a, I, O, L>],
+    clock: &K,
+    guard: &G,
+    preds: &P,
+    gate: &W,
+    start: Start,
+)
+where
+    L::Record: Send,
+    requires left { All (λ job. 1_000_000 ≤ (state_of job.desk.seat).left) jobs.old }
+    requires can_work { CanWork conn.now worker.old }
+    requires fit { TreesFit (disks_of D.bytes D.faults D.images D.moment D.images_since)
+        worker.old.trees }
+    ensures talked { (k : ℕ) (d : _) → k < length jobs.old → HasTalked
+        (terms_of (K.may_answer clock.now) (G.bars guard.now) (P.place_of preds.now)
+        (P.selects_at preds.now))
+        (tells_of I.left I.faults O.contents O.faults)
+        (state_of (slice_index_or jobs.old k d).desk.seat)
+        (state_of (slice_index_or jobs.new k d).desk.seat) (slice_index_or jobs.old k d).out
+        (slice_index_or jobs.new k d).out }
+    ensures worked { HasWorked (disks_of D.bytes D.faults D.images D.moment D.images_since)
+        conn.now worker.old worker.new }
+{
+    match start {
+        Start::Together => serve_each(rt, alloc, conn, worker, jobs, clock, guard, preds, gate),
+        Start::LastAhead => {
+            serve_last_ahead(rt, alloc, conn, worker, jobs, clock, guard, preds, gate)
+        }
+    }
+}
+
+/// Runs the last of the sessions, and then each of the others, and the worker beside them.
+fn serve_last_ahead<
+    'a,
+    R: Threads + Wait + Sync,
+    L: Log + Send,
+    I: Source + Send,
+    O: Sink + Send,
+    K: Clock + Sync,
+    G: Guard<Snapshot> + Sync,
+    P: FilterTable + Sync,
+    W: Gate + Sync,
+    D: Disk + Send,
+>(
+    rt: &R,
+    alloc: Global,
+    conn: &Conn<L>,
+    worker: &mut Worker<D>,
+    jobs: &mut [Job<'a, I, O, L>],
+    clock: &K,
+    guard: &G,
+    preds: &P,
+    gate: &W,
+)
+where
+    L::Record: Send,
+    requires left { All (λ job. 1_000_000 ≤ (state_of job.desk.seat).left) jobs.old }
+    requires can_work { CanWork conn.now worker.old }
+    requires fit { TreesFit (disks_of D.bytes D.faults D.images D.moment D.images_since)
+        worker.old.trees }
+    ensures talked { (k : ℕ) (d : _) → k < length jobs.old → HasTalked
+        (terms_of (K.may_answer clock.now) (G.bars guard.now) (P.place_of preds.now)
+        (P.selects_at preds.now))
+        (tells_of I.left I.faults O.contents O.faults)
+        (state_of (slice_index_or jobs.old k d).desk.seat)
+        (state_of (slice_index_or jobs.new k d).desk.seat) (slice_index_or jobs.old k d).out
+        (slice_index_or jobs.new k d).out }
+    ensures worked { HasWorked (disks_of D.bytes D.faults D.images D.moment D.images_since)
+        conn.now worker.old worker.new }
+{
+    if jobs.is_empty() {
+        return serve_each(rt, alloc, conn, worker, jobs, clock, guard, preds, gate);
+    }
+    let ahead = jobs.len() - 1;
+    jobs[ahead].serve(rt, alloc, clock, guard, preds);
+    serve_each(
+        rt,
+        alloc,
+        conn,
+        worker,
+        &mut jobs[..ahead],
+        clock,
+        guard,
+        preds,
+        gate,
+    )
 }
 
 /// Runs each of the sessions, and the worker beside them.

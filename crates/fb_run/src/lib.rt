@@ -6,10 +6,12 @@ mod database;
 mod ending;
 mod jobs;
 mod lines;
+mod loading;
 mod looking;
 mod merging;
 mod opening;
 mod outcome;
+mod summary;
 mod top;
 
 pub use outcome::{Outcome, SessionOut};

@@ -10,7 +10,7 @@ ghost use Rattle.fb_run.specs.Outside.{tells_of, disks_of};
 ghost use Rattle.fb_run.specs.Logs.{IsUnharmed};
 ghost use Rattle.fb_run.specs.Opening.{OpensSink, IsNotOpened};
 ghost use Rattle.fb_run.specs.Database.{IsUnready};
-ghost use Rattle.fb_run.specs.StatusLines.{history_line, looked, console_failed};
+ghost use Rattle.fb_run.specs.StatusLines.{history_line, reported, console_failed};
 ghost use Rattle.fb_run.specs.Causes.{HasNoConsole, NoSession, SaysWhy, Causes};
 ghost use Rattle.fb_run.specs.Looking.{IsLook, IsUnanswered, HasTold};
 
@@ -24,7 +24,7 @@ use fb_ports::{Failed, Host, Sink};
 use std::alloc::Global;
 
 /// The name of standard output.
-const CONSOLE: &str = "-";
+pub(crate) const CONSOLE: &str = "-";
 
 /// Opens the directory, and tells its history on the console.
 pub(crate) fn check_directory<H: Host>(
@@ -33,7 +33,6 @@ pub(crate) fn check_directory<H: Host>(
     directory: &str,
 ) -> Outcome<H::In, H::Out, H::Disk>
     ensures none { NoSession result }
-    ensures no_loads { result.loads.items ≡ [] }
     ensures unharmed { IfSome result.log (IsUnharmed (H.told host.old)
         (disks_of H.Disk.bytes H.Disk.faults H.Disk.images H.Disk.moment H.Disk.images_since)
         directory.now) }
@@ -145,7 +144,6 @@ fn open_answer<'a, H: Host>(
 /// The outcome of a look: its line goes out to the console.
 fn looked<I: Drop, O: Sink, D: Disk>(alloc: Global, look: Look<O, D>) -> Outcome<I, O, D>
     ensures none { NoSession result }
-    ensures no_loads { result.loads.items ≡ [] }
     ensures log { result.log ≡ Some (disk_in look.directory.log) }
     ensures segments { result.segments ≡ Some (segments_in look.directory.store) }
     ensures told { HasTold O.contents O.faults (string_bytes look.answer.line)
@@ -164,14 +162,14 @@ fn looked<I: Drop, O: Sink, D: Disk>(alloc: Global, look: Look<O, D>) -> Outcome
 }
 
 /// The outcome where this became of the line.
-fn answered<I: Drop, O: Drop, D: Drop>(
+pub(crate) fn answered<I: Drop, O: Drop, D: Drop>(
     alloc: Global,
     written: Result<(), Failed>,
 ) -> Outcome<I, O, D>
     ensures none { NoSession result }
     ensures no_console { HasNoConsole result }
     ensures said { MatchResult written
-        (λ _. SaysWhy looked result.status (string_bytes result.line))
+        (λ _. SaysWhy reported result.status (string_bytes result.line))
         (λ _. SaysWhy console_failed result.status (string_bytes result.line)) }
 {
     match written {
@@ -181,7 +179,7 @@ fn answered<I: Drop, O: Drop, D: Drop>(
 }
 
 /// Writes the line in as few pieces as the sink takes. A sink that fails has taken less than the whole.
-fn write_line<O: Sink>(sink: &mut O, line: &[u8]) -> Result<(), Failed>
+pub(crate) fn write_line<O: Sink>(sink: &mut O, line: &[u8]) -> Result<(), Failed>
     ensures whole { OnOk result
         (O.contents sink.new ≡ append_known (O.contents sink.old) line.now) }
     ensures part { OnErr result (TakesPart line.now (O.contents sink.old) (O.contents sink.new)) }

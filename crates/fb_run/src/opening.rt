@@ -21,6 +21,15 @@ use std::vec::IntoIter;
 pub(crate) struct Ready<I, O, D: Disk> {
     pub(crate) directory: Directory<D>,
     pub(crate) sessions: Vec<SessionOut<I, O>>,
+    pub(crate) start: Start,
+}
+
+/// When the sessions begin.
+#[derive(Clone, Copy)]
+pub(crate) enum Start {
+    Together,
+    /// The last one runs before the others begin.
+    LastAhead,
 }
 
 /// Opens the directory of a run, and then what its scripts need.
@@ -47,6 +56,7 @@ pub(crate) fn open_run<'a, H: Host>(
         Ok(sessions) => Ok(Ready {
             directory,
             sessions,
+            start: Start::Together,
         }),
         Err(why) => Err(Unready {
             why: Obstacle::Unopened(why),
@@ -176,18 +186,25 @@ fn add_session<'a, H: Host>(
         None => unreachable!(),
     };
     let sink = open_sink(alloc, host, name)?;
-    let session = SessionOut {
+    let Ok(()) = sessions.push(session_of(alloc, source, sink)) else {
+        return Err(Unopened::Memory);
+    };
+    Ok(())
+}
+
+/// A session that is still to be run.
+pub(crate) fn session_of<I: Drop, O: Drop>(alloc: Global, source: I, sink: O) -> SessionOut<I, O>
+    ensures source { result.source ≡ source }
+    ensures sink { result.sink ≡ sink }
+{
+    SessionOut {
         source,
         sink,
         // It stays so until the session has run.
         end: SessionEnd::Memory,
         places: Places::of(Vec::new(alloc)),
         commits: Places::of(Vec::new(alloc)),
-    };
-    let Ok(()) = sessions.push(session) else {
-        return Err(Unopened::Memory);
-    };
-    Ok(())
+    }
 }
 
 /// Opens the sink for the lines of a script.

@@ -17,7 +17,7 @@ pub struct SessionOut<I, O> {
     pub commits: Places,
 }
 
-/// What a command hands back. The sessions of a generator are none until the program has one.
+/// What a command hands back.
 #[derive(Drop)]
 pub struct Outcome<I, O, D> {
     /// The program's exit status.
@@ -28,7 +28,7 @@ pub struct Outcome<I, O, D> {
     pub sessions: Vec<SessionOut<I, O>>,
     /// Where the answer of a look at a directory was written, in whole or in part.
     pub console: Option<O>,
-    /// The sessions of a generator.
+    /// The sessions of the generator, by number.
     pub loads: Vec<SessionOut<MemSource, MemSink>>,
     /// The two disks of the directory, where it was opened. Want of memory may keep them.
     pub log: Option<D>,

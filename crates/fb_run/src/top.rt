@@ -1,5 +1,5 @@
 //! The top call: from the words of a command line, over a host and a clock, to an outcome.
-ghost use Rattle.std.specs.Prelude.{◌≡◌, ◌⊎◌, ℕ, ◌<◌, ◌≤◌, Bool, true, [], map, length, Some, None, slice_get, string_bytes, IfSome};
+ghost use Rattle.std.specs.Prelude.{◌≡◌, ◌⊎◌, ℕ, ◌<◌, ◌≤◌, Bool, true, [], ◌++◌, map, length, Some, None, slice_get, string_bytes, IfSome};
 ghost use Rattle.std.specs.Option.{unwrap_or};
 ghost use Rattle.std.specs.List.{AllByRecursion};
 ghost use Rattle.fb_model.specs.History.{basis, upto};
@@ -12,6 +12,7 @@ ghost use Rattle.talk_model.specs.Prefixes.{Prefixes};
 ghost use Rattle.fb_ports.specs.declared.hosts.Part.{Part};
 ghost use Rattle.fb_session.specs.Sessions.{terms_of};
 ghost use Rattle.fb_run.specs.Outside.{tells_of, disks_of};
+ghost use Rattle.fb_run.specs.Generated.{loads_of, told_in_memory, in_memory};
 ghost use Rattle.fb_run.specs.Headline.{OneHistory, stop_of, EachReplies};
 ghost use Rattle.fb_run.specs.Logs.{LogHolds, IsUnharmed};
 ghost use Rattle.fb_run.specs.Causes.{directory_of, HasNoConsole, HasNoDisk, NoSession, IsOutOfMemory, Causes};
@@ -24,6 +25,7 @@ use crate::database::{Connection, connected};
 use crate::ending::{closed, not_begun, without_session};
 use crate::jobs::serve_all;
 use crate::lines::{out_of_memory, usage};
+use crate::loading::load;
 use crate::looking::check_directory;
 use crate::opening::{Ready, open_run};
 use crate::outcome::{Outcome, SessionOut};
@@ -59,7 +61,8 @@ pub fn run<
 ) -> Outcome<H::In, H::Out, H::Disk>
     // The accepted transactions form one lawful history, in which each has one author.
     ensures one_history { IfSome result.last (λ last. OneHistory last.entries result.recovered
-        (unwrap_or result.authors []) (map (λ s. s.commits) result.sessions.items)) }
+        (unwrap_or result.authors []) (map (λ s. s.commits) result.loads.items
+        ++ map (λ s. s.commits) result.sessions.items)) }
 
     // Each line answers its form as a database with one thread would at its place in the history.
     ensures replies { IfSome result.last (λ last. EachReplies
@@ -69,11 +72,21 @@ pub fn run<
         result.recovered (stop_of result.torn)
         (scripts_of (command_of (map string_bytes words.now.items))) result.sessions.items
         last.entries) }
+    ensures loads { IfSome result.last (λ last. EachReplies
+        (terms_of (K.may_answer clock.now) (G.bars guard.now) (P.place_of preds.now)
+        (P.selects_at preds.now))
+        (told_in_memory (H.told host.old) (command_of (map string_bytes words.now.items)))
+        in_memory result.recovered (stop_of result.torn)
+        (loads_of (command_of (map string_bytes words.now.items))) result.loads.items
+        last.entries) }
 
     // Each line rests on a prefix of the history that has all that its session had seen.
     ensures prefixes { IfSome result.last (λ last. AllByRecursion
         (λ s. Prefixes result.recovered (basis last.entries) s.places s.commits)
         result.sessions.items) }
+    ensures load_prefixes { IfSome result.last (λ last. AllByRecursion
+        (λ s. Prefixes result.recovered (basis last.entries) s.places s.commits)
+        result.loads.items) }
 
     // The log's file was that of the history at the opening.
     ensures opening { IfSome result.last (λ last. WhereTold
@@ -121,15 +134,15 @@ pub fn run<
     ensures unharmed { result.last ≡ None → IfSome result.log (IsUnharmed (H.told host.old)
         (disks_of H.Disk.bytes H.Disk.faults H.Disk.images H.Disk.moment H.Disk.images_since)
         (directory_of (command_of (map string_bytes words.now.items)))) }
-
-    // Nothing fills these yet.
-    ensures no_loads { result.loads.items ≡ [] }
 {
     match command_in(alloc, words.as_slice()) {
         Ok(Some(Request::Run(command))) => {
             run_command(rt, alloc, &command, host, clock, preds, guard, gate)
         }
         Ok(Some(Request::Check(directory))) => check_directory(alloc, host, directory),
+        Ok(Some(Request::Load(count))) => {
+            load(rt, alloc, count, host, clock, preds, guard, gate)
+        }
         Ok(None) => without_session(alloc, 1, usage(alloc)),
         Err(Memory) => without_session(alloc, 9, out_of_memory(alloc)),
     }
@@ -189,6 +202,7 @@ fn run_command<
         (disks_of H.Disk.bytes H.Disk.faults H.Disk.images H.Disk.moment H.Disk.images_since)
         command.now.directory.now command.now.options.merge_at last)) }
     ensures no_console { HasNoConsole result }
+    ensures no_loads { result.loads.items ≡ [] }
 {
     match open_run(alloc, host, command) {
         Ok(ready) => run_opened(rt, alloc, command, ready, clock, preds, guard, gate),
@@ -197,7 +211,7 @@ fn run_command<
 }
 
 /// Runs the sessions over a database that was opened, and the worker beside them.
-fn run_opened<
+pub(crate) fn run_opened<
     R: Threads + Wait + Sync,
     I: Source + Send,
     O: Sink + Send,
@@ -243,10 +257,12 @@ fn run_opened<
         (trees_in ready.directory) result }
     ensures covered { IfSome result.last (λ last. result.covered ≡ last.covered) }
     ensures no_console { HasNoConsole result }
+    ensures no_loads { result.loads.items ≡ [] }
 {
     let Ready {
         directory,
         sessions,
+        start,
     } = ready;
     let count = sessions.len() as u32;
     let recovered = directory.recovered;
@@ -269,6 +285,7 @@ fn run_opened<
         guard,
         preds,
         gate,
+        start,
     ) {
         Ok(ended) => closed(rt, alloc, command, conn, worker, ended, recovered),
         Err(Memory) => without_session(alloc, 9, out_of_memory(alloc)),

@@ -1,4 +1,4 @@
-use Rattle.std.proofs.Common.{refl, sym, ap, subst}
+use Rattle.std.proofs.Common.{sym, subst}
 use Rattle.board_rule.specs.Calls.{view_of}
 use Rattle.fb_roots.specs.Bases.{IsBaseOf}
 use Rattle.fb_run.proofs.Running.{is_made}

@@ -1,5 +1,4 @@
 use Rattle.std.proofs.Common.{refl, ap, sym, subst, ◌∙◌, map, List}
-use Rattle.std.specs.Prelude.{string_bytes}
 use Rattle.fb_values.specs.declared.facts.Entry.{Entry}
 use Rattle.fb_model.specs.Lawful.{IsLawful}
 use Rattle.command_line.specs.Views.{names_in}

@@ -3,17 +3,17 @@ use Rattle.fb_conn.specs.Seats.{state_of}
 use Rattle.fb_run.proofs.Talking.{at_seats, have_talked_in}
 use Rattle.fb_run.proofs.jobs.serve_all.Goals as goal
 
-pub serve_each-requires-clause-left : goal.serve_each-requires-clause-left
-serve_each-requires-clause-left g c κs within =
+pub serve_from-requires-clause-left : goal.serve_from-requires-clause-left
+serve_from-requires-clause-left g c κs within =
     at_seats (λ seat. 1000000 ≤ (state_of seat).left) _ _ _ c.as_mut_slice.ensures.value c.in_ok-jobs.ensures.seats (λ k seat is.
     (c.requires.seats k seat is).1)
 
 pub returns-clause-talked : goal.returns-clause-talked
 returns-clause-talked g c =
     let a = c.in_ok-jobs.ensures in let e = c.as_mut_slice.ensures in
-    have_talked_in _ _ c.args.conn.now _ _ _ _ c.in_ok-jobs.jobs.items c.as_mut_slice.result.now c.serve_each.new.jobs
+    have_talked_in _ _ c.args.conn.now _ _ _ _ c.in_ok-jobs.jobs.items c.as_mut_slice.result.now c.serve_from.new.jobs
     c.in_ok-jobs.jobs.len a.seats a.sessions a.desks e.value
-    c.serve_each.ensures.talked (first_of (search (arith, c.serve_each.auto.jobs), omega (arith, c.serve_each.auto.jobs))) (omega (
+    c.serve_from.ensures.talked (first_of (search (arith, c.serve_from.auto.jobs), omega (arith, c.serve_from.auto.jobs))) (omega (
       arith,
       c.in_ok-jobs.jobs.ok.0,
     ))

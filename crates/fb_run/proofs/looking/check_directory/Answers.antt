@@ -25,7 +25,7 @@ returns-in-Err-clause-causes g c =
     let disks = disks_of g.H.Disk.Disk.bytes g.H.Disk.Disk.faults g.H.Disk.Disk.images g.H.Disk.Disk.moment g.H.Disk.Disk.images_since in
     let out = c.not_begun.ensures in
     caused_by_unready (g.H.Host.told c.args.host.now) (g.H.Host.told c.open_look.new.host) tells disks c.not_begun.result
-    (check c.args.directory.now) c.in-Err.unready c.in-Err.ensures.stop out.none out.log out.segments out.no_console.console out.said
+    (check c.args.directory.now) c.in-Err.unready c.in-Err.ensures.stop out.none out.log out.segments out.no_console out.said
 
 pub returns-in-Err-clause-unharmed : goal.returns-in-Err-clause-unharmed
 returns-in-Err-clause-unharmed g c =

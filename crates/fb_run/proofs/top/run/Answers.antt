@@ -1,10 +1,12 @@
-use Rattle.std.proofs.Common.{◌≡◌, ◌∙◌, ap, subst, refl, Some, map}
+use Rattle.std.proofs.Common.{◌≡◌, ◌∙◌, [], ap, subst, refl, Some, map}
 use Rattle.std.specs.Prelude.{IfSome, string_bytes}
+use Rattle.std.specs.Option.{unwrap_or}
 use Rattle.fb_session.specs.Sessions.{terms_of}
 use Rattle.command_line.specs.Words.{command_of, scripts_of, merge_at_of}
-use Rattle.command_line.specs.Views.{run_by}
+use Rattle.command_line.specs.Views.{names_in, run_by}
 use Rattle.fb_run.specs.Outside.{tells_of, disks_of}
-use Rattle.fb_model.specs.History.{upto}
+use Rattle.fb_model.specs.History.{basis, upto}
+use Rattle.talk_model.specs.Prefixes.{Prefixes}
 use Rattle.disk_model.specs.Disk.{WhereTold}
 use Rattle.log_model.specs.Log.{IsLogOf}
 use Rattle.fb_ports.specs.declared.hosts.Part.TheVariants as part
@@ -12,9 +14,12 @@ use Rattle.fb_run.specs.Causes.{directory_of}
 use Rattle.fb_run.specs.Logs.{LogHolds}
 use Rattle.fb_run.specs.Merging.{GoAsFar, IsMerged}
 use Rattle.fb_run.specs.Headline.{stop_of, EachReplies}
+use Rattle.fb_run.specs.Generated.{loads_of, told_in_memory, in_memory}
 use Rattle.fb_run.specs.Complete.{Complete}
 use Rattle.fb_run.proofs.Causing.{caused_by_usage, caused_by_words, says_line, says_memory}
-use Rattle.fb_run.proofs.Completing.{complete_command, complete_look}
+use Rattle.fb_run.proofs.Completing.{complete_scripts, complete_look}
+use Rattle.fb_run.proofs.Loads.{nothing_replies, nothing_all, no_loads_history, no_sessions_history}
+use Rattle.fb_run.proofs.LoadsWhole.{complete_load}
 use Rattle.fb_run.proofs.top.run.Goals as goal
 
 pub returns-in-Ok-Some-Run-clause-replies : goal.returns-in-Ok-Some-Run-clause-replies
@@ -80,7 +85,8 @@ returns-in-Ok-Some-Run-clause-complete g c =
     let new = (g.H.Host.told c.run_command.new.host).faults in
     subst (λ command. Complete terms (g.H.Host.told c.args.host.now) tells disks new command r) (is ∙ ap (λ ws. command_of (map string_bytes
     ws)) c.as_slice.ensures.value)
-    (complete_command terms (g.H.Host.told c.args.host.now) tells disks new (Some (run_by c.in-Ok-Some-Run.command)) r _ _
+    (complete_scripts terms (g.H.Host.told c.args.host.now) tells disks new c.in-Ok-Some-Run.command.options
+    c.in-Ok-Some-Run.command.directory.now (names_in c.in-Ok-Some-Run.command.scripts.items) r _ _
     c.run_command.ensures.one_history c.run_command.ensures.replies c.run_command.ensures.log c.run_command.ensures.causes)
 
 pub returns-in-Ok-None-clause-causes : goal.returns-in-Ok-None-clause-causes
@@ -90,7 +96,7 @@ returns-in-Ok-None-clause-causes g c =
     let is = rw c.in-Ok-None.field-0-is at c.in-Ok-None.ensures.asks in
     caused_by_usage (g.H.Host.told c.args.host.now) tells disks _ c.without_session.result _ (is ∙ ap (λ ws. command_of (map string_bytes
     ws)) c.as_slice.ensures.value) refl
-    c.without_session.ensures.none c.without_session.ensures.no_disk c.without_session.ensures.no_console.console
+    c.without_session.ensures.none c.without_session.ensures.no_disk c.without_session.ensures.no_console
     (says_line string_bytes c.usage.result 1 _ _ _ c.without_session.ensures.said c.without_session.ensures.unsaid c.usage.ensures)
 
 pub returns-in-Err-clause-causes : goal.returns-in-Err-clause-causes
@@ -98,7 +104,7 @@ returns-in-Err-clause-causes g c =
     let tells = tells_of g.H.In.Source.left g.H.In.Source.faults g.H.Out.Sink.contents g.H.Out.Sink.faults in
     let disks = disks_of g.H.Disk.Disk.bytes g.H.Disk.Disk.faults g.H.Disk.Disk.images g.H.Disk.Disk.moment g.H.Disk.Disk.images_since in
     caused_by_words (g.H.Host.told c.args.host.now) tells disks _ c.without_session-in-Err.result _ refl
-    c.without_session-in-Err.ensures.none c.without_session-in-Err.ensures.no_disk c.without_session-in-Err.ensures.no_console.console
+    c.without_session-in-Err.ensures.none c.without_session-in-Err.ensures.no_disk c.without_session-in-Err.ensures.no_console
     (says_memory _ _ (says_line string_bytes c.out_of_memory.result 9 _ _ _ c.without_session-in-Err.ensures.said
     c.without_session-in-Err.ensures.unsaid c.out_of_memory.ensures))
 
@@ -115,3 +121,118 @@ returns-in-Ok-Some-Check-clause-complete g c =
     subst (λ command. Complete terms (g.H.Host.told c.args.host.now) tells disks new command r) (is ∙ ap (λ ws. command_of (map string_bytes
     ws)) c.as_slice.ensures.value)
     (complete_look terms (g.H.Host.told c.args.host.now) tells disks new c.in-Ok-Some-Check.directory.now r c.check_directory.ensures.causes)
+
+pub returns-in-Ok-Some-Run-clause-one_history : goal.returns-in-Ok-Some-Run-clause-one_history
+returns-in-Ok-Some-Run-clause-one_history g c =
+    let r = c.run_command.result in
+    no_loads_history r.last r.recovered (unwrap_or r.authors []) r.loads.items (map (λ s. s.commits) r.sessions.items)
+    c.run_command.ensures.no_loads c.run_command.ensures.one_history
+
+pub returns-in-Ok-Some-Run-clause-loads : goal.returns-in-Ok-Some-Run-clause-loads
+returns-in-Ok-Some-Run-clause-loads g c =
+    let terms = terms_of (g.K.Clock.may_answer c.args.clock.now) (g.G.Guard.bars c.args.guard.now) (g.P.FilterTable.place_of
+    c.args.preds.now) (g.P.FilterTable.selects_at c.args.preds.now) in
+    let told = g.H.Host.told c.args.host.now in
+    let some = rw c.in-Ok-Some-Run.field-0-is at c.in-Ok-Some-Run.ensures.asks in
+    let is = rw c.in-Ok-Some-Run.field-0-0-is at some in
+    let r = c.run_command.result in
+    subst (λ command. IfSome r.last (λ last. EachReplies terms (told_in_memory told command) in_memory r.recovered (stop_of r.torn)
+    (loads_of command) r.loads.items last.entries))
+    (is ∙ ap (λ ws. command_of (map string_bytes ws)) c.as_slice.ensures.value)
+    (nothing_replies terms (told_in_memory told (Some (run_by c.in-Ok-Some-Run.command))) in_memory r.recovered (stop_of r.torn)
+    r.loads.items c.run_command.ensures.no_loads r.last)
+
+pub returns-in-Ok-Some-Run-clause-load_prefixes : goal.returns-in-Ok-Some-Run-clause-load_prefixes
+returns-in-Ok-Some-Run-clause-load_prefixes g c =
+    let r = c.run_command.result in
+    nothing_all (λ last s. Prefixes r.recovered (basis last.entries) s.places s.commits) r.loads.items c.run_command.ensures.no_loads r.last
+
+pub returns-in-Ok-Some-Load-clause-one_history : goal.returns-in-Ok-Some-Load-clause-one_history
+returns-in-Ok-Some-Load-clause-one_history g c =
+    let r = c.load.result in
+    no_sessions_history r.last r.recovered (unwrap_or r.authors []) (map (λ s. s.commits) r.loads.items) r.sessions.items
+    c.load.ensures.sessions c.load.ensures.one_history
+
+pub returns-in-Ok-Some-Load-clause-replies : goal.returns-in-Ok-Some-Load-clause-replies
+returns-in-Ok-Some-Load-clause-replies g c =
+    let terms = terms_of (g.K.Clock.may_answer c.args.clock.now) (g.G.Guard.bars c.args.guard.now) (g.P.FilterTable.place_of
+    c.args.preds.now) (g.P.FilterTable.selects_at c.args.preds.now) in
+    let tells = tells_of g.H.In.Source.left g.H.In.Source.faults g.H.Out.Sink.contents g.H.Out.Sink.faults in
+    let some = rw c.in-Ok-Some-Load.field-0-is at c.in-Ok-Some-Load.ensures.asks in
+    let is = rw c.in-Ok-Some-Load.field-0-0-is at some in
+    let r = c.load.result in
+    subst (λ command. IfSome r.last (λ last. EachReplies terms (g.H.Host.told c.args.host.now) tells r.recovered (stop_of r.torn)
+    (scripts_of command) r.sessions.items last.entries))
+    (is ∙ ap (λ ws. command_of (map string_bytes ws)) c.as_slice.ensures.value)
+    (nothing_replies terms (g.H.Host.told c.args.host.now) tells r.recovered (stop_of r.torn) r.sessions.items c.load.ensures.sessions
+    r.last)
+
+pub returns-in-Ok-Some-Load-clause-loads : goal.returns-in-Ok-Some-Load-clause-loads
+returns-in-Ok-Some-Load-clause-loads g c =
+    let terms = terms_of (g.K.Clock.may_answer c.args.clock.now) (g.G.Guard.bars c.args.guard.now) (g.P.FilterTable.place_of
+    c.args.preds.now) (g.P.FilterTable.selects_at c.args.preds.now) in
+    let some = rw c.in-Ok-Some-Load.field-0-is at c.in-Ok-Some-Load.ensures.asks in
+    let is = rw c.in-Ok-Some-Load.field-0-0-is at some in
+    let r = c.load.result in
+    subst (λ command. IfSome r.last (λ last. EachReplies terms (told_in_memory (g.H.Host.told c.args.host.now) command) in_memory
+    r.recovered (stop_of r.torn) (loads_of command) r.loads.items last.entries))
+    (is ∙ ap (λ ws. command_of (map string_bytes ws)) c.as_slice.ensures.value) c.load.ensures.replies
+
+pub returns-in-Ok-Some-Load-clause-prefixes : goal.returns-in-Ok-Some-Load-clause-prefixes
+returns-in-Ok-Some-Load-clause-prefixes g c =
+    let r = c.load.result in
+    nothing_all (λ last s. Prefixes r.recovered (basis last.entries) s.places s.commits) r.sessions.items c.load.ensures.sessions r.last
+
+pub returns-in-Ok-Some-Load-clause-opening : goal.returns-in-Ok-Some-Load-clause-opening
+returns-in-Ok-Some-Load-clause-opening g c =
+    let some = rw c.in-Ok-Some-Load.field-0-is at c.in-Ok-Some-Load.ensures.asks in
+    let is = rw c.in-Ok-Some-Load.field-0-0-is at some in
+    let r = c.load.result in
+    subst (λ command. IfSome r.last (λ last. WhereTold ((g.H.Host.told c.args.host.now).disks (directory_of command) part.Log)
+    (λ file. IsLogOf file (upto last.entries r.recovered))))
+    (is ∙ ap (λ ws. command_of (map string_bytes ws)) c.as_slice.ensures.value) c.load.ensures.opening
+
+pub returns-in-Ok-Some-Load-clause-log : goal.returns-in-Ok-Some-Load-clause-log
+returns-in-Ok-Some-Load-clause-log g c =
+    let disks = disks_of g.H.Disk.Disk.bytes g.H.Disk.Disk.faults g.H.Disk.Disk.images g.H.Disk.Disk.moment g.H.Disk.Disk.images_since in
+    let some = rw c.in-Ok-Some-Load.field-0-is at c.in-Ok-Some-Load.ensures.asks in
+    let is = rw c.in-Ok-Some-Load.field-0-0-is at some in
+    let r = c.load.result in
+    subst (λ command. IfSome r.last (λ last. IfSome r.log (LogHolds (g.H.Host.told c.args.host.now) disks (directory_of command)
+    last.entries r.recovered r.torn)))
+    (is ∙ ap (λ ws. command_of (map string_bytes ws)) c.as_slice.ensures.value) c.load.ensures.log
+
+pub returns-in-Ok-Some-Load-clause-complete : goal.returns-in-Ok-Some-Load-clause-complete
+returns-in-Ok-Some-Load-clause-complete g c =
+    let terms = terms_of (g.K.Clock.may_answer c.args.clock.now) (g.G.Guard.bars c.args.guard.now) (g.P.FilterTable.place_of
+    c.args.preds.now) (g.P.FilterTable.selects_at c.args.preds.now) in
+    let tells = tells_of g.H.In.Source.left g.H.In.Source.faults g.H.Out.Sink.contents g.H.Out.Sink.faults in
+    let disks = disks_of g.H.Disk.Disk.bytes g.H.Disk.Disk.faults g.H.Disk.Disk.images g.H.Disk.Disk.moment g.H.Disk.Disk.images_since in
+    let some = rw c.in-Ok-Some-Load.field-0-is at c.in-Ok-Some-Load.ensures.asks in
+    let is = rw c.in-Ok-Some-Load.field-0-0-is at some in
+    let r = c.load.result in
+    let new = (g.H.Host.told c.load.new.host).faults in
+    subst (λ command. Complete terms (g.H.Host.told c.args.host.now) tells disks new command r) (is ∙ ap (λ ws. command_of (map string_bytes
+    ws)) c.as_slice.ensures.value)
+    (complete_load terms (g.H.Host.told c.args.host.now) tells disks new c.in-Ok-Some-Load.count r _ _
+    c.load.ensures.one_history c.load.ensures.replies c.load.ensures.log c.load.ensures.causes)
+
+pub returns-in-Ok-Some-Load-clause-coverage : goal.returns-in-Ok-Some-Load-clause-coverage
+returns-in-Ok-Some-Load-clause-coverage g c =
+    let disks = disks_of g.H.Disk.Disk.bytes g.H.Disk.Disk.faults g.H.Disk.Disk.images g.H.Disk.Disk.moment g.H.Disk.Disk.images_since in
+    let some = rw c.in-Ok-Some-Load.field-0-is at c.in-Ok-Some-Load.ensures.asks in
+    let is = rw c.in-Ok-Some-Load.field-0-0-is at some in
+    let r = c.load.result in
+    subst (λ command. IfSome r.last (λ last. IfSome r.segments (GoAsFar (g.H.Host.told c.args.host.now) disks (directory_of command)
+    (upto last.entries r.recovered) last)))
+    (is ∙ ap (λ ws. command_of (map string_bytes ws)) c.as_slice.ensures.value) c.load.ensures.coverage
+
+pub returns-in-Ok-Some-Load-clause-merged : goal.returns-in-Ok-Some-Load-clause-merged
+returns-in-Ok-Some-Load-clause-merged g c =
+    let disks = disks_of g.H.Disk.Disk.bytes g.H.Disk.Disk.faults g.H.Disk.Disk.images g.H.Disk.Disk.moment g.H.Disk.Disk.images_since in
+    let some = rw c.in-Ok-Some-Load.field-0-is at c.in-Ok-Some-Load.ensures.asks in
+    let is = rw c.in-Ok-Some-Load.field-0-0-is at some in
+    let r = c.load.result in
+    subst (λ command. IfSome r.last (λ last. r.status ≡ 0 → IfSome (merge_at_of command) (λ merge_at. IfSome r.segments
+    (IsMerged (g.H.Host.told c.args.host.now) disks (directory_of command) merge_at last))))
+    (is ∙ ap (λ ws. command_of (map string_bytes ws)) c.as_slice.ensures.value) c.load.ensures.merged

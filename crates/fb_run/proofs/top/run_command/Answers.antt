@@ -1,4 +1,4 @@
-use Rattle.std.proofs.Common.{◌∙◌, arith}
+use Rattle.std.proofs.Common.{◌∙◌, refl, arith}
 use Rattle.std.proofs.lemmas.Option.{IfSome_then}
 use Rattle.command_line.specs.Views.{names_in, run_by}
 use Rattle.fb_run.specs.Outside.{tells_of, disks_of}
@@ -45,8 +45,8 @@ returns-in-Ok-clause-causes g c =
     let tells = tells_of g.H.In.Source.left g.H.In.Source.faults g.H.Out.Sink.contents g.H.Out.Sink.faults in
     let disks = disks_of g.H.Disk.Disk.bytes g.H.Disk.Disk.faults g.H.Disk.Disk.images g.H.Disk.Disk.moment g.H.Disk.Disk.images_since in
     caused_by_sessions (g.H.Host.told c.args.host.now) tells disks _ c.run_opened.result (run_by c.args.command.now)
-    c.in-Ok.ready.sessions.items _ (trees_in c.in-Ok.ready.directory) c.in-Ok.ensures.sessions.each tt c.in-Ok.ensures.sessions.faults
-    c.run_opened.ensures.no_console.console
+    c.in-Ok.ready.sessions.items _ (trees_in c.in-Ok.ready.directory) c.in-Ok.ensures.sessions.each tt refl c.run_opened.ensures.no_loads
+    c.in-Ok.ensures.sessions.faults c.run_opened.ensures.no_console
     (c.in-Ok.ensures.directory.reopened.segments_unfailed ∙ c.in-Ok.ensures.directory.segments.faults)
     (run_logs (g.H.Host.told c.args.host.now) disks c.args.command.now.directory.now c.in-Ok.ready.directory c.in-Ok.ensures.directory
     c.run_opened.result c.run_opened.ensures.opening c.run_opened.ensures.log)
@@ -78,7 +78,7 @@ returns-in-Err-clause-causes g c =
     let disks = disks_of g.H.Disk.Disk.bytes g.H.Disk.Disk.faults g.H.Disk.Disk.images g.H.Disk.Disk.moment g.H.Disk.Disk.images_since in
     let out = c.not_begun.ensures in
     caused_by_unready (g.H.Host.told c.args.host.now) (g.H.Host.told c.open_run.new.host) tells disks c.not_begun.result
-    (run_by c.args.command.now) c.in-Err.unready c.in-Err.ensures.stop out.none out.log out.segments out.no_console.console out.said
+    (run_by c.args.command.now) c.in-Err.unready c.in-Err.ensures.stop out.none out.log out.segments out.no_console out.said
 
 pub returns-in-Err-clause-unharmed : goal.returns-in-Err-clause-unharmed
 returns-in-Err-clause-unharmed g c = λ none.

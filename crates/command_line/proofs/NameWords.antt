@@ -1,4 +1,4 @@
--- `clap` reads of the words behind `check` what the definition says.
+-- `clap` reads of the words behind `check` and `load` what the definition says.
 use Rattle.std.proofs.Common.{◌≡◌, ◌∙◌, ℕ, ◌&&◌, Bool, true, false, refl, sym, ap, subst, List, [], ◌∷◌, Option, Some, None, codes}
 use Rattle.std.specs.Prelude.{option_and_then}
 use Rattle.std.specs.Str.{bytes_eq}
@@ -9,14 +9,14 @@ use Rattle.clap.specs.Kinds.{Kinds}
 use Rattle.clap.specs.Faults.{defaults_fault, flag_word_fault, turn_fault, walk_fault}
 use Rattle.clap.specs.declared.error.kind.ErrorKind.TheVariants.{UnknownArgument}
 use Rattle.clap.proofs.FaultLemmas.{leaf_fault}
-use Rattle.command_line.specs.Words.{Command, check, check_of, is_name}
-use Rattle.command_line.specs.ByClap.{check_app, check_told, told, without_fault}
+use Rattle.command_line.specs.Words.{one_name, is_name}
+use Rattle.command_line.specs.ByClap.{name_app, name_told, told, without_fault}
 use Rattle.command_line.proofs.Dashes.{AreTexts, HasOneOption, IsNameWord, Meaning, asks, ends, held, meaning_of, naming, says, stray}
 use Rattle.command_line.proofs.Walks.{first_fails, walk_at}
 use Rattle.command_line.proofs.Walks as walks
 
 abbrev shape : Shape
-shape = (built check_app).top
+shape = (built name_app).top
 
 abbrev rules : List Rule
 rules = shape.rules
@@ -25,8 +25,8 @@ rules = shape.rules
 one_option : HasOneOption rules
 one_option = record { short = λ x. refl; long = λ name e. refl }
 
-abbrev outcome : Walk → List Text → Option Command
-outcome = walks.outcome shape check_told
+abbrev outcome : Walk → List Text → Option Text
+outcome = walks.outcome shape name_told
 
 abbrev turn : Walk → Text → Kinds
 turn = turn_fault shape []
@@ -36,17 +36,17 @@ step = walked rules []
 
 passes : (w after : Walk) (word : Text) (words : List Text) → turn w word ≡ [] → step w word ≡ after
     → outcome w (word ∷ words) ≡ outcome after words
-passes = walks.passes shape check_told
+passes = walks.passes shape name_told
 
 fails : (w : Walk) (word : Text) (words : List Text) → turn w word ≡ UnknownArgument ∷ [] → outcome w (word ∷ words) ≡ None
-fails w word words = walks.fails shape check_told w word words UnknownArgument []
+fails w word words = walks.fails shape name_told w word words UnknownArgument []
 
 -- with no name yet, and with one
 abbrev fresh : Bool → Walk
 fresh = walk_at [] None idle 1
 
 abbrev full : Text → Bool → Walk
-full directory = walk_at [] (Some (codes "DIR", directory ∷ [])) idle 2
+full directory = walk_at [] (Some (codes "NAME", directory ∷ [])) idle 2
 
 record IsUnknown (word : Text) : Type 0 where
   end : bytes_eq word (codes "--") ≡ false
@@ -92,7 +92,7 @@ behind_walks : (word : Text) → step (fresh true) word ≡ full word true
 unfolding walked
 behind_walks word = refl
 
-at_end : (directory : Text) (is_trailing : Bool) → outcome (full directory is_trailing) [] ≡ Some (check directory)
+at_end : (directory : Text) (is_trailing : Bool) → outcome (full directory is_trailing) [] ≡ Some directory
 unfolding walk_fault defaults_fault
 at_end directory is_trailing = refl
 
@@ -103,7 +103,7 @@ nothing is_trailing = refl
 no_more : (directory word : Text) (words : List Text) → outcome (full directory true) (word ∷ words) ≡ None
 no_more directory word words = fails (full directory true) word words refl
 
-behind : (words : List Text) → outcome (fresh true) words ≡ check_of (codes "--" ∷ words)
+behind : (words : List Text) → outcome (fresh true) words ≡ one_name (codes "--" ∷ words)
 behind [] = nothing true
 behind (word ∷ []) = passes (fresh true) (full word true) word [] refl (behind_walks word) ∙ at_end word true
 behind (word ∷ other ∷ words) =
@@ -114,7 +114,7 @@ not_both : (b : Bool) → (b && false) ≡ false
 not_both true = refl
 not_both false = refl
 
-unknown_is_none : (word : Text) (words : List Text) → IsUnknown word → check_of (word ∷ words) ≡ None
+unknown_is_none : (word : Text) (words : List Text) → IsUnknown word → one_name (word ∷ words) ≡ None
 unknown_is_none word [] is = rw is.is refl
 unknown_is_none word (other ∷ []) is =
     let none : (bytes_eq other (codes "--") && is_name word) ≡ false = rw is.is (not_both (bytes_eq other (codes "--"))) in
@@ -122,21 +122,21 @@ unknown_is_none word (other ∷ []) is =
 unknown_is_none word (other ∷ x ∷ words) is = refl
 
 two_are_none : (word other : Text) (words : List Text) → IsNameWord word → bytes_eq other (codes "--") ≡ false
-    → check_of (word ∷ other ∷ words) ≡ None
+    → one_name (word ∷ other ∷ words) ≡ None
 two_are_none word other [] is e = rw (is.other.end, e) refl
 two_are_none word other (x ∷ words) is e = refl
 
 behind_name : (directory : Text) (words : List Text) → IsNameWord directory
-    → outcome (full directory true) words ≡ check_of (directory ∷ codes "--" ∷ words)
+    → outcome (full directory true) words ≡ one_name (directory ∷ codes "--" ∷ words)
 behind_name directory [] is = at_end directory true ∙ rw (is.other.end, is.is) refl
 behind_name directory (word ∷ words) is = no_more directory word words
 
 after_name : (directory word : Text) (words : List Text) → IsNameWord directory → Kind word
-    → outcome (full directory false) (word ∷ words) ≡ check_of (directory ∷ word ∷ words)
+    → outcome (full directory false) (word ∷ words) ≡ one_name (directory ∷ word ∷ words)
 after_name directory word words is (ending e) =
     ap (λ w. outcome (full directory false) (w ∷ words)) e
     ∙ passes (full directory false) (full directory true) (codes "--") words refl (end_walks_full directory)
-    ∙ behind_name directory words is ∙ sym (ap (λ w. check_of (directory ∷ w ∷ words)) e)
+    ∙ behind_name directory words is ∙ sym (ap (λ w. one_name (directory ∷ w ∷ words)) e)
 after_name directory word words is (unknown u) =
     fails (full directory false) word words (unknown_fails word _ _ 2 u) ∙ sym (two_are_none directory word words is u.end)
 after_name directory word words is (name n) =
@@ -144,25 +144,25 @@ after_name directory word words is (name n) =
     ∙ sym (two_are_none directory word words is n.other.end)
 
 named : (directory : Text) (words : List Text) → IsNameWord directory → AreTexts words
-    → outcome (full directory false) words ≡ check_of (directory ∷ words)
+    → outcome (full directory false) words ≡ one_name (directory ∷ words)
 named directory [] is texts = at_end directory false ∙ rw is.is refl
 named directory (word ∷ words) is texts = after_name directory word words is (kind_by word (meaning_of rules one_option word texts.0))
 
-first : (word : Text) (words : List Text) → AreTexts words → Kind word → outcome (fresh false) (word ∷ words) ≡ check_of (word ∷ words)
+first : (word : Text) (words : List Text) → AreTexts words → Kind word → outcome (fresh false) (word ∷ words) ≡ one_name (word ∷ words)
 first word words texts (ending e) =
     ap (λ w. outcome (fresh false) (w ∷ words)) e ∙ passes (fresh false) (fresh true) (codes "--") words refl end_walks ∙ behind words
-    ∙ sym (ap (λ w. check_of (w ∷ words)) e)
+    ∙ sym (ap (λ w. one_name (w ∷ words)) e)
 first word words texts (unknown u) =
     fails (fresh false) word words (unknown_fails word _ _ 1 u) ∙ sym (unknown_is_none word words u)
 first word words texts (name n) =
     passes (fresh false) (full word false) word words (name_passes word n) (name_walks word n) ∙ named word words n texts
 
-all : (words : List Text) → AreTexts words → outcome (fresh false) words ≡ check_of words
+all : (words : List Text) → AreTexts words → outcome (fresh false) words ≡ one_name words
 all [] texts = nothing false
 all (word ∷ words) texts = first word words texts.1 (kind_by word (meaning_of rules one_option word texts.0))
 
-pub check_words : (words : List Text) → AreTexts words → option_and_then check_told (told check_app words) ≡ check_of words
-check_words words texts =
-    ap (λ k. option_and_then check_told (without_fault k (matches_of check_app words)))
-    (leaf_fault (built check_app) nothing_held words refl)
+pub name_words : (words : List Text) → AreTexts words → option_and_then name_told (told name_app words) ≡ one_name words
+name_words words texts =
+    ap (λ k. option_and_then name_told (without_fault k (matches_of name_app words)))
+    (leaf_fault (built name_app) nothing_held words refl)
     ∙ all words texts
