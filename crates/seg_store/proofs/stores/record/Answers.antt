@@ -10,7 +10,7 @@ use Rattle.log_model.specs.Merges.{is_storable_dated}
 use Rattle.seg_tree.specs.Nodes.{LeafNode}
 use Rattle.seg_codec.specs.Trees.{leaves_of_four}
 use Rattle.seg_store.proofs.Keeping.{next_record}
-use Rattle.seg_store.proofs.stores.SegStore.record.Goals as goal
+use Rattle.seg_store.proofs.stores.record.Goals as goal
 
 value_of : (d : Datom) → IsTrue (is_storable_dated written_format d) → IsTrue (is_storable_value written_format d.v)
 value_of d is = (and_parts _ _ (and_parts _ _ (and_parts _ _ is).0).0).1
@@ -27,6 +27,6 @@ pub returns : goal.returns
 returns g c =
     IfOk-weaker c.frame_in.result _ _
     (λ payload is.
-    next_record c.args.self.now.ids c.args.roots.now c.args.c payload c.args.roots.now.distinct c.in_ok-check_counts.ensures
+    next_record c.args.ids.now c.args.roots.now c.args.c payload c.args.roots.now.distinct c.in_ok-check_counts.ensures
     (omega (arith, c.ranges.c)) (is ∙ c.in_ok-bytes.ensures.bytes))
     c.frame_in.ensures
