@@ -45,13 +45,15 @@ no_root_no_record records none good =
 
 module _ {D : Type 0} {g : _} (bytes : D → Option (List ℕ)) (images : D → List ℕ → Type 0) (told : Option (List ℕ)) (h : List Entry) where
   -- a store that keeps no root has no record
-  pub no_record : (loaded : Loaded D g) → IsLoaded bytes images told loaded → loaded.kept.items ≡ [] → StoreKeeps bytes images [] loaded.store
+  pub no_record : (loaded : Loaded D g) → IsLoaded bytes images told loaded → loaded.kept.items ≡ []
+      → StoreKeeps bytes images [] loaded.store
   no_record loaded is none =
       let roots : kept_roots is.read ≡ [] = sym is.kept.roots ∙ ap (λ (kept : List KeptTrees). map kept_of kept) none in
       subst (λ (records : List (List ℕ)). StoreKeeps bytes images records loaded.store)
       (⊎_elim
       (λ same.
-      same ∙ no_root_no_record is.read roots (subst (λ (records : List (List ℕ)). IsTrue (are_good records)) same is.store.good))
+      let good = subst (λ (records : List (List ℕ)). IsTrue (are_good records)) same is.store.good in
+      same ∙ no_root_no_record is.read roots good)
       (λ anew. anew.0) is.goes_on)
       is.store
 
