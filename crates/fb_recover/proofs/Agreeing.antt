@@ -1,5 +1,5 @@
 -- The trees that a history is opened with: those of the newest root that it agrees with, or of its first entry.
-use Rattle.std.proofs.Common.{◌≡◌, ◌∙◌, ◌≤◌, ◌^◌, inl, inr, ⊎_elim, ℕ, List, [], ◌∷◌, Option, Some, Result, Ok, Err, length, map, refl, sym, ap, subst, arith}
+use Rattle.std.proofs.Common.{◌≡◌, ◌∙◌, ◌≤◌, ◌*◌, ◌^◌, inl, inr, ⊎_elim, ℕ, List, [], ◌∷◌, Option, Some, Result, Ok, Err, length, map, refl, sym, ap, subst, arith}
 use Rattle.std.specs.Prelude.{Contains, IsTrue, IfOk}
 use Rattle.std.proofs.lemmas.Bool.{eqb-true}
 use Rattle.std.proofs.lemmas.List.{nil_from_length}
@@ -19,9 +19,11 @@ use Rattle.seg_codec.specs.Trees.{AreTreesOf, Fits}
 use Rattle.seg_codec.proofs.Among.{mapped_member}
 use Rattle.seg_store.specs.declared.loads.KeptTrees.{KeptTrees}
 use Rattle.seg_store.specs.declared.loads.Loaded.{Loaded}
-use Rattle.seg_store.specs.Stores.{disk_in, StoreKeeps}
+use Rattle.seg_store.specs.Stores.{disk_in, node_count, StoreKeeps}
+use Rattle.seg_store.specs.Keeping.{FitsStore}
 use Rattle.seg_store.specs.Loads.{kept_of, IsLoaded}
 use Rattle.seg_store.proofs.Fitting.{fits_none}
+use Rattle.seg_store.proofs.NodeCounts.{no_ids}
 use Rattle.seg_agree.specs.Newest.{IsNewest}
 use Rattle.fb_recover.specs.Openings.{AreNumberedFromOne}
 use Rattle.fb_recover.specs.Basing.{IsBased}
@@ -43,33 +45,45 @@ no_root_no_record records none good =
 
 module _ {D : Type 0} {g : _} (bytes : D → Option (List ℕ)) (images : D → List ℕ → Type 0) (told : Option (List ℕ)) (h : List Entry) where
   -- a store that keeps no root has no record
-  pub no_record : (loaded : Loaded D g) → IsLoaded bytes images told loaded → loaded.kept.items ≡ [] → StoreKeeps bytes images [] loaded.store
+  pub no_record : (loaded : Loaded D g) → IsLoaded bytes images told loaded → loaded.kept.items ≡ []
+      → StoreKeeps bytes images [] loaded.store
   no_record loaded is none =
       let roots : kept_roots is.read ≡ [] = sym is.kept.roots ∙ ap (λ (kept : List KeptTrees). map kept_of kept) none in
       subst (λ (records : List (List ℕ)). StoreKeeps bytes images records loaded.store)
       (⊎_elim
-      (λ same. same ∙ no_root_no_record is.read roots (subst (λ (records : List (List ℕ)). IsTrue (are_good records)) same is.store.good))
+      (λ same.
+      let good = subst (λ (records : List (List ℕ)). IsTrue (are_good records)) same is.store.good in
+      same ∙ no_root_no_record is.read roots good)
       (λ anew. anew.0) is.goes_on)
       is.store
 
+  -- a root that was loaded fits the store
+  pub fits_loaded : (loaded : Loaded D g) (trees : KeptTrees) → IsLoaded bytes images told loaded → Contains loaded.kept.items trees
+      → FitsStore bytes images loaded.store trees.roots
+  fits_loaded loaded trees is member = record {
+    records = is.records;
+    keeps = is.store;
+    fits = All-contains (λ (k : KeptTrees). Fits (nodes_of is.records) k.roots) loaded.kept.items trees is.fits member;
+  }
+
   -- the newest root that the history agrees with
-  pub based_found : (loaded : Loaded D g) (trees : KeptTrees) → IsLoaded bytes images told loaded
+  pub based_found : (loaded : Loaded D g) (trees : KeptTrees) (based : Based D g) → IsLoaded bytes images told loaded
       → WhereTold told (λ file. FileKeeps file (map kept_of loaded.kept.items))
-      → StaysTold told (bytes (disk_in loaded.store))
       → IsNewest h loaded.kept.items (Some trees)
-      → IsBased bytes images told h (record { store = loaded.store; trees = trees })
-  based_found loaded trees is keeps stays newest =
+      → based.trees ≡ trees → FitsStore bytes images based.store trees.roots
+      → node_count based.store ≤ 2 * length (root_ids trees.roots)
+      → StaysTold told (bytes (disk_in based.store))
+      → IsBased bytes images told h based
+  based_found loaded trees based is keeps newest same fits room stays =
       let member = newest.0 in
       let root = newest.1 in
       let there = All-contains (λ (k : KeptTrees). (ids : FileRoots) × AreTreesOf (nodes_of is.read) ids k.roots) loaded.kept.items trees
-      is.kept.there member in record {
+      is.kept.there member in
+      let found : IsBased bytes images told h (record { store = based.store; trees = trees }) = record {
         stands = root.agrees;
         coverage = λ file was. (map kept_of loaded.kept.items, keeps file was, inl (kept_of trees, root, refl));
-        fits = record {
-          records = is.records;
-          keeps = is.store;
-          fits = All-contains (λ (k : KeptTrees). Fits (nodes_of is.records) k.roots) loaded.kept.items trees is.fits member;
-        };
+        fits = fits;
+        room = room;
         ids = inr (is.read, is.file, there.0, there.1);
         great = λ file was above. (is.read, is.file file was, great_there (nodes_of is.read) there.0 trees.roots there.1 above);
         anew = λ file was none.
@@ -77,7 +91,8 @@ module _ {D : Type 0} {g : _} (bytes : D → Option (List ℕ)) (images : D → 
             let kept = subst (λ (roots : List KeptRoot). Contains roots (kept_of trees)) (sym same)
             (mapped_member kept_of loaded.kept.items trees member) in absurd (none.2 (kept_of trees) kept root.agrees);
         stays = stays;
-      }
+      } in
+      subst (λ (t : KeptTrees). IsBased bytes images told h (record { store = based.store; trees = t })) (sym same) found
 
   -- the first entry
   pub based_first : (loaded : Loaded D g) (based : Based D g) → IsLawful h
@@ -92,6 +107,7 @@ module _ {D : Type 0} {g : _} (bytes : D → Option (List ℕ)) (images : D → 
         (first-stands (trees_of based.trees.roots) h lawful stands.0);
     coverage = λ file was. (map kept_of loaded.kept.items, keeps file was, inr (none, stands.1));
     fits = record { records = []; keeps = empty; fits = fits_none based.trees.roots };
+    room = omega (arith, ap length (no_ids based.store.ids empty.ids));
     ids = inl ids;
     great = λ file was above. absurd (omega (arith, above, few));
     anew = λ file was agrees. (ids, empty);

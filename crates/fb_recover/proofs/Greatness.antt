@@ -49,7 +49,8 @@ module _ (nodes : Nodes) where
       → 2 ^ 61 < next_above (leaf_ids leaves) → has_great_id nodes ≡ true
   great_leaves [] there above = absurd (omega (arith, above))
   great_leaves (leaf ∷ leaves) there above = elim (one_of (leaf.id + 1) (next_above (leaf_ids leaves)) (2 ^ 61) above) [
-    | inl first ↦ great_leaf leaf (All-head (λ (l : LeafNode). Contains nodes.leaves (file_leaf l)) leaf leaves there) (omega (arith, first))
+    | inl first ↦
+        great_leaf leaf (All-head (λ (l : LeafNode). Contains nodes.leaves (file_leaf l)) leaf leaves there) (omega (arith, first))
     | inr later ↦ great_leaves leaves (All-tail (λ (l : LeafNode). Contains nodes.leaves (file_leaf l)) leaf leaves there) later
   ]
 

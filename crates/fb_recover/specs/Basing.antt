@@ -1,24 +1,25 @@
 -- The trees and the store that a history is opened with.
 -- This project's own choice.
-use Rattle.std.specs.Prelude.{◌⊎◌, ◌<◌, ◌^◌, ℕ, List, [], Option}
+use Rattle.std.specs.Prelude.{◌⊎◌, ◌<◌, ◌≤◌, ◌*◌, ◌^◌, ℕ, List, [], Option, length}
 use Rattle.fb_values.specs.declared.facts.Entry.{Entry}
 use Rattle.disk_model.specs.Disk.{WhereTold}
 use Rattle.view_model.specs.Stands.{RootStands}
 use Rattle.seg_tree.specs.Ids.{next_above}
 use Rattle.seg_tree.specs.Indexes.{root_ids, trees_of}
 use Rattle.fb_journal.specs.Journals.{StaysTold}
-use Rattle.seg_store.specs.Stores.{disk_in as segments_in, StoreKeeps}
+use Rattle.seg_store.specs.Stores.{disk_in as segments_in, node_count, StoreKeeps}
 use Rattle.seg_store.specs.Keeping.{HasGreatNode, FitsStore}
 use Rattle.fb_recover.specs.Openings.{AreNumberedFromOne, AreOfFile, HasCoverage, AgreesWithNone}
 use Rattle.fb_recover.specs.declared.basing.Based.{Based}
 
 -- The trees are those of the newest root of the file that the history agrees with, or of the first entry, and they fit the
--- store.
+-- store. At most half of the nodes of its file are dead.
 pub record IsBased {D : Type 0} {g : _} (bytes : D → Option (List ℕ)) (images : D → List ℕ → Type 0)
     (told : Option (List ℕ)) (h : List Entry) (based : Based D g) : Type 0 where
   pub stands : RootStands (trees_of based.trees.roots) h based.trees.c
   pub coverage : WhereTold told (HasCoverage h based.trees.c)
   pub fits : FitsStore bytes images based.store based.trees.roots
+  pub room : node_count based.store ≤ 2 * length (root_ids based.trees.roots)
   pub ids : AreNumberedFromOne based.trees.roots ⊎ AreOfFile told based.trees.roots
   pub great : WhereTold told
       (λ file. 2 ^ 61 < next_above (root_ids based.trees.roots) → HasGreatNode file)

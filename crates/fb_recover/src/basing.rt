@@ -1,12 +1,14 @@
 //! The trees that a history is opened with, and the store whose file they fit.
-ghost use Rattle.std.specs.Prelude.{◌≡◌, ◌≤◌, ◌^◌, [], ◌∷◌, ℕ, List, true, false, IfOk, MatchResult};
+ghost use Rattle.std.specs.Prelude.{◌≡◌, ◌≤◌, ◌*◌, ◌^◌, [], ◌∷◌, ℕ, List, length, true, false, IfOk, MatchResult};
 ghost use Rattle.disk_model.specs.Disk.{WhereTold};
 ghost use Rattle.fb_model.specs.FirstEntry.{first_entry};
 ghost use Rattle.fb_model.specs.Lawful.{IsLawful};
 ghost use Rattle.view_model.specs.Stands.{RootStands};
 ghost use Rattle.seg_tree.specs.Ids.{next_above};
 ghost use Rattle.seg_tree.specs.Indexes.{root_ids, trees_of};
-ghost use Rattle.seg_store.specs.Stores.{disk_in as segments_in, StoreKeeps};
+ghost use Rattle.seg_store.specs.Stores.{disk_in as segments_in, node_count, StoreKeeps};
+ghost use Rattle.seg_store.specs.Trees.{HaveStorableDatoms};
+ghost use Rattle.seg_store.specs.Keeping.{FitsStore};
 ghost use Rattle.fb_journal.specs.Journals.{StaysTold};
 ghost use Rattle.seg_store.specs.Loads.{CountsLoad};
 ghost use Rattle.fb_recover.specs.Openings.{AreNumberedFromOne};
@@ -17,7 +19,10 @@ use fb_history::EntryList;
 use fb_memory::Memory;
 use fb_view::Snapshot;
 use seg_agree::newest_agreeing;
-use seg_store::{KeptTrees, LoadFault, LoadStop, Loaded, SegStore};
+use seg_store::{
+    KeepFault, KeptTrees, LoadFault, LoadStop, Loaded, SegStore,
+    trees_of_a_lawful_history_are_storable,
+};
 use seg_tree::Roots;
 use std::alloc::Global;
 
@@ -28,8 +33,8 @@ pub(crate) struct Based<D: Disk> {
     pub(crate) trees: KeptTrees,
 }
 
-/// The newest root of the file that the history agrees with. Where there is none, the trees of the first entry; a file that
-/// keeps roots then starts anew.
+/// The newest root of the file that the history agrees with; the file then starts anew with this root alone, where more than
+/// half of its nodes are dead. Where there is none, the trees of the first entry; a file that keeps roots then starts anew.
 pub(crate) fn find_base<D: Disk>(
     alloc: Global,
     entries: &EntryList,
@@ -47,10 +52,48 @@ pub(crate) fn find_base<D: Disk>(
     };
     let keeps_some = !kept.is_empty();
     match newest_agreeing(alloc, entries, kept) {
-        Ok(Some(trees)) => Ok(Based { store, trees }),
+        Ok(Some(trees)) => {
+            trees_of_a_lawful_history_are_storable();
+            with_room(alloc, store, trees)
+        }
         Ok(None) => of_first(alloc, store, keeps_some),
         Err(Memory) => Err(LoadStop {
             fault: LoadFault::Memory,
+            disk: store.give_back(),
+        }),
+    }
+}
+
+/// The trees of a root, and the store: where more than half of its file's nodes are dead, the file starts anew with this root
+/// alone.
+fn with_room<D: Disk>(
+    alloc: Global,
+    store: SegStore<D>,
+    trees: KeptTrees,
+) -> Result<Based<D>, LoadStop<D>>
+    requires fits { FitsStore D.bytes D.images store trees.roots }
+    requires storable { HaveStorableDatoms trees.roots }
+    ensures trees { IfOk result (λ b. b.trees ≡ trees) }
+    ensures fits { IfOk result (λ b. FitsStore D.bytes D.images b.store trees.roots) }
+    ensures room { IfOk result (λ b. node_count b.store ≤ 2 * length (root_ids trees.roots)) }
+    ensures told { IfOk result
+        (λ b. StaysTold (D.bytes (segments_in store)) (D.bytes (segments_in b.store))) }
+    ensures counted { MatchResult result
+        (λ b. D.faults (segments_in b.store) ≡ D.faults (segments_in store))
+        (λ s. CountsLoad s.fault (D.faults (segments_in store)) (D.faults s.disk)) }
+{
+    let mut store = store;
+    if !store.is_mostly_dead(&trees.roots) {
+        return Ok(Based { store, trees });
+    }
+    match store.renew(alloc, &trees.roots, trees.c) {
+        Ok(()) => Ok(Based { store, trees }),
+        Err(KeepFault::Memory) => Err(LoadStop {
+            fault: LoadFault::Memory,
+            disk: store.give_back(),
+        }),
+        Err(_) => Err(LoadStop {
+            fault: LoadFault::Disk,
             disk: store.give_back(),
         }),
     }

@@ -1,5 +1,5 @@
 //! Reopening.
-ghost use Rattle.std.specs.Prelude.{◌≡◌, ◌⊎◌, ◌≤◌, ◌<◌, ◌^◌, [], ℕ, List, length, IfOk, IfErr, MatchResult};
+ghost use Rattle.std.specs.Prelude.{◌≡◌, ◌⊎◌, ◌≤◌, ◌<◌, ◌*◌, ◌^◌, [], ℕ, List, length, IfOk, IfErr, MatchResult};
 ghost use Rattle.fb_model.specs.History.{basis};
 ghost use Rattle.fb_model.specs.Lawful.{IsLawful};
 ghost use Rattle.view_model.specs.Stands.{RootStands};
@@ -8,7 +8,7 @@ ghost use Rattle.disk_model.specs.Disk.{WhereTold, LeavesOnly};
 ghost use Rattle.log_model.specs.Log.{IsLogOf};
 ghost use Rattle.fb_journal.specs.Journals.{StaysTold};
 ghost use Rattle.fb_core.specs.Cores.{CoreStands};
-ghost use Rattle.seg_store.specs.Stores.{disk_in as segments_in, StoreKeeps};
+ghost use Rattle.seg_store.specs.Stores.{disk_in as segments_in, node_count, StoreKeeps};
 ghost use Rattle.disk_log.specs.Logs.{disk_in, count_in, KeepsHistory};
 ghost use Rattle.fb_ports.specs.declared.hosts.Part.TheVariants.{Log, Segments};
 ghost use Rattle.fb_recover.specs.Faults.{IsCause, IsOfLog, CountsOpening};
@@ -41,8 +41,9 @@ pub struct Opened<D: Disk> {
 }
 
 /// Opens the database of a log and of a file of segments. The trees are those of the newest root that the file keeps and the
-/// history agrees with, and the entries behind them are live. Where there is none, the trees are of the first entry alone, and
-/// a file that keeps roots starts anew.
+/// history agrees with, and the entries behind them are live. A file then starts anew with this root alone, where more than
+/// half of its nodes are none of these trees'. Where there is no such root, the trees are of the first entry alone, and a file
+/// that keeps roots starts anew.
 ///
 /// After the first sync the log's file is only read, unless it is a new one. Nothing is asked of the segments before the
 /// whole log is judged. What their file holds changes no answer.
@@ -63,6 +64,10 @@ pub fn reopen<D: Disk>(alloc: Global, log: D, segments: D) -> Result<Opened<D>, 
         (λ o. FitsStore D.bytes D.images o.store o.core.snapshot.roots) }
     ensures ids { IfOk result (λ o. AreNumberedFromOne o.core.snapshot.roots
         ⊎ AreOfFile (D.bytes segments) o.core.snapshot.roots) }
+
+    // At most half of the nodes of the store's file are none of the trees'.
+    ensures room { IfOk result
+        (λ o. node_count o.store ≤ 2 * length (root_ids o.core.snapshot.roots)) }
 
     // Where they have a number behind which no merge may go, the file had it before.
     ensures great { IfOk result (λ o. WhereTold (D.bytes segments)

@@ -5,7 +5,7 @@ use Rattle.disk_model.specs.Journal.{segments_mark, JournalStands}
 use Rattle.disk_model.proofs.Journals.{stands-holds}
 use Rattle.disk_model.proofs.Moments.{started}
 use Rattle.log_model.specs.Payload.{written_format}
-use Rattle.log_model.specs.Nodes.{Nodes, MergeRecord, record_bytes_in}
+use Rattle.log_model.specs.Nodes.{Nodes, MergeRecord, record_bytes_in, is_among}
 use Rattle.log_model.specs.Merges.{record_says, merges, IsRecordOf}
 use Rattle.log_model.specs.Kept.{KeptRoot, with_nodes, kept_roots, nodes_of, are_good}
 use Rattle.log_model.proofs.MergeRecords.{IsRecordOf-says}
@@ -21,7 +21,7 @@ use Rattle.seg_codec.proofs.Over.{record_over}
 use Rattle.seg_store.specs.Trees.{root_of, KeepsRoot, IsNextRecord}
 use Rattle.seg_store.specs.Stores.{disk_in, StoreKeeps, KeepsOneMore}
 use Rattle.seg_store.specs.declared.stores.SegStore.{SegStore}
-use Rattle.seg_store.proofs.Fitting.{fits_there}
+use Rattle.seg_store.proofs.Fitting.{fits_there, fits_none}
 use Rattle.seg_store.proofs.Records.{root_is}
 
 pub next_record : (ids : List ℕ) (trees : Roots) (c : ℕ) (payload : List ℕ)
@@ -93,3 +93,13 @@ module _ {D : Type 0} {g : _} (bytes : D → Option (List ℕ)) (images : D → 
     good = next.good;
     ids = subst (λ (l : List ℕ). AreIdsOf l (nodes_of (records ++ payload ∷ []))) (sym same) next.ids_are;
   }
+
+  -- a store whose file has this record alone
+  pub keeps_alone : (before payload : List ℕ) (trees : Roots) (c : ℕ) (store : SegStore D g) → before ≡ []
+      → ((records : List (List ℕ)) → are_good records ≡ true → AreIdsOf before (nodes_of records) → Fits (nodes_of records) trees
+      → IsNextRecord before records payload trees c)
+      → Keeps bytes images (payload ∷ []) store.journal → store.ids ≡ before ++ ids_lacking before trees
+      → StoreKeeps bytes images (payload ∷ []) store × KeepsRoot [] payload trees c
+  keeps_alone before payload trees c store none each keeps same =
+      let next = each [] refl (λ id. ap (λ ids. is_among ids id) none) (fits_none trees) in
+      (keeps_more [] before payload trees c store next keeps same, next.keeps)

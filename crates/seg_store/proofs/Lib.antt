@@ -9,3 +9,4 @@ pub mod Next
 pub mod Storable
 pub mod Numbering
 pub mod Rooting
+pub mod NodeCounts

@@ -1,6 +1,6 @@
 -- A store of kept roots, and the records of its file.
 -- This project's own choice.
-use Rattle.std.specs.Prelude.{◌⊎◌, ℕ, List, [], ◌∷◌, ◌++◌, Option, IsTrue}
+use Rattle.std.specs.Prelude.{◌⊎◌, ℕ, List, [], ◌∷◌, ◌++◌, length, Option, IsTrue}
 use Rattle.log_model.specs.Kept.{KeptRoot, FileKeeps, nodes_of, are_good}
 use Rattle.fb_journal.specs.Journals.{disk_of, stop_of, count_of, Keeps}
 use Rattle.seg_tree.specs.Ids.{next_above}
@@ -21,6 +21,10 @@ count_in store = count_of store.journal
 -- the least number that no node of the file has, nor a greater one
 abbrev pub next_in : {D : Type 0} {g : _} → SegStore D g → ℕ
 next_in store = next_above store.ids
+
+-- how many nodes the file has
+abbrev pub node_count : {D : Type 0} {g : _} → SegStore D g → ℕ
+node_count store = length store.ids
 
 -- The store goes on and has these records, none of them bad, and it knows the ids of their nodes.
 pub record StoreKeeps {D : Type 0} {g : _} (bytes : D → Option (List ℕ))

@@ -5,6 +5,7 @@ mod counts;
 mod found;
 mod laws;
 mod loads;
+mod room;
 mod roots;
 mod stores;
 

@@ -114,42 +114,12 @@ impl<D: Disk> SegStore<D> {
         ensures memory { IsErrOf result KeepFault.Memory → self.new ≡ self.old }
     {
         let known = self.ids.len();
-        let framed = self.prepared(alloc, roots, c)?;
+        let framed = prepared(alloc, roots, c, &mut self.ids)?;
         self.add(&framed, known)
     }
 
-    /// The record that keeps trees, with whose ids the store goes on. All memory that it needs is taken here.
-    fn prepared(&mut self, alloc: Global, roots: &Roots, c: u32) -> Result<Framed, Memory>
-        requires { HaveStorableDatoms roots.now }
-        ensures record { IfOk result (λ payload. (records : List (List ℕ))
-            → IsTrue (are_good records) → AreIdsOf self.old.ids (nodes_of records)
-            → Fits (nodes_of records) roots.now
-            → IsNextRecord self.old.ids records payload roots.now c) }
-        ensures ids { OnOk result
-            (self.new.ids ≡ self.old.ids ++ ids_lacking self.old.ids roots.now) }
-        ensures journal { self.new.journal ≡ self.old.journal }
-        ensures memory { OnErr result (self.new ≡ self.old) }
-    {
-        let framed = self.record(alloc, roots, c)?;
-        self.ids.add_trees(alloc, roots)?;
-        Ok(framed)
-    }
-
-    /// The record that keeps trees.
-    fn record(&self, alloc: Global, roots: &Roots, c: u32) -> Result<Framed, Memory>
-        requires { HaveStorableDatoms roots.now }
-        ensures { IfOk result (λ payload. (records : List (List ℕ))
-            → IsTrue (are_good records) → AreIdsOf self.now.ids (nodes_of records)
-            → Fits (nodes_of records) roots.now
-            → IsNextRecord self.now.ids records payload roots.now c) }
-    {
-        check_counts(alloc, roots)?;
-        let bytes = record_bytes(alloc, roots, c, &self.ids)?;
-        frame_in(bytes)
-    }
-
     /// Adds a record. Where it is not added, the first so many ids alone stay.
-    fn add(&mut self, framed: &Framed, known: usize) -> Result<(), KeepFault>
+    pub(crate) fn add(&mut self, framed: &Framed, known: usize) -> Result<(), KeepFault>
         ensures added { OnOk result ((records : List (List ℕ))
             → Keeps D.bytes D.images records self.old.journal
             → Keeps D.bytes D.images (records ++ framed.now ∷ []) self.new.journal) }
@@ -227,4 +197,37 @@ impl<D: Disk> SegStore<D> {
     {
         self.journal.give_back()
     }
+}
+
+/// The record that keeps trees behind nodes with these ids, and the ids behind it. All memory that it needs is taken here.
+pub(crate) fn prepared(
+    alloc: Global,
+    roots: &Roots,
+    c: u32,
+    ids: &mut Ids,
+) -> Result<Framed, Memory>
+    requires { HaveStorableDatoms roots.now }
+    ensures record { IfOk result (λ payload. (records : List (List ℕ))
+        → IsTrue (are_good records) → AreIdsOf ids.old (nodes_of records)
+        → Fits (nodes_of records) roots.now
+        → IsNextRecord ids.old records payload roots.now c) }
+    ensures ids { OnOk result (ids.new ≡ ids.old ++ ids_lacking ids.old roots.now) }
+    ensures memory { OnErr result (ids.new ≡ ids.old) }
+{
+    let framed = record(alloc, roots, c, ids)?;
+    ids.add_trees(alloc, roots)?;
+    Ok(framed)
+}
+
+/// The record that keeps trees behind nodes with these ids.
+fn record(alloc: Global, roots: &Roots, c: u32, ids: &Ids) -> Result<Framed, Memory>
+    requires { HaveStorableDatoms roots.now }
+    ensures { IfOk result (λ payload. (records : List (List ℕ))
+        → IsTrue (are_good records) → AreIdsOf ids.now (nodes_of records)
+        → Fits (nodes_of records) roots.now
+        → IsNextRecord ids.now records payload roots.now c) }
+{
+    check_counts(alloc, roots)?;
+    let bytes = record_bytes(alloc, roots, c, ids)?;
+    frame_in(bytes)
 }

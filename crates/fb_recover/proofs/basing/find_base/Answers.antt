@@ -2,15 +2,35 @@ use Rattle.std.proofs.Common.{subst}
 use Rattle.std.proofs.lemmas.Result.{IfOk-weaker}
 use Rattle.seg_store.specs.Stores.{disk_in}
 use Rattle.seg_agree.specs.Newest.{IsNewest}
-use Rattle.fb_recover.proofs.Agreeing.{IfOk-both, told_on, based_found, based_first}
+use Rattle.fb_recover.proofs.Agreeing.{IfOk-both, told_on, fits_loaded, based_found, based_first}
 use Rattle.fb_recover.proofs.basing.find_base.Goals as goal
+
+pub with_room-requires-clause-fits : goal.with_room-requires-clause-fits
+with_room-requires-clause-fits g c =
+    let d = g.D.Disk in
+    let loaded = c.in-Ok.loaded in
+    let newest = subst (IsNewest c.args.entries.now loaded.kept.items) c.in-Ok-Some.field-0-is c.in-Ok-Some.ensures in
+    fits_loaded d.bytes d.images (d.bytes c.args.segments) c.args.entries.now loaded c.in-Ok-Some.trees c.in-Ok.ensures.loaded newest.0
+
+pub with_room-requires-clause-storable : goal.with_room-requires-clause-storable
+with_room-requires-clause-storable g c =
+    let trees = c.in-Ok-Some.trees in
+    let newest = subst (IsNewest c.args.entries.now c.in-Ok.loaded.kept.items) c.in-Ok-Some.field-0-is c.in-Ok-Some.ensures in
+    c.trees_of_a_lawful_history_are_storable.ensures c.args.entries.now trees.c trees.roots c.requires newest.1.agrees
 
 pub returns-in-Ok-Some-clause-based : goal.returns-in-Ok-Some-clause-based
 returns-in-Ok-Some-clause-based g c =
     let d = g.D.Disk in
     let load = c.in-Ok.ensures in
-    based_found d.bytes d.images (d.bytes c.args.segments) c.args.entries.now c.in-Ok.loaded c.in-Ok-Some.trees load.loaded load.kept load.told
-    (subst (IsNewest c.args.entries.now c.in-Ok.loaded.kept.items) c.in-Ok-Some.field-0-is c.in-Ok-Some.ensures)
+    let loaded = c.in-Ok.loaded in
+    let room = c.with_room.ensures in
+    let newest = subst (IsNewest c.args.entries.now loaded.kept.items) c.in-Ok-Some.field-0-is c.in-Ok-Some.ensures in
+    IfOk-weaker c.with_room.result _ _
+    (λ b has. based_found d.bytes d.images (d.bytes c.args.segments) c.args.entries.now loaded c.in-Ok-Some.trees b load.loaded load.kept
+    newest has.0 has.1.0 has.1.1.0
+    (told_on (d.bytes c.args.segments) (d.bytes (disk_in loaded.store)) (d.bytes (disk_in b.store)) load.told has.1.1.1))
+    (IfOk-both c.with_room.result _ _ room.trees
+    (IfOk-both c.with_room.result _ _ room.fits (IfOk-both c.with_room.result _ _ room.room room.told)))
 
 pub returns-in-Ok-None-clause-based : goal.returns-in-Ok-None-clause-based
 returns-in-Ok-None-clause-based g c =

@@ -1,4 +1,4 @@
-use Rattle.std.proofs.Common.{[], ◌⊎◌, ◌∙◌, ◌<◌, ◌^◌, sym, ap, subst}
+use Rattle.std.proofs.Common.{[], ◌⊎◌, ◌∙◌, ◌<◌, ◌≤◌, ◌*◌, ◌^◌, length, sym, ap, subst}
 use Rattle.std.proofs.lemmas.Result.{IfOk-weaker, IfErr-weaker, MatchResult-from_both}
 use Rattle.disk_model.specs.Disk.{WhereTold, LeavesOnly}
 use Rattle.log_model.specs.Log.{IsLogOf}
@@ -7,7 +7,7 @@ use Rattle.fb_journal.specs.Readings.{LeavesBegun}
 use Rattle.disk_log.specs.Logs.{disk_in, count_in, KeepsHistory}
 use Rattle.seg_tree.specs.Ids.{next_above}
 use Rattle.seg_tree.specs.Indexes.{root_ids}
-use Rattle.seg_store.specs.Stores.{disk_in as segments_in, StoreKeeps}
+use Rattle.seg_store.specs.Stores.{disk_in as segments_in, node_count, StoreKeeps}
 use Rattle.seg_store.specs.Keeping.{HasGreatNode, FitsStore}
 use Rattle.fb_model.specs.History.{basis}
 use Rattle.fb_recover.specs.Openings.{AreNumberedFromOne, AreOfFile, HasCoverage, AgreesWithNone}
@@ -46,6 +46,15 @@ returns-in-Ok-clause-fits g c =
     let j = is.joined in
     subst (λ store. FitsStore d.bytes d.images store o.core.snapshot.roots) (sym j.store)
     (subst (FitsStore d.bytes d.images is.based.store) (sym j.roots) is.is.fits))
+    c.opened_on.ensures.opened
+
+pub returns-in-Ok-clause-room : goal.returns-in-Ok-clause-room
+returns-in-Ok-clause-room g c =
+    IfOk-weaker c.opened_on.result _ _
+    (λ o is.
+    let j = is.joined in
+    subst (λ store. node_count store ≤ 2 * length (root_ids o.core.snapshot.roots)) (sym j.store)
+    (subst (λ roots. node_count is.based.store ≤ 2 * length (root_ids roots)) (sym j.roots) is.is.room))
     c.opened_on.ensures.opened
 
 pub returns-in-Ok-clause-ids : goal.returns-in-Ok-clause-ids
