@@ -2,6 +2,7 @@ pub mod Firsts
 pub mod Steps
 pub mod Holding
 pub mod Maps
+pub mod NewEntities
 pub mod Telling
 pub mod Holder
 pub mod Ranges
