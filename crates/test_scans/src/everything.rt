@@ -1,0 +1,16 @@
+//! The filter that selects every datom.
+use fb_preds::Selector;
+use fb_values::Datom;
+
+#[derive(Drop)]
+pub(crate) struct Everything;
+
+impl Selector for Everything {
+    ghost use Rattle.std.specs.Prelude.{⊤};
+
+    ghost selects = { λ _ d. ⊤ };
+
+    fn test(&self, _d: &Datom) -> bool {
+        true
+    }
+}
