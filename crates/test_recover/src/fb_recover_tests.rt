@@ -156,8 +156,8 @@ fn file_of<R: Threads + Sync>(rt: &R, alloc: Global, times: usize) -> Result<Vec
     let Ok(opened) = reopen(alloc, disk_of(alloc, &LOG)?, disk_of(alloc, &[])?) else {
         return Err(Memory);
     };
-    let value = opened.core.snapshot();
     let mut store = opened.store;
+    let value = opened.core.snapshot();
     let mut kept = keep_own(alloc, value, &mut store);
     for _ in 0..times {
         kept = kept && keep_merged(rt, alloc, value, &mut store);
@@ -266,7 +266,7 @@ fn a_changed_byte_of_the_segments_is_no_fault(rt: HostRuntime) -> Result<(), Fai
     let alloc = rt.alloc();
     let file = file_of(&rt, alloc, 1)?;
     let count = file.len() / 211;
-    let mut newest = 0;
+    let mut newest: usize = 0;
     for nth in 0..count {
         let Some(told) = opened(alloc, &LOG, &flipped(alloc, &file, 211 * nth)?)? else {
             return Err(Memory.into());
