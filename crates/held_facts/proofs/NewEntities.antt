@@ -39,6 +39,7 @@ new_has_no_values h e a told law new = sym (ap (map (λ (d : Datom). d.v)) (no_l
   where
     n : ℕ
     n = user_number e
+
     none : (d : Datom) → Contains (facts_in Eavt (is_about e a) h) d → ⊥
     none d among =
         let is = (told.members d).0 among in

@@ -9,8 +9,9 @@ use Rattle.held_facts.proofs.facts.HeldFacts.values_of.Goals as goal
 
 pub returns-then-is_new : goal.returns-then-is_new
 returns-then-is_new c =
-    c.new.ensures.items ∙ new_has_no_values c.args.self.now c.args.e c.args.a (c.told_lists_are_the_rising_ones.ensures c.args.self.now Eavt (is_about c.args.e c.args.a))
-    c.new_users_have_no_facts.ensures.no_datom (sym c.is_new.ensures ∙ c.if-is_new.true)
+    let told = c.told_lists_are_the_rising_ones.ensures c.args.self.now Eavt (is_about c.args.e c.args.a) in
+    let new = sym c.is_new.ensures ∙ c.if-is_new.true in
+    c.new.ensures.items ∙ new_has_no_values c.args.self.now c.args.e c.args.a told c.new_users_have_no_facts.ensures.no_datom new
 
 pub returns : goal.returns
 returns c =
