@@ -1,5 +1,5 @@
 //! Logs with bytes changed, and logs that end too early. Each says what it says by the format, and is left as it is.
-use crate::runs::{disk, ends_so, is_answered, log_of, run_over};
+use crate::runs::{Ended, disk, ends_so, is_answered, run_over};
 use anyhow::{Result, bail};
 use std::alloc::Global;
 use std::sync::Wait;
@@ -131,17 +131,20 @@ pub(crate) fn open_cut<R: Threads + Wait + Sync>(rt: &R, alloc: Global) -> Resul
 /// A log of these bytes has to say so, and to keep them.
 fn open<R: Threads + Wait + Sync>(rt: &R, alloc: Global, bytes: &[u8], says: &str) -> Result<()> {
     let ended = run_over(rt, alloc, &[WHOLE], disk(alloc, bytes, None)?)?;
-    let is_said = if says == "new" {
-        ends_so(&ended, 0, "", EMPTY.as_bytes())
-    } else if says.starts_with('"') {
-        let lines = format!(in alloc; "{BEFORE}{says}{BEHIND}")?;
-        ends_so(&ended, 0, "", lines.as_str().as_bytes())
-    } else {
-        let line = format!(in alloc; "factbase: bad log: {says}")?;
-        ends_so(&ended, 4, line.as_str(), &[])
-    };
-    if !is_said || log_of(&ended)?.bytes() != bytes {
+    if !is_said(alloc, &ended, says)? || ended.parts.log.bytes() != bytes {
         bail!("a log does not say {says}");
     }
     Ok(())
+}
+
+fn is_said(alloc: Global, ended: &Ended, says: &str) -> Result<bool> {
+    if says == "new" {
+        return Ok(ends_so(ended, 0, "", EMPTY.as_bytes()));
+    }
+    if says.starts_with('"') {
+        let lines = format!(in alloc; "{BEFORE}{says}{BEHIND}")?;
+        return Ok(ends_so(ended, 0, "", lines.as_str().as_bytes()));
+    }
+    let line = format!(in alloc; "factbase: bad log: {says}")?;
+    Ok(ends_so(ended, 4, line.as_str(), &[]))
 }

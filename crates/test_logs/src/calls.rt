@@ -1,7 +1,7 @@
 //! Each call of the log's disk fails in turn. The run has to say so. A crash then has to leave what the sessions were answered, at most
 //! with the transaction that met the fault, and the script goes on from there.
-use crate::left::{Case, Left, last_of, left_by};
-use crate::runs::{Ended, disk, is_answered, log_of, run_over};
+use crate::left::{Case, Left, left_by};
+use crate::runs::{Ended, disk, is_answered, run_over};
 use anyhow::{Result, bail};
 use fb_disk::MemDisk;
 use std::alloc::Global;
@@ -38,15 +38,28 @@ pub(crate) fn fail_each_call<R: Threads + Wait + Sync>(
     };
     for call in 1..MOST_CALLS {
         let ended = run_over(rt, alloc, case.scripts, disk(alloc, case.log, Some(call))?)?;
-        let left = left_over(alloc, case, &ended, &mut tally)?;
-        let images = reopened(rt, alloc, log_of(&ended)?, &left)?;
-        match ended.status {
-            0 => return Ok(tally),
-            7 => tally.images = tally.images.saturating_add(images),
-            _ => {}
+        judge(rt, alloc, case, &ended, &mut tally)?;
+        if ended.status == 0 {
+            return Ok(tally);
         }
     }
     bail!("the calls do not end")
+}
+
+/// A run has to end as the call that failed says, and to leave what its sessions were answered.
+fn judge<R: Threads + Wait + Sync>(
+    rt: &R,
+    alloc: Global,
+    case: Case<'_>,
+    ended: &Ended,
+    tally: &mut Tally,
+) -> Result<()> {
+    let left = left_over(alloc, case, ended, tally)?;
+    let images = reopened(rt, alloc, &ended.parts.log, &left)?;
+    if ended.status == 7 {
+        tally.images = tally.images.saturating_add(images);
+    }
+    Ok(())
 }
 
 /// What a crash may leave of a run, which has to end as the call that failed says.
@@ -71,7 +84,7 @@ fn left_over(alloc: Global, case: Case<'_>, ended: &Ended, tally: &mut Tally) ->
         }
         0 => {
             tells(ended, "")?;
-            let records = last_of(ended).saturating_sub(ended.recovered);
+            let records = ended.last.saturating_sub(ended.recovered);
             if tally.adding != records.saturating_mul(CALLS_A_RECORD) {
                 bail!("{} calls failed of {records} records", tally.adding);
             }

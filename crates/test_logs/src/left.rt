@@ -73,11 +73,27 @@ pub(crate) fn left_by(
 ) -> Result<Left> {
     let served = served(alloc, case.scripts, ended)?;
     let mut replay = Replay::new(alloc, case.plain.copy()?, stop)?;
-    replay.replay(served.as_slice(), ended.recovered..last_of(ended))?;
-    let torn = match replay.torn {
-        Some(torn) => torn,
-        None if stop.is_none() => return Left::alone(alloc, &replay.plain, ""),
-        None => bail!("no transaction met the stop"),
+    replay_all(&mut replay, served.as_slice(), ended, stop)?;
+    left_behind(alloc, &mut replay, is_gate_written)
+}
+
+fn replay_all<'a>(
+    replay: &mut Replay<'a>,
+    served: &[Served<'a>],
+    ended: &Ended,
+    stop: Option<u32>,
+) -> Result<()> {
+    replay.replay(served, ended.recovered..ended.last)?;
+    if replay.torn.is_none() && stop.is_some() {
+        bail!("no transaction met the stop");
+    }
+    Ok(())
+}
+
+/// The transaction that met the stop, if there is one, counts where its gate is written.
+fn left_behind(alloc: Global, replay: &mut Replay<'_>, is_gate_written: bool) -> Result<Left> {
+    let Some(torn) = replay.torn else {
+        return Left::alone(alloc, &replay.plain, "");
     };
     let mut left = Left::alone(alloc, &replay.plain, torn.script)?;
     if is_gate_written {
@@ -99,12 +115,4 @@ fn served<'a>(alloc: Global, scripts: &[&'a str], ended: &'a Ended) -> Result<Ve
         })?;
     }
     Ok(served)
-}
-
-/// The t of the last entry.
-pub(crate) fn last_of(ended: &Ended) -> u32 {
-    match &ended.last {
-        Some(last) => last.basis(),
-        None => 0,
-    }
 }

@@ -7,13 +7,15 @@ mod calls;
 mod left;
 mod rows;
 mod runs;
+mod segments;
 
 use anyhow::Result;
 use bad_logs::{open_changed, open_cut};
 use calls::{Tally, fail_each_call};
 use left::{Case, plain_session};
 use rows::run_rows;
-use runs::{disk, log_of, run_over};
+use runs::{disk, run_over};
+use segments::{Histories, cross_images};
 use std::alloc::Global;
 use std::fs;
 use std::sync::Wait;
@@ -44,6 +46,12 @@ fn main(rt: HostRuntime) -> Result<()> {
     let changed = open_changed(&rt, alloc, bytes.as_str())?;
     let cut = open_cut(&rt, alloc)?;
     println!(rt; "{changed} logs with bytes changed, {cut} that end too early")?;
+    let histories = Histories::new(&rt, alloc)?;
+    let pairs = histories.pair(&rt, alloc)?;
+    let bytes = histories.change_bytes(&rt, alloc)?;
+    histories.fail_calls(&rt, alloc)?;
+    cross_images(&rt, alloc)?;
+    println!(rt; "{pairs} logs beside segments, {bytes} files of segments with a byte changed")?;
     Ok(())
 }
 
@@ -73,7 +81,7 @@ fn fail_later<R: Threads + Wait + Sync>(
     answer_all(alloc, &mut plain, script, &mut Vec::new(alloc))?;
     let ended = run_over(rt, alloc, &[script], disk(alloc, &[], None)?)?;
     let case = Case {
-        log: log_of(&ended)?.bytes(),
+        log: ended.parts.log.bytes(),
         plain: &plain,
         scripts: &[later],
     };

@@ -1,6 +1,6 @@
 //! Worked examples as a text has them: in front of each run its clock, then each command with its answer behind an arrow.
 use crate::bad_logs::{LOG, replaced};
-use crate::runs::{Job, Parts, disk, ends_so, handed_back, run_job, run_over};
+use crate::runs::{Job, Parts, disk, ends_so, run_job, run_over};
 use anyhow::{Result, bail};
 use std::alloc::Global;
 use std::sync::Wait;
@@ -77,7 +77,7 @@ fn run_row<R: Threads + Wait + Sync>(
     if !ends_so(&ended, 0, "", row.lines.as_str().as_bytes()) {
         bail!("{} is answered otherwise", row.script.as_str());
     }
-    handed_back(ended)
+    Ok(ended.parts)
 }
 
 /// The first sync of the second record: the opening takes five calls of the disk (a sync, the length, the new journal, a sync, and its

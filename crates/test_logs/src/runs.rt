@@ -4,7 +4,8 @@ use fb_core::NoGuard;
 use fb_disk::{Disk, MemDisk};
 use fb_ports::Part;
 use fb_preds::shipped;
-use fb_run::{Outcome, run};
+use fb_run::{Outcome, SessionOut, run};
+use fb_view::Snapshot;
 use mem_ports::{FixedClock, MemHost, MemSink, MemSource};
 use merge_worker::OpenGate;
 use std::alloc::Global;
@@ -15,12 +16,22 @@ use std::thread::Threads;
 pub(crate) const CLOCK: i64 = 1_704_067_200_000;
 
 /// No disk here comes near it.
-const ROOM: usize = 262_144;
+const ROOM: usize = 65_536;
 
 const DIRECTORY: &str = "db";
 
 /// What a run of scripts hands back.
-pub(crate) type Ended = Outcome<MemSource, MemSink, MemDisk>;
+#[derive(Drop)]
+pub(crate) struct Ended {
+    pub(crate) status: u8,
+    pub(crate) line: String,
+    pub(crate) sessions: Vec<SessionOut<MemSource, MemSink>>,
+    pub(crate) parts: Parts,
+    /// The t up to which the history was there at the opening, that of the last entry, and that of the last one in the trees.
+    pub(crate) recovered: u32,
+    pub(crate) last: u32,
+    pub(crate) covered: u32,
+}
 
 /// Scripts that run at once, by a clock, and how many datoms make a merge due.
 #[derive(Clone, Copy)]
@@ -44,15 +55,6 @@ impl Parts {
             log: disk(alloc, log, None)?,
             segments: disk(alloc, &[], None)?,
         })
-    }
-}
-
-/// The disks that a run hands back.
-pub(crate) fn handed_back(ended: Ended) -> Result<Parts> {
-    let Outcome { log, segments, .. } = ended;
-    match (log, segments) {
-        (Some(log), Some(segments)) => Ok(Parts { log, segments }),
-        _ => bail!("a run hands back no disks"),
     }
 }
 
@@ -95,9 +97,45 @@ pub(crate) fn run_job<R: Threads + Wait + Sync>(
     let filters = shipped(alloc)?;
     let clock = FixedClock::new(job.clock);
     let mut host = host_of(alloc, job.scripts, parts)?;
-    Ok(run(
+    let outcome = run(
         rt, alloc, &words, &mut host, &clock, &filters, &NoGuard, &OpenGate,
-    ))
+    );
+    without_database(outcome)
+}
+
+/// Of a run's outcome what is looked at. Only one that opens its disks hands them back.
+fn without_database(outcome: Outcome<MemSource, MemSink, MemDisk>) -> Result<Ended> {
+    let Outcome {
+        status,
+        line,
+        sessions,
+        log,
+        segments,
+        last,
+        recovered,
+        covered,
+        ..
+    } = outcome;
+    let (Some(log), Some(segments)) = (log, segments) else {
+        bail!("a run hands back no disks");
+    };
+    Ok(Ended {
+        status,
+        line,
+        sessions,
+        parts: Parts { log, segments },
+        recovered,
+        last: basis_of(last),
+        covered,
+    })
+}
+
+/// The t of the last entry of a history, if there is one.
+fn basis_of(last: Option<Snapshot>) -> u32 {
+    match last {
+        Some(last) => last.basis(),
+        None => 0,
+    }
 }
 
 /// A host that has the directory, and the scripts under their numbers.
@@ -123,14 +161,6 @@ fn words_of(alloc: Global, job: Job<'_>) -> Result<Vec<String>> {
         words.push(format!(in alloc; "{number}")?)?;
     }
     Ok(words)
-}
-
-/// The log's disk.
-pub(crate) fn log_of(ended: &Ended) -> Result<&MemDisk> {
-    match &ended.log {
-        Some(log) => Ok(log),
-        None => bail!("a run hands back no log"),
-    }
 }
 
 /// Whether the run ended with this status and line, and its first session with these lines.
