@@ -7,19 +7,20 @@ mod chain;
 mod drawn;
 mod play;
 mod plays;
-mod replay;
 mod runs;
 mod stage;
 
 use anyhow::{Result, bail};
 use drawn::{many_datoms, script};
 use merge_worker::Point;
-use runs::run_scripts;
+use plain_session::PlainSession;
+use runs::{CLOCK, Ended, run_scripts};
 use std::alloc::Global;
 use std::fs;
 use std::sync::Wait;
 use std::thread::Threads;
 use test_data::Dice;
+use test_replay::{Replay, Served};
 
 const SEED: u64 = 20_261_129;
 
@@ -59,7 +60,27 @@ fn replayed<R: Threads + Wait + Sync>(
         scripts.push(script(alloc, &mut dice, session, commands)?)?;
     }
     let ended = run_scripts(rt, alloc, merge_at, scripts.as_slice())?;
-    replay::replay(alloc, scripts.as_slice(), &ended)
+    replay(alloc, scripts.as_slice(), &ended)
+}
+
+fn replay(alloc: Global, scripts: &[String], ended: &Ended) -> Result<usize> {
+    let mut served = Vec::new(alloc);
+    let mut lines = 0_usize;
+    for (script, session) in scripts.iter().zip(ended.sessions.iter()) {
+        lines = lines.saturating_add(session.places.len());
+        served.push(Served {
+            script: script.as_str(),
+            lines: session.sink.bytes(),
+            places: session.places.as_slice(),
+            commits: session.commits.as_slice(),
+        })?;
+    }
+    let Some(last) = &ended.last else {
+        bail!("a run hands back no history");
+    };
+    let plain = PlainSession::new(alloc, CLOCK, 0)?;
+    Replay::new(alloc, plain, None)?.replay(served.as_slice(), 0..last.basis())?;
+    Ok(lines)
 }
 
 /// One script has to be answered by the same bytes, whenever merges are due.
