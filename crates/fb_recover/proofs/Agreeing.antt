@@ -1,5 +1,5 @@
 -- The trees that a history is opened with: those of the newest root that it agrees with, or of its first entry.
-use Rattle.std.proofs.Common.{◌≡◌, ◌∙◌, ◌≤◌, ◌*◌, ◌^◌, inl, inr, ⊎_elim, ℕ, List, [], ◌∷◌, Option, Some, Result, Ok, Err, length, map, refl, sym, ap, subst, arith}
+use Rattle.std.proofs.Common.{◌≡◌, ◌∙◌, ◌⊎◌, ◌≤◌, ◌*◌, ◌^◌, inl, inr, ⊎_elim, ℕ, List, [], ◌∷◌, Option, Some, Result, Ok, Err, length, map, refl, sym, ap, subst, arith}
 use Rattle.std.specs.Prelude.{Contains, IsTrue, IfOk}
 use Rattle.std.proofs.lemmas.Bool.{eqb-true}
 use Rattle.std.proofs.lemmas.List.{nil_from_length}
@@ -25,7 +25,7 @@ use Rattle.seg_store.specs.Loads.{kept_of, IsLoaded}
 use Rattle.seg_store.proofs.Fitting.{fits_none}
 use Rattle.seg_store.proofs.NodeCounts.{no_ids}
 use Rattle.seg_agree.specs.Newest.{IsNewest}
-use Rattle.fb_recover.specs.Openings.{AreNumberedFromOne}
+use Rattle.fb_recover.specs.Openings.{AreNumberedFromOne, HasFault, HasRoot}
 use Rattle.fb_recover.specs.Basing.{IsBased}
 use Rattle.fb_recover.specs.declared.basing.Based.{Based}
 use Rattle.fb_recover.proofs.Greatness.{great_there}
@@ -66,15 +66,27 @@ module _ {D : Type 0} {g : _} (bytes : D → Option (List ℕ)) (images : D → 
     fits = All-contains (λ (k : KeptTrees). Fits (nodes_of is.records) k.roots) loaded.kept.items trees is.fits member;
   }
 
+  -- a root that was loaded is one of the store's file, unless the file that was loaded has a fault
+  root_loaded : (loaded : Loaded D g) (trees : KeptTrees) → IsLoaded bytes images told loaded → Contains loaded.kept.items trees
+      → WhereTold told (λ file. HasFault file ⊎ HasRoot bytes images loaded.store (kept_of trees))
+  root_loaded loaded trees is member file was = ⊎_elim
+      (λ same.
+      let there = mapped_member kept_of loaded.kept.items trees member in
+      let kept = subst (λ (roots : List KeptRoot). Contains roots (kept_of trees)) is.kept.roots there in
+      inr (is.records, is.store, subst (λ (r : List (List ℕ)). Contains (kept_roots r) (kept_of trees)) (sym same) kept))
+      (λ anew. inl (is.read, is.file file was, anew.1 file was))
+      is.goes_on
+
   -- the newest root that the history agrees with
   pub based_found : (loaded : Loaded D g) (trees : KeptTrees) (based : Based D g) → IsLoaded bytes images told loaded
       → WhereTold told (λ file. FileKeeps file (map kept_of loaded.kept.items))
       → IsNewest h loaded.kept.items (Some trees)
       → based.trees ≡ trees → FitsStore bytes images based.store trees.roots
+      → (HasRoot bytes images loaded.store (kept_of trees) → HasRoot bytes images based.store (kept_of trees))
       → node_count based.store ≤ 2 * length (root_ids trees.roots)
       → StaysTold told (bytes (disk_in based.store))
       → IsBased bytes images told h based
-  based_found loaded trees based is keeps newest same fits room stays =
+  based_found loaded trees based is keeps newest same fits goes_on room stays =
       let member = newest.0 in
       let root = newest.1 in
       let there = All-contains (λ (k : KeptTrees). (ids : FileRoots) × AreTreesOf (nodes_of is.read) ids k.roots) loaded.kept.items trees
@@ -83,6 +95,8 @@ module _ {D : Type 0} {g : _} (bytes : D → Option (List ℕ)) (images : D → 
         stands = root.agrees;
         coverage = λ file was. (map kept_of loaded.kept.items, keeps file was, inl (kept_of trees, root, refl));
         fits = fits;
+        root = λ file was.
+            ⊎_elim (λ faulty. inl faulty) (λ has. inr (inr (goes_on has))) (root_loaded loaded trees is member file was);
         room = room;
         ids = inr (is.read, is.file, there.0, there.1);
         great = λ file was above. (is.read, is.file file was, great_there (nodes_of is.read) there.0 trees.roots there.1 above);
@@ -107,6 +121,7 @@ module _ {D : Type 0} {g : _} (bytes : D → Option (List ℕ)) (images : D → 
         (first-stands (trees_of based.trees.roots) h lawful stands.0);
     coverage = λ file was. (map kept_of loaded.kept.items, keeps file was, inr (none, stands.1));
     fits = record { records = []; keeps = empty; fits = fits_none based.trees.roots };
+    root = λ file was. inr (inl (map kept_of loaded.kept.items, keeps file was, none));
     room = omega (arith, ap length (no_ids based.store.ids empty.ids));
     ids = inl ids;
     great = λ file was above. absurd (omega (arith, above, few));

@@ -9,7 +9,8 @@ use Rattle.seg_tree.specs.Indexes.{root_ids, trees_of}
 use Rattle.fb_journal.specs.Journals.{StaysTold}
 use Rattle.seg_store.specs.Stores.{disk_in as segments_in, node_count, StoreKeeps}
 use Rattle.seg_store.specs.Keeping.{HasGreatNode, FitsStore}
-use Rattle.fb_recover.specs.Openings.{AreNumberedFromOne, AreOfFile, HasCoverage, AgreesWithNone}
+use Rattle.fb_recover.specs.Openings.{AreNumberedFromOne, AreOfFile, HasCoverage, AgreesWithNone, HasFault, HasRoot}
+use Rattle.seg_store.specs.Trees.{root_of}
 use Rattle.fb_recover.specs.declared.basing.Based.{Based}
 
 -- The trees are those of the newest root of the file that the history agrees with, or of the first entry, and they fit the
@@ -20,6 +21,8 @@ pub record IsBased {D : Type 0} {g : _} (bytes : D → Option (List ℕ)) (image
   pub coverage : WhereTold told (HasCoverage h based.trees.c)
   pub fits : FitsStore bytes images based.store based.trees.roots
   pub room : node_count based.store ≤ 2 * length (root_ids based.trees.roots)
+  pub root : WhereTold told (λ file. HasFault file ⊎ AgreesWithNone h file
+      ⊎ HasRoot bytes images based.store (root_of based.trees.roots based.trees.c))
   pub ids : AreNumberedFromOne based.trees.roots ⊎ AreOfFile told based.trees.roots
   pub great : WhereTold told
       (λ file. 2 ^ 61 < next_above (root_ids based.trees.roots) → HasGreatNode file)

@@ -1,15 +1,17 @@
 -- The log's disk after an opening, and what the trees and the store are that a database is opened with.
 -- This project's own choice.
-use Rattle.std.specs.Prelude.{◌≡◌, ℕ, List, length, Option, Result, Ok, Err}
+use Rattle.std.specs.Prelude.{◌≡◌, ℕ, List, length, Option, Result, Ok, Err, Contains}
 use Rattle.std.specs.List.{range_with_len}
 use Rattle.fb_values.specs.declared.facts.Entry.{Entry}
 use Rattle.disk_model.specs.Disk.{WhereTold}
 use Rattle.log_model.specs.Nodes.{Roots as FileRoots}
-use Rattle.log_model.specs.Kept.{KeptRoot, FileKeeps, NoneAgrees, IsCoverage, nodes_of}
+use Rattle.log_model.specs.Kept.{KeptRoot, FileKeeps, NoneAgrees, IsCoverage, kept_roots, nodes_of}
 use Rattle.seg_tree.specs.Indexes.{root_ids}
 use Rattle.seg_tree.specs.declared.roots.Roots.{Roots}
 use Rattle.seg_codec.specs.Trees.{AreTreesOf}
-use Rattle.seg_store.specs.Loads.{AreRecordsOf}
+use Rattle.seg_store.specs.declared.stores.SegStore.{SegStore}
+use Rattle.seg_store.specs.Stores.{StoreKeeps}
+use Rattle.seg_store.specs.Loads.{AreRecordsOf, IsFaulty}
 use Rattle.disk_log.specs.Logs.{disk_in}
 use Rattle.fb_recover.specs.declared.faults.OpenStop.{OpenStop}
 use Rattle.fb_recover.specs.declared.reopening.Opened.{Opened}
@@ -37,3 +39,15 @@ HasCoverage h c file = (kept : List KeptRoot) × FileKeeps file kept × IsCovera
 -- the history agrees with no root that the file keeps
 abbrev pub AgreesWithNone : List Entry → List ℕ → Type 0
 AgreesWithNone h file = (kept : List KeptRoot) × FileKeeps file kept × NoneAgrees h kept
+
+-- a record of the file is bad, or its journal has a fault
+abbrev pub HasFault : List ℕ → Type 0
+HasFault file = (records : List (List ℕ)) × AreRecordsOf records file × IsFaulty records file
+
+-- the store goes on, and its file keeps this root
+abbrev pub HasRoot : {D : Type 0} {g : _} → (D → Option (List ℕ)) → (D → List ℕ → Type 0)
+    → SegStore D g → KeptRoot → Type 0
+HasRoot bytes images store root =
+    (records : List (List ℕ))
+    × StoreKeeps bytes images records store
+    × Contains (kept_roots records) root

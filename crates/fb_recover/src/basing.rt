@@ -7,11 +7,11 @@ ghost use Rattle.view_model.specs.Stands.{RootStands};
 ghost use Rattle.seg_tree.specs.Ids.{next_above};
 ghost use Rattle.seg_tree.specs.Indexes.{root_ids, trees_of};
 ghost use Rattle.seg_store.specs.Stores.{disk_in as segments_in, node_count, StoreKeeps};
-ghost use Rattle.seg_store.specs.Trees.{HaveStorableDatoms};
+ghost use Rattle.seg_store.specs.Trees.{root_of, HaveStorableDatoms};
 ghost use Rattle.seg_store.specs.Keeping.{FitsStore};
 ghost use Rattle.fb_journal.specs.Journals.{StaysTold};
 ghost use Rattle.seg_store.specs.Loads.{CountsLoad};
-ghost use Rattle.fb_recover.specs.Openings.{AreNumberedFromOne};
+ghost use Rattle.fb_recover.specs.Openings.{AreNumberedFromOne, HasRoot};
 ghost use Rattle.fb_recover.specs.Basing.{IsBased};
 
 use fb_disk::Disk;
@@ -75,6 +75,9 @@ fn with_room<D: Disk>(
     requires storable { HaveStorableDatoms trees.roots }
     ensures trees { IfOk result (λ b. b.trees ≡ trees) }
     ensures fits { IfOk result (λ b. FitsStore D.bytes D.images b.store trees.roots) }
+    ensures root { IfOk result
+        (λ b. HasRoot D.bytes D.images store (root_of trees.roots trees.c)
+        → HasRoot D.bytes D.images b.store (root_of trees.roots trees.c)) }
     ensures room { IfOk result (λ b. node_count b.store ≤ 2 * length (root_ids trees.roots)) }
     ensures told { IfOk result
         (λ b. StaysTold (D.bytes (segments_in store)) (D.bytes (segments_in b.store))) }

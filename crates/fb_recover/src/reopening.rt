@@ -15,7 +15,8 @@ ghost use Rattle.fb_recover.specs.Faults.{IsCause, IsOfLog, CountsOpening};
 ghost use Rattle.seg_tree.specs.Ids.{next_above};
 ghost use Rattle.seg_tree.specs.Indexes.{root_ids};
 ghost use Rattle.seg_store.specs.Keeping.{HasGreatNode, FitsStore};
-ghost use Rattle.fb_recover.specs.Openings.{log_after, AreNumberedFromOne, AreOfFile, HasCoverage, AgreesWithNone};
+ghost use Rattle.fb_recover.specs.Openings.{log_after, AreNumberedFromOne, AreOfFile, HasCoverage, AgreesWithNone, HasFault, HasRoot};
+ghost use Rattle.seg_store.specs.Trees.{root_of};
 ghost use Rattle.fb_recover.specs.Joining.{IsJoined, IsStopped, IsOpenedOn, IsStoppedOn};
 
 use crate::basing::{Based, find_base};
@@ -65,7 +66,11 @@ pub fn reopen<D: Disk>(alloc: Global, log: D, segments: D) -> Result<Opened<D>, 
     ensures ids { IfOk result (λ o. AreNumberedFromOne o.core.snapshot.roots
         ⊎ AreOfFile (D.bytes segments) o.core.snapshot.roots) }
 
-    // At most half of the nodes of the store's file are none of the trees'.
+    // Unless the file of segments has a fault, or no root of it agrees, the store's file keeps the trees as a root. At most
+    // half of its nodes are none of theirs.
+    ensures root { IfOk result (λ o. WhereTold (D.bytes segments) (λ file. HasFault file
+        ⊎ AgreesWithNone o.core.snapshot.entries file
+        ⊎ HasRoot D.bytes D.images o.store (root_of o.core.snapshot.roots o.covered))) }
     ensures room { IfOk result
         (λ o. node_count o.store ≤ 2 * length (root_ids o.core.snapshot.roots)) }
 

@@ -8,9 +8,10 @@ use Rattle.disk_log.specs.Logs.{disk_in, count_in, KeepsHistory}
 use Rattle.seg_tree.specs.Ids.{next_above}
 use Rattle.seg_tree.specs.Indexes.{root_ids}
 use Rattle.seg_store.specs.Stores.{disk_in as segments_in, node_count, StoreKeeps}
+use Rattle.seg_store.specs.Trees.{root_of}
 use Rattle.seg_store.specs.Keeping.{HasGreatNode, FitsStore}
 use Rattle.fb_model.specs.History.{basis}
-use Rattle.fb_recover.specs.Openings.{AreNumberedFromOne, AreOfFile, HasCoverage, AgreesWithNone}
+use Rattle.fb_recover.specs.Openings.{AreNumberedFromOne, AreOfFile, HasCoverage, AgreesWithNone, HasFault, HasRoot}
 use Rattle.fb_recover.proofs.Joining.{log-counts, log-spares, behind-cause, behind-spares, behind-apart, log-stays}
 use Rattle.fb_recover.proofs.reopening.reopen.Goals as goal
 
@@ -46,6 +47,22 @@ returns-in-Ok-clause-fits g c =
     let j = is.joined in
     subst (λ store. FitsStore d.bytes d.images store o.core.snapshot.roots) (sym j.store)
     (subst (FitsStore d.bytes d.images is.based.store) (sym j.roots) is.is.fits))
+    c.opened_on.ensures.opened
+
+pub returns-in-Ok-clause-root : goal.returns-in-Ok-clause-root
+returns-in-Ok-clause-root g c =
+    let d = g.D.Disk in
+    IfOk-weaker c.opened_on.result _ _
+    (λ o is. λ file told.
+    let j = is.joined in
+    subst (λ h. HasFault file ⊎ AgreesWithNone h file ⊎ HasRoot d.bytes d.images o.store (root_of o.core.snapshot.roots o.covered))
+    (sym j.entries)
+    (subst (λ n. HasFault file ⊎ AgreesWithNone c.in-Ok.logged.entries file
+    ⊎ HasRoot d.bytes d.images o.store (root_of o.core.snapshot.roots n)) (sym (j.covered ∙ j.c))
+    (subst (λ roots. HasFault file ⊎ AgreesWithNone c.in-Ok.logged.entries file
+    ⊎ HasRoot d.bytes d.images o.store (root_of roots is.based.trees.c)) (sym j.roots)
+    (subst (λ store. HasFault file ⊎ AgreesWithNone c.in-Ok.logged.entries file
+    ⊎ HasRoot d.bytes d.images store (root_of is.based.trees.roots is.based.trees.c)) (sym j.store) (is.is.root file told)))))
     c.opened_on.ensures.opened
 
 pub returns-in-Ok-clause-room : goal.returns-in-Ok-clause-room
