@@ -395,7 +395,6 @@ fn open_all<R: Threads + Wait + Sync>(rt: &R, alloc: Global, left: &Parts) -> Re
     Ok(())
 }
 
-/// The reads are answered as they are without segments.
 fn open_log<R: Threads + Wait + Sync>(
     rt: &R,
     alloc: Global,
@@ -403,18 +402,30 @@ fn open_log<R: Threads + Wait + Sync>(
     segments: &MemDisk,
 ) -> Result<()> {
     let alone = run(rt, alloc, READS, NEVER, Parts::of(alloc, log.bytes())?)?;
+    for cut in SEGMENTS_CUTS {
+        open_crossed(rt, alloc, log, &segments.image(alloc, &[cut])?, &alone)?;
+    }
+    Ok(())
+}
+
+/// The reads are answered as they are by the log alone.
+fn open_crossed<R: Threads + Wait + Sync>(
+    rt: &R,
+    alloc: Global,
+    log: &MemDisk,
+    segments: &MemDisk,
+    alone: &Ended,
+) -> Result<()> {
     let [session] = alone.sessions.as_slice() else {
         bail!("a log does not open");
     };
-    for cut in SEGMENTS_CUTS {
-        let parts = Parts {
-            log: disk(alloc, log.bytes(), None)?,
-            segments: segments.image(alloc, &[cut])?,
-        };
-        let beside = run(rt, alloc, READS, NEVER, parts)?;
-        if !ends_so(&beside, 0, "", session.sink.bytes()) {
-            bail!("segments change an answer");
-        }
+    let parts = Parts {
+        log: disk(alloc, log.bytes(), None)?,
+        segments: disk(alloc, segments.bytes(), None)?,
+    };
+    let beside = run(rt, alloc, READS, NEVER, parts)?;
+    if !ends_so(&beside, 0, "", session.sink.bytes()) {
+        bail!("segments change an answer");
     }
     Ok(())
 }
