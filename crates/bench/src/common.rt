@@ -5,7 +5,7 @@ ghost use Rattle.bench.specs.Rising.{LiveRises};
 
 use fb_covers::Covers;
 use fb_memory::Memory;
-use fb_values::{Datom, Datoms, Entry, Value};
+use fb_values::{Datom, Value};
 use live_index::Live;
 use std::alloc::Global;
 
@@ -67,41 +67,10 @@ pub(crate) fn pushed(mut list: Vec<Datom>, datom: Datom) -> Result<Vec<Datom>, M
     Ok(list)
 }
 
-pub(crate) fn no_live(alloc: Global) -> Live
-    ensures { LiveRises result }
+/// The index of these datoms.
+pub(crate) fn live_of(alloc: Global, covers: &Covers, samples: &[Datom]) -> Result<Live, Memory>
+    requires { AreSamples samples.now }
+    ensures { IfOk result (λ live. LiveRises live) }
 {
-    Live::empty(alloc)
-}
-
-/// The index with an entry of these datoms.
-pub(crate) fn with_samples(
-    alloc: Global,
-    live: &Live,
-    covers: &Covers,
-    t: u32,
-    samples: Vec<Datom>,
-) -> Result<Live, Memory>
-    requires live { LiveRises live.now }
-    requires samples { AreSamples samples.items }
-    ensures { IfOk result (λ new. LiveRises new) }
-{
-    let entry = entry_of(t, samples);
-    let refill = no_datoms(alloc);
-    live.with_entry(&entry, covers, &refill)
-}
-
-fn entry_of(t: u32, samples: Vec<Datom>) -> Entry
-    ensures { result.datoms ≡ samples.items }
-{
-    Entry {
-        t,
-        instant: i64::from(t),
-        datoms: Datoms::of(samples),
-    }
-}
-
-fn no_datoms(alloc: Global) -> Datoms
-    ensures { result ≡ [] }
-{
-    Datoms::of(Vec::new(alloc))
+    Live::empty(alloc).made_anew(samples, covers, covers, &[])
 }

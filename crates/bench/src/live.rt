@@ -1,16 +1,15 @@
 //! The live index: `bench live COUNT ROUNDS [install]` fills an index with COUNT datoms, all orders together, and then adds 250
 //! entries to it that many times, each time to the same filled index: entries of three datoms, or, with `install`, entries of
 //! five datoms that install a unique attribute each.
-ghost use Rattle.std.specs.Prelude.{IfOk};
-ghost use Rattle.live_index.specs.Samples.{AreSamples};
-ghost use Rattle.bench.specs.Rising.{LiveRises};
+ghost use Rattle.std.specs.Prelude.{◌≡◌, ◌+◌, ◌<◌, ◌≤◌, ◌^◌, ℕ, IfOk};
+ghost use Rattle.bench.specs.Entries.{IsOf, AreOf, IsEntry, LiveIsBefore, transaction_entity, user_entity};
 
-use crate::common::{no_live, no_samples, number, pushed, sample, with_samples};
+use crate::common::number;
 use anyhow::Result;
 use fb_covers::Covers;
 use fb_memory::Memory;
 use fb_text::Text;
-use fb_values::{Datom, Value};
+use fb_values::{Datom, Datoms, Entry, Value};
 use live_index::Live;
 use std::alloc::Global;
 
@@ -75,11 +74,11 @@ pub(crate) fn perform(alloc: Global, words: &[String]) -> Result<bool> {
 fn measure(alloc: Global, task: Task) -> Result<(), Memory> {
     let covers = coverage(alloc, 0, 0)?;
     let entries = task.count / DATOMS;
-    let live = grown(alloc, no_live(alloc), &covers, 0, entries)?;
+    let live = filled(alloc, &covers, entries)?;
     for _ in 0..task.rounds {
         let begin = live.share()?;
         drop(if task.installs {
-            installed(alloc, begin, entries)?
+            installed(alloc, begin, &covers, entries)?
         } else {
             grown(alloc, begin, &covers, entries, ENTRIES)?
         });
@@ -87,31 +86,69 @@ fn measure(alloc: Global, task: Task) -> Result<(), Memory> {
     Ok(())
 }
 
+/// An index of that many entries of facts.
+fn filled(alloc: Global, covers: &Covers, count: u32) -> Result<Live, Memory>
+    ensures { IfOk result (λ live. LiveIsBefore covers.now count live) }
+{
+    grown(alloc, Live::empty(alloc), covers, 0, count)
+}
+
 /// The index with `count` entries of facts more, of which the first is the n-th.
 fn grown(alloc: Global, mut live: Live, covers: &Covers, n: u32, count: u32) -> Result<Live, Memory>
-    requires { LiveRises live }
-    ensures { IfOk result (λ new. LiveRises new) }
+    requires few { n + count < 2 ^ 32 }
+    requires live { LiveIsBefore covers.now n live }
+    ensures { IfOk result (λ new. LiveIsBefore covers.now (n + count) new) }
 {
     for i in 0..count {
-        let n = n.saturating_add(i);
-        let datoms = facts(alloc, n)?;
-        live = with_samples(alloc, &live, covers, n, datoms)?;
+        live = with_facts(alloc, &live, covers, n + i)?;
     }
     Ok(live)
 }
 
 /// The index with as many entries more as a round adds, each of which installs a unique attribute, so that the coverage grows with each.
-fn installed(alloc: Global, mut live: Live, n: u32) -> Result<Live, Memory>
-    requires { LiveRises live }
-    ensures { IfOk result (λ new. LiveRises new) }
+fn installed(alloc: Global, mut live: Live, covers: &Covers, n: u32) -> Result<Live, Memory>
+    requires few { n + ENTRIES < 2 ^ 32 }
+    requires live { LiveIsBefore covers.now n live }
 {
+    let mut before = covers.share()?;
     for i in 0..ENTRIES {
-        let covers = coverage(alloc, n, i + 1)?;
-        let n = n.saturating_add(i);
-        let datoms = attribute(alloc, n)?;
-        live = with_samples(alloc, &live, &covers, n, datoms)?;
+        let after = coverage(alloc, n, i + 1)?;
+        live = with_attribute(alloc, &live, &before, &after, n + i)?;
+        before = after;
     }
     Ok(live)
+}
+
+fn with_facts(alloc: Global, live: &Live, covers: &Covers, n: u32) -> Result<Live, Memory>
+    requires { LiveIsBefore covers.now n live.now }
+    ensures { IfOk result (λ new. LiveIsBefore covers.now (n + 1) new) }
+{
+    let entry = entry_of(n, facts(alloc, n)?);
+    live.with_entry(&entry, covers)
+}
+
+fn with_attribute(
+    alloc: Global,
+    live: &Live,
+    before: &Covers,
+    after: &Covers,
+    n: u32,
+) -> Result<Live, Memory>
+    requires { LiveIsBefore before.now n live.now }
+    ensures { IfOk result (λ new. LiveIsBefore after.now (n + 1) new) }
+{
+    let entry = entry_of(n, attribute(alloc, n)?);
+    live.with_schema_entry(&entry, before, after, &[])
+}
+
+fn entry_of(t: u32, datoms: Vec<Datom>) -> Entry
+    ensures { result.datoms ≡ datoms.items }
+{
+    Entry {
+        t,
+        instant: i64::from(t),
+        datoms: Datoms::of(datoms),
+    }
 }
 
 /// What the indexes hold by value once `count` unique attributes were installed, the n-th user entity and those behind it.
@@ -126,35 +163,59 @@ fn coverage(alloc: Global, n: u32, count: u32) -> Result<Covers, Memory> {
 
 /// The n-th entry's datoms: a transaction's instant, and two facts of a new entity.
 fn facts(alloc: Global, n: u32) -> Result<Vec<Datom>, Memory>
-    ensures { IfOk result (λ v. AreSamples v.items) }
+    ensures { IfOk result (λ v. IsEntry n v.items) }
 {
     let key = Value::Str(name(alloc, n)?);
-    let datoms = with_instant(alloc, n)?;
-    let datoms = pushed(datoms, sample(user(n), KEY, key, n))?;
     let number = Value::Long(n as i64 * 7919 % 1000);
-    pushed(datoms, sample(user(n), NUMBER, number, n))
+    let datoms = pushed(Vec::new(alloc), instant(n))?;
+    let datoms = pushed(datoms, of_user(n, KEY, key))?;
+    pushed(datoms, of_user(n, NUMBER, number))
 }
 
-/// The n-th entry's datoms: a transaction's instant, and a new unique attribute.
+/// The n-th entry's datoms: a new unique attribute, and a transaction's instant.
 fn attribute(alloc: Global, n: u32) -> Result<Vec<Datom>, Memory>
-    ensures { IfOk result (λ v. AreSamples v.items) }
+    ensures { IfOk result (λ v. IsEntry n v.items) }
 {
     let ident = Value::Keyword(name(alloc, n)?);
-    let datoms = with_instant(alloc, n)?;
-    let datoms = pushed(datoms, sample(user(n), IDENT, ident, n))?;
-    let datoms = pushed(datoms, sample(user(n), VALUE_TYPE, Value::Ref(STRING), n))?;
-    let datoms = pushed(datoms, sample(user(n), CARDINALITY, Value::Ref(ONE), n))?;
-    pushed(datoms, sample(user(n), UNIQUE, Value::Ref(IDENTITY), n))
+    let datoms = pushed(Vec::new(alloc), of_user(n, IDENT, ident))?;
+    let datoms = pushed(datoms, of_user(n, VALUE_TYPE, Value::Ref(STRING)))?;
+    let datoms = pushed(datoms, of_user(n, CARDINALITY, Value::Ref(ONE)))?;
+    let datoms = pushed(datoms, of_user(n, UNIQUE, Value::Ref(IDENTITY)))?;
+    pushed(datoms, instant(n))
 }
 
-fn with_instant(alloc: Global, n: u32) -> Result<Vec<Datom>, Memory>
-    ensures { IfOk result (λ v. AreSamples v.items) }
+fn pushed(mut list: Vec<Datom>, datom: Datom) -> Result<Vec<Datom>, Memory>
+    ensures { IfOk result (λ v. (n a : ℕ) → AreOf n a list.items → IsOf n datom → a ≤ datom.a
+        → AreOf n (datom.a + 1) v.items) }
 {
-    let instant = Value::Instant(i64::from(n));
-    pushed(
-        no_samples(alloc),
-        sample(transaction(n), TX_INSTANT, instant, n),
-    )
+    list.push(datom)?;
+    Ok(list)
+}
+
+fn instant(n: u32) -> Datom
+    ensures of { IsOf n result }
+    ensures a { result.a ≡ TX_INSTANT }
+{
+    Datom {
+        e: transaction(n),
+        a: TX_INSTANT,
+        v: Value::Instant(i64::from(n)),
+        t: n,
+        added: true,
+    }
+}
+
+fn of_user(n: u32, a: u64, v: Value) -> Datom
+    ensures of { IsOf n result }
+    ensures a { result.a ≡ a }
+{
+    Datom {
+        e: user(n),
+        a,
+        v,
+        t: n,
+        added: true,
+    }
 }
 
 fn name(alloc: Global, n: u32) -> Result<Text, Memory> {
@@ -162,10 +223,14 @@ fn name(alloc: Global, n: u32) -> Result<Text, Memory> {
     Text::of(alloc, text.as_str())
 }
 
-fn transaction(n: u32) -> u64 {
+fn transaction(n: u32) -> u64
+    ensures { result ≡ transaction_entity n }
+{
     13_194_139_533_312 + u64::from(n)
 }
 
-fn user(n: u32) -> u64 {
+fn user(n: u32) -> u64
+    ensures { result ≡ user_entity n }
+{
     17_592_186_044_416 + u64::from(n)
 }

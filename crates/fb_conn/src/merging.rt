@@ -47,7 +47,8 @@ impl<L: Log> Conn<L> {
         let _basis = ahead.basis();
         match held.home.core.rebase_on(ahead) {
             Ok(rebased) => {
-                held.home.core.adopt(rebased);
+                // It is dropped behind the turn.
+                let _before = held.home.core.adopt(rebased);
                 end(&self.board, &mut seat.board, held);
                 Ok(())
             }

@@ -119,7 +119,8 @@ impl<L: Log> Conn<L> {
         let t = one.basis();
         let instant = draft.entry().instant;
         let tempids = draft.take_tempids();
-        held.home.core.accept(draft);
+        // It is dropped behind the turn.
+        let _before = held.home.core.accept(draft);
         add(&self.board, &mut seat.board, &mut held, mails);
         end(&self.board, &mut seat.board, held);
         seat.last = one;

@@ -124,14 +124,17 @@ impl Core {
         })
     }
 
-    /// The draft's entry is the last one from now on. It takes no memory.
-    pub fn accept(&mut self, draft: Draft)
+    /// The draft's entry is the last one from now on. It takes no memory. The value before is given back, to be dropped
+    /// where nobody waits.
+    pub fn accept(&mut self, draft: Draft) -> Snapshot
         requires { (author : ℕ) × IsDraftOf self.old author draft }
-        ensures { self.new ≡ record { snapshot = draft.after; authors = draft.authors } }
+        ensures core { self.new ≡ record { snapshot = draft.after; authors = draft.authors } }
+        ensures before { result ≡ self.old.snapshot }
     {
-        self.parts = CoreParts {
+        let after = CoreParts {
             snapshot: draft.after,
             authors: draft.authors,
         };
+        mem::replace(&mut self.parts, after).snapshot
     }
 }

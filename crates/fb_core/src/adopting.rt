@@ -9,6 +9,7 @@ use crate::shared::Core;
 use fb_memory::Memory;
 use fb_view::Snapshot;
 use seg_tree::Roots;
+use std::mem;
 
 /// The latest value of the database over newer trees, which are not yet adopted.
 #[derive(Drop)]
@@ -45,12 +46,14 @@ impl Core {
         Ok(Rebased { snapshot })
     }
 
-    /// The newer trees stand from now on. The history and its authors stay. It takes no memory.
-    pub fn adopt(&mut self, rebased: Rebased)
+    /// The newer trees stand from now on. The history and its authors stay. It takes no memory. The value before is given
+    /// back, to be dropped where nobody waits.
+    pub fn adopt(&mut self, rebased: Rebased) -> Snapshot
         requires { IsRebaseOf self.old rebased }
-        ensures { self.new ≡ record self.old { snapshot = rebased.snapshot } }
+        ensures core { self.new ≡ record self.old { snapshot = rebased.snapshot } }
+        ensures before { result ≡ self.old.snapshot }
     {
-        self.parts.snapshot = rebased.snapshot;
+        mem::replace(&mut self.parts.snapshot, rebased.snapshot)
     }
 }
 

@@ -1,5 +1,6 @@
 -- Which attributes each index holds.
--- Restates Indexes of Datomic's documentation: EAVT and AEVT hold all datoms, AVET those of indexed and unique attributes, VAET those of references.
+-- Restates Indexes of Datomic's documentation: EAVT and AEVT hold all datoms, AVET those of indexed
+-- and unique attributes, VAET those of references.
 use Rattle.std.specs.Prelude.{ℕ, Bool, true, List, ◌==◌, IsTrue}
 use Rattle.std.specs.List.{list_any}
 use Rattle.fb_values.specs.declared.indexes.Order.{Order}

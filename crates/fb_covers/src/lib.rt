@@ -1,42 +1,55 @@
 //! Which attributes the indexes hold. EAVT and AEVT hold every attribute, AVET and VAET some.
 #![tactic(auto)]
 
-ghost use Rattle.std.specs.Prelude.{◌≡◌, ℕ, ◌↔◌, ◌==◌, IsTrue, IfOk, Contains};
-ghost use Rattle.std.specs.List.{All, list_any};
-ghost use Rattle.std.specs.List.Sorted.{IsNonDecreasing};
+ghost use Rattle.std.specs.Prelude.{◌≡◌, ℕ, [], ◌↔◌, ◌==◌, IsTrue, IfOk, Contains, if◌then◌else◌};
+ghost use Rattle.std.specs.List.{list_any};
+ghost use Rattle.std.specs.Map.{keys_of};
 ghost use Rattle.fb_covers.specs.Coverage.{StaysIn, covers};
 ghost use Rattle.fb_values.specs.declared.indexes.Order.TheVariants.{Avet, Vaet};
 
+use fb_chunks::Share;
 use fb_memory::Memory;
 use fb_values::Order;
+use shared_map::SharedMap;
 use std::alloc::Global;
 use std::marker::Model;
-use std::sync::Arc;
 
-/// The attributes that AVET holds, and those that VAET holds. A copy shares them.
+/// The attributes that AVET holds, and those that VAET holds. Other coverages share most of them.
 #[derive(Drop)]
 pub struct Covers {
-    avet: Arc<Vec<u64>>,
-    vaet: Arc<Vec<u64>>,
+    avet: SharedMap<u64, ()>,
+    vaet: SharedMap<u64, ()>,
 }
 
 impl Model for Covers {
-    ghost use Rattle.std.specs.List.Sorted.{IsNonDecreasing};
-    ghost use Rattle.std.specs.Arc.{arc_value};
+    ghost use Rattle.std.specs.Map.{keys_of};
     ghost use Rattle.fb_covers.specs.Coverage.{Coverage};
 
     ghost Value = { Coverage };
 
     ghost view = { λ c. record {
-      avet = (arc_value c.avet).items;
-      vaet = (arc_value c.vaet).items;
+      avet = keys_of c.avet;
+      vaet = keys_of c.vaet;
     } };
+}
 
-    ghost invariant = { λ c. IsNonDecreasing (arc_value c.avet).items
-        × IsNonDecreasing (arc_value c.vaet).items };
+/// Which of the two hold an attribute.
+#[derive(Clone, Copy)]
+pub struct Held {
+    pub avet: bool,
+    pub vaet: bool,
 }
 
 impl Covers {
+    /// No attributes.
+    pub fn none(alloc: Global) -> Result<Covers, Memory>
+        ensures avet { IfOk result (λ c. c.avet ≡ []) }
+        ensures vaet { IfOk result (λ c. c.vaet ≡ []) }
+    {
+        let (avet, vaet) = (SharedMap::new(alloc)?, SharedMap::new(alloc)?);
+        Ok(Covers { avet, vaet })
+    }
+
     /// The attributes in any order.
     pub fn of(alloc: Global, avet: Vec<u64>, vaet: Vec<u64>) -> Result<Covers, Memory>
         ensures avet { IfOk result
@@ -44,11 +57,19 @@ impl Covers {
         ensures vaet { IfOk result
             (λ c. (a : ℕ) → IsTrue (covers c Vaet a) ↔ Contains vaet.items a) }
     {
-        let (mut avet, mut vaet) = (avet, vaet);
-        avet.sort_unstable();
-        vaet.sort_unstable();
-        let avet = Arc::new(alloc, avet)?;
-        let vaet = Arc::new(alloc, vaet)?;
+        let (avet, vaet) = (set_of(alloc, &avet)?, set_of(alloc, &vaet)?);
+        Ok(Covers { avet, vaet })
+    }
+
+    /// With the attribute held or not.
+    pub fn with(&self, attribute: u64, held: Held) -> Result<Covers, Memory>
+        ensures avet { IfOk result (λ c. (a : ℕ) → covers c Avet a
+            ≡ (if attribute == a then held.avet else covers self.now Avet a)) }
+        ensures vaet { IfOk result (λ c. (a : ℕ) → covers c Vaet a
+            ≡ (if attribute == a then held.vaet else covers self.now Vaet a)) }
+    {
+        let avet = with_member(&self.avet, attribute, held.avet)?;
+        let vaet = with_member(&self.vaet, attribute, held.vaet)?;
         Ok(Covers { avet, vaet })
     }
 
@@ -67,7 +88,7 @@ impl Covers {
     pub fn share(&self) -> Result<Covers, Memory>
         ensures { IfOk result (λ c. c ≡ self.now) }
     {
-        let (avet, vaet) = (self.avet.clone()?, self.vaet.clone()?);
+        let (avet, vaet) = (self.avet.share()?, self.vaet.share()?);
         Ok(Covers { avet, vaet })
     }
 
@@ -82,36 +103,47 @@ impl Covers {
             _ => true,
         }
     }
+}
 
-    /// Whether both hold the same attributes.
-    pub fn is_same(&self, other: &Covers) -> bool
-        ensures { IsTrue result ↔ (self.now ≡ other.now) }
-    {
-        self.avet.as_slice() == other.avet.as_slice()
-            && self.vaet.as_slice() == other.vaet.as_slice()
+fn set_of(alloc: Global, attributes: &[u64]) -> Result<SharedMap<u64, ()>, Memory>
+    ensures { IfOk result (λ set. (a : ℕ)
+        → list_any (λ b. a == b) (keys_of set) ≡ list_any (λ b. a == b) attributes.now) }
+{
+    let mut set = SharedMap::new(alloc)?;
+    for a in attributes {
+        set = set.with(*a, ())?;
+    }
+    Ok(set)
+}
+
+/// A set with an attribute, or without it.
+fn with_member(
+    set: &SharedMap<u64, ()>,
+    attribute: u64,
+    is_member: bool,
+) -> Result<SharedMap<u64, ()>, Memory>
+    ensures { IfOk result (λ new. (a : ℕ) → list_any (λ b. a == b) (keys_of new)
+        ≡ (if attribute == a then is_member else list_any (λ b. a == b) (keys_of set.now))) }
+{
+    if is_member == contains(set, attribute) {
+        return set.share();
+    }
+    if is_member {
+        set.with(attribute, ())
+    } else {
+        set.without(&attribute)
     }
 }
 
-/// Whether a sorted list has each of the attributes. Equal lists are the usual case.
-fn is_part_of(attributes: &[u64], sorted: &[u64]) -> bool
-    requires { IsNonDecreasing sorted.now }
-    ensures { IsTrue result ↔ All (Contains sorted.now) attributes.now }
+fn is_part_of(set: &SharedMap<u64, ()>, other: &SharedMap<u64, ()>) -> bool
+    ensures { IsTrue result ↔ ((a : ℕ) → IsTrue (list_any (λ b. a == b) (keys_of set.now))
+        → IsTrue (list_any (λ b. a == b) (keys_of other.now))) }
 {
-    if attributes == sorted {
-        return true;
-    }
-    for attribute in attributes {
-        if !contains(sorted, *attribute) {
-            return false;
-        }
-    }
-    true
+    set.keys_are_in(other)
 }
 
-/// Whether a sorted list has the attribute.
-fn contains(sorted: &[u64], attribute: u64) -> bool
-    requires { IsNonDecreasing sorted.now }
-    ensures { result ≡ list_any (λ a. attribute == a) sorted.now }
+fn contains(set: &SharedMap<u64, ()>, attribute: u64) -> bool
+    ensures { result ≡ list_any (λ b. attribute == b) (keys_of set.now) }
 {
-    sorted.binary_search(&attribute).is_ok()
+    set.get(&attribute).is_some()
 }

@@ -1,7 +1,7 @@
 -- Filters by their names, in a table that finds a place by a name, has a name at a place, and a filter there.
 -- Datomic, Database Filters (d/filter). That filters have names is this project's own choice.
-use Rattle.std.specs.Prelude.{◌≡◌, ℕ, List, Option, Some, MatchOption}
-use Rattle.std.specs.List.{AllByRecursion, AllByRecursion-prop}
+use Rattle.std.specs.Prelude.{◌≡◌, ℕ, List, [], ◌∷◌, ◌++◌, nat_eq, if◌then◌else◌, Option, Some, MatchOption}
+use Rattle.std.specs.List.{AllByRecursion, AllByRecursion-prop, list_any}
 use Rattle.std.proofs.Props.{props}
 use Rattle.fb_values.specs.declared.facts.Datom.{Datom}
 
@@ -20,6 +20,12 @@ pub AreFound-prop : (place_of : List ℕ → Option ℕ) (name_at : ℕ → List
     → IsProp (AreFound place_of name_at places)
 AreFound-prop place_of name_at places =
     AllByRecursion-prop (IsFound place_of name_at) (IsFound-prop place_of name_at) places
+
+-- the places with one more, where it is not there yet
+abbrev pub with_place : List ℕ → ℕ → List ℕ
+with_place places place =
+    if list_any (nat_eq place) places then places
+    else places ++ place ∷ []
 
 -- the filter that the name finds selects the datom
 abbrev pub selected_by : (List ℕ → Option ℕ) → (ℕ → Datom → Type 0) → List ℕ → Datom → Type 0

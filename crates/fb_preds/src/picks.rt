@@ -1,7 +1,8 @@
 //! Filters that were picked from a table by their names, of which each has to select a datom.
-ghost use Rattle.std.specs.Prelude.{◌≡◌, ◌↔◌, [], ◌∷◌, ◌++◌, IsTrue, IfOk, IfErr};
+ghost use Rattle.std.specs.Prelude.{◌≡◌, ◌↔◌, [], nat_eq, IsTrue, IfOk, IfErr};
+ghost use Rattle.std.specs.List.{list_any};
 ghost use Rattle.fb_preds.specs.Selecting.{SelectedByAll};
-ghost use Rattle.fb_preds.specs.Naming.{IsFound, AreFound, AreFound-prop};
+ghost use Rattle.fb_preds.specs.Naming.{IsFound, AreFound, AreFound-prop, with_place};
 
 use crate::filter_table::FilterTable;
 use crate::selector::Selector;
@@ -9,7 +10,7 @@ use fb_memory::Memory;
 use fb_values::Datom;
 use std::alloc::Global;
 
-/// Filters of one table in the order in which they were added, each at the place that its name finds. Together they are a
+/// Filters of one table in the order in which they were added, each once, at the place that its name finds. Together they are a
 /// filter, which selects what each of them selects.
 #[derive(Drop)]
 pub struct Picks<'p, T: FilterTable> {
@@ -30,16 +31,25 @@ impl<'p, T: FilterTable> Picks<'p, T> {
         }
     }
 
-    /// One filter more, at the place that its name finds.
+    /// One filter more, at the place that its name finds. One that is there already is not added again.
     pub fn add(&mut self, place: usize) -> Result<(), Memory>
         requires { IsFound (T.place_of self.old.table.now) (T.name_at self.old.table.now) place }
         ensures added { IfOk result
-            (λ _. self.new.places.items ≡ self.old.places.items ++ place ∷ []) }
+            (λ _. self.new.places.items ≡ with_place self.old.places.items place) }
         ensures unchanged { IfErr result (λ _. self.new.places.items ≡ self.old.places.items) }
         ensures table { self.new.table ≡ self.old.table }
     {
+        if self.has(place) {
+            return Ok(());
+        }
         self.places.push(place)?;
         Ok(())
+    }
+
+    fn has(&self, place: usize) -> bool
+        ensures { result ≡ list_any (nat_eq place) self.now.places.items }
+    {
+        self.places.iter().any(|added| place == *added)
     }
 
     /// Every datom is selected again.

@@ -15,7 +15,7 @@ use Rattle.fb_values.proofs.Rising.{rises_from, rising_from}
 use Rattle.fb_model.specs.Schema.{is_about}
 use Rattle.fb_model.proofs.Members.{kept, keep}
 use Rattle.view_model.specs.Scan.{leading, IsScan}
-use Rattle.fb_view.proofs.Merging.{rising-filter}
+use Rattle.live_index.proofs.Growing.{rising-filter}
 use Rattle.fb_db.specs.declared.db.Db.{Db}
 use Rattle.fb_db.specs.Seen.{window_of}
 use Rattle.pull_model.specs.Found as model

@@ -18,7 +18,8 @@ use Rattle.fb_model.specs.Facts.{facts as facts_of}
 use Rattle.fb_model.specs.Schema.{attribute_of}
 use Rattle.fb_model.proofs.Members.{here, there, cases_of, none_of, kept, keep}
 use Rattle.live_index.proofs.Members.{contains-cons, contains_head, contains_tail, contains_none}
-use Rattle.fb_view.proofs.Merging.{rising-filter, before_member}
+use Rattle.live_index.proofs.Growing.{rising-filter}
+use Rattle.live_index.proofs.Together.{before_member}
 use Rattle.fb_scan.specs.Attributes.{HasAttribute}
 use Rattle.fb_db.specs.declared.db.Db.{Db}
 use Rattle.fb_db.specs.Seen.{window_of}

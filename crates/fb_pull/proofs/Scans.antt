@@ -23,7 +23,7 @@ use Rattle.fb_model.proofs.Members.{here, there, kept, keep}
 use Rattle.fb_model.proofs.Triples.{value_eq-true}
 use Rattle.view_model.specs.Scan.{leading, IsScan}
 use Rattle.view_model.proofs.Scans.{IsRisingListOf-one}
-use Rattle.fb_view.proofs.Merging.{rising-filter}
+use Rattle.live_index.proofs.Growing.{rising-filter}
 use Rattle.fb_db.specs.declared.db.Db.{Db}
 use Rattle.fb_db.specs.Seen.{window_of}
 use Rattle.pull_model.specs.Found as model

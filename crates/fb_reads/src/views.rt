@@ -1,6 +1,6 @@
 //! The turns of a view: what changes in what the looks behind them see. The line is written first, so that a view changes only where all
 //! went well.
-ghost use Rattle.std.specs.Prelude.{◌≡◌, ◌∷◌, ◌++◌, [], OnOk, OnErr, if◌then◌else◌, is_some, map};
+ghost use Rattle.std.specs.Prelude.{◌≡◌, [], OnOk, OnErr, if◌then◌else◌, is_some, map};
 ghost use Rattle.edn_form.specs.View.{form_of};
 ghost use Rattle.fb_model.specs.History.{basis};
 ghost use Rattle.view_model.specs.Window as window;
@@ -8,6 +8,7 @@ ghost use Rattle.fb_db.specs.Seen.{window_of};
 ghost use Rattle.read_model.specs.Points.{point_in};
 ghost use Rattle.talk_model.specs.Replies.{done_reply, IsLineOf};
 ghost use Rattle.talk_model.specs.Reads.{done_at, refused};
+ghost use Rattle.talk_model.specs.Session.{with_name};
 ghost use Rattle.fb_reads.specs.Answers.{narrowed, no_filter as model_no_filter};
 
 use crate::lines::refuse;
@@ -104,7 +105,7 @@ pub fn add_filter<T: FilterTable>(
     ensures names { let names = map (T.name_at view.old.filter.table.now)
         view.old.filter.places.items in OnOk result
         (map (T.name_at view.old.filter.table.now) view.new.filter.places.items
-        ≡ (if is_some (T.place_of view.old.filter.table.now name.now) then names ++ name.now ∷ []
+        ≡ (if is_some (T.place_of view.old.filter.table.now name.now) then with_name names name.now
         else names)) }
     ensures unchanged { OnErr result (view.new.filter.places.items ≡ view.old.filter.places.items) }
     ensures window { window_of view.new ≡ window_of view.old }

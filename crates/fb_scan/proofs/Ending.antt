@@ -16,8 +16,7 @@ use Rattle.fb_search.specs.Places.{is_below}
 use Rattle.fb_values.specs.Rising.{IsRising}
 use Rattle.fb_search.proofs.Below.{below_earlier}
 use Rattle.live_index.proofs.Members.{contains-cons}
-use Rattle.fb_view.proofs.Merging.{before_member}
-use Rattle.fb_view.proofs.Ranging.{above_later}
+use Rattle.live_index.proofs.Together.{above_later, before_member}
 use Rattle.fb_scan.specs.declared.ends.End.{End}
 use Rattle.fb_scan.specs.declared.ends.End.TheVariants.{Never, Behind, Before}
 use Rattle.fb_scan.specs.Ends.{is_past, IsIn, valued}

@@ -15,8 +15,9 @@ use Rattle.fb_values.specs.Rising.{StandsBefore, IsRising}
 use Rattle.fb_model.specs.Facts.{facts}
 use Rattle.fb_model.specs.Schema.{covers}
 use Rattle.live_index.proofs.Members.{contains-cons, contains_head, contains_tail, contains_none}
-use Rattle.fb_view.proofs.Merging.{before_member}
+use Rattle.live_index.proofs.Together.{before_member}
 use Rattle.view_model.specs.Window.{Window}
+use Rattle.fb_index.specs.declared.sides.Extent.{Extent}
 use Rattle.fb_scan.specs.declared.ends.End.{End}
 use Rattle.fb_scan.specs.Ends.{is_past}
 use Rattle.fb_scan.specs.Steps.{IsGiven, StepsTo}
@@ -24,34 +25,38 @@ use Rattle.fb_scan.specs.Walks.{is_shown, shown}
 
 -- ---- members of what is shown
 
-pub shown_member : (w : Window) (ds : List Datom) (d : Datom) → Contains (shown w ds) d → Contains ds d
-shown_member w [] d there = there
-shown_member w (x ∷ xs) d there = go (is_shown w x (slice_get xs 0)) (shown_member w xs d) there
+pub shown_member : (extent : Extent) (w : Window) (ds : List Datom) (d : Datom) → Contains (shown extent w ds) d → Contains ds d
+shown_member extent w [] d there = there
+shown_member extent w (x ∷ xs) d there = go (is_shown extent w x (slice_get xs 0)) (shown_member extent w xs d) there
   where
-    go : (b : Bool) → (Contains (shown w xs) d → Contains xs d) → Contains (cond b (x ∷ shown w xs) (shown w xs)) d → Contains (x ∷ xs) d
+    go : (b : Bool) → (Contains (shown extent w xs) d → Contains xs d)
+        → Contains (cond b (x ∷ shown extent w xs) (shown extent w xs)) d → Contains (x ∷ xs) d
     go true next member =
-        elim (contains-cons x (shown w xs) d member)
+        elim (contains-cons x (shown extent w xs) d member)
         [ inl same ↦ contains_head x xs d same | inr behind ↦ contains_tail x xs d (next behind) ]
     go false next member = contains_tail x xs d (next member)
 
-shown_tail : (w : Window) (x : Datom) (xs : List Datom) (d : Datom) → Contains (shown w xs) d → Contains (shown w (x ∷ xs)) d
-shown_tail w x xs d there =
-    elim (is_shown w x (slice_get xs 0)) as (λ b. Contains (cond b (x ∷ shown w xs) (shown w xs)) d) [
-      | true ↦ contains_tail x (shown w xs) d there
+shown_tail : (extent : Extent) (w : Window) (x : Datom) (xs : List Datom) (d : Datom) → Contains (shown extent w xs) d
+    → Contains (shown extent w (x ∷ xs)) d
+shown_tail extent w x xs d there =
+    elim (is_shown extent w x (slice_get xs 0)) as (λ b. Contains (cond b (x ∷ shown extent w xs) (shown extent w xs)) d) [
+      | true ↦ contains_tail x (shown extent w xs) d there
       | false ↦ there
     ]
 
-shown_head : (w : Window) (x : Datom) (xs : List Datom) → is_shown w x (slice_get xs 0) ≡ true → Contains (shown w (x ∷ xs)) x
-shown_head w x xs is =
-    subst (λ (b : Bool). Contains (cond b (x ∷ shown w xs) (shown w xs)) x) (sym is) (contains_head x (shown w xs) x refl)
+shown_head : (extent : Extent) (w : Window) (x : Datom) (xs : List Datom) → is_shown extent w x (slice_get xs 0) ≡ true
+    → Contains (shown extent w (x ∷ xs)) x
+shown_head extent w x xs is =
+    subst (λ (b : Bool). Contains (cond b (x ∷ shown extent w xs) (shown extent w xs)) x) (sym is)
+    (contains_head x (shown extent w xs) x refl)
 
-shown_cases : (w : Window) (x : Datom) (xs : List Datom) (d : Datom) → Contains (shown w (x ∷ xs)) d
-    → ((x ≡ d) × (is_shown w x (slice_get xs 0) ≡ true)) ⊎ Contains (shown w xs) d
-shown_cases w x xs d there = go (is_shown w x (slice_get xs 0)) refl there
+shown_cases : (extent : Extent) (w : Window) (x : Datom) (xs : List Datom) (d : Datom) → Contains (shown extent w (x ∷ xs)) d
+    → ((x ≡ d) × (is_shown extent w x (slice_get xs 0) ≡ true)) ⊎ Contains (shown extent w xs) d
+shown_cases extent w x xs d there = go (is_shown extent w x (slice_get xs 0)) refl there
   where
-    go : (b : Bool) → is_shown w x (slice_get xs 0) ≡ b → Contains (cond b (x ∷ shown w xs) (shown w xs)) d
-        → ((x ≡ d) × (is_shown w x (slice_get xs 0) ≡ true)) ⊎ Contains (shown w xs) d
-    go true is member = elim (contains-cons x (shown w xs) d member) [ inl same ↦ inl (same, is) | inr behind ↦ inr behind ]
+    go : (b : Bool) → is_shown extent w x (slice_get xs 0) ≡ b → Contains (cond b (x ∷ shown extent w xs) (shown extent w xs)) d
+        → ((x ≡ d) × (is_shown extent w x (slice_get xs 0) ≡ true)) ⊎ Contains (shown extent w xs) d
+    go true is member = elim (contains-cons x (shown extent w xs) d member) [ inl same ↦ inl (same, is) | inr behind ↦ inr behind ]
     go false is member = inr member
 
 -- ---- a rising list without one of its datoms rises
@@ -95,9 +100,9 @@ front_before order (y ∷ xs) ds x d rising x_in d_in =
 
 -- ---- the walk
 
-module _ (h : List Entry) (w : Window) (Selects : Datom → Type 0) (order : Order) (end : End) where
+module _ (h : List Entry) (w : Window) (Selects : Datom → Type 0) (extent : Extent) (order : Order) (end : End) where
   abbrev Given : List Datom → Datom → Type 0
-  Given = IsGiven h w Selects order end
+  Given = IsGiven h w Selects extent order end
 
   -- the list begins with datoms that are not given
   pub record Skips (ds rest : List Datom) : Type 0 where
@@ -114,11 +119,11 @@ module _ (h : List Entry) (w : Window) (Selects : Datom → Type 0) (order : Ord
 
   module _ (ds : List Datom) (x : Datom) (rest : List Datom) (skips : Skips ds (x ∷ rest)) where
     abbrev Passes : Type 0
-    Passes = IsTrue (covers (facts h) order x.a && is_shown w x (slice_get rest 0)) × Selects x
+    Passes = IsTrue (covers (facts h) order x.a && is_shown extent w x (slice_get rest 0)) × Selects x
 
     later : (d : Datom) → Given rest d → Given (x ∷ rest) d
     later d is = record {
-      is_seen = shown_tail w x rest d is.is_seen;
+      is_seen = shown_tail extent w x rest d is.is_seen;
       is_held = is.is_held;
       is_before = is.is_before;
       is_selected =
@@ -127,16 +132,16 @@ module _ (h : List Entry) (w : Window) (Selects : Datom → Type 0) (order : Ord
 
     now : is_past end x ≡ false → Passes → Given (x ∷ rest) x
     now before passes =
-        let both = and_parts (covers (facts h) order x.a) (is_shown w x (slice_get rest 0)) passes.0 in
-        record { is_seen = shown_head w x rest both.1; is_held = both.0; is_before = before; is_selected = passes.1 }
+        let both = and_parts (covers (facts h) order x.a) (is_shown extent w x (slice_get rest 0)) passes.0 in
+        record { is_seen = shown_head extent w x rest both.1; is_held = both.0; is_before = before; is_selected = passes.1 }
 
     now_or_later : (d : Datom) → Given (x ∷ rest) d → ((x ≡ d) × Passes) ⊎ Given rest d
     now_or_later d is =
-        elim (shown_cases w x rest d is.is_seen) [
+        elim (shown_cases extent w x rest d is.is_seen) [
           | inl here ↦ inl (
             here.0,
             (
-              and_from (covers (facts h) order x.a) (is_shown w x (slice_get rest 0))
+              and_from (covers (facts h) order x.a) (is_shown extent w x (slice_get rest 0))
                   (subst (λ (z : Datom). covers (facts h) order z.a ≡ true) (sym here.0) is.is_held) here.1,
               subst Selects (sym here.0) is.is_selected,
             ),
@@ -144,7 +149,7 @@ module _ (h : List Entry) (w : Window) (Selects : Datom → Type 0) (order : Ord
           | inr behind ↦ inr (record { is_seen = behind; is_held = is.is_held; is_before = is.is_before; is_selected = is.is_selected })
         ]
 
-    pub gives : is_past end x ≡ false → Passes → StepsTo h w Selects order end ds x rest
+    pub gives : is_past end x ≡ false → Passes → StepsTo h w Selects extent order end ds x rest
     gives before passes = record {
       passed = skips.passed;
       parts = skips.parts;
@@ -179,7 +184,8 @@ module _ (h : List Entry) (w : Window) (Selects : Datom → Type 0) (order : Ord
       same = λ d. (λ given. elim given [ inl there ↦ absurd (contains_none d there) | inr ahead ↦ ahead ], λ answer. inr answer);
     }
 
-    pub goes_on : (found ds : List Datom) (x : Datom) (rest new : List Datom) → IsGoing found ds → StepsTo h w Selects order end ds x rest
+    pub goes_on : (found ds : List Datom) (x : Datom) (rest new : List Datom) → IsGoing found ds
+        → StepsTo h w Selects extent order end ds x rest
         → new ≡ found ++ x ∷ [] → IsGoing new rest
     goes_on found ds x rest new going step is = subst (λ (l : List Datom). IsGoing l rest) (sym is) record {
       rising =
@@ -224,7 +230,7 @@ module _ (h : List Entry) (w : Window) (Selects : Datom → Type 0) (order : Ord
     found_first found rest going d answer =
         elim ((going.same d).1 answer) [
           | inl there ↦ inl there
-          | inr ahead ↦ inr (λ x there. front_before order found rest x d going.rising there (shown_member w rest d ahead.is_seen))
+          | inr ahead ↦ inr (λ x there. front_before order found rest x d going.rising there (shown_member extent w rest d ahead.is_seen))
         ]
 
 -- ---- the first of a rising list

@@ -9,7 +9,7 @@ use Rattle.fb_model.specs.History.{basis}
 use Rattle.fb_model.specs.Lawful.{IsLawful, IsLawfulFrom}
 use Rattle.fb_model.proofs.OneMoreEntry.{basis-push}
 use Rattle.fb_model.proofs.Times.{next_t}
-use Rattle.fb_view.proofs.Merging.{drop_next}
+use Rattle.live_index.proofs.Walking.{drop_next}
 use Rattle.view_model.specs.Scan.{transactions}
 use Rattle.fb_scan.specs.Logs.{part}
 

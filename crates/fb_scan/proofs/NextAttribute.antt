@@ -16,13 +16,15 @@ use Rattle.fb_search.specs.Places.{is_below}
 use Rattle.fb_model.specs.Facts.{facts}
 use Rattle.view_model.specs.Window.{Window}
 use Rattle.view_model.specs.View.{InView}
-use Rattle.fb_view.specs.Kept.{Kept, Stands}
-use Rattle.fb_view.specs.declared.merged.Spot.{Spot}
-use Rattle.fb_view.proofs.Merging.{before_member}
+use Rattle.live_index.proofs.Together.{before_member}
+use Rattle.fb_view.specs.Kept.{Kept}
+use Rattle.fb_index.specs.declared.sides.Sides.{Sides}
+use Rattle.fb_index.specs.declared.sides.Spot.{Spot}
+use Rattle.fb_scan.specs.declared.ends.End.{End}
 use Rattle.fb_scan.specs.declared.ends.End.TheVariants.{Behind}
 use Rattle.fb_scan.specs.Attributes.{HasAttribute, IsNextAttribute}
 use Rattle.fb_scan.specs.Ends.{is_met}
-use Rattle.fb_scan.specs.Steps.{at_hand, path, IsGiven, StepsTo}
+use Rattle.fb_scan.specs.Steps.{AreRead, at_hand, path, IsGiven, StepsTo}
 use Rattle.fb_scan.proofs.Going.{rising_behind, shown_member}
 use Rattle.fb_scan.proofs.Stepping.{path_rises, met_of_given, given_of_met}
 
@@ -79,46 +81,52 @@ by_attribute x d same less =
     inner Greater eq is = absurd (true≢false (sym eq))
 
 -- a walk that begins at the probe rises
-pub rises_at : (k : Kept) (e from : ℕ) (first : Probe) (at : Option (Bor Datom × Spot)) → first ≡ attributes_from e (Some from)
-    → at_hand k first.order at ≡ path k first → IsRising Eavt (at_hand k Eavt at)
-rises_at k e from first at is start =
-    subst (λ (o : Order). IsRising o (at_hand k o at)) (ap (λ (q : Probe). q.order) is)
-    (subst (IsRising first.order) (sym start) (path_rises k first))
+pub rises_at : (sides : Sides) (end : End) (first : Probe) (at : Option (Bor Datom × Spot)) → at_hand sides end at ≡ path sides end first
+    → IsRising sides.order (at_hand sides end at)
+rises_at sides end first at start = subst (IsRising sides.order) (sym start) (path_rises sides end first)
 
-module _ (k : Kept) (stands : Stands k) (w : Window) (Selects : Datom → Type 0) (e from : ℕ) (first : Probe) (whole : Bor Probe)
-    (first_is : first ≡ attributes_from e (Some from)) (whole_is : whole.now ≡ attributes_from e None) where
-  abbrev Given : Datom → Type 0
-  Given = IsGiven k.entries w Selects Eavt (Behind whole) (path k first)
+-- the walk from an attribute of an entity on, to the end of the entity's datoms
+pub record IsFrom (k : Kept) (w : Window) (e from : ℕ) (sides : Sides) (first : Probe) (whole : Bor Probe)
+    (at : Option (Bor Datom × Spot)) : Type 0 where
+  pub read : AreRead k w Eavt sides
+  pub first_is : first ≡ attributes_from e (Some from)
+  pub whole_is : whole.now ≡ attributes_from e None
+  pub start_is : at_hand sides (Behind whole) at ≡ path sides (Behind whole) first
 
-  order_is : first.order ≡ Eavt
-  order_is = ap (λ (q : Probe). q.order) first_is
+module _ (k : Kept) (w : Window) (Selects : Datom → Type 0) (e from : ℕ) (sides : Sides) (first : Probe) (whole : Bor Probe)
+    (at : Option (Bor Datom × Spot)) (is : IsFrom k w e from sides first whole at) where
+  abbrev Given : List Datom → Datom → Type 0
+  Given = IsGiven k.entries w Selects sides.extent sides.order (Behind whole)
 
-  given_has : (d : Datom) → Given d → InView k.entries w Selects d × (d.e ≡ e) × (from ≤ d.a)
-  given_has d given = go first first_is given
-    where
-      go : (q : Probe) → q ≡ attributes_from e (Some from) → IsGiven k.entries w Selects Eavt (Behind whole) (path k q) d
-          → InView k.entries w Selects d × (d.e ≡ e) × (from ≤ d.a)
-      go q is there =
-          let own = met_of_given k stands (attributes_from e (Some from)) w (Behind whole) Selects d
-          (subst (λ (r : Probe). IsGiven k.entries w Selects Eavt (Behind whole) (path k r) d) is there) in
-          let both = and_parts (is_eq (nat_cmp e d.e)) (not (is_gt (nat_cmp from d.a)))
-          (sym (met_is (facts k.entries) e from whole d whole_is) ∙ own.1) in
-          (own.0, sym (is_same e d.e both.0), not_above from d.a both.1)
+  begins_at : at_hand sides (Behind whole) at ≡ path sides (Behind whole) (attributes_from e (Some from))
+  begins_at = is.start_is ∙ ap (path sides (Behind whole)) is.first_is
 
-  has_given : (d : Datom) → InView k.entries w Selects d → d.e ≡ e → from ≤ d.a → Given d
+  given_has : (d : Datom) → Given (at_hand sides (Behind whole) at) d → InView k.entries w Selects d × (d.e ≡ e) × (from ≤ d.a)
+  given_has d given =
+      let own = met_of_given k (attributes_from e (Some from)) w (Behind whole) Selects sides is.read d
+      (subst (λ (l : List Datom). Given l d) begins_at given) in
+      let both = and_parts (is_eq (nat_cmp e d.e)) (not (is_gt (nat_cmp from d.a)))
+      (sym (met_is (facts k.entries) e from whole d is.whole_is) ∙ own.1) in
+      (own.0, sym (is_same e d.e both.0), not_above from d.a both.1)
+
+  has_given : (d : Datom) → InView k.entries w Selects d → d.e ≡ e → from ≤ d.a → Given (at_hand sides (Behind whole) at) d
   has_given d view of_entity above =
-      subst (λ (r : Probe). IsGiven k.entries w Selects Eavt (Behind whole) (path k r) d) (sym first_is)
-      (given_of_met k stands (attributes_from e (Some from)) w (Behind whole) Selects d (
+      subst (λ (l : List Datom). Given l d) (sym begins_at)
+      (given_of_met k (attributes_from e (Some from)) w (Behind whole) Selects sides is.read d (
         view,
-        met_is (facts k.entries) e from whole d whole_is
+        met_is (facts k.entries) e from whole d is.whole_is
             ∙ and_from (is_eq (nat_cmp e d.e)) (not (is_gt (nat_cmp from d.a))) (same_is e d.e (sym of_entity)) (above_not from d.a above),
       ))
 
-  pub no_attribute : ((d : Datom) → Given d → ⊥) → (a : ℕ) → from ≤ a → HasAttribute k.entries w Selects e a → ⊥
-  no_attribute none a above has =
-      none has.datom (has_given has.datom has.in_view has.of_entity (subst (λ (n : ℕ). from ≤ n) (sym has.of_attribute) above))
+  pub no_attribute : (result : Option ℕ) → result ≡ None → ((d : Datom) → Given (at_hand sides (Behind whole) at) d → ⊥)
+      → IsNextAttribute k.entries w Selects e from result
+  no_attribute result is_none none =
+      subst (IsNextAttribute k.entries w Selects e from) (sym is_none)
+      (λ a above has. none has.datom (has_given has.datom has.in_view has.of_entity
+      (subst (λ (n : ℕ). from ≤ n) (sym has.of_attribute) above)))
 
-  pub next_is : (x : Datom) (rest : List Datom) → StepsTo k.entries w Selects Eavt (Behind whole) (path k first) x rest
+  pub next_is : (x : Datom) (rest : List Datom)
+      → StepsTo k.entries w Selects sides.extent sides.order (Behind whole) (at_hand sides (Behind whole) at) x rest
       → IsNextAttribute k.entries w Selects e from (Some x.a)
   next_is x rest step =
       let own = given_has x ((step.same x).0 (inl refl)) in
@@ -126,8 +134,9 @@ module _ (k : Kept) (stands : Stands k) (w : Window) (Selects : Datom → Type 0
     where
       rises : IsRising Eavt (x ∷ rest)
       rises =
-          rising_behind Eavt step.passed (x ∷ rest)
-          (subst (IsRising Eavt) step.parts (subst (λ (o : Order). IsRising o (path k first)) order_is (path_rises k first)))
+          subst (λ (o : Order). IsRising o (x ∷ rest)) is.read.order_is
+          (rising_behind sides.order step.passed (x ∷ rest)
+          (subst (IsRising sides.order) step.parts (rises_at sides (Behind whole) first at is.start_is)))
 
       least : (a : ℕ) → from ≤ a → HasAttribute k.entries w Selects e a → x.a ≤ a
       least a above has =
@@ -137,23 +146,5 @@ module _ (k : Kept) (stands : Stands k) (w : Window) (Selects : Datom → Type 0
           (subst (λ (n : ℕ). from ≤ n) (sym has.of_attribute) above))) [
             | inl same ↦ subst (λ (z : Datom). x.a ≤ z.a) same (omega arith)
             | inr later ↦ by_attribute x has.datom (own.1 ∙ sym has.of_entity)
-                (before_member Eavt x rest has.datom rises.0 (shown_member w rest has.datom later.is_seen))
+                (before_member Eavt x rest has.datom rises.0 (shown_member sides.extent w rest has.datom later.is_seen))
           ])
-
-  -- ---- the same of a walk that begins at the probe
-
-  begins_at : (at : Option (Bor Datom × Spot)) → at_hand k first.order at ≡ path k first → at_hand k Eavt at ≡ path k first
-  begins_at at is = subst (λ (o : Order). at_hand k o at ≡ path k first) order_is is
-
-  pub no_attribute_at : (at : Option (Bor Datom × Spot)) → at_hand k first.order at ≡ path k first → (result : Option ℕ) → result ≡ None
-      → ((d : Datom) → IsGiven k.entries w Selects Eavt (Behind whole) (at_hand k Eavt at) d → ⊥)
-      → IsNextAttribute k.entries w Selects e from result
-  no_attribute_at at start result is none =
-      subst (IsNextAttribute k.entries w Selects e from) (sym is)
-      (no_attribute (λ d given. none d (subst (λ (l : List Datom). IsGiven k.entries w Selects Eavt (Behind whole) l d)
-      (sym (begins_at at start)) given)))
-
-  pub next_at : (at : Option (Bor Datom × Spot)) → at_hand k first.order at ≡ path k first → (x : Datom) (rest : List Datom)
-      → StepsTo k.entries w Selects Eavt (Behind whole) (at_hand k Eavt at) x rest → IsNextAttribute k.entries w Selects e from (Some x.a)
-  next_at at start x rest step =
-      next_is x rest (subst (λ (l : List Datom). StepsTo k.entries w Selects Eavt (Behind whole) l x rest) (begins_at at start) step)

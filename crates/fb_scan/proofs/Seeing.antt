@@ -2,17 +2,25 @@
 use Rattle.std.proofs.Common.{◌≡◌, ◌∙◌, ◌<◌, ◌≤◌, ◌⊎◌, inl, inr, Bool, true, false, not, ◌&&◌, ◌||◌, cond, List, [], ◌∷◌, refl, sym, ap, subst, arith, leb, ltb}
 use Rattle.std.specs.Prelude.{Contains, filter}
 use Rattle.std.specs.List.{slice_get, list_any}
+use Rattle.std.specs.declared.cmp.Ordering.TheVariants.{Less}
 use Rattle.std.proofs.lemmas.Bool.{true≢false, and_parts, and_from, leb-true, le-leb, ltb-true, lt-ltb}
 use Rattle.fb_values.specs.declared.facts.Datom.{Datom}
+use Rattle.fb_values.specs.declared.facts.Entry.{Entry}
 use Rattle.fb_values.specs.declared.indexes.Order.{Order}
+use Rattle.fb_values.specs.declared.indexes.Probe.{Probe}
+use Rattle.fb_search.specs.Places.{is_below}
+use Rattle.fb_search.proofs.Below.{below_earlier}
+use Rattle.fb_values.specs.Orders.{key_cmp}
 use Rattle.fb_values.specs.Rising.{IsRising}
-use Rattle.fb_model.specs.Facts.{is_of, standing}
+use Rattle.fb_model.specs.History.{basis}
+use Rattle.fb_model.specs.Facts.{is_of, standing, stands_before}
 use Rattle.fb_model.proofs.Members.{some_member, any_member, standing_member}
-use Rattle.live_index.proofs.Members.{from_filter, into_filter, contains-cons, contains_head}
+use Rattle.live_index.proofs.Members.{from_filter, into_filter, contains-cons, contains_head, contains_tail}
 use Rattle.view_model.specs.Window.{Window, is_within, within}
-use Rattle.fb_view.proofs.Merging.{before_member}
-use Rattle.fb_view.proofs.Lasting.{IsByTime, standing_last, last_stands, rising_by_time, together, of_through}
-use Rattle.fb_scan.specs.Walks.{is_followed, shown, seen_in}
+use Rattle.live_index.proofs.Together.{IsByTime, standing_last, last_stands, rising_by_time, before_member, together, of_through}
+use Rattle.fb_index.specs.declared.sides.Extent.{Extent}
+use Rattle.fb_index.specs.declared.sides.Extent.TheVariants.{Said, Held}
+use Rattle.fb_scan.specs.Walks.{extent_of, is_followed, shown, seen_in}
 
 same_bool : (a b : Bool) → (a ≡ true → b ≡ true) → (b ≡ true → a ≡ true) → a ≡ b
 same_bool true b forth back = sym (forth refl)
@@ -49,10 +57,10 @@ any_is_followed order w d (y ∷ ds) rising in_window = same_bool _ _ (next_foll
 
 -- ---- a walk shows what the window sees
 
-shown_whole : (w : Window) (ds : List Datom) → w.history ≡ true → shown w ds ≡ within w ds
+shown_whole : (w : Window) (ds : List Datom) → w.history ≡ true → shown Said w ds ≡ within w ds
 shown_whole w [] history = refl
 shown_whole w (d ∷ ds) history =
-    ap (λ b. cond (is_within w d && (b || (d.added && not (is_followed w d (slice_get ds 0))))) (d ∷ shown w ds) (shown w ds)) history
+    ap (λ b. cond (is_within w d && (b || (d.added && not (is_followed w d (slice_get ds 0))))) (d ∷ shown Said w ds) (shown Said w ds)) history
     ∙ ap (λ l. cond (is_within w d && true) (d ∷ l) l) (shown_whole w ds history)
     ∙ ap (λ b. cond b (d ∷ within w ds) (within w ds)) (and_true (is_within w d))
   where
@@ -60,10 +68,10 @@ shown_whole w (d ∷ ds) history =
     and_true true = refl
     and_true false = refl
 
-shown_standing : (order : Order) (w : Window) (ds : List Datom) → IsRising order ds → w.history ≡ false → shown w ds ≡ standing (within w ds)
+shown_standing : (order : Order) (w : Window) (ds : List Datom) → IsRising order ds → w.history ≡ false → shown Said w ds ≡ standing (within w ds)
 shown_standing order w [] rising plain = refl
 shown_standing order w (d ∷ ds) rising plain =
-    ap (λ b. cond (is_within w d && (b || (d.added && not (is_followed w d (slice_get ds 0))))) (d ∷ shown w ds) (shown w ds)) plain
+    ap (λ b. cond (is_within w d && (b || (d.added && not (is_followed w d (slice_get ds 0))))) (d ∷ shown Said w ds) (shown Said w ds)) plain
     ∙ ap (λ l. cond (is_within w d && (d.added && not (is_followed w d (slice_get ds 0)))) (d ∷ l) l) (shown_standing order w ds rising.1 plain)
     ∙ go (is_within w d) refl
   where
@@ -72,12 +80,97 @@ shown_standing order w (d ∷ ds) rising plain =
     go true is = ap (λ b. cond (d.added && not b) (d ∷ standing (within w ds)) (standing (within w ds))) (sym (any_is_followed order w d ds rising is))
     go false is = refl
 
-pub shown-seen_in : (order : Order) (w : Window) (ds : List Datom) → IsRising order ds → shown w ds ≡ seen_in w ds
+pub shown-seen_in : (order : Order) (w : Window) (ds : List Datom) → IsRising order ds → shown Said w ds ≡ seen_in w ds
 shown-seen_in order w ds rising = go w.history refl
   where
-    go : (b : Bool) → w.history ≡ b → shown w ds ≡ cond b (within w ds) (standing (within w ds))
+    go : (b : Bool) → w.history ≡ b → shown Said w ds ≡ cond b (within w ds) (standing (within w ds))
     go true is = shown_whole w ds is
     go false is = shown_standing order w ds rising is
+
+-- ---- of what holds, a window that ends behind it all leaves out what came before it
+
+-- with a datom that passes pass the later ones of its triple
+abbrev pub PassLater : (Datom → Bool) → List Datom → Type 0
+PassLater p [] = Unit {0}
+PassLater p (d ∷ ds) =
+    ((y : Datom) → Contains ds y → is_of d.e d.a d.v y ≡ true → p d ≡ true → p y ≡ true) × PassLater p ds
+
+any_passing : (p q : Datom → Bool) (ds : List Datom) → ((y : Datom) → Contains ds y → q y ≡ true → p y ≡ true)
+    → list_any q (filter p ds) ≡ list_any q ds
+any_passing p q ds each = same_bool _ _ forth back
+  where
+    forth : list_any q (filter p ds) ≡ true → list_any q ds ≡ true
+    forth some =
+        let found = some_member q (filter p ds) some in
+        any_member q ds found.0 (from_filter p ds found.0 found.1).0 found.2
+
+    back : list_any q ds ≡ true → list_any q (filter p ds) ≡ true
+    back some =
+        let found = some_member q ds some in
+        any_member q (filter p ds) found.0 (into_filter p ds found.0 found.1 (each found.0 found.1 found.2)) found.2
+
+pub standing-passing : (p : Datom → Bool) (ds : List Datom) → PassLater p ds → standing (filter p ds) ≡ filter p (standing ds)
+standing-passing p [] passes = refl
+standing-passing p (d ∷ ds) passes = go (p d) refl (standing-passing p ds passes.1)
+  where
+    kept : p d ≡ true → (b : Bool)
+        → cond b (d ∷ filter p (standing ds)) (filter p (standing ds)) ≡ filter p (cond b (d ∷ standing ds) (standing ds))
+    kept is true = ap (λ c. cond c (d ∷ filter p (standing ds)) (filter p (standing ds))) (sym is)
+    kept is false = refl
+
+    left_out : p d ≡ false → (b : Bool) → filter p (standing ds) ≡ filter p (cond b (d ∷ standing ds) (standing ds))
+    left_out is true = ap (λ c. cond c (d ∷ filter p (standing ds)) (filter p (standing ds))) (sym is)
+    left_out is false = refl
+
+    go : (b : Bool) → p d ≡ b → standing (filter p ds) ≡ filter p (standing ds)
+        → standing (cond b (d ∷ filter p ds) (filter p ds)) ≡ filter p (cond (stands_before d ds) (d ∷ standing ds) (standing ds))
+    go true is next =
+        ap (λ b. cond (d.added && not b) (d ∷ standing (filter p ds)) (standing (filter p ds)))
+        (any_passing p (is_of d.e d.a d.v) ds (λ y there same. passes.0 y there same is))
+        ∙ ap (λ l. cond (stands_before d ds) (d ∷ l) l) next
+        ∙ kept is (stands_before d ds)
+    go false is next = next ∙ left_out is (stands_before d ds)
+
+pub later_within : (w : Window) (ds : List Datom) → IsByTime ds → ((d : Datom) → Contains ds d → d.t < w.to)
+    → PassLater (is_within w) ds
+later_within w [] by_time early = tt
+later_within w (d ∷ ds) by_time early = (
+  λ y there same inside.
+      let after = by_time.0 y there same in
+      let start = leb-true w.from d.t (and_parts (leb w.from d.t) (ltb d.t w.to) inside).0 in
+      and_from (leb w.from y.t) (ltb y.t w.to) (le-leb w.from y.t (omega (arith, after, start)))
+      (lt-ltb y.t w.to (early y (contains_tail d ds y there))),
+  later_within w ds by_time.1 (λ x there. early x (contains_tail d ds x there)),
+)
+
+pub later_above : (p : Probe) (ds : List Datom) → IsRising p.order ds → PassLater (λ d. not (is_below p d)) ds
+later_above p [] rising = tt
+later_above p (d ∷ ds) rising = (
+  λ y there same above. go y (before_member p.order d ds y rising.0 there) above (is_below p y) refl,
+  later_above p ds rising.1,
+)
+  where
+    go : (y : Datom) → key_cmp p.order d y ≡ Less → not (is_below p d) ≡ true → (b : Bool) → is_below p y ≡ b → not (is_below p y) ≡ true
+    go y less above false is = ap not is
+    go y less above true is = absurd (true≢false (sym above ∙ ap not (below_earlier p d y less is)))
+
+pub shown_within : (w : Window) (ds : List Datom) → shown Held w ds ≡ within w ds
+shown_within w [] = refl
+shown_within w (d ∷ ds) = ap (λ l. cond (is_within w d) (d ∷ l) l) (shown_within w ds)
+
+-- the window of a walk over what holds
+pub held_window : (h : List Entry) (w : Window) → Held ≡ extent_of h w → (w.history ≡ false) × (basis h < w.to)
+held_window h w is = go (not w.history && ltb (basis h) w.to) refl is
+  where
+    no_history : (b : Bool) → not b ≡ true → b ≡ false
+    no_history false e = refl
+    no_history true e = absurd (true≢false (sym e))
+
+    go : (b : Bool) → (not w.history && ltb (basis h) w.to) ≡ b → Held ≡ cond b Held Said → (w.history ≡ false) × (basis h < w.to)
+    go true both is =
+        let parts = and_parts (not w.history) (ltb (basis h) w.to) both in
+        (no_history w.history parts.0, ltb-true (basis h) w.to parts.1)
+    go false both is = absurd (cc)
 
 -- ---- lists that have the same of a triple
 

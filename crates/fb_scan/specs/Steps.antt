@@ -11,49 +11,84 @@ use Rattle.fb_model.specs.Schema.{covers}
 use Rattle.view_model.specs.Window.{Window}
 use Rattle.seg_tree.specs.Nodes.{tree_datoms}
 use Rattle.seg_tree.specs.Indexes.{tree_in}
-use Rattle.fb_values.specs.Lists.{list_in}
-use Rattle.fb_view.specs.declared.merged.Spot.{Spot}
-use Rattle.fb_view.specs.Kept.{Kept}
-use Rattle.fb_view.specs.Ranges.{from_probe}
-use Rattle.fb_view.specs.Merged.{merged, ahead}
+use Rattle.fb_index.specs.declared.sides.Extent.{Extent}
+use Rattle.fb_index.specs.declared.sides.Extent.TheVariants.{Said, Held}
+use Rattle.fb_index.specs.declared.sides.Sides.{Sides}
+use Rattle.fb_index.specs.declared.sides.Spot.{Spot}
+use Rattle.fb_index.specs.Ranges.{from_probe, within}
+use Rattle.fb_index.specs.Sides.{whole, ahead, AreBeside}
+use Rattle.fb_view.specs.Kept.{Kept, Stands, roots_read}
 use Rattle.fb_scan.specs.declared.ends.End.{End}
+use Rattle.fb_scan.specs.declared.ends.End.TheVariants.{Never, Behind, Before}
 use Rattle.fb_scan.specs.Ends.{is_past, IsWalk}
-use Rattle.fb_scan.specs.Walks.{shown}
+use Rattle.fb_scan.specs.Walks.{extent_of, shown}
+
+-- the lists can be read as one
+abbrev pub CanBeRead : Sides → Type 0
+CanBeRead sides =
+    AreBeside sides.extent sides.order (tree_datoms sides.tree.now) sides.live.now
+
+-- the lists are those of the order, as far as a walk under the window reads them
+pub record AreRead (k : Kept) (w : Window) (order : Order) (sides : Sides) : Type 0 where
+  pub extent_is : sides.extent ≡ extent_of k.entries w
+  pub order_is : sides.order ≡ order
+  pub tree_is : sides.tree.now ≡ tree_in (roots_read sides.extent k) order
+  pub live_is : sides.live.now ≡ k.live
+  pub beside : CanBeRead sides
+  pub stands : Stands k
+
+-- the probe up to which a walk reads: of what holds, no datom has to be known that lies beyond the end
+abbrev pub last_read : Extent → End → Option Probe
+last_read Said end = None
+last_read Held Never = None
+last_read Held (Behind probe) = Some probe.now
+last_read Held (Before probe) = Some probe.now
+
+-- what a walk reads from a spot on
+abbrev pub behind : Sides → End → Spot → List Datom
+behind sides end spot =
+    within (last_read sides.extent end)
+    (ahead sides.extent sides.order sides.tree.now sides.live.now spot)
 
 -- the datom at hand and those behind it
-abbrev pub at_hand : Kept → Order → Option (Bor Datom × Spot) → List Datom
-at_hand k order None = []
-at_hand k order (Some next) = next.0.now ∷ ahead order (tree_in k.roots order) k.live next.1
+abbrev pub at_hand : Sides → End → Option (Bor Datom × Spot) → List Datom
+at_hand sides end None = []
+at_hand sides end (Some next) = next.0.now ∷ behind sides end next.1
 
--- the datoms of an index that are not below the probe
-abbrev pub path : Kept → Probe → List Datom
-path k from =
-    from_probe from (merged from.order (tree_datoms (tree_in k.roots from.order))
-    (list_in k.live from.order))
+-- what a walk reads: the datoms of an index that are not below the probe
+abbrev pub path : Sides → End → Probe → List Datom
+path sides end from =
+    within (last_read sides.extent end)
+    (from_probe from
+    (whole sides.extent sides.order (tree_datoms sides.tree.now) sides.live.now))
 
 -- a walk over the list gives the datom: it is shown, the index holds it, it does not lie beyond the end, and it is selected
-pub record IsGiven (h : List Entry) (w : Window) (Selects : Datom → Type 0) (order : Order)
-    (end : End) (ds : List Datom) (d : Datom) : Type 0 where
-  pub is_seen : Contains (shown w ds) d
+pub record IsGiven (h : List Entry) (w : Window) (Selects : Datom → Type 0) (extent : Extent)
+    (order : Order) (end : End) (ds : List Datom) (d : Datom) : Type 0 where
+  pub is_seen : Contains (shown extent w ds) d
   pub is_held : IsTrue (covers (facts h) order d.a)
   pub is_before : IsFalse (is_past end d)
   pub is_selected : Selects d
 
 -- a step over the list gives this datom, and leaves the rest
-pub record StepsTo (h : List Entry) (w : Window) (Selects : Datom → Type 0) (order : Order)
-    (end : End) (ds : List Datom) (x : Datom) (rest : List Datom) : Type 0 where
+pub record StepsTo (h : List Entry) (w : Window) (Selects : Datom → Type 0) (extent : Extent)
+    (order : Order) (end : End) (ds : List Datom) (x : Datom) (rest : List Datom)
+    : Type 0 where
   pub passed : List Datom
   pub parts : ds ≡ passed ++ x ∷ rest
   pub same : (d : Datom)
-      → ((x ≡ d) ⊎ IsGiven h w Selects order end rest d) ↔ IsGiven h w Selects order end ds d
+      → ((x ≡ d) ⊎ IsGiven h w Selects extent order end rest d)
+      ↔ IsGiven h w Selects extent order end ds d
 
 -- what a step answers: the next datom that is given and the place behind it, or that there is none
-abbrev pub IsStep : Kept → Window → (Datom → Type 0) → Order → End → Option (Bor Datom × Spot)
-    → Option (Bor Datom × Option (Bor Datom × Spot)) → Type 0
-IsStep k w Selects order end at None =
-    (d : Datom) → IsGiven k.entries w Selects order end (at_hand k order at) d → ⊥
-IsStep k w Selects order end at (Some step) =
-    StepsTo k.entries w Selects order end (at_hand k order at) step.0.now (at_hand k order step.1)
+abbrev pub IsStep : List Entry → Window → (Datom → Type 0) → Sides → End
+    → Option (Bor Datom × Spot) → Option (Bor Datom × Option (Bor Datom × Spot)) → Type 0
+IsStep h w Selects sides end at None =
+    (d : Datom)
+    → IsGiven h w Selects sides.extent sides.order end (at_hand sides end at) d → ⊥
+IsStep h w Selects sides end at (Some step) =
+    StepsTo h w Selects sides.extent sides.order end (at_hand sides end at) step.0.now
+    (at_hand sides end step.1)
 
 -- a walk that ends with its range, or before, with so many datoms
 abbrev pub IsWalkUpto : Option ℕ → List Entry → Window → (Datom → Type 0) → Probe → End

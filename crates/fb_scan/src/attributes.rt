@@ -5,7 +5,7 @@ ghost use Rattle.fb_db.specs.Seen.{window_of};
 ghost use Rattle.fb_scan.specs.Attributes.{IsNextAttribute};
 
 use crate::ends::End;
-use crate::walk::{next_seen, start};
+use crate::walk::{next_seen, sides, start};
 use fb_db::Db;
 use fb_preds::Selector;
 use fb_values::{Order, Probe};
@@ -16,8 +16,10 @@ pub fn next_attribute<S: Selector>(db: &Db<S>, e: u64, from: u64) -> Option<u64>
         e from result }
 {
     let entity = attributes_from(e, None);
-    let first = start(db, &attributes_from(e, Some(from)));
-    let (datom, _) = next_seen(db, Order::Eavt, End::Behind(&entity), first)?;
+    let sides = sides(db, Order::Eavt);
+    let end = End::Behind(&entity);
+    let first = start(&sides, &attributes_from(e, Some(from)), end);
+    let (datom, _) = next_seen(db, &sides, end, first)?;
     Some(datom.a)
 }
 

@@ -1,12 +1,14 @@
 -- The facts that describe: how an entry changes them, and that what is asked of the schema is asked of them alone.
-use Rattle.std.proofs.Common.{◌≡◌, Bool, true, false, cond, not, ◌&&◌, ◌||◌, List, [], ◌∷◌, ◌++◌, refl, ap, sym, ◌∙◌}
+use Rattle.std.proofs.Common.{◌≡◌, ℕ, ◌+◌, ◌<◌, Bool, true, false, cond, not, ◌&&◌, ◌||◌, List, [], ◌∷◌, ◌++◌, length, get_or, take}
+use Rattle.std.proofs.Common.{append_assoc, refl, ap, sym, ◌∙◌}
 use Rattle.std.specs.Prelude.{filter, nat_le}
 use Rattle.std.specs.List.{list_any}
 use Rattle.std.proofs.lemmas.Bool.{true≢false}
+use Rattle.std.proofs.lemmas.List.{take_more}
 use Rattle.fb_values.specs.declared.facts.Datom.{Datom}
 use Rattle.fb_values.specs.declared.facts.Entry.{Entry}
 use Rattle.fb_model.specs.History.{said}
-use Rattle.fb_model.specs.Facts.{is_of, standing, facts}
+use Rattle.fb_model.specs.Facts.{is_of, standing}
 use Rattle.fb_model.proofs.Triples.{is_of-true}
 use Rattle.fb_model.proofs.Members.{filter-standing}
 use Rattle.fb_model.proofs.NewFacts.{standing_none}
@@ -17,7 +19,8 @@ any-append : (p : Datom → Bool) (xs ys : List Datom) → list_any p (xs ++ ys)
 any-append p [] ys = refl
 any-append p (x ∷ xs) ys = go (p x) (any-append p xs ys)
   where
-    go : (b : Bool) → list_any p (xs ++ ys) ≡ (list_any p xs || list_any p ys) → (b || list_any p (xs ++ ys)) ≡ ((b || list_any p xs) || list_any p ys)
+    go : (b : Bool) → list_any p (xs ++ ys) ≡ (list_any p xs || list_any p ys)
+        → (b || list_any p (xs ++ ys)) ≡ ((b || list_any p xs) || list_any p ys)
     go true rest = refl
     go false rest = rest
 
@@ -25,7 +28,8 @@ filter-append : (p : Datom → Bool) (xs ys : List Datom) → filter p (xs ++ ys
 filter-append p [] ys = refl
 filter-append p (x ∷ xs) ys = go (p x) (filter-append p xs ys)
   where
-    go : (b : Bool) → filter p (xs ++ ys) ≡ filter p xs ++ filter p ys → cond b (x ∷ filter p (xs ++ ys)) (filter p (xs ++ ys)) ≡ cond b (x ∷ filter p xs) (filter p xs) ++ filter p ys
+    go : (b : Bool) → filter p (xs ++ ys) ≡ filter p xs ++ filter p ys
+        → cond b (x ∷ filter p (xs ++ ys)) (filter p (xs ++ ys)) ≡ cond b (x ∷ filter p xs) (filter p xs) ++ filter p ys
     go true rest = ap (λ l. x ∷ l) rest
     go false rest = rest
 
@@ -36,17 +40,24 @@ standing-cons : (x : Datom) (xs ys zs : List Datom) → standing zs ≡ standing
 standing-cons x xs ys zs rest same is = go x.added refl (list_any (is_of x.e x.a x.v) xs) refl
   where
     goal_of : Bool → Bool → Type 0
-    goal_of b c = standing (cond (b && not c) (x ∷ standing xs) (standing xs) ++ ys) ≡ cond (b && not (list_any (is_of x.e x.a x.v) (xs ++ ys))) (x ∷ standing (xs ++ ys)) (standing (xs ++ ys))
+    goal_of b c =
+        standing (cond (b && not c) (x ∷ standing xs) (standing xs) ++ ys)
+        ≡ cond (b && not (list_any (is_of x.e x.a x.v) (xs ++ ys))) (x ∷ standing (xs ++ ys)) (standing (xs ++ ys))
 
     left : standing (standing xs ++ ys) ≡ standing (xs ++ ys)
     left = ap standing (sym is) ∙ rest
 
     go : (b : Bool) → x.added ≡ b → (c : Bool) → list_any (is_of x.e x.a x.v) xs ≡ c → goal_of b c
     go false added c some = left
-    go true added true some = left ∙ ap (λ any. cond (not any) (x ∷ standing (xs ++ ys)) (standing (xs ++ ys))) (sym (any-append (is_of x.e x.a x.v) xs ys ∙ ap (λ b. b || list_any (is_of x.e x.a x.v) ys) some))
+    go true added true some =
+        left
+        ∙ ap (λ any. cond (not any) (x ∷ standing (xs ++ ys)) (standing (xs ++ ys)))
+        (sym (any-append (is_of x.e x.a x.v) xs ys ∙ ap (λ b. b || list_any (is_of x.e x.a x.v) ys) some))
     go true added false none =
-        ap (λ b. cond (b && not (list_any (is_of x.e x.a x.v) (standing xs ++ ys))) (x ∷ standing (standing xs ++ ys)) (standing (standing xs ++ ys))) added
-        ∙ ap (λ any. cond (not any) (x ∷ standing (standing xs ++ ys)) (standing (standing xs ++ ys))) (ap (list_any (is_of x.e x.a x.v)) (sym is) ∙ same none)
+        ap (λ b. cond (b && not (list_any (is_of x.e x.a x.v) (standing xs ++ ys))) (x ∷ standing (standing xs ++ ys))
+        (standing (standing xs ++ ys))) added
+        ∙ ap (λ any. cond (not any) (x ∷ standing (standing xs ++ ys)) (standing (standing xs ++ ys)))
+        (ap (list_any (is_of x.e x.a x.v)) (sym is) ∙ same none)
         ∙ ap (λ l. cond (not (list_any (is_of x.e x.a x.v) (xs ++ ys))) (x ∷ l) l) left
 
 -- what stood before more was said decides what stands afterwards
@@ -59,11 +70,12 @@ standing-twice (x ∷ xs) ys = standing-cons x xs ys (standing xs ++ ys) (standi
     ∙ sym (any-append (is_of x.e x.a x.v) xs ys))
     refl
 
-same_describes : (d other : Datom) → is_of d.e d.a d.v other ≡ true → describes d ≡ describes other
+pub same_describes : (d other : Datom) → is_of d.e d.a d.v other ≡ true → describes d ≡ describes other
 same_describes d other is = ap (λ a. nat_le 1 a && nat_le a 6) (sym (is_of-true d.e d.a d.v other is).a_is)
 
 -- the schema's facts after an entry
-pub described-push : (h : List Entry) (entry : Entry) → described (h ++ entry ∷ []) ≡ standing (described h ++ filter describes entry.datoms)
+pub described-push : (h : List Entry) (entry : Entry)
+    → described (h ++ entry ∷ []) ≡ standing (described h ++ filter describes entry.datoms)
 described-push h entry =
     ap (filter describes) (facts-push h entry)
     ∙ filter-standing describes same_describes (said h ++ entry.datoms)
@@ -79,7 +91,8 @@ filter-none : (ds : List Datom) → list_any describes ds ≡ false → filter d
 filter-none [] none = refl
 filter-none (d ∷ ds) none = go (describes d) none (filter-none ds)
   where
-    go : (b : Bool) → (b || list_any describes ds) ≡ false → (list_any describes ds ≡ false → filter describes ds ≡ []) → cond b (d ∷ filter describes ds) (filter describes ds) ≡ []
+    go : (b : Bool) → (b || list_any describes ds) ≡ false → (list_any describes ds ≡ false → filter describes ds ≡ [])
+        → cond b (d ∷ filter describes ds) (filter describes ds) ≡ []
     go true some next = absurd (true≢false some)
     go false rest next = next rest
 
@@ -88,5 +101,33 @@ pub described-same : (h : List Entry) (entry : Entry) → list_any describes ent
 described-same h entry none =
     ap (filter describes) (facts-push h entry)
     ∙ filter-standing describes same_describes (said h ++ entry.datoms)
-    ∙ ap standing (filter-append describes (said h) entry.datoms ∙ ap (λ l. filter describes (said h) ++ l) (filter-none entry.datoms none) ∙ append-nil (filter describes (said h)))
+    ∙ ap standing
+    (filter-append describes (said h) entry.datoms
+    ∙ ap (λ l. filter describes (said h) ++ l) (filter-none entry.datoms none)
+    ∙ append-nil (filter describes (said h)))
     ∙ sym (filter-standing describes same_describes (said h))
+
+-- ---- datoms one after another
+
+pub standing-nothing : (ds : List Datom) → standing ds ≡ ds → standing (ds ++ []) ≡ ds
+standing-nothing ds stands = ap standing (append-nil ds) ∙ stands
+
+pub said-more : (before ds : List Datom) (i : ℕ) (d : Datom) → i < length ds → d ≡ get_or ds i d → describes d ≡ true
+    → standing (standing (before ++ filter describes (take i ds)) ++ d ∷ []) ≡ standing (before ++ filter describes (take (i + 1) ds))
+said-more before ds i d within at is =
+    standing-twice (before ++ filter describes (take i ds)) (d ∷ [])
+    ∙ ap standing
+    (append_assoc before (filter describes (take i ds)) (d ∷ [])
+    ∙ ap (λ l. before ++ l)
+    (ap (λ b. filter describes (take i ds) ++ cond b (d ∷ []) []) (sym is)
+    ∙ sym (filter-append describes (take i ds) (d ∷ []))
+    ∙ ap (filter describes) (ap (λ x. take i ds ++ x ∷ []) at ∙ sym (take_more ds i d within))))
+
+pub said-less : (before ds : List Datom) (i : ℕ) (d : Datom) → i < length ds → d ≡ get_or ds i d → describes d ≡ false
+    → standing (before ++ filter describes (take i ds)) ≡ standing (before ++ filter describes (take (i + 1) ds))
+said-less before ds i d within at is =
+    ap (λ l. standing (before ++ l))
+    (sym (append-nil (filter describes (take i ds)))
+    ∙ ap (λ b. filter describes (take i ds) ++ cond b (d ∷ []) []) (sym is)
+    ∙ sym (filter-append describes (take i ds) (d ∷ []))
+    ∙ ap (filter describes) (ap (λ x. take i ds ++ x ∷ []) at ∙ sym (take_more ds i d within)))

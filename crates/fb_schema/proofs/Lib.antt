@@ -1,8 +1,9 @@
 pub mod Described
 pub mod Lookups
 pub mod Meeting
-pub mod Describing
-pub mod Naming
-pub mod NamedOnes
+pub mod Gained
 pub mod Drops
 pub mod Results
+pub mod Numbers
+pub mod Names
+pub mod Steps

@@ -10,7 +10,8 @@ use Rattle.fb_values.specs.declared.indexes.Order.{Order}
 use Rattle.fb_values.specs.declared.indexes.Order.TheVariants.{Eavt, Aevt, Avet, Vaet}
 use Rattle.fb_numbers.specs.Numbers.{ident, value_type, cardinality, unique, is_component, index}
 use Rattle.fb_model.specs.Facts.{value_eq, value_of, least, holder}
-use Rattle.fb_model.specs.Schema.{Attribute, Schema, keyword_in, keyword_of, is_attribute, attribute_of, attribute_named, named, covers, is_held, schema_in}
+use Rattle.fb_model.specs.Schema.{Attribute, Schema, keyword_in, keyword_of, is_attribute, attribute_of, attribute_named, named, covers}
+use Rattle.fb_model.specs.Schema.{is_held, schema_in}
 use Rattle.fb_model.specs.Rising.{in_order}
 use Rattle.fb_schema.specs.Described.{describes}
 
@@ -19,7 +20,8 @@ filter-within : (p q : Datom → Bool) → ((d : Datom) → p d ≡ true → q d
 filter-within p q implies [] = refl
 filter-within p q implies (d ∷ ds) = go (filter-within p q implies ds) (q d) refl (p d) refl
   where
-    go : filter p (filter q ds) ≡ filter p ds → (b : Bool) → q d ≡ b → (c : Bool) → p d ≡ c → filter p (cond b (d ∷ filter q ds) (filter q ds)) ≡ cond c (d ∷ filter p ds) (filter p ds)
+    go : filter p (filter q ds) ≡ filter p ds → (b : Bool) → q d ≡ b → (c : Bool) → p d ≡ c
+        → filter p (cond b (d ∷ filter q ds) (filter q ds)) ≡ cond c (d ∷ filter p ds) (filter p ds)
     go rest true is c also = rw also (ap (λ l. cond c (d ∷ l) l) rest)
     go rest false is true also = absurd (true≢false (sym (implies d also) ∙ is))
     go rest false is false also = rest
@@ -50,6 +52,22 @@ attribute_of-described ds e =
     let last = value_of-described ds e index refl in
     simp (one, two, three, four, five, last)
 
+-- what is asked of an entity is asked of its own facts
+value_of-own : (ds : List Datom) (e a : ℕ) → value_of (filter (λ d. nat_eq d.e e) ds) e a ≡ value_of ds e a
+value_of-own ds e a =
+    rw (filter-within (λ d. nat_eq d.e e && nat_eq d.a a) (λ d. nat_eq d.e e)
+    (λ d about. (and_parts (nat_eq d.e e) (nat_eq d.a a) about).0) ds) refl
+
+pub attribute_of-own : (ds : List Datom) (e : ℕ) → attribute_of (filter (λ d. nat_eq d.e e) ds) e ≡ attribute_of ds e
+attribute_of-own ds e =
+    let one = value_of-own ds e ident in
+    let two = value_of-own ds e value_type in
+    let three = value_of-own ds e cardinality in
+    let four = value_of-own ds e unique in
+    let five = value_of-own ds e is_component in
+    let last = value_of-own ds e index in
+    simp (one, two, three, four, five, last)
+
 pub named-described : (ds : List Datom) (name : List ℕ) → named (filter describes ds) name ≡ named ds name
 named-described [] name = refl
 named-described (d ∷ ds) name = go (named-described ds name) (describes d) refl (nat_eq d.a ident && value_eq d.v (Keyword name)) refl
@@ -57,8 +75,10 @@ named-described (d ∷ ds) name = go (named-described ds name) (describes d) ref
     describing : (nat_eq d.a ident && value_eq d.v (Keyword name)) ≡ true → describes d ≡ true
     describing is = subst IsDescribing (sym (eqb-true d.a ident (and_parts (nat_eq d.a ident) (value_eq d.v (Keyword name)) is).0)) refl
 
-    go : holder (filter describes ds) ident (Keyword name) ≡ holder ds ident (Keyword name) → (b : Bool) → describes d ≡ b → (c : Bool) → (nat_eq d.a ident && value_eq d.v (Keyword name)) ≡ c
-        → holder (cond b (d ∷ filter describes ds) (filter describes ds)) ident (Keyword name) ≡ cond c (least d.e (holder ds ident (Keyword name))) (holder ds ident (Keyword name))
+    go : holder (filter describes ds) ident (Keyword name) ≡ holder ds ident (Keyword name) → (b : Bool)
+        → describes d ≡ b → (c : Bool) → (nat_eq d.a ident && value_eq d.v (Keyword name)) ≡ c
+        → holder (cond b (d ∷ filter describes ds) (filter describes ds)) ident (Keyword name)
+        ≡ cond c (least d.e (holder ds ident (Keyword name))) (holder ds ident (Keyword name))
     go rest true is c also = rw also (ap (λ r. cond c (least d.e r) r) rest)
     go rest false is true also = absurd (true≢false (sym (describing also) ∙ is))
     go rest false is false also = rest
@@ -95,7 +115,8 @@ other_name facts e = cond (is_attribute facts e) None (option_map (λ (name : Li
 
 other_name-described : (ds : List Datom) (e : ℕ) → other_name (filter describes ds) e ≡ other_name ds e
 other_name-described ds e =
-    ap (λ found. cond (is_some found) None (option_map (λ (name : List ℕ). (e, name)) (keyword_of (filter describes ds) e ident))) (attribute_of-described ds e)
+    ap (λ found. cond (is_some found) None (option_map (λ (name : List ℕ). (e, name)) (keyword_of (filter describes ds) e ident)))
+    (attribute_of-described ds e)
     ∙ ap (λ name. cond (is_attribute ds e) None (option_map (λ (name : List ℕ). (e, name)) name)) (keyword_of-described ds e)
 
 names_ident : (d : Datom) → nat_eq d.a ident ≡ true → describes d ≡ true

@@ -4,9 +4,11 @@
 
 mod attribute;
 mod description;
+mod facts;
+mod idents;
+mod installed;
 mod laws;
 mod schema;
-mod standing;
 mod tables;
 
 pub use attribute::Attribute;

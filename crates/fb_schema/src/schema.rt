@@ -1,51 +1,25 @@
 //! The schema as one value.
-ghost use Rattle.std.specs.Prelude.{◌≡◌, ℕ, List, [], ◌∷◌, ◌++◌, IfOk, filter, ◌↔◌, Contains, IsTrue};
+ghost use Rattle.std.specs.Prelude.{◌≡◌, ℕ, List, [], ◌∷◌, ◌++◌, IfOk, ◌↔◌, Contains, IsTrue};
 ghost use Rattle.std.specs.List.{list_any};
 ghost use Rattle.std.specs.Option.{option_map, option_copied};
 ghost use Rattle.fb_values.specs.declared.facts.Datom.{Datom};
 ghost use Rattle.fb_values.specs.declared.facts.Entry.{Entry};
 ghost use Rattle.fb_values.specs.declared.indexes.Order.TheVariants.{Avet};
-ghost use Rattle.fb_model.specs.Schema.{attribute_of, attribute_named, named};
+ghost use Rattle.fb_model.specs.Schema.{attribute_of, attribute_named, named, is_one as model_is_one, is_unique as model_is_unique};
 ghost use Rattle.fb_schema.specs.Described.{describes as model_describes, SchemaStands};
 ghost use Rattle.fb_schema.specs.Parts.{attribute_in};
-ghost use Rattle.fb_schema.specs.Tables.{names_one, HasCoverage};
-ghost use Rattle.fb_schema.specs.Change.{is_gained as model_is_gained};
+ghost use Rattle.fb_schema.specs.Tables.{HasCoverage};
+ghost use Rattle.fb_schema.specs.Change.{is_gained as model_is_gained, tells_one};
 
 use crate::attribute::Attribute;
-use crate::standing::standing;
-use crate::tables::{attributes_of, covers_of, names_of};
+use crate::tables::{Tables, describes};
 use fb_covers::Covers;
 use fb_memory::Memory;
-use fb_numbers::{IDENT, INDEX};
 use fb_text::Text;
 use fb_values::{Datom, Entry, Order};
 use std::alloc::Global;
-use std::collections::BTreeMap;
 use std::marker::Model;
 use std::sync::Arc;
-
-/// The facts of the schema, and what they say.
-#[derive(Drop)]
-struct Tables {
-    facts: Vec<Datom>,
-    attributes: BTreeMap<u64, Attribute>,
-    names: BTreeMap<String, u64>,
-    covers: Covers,
-}
-
-impl Model for Tables {
-    ghost use Rattle.std.specs.Prelude.{List};
-    ghost use Rattle.fb_values.specs.declared.facts.Datom.{Datom};
-    ghost use Rattle.fb_schema.specs.Tables.{HasAttributes, HasNames, HasCoverage};
-
-    ghost Value = { List Datom };
-
-    ghost view = { λ t. t.facts.items };
-
-    ghost invariant = { λ t. HasAttributes t.attributes t.facts.items
-        × HasNames t.names t.facts.items
-        × HasCoverage t.covers t.facts.items };
-}
 
 /// The schema: the facts that name entities and describe attributes, in tables. It is shared as a whole.
 #[derive(Drop)]
@@ -69,27 +43,14 @@ impl Schema {
     pub fn first(alloc: Global, first: &Entry) -> Result<Schema, Memory>
         ensures { IfOk result (λ schema. SchemaStands schema (first.now ∷ [])) }
     {
-        let facts = facts_after(alloc, &[], first)?;
-        Schema::of_facts(alloc, facts)
-    }
-
-    fn of_facts(alloc: Global, facts: Vec<Datom>) -> Result<Schema, Memory>
-        ensures { IfOk result (λ schema. schema ≡ facts.items) }
-    {
-        let attributes = attributes_of(alloc, &facts)?;
-        let names = names_of(alloc, &facts)?;
-        let covers = covers_of(alloc, &facts, &attributes)?;
-        let tables = Tables {
-            facts,
-            attributes,
-            names,
-            covers,
-        };
+        let none = Tables::none(alloc)?;
+        let tables = none.with_all(first.datoms.as_slice())?;
         let tables = Arc::new(alloc, tables)?;
         Ok(Schema { alloc, tables })
     }
 
-    /// The schema after the entry: this one, where the entry says nothing of it.
+    /// The schema after the entry: this one, where the entry says nothing of it. What the entry says takes the logarithm
+    /// of the schema for each datom.
     pub fn of_entry(&self, entry: &Entry) -> Result<Schema, Memory>
         ensures { IfOk result (λ schema. (h : List Entry) → SchemaStands self.now h
             → SchemaStands schema (h ++ entry.now ∷ [])) }
@@ -97,14 +58,12 @@ impl Schema {
         if !changes_schema(entry) {
             return self.share();
         }
-        let facts = facts_after(self.alloc, self.facts(), entry)?;
-        Schema::of_facts(self.alloc, facts)
-    }
-
-    fn facts(&self) -> &[Datom]
-        ensures { result.now ≡ self.now }
-    {
-        &self.tables.facts
+        let tables = self.tables.with_all(entry.datoms.as_slice())?;
+        let tables = Arc::new(self.alloc, tables)?;
+        Ok(Schema {
+            alloc: self.alloc,
+            tables,
+        })
     }
 
     /// The same schema, at the cost of a reference count.
@@ -129,7 +88,7 @@ impl Schema {
     pub fn entity_named(&self, ident: &Text) -> Option<u64>
         ensures { result ≡ named self.now ident.now }
     {
-        self.tables.names.get(ident.as_str()).copied()
+        self.tables.names.entity(ident)
     }
 
     /// The attribute with this ident.
@@ -140,6 +99,26 @@ impl Schema {
         self.attribute(self.entity_named(ident)?)
     }
 
+    /// Whether it is an attribute of which an entity has one value.
+    pub fn is_one(&self, a: u64) -> bool
+        ensures { result ≡ model_is_one self.now a }
+    {
+        match self.attribute(a) {
+            Some(attribute) => !attribute.many,
+            None => false,
+        }
+    }
+
+    /// Whether it is an attribute of which a value has one entity.
+    pub fn is_unique(&self, a: u64) -> bool
+        ensures { result ≡ model_is_unique self.now a }
+    {
+        match self.attribute(a) {
+            Some(attribute) => attribute.is_unique(),
+            None => false,
+        }
+    }
+
     /// Which attributes the indexes hold.
     pub fn covers(&self) -> &Covers
         ensures { HasCoverage result.now self.now }
@@ -147,16 +126,17 @@ impl Schema {
         &self.tables.covers
     }
 
-    /// The attributes that AVET holds under the later schema and not under this one. The other way round: those that it
-    /// loses.
-    pub fn gained(&self, after: &Schema) -> Result<Vec<u64>, Memory>
-        ensures { IfOk result (λ gained. (a : ℕ)
+    /// The attributes that AVET holds with the entry, under the later schema, and not under this one. The other way round:
+    /// those that it loses.
+    pub fn gained(&self, after: &Schema, entry: &Entry) -> Result<Vec<u64>, Memory>
+        ensures { IfOk result (λ gained. (h : List Entry) → SchemaStands self.now h
+            → SchemaStands after.now (h ++ entry.now ∷ []) → (a : ℕ)
             → IsTrue (model_is_gained Avet self.now after.now a) ↔ Contains gained.items a) }
     {
         let (held_before, held_after) = (self.covers(), after.covers());
         let mut gained = Vec::new(self.alloc);
-        for d in after.facts() {
-            if names_gained(held_before, held_after, d) {
+        for d in entry.datoms.as_slice() {
+            if tells_gained(held_before, held_after, d) {
                 gained.push(d.e)?;
             }
         }
@@ -164,13 +144,13 @@ impl Schema {
     }
 }
 
-/// Whether the datom names an attribute that AVET holds under the later coverage and not under the earlier one.
-fn names_gained(before: &Covers, after: &Covers, d: &Datom) -> bool
+/// Whether the datom tells of an attribute that AVET holds under the later coverage and not under the earlier one.
+fn tells_gained(before: &Covers, after: &Covers, d: &Datom) -> bool
     ensures { (facts facts_after : List Datom) → HasCoverage before.now facts
         → HasCoverage after.now facts_after
-        → result ≡ names_one (model_is_gained Avet facts facts_after) d.now }
+        → result ≡ tells_one (model_is_gained Avet facts facts_after) d.now }
 {
-    d.a == IDENT && is_gained(before, after, d.e)
+    describes(d) && is_gained(before, after, d.e)
 }
 
 fn is_gained(before: &Covers, after: &Covers, a: u64) -> bool
@@ -180,50 +160,9 @@ fn is_gained(before: &Covers, after: &Covers, a: u64) -> bool
     after.holds(Order::Avet, a) && !before.holds(Order::Avet, a)
 }
 
-/// Whether the datom names an entity or describes an attribute.
-fn describes(d: &Datom) -> bool
-    ensures { result ≡ model_describes d.now }
-{
-    IDENT <= d.a && d.a <= INDEX
-}
-
 /// Whether the entry says anything of the schema.
 pub fn changes_schema(entry: &Entry) -> bool
     ensures { result ≡ list_any model_describes entry.now.datoms }
 {
     entry.datoms.as_slice().iter().any(|d| describes(d))
-}
-
-/// The schema's facts after the entry.
-fn facts_after(alloc: Global, facts: &[Datom], entry: &Entry) -> Result<Vec<Datom>, Memory>
-    ensures { IfOk result (λ after. (h : List Entry) → SchemaStands facts.now h
-        → SchemaStands after.items (h ++ entry.now ∷ [])) }
-{
-    let mut said = copy_of(alloc, facts)?;
-    push_described(&mut said, entry.datoms.as_slice())?;
-    let after = standing(alloc, &said)?;
-    Ok(after)
-}
-
-fn copy_of(alloc: Global, datoms: &[Datom]) -> Result<Vec<Datom>, Memory>
-    ensures { IfOk result (λ copies. copies.items ≡ datoms.now) }
-{
-    let mut copies = Vec::with_capacity(alloc, datoms.len())?;
-    for d in datoms {
-        copies.push(d.copy()?)?;
-    }
-    Ok(copies)
-}
-
-/// Adds copies of the datoms that name or describe.
-fn push_described(said: &mut Vec<Datom>, datoms: &[Datom]) -> Result<(), Memory>
-    ensures { IfOk result
-        (λ _. said.new.items ≡ said.old.items ++ filter model_describes datoms.now) }
-{
-    for d in datoms {
-        if describes(d) {
-            said.push(d.copy()?)?;
-        }
-    }
-    Ok(())
 }

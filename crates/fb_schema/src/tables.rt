@@ -1,172 +1,108 @@
-//! What the schema's facts say, in tables that are made once for each schema.
-ghost use Rattle.std.specs.Prelude.{◌≡◌, List, ◌∷◌, IfOk, Some};
-ghost use Rattle.std.specs.Ordering.{nat_cmp};
-ghost use Rattle.std.specs.BTreeMap.{UpdatesBy};
-ghost use Rattle.fb_values.specs.declared.facts.Datom.{Datom};
-ghost use Rattle.fb_model.specs.Facts.{least as model_least};
-ghost use Rattle.fb_model.specs.Schema.{is_held as model_is_held};
-ghost use Rattle.fb_schema.specs.Parts.{attribute_in};
-ghost use Rattle.fb_schema.specs.Tables.{is_held_among, names_one, named_where, HasDescriptions, HasAttributes, HasNames, HasCoverage};
+//! What the schema's facts say, in tables that share with older ones what a datom does not change.
+ghost use Rattle.std.specs.Prelude.{◌≡◌, ◌∷◌, ◌++◌, [], filter, IfOk};
+ghost use Rattle.fb_model.specs.Facts.{standing};
+ghost use Rattle.fb_schema.specs.Described.{describes as model_describes};
 
 use crate::attribute::Attribute;
-use crate::description::Description;
+use crate::facts::Facts;
+use crate::idents::Names;
+use crate::installed::{attribute_of, held_of, with_attribute};
+use fb_chunks::Share;
 use fb_covers::Covers;
 use fb_memory::Memory;
-use fb_numbers::IDENT;
-use fb_values::{Datom, Order, Value};
+use fb_numbers::{IDENT, INDEX};
+use fb_values::Datom;
+use shared_map::SharedMap;
 use std::alloc::Global;
-use std::collections::BTreeMap;
+use std::marker::Model;
 
-/// The attributes, by their numbers. It goes from the last fact to the first, since the first of a kind decides.
-pub fn attributes_of(alloc: Global, facts: &[Datom]) -> Result<BTreeMap<u64, Attribute>, Memory>
-    ensures { IfOk result (λ attributes. HasAttributes attributes facts.now) }
-{
-    let mut descriptions = BTreeMap::new(alloc);
-    let mut attributes = BTreeMap::new(alloc);
-    let mut i = facts.len();
-    while i > 0 {
-        i -= 1;
-        describe(&mut descriptions, &mut attributes, &facts[i])?;
+#[derive(Drop)]
+pub struct Tables {
+    facts: Facts,
+    pub attributes: SharedMap<u64, Attribute>,
+    pub names: Names,
+    pub covers: Covers,
+}
+
+impl Model for Tables {
+    ghost use Rattle.std.specs.Prelude.{◌≡◌, List};
+    ghost use Rattle.fb_values.specs.declared.facts.Datom.{Datom};
+    ghost use Rattle.fb_model.specs.Facts.{standing};
+    ghost use Rattle.fb_schema.specs.Tables.{HasAttributes, HasCoverage};
+    ghost use Rattle.fb_schema.specs.Naming.{HasNames};
+
+    ghost Value = { List Datom };
+
+    ghost view = { λ t. t.facts };
+
+    ghost invariant = { λ t. HasAttributes t.attributes t.facts
+        × HasNames t.names t.facts
+        × HasCoverage t.covers t.facts
+        × (standing t.facts ≡ t.facts) };
+}
+
+impl Tables {
+    pub fn none(alloc: Global) -> Result<Tables, Memory>
+        ensures { IfOk result (λ tables. tables ≡ []) }
+    {
+        Ok(Tables {
+            facts: Facts::none(alloc)?,
+            attributes: SharedMap::new(alloc)?,
+            names: Names::none(alloc)?,
+            covers: Covers::none(alloc)?,
+        })
     }
-    Ok(attributes)
-}
 
-/// Puts a datom before those that were described.
-fn describe(
-    descriptions: &mut BTreeMap<u64, Description>,
-    attributes: &mut BTreeMap<u64, Attribute>,
-    d: &Datom,
-) -> Result<(), Memory>
-    ensures descriptions { (facts : List Datom) → HasDescriptions descriptions.old facts
-        → IfOk result (λ _. HasDescriptions descriptions.new (d.now ∷ facts)) }
-    ensures attributes { (facts : List Datom) → HasDescriptions descriptions.old facts
-        → HasAttributes attributes.old facts
-        → IfOk result (λ _. HasAttributes attributes.new (d.now ∷ facts)) }
-{
-    let known = descriptions.remove(&d.e).unwrap_or(Description::empty());
-    let said = known.with(d)?;
-    let attribute = said.attribute(d.e)?;
-    set_attribute(attributes, d.e, attribute)?;
-    descriptions.insert(d.e, said)?;
-    Ok(())
-}
+    /// The same tables, at the cost of a few reference counts.
+    fn share(&self) -> Result<Tables, Memory>
+        ensures same { IfOk result (λ tables. tables ≡ self.now) }
+        ensures stands { standing self.now ≡ self.now }
+    {
+        Ok(Tables {
+            facts: self.facts.share()?,
+            attributes: self.attributes.share()?,
+            names: self.names.share()?,
+            covers: self.covers.share()?,
+        })
+    }
 
-/// From now on the entity is this attribute, or none.
-fn set_attribute(
-    attributes: &mut BTreeMap<u64, Attribute>,
-    e: u64,
-    attribute: Option<Attribute>,
-) -> Result<(), Memory>
-    ensures { IfOk result
-        (λ _. UpdatesBy nat_cmp (nat_cmp e) attributes.old attributes.new attribute) }
-{
-    match attribute {
-        Some(attribute) => {
-            attributes.insert(e, attribute)?;
+    /// What stands after more datoms, of which only some describe.
+    pub fn with_all(&self, datoms: &[Datom]) -> Result<Tables, Memory>
+        ensures { IfOk result
+            (λ tables. tables ≡ standing (self.now ++ filter model_describes datoms.now)) }
+    {
+        let mut tables = self.share()?;
+        for d in datoms {
+            if describes(d) {
+                tables = tables.with(d)?;
+            }
         }
-        None => {
-            attributes.remove(&e);
-        }
+        Ok(tables)
     }
-    Ok(())
-}
 
-/// The least entity of each ident.
-pub fn names_of(alloc: Global, facts: &[Datom]) -> Result<BTreeMap<String, u64>, Memory>
-    ensures { IfOk result (λ names. HasNames names facts.now) }
-{
-    let mut names = BTreeMap::new(alloc);
-    let mut i = facts.len();
-    while i > 0 {
-        i -= 1;
-        put_name(alloc, &mut names, &facts[i])?;
-    }
-    Ok(names)
-}
-
-/// Adds what the datom says of names.
-fn put_name(alloc: Global, names: &mut BTreeMap<String, u64>, d: &Datom) -> Result<(), Memory>
-    ensures { (facts : List Datom) → HasNames names.old facts
-        → IfOk result (λ _. HasNames names.new (d.now ∷ facts)) }
-{
-    if d.a != IDENT {
-        return Ok(());
-    }
-    let Value::Keyword(name) = &d.v else {
-        return Ok(());
-    };
-    let entity = least(d.e, names.get(name.as_str()).copied());
-    names.insert(String::from_str(alloc, name.as_str())?, entity)?;
-    Ok(())
-}
-
-fn least(e: u64, other: Option<u64>) -> u64
-    ensures { Some result ≡ model_least e other }
-{
-    match other {
-        Some(other) => e.min(other),
-        None => e,
+    /// What stands after one more datom.
+    fn with(&self, d: &Datom) -> Result<Tables, Memory>
+        ensures { IfOk result (λ tables. tables ≡ standing (self.now ++ d.now ∷ [])) }
+    {
+        let facts = self.facts.with(d)?;
+        let names = self.names.with(d)?;
+        let own = facts.of_entity(d.e)?;
+        let found = attribute_of(&own, d.e)?;
+        let held = held_of(&found);
+        let covers = self.covers.with(d.e, held)?;
+        let attributes = with_attribute(&self.attributes, d.e, found)?;
+        Ok(Tables {
+            facts,
+            attributes,
+            names,
+            covers,
+        })
     }
 }
 
-fn is_held(order: Order, attribute: &Attribute) -> bool
-    ensures { result ≡ model_is_held order (attribute_in attribute.now) }
+/// Whether the datom names an entity or describes an attribute.
+pub fn describes(d: &Datom) -> bool
+    ensures { result ≡ model_describes d.now }
 {
-    match order {
-        Order::Eavt | Order::Aevt => true,
-        Order::Avet => attribute.is_unique() || attribute.indexed,
-        Order::Vaet => attribute.is_ref(),
-    }
-}
-
-/// The attributes that the order's index holds.
-fn held_in(
-    alloc: Global,
-    facts: &[Datom],
-    attributes: &BTreeMap<u64, Attribute>,
-    order: Order,
-) -> Result<Vec<u64>, Memory>
-    requires { HasAttributes attributes.now facts.now }
-    ensures { IfOk result
-        (λ held. held.items ≡ named_where (is_held_among facts.now order) facts.now) }
-{
-    let mut held = Vec::new(alloc);
-    for d in facts {
-        if names_held(attributes, order, d) {
-            held.push(d.e)?;
-        }
-    }
-    Ok(held)
-}
-
-/// Whether the datom names an attribute that the order's index holds.
-fn names_held(attributes: &BTreeMap<u64, Attribute>, order: Order, d: &Datom) -> bool
-    ensures { (facts : List Datom) → HasAttributes attributes.now facts
-        → result ≡ names_one (is_held_among facts order) d.now }
-{
-    d.a == IDENT && is_held_entity(attributes, order, d.e)
-}
-
-fn is_held_entity(attributes: &BTreeMap<u64, Attribute>, order: Order, e: u64) -> bool
-    ensures { (facts : List Datom) → HasAttributes attributes.now facts
-        → result ≡ is_held_among facts order e }
-{
-    match attributes.get(&e) {
-        Some(attribute) => is_held(order, attribute),
-        None => false,
-    }
-}
-
-/// Which attributes the indexes hold.
-pub fn covers_of(
-    alloc: Global,
-    facts: &[Datom],
-    attributes: &BTreeMap<u64, Attribute>,
-) -> Result<Covers, Memory>
-    requires { HasAttributes attributes.now facts.now }
-    ensures { IfOk result (λ coverage. HasCoverage coverage facts.now) }
-{
-    let avet = held_in(alloc, facts, attributes, Order::Avet)?;
-    let vaet = held_in(alloc, facts, attributes, Order::Vaet)?;
-    Covers::of(alloc, avet, vaet)
+    IDENT <= d.a && d.a <= INDEX
 }

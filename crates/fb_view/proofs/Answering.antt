@@ -1,6 +1,6 @@
 -- Each answer of a snapshot is what the definitions say of its history.
 use Rattle.std.proofs.Common.{◌≡◌, ◌∙◌, ℕ, Bool, true, ◌&&◌, List, refl, sym, ap, eqb, Option, Some, None, inl, inr, map}
-use Rattle.std.specs.Prelude.{IsTrue, find, is_some}
+use Rattle.std.specs.Prelude.{Contains, IsTrue, find, is_some}
 use Rattle.std.specs.Option.{option_map}
 use Rattle.std.proofs.lemmas.Bool.{eqb-true, and_parts, and_from}
 use Rattle.fb_values.specs.declared.facts.Datom.{Datom}
@@ -8,20 +8,58 @@ use Rattle.fb_values.specs.declared.facts.Value.{Value}
 use Rattle.fb_values.specs.declared.facts.Value.TheVariants.{Ref}
 use Rattle.fb_values.specs.declared.indexes.Order.TheVariants.{Eavt, Aevt, Avet, Vaet}
 use Rattle.fb_values.specs.declared.indexes.Probe.{Probe}
-use Rattle.fb_model.specs.Facts.{value_eq, holds, holder, facts}
+use Rattle.fb_values.specs.Lists.{list_in}
+use Rattle.fb_model.specs.History.{said}
+use Rattle.fb_model.specs.Facts.{is_of, value_eq, holds, holder, facts}
 use Rattle.fb_model.specs.Schema.{covers, is_about}
 use Rattle.fb_schema.proofs.Lookups.{covers-described}
+use Rattle.fb_facts.specs.Told.{is_of_entity, is_ref_to, is_under, values_of, facts_of, refs_to, facts_under, facts_in}
 use Rattle.seg_tree.specs.Indexes.{tree_in}
-use Rattle.fb_facts.specs.Told.{is_of_entity, is_ref_to, is_under, values_of, facts_of, refs_to, facts_under}
+use Rattle.seg_tree.specs.Nodes.{tree_datoms}
+use Rattle.live_index.specs.Halves.{merged}
+use Rattle.live_index.proofs.Growing.{rising-filter}
+use Rattle.live_index.proofs.Halves.{merged_rises, from_merged, into_merged}
+use Rattle.live_index.proofs.Members.{from_filter, into_filter}
+use Rattle.live_index.proofs.Presence.{standing-filter}
+use Rattle.fb_index.specs.Ranges.{is_led, led_to}
 use Rattle.fb_view.specs.Kept.{Kept, Stands}
-use Rattle.fb_view.specs.Merged.{facts_led}
-use Rattle.fb_view.specs.Facts.{IsTripleProbe, IsValueProbe}
+use Rattle.fb_view.specs.Facts.{IsTripleProbe, IsValueProbe, facts_led}
 use Rattle.fb_view.proofs.Probing.{led_entity, led_about, led_triple, led_under, led_indexed, led_valued, led_ref}
-use Rattle.fb_view.proofs.Telling.{told, whole_by, refs_covered, found_holds, found_holder}
+use Rattle.fb_view.proofs.Lasting.{told_is}
+use Rattle.fb_view.proofs.Telling.{pair_stands, was_said, in_one, whole_by, refs_covered, found_holds, found_holder}
+use Rattle.fb_view.proofs.Present.{present_passing}
+
+-- what a probe leads to, where it leads to what passes and the index holds that
+pub told : (k : Kept) (stands : Stands k) (p : Probe) (passes : Datom → Bool) → ((d : Datom) → is_led p d ≡ passes d) → ((d : Datom) → Contains (said k.entries) d → passes d ≡ true → IsTrue (covers (facts k.entries) p.order d.a))
+    → ((d x : Datom) → is_of d.e d.a d.v x ≡ true → passes d ≡ true → passes x ≡ true) → facts_led p k ≡ facts_in p.order passes k.entries
+told k stands p passes led covered whole =
+    present_passing k stands p.order (is_led p) (λ d there at. covered d (was_said k stands p.order d there) (sym (led d) ∙ at))
+    ∙ sym (standing-filter p.order (is_led p) (merged p.order older live) (merged_rises p.order older live) (λ x y mate at. led y ∙ whole x y mate (sym (led x) ∙ at)))
+    ∙ told_is k.entries p.order passes (led_to p (merged p.order older live)) record {
+      lawful = stands.history.lawful;
+      rising = rising-filter p.order (is_led p) (merged p.order older live) (merged_rises p.order older live);
+      members = λ d. (forth d, back d);
+      whole = whole;
+    }
+  where
+    older : List Datom
+    older = tree_datoms (tree_in k.roots p.order)
+
+    live : List Datom
+    live = list_in k.live p.order
+
+    forth : (d : Datom) → Contains (led_to p (merged p.order older live)) d → Contains (said k.entries) d × (passes d ≡ true)
+    forth d there =
+        let at = from_filter (is_led p) (merged p.order older live) d there in
+        (was_said k stands p.order d (from_merged p.order older live d at.0), sym (led d) ∙ at.1)
+
+    back : (d : Datom) → Contains (said k.entries) d × (passes d ≡ true) → Contains (led_to p (merged p.order older live)) d
+    back d is =
+        into_filter (is_led p) (merged p.order older live) d (into_merged p.order older live d (pair_stands k stands p.order).single (in_one k stands p.order d is.0 (covered d is.0 is.1))) (led d ∙ is.1)
 
 module _ (k : Kept) (stands : Stands k) where
   abbrev pub led : Probe → List Datom
-  led p = facts_led p (tree_in k.roots p.order) k.live
+  led p = facts_led p k
 
   abbrev pub first_led : Value → Probe → Option ℕ
   first_led v p = option_map (λ d. d.e) (find (λ d. value_eq d.v v) (led p))

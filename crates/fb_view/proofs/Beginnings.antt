@@ -14,7 +14,7 @@ use Rattle.fb_schema.specs.Described.{SchemaStands}
 use Rattle.fb_schema.specs.Tables.{HasCoverage}
 use Rattle.fb_view.specs.declared.growth.Older.{Older}
 use Rattle.seg_tree.specs.Indexes.{trees_of}
-use Rattle.fb_view.specs.Kept.{AreWhole}
+use Rattle.fb_view.specs.Kept.{AreFacts, AreWhole}
 use Rattle.fb_view.proofs.Standing.{coverage_of}
 
 next_from : (before rest : List Entry) (t : ℕ) (entry : Entry) → IsLawfulFrom before rest → slice_get rest t ≡ Some entry → IsLawfulAfter (before ++ take t rest) entry
@@ -85,10 +85,11 @@ roots_from roots h begin lawful first begins stand = record {
         grind arith
 
 -- trees of a beginning hold all of it
-pub whole_of : (h : List Entry) (c : ℕ) (schema : List Datom) (older : Older) → IsLawful h → RootStands (trees_of older.roots) h c → older.covered ≡ c → SchemaStands schema (upto h c) → HasCoverage older.held schema → AreWhole (upto h c) older
-whole_of h c schema older lawful stand covered stands has = record {
+pub whole_of : (h : List Entry) (c : ℕ) (schema : List Datom) (older : Older) → IsLawful h → RootStands (trees_of older.roots) h c → older.covered ≡ c → SchemaStands schema (upto h c) → HasCoverage older.held schema → AreFacts older.roots older.facts → AreWhole (upto h c) older
+whole_of h c schema older lawful stand covered stands has now_is = record {
   lawful = upto_lawful h c lawful;
   roots_stand = subst (λ (n : ℕ). RootStands (trees_of older.roots) (upto h c) n) (sym covered) (roots_upto (trees_of older.roots) h c lawful stand);
   covered_is = covered ∙ sym (upto_basis h c lawful stand.bound);
   held_is = coverage_of schema (upto h c) older.held stands has;
+  now_is = now_is;
 }

@@ -23,11 +23,12 @@ use Rattle.view_model.specs.Stands.{IsIndexed}
 use Rattle.seg_tree.specs.Nodes.{tree_datoms}
 use Rattle.seg_tree.specs.Indexes.{tree_in}
 use Rattle.fb_view.specs.Kept.{Kept, Stands}
-use Rattle.fb_view.specs.Merged.{merged}
+use Rattle.live_index.specs.Halves.{merged}
 use Rattle.fb_values.proofs.Rising.{rises_from}
 use Rattle.fb_view.proofs.Beginnings.{upto_lawful}
 use Rattle.fb_view.proofs.Standing.{early_said}
-use Rattle.fb_view.proofs.Merging.{merged_rises, rising-filter, from_merged, into_merged}
+use Rattle.live_index.proofs.Growing.{rising-filter}
+use Rattle.live_index.proofs.Halves.{merged_rises, from_merged, into_merged}
 use Rattle.fb_view.proofs.Telling.{pair_stands, was_said, in_one, from_older, from_live, refs_covered}
 
 module _ (k : Kept) (stands : Stands k) (order : Order) where
@@ -52,7 +53,7 @@ module _ (k : Kept) (stands : Stands k) (order : Order) where
       back : (d : Datom) → IsIndexed k.entries order d → Contains (filter (λ d. covers (facts k.entries) order d.a) (merged order older live)) d
       back d is =
           into_filter (λ d. covers (facts k.entries) order d.a) (merged order older live) d
-          (into_merged order older live d (pair_stands k stands order) (in_one k stands order d is.is_said is.is_covered)) is.is_covered
+          (into_merged order older live d (pair_stands k stands order).single (in_one k stands order d is.is_said is.is_covered)) is.is_covered
 
   -- where both lists have only what the index holds, they are the index
   pub whole_index : ((d : Datom) → Contains older d ⊎ Contains live d → IsTrue (covers (facts k.entries) order d.a)) → IsRisingListOf order (merged order older live) (IsIndexed k.entries order)
@@ -60,7 +61,7 @@ module _ (k : Kept) (stands : Stands k) (order : Order) where
     rising = rises_from order (merged order older live) (merged_rises order older live);
     members = λ d. (
       λ there. let at = from_merged order older live d there in record { is_said = was_said k stands order d at; is_covered = covered d at },
-      λ is. into_merged order older live d (pair_stands k stands order) (in_one k stands order d is.is_said is.is_covered),
+      λ is. into_merged order older live d (pair_stands k stands order).single (in_one k stands order d is.is_said is.is_covered),
     );
   }
 

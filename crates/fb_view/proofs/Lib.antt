@@ -1,14 +1,13 @@
-pub mod Ranging
 pub mod Lists
 pub mod Standing
 pub mod Refilling
 pub mod Alone
 pub mod Beginnings
-pub mod Merging
 pub mod Lasting
-pub mod Walking
 pub mod Probing
 pub mod Telling
+pub mod Indexes
+pub mod Ended
+pub mod Present
 pub mod Answering
 pub mod Users
-pub mod Indexes

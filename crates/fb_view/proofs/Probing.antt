@@ -1,5 +1,5 @@
 -- Which datoms a probe leads to, component by component.
-use Rattle.std.proofs.Common.{◌≡◌, ◌∙◌, ℕ, true, ◌&&◌, List, [], ◌∷◌, refl, sym, ap, arith, eqb, Option, Some, None, inl, inr}
+use Rattle.std.proofs.Common.{◌≡◌, ◌∙◌, ℕ, true, ◌&&◌, List, [], ◌∷◌, refl, ap, arith, eqb, Option, Some, None, inl, inr}
 use Rattle.std.specs.Prelude.{IfSome}
 use Rattle.std.specs.Ordering.{is_eq, nat_cmp, ordering_then, ordering_reverse}
 use Rattle.std.specs.Cmp.Lexicographic.{slice_cmp}
@@ -14,7 +14,7 @@ use Rattle.fb_values.specs.Orders.{value_cmp}
 use Rattle.fb_values.specs.OrderLaws.{value_cmp_total}
 use Rattle.fb_model.specs.Facts.{value_eq}
 use Rattle.fb_model.specs.Schema.{covers}
-use Rattle.fb_view.specs.Ranges.{is_led}
+use Rattle.fb_index.specs.Ranges.{is_led}
 use Rattle.fb_view.specs.Facts.{IsTripleProbe, IsValueProbe}
 
 is_eq-then : (o p : Ordering) → is_eq (ordering_then o p) ≡ (is_eq o && is_eq p)

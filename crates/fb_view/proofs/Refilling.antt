@@ -1,5 +1,5 @@
 -- What AVET is refilled with is what an entry's lists demand.
-use Rattle.std.proofs.Common.{◌≡◌, ◌∙◌, ℕ, ◌+◌, ◌<◌, ◌≤◌, ◌⊎◌, inl, inr, Bool, true, false, not, ◌&&◌, cond, List, [], ◌∷◌, ◌++◌, refl, sym, ap, subst, arith, eqb, flat_map}
+use Rattle.std.proofs.Common.{◌≡◌, ◌∙◌, ℕ, ◌+◌, ◌<◌, ◌≤◌, ◌⊎◌, inl, inr, Bool, true, false, not, ◌&&◌, cond, List, [], ◌∷◌, ◌++◌, refl, sym, ap, subst, arith, eqb, flat_map, get_or}
 use Rattle.std.specs.Prelude.{◌↔◌, Contains, IsTrue, IsFalse, filter}
 use Rattle.std.specs.Cmp.{tied_itself}
 use Rattle.std.specs.Cmp.Lexicographic.{slice_cmp, lists_total}
@@ -13,29 +13,36 @@ use Rattle.fb_values.specs.declared.indexes.Order.TheVariants.{Eavt, Aevt, Avet}
 use Rattle.fb_values.specs.Orders.{key_of, value_cmp}
 use Rattle.fb_values.specs.OrderLaws.{value_cmp_total}
 use Rattle.fb_covers.specs.Coverage.{Coverage, covers as held}
-use Rattle.fb_values.specs.Rising.{IsRising}
-use Rattle.fb_model.specs.History.{said}
-use Rattle.fb_model.specs.Facts.{facts}
+use Rattle.fb_values.specs.Lists.{Lists, list_in}
+use Rattle.fb_model.specs.History.{basis, said, upto}
+use Rattle.fb_model.specs.Facts.{facts, holds, is_of, standing}
 use Rattle.fb_model.specs.Schema.{covers}
+use Rattle.fb_model.proofs.Members.{any_member, member_passes}
 use Rattle.fb_model.proofs.OneMoreEntry.{said-push}
-use Rattle.fb_model.proofs.Times.{same_keys, one_for_each_key}
+use Rattle.fb_model.proofs.Times.{own_t, same_keys, one_for_each_key}
+use Rattle.fb_model.proofs.Triples.{holds-facts, is_of-true}
 use Rattle.view_model.specs.Stands.{IsLive}
 use Rattle.seg_tree.specs.Nodes.{tree_datoms}
 use Rattle.fb_facts.specs.Told.{is_under}
-use Rattle.std.specs.List.{list_any}
+use Rattle.std.specs.List.{All, list_any}
+use Rattle.std.proofs.lemmas.List.{get_or_default}
 use Rattle.fb_schema.specs.Described.{SchemaStands, describes}
 use Rattle.fb_schema.proofs.Described.{described-same}
 use Rattle.fb_schema.specs.Tables.{HasCoverage}
 use Rattle.fb_schema.proofs.Lookups.{covers-described}
-use Rattle.live_index.specs.Growth.{HasNoTwins, is_held}
-use Rattle.live_index.specs.Standing.{IsDemanded, IsNext}
+use Rattle.live_index.specs.Growth.{HasNoTwins, IsGrown, is_held}
+use Rattle.live_index.specs.Halves.{MayFollow}
+use Rattle.live_index.specs.Standing.{IsCoverageOf, IsDemanded, IsNext}
+use Rattle.live_index.proofs.Growing.{single_part}
+use Rattle.live_index.proofs.Together.{last_stands, rising_by_time, said_by_time, standing_last}
 use Rattle.live_index.proofs.Members.{from_filter, into_filter, contains-cons, contains_head, contains_tail, contains_none}
 use Rattle.fb_view.specs.declared.growth.Older.{Older}
 use Rattle.fb_view.specs.declared.growth.Recent.{Recent}
 use Rattle.fb_view.specs.Kept.{Follows}
 use Rattle.fb_view.specs.Refills.{missed, all_missed, AreGained}
+use Rattle.fb_values.specs.Rising.{IsRising}
 use Rattle.fb_values.proofs.Rising.{rises_from}
-use Rattle.fb_view.proofs.Standing.{said_early, early_said, coverage_of, same_past}
+use Rattle.fb_view.proofs.Standing.{said_early, early_said, coverage_of, same_past, not_later}
 
 -- ---- members of many lists
 
@@ -198,13 +205,140 @@ module _ (h : List Entry) (recent : Recent) (older : Older) (entry : Entry) (fol
         coverage_is : (order : Order) (a : ℕ) → held coverage order a ≡ covers (facts after) order a
         coverage_is = coverage_of after_schema after coverage schema_after has
 
--- an entry that says nothing of the schema lets AVET gain nothing
-pub none_gained : (h : List Entry) (entry : Entry) (before after : List Datom) → list_any describes entry.datoms ≡ false → SchemaStands before h → SchemaStands after (h ++ entry ∷ []) → AreGained before after []
-none_gained h entry before after none stands stands_after a = (λ is. absurd (never (covers before Avet a) (subst (λ (ds : List Datom). (covers ds Avet a && not (covers before Avet a)) ≡ true) same is)), λ there. absurd (contains_none a there))
-  where
-    same : after ≡ before
-    same = stands_after ∙ described-same h entry none ∙ sym stands
+-- ---- an entry that says nothing of the schema
 
-    never : (b : Bool) → (b && not b) ≡ true → ⊥
-    never true is = true≢false (sym is)
-    never false is = true≢false (sym is)
+same_schema : (h : List Entry) (entry : Entry) (before now : List Datom) → list_any describes entry.datoms ≡ false → SchemaStands before h → SchemaStands now (h ++ entry ∷ []) → now ≡ before
+same_schema h entry before now none stands stands_after = stands_after ∙ described-same h entry none ∙ sym stands
+
+module _ (h : List Entry) (recent : Recent) (older : Older) (entry : Entry) (follows : Follows h recent older entry) (after : List Datom) (schema_after : SchemaStands after (h ++ entry ∷ [])) (none : list_any describes entry.datoms ≡ false)
+    (coverage : Coverage) (has : HasCoverage coverage after) where
+  none_gained : AreGained recent.schema after []
+  none_gained a = (
+    λ is. absurd (never (covers recent.schema Avet a) (subst (λ (ds : List Datom). (covers ds Avet a && not (covers recent.schema Avet a)) ≡ true) (same_schema h entry recent.schema after none follows.stands.schema_is schema_after) is)),
+    λ there. absurd (contains_none a there),
+  )
+    where
+      never : (b : Bool) → (b && not b) ≡ true → ⊥
+      never true is = true≢false (sym is)
+      never false is = true≢false (sym is)
+
+  -- lets AVET gain nothing
+  pub nothing_refills : IsNext h older.covered entry coverage []
+  nothing_refills = refills h recent older entry follows after schema_after [] none_gained coverage [] has tt (λ d. (λ there. absurd (contains_none d there), λ is. is.0))
+
+  -- and the indexes hold what they held
+  pub coverage_stays : IsCoverageOf coverage (facts h)
+  coverage_stays = coverage_of recent.schema h coverage follows.stands.schema_is (subst (HasCoverage coverage) (same_schema h entry recent.schema after none follows.stands.schema_is schema_after) has)
+
+-- ---- live lists and what refills them
+
+-- the lists have only what the indexes hold
+pub lists_held : (h : List Entry) (recent : Recent) (older : Older) (entry : Entry) → Follows h recent older entry → (coverage : Coverage) → IsCoverageOf coverage (facts h) → (order : Order) → All (λ d. IsTrue (is_held coverage order d)) (list_in recent.live order)
+lists_held h recent older entry follows coverage covered order k d within =
+    let list = list_in recent.live order in
+    covered order (get_or list k d).a
+    ∙ (((follows.stands.history.live_stands order).members (get_or list k d)).0 (k, within, get_or_default list k (get_or list k d) d within)).0.is_covered
+
+module _ (h : List Entry) (recent : Recent) (older : Older) (entry : Entry) (follows : Follows h recent older entry) (coverage : Coverage) (refill : List Datom) (is : IsNext h older.covered entry coverage refill)
+    (single : (order : Order) → HasNoTwins (list_in recent.live order ++ refill ++ entry.datoms)) (may : (order : Order) → MayFollow (list_in recent.live order) entry.datoms)
+    (filled : Lists) (grown : (order : Order) → IsGrown order coverage (list_in recent.live order) refill [] (list_in filled order)) where
+  abbrev IsFilled : Order → Datom → Type 0
+  IsFilled order d = Contains (list_in recent.live order) d ⊎ ((order ≡ Avet) × Contains refill d)
+
+  from_filled : (order : Order) (d : Datom) → Contains (list_in filled order) d → IsFilled order d × IsTrue (is_held coverage order d)
+  from_filled order d there =
+      let m = ((grown order).members d).0 there in (
+        elim m.0 [
+          | inl before ↦ before
+          | inr none ↦ absurd (contains_none d none)
+        ],
+        m.1,
+      )
+
+  filled_said : (order : Order) (d : Datom) → IsFilled order d → Contains (said h) d
+  filled_said order d there = elim there [
+    | inl before ↦ (((follows.stands.history.live_stands order).members d).0 before).0.is_said
+    | inr filler ↦ ((is.refill_is.members d).0 filler.1).0
+  ]
+
+  -- with a datom the later ones of its triple are there
+  module _ (x y : Datom) (y_in : Contains (said h) y) (mate : is_of x.e x.a x.v y ≡ true) (later : x.t < y.t) where
+    same_a : x.a ≡ y.a
+    same_a = sym (is_of-true x.e x.a x.v y mate).a_is
+
+    live_too : (g : List Entry) (order : Order) → IsLive g older.covered order x → IsLive g older.covered order y
+    live_too g order live = elim live [
+      | inl late ↦ inl (omega (arith, late, later))
+      | inr bare ↦ inr (subst (λ (a : ℕ). IsFalse (covers (facts (upto g older.covered)) order a)) same_a bare)
+    ]
+
+    covered_too : (g : List Entry) (order : Order) → IsTrue (covers (facts g) order x.a) → IsTrue (covers (facts g) order y.a)
+    covered_too g order = subst (λ (a : ℕ). IsTrue (covers (facts g) order a)) same_a
+
+    was_live : IsLive (h ++ entry ∷ []) older.covered Avet x → IsLive h older.covered Avet x
+    was_live = subst (λ (past : List Entry). (older.covered < x.t) ⊎ IsFalse (covers (facts past) Avet x.a)) (same_past h recent older entry follows)
+
+    refill_too : Contains refill x → Contains refill y
+    refill_too there =
+        let m = (is.refill_is.members x).0 there in
+        let said_now = subst (λ (ds : List Datom). Contains ds y) (sym (said-push h entry)) (Contains-append_left (said h) entry.datoms y y_in) in
+        (is.refill_is.members y).1 (
+          y_in,
+          (record { is_said = said_now; is_covered = covered_too (h ++ entry ∷ []) Avet m.1.0.is_covered }, live_too (h ++ entry ∷ []) Avet m.1.1),
+          λ demanded. m.2 (
+            record { is_said = m.0; is_covered = subst (λ (a : ℕ). IsTrue (covers (facts h) Avet a)) (sym same_a) demanded.0.is_covered },
+            was_live m.1.1,
+          ),
+        )
+
+    later_filled : (order : Order) → IsFilled order x → IsFilled order y
+    later_filled order there = elim there [
+      | inl before ↦
+          let demanded = ((follows.stands.history.live_stands order).members x).0 before in
+          inl (((follows.stands.history.live_stands order).members y).1 (record { is_said = y_in; is_covered = covered_too h order demanded.0.is_covered }, live_too h order demanded.1))
+      | inr filler ↦ inr (filler.0, refill_too filler.1)
+    ]
+
+    also_filled : (order : Order) → Contains (list_in filled order) x → Contains (list_in filled order) y
+    also_filled order there =
+        let at = from_filled order x there in
+        ((grown order).members y).1 (inl (later_filled order at.0), subst (λ (a : ℕ). IsTrue (held coverage order a)) same_a at.1)
+
+  -- so what stands there stands in the history
+  filled_facts : (order : Order) (x : Datom) → Contains (standing (list_in filled order)) x → Contains (facts h) x
+  filled_facts order x there =
+      let last = standing_last (list_in filled order) x (rising_by_time order (list_in filled order) (grown order).rising) there in
+      last_stands (said h) x (said_by_time h follows.stands.history.lawful) (record {
+        there = filled_said order x (from_filled order x last.there).0;
+        added = last.added;
+        latest = λ y y_in mate. elim (cases_lt x.t y.t) [
+          | inl later ↦ last.latest y (also_filled x y y_in mate later order last.there) mate
+          | inr within ↦ within
+        ];
+      })
+
+  retracts : (x d : Datom) → (d.added ≡ true) ⊎ (d.added ≡ false) → Contains (facts h) x → Contains entry.datoms d → is_of d.e d.a d.v x ≡ true → d.added ≡ false
+  retracts x d (inr not_so) holds_now there mate = not_so
+  retracts x d (inl adds) holds_now there mate =
+      let allowed : cond d.added (not (holds h d.e d.a d.v)) (holds h d.e d.a d.v) ≡ true =
+      member_passes (λ z. cond z.added (not (holds h z.e z.a z.v)) (holds h z.e z.a z.v)) entry.datoms d follows.next.changes_alone there in
+      let none : not (holds h d.e d.a d.v) ≡ true = rw adds at allowed in
+      absurd (true≢false (sym none ∙ ap not (holds-facts h d.e d.a d.v ∙ any_member (is_of d.e d.a d.v) (facts h) x holds_now mate)))
+
+  -- and the entry may follow what is refilled
+  pub refill_follows : (order : Order) → MayFollow (list_in filled order) entry.datoms
+  refill_follows order = record {
+    single = single_part (list_in filled order ++ entry.datoms) (list_in recent.live order ++ refill ++ entry.datoms) (λ d there. elim (Contains-append_cases (list_in filled order) entry.datoms d there) [
+      | inl before ↦ Contains-append_left (list_in recent.live order ++ refill) entry.datoms d (elim (from_filled order d before).0 [
+        | inl older_one ↦ Contains-append_left (list_in recent.live order) refill d older_one
+        | inr filler ↦ Contains-append_right (list_in recent.live order) refill d filler.1
+      ])
+      | inr now ↦ Contains-append_right (list_in recent.live order ++ refill) entry.datoms d now
+    ]) (single order);
+    later = λ x d x_in d_in mate.
+        let early = not_later h x follows.stands.history.lawful (filled_said order x (from_filled order x x_in).0) in
+        let own = eqb-true d.t (basis h + 1) (member_passes (λ y. eqb y.t (basis h + 1)) entry.datoms d (own_t h entry follows.next) d_in) in
+        omega (arith, early, own);
+    one = (may order).one;
+    fresh = λ x d x_in d_in mate. retracts x d (cases_Bool d.added) (filled_facts order x x_in) d_in mate;
+  }

@@ -1,5 +1,5 @@
 -- Parts that stand for a history: fresh ones, and those with one more entry.
-use Rattle.std.proofs.Common.{◌≡◌, ◌∙◌, ℕ, ◌+◌, ◌<◌, ◌≤◌, inl, inr, true, false, List, [], ◌∷◌, ◌++◌, length, refl, sym, ap, subst, arith, leb}
+use Rattle.std.proofs.Common.{◌≡◌, ◌∙◌, ℕ, ◌<◌, ◌≤◌, inl, inr, List, [], ◌∷◌, ◌++◌, length, refl, sym, ap, subst, arith, leb}
 use Rattle.std.specs.Prelude.{Contains}
 use Rattle.std.proofs.lemmas.Bool.{true≢false, leb-true, le-leb, and_parts}
 use Rattle.fb_values.specs.declared.facts.Datom.{Datom}
@@ -76,6 +76,7 @@ module _ (h : List Entry) (recent : Recent) (older : Older) (schema_is : SchemaS
     };
     schema_is = schema_is;
     held_is = λ order a. whole.held_is order a ∙ ap (λ (past : List Entry). covers (facts past) order a) (sym whole_past);
+    now_is = whole.now_is;
   }
 
 -- ---- one more entry
@@ -110,6 +111,7 @@ module _ (h : List Entry) (recent : Recent) (older : Older) (entry : Entry) (fol
     };
     schema_is = schema_is;
     held_is = λ order a. follows.stands.held_is order a ∙ ap (λ (past : List Entry). covers (facts past) order a) (sym same_past);
+    now_is = follows.stands.now_is;
   }
 
 -- there is room for one more entry

@@ -1,6 +1,6 @@
 -- What the lists of a snapshot tell of its history.
-use Rattle.std.proofs.Common.{◌≡◌, ◌∙◌, ℕ, ◌-◌, ◌≤◌, ◌⊎◌, inl, inr, Bool, true, false, ◌&&◌, cond, List, [], ◌∷◌, refl, sym, ap, subst, arith, eqb, Option, Some, None, min}
-use Rattle.std.specs.Prelude.{Contains, IsTrue, filter, find, is_some}
+use Rattle.std.proofs.Common.{◌≡◌, ◌∙◌, ℕ, ◌≤◌, ◌⊎◌, inl, inr, Bool, true, false, ◌&&◌, cond, List, [], ◌∷◌, refl, sym, ap, subst, arith, eqb, Option, Some, None, min}
+use Rattle.std.specs.Prelude.{Contains, IsTrue, find, is_some}
 use Rattle.std.specs.List.{list_any}
 use Rattle.std.specs.Option.{option_map, option_map_or}
 use Rattle.std.specs.declared.cmp.Ordering.TheVariants.{Equal}
@@ -14,7 +14,6 @@ use Rattle.fb_values.specs.declared.facts.Value.{Value}
 use Rattle.fb_values.specs.declared.facts.Value.TheVariants.{Ref}
 use Rattle.fb_values.specs.declared.indexes.Order.{Order}
 use Rattle.fb_values.specs.declared.indexes.Order.TheVariants.{Eavt, Vaet}
-use Rattle.fb_values.specs.declared.indexes.Probe.{Probe}
 use Rattle.fb_values.specs.Orders.{key_of, value_cmp}
 use Rattle.fb_values.specs.OrderLaws.{value_cmp_total}
 use Rattle.fb_values.specs.Lists.{list_in}
@@ -29,7 +28,7 @@ use Rattle.fb_model.proofs.Members.{member_passes, some_member, any_member}
 use Rattle.fb_model.proofs.KnownFacts.{said_typed}
 use Rattle.fb_model.proofs.Times.{same_keys, one_for_each_key}
 use Rattle.fb_model.proofs.Triples.{is_of-true, value_eq-true, holds-facts}
-use Rattle.live_index.proofs.Members.{from_filter, into_filter, contains-cons, contains_head, contains_tail, contains_none}
+use Rattle.live_index.proofs.Members.{contains-cons, contains_head, contains_tail, contains_none}
 use Rattle.view_model.specs.Stands.{IsIndexed, IsLive}
 use Rattle.seg_tree.specs.Nodes.{tree_datoms}
 use Rattle.seg_tree.specs.Indexes.{tree_in, trees_of}
@@ -37,12 +36,11 @@ use Rattle.seg_tree.proofs.Indexes.{list_in-trees_of}
 use Rattle.fb_facts.specs.Told.{facts_in}
 use Rattle.fb_facts.proofs.Lists.{facts_in-rising}
 use Rattle.fb_view.specs.Kept.{Kept, Stands}
-use Rattle.fb_view.specs.Ranges.{is_led, led_to}
-use Rattle.fb_view.specs.Merged.{IsPair, merged, ranged, facts_led}
 use Rattle.fb_values.proofs.Rising.{rising_from}
+use Rattle.live_index.specs.Halves.{IsPair}
+use Rattle.live_index.proofs.Together.{before_member}
 use Rattle.fb_view.proofs.Standing.{said_early, early_said}
-use Rattle.fb_view.proofs.Merging.{merged_rises, rising-filter, from_merged, into_merged, before_member}
-use Rattle.fb_view.proofs.Lasting.{told_is, entity_upto}
+use Rattle.fb_view.proofs.Lasting.{entity_upto}
 
 module _ (k : Kept) (stands : Stands k) (order : Order) where
   lawful : IsLawful k.entries
@@ -91,32 +89,6 @@ module _ (k : Kept) (stands : Stands k) (order : Order) where
     where
       live : IsLive k.entries k.covered order d → Contains (list_in k.live order) d
       live is = ((stands.history.live_stands order).members d).1 (record { is_said = there; is_covered = covered }, is)
-
--- what a probe leads to, where it leads to what passes and the index holds that
-pub told : (k : Kept) (stands : Stands k) (p : Probe) (passes : Datom → Bool) → ((d : Datom) → is_led p d ≡ passes d) → ((d : Datom) → Contains (said k.entries) d → passes d ≡ true → IsTrue (covers (facts k.entries) p.order d.a))
-    → ((d x : Datom) → is_of d.e d.a d.v x ≡ true → passes d ≡ true → passes x ≡ true) → facts_led p (tree_in k.roots p.order) k.live ≡ facts_in p.order passes k.entries
-told k stands p passes led covered whole =
-    told_is k.entries p.order passes (ranged p (tree_in k.roots p.order) k.live) record {
-      lawful = stands.history.lawful;
-      rising = rising-filter p.order (is_led p) (merged p.order older live) (merged_rises p.order older live);
-      members = λ d. (forth d, back d);
-      whole = whole;
-    }
-  where
-    older : List Datom
-    older = tree_datoms (tree_in k.roots p.order)
-
-    live : List Datom
-    live = list_in k.live p.order
-
-    forth : (d : Datom) → Contains (led_to p (merged p.order older live)) d → Contains (said k.entries) d × (passes d ≡ true)
-    forth d there =
-        let at = from_filter (is_led p) (merged p.order older live) d there in
-        (was_said k stands p.order d (from_merged p.order older live d at.0), sym (led d) ∙ at.1)
-
-    back : (d : Datom) → Contains (said k.entries) d × (passes d ≡ true) → Contains (led_to p (merged p.order older live)) d
-    back d is =
-        into_filter (is_led p) (merged p.order older live) d (into_merged p.order older live d (pair_stands k stands p.order) (in_one k stands p.order d is.0 (covered d is.0 is.1))) (led d ∙ is.1)
 
 -- ---- what passes with all of its triple
 

@@ -1,4 +1,4 @@
--- The probes by which a snapshot looks for a value.
+-- The facts that a probe leads to, and the probes by which a snapshot looks for a value.
 -- This project's own choice.
 use Rattle.std.specs.Prelude.{◌≡◌, ◌⊎◌, ℕ, true, List, None, Some}
 use Rattle.fb_values.specs.declared.facts.Datom.{Datom}
@@ -6,6 +6,17 @@ use Rattle.fb_values.specs.declared.facts.Value.{Value}
 use Rattle.fb_values.specs.declared.indexes.Order.TheVariants.{Eavt, Aevt, Avet}
 use Rattle.fb_values.specs.declared.indexes.Probe.{Probe}
 use Rattle.fb_model.specs.Schema.{covers}
+use Rattle.seg_tree.specs.Indexes.{tree_in}
+use Rattle.seg_tree.specs.Nodes.{tree_datoms}
+use Rattle.fb_index.specs.Ranges.{led_to}
+use Rattle.fb_index.specs.Sides.{whole}
+use Rattle.fb_index.specs.declared.sides.Extent.TheVariants.{Held}
+use Rattle.fb_view.specs.Kept.{Kept}
+
+-- what the probe leads to, of what holds
+abbrev pub facts_led : Probe → Kept → List Datom
+facts_led probe k =
+    led_to probe (whole Held probe.order (tree_datoms (tree_in k.now probe.order)) k.live)
 
 -- the probe gives the triple, and may leave out the value
 abbrev pub IsTripleProbe : ℕ → ℕ → Value → Probe → Type 0

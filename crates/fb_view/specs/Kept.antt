@@ -4,16 +4,20 @@ use Rattle.std.specs.Prelude.{◌≡◌, ℕ, List}
 use Rattle.fb_values.specs.declared.facts.Datom.{Datom}
 use Rattle.fb_values.specs.declared.facts.Entry.{Entry}
 use Rattle.fb_covers.specs.Coverage.{Coverage}
+use Rattle.fb_values.specs.declared.indexes.Order.{Order}
 use Rattle.fb_values.specs.Lists.{Lists}
 use Rattle.fb_model.specs.History.{basis, upto}
-use Rattle.fb_model.specs.Facts.{facts}
+use Rattle.fb_model.specs.Facts.{facts, standing}
 use Rattle.fb_model.specs.Schema.{schema_in}
 use Rattle.fb_model.specs.Lawful.{IsLawful, IsLawfulAfter}
 use Rattle.view_model.specs.Stands.{RootStands, SnapshotStands}
 use Rattle.fb_schema.specs.Described.{SchemaStands}
 use Rattle.live_index.specs.Standing.{IsCoverageOf}
-use Rattle.seg_tree.specs.Indexes.{trees_of}
+use Rattle.seg_tree.specs.Indexes.{trees_of, tree_in}
+use Rattle.seg_tree.specs.Nodes.{tree_datoms}
 use Rattle.seg_tree.specs.declared.roots.Roots.{Roots}
+use Rattle.fb_index.specs.declared.sides.Extent.{Extent}
+use Rattle.fb_index.specs.declared.sides.Extent.TheVariants.{Said, Held}
 use Rattle.fb_view.specs.declared.growth.Older.{Older}
 use Rattle.fb_view.specs.declared.growth.Recent.{Recent}
 
@@ -24,6 +28,8 @@ pub record Kept : Type 0 where
   pub schema : List Datom
   pub live : Lists
   pub roots : Roots
+  -- the trees of what holds by those
+  pub now : Roots
   -- which attributes the trees hold
   pub held : Coverage
   -- the t of the last entry that the trees are of
@@ -35,9 +41,20 @@ kept h recent older = record {
   schema = recent.schema;
   live = recent.live;
   roots = older.roots;
+  now = older.facts;
   held = older.held;
   covered = older.covered;
 }
+
+-- the second trees have what holds by the first ones
+abbrev pub AreFacts : Roots → Roots → Type 0
+AreFacts all now =
+    (order : Order) → tree_datoms (tree_in now order) ≡ standing (tree_datoms (tree_in all order))
+
+-- the trees that are read
+abbrev pub roots_read : Extent → Kept → Roots
+roots_read Said k = k.roots
+roots_read Held k = k.now
 
 -- the parts stand for the entries
 pub record Stands (k : Kept) : Type 0 where
@@ -45,6 +62,7 @@ pub record Stands (k : Kept) : Type 0 where
       k.entries
   pub schema_is : SchemaStands k.schema k.entries
   pub held_is : IsCoverageOf k.held (facts (upto k.entries k.covered))
+  pub now_is : AreFacts k.roots k.now
 
 -- the trees are those of a whole history, with the coverage of its schema
 pub record AreWhole (h : List Entry) (older : Older) : Type 0 where
@@ -52,6 +70,7 @@ pub record AreWhole (h : List Entry) (older : Older) : Type 0 where
   pub roots_stand : RootStands (trees_of older.roots) h older.covered
   pub covered_is : older.covered ≡ basis h
   pub held_is : IsCoverageOf older.held (facts h)
+  pub now_is : AreFacts older.roots older.facts
 
 -- the parts stand for the history, and the entry may follow it
 pub record Follows (h : List Entry) (recent : Recent) (older : Older) (entry : Entry) : Type 0 where

@@ -1,6 +1,4 @@
 pub mod Kept
-pub mod Ranges
 pub mod Refills
 pub mod InAvet
-pub mod Merged
 pub mod Facts

@@ -2,19 +2,19 @@
 //! takes a step more for each datom that it is made of.
 ghost use Rattle.std.specs.Prelude.{◌≡◌, map, find, IfOk, IfSome};
 ghost use Rattle.std.specs.Option.{option_map};
-ghost use Rattle.fb_values.specs.Lists.{list_in};
 ghost use Rattle.fb_model.specs.Facts.{value_eq};
 ghost use Rattle.seg_tree.specs.Indexes.{tree_in};
 ghost use Rattle.seg_tree.specs.Nodes.{tree_datoms};
-ghost use Rattle.fb_view.specs.Kept.{Stands};
-ghost use Rattle.fb_view.specs.Merged.{IsPair, facts_led};
+ghost use Rattle.fb_index.specs.Sides.{AreBeside};
+ghost use Rattle.fb_view.specs.Kept.{Stands, roots_read};
 ghost use Rattle.fb_view.specs.Facts.{IsTripleProbe};
 
-use crate::merged::Both;
 use crate::snapshot::Snapshot;
 use fb_facts::Facts;
+use fb_index::{Extent, Sides};
 use fb_memory::Memory;
 use fb_values::{Datom, Datoms, Order, Probe, Value};
+use seg_tree::Roots;
 use std::alloc::Global;
 
 impl Facts for Snapshot {
@@ -94,41 +94,54 @@ impl Facts for Snapshot {
 // ---- what a probe leads to
 
 impl Snapshot {
-    ghost use Rattle.fb_view.specs.Facts.{IsValueProbe};
+    ghost use Rattle.fb_view.specs.Facts.{IsValueProbe, facts_led};
 
-    /// The tree of an order beside the live index: to walk the order as one list.
-    pub fn both(&self, order: Order) -> Both<'_>
-        ensures tree { result.tree.now ≡ tree_in self.now.roots order }
+    /// The lists of an order, read as one for all that was said or for what holds.
+    pub fn sides(&self, order: Order, extent: Extent) -> Sides<'_>
+        ensures extent { result.extent ≡ extent }
+        ensures order { result.order ≡ order }
+        ensures tree { result.tree.now ≡ tree_in (roots_read extent self.now) order }
         ensures live { result.live.now ≡ self.now.live }
-        ensures pair { IsPair order (tree_datoms (tree_in self.now.roots order))
-            (list_in self.now.live order) }
+        ensures beside { AreBeside extent order
+            (tree_datoms (tree_in (roots_read extent self.now) order)) self.now.live }
         ensures stands { Stands self.now }
     {
-        Both {
-            tree: self.roots().tree(order),
+        Sides {
+            extent,
+            order,
+            tree: self.trees(extent).tree(order),
             live: self.live(),
+        }
+    }
+
+    /// The trees that are read.
+    fn trees(&self, extent: Extent) -> &Roots
+        ensures { result.now ≡ roots_read extent self.now }
+    {
+        match extent {
+            Extent::Said => self.roots(),
+            Extent::Held => &self.parts().older.facts,
         }
     }
 
     /// The facts that a probe leads to, in the probe's order.
     fn facts_led(&self, probe: &Probe) -> Result<Vec<Datom>, Memory>
-        ensures facts { IfOk result (λ facts. facts.items
-            ≡ facts_led probe.now (tree_in self.now.roots probe.now.order) self.now.live) }
+        ensures facts { IfOk result (λ facts. facts.items ≡ facts_led probe.now self.now) }
         ensures stands { Stands self.now }
     {
-        let both = self.both(probe.order);
-        both.facts(self.alloc(), probe)
+        let sides = self.sides(probe.order, Extent::Held);
+        sides.led(self.alloc(), probe)
     }
 
     /// The entity of the first fact that a probe leads to and that has the value.
     fn first_with(&self, probe: &Probe, v: &Value) -> Option<u64>
         ensures first { result
-            ≡ option_map (λ d. d.e) (find (λ d. value_eq d.v v.now)
-            (facts_led probe.now (tree_in self.now.roots probe.now.order) self.now.live)) }
+            ≡ option_map (λ d. d.e)
+            (find (λ d. value_eq d.v v.now) (facts_led probe.now self.now)) }
         ensures stands { Stands self.now }
     {
-        let both = self.both(probe.order);
-        both.first_with(probe, v)
+        let sides = self.sides(probe.order, Extent::Held);
+        sides.first_with(probe, v)
     }
 
     /// The probe that leads to the datoms of an attribute and a value where AVET holds the attribute, and else to those of

@@ -7,18 +7,21 @@ ghost use Rattle.fb_values.specs.Lists.{list_in};
 ghost use Rattle.fb_values.specs.Rising.{IsRising};
 ghost use Rattle.fb_model.specs.History.{upto};
 ghost use Rattle.fb_model.specs.Lawful.{IsLawful};
+ghost use Rattle.view_model.specs.Stands.{LiveStands};
 ghost use Rattle.fb_schema.specs.Described.{SchemaStands};
 ghost use Rattle.live_index.specs.Standing.{IsNext};
+ghost use Rattle.seg_tree.specs.Indexes.{tree_in};
 ghost use Rattle.seg_tree.specs.Nodes.{tree_datoms};
 
-use crate::ranges::{push_live, push_older};
 use crate::sorting::in_avet;
+use fact_trees::facts_of;
 use fb_covers::Covers;
 use fb_history::EntryList;
+use fb_index::{push_live, push_older};
 use fb_memory::Memory;
 use fb_schema::{Schema, changes_schema};
-use fb_values::{Datom, Datoms, Entry, Order, Probe};
-use live_index::{Live, next_entries_bring_no_twins};
+use fb_values::{Datom, Entry, Order, Probe};
+use live_index::{Live, next_entries_bring_no_twins, next_entries_may_follow};
 use seg_tree::Roots;
 use std::alloc::Global;
 
@@ -26,6 +29,8 @@ use std::alloc::Global;
 #[derive(Drop)]
 pub struct Older {
     pub roots: Roots,
+    /// The trees of what holds by those.
+    pub facts: Roots,
     /// Which attributes the trees hold.
     pub held: Covers,
     /// The t of the last entry that they are of.
@@ -40,12 +45,32 @@ pub struct Recent {
 }
 
 impl Older {
+    ghost use Rattle.fb_view.specs.Kept.{AreFacts};
+
+    /// With the trees of what holds.
+    pub fn of(alloc: Global, roots: Roots, held: Covers, covered: u32) -> Result<Older, Memory>
+        requires { (order : Order) → IsRising order (tree_datoms (tree_in roots order)) }
+        ensures roots { IfOk result (λ older. older.roots ≡ roots) }
+        ensures facts { IfOk result (λ older. AreFacts older.roots older.facts) }
+        ensures held { IfOk result (λ older. older.held ≡ held) }
+        ensures covered { IfOk result (λ older. older.covered ≡ covered) }
+    {
+        let facts = facts_of(alloc, &roots)?;
+        Ok(Older {
+            roots,
+            facts,
+            held,
+            covered,
+        })
+    }
+
     /// The same trees, at the cost of a few reference counts.
     pub fn share(&self) -> Result<Older, Memory>
         ensures { IfOk result (λ older. older ≡ self.now) }
     {
         Ok(Older {
             roots: self.roots.share()?,
+            facts: self.facts.share()?,
             held: self.held.share()?,
             covered: self.covered,
         })
@@ -57,7 +82,7 @@ impl Recent {
     ghost use Rattle.fb_schema.specs.Tables.{HasCoverage};
     ghost use Rattle.fb_view.specs.declared.growth.Older.{Older};
     ghost use Rattle.fb_view.specs.Kept.{kept, Stands, AreWhole, Follows};
-    ghost use Rattle.fb_view.specs.Refills.{missed, all_missed, AreGained};
+    ghost use Rattle.fb_view.specs.Refills.{missed, all_missed};
 
     /// Nothing is live where the trees hold the whole history.
     pub fn fresh(alloc: Global, schema: Schema) -> Recent
@@ -77,10 +102,8 @@ impl Recent {
         ensures { IfOk result (λ new. (h : List Entry) → Follows h self.now older.now entry.now
             → Stands (kept (h ++ entry.now ∷ []) new older.now)) }
     {
-        next_entries_bring_no_twins();
         let schema = self.schema.of_entry(entry)?;
-        let refill = self.refill(alloc, older, entry, &schema)?;
-        let live = self.live.with_entry(entry, schema.covers(), &refill)?;
+        let live = self.grown(alloc, older, entry, &schema)?;
         Ok(Recent { schema, live })
     }
 
@@ -105,6 +128,31 @@ impl Recent {
         Ok(recent)
     }
 
+    /// The live lists with the entry.
+    fn grown(
+        &self,
+        alloc: Global,
+        older: &Older,
+        entry: &Entry,
+        after: &Schema,
+    ) -> Result<Live, Memory>
+        requires follows { (h : List Entry) × Follows h self.now older.now entry.now }
+        requires schema { (h : List Entry) → SchemaStands self.now.schema h
+            → SchemaStands after.now (h ++ entry.now ∷ []) }
+        ensures { IfOk result (λ live. (h : List Entry) → Follows h self.now older.now entry.now
+            → LiveStands live (h ++ entry.now ∷ []) older.now.covered) }
+    {
+        next_entries_may_follow();
+        if !changes_schema(entry) {
+            return self.live.with_entry(entry, after.covers());
+        }
+        next_entries_bring_no_twins();
+        let refill = self.refill(alloc, older, entry, after)?;
+        let before = self.schema.covers();
+        self.live
+            .with_schema_entry(entry, before, after.covers(), &refill)
+    }
+
     /// The older datoms that AVET is to have with the entry and has not had before.
     fn refill(
         &self,
@@ -112,30 +160,17 @@ impl Recent {
         older: &Older,
         entry: &Entry,
         after: &Schema,
-    ) -> Result<Datoms, Memory>
+    ) -> Result<Vec<Datom>, Memory>
         requires follows { (h : List Entry) × Follows h self.now older.now entry.now }
         requires schema { (h : List Entry) → SchemaStands self.now.schema h
             → SchemaStands after.now (h ++ entry.now ∷ []) }
         ensures { IfOk result (λ refill. (h : List Entry) (coverage : Coverage)
             → Follows h self.now older.now entry.now → HasCoverage coverage after.now
-            → IsNext h older.now.covered entry.now coverage refill) }
+            → IsNext h older.now.covered entry.now coverage refill.items) }
     {
-        let gained = self.gained(alloc, entry, after)?;
+        let gained = self.schema.gained(after, entry)?;
         let missed = self.missed(alloc, older, &gained)?;
-        in_avet(alloc, missed, after.covers())
-    }
-
-    /// The attributes that AVET holds with the entry and has not held before: none, where the entry says nothing of the
-    /// schema.
-    fn gained(&self, alloc: Global, entry: &Entry, after: &Schema) -> Result<Vec<u64>, Memory>
-        ensures { IfOk result (λ gained. (h : List Entry) → SchemaStands self.now.schema h
-            → SchemaStands after.now (h ++ entry.now ∷ [])
-            → AreGained self.now.schema after.now gained.items) }
-    {
-        if !changes_schema(entry) {
-            return Ok(Vec::new(alloc));
-        }
-        Ok(self.schema.gained(after)?)
+        in_avet(alloc, &missed, after.covers())
     }
 
     /// The attributes' datoms that no tree of AVET has.

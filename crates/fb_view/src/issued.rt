@@ -2,7 +2,6 @@
 ghost use Rattle.std.specs.Prelude.{◌≡◌, ◌-◌, length};
 ghost use Rattle.std.specs.List.{slice_get};
 ghost use Rattle.std.specs.Option.{option_map_or, option_copied};
-ghost use Rattle.fb_values.specs.Lists.{list_in};
 ghost use Rattle.fb_model.specs.History.{users_issued};
 ghost use Rattle.fb_numbers.specs.Numbers.{user_number as model_user_number};
 ghost use Rattle.seg_tree.specs.Nodes.{tree_datoms};
@@ -11,7 +10,7 @@ ghost use Rattle.fb_view.specs.Kept.{Stands};
 use crate::snapshot::Snapshot;
 use fb_numbers::user_number;
 use fb_values::{Datom, Order};
-use live_index::Live;
+use live_index::{Holding, Past};
 use seg_tree::Tree;
 
 impl Snapshot {
@@ -21,8 +20,9 @@ impl Snapshot {
         ensures stands { Stands self.now }
     {
         let older = user_of(last_older(&self.roots().eavt));
-        let live = user_of(last_live(self.live(), Order::Eavt));
-        older.max(live)
+        let holding = user_of(last_holding(self.live().holding()));
+        let past = user_of(last_past(self.live().past()));
+        older.max(holding).max(past)
     }
 }
 
@@ -45,9 +45,16 @@ fn last_older(tree: &Tree) -> Option<&Datom>
     leaf.datoms().last()
 }
 
-fn last_live(live: &Live, order: Order) -> Option<&Datom>
-    ensures { option_copied result
-        ≡ slice_get (list_in live.now order) (length (list_in live.now order) - 1) }
+fn last_holding(holding: &Holding) -> Option<&Datom>
+    ensures { option_copied result ≡ slice_get holding.now.eavt (length holding.now.eavt - 1) }
 {
-    live.at(order, live.len(order).saturating_sub(1))
+    let order = Order::Eavt;
+    holding.at(order, holding.len(order).saturating_sub(1))
+}
+
+fn last_past(past: &Past) -> Option<&Datom>
+    ensures { option_copied result ≡ slice_get past.now.eavt (length past.now.eavt - 1) }
+{
+    let order = Order::Eavt;
+    past.at(order, past.len(order).saturating_sub(1))
 }

@@ -6,11 +6,8 @@ mod growth;
 mod issued;
 mod laws;
 mod making;
-mod merged;
-mod ranges;
 mod snapshot;
 mod sorting;
 
-pub use laws::the_two_lists_are_the_index;
-pub use merged::{Both, Spot};
+pub use laws::{the_present_lists_are_the_facts, the_two_lists_are_the_index};
 pub use snapshot::Snapshot;

@@ -35,11 +35,9 @@ impl Snapshot {
         let first = entries.at(0);
         let schema = Schema::first(alloc, first)?;
         let covers = schema.covers();
-        let older = Older {
-            roots: trees(alloc, first, covers)?,
-            held: covers.share()?,
-            covered: 0,
-        };
+        let roots = trees(alloc, first.datoms.as_slice(), covers)?;
+        let held = covers.share()?;
+        let older = Older::of(alloc, roots, held, 0)?;
         let recent = Recent::fresh(alloc, schema);
         Snapshot::of(
             alloc,
@@ -124,11 +122,8 @@ fn replayed(
     ensures covered { IfOk result (λ s. s.covered ≡ c) }
     ensures stands { IfOk result (λ s. Stands s) }
 {
-    let older = Older {
-        roots,
-        held: schema.covers().share()?,
-        covered: c,
-    };
+    let held = schema.covers().share()?;
+    let older = Older::of(alloc, roots, held, c)?;
     let recent = Recent::fresh(alloc, schema).replayed(alloc, &older, &entries)?;
     Snapshot::of(
         alloc,

@@ -1,5 +1,6 @@
 //! The snapshot and its parts.
 ghost use Rattle.std.specs.Prelude.{◌≡◌, ◌+◌, length, min, IfOk};
+ghost use Rattle.fb_values.specs.Lists.{list_in};
 ghost use Rattle.fb_model.specs.History.{basis};
 ghost use Rattle.fb_view.specs.Kept.{Stands};
 
@@ -135,8 +136,15 @@ impl Snapshot {
             u64.MAX }
     {
         let live = self.live();
-        let by_entity = live.len(Order::Eavt).saturating_add(live.len(Order::Aevt));
-        let with_values = by_entity.saturating_add(live.len(Order::Avet));
-        with_values.saturating_add(live.len(Order::Vaet))
+        let by_entity = len_in(live, Order::Eavt).saturating_add(len_in(live, Order::Aevt));
+        let with_values = by_entity.saturating_add(len_in(live, Order::Avet));
+        with_values.saturating_add(len_in(live, Order::Vaet))
     }
+}
+
+fn len_in(live: &Live, order: Order) -> u64
+    ensures { result ≡ min (length (list_in live.now order)) u64.MAX }
+{
+    let holding = live.holding().len(order);
+    holding.saturating_add(live.past().len(order))
 }

@@ -9,34 +9,29 @@ ghost use Rattle.fb_view.specs.InAvet.{IsInAvet};
 
 use fb_covers::Covers;
 use fb_memory::Memory;
-use fb_values::{Datom, Datoms, Entry, Order};
+use fb_values::{Datom, Order};
 use live_index::Live;
 use seg_tree::Roots;
 use std::alloc::Global;
 
-/// The datoms whose attribute AVET holds, in its order, each of them once.
-pub fn in_avet(alloc: Global, datoms: Vec<Datom>, covers: &Covers) -> Result<Datoms, Memory>
-    requires { HasNoTwins datoms.items }
-    ensures { IfOk result (λ list. IsInAvet covers.now datoms.items list) }
+/// The datoms whose attribute AVET holds, in its order, each of them once. No other order is made.
+pub fn in_avet(alloc: Global, datoms: &[Datom], covers: &Covers) -> Result<Vec<Datom>, Memory>
+    requires { HasNoTwins datoms.now }
+    ensures { IfOk result (λ list. IsInAvet covers.now datoms.now list.items) }
 {
-    let entry = Entry {
-        t: 0,
-        instant: 0,
-        datoms: Datoms::of(datoms),
-    };
-    let index = index_of(alloc, &entry, covers)?;
-    Ok(Datoms::of(copied(alloc, &index, Order::Avet)?))
+    let index = Live::empty(alloc).made_anew(&[], covers, covers, datoms)?;
+    copied(alloc, &index, Order::Avet)
 }
 
-/// The trees of one entry. Their ids are counted from 1 on.
-pub fn trees(alloc: Global, entry: &Entry, covers: &Covers) -> Result<Roots, Memory>
-    requires { HasNoTwins entry.now.datoms }
+/// The trees of some datoms. Their ids are counted from 1 on.
+pub fn trees(alloc: Global, datoms: &[Datom], covers: &Covers) -> Result<Roots, Memory>
+    requires { HasNoTwins datoms.now }
     ensures grown { IfOk result (λ roots. (order : Order)
-        → IsGrown order covers.now [] [] entry.now.datoms (list_in (trees_of roots) order)) }
+        → IsGrown order covers.now [] [] datoms.now (list_in (trees_of roots) order)) }
     ensures ids { IfOk result
         (λ roots. root_ids roots ≡ range_with_len 1 (length (root_ids roots))) }
 {
-    let index = index_of(alloc, entry, covers)?;
+    let index = index_of(alloc, datoms, covers)?;
     let eavt = copied(alloc, &index, Order::Eavt)?;
     let aevt = copied(alloc, &index, Order::Aevt)?;
     let avet = copied(alloc, &index, Order::Avet)?;
@@ -44,18 +39,14 @@ pub fn trees(alloc: Global, entry: &Entry, covers: &Covers) -> Result<Roots, Mem
     Ok(Roots::of(alloc, eavt, aevt, avet, vaet, 1)?)
 }
 
-/// The live index of an entry's datoms alone, which has them in all four orders.
-fn index_of(alloc: Global, entry: &Entry, covers: &Covers) -> Result<Live, Memory>
-    requires { HasNoTwins entry.now.datoms }
+/// The live index of some datoms alone.
+fn index_of(alloc: Global, datoms: &[Datom], covers: &Covers) -> Result<Live, Memory>
+    requires { HasNoTwins datoms.now }
     ensures { IfOk result (λ live. (order : Order)
-        → IsGrown order covers.now [] [] entry.now.datoms (list_in live order)) }
+        → IsGrown order covers.now [] [] datoms.now (list_in live order)) }
 {
-    let live = Live::empty(alloc);
-    if entry.datoms.is_empty() {
-        return Ok(live);
-    }
-    let nothing = Datoms::of(Vec::new(alloc));
-    live.with_entry(entry, covers, &nothing)
+    let empty = Live::empty(alloc);
+    empty.made_anew(datoms, covers, covers, &[])
 }
 
 /// Copies of the datoms of a live list.
@@ -63,10 +54,10 @@ fn copied(alloc: Global, live: &Live, order: Order) -> Result<Vec<Datom>, Memory
     ensures { IfOk result (λ list. list.items ≡ list_in live.now order) }
 {
     let mut list = Vec::new(alloc);
-    for place in 0..live.len(order) {
-        if let Some(d) = live.at(order, place) {
-            list.push(d.copy()?)?;
-        }
+    let mut next = live.first(order);
+    while let Some((datom, at)) = next {
+        datom.copy_into(&mut list)?;
+        next = live.next(order, at);
     }
     Ok(list)
 }

@@ -2,4 +2,3 @@ pub mod Heights
 pub mod Sides
 pub mod AtNode
 pub mod Woven
-pub mod Parts

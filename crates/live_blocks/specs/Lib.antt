@@ -1,5 +1,5 @@
 pub mod Trees
-pub mod Newest
+pub mod Woven
 pub mod Tree
 pub mod TreeFalls
 pub mod Blocks

@@ -1,11 +1,11 @@
 //! The balanced tree below a list of datoms. Its leaves are blocks; a datom stands between the two sides of each fork.
-ghost use Rattle.std.specs.Prelude.{◌≡◌, ℕ, ◌+◌, ◌^◌, ◌<◌, ◌≤◌, max, length, ◌∷◌, ◌++◌, IfOk, Some};
-ghost use Rattle.std.specs.List.{insert};
-ghost use Rattle.std.specs.List.{slice_get};
+ghost use Rattle.std.specs.Prelude.{◌≡◌, ℕ, ◌+◌, ◌^◌, ◌<◌, ◌≤◌, max, length, take, drop, ◌-◌, ◌∷◌, ◌++◌, IfOk, OnOk, Some};
+ghost use Rattle.std.specs.List.{remove, slice_get};
 ghost use Rattle.std.specs.Arc.{arc_value};
 ghost use Rattle.fb_values.specs.Rising.{IsRising};
 ghost use Rattle.fb_search.specs.Places.{place_of, probe_of};
-ghost use Rattle.live_blocks.specs.Newest.{StandWithin, newer_upto, woven};
+ghost use Rattle.live_blocks.specs.Woven.{StandWithin, newer_upto, woven};
+ghost use Rattle.live_blocks.specs.Blocks.{datoms_of};
 ghost use Rattle.live_blocks.specs.Trees.{DifferByAtMost, least_len, IsHeightAfterBalance};
 ghost use Rattle.live_blocks.specs.Tree.{datoms_and_height, IsTree, IsCopy};
 
@@ -324,21 +324,150 @@ pub fn block_with(
 }
 
 /// The tree of some datoms.
-fn built(alloc: Global, mut datoms: Vec<Shared<Datom>>) -> Result<Tree, Memory>
+pub fn built(alloc: Global, mut datoms: Vec<Shared<Datom>>) -> Result<Tree, Memory>
     requires { 0 < length datoms.items }
     ensures { IfOk result (λ tree. tree.0 ≡ datoms.items) }
 {
-    if datoms.len() <= BLOCK {
-        datoms.shrink_to_fit();
-        return Ok(Tree::leaf(datoms));
+    let count = datoms.len();
+    built_of_last(alloc, &mut datoms, count)
+}
+
+/// The tree of the last datoms of a list, which are taken out of it, so that each of them is moved once.
+fn built_of_last(
+    alloc: Global,
+    datoms: &mut Vec<Shared<Datom>>,
+    count: usize,
+) -> Result<Tree, Memory>
+    requires some { 0 < count }
+    requires within { count ≤ length datoms.old.items }
+    ensures tree { IfOk result (λ tree.
+        tree.0 ≡ drop (length datoms.old.items - count) datoms.old.items) }
+    ensures rest { OnOk result
+        (datoms.new.items ≡ take (length datoms.old.items - count) datoms.old.items) }
+{
+    if count <= BLOCK {
+        let block = datoms.split_off(datoms.len() - count)?;
+        return Ok(Tree::leaf(block));
     }
-    let right = datoms.split_off(datoms.len() / 2 + 1)?;
+    let right = Arc::new(alloc, built_of_last(alloc, datoms, count / 2)?)?;
     match datoms.pop() {
         None => unreachable!(),
         Some(middle) => {
-            let left = Arc::new(alloc, built(alloc, datoms)?)?;
-            let right = Arc::new(alloc, built(alloc, right)?)?;
+            let left = Arc::new(alloc, built_of_last(alloc, datoms, count - count / 2 - 1)?)?;
             join(alloc, left, middle, right)
+        }
+    }
+}
+
+/// What is left of a tree, or none where nothing is, and the datom that was taken out of it.
+#[derive(Drop)]
+pub struct Rest {
+    pub tree: Option<Arc<Tree>>,
+    pub datom: Shared<Datom>,
+}
+
+/// A tree without the datom at a place.
+pub fn without(alloc: Global, tree: Arc<Tree>, place: usize) -> Result<Rest, Memory>
+    requires { place < length (arc_value tree).0 }
+    ensures rest { IfOk result (λ rest. datoms_of rest.tree ≡ remove (arc_value tree).0 place) }
+    ensures taken { IfOk result (λ rest. slice_get (arc_value tree).0 place ≡ Some rest.datom) }
+{
+    match take(tree)? {
+        Node::Leaf(datoms) => block_without(alloc, datoms, place),
+        Node::Fork {
+            left,
+            datom,
+            right,
+            before,
+            ..
+        } => {
+            if place < before {
+                let rest = without(alloc, left, place)?;
+                let tree = Some(join_after(alloc, rest.tree, datom, right)?);
+                Ok(Rest {
+                    tree,
+                    datom: rest.datom,
+                })
+            } else if place == before {
+                // It has a datom, as each tree has.
+                let _ = &right.node;
+                let rest = without(alloc, right, 0)?;
+                let tree = Some(join_before(alloc, left, rest.datom, rest.tree)?);
+                Ok(Rest { tree, datom })
+            } else {
+                let rest = without(alloc, right, place - before - 1)?;
+                let tree = Some(join_before(alloc, left, datom, rest.tree)?);
+                Ok(Rest {
+                    tree,
+                    datom: rest.datom,
+                })
+            }
+        }
+    }
+}
+
+/// A block without the datom at a place.
+fn block_without(
+    alloc: Global,
+    mut datoms: Vec<Shared<Datom>>,
+    place: usize,
+) -> Result<Rest, Memory>
+    requires within { place < length datoms.items }
+    requires few { length datoms.items ≤ BLOCK }
+    ensures rest { IfOk result (λ rest. datoms_of rest.tree ≡ remove datoms.items place) }
+    ensures taken { IfOk result (λ rest. slice_get datoms.items place ≡ Some rest.datom) }
+{
+    let datom = datoms.remove(place);
+    if datoms.is_empty() {
+        return Ok(Rest { tree: None, datom });
+    }
+    let tree = Some(Arc::new(alloc, Tree::leaf(datoms))?);
+    Ok(Rest { tree, datom })
+}
+
+/// A tree of two sides, of which the first may have no datom.
+fn join_after(
+    alloc: Global,
+    left: Option<Arc<Tree>>,
+    datom: Shared<Datom>,
+    right: Arc<Tree>,
+) -> Result<Arc<Tree>, Memory>
+    requires fits { length (datoms_of left) + length (arc_value right).0 + 1 < 2 ^ 64 }
+    ensures { IfOk result
+        (λ new. (arc_value new).0 ≡ datoms_of left ++ datom ∷ (arc_value right).0) }
+{
+    match left {
+        None => {
+            let new = [datom];
+            with_datoms(alloc, right, 0, &[0], &new)
+        }
+        Some(left) => {
+            let tree = join(alloc, left, datom, right)?;
+            Ok(Arc::new(alloc, tree)?)
+        }
+    }
+}
+
+/// A tree of two sides, of which the second may have no datom.
+fn join_before(
+    alloc: Global,
+    left: Arc<Tree>,
+    datom: Shared<Datom>,
+    right: Option<Arc<Tree>>,
+) -> Result<Arc<Tree>, Memory>
+    requires fits { length (arc_value left).0 + length (datoms_of right) + 1 < 2 ^ 64 }
+    ensures { IfOk result
+        (λ new. (arc_value new).0 ≡ (arc_value left).0 ++ datom ∷ datoms_of right) }
+{
+    match right {
+        None => {
+            let new = [datom];
+            let end = left.len();
+            with_datoms(alloc, left, 0, &[end], &new)
+        }
+        Some(right) => {
+            let tree = join(alloc, left, datom, right)?;
+            Ok(Arc::new(alloc, tree)?)
         }
     }
 }

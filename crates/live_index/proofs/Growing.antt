@@ -1,7 +1,7 @@
 -- What the list of the live index is after each step of an entry.
 use Rattle.std.proofs.Common.{◌≡◌, ℕ, zero, suc, ◌+◌, ◌<◌, ◌≤◌, ◌⊎◌, Bool, true, false, cond, List, [], ◌∷◌, ◌++◌, length, take, get_or, refl, sym, ap, ◌∙◌, subst, inl, inr, arith, Option, Some, None}
 use Rattle.std.specs.Prelude.{◌↔◌, Contains, filter, IsTrue, IsSomeAnd, IfOk, Result, Ok, Err}
-use Rattle.std.specs.List.{insert, slice_get}
+use Rattle.std.specs.List.{All, insert, slice_get}
 use Rattle.std.specs.Ordering.{is_eq}
 use Rattle.std.specs.declared.cmp.Ordering.{Ordering}
 use Rattle.std.specs.declared.cmp.Ordering.TheVariants.{Less, Equal, Greater}
@@ -68,7 +68,7 @@ gains_inserted list place datom new P holds is d = (
   ])),
 )
 
-from_take : {X : Type 0} (n : ℕ) (xs : List X) (x : X) → Contains (take n xs) x → Contains xs x
+pub from_take : {X : Type 0} (n : ℕ) (xs : List X) (x : X) → Contains (take n xs) x → Contains xs x
 from_take zero xs x there = absurd (contains_none x there)
 from_take (suc n) [] x there = absurd (contains_none x there)
 from_take (suc n) (y ∷ xs) x there =
@@ -181,3 +181,38 @@ single_refilled order coverage old refill datoms kept refilled kept_is gains sin
 pub both_ok : {T E : Type 0} (r : Result T E) (P Q R : T → Type 0) → ((x : T) → P x → Q x → R x) → IfOk r P → IfOk r Q → IfOk r R
 both_ok (Ok x) P Q R give p q = give x p q
 both_ok (Err e) P Q R give p q = p
+
+-- what is refilled first and then grown has grown by both
+pub grown_twice : (order : Order) (coverage : Coverage) (old refill filled datoms new : List Datom) → IsGrown order coverage old refill [] filled → IsGrown order coverage filled [] datoms new → IsGrown order coverage old refill datoms new
+grown_twice order coverage old refill filled datoms new first second =
+    record {
+      rising = second.rising;
+      members = λ d. (
+        λ there.
+            let m = (second.members d).0 there in (
+              elim m.0 [
+                | inl older ↦ elim older [
+                  | inl was ↦ elim ((first.members d).0 was).0 [
+                    | inl before ↦ inl before
+                    | inr none ↦ absurd (contains_none d none)
+                  ]
+                  | inr none ↦ absurd (contains_none d none.1)
+                ]
+                | inr now ↦ inr now
+              ],
+              m.1,
+            ),
+        λ given. (second.members d).1 (
+          elim given.0 [
+            | inl older ↦ inl (inl ((first.members d).1 (inl older, given.1)))
+            | inr now ↦ inr now
+          ],
+          given.1,
+        ),
+      );
+    }
+
+-- all of a list that has grown are held
+pub grown_held : (order : Order) (coverage : Coverage) (old refill datoms new : List Datom) → IsGrown order coverage old refill datoms new → All (λ d. IsTrue (is_held coverage order d)) new
+grown_held order coverage old refill datoms new is k d within =
+    ((is.members (get_or new k d)).0 (k, within, get_or_default new k (get_or new k d) d within)).1

@@ -2,9 +2,22 @@
 //! own, which shares almost all of its blocks with the version before.
 #![tactic(auto)]
 
-mod growth;
+mod ending;
+mod holding;
+mod indexes;
 mod laws;
+mod listed;
 mod live;
+mod newest;
+mod past;
+mod pool;
+mod remaking;
+mod retracting;
+mod splitting;
+mod walk;
 
-pub use laws::next_entries_bring_no_twins;
+pub use holding::Holding;
+pub use laws::{next_entries_bring_no_twins, next_entries_may_follow};
 pub use live::Live;
+pub use past::Past;
+pub use walk::Cursor;

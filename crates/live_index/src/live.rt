@@ -1,51 +1,50 @@
 //! The live index as one value.
-ghost use Rattle.std.specs.Prelude.{◌≡◌, ℕ, ◌+◌, ◌*◌, ◌^◌, ◌<◌, ◌≤◌, List, length, [], ◌∷◌, ◌++◌, IfOk};
-ghost use Rattle.std.specs.List.{slice_get};
-ghost use Rattle.std.specs.Option.{option_copied};
+ghost use Rattle.std.specs.Prelude.{◌≡◌, ℕ, ◌+◌, ◌≤◌, List, length, [], ◌∷◌, ◌++◌, IfOk, IsTrue};
+ghost use Rattle.std.specs.List.{All};
 ghost use Rattle.fb_values.specs.declared.indexes.Order.{Order};
-ghost use Rattle.fb_values.specs.Rising.{IsRising};
-ghost use Rattle.fb_search.specs.Places.{place_of};
-ghost use Rattle.live_blocks.specs.Trees.{blocks_at_least};
-ghost use Rattle.fb_values.specs.Lists.{list_in};
-ghost use Rattle.live_index.specs.Growth.{IsGrown, HasNoTwins};
 ghost use Rattle.fb_values.specs.declared.facts.Entry.{Entry};
+ghost use Rattle.fb_values.specs.Rising.{IsRising};
+ghost use Rattle.fb_values.specs.Lists.{Lists, list_in};
+ghost use Rattle.fb_model.specs.Facts.{standing};
 ghost use Rattle.view_model.specs.Stands.{LiveStands};
+ghost use Rattle.live_index.specs.Growth.{HasNoTwins, IsGrown, is_held};
+ghost use Rattle.live_index.specs.Listed.{AreIndexes, lists_of};
+ghost use Rattle.live_index.specs.Ending.{IsRetracted};
+ghost use Rattle.live_index.specs.Halves.{MayFollow, more_in, withdrawn};
 ghost use Rattle.live_index.specs.Standing.{IsNext};
 
-use crate::growth::{kept, refilled, with_held};
+use crate::holding::Holding;
+use crate::past::Past;
+use crate::pool::NEWEST;
+use crate::remaking::{shared, with_shares};
+use crate::retracting::Halves;
 use fb_chunks::Shared;
 use fb_covers::Covers;
 use fb_memory::Memory;
-use fb_search::Steps;
-use fb_values::{Datom, Datoms, Entry, Order, Probe};
-use live_blocks::Blocks;
+use fb_values::{Datom, Entry, Order};
 use std::alloc::Global;
 use std::marker::Model;
-use std::sync::ledger::Ledger;
 
-/// Four lists of datoms, each strictly rising in its order. AVET and VAET hold the datoms of some attributes only.
+/// What was said since the trees were made, in four lists that strictly rise: of each what holds, and beside it what does
+/// not. AVET and VAET have the datoms of some attributes only.
 #[derive(Drop)]
 pub struct Live {
-    eavt: Blocks,
-    aevt: Blocks,
-    avet: Blocks,
-    vaet: Blocks,
-    /// The coverage of the last entry, or none before the first.
-    covers: Option<Covers>,
+    alloc: Global,
+    holding: Holding,
+    past: Past,
 }
 
 impl Model for Live {
     ghost use Rattle.fb_values.specs.declared.indexes.Order.{Order};
     ghost use Rattle.fb_values.specs.Lists.{Lists, list_in};
-    ghost use Rattle.live_index.specs.Growth.{IsSound};
+    ghost use Rattle.live_index.specs.Halves.{AreHalves, both_lists};
 
     ghost Value = { Lists };
 
-    ghost view = { λ l. record { eavt = l.eavt; aevt = l.aevt; avet = l.avet; vaet = l.vaet } };
+    ghost view = { λ l. both_lists l.holding l.past };
 
     ghost invariant = { λ l. (order : Order)
-        → IsSound order l.covers
-        (list_in (record { eavt = l.eavt; aevt = l.aevt; avet = l.avet; vaet = l.vaet }) order) };
+        → AreHalves order (list_in l.holding order) (list_in l.past order) };
 }
 
 impl Live {
@@ -54,128 +53,156 @@ impl Live {
         ensures { (order : Order) → list_in result order ≡ [] }
     {
         Live {
-            eavt: Blocks::new(alloc),
-            aevt: Blocks::new(alloc),
-            avet: Blocks::new(alloc),
-            vaet: Blocks::new(alloc),
-            covers: None,
+            alloc,
+            holding: Holding::empty(alloc),
+            past: Past::empty(alloc),
         }
     }
 
-    fn list(&self, order: Order) -> &Blocks
-        ensures datoms { result.now ≡ list_in self.now order }
-        ensures rising { IsRising order result.now }
+    /// What holds.
+    pub fn holding(&self) -> &Holding
+        ensures stands { (order : Order)
+            → list_in result.now order ≡ standing (list_in self.now order) }
+        ensures rising { (order : Order) → IsRising order (list_in self.now order) }
     {
-        match order {
-            Order::Eavt => &self.eavt,
-            Order::Aevt => &self.aevt,
-            Order::Avet => &self.avet,
-            Order::Vaet => &self.vaet,
-        }
+        &self.holding
     }
 
-    /// How many datoms the order's list has.
-    pub fn len(&self, order: Order) -> u64
-        ensures { result ≡ length (list_in self.now order) }
+    /// What does not hold: retractions, and additions that hold no longer.
+    pub fn past(&self) -> &Past
+        ensures withdrawn { (order : Order)
+            → list_in result.now order ≡ withdrawn (list_in self.now order) }
+        ensures rising { (order : Order) → IsRising order (list_in self.now order) }
     {
-        self.list(order).len() as u64
+        &self.past
     }
 
-    /// The datom at a place of the order's list.
-    pub fn at(&self, order: Order, place: u64) -> Option<&Datom>
-        ensures { option_copied result ≡ slice_get (list_in self.now order) place }
-    {
-        self.list(order).at(place as usize)
-    }
-
-    /// The first place whose datom is not below the probe, in the list of the probe's order.
-    pub fn seek<L: Ledger>(&self, probe: &Probe, steps: &mut Steps<L>) -> u64
-        ensures place { result ≡ place_of probe.now (list_in self.now probe.now.order) }
-        ensures rising { IsRising probe.now.order (list_in self.now probe.now.order) }
-        // At most twice the binary digits of the number of blocks, and 18 more, however few the blocks are.
-        ensures cost { (digits : ℕ)
-            → blocks_at_least (length (list_in self.now probe.now.order)) < 2 ^ digits
-            → steps.new ≤ steps.old + 2 * digits + 18 }
-    {
-        self.list(probe.order).seek(probe, steps) as u64
-    }
-
-    /// The same lists, which share every block.
+    /// The same lists, which are shared whole.
     pub fn share(&self) -> Result<Live, Memory>
         ensures { IfOk result (λ live. live ≡ self.now) }
     {
-        let covers = match &self.covers {
-            None => None,
-            Some(covers) => Some(covers.share()?),
-        };
         Ok(Live {
-            eavt: self.eavt.share()?,
-            aevt: self.aevt.share()?,
-            avet: self.avet.share()?,
-            vaet: self.vaet.share()?,
-            covers,
+            alloc: self.alloc,
+            holding: self.holding.share()?,
+            past: self.past.share()?,
         })
     }
 
-    /// The index with the datoms of an entry. `covers` says what AVET and VAET hold from now on, and `refill` has the
-    /// older datoms that AVET is to hold now and has not held before.
-    pub fn with_entry(
-        &self,
-        entry: &Entry,
-        covers: &Covers,
-        refill: &Datoms,
-    ) -> Result<Live, Memory>
-        // Datoms of one entity, attribute, value and t are one datom.
-        requires { (order : Order)
-            → HasNoTwins (list_in self.now order ++ refill.now ++ entry.now.datoms) }
+    /// The index with the datoms of an entry that comes next, where the indexes hold the attributes that they held.
+    pub fn with_entry(&self, entry: &Entry, covers: &Covers) -> Result<Live, Memory>
+        requires held { (order : Order)
+            → All (λ d. IsTrue (is_held covers.now order d)) (list_in self.now order) }
+        requires follow { (order : Order)
+            → MayFollow (list_in self.now order) entry.now.datoms }
         ensures grown { IfOk result (λ live. (order : Order)
-            → IsGrown order covers.now (list_in self.now order) refill.now entry.now.datoms
+            → IsGrown order covers.now (list_in self.now order) [] entry.now.datoms
             (list_in live order)) }
         // Where the lists stand for a history above c, and the entry comes next in it, the new ones stand for the history with the entry.
         ensures stands { IfOk result (λ live. (h : List Entry) (c : ℕ)
-            → IsNext h c entry.now covers.now refill.now → LiveStands self.now h c
+            → IsNext h c entry.now covers.now [] → LiveStands self.now h c
             → LiveStands live (h ++ entry.now ∷ []) c) }
     {
-        let datoms = self.eavt.shared(entry.datoms.as_slice())?;
-        let refill = self.eavt.shared(refill.as_slice())?;
-        self.with_shared(&datoms, covers, &refill)
+        self.grown(entry.datoms.as_slice(), covers)
     }
 
-    /// The index with some datoms, which all orders share.
-    fn with_shared(
+    /// The index with the datoms of an entry that comes next, where the indexes hold other attributes with it. `refill` has
+    /// the older datoms that AVET alone is to have.
+    pub fn with_schema_entry(
         &self,
-        datoms: &[Shared<Datom>],
-        covers: &Covers,
-        refill: &[Shared<Datom>],
+        entry: &Entry,
+        before: &Covers,
+        after: &Covers,
+        refill: &[Datom],
     ) -> Result<Live, Memory>
-        requires { (order : Order)
-            → HasNoTwins (list_in self.now order ++ refill.now ++ datoms.now) }
-        ensures { IfOk result (λ live. (order : Order)
-            → IsGrown order covers.now (list_in self.now order) refill.now datoms.now
+        requires held { (order : Order)
+            → All (λ d. IsTrue (is_held before.now order d)) (list_in self.now order) }
+        requires single { (order : Order)
+            → HasNoTwins (list_in self.now order ++ refill.now ++ entry.now.datoms) }
+        requires follow { (filled : Lists)
+            → ((order : Order)
+            → IsGrown order after.now (list_in self.now order) refill.now [] (list_in filled order))
+            → (order : Order) → MayFollow (list_in filled order) entry.now.datoms }
+        ensures grown { IfOk result (λ live. (order : Order)
+            → IsGrown order after.now (list_in self.now order) refill.now entry.now.datoms
             (list_in live order)) }
+        // Where the lists stand for a history above c, and the entry comes next in it, the new ones stand for the history with the entry.
+        ensures stands { IfOk result (λ live. (h : List Entry) (c : ℕ)
+            → IsNext h c entry.now after.now refill.now → LiveStands self.now h c
+            → LiveStands live (h ++ entry.now ∷ []) c) }
     {
+        let filled = self.made_anew(&[], before, after, refill)?;
+        filled.grown(entry.datoms.as_slice(), after)
+    }
+
+    fn grown(&self, datoms: &[Datom], covers: &Covers) -> Result<Live, Memory>
+        requires held { (order : Order)
+            → All (λ d. IsTrue (is_held covers.now order d)) (list_in self.now order) }
+        requires follow { (order : Order) → MayFollow (list_in self.now order) datoms.now }
+        ensures { IfOk result (λ live. (order : Order)
+            → IsGrown order covers.now (list_in self.now order) [] datoms.now (list_in live order)) }
+    {
+        let more = datoms.len().min(NEWEST);
+        let holding = self.holding.copy(more)?;
+        let past = self.past.share()?;
+        let halves = Halves { holding, past }.retracted(self.alloc, datoms, covers)?;
+        let Halves { holding, past } = halves;
+        let holding = holding.with_additions(self.alloc, datoms, covers)?;
+        let holding = Holding::of(self.alloc, holding)?;
         Ok(Live {
-            eavt: self.with_shared_in(Order::Eavt, datoms, covers, refill)?,
-            aevt: self.with_shared_in(Order::Aevt, datoms, covers, refill)?,
-            avet: self.with_shared_in(Order::Avet, datoms, covers, refill)?,
-            vaet: self.with_shared_in(Order::Vaet, datoms, covers, refill)?,
-            covers: Some(covers.share()?),
+            alloc: self.alloc,
+            holding,
+            past,
         })
     }
 
-    fn with_shared_in(
+    /// The index with more datoms, where the indexes hold other attributes than before, or where there are many of them:
+    /// the lists that change are made anew. `refill` has the older datoms that AVET alone is to have.
+    pub fn made_anew(
         &self,
-        order: Order,
-        datoms: &[Shared<Datom>],
-        covers: &Covers,
-        refill: &[Shared<Datom>],
-    ) -> Result<Blocks, Memory>
-        requires { HasNoTwins (list_in self.now order ++ refill.now ++ datoms.now) }
-        ensures { IfOk result
-            (λ list. IsGrown order covers.now (list_in self.now order) refill.now datoms.now list) }
+        datoms: &[Datom],
+        before: &Covers,
+        after: &Covers,
+        refill: &[Datom],
+    ) -> Result<Live, Memory>
+        requires held { (order : Order)
+            → All (λ d. IsTrue (is_held before.now order d)) (list_in self.now order) }
+        requires single { (order : Order)
+            → HasNoTwins (list_in self.now order ++ refill.now ++ datoms.now) }
+        ensures { IfOk result (λ live. (order : Order)
+            → IsGrown order after.now (list_in self.now order) refill.now datoms.now
+            (list_in live order)) }
     {
-        let kept = kept(self.list(order), order, &self.covers, covers)?;
-        let refilled = refilled(kept, order, refill, covers)?;
-        with_held(refilled, order, datoms, covers)
+        let more = shared(self.alloc, datoms)?;
+        let filled = with_shares(shared(self.alloc, refill)?, &more)?;
+        self.with_all(before, after, &more, &filled)
+    }
+
+    /// The same, where AVET gets those that it is filled with and the other orders the rest.
+    fn with_all(
+        &self,
+        before: &Covers,
+        after: &Covers,
+        more: &[Shared<Datom>],
+        filled: &[Shared<Datom>],
+    ) -> Result<Live, Memory>
+        requires held { (order : Order)
+            → All (λ d. IsTrue (is_held before.now order d)) (list_in self.now order) }
+        requires single { (order : Order)
+            → HasNoTwins (list_in self.now order ++ more_in order more.now filled.now) }
+        ensures { IfOk result (λ live. (order : Order)
+            → IsGrown order after.now (list_in self.now order) []
+            (more_in order more.now filled.now) (list_in live order)) }
+    {
+        let holding = self.holding.copy(0)?;
+        let past = self.past.share()?;
+        let halves = Halves { holding, past };
+        let halves = halves.with_all(self.alloc, before, after, more, filled)?;
+        let Halves { holding, past } = halves;
+        let holding = Holding::of(self.alloc, holding)?;
+        Ok(Live {
+            alloc: self.alloc,
+            holding,
+            past,
+        })
     }
 }

@@ -19,12 +19,13 @@ pub fn due(
 ) -> Result<Vec<Datom>, Memory>
     ensures { IfOk result (λ due. due.items ≡ due_of covers.now c order (list_in live.now order)) }
 {
-    let mut due = Vec::with_capacity(alloc, live.len(order) as usize)?;
-    for place in 0..live.len(order) {
-        match live.at(order, place) {
-            None => unreachable!(),
-            Some(datom) => due = with_due(due, order, datom, c, covers)?,
-        }
+    let holding = live.holding().len(order);
+    let len = holding.saturating_add(live.past().len(order));
+    let mut due = Vec::with_capacity(alloc, len as usize)?;
+    let mut next = live.first(order);
+    while let Some((datom, at)) = next {
+        due = with_due(due, order, datom, c, covers)?;
+        next = live.next(order, at);
     }
     Ok(due)
 }

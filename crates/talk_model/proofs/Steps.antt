@@ -1,5 +1,5 @@
 -- What one form does to a standing, whatever its command is.
-use Rattle.std.proofs.Common.{◌≡◌, ℕ, ◌<◌, ◌≤◌, ◌⊎◌, Bool, true, false, cond, List, [], ◌∷◌, ◌++◌, refl, ap, sym, ◌∙◌, inl, inr, arith, Option, Some, None, Result, Ok, Err}
+use Rattle.std.proofs.Common.{◌≡◌, ℕ, ◌<◌, ◌≤◌, ◌⊎◌, Bool, true, false, cond, List, refl, ap, sym, ◌∙◌, inl, inr, arith, Option, Some, None, Result, Ok, Err}
 use Rattle.edn_model.specs.Form.{Form}
 use Rattle.fb_model.specs.History.{basis}
 use Rattle.view_model.specs.Window.{Window}
@@ -7,7 +7,7 @@ use Rattle.view_model.specs.Window as window
 use Rattle.read_refusals.specs.declared.reasons.Refusal.{Refusal}
 use Rattle.read_model.specs.Points.{point_in}
 use Rattle.talk_model.specs.Commands.{Turn, as_of, since, history, filter, unfilter, Read, look, turn, request_index, Command, transact, db, sync, read, command_in}
-use Rattle.talk_model.specs.Session.{Setting, Standing, Sight, sight_of}
+use Rattle.talk_model.specs.Session.{Setting, Standing, Sight, sight_of, with_name}
 use Rattle.talk_model.specs.Reads.{windowed, turned, behind}
 use Rattle.talk_model.specs.Talk.{IsAccepted, IsRefused, IsNotTaken, IsStopped, IsShown, IsRead, AnswersCommand, IsAnswered}
 
@@ -33,14 +33,14 @@ turned-place : (s : Sight) (standing : Standing) (t : Turn) → (turned s standi
 turned-place s standing (as_of point) = windowed-place standing window.as_of (point_in s.history point)
 turned-place s standing (since point) = windowed-place standing window.since (point_in s.history point)
 turned-place s standing history = refl
-turned-place s standing (filter name) = filtered-place (s.is_filter name) standing (standing.filters ++ name ∷ [])
+turned-place s standing (filter name) = filtered-place (s.is_filter name) standing (with_name standing.filters name)
 turned-place s standing unfilter = refl
 
 turned-told : (s : Sight) (standing : Standing) (t : Turn) → (turned s standing t).told ≡ standing.told
 turned-told s standing (as_of point) = windowed-told standing window.as_of (point_in s.history point)
 turned-told s standing (since point) = windowed-told standing window.since (point_in s.history point)
 turned-told s standing history = refl
-turned-told s standing (filter name) = filtered-told (s.is_filter name) standing (standing.filters ++ name ∷ [])
+turned-told s standing (filter name) = filtered-told (s.is_filter name) standing (with_name standing.filters name)
 turned-told s standing unfilter = refl
 
 pub behind-place : (s : Sight) (standing : Standing) (asked : Option Read) → (behind s standing asked).place ≡ standing.place

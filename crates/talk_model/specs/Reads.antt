@@ -1,7 +1,7 @@
 -- What a command that records nothing answers, of what its session has seen, and where the session
 -- stands behind it.
 -- Datomic, Database Filters, Indexes, Log API and Pull.
-use Rattle.std.specs.Prelude.{◌≡◌, ℕ, List, [], ◌∷◌, ◌++◌, if◌then◌else◌, Option, Some, None, Result, Ok, Err}
+use Rattle.std.specs.Prelude.{◌≡◌, ℕ, List, [], if◌then◌else◌, Option, Some, None, Result, Ok, Err}
 use Rattle.edn_model.specs.Form.{Form}
 use Rattle.fb_values.specs.declared.facts.Datom.{Datom}
 use Rattle.fb_values.specs.declared.facts.Entry.{Entry}
@@ -27,7 +27,7 @@ use Rattle.pull_model.specs.Found.{Db, IsDb}
 use Rattle.pull_model.specs.Pull.{pulled}
 use Rattle.talk_model.specs.Commands.{Look, datoms, seek, index_range, tx_range, pull, Turn, as_of, since, history, filter, unfilter, Read, look, turn, request_index}
 use Rattle.talk_model.specs.Replies.{done_reply, datoms_reply, transactions_reply, pull_reply, refusal_reply}
-use Rattle.talk_model.specs.Session.{Sight, Standing}
+use Rattle.talk_model.specs.Session.{Sight, Standing, with_name}
 
 -- ---- replies
 
@@ -132,7 +132,7 @@ turned s standing (as_of point) = windowed standing window.as_of (point_in s.his
 turned s standing (since point) = windowed standing window.since (point_in s.history point)
 turned s standing history = record standing { window = with_history standing.window }
 turned s standing (filter name) =
-    if s.is_filter name then record standing { filters = standing.filters ++ name ∷ [] }
+    if s.is_filter name then record standing { filters = with_name standing.filters name }
     else standing
 turned s standing unfilter = record standing { window = whole; filters = [] }
 

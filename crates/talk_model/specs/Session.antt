@@ -2,7 +2,8 @@
 -- commands.
 -- This project's own choice. Of two filters with one name the later one counts: what is selected by
 -- a name is told here.
-use Rattle.std.specs.Prelude.{◌≡◌, ◌⊎◌, ℕ, ℤ, Bool, false, List, [], ◌∷◌, ◌++◌, Option, None}
+use Rattle.std.specs.Prelude.{◌≡◌, ◌⊎◌, ℕ, ℤ, Bool, false, List, [], ◌∷◌, ◌++◌, bytes_eq, if◌then◌else◌, Option, None}
+use Rattle.std.specs.List.{list_any}
 use Rattle.fb_values.specs.declared.facts.Datom.{Datom}
 use Rattle.fb_values.specs.declared.facts.Entry.{Entry}
 use Rattle.fb_model.specs.History.{upto}
@@ -46,6 +47,10 @@ pub record Sight : Type 1 where
 -- of a session that is opened at this t
 abbrev pub opened_at : ℕ → Standing
 opened_at t = record { place = t; window = whole; filters = []; told = false }
+
+-- the names with one more, where it is not there yet
+abbrev pub with_name : List (List ℕ) → List ℕ → List (List ℕ)
+with_name names name = if list_any (bytes_eq name) names then names else names ++ name ∷ []
 
 -- the session has seen more of the history
 abbrev pub moved : Standing → ℕ → Standing

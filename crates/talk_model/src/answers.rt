@@ -49,6 +49,9 @@ pub fn views_of_a_session()
         ≡ standing_with (with_history whole) [] }
     ensures filter { standing_behind (said (codes "filter") (key (codes "users") ∷ []))
         ≡ standing_with whole (codes "users" ∷ []) }
+    ensures filter_again { behind_read (standing_with whole (codes "users" ∷ []))
+        (said (codes "filter") (key (codes "users") ∷ []))
+        ≡ standing_with whole (codes "users" ∷ []) }
     ensures no_filter { standing_behind (said (codes "filter") (key (codes "user") ∷ []))
         ≡ opened_at 4 }
     ensures unfilter { behind_read

@@ -55,7 +55,10 @@ impl Run {
         a_beginning_stays_one();
         let _basis = self.begin.basis();
         match self.core.decide(&row.data, CLOCK, AUTHOR, &NoGuard) {
-            Ok(draft) if row.is_accepted() => Ok(self.core.accept(draft)),
+            Ok(draft) if row.is_accepted() => {
+                self.core.accept(draft);
+                Ok(())
+            }
             Err(TxStop::Refused(refusal)) if row.is_refused_by(refusal) => Ok(()),
             _ => bail!("the core decides otherwise than the table"),
         }

@@ -42,7 +42,7 @@ const LOG_CUTS: [u64; 4] = [0, 1, 40, u64::MAX];
 
 const SEGMENTS_CUTS: [u64; 4] = [0, 1, 2_000, u64::MAX];
 
-/// With one of these each byte is combined by exclusive or, in turn.
+/// With each of these each byte is combined by exclusive or.
 const MASKS: [u8; 3] = [0x01, 0x80, 0xff];
 
 /// More than any run here needs.
@@ -187,7 +187,7 @@ impl Histories {
         Ok(row.len())
     }
 
-    /// Changes each byte of a file with two roots. It says how many there are.
+    /// Changes each byte of a file with two roots to three others. It says how many files that makes.
     pub(crate) fn change_bytes<R: Threads + Wait + Sync>(
         &self,
         rt: &R,
@@ -197,19 +197,32 @@ impl Histories {
         for place in 0..len {
             self.change_byte(rt, alloc, place)?;
         }
-        Ok(len)
+        Ok(len.saturating_mul(MASKS.len()))
     }
 
-    /// From the gate of the second record on, a change leaves the first root alone. The last byte is behind both.
     fn change_byte<R: Threads + Wait + Sync>(
         &self,
         rt: &R,
         alloc: Global,
         place: usize,
     ) -> Result<()> {
+        for mask in MASKS {
+            self.open_changed(rt, alloc, place, mask)?;
+        }
+        Ok(())
+    }
+
+    /// From the gate of the second record on, a change leaves the first root alone. The last byte is behind both.
+    fn open_changed<R: Threads + Wait + Sync>(
+        &self,
+        rt: &R,
+        alloc: Global,
+        place: usize,
+        mask: u8,
+    ) -> Result<()> {
         let mut segments = self.two.segments().to_vec(alloc)?;
         if let Some(byte) = segments.get_mut(place) {
-            *byte ^= MASKS[place % MASKS.len()];
+            *byte ^= mask;
         }
         let covered = self.two.covered_by(rt, alloc, &segments)?;
         let behind = place.saturating_add(1);

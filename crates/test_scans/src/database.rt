@@ -46,7 +46,10 @@ pub(crate) fn grown<R: Threads + Sync>(rt: &R, alloc: Global) -> Result<Snapshot
 
 fn transact(core: &mut Core, form: &Edn) -> Result<()> {
     match core.decide(form, CLOCK, AUTHOR, &NoGuard) {
-        Ok(draft) => Ok(core.accept(draft)),
+        Ok(draft) => {
+            core.accept(draft);
+            Ok(())
+        }
         Err(_) => bail!("a transaction is refused"),
     }
 }
@@ -58,7 +61,8 @@ fn merge<R: Threads + Sync>(rt: &R, alloc: Global, core: &mut Core) -> Result<()
     let first_id = begin.roots().next_id();
     let roots = merged(rt, alloc, &begin, first_id)?;
     let rebased = core.rebase(&begin, roots)?;
-    Ok(core.adopt(rebased))
+    core.adopt(rebased);
+    Ok(())
 }
 
 fn schema(alloc: Global) -> Result<Edn> {

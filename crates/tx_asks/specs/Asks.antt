@@ -1,6 +1,6 @@
 -- What the definitions see in the asks of the program, and what expanding a transaction promises of them.
 -- Datomic, Transaction Data.
-use Rattle.std.specs.Prelude.{◌≡◌, ◌<◌, ℕ, Bool, true, false, List, [], map, filter, length, slice_index_or, Option, Some, None, ⊤}
+use Rattle.std.specs.Prelude.{◌≡◌, ◌<◌, ℕ, negsuc, Bool, true, false, List, [], map, filter, length, slice_index_or, Option, Some, None, ⊤}
 use Rattle.std.specs.List.{All}
 use Rattle.edn_model.specs.Form as edn
 use Rattle.edn_form.specs.View.{form_of}
@@ -13,6 +13,7 @@ use Rattle.tx_model.specs.Values.{value_in}
 use Rattle.tx_model.specs.Step.{first_yes}
 use Rattle.tx_model.specs.NameRules.{is_lacking}
 use Rattle.std.specs.List.{list_any}
+use Rattle.tx_asks.specs.declared.asks.LookupRef.{LookupRef}
 use Rattle.tx_asks.specs.declared.asks.Name.{Name}
 use Rattle.tx_asks.specs.declared.asks.Name.TheVariants.{Number, Ident, Lookup, Tempid, Nameless}
 use Rattle.tx_asks.specs.declared.asks.Operand.{Operand}
@@ -21,36 +22,50 @@ use Rattle.tx_asks.specs.declared.asks.Ask.{Ask}
 use Rattle.tx_asks.specs.declared.asks.Ask.TheVariants.{Adds, Retracts, RetractsAll, Compares, RetractsEntity, Meets}
 use Rattle.tx_asks.specs.declared.asks.Flat.{Flat}
 
--- ---- asks, where the maps without `:db/id` stand at these places
+-- ---- what the numbers in names stand for
 
-abbrev pub name_of : List (List ℕ) → Name → model.Name
-name_of places (Number n) = model.number n
-name_of places (Ident k) = model.ident k.now
-name_of places (Lookup k value) = model.lookup k.now (form_of value.now)
-name_of places (Tempid text) = model.tempid text.now
-name_of places (Nameless n) = model.nameless (slice_index_or places n [])
+-- the lookup refs, and the places of the maps without `:db/id`
+pub record Legend : Type 0 where
+  pub lookups : List LookupRef
+  pub places : List (List ℕ)
 
-abbrev pub part_of : List (List ℕ) → Operand → model.Operand
-part_of places (Plain f v) = model.plain (form_of f.now)
-part_of places (Entity name) = model.entity (name_of places name)
+abbrev pub lookup_of : LookupRef → model.Name
+lookup_of ref = model.lookup ref.attribute.now (form_of ref.value.now)
+
+-- the lookup ref with the number: past the last one a number that no entity has
+abbrev pub lookup_at : List LookupRef → ℕ → model.Name
+lookup_at lookups n = slice_index_or (map lookup_of lookups) n (model.number (negsuc 0))
+
+-- ---- asks
+
+abbrev pub name_of : Legend → Name → model.Name
+name_of legend (Number n) = model.number n
+name_of legend (Ident k) = model.ident k.now
+name_of legend (Lookup n) = lookup_at legend.lookups n
+name_of legend (Tempid text) = model.tempid text.now
+name_of legend (Nameless n) = model.nameless (slice_index_or legend.places n [])
+
+abbrev pub part_of : Legend → Operand → model.Operand
+part_of legend (Plain f v) = model.plain (form_of f.now)
+part_of legend (Entity name) = model.entity (name_of legend name)
 
 -- nil as the old value of a cas
-abbrev pub old_part_of : List (List ℕ) → Option Operand → model.Operand
-old_part_of places None = model.plain edn.nil
-old_part_of places (Some part) = part_of places part
+abbrev pub old_part_of : Legend → Option Operand → model.Operand
+old_part_of legend None = model.plain edn.nil
+old_part_of legend (Some part) = part_of legend part
 
-abbrev pub ask_of : List (List ℕ) → Ask → model.Ask
-ask_of places (Adds on attribute part) =
-    model.adds (name_of places on) attribute.now.ident (part_of places part)
-ask_of places (Retracts on attribute part) =
-    model.retracts (name_of places on) attribute.now.ident (part_of places part)
-ask_of places (RetractsAll on attribute) =
-    model.retracts_all (name_of places on) attribute.now.ident
-ask_of places (Compares on attribute old new) =
-    model.compares (name_of places on) attribute.now.ident (old_part_of places old)
-    (part_of places new)
-ask_of places (RetractsEntity on) = model.retracts_entity (name_of places on)
-ask_of places (Meets on) = model.meets (name_of places on)
+abbrev pub ask_of : Legend → Ask → model.Ask
+ask_of legend (Adds on attribute part) =
+    model.adds (name_of legend on) attribute.now.ident (part_of legend part)
+ask_of legend (Retracts on attribute part) =
+    model.retracts (name_of legend on) attribute.now.ident (part_of legend part)
+ask_of legend (RetractsAll on attribute) =
+    model.retracts_all (name_of legend on) attribute.now.ident
+ask_of legend (Compares on attribute old new) =
+    model.compares (name_of legend on) attribute.now.ident (old_part_of legend old)
+    (part_of legend new)
+ask_of legend (RetractsEntity on) = model.retracts_entity (name_of legend on)
+ask_of legend (Meets on) = model.meets (name_of legend on)
 
 -- an ask that names an entity: the others mention an attribute, or say that a map lacks something
 abbrev pub matters : model.Ask → Bool
@@ -114,6 +129,10 @@ AreApart places =
 
 -- ---- what expanding promises
 
+-- its lookup refs, where the maps without `:db/id` stand at these places
+abbrev pub legend_of : Flat → List (List ℕ) → Legend
+legend_of flat places = record { lookups = flat.lookups.items; places = places }
+
 -- these are the asks of the forms, but for those that do not matter any more: by these facts the attributes are installed and
 -- the values of their types
 pub record AreAsks (flat : Flat) (facts : List Datom) (asks : List (List model.Ask)) : Type 0 where
@@ -121,7 +140,7 @@ pub record AreAsks (flat : Flat) (facts : List Datom) (asks : List (List model.A
   pub places : List (List ℕ)
   pub apart : AreApart places
   pub counted : length places ≡ flat.nameless
-  pub same : map (λ form. map (ask_of places) form.items) flat.forms.items
+  pub same : map (λ form. map (ask_of (legend_of flat places)) form.items) flat.forms.items
       ≡ map (filter matters) asks
   pub read : All (λ form. All (IsRead facts) form.items) flat.forms.items
   pub names_counted : All (λ form. All (AreCounted flat.nameless) form.items) flat.forms.items

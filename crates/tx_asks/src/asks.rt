@@ -4,14 +4,21 @@ use fb_schema::Attribute;
 use fb_text::Text;
 use fb_values::Value;
 
+/// A lookup ref: the keyword of an attribute, and a value.
+#[derive(Clone, Copy, Drop)]
+pub struct LookupRef<'a> {
+    pub attribute: &'a Text,
+    pub value: &'a Edn,
+}
+
 /// How a transaction names an entity.
 #[derive(Clone, Copy)]
 pub enum Name<'a> {
     Number(i64),
     /// A keyword, without its colon.
     Ident(&'a Text),
-    /// A lookup ref: the keyword of an attribute, and a value.
-    Lookup(&'a Text, &'a Edn),
+    /// A lookup ref, by its number among those of the transaction in the order in which a reader meets them, from 0.
+    Lookup(usize),
     /// A tempid, or `"datomic.tx"`, the transaction's own entity.
     Tempid(&'a Text),
     /// A map without `:db/id`, by its number among these maps in the order in which a reader meets them, from 0.
@@ -65,6 +72,8 @@ pub enum Ask<'a> {
 #[derive(Drop)]
 pub struct Flat<'a> {
     pub forms: Vec<Vec<Ask<'a>>>,
+    /// The lookup refs, each once for each place in which it is written.
+    pub lookups: Vec<LookupRef<'a>>,
     /// How many maps without `:db/id` were met.
     pub nameless: usize,
     /// The first form with a map inside another that lacks what it needs.

@@ -9,6 +9,6 @@ mod laws;
 mod triples;
 
 pub use acts::{Act, Resolved};
-pub use asks::{Ask, Flat, Name, Operand};
+pub use asks::{Ask, Flat, LookupRef, Name, Operand};
 pub use laws::{acts_ask_what_asks_do, acts_compare_what_asks_do, asks_that_ask_for_nothing};
 pub use triples::{Asking, Triple};

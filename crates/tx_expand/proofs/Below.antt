@@ -4,6 +4,7 @@ use Rattle.std.specs.Prelude.{slice_index_or, filter, Option, Some, None, ⊤}
 use Rattle.std.specs.List.{All}
 use Rattle.std.proofs.lemmas.Bool.{cases_lt, false≢true}
 use Rattle.tx_model.specs.Asks.{Name, number, ident, lookup, tempid, nameless, Operand, plain, entity, Ask, adds, retracts, retracts_all, compares, retracts_entity, meets, mentions, lacks_id}
+use Rattle.tx_asks.specs.declared.asks.LookupRef.{LookupRef}
 use Rattle.tx_asks.specs.declared.asks.Name as program
 use Rattle.tx_asks.specs.Asks.{AreCounted, IsCounted, IsCountedPart, IsCountedOldPart}
 use Rattle.tx_asks.specs.declared.asks.Ask as asks
@@ -160,32 +161,32 @@ lists_below ps (asks ∷ lists) same = (asks_below ps asks (λ more. ap (head_of
 
 -- ---- the asks of the program
 
-counted_name : (n : ℕ) (name : program.Name) → IsBelow n (name_seen name) → IsCounted n name
-counted_name n (Number z) below = tt
-counted_name n (Ident k) below = tt
-counted_name n (Lookup k f) below = tt
-counted_name n (Tempid s) below = tt
-counted_name n (Nameless k) below = below
+counted_name : (n : ℕ) (all : List LookupRef) (name : program.Name) → IsBelow n (name_seen all name) → IsCounted n name
+counted_name n all (Number z) below = tt
+counted_name n all (Ident k) below = tt
+counted_name n all (Lookup k) below = tt
+counted_name n all (Tempid s) below = tt
+counted_name n all (Nameless k) below = below
 
-counted_part : (n : ℕ) (part : parts.Operand) → IsPartBelow n (part_read part) → IsCountedPart n part
-counted_part n (Plain f v) below = tt
-counted_part n (Entity name) below = counted_name n name below
+counted_part : (n : ℕ) (all : List LookupRef) (part : parts.Operand) → IsPartBelow n (part_read all part) → IsCountedPart n part
+counted_part n all (Plain f v) below = tt
+counted_part n all (Entity name) below = counted_name n all name below
 
-counted_old : (n : ℕ) (part : Option parts.Operand) → IsPartBelow n (old_part_read part) → IsCountedOldPart n part
-counted_old n None below = tt
-counted_old n (Some part) below = counted_part n part below
+counted_old : (n : ℕ) (all : List LookupRef) (part : Option parts.Operand) → IsPartBelow n (old_part_read all part) → IsCountedOldPart n part
+counted_old n all None below = tt
+counted_old n all (Some part) below = counted_part n all part below
 
-counted_ask : (n : ℕ) (ask : asks.Ask) → IsAskBelow n (ask_read ask) → AreCounted n ask
-counted_ask n (Adds on attribute part) below = (counted_name n on below.0, counted_part n part below.1)
-counted_ask n (Retracts on attribute part) below = (counted_name n on below.0, counted_part n part below.1)
-counted_ask n (RetractsAll on attribute) below = counted_name n on below
-counted_ask n (Compares on attribute old new) below = (counted_name n on below.0, counted_old n old below.1, counted_part n new below.2)
-counted_ask n (RetractsEntity on) below = counted_name n on below
-counted_ask n (Meets on) below = counted_name n on below
+counted_ask : (n : ℕ) (all : List LookupRef) (ask : asks.Ask) → IsAskBelow n (ask_read all ask) → AreCounted n ask
+counted_ask n all (Adds on attribute part) below = (counted_name n all on below.0, counted_part n all part below.1)
+counted_ask n all (Retracts on attribute part) below = (counted_name n all on below.0, counted_part n all part below.1)
+counted_ask n all (RetractsAll on attribute) below = counted_name n all on below
+counted_ask n all (Compares on attribute old new) below = (counted_name n all on below.0, counted_old n all old below.1, counted_part n all new below.2)
+counted_ask n all (RetractsEntity on) below = counted_name n all on below
+counted_ask n all (Meets on) below = counted_name n all on below
 
-pub counted_asks : (n : ℕ) (xs : List asks.Ask) → Each (IsAskBelow n) (map ask_read xs) → Each (AreCounted n) xs
-counted_asks n [] below = tt
-counted_asks n (ask ∷ xs) below = (counted_ask n ask below.0, counted_asks n xs below.1)
+pub counted_asks : (n : ℕ) (all : List LookupRef) (xs : List asks.Ask) → Each (IsAskBelow n) (map (ask_read all) xs) → Each (AreCounted n) xs
+counted_asks n all [] below = tt
+counted_asks n all (ask ∷ xs) below = (counted_ask n all ask below.0, counted_asks n all xs below.1)
 
 pub kept_below : (n : ℕ) (test : Ask → Bool) (lists : List (List Ask)) → Each (Each (IsAskBelow n)) lists → Each (Each (IsAskBelow n)) (map (filter test) lists)
 kept_below n test [] below = tt

@@ -1,9 +1,13 @@
 pub mod Arguments
 pub mod Cuts
+pub mod LookupLists
+pub mod Results
 pub mod FormMembers
 pub mod MapNames
 pub mod Underscores
 pub mod Nested
+pub mod Telling
+pub mod Vectors
 pub mod LookupRefs
 pub mod Together
 pub mod Renaming

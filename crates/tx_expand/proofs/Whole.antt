@@ -13,7 +13,8 @@ use Rattle.tx_model.specs.Asks as model
 use Rattle.tx_model.specs.Step.{first_yes, first_refusal}
 use Rattle.tx_model.specs.Tempids.{Db}
 use Rattle.tx_model.specs.Walk.{flat}
-use Rattle.tx_asks.specs.Asks.{ask_of, part_of, old_part_of, name_of, matters, IsRead, AreCounted, AreAsks}
+use Rattle.tx_asks.specs.Asks.{Legend, ask_of, part_of, old_part_of, name_of, matters, IsRead, AreCounted, AreAsks}
+use Rattle.tx_asks.specs.declared.asks.LookupRef.{LookupRef}
 use Rattle.tx_asks.specs.declared.asks.Name.{Name}
 use Rattle.tx_asks.specs.declared.asks.Name.TheVariants.{Number, Ident, Lookup, Tempid, Nameless}
 use Rattle.tx_asks.specs.declared.asks.Operand.{Operand}
@@ -29,6 +30,7 @@ use Rattle.tx_expand.specs.Faults.{part_read, old_part_read, ask_read, form_faul
 use Rattle.tx_expand.specs.Rules.{schema_rules, first_unknown, firsts_from, rules_of}
 use Rattle.tx_expand.specs.Walked.{AreExpanded}
 use Rattle.tx_expand.specs.Placed.{placed, part_placed, ask_placed}
+use Rattle.tx_expand.proofs.LookupLists.{placed_lookup}
 use Rattle.tx_expand.proofs.Renaming.{faults_placed, matters_placed}
 use Rattle.tx_expand.proofs.FormsNumbered.{forms_numbered, all_apart, has_all}
 use Rattle.tx_expand.proofs.OneMore.{no_some, append_none}
@@ -124,44 +126,47 @@ module _ (s facts : List Datom) (same : (k : List ℕ) → attribute_named s k �
 
   -- ---- the asks of the program
 
-  name_is : (all : List (List ℕ)) (name : Name) → name_of all name ≡ placed all (name_seen name)
-  name_is all (Number z) = refl
-  name_is all (Ident k) = refl
-  name_is all (Lookup k f) = refl
-  name_is all (Tempid text) = refl
-  name_is all (Nameless n) = refl
+  abbrev legend : List LookupRef → List (List ℕ) → Legend
+  legend refs all = record { lookups = refs; places = all }
 
-  part_is : (all : List (List ℕ)) (part : Operand) → part_of all part ≡ part_placed all (part_read part)
-  part_is all (Plain f v) = refl
-  part_is all (Entity name) = ap model.entity (name_is all name)
+  name_is : (refs : List LookupRef) (all : List (List ℕ)) (name : Name) → name_of (legend refs all) name ≡ placed all (name_seen refs name)
+  name_is refs all (Number z) = refl
+  name_is refs all (Ident k) = refl
+  name_is refs all (Lookup n) = placed_lookup all refs n
+  name_is refs all (Tempid text) = refl
+  name_is refs all (Nameless n) = refl
 
-  old_part_is : (all : List (List ℕ)) (part : Option Operand) → old_part_of all part ≡ part_placed all (old_part_read part)
-  old_part_is all None = refl
-  old_part_is all (Some part) = part_is all part
+  part_is : (refs : List LookupRef) (all : List (List ℕ)) (part : Operand) → part_of (legend refs all) part ≡ part_placed all (part_read refs part)
+  part_is refs all (Plain f v) = refl
+  part_is refs all (Entity name) = ap model.entity (name_is refs all name)
 
-  ask_is : (all : List (List ℕ)) (ask : Ask) → ask_of all ask ≡ ask_placed all (ask_read ask)
-  ask_is all (Adds on attribute part) =
-      ap (λ name. model.adds name attribute.now.ident (part_of all part)) (name_is all on) ∙ ap (model.adds (placed all (name_seen on)) attribute.now.ident) (part_is all part)
-  ask_is all (Retracts on attribute part) =
-      ap (λ name. model.retracts name attribute.now.ident (part_of all part)) (name_is all on) ∙ ap (model.retracts (placed all (name_seen on)) attribute.now.ident) (part_is all part)
-  ask_is all (RetractsAll on attribute) = ap (λ name. model.retracts_all name attribute.now.ident) (name_is all on)
-  ask_is all (Compares on attribute old new) =
-      ap (λ name. model.compares name attribute.now.ident (old_part_of all old) (part_of all new)) (name_is all on)
-      ∙ ap (λ part. model.compares (placed all (name_seen on)) attribute.now.ident part (part_of all new)) (old_part_is all old)
-      ∙ ap (model.compares (placed all (name_seen on)) attribute.now.ident (part_placed all (old_part_read old))) (part_is all new)
-  ask_is all (RetractsEntity on) = ap model.retracts_entity (name_is all on)
-  ask_is all (Meets on) = ap model.meets (name_is all on)
+  old_part_is : (refs : List LookupRef) (all : List (List ℕ)) (part : Option Operand) → old_part_of (legend refs all) part ≡ part_placed all (old_part_read refs part)
+  old_part_is refs all None = refl
+  old_part_is refs all (Some part) = part_is refs all part
 
-  form_is : (all : List (List ℕ)) (xs : List Ask) → map (ask_of all) xs ≡ map (ask_placed all) (map ask_read xs)
-  form_is all [] = refl
-  form_is all (ask ∷ xs) = ap (λ first. first ∷ map (ask_of all) xs) (ask_is all ask) ∙ ap (λ rest. ask_placed all (ask_read ask) ∷ rest) (form_is all xs)
+  ask_is : (refs : List LookupRef) (all : List (List ℕ)) (ask : Ask) → ask_of (legend refs all) ask ≡ ask_placed all (ask_read refs ask)
+  ask_is refs all (Adds on attribute part) =
+      ap (λ name. model.adds name attribute.now.ident (part_of (legend refs all) part)) (name_is refs all on) ∙ ap (model.adds (placed all (name_seen refs on)) attribute.now.ident) (part_is refs all part)
+  ask_is refs all (Retracts on attribute part) =
+      ap (λ name. model.retracts name attribute.now.ident (part_of (legend refs all) part)) (name_is refs all on) ∙ ap (model.retracts (placed all (name_seen refs on)) attribute.now.ident) (part_is refs all part)
+  ask_is refs all (RetractsAll on attribute) = ap (λ name. model.retracts_all name attribute.now.ident) (name_is refs all on)
+  ask_is refs all (Compares on attribute old new) =
+      ap (λ name. model.compares name attribute.now.ident (old_part_of (legend refs all) old) (part_of (legend refs all) new)) (name_is refs all on)
+      ∙ ap (λ part. model.compares (placed all (name_seen refs on)) attribute.now.ident part (part_of (legend refs all) new)) (old_part_is refs all old)
+      ∙ ap (model.compares (placed all (name_seen refs on)) attribute.now.ident (part_placed all (old_part_read refs old))) (part_is refs all new)
+  ask_is refs all (RetractsEntity on) = ap model.retracts_entity (name_is refs all on)
+  ask_is refs all (Meets on) = ap model.meets (name_is refs all on)
 
-  forms_are : (all : List (List ℕ)) (forms : List (Vec Ask Global))
-      → map (λ form. map (ask_of all) form.items) forms ≡ map (map (ask_placed all)) (map (λ form. map ask_read form.items) forms)
-  forms_are all [] = refl
-  forms_are all (form ∷ forms) =
-      ap (λ first. first ∷ map (λ other. map (ask_of all) other.items) forms) (form_is all form.items)
-      ∙ ap (λ rest. map (ask_placed all) (map ask_read form.items) ∷ rest) (forms_are all forms)
+  form_is : (refs : List LookupRef) (all : List (List ℕ)) (xs : List Ask) → map (ask_of (legend refs all)) xs ≡ map (ask_placed all) (map (ask_read refs) xs)
+  form_is refs all [] = refl
+  form_is refs all (ask ∷ xs) = ap (λ first. first ∷ map (ask_of (legend refs all)) xs) (ask_is refs all ask) ∙ ap (λ rest. ask_placed all (ask_read refs ask) ∷ rest) (form_is refs all xs)
+
+  forms_are : (refs : List LookupRef) (all : List (List ℕ)) (forms : List (Vec Ask Global))
+      → map (λ form. map (ask_of (legend refs all)) form.items) forms ≡ map (map (ask_placed all)) (map (λ form. map (ask_read refs) form.items) forms)
+  forms_are refs all [] = refl
+  forms_are refs all (form ∷ forms) =
+      ap (λ first. first ∷ map (λ other. map (ask_of (legend refs all)) other.items) forms) (form_is refs all form.items)
+      ∙ ap (λ rest. map (ask_placed all) (map (ask_read refs) form.items) ∷ rest) (forms_are refs all forms)
 
   read_same : (ask : Ask) → IsRead s ask → IsRead facts ask
   read_same (Adds on attribute part) read = (sym (same attribute.now.ident) ∙ read.0, read.1)
@@ -171,16 +176,16 @@ module _ (s facts : List Datom) (same : (k : List ℕ) → attribute_named s k �
   read_same (RetractsEntity on) read = tt
   read_same (Meets on) read = tt
 
-  all_counted : (n : ℕ) (forms : List (Vec Ask Global)) → Each (Each (IsAskBelow n)) (map (λ form. map ask_read form.items) forms)
+  all_counted : (n : ℕ) (refs : List LookupRef) (forms : List (Vec Ask Global)) → Each (Each (IsAskBelow n)) (map (λ form. map (ask_read refs) form.items) forms)
       → Each (λ form. All (AreCounted n) form.items) forms
-  all_counted n [] below = tt
-  all_counted n (form ∷ forms) below = (all_of_each (AreCounted n) form.items (counted_asks n form.items below.0), all_counted n forms below.1)
+  all_counted n refs [] below = tt
+  all_counted n refs (form ∷ forms) below = (all_of_each (AreCounted n) form.items (counted_asks n refs form.items below.0), all_counted n refs forms below.1)
 
   pub placed_alone : map (map (ask_placed places)) (forms_told s 0 fs) ≡ flat facts fs
   placed_alone = ap (λ all. map (map (ask_placed all)) (forms_told s 0 fs)) (sym (append_none places)) ∙ asks_are []
 
   pub are_asks : (e : Expanded) → AreExpanded s fs e → e.firsts.wrong ≡ None
-      → AreAsks (record { forms = e.forms; nameless = e.nameless; lacking = e.firsts.lacking }) facts (flat facts fs)
+      → AreAsks (record { forms = e.forms; lookups = e.lookups; nameless = e.nameless; lacking = e.firsts.lacking }) facts (flat facts fs)
   are_asks e are right =
       let wrong_none : (firsts_from s 0 (forms_told s 0 fs)).wrong ≡ None = ap (λ firsts. firsts.wrong) (sym are.firsts_are) ∙ right in
       let counts : length places ≡ e.nameless = sym (are.counted ∙ (forms_numbered s 0 0 fs).next ∙ omega arith) in
@@ -189,7 +194,7 @@ module _ (s facts : List Datom) (same : (k : List ℕ) → attribute_named s k �
         apart = all_apart places (forms_numbered s 0 0 fs).apart;
         counted = counts;
         same =
-            forms_are places e.forms.items
+            forms_are e.lookups.items places e.forms.items
             ∙ ap (map (map (ask_placed places))) (are.asks_are ∙ all_matter 0 (forms_told s 0 fs) are.known wrong_none)
             ∙ filters_placed places (forms_told s 0 fs)
             ∙ ap (map (filter matters)) placed_alone;
@@ -197,7 +202,7 @@ module _ (s facts : List Datom) (same : (k : List ℕ) → attribute_named s k �
         names_counted =
             subst (λ n. All (λ form. All (AreCounted n) form.items) e.forms.items) counts
             (all_of_each (λ form. All (AreCounted (length places)) form.items) e.forms.items
-            (all_counted (length places) e.forms.items
+            (all_counted (length places) e.lookups.items e.forms.items
             (subst (λ lists. Each (Each (IsAskBelow (length places))) lists) (sym are.asks_are)
             (kept_below (length places) (is_kept s) (forms_told s 0 fs)
             (lists_below places (forms_told s 0 fs) (λ more. asks_are more ∙ sym placed_alone))))));

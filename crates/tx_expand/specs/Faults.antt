@@ -12,6 +12,7 @@ use Rattle.fb_model.specs.Schema.{attribute_named}
 use Rattle.tx_model.specs.Asks as model
 use Rattle.tx_model.specs.Asks.{names_of, attribute_of_ask}
 use Rattle.tx_model.specs.NameRules.{lookups_from, is_unknown, has_unknown_lookup, names_no_attribute, is_protected, adds_reserved_ident, has_wrong_part, is_wrong_lookup, has_wrong_lookup, has_other_lookup, attribute_in, is_lacking}
+use Rattle.tx_asks.specs.declared.asks.LookupRef.{LookupRef}
 use Rattle.tx_asks.specs.declared.asks.Operand.{Operand}
 use Rattle.tx_asks.specs.declared.asks.Operand.TheVariants.{Plain, Entity}
 use Rattle.tx_asks.specs.declared.asks.Ask.{Ask}
@@ -65,6 +66,11 @@ lookups_faults facts refs =
 abbrev pub lookups_inside : List Datom → Option (List ℕ × Form) → List (List ℕ × Form)
 lookups_inside facts None = []
 lookups_inside facts (Some ref) = lookups_from facts ref.0 ref.1
+
+-- of a lookup ref of the program
+abbrev pub ref_faults : List Datom → LookupRef → NameFaults
+ref_faults facts ref =
+    lookups_faults facts (lookups_from facts ref.attribute.now (form_of ref.value.now))
 
 abbrev pub names_faults : List Datom → List model.Name → NameFaults
 names_faults facts names =
@@ -134,34 +140,36 @@ form_faults facts asks =
 abbrev pub is_kept : List Datom → model.Ask → Bool
 is_kept facts ask = matters ask && not (is_of_unknown facts ask || has_wrong_value facts ask)
 
-abbrev pub part_read : Operand → model.Operand
-part_read (Plain f v) = model.plain (form_of f.now)
-part_read (Entity name) = model.entity (name_seen name)
+abbrev pub part_read : List LookupRef → Operand → model.Operand
+part_read all (Plain f v) = model.plain (form_of f.now)
+part_read all (Entity name) = model.entity (name_seen all name)
 
 -- nil as the old value of a cas
-abbrev pub old_part_read : Option Operand → model.Operand
-old_part_read None = model.plain edn.nil
-old_part_read (Some part) = part_read part
+abbrev pub old_part_read : List LookupRef → Option Operand → model.Operand
+old_part_read all None = model.plain edn.nil
+old_part_read all (Some part) = part_read all part
 
-abbrev pub ask_read : Ask → model.Ask
-ask_read (Adds on attribute part) = model.adds (name_seen on) attribute.now.ident (part_read part)
-ask_read (Retracts on attribute part) =
-    model.retracts (name_seen on) attribute.now.ident (part_read part)
-ask_read (RetractsAll on attribute) = model.retracts_all (name_seen on) attribute.now.ident
-ask_read (Compares on attribute old new) =
-    model.compares (name_seen on) attribute.now.ident (old_part_read old) (part_read new)
-ask_read (RetractsEntity on) = model.retracts_entity (name_seen on)
-ask_read (Meets on) = model.meets (name_seen on)
+abbrev pub ask_read : List LookupRef → Ask → model.Ask
+ask_read all (Adds on attribute part) =
+    model.adds (name_seen all on) attribute.now.ident (part_read all part)
+ask_read all (Retracts on attribute part) =
+    model.retracts (name_seen all on) attribute.now.ident (part_read all part)
+ask_read all (RetractsAll on attribute) = model.retracts_all (name_seen all on) attribute.now.ident
+ask_read all (Compares on attribute old new) =
+    model.compares (name_seen all on) attribute.now.ident (old_part_read all old)
+    (part_read all new)
+ask_read all (RetractsEntity on) = model.retracts_entity (name_seen all on)
+ask_read all (Meets on) = model.meets (name_seen all on)
 
--- what became of an ask
-abbrev pub Settles : List Datom → model.Ask → Settled → Type 0
-Settles facts m (Stands ask) =
+-- what became of an ask, where these are the lookup refs of the transaction
+abbrev pub Settles : List Datom → List LookupRef → model.Ask → Settled → Type 0
+Settles facts all m (Stands ask) =
     (matters m ≡ true)
     × (is_of_unknown facts m ≡ false)
     × (has_wrong_value facts m ≡ false)
-    × (ask_read ask ≡ m)
+    × (ask_read all ask ≡ m)
     × IsRead facts ask
-Settles facts m Wrong = (is_of_unknown facts m ≡ false) × (has_wrong_value facts m ≡ true)
-Settles facts m Unknown = (is_of_unknown facts m ≡ true) × (has_wrong_value facts m ≡ false)
-Settles facts m Mere =
+Settles facts all m Wrong = (is_of_unknown facts m ≡ false) × (has_wrong_value facts m ≡ true)
+Settles facts all m Unknown = (is_of_unknown facts m ≡ true) × (has_wrong_value facts m ≡ false)
+Settles facts all m Mere =
     (matters m ≡ false) × (is_of_unknown facts m ≡ false) × (has_wrong_value facts m ≡ false)

@@ -1,6 +1,7 @@
 pub mod Seen
 pub mod Known
 pub mod Numbered
+pub mod Tells
 pub mod Texts
 pub mod Faults
 pub mod Rules

@@ -14,7 +14,8 @@ use Rattle.tx_expand.specs.Rules.{first_unknown, firsts_from}
 pub record AreExpanded (facts : List Datom) (fs : List Form) (expanded : Expanded) : Type 0 where
   pub known : first_unknown facts 0 (forms_told facts 0 fs) ≡ None
   pub firsts_are : expanded.firsts ≡ firsts_from facts 0 (forms_told facts 0 fs)
-  pub asks_are : map (λ form. map ask_read form.items) expanded.forms.items
+  pub asks_are :
+      map (λ form. map (ask_read expanded.lookups.items) form.items) expanded.forms.items
       ≡ map (filter (is_kept facts)) (forms_told facts 0 fs)
   pub read : All (λ form. All (IsRead facts) form.items) expanded.forms.items
   pub counted : expanded.nameless ≡ next_behind facts 0 fs

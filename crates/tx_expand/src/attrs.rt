@@ -1,6 +1,7 @@
 //! Attributes, looked up by their keywords once, and what the schema says of them.
-ghost use Rattle.std.specs.Prelude.{◌≡◌, ◌++◌, ◌∷◌, [], IfOk};
+ghost use Rattle.std.specs.Prelude.{◌≡◌, ◌++◌, ◌∷◌, [], List, IfOk};
 ghost use Rattle.tx_model.specs.Walk as model;
+ghost use Rattle.tx_asks.specs.declared.asks.LookupRef.{LookupRef as model_LookupRef};
 ghost use Rattle.tx_expand.specs.Seen.{word_of, out_seen, raw_seen};
 ghost use Rattle.tx_expand.specs.Known.{HaveOwnNames, IsLookedUp, IsAskLookedUp, AreLookedUp};
 
@@ -79,8 +80,9 @@ pub fn has_uniqueness(schema: &Schema, k: &Text) -> bool
 pub fn push<'a>(schema: &Schema, out: &mut Out<'a>, raw: RawAsk<'a>) -> Result<(), Memory>
     requires known { AreLookedUp schema.now out.old }
     requires raw_known { IsAskLookedUp schema.now raw }
-    ensures asks { IfOk result
-        (λ _. out_seen out.new ≡ out_seen out.old ++ raw_seen raw.entry ∷ []) }
+    ensures asks { (all : List model_LookupRef) → IfOk result
+        (λ _. out_seen all out.new ≡ out_seen all out.old ++ raw_seen all raw.entry ∷ []) }
+    ensures lookups { IfOk result (λ _. out.new.lookups ≡ out.old.lookups) }
     ensures next { IfOk result (λ _. out.new.next ≡ out.old.next) }
     ensures known { IfOk result (λ _. AreLookedUp schema.now out.new) }
 {

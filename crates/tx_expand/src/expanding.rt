@@ -49,6 +49,7 @@ pub fn expand<'a>(alloc: Global, forms: Forms<'a>, schema: &'a Schema) -> Result
             Some(refusal) => Err(TxStop::Refused(refusal)),
             None => Ok(Flat {
                 forms: expanded.forms,
+                lookups: expanded.lookups,
                 nameless: expanded.nameless,
                 lacking: expanded.firsts.lacking,
             }),

@@ -1,29 +1,34 @@
 //! The forms of a transaction, one after another.
-ghost use Rattle.std.specs.Prelude.{◌≡◌, map, filter, true, None, IfOk};
+ghost use Rattle.std.specs.Prelude.{◌≡◌, List, map, filter, true, None, IfOk};
 ghost use Rattle.std.specs.List.{All};
 ghost use Rattle.edn_form.specs.View.{form_of, forms_of};
 ghost use Rattle.tx_model.specs.Shapes.{has_shape};
 ghost use Rattle.tx_model.specs.Step.{first_without_shape};
+ghost use Rattle.tx_asks.specs.declared.asks.LookupRef.{LookupRef as model_LookupRef};
 ghost use Rattle.tx_asks.specs.Asks.{IsRead};
 ghost use Rattle.tx_expand.specs.Known.{HaveOwnNames};
 ghost use Rattle.tx_expand.specs.Numbered.{form_told};
-ghost use Rattle.tx_expand.specs.Faults.{form_faults, ask_read, is_kept};
+ghost use Rattle.tx_expand.specs.Seen.{BeginWith};
+ghost use Rattle.tx_expand.specs.Faults.{form_faults, ref_faults, ask_read, is_kept};
 ghost use Rattle.tx_expand.specs.Walked.{IsWalked};
 
+use crate::faults::NameFaults;
 use crate::firsts::{Firsts, NONE, with_faults};
 use crate::judge::{Judged, judge_all};
+use crate::lookups::judge_lookups;
 use crate::raw::Out;
 use crate::walk::form_asks;
 use edn_form::Edn;
 use fb_memory::Memory;
 use fb_schema::Schema;
 use std::alloc::Global;
-use tx_asks::Ask;
+use tx_asks::{Ask, LookupRef};
 
 /// What all forms ask, and the first forms with each fault.
 #[derive(Drop)]
 pub struct Expanded<'a> {
     pub forms: Vec<Vec<Ask<'a>>>,
+    pub lookups: Vec<LookupRef<'a>>,
     pub nameless: usize,
     pub firsts: Firsts,
 }
@@ -41,21 +46,29 @@ fn expand_form<'a>(
     alloc: Global,
     schema: &'a Schema,
     out: &mut Out<'a>,
+    judged: &mut Vec<NameFaults>,
     f: &'a Edn,
 ) -> Result<Judged<'a>, Memory>
     requires own { HaveOwnNames schema.now }
     requires shape { has_shape (form_of f.now) ≡ true }
-    ensures faults { IfOk result (λ judged. judged.faults
+    requires judged { judged.old.items ≡ map (ref_faults schema.now) out.old.lookups.items }
+    ensures faults { IfOk result (λ form. form.faults
         ≡ form_faults schema.now (form_told schema.now out.old.next (form_of f.now)).asks) }
-    ensures asks { IfOk result (λ judged. map ask_read judged.asks.items
+    ensures asks { (all : List model_LookupRef) → BeginWith out.new.lookups.items all
+        → IfOk result (λ form. map (ask_read all) form.asks.items
         ≡ filter (is_kept schema.now) (form_told schema.now out.old.next (form_of f.now)).asks) }
-    ensures read { IfOk result (λ judged. All (IsRead schema.now) judged.asks.items) }
+    ensures read { IfOk result (λ form. All (IsRead schema.now) form.asks.items) }
+    ensures judged { IfOk result
+        (λ _. judged.new.items ≡ map (ref_faults schema.now) out.new.lookups.items) }
+    ensures kept { (all : List model_LookupRef) → BeginWith out.new.lookups.items all
+        → IfOk result (λ _. BeginWith out.old.lookups.items all) }
     ensures next { IfOk result
         (λ _. out.new.next ≡ (form_told schema.now out.old.next (form_of f.now)).next) }
 {
     out.raws.clear();
     form_asks(alloc, schema, out, f)?;
-    judge_all(alloc, schema, out.raws.as_slice())
+    judge_lookups(schema, out.lookups.as_slice(), judged)?;
+    judge_all(alloc, schema, judged, out.raws.as_slice())
 }
 
 /// What the forms ask, which have shapes. A keyword that names no attribute ends the walk.
@@ -71,21 +84,24 @@ pub fn expand_forms<'a>(
     let mut expanded = Vec::with_capacity(alloc, forms.len())?;
     let mut out = Out {
         raws: Vec::new(alloc),
+        lookups: Vec::new(alloc),
         next: 0,
     };
+    let mut judged = Vec::new(alloc);
     let mut firsts = NONE;
     let mut place = 0;
     for f in forms {
-        let judged = expand_form(alloc, schema, &mut out, f)?;
-        if judged.faults.unknown {
+        let form = expand_form(alloc, schema, &mut out, &mut judged, f)?;
+        if form.faults.unknown {
             return Ok(Walked::Unknown(place));
         }
-        firsts = with_faults(firsts, judged.faults, place);
-        expanded.push(judged.asks)?;
+        firsts = with_faults(firsts, form.faults, place);
+        expanded.push(form.asks)?;
         place += 1;
     }
     Ok(Walked::Whole(Expanded {
         forms: expanded,
+        lookups: out.lookups,
         nameless: out.next,
         firsts,
     }))

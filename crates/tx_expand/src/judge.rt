@@ -1,9 +1,12 @@
 //! The asks of a form, judged: those that stand, and what is wrong with any.
-ghost use Rattle.std.specs.Prelude.{◌≡◌, ◌++◌, ◌∷◌, [], map, filter, IfOk};
+ghost use Rattle.std.specs.Prelude.{◌≡◌, ◌++◌, ◌∷◌, [], List, map, filter, IfOk};
 ghost use Rattle.std.specs.List.{All};
 ghost use Rattle.edn_form.specs.View.{form_of};
+ghost use Rattle.fb_values.specs.declared.facts.Datom.{Datom};
 ghost use Rattle.tx_model.specs.Asks as asks;
+ghost use Rattle.tx_model.specs.Asks.{Ask as model_Ask};
 ghost use Rattle.tx_model.specs.NameRules as model;
+ghost use Rattle.tx_asks.specs.declared.asks.LookupRef.{LookupRef as model_LookupRef};
 ghost use Rattle.tx_asks.specs.Asks.{IsRead};
 ghost use Rattle.tx_expand.specs.Seen.{word_of, part_seen, raw_seen};
 ghost use Rattle.tx_expand.specs.Known.{IsLookedUp, IsAskLookedUp};
@@ -32,36 +35,36 @@ pub struct Judged<'a> {
 // ---- lookup refs
 
 #[tactic(auto, using(crate::proofs::LookupRefs::either_none))]
-fn part_faults(schema: &Schema, part: RawPart<'_>) -> Result<NameFaults, Memory>
-    ensures { IfOk result (λ found. found
-        ≡ faults.names_faults schema.now (asks.name_of_part (part_seen part.entry))) }
+fn part_faults(judged: &[NameFaults], part: RawPart<'_>) -> NameFaults
+    ensures { (facts : List Datom) (all : List model_LookupRef)
+        → judged.now ≡ map (faults.ref_faults facts) all
+        → result ≡ faults.names_faults facts (asks.name_of_part (part_seen all part.entry)) }
 {
     match part {
-        RawPart::Plain(_) => Ok(NameFaults::NONE),
-        RawPart::Entity(name) => name_faults(schema, name),
+        RawPart::Plain(_) => NameFaults::NONE,
+        RawPart::Entity(name) => name_faults(judged, name),
     }
 }
 
 /// What is wrong with the lookup refs in the names of the ask.
 #[tactic(auto, using(crate::proofs::LookupRefs::either_none, crate::proofs::LookupRefs::faults_behind))]
-fn names_faults(schema: &Schema, raw: &RawAsk<'_>) -> Result<NameFaults, Memory>
-    ensures { IfOk result
-        (λ found. found ≡ faults.names_faults schema.now (asks.names_of (raw_seen raw.now))) }
+fn names_faults(judged: &[NameFaults], raw: &RawAsk<'_>) -> NameFaults
+    ensures { (facts : List Datom) (all : List model_LookupRef)
+        → judged.now ≡ map (faults.ref_faults facts) all
+        → result ≡ faults.names_faults facts (asks.names_of (raw_seen all raw.now)) }
 {
     match raw {
-        RawAsk::Adds(on, _, part) => Ok(name_faults(schema, *on)?.or(part_faults(schema, *part)?)),
-        RawAsk::Retracts(on, _, part) => {
-            Ok(name_faults(schema, *on)?.or(part_faults(schema, *part)?))
-        }
+        RawAsk::Adds(on, _, part) => name_faults(judged, *on).or(part_faults(judged, *part)),
+        RawAsk::Retracts(on, _, part) => name_faults(judged, *on).or(part_faults(judged, *part)),
         RawAsk::Compares(on, _, old, new) => {
-            let values = part_faults(schema, *old)?.or(part_faults(schema, *new)?);
-            Ok(name_faults(schema, *on)?.or(values))
+            let values = part_faults(judged, *old).or(part_faults(judged, *new));
+            name_faults(judged, *on).or(values)
         }
-        RawAsk::RetractsAll(on, _) => name_faults(schema, *on),
-        RawAsk::RetractsEntity(on) => name_faults(schema, *on),
-        RawAsk::Meets(on) => name_faults(schema, *on),
-        RawAsk::Mentions(_) => Ok(NameFaults::NONE),
-        RawAsk::LacksId => Ok(NameFaults::NONE),
+        RawAsk::RetractsAll(on, _) => name_faults(judged, *on),
+        RawAsk::RetractsEntity(on) => name_faults(judged, *on),
+        RawAsk::Meets(on) => name_faults(judged, *on),
+        RawAsk::Mentions(_) => NameFaults::NONE,
+        RawAsk::LacksId => NameFaults::NONE,
     }
 }
 
@@ -97,7 +100,8 @@ fn is_reserved_form(f: &Edn) -> bool
 }
 
 fn is_reserved_part(part: RawPart<'_>) -> bool
-    ensures { result ≡ model.is_reserved_part (part_seen part.entry) }
+    ensures { (all : List model_LookupRef)
+        → result ≡ model.is_reserved_part (part_seen all part.entry) }
 {
     match part {
         RawPart::Plain(f) => is_reserved_form(f),
@@ -108,7 +112,8 @@ fn is_reserved_part(part: RawPart<'_>) -> bool
 /// Whether the ask is of the attribute that the database sets, or adds an ident that the database keeps for itself.
 fn is_of_protected(schema: &Schema, raw: &RawAsk<'_>) -> bool
     requires { IsAskLookedUp schema.now raw.now }
-    ensures { result ≡ faults.is_of_protected schema.now (raw_seen raw.now) }
+    ensures { (all : List model_LookupRef)
+        → result ≡ faults.is_of_protected schema.now (raw_seen all raw.now) }
 {
     match raw {
         RawAsk::Adds(_, attr, part) => {
@@ -126,9 +131,9 @@ fn is_of_protected(schema: &Schema, raw: &RawAsk<'_>) -> bool
 
 // ---- one ask
 
-fn is_unknown(_schema: &Schema, _raw: &RawAsk<'_>, settled: &Settled<'_>) -> bool
-    requires { Settles _schema.now (raw_seen _raw.now) settled.now }
-    ensures { result ≡ faults.is_of_unknown _schema.now (raw_seen _raw.now) }
+fn is_unknown(settled: &Settled<'_>) -> bool
+    ensures { (facts : List Datom) (all : List model_LookupRef) (ask : model_Ask)
+        → Settles facts all ask settled.now → result ≡ faults.is_of_unknown facts ask }
 {
     match settled {
         Settled::Unknown => true,
@@ -138,9 +143,9 @@ fn is_unknown(_schema: &Schema, _raw: &RawAsk<'_>, settled: &Settled<'_>) -> boo
     }
 }
 
-fn is_wrong(_schema: &Schema, _raw: &RawAsk<'_>, settled: &Settled<'_>) -> bool
-    requires { Settles _schema.now (raw_seen _raw.now) settled.now }
-    ensures { result ≡ faults.has_wrong_value _schema.now (raw_seen _raw.now) }
+fn is_wrong(settled: &Settled<'_>) -> bool
+    ensures { (facts : List Datom) (all : List model_LookupRef) (ask : model_Ask)
+        → Settles facts all ask settled.now → result ≡ faults.has_wrong_value facts ask }
 {
     match settled {
         Settled::Wrong => true,
@@ -151,7 +156,7 @@ fn is_wrong(_schema: &Schema, _raw: &RawAsk<'_>, settled: &Settled<'_>) -> bool
 }
 
 fn is_lacking(raw: &RawAsk<'_>) -> bool
-    ensures { result ≡ model.is_lacking (raw_seen raw.now) }
+    ensures { (all : List model_LookupRef) → result ≡ model.is_lacking (raw_seen all raw.now) }
 {
     match raw {
         RawAsk::LacksId => true,
@@ -160,17 +165,15 @@ fn is_lacking(raw: &RawAsk<'_>) -> bool
 }
 
 /// Keeps an ask that stands.
-fn keep<'a>(
-    _schema: &Schema,
-    _raw: &RawAsk<'a>,
-    settled: Settled<'a>,
-    asks: &mut Vec<Ask<'a>>,
-) -> Result<(), Memory>
-    requires settled { Settles _schema.now (raw_seen _raw.now) settled }
-    requires read { All (IsRead _schema.now) asks.old.items }
-    ensures asks { IfOk result (λ _. map ask_read asks.new.items
-        ≡ map ask_read asks.old.items ++ filter (is_kept _schema.now) (raw_seen _raw.now ∷ [])) }
-    ensures read { IfOk result (λ _. All (IsRead _schema.now) asks.new.items) }
+fn keep<'a>(settled: Settled<'a>, asks: &mut Vec<Ask<'a>>) -> Result<(), Memory>
+    ensures asks { (facts : List Datom) (all : List model_LookupRef) (ask : model_Ask)
+        → Settles facts all ask settled.entry
+        → IfOk result (λ _. map (ask_read all) asks.new.items
+        ≡ map (ask_read all) asks.old.items ++ filter (is_kept facts) (ask ∷ [])) }
+    ensures read { (facts : List Datom) (all : List model_LookupRef) (ask : model_Ask)
+        → Settles facts all ask settled.entry
+        → All (IsRead facts) asks.old.items
+        → IfOk result (λ _. All (IsRead facts) asks.new.items) }
 {
     match settled {
         Settled::Stands(ask) => {
@@ -183,20 +186,28 @@ fn keep<'a>(
     }
 }
 
-fn judge<'a>(schema: &Schema, raw: &RawAsk<'a>, asks: &mut Vec<Ask<'a>>) -> Result<Faults, Memory>
+fn judge<'a>(
+    schema: &Schema,
+    judged: &[NameFaults],
+    raw: &RawAsk<'a>,
+    asks: &mut Vec<Ask<'a>>,
+) -> Result<Faults, Memory>
     requires known { IsAskLookedUp schema.now raw.now }
     requires read { All (IsRead schema.now) asks.old.items }
-    ensures faults { IfOk result
-        (λ found. found ≡ faults.ask_faults schema.now (raw_seen raw.now)) }
-    ensures asks { IfOk result (λ _. map ask_read asks.new.items
-        ≡ map ask_read asks.old.items ++ filter (is_kept schema.now) (raw_seen raw.now ∷ [])) }
+    ensures faults { (all : List model_LookupRef)
+        → judged.now ≡ map (faults.ref_faults schema.now) all
+        → IfOk result (λ found. found ≡ faults.ask_faults schema.now (raw_seen all raw.now)) }
+    ensures asks { (all : List model_LookupRef) → IfOk result
+        (λ _. map (ask_read all) asks.new.items
+        ≡ map (ask_read all) asks.old.items
+        ++ filter (is_kept schema.now) (raw_seen all raw.now ∷ [])) }
     ensures read { IfOk result (λ _. All (IsRead schema.now) asks.new.items) }
 {
-    let names = names_faults(schema, raw)?;
+    let names = names_faults(judged, raw);
     let settled = settle(schema, raw)?;
-    let unknown = is_unknown(schema, raw, &settled);
-    let wrong = is_wrong(schema, raw, &settled);
-    keep(schema, raw, settled, asks)?;
+    let unknown = is_unknown(&settled);
+    let wrong = is_wrong(&settled);
+    keep(settled, asks)?;
     Ok(Faults {
         unknown: unknown || names.unknown,
         protected: is_of_protected(schema, raw),
@@ -206,24 +217,28 @@ fn judge<'a>(schema: &Schema, raw: &RawAsk<'a>, asks: &mut Vec<Ask<'a>>) -> Resu
     })
 }
 
-/// The asks of a form, judged.
+/// The asks of a form, judged, where these are the faults of the transaction's lookup refs so far.
 #[tactic(auto, using(crate::proofs::Together::either_of_none, crate::proofs::Together::faults_then))]
 pub fn judge_all<'a>(
     alloc: Global,
     schema: &Schema,
+    judged: &[NameFaults],
     raws: &[RawAsk<'a>],
 ) -> Result<Judged<'a>, Memory>
     requires known { All (IsAskLookedUp schema.now) raws.now }
-    ensures faults { IfOk result
-        (λ judged. judged.faults ≡ faults.form_faults schema.now (map raw_seen raws.now)) }
-    ensures asks { IfOk result (λ judged. map ask_read judged.asks.items
-        ≡ filter (is_kept schema.now) (map raw_seen raws.now)) }
-    ensures read { IfOk result (λ judged. All (IsRead schema.now) judged.asks.items) }
+    ensures faults { (all : List model_LookupRef)
+        → judged.now ≡ map (faults.ref_faults schema.now) all
+        → IfOk result
+        (λ form. form.faults ≡ faults.form_faults schema.now (map (raw_seen all) raws.now)) }
+    ensures asks { (all : List model_LookupRef) → IfOk result
+        (λ form. map (ask_read all) form.asks.items
+        ≡ filter (is_kept schema.now) (map (raw_seen all) raws.now)) }
+    ensures read { IfOk result (λ form. All (IsRead schema.now) form.asks.items) }
 {
     let mut asks = Vec::with_capacity(alloc, raws.len())?;
     let mut faults = Faults::NONE;
     for raw in raws {
-        faults = faults.or(judge(schema, raw, &mut asks)?);
+        faults = faults.or(judge(schema, judged, raw, &mut asks)?);
     }
     Ok(Judged { asks, faults })
 }

@@ -1,23 +1,42 @@
 //! What one value under a key asks: the map's entity has it, or the entity that is the value has the map's.
-ghost use Rattle.std.specs.Prelude.{◌≡◌, [], ◌++◌, false, None, IfOk};
+ghost use Rattle.std.specs.Prelude.{◌≡◌, [], ◌∷◌, ◌++◌, List, false, None, IfOk};
 ghost use Rattle.edn_model.specs.Form as edn;
 ghost use Rattle.edn_form.specs.View.{form_of, forms_of, pairs_of, members, entries};
+ghost use Rattle.fb_values.specs.declared.facts.Datom.{Datom};
 ghost use Rattle.tx_model.specs.Asks as asks;
 ghost use Rattle.tx_model.specs.Walk as model;
-ghost use Rattle.tx_expand.specs.Seen.{name_seen, link_seen, part_seen, out_seen};
-ghost use Rattle.tx_expand.specs.Known.{HaveOwnNames, IsLinkLookedUp, AreLookedUp};
-ghost use Rattle.tx_expand.specs.Numbered.{name_at, behind, is_collection as is_model_collection, takes_maps as takes_model_maps, lacks, entry_asks};
+ghost use Rattle.tx_asks.specs.declared.asks.LookupRef.{LookupRef as model_LookupRef};
+ghost use Rattle.tx_expand.specs.Seen.{BeginWith, name_seen, link_seen, part_seen, raw_seen, out_seen};
+ghost use Rattle.tx_expand.specs.Known.{HaveOwnNames, IsLinkLookedUp, IsAskLookedUp, AreLookedUp};
+ghost use Rattle.tx_expand.specs.Tells.{Tells};
+ghost use Rattle.tx_expand.specs.Numbered.{told, name_at, behind, is_collection as is_model_collection, takes_maps as takes_model_maps, lacks, entry_asks};
 
 use crate::attrs::{has_many, has_parts, has_ref, has_uniqueness, is_unique, push};
 use crate::lists::scalar;
-use crate::names::{link_in, name_of_map};
+use crate::names::{link_in, looked_up, name_of_map};
 use crate::raw::{Link, Out, RawAsk, RawPart};
 use edn_form::{Edn, Items, Pairs};
 use fb_memory::Memory;
 use fb_schema::Schema;
 use std::alloc::Global;
-use tx_asks::Name;
+use tx_asks::{LookupRef, Name};
 use tx_forms::lookup_in;
+
+/// What one value under a key asks.
+fn linked<'a>(this: Name<'a>, link: &Link<'a>, part: RawPart<'a>) -> Result<RawAsk<'a>, Memory>
+    ensures ask { (all : List model_LookupRef) → IfOk result (λ raw. raw_seen all raw ∷ []
+        ≡ model.links (name_seen all this.entry) (link_seen link.now) (part_seen all part.entry)) }
+    ensures known { (facts : List Datom) → IsLinkLookedUp facts link.now
+        → IfOk result (λ raw. IsAskLookedUp facts raw) }
+{
+    match link {
+        Link::Forward(attr) => Ok(RawAsk::Adds(this, attr.copy()?, part)),
+        Link::Backward(attr) => match part {
+            RawPart::Entity(other) => Ok(RawAsk::Adds(other, attr.copy()?, RawPart::Entity(this))),
+            RawPart::Plain(_) => Ok(RawAsk::Adds(this, attr.copy()?, part)),
+        },
+    }
+}
 
 /// One value under a key.
 pub fn link<'a>(
@@ -29,20 +48,29 @@ pub fn link<'a>(
 ) -> Result<(), Memory>
     requires link_known { IsLinkLookedUp schema.now link.now }
     requires known { AreLookedUp schema.now out.old }
-    ensures asks { IfOk result (λ _. out_seen out.new
-        ≡ out_seen out.old
-        ++ model.links (name_seen this.entry) (link_seen link.now) (part_seen part.entry)) }
+    ensures asks { (all : List model_LookupRef) → IfOk result (λ _. out_seen all out.new
+        ≡ out_seen all out.old
+        ++ model.links (name_seen all this.entry) (link_seen link.now) (part_seen all part.entry)) }
+    ensures lookups { IfOk result (λ _. out.new.lookups ≡ out.old.lookups) }
     ensures next { IfOk result (λ _. out.new.next ≡ out.old.next) }
     ensures known { IfOk result (λ _. AreLookedUp schema.now out.new) }
 {
-    match link {
-        Link::Forward(attr) => push(schema, out, RawAsk::Adds(this, attr.copy()?, part)),
-        Link::Backward(attr) => match part {
-            RawPart::Entity(other) => {
-                let back = RawPart::Entity(this);
-                push(schema, out, RawAsk::Adds(other, attr.copy()?, back))
-            }
-            RawPart::Plain(_) => push(schema, out, RawAsk::Adds(this, attr.copy()?, part)),
+    let raw = linked(this, link, part)?;
+    push(schema, out, raw)
+}
+
+/// What a value under a key is that is no vector, list, set or map.
+fn scalar_part<'a>(schema: &Schema, key: &Link<'a>, f: &'a Edn) -> RawPart<'a>
+    requires { IsLinkLookedUp schema.now key.now }
+    ensures { (all : List model_LookupRef) (name : asks.Name)
+        → model.links name (link_seen key.now) (part_seen all result)
+        ≡ model.scalar_asks schema.now name (link_seen key.now) (form_of f.now) }
+{
+    match key {
+        Link::Forward(attr) => scalar(has_ref(schema, attr), f),
+        Link::Backward(_) => match f {
+            Edn::Int(n) => RawPart::Entity(Name::Number(*n)),
+            _ => scalar(true, f),
         },
     }
 }
@@ -57,20 +85,15 @@ pub fn scalar_link<'a>(
 ) -> Result<(), Memory>
     requires link_known { IsLinkLookedUp schema.now key.now }
     requires known { AreLookedUp schema.now out.old }
-    ensures asks { IfOk result (λ _. out_seen out.new
-        ≡ out_seen out.old
-        ++ model.scalar_asks schema.now (name_seen this.entry) (link_seen key.now)
+    ensures asks { (all : List model_LookupRef) → IfOk result (λ _. out_seen all out.new
+        ≡ out_seen all out.old
+        ++ model.scalar_asks schema.now (name_seen all this.entry) (link_seen key.now)
         (form_of f.now)) }
+    ensures lookups { IfOk result (λ _. out.new.lookups ≡ out.old.lookups) }
     ensures next { IfOk result (λ _. out.new.next ≡ out.old.next) }
     ensures known { IfOk result (λ _. AreLookedUp schema.now out.new) }
 {
-    match key {
-        Link::Forward(attr) => link(schema, out, this, key, scalar(has_ref(schema, attr), f)),
-        Link::Backward(_) => match f {
-            Edn::Int(n) => link(schema, out, this, key, RawPart::Entity(Name::Number(*n))),
-            _ => link(schema, out, this, key, scalar(true, f)),
-        },
-    }
+    link(schema, out, this, key, scalar_part(schema, key, f))
 }
 
 // ---- vectors and lists
@@ -105,7 +128,38 @@ pub fn takes_several<'a>(schema: &Schema, key: &Link<'a>) -> bool
     }
 }
 
-/// What a vector asks that is no collection: a lookup ref, or no value.
+/// What a vector under a key is that is no collection: a lookup ref, or no value.
+fn vector_part<'a>(
+    schema: &Schema,
+    lookups: &mut Vec<LookupRef<'a>>,
+    key: &Link<'a>,
+    f: &'a Edn,
+    items: &'a Items,
+) -> Result<RawPart<'a>, Memory>
+    requires vector { form_of f.now ≡ edn.vector (edn.forms (forms_of (members items.now))) }
+    requires alone { is_model_collection schema.now (link_seen key.now)
+        (asks.lookup_in (edn.forms (forms_of (members items.now))))
+        ≡ false }
+    requires link_known { IsLinkLookedUp schema.now key.now }
+    ensures part { (all : List model_LookupRef) → BeginWith lookups.new.items all
+        → IfOk result (λ part. (name : asks.Name)
+        → model.links name (link_seen key.now) (part_seen all part)
+        ≡ model.vector_asks schema.now name (link_seen key.now)
+        (edn.forms (forms_of (members items.now)))
+        (asks.lookup_in (edn.forms (forms_of (members items.now)))) []) }
+    ensures kept { (all : List model_LookupRef) → BeginWith lookups.new.items all
+        → IfOk result (λ _. BeginWith lookups.old.items all) }
+{
+    match lookup_in(items) {
+        Some((k, value)) => match key {
+            Link::Forward(attr) if !has_ref(schema, attr) => Ok(RawPart::Plain(f)),
+            _ => Ok(RawPart::Entity(looked_up(lookups, k, value)?)),
+        },
+        None => Ok(RawPart::Plain(f)),
+    }
+}
+
+/// What a vector asks that is no collection.
 pub fn vector_link<'a>(
     schema: &Schema,
     out: &mut Out<'a>,
@@ -120,31 +174,14 @@ pub fn vector_link<'a>(
         ≡ false }
     requires link_known { IsLinkLookedUp schema.now key.now }
     requires known { AreLookedUp schema.now out.old }
-    ensures asks { IfOk result (λ _. out_seen out.new
-        ≡ out_seen out.old
-        ++ model.vector_asks schema.now (name_seen this.entry) (link_seen key.now)
+    ensures told { IfOk result (λ _. Tells out.old out.new (λ all.
+        told (model.vector_asks schema.now (name_seen all this.entry) (link_seen key.now)
         (edn.forms (forms_of (members items.now)))
-        (asks.lookup_in (edn.forms (forms_of (members items.now)))) []) }
-    ensures next { IfOk result (λ _. out.new.next ≡ out.old.next) }
+        (asks.lookup_in (edn.forms (forms_of (members items.now)))) []) out.old.next)) }
     ensures known { IfOk result (λ _. AreLookedUp schema.now out.new) }
 {
-    match lookup_in(items) {
-        Some((k, value)) => {
-            let found = RawPart::Entity(Name::Lookup(k, value));
-            match key {
-                Link::Forward(attr) => {
-                    let part = if has_ref(schema, attr) {
-                        found
-                    } else {
-                        RawPart::Plain(f)
-                    };
-                    link(schema, out, this, key, part)
-                }
-                Link::Backward(_) => link(schema, out, this, key, found),
-            }
-        }
-        None => link(schema, out, this, key, RawPart::Plain(f)),
-    }
+    let part = vector_part(schema, &mut out.lookups, key, f, items)?;
+    link(schema, out, this, key, part)
 }
 
 /// What a vector asks that is a member of a collection: a lookup ref, or no value.
@@ -159,14 +196,12 @@ pub fn member_link<'a>(
     requires vector { form_of f.now ≡ edn.vector (edn.forms (forms_of (members items.now))) }
     requires link_known { IsLinkLookedUp schema.now key.now }
     requires known { AreLookedUp schema.now out.old }
-    ensures asks { IfOk result (λ _. out_seen out.new
-        ≡ out_seen out.old
-        ++ model.vector_asks schema.now (name_seen this.entry) (link_seen key.now)
+    ensures told { IfOk result (λ _. Tells out.old out.new (λ all.
+        told (model.vector_asks schema.now (name_seen all this.entry) (link_seen key.now)
         (edn.forms (forms_of (members items.now)))
         (asks.lookup_in (edn.forms (forms_of (members items.now))))
-        (model.links (name_seen this.entry) (link_seen key.now)
-        (asks.plain (edn.vector (edn.forms (forms_of (members items.now))))))) }
-    ensures next { IfOk result (λ _. out.new.next ≡ out.old.next) }
+        (model.links (name_seen all this.entry) (link_seen key.now)
+        (asks.plain (edn.vector (edn.forms (forms_of (members items.now))))))) out.old.next)) }
     ensures known { IfOk result (λ _. AreLookedUp schema.now out.new) }
 {
     if is_collection(schema, key, items) {
@@ -224,25 +259,30 @@ pub fn lacks_id<'a>(
 }
 
 /// The number of the next map without `:db/id`, behind one whose entity has this name.
+#[tactic(auto, using(crate::proofs::LookupLists::behind_lookup))]
 fn number_behind(name: Name<'_>, next: usize) -> Result<usize, Memory>
-    ensures { IfOk result (λ n. n ≡ behind (name_seen name.entry) next) }
+    ensures { (all : List model_LookupRef)
+        → IfOk result (λ n. n ≡ behind (name_seen all name.entry) next) }
 {
     match name {
         // No memory has room for as many maps as there are numbers.
         Name::Nameless(_) => next.checked_add(1).ok_or(Memory),
-        _ => Ok(next),
+        Name::Number(_) | Name::Ident(_) | Name::Lookup(_) | Name::Tempid(_) => Ok(next),
     }
 }
 
 /// The map's entity: the one that it names by `:db/id`, or the next of those that have none.
 pub fn enter<'a>(out: &mut Out<'a>, pairs: &'a Pairs) -> Result<Name<'a>, Memory>
-    ensures name { IfOk result
-        (λ name. name_seen name ≡ name_at out.old.next (edn.pairs (pairs_of (entries pairs.now)))) }
+    ensures name { (all : List model_LookupRef) → BeginWith out.new.lookups.items all
+        → IfOk result
+        (λ name. name_seen all name ≡ name_at out.old.next (edn.pairs (pairs_of (entries pairs.now)))) }
+    ensures kept { (all : List model_LookupRef) → BeginWith out.new.lookups.items all
+        → IfOk result (λ _. BeginWith out.old.lookups.items all) }
     ensures next { IfOk result (λ _. out.new.next
         ≡ behind (name_at out.old.next (edn.pairs (pairs_of (entries pairs.now)))) out.old.next) }
     ensures raws { IfOk result (λ _. out.new.raws ≡ out.old.raws) }
 {
-    let name = name_of_map(pairs, out.next);
+    let name = name_of_map(&mut out.lookups, pairs, out.next)?;
     out.next = number_behind(name, out.next)?;
     Ok(name)
 }
@@ -261,7 +301,9 @@ pub fn takes_maps<'a>(schema: &Schema, key: &Link<'a>) -> bool
 /// Says that a map lacks what it needs, if it does.
 fn push_lack(schema: &Schema, out: &mut Out<'_>, lacks: bool) -> Result<(), Memory>
     requires known { AreLookedUp schema.now out.old }
-    ensures asks { IfOk result (λ _. out_seen out.new ≡ out_seen out.old ++ model.need lacks) }
+    ensures asks { (all : List model_LookupRef) → IfOk result
+        (λ _. out_seen all out.new ≡ out_seen all out.old ++ model.need lacks) }
+    ensures lookups { IfOk result (λ _. out.new.lookups ≡ out.old.lookups) }
     ensures next { IfOk result (λ _. out.new.next ≡ out.old.next) }
     ensures known { IfOk result (λ _. AreLookedUp schema.now out.new) }
 {
@@ -283,14 +325,13 @@ pub fn enter_nested<'a>(
     requires own { HaveOwnNames schema.now }
     requires link_known { IsLinkLookedUp schema.now key.now }
     requires known { AreLookedUp schema.now out.old }
-    ensures name { IfOk result
-        (λ name. name_seen name ≡ name_at out.old.next (edn.pairs (pairs_of (entries pairs.now)))) }
-    ensures next { IfOk result (λ _. out.new.next
-        ≡ behind (name_at out.old.next (edn.pairs (pairs_of (entries pairs.now)))) out.old.next) }
-    ensures asks { IfOk result (λ _. out_seen out.new
-        ≡ out_seen out.old
-        ++ entry_asks schema.now (name_seen this.entry) (link_seen key.now) out.old.next
-        (edn.pairs (pairs_of (entries pairs.now)))) }
+    ensures name { (all : List model_LookupRef) → BeginWith out.new.lookups.items all
+        → IfOk result
+        (λ name. name_seen all name ≡ name_at out.old.next (edn.pairs (pairs_of (entries pairs.now)))) }
+    ensures told { IfOk result (λ _. Tells out.old out.new (λ all.
+        told (entry_asks schema.now (name_seen all this.entry) (link_seen key.now) out.old.next
+        (edn.pairs (pairs_of (entries pairs.now))))
+        (behind (name_at out.old.next (edn.pairs (pairs_of (entries pairs.now)))) out.old.next))) }
     ensures known { IfOk result (λ _. AreLookedUp schema.now out.new) }
 {
     let lacks = lacks_id(alloc, schema, key, pairs)?;

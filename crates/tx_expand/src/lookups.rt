@@ -1,5 +1,5 @@
-//! What is wrong with the lookup refs in a name.
-ghost use Rattle.std.specs.Prelude.{◌≡◌, Some, IfOk};
+//! What is wrong with lookup refs: each is judged once, and all names take what was found.
+ghost use Rattle.std.specs.Prelude.{◌≡◌, ◌≤◌, ◌++◌, List, length, drop, map, slice_index_or, Some, IfOk};
 ghost use Rattle.edn_model.specs.Form as edn;
 ghost use Rattle.edn_form.specs.View.{form_of, forms_of, members};
 ghost use Rattle.fb_numbers.specs.Numbers.{type_ref};
@@ -8,8 +8,10 @@ ghost use Rattle.fb_schema.specs.Parts.{attribute_in};
 ghost use Rattle.tx_model.specs.Asks as asks;
 ghost use Rattle.tx_model.specs.NameRules as model;
 ghost use Rattle.tx_model.specs.Values.{value_in};
+ghost use Rattle.tx_asks.specs.declared.asks.LookupRef.{LookupRef as model_LookupRef};
+ghost use Rattle.fb_values.specs.declared.facts.Datom.{Datom};
 ghost use Rattle.tx_expand.specs.Seen.{name_seen};
-ghost use Rattle.tx_expand.specs.Faults.{lookup_faults, lookups_faults, lookups_inside};
+ghost use Rattle.tx_expand.specs.Faults.{no_name_faults, lookup_faults, lookups_faults, lookups_inside, ref_faults};
 
 use crate::faults::NameFaults;
 use edn_form::{Edn, Items};
@@ -18,7 +20,7 @@ use fb_memory::Memory;
 use fb_schema::{Attribute, Schema};
 use fb_text::Text;
 use fb_values::Value;
-use tx_asks::Name;
+use tx_asks::{LookupRef, Name};
 use tx_forms::lookup_in;
 
 /// The plain value that the form is under the attribute, if it is one: an entity is none.
@@ -116,13 +118,42 @@ fn faults_of_pair(schema: &Schema, items: &Items) -> Result<NameFaults, Memory>
     }
 }
 
-/// What is wrong with the lookup refs in the name.
-pub fn name_faults(schema: &Schema, name: Name<'_>) -> Result<NameFaults, Memory>
-    ensures { IfOk result (λ faults. faults
-        ≡ lookups_faults schema.now (model.lookups_in schema.now (name_seen name.entry))) }
+/// Judges the lookup refs behind those that are judged.
+pub fn judge_lookups(
+    schema: &Schema,
+    lookups: &[LookupRef<'_>],
+    judged: &mut Vec<NameFaults>,
+) -> Result<(), Memory>
+    requires { length judged.old.items ≤ length lookups.now }
+    ensures { IfOk result (λ _. judged.new.items
+        ≡ judged.old.items
+        ++ map (ref_faults schema.now) (drop (length judged.old.items) lookups.now)) }
+{
+    let behind = &lookups[judged.len()..];
+    for lookup in behind {
+        judged.push(faults_from(schema, lookup.attribute, lookup.value)?)?;
+    }
+    Ok(())
+}
+
+fn faults_at(judged: &[NameFaults], n: usize) -> NameFaults
+    ensures { result ≡ slice_index_or judged.now n no_name_faults }
+{
+    match judged.get(n) {
+        Some(found) => *found,
+        None => NameFaults::NONE,
+    }
+}
+
+/// What is wrong with the lookup refs in the name, where these are the faults of the transaction's lookup refs.
+#[tactic(auto, using(crate::proofs::LookupLists::found_at))]
+pub fn name_faults(judged: &[NameFaults], name: Name<'_>) -> NameFaults
+    ensures { (facts : List Datom) (all : List model_LookupRef)
+        → judged.now ≡ map (ref_faults facts) all
+        → result ≡ lookups_faults facts (model.lookups_in facts (name_seen all name.entry)) }
 {
     match name {
-        Name::Lookup(k, value) => faults_from(schema, k, value),
-        _ => Ok(NameFaults::NONE),
+        Name::Lookup(n) => faults_at(judged, n),
+        _ => NameFaults::NONE,
     }
 }

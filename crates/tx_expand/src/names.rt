@@ -7,7 +7,8 @@ ghost use Rattle.fb_model.specs.Words as words;
 ghost use Rattle.tx_model.specs.Asks as asks;
 ghost use Rattle.tx_model.specs.Shapes as shapes;
 ghost use Rattle.tx_model.specs.Walk as walk;
-ghost use Rattle.tx_expand.specs.Seen.{name_seen, word_of, link_seen, key_seen};
+ghost use Rattle.tx_asks.specs.declared.asks.LookupRef.{LookupRef as model_LookupRef};
+ghost use Rattle.tx_expand.specs.Seen.{BeginWith, name_seen, word_of, link_seen, key_seen};
 ghost use Rattle.tx_expand.specs.Known.{HaveOwnNames, IsLookedUp, IsLinkLookedUp, IsKeyLookedUp};
 ghost use Rattle.tx_expand.specs.Numbered.{name_at};
 ghost use Rattle.tx_expand.specs.Texts.{cut_at_slash, other_key};
@@ -20,32 +21,55 @@ use fb_memory::Memory;
 use fb_schema::Schema;
 use fb_text::Text;
 use std::alloc::Global;
-use tx_asks::Name;
+use tx_asks::{LookupRef, Name};
 use tx_forms::{is_id, lookup_in};
 
+/// The entity that the lookup ref names, which is kept as one more.
+pub fn looked_up<'a>(
+    lookups: &mut Vec<LookupRef<'a>>,
+    attribute: &'a Text,
+    value: &'a Edn,
+) -> Result<Name<'a>, Memory>
+    ensures name { (all : List model_LookupRef) → BeginWith lookups.new.items all
+        → IfOk result (λ name. name_seen all name ≡ asks.lookup attribute.now (form_of value.now)) }
+    ensures kept { (all : List model_LookupRef) → BeginWith lookups.new.items all
+        → IfOk result (λ _. BeginWith lookups.old.items all) }
+{
+    let name = Name::Lookup(lookups.len());
+    lookups.push(LookupRef { attribute, value })?;
+    Ok(name)
+}
+
 /// The entity that a form names, in a place where a tempid may stand.
-pub fn name_in<'a>(f: &'a Edn) -> Option<Name<'a>>
-    ensures { option_map name_seen result ≡ asks.name_in (form_of f.now) }
+pub fn name_in<'a>(lookups: &mut Vec<LookupRef<'a>>, f: &'a Edn) -> Result<Option<Name<'a>>, Memory>
+    ensures name { (all : List model_LookupRef) → BeginWith lookups.new.items all
+        → IfOk result
+        (λ name. option_map (name_seen all) name ≡ asks.name_in (form_of f.now)) }
+    ensures kept { (all : List model_LookupRef) → BeginWith lookups.new.items all
+        → IfOk result (λ _. BeginWith lookups.old.items all) }
 {
     match f {
-        Edn::Int(n) => Some(Name::Number(*n)),
-        Edn::Key(k) => Some(Name::Ident(k)),
-        Edn::Str(s) => Some(Name::Tempid(s)),
+        Edn::Int(n) => Ok(Some(Name::Number(*n))),
+        Edn::Key(k) => Ok(Some(Name::Ident(k))),
+        Edn::Str(s) => Ok(Some(Name::Tempid(s))),
         Edn::Vector(items) => match lookup_in(items) {
-            Some((k, value)) => Some(Name::Lookup(k, value)),
-            None => None,
+            Some((k, value)) => Ok(Some(looked_up(lookups, k, value)?)),
+            None => Ok(None),
         },
-        _ => None,
+        _ => Ok(None),
     }
 }
 
 /// The entity that the form names, as its shape says that it does.
-pub fn entity_in<'a>(f: &'a Edn) -> Name<'a>
+pub fn entity_in<'a>(lookups: &mut Vec<LookupRef<'a>>, f: &'a Edn) -> Result<Name<'a>, Memory>
     requires { shapes.names_an_entity (form_of f.now) ≡ true }
-    ensures { name_seen result ≡ walk.entity_in (form_of f.now) }
+    ensures name { (all : List model_LookupRef) → BeginWith lookups.new.items all
+        → IfOk result (λ name. name_seen all name ≡ walk.entity_in (form_of f.now)) }
+    ensures kept { (all : List model_LookupRef) → BeginWith lookups.new.items all
+        → IfOk result (λ _. BeginWith lookups.old.items all) }
 {
-    match name_in(f) {
-        Some(name) => name,
+    match name_in(lookups, f)? {
+        Some(name) => Ok(name),
         None => unreachable!(),
     }
 }
@@ -66,24 +90,43 @@ pub fn attribute_in<'a>(schema: &'a Schema, f: &Edn) -> Result<Attr<'a>, Memory>
 // ---- the entity of a map
 
 /// The name that a pair of `:db/id` gives.
-fn named_by<'a>(key: &Edn, value: &'a Edn) -> Option<Name<'a>>
-    ensures { (other : asks.Name)
-        → unwrap_or (option_map name_seen result) other
-        ≡ walk.named_by (asks.key_in (form_of key.now)) (form_of value.now) other }
+fn named_by<'a>(
+    lookups: &mut Vec<LookupRef<'a>>,
+    key: &Edn,
+    value: &'a Edn,
+) -> Result<Option<Name<'a>>, Memory>
+    ensures name { (all : List model_LookupRef) → BeginWith lookups.new.items all
+        → IfOk result (λ name. (other : asks.Name)
+        → unwrap_or (option_map (name_seen all) name) other
+        ≡ walk.named_by (asks.key_in (form_of key.now)) (form_of value.now) other) }
+    ensures kept { (all : List model_LookupRef) → BeginWith lookups.new.items all
+        → IfOk result (λ _. BeginWith lookups.old.items all) }
 {
-    if is_id(key) { name_in(value) } else { None }
+    if is_id(key) {
+        name_in(lookups, value)
+    } else {
+        Ok(None)
+    }
 }
 
 /// The entity that the map names by `:db/id`, or the next one without it.
-pub fn name_of_map<'a>(pairs: &'a Pairs, next: usize) -> Name<'a>
-    ensures { name_seen result ≡ name_at next (edn.pairs (pairs_of (entries pairs.now))) }
+pub fn name_of_map<'a>(
+    lookups: &mut Vec<LookupRef<'a>>,
+    pairs: &'a Pairs,
+    next: usize,
+) -> Result<Name<'a>, Memory>
+    ensures name { (all : List model_LookupRef) → BeginWith lookups.new.items all
+        → IfOk result
+        (λ name. name_seen all name ≡ name_at next (edn.pairs (pairs_of (entries pairs.now)))) }
+    ensures kept { (all : List model_LookupRef) → BeginWith lookups.new.items all
+        → IfOk result (λ _. BeginWith lookups.old.items all) }
 {
     for (key, value) in pairs.as_slice() {
-        if let Some(name) = named_by(key, value) {
-            return name;
+        if let Some(name) = named_by(lookups, key, value)? {
+            return Ok(name);
         }
     }
-    Name::Nameless(next)
+    Ok(Name::Nameless(next))
 }
 
 // ---- the keys of maps

@@ -5,7 +5,7 @@ use edn_form::Edn;
 use fb_memory::Memory;
 use fb_schema::Attribute;
 use fb_text::Text;
-use tx_asks::Name;
+use tx_asks::{LookupRef, Name};
 
 /// A keyword in an attribute's place.
 #[derive(Drop)]
@@ -50,10 +50,12 @@ pub enum RawAsk<'a> {
     LacksId,
 }
 
-/// What a form asks so far, and the number of the next map without `:db/id`.
+/// What a form asks so far, the lookup refs of this form and of those before it, and the number of the next map without
+/// `:db/id`.
 #[derive(Drop)]
 pub struct Out<'a> {
     pub raws: Vec<RawAsk<'a>>,
+    pub lookups: Vec<LookupRef<'a>>,
     pub next: usize,
 }
 

@@ -1,9 +1,10 @@
 //! What becomes of an ask: it stands, with its values read, or something is wrong with it.
-ghost use Rattle.std.specs.Prelude.{◌≡◌, true, false, Some, option_map, MatchOption, IfOk};
+ghost use Rattle.std.specs.Prelude.{◌≡◌, List, true, false, Some, option_map, MatchOption, IfOk};
 ghost use Rattle.edn_form.specs.View.{form_of};
 ghost use Rattle.fb_schema.specs.Parts.{attribute_in};
 ghost use Rattle.tx_model.specs.Asks as asks;
 ghost use Rattle.tx_model.specs.NameRules as model;
+ghost use Rattle.tx_asks.specs.declared.asks.LookupRef.{LookupRef as model_LookupRef};
 ghost use Rattle.tx_asks.specs.Asks.{IsReadPart, IsReadOldPart};
 ghost use Rattle.tx_expand.specs.Seen.{name_seen, word_of, part_seen, raw_seen};
 ghost use Rattle.tx_expand.specs.Known.{IsLookedUp, IsAskLookedUp};
@@ -30,10 +31,10 @@ pub enum Settled<'a> {
 
 /// The part with its value read, if it is one of the attribute.
 fn read_part<'a>(attribute: &Attribute, part: RawPart<'a>) -> Result<Option<Operand<'a>>, Memory>
-    ensures { IfOk result (λ read. MatchOption read
-        (model.is_wrong_part (attribute_in attribute.now) (part_seen part.entry) ≡ true)
-        (λ r. (model.is_wrong_part (attribute_in attribute.now) (part_seen part.entry) ≡ false)
-        × (part_read r ≡ part_seen part.entry)
+    ensures { (all : List model_LookupRef) → IfOk result (λ read. MatchOption read
+        (model.is_wrong_part (attribute_in attribute.now) (part_seen all part.entry) ≡ true)
+        (λ r. (model.is_wrong_part (attribute_in attribute.now) (part_seen all part.entry) ≡ false)
+        × (part_read all r ≡ part_seen all part.entry)
         × IsReadPart attribute.now r)) }
 {
     match part {
@@ -55,10 +56,10 @@ fn read_old<'a>(
     attribute: &Attribute,
     part: RawPart<'a>,
 ) -> Result<Option<Option<Operand<'a>>>, Memory>
-    ensures { IfOk result (λ read. MatchOption read
-        (model.is_wrong_old_part (attribute_in attribute.now) (part_seen part.entry) ≡ true)
-        (λ r. (model.is_wrong_old_part (attribute_in attribute.now) (part_seen part.entry) ≡ false)
-        × (old_part_read r ≡ part_seen part.entry)
+    ensures { (all : List model_LookupRef) → IfOk result (λ read. MatchOption read
+        (model.is_wrong_old_part (attribute_in attribute.now) (part_seen all part.entry) ≡ true)
+        (λ r. (model.is_wrong_old_part (attribute_in attribute.now) (part_seen all part.entry) ≡ false)
+        × (old_part_read all r ≡ part_seen all part.entry)
         × IsReadOldPart attribute.now r)) }
 {
     match part {
@@ -81,11 +82,11 @@ fn read_old_form<'a>(
     attribute: &Attribute,
     f: &'a Edn,
 ) -> Result<Option<Option<Operand<'a>>>, Memory>
-    ensures { IfOk result (λ read. MatchOption read
+    ensures { (all : List model_LookupRef) → IfOk result (λ read. MatchOption read
         (model.is_wrong_old_part (attribute_in attribute.now) (asks.plain (form_of f.now)) ≡ true)
         (λ r. (model.is_wrong_old_part (attribute_in attribute.now) (asks.plain (form_of f.now))
         ≡ false)
-        × (old_part_read r ≡ asks.plain (form_of f.now))
+        × (old_part_read all r ≡ asks.plain (form_of f.now))
         × IsReadOldPart attribute.now r)) }
 {
     match f {
@@ -104,8 +105,8 @@ fn settle_addition<'a>(
     part: RawPart<'a>,
 ) -> Result<Settled<'a>, Memory>
     requires { IsLookedUp _schema.now attr.now }
-    ensures { IfOk result (λ settled. Settles _schema.now
-        (asks.adds (name_seen on.entry) (word_of attr.now) (part_seen part.entry)) settled) }
+    ensures { (all : List model_LookupRef) → IfOk result (λ settled. Settles _schema.now all
+        (asks.adds (name_seen all on.entry) (word_of attr.now) (part_seen all part.entry)) settled) }
 {
     let Attr::Known(attribute) = attr else {
         return Ok(Settled::Unknown);
@@ -127,8 +128,8 @@ fn settle_retraction<'a>(
     part: RawPart<'a>,
 ) -> Result<Settled<'a>, Memory>
     requires { IsLookedUp _schema.now attr.now }
-    ensures { IfOk result (λ settled. Settles _schema.now
-        (asks.retracts (name_seen on.entry) (word_of attr.now) (part_seen part.entry)) settled) }
+    ensures { (all : List model_LookupRef) → IfOk result (λ settled. Settles _schema.now all
+        (asks.retracts (name_seen all on.entry) (word_of attr.now) (part_seen all part.entry)) settled) }
 {
     let Attr::Known(attribute) = attr else {
         return Ok(Settled::Unknown);
@@ -151,9 +152,9 @@ fn settle_comparison<'a>(
     new: RawPart<'a>,
 ) -> Result<Settled<'a>, Memory>
     requires { IsLookedUp _schema.now attr.now }
-    ensures { IfOk result (λ settled. Settles _schema.now
-        (asks.compares (name_seen on.entry) (word_of attr.now) (part_seen old.entry)
-        (part_seen new.entry))
+    ensures { (all : List model_LookupRef) → IfOk result (λ settled. Settles _schema.now all
+        (asks.compares (name_seen all on.entry) (word_of attr.now) (part_seen all old.entry)
+        (part_seen all new.entry))
         settled) }
 {
     let Attr::Known(attribute) = attr else {
@@ -176,7 +177,8 @@ fn settle_comparison<'a>(
 /// What becomes of the ask.
 pub fn settle<'a>(schema: &Schema, raw: &RawAsk<'a>) -> Result<Settled<'a>, Memory>
     requires { IsAskLookedUp schema.now raw.now }
-    ensures { IfOk result (λ settled. Settles schema.now (raw_seen raw.now) settled) }
+    ensures { (all : List model_LookupRef)
+        → IfOk result (λ settled. Settles schema.now all (raw_seen all raw.now) settled) }
 {
     match raw {
         RawAsk::Adds(on, attr, part) => settle_addition(schema, *on, attr, *part),

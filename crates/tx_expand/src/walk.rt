@@ -1,12 +1,13 @@
 //! The walk over a form: what it asks, in the order in which a reader meets it.
-ghost use Rattle.std.specs.Prelude.{◌≡◌, ◌++◌, true, IfOk};
+ghost use Rattle.std.specs.Prelude.{◌≡◌, true, IfOk};
 ghost use Rattle.edn_model.specs.Form as edn;
 ghost use Rattle.edn_form.specs.View.{form_of, forms_of, pairs_of, members, entries};
 ghost use Rattle.tx_model.specs.Shapes as shapes;
 ghost use Rattle.tx_model.specs.Walk as model;
-ghost use Rattle.tx_expand.specs.Seen.{name_seen, link_seen, out_seen};
+ghost use Rattle.tx_expand.specs.Seen.{name_seen, link_seen};
 ghost use Rattle.tx_expand.specs.Known.{HaveOwnNames, IsLinkLookedUp, AreLookedUp};
-ghost use Rattle.tx_expand.specs.Numbered.{map_told, pair_told, value_told, members_told, member_told, form_told};
+ghost use Rattle.tx_expand.specs.Numbered.{told, map_told, pair_told, value_told, members_told, member_told, form_told};
+ghost use Rattle.tx_expand.specs.Tells.{Tells};
 
 use crate::attrs::{has_ref, push};
 use crate::links::{
@@ -33,18 +34,15 @@ fn map_asks<'a>(
 ) -> Result<(), Memory>
     requires own { HaveOwnNames schema.now }
     requires known { AreLookedUp schema.now out.old }
-    ensures asks { IfOk result (λ _. out_seen out.new
-        ≡ out_seen out.old
-        ++ (map_told schema.now (name_seen this.entry) out.old.next
-        (edn.pairs (pairs_of (entries pairs.now)))).asks) }
-    ensures next { IfOk result (λ _. out.new.next
-        ≡ (map_told schema.now (name_seen this.entry) out.old.next
-        (edn.pairs (pairs_of (entries pairs.now)))).next) }
+    ensures told { IfOk result (λ _. Tells out.old out.new (λ all.
+        map_told schema.now (name_seen all this.entry) out.old.next
+        (edn.pairs (pairs_of (entries pairs.now))))) }
     ensures known { IfOk result (λ _. AreLookedUp schema.now out.new) }
 {
     for (key, value) in pairs.as_slice() {
-        if let Some(link) = link_in(alloc, schema, key)? {
-            pair_asks(alloc, schema, out, this, &link, value)?;
+        let link = link_in(alloc, schema, key)?;
+        if let Some(link) = &link {
+            pair_asks(alloc, schema, out, this, link, value)?;
         }
     }
     Ok(())
@@ -63,15 +61,10 @@ fn pair_asks<'a>(
     requires own { HaveOwnNames schema.now }
     requires link_known { IsLinkLookedUp schema.now key.now }
     requires known { AreLookedUp schema.now out.old }
-    ensures asks { IfOk result (λ _. out_seen out.new
-        ≡ out_seen out.old
-        ++ (pair_told schema.now (name_seen this.entry) (link_seen key.now) out.old.next
-        (value_told schema.now (name_seen this.entry) (link_seen key.now) out.old.next
-        (form_of value.now))).asks) }
-    ensures next { IfOk result (λ _. out.new.next
-        ≡ (pair_told schema.now (name_seen this.entry) (link_seen key.now) out.old.next
-        (value_told schema.now (name_seen this.entry) (link_seen key.now) out.old.next
-        (form_of value.now))).next) }
+    ensures told { IfOk result (λ _. Tells out.old out.new (λ all.
+        pair_told schema.now (name_seen all this.entry) (link_seen key.now) out.old.next
+        (value_told schema.now (name_seen all this.entry) (link_seen key.now) out.old.next
+        (form_of value.now)))) }
     ensures known { IfOk result (λ _. AreLookedUp schema.now out.new) }
 {
     match key {
@@ -103,13 +96,9 @@ fn value_asks<'a>(
     requires own { HaveOwnNames schema.now }
     requires link_known { IsLinkLookedUp schema.now key.now }
     requires known { AreLookedUp schema.now out.old }
-    ensures asks { IfOk result (λ _. out_seen out.new
-        ≡ out_seen out.old
-        ++ (value_told schema.now (name_seen this.entry) (link_seen key.now) out.old.next
-        (form_of f.now)).asks) }
-    ensures next { IfOk result (λ _. out.new.next
-        ≡ (value_told schema.now (name_seen this.entry) (link_seen key.now) out.old.next
-        (form_of f.now)).next) }
+    ensures told { IfOk result (λ _. Tells out.old out.new (λ all.
+        value_told schema.now (name_seen all this.entry) (link_seen key.now) out.old.next
+        (form_of f.now))) }
     ensures known { IfOk result (λ _. AreLookedUp schema.now out.new) }
 {
     match f {
@@ -150,13 +139,9 @@ fn members_asks<'a>(
     requires own { HaveOwnNames schema.now }
     requires link_known { IsLinkLookedUp schema.now key.now }
     requires known { AreLookedUp schema.now out.old }
-    ensures asks { IfOk result (λ _. out_seen out.new
-        ≡ out_seen out.old
-        ++ (members_told schema.now (name_seen this.entry) (link_seen key.now) out.old.next
-        (edn.forms (forms_of (members items.now)))).asks) }
-    ensures next { IfOk result (λ _. out.new.next
-        ≡ (members_told schema.now (name_seen this.entry) (link_seen key.now) out.old.next
-        (edn.forms (forms_of (members items.now)))).next) }
+    ensures told { IfOk result (λ _. Tells out.old out.new (λ all.
+        members_told schema.now (name_seen all this.entry) (link_seen key.now) out.old.next
+        (edn.forms (forms_of (members items.now))))) }
     ensures known { IfOk result (λ _. AreLookedUp schema.now out.new) }
 {
     for f in items.as_slice() {
@@ -178,13 +163,9 @@ fn member_asks<'a>(
     requires own { HaveOwnNames schema.now }
     requires link_known { IsLinkLookedUp schema.now key.now }
     requires known { AreLookedUp schema.now out.old }
-    ensures asks { IfOk result (λ _. out_seen out.new
-        ≡ out_seen out.old
-        ++ (member_told schema.now (name_seen this.entry) (link_seen key.now) out.old.next
-        (form_of f.now)).asks) }
-    ensures next { IfOk result (λ _. out.new.next
-        ≡ (member_told schema.now (name_seen this.entry) (link_seen key.now) out.old.next
-        (form_of f.now)).next) }
+    ensures told { IfOk result (λ _. Tells out.old out.new (λ all.
+        member_told schema.now (name_seen all this.entry) (link_seen key.now) out.old.next
+        (form_of f.now))) }
     ensures known { IfOk result (λ _. AreLookedUp schema.now out.new) }
 {
     match f {
@@ -207,13 +188,12 @@ fn list_asks<'a>(schema: &'a Schema, out: &mut Out<'a>, items: &'a Items) -> Res
     requires shape { shapes.has_list_shape (edn.items (edn.forms (forms_of (members items.now))))
         ≡ true }
     requires known { AreLookedUp schema.now out.old }
-    ensures asks { IfOk result (λ _. out_seen out.new
-        ≡ out_seen out.old
-        ++ model.verb_asks schema.now (edn.items (edn.forms (forms_of (members items.now))))) }
-    ensures next { IfOk result (λ _. out.new.next ≡ out.old.next) }
+    ensures told { IfOk result (λ _. Tells out.old out.new (λ _.
+        told (model.verb_asks schema.now (edn.items (edn.forms (forms_of (members items.now)))))
+        out.old.next)) }
     ensures known { IfOk result (λ _. AreLookedUp schema.now out.new) }
 {
-    let raw = list_ask(schema, items.as_slice())?;
+    let raw = list_ask(schema, &mut out.lookups, items.as_slice())?;
     push(schema, out, raw)
 }
 
@@ -227,10 +207,8 @@ pub fn form_asks<'a>(
     requires own { HaveOwnNames schema.now }
     requires shape { shapes.has_shape (form_of f.now) ≡ true }
     requires known { AreLookedUp schema.now out.old }
-    ensures asks { IfOk result (λ _. out_seen out.new
-        ≡ out_seen out.old ++ (form_told schema.now out.old.next (form_of f.now)).asks) }
-    ensures next { IfOk result
-        (λ _. out.new.next ≡ (form_told schema.now out.old.next (form_of f.now)).next) }
+    ensures told { IfOk result (λ _. Tells out.old out.new (λ _.
+        form_told schema.now out.old.next (form_of f.now))) }
     ensures known { IfOk result (λ _. AreLookedUp schema.now out.new) }
 {
     match f {

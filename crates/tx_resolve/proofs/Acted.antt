@@ -19,7 +19,7 @@ use Rattle.tx_asks.specs.declared.asks.Operand as asks
 use Rattle.tx_asks.specs.declared.asks.Operand.TheVariants as part
 use Rattle.tx_asks.specs.declared.asks.Ask.{Ask}
 use Rattle.tx_asks.specs.declared.asks.Ask.TheVariants as ask
-use Rattle.tx_asks.specs.Asks.{name_of, part_of, old_part_of, ask_of, AreApart}
+use Rattle.tx_asks.specs.Asks.{Legend, name_of, part_of, old_part_of, ask_of, AreApart}
 use Rattle.tx_asks.specs.Acts as acts
 use Rattle.tx_asks.specs.Acts.{act_of, old_value_of, IsSettled}
 use Rattle.tx_resolve.specs.declared.whom.Tempid.{Tempid}
@@ -38,12 +38,12 @@ use Rattle.tx_resolve.proofs.Options.{none_not}
 use Rattle.tx_resolve.proofs.Places.{name_in, IsMeant, is_same_tempid-name_in}
 use Rattle.tx_resolve.proofs.Relates.{IsWhom, IsPart, IsOldPart, Relates}
 
-abbrev pub names_in : List (List ℕ) → List (Tempid × ℕ) → List (model.Name × ℕ)
-names_in places pairs = map (λ (pair : Tempid × ℕ). (name_in places pair.0, pair.1)) pairs
+abbrev pub names_in : Legend → List (Tempid × ℕ) → List (model.Name × ℕ)
+names_in legend pairs = map (λ (pair : Tempid × ℕ). (name_in legend pair.0, pair.1)) pairs
 
-abbrev pub PairsAreMeant : List (List ℕ) → List (Tempid × ℕ) → Type 0
-PairsAreMeant places [] = ⊤
-PairsAreMeant places (pair ∷ pairs) = IsMeant places pair.0 × PairsAreMeant places pairs
+abbrev pub PairsAreMeant : Legend → List (Tempid × ℕ) → Type 0
+PairsAreMeant legend [] = ⊤
+PairsAreMeant legend (pair ∷ pairs) = IsMeant legend pair.0 × PairsAreMeant legend pairs
 
 -- each of the tempids has an entity
 abbrev pub Have : List (Tempid × ℕ) → List Tempid → Type 0
@@ -62,60 +62,60 @@ old_value_read : (db : Db) (names : List (model.Name × ℕ)) (a : schema.Attrib
 old_value_read db names a edn.nil v is = none_not is
 old_value_read db names a f v is = is
 
-module _ (places : List (List ℕ)) (apart : AreApart places) (db : Db) (pairs : List (Tempid × ℕ)) (meant : PairsAreMeant places pairs) where
-  assigned_in : (ps : List (Tempid × ℕ)) → PairsAreMeant places ps → (t : Tempid) → IsMeant places t → assigned_to (names_in places ps) (name_in places t) ≡ entity_for ps t
+module _ (legend : Legend) (apart : AreApart legend.places) (db : Db) (pairs : List (Tempid × ℕ)) (meant : PairsAreMeant legend pairs) where
+  assigned_in : (ps : List (Tempid × ℕ)) → PairsAreMeant legend ps → (t : Tempid) → IsMeant legend t → assigned_to (names_in legend ps) (name_in legend t) ≡ entity_for ps t
   assigned_in [] all t is = refl
   assigned_in (p ∷ ps) all t is =
-      ap (λ b. cond b (Some p.1) (assigned_to (names_in places ps) (name_in places t))) (is_same_tempid-name_in places apart p.0 t all.0 is)
+      ap (λ b. cond b (Some p.1) (assigned_to (names_in legend ps) (name_in legend t))) (is_same_tempid-name_in legend apart p.0 t all.0 is)
       ∙ ap (cond (is_same p.0 t) (Some p.1)) (assigned_in ps all.1 t is)
 
-  tempid_entity : (t : Tempid) → IsMeant places t → entity_of db (names_in places pairs) (name_in places t) ≡ entity_for pairs t
+  tempid_entity : (t : Tempid) → IsMeant legend t → entity_of db (names_in legend pairs) (name_in legend t) ≡ entity_for pairs t
   tempid_entity (Named s) is =
-      ap (λ b. cond b (Some (transaction_of (basis db.history + 1))) (assigned_to (names_in places pairs) (model.tempid s))) is
+      ap (λ b. cond b (Some (transaction_of (basis db.history + 1))) (assigned_to (names_in legend pairs) (model.tempid s))) is
       ∙ assigned_in pairs meant (Named s) is
   tempid_entity (Nameless n) is = assigned_in pairs meant (Nameless n) is
 
-  whom_entity : (n : model.Name) (w : Whom) → IsWhom places db n w → entity_of db (names_in places pairs) n ≡ drafts.entity_of pairs w
-  whom_entity n (Known e) is = is.1 (names_in places pairs)
-  whom_entity n (New t) is = ap (entity_of db (names_in places pairs)) is.0 ∙ tempid_entity t is.1
+  whom_entity : (n : model.Name) (w : Whom) → IsWhom legend db n w → entity_of db (names_in legend pairs) n ≡ drafts.entity_of pairs w
+  whom_entity n (Known e) is = is.1 (names_in legend pairs)
+  whom_entity n (New t) is = ap (entity_of db (names_in legend pairs)) is.0 ∙ tempid_entity t is.1
 
-  part_value : (a : Attribute) (p : asks.Operand) (q : Operand) → IsPart places db a p q → value_of_part db (names_in places pairs) (attribute_in a) (part_of places p) ≡ drafts.value_of pairs q
+  part_value : (a : Attribute) (p : asks.Operand) (q : Operand) → IsPart legend db a p q → value_of_part db (names_in legend pairs) (attribute_in a) (part_of legend p) ≡ drafts.value_of pairs q
   part_value a (part.Plain f v) (Plain w) is = is
-  part_value a (part.Entity x) (Entity w) is = ap (option_map Ref) (whom_entity (name_of places x) w is)
+  part_value a (part.Entity x) (Entity w) is = ap (option_map Ref) (whom_entity (name_of legend x) w is)
   part_value a p q is = absurd is
 
-  old_part_value : (a : Attribute) (p : Option asks.Operand) (q : Option Operand) → IsOldPart places db a p q
-      → old_value_of db (names_in places pairs) (attribute_in a) (old_part_of places p) ≡ drafts.old_value_of pairs q
+  old_part_value : (a : Attribute) (p : Option asks.Operand) (q : Option Operand) → IsOldPart legend db a p q
+      → old_value_of db (names_in legend pairs) (attribute_in a) (old_part_of legend p) ≡ drafts.old_value_of pairs q
   old_part_value a None None is = refl
-  old_part_value a (Some (part.Plain f v)) (Some (Plain w)) is = old_value_read db (names_in places pairs) (attribute_in a) (form_of f.now) w is
-  old_part_value a (Some (part.Entity x)) (Some (Entity w)) is = ap (option_map Ref) (whom_entity (name_of places x) w is)
+  old_part_value a (Some (part.Plain f v)) (Some (Plain w)) is = old_value_read db (names_in legend pairs) (attribute_in a) (form_of f.now) w is
+  old_part_value a (Some (part.Entity x)) (Some (Entity w)) is = ap (option_map Ref) (whom_entity (name_of legend x) w is)
   old_part_value a p q is = absurd is
 
   -- an act with a value
   valued : (act : ℕ → schema.Attribute → Value → acts.Act) (n : model.Name) (w : Whom) (asked : List ℕ) (a : Attribute) (p : asks.Operand) (q : Operand)
-      → IsWhom places db n w → attribute_named db.facts asked ≡ Some (attribute_in a) → IsPart places db a p q
-      → option_and_then (λ e. option_and_then (λ (b : schema.Attribute). option_map (act e b) (value_of_part db (names_in places pairs) b (part_of places p))) (attribute_named db.facts asked)) (entity_of db (names_in places pairs) n)
+      → IsWhom legend db n w → attribute_named db.facts asked ≡ Some (attribute_in a) → IsPart legend db a p q
+      → option_and_then (λ e. option_and_then (λ (b : schema.Attribute). option_map (act e b) (value_of_part db (names_in legend pairs) b (part_of legend p))) (attribute_named db.facts asked)) (entity_of db (names_in legend pairs) n)
       ≡ option_and_then (λ e. option_map (act e (attribute_in a)) (drafts.value_of pairs q)) (drafts.entity_of pairs w)
   valued act n w asked a p q whom named_is is =
-      ap (λ o. option_and_then (λ e. option_and_then (λ (b : schema.Attribute). option_map (act e b) (value_of_part db (names_in places pairs) b (part_of places p))) o) (entity_of db (names_in places pairs) n)) named_is
-      ∙ ap (λ v. option_and_then (λ e. option_map (act e (attribute_in a)) v) (entity_of db (names_in places pairs) n)) (part_value a p q is)
+      ap (λ o. option_and_then (λ e. option_and_then (λ (b : schema.Attribute). option_map (act e b) (value_of_part db (names_in legend pairs) b (part_of legend p))) o) (entity_of db (names_in legend pairs) n)) named_is
+      ∙ ap (λ v. option_and_then (λ e. option_map (act e (attribute_in a)) v) (entity_of db (names_in legend pairs) n)) (part_value a p q is)
       ∙ ap (option_and_then (λ e. option_map (act e (attribute_in a)) (drafts.value_of pairs q))) (whom_entity n w whom)
 
-  pub ask_act : (x : Ask) (d : Draft) → Relates places db x d → act_of db (names_in places pairs) (ask_of places x) ≡ drafts.act_of pairs d
-  ask_act (ask.Adds on asked p) (draft.Adds w a q holder) r = valued acts.adds (name_of places on) w asked.now.ident a.now p q r.0 r.1 r.2
-  ask_act (ask.Retracts on asked p) (draft.Retracts w a q) r = valued acts.retracts (name_of places on) w asked.now.ident a.now p q r.0 r.1 r.2
+  pub ask_act : (x : Ask) (d : Draft) → Relates legend db x d → act_of db (names_in legend pairs) (ask_of legend x) ≡ drafts.act_of pairs d
+  ask_act (ask.Adds on asked p) (draft.Adds w a q holder) r = valued acts.adds (name_of legend on) w asked.now.ident a.now p q r.0 r.1 r.2
+  ask_act (ask.Retracts on asked p) (draft.Retracts w a q) r = valued acts.retracts (name_of legend on) w asked.now.ident a.now p q r.0 r.1 r.2
   ask_act (ask.RetractsAll on asked) (draft.RetractsAll w a) r =
-      ap (λ o. option_and_then (λ e. option_map (acts.retracts_all e) o) (entity_of db (names_in places pairs) (name_of places on))) r.1
-      ∙ as_map acts.retracts_all (attribute_in a.now) (entity_of db (names_in places pairs) (name_of places on))
-      ∙ ap (option_map (λ e. acts.retracts_all e (attribute_in a.now))) (whom_entity (name_of places on) w r.0)
+      ap (λ o. option_and_then (λ e. option_map (acts.retracts_all e) o) (entity_of db (names_in legend pairs) (name_of legend on))) r.1
+      ∙ as_map acts.retracts_all (attribute_in a.now) (entity_of db (names_in legend pairs) (name_of legend on))
+      ∙ ap (option_map (λ e. acts.retracts_all e (attribute_in a.now))) (whom_entity (name_of legend on) w r.0)
     where
       as_map : (act : ℕ → schema.Attribute → acts.Act) (b : schema.Attribute) (o : Option ℕ) → option_and_then (λ e. Some (act e b)) o ≡ option_map (λ e. act e b) o
       as_map act b None = refl
       as_map act b (Some e) = refl
   ask_act (ask.Compares on asked p p') (draft.Compares w a q q') r =
-      valued (λ e b. acts.compares e b (old_value_of db (names_in places pairs) b (old_part_of places p))) (name_of places on) w asked.now.ident a.now p' q' r.0 r.1 r.3
+      valued (λ e b. acts.compares e b (old_value_of db (names_in legend pairs) b (old_part_of legend p))) (name_of legend on) w asked.now.ident a.now p' q' r.0 r.1 r.3
       ∙ ap (λ old. option_and_then (λ e. option_map (acts.compares e (attribute_in a.now) old) (drafts.value_of pairs q')) (drafts.entity_of pairs w)) (old_part_value a.now p q r.2)
-  ask_act (ask.RetractsEntity on) (draft.RetractsEntity w) r = ap (option_map acts.retracts_entity) (whom_entity (name_of places on) w r)
+  ask_act (ask.RetractsEntity on) (draft.RetractsEntity w) r = ap (option_map acts.retracts_entity) (whom_entity (name_of legend on) w r)
   ask_act (ask.Meets on) (draft.Meets w) r = refl
   ask_act x d r = absurd r
 
@@ -137,7 +137,7 @@ module _ (places : List (List ℕ)) (apart : AreApart places) (db : Db) (pairs :
   both_there f None v have has = have
   both_there f (Some e) v have has = is_some_map (f e) v has
 
-  pub ask_settled : (x : Ask) (d : Draft) → Relates places db x d → Have pairs (tempids_of d) → IsSettled db (names_in places pairs) (ask_of places x)
+  pub ask_settled : (x : Ask) (d : Draft) → Relates legend db x d → Have pairs (tempids_of d) → IsSettled db (names_in legend pairs) (ask_of legend x)
   ask_settled (ask.Adds on asked p) (draft.Adds w a q holder) r have =
       ap is_some (ask_act (ask.Adds on asked p) (draft.Adds w a q holder) r)
       ∙ both_there (λ e. acts.adds e (attribute_in a.now)) (drafts.entity_of pairs w) (drafts.value_of pairs q)

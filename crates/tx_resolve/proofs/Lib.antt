@@ -8,6 +8,7 @@ pub mod Apart
 pub mod ActLists
 pub mod Places
 pub mod Options
+pub mod Lookups
 pub mod Relates
 pub mod Asked
 pub mod Acted

@@ -9,7 +9,7 @@ use Rattle.fb_numbers.specs.Numbers.{user_entity}
 use Rattle.tx_model.specs.Asks.{Name, Ask, is_tempid, is_same_tempid}
 use Rattle.tx_model.specs.Tempids.{Db, is_among, met_after, holders, number_from, with_text, with_texts, by_text, named_tempids}
 use Rattle.tx_model.specs.Tempids as model
-use Rattle.tx_asks.specs.Asks.{AreApart}
+use Rattle.tx_asks.specs.Asks.{Legend, AreApart}
 use Rattle.tx_resolve.specs.declared.whom.Tempid.{Tempid}
 use Rattle.tx_resolve.specs.declared.whom.Tempid.TheVariants.{Named, Nameless}
 use Rattle.tx_resolve.specs.declared.drafts.Draft.{Draft}
@@ -23,7 +23,7 @@ use Rattle.tx_resolve.proofs.Places.{name_in, IsMeant, is_tempid-name_in, is_sam
 use Rattle.tx_resolve.proofs.Asked.{AreMeant, meant_both}
 use Rattle.tx_resolve.proofs.Acted.{names_in, PairsAreMeant, Have}
 
-module _ (places : List (List ℕ)) (apart : AreApart places) where
+module _ (legend : Legend) (apart : AreApart legend.places) where
   or-swap : (b c : Bool) → (b || c) ≡ (c || (b || false))
   or-swap true true = refl
   or-swap true false = refl
@@ -34,79 +34,79 @@ module _ (places : List (List ℕ)) (apart : AreApart places) where
 
   -- the names that were met are those of the tempids that were
   abbrev HasMet : List Name → List Tempid → Type 0
-  HasMet before met = (t : Tempid) → IsMeant places t → is_among before (name_in places t) ≡ list_any (is_same t) met
+  HasMet before met = (t : Tempid) → IsMeant legend t → is_among before (name_in legend t) ≡ list_any (is_same t) met
 
-  met_more : (before : List Name) (met : List Tempid) (k : Tempid) → IsMeant places k → HasMet before met → HasMet (name_in places k ∷ before) (met ++ k ∷ [])
+  met_more : (before : List Name) (met : List Tempid) (k : Tempid) → IsMeant legend k → HasMet before met → HasMet (name_in legend k ∷ before) (met ++ k ∷ [])
   met_more before met k is has t meant =
-      ap (λ b. b || is_among before (name_in places t)) (is_same_tempid-name_in places apart t k meant is)
+      ap (λ b. b || is_among before (name_in legend t)) (is_same_tempid-name_in legend apart t k meant is)
       ∙ ap (λ b. is_same t k || b) (has t meant)
       ∙ or-swap (is_same t k) (list_any (is_same t) met)
       ∙ sym (list_any-append (is_same t) met (k ∷ []))
 
-  pub met_names : (before : List Name) (met ks : List Tempid) → AreMeant places ks → HasMet before met
-      → map (name_in places) (met_with met ks) ≡ map (name_in places) met ++ met_after before (map (name_in places) ks)
-  met_names before met [] meant has = sym (append-nil (map (name_in places) met))
+  pub met_names : (before : List Name) (met ks : List Tempid) → AreMeant legend ks → HasMet before met
+      → map (name_in legend) (met_with met ks) ≡ map (name_in legend) met ++ met_after before (map (name_in legend) ks)
+  met_names before met [] meant has = sym (append-nil (map (name_in legend) met))
   met_names before met (k ∷ ks) meant has =
       at (λ b m h. met_names b m ks meant.1 h) (list_any (is_same k) met) refl
-      ∙ ap (λ b. map (name_in places) met ++ cond (b && not (is_among before (name_in places k))) (name_in places k ∷ met_after (name_in places k ∷ before) (map (name_in places) ks)) (met_after before (map (name_in places) ks)))
-      (sym (is_tempid-name_in places k meant.0))
+      ∙ ap (λ b. map (name_in legend) met ++ cond (b && not (is_among before (name_in legend k))) (name_in legend k ∷ met_after (name_in legend k ∷ before) (map (name_in legend) ks)) (met_after before (map (name_in legend) ks)))
+      (sym (is_tempid-name_in legend k meant.0))
     where
-      at : ((b : List Name) (m : List Tempid) → HasMet b m → map (name_in places) (met_with m ks) ≡ map (name_in places) m ++ met_after b (map (name_in places) ks))
+      at : ((b : List Name) (m : List Tempid) → HasMet b m → map (name_in legend) (met_with m ks) ≡ map (name_in legend) m ++ met_after b (map (name_in legend) ks))
           → (b : Bool) → list_any (is_same k) met ≡ b
-          → map (name_in places) (met_with (cond (list_any (is_same k) met) met (met ++ k ∷ [])) ks)
-          ≡ map (name_in places) met ++ cond (not (is_among before (name_in places k))) (name_in places k ∷ met_after (name_in places k ∷ before) (map (name_in places) ks)) (met_after before (map (name_in places) ks))
+          → map (name_in legend) (met_with (cond (list_any (is_same k) met) met (met ++ k ∷ [])) ks)
+          ≡ map (name_in legend) met ++ cond (not (is_among before (name_in legend k))) (name_in legend k ∷ met_after (name_in legend k ∷ before) (map (name_in legend) ks)) (met_after before (map (name_in legend) ks))
       at rest true is =
-          ap (λ b. map (name_in places) (met_with (cond b met (met ++ k ∷ [])) ks)) is
+          ap (λ b. map (name_in legend) (met_with (cond b met (met ++ k ∷ [])) ks)) is
           ∙ rest before met has
-          ∙ ap (λ b. map (name_in places) met ++ cond (not b) (name_in places k ∷ met_after (name_in places k ∷ before) (map (name_in places) ks)) (met_after before (map (name_in places) ks)))
+          ∙ ap (λ b. map (name_in legend) met ++ cond (not b) (name_in legend k ∷ met_after (name_in legend k ∷ before) (map (name_in legend) ks)) (met_after before (map (name_in legend) ks)))
           (sym (has k meant.0 ∙ is))
       at rest false is =
-          ap (λ b. map (name_in places) (met_with (cond b met (met ++ k ∷ [])) ks)) is
-          ∙ rest (name_in places k ∷ before) (met ++ k ∷ []) (met_more before met k meant.0 has)
-          ∙ ap (λ l. l ++ met_after (name_in places k ∷ before) (map (name_in places) ks)) (map-append (name_in places) met (k ∷ []))
-          ∙ append_assoc (map (name_in places) met) (name_in places k ∷ []) (met_after (name_in places k ∷ before) (map (name_in places) ks))
-          ∙ ap (λ b. map (name_in places) met ++ cond (not b) (name_in places k ∷ met_after (name_in places k ∷ before) (map (name_in places) ks)) (met_after before (map (name_in places) ks)))
+          ap (λ b. map (name_in legend) (met_with (cond b met (met ++ k ∷ [])) ks)) is
+          ∙ rest (name_in legend k ∷ before) (met ++ k ∷ []) (met_more before met k meant.0 has)
+          ∙ ap (λ l. l ++ met_after (name_in legend k ∷ before) (map (name_in legend) ks)) (map-append (name_in legend) met (k ∷ []))
+          ∙ append_assoc (map (name_in legend) met) (name_in legend k ∷ []) (met_after (name_in legend k ∷ before) (map (name_in legend) ks))
+          ∙ ap (λ b. map (name_in legend) met ++ cond (not b) (name_in legend k ∷ met_after (name_in legend k ∷ before) (map (name_in legend) ks)) (met_after before (map (name_in legend) ks)))
           (sym (has k meant.0 ∙ is))
 
-  pub met_meant : (met ks : List Tempid) → AreMeant places met → AreMeant places ks → AreMeant places (met_with met ks)
+  pub met_meant : (met ks : List Tempid) → AreMeant legend met → AreMeant legend ks → AreMeant legend (met_with met ks)
   met_meant met [] all more = all
   met_meant met (k ∷ ks) all more = met_meant (cond (list_any (is_same k) met) met (met ++ k ∷ [])) ks (at (list_any (is_same k) met)) more.1
     where
-      at : (b : Bool) → AreMeant places (cond b met (met ++ k ∷ []))
+      at : (b : Bool) → AreMeant legend (cond b met (met ++ k ∷ []))
       at true = all
-      at false = meant_both places met (k ∷ []) all (more.0, tt)
+      at false = meant_both legend met (k ∷ []) all (more.0, tt)
 
   -- ---- the entities
 
-  module _ (db : Db) (asks : List Ask) (drafted : List Draft) (same : (t : Tempid) → IsMeant places t → holders db asks (name_in places t) ≡ drafts.holders drafted t) where
-    number_at : (t : Tempid) (n : ℕ) (es : List ℕ) (rest : ℕ → List (Name × ℕ)) (more : ℕ → List (Tempid × ℕ)) → ((n : ℕ) → rest n ≡ names_in places (more n))
-        → model.number_next (name_in places t) n es rest ≡ names_in places ((t, entity_next (held_of es).first n) ∷ more (number_next (held_of es).first n))
-    number_at t n [] rest more are = ap (λ l. (name_in places t, user_entity (n + 1)) ∷ l) (are (n + 1))
-    number_at t n (e ∷ es) rest more are = ap (λ l. (name_in places t, e) ∷ l) (are n)
+  module _ (db : Db) (asks : List Ask) (drafted : List Draft) (same : (t : Tempid) → IsMeant legend t → holders db asks (name_in legend t) ≡ drafts.holders drafted t) where
+    number_at : (t : Tempid) (n : ℕ) (es : List ℕ) (rest : ℕ → List (Name × ℕ)) (more : ℕ → List (Tempid × ℕ)) → ((n : ℕ) → rest n ≡ names_in legend (more n))
+        → model.number_next (name_in legend t) n es rest ≡ names_in legend ((t, entity_next (held_of es).first n) ∷ more (number_next (held_of es).first n))
+    number_at t n [] rest more are = ap (λ l. (name_in legend t, user_entity (n + 1)) ∷ l) (are (n + 1))
+    number_at t n (e ∷ es) rest more are = ap (λ l. (name_in legend t, e) ∷ l) (are n)
 
-    pub numbers_same : (ts : List Tempid) (n : ℕ) → AreMeant places ts → number_from db asks (map (name_in places) ts) n ≡ names_in places (numbered drafted ts n)
+    pub numbers_same : (ts : List Tempid) (n : ℕ) → AreMeant legend ts → number_from db asks (map (name_in legend) ts) n ≡ names_in legend (numbered drafted ts n)
     numbers_same [] n meant = refl
     numbers_same (t ∷ ts) n meant =
-        ap (λ es. model.number_next (name_in places t) n es (λ next. number_from db asks (map (name_in places) ts) next)) (same t meant.0)
-        ∙ number_at t n (drafts.holders drafted t) (λ next. number_from db asks (map (name_in places) ts) next) (λ next. numbered drafted ts next) (λ next. numbers_same ts next meant.1)
+        ap (λ es. model.number_next (name_in legend t) n es (λ next. number_from db asks (map (name_in legend) ts) next)) (same t meant.0)
+        ∙ number_at t n (drafts.holders drafted t) (λ next. number_from db asks (map (name_in legend) ts) next) (λ next. numbered drafted ts next) (λ next. numbers_same ts next meant.1)
 
-  pub pairs_meant : (drafted : List Draft) (ts : List Tempid) (n : ℕ) → AreMeant places ts → PairsAreMeant places (numbered drafted ts n)
+  pub pairs_meant : (drafted : List Draft) (ts : List Tempid) (n : ℕ) → AreMeant legend ts → PairsAreMeant legend (numbered drafted ts n)
   pairs_meant drafted [] n meant = tt
   pairs_meant drafted (t ∷ ts) n meant = (meant.0, pairs_meant drafted ts (number_next (held_of (drafts.holders drafted t)).first n) meant.1)
 
   -- ---- what is told
 
-  text_told : (t : Tempid) (e : ℕ) → with_text (name_in places t) e ≡ with_name (t, e)
+  text_told : (t : Tempid) (e : ℕ) → with_text (name_in legend t) e ≡ with_name (t, e)
   text_told (Named s) e = refl
   text_told (Nameless n) e = refl
 
-  texts_told : (pairs : List (Tempid × ℕ)) → with_texts (names_in places pairs) ≡ filter_map with_name pairs
+  texts_told : (pairs : List (Tempid × ℕ)) → with_texts (names_in legend pairs) ≡ filter_map with_name pairs
   texts_told [] = refl
   texts_told (p ∷ ps) =
-      ap (λ o. cons_option o (with_texts (names_in places ps))) (text_told p.0 p.1)
+      ap (λ o. cons_option o (with_texts (names_in legend ps))) (text_told p.0 p.1)
       ∙ ap (cons_option (with_name p)) (texts_told ps)
 
-  pub told_same : (pairs : List (Tempid × ℕ)) → named_tempids (names_in places pairs) ≡ names_told pairs
+  pub told_same : (pairs : List (Tempid × ℕ)) → named_tempids (names_in legend pairs) ≡ names_told pairs
   told_same pairs = ap by_text (texts_told pairs)
 
 -- ---- each tempid that is met has an entity

@@ -12,6 +12,7 @@ use Rattle.tx_asks.specs.declared.asks.Flat.{Flat}
 use Rattle.tx_asks.specs.Asks.{AreAsks}
 use Rattle.tx_asks.specs.Acts.{seen, acts_in}
 use Rattle.tx_resolve.specs.declared.drafts.Draft.{Draft}
+use Rattle.tx_resolve.specs.Whoms.{all_found}
 use Rattle.tx_resolve.specs.Drafts.{lost_at, AreFound}
 use Rattle.tx_resolve.specs.Breaks.{none_at}
 use Rattle.tx_resolve.specs.Settled.{lists_of, tempid_rules}
@@ -23,7 +24,7 @@ seen_lists [] = refl
 seen_lists (f ∷ fs) = ap (λ rest. map seen f.items ∷ rest) (seen_lists fs)
 
 module _ (nothing : AskNothing) (db : Db) (flat : Flat) (asks : List (List model.Ask)) (are : AreAsks flat db.facts asks) where
-  pub lost_refused : (at : ℕ) → Some at ≡ lost_at db flat.forms.items → Some (record { reason = NotAnEntity; at = at }) ≡ first_refusal (resolve_rules db asks)
+  pub lost_refused : (at : ℕ) → Some at ≡ lost_at db (all_found db flat.lookups.items) flat.forms.items → Some (record { reason = NotAnEntity; at = at }) ≡ first_refusal (resolve_rules db asks)
   lost_refused at is =
       ap (λ o. first_refusal (
       (NotAnEntity, o)
@@ -33,7 +34,7 @@ module _ (nothing : AskNothing) (db : Db) (flat : Flat) (asks : List (List model
       ∷ []
       )) (is ∙ lost_same nothing db flat asks are)
 
-  pub rest_refused : (gs : List (Vec Draft Global)) → AreFound db flat.forms.items gs → None ≡ lost_at db flat.forms.items
+  pub rest_refused : (gs : List (Vec Draft Global)) → AreFound db (all_found db flat.lookups.items) flat.forms.items gs → None ≡ lost_at db (all_found db flat.lookups.items) flat.forms.items
       → first_refusal ((NestedWithoutId, flat.lacking) ∷ tempid_rules gs) ≡ first_refusal (resolve_rules db asks)
   rest_refused gs found none =
       ap (λ o. first_refusal ((NestedWithoutId, o) ∷ tempid_rules gs)) are.lacking

@@ -20,13 +20,13 @@ use Rattle.tx_resolve.specs.declared.drafts.Draft.{Draft}
 use Rattle.tx_resolve.specs.declared.drafts.Draft.TheVariants as draft
 use Rattle.tx_resolve.specs.Whoms.{whom_of}
 
-abbrev pub part_of : Db → asks.Operand → Option Operand
-part_of db (part.Plain f v) = Some (Plain v)
-part_of db (part.Entity name) = option_map Entity (whom_of db name)
+abbrev pub part_of : Db → List (Option ℕ) → asks.Operand → Option Operand
+part_of db looked_up (part.Plain f v) = Some (Plain v)
+part_of db looked_up (part.Entity name) = option_map Entity (whom_of db looked_up name)
 
-abbrev pub old_part_of : Db → Option asks.Operand → Option (Option Operand)
-old_part_of db None = Some None
-old_part_of db (Some p) = option_map Some (part_of db p)
+abbrev pub old_part_of : Db → List (Option ℕ) → Option asks.Operand → Option (Option Operand)
+old_part_of db looked_up None = Some None
+old_part_of db looked_up (Some p) = option_map Some (part_of db looked_up p)
 
 -- the holder of the identity value that an addition gives to a tempid
 abbrev pub holder_for : Db → Whom → Attribute → Operand → Option ℕ
@@ -34,37 +34,37 @@ holder_for db (New tempid) attribute (Plain v) =
     if attribute.unique == unique_identity then holder db.facts attribute.id v else None
 holder_for db whom attribute p = None
 
-abbrev pub draft_of : Db → Ask → Option Draft
-draft_of db (ask.Adds on attribute p) =
+abbrev pub draft_of : Db → List (Option ℕ) → Ask → Option Draft
+draft_of db looked_up (ask.Adds on attribute p) =
     option_and_then
     (λ whom. option_map
-    (λ read. draft.Adds whom attribute read (holder_for db whom attribute.now read)) (part_of db p))
-    (whom_of db on)
-draft_of db (ask.Retracts on attribute p) =
-    option_and_then (λ whom. option_map (draft.Retracts whom attribute) (part_of db p))
-    (whom_of db on)
-draft_of db (ask.RetractsAll on attribute) =
-    option_map (λ whom. draft.RetractsAll whom attribute) (whom_of db on)
-draft_of db (ask.Compares on attribute old new) =
+    (λ read. draft.Adds whom attribute read (holder_for db whom attribute.now read)) (part_of db looked_up p))
+    (whom_of db looked_up on)
+draft_of db looked_up (ask.Retracts on attribute p) =
+    option_and_then (λ whom. option_map (draft.Retracts whom attribute) (part_of db looked_up p))
+    (whom_of db looked_up on)
+draft_of db looked_up (ask.RetractsAll on attribute) =
+    option_map (λ whom. draft.RetractsAll whom attribute) (whom_of db looked_up on)
+draft_of db looked_up (ask.Compares on attribute old new) =
     option_and_then
     (λ whom. option_and_then
-    (λ before. option_map (draft.Compares whom attribute before) (part_of db new))
-    (old_part_of db old))
-    (whom_of db on)
-draft_of db (ask.RetractsEntity on) = option_map draft.RetractsEntity (whom_of db on)
-draft_of db (ask.Meets on) = option_map draft.Meets (whom_of db on)
+    (λ before. option_map (draft.Compares whom attribute before) (part_of db looked_up new))
+    (old_part_of db looked_up old))
+    (whom_of db looked_up on)
+draft_of db looked_up (ask.RetractsEntity on) = option_map draft.RetractsEntity (whom_of db looked_up on)
+draft_of db looked_up (ask.Meets on) = option_map draft.Meets (whom_of db looked_up on)
 
 -- one of its names finds no entity
-abbrev pub is_lost : Db → Ask → Bool
-is_lost db asked = is_none (draft_of db asked)
+abbrev pub is_lost : Db → List (Option ℕ) → Ask → Bool
+is_lost db looked_up asked = is_none (draft_of db looked_up asked)
 
 -- ---- form by form
 
 -- the first form with a name that finds no entity
-abbrev pub lost_at : Db → List (Vec Ask Global) → Option ℕ
-lost_at db forms = first_yes 0 (map (λ form. list_any (is_lost db) form.items) forms)
+abbrev pub lost_at : Db → List (Option ℕ) → List (Vec Ask Global) → Option ℕ
+lost_at db looked_up forms = first_yes 0 (map (λ form. list_any (is_lost db looked_up) form.items) forms)
 
 -- the asks are these drafts, and none is lost
-abbrev pub AreFound : Db → List (Vec Ask Global) → List (Vec Draft Global) → Type 0
-AreFound db forms drafts =
-    map (λ form. map Some form.items) drafts ≡ map (λ form. map (draft_of db) form.items) forms
+abbrev pub AreFound : Db → List (Option ℕ) → List (Vec Ask Global) → List (Vec Draft Global) → Type 0
+AreFound db looked_up forms drafts =
+    map (λ form. map Some form.items) drafts ≡ map (λ form. map (draft_of db looked_up) form.items) forms

@@ -57,30 +57,32 @@ pub enum Draft<'a> {
     },
 }
 
-/// What the forms ask, with the names found: or else the first form with a name that finds no entity.
+/// What the forms ask, with the names found, where the lookup refs find these entities: or else the first form with a name
+/// that finds none.
 pub fn drafts_of_forms<'a, F: Facts>(
     alloc: Global,
     facts: &F,
     schema: &Schema,
+    found: &[Option<u64>],
     forms: &[Vec<Ask<'a>>],
 ) -> Result<Result<Vec<Vec<Draft<'a>>>, usize>, Memory>
     requires schema { SchemaStands schema.now (F.history facts.now) }
     requires lawful { IsLawful (F.history facts.now) }
     ensures found { IfOk result (λ r. IfOk r (λ drafts.
-        AreFound (db_of (F.history facts.now)) forms.now drafts.items)) }
+        AreFound (db_of (F.history facts.now)) found.now forms.now drafts.items)) }
     ensures lost { IfOk result
-        (λ r. result_err r ≡ lost_at (db_of (F.history facts.now)) forms.now) }
+        (λ r. result_err r ≡ lost_at (db_of (F.history facts.now)) found.now forms.now) }
 {
-    let mut found = Vec::new(alloc);
+    let mut forms_found = Vec::new(alloc);
     let mut place = 0;
     for asks in forms {
-        let Some(drafts) = drafts_of(alloc, facts, schema, asks)? else {
+        let Some(drafts) = drafts_of(alloc, facts, schema, found, asks)? else {
             return Ok(Err(place));
         };
-        found.push(drafts)?;
+        forms_found.push(drafts)?;
         place += 1;
     }
-    Ok(Ok(found))
+    Ok(Ok(forms_found))
 }
 
 /// None where a name finds no entity.
@@ -88,18 +90,20 @@ fn drafts_of<'a, F: Facts>(
     alloc: Global,
     facts: &F,
     schema: &Schema,
+    found: &[Option<u64>],
     asks: &[Ask<'a>],
 ) -> Result<Option<Vec<Draft<'a>>>, Memory>
     requires schema { SchemaStands schema.now (F.history facts.now) }
     requires lawful { IsLawful (F.history facts.now) }
     ensures found { IfOk result (λ drafts. IfSome drafts (λ list. map Some list.items
-        ≡ map (model.draft_of (db_of (F.history facts.now))) asks.now)) }
+        ≡ map (model.draft_of (db_of (F.history facts.now)) found.now) asks.now)) }
     ensures lost { IfOk result
-        (λ drafts. is_none drafts ≡ list_any (is_lost (db_of (F.history facts.now))) asks.now) }
+        (λ drafts. is_none drafts
+        ≡ list_any (is_lost (db_of (F.history facts.now)) found.now) asks.now) }
 {
     let mut drafts = Vec::new(alloc);
     for ask in asks {
-        let Some(draft) = draft_of(facts, schema, ask)? else {
+        let Some(draft) = draft_of(facts, schema, found, ask)? else {
             return Ok(None);
         };
         drafts.push(draft)?;
@@ -110,25 +114,27 @@ fn drafts_of<'a, F: Facts>(
 fn draft_of<'a, F: Facts>(
     facts: &F,
     schema: &Schema,
+    found: &[Option<u64>],
     ask: &Ask<'a>,
 ) -> Result<Option<Draft<'a>>, Memory>
     requires schema { SchemaStands schema.now (F.history facts.now) }
     requires lawful { IsLawful (F.history facts.now) }
-    ensures { IfOk result (λ draft. draft ≡ model.draft_of (db_of (F.history facts.now)) ask.now) }
+    ensures { IfOk result
+        (λ draft. draft ≡ model.draft_of (db_of (F.history facts.now)) found.now ask.now) }
 {
     match ask {
         Ask::Adds {
             on,
             attribute,
             part,
-        } => addition(facts, schema, on, *attribute, part),
+        } => addition(facts, schema, found, on, *attribute, part),
         Ask::Retracts {
             on,
             attribute,
             part,
-        } => retraction(facts, schema, on, *attribute, part),
+        } => retraction(facts, schema, found, on, *attribute, part),
         Ask::RetractsAll { on, attribute } => {
-            let Some(on) = whom(facts, schema, on)? else {
+            let Some(on) = whom(facts, schema, found, on)? else {
                 return Ok(None);
             };
             Ok(Some(Draft::RetractsAll {
@@ -141,15 +147,15 @@ fn draft_of<'a, F: Facts>(
             attribute,
             old,
             new,
-        } => comparison(facts, schema, on, *attribute, old, new),
+        } => comparison(facts, schema, found, on, *attribute, old, new),
         Ask::RetractsEntity { on } => {
-            let Some(on) = whom(facts, schema, on)? else {
+            let Some(on) = whom(facts, schema, found, on)? else {
                 return Ok(None);
             };
             Ok(Some(Draft::RetractsEntity { on }))
         }
         Ask::Meets { on } => {
-            let Some(on) = whom(facts, schema, on)? else {
+            let Some(on) = whom(facts, schema, found, on)? else {
                 return Ok(None);
             };
             Ok(Some(Draft::Meets { on }))
@@ -160,6 +166,7 @@ fn draft_of<'a, F: Facts>(
 fn addition<'a, F: Facts>(
     facts: &F,
     schema: &Schema,
+    found: &[Option<u64>],
     on: &Name<'a>,
     attribute: &'a Attribute,
     part: &AskPart<'a>,
@@ -167,12 +174,13 @@ fn addition<'a, F: Facts>(
     requires schema { SchemaStands schema.now (F.history facts.now) }
     requires lawful { IsLawful (F.history facts.now) }
     ensures { IfOk result (λ draft. draft
-        ≡ model.draft_of (db_of (F.history facts.now)) (Ask.Adds on.now attribute.entry part.now)) }
+        ≡ model.draft_of (db_of (F.history facts.now)) found.now
+        (Ask.Adds on.now attribute.entry part.now)) }
 {
-    let Some(on) = whom(facts, schema, on)? else {
+    let Some(on) = whom(facts, schema, found, on)? else {
         return Ok(None);
     };
-    let Some(part) = part_of(facts, schema, part)? else {
+    let Some(part) = part_of(facts, schema, found, part)? else {
         return Ok(None);
     };
     let holder = holder_for(facts, &on, attribute, &part);
@@ -201,6 +209,7 @@ fn holder_for<F: Facts>(facts: &F, on: &Whom, attribute: &Attribute, part: &Oper
 fn retraction<'a, F: Facts>(
     facts: &F,
     schema: &Schema,
+    found: &[Option<u64>],
     on: &Name<'a>,
     attribute: &'a Attribute,
     part: &AskPart<'a>,
@@ -208,13 +217,13 @@ fn retraction<'a, F: Facts>(
     requires schema { SchemaStands schema.now (F.history facts.now) }
     requires lawful { IsLawful (F.history facts.now) }
     ensures { IfOk result (λ draft. draft
-        ≡ model.draft_of (db_of (F.history facts.now))
+        ≡ model.draft_of (db_of (F.history facts.now)) found.now
         (Ask.Retracts on.now attribute.entry part.now)) }
 {
-    let Some(on) = whom(facts, schema, on)? else {
+    let Some(on) = whom(facts, schema, found, on)? else {
         return Ok(None);
     };
-    let Some(part) = part_of(facts, schema, part)? else {
+    let Some(part) = part_of(facts, schema, found, part)? else {
         return Ok(None);
     };
     Ok(Some(Draft::Retracts {
@@ -227,6 +236,7 @@ fn retraction<'a, F: Facts>(
 fn comparison<'a, F: Facts>(
     facts: &F,
     schema: &Schema,
+    found: &[Option<u64>],
     on: &Name<'a>,
     attribute: &'a Attribute,
     old: &Option<AskPart<'a>>,
@@ -235,16 +245,16 @@ fn comparison<'a, F: Facts>(
     requires schema { SchemaStands schema.now (F.history facts.now) }
     requires lawful { IsLawful (F.history facts.now) }
     ensures { IfOk result (λ draft. draft
-        ≡ model.draft_of (db_of (F.history facts.now))
+        ≡ model.draft_of (db_of (F.history facts.now)) found.now
         (Ask.Compares on.now attribute.entry old.now new.now)) }
 {
-    let Some(on) = whom(facts, schema, on)? else {
+    let Some(on) = whom(facts, schema, found, on)? else {
         return Ok(None);
     };
-    let Some(old) = old_part_of(facts, schema, old)? else {
+    let Some(old) = old_part_of(facts, schema, found, old)? else {
         return Ok(None);
     };
-    let Some(new) = part_of(facts, schema, new)? else {
+    let Some(new) = part_of(facts, schema, found, new)? else {
         return Ok(None);
     };
     Ok(Some(Draft::Compares {
@@ -258,16 +268,19 @@ fn comparison<'a, F: Facts>(
 fn part_of<F: Facts>(
     facts: &F,
     schema: &Schema,
+    found: &[Option<u64>],
     part: &AskPart<'_>,
 ) -> Result<Option<Operand>, Memory>
     requires schema { SchemaStands schema.now (F.history facts.now) }
     requires lawful { IsLawful (F.history facts.now) }
-    ensures { IfOk result (λ found. found ≡ model.part_of (db_of (F.history facts.now)) part.now) }
+    ensures { IfOk result
+        (λ part_found. part_found
+        ≡ model.part_of (db_of (F.history facts.now)) found.now part.now) }
 {
     match part {
         AskPart::Plain(_, v) => Ok(Some(Operand::Plain(v.copy()?))),
         AskPart::Entity(name) => {
-            let Some(whom) = whom(facts, schema, name)? else {
+            let Some(whom) = whom(facts, schema, found, name)? else {
                 return Ok(None);
             };
             Ok(Some(Operand::Entity(whom)))
@@ -278,17 +291,19 @@ fn part_of<F: Facts>(
 fn old_part_of<F: Facts>(
     facts: &F,
     schema: &Schema,
+    found: &[Option<u64>],
     old: &Option<AskPart<'_>>,
 ) -> Result<Option<Option<Operand>>, Memory>
     requires schema { SchemaStands schema.now (F.history facts.now) }
     requires lawful { IsLawful (F.history facts.now) }
     ensures { IfOk result
-        (λ found. found ≡ model.old_part_of (db_of (F.history facts.now)) old.now) }
+        (λ old_found. old_found
+        ≡ model.old_part_of (db_of (F.history facts.now)) found.now old.now) }
 {
     match old {
         None => Ok(Some(None)),
         Some(part) => {
-            let Some(part) = part_of(facts, schema, part)? else {
+            let Some(part) = part_of(facts, schema, found, part)? else {
                 return Ok(None);
             };
             Ok(Some(Some(part)))

@@ -1,5 +1,5 @@
 //! Names in the database.
-ghost use Rattle.std.specs.Prelude.{◌≡◌, ◌+◌, IfOk};
+ghost use Rattle.std.specs.Prelude.{◌≡◌, ◌+◌, slice_index_or, None, IfOk};
 ghost use Rattle.std.specs.Option.{option_map};
 ghost use Rattle.edn_form.specs.View.{form_of};
 ghost use Rattle.fb_model.specs.History.{basis, is_issued as model_is_issued};
@@ -10,7 +10,7 @@ ghost use Rattle.tx_model.specs.Asks as asks;
 ghost use Rattle.tx_model.specs.Tempids.{db_of, found};
 ghost use Rattle.tx_model.specs.Values.{value_in};
 ghost use Rattle.tx_resolve.specs.declared.whom.Whom.TheVariants.{Known};
-ghost use Rattle.tx_resolve.specs.Whoms.{whom_of};
+ghost use Rattle.tx_resolve.specs.Whoms.{found_by, all_found, whom_of};
 
 use crate::whom::{Tempid, Whom};
 use edn_form::Edn;
@@ -19,30 +19,65 @@ use fb_facts::Facts;
 use fb_memory::Memory;
 use fb_numbers::{TYPE_REF, is_builtin, transaction_entity, user_entity};
 use fb_schema::{Schema, schemas_tell_of_attributes};
-use fb_text::Text;
 use fb_values::Value;
-use tx_asks::Name;
+use std::alloc::Global;
+use tx_asks::{LookupRef, Name};
 use tx_model::lawful_histories_are_small;
 
 /// The tempid that names the transaction's own entity.
 const OWN_TEMPID: &str = "datomic.tx";
 
-/// The entity that the name stands for: none where the database has none of the name.
-pub fn whom<F: Facts>(facts: &F, schema: &Schema, name: &Name<'_>) -> Result<Option<Whom>, Memory>
+/// The entity that each lookup ref finds, if there is one.
+pub fn all_looked_up<F: Facts>(
+    alloc: Global,
+    facts: &F,
+    schema: &Schema,
+    lookups: &[LookupRef<'_>],
+) -> Result<Vec<Option<u64>>, Memory>
+    requires { SchemaStands schema.now (F.history facts.now) }
+    ensures { IfOk result
+        (λ found. found.items ≡ all_found (db_of (F.history facts.now)) lookups.now) }
+{
+    let mut found = Vec::with_capacity(alloc, lookups.len())?;
+    for lookup in lookups {
+        found.push(looked_up(facts, schema, lookup)?)?;
+    }
+    Ok(found)
+}
+
+/// The entity that the name stands for, where the lookup refs of the transaction find these: none where the database has none
+/// of the name.
+pub fn whom<F: Facts>(
+    facts: &F,
+    schema: &Schema,
+    found: &[Option<u64>],
+    name: &Name<'_>,
+) -> Result<Option<Whom>, Memory>
     requires schema { SchemaStands schema.now (F.history facts.now) }
     requires lawful { IsLawful (F.history facts.now) }
-    ensures { IfOk result (λ whom. whom ≡ whom_of (db_of (F.history facts.now)) name.now) }
+    ensures { IfOk result
+        (λ whom. whom ≡ whom_of (db_of (F.history facts.now)) found.now name.now) }
 {
     schemas_tell_of_attributes();
     match name {
         Name::Number(n) => Ok(known(numbered(facts, *n))),
         Name::Ident(k) => Ok(known(schema.entity_named(k))),
-        Name::Lookup(k, value) => Ok(known(looked_up(facts, schema, k, value)?)),
+        Name::Lookup(n) => Ok(known(entity_at(found, *n))),
         Name::Tempid(text) if text.as_str() == OWN_TEMPID => {
             Ok(Some(Whom::Known(next_transaction(facts))))
         }
         Name::Tempid(text) => Ok(Some(Whom::New(Tempid::Named(text.copy()?)))),
         Name::Nameless(n) => Ok(Some(Whom::New(Tempid::Nameless(*n)))),
+    }
+}
+
+/// What the lookup ref with the number finds.
+fn entity_at(found: &[Option<u64>], n: usize) -> Option<u64>
+    ensures { result ≡ slice_index_or found.now n None }
+{
+    match found.get(n) {
+        Some(e) => *e,
+        None => None,
     }
 }
 
@@ -87,18 +122,16 @@ fn next_transaction<F: Facts>(facts: &F) -> u64
 fn looked_up<F: Facts>(
     facts: &F,
     schema: &Schema,
-    k: &Text,
-    value: &Edn,
+    lookup: &LookupRef<'_>,
 ) -> Result<Option<u64>, Memory>
     requires { SchemaStands schema.now (F.history facts.now) }
-    ensures { IfOk result
-        (λ e. e ≡ found (db_of (F.history facts.now)) (asks.lookup k.now (form_of value.now))) }
+    ensures { IfOk result (λ e. e ≡ found_by (db_of (F.history facts.now)) lookup.now) }
 {
     schemas_tell_of_attributes();
-    let Some(attribute) = schema.named(k) else {
+    let Some(attribute) = schema.named(lookup.attribute) else {
         return Ok(None);
     };
-    let Some(v) = plain_value(attribute.kind, value)? else {
+    let Some(v) = plain_value(attribute.kind, lookup.value)? else {
         return Ok(None);
     };
     Ok(facts.holder(attribute.id, &v))

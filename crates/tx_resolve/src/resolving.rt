@@ -13,6 +13,7 @@ ghost use Rattle.tx_resolve.specs.Numbers.{names_told};
 ghost use Rattle.tx_resolve.specs.Settled.{pairs_in, drafted_acts, tempid_rules, lists_of, acts_of};
 
 use crate::drafts::{Draft, drafts_of_forms};
+use crate::names::all_looked_up;
 use crate::settle::settled;
 use fb_facts::Facts;
 use fb_memory::Memory;
@@ -25,7 +26,7 @@ use tx_refusals::{Reason, Refusal};
 
 /// What the forms ask of entities by their numbers, or why the transaction is refused: because of a name that finds no
 /// entity, of a map inside another that lacks what it needs, of a tempid with two holders, or of one that nothing is added
-/// to. It costs a logarithm for each ask, whatever names they have.
+/// to. It costs a logarithm for each ask and for each lookup ref that is written, however many asks name it.
 pub fn resolve<'a, F: Facts>(
     alloc: Global,
     flat: Flat<'a>,
@@ -69,7 +70,8 @@ fn resolved<'a, F: Facts>(
 {
     asks_that_ask_for_nothing();
     lawful_histories_are_small();
-    match drafts_of_forms(alloc, facts, schema, &flat.forms)? {
+    let found = all_looked_up(alloc, facts, schema, flat.lookups.as_slice())?;
+    match drafts_of_forms(alloc, facts, schema, found.as_slice(), &flat.forms)? {
         Ok(drafts) => unless_lacking(alloc, flat.lacking, drafts, facts.issued()),
         Err(at) => Ok(Err(Refusal {
             reason: Reason::NotAnEntity,

@@ -63,7 +63,10 @@ impl Database {
 
 fn transact(core: &mut Core, form: &Edn) -> Result<()> {
     match core.decide(form, CLOCK, AUTHOR, &NoGuard) {
-        Ok(draft) => Ok(core.accept(draft)),
+        Ok(draft) => {
+            core.accept(draft);
+            Ok(())
+        }
         Err(_) => bail!("a transaction is refused"),
     }
 }
@@ -75,5 +78,6 @@ fn merge<R: Threads + Sync>(rt: &R, alloc: Global, core: &mut Core) -> Result<()
     let first_id = begin.roots().next_id();
     let roots = merged(rt, alloc, &begin, first_id)?;
     let rebased = core.rebase(&begin, roots)?;
-    Ok(core.adopt(rebased))
+    core.adopt(rebased);
+    Ok(())
 }

@@ -5,7 +5,7 @@ ghost use Rattle.live_index.specs.Samples.{adds, AreSamples};
 ghost use Rattle.seg_tree.specs.Nodes.{tree_datoms};
 ghost use Rattle.bench.specs.Rising.{LiveRises, TreesRise};
 
-use crate::common::{Draws, no_live, no_samples, pushed, sample, with_samples};
+use crate::common::{Draws, live_of, no_samples, pushed, sample};
 use fb_covers::Covers;
 use fb_memory::Memory;
 use fb_values::{Datom, Order, Probe, Value};
@@ -56,7 +56,7 @@ pub(crate) fn index(
     ensures { IfOk result (λ live. LiveRises live) }
 {
     let samples = samples(alloc, numbers, t)?;
-    with_samples(alloc, &no_live(alloc), covers, t, samples)
+    live_of(alloc, covers, samples.as_slice())
 }
 
 fn samples(alloc: Global, numbers: Numbers, t: u32) -> Result<Vec<Datom>, Memory>

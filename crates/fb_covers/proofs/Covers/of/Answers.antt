@@ -1,15 +1,12 @@
-use Rattle.std.proofs.lemmas.List.Sorted.{IsNonDecreasingBy-from_sort}
-use Rattle.fb_covers.proofs.Sorted.{any_iff_Contains_sorted}
+use Rattle.std.proofs.Common.{eqb, ap, ◌∙◌}
+use Rattle.std.specs.List.{list_any}
+use Rattle.fb_covers.proofs.Keys.{iff-Contains}
 use Rattle.fb_covers.proofs.Covers.of.Goals as goal
 
-pub invariant_of-result : goal.invariant_of-result
-invariant_of-result c = (
-  rw c.in_ok-avet.ensures.ok (IsNonDecreasingBy-from_sort (λ x. x) c.sort_unstable.new.self.items c.sort_unstable.ensures.sorted),
-  rw c.in_ok-vaet.ensures.ok (IsNonDecreasingBy-from_sort (λ x. x) c.sort_unstable-2.new.self.items c.sort_unstable-2.ensures.sorted),
-)
-
 pub returns-clause-avet : goal.returns-clause-avet
-returns-clause-avet c = λ a. rw c.in_ok-avet.ensures.ok (any_iff_Contains_sorted c.args.avet.items c.sort_unstable.new.self.items a c.sort_unstable.ensures.permutation)
+returns-clause-avet c =
+    λ a. iff-Contains c.args.avet.items a _ (c.in_ok-avet.ensures a ∙ ap (list_any (λ b. eqb a b)) c.deref.ensures.value)
 
 pub returns-clause-vaet : goal.returns-clause-vaet
-returns-clause-vaet c = λ a. rw c.in_ok-vaet.ensures.ok (any_iff_Contains_sorted c.args.vaet.items c.sort_unstable-2.new.self.items a c.sort_unstable-2.ensures.permutation)
+returns-clause-vaet c =
+    λ a. iff-Contains c.args.vaet.items a _ (c.in_ok-vaet.ensures a ∙ ap (list_any (λ b. eqb a b)) c.deref-2.ensures.value)

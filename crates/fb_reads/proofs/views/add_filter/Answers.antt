@@ -12,8 +12,8 @@ returns-in_default-clause-line g c =
 pub returns-clause-names : goal.returns-clause-names
 returns-clause-names g c =
     let view = c.args.view.now in
-    named_more c.add.result (g.T.FilterTable.name_at view.filter.table.now) (g.T.FilterTable.place_of view.filter.table.now c.args.name.now) c.in-Some.place c.args.name.now
-    view.filter.places.items c.add.new.self.places.items (sym c.in-Some.ensures.place) c.in-Some.ensures.name c.add.ensures.added
+    named_more c.add.result (g.T.FilterTable.place_of view.filter.table.now) (g.T.FilterTable.name_at view.filter.table.now) c.in-Some.place c.args.name.now
+    view.filter.places.items c.add.new.self.places.items (sym c.in-Some.ensures.place) c.in-Some.ensures.name view.filter.are_found c.add.ensures.added
 
 pub returns-clause-line : goal.returns-clause-line
 returns-clause-line g c =

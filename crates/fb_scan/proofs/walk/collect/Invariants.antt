@@ -4,11 +4,12 @@ use Rattle.fb_scan.specs.Steps.{at_hand}
 use Rattle.fb_scan.proofs.Stepping.{Goes, IsUpto}
 use Rattle.fb_scan.proofs.walk.collect.Given as goal
 
-abbrev pub invariant-loop-at : goal.invariant-loop-at
-invariant-loop-at g l = record {
-  going : Goes l.db.snapshot (window_of l.db) (g.S.Selector.selects l.db.filter) l.from l.end l.found.items l.at;
+abbrev pub invariant-loop-sides : goal.invariant-loop-sides
+invariant-loop-sides g l = record {
+  going :
+      Goes l.db.snapshot.entries (window_of l.db) (g.S.Selector.selects l.db.filter) l.sides l.from l.end l.found.items l.at;
   upto : IsUpto l.most l.found.items;
 }
 
-abbrev pub decreases-loop-at : goal.decreases-loop-at
-decreases-loop-at g l = length (at_hand l.db.snapshot l.from.order l.at)
+abbrev pub decreases-loop-sides : goal.decreases-loop-sides
+decreases-loop-sides g l = length (at_hand l.sides l.end l.at)

@@ -1,5 +1,5 @@
 use Rattle.std.proofs.Common.{◌≡◌, ◌≤◌, length, drop}
-use Rattle.live_blocks.specs.Newest.{woven}
+use Rattle.live_blocks.specs.Woven.{woven}
 use Rattle.live_blocks.proofs.tree.block_with.Given as goal
 
 -- the datoms that are not left are woven in

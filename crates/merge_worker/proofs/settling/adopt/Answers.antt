@@ -10,7 +10,7 @@ use Rattle.merge_worker.proofs.settling.adopt.Goals as goal
 pub returns-clause-merged : goal.returns-clause-merged
 returns-clause-merged g c =
     let now = c.in_ok-rebased.rebased.snapshot in let made = c.in_ok-rebased.ensures in
-    let adopted : c.adopt.new.self.snapshot ≡ now = ap (λ (core : CoreParts). core.snapshot) c.adopt.ensures in
+    let adopted : c.adopt.new.self.snapshot ≡ now = ap (λ (core : CoreParts). core.snapshot) c.adopt.ensures.core in
     let of_begin : now.covered ≡ basis c.args.core.now.snapshot.entries =
     made.covered ∙ ap (λ (k : Kept). basis k.entries) c.snapshot-begin.ensures.snapshot in
     let whole : now.covered ≡ basis now.entries = of_begin ∙ ap (λ (h : List Entry). basis h) (sym made.rebase.entries) in

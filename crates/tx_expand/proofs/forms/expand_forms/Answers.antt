@@ -10,6 +10,7 @@ use Rattle.tx_asks.specs.Asks.{IsRead}
 use Rattle.tx_expand.specs.Numbered.{form_told, forms_told, next_behind}
 use Rattle.tx_expand.specs.Faults.{form_faults, ask_read, is_kept}
 use Rattle.tx_expand.specs.Rules.{first_unknown, firsts_from, earlier_ones, firsts_of}
+use Rattle.tx_expand.proofs.LookupLists.{begin_with_themselves}
 use Rattle.tx_expand.proofs.OneMore.{shape_here, known_behind, firsts_behind, firsts_at_end, append_none, map_then}
 use Rattle.tx_expand.proofs.forms.expand_forms.Goals as goal
 
@@ -35,8 +36,8 @@ loop-f-preserved c =
     let more = forms_told facts t.next (forms_of rest) in
     let behind = c.expand_form.new.out.next in
     let here : drop i fs ≡ f ∷ rest = drop_more fs i f (search rules) ∙ ap (λ q. q ∷ rest) (sym c.f-item.is) in
-    let next_is : behind ≡ t.next = c.in_ok-judged.ensures.next in
-    let known : (form_faults facts t.asks).unknown ≡ false = ap (λ found. found.unknown) (sym c.in_ok-judged.ensures.faults) ∙ c.if-judged.false in
+    let next_is : behind ≡ t.next = c.in_ok-form.ensures.next in
+    let known : (form_faults facts t.asks).unknown ≡ false = ap (λ found. found.unknown) (sym c.in_ok-form.ensures.faults) ∙ c.if-form.false in
     record {
       place_is = ap (λ k. k + 1) c.loop-f.invariant.place_is;
       shapes =
@@ -49,21 +50,22 @@ loop-f-preserved c =
           ∙ c.loop-f.invariant.known;
       firsts_are =
           ap (λ firsts. earlier_ones firsts (firsts_from facts (n + 1) (forms_told facts behind (forms_of rest)))) c.with_faults-firsts.ensures
-          ∙ ap (λ found. earlier_ones (earlier_ones c.loop-f.firsts (firsts_of found n)) (firsts_from facts (n + 1) (forms_told facts behind (forms_of rest)))) c.in_ok-judged.ensures.faults
+          ∙ ap (λ found. earlier_ones (earlier_ones c.loop-f.firsts (firsts_of found n)) (firsts_from facts (n + 1) (forms_told facts behind (forms_of rest)))) c.in_ok-form.ensures.faults
           ∙ ap (λ k. earlier_ones (earlier_ones c.loop-f.firsts (firsts_of (form_faults facts t.asks) n)) (firsts_from facts (n + 1) (forms_told facts k (forms_of rest)))) next_is
           ∙ firsts_behind facts c.loop-f.firsts n t.asks more
           ∙ ap (λ xs. earlier_ones c.loop-f.firsts (firsts_from facts n (forms_told facts c.loop-f.out.next (forms_of xs)))) (sym here)
           ∙ c.loop-f.invariant.firsts_are;
-      asks =
-          ap (λ lists. map (λ form. map ask_read form.items) lists ++ map (filter (is_kept facts)) (forms_told facts behind (forms_of rest))) c.in_ok-push.ensures.items
-          ∙ map_then (λ form. map ask_read form.items) c.loop-f.expanded.items c.in_ok-judged.judged.asks (map (filter (is_kept facts)) (forms_told facts behind (forms_of rest)))
-          ∙ ap (λ asks. map (λ form. map ask_read form.items) c.loop-f.expanded.items ++ (asks ∷ map (filter (is_kept facts)) (forms_told facts behind (forms_of rest)))) c.in_ok-judged.ensures.asks
-          ∙ ap (λ k. map (λ form. map ask_read form.items) c.loop-f.expanded.items ++ (filter (is_kept facts) t.asks ∷ map (filter (is_kept facts)) (forms_told facts k (forms_of rest)))) next_is
-          ∙ ap (λ xs. map (λ form. map ask_read form.items) c.loop-f.expanded.items ++ map (filter (is_kept facts)) (forms_told facts c.loop-f.out.next (forms_of xs))) (sym here)
-          ∙ c.loop-f.invariant.asks;
+      asks = λ all begin.
+          ap (λ lists. map (λ form. map (ask_read all) form.items) lists ++ map (filter (is_kept facts)) (forms_told facts behind (forms_of rest))) c.in_ok-push.ensures.items
+          ∙ map_then (λ form. map (ask_read all) form.items) c.loop-f.expanded.items c.in_ok-form.form.asks (map (filter (is_kept facts)) (forms_told facts behind (forms_of rest)))
+          ∙ ap (λ asks. map (λ form. map (ask_read all) form.items) c.loop-f.expanded.items ++ (asks ∷ map (filter (is_kept facts)) (forms_told facts behind (forms_of rest)))) (c.in_ok-form.ensures.asks all begin)
+          ∙ ap (λ k. map (λ form. map (ask_read all) form.items) c.loop-f.expanded.items ++ (filter (is_kept facts) t.asks ∷ map (filter (is_kept facts)) (forms_told facts k (forms_of rest)))) next_is
+          ∙ ap (λ xs. map (λ form. map (ask_read all) form.items) c.loop-f.expanded.items ++ map (filter (is_kept facts)) (forms_told facts c.loop-f.out.next (forms_of xs))) (sym here)
+          ∙ c.loop-f.invariant.asks all (c.in_ok-form.ensures.kept all begin);
       read =
           subst (λ lists. All (λ form. All (IsRead facts) form.items) lists) (sym c.in_ok-push.ensures.items)
-          (All-push (λ form. All (IsRead facts) form.items) c.loop-f.expanded.items c.in_ok-judged.judged.asks c.loop-f.invariant.read c.in_ok-judged.ensures.read);
+          (All-push (λ form. All (IsRead facts) form.items) c.loop-f.expanded.items c.in_ok-form.form.asks c.loop-f.invariant.read c.in_ok-form.ensures.read);
+      judged = c.in_ok-form.ensures.judged;
       next =
           ap (λ k. next_behind facts k (forms_of rest)) next_is
           ∙ ap (λ xs. next_behind facts c.loop-f.out.next (forms_of xs)) (sym here)
@@ -76,6 +78,7 @@ returns c =
     let fs = c.args.forms.now in
     let n = c.loop-f.place in
     let at_end : drop c.loop-f.f-index fs ≡ [] = drop_all c.loop-f.f-index fs (search rules) in
+    let all = c.loop-f.out.lookups.items in
     record {
       known = sym c.loop-f.invariant.known ∙ ap (λ xs. first_unknown facts n (forms_told facts c.loop-f.out.next (forms_of xs))) at_end;
       firsts_are =
@@ -83,9 +86,9 @@ returns c =
           ∙ ap (λ xs. earlier_ones c.loop-f.firsts (firsts_from facts n (forms_told facts c.loop-f.out.next (forms_of xs)))) (sym at_end)
           ∙ c.loop-f.invariant.firsts_are;
       asks_are =
-          sym (append_none (map (λ form. map ask_read form.items) c.loop-f.expanded.items))
-          ∙ ap (λ xs. map (λ form. map ask_read form.items) c.loop-f.expanded.items ++ map (filter (is_kept facts)) (forms_told facts c.loop-f.out.next (forms_of xs))) (sym at_end)
-          ∙ c.loop-f.invariant.asks;
+          sym (append_none (map (λ form. map (ask_read all) form.items) c.loop-f.expanded.items))
+          ∙ ap (λ xs. map (λ form. map (ask_read all) form.items) c.loop-f.expanded.items ++ map (filter (is_kept facts)) (forms_told facts c.loop-f.out.next (forms_of xs))) (sym at_end)
+          ∙ c.loop-f.invariant.asks all (begin_with_themselves all);
       read = c.loop-f.invariant.read;
       counted = ap (λ xs. next_behind facts c.loop-f.out.next (forms_of xs)) (sym at_end) ∙ c.loop-f.invariant.next;
     }

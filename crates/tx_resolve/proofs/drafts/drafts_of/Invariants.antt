@@ -7,7 +7,8 @@ use Rattle.tx_resolve.proofs.drafts.drafts_of.Given as goal
 abbrev pub invariant-loop-ask : goal.invariant-loop-ask
 invariant-loop-ask g l =
     let db = db_of (g.F.Facts.history l.facts) in
+    let looked_up = l.found in
     record {
-      found : map Some l.drafts.items ≡ map (draft_of db) (take l.ask-index l.asks);
-      lost : list_any (is_lost db) (drop l.ask-index l.asks) ≡ list_any (is_lost db) l.asks;
+      found : map Some l.drafts.items ≡ map (draft_of db looked_up) (take l.ask-index l.asks);
+      lost : list_any (is_lost db looked_up) (drop l.ask-index l.asks) ≡ list_any (is_lost db looked_up) l.asks;
     }

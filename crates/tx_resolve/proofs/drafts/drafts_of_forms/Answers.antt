@@ -17,21 +17,24 @@ lost_in test o p xs zs is same lost = sym (ap (list_any test) same) ∙ sym lost
 pub loop-asks-preserved : goal.loop-asks-preserved
 loop-asks-preserved g c =
     let db = db_of (g.F.Facts.history c.args.facts.now) in
-    let found : map Some c.in-Some.drafts.items ≡ map (draft_of db) c.asks-item.result.items = found_in (draft_of db) (λ (form : Vec Draft Global). map Some form.items) c.in_ok-drafts.field-0 c.in-Some.drafts c.deref.result.now c.asks-item.result.items c.in-Some.is c.deref.ensures.value c.in_ok-drafts.ensures.found in
-    let kept : list_any (is_lost db) c.asks-item.result.items ≡ false = lost_in (is_lost db) c.in_ok-drafts.field-0 (Some c.in-Some.drafts) c.deref.result.now c.asks-item.result.items c.in-Some.is c.deref.ensures.value c.in_ok-drafts.ensures.lost in
+    let looked_up = c.args.found.now in
+    let found : map Some c.in-Some.drafts.items ≡ map (draft_of db looked_up) c.asks-item.result.items = found_in (draft_of db looked_up) (λ (form : Vec Draft Global). map Some form.items) c.in_ok-drafts.field-0 c.in-Some.drafts c.deref.result.now c.asks-item.result.items c.in-Some.is c.deref.ensures.value c.in_ok-drafts.ensures.found in
+    let kept : list_any (is_lost db looked_up) c.asks-item.result.items ≡ false = lost_in (is_lost db looked_up) c.in_ok-drafts.field-0 (Some c.in-Some.drafts) c.deref.result.now c.asks-item.result.items c.in-Some.is c.deref.ensures.value c.in_ok-drafts.ensures.lost in
     record {
       counted = ap (λ n. n + 1) c.loop-asks.invariant.counted;
-      found = given_more (λ (form : Vec Draft Global). map Some form.items) (λ (form : Vec Ask Global). map (draft_of db) form.items) c.args.forms.now c.loop-asks.found.items c.push.new.self.items c.loop-asks.asks-index c.asks-item.result c.in-Some.drafts c.loop-asks-test.true c.asks-item.is found c.in_ok-push.ensures.items c.loop-asks.invariant.found;
-      lost = first_later (λ (form : Vec Ask Global). list_any (is_lost db) form.items) c.args.forms.now c.loop-asks.asks-index c.asks-item.result c.loop-asks-test.true c.asks-item.is c.loop-asks.place (lost_at db c.args.forms.now) kept c.loop-asks.invariant.lost;
+      found = given_more (λ (form : Vec Draft Global). map Some form.items) (λ (form : Vec Ask Global). map (draft_of db looked_up) form.items) c.args.forms.now c.loop-asks.forms_found.items c.push.new.self.items c.loop-asks.asks-index c.asks-item.result c.in-Some.drafts c.loop-asks-test.true c.asks-item.is found c.in_ok-push.ensures.items c.loop-asks.invariant.found;
+      lost = first_later (λ (form : Vec Ask Global). list_any (is_lost db looked_up) form.items) c.args.forms.now c.loop-asks.asks-index c.asks-item.result c.loop-asks-test.true c.asks-item.is c.loop-asks.place (lost_at db looked_up c.args.forms.now) kept c.loop-asks.invariant.lost;
     }
 
 pub returns-in_default-clause-lost : goal.returns-in_default-clause-lost
 returns-in_default-clause-lost g c =
     let db = db_of (g.F.Facts.history c.args.facts.now) in
-    let lost : list_any (is_lost db) c.asks-item.result.items ≡ true = lost_in (is_lost db) c.in_ok-drafts.field-0 None c.deref.result.now c.asks-item.result.items c.in_default.is c.deref.ensures.value c.in_ok-drafts.ensures.lost in
-    first_here (λ (form : Vec Ask Global). list_any (is_lost db) form.items) c.args.forms.now c.loop-asks.asks-index c.asks-item.result c.loop-asks-test.true c.asks-item.is c.loop-asks.place (lost_at db c.args.forms.now) lost c.loop-asks.invariant.lost
+    let looked_up = c.args.found.now in
+    let lost : list_any (is_lost db looked_up) c.asks-item.result.items ≡ true = lost_in (is_lost db looked_up) c.in_ok-drafts.field-0 None c.deref.result.now c.asks-item.result.items c.in_default.is c.deref.ensures.value c.in_ok-drafts.ensures.lost in
+    first_here (λ (form : Vec Ask Global). list_any (is_lost db looked_up) form.items) c.args.forms.now c.loop-asks.asks-index c.asks-item.result c.loop-asks-test.true c.asks-item.is c.loop-asks.place (lost_at db looked_up c.args.forms.now) lost c.loop-asks.invariant.lost
 
 pub returns-clause-lost : goal.returns-clause-lost
 returns-clause-lost g c =
     let db = db_of (g.F.Facts.history c.args.facts.now) in
-    first_left (λ (form : Vec Ask Global). list_any (is_lost db) form.items) c.args.forms.now c.loop-asks.asks-index c.loop-asks-test.false c.loop-asks.place (lost_at db c.args.forms.now) c.loop-asks.invariant.lost
+    let looked_up = c.args.found.now in
+    first_left (λ (form : Vec Ask Global). list_any (is_lost db looked_up) form.items) c.args.forms.now c.loop-asks.asks-index c.loop-asks-test.false c.loop-asks.place (lost_at db looked_up c.args.forms.now) c.loop-asks.invariant.lost

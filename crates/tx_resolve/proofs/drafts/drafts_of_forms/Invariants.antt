@@ -8,8 +8,9 @@ use Rattle.tx_resolve.proofs.drafts.drafts_of_forms.Given as goal
 abbrev pub invariant-loop-asks : goal.invariant-loop-asks
 invariant-loop-asks g l =
     let db = db_of (g.F.Facts.history l.facts) in
+    let looked_up = l.found in
     record {
       counted : l.place ≡ l.asks-index;
-      found : map (λ form. map Some form.items) l.found.items ≡ map (λ form. map (draft_of db) form.items) (take l.asks-index l.forms);
-      lost : first_yes l.place (map (λ form. list_any (is_lost db) form.items) (drop l.asks-index l.forms)) ≡ lost_at db l.forms;
+      found : map (λ form. map Some form.items) l.forms_found.items ≡ map (λ form. map (draft_of db looked_up) form.items) (take l.asks-index l.forms);
+      lost : first_yes l.place (map (λ form. list_any (is_lost db looked_up) form.items) (drop l.asks-index l.forms)) ≡ lost_at db looked_up l.forms;
     }

@@ -15,7 +15,7 @@ invariant_of-self-clause-alone c =
     let own = c.requires.draft in
     let last : basis draft.after.entries ≡ basis desk.core.snapshot.entries + 1 = ap basis own.entries ∙ next_basis desk.core.snapshot.entries (entry_of draft) own.next in
     let t : c.basis-t.result ≡ basis draft.after.entries = c.basis-t.ensures.basis ∙ ap (λ (k : Kept). basis k.entries) c.requires.snapshot in
-    let core : c.accept.new.self ≡ with_draft draft = cc (c.accept.ensures, c.take_tempids-tempids.ensures.after, c.take_tempids-tempids.ensures.authors) in
+    let core : c.accept.new.self ≡ with_draft draft = cc (c.accept.ensures.core, c.take_tempids-tempids.ensures.after, c.take_tempids-tempids.ensures.authors) in
     let commits : c.push_reserved.new.self.items ≡ desk.commits.items ++ basis draft.after.entries ∷ [] = c.push_reserved.ensures.items ∙ ap (λ (n : ℕ). desk.commits.items ++ n ∷ []) t in
     subst (λ (parts : CoreParts). IsAlone parts c.push_reserved.new.self.items) (sym core)
     (subst (λ (ts : List ℕ). IsAlone (with_draft draft) ts) (sym commits)

@@ -1,8 +1,9 @@
 use Rattle.std.proofs.Common.{◌≡◌, ◌++◌, drop}
 use Rattle.fb_values.specs.declared.indexes.Order.TheVariants.{Avet}
-use Rattle.fb_schema.specs.Change.{is_gained}
-use Rattle.fb_schema.specs.Tables.{named_where}
+use Rattle.fb_schema.specs.Change.{is_gained, told_where}
 use Rattle.fb_schema.proofs.schema.Schema.gained.Given as goal
 
 abbrev pub invariant-loop-d : goal.invariant-loop-d
-invariant-loop-d l = l.gained.items ++ named_where (is_gained Avet l.self l.after) (drop l.d-index l.after) ≡ named_where (is_gained Avet l.self l.after) l.after
+invariant-loop-d l =
+    l.gained.items ++ told_where (is_gained Avet l.self l.after) (drop l.d-index l.entry.datoms)
+    ≡ told_where (is_gained Avet l.self l.after) l.entry.datoms

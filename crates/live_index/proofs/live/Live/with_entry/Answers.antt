@@ -1,20 +1,23 @@
-use Rattle.std.proofs.Common.{◌≡◌, ◌∙◌}
-use Rattle.std.proofs.lemmas.Result.{IfOk-weaker}
+use Rattle.std.proofs.Common.{[], List, sym, subst}
+use Rattle.fb_values.specs.declared.facts.Datom.{Datom}
+use Rattle.fb_values.specs.Lists.{list_in}
+use Rattle.live_index.specs.Growth.{IsGrown}
+use Rattle.live_index.specs.Halves.{MayFollow}
+use Rattle.live_index.proofs.Growing.{both_ok}
 use Rattle.live_index.proofs.Standing.{stands}
 use Rattle.live_index.proofs.live.Live.with_entry.Goals as goal
 
-pub with_shared-requires : goal.with_shared-requires
-with_shared-requires c =
-    let datoms : c.deref.result.now ≡ c.args.entry.now.datoms = c.deref.ensures.value ∙ c.in_ok-datoms.ensures ∙ c.as_slice.ensures in
-    let refill : c.deref-2.result.now ≡ c.args.refill.now = c.deref-2.ensures.value ∙ c.in_ok-refill.ensures ∙ c.as_slice-2.ensures in
-    rw (datoms, refill) c.requires
+pub grown-requires-clause-follow : goal.grown-requires-clause-follow
+grown-requires-clause-follow c = λ order.
+    subst (λ (ds : List Datom). MayFollow (list_in c.args.self.now order) ds) (sym c.as_slice.ensures) (c.requires.follow order)
 
-pub returns : goal.returns
-returns c =
-    let datoms : c.deref.result.now ≡ c.args.entry.now.datoms = c.deref.ensures.value ∙ c.in_ok-datoms.ensures ∙ c.as_slice.ensures in
-    let refill : c.deref-2.result.now ≡ c.args.refill.now = c.deref-2.ensures.value ∙ c.in_ok-refill.ensures ∙ c.as_slice-2.ensures in
-    let grown = rw (datoms, refill) at c.with_shared.ensures in
-    record {
-      grown = grown;
-      stands = IfOk-weaker c.with_shared.result _ _ (λ live grown h at is was. stands h at c.args.entry.now c.args.covers.now c.args.refill.now is c.args.self.now was live grown) grown;
-    }
+pub returns-clause-grown : goal.returns-clause-grown
+returns-clause-grown c =
+    both_ok c.grown.result _ _ _ (λ live grown also order.
+    subst (λ (ds : List Datom). IsGrown order c.args.covers.now (list_in c.args.self.now order) [] ds (list_in live order)) c.as_slice.ensures (grown order)) c.grown.ensures c.grown.ensures
+
+pub returns-clause-stands : goal.returns-clause-stands
+returns-clause-stands c =
+    both_ok c.grown.result _ _ _ (λ live grown also h at is was.
+    stands h at c.args.entry.now c.args.covers.now [] is c.args.self.now was live (λ order.
+    subst (λ (ds : List Datom). IsGrown order c.args.covers.now (list_in c.args.self.now order) [] ds (list_in live order)) c.as_slice.ensures (grown order))) c.grown.ensures c.grown.ensures

@@ -1,0 +1,4 @@
+pub mod Ranging
+pub mod Merging
+pub mod Reading
+pub mod Walking

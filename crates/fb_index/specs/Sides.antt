@@ -1,0 +1,60 @@
+-- The lists of an order, a tree's and the live ones, read as one: all that was said, or what holds of it.
+-- Restates Indexes of Datomic's documentation (the merging of recent datoms with older ones).
+use Rattle.std.specs.Prelude.{Bool, true, List, filter, drop}
+use Rattle.fb_values.specs.declared.facts.Datom.{Datom}
+use Rattle.fb_values.specs.declared.indexes.Order.{Order}
+use Rattle.fb_values.specs.Lists.{Lists, list_in}
+use Rattle.fb_values.specs.Rising.{IsRising}
+use Rattle.fb_model.specs.Facts.{standing}
+use Rattle.live_index.specs.Halves.{IsPair, IsLater, merged, outlives, withdrawn}
+use Rattle.live_index.specs.Walks as walks
+use Rattle.live_index.specs.declared.walk.Cursor.{Cursor}
+use Rattle.seg_tree.specs.Nodes.{DirectoryNode, tree_datoms}
+use Rattle.seg_tree.specs.Ranks.{rank}
+use Rattle.seg_tree.specs.declared.tree.Place.{Place}
+use Rattle.fb_index.specs.declared.sides.Extent.{Extent}
+use Rattle.fb_index.specs.declared.sides.Extent.TheVariants.{Said, Held}
+use Rattle.fb_index.specs.declared.sides.Spot.{Spot}
+
+-- what is read of a tree's datoms: all, or those whose triple no later datom tells of
+abbrev pub older_read : Extent → Lists → List Datom → List Datom
+older_read Said live older = older
+older_read Held live older = filter (outlives (withdrawn live.eavt)) older
+
+-- what is read of a live list
+abbrev pub live_read : Extent → List Datom → List Datom
+live_read Said ds = ds
+live_read Held ds = standing ds
+
+-- what is read of a live list from a cursor on
+abbrev pub live_ahead : Extent → Order → List Datom → Cursor → List Datom
+live_ahead Said order ds at = walks.ahead order ds at
+live_ahead Held order ds at = drop at.holding (standing ds)
+
+-- what is read of an order
+abbrev pub whole : Extent → Order → List Datom → Lists → List Datom
+whole extent order older live =
+    merged order (older_read extent live older) (live_read extent (list_in live order))
+
+-- what is read of it from a spot on
+abbrev pub ahead : Extent → Order → List DirectoryNode → Lists → Spot → List Datom
+ahead extent order tree live spot =
+    merged order (older_read extent live (drop (rank tree spot.older) (tree_datoms tree)))
+    (live_ahead extent order (list_in live order) spot.live)
+
+-- a datom of the tree is read
+abbrev pub is_read : Extent → Lists → Datom → Bool
+is_read Said live d = true
+is_read Held live d = outlives (withdrawn live.eavt) d
+
+-- what is read of the tree from a place on
+abbrev pub older_ahead : Extent → List DirectoryNode → Lists → Place → List Datom
+older_ahead extent tree live place =
+    older_read extent live (drop (rank tree place) (tree_datoms tree))
+
+-- the lists can be read as one, and the live ones tell of each triple later than the tree
+pub record AreBeside (extent : Extent) (order : Order) (older : List Datom) (live : Lists)
+    : Type 0 where
+  pub rises : IsRising order older
+  pub pair : IsPair order (older_read extent live older) (live_read extent (list_in live order))
+  pub later : IsLater older live.eavt

@@ -1,0 +1,8 @@
+//! The lists of an order, a tree's and the live ones, read as one rising list: of all that was said, or of what holds.
+#![tactic(auto)]
+
+mod ranges;
+mod sides;
+
+pub use ranges::{is_led, push_live, push_older};
+pub use sides::{Extent, Sides, Spot};

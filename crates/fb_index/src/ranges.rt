@@ -1,0 +1,100 @@
+//! The datoms that a probe leads to, read out of the live index and out of a tree.
+ghost use Rattle.std.specs.Prelude.{◌≡◌, ◌++◌, ◌<◌, IfOk};
+ghost use Rattle.fb_values.specs.Lists.{list_in};
+ghost use Rattle.fb_values.specs.Rising.{IsRising};
+ghost use Rattle.fb_search.specs.Places.{place_of};
+ghost use Rattle.fb_model.specs.Facts.{standing};
+ghost use Rattle.live_index.specs.Halves.{withdrawn};
+ghost use Rattle.live_index.specs.Walks.{ahead};
+ghost use Rattle.seg_tree.specs.Nodes.{tree_datoms};
+ghost use Rattle.fb_index.specs.Ranges.{is_led, led_to, from_probe};
+
+use fb_memory::Memory;
+use fb_search::Steps;
+use fb_values::{Datom, Probe, cmp_probe};
+use live_index::{Cursor, Live};
+use seg_tree::Tree;
+use std::cmp::Ordering;
+use std::marker::Brand;
+use std::sync::ledger::{Blank, Ledger};
+
+/// Adds copies of the live datoms that the probe leads to.
+pub fn push_live(found: &mut Vec<Datom>, live: &Live, probe: &Probe) -> Result<(), Memory>
+    ensures { IfOk result (λ _. found.new.items
+        ≡ found.old.items ++ led_to probe.now (list_in live.now probe.now.order)) }
+{
+    let mut next = live.next(probe.order, live_start(live, probe));
+    while let Some((d, at)) = next {
+        if !is_led(probe, d) {
+            return Ok(());
+        }
+        found.push(d.copy()?)?;
+        next = live.next(probe.order, at);
+    }
+    Ok(())
+}
+
+/// Adds copies of the tree's datoms that the probe leads to.
+pub fn push_older(found: &mut Vec<Datom>, tree: &Tree, probe: &Probe) -> Result<(), Memory>
+    requires { IsRising probe.now.order (tree_datoms tree.now) }
+    ensures { IfOk result
+        (λ _. found.new.items ≡ found.old.items ++ led_to probe.now (tree_datoms tree.now)) }
+{
+    let mut place = tree.place(probe);
+    while let Some(d) = tree.at(place) {
+        if !is_led(probe, d) {
+            return Ok(());
+        }
+        found.push(d.copy()?)?;
+        place = tree.next(place);
+    }
+    Ok(())
+}
+
+/// Whether the datom has the leading components of the probe.
+pub fn is_led(probe: &Probe, d: &Datom) -> bool
+    ensures { result ≡ is_led probe.now d.now }
+{
+    cmp_probe(probe, d) == Ordering::Equal
+}
+
+/// Where the live datoms begin that are not below the probe.
+pub(crate) fn live_start(live: &Live, probe: &Probe) -> Cursor
+    ensures ahead { ahead probe.now.order (list_in live.now probe.now.order) result
+        ≡ from_probe probe.now (list_in live.now probe.now.order) }
+    ensures rising { IsRising probe.now.order (list_in live.now probe.now.order) }
+{
+    Cursor {
+        holding: holding_place(live, probe),
+        past: past_place::<Brand>(live, probe, Blank::new(1)),
+    }
+}
+
+/// Where those of them begin that hold.
+pub(crate) fn holding_place(live: &Live, probe: &Probe) -> u64
+    ensures place { result ≡ place_of probe.now (standing (list_in live.now probe.now.order)) }
+    ensures rising { IsRising probe.now.order (list_in live.now probe.now.order) }
+{
+    seek_holding::<Brand>(live, probe, Blank::new(1))
+}
+
+/// A seek whose comparisons a ledger of its own counts.
+fn seek_holding<L: Ledger>(live: &Live, probe: &Probe, blank: Blank) -> u64
+    requires name { blank.name ≡ L.name }
+    requires parts { blank.parts ≡ L.parts }
+    requires some { 0 < blank.parts }
+    ensures place { result ≡ place_of probe.now (standing (list_in live.now probe.now.order)) }
+    ensures rising { IsRising probe.now.order (list_in live.now probe.now.order) }
+{
+    live.holding().seek(probe, &mut Steps::<L>::of(blank))
+}
+
+/// Where those begin that do not hold.
+fn past_place<L: Ledger>(live: &Live, probe: &Probe, blank: Blank) -> u64
+    requires name { blank.name ≡ L.name }
+    requires parts { blank.parts ≡ L.parts }
+    requires some { 0 < blank.parts }
+    ensures { result ≡ place_of probe.now (withdrawn (list_in live.now probe.now.order)) }
+{
+    live.past().seek(probe, &mut Steps::<L>::of(blank))
+}

@@ -1,5 +1,0 @@
-use Rattle.fb_schema.proofs.Meeting.{HasMet-cons}
-use Rattle.fb_schema.proofs.standing.meet.Goals as goal
-
-pub returns-clause-met : goal.returns-clause-met
-returns-clause-met c = λ ds has. HasMet-cons c.args.met.now c.insert.new.self c.args.d.now ds (rw c.in_ok-copy.ensures at c.in_ok-insert.ensures.updates) has

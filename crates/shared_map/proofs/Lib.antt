@@ -1,0 +1,4 @@
+pub mod Sides
+pub mod AtNode
+pub mod Rising
+pub mod Lookups

@@ -1,0 +1,4 @@
+pub mod Trees
+pub mod Tree
+pub mod TreeFalls
+pub mod Entries
