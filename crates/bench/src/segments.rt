@@ -2,7 +2,7 @@
 //! input and answers it with a line of its own, so that its rounds can be timed one by one. `seek` looks for SOUGHT datoms and prints
 //! the sum of the entities found. `merge` merges MERGED datoms into the trees, from their first one to their last, and `behind` as
 //! many behind the last one: each prints the id that would follow those of the new trees.
-ghost use Rattle.bench.specs.Rising.{LiveRises, TreesRise};
+ghost use Rattle.bench.specs.Rising.{LiveRises, TreesAreHeld, TreesRise};
 
 mod trees;
 
@@ -106,6 +106,7 @@ fn answer_lines<R: Input + Print + Threads + Sync>(
     behind: &Live,
 ) -> Result<()>
     requires roots { TreesRise roots.now }
+    requires held { TreesAreHeld covers.now roots.now }
     requires among { LiveRises among.now }
     requires behind { LiveRises behind.now }
 {

@@ -58,6 +58,13 @@ first_of_live order x y xs ys pair not_less = next_live order (x ∷ xs) (y ∷ 
 
 -- ---- what a filter leaves of both
 
+pub filter_pair : (order : Order) (test : Datom → Bool) (older live : List Datom) → IsPair order older live
+    → IsPair order (filter test older) (filter test live)
+filter_pair order test older live pair =
+    part_pair order older live (filter test older) (filter test live) pair (rising-filter order test older pair.older_rises)
+    (rising-filter order test live pair.live_rises)
+    (λ d there. (from_filter test older d there).0) (λ d there. (from_filter test live d there).0)
+
 pub merged-filter : (order : Order) (test : Datom → Bool) (older live : List Datom) → IsPair order older live
     → merged order (filter test older) (filter test live) ≡ filter test (merged order older live)
 merged-filter order test older live pair =
@@ -65,12 +72,6 @@ merged-filter order test older live pair =
     (merged_rises order (filter test older) (filter test live))
     (rising-filter order test (merged order older live) (merged_rises order older live)) forth back
   where
-    part : IsPair order (filter test older) (filter test live)
-    part =
-        part_pair order older live (filter test older) (filter test live) pair (rising-filter order test older pair.older_rises)
-        (rising-filter order test live pair.live_rises)
-        (λ d there. (from_filter test older d there).0) (λ d there. (from_filter test live d there).0)
-
     forth : (d : Datom) → Contains (merged order (filter test older) (filter test live)) d
         → Contains (filter test (merged order older live)) d
     forth d there =
@@ -85,7 +86,8 @@ merged-filter order test older live pair =
         → Contains (merged order (filter test older) (filter test live)) d
     back d there =
         let at = from_filter test (merged order older live) d there in
-        into_merged order (filter test older) (filter test live) d part.single (elim (from_merged order older live d at.0) [
+        into_merged order (filter test older) (filter test live) d (filter_pair order test older live pair).single
+        (elim (from_merged order older live d at.0) [
           | inl a ↦ inl (into_filter test older d a at.1)
           | inr b ↦ inr (into_filter test live d b at.1)
         ])

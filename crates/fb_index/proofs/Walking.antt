@@ -1,29 +1,25 @@
 -- The steps of a walk over both lists.
-use Rattle.std.proofs.Common.{◌≡◌, ◌∙◌, ◌⊎◌, inl, inr, ℕ, zero, suc, ◌+◌, true, false, not, List, [], ◌∷◌, length, drop, refl, sym, ap, subst, arith, Option, Some, None, Bor}
-use Rattle.std.specs.Prelude.{Contains, min, MatchOption}
-use Rattle.std.specs.Ordering.{is_lt}
+use Rattle.std.proofs.Common.{◌≡◌, ◌∙◌, ℕ, zero, suc, ◌+◌, true, false, not, List, [], ◌∷◌, length, drop, refl, sym, ap, subst, arith, Option, Some, None, Bor}
+use Rattle.std.specs.Prelude.{min, IfSome}
+use Rattle.std.specs.List.{slice_get}
+use Rattle.std.specs.Option.{option_copied}
 use Rattle.fb_values.specs.declared.facts.Datom.{Datom}
 use Rattle.fb_values.specs.declared.indexes.Order.{Order}
 use Rattle.fb_values.specs.declared.indexes.Probe.{Probe}
-use Rattle.fb_values.specs.Orders.{key_cmp}
 use Rattle.fb_values.specs.Lists.{Lists, list_in}
 use Rattle.fb_values.specs.Rising.{IsRising}
 use Rattle.fb_search.specs.Places.{is_below, place_of}
-use Rattle.fb_model.proofs.Members.{standing_member}
-use Rattle.live_index.specs.Halves.{IsPair, merged, outlives, withdrawn}
-use Rattle.live_index.specs.declared.walk.Cursor.{Cursor}
-use Rattle.live_index.proofs.Members.{from_filter}
-use Rattle.live_index.proofs.Halves.{merged_rises, from_merged}
+use Rattle.live_blocks.specs.Walks.{IsFirstOf}
+use Rattle.live_index.specs.Halves.{IsPair, merged}
+use Rattle.live_index.proofs.Members.{contains_tail}
 use Rattle.seg_tree.specs.Nodes.{DirectoryNode, tree_datoms}
 use Rattle.seg_tree.specs.Ranks.{rank}
 use Rattle.seg_tree.specs.declared.tree.Place.{Place}
 use Rattle.fb_index.specs.declared.sides.Extent.{Extent}
-use Rattle.fb_index.specs.declared.sides.Extent.TheVariants.{Said, Held}
-use Rattle.fb_index.specs.declared.sides.Spot.{Spot}
-use Rattle.fb_index.specs.Ranges.{led_to, from_probe, upto_probe, within}
-use Rattle.fb_index.specs.Sides.{AreBeside, older_read, older_ahead, live_read, live_ahead, whole, ahead}
-use Rattle.fb_index.proofs.Merging.{first_of_older_alone, first_of_live_alone, first_of_older, first_of_live, merged-filter, upto_from}
-use Rattle.fb_index.proofs.Reading.{older_from, within_pair, within_ahead}
+use Rattle.fb_index.specs.Ranges.{from_probe, within}
+use Rattle.fb_index.specs.Sides.{AreBeside, older_read, older_ahead, live_read, whole, at_hand, is_first}
+use Rattle.fb_index.proofs.Merging.{part_pair, first_of_older_alone, first_of_live_alone, first_of_older, first_of_live, filter_pair, merged-filter}
+use Rattle.fb_index.proofs.Reading.{older_from, within_pair, within_both}
 
 drop_none : (ds : List Datom) (n : ℕ) → ds ≡ [] → drop n ds ≡ []
 drop_none ds zero is = is
@@ -35,152 +31,139 @@ drop_min [] n = drop_none [] (min n 0) refl ∙ sym (drop_none [] n refl)
 drop_min (d ∷ ds) zero = let first : min 0 (length (d ∷ ds)) ≡ 0 = omega arith in rw first refl
 drop_min (d ∷ ds) (suc n) = let next : min (suc n) (length (d ∷ ds)) ≡ suc (min n (length ds)) = omega arith in rw next (drop_min ds n)
 
-module _ (end : Option Probe) (extent : Extent) (order : Order) (tree : List DirectoryNode) (live : Lists) where
-  -- what is left of each list
-  abbrev pub older_left : Place → List Datom
-  older_left place = within end (older_ahead extent tree live place)
-
-  abbrev pub live_left : Cursor → List Datom
-  live_left at = within end (live_ahead extent order (list_in live order) at)
-
-  abbrev pub left : Spot → List Datom
-  left spot = within end (ahead extent order tree live spot)
-
-  -- what is left of the tree behind a place
-  abbrev pub rest : Place → List Datom
-  rest place = within end (older_read extent live (drop (rank tree place + 1) (tree_datoms tree)))
-
-  pub rest_is : (place behind : Place) → rank tree behind ≡ min (rank tree place + 1) (length (tree_datoms tree))
-      → older_left behind ≡ rest place
-  rest_is place behind is =
-      ap (λ l. within end (older_read extent live l))
-      (ap (λ n. drop n (tree_datoms tree)) is ∙ drop_min (tree_datoms tree) (rank tree place + 1))
-
-  module _ (beside : AreBeside extent order (tree_datoms tree) live) where
-    left_is : (spot : Spot) (os ls : List Datom) → older_left spot.older ≡ os → live_left spot.live ≡ ls → left spot ≡ merged order os ls
-    left_is spot os ls older_is live_is =
-        within_ahead end extent order (tree_datoms tree) live beside (rank tree spot.older) spot.live
-        ∙ ap (λ (l : List Datom). merged order l (live_left spot.live)) older_is
-        ∙ ap (merged order os) live_is
-
-    left_pair : (spot : Spot) (os ls : List Datom) → older_left spot.older ≡ os → live_left spot.live ≡ ls → IsPair order os ls
-    left_pair spot os ls older_is live_is =
-        subst (IsPair order os) live_is
-        (subst (λ (l : List Datom). IsPair order l (live_left spot.live)) older_is
-        (within_pair end extent order (tree_datoms tree) live beside (rank tree spot.older) spot.live))
-
-    module _ (spot : Spot) (place : Place) (same : older_left place ≡ older_left spot.older) where
-      pub step_none : older_left place ≡ [] → live_left spot.live ≡ [] → left spot ≡ []
-      step_none no_older no_live = left_is spot [] [] (sym same ∙ no_older) no_live
-
-      pub step_live_alone : (y : Datom) (at : Cursor) → older_left place ≡ [] → live_left spot.live ≡ y ∷ live_left at
-          → left spot ≡ y ∷ left (record { older = place; live = at })
-      step_live_alone y at no_older live_is =
-          left_is spot [] (y ∷ live_left at) (sym same ∙ no_older) live_is
-          ∙ first_of_live_alone order y (live_left at) (left_pair spot [] (y ∷ live_left at) (sym same ∙ no_older) live_is)
-          ∙ ap (λ (l : List Datom). y ∷ l) (sym (left_is (record { older = place; live = at }) [] (live_left at) no_older refl))
-
-      module _ (x : Datom) (first : older_left place ≡ x ∷ rest place) where
-        pub step_older_alone : (behind : Spot) → live_left spot.live ≡ []
-            → rank tree behind.older ≡ min (rank tree place + 1) (length (tree_datoms tree)) → behind.live ≡ spot.live
-            → left spot ≡ x ∷ left behind
-        step_older_alone behind no_live is same_live =
-            left_is spot (x ∷ rest place) [] (sym same ∙ first) no_live
-            ∙ first_of_older_alone order x (rest place) (left_pair spot (x ∷ rest place) [] (sym same ∙ first) no_live)
-            ∙ ap (λ (l : List Datom). x ∷ l)
-            (sym (left_is behind (rest place) [] (rest_is place behind.older is) (ap live_left same_live ∙ no_live)))
-
-        module _ (y : Datom) (at : Cursor) (live_is : live_left spot.live ≡ y ∷ live_left at) where
-          pub step_older : (behind : Spot) → is_lt (key_cmp order x y) ≡ true
-              → rank tree behind.older ≡ min (rank tree place + 1) (length (tree_datoms tree)) → behind.live ≡ spot.live
-              → left spot ≡ x ∷ left behind
-          step_older behind less is same_live =
-              left_is spot (x ∷ rest place) (y ∷ live_left at) (sym same ∙ first) live_is
-              ∙ first_of_older order x y (rest place) (live_left at)
-              (left_pair spot (x ∷ rest place) (y ∷ live_left at) (sym same ∙ first) live_is) less
-              ∙ ap (λ (l : List Datom). x ∷ l)
-              (sym (left_is behind (rest place) (y ∷ live_left at) (rest_is place behind.older is) (ap live_left same_live ∙ live_is)))
-
-          pub step_live : is_lt (key_cmp order x y) ≡ false → left spot ≡ y ∷ left (record { older = place; live = at })
-          step_live not_less =
-              left_is spot (x ∷ rest place) (y ∷ live_left at) (sym same ∙ first) live_is
-              ∙ first_of_live order x y (rest place) (live_left at)
-              (left_pair spot (x ∷ rest place) (y ∷ live_left at) (sym same ∙ first) live_is) not_less
-              ∙ ap (λ (l : List Datom). y ∷ l)
-              (sym (left_is (record { older = place; live = at }) (x ∷ rest place) (live_left at) first refl))
+-- behind a place
+pub behind_is : (extent : Extent) (tree : List DirectoryNode) (live : Lists) (place behind : Place)
+    → rank tree behind ≡ min (rank tree place + 1) (length (tree_datoms tree))
+    → older_ahead extent tree live behind ≡ older_read extent live (drop (rank tree place + 1) (tree_datoms tree))
+behind_is extent tree live place behind is =
+    ap (older_read extent live) (ap (λ n. drop n (tree_datoms tree)) is ∙ drop_min (tree_datoms tree) (rank tree place + 1))
 
 -- ---- where a walk begins
 
-starts : (extent : Extent) (tree : List DirectoryNode) (live : Lists) (p : Probe) (spot : Spot)
-    → AreBeside extent p.order (tree_datoms tree) live → rank tree spot.older ≡ place_of p (tree_datoms tree)
-    → live_ahead extent p.order (list_in live p.order) spot.live ≡ from_probe p (live_read extent (list_in live p.order))
-    → ahead extent p.order tree live spot ≡ from_probe p (whole extent p.order (tree_datoms tree) live)
-starts extent tree live p spot beside place_is live_is =
-    ap (λ (l : List Datom). merged p.order l (live_ahead extent p.order (list_in live p.order) spot.live))
-    (ap (λ n. older_read extent live (drop n (tree_datoms tree))) place_is ∙ older_from extent live p (tree_datoms tree) beside.rises)
-    ∙ ap (merged p.order (from_probe p (older_read extent live (tree_datoms tree)))) live_is
-    ∙ merged-filter p.order (λ d. not (is_below p d)) (older_read extent live (tree_datoms tree)) (live_read extent (list_in live p.order))
-    beside.pair
+pub rises_to : (end : Option Probe) (order : Order) (ds : List Datom) → IfSome end (λ p. p.order ≡ order) → IsRising order ds
+    → IfSome end (λ p. IsRising p.order ds)
+rises_to None order ds same rising = tt
+rises_to (Some p) order ds same rising = subst (λ (o : Order). IsRising o ds) (sym same) rising
 
-pub starts_in : (extent : Extent) (order : Order) (tree : List DirectoryNode) (live : Lists) (p : Probe) (spot : Spot) → p.order ≡ order
-    → AreBeside extent order (tree_datoms tree) live
-    → rank tree spot.older ≡ place_of p (tree_datoms tree)
-    → live_ahead extent order (list_in live order) spot.live ≡ from_probe p (live_read extent (list_in live order))
-    → ahead extent order tree live spot ≡ from_probe p (whole extent order (tree_datoms tree) live)
-starts_in extent order tree live p spot same beside place_is live_is =
-    subst (λ (o : Order). ahead extent o tree live spot ≡ from_probe p (whole extent o (tree_datoms tree) live)) same
-    (starts extent tree live p spot (subst (λ (o : Order). AreBeside extent o (tree_datoms tree) live) (sym same) beside) place_is
-    (subst (λ (o : Order). live_ahead extent o (list_in live o) spot.live ≡ from_probe p (live_read extent (list_in live o))) (sym same)
-    live_is))
+-- what was left is at hand and behind it
+pub hand_is : (next : Option (Bor Datom)) (old new : List Datom) → IsFirstOf old new next → at_hand next new ≡ old
+hand_is None old new is = sym is.0
+hand_is (Some d) old new is = sym is
 
--- ---- what there is to walk over
+module _ (extent : Extent) (order : Order) (tree : List DirectoryNode) (live : Lists)
+    (beside : AreBeside extent order (tree_datoms tree) live) (p : Probe) (same : p.order ≡ order) where
+  -- what there is to walk over in each list
+  abbrev older_part : List Datom
+  older_part = from_probe p (older_read extent live (tree_datoms tree))
 
-pub whole_rises : (extent : Extent) (order : Order) (older : List Datom) (live : Lists) → IsRising order (whole extent order older live)
-whole_rises extent order older live = merged_rises order (older_read extent live older) (live_read extent (list_in live order))
+  abbrev live_part : List Datom
+  live_part = from_probe p (live_read extent (list_in live order))
 
-pub ahead_rises : (extent : Extent) (order : Order) (tree : List DirectoryNode) (live : Lists) (spot : Spot)
-    → IsRising order (ahead extent order tree live spot)
-ahead_rises extent order tree live spot =
-    merged_rises order (older_ahead extent tree live spot.older) (live_ahead extent order (list_in live order) spot.live)
+  older_is : (place : Place) → rank tree place ≡ place_of p (tree_datoms tree) → older_ahead extent tree live place ≡ older_part
+  older_is place is =
+      ap (λ n. older_read extent live (drop n (tree_datoms tree))) is
+      ∙ older_from extent live p (tree_datoms tree) (subst (λ (o : Order). IsRising o (tree_datoms tree)) (sym same) beside.rises)
 
--- each of it is the tree's or a live one
-pub from_whole : (extent : Extent) (order : Order) (older : List Datom) (live : Lists) (d : Datom)
-    → Contains (whole extent order older live) d → Contains older d ⊎ Contains (list_in live order) d
-from_whole extent order older live d there =
-    elim (from_merged order (older_read extent live older) (live_read extent (list_in live order)) d there) [
-      | inl a ↦ inl (of_older extent older a)
-      | inr b ↦ inr (of_live extent (list_in live order) b)
-    ]
-  where
-    of_older : (extent : Extent) (ds : List Datom) → Contains (older_read extent live ds) d → Contains ds d
-    of_older Said ds there = there
-    of_older Held ds there = (from_filter (outlives (withdrawn live.eavt)) ds d there).0
+  parts_pair : IsPair order older_part live_part
+  parts_pair =
+      filter_pair order (λ d. not (is_below p d)) (older_read extent live (tree_datoms tree)) (live_read extent (list_in live order))
+      beside.pair
 
-    of_live : (extent : Extent) (ds : List Datom) → Contains (live_read extent ds) d → Contains ds d
-    of_live Said ds there = there
-    of_live Held ds there = standing_member ds d there
+  pub live_part_rises : IsRising order live_part
+  live_part_rises = parts_pair.live_rises
 
--- ---- a walk over what a probe leads to
+  module _ (end : Option Probe) (place : Place) (is : rank tree place ≡ place_of p (tree_datoms tree)) (os ls : List Datom)
+      (older_hand : os ≡ within end (older_ahead extent tree live place)) (live_hand : ls ≡ within end live_part) where
+    older_hand_is : os ≡ within end older_part
+    older_hand_is = older_hand ∙ ap (within end) (older_is place is)
 
--- what a walk has at hand and ahead
-abbrev pub at_hand : Probe → Extent → Order → List DirectoryNode → Lists → Option (Bor Datom × Spot) → List Datom
-at_hand p extent order tree live None = []
-at_hand p extent order tree live (Some next) = next.0.now ∷ upto_probe p (ahead extent order tree live next.1)
+    pub start_pair : IsPair order os ls
+    start_pair = rw (older_hand_is, live_hand) (within_pair end order older_part live_part parts_pair)
 
-at_hand_is : (p : Probe) (extent : Extent) (order : Order) (tree : List DirectoryNode) (live : Lists)
-    → (next : Option (Bor Datom × Spot)) (ds : List Datom)
-    → MatchOption next (ds ≡ []) (λ n. ds ≡ n.0.now ∷ upto_probe p (ahead extent order tree live n.1))
-    → at_hand p extent order tree live next ≡ ds
-at_hand_is p extent order tree live None ds is = sym is
-at_hand_is p extent order tree live (Some n) ds is = sym is
+    pub start_is : merged order os ls ≡ within end (from_probe p (whole extent order (tree_datoms tree) live))
+    start_is =
+        ap (λ (l : List Datom). merged order l ls) older_hand_is
+        ∙ ap (merged order (within end older_part)) live_hand
+        ∙ sym (within_both end order older_part live_part parts_pair)
+        ∙ ap (within end) (merged-filter order (λ d. not (is_below p d)) (older_read extent live (tree_datoms tree))
+        (live_read extent (list_in live order)) beside.pair)
 
-pub all_at_hand : (p : Probe) (extent : Extent) (order : Order) (tree : List DirectoryNode) (live : Lists) (spot : Spot)
-    → (next : Option (Bor Datom × Spot))
-    → ahead extent order tree live spot ≡ from_probe p (whole extent order (tree_datoms tree) live)
-    → MatchOption next (upto_probe p (ahead extent order tree live spot) ≡ [])
-    (λ n. upto_probe p (ahead extent order tree live spot) ≡ n.0.now ∷ upto_probe p (ahead extent order tree live n.1))
-    → at_hand p extent order tree live next ≡ led_to p (whole extent order (tree_datoms tree) live)
-all_at_hand p extent order tree live spot next start is =
-    at_hand_is p extent order tree live next (upto_probe p (ahead extent order tree live spot)) is
-    ∙ ap (upto_probe p) start
-    ∙ upto_from p (whole extent order (tree_datoms tree) live)
+-- ---- a step
+
+older_tail : (order : Order) (x : Datom) (xs ys : List Datom) → IsPair order (x ∷ xs) ys → IsPair order xs ys
+older_tail order x xs ys pair =
+    part_pair order (x ∷ xs) ys xs ys pair pair.older_rises.1 pair.live_rises (λ d there. contains_tail x xs d there) (λ d there. there)
+
+live_tail : (order : Order) (xs : List Datom) (y : Datom) (ys : List Datom) → IsPair order xs (y ∷ ys) → IsPair order xs ys
+live_tail order xs y ys pair =
+    part_pair order xs (y ∷ ys) xs ys pair pair.older_rises pair.live_rises.1 (λ d there. there) (λ d there. contains_tail y ys d there)
+
+behind_older : (order : Order) (o : Option (Bor Datom)) (l : Option Datom) (os ls : List Datom) → is_first order (option_copied o) l ≡ true
+    → IsPair order (at_hand o os) ls → IsPair order os ls
+behind_older order None l os ls first pair = absurd (cc)
+behind_older order (Some x) l os ls first pair = older_tail order x.now os ls pair
+
+take_older : (order : Order) (o l : Option (Bor Datom)) (os ls : List Datom) → IsPair order (at_hand o os) (at_hand l ls)
+    → is_first order (option_copied o) (option_copied l) ≡ true
+    → IsFirstOf (merged order (at_hand o os) (at_hand l ls)) (merged order os (at_hand l ls)) o
+take_older order None l os ls pair first = absurd (cc)
+take_older order (Some x) None os ls pair first = first_of_older_alone order x.now os pair
+take_older order (Some x) (Some y) os ls pair first = first_of_older order x.now y.now os ls pair first
+
+take_live : (order : Order) (o : Option (Bor Datom)) (y : Datom) (os ls : List Datom) → IsPair order (at_hand o os) (y ∷ ls)
+    → is_first order (option_copied o) (Some y) ≡ false
+    → merged order (at_hand o os) (y ∷ ls) ≡ y ∷ merged order (at_hand o os) ls
+take_live order None y os ls pair other = first_of_live_alone order y ls pair
+take_live order (Some x) y os ls pair other = first_of_live order x.now y os ls pair other
+
+-- what a step takes is the first
+first_is : (old new : List Datom) (result : Option (Bor Datom)) → IsFirstOf old new result → option_copied result ≡ slice_get old 0
+first_is old new None is = sym (ap (λ (ds : List Datom). slice_get ds 0) is.0)
+first_is old new (Some d) is = sym (ap (λ (ds : List Datom). slice_get ds 0) is)
+
+module _ (order : Order) (o l : Option (Bor Datom)) (os ls value : List Datom) (pair : IsPair order (at_hand o os) (at_hand l ls))
+    (view_is : merged order (at_hand o os) (at_hand l ls) ≡ value) where
+  module _ (first : is_first order (option_copied o) (option_copied l) ≡ true) where
+    pub older_first : option_copied o ≡ slice_get value 0
+    older_first =
+        first_is value (merged order os (at_hand l ls)) o
+        (subst (λ (ds : List Datom). IsFirstOf ds (merged order os (at_hand l ls)) o) view_is (take_older order o l os ls pair first))
+
+    module _ (next : Option (Bor Datom)) (new : List Datom) (step : IsFirstOf os new next) where
+      pub older_pair : IsPair order (at_hand next new) (at_hand l ls)
+      older_pair =
+          subst (λ (ds : List Datom). IsPair order ds (at_hand l ls)) (sym (hand_is next os new step))
+          (behind_older order o (option_copied l) os (at_hand l ls) first pair)
+
+      pub older_step : IsFirstOf value (merged order (at_hand next new) (at_hand l ls)) o
+      older_step =
+          subst (λ (ds : List Datom). IsFirstOf ds (merged order (at_hand next new) (at_hand l ls)) o) view_is
+          (subst (λ (ds : List Datom). IsFirstOf (merged order (at_hand o os) (at_hand l ls)) (merged order ds (at_hand l ls)) o)
+          (sym (hand_is next os new step)) (take_older order o l os ls pair first))
+
+  module _ (other : is_first order (option_copied o) (option_copied l) ≡ false) where
+    pub live_first : option_copied l ≡ slice_get value 0
+    live_first = go o l pair other ∙ ap (λ (ds : List Datom). slice_get ds 0) view_is
+      where
+        go : (o l : Option (Bor Datom)) → IsPair order (at_hand o os) (at_hand l ls)
+            → is_first order (option_copied o) (option_copied l) ≡ false
+            → option_copied l ≡ slice_get (merged order (at_hand o os) (at_hand l ls)) 0
+        go None None pair other = refl
+        go (Some x) None pair other = absurd (cc)
+        go o (Some y) pair other = sym (ap (λ (ds : List Datom). slice_get ds 0) (take_live order o y.now os ls pair other))
+
+    module _ (y : Bor Datom) (is : l ≡ Some y) (next : Option (Bor Datom)) (new : List Datom) (step : IsFirstOf ls new next) where
+      from_live : IsPair order (at_hand o os) (y.now ∷ ls)
+      from_live = subst (λ (m : Option (Bor Datom)). IsPair order (at_hand o os) (at_hand m ls)) is pair
+
+      pub live_pair : IsPair order (at_hand o os) (at_hand next new)
+      live_pair =
+          subst (IsPair order (at_hand o os)) (sym (hand_is next ls new step)) (live_tail order (at_hand o os) y.now ls from_live)
+
+      pub live_step : value ≡ y.now ∷ merged order (at_hand o os) (at_hand next new)
+      live_step =
+          sym view_is
+          ∙ ap (λ (m : Option (Bor Datom)). merged order (at_hand o os) (at_hand m ls)) is
+          ∙ take_live order o y.now os ls from_live
+          (subst (λ (m : Option (Bor Datom)). is_first order (option_copied o) (option_copied m) ≡ false) is other)
+          ∙ ap (λ (ds : List Datom). y.now ∷ merged order (at_hand o os) ds) (sym (hand_is next ls new step))

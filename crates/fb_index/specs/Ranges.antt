@@ -27,11 +27,12 @@ is_above probe d = is_lt (probe_cmp probe d)
 abbrev pub upto_probe : Probe → List Datom → List Datom
 upto_probe probe ds = filter (λ d. not (is_above probe d)) ds
 
--- the same, where a probe is given
+-- a probe is given, and the datom is above it
 abbrev pub is_past : Option Probe → Datom → Bool
 is_past None d = false
 is_past (Some probe) d = is_above probe d
 
+-- those of the list that are not above the probe, where one is given
 abbrev pub within : Option Probe → List Datom → List Datom
 within None ds = ds
 within (Some probe) ds = upto_probe probe ds

@@ -1,20 +1,20 @@
 -- The lists of an order, a tree's and the live ones, read as one: all that was said, or what holds of it.
 -- Restates Indexes of Datomic's documentation (the merging of recent datoms with older ones).
-use Rattle.std.specs.Prelude.{Bool, true, List, filter, drop}
+use denote.Ref.{Bor}
+use Rattle.std.specs.Prelude.{Bool, true, false, List, [], ◌∷◌, filter, drop, Option, Some, None}
+use Rattle.std.specs.Ordering.{is_lt}
 use Rattle.fb_values.specs.declared.facts.Datom.{Datom}
 use Rattle.fb_values.specs.declared.indexes.Order.{Order}
 use Rattle.fb_values.specs.Lists.{Lists, list_in}
+use Rattle.fb_values.specs.Orders.{key_cmp}
 use Rattle.fb_values.specs.Rising.{IsRising}
 use Rattle.fb_model.specs.Facts.{standing}
 use Rattle.live_index.specs.Halves.{IsPair, IsLater, merged, outlives, withdrawn}
-use Rattle.live_index.specs.Walks as walks
-use Rattle.live_index.specs.declared.walk.Cursor.{Cursor}
 use Rattle.seg_tree.specs.Nodes.{DirectoryNode, tree_datoms}
 use Rattle.seg_tree.specs.Ranks.{rank}
 use Rattle.seg_tree.specs.declared.tree.Place.{Place}
 use Rattle.fb_index.specs.declared.sides.Extent.{Extent}
 use Rattle.fb_index.specs.declared.sides.Extent.TheVariants.{Said, Held}
-use Rattle.fb_index.specs.declared.sides.Spot.{Spot}
 
 -- what is read of a tree's datoms: all, or those whose triple no later datom tells of
 abbrev pub older_read : Extent → Lists → List Datom → List Datom
@@ -26,21 +26,10 @@ abbrev pub live_read : Extent → List Datom → List Datom
 live_read Said ds = ds
 live_read Held ds = standing ds
 
--- what is read of a live list from a cursor on
-abbrev pub live_ahead : Extent → Order → List Datom → Cursor → List Datom
-live_ahead Said order ds at = walks.ahead order ds at
-live_ahead Held order ds at = drop at.holding (standing ds)
-
 -- what is read of an order
 abbrev pub whole : Extent → Order → List Datom → Lists → List Datom
 whole extent order older live =
     merged order (older_read extent live older) (live_read extent (list_in live order))
-
--- what is read of it from a spot on
-abbrev pub ahead : Extent → Order → List DirectoryNode → Lists → Spot → List Datom
-ahead extent order tree live spot =
-    merged order (older_read extent live (drop (rank tree spot.older) (tree_datoms tree)))
-    (live_ahead extent order (list_in live order) spot.live)
 
 -- a datom of the tree is read
 abbrev pub is_read : Extent → Lists → Datom → Bool
@@ -58,3 +47,14 @@ pub record AreBeside (extent : Extent) (order : Order) (older : List Datom) (liv
   pub rises : IsRising order older
   pub pair : IsPair order (older_read extent live older) (live_read extent (list_in live order))
   pub later : IsLater older live.eavt
+
+-- the datom at hand, if there is one, and those behind it
+abbrev pub at_hand : Option (Bor Datom) → List Datom → List Datom
+at_hand None rest = []
+at_hand (Some d) rest = d.now ∷ rest
+
+-- of the first datoms of two lists that are read as one, the left one comes first
+abbrev pub is_first : Order → Option Datom → Option Datom → Bool
+is_first order None other = false
+is_first order (Some x) None = true
+is_first order (Some x) (Some y) = is_lt (key_cmp order x y)

@@ -3,6 +3,8 @@
 
 mod ranges;
 mod sides;
+mod walk;
 
 pub use ranges::{is_led, push_live, push_older};
-pub use sides::{Extent, Sides, Spot};
+pub use sides::{Extent, Sides};
+pub use walk::Walk;

@@ -1,18 +1,18 @@
 //! The datoms that a probe leads to, read out of the live index and out of a tree.
 ghost use Rattle.std.specs.Prelude.{◌≡◌, ◌++◌, ◌<◌, IfOk};
+ghost use Rattle.std.specs.Option.{option_copied};
 ghost use Rattle.fb_values.specs.Lists.{list_in};
 ghost use Rattle.fb_values.specs.Rising.{IsRising};
 ghost use Rattle.fb_search.specs.Places.{place_of};
 ghost use Rattle.fb_model.specs.Facts.{standing};
 ghost use Rattle.live_index.specs.Halves.{withdrawn};
-ghost use Rattle.live_index.specs.Walks.{ahead};
 ghost use Rattle.seg_tree.specs.Nodes.{tree_datoms};
-ghost use Rattle.fb_index.specs.Ranges.{is_led, led_to, from_probe};
+ghost use Rattle.fb_index.specs.Ranges.{is_led, is_past, led_to, from_probe};
 
 use fb_memory::Memory;
 use fb_search::Steps;
 use fb_values::{Datom, Probe, cmp_probe};
-use live_index::{Cursor, Live};
+use live_index::{Cursor, Live, Walk};
 use seg_tree::Tree;
 use std::cmp::Ordering;
 use std::marker::Brand;
@@ -23,13 +23,12 @@ pub fn push_live(found: &mut Vec<Datom>, live: &Live, probe: &Probe) -> Result<(
     ensures { IfOk result (λ _. found.new.items
         ≡ found.old.items ++ led_to probe.now (list_in live.now probe.now.order)) }
 {
-    let mut next = live.next(probe.order, live_start(live, probe));
-    while let Some((d, at)) = next {
+    let mut walk = said_walk(live, probe);
+    while let Some(d) = walk.next() {
         if !is_led(probe, d) {
             return Ok(());
         }
         found.push(d.copy()?)?;
-        next = live.next(probe.order, at);
     }
     Ok(())
 }
@@ -58,20 +57,39 @@ pub fn is_led(probe: &Probe, d: &Datom) -> bool
     cmp_probe(probe, d) == Ordering::Equal
 }
 
-/// Where the live datoms begin that are not below the probe.
-pub(crate) fn live_start(live: &Live, probe: &Probe) -> Cursor
-    ensures ahead { ahead probe.now.order (list_in live.now probe.now.order) result
-        ≡ from_probe probe.now (list_in live.now probe.now.order) }
-    ensures rising { IsRising probe.now.order (list_in live.now probe.now.order) }
+/// Whether a probe is given, and the datom is above it.
+pub(crate) fn is_past(end: Option<&Probe>, d: &Datom) -> bool
+    ensures { result ≡ is_past (option_copied end.entry) d.now }
 {
-    Cursor {
-        holding: holding_place(live, probe),
-        past: past_place::<Brand>(live, probe, Blank::new(1)),
+    match end {
+        None => false,
+        Some(probe) => cmp_probe(probe, d) == Ordering::Less,
     }
 }
 
-/// Where those of them begin that hold.
-pub(crate) fn holding_place(live: &Live, probe: &Probe) -> u64
+/// The walk over the live datoms that are not below the probe.
+pub(crate) fn said_walk<'a>(live: &'a Live, probe: &Probe) -> Walk<'a>
+    ensures walk { result ≡ from_probe probe.now (list_in live.now probe.now.order) }
+    ensures rising { IsRising probe.now.order (list_in live.now probe.now.order) }
+{
+    live.walk(
+        probe.order,
+        Cursor {
+            holding: holding_place(live, probe),
+            past: past_place::<Brand>(live, probe, Blank::new(1)),
+        },
+    )
+}
+
+/// The walk over those of them that hold.
+pub(crate) fn held_walk<'a>(live: &'a Live, probe: &Probe) -> Walk<'a>
+    ensures { result ≡ from_probe probe.now (standing (list_in live.now probe.now.order)) }
+{
+    live.walk_holding(probe.order, holding_place(live, probe))
+}
+
+/// Where those begin that hold.
+fn holding_place(live: &Live, probe: &Probe) -> u64
     ensures place { result ≡ place_of probe.now (standing (list_in live.now probe.now.order)) }
     ensures rising { IsRising probe.now.order (list_in live.now probe.now.order) }
 {

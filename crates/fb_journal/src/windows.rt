@@ -23,13 +23,14 @@ pub(crate) struct Window {
 impl Window {
     ghost use Rattle.fb_journal.specs.Windows.{Shows, Has, OnlyReads};
 
-    /// A window on a file of this length, of which it has nothing yet.
+    /// A window on a file of this length, of which it has nothing yet. It is no longer than the file.
     pub(crate) fn new(alloc: Global, len: u64) -> Result<Window, AllocError>
         ensures { IfOk result (λ w. (w.len ≡ len) × (w.filled ≡ 0)) }
     {
+        let room = len.min(WINDOW as u64) as usize;
         Ok(Window {
             len,
-            bytes: vec![in alloc; 0u8; WINDOW]?,
+            bytes: vec![in alloc; 0u8; room]?,
             start: 0,
             filled: 0,
         })

@@ -103,6 +103,7 @@ fn with_live<R: Threads + Sync>(
         beside.live(),
         beside.basis(),
         first_id,
+        beside.held(),
         beside.schema().covers(),
     )?;
     Ok(merged)

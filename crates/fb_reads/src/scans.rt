@@ -1,5 +1,4 @@
-//! The commands that look: the datoms of an index, and the transactions of the log. Nothing is copied of the history but the
-//! datoms that a scan answers.
+//! The commands that look: the datoms of an index, and the transactions of the log. Nothing is copied of the history.
 ghost use Rattle.std.specs.Prelude.{◌≡◌, OnOk, IfOk, map};
 ghost use Rattle.edn_form.specs.View.{form_of, forms_of};
 ghost use Rattle.fb_values.specs.declared.indexes.Order.{Order};
@@ -22,7 +21,7 @@ use fb_replies::{
     a_schema_tells_its_history, what_is_said_has_a_text, write_datoms, write_transactions,
 };
 use fb_scan::{Bounds, Txs, tx_range};
-use fb_values::{Datoms, Entry, Order};
+use fb_values::{Datom, Entry, Order};
 use fb_view::Snapshot;
 use std::alloc::Global;
 use view_model::what_is_seen_was_said;
@@ -41,7 +40,7 @@ pub fn answer_datoms<S: Selector>(
 {
     match components(alloc, view, order, given) {
         Ok(probe) => {
-            let found = fb_scan::datoms(alloc, view, &probe)?;
+            let found = fb_scan::lent::datoms(alloc, view, &probe)?;
             write_found(line, view, &found)
         }
         Err(stop) => refuse_stop(line, stop, view.snapshot.basis()),
@@ -62,7 +61,7 @@ pub fn answer_seek<S: Selector>(
 {
     match components(alloc, view, order, given) {
         Ok(probe) => {
-            let found = fb_scan::seek(alloc, view, &probe)?;
+            let found = fb_scan::lent::seek(alloc, view, &probe)?;
             write_found(line, view, &found)
         }
         Err(stop) => refuse_stop(line, stop, view.snapshot.basis()),
@@ -89,7 +88,7 @@ pub fn answer_index_range<S: Selector>(
                 start: range.start,
                 end: range.end,
             };
-            let found = fb_scan::index_range(alloc, view, range.attribute, bounds)?;
+            let found = fb_scan::lent::index_range(alloc, view, range.attribute, bounds)?;
             write_found(line, view, &found)
         }
         Err(stop) => refuse_stop(line, stop, view.snapshot.basis()),
@@ -97,20 +96,25 @@ pub fn answer_index_range<S: Selector>(
 }
 
 /// The line of what a scan of the view found.
-fn write_found<S: Selector>(line: &mut Vec<u8>, view: &Db<S>, found: &Datoms) -> Result<(), Memory>
+fn write_found<S: Selector>(
+    line: &mut Vec<u8>,
+    view: &Db<S>,
+    found: &[&Datom],
+) -> Result<(), Memory>
     requires { (order : Order)
         × (range : Range)
         × IsScan view.now.snapshot.entries (window_of view.now) (S.selects view.now.filter) order
-        range found.now }
+        range (map (λ d. d.now) found.now) }
     ensures { OnOk result (IsLineOf
-        (datoms_reply (basis view.now.snapshot.entries) (facts view.now.snapshot.entries) found.now)
+        (datoms_reply (basis view.now.snapshot.entries) (facts view.now.snapshot.entries)
+        (map (λ d. d.now) found.now))
         line.new.items) }
 {
     what_is_seen_was_said();
     what_is_said_has_a_text();
     a_schema_tells_its_history();
     let snapshot = &view.snapshot;
-    write_datoms(line, snapshot.basis(), snapshot.schema(), found.as_slice())
+    write_datoms(line, snapshot.basis(), snapshot.schema(), found)
 }
 
 /// `[:tx-range start end]`: whatever the window and the filters.

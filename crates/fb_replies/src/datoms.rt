@@ -48,12 +48,26 @@ fn append_transaction(line: &mut Vec<u8>, schema: &Schema, entry: &Entry) -> Res
     append(line, b"]}")
 }
 
-/// Each datom as a vector.
-pub(crate) fn append_datoms(
+/// Each datom of a scan as a vector.
+pub(crate) fn append_lent(
     line: &mut Vec<u8>,
     schema: &Schema,
-    datoms: &[Datom],
+    datoms: &[&Datom],
 ) -> Result<(), Memory>
+    requires { IsTrue (have_texts (map (λ d. d.now) datoms.now)) }
+    ensures { OnOk result (Appends
+        (CanonAll (forms (map (datom_form schema.now) (map (λ d. d.now) datoms.now))))
+        line.old.items line.new.items) }
+{
+    for (index, d) in datoms.iter().enumerate() {
+        separate(line, index)?;
+        append_datom(line, schema, d)?;
+    }
+    Ok(())
+}
+
+/// Each datom as a vector.
+fn append_datoms(line: &mut Vec<u8>, schema: &Schema, datoms: &[Datom]) -> Result<(), Memory>
     requires { IsTrue (have_texts datoms.now) }
     ensures { OnOk result (Appends (CanonAll (forms (map (datom_form schema.now) datoms.now)))
         line.old.items line.new.items) }

@@ -6,7 +6,7 @@ ghost use Rattle.edn_form.specs.View.{form_of};
 ghost use Rattle.fb_replies.specs.Texts.{have_texts, entries_have_texts};
 ghost use Rattle.fb_replies.specs.Faults.{word_of, place_text};
 
-use crate::datoms::{append_datoms, append_transactions};
+use crate::datoms::{append_lent, append_transactions};
 use crate::tokens::{append, append_count, append_tempids, begin};
 use edn_form::Edn;
 use edn_print::print;
@@ -70,15 +70,16 @@ pub fn write_datoms(
     line: &mut Vec<u8>,
     basis: u32,
     schema: &Schema,
-    datoms: &[Datom],
+    datoms: &[&Datom],
 ) -> Result<(), Memory>
-    requires { IsTrue (have_texts datoms.now) }
-    ensures { OnOk result (IsLineOf (datoms_reply basis schema.now datoms.now) line.new.items) }
+    requires { IsTrue (have_texts (map (λ d. d.now) datoms.now)) }
+    ensures { OnOk result (IsLineOf
+        (datoms_reply basis schema.now (map (λ d. d.now) datoms.now)) line.new.items) }
 {
     begin(line, b"{:basis ")?;
     append_count(line, u64::from(basis))?;
     append(line, b" :datoms [")?;
-    append_datoms(line, schema, datoms)?;
+    append_lent(line, schema, datoms)?;
     append(line, b"]}\n")
 }
 

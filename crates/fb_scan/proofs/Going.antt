@@ -1,27 +1,31 @@
--- What a walk has given and what it may still give, step by step.
+-- What a scan has given and what it may still give, step by step.
 use Rattle.std.proofs.Common.{◌≡◌, ◌∙◌, ◌⊎◌, inl, inr, Bool, true, false, cond, ◌&&◌, List, [], ◌∷◌, ◌++◌, length, take, refl, sym, ap}
 use Rattle.std.proofs.Common.{subst, append_assoc}
-use Rattle.std.specs.Prelude.{Contains, IsTrue, ◌↔◌}
+use Rattle.std.specs.Prelude.{Contains, IsTrue}
 use Rattle.std.specs.List.{slice_get}
 use Rattle.std.specs.declared.cmp.Ordering.TheVariants.{Less}
-use Rattle.std.proofs.lemmas.Bool.{and_parts, and_from}
+use Rattle.std.proofs.lemmas.Bool.{true≢false, and_parts, and_from}
 use Rattle.std.proofs.lemmas.List.Elements.{Contains-append_left, Contains-append_right, Contains-append_cases}
 use Rattle.fb_values.specs.declared.facts.Datom.{Datom}
 use Rattle.fb_values.specs.declared.facts.Entry.{Entry}
 use Rattle.fb_values.specs.declared.indexes.Order.{Order}
+use Rattle.fb_values.specs.declared.indexes.Probe.{Probe}
 use Rattle.fb_values.specs.Orders.{key_cmp}
 use Rattle.fb_values.specs.OrderLaws.{key_cmp_total}
 use Rattle.fb_values.specs.Rising.{StandsBefore, IsRising}
+use Rattle.fb_values.proofs.Rising.{rises_from, rising_from}
 use Rattle.fb_model.specs.Facts.{facts}
 use Rattle.fb_model.specs.Schema.{covers}
 use Rattle.live_index.proofs.Members.{contains-cons, contains_head, contains_tail, contains_none}
 use Rattle.live_index.proofs.Together.{before_member}
 use Rattle.view_model.specs.Window.{Window}
+use Rattle.view_model.specs.View.{InView}
 use Rattle.fb_index.specs.declared.sides.Extent.{Extent}
 use Rattle.fb_scan.specs.declared.ends.End.{End}
-use Rattle.fb_scan.specs.Ends.{is_past}
-use Rattle.fb_scan.specs.Steps.{IsGiven, StepsTo}
+use Rattle.fb_scan.specs.Ends.{is_past, is_met, IsIn, IsWalk}
+use Rattle.fb_scan.specs.Steps.{IsGiven, IsGoing}
 use Rattle.fb_scan.specs.Walks.{is_shown, shown}
+use Rattle.fb_scan.proofs.Ending.{all_past}
 
 -- ---- members of what is shown
 
@@ -71,11 +75,6 @@ rising_without : (order : Order) (xs : List Datom) (x : Datom) (ds : List Datom)
 rising_without order [] x ds rising = rising.1
 rising_without order (y ∷ xs) x ds rising = (before_without order y xs x ds rising.0, rising_without order xs x ds rising.1)
 
-rising_without_many : (order : Order) (xs passed ds : List Datom) → IsRising order (xs ++ (passed ++ ds)) → IsRising order (xs ++ ds)
-rising_without_many order xs [] ds rising = rising
-rising_without_many order xs (x ∷ passed) ds rising =
-    rising_without_many order xs passed ds (rising_without order xs x (passed ++ ds) rising)
-
 before_front : (order : Order) (y : Datom) (xs ds : List Datom) → StandsBefore order y (xs ++ ds) → StandsBefore order y xs
 before_front order y [] ds before = tt
 before_front order y (z ∷ xs) ds before = (before.0, before_front order y xs ds before.1)
@@ -97,141 +96,6 @@ front_before order (y ∷ xs) ds x d rising x_in d_in =
           (before_member order y (xs ++ ds) d rising.0 (Contains-append_right xs ds d d_in))
       | inr later ↦ front_before order xs ds x d rising.1 later d_in
     ]
-
--- ---- the walk
-
-module _ (h : List Entry) (w : Window) (Selects : Datom → Type 0) (extent : Extent) (order : Order) (end : End) where
-  abbrev Given : List Datom → Datom → Type 0
-  Given = IsGiven h w Selects extent order end
-
-  -- the list begins with datoms that are not given
-  pub record Skips (ds rest : List Datom) : Type 0 where
-    pub passed : List Datom
-    pub parts : ds ≡ passed ++ rest
-    pub same : (d : Datom) → Given rest d ↔ Given ds d
-
-  pub skips_none : (ds rest : List Datom) → ds ≡ rest → Skips ds rest
-  skips_none ds rest is = record {
-    passed = [];
-    parts = is;
-    same = λ d. (λ given. subst (λ (l : List Datom). Given l d) (sym is) given, λ given. subst (λ (l : List Datom). Given l d) is given);
-  }
-
-  module _ (ds : List Datom) (x : Datom) (rest : List Datom) (skips : Skips ds (x ∷ rest)) where
-    abbrev Passes : Type 0
-    Passes = IsTrue (covers (facts h) order x.a && is_shown extent w x (slice_get rest 0)) × Selects x
-
-    later : (d : Datom) → Given rest d → Given (x ∷ rest) d
-    later d is = record {
-      is_seen = shown_tail extent w x rest d is.is_seen;
-      is_held = is.is_held;
-      is_before = is.is_before;
-      is_selected =
-          is.is_selected;
-    }
-
-    now : is_past end x ≡ false → Passes → Given (x ∷ rest) x
-    now before passes =
-        let both = and_parts (covers (facts h) order x.a) (is_shown extent w x (slice_get rest 0)) passes.0 in
-        record { is_seen = shown_head extent w x rest both.1; is_held = both.0; is_before = before; is_selected = passes.1 }
-
-    now_or_later : (d : Datom) → Given (x ∷ rest) d → ((x ≡ d) × Passes) ⊎ Given rest d
-    now_or_later d is =
-        elim (shown_cases extent w x rest d is.is_seen) [
-          | inl here ↦ inl (
-            here.0,
-            (
-              and_from (covers (facts h) order x.a) (is_shown extent w x (slice_get rest 0))
-                  (subst (λ (z : Datom). covers (facts h) order z.a ≡ true) (sym here.0) is.is_held) here.1,
-              subst Selects (sym here.0) is.is_selected,
-            ),
-          )
-          | inr behind ↦ inr (record { is_seen = behind; is_held = is.is_held; is_before = is.is_before; is_selected = is.is_selected })
-        ]
-
-    pub gives : is_past end x ≡ false → Passes → StepsTo h w Selects extent order end ds x rest
-    gives before passes = record {
-      passed = skips.passed;
-      parts = skips.parts;
-      same = λ d. (
-        λ given. (skips.same d).0 (elim given [
-          | inl same ↦ subst (Given (x ∷ rest)) same (now before passes)
-          | inr ahead ↦ later d ahead
-        ]),
-        λ given. elim (now_or_later d ((skips.same d).1 given)) [ inl here ↦ inl here.0 | inr behind ↦ inr behind ],
-      );
-    }
-
-    pub skips_on : (Passes → ⊥) → Skips ds rest
-    skips_on fails = record {
-      passed = skips.passed ++ x ∷ [];
-      parts = subst (λ (l : List Datom). ds ≡ l) (sym (append_assoc skips.passed (x ∷ []) rest)) skips.parts;
-      same = λ d. (
-        λ given. (skips.same d).0 (later d given),
-        λ given. elim (now_or_later d ((skips.same d).1 given)) [ inl here ↦ absurd (fails here.1) | inr behind ↦ behind ],
-      );
-    }
-
-  module _ (all : List Datom) where
-    -- what is found and what lies ahead are one rising list, and give together all that is given
-    pub record IsGoing (found rest : List Datom) : Type 0 where
-      pub rising : IsRising order (found ++ rest)
-      pub same : (d : Datom) → (Contains found d ⊎ Given rest d) ↔ Given all d
-
-    pub begins : (rest : List Datom) → IsRising order all → rest ≡ all → IsGoing [] rest
-    begins rest rising is = subst (λ (l : List Datom). IsGoing [] l) (sym is) record {
-      rising = rising;
-      same = λ d. (λ given. elim given [ inl there ↦ absurd (contains_none d there) | inr ahead ↦ ahead ], λ answer. inr answer);
-    }
-
-    pub goes_on : (found ds : List Datom) (x : Datom) (rest new : List Datom) → IsGoing found ds
-        → StepsTo h w Selects extent order end ds x rest
-        → new ≡ found ++ x ∷ [] → IsGoing new rest
-    goes_on found ds x rest new going step is = subst (λ (l : List Datom). IsGoing l rest) (sym is) record {
-      rising =
-          subst (IsRising order) (sym (append_assoc found (x ∷ []) rest))
-          (rising_without_many order found step.passed (x ∷ rest)
-          (subst (λ (l : List Datom). IsRising order (found ++ l)) step.parts going.rising));
-      same = λ d. (
-        λ given. (going.same d).0 (elim given [
-          | inl there ↦ elim (Contains-append_cases found (x ∷ []) d there) [
-            | inl old ↦ inl old
-            | inr one ↦ inr (elim (contains-cons x [] d one) [
-              | inl same ↦ (step.same d).0 (inl same)
-              | inr none ↦ absurd (contains_none d none)
-            ])
-          ]
-          | inr ahead ↦ inr ((step.same d).0 (inr ahead))
-        ]),
-        λ answer. elim ((going.same d).1 answer) [
-          | inl old ↦ inl (Contains-append_left found (x ∷ []) d old)
-          | inr ahead ↦ elim ((step.same d).1 ahead) [
-            | inl here ↦ inl (Contains-append_right found (x ∷ []) d (contains_head x [] d here))
-            | inr behind ↦ inr behind
-          ]
-        ],
-      );
-    }
-
-    -- where nothing ahead is given, all of it is found
-    pub ends : (found rest : List Datom) → IsGoing found rest → ((d : Datom) → Given rest d → ⊥) → (d : Datom)
-        → Contains found d ↔ Given all d
-    ends found rest going none d = (
-      λ there. (going.same d).0 (inl there),
-      λ answer. elim ((going.same d).1 answer) [ inl there ↦ there | inr ahead ↦ absurd (none d ahead) ],
-    )
-
-    pub found_rises : (found rest : List Datom) → IsGoing found rest → IsRising order found
-    found_rises found rest going = rising_front order found rest going.rising
-
-    -- all that is given is found, or stands behind what is found
-    pub found_first : (found rest : List Datom) → IsGoing found rest → (d : Datom) → Given all d
-        → Contains found d ⊎ ((x : Datom) → Contains found x → key_cmp order x d ≡ Less)
-    found_first found rest going d answer =
-        elim ((going.same d).1 answer) [
-          | inl there ↦ inl there
-          | inr ahead ↦ inr (λ x there. front_before order found rest x d going.rising there (shown_member extent w rest d ahead.is_seen))
-        ]
 
 -- ---- the first of a rising list
 
@@ -283,3 +147,120 @@ front_is_take order (x ∷ xs) (y ∷ ys) rising all_rises within behind =
           ]
           | inr before ↦ inr (λ z z_there. before z (contains_tail x xs z z_there))
         ]
+
+-- ---- a scan
+
+module _ (h : List Entry) (w : Window) (Selects : Datom → Type 0) (from : Probe) (end : End) (extent : Extent) where
+  abbrev Given : List Datom → Datom → Type 0
+  Given = IsGiven h w Selects extent from.order end
+
+  abbrev Met : Datom → Type 0
+  Met d = InView h w Selects d × IsTrue (is_met (facts h) from end d)
+
+  abbrev Going : List Datom → List Datom → Type 0
+  Going = IsGoing h w Selects from end extent
+
+  pub begins : (rest : List Datom) → IsRising from.order rest → ((d : Datom) → Given rest d → Met d) → ((d : Datom) → Met d → Given rest d)
+      → Going [] rest
+  begins rest rising met given = record {
+    rising = rising;
+    same = λ d. (λ is. elim is [ inl there ↦ absurd (contains_none d there) | inr ahead ↦ met d ahead ], λ is. inr (given d is));
+  }
+
+  -- where nothing ahead is given, all of it is found
+  ends : (found rest : List Datom) → Going found rest → ((d : Datom) → Given rest d → ⊥) → IsWalk h w Selects from end found
+  ends found rest going none = record {
+    rising = rises_from from.order found (rising_front from.order found rest going.rising);
+    members = λ d. (
+      λ there. (going.same d).0 (inl there),
+      λ is. elim ((going.same d).1 is) [ inl there ↦ there | inr ahead ↦ absurd (none d ahead) ],
+    );
+  }
+
+  module _ (found : List Datom) (x : Datom) (rest : List Datom) (going : Going found (x ∷ rest)) where
+    abbrev Passes : Type 0
+    Passes = IsTrue (covers (facts h) from.order x.a && is_shown extent w x (slice_get rest 0)) × Selects x
+
+    later : (d : Datom) → Given rest d → Given (x ∷ rest) d
+    later d is = record {
+      is_seen = shown_tail extent w x rest d is.is_seen;
+      is_held = is.is_held;
+      is_before = is.is_before;
+      is_selected = is.is_selected;
+    }
+
+    now : is_past end x ≡ false → Passes → Given (x ∷ rest) x
+    now before passes =
+        let both = and_parts (covers (facts h) from.order x.a) (is_shown extent w x (slice_get rest 0)) passes.0 in
+        record { is_seen = shown_head extent w x rest both.1; is_held = both.0; is_before = before; is_selected = passes.1 }
+
+    now_or_later : (d : Datom) → Given (x ∷ rest) d → ((x ≡ d) × Passes) ⊎ Given rest d
+    now_or_later d is =
+        elim (shown_cases extent w x rest d is.is_seen) [
+          | inl here ↦ inl (
+            here.0,
+            (
+              and_from (covers (facts h) from.order x.a) (is_shown extent w x (slice_get rest 0))
+                  (subst (λ (z : Datom). covers (facts h) from.order z.a ≡ true) (sym here.0) is.is_held) here.1,
+              subst Selects (sym here.0) is.is_selected,
+            ),
+          )
+          | inr behind ↦ inr (record { is_seen = behind; is_held = is.is_held; is_before = is.is_before; is_selected = is.is_selected })
+        ]
+
+    pub passes_by : (Passes → ⊥) → Going found rest
+    passes_by fails = record {
+      rising = rising_without from.order found x rest going.rising;
+      same = λ d. (
+        λ is. (going.same d).0 (elim is [ inl there ↦ inl there | inr ahead ↦ inr (later d ahead) ]),
+        λ is. elim ((going.same d).1 is) [
+          | inl there ↦ inl there
+          | inr ahead ↦ elim (now_or_later d ahead) [ inl here ↦ absurd (fails here.1) | inr behind ↦ inr behind ]
+        ],
+      );
+    }
+
+    pub gives : is_past end x ≡ false → Passes → Going (found ++ x ∷ []) rest
+    gives before passes = record {
+      rising = subst (IsRising from.order) (sym (append_assoc found (x ∷ []) rest)) going.rising;
+      same = λ d. (
+        λ is. (going.same d).0 (elim is [
+          | inl there ↦ elim (Contains-append_cases found (x ∷ []) d there) [
+            | inl old ↦ inl old
+            | inr one ↦ inr (elim (contains-cons x [] d one) [
+              | inl same ↦ subst (Given (x ∷ rest)) same (now before passes)
+              | inr none ↦ absurd (contains_none d none)
+            ])
+          ]
+          | inr ahead ↦ inr (later d ahead)
+        ]),
+        λ is. elim ((going.same d).1 is) [
+          | inl old ↦ inl (Contains-append_left found (x ∷ []) d old)
+          | inr ahead ↦ elim (now_or_later d ahead) [
+            | inl here ↦ inl (Contains-append_right found (x ∷ []) d (contains_head x [] d here.0))
+            | inr behind ↦ inr behind
+          ]
+        ],
+      );
+    }
+
+    -- beyond the end nothing more is given
+    pub ends_at : IsIn from.order end → is_past end x ≡ true → IsWalk h w Selects from end found
+    ends_at inside past =
+        ends found (x ∷ rest) going (λ d given.
+        true≢false (sym (all_past from.order end x rest d inside (rising_behind from.order found (x ∷ rest) going.rising) past
+        (shown_member extent w (x ∷ rest) d given.is_seen)) ∙ given.is_before))
+
+  pub ends_with : (found : List Datom) → Going found [] → IsWalk h w Selects from end found
+  ends_with found going = ends found [] going (λ d given. contains_none d given.is_seen)
+
+  -- what is found is the front of all
+  pub front : (found rest all : List Datom) → Going found rest → IsWalk h w Selects from end all → found ≡ take (length found) all
+  front found rest all going walk =
+      front_is_take from.order found all (rising_front from.order found rest going.rising) (rising_from from.order all walk.rising)
+      (λ d there. (walk.members d).1 ((going.same d).0 (inl there)))
+      (λ d there. elim ((going.same d).1 ((walk.members d).0 there)) [
+        | inl old ↦ inl old
+        | inr ahead ↦ inr (λ x x_there. front_before from.order found rest x d going.rising x_there
+            (shown_member extent w rest d ahead.is_seen))
+      ])

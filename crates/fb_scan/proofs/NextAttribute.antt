@@ -1,13 +1,14 @@
--- A walk from an attribute of an entity on, of which the first datom has the next attribute.
+-- A scan from an attribute of an entity on, of which the first datom has the next attribute.
 use denote.Ref.{Bor}
-use Rattle.std.proofs.Common.{◌≡◌, ◌∙◌, ◌≤◌, inl, inr, ℕ, true, not, ◌&&◌, List, ◌∷◌, refl, sym, ap, subst, Option, Some, None, arith}
+use Rattle.std.proofs.Common.{◌≡◌, ◌∙◌, ◌≤◌, inl, inr, ℕ, true, not, ◌&&◌, List, [], ◌∷◌, refl, sym, ap, subst, Option, Some, None, arith}
+use Rattle.std.specs.Prelude.{IsTrue}
 use Rattle.std.specs.Ordering.{is_eq, is_lt, is_gt, nat_cmp, ordering_then}
 use Rattle.std.specs.declared.cmp.Ordering.{Ordering}
 use Rattle.std.specs.declared.cmp.Ordering.TheVariants.{Less, Equal, Greater}
 use Rattle.std.proofs.lemmas.Bool.{true≢false, and_parts, and_from}
 use Rattle.std.proofs.lemmas.Bool.Decides.{nat_tests}
 use Rattle.fb_values.specs.declared.facts.Datom.{Datom}
-use Rattle.fb_values.specs.declared.indexes.Order.{Order}
+use Rattle.fb_values.specs.declared.facts.Entry.{Entry}
 use Rattle.fb_values.specs.declared.indexes.Order.TheVariants.{Eavt}
 use Rattle.fb_values.specs.declared.indexes.Probe.{Probe}
 use Rattle.fb_values.specs.Orders.{key_cmp, value_cmp, probe_cmp}
@@ -16,17 +17,17 @@ use Rattle.fb_search.specs.Places.{is_below}
 use Rattle.fb_model.specs.Facts.{facts}
 use Rattle.view_model.specs.Window.{Window}
 use Rattle.view_model.specs.View.{InView}
+use Rattle.live_index.proofs.Members.{contains-cons, contains_head, contains_none}
 use Rattle.live_index.proofs.Together.{before_member}
-use Rattle.fb_view.specs.Kept.{Kept}
-use Rattle.fb_index.specs.declared.sides.Sides.{Sides}
-use Rattle.fb_index.specs.declared.sides.Spot.{Spot}
-use Rattle.fb_scan.specs.declared.ends.End.{End}
+use Rattle.fb_index.specs.declared.sides.Extent.{Extent}
+use Rattle.fb_db.specs.declared.db.Db.{Db}
+use Rattle.fb_db.specs.Seen.{window_of}
 use Rattle.fb_scan.specs.declared.ends.End.TheVariants.{Behind}
 use Rattle.fb_scan.specs.Attributes.{HasAttribute, IsNextAttribute}
-use Rattle.fb_scan.specs.Ends.{is_met}
-use Rattle.fb_scan.specs.Steps.{AreRead, at_hand, path, IsGiven, StepsTo}
-use Rattle.fb_scan.proofs.Going.{rising_behind, shown_member}
-use Rattle.fb_scan.proofs.Stepping.{path_rises, met_of_given, given_of_met}
+use Rattle.fb_scan.specs.Ends.{is_met, IsWalk}
+use Rattle.fb_scan.specs.declared.walk.Scan.{Scan}
+use Rattle.fb_scan.specs.Steps.{HasGiven, IsGoing}
+use Rattle.fb_scan.proofs.Going.{shown_member}
 
 -- ---- numbers
 
@@ -80,71 +81,62 @@ by_attribute x d same less =
     inner Equal eq is = is
     inner Greater eq is = absurd (true≢false (sym eq))
 
--- a walk that begins at the probe rises
-pub rises_at : (sides : Sides) (end : End) (first : Probe) (at : Option (Bor Datom × Spot)) → at_hand sides end at ≡ path sides end first
-    → IsRising sides.order (at_hand sides end at)
-rises_at sides end first at start = subst (IsRising sides.order) (sym start) (path_rises sides end first)
+-- ---- the scan from an attribute of an entity on, to the end of the entity's datoms
 
--- the walk from an attribute of an entity on, to the end of the entity's datoms
-pub record IsFrom (k : Kept) (w : Window) (e from : ℕ) (sides : Sides) (first : Probe) (whole : Bor Probe)
-    (at : Option (Bor Datom × Spot)) : Type 0 where
-  pub read : AreRead k w Eavt sides
-  pub first_is : first ≡ attributes_from e (Some from)
-  pub whole_is : whole.now ≡ attributes_from e None
-  pub start_is : at_hand sides (Behind whole) at ≡ path sides (Behind whole) first
+module _ (h : List Entry) (w : Window) (Selects : Datom → Type 0) (e from : ℕ) (first : Probe) (whole : Bor Probe)
+    (first_is : first ≡ attributes_from e (Some from)) (whole_is : whole.now ≡ attributes_from e None) where
+  abbrev Met : Datom → Type 0
+  Met d = InView h w Selects d × IsTrue (is_met (facts h) first (Behind whole) d)
 
-module _ (k : Kept) (w : Window) (Selects : Datom → Type 0) (e from : ℕ) (sides : Sides) (first : Probe) (whole : Bor Probe)
-    (at : Option (Bor Datom × Spot)) (is : IsFrom k w e from sides first whole at) where
-  abbrev Given : List Datom → Datom → Type 0
-  Given = IsGiven k.entries w Selects sides.extent sides.order (Behind whole)
+  met_here : (d : Datom) → is_met (facts h) first (Behind whole) d ≡ (is_eq (nat_cmp e d.e) && not (is_gt (nat_cmp from d.a)))
+  met_here d = ap (λ (p : Probe). is_met (facts h) p (Behind whole) d) first_is ∙ met_is (facts h) e from whole d whole_is
 
-  begins_at : at_hand sides (Behind whole) at ≡ path sides (Behind whole) (attributes_from e (Some from))
-  begins_at = is.start_is ∙ ap (path sides (Behind whole)) is.first_is
+  met_has : (d : Datom) → Met d → InView h w Selects d × (d.e ≡ e) × (from ≤ d.a)
+  met_has d met =
+      let both = and_parts (is_eq (nat_cmp e d.e)) (not (is_gt (nat_cmp from d.a))) (sym (met_here d) ∙ met.1) in
+      (met.0, sym (is_same e d.e both.0), not_above from d.a both.1)
 
-  given_has : (d : Datom) → Given (at_hand sides (Behind whole) at) d → InView k.entries w Selects d × (d.e ≡ e) × (from ≤ d.a)
-  given_has d given =
-      let own = met_of_given k (attributes_from e (Some from)) w (Behind whole) Selects sides is.read d
-      (subst (λ (l : List Datom). Given l d) begins_at given) in
-      let both = and_parts (is_eq (nat_cmp e d.e)) (not (is_gt (nat_cmp from d.a)))
-      (sym (met_is (facts k.entries) e from whole d is.whole_is) ∙ own.1) in
-      (own.0, sym (is_same e d.e both.0), not_above from d.a both.1)
+  has_met : (a : ℕ) → from ≤ a → (has : HasAttribute h w Selects e a) → Met has.datom
+  has_met a above has = (
+    has.in_view,
+    met_here has.datom
+        ∙ and_from (is_eq (nat_cmp e has.datom.e)) (not (is_gt (nat_cmp from has.datom.a))) (same_is e has.datom.e (sym has.of_entity))
+        (above_not from has.datom.a (subst (λ (n : ℕ). from ≤ n) (sym has.of_attribute) above)),
+  )
 
-  has_given : (d : Datom) → InView k.entries w Selects d → d.e ≡ e → from ≤ d.a → Given (at_hand sides (Behind whole) at) d
-  has_given d view of_entity above =
-      subst (λ (l : List Datom). Given l d) (sym begins_at)
-      (given_of_met k (attributes_from e (Some from)) w (Behind whole) Selects sides is.read d (
-        view,
-        met_is (facts k.entries) e from whole d is.whole_is
-            ∙ and_from (is_eq (nat_cmp e d.e)) (not (is_gt (nat_cmp from d.a))) (same_is e d.e (sym of_entity)) (above_not from d.a above),
-      ))
-
-  pub no_attribute : (result : Option ℕ) → result ≡ None → ((d : Datom) → Given (at_hand sides (Behind whole) at) d → ⊥)
-      → IsNextAttribute k.entries w Selects e from result
+  no_attribute : (result : Option ℕ) → result ≡ None → IsWalk h w Selects first (Behind whole) []
+      → IsNextAttribute h w Selects e from result
   no_attribute result is_none none =
-      subst (IsNextAttribute k.entries w Selects e from) (sym is_none)
-      (λ a above has. none has.datom (has_given has.datom has.in_view has.of_entity
-      (subst (λ (n : ℕ). from ≤ n) (sym has.of_attribute) above)))
+      subst (IsNextAttribute h w Selects e from) (sym is_none)
+      (λ a above has. contains_none has.datom ((none.members has.datom).1 (has_met a above has)))
 
-  pub next_is : (x : Datom) (rest : List Datom)
-      → StepsTo k.entries w Selects sides.extent sides.order (Behind whole) (at_hand sides (Behind whole) at) x rest
-      → IsNextAttribute k.entries w Selects e from (Some x.a)
-  next_is x rest step =
-      let own = given_has x ((step.same x).0 (inl refl)) in
+  pub next_is : (extent : Extent) (x : Datom) (rest : List Datom) → IsGoing h w Selects first (Behind whole) extent (x ∷ []) rest
+      → IsNextAttribute h w Selects e from (Some x.a)
+  next_is extent x rest going =
       (own.2, record { datom = x; in_view = own.0; of_entity = own.1; of_attribute = refl }, least)
     where
-      rises : IsRising Eavt (x ∷ rest)
-      rises =
-          subst (λ (o : Order). IsRising o (x ∷ rest)) is.read.order_is
-          (rising_behind sides.order step.passed (x ∷ rest)
-          (subst (IsRising sides.order) step.parts (rises_at sides (Behind whole) first at is.start_is)))
+      own : InView h w Selects x × (x.e ≡ e) × (from ≤ x.a)
+      own = met_has x ((going.same x).0 (inl (contains_head x [] x refl)))
 
-      least : (a : ℕ) → from ≤ a → HasAttribute k.entries w Selects e a → x.a ≤ a
+      rises : IsRising Eavt (x ∷ rest)
+      rises = subst (λ (p : Probe). IsRising p.order (x ∷ rest)) first_is going.rising
+
+      least : (a : ℕ) → from ≤ a → HasAttribute h w Selects e a → x.a ≤ a
       least a above has =
-          let own = given_has x ((step.same x).0 (inl refl)) in
           subst (λ (n : ℕ). x.a ≤ n) has.of_attribute
-          (elim ((step.same has.datom).1 (has_given has.datom has.in_view has.of_entity
-          (subst (λ (n : ℕ). from ≤ n) (sym has.of_attribute) above))) [
-            | inl same ↦ subst (λ (z : Datom). x.a ≤ z.a) same (omega arith)
+          (elim ((going.same has.datom).1 (has_met a above has)) [
+            | inl one ↦ elim (contains-cons x [] has.datom one) [
+              | inl same ↦ subst (λ (z : Datom). x.a ≤ z.a) same (omega arith)
+              | inr none ↦ absurd (contains_none has.datom none)
+            ]
             | inr later ↦ by_attribute x has.datom (own.1 ∙ sym has.of_entity)
-                (before_member Eavt x rest has.datom rises.0 (shown_member sides.extent w rest has.datom later.is_seen))
+                (before_member Eavt x rest has.datom rises.0 (shown_member extent w rest has.datom later.is_seen))
           ])
+
+module _ {S : Type 0} (db : Db S) (Selects : Datom → Type 0) (e from : ℕ) (first : Probe) (whole : Bor Probe)
+    (first_is : first ≡ attributes_from e (Some from)) (whole_is : whole.now ≡ attributes_from e None) where
+  pub no_attribute_ahead : (scan : Scan S) → HasGiven db Selects first (Behind whole) scan []
+      → (HasGiven db Selects first (Behind whole) scan [] → IsWalk db.snapshot.entries (window_of db) Selects first (Behind whole) [])
+      → (result : Option ℕ) → result ≡ None → IsNextAttribute db.snapshot.entries (window_of db) Selects e from result
+  no_attribute_ahead scan start none result is_none =
+      no_attribute db.snapshot.entries (window_of db) Selects e from first whole first_is whole_is result is_none (none start)

@@ -18,7 +18,6 @@ use Rattle.fb_model.proofs.Members.{some_member, any_member, standing_member}
 use Rattle.live_index.proofs.Members.{from_filter, into_filter, contains-cons, contains_head, contains_tail}
 use Rattle.view_model.specs.Window.{Window, is_within, within}
 use Rattle.live_index.proofs.Together.{IsByTime, standing_last, last_stands, rising_by_time, before_member, together, of_through}
-use Rattle.fb_index.specs.declared.sides.Extent.{Extent}
 use Rattle.fb_index.specs.declared.sides.Extent.TheVariants.{Said, Held}
 use Rattle.fb_scan.specs.Walks.{extent_of, is_followed, shown, seen_in}
 

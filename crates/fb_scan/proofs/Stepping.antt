@@ -1,15 +1,15 @@
--- A walk over the lists of an order, step by step, and what it gives.
+-- A scan of the lists of an order, step by step, and what it gives.
 use denote.Ref.{Bor}
-use Rattle.std.proofs.Common.{◌≡◌, ◌∙◌, ◌≢◌, inl, ℕ, ◌<◌, ◌≤◌, Bool, true, false, not, ◌&&◌, List, [], ◌∷◌, ◌++◌, length, take, refl, sym}
+use Rattle.std.proofs.Common.{◌≡◌, ◌∙◌, ◌≢◌, ℕ, ◌<◌, ◌≤◌, Bool, true, false, not, ◌&&◌, List, [], ◌∷◌, ◌++◌, length, take, refl, sym}
 use Rattle.std.proofs.Common.{ap, subst, Option, Some, None, arith, eqb}
-use Rattle.std.specs.Prelude.{◌⊎◌, Contains, MatchOption, IsTrue}
+use Rattle.std.specs.Prelude.{Contains, MatchOption, IsTrue}
 use Rattle.std.specs.List.{slice_get}
-use Rattle.std.specs.Option.{option_map, option_eq}
+use Rattle.std.specs.Option.{option_eq}
 use Rattle.std.specs.Ordering.{is_lt, is_gt}
 use Rattle.std.specs.declared.cmp.Ordering.{Ordering}
 use Rattle.std.proofs.lemmas.Bool.{true≢false, and_parts, and_from}
 use Rattle.std.proofs.lemmas.Bool.Decides.{nat_tests}
-use Rattle.std.proofs.lemmas.List.{take_all, length_push, length-append}
+use Rattle.std.proofs.lemmas.List.{take_all, length_push}
 use Rattle.fb_values.specs.declared.facts.Datom.{Datom}
 use Rattle.fb_values.specs.declared.facts.Entry.{Entry}
 use Rattle.fb_values.specs.declared.facts.Value.{Value}
@@ -17,15 +17,14 @@ use Rattle.fb_values.specs.declared.indexes.Order.{Order}
 use Rattle.fb_values.specs.declared.indexes.Order.TheVariants.{Avet}
 use Rattle.fb_values.specs.declared.indexes.Probe.{Probe}
 use Rattle.std.specs.declared.cmp.Ordering.TheVariants.{Less, Equal, Greater}
-use Rattle.fb_values.specs.Orders.{key_cmp, probe_cmp}
+use Rattle.fb_values.specs.Orders.{probe_cmp}
 use Rattle.fb_values.specs.Lists.{Lists, list_in}
 use Rattle.fb_values.specs.Rising.{IsRising}
-use Rattle.fb_values.proofs.Rising.{rises_from, rising_from}
 use Rattle.fb_covers.specs.Coverage.{Coverage, covers as held_by}
 use Rattle.fb_search.specs.Places.{is_below}
 use Rattle.fb_model.specs.Facts.{facts}
 use Rattle.fb_model.specs.Schema.{covers}
-use Rattle.live_index.proofs.Members.{contains_none, from_filter, into_filter}
+use Rattle.live_index.proofs.Members.{from_filter, into_filter}
 use Rattle.view_model.specs.Window.{Window, is_within}
 use Rattle.view_model.specs.View.{InView}
 use Rattle.view_model.specs.Scan.{Range, between, is_in, IsScan}
@@ -38,21 +37,22 @@ use Rattle.fb_schema.specs.Tables.{HasCoverage}
 use Rattle.fb_index.specs.declared.sides.Extent.{Extent}
 use Rattle.fb_index.specs.declared.sides.Extent.TheVariants.{Said, Held}
 use Rattle.fb_index.specs.declared.sides.Sides.{Sides}
-use Rattle.fb_index.specs.declared.sides.Spot.{Spot}
 use Rattle.fb_index.specs.Ranges.{from_probe, is_above, upto_probe, within as upto_last}
 use Rattle.fb_index.specs.Sides.{older_read, live_read, whole, AreBeside}
+use Rattle.fb_db.specs.declared.db.Db.{Db}
+use Rattle.fb_db.specs.Seen.{window_of}
 use Rattle.fb_view.specs.Kept.{Kept, Stands, roots_read}
 use Rattle.fb_view.proofs.Standing.{coverage_of}
 use Rattle.fb_scan.specs.declared.ends.End.{End}
+use Rattle.fb_scan.specs.declared.walk.Scan.{Scan}
 use Rattle.fb_scan.specs.declared.ends.End.TheVariants.{Never, Behind, Before}
 use Rattle.fb_scan.specs.Ends.{is_past, is_met, IsIn, IsWalk, valued}
-use Rattle.fb_scan.specs.Steps.{AreRead, last_read, behind, at_hand, path, IsGiven, StepsTo, IsWalkUpto}
+use Rattle.fb_scan.specs.Steps.{AreRead, last_read, path, HasGiven, IsGiven, IsGoing, IsWalkUpto}
 use Rattle.fb_scan.specs.Walks.{extent_of, is_shown, shown}
 use Rattle.fb_scan.proofs.Seeing.{shown_within}
 use Rattle.fb_scan.proofs.Meeting.{path_of as read_of_kept, met, meets}
-use Rattle.fb_scan.proofs.Ending.{all_past, between_open, between_closed}
-use Rattle.fb_scan.proofs.Going.{Skips, skips_none, skips_on, gives, IsGoing, begins, goes_on, ends, found_first, found_rises}
-use Rattle.fb_scan.proofs.Going.{front_is_take, rising_behind, shown_member}
+use Rattle.fb_scan.proofs.Ending.{between_open, between_closed}
+use Rattle.fb_scan.proofs.Going.{begins, passes_by, gives, ends_at, ends_with, front}
 
 -- what is read of an order and is not below the probe
 abbrev path_of : Sides → Probe → List Datom
@@ -89,113 +89,93 @@ path_rises sides end p =
 
 -- ---- a step
 
--- what the lists answer of the place behind a spot
-abbrev pub IsNext : List Datom → (Spot → List Datom) → Option (Bor Datom × Spot) → Type 0
-IsNext ahead behind next = MatchOption next (ahead ≡ []) (λ n. ahead ≡ n.0.now ∷ behind n.1)
-
--- the same as an equation
-pub next_at_hand : (sides : Sides) (end : End) (ds : List Datom) (next : Option (Bor Datom × Spot)) → IsNext ds (behind sides end) next
-    → at_hand sides end next ≡ ds
-next_at_hand sides end ds None is = sym is
-next_at_hand sides end ds (Some n) is = sym is
-
 pub held_in : (k : Kept) (stands : Stands k) (coverage : Coverage) (schema : List Datom) (order : Order) (a : ℕ) (held : Bool)
     → HasCoverage coverage schema → schema ≡ k.schema → held ≡ held_by coverage order a → held ≡ covers (facts k.entries) order a
 held_in k stands coverage schema order a held has schema_is is =
     is ∙ coverage_of k.schema k.entries coverage stands.schema_is (subst (λ (l : List Datom). HasCoverage coverage l) schema_is has) order
     a
 
-module _ (h : List Entry) (w : Window) (Selects : Datom → Type 0) (sides : Sides) (end : End) where
-  first_at_hand : (next : Option (Bor Datom × Spot)) → slice_get (at_hand sides end next) 0 ≡ option_map (λ n. n.0.now) next
-  first_at_hand None = refl
-  first_at_hand (Some n) = refl
+pub shorter : (old new : List Datom) (x : Datom) → old ≡ x ∷ new → length new < length old
+shorter old new x is = subst (λ (l : List Datom). length new < length l) (sym is) (omega arith)
 
-  abbrev pub Skipped : Option (Bor Datom × Spot) → Option (Bor Datom × Spot) → Type 0
-  Skipped at next = Skips h w Selects sides.extent sides.order end (at_hand sides end at) (at_hand sides end next)
+module _ {S : Type 0} (db : Db S) (SelectsIn : Db S → Datom → Type 0) (from : Probe) (end : End) (old : Scan S) (found : List Datom)
+    (has : HasGiven db (SelectsIn db) from end old found) where
+  abbrev Selects : Datom → Type 0
+  Selects = SelectsIn db
 
-  -- at a datom that does not lie beyond the end
-  pub record IsAtDatom (at was next : Option (Bor Datom × Spot)) (b : Bor Datom) (spot : Spot) (held : Bool)
-      (beside : Option Datom) : Type 0 where
-    pub skipped : Skipped at was
-    pub was_is : was ≡ Some (b, spot)
-    pub next_is : at_hand sides end next ≡ behind sides end spot
-    pub held_is : held ≡ covers (facts h) sides.order b.now.a
-    pub beside_is : beside ≡ option_map (λ n. n.0.now) next
+  abbrev w : Window
+  w = window_of db
 
-  module _ (at was next : Option (Bor Datom × Spot)) (b : Bor Datom) (spot : Spot) (held : Bool) (beside : Option Datom)
-      (is : IsAtDatom at was next b spot held beside) where
-    abbrev pub Passes : Type 0
-    Passes = IsTrue (held && is_shown sides.extent w b.now beside) × Selects b.now
+  abbrev h : List Entry
+  h = db.snapshot.entries
 
-    -- the same of what lies ahead
-    abbrev PassesAhead : Type 0
-    PassesAhead =
-        IsTrue (covers (facts h) sides.order b.now.a && is_shown sides.extent w b.now (slice_get (at_hand sides end next) 0))
-        × Selects b.now
+  -- nothing is left to read
+  pub none_left : old.walk ≡ [] → IsWalk h w Selects from end found
+  none_left none =
+      ends_with h w Selects from end old.extent found
+      (subst (λ (l : List Datom). IsGoing h w Selects from end old.extent found l) none has.going)
 
-    skips : Skips h w Selects sides.extent sides.order end (at_hand sides end at) (b.now ∷ at_hand sides end next)
-    skips =
-        subst (λ (l : List Datom). Skips h w Selects sides.extent sides.order end (at_hand sides end at) (b.now ∷ l))
-        (sym is.next_is)
-        (subst (Skipped at) is.was_is is.skipped)
+  module _ (x : Datom) (rest : List Datom) (parts : old.walk ≡ x ∷ rest) where
+    going : IsGoing h w Selects from end old.extent found (x ∷ rest)
+    going = subst (λ (l : List Datom). IsGoing h w Selects from end old.extent found l) parts has.going
 
-    passes : Passes → PassesAhead
-    passes given =
-        subst (λ (n : Option Datom). IsTrue (covers (facts h) sides.order b.now.a && is_shown sides.extent w b.now n) × Selects b.now)
-        (is.beside_is ∙ sym (first_at_hand next))
-        (subst (λ (t : Bool). IsTrue (t && is_shown sides.extent w b.now beside) × Selects b.now) is.held_is given)
+    pub all_beyond : is_past old.end x ≡ true → IsWalk h w Selects from end found
+    all_beyond past =
+        ends_at h w Selects from end old.extent found x rest going has.inside
+        (subst (λ (e : End). is_past e x ≡ true) has.end_is past)
 
-    fails : (Passes → ⊥) → PassesAhead → ⊥
-    fails not_given given =
-        not_given (subst (λ (t : Bool). IsTrue (t && is_shown sides.extent w b.now beside) × Selects b.now) (sym is.held_is)
-        (subst (λ (n : Option Datom). IsTrue (covers (facts h) sides.order b.now.a && is_shown sides.extent w b.now n) × Selects b.now)
-        (sym (is.beside_is ∙ sym (first_at_hand next))) given))
+    module _ (held : Bool) (beside : Option Datom) (held_is : held ≡ covers (facts old.db.now.snapshot.entries) old.order x.a)
+        (beside_is : (v : Window) (d : Datom) → is_shown old.extent v d beside ≡ is_shown old.extent v d (slice_get rest 0)) where
+      -- as the scan tests the datom
+      abbrev pub Tested : Type 0
+      Tested = IsTrue (held && is_shown old.extent (window_of old.db.now) x beside) × SelectsIn old.db.now x
 
-    pub found_one : is_past end b.now ≡ false → Passes
-        → StepsTo h w Selects sides.extent sides.order end (at_hand sides end at) b.now (at_hand sides end next)
-    found_one before given =
-        gives h w Selects sides.extent sides.order end (at_hand sides end at) b.now (at_hand sides end next) skips before (passes given)
+      abbrev Passes : Type 0
+      Passes = IsTrue (covers (facts h) from.order x.a && is_shown old.extent w x (slice_get rest 0)) × Selects x
 
-    pub passed_one : (Passes → ⊥) → Skipped at next
-    passed_one not_given =
-        skips_on h w Selects sides.extent sides.order end (at_hand sides end at) b.now (at_hand sides end next) skips (fails not_given)
+      test_is : (held && is_shown old.extent (window_of old.db.now) x beside)
+          ≡ (covers (facts h) from.order x.a && is_shown old.extent w x (slice_get rest 0))
+      test_is =
+          ap (λ b. b && is_shown old.extent (window_of old.db.now) x beside)
+          (held_is ∙ ap (λ (v : Db S). covers (facts v.snapshot.entries) old.order x.a) has.db_is
+          ∙ ap (λ (o : Order). covers (facts h) o x.a) has.order_is)
+          ∙ ap (λ b. covers (facts h) from.order x.a && b)
+          (beside_is (window_of old.db.now) x ∙ ap (λ (v : Db S). is_shown old.extent (window_of v) x (slice_get rest 0)) has.db_is)
 
-  pub none_passed : (at : Option (Bor Datom × Spot)) → Skipped at at
-  none_passed at = skips_none h w Selects sides.extent sides.order end (at_hand sides end at) (at_hand sides end at) refl
+      -- what is left behind the datom
+      abbrev behind : Scan S
+      behind = record old { walk = rest }
 
-  pub none_left : (at next : Option (Bor Datom × Spot)) → Skipped at next → next ≡ None → (d : Datom)
-      → IsGiven h w Selects sides.extent sides.order end (at_hand sides end at) d → ⊥
-  none_left at next skipped is d given =
-      contains_none d (((subst (Skipped at) is skipped).same d).1 given).is_seen
+      pub found_one : is_past old.end x ≡ false → Tested → HasGiven db Selects from end behind (found ++ x ∷ [])
+      found_one before tested = record {
+        db_is = has.db_is;
+        order_is = has.order_is;
+        end_is = has.end_is;
+        inside = has.inside;
+        going =
+            gives h w Selects from end old.extent found x rest going (subst (λ (e : End). is_past e x ≡ false) has.end_is before)
+            (subst (λ (b : Bool). b ≡ true) test_is tested.0, subst (λ (v : Db S). SelectsIn v x) has.db_is tested.1);
+      }
 
-  pub all_beyond : IsIn sides.order end → (at next : Option (Bor Datom × Spot)) (b : Bor Datom) (spot : Spot)
-      → IsRising sides.order (at_hand sides end at) → Skipped at next → next ≡ Some (b, spot) → is_past end b.now ≡ true
-      → (d : Datom) → IsGiven h w Selects sides.extent sides.order end (at_hand sides end at) d → ⊥
-  all_beyond inside at next b spot rising skipped is past d given =
-      let here : Skips h w Selects sides.extent sides.order end (at_hand sides end at) (b.now ∷ behind sides end spot) =
-      subst (Skipped at) is skipped in
-      let left = (here.same d).1 given in
-      let rises = rising_behind sides.order here.passed (b.now ∷ behind sides end spot)
-      (subst (IsRising sides.order) here.parts rising) in
-      true≢false (sym (all_past sides.order end b.now (behind sides end spot) d inside rises past
-      (shown_member sides.extent w (b.now ∷ behind sides end spot) d left.is_seen)) ∙ left.is_before)
+      pub passed_one : (Tested → ⊥) → HasGiven db Selects from end behind found
+      passed_one fails = record {
+        db_is = has.db_is;
+        order_is = has.order_is;
+        end_is = has.end_is;
+        inside = has.inside;
+        going =
+            passes_by h w Selects from end old.extent found x rest going
+            (λ passes. fails (
+              subst (λ (b : Bool). b ≡ true) (sym test_is) passes.0,
+              subst (λ (v : Db S). SelectsIn v x) (sym has.db_is) passes.1,
+            ));
+      }
 
--- ---- a walk
-
--- the walk has given what is found, and goes on from the place
-abbrev pub Goes : List Entry → Window → (Datom → Type 0) → Sides → Probe → End → List Datom → Option (Bor Datom × Spot) → Type 0
-Goes h w Selects sides p end found at =
-    IsGoing h w Selects sides.extent sides.order end (path sides end p) found (at_hand sides end at)
+-- ---- a number of them
 
 -- not more than so many are found, where a number is given
 abbrev pub IsUpto : Option ℕ → List Datom → Type 0
 IsUpto most found = MatchOption most (Unit {0}) (λ n. length found ≤ n)
-
-pub walk_begins : (h : List Entry) (w : Window) (Selects : Datom → Type 0) (sides : Sides) (p : Probe) (end : End) (found : List Datom)
-    (at : Option (Bor Datom × Spot)) → found ≡ [] → at_hand sides end at ≡ path sides end p → Goes h w Selects sides p end found at
-walk_begins h w Selects sides p end found at none start =
-    subst (λ (l : List Datom). Goes h w Selects sides p end l at) (sym none)
-    (begins h w Selects sides.extent sides.order end (path sides end p) (at_hand sides end at) (path_rises sides end p) start)
 
 ne_lt : (a b : ℕ) → a ≤ b → a ≢ b → a < b
 ne_lt a b le ne = grind arith
@@ -210,18 +190,6 @@ upto_more (Some n) found new x upto not_full is =
 pub none_upto : (most : Option ℕ) (found : List Datom) → found ≡ [] → IsUpto most found
 none_upto None found is = tt
 none_upto (Some n) found is = subst (λ (l : List Datom). length l ≤ n) (sym is) (omega arith)
-
-pub walk_goes : (h : List Entry) (w : Window) (Selects : Datom → Type 0) (sides : Sides) (p : Probe) (end : End) (found new : List Datom)
-    (x : Datom) (at next : Option (Bor Datom × Spot)) → Goes h w Selects sides p end found at
-    → StepsTo h w Selects sides.extent sides.order end (at_hand sides end at) x (at_hand sides end next) → new ≡ found ++ x ∷ []
-    → Goes h w Selects sides p end new next
-walk_goes h w Selects sides p end found new x at next going step is =
-    goes_on h w Selects sides.extent sides.order end (path sides end p) found (at_hand sides end at) x (at_hand sides end next) new going
-    step is
-
-pub walk_rises : (h : List Entry) (w : Window) (Selects : Datom → Type 0) (sides : Sides) (p : Probe) (end : End) (found : List Datom)
-    (at : Option (Bor Datom × Spot)) → Goes h w Selects sides p end found at → IsRising sides.order (at_hand sides end at)
-walk_rises h w Selects sides p end found at going = rising_behind sides.order found (at_hand sides end at) going.rising
 
 -- whether so many are found is tested by an equality
 pub full_is : (most : Option ℕ) (n : ℕ) (not_full : Bool) → not_full ≡ not (option_eq eqb most (Some n)) → not_full ≡ false
@@ -238,12 +206,6 @@ not_full_is most n not_full test holds full = go (sym (ap (λ (m : Option ℕ). 
   where
     go : not (eqb n n) ≡ true → ⊥
     go is = grind (arith, nat_tests, is)
-
--- each step leaves less ahead
-pub shorter : (h : List Entry) (w : Window) (Selects : Datom → Type 0) (extent : Extent) (order : Order) (end : End) (ds : List Datom)
-    (x : Datom) (rest : List Datom) → StepsTo h w Selects extent order end ds x rest → length rest < length ds
-shorter h w Selects extent order end ds x rest step =
-    subst (λ (l : List Datom). length rest < length l) (sym step.parts) (omega (arith, length-append step.passed (x ∷ rest)))
 
 -- ---- what is given of an index is what the view has
 
@@ -327,44 +289,37 @@ module _ (k : Kept) (p : Probe) (w : Window) (end : End) (Selects : Datom → Ty
         is_selected = is.0.is_selected;
       }
 
-  module _ (found : List Datom) (at : Option (Bor Datom × Spot)) (going : Goes k.entries w Selects sides p end found at) where
-    rising_found : IsRising p.order found
-    rising_found =
-        subst (λ (o : Order). IsRising o found) read.order_is
-        (found_rises k.entries w Selects sides.extent sides.order end (path sides end p) found (at_hand sides end at) going)
+  pub going_first : (last : Option Probe) (rest : List Datom) → last ≡ last_read sides.extent end → rest ≡ upto_last last (path_of sides p)
+      → IsGoing k.entries w Selects p end sides.extent [] rest
+  going_first last rest last_is rest_is =
+      subst (IsGoing k.entries w Selects p end sides.extent [])
+      (sym (rest_is ∙ ap (λ (l : Option Probe). upto_last l (path_of sides p)) last_is))
+      (begins k.entries w Selects p end sides.extent (path sides end p)
+      (subst (λ (o : Order). IsRising o (path sides end p)) read.order_is (path_rises sides end p))
+      (λ d given. met_of_given d (subst (λ (o : Order). IsGiven k.entries w Selects sides.extent o end (path sides end p) d)
+      (sym read.order_is) given))
+      (λ d met. subst (λ (o : Order). IsGiven k.entries w Selects sides.extent o end (path sides end p) d) read.order_is
+      (given_of_met d met)))
 
-    whole_walk : ((d : Datom) → Given (at_hand sides end at) d → ⊥) → IsWalk k.entries w Selects p end found
-    whole_walk none =
-        let all = ends k.entries w Selects sides.extent sides.order end (path sides end p) found (at_hand sides end at) going none in
-        record {
-          rising = rises_from p.order found rising_found;
-          members = λ d. (λ there. met_of_given d ((all d).0 there), λ is. (all d).1 (given_of_met d is));
-        }
+-- ---- so many of a walk
 
-    pub walk_ends : (most : Option ℕ) (answer : List Datom) → IsUpto most found
-        → ((d : Datom) → Given (at_hand sides end at) d → ⊥) → answer ≡ found → IsWalkUpto most k.entries w Selects p end answer
-    walk_ends most answer upto none is = subst (IsWalkUpto most k.entries w Selects p end) (sym is) (go most upto)
-      where
-        go : (most : Option ℕ) → IsUpto most found → IsWalkUpto most k.entries w Selects p end found
-        go None upto = whole_walk none
-        go (Some n) upto = λ all walk.
-            sym (take_all n found upto) ∙ ap (take n) (IsRisingListOf-one p.order IsMet found all (whole_walk none) walk)
+module _ (h : List Entry) (w : Window) (Selects : Datom → Type 0) (p : Probe) (end : End) (found : List Datom) where
+  pub walk_ends : (most : Option ℕ) (answer : List Datom) → IsUpto most found → IsWalk h w Selects p end found → answer ≡ found
+      → IsWalkUpto most h w Selects p end answer
+  walk_ends most answer upto walk is = subst (IsWalkUpto most h w Selects p end) (sym is) (go most upto)
+    where
+      go : (most : Option ℕ) → IsUpto most found → IsWalkUpto most h w Selects p end found
+      go None upto = walk
+      go (Some n) upto = λ all other.
+          sym (take_all n found upto)
+          ∙ ap (take n) (IsRisingListOf-one p.order (λ d. InView h w Selects d × IsTrue (is_met (facts h) p end d)) found all walk other)
 
-    found_before : (d : Datom) → IsMet d → Contains found d ⊎ ((x : Datom) → Contains found x → key_cmp p.order x d ≡ Less)
-    found_before d is =
-        subst (λ (o : Order). Contains found d ⊎ ((x : Datom) → Contains found x → key_cmp o x d ≡ Less)) read.order_is
-        (found_first k.entries w Selects sides.extent sides.order end (path sides end p) found (at_hand sides end at) going d
-        (given_of_met d is))
-
-    pub walk_is_full : (most : Option ℕ) (answer : List Datom) → most ≡ Some (length found) → answer ≡ found
-        → IsWalkUpto most k.entries w Selects p end answer
-    walk_is_full most answer full is =
-        subst (IsWalkUpto most k.entries w Selects p end) (sym is)
-        (subst (λ (m : Option ℕ). IsWalkUpto m k.entries w Selects p end found) (sym full)
-        (λ all walk.
-        front_is_take p.order found all rising_found (rising_from p.order all walk.rising)
-        (λ d there. (walk.members d).1 (met_of_given d ((going.same d).0 (inl there))))
-        (λ d there. found_before d ((walk.members d).0 there))))
+  pub walk_is_full : (extent : Extent) (rest : List Datom) → IsGoing h w Selects p end extent found rest → (most : Option ℕ)
+      → (answer : List Datom) → most ≡ Some (length found) → answer ≡ found → IsWalkUpto most h w Selects p end answer
+  walk_is_full extent rest going most answer full is =
+      subst (IsWalkUpto most h w Selects p end) (sym is)
+      (subst (λ (m : Option ℕ). IsWalkUpto m h w Selects p end found) (sym full)
+      (λ all walk. front h w Selects p end extent found rest all going walk))
 
 -- ---- walks are scans
 

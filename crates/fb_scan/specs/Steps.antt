@@ -1,26 +1,29 @@
--- The steps of a walk over an index: what lies ahead of it, which of that it gives, and what one step does.
+-- A scan of an index: what it reads, which of that it gives, and how far it has come.
 -- This project's own choice.
-use denote.Ref.{Bor}
-use Rattle.std.specs.Prelude.{◌≡◌, ◌⊎◌, ◌↔◌, ℕ, List, [], ◌∷◌, ◌++◌, Contains, IsTrue, IsFalse, take, Option, Some, None}
+use Rattle.std.specs.Prelude.{◌≡◌, ◌⊎◌, ◌↔◌, ℕ, List, ◌++◌, Contains, IsTrue, IsFalse, take, Option, Some, None}
 use Rattle.fb_values.specs.declared.facts.Datom.{Datom}
 use Rattle.fb_values.specs.declared.facts.Entry.{Entry}
 use Rattle.fb_values.specs.declared.indexes.Order.{Order}
 use Rattle.fb_values.specs.declared.indexes.Probe.{Probe}
 use Rattle.fb_model.specs.Facts.{facts}
 use Rattle.fb_model.specs.Schema.{covers}
+use Rattle.fb_values.specs.Rising.{IsRising}
 use Rattle.view_model.specs.Window.{Window}
+use Rattle.view_model.specs.View.{InView}
 use Rattle.seg_tree.specs.Nodes.{tree_datoms}
 use Rattle.seg_tree.specs.Indexes.{tree_in}
 use Rattle.fb_index.specs.declared.sides.Extent.{Extent}
 use Rattle.fb_index.specs.declared.sides.Extent.TheVariants.{Said, Held}
 use Rattle.fb_index.specs.declared.sides.Sides.{Sides}
-use Rattle.fb_index.specs.declared.sides.Spot.{Spot}
 use Rattle.fb_index.specs.Ranges.{from_probe, within}
-use Rattle.fb_index.specs.Sides.{whole, ahead, AreBeside}
+use Rattle.fb_index.specs.Sides.{whole, AreBeside}
 use Rattle.fb_view.specs.Kept.{Kept, Stands, roots_read}
 use Rattle.fb_scan.specs.declared.ends.End.{End}
 use Rattle.fb_scan.specs.declared.ends.End.TheVariants.{Never, Behind, Before}
-use Rattle.fb_scan.specs.Ends.{is_past, IsWalk}
+use Rattle.fb_db.specs.declared.db.Db.{Db}
+use Rattle.fb_db.specs.Seen.{window_of}
+use Rattle.fb_scan.specs.declared.walk.Scan.{Scan}
+use Rattle.fb_scan.specs.Ends.{is_past, is_met, IsIn, IsWalk}
 use Rattle.fb_scan.specs.Walks.{extent_of, shown}
 
 -- the lists can be read as one
@@ -44,17 +47,6 @@ last_read Held Never = None
 last_read Held (Behind probe) = Some probe.now
 last_read Held (Before probe) = Some probe.now
 
--- what a walk reads from a spot on
-abbrev pub behind : Sides → End → Spot → List Datom
-behind sides end spot =
-    within (last_read sides.extent end)
-    (ahead sides.extent sides.order sides.tree.now sides.live.now spot)
-
--- the datom at hand and those behind it
-abbrev pub at_hand : Sides → End → Option (Bor Datom × Spot) → List Datom
-at_hand sides end None = []
-at_hand sides end (Some next) = next.0.now ∷ behind sides end next.1
-
 -- what a walk reads: the datoms of an index that are not below the probe
 abbrev pub path : Sides → End → Probe → List Datom
 path sides end from =
@@ -70,25 +62,23 @@ pub record IsGiven (h : List Entry) (w : Window) (Selects : Datom → Type 0) (e
   pub is_before : IsFalse (is_past end d)
   pub is_selected : Selects d
 
--- a step over the list gives this datom, and leaves the rest
-pub record StepsTo (h : List Entry) (w : Window) (Selects : Datom → Type 0) (extent : Extent)
-    (order : Order) (end : End) (ds : List Datom) (x : Datom) (rest : List Datom)
-    : Type 0 where
-  pub passed : List Datom
-  pub parts : ds ≡ passed ++ x ∷ rest
+-- the datoms found, and those that are given of the list behind them, are those of the view that lie from the probe on and before the end
+pub record IsGoing (h : List Entry) (w : Window) (Selects : Datom → Type 0) (from : Probe)
+    (end : End) (extent : Extent) (found rest : List Datom) : Type 0 where
+  pub rising : IsRising from.order (found ++ rest)
   pub same : (d : Datom)
-      → ((x ≡ d) ⊎ IsGiven h w Selects extent order end rest d)
-      ↔ IsGiven h w Selects extent order end ds d
+      → (Contains found d ⊎ IsGiven h w Selects extent from.order end rest d)
+      ↔ (InView h w Selects d × IsTrue (is_met (facts h) from end d))
 
--- what a step answers: the next datom that is given and the place behind it, or that there is none
-abbrev pub IsStep : List Entry → Window → (Datom → Type 0) → Sides → End
-    → Option (Bor Datom × Spot) → Option (Bor Datom × Option (Bor Datom × Spot)) → Type 0
-IsStep h w Selects sides end at None =
-    (d : Datom)
-    → IsGiven h w Selects sides.extent sides.order end (at_hand sides end at) d → ⊥
-IsStep h w Selects sides end at (Some step) =
-    StepsTo h w Selects sides.extent sides.order end (at_hand sides end at) step.0.now
-    (at_hand sides end step.1)
+-- a scan of the database value from the probe to the end has given the datoms, and gives the rest of them
+pub record HasGiven {S : Type 0} (db : Db S) (Selects : Datom → Type 0) (from : Probe)
+    (end : End) (scan : Scan S) (found : List Datom) : Type 0 where
+  pub db_is : scan.db.now ≡ db
+  pub order_is : scan.order ≡ from.order
+  pub end_is : scan.end ≡ end
+  pub inside : IsIn from.order end
+  pub going : IsGoing db.snapshot.entries (window_of db) Selects from end scan.extent found
+      scan.walk
 
 -- a walk that ends with its range, or before, with so many datoms
 abbrev pub IsWalkUpto : Option ℕ → List Entry → Window → (Datom → Type 0) → Probe → End

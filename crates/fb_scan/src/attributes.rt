@@ -5,7 +5,7 @@ ghost use Rattle.fb_db.specs.Seen.{window_of};
 ghost use Rattle.fb_scan.specs.Attributes.{IsNextAttribute};
 
 use crate::ends::End;
-use crate::walk::{next_seen, sides, start};
+use crate::walk::Scan;
 use fb_db::Db;
 use fb_preds::Selector;
 use fb_values::{Order, Probe};
@@ -16,11 +16,8 @@ pub fn next_attribute<S: Selector>(db: &Db<S>, e: u64, from: u64) -> Option<u64>
         e from result }
 {
     let entity = attributes_from(e, None);
-    let sides = sides(db, Order::Eavt);
-    let end = End::Behind(&entity);
-    let first = start(&sides, &attributes_from(e, Some(from)), end);
-    let (datom, _) = next_seen(db, &sides, end, first)?;
-    Some(datom.a)
+    let mut scan = Scan::start(db, &attributes_from(e, Some(from)), End::Behind(&entity));
+    Some(scan.next()?.a)
 }
 
 /// The datoms of the entity, or those from the attribute on.

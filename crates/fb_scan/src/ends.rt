@@ -1,7 +1,10 @@
 //! Where a scan ends.
 ghost use Rattle.std.specs.Prelude.{◌≡◌};
+ghost use Rattle.std.specs.Option.{option_copied};
 ghost use Rattle.fb_scan.specs.Ends.{is_past};
+ghost use Rattle.fb_scan.specs.Steps.{last_read};
 
+use fb_index::Extent;
 use fb_values::{Datom, Probe, cmp_probe};
 use std::cmp::Ordering;
 
@@ -16,7 +19,20 @@ pub enum End<'p> {
     Before(&'p Probe),
 }
 
-impl End<'_> {
+impl<'p> End<'p> {
+    /// The probe up to which a scan reads. Of what holds, no datom has to be known that lies beyond the end.
+    pub(crate) fn last_read(self, extent: Extent) -> Option<&'p Probe>
+        ensures { option_copied result ≡ last_read extent self.entry }
+    {
+        match extent {
+            Extent::Said => None,
+            Extent::Held => match self {
+                End::Never => None,
+                End::Behind(probe) | End::Before(probe) => Some(probe),
+            },
+        }
+    }
+
     /// Whether the datom lies beyond the end.
     pub fn is_past(self, d: &Datom) -> bool
         ensures { result ≡ is_past self.entry d.now }

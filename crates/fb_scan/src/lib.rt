@@ -3,11 +3,15 @@
 
 mod attributes;
 mod ends;
+pub mod lent;
 mod scans;
 mod sight;
 mod txs;
 mod walk;
 
 pub use attributes::next_attribute;
-pub use scans::{Bounds, datoms, first, index_range, seek};
+pub use ends::End;
+pub use lent::Bounds;
+pub use scans::{datoms, first, index_range, seek};
 pub use txs::{Txs, tx_range};
+pub use walk::Scan;

@@ -1,18 +1,18 @@
-//! The scans of an index. A probe cannot be wrong, and of an attribute that an index does not hold there is no datom in
-//! it, so a scan ends without an answer only for want of memory.
-ghost use Rattle.std.specs.Prelude.{◌≡◌, List, take, IfOk, MatchOption};
-ghost use Rattle.fb_values.specs.declared.facts.Datom.{Datom};
+//! The same scans with copies of the datoms, which outlive the database value.
+ghost use Rattle.std.specs.Prelude.{◌≡◌, List, take, IfOk, map};
+ghost use Rattle.fb_values.specs.declared.facts.Datom.{Datom as TheDatom};
 ghost use Rattle.fb_values.specs.declared.indexes.Order.TheVariants.{Avet};
 ghost use Rattle.view_model.specs.Scan.{IsScan, leading, not_below, between};
 ghost use Rattle.fb_db.specs.Seen.{window_of};
-ghost use Rattle.fb_scan.specs.Ends.{valued};
 
 use crate::ends::End;
-use crate::walk::collect;
+use crate::lent;
+use crate::lent::Bounds;
+use crate::walk::lend;
 use fb_db::Db;
 use fb_memory::Memory;
 use fb_preds::Selector;
-use fb_values::{Datoms, Order, Probe, Value};
+use fb_values::{Datom, Datoms, Probe};
 use std::alloc::Global;
 
 /// The datoms that have the probe's leading components.
@@ -20,7 +20,8 @@ pub fn datoms<S: Selector>(alloc: Global, db: &Db<S>, probe: &Probe) -> Result<D
     ensures { IfOk result (λ ds. IsScan db.now.snapshot.entries (window_of db.now)
         (S.selects db.now.filter) probe.now.order (leading probe.now) ds) }
 {
-    collect(alloc, db, probe, End::Behind(probe), None)
+    let found = lent::datoms(alloc, db, probe)?;
+    copies(alloc, &found)
 }
 
 /// The first of the datoms that have the probe's leading components, at most so many. No datom past the last of them is
@@ -31,12 +32,13 @@ pub fn first<S: Selector>(
     probe: &Probe,
     most: usize,
 ) -> Result<Datoms, Memory>
-    ensures { (all : List Datom)
+    ensures { (all : List TheDatom)
         → IsScan db.now.snapshot.entries (window_of db.now) (S.selects db.now.filter)
         probe.now.order (leading probe.now) all
         → IfOk result (λ ds. ds ≡ take most all) }
 {
-    collect(alloc, db, probe, End::Behind(probe), Some(most))
+    let found = lend(alloc, db, probe, End::Behind(probe), Some(most))?;
+    copies(alloc, &found)
 }
 
 /// The datoms from the first one that is not below the probe to the end of the index.
@@ -44,14 +46,8 @@ pub fn seek<S: Selector>(alloc: Global, db: &Db<S>, probe: &Probe) -> Result<Dat
     ensures { IfOk result (λ ds. IsScan db.now.snapshot.entries (window_of db.now)
         (S.selects db.now.filter) probe.now.order (not_below probe.now) ds) }
 {
-    collect(alloc, db, probe, End::Never, None)
-}
-
-/// Values from the first one on and before the second. Where one is not given, that end is open.
-#[derive(Drop)]
-pub struct Bounds {
-    pub start: Option<Value>,
-    pub end: Option<Value>,
+    let found = lent::seek(alloc, db, probe)?;
+    copies(alloc, &found)
 }
 
 /// The datoms of an attribute whose value lies within the bounds, by their values.
@@ -64,32 +60,16 @@ pub fn index_range<S: Selector>(
     ensures { IfOk result (λ ds. IsScan db.now.snapshot.entries (window_of db.now)
         (S.selects db.now.filter) Avet (between attr bounds.start bounds.end) ds) }
 {
-    let from = valued(attr, bounds.start);
-    let to = valued(attr, bounds.end);
-    collect(alloc, db, &from, end_at(&to), None)
+    let found = lent::index_range(alloc, db, attr, bounds)?;
+    copies(alloc, &found)
 }
 
-/// The attribute's datoms, or those with the value.
-fn valued(attr: u64, v: Option<Value>) -> Probe
-    ensures { result ≡ valued attr v }
+fn copies(alloc: Global, datoms: &[&Datom]) -> Result<Datoms, Memory>
+    ensures { IfOk result (λ ds. ds ≡ map (λ d. d.now) datoms.now) }
 {
-    Probe {
-        order: Order::Avet,
-        e: None,
-        a: Some(attr),
-        v,
-        t: None,
+    let mut list = Vec::with_capacity(alloc, datoms.len())?;
+    for d in datoms {
+        d.copy_into(&mut list)?;
     }
-}
-
-/// Before the value, or behind all of the attribute's datoms where the probe has none.
-fn end_at(probe: &Probe) -> End<'_>
-    ensures { MatchOption probe.now.v (result ≡ End.Behind probe.entry)
-        (λ _. result ≡ End.Before probe.entry) }
-{
-    if probe.v.is_some() {
-        End::Before(probe)
-    } else {
-        End::Behind(probe)
-    }
+    Ok(Datoms::of(list))
 }

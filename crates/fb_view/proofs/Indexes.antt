@@ -4,6 +4,7 @@ use Rattle.std.specs.Prelude.{Contains, IsTrue, filter, nat_eq}
 use Rattle.std.specs.Option.{option_map_or}
 use Rattle.std.proofs.lemmas.Bool.{true≢false, and_parts, eqb-true}
 use Rattle.fb_values.specs.declared.facts.Datom.{Datom}
+use Rattle.fb_values.specs.declared.facts.Entry.{Entry}
 use Rattle.fb_values.specs.declared.facts.Value.{Value}
 use Rattle.fb_values.specs.declared.facts.Value.TheVariants.{Keyword, Str, Bool, Long, Ref, Instant, Uuid, Symbol, Uri}
 use Rattle.fb_values.specs.declared.indexes.Order.{Order}
@@ -14,6 +15,7 @@ use Rattle.fb_numbers.specs.Numbers.{type_ref}
 use Rattle.fb_model.specs.Facts.{value_eq, facts}
 use Rattle.fb_model.specs.Rising.{IsRisingListOf}
 use Rattle.fb_model.specs.Schema.{Attribute, attribute_of, covers, is_held}
+use Rattle.fb_model.specs.Lawful.{IsLawful}
 use Rattle.fb_model.specs.Types.{type_of, is_well_formed, is_short_enough, is_of_type}
 use Rattle.fb_model.proofs.Members.{member_passes}
 use Rattle.fb_model.proofs.KnownFacts.{said_typed}
@@ -84,6 +86,13 @@ typed_ref (Some attribute) v typed held =
     let short = and_parts (nat_eq (type_of v) attribute.kind && is_well_formed v) (is_short_enough v) typed in
     let formed = and_parts (nat_eq (type_of v) attribute.kind) (is_well_formed v) short.0 in
     subst (λ (kind : ℕ). nat_eq (type_of v) kind ≡ true) (eqb-true attribute.kind type_ref held) formed.0
+
+-- what VAET holds now it held before, where that was said before
+pub stays_held : (h past : List Entry) (d : Datom) → IsLawful h → IsLawful past → IsIndexed h Vaet d → Contains (said past) d → IsTrue (covers (facts past) Vaet d.a)
+stays_held h past d lawful past_lawful is there =
+    let typed = member_passes _ (said h) d (said_typed h lawful) is.is_said in
+    let kind = kind_is d.v (typed_ref (attribute_of (facts h) d.a) d.v typed is.is_covered) in
+    refs_covered past kind.0 past_lawful d there (ap (λ (v : Value). value_eq v (Ref kind.0)) kind.1 ∙ value_eq-refl (Ref kind.0))
 
 pub stays_in_vaet : (k : Kept) → Stands k → (d : Datom) → Contains (tree_datoms (tree_in k.roots Vaet)) d → IsTrue (covers (facts k.entries) Vaet d.a)
 stays_in_vaet k stands d there =

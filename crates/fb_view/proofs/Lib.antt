@@ -9,5 +9,6 @@ pub mod Telling
 pub mod Indexes
 pub mod Ended
 pub mod Present
+pub mod Bulk
 pub mod Answering
 pub mod Users

@@ -17,6 +17,7 @@ use Rattle.fb_values.specs.Lists.{Lists, list_in}
 use Rattle.fb_model.specs.History.{basis, said, upto}
 use Rattle.fb_model.specs.Facts.{facts, holds, is_of, standing}
 use Rattle.fb_model.specs.Schema.{covers}
+use Rattle.fb_model.specs.Lawful.{IsLawful}
 use Rattle.fb_model.proofs.Members.{any_member, member_passes}
 use Rattle.fb_model.proofs.OneMoreEntry.{said-push}
 use Rattle.fb_model.proofs.Times.{own_t, same_keys, one_for_each_key}
@@ -65,6 +66,12 @@ into_many f (x ∷ xs) a d there is =
 and_false : (b : Bool) → not b ≡ true → b ≡ false
 and_false false e = refl
 and_false true e = absurd (true≢false (sym e))
+
+-- what a history said has no twins
+pub no_twins_of : (h : List Entry) → IsLawful h → (ds : List Datom) → ((d : Datom) → Contains ds d → Contains (said h) d) → HasNoTwins ds
+no_twins_of h lawful ds each x y in_x in_y at =
+    (one_for_each_key h lawful).same x y (each x in_x) (each y in_y)
+    (subst (λ key. slice_cmp value_cmp (key_of Eavt x) key ≡ Equal) (same_keys Eavt x y at) (tied_itself (lists_total value_cmp_total) (key_of Eavt x)))
 
 -- ---- what the lists in AEVT have
 
@@ -119,9 +126,7 @@ module _ (h : List Entry) (recent : Recent) (older : Older) (entry : Entry) (fol
       ]
 
   pub no_twins_missed : (attributes : List ℕ) → HasNoTwins (all_missed recent older attributes)
-  no_twins_missed attributes x y in_x in_y at =
-      (one_for_each_key h follows.stands.history.lawful).same x y (was_said x in_x) (was_said y in_y)
-      (subst (λ key. slice_cmp value_cmp (key_of Eavt x) key ≡ Equal) (same_keys Eavt x y at) (tied_itself (lists_total value_cmp_total) (key_of Eavt x)))
+  no_twins_missed attributes = no_twins_of h follows.stands.history.lawful (all_missed recent older attributes) was_said
     where
       was_said : (d : Datom) → Contains (all_missed recent older attributes) d → Contains (said h) d
       was_said d there = let at = from_many (missed recent older) attributes d there in (missed_parts at.0 d at.1.1).0

@@ -1,9 +1,9 @@
 -- What AVET is refilled with where attributes get an index.
 -- Restates Schema (altering :db/index) of Datomic's documentation; that AVET is refilled from AEVT is this project's own choice.
-use Rattle.std.specs.Prelude.{◌↔◌, ℕ, List, [], ◌++◌, Contains, IsTrue, filter, flat_map, if◌then◌else◌}
+use Rattle.std.specs.Prelude.{◌↔◌, ◌&&◌, not, ℕ, List, [], ◌++◌, Contains, IsTrue, filter, flat_map, if◌then◌else◌}
 use Rattle.fb_values.specs.declared.facts.Datom.{Datom}
 use Rattle.fb_values.specs.declared.indexes.Order.TheVariants.{Avet}
-use Rattle.fb_covers.specs.Coverage.{covers}
+use Rattle.fb_covers.specs.Coverage.{Coverage, covers}
 use Rattle.fb_facts.specs.Told.{is_under}
 use Rattle.fb_schema.specs.Change.{is_gained}
 use Rattle.seg_tree.specs.Nodes.{tree_datoms}
@@ -24,3 +24,14 @@ all_missed recent older attributes = flat_map (missed recent older) attributes
 abbrev pub AreGained : List Datom → List Datom → List ℕ → Type 0
 AreGained before after attributes =
     (a : ℕ) → IsTrue (is_gained Avet before after a) ↔ Contains attributes a
+
+-- among them are all that AVET holds by the second facts and not by the first
+abbrev pub HasGained : List Datom → List Datom → List ℕ → Type 0
+HasGained before after attributes =
+    (a : ℕ) → IsTrue (is_gained Avet before after a) → Contains attributes a
+
+-- the trees' datoms of the attribute, where AVET holds it and no tree of AVET has them
+abbrev pub gained_of : Coverage → Older → ℕ → List Datom
+gained_of coverage older a =
+    if not (covers older.held Avet a) && covers coverage Avet a
+    then filter (is_under a) (tree_datoms older.roots.aevt) else []

@@ -1,5 +1,5 @@
-//! What a snapshot tells of its history's facts. Each answer is found by a search in a tree and one in a live list, and
-//! takes a step more for each datom that it is made of.
+//! What a snapshot tells of its history's facts. Each answer is found by two searches, one in the tree of what holds and
+//! one in the live list of what holds, and takes a step more for each datom that it is made of.
 ghost use Rattle.std.specs.Prelude.{◌≡◌, map, find, IfOk, IfSome};
 ghost use Rattle.std.specs.Option.{option_map};
 ghost use Rattle.fb_model.specs.Facts.{value_eq};

@@ -13,6 +13,7 @@ ghost use Rattle.live_index.specs.Standing.{IsNext};
 ghost use Rattle.seg_tree.specs.Indexes.{tree_in};
 ghost use Rattle.seg_tree.specs.Nodes.{tree_datoms};
 
+use crate::replaying::{Replay, refill_of};
 use crate::sorting::in_avet;
 use fact_trees::facts_of;
 use fb_covers::Covers;
@@ -107,7 +108,8 @@ impl Recent {
         Ok(Recent { schema, live })
     }
 
-    /// With those of the entries that come after the ones of the trees.
+    /// With those of the entries that come after the ones of the trees. What these say is sorted, once for each order: of n
+    /// datoms that takes n log n comparisons.
     pub fn replayed(
         self,
         alloc: Global,
@@ -119,13 +121,12 @@ impl Recent {
         requires stands { Stands (kept (upto entries.now older.now.covered) self older.now) }
         ensures { IfOk result (λ new. Stands (kept entries.now new older.now)) }
     {
-        let len = entries.len();
-        let from = older.covered + 1;
-        let mut recent = self;
-        for t in from..len {
-            recent = recent.with(alloc, older, entries.at(t))?;
-        }
-        Ok(recent)
+        let replay = Replay::behind(alloc, &self.schema, entries, older.covered)?;
+        let (before, after) = (self.schema.covers(), replay.schema.covers());
+        let refill = refill_of(alloc, older, after, &replay.gained)?;
+        let live = self.live.made_anew(&replay.said, before, after, &refill)?;
+        let schema = replay.schema;
+        Ok(Recent { schema, live })
     }
 
     /// The live lists with the entry.

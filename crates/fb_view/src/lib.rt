@@ -6,6 +6,7 @@ mod growth;
 mod issued;
 mod laws;
 mod making;
+mod replaying;
 mod snapshot;
 mod sorting;
 

@@ -5,6 +5,7 @@ ghost use Rattle.fb_model.specs.History.{basis};
 ghost use Rattle.fb_view.specs.Kept.{Stands};
 
 use crate::growth::{Older, Recent};
+use fb_covers::Covers;
 use fb_history::EntryList;
 use fb_memory::Memory;
 use fb_schema::Schema;
@@ -125,6 +126,14 @@ impl Snapshot {
         ensures stands { Stands self.now }
     {
         &self.parts().older.roots
+    }
+
+    /// Which attributes the trees hold.
+    pub fn held(&self) -> &Covers
+        ensures held { result.now ≡ self.now.held }
+        ensures stands { Stands self.now }
+    {
+        &self.parts().older.held
     }
 
     /// How many datoms the four live lists have together, or the greatest number that there is.

@@ -2,3 +2,4 @@ pub mod Heights
 pub mod Sides
 pub mod AtNode
 pub mod Woven
+pub mod Runs

@@ -3,3 +3,4 @@ pub mod Woven
 pub mod Tree
 pub mod TreeFalls
 pub mod Blocks
+pub mod Walks

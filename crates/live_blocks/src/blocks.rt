@@ -8,10 +8,11 @@ ghost use Rattle.fb_search.specs.Places.{place_of, probe_of};
 ghost use Rattle.live_blocks.specs.Trees.{blocks_at_least};
 ghost use Rattle.live_blocks.specs.Woven.{StandWithin, woven};
 ghost use Rattle.live_blocks.specs.Blocks.{datoms_of};
+ghost use Rattle.live_blocks.specs.Walks.{IsRunAt};
 
-use crate::tree::{
-    Tree, block_with, built, datom_at, place_in, place_of_datom_in, with_datoms, without,
-};
+use crate::growing::{block_with, built, with_datoms};
+use crate::taking::without;
+use crate::tree::{Tree, datom_at, place_in, place_of_datom_in, run_at};
 use fb_chunks::Shared;
 use fb_memory::Memory;
 use fb_search::Steps;
@@ -86,6 +87,17 @@ impl Blocks {
         match &self.root {
             None => unreachable!(),
             Some(tree) => datom_at(tree, place),
+        }
+    }
+
+    /// Datoms that lie side by side from a place on: one at the least, unless the list ends before it.
+    pub(crate) fn run_at(&self, place: usize) -> &[Shared<Datom>]
+        ensures run { IsRunAt self.now place result.now }
+        ensures fits { place + length result.now < 2 ^ 64 }
+    {
+        match &self.root {
+            None => &[],
+            Some(tree) => run_at(tree, place),
         }
     }
 

@@ -4,6 +4,11 @@
 #![tactic(auto)]
 
 mod blocks;
+mod growing;
+mod joining;
+mod taking;
 mod tree;
+mod walk;
 
 pub use blocks::Blocks;
+pub use walk::Walk;

@@ -20,3 +20,5 @@ pub mod Insertion
 pub mod Growing
 pub mod Samples
 mod Standing
+pub mod Dropping
+pub mod Stepping

@@ -17,7 +17,7 @@ use Rattle.live_index.specs.Halves.{IsPair, merged}
 use Rattle.live_index.proofs.Members.{contains-cons, contains_head, contains_tail, contains_none}
 use Rattle.live_index.proofs.Together.{before_member, before_all}
 
-put_first : (order : Order) (x : Datom) (ds : List Datom) → StandsBefore order x ds → put_in_order order x ds ≡ x ∷ ds
+pub put_first : (order : Order) (x : Datom) (ds : List Datom) → StandsBefore order x ds → put_in_order order x ds ≡ x ∷ ds
 put_first order x [] before = refl
 put_first order x (y ∷ ds) before = rw before.0 refl
 

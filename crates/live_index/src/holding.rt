@@ -1,5 +1,5 @@
 //! What was said and holds, in the four orders.
-ghost use Rattle.std.specs.Prelude.{◌≡◌, ℕ, ◌+◌, ◌*◌, ◌^◌, ◌<◌, ◌≤◌, length, [], IfOk};
+ghost use Rattle.std.specs.Prelude.{◌≡◌, ℕ, ◌+◌, ◌*◌, ◌^◌, ◌<◌, ◌≤◌, drop, length, [], IfOk};
 ghost use Rattle.std.specs.List.{slice_get};
 ghost use Rattle.std.specs.Option.{option_copied};
 ghost use Rattle.fb_values.specs.declared.indexes.Order.{Order};
@@ -9,6 +9,7 @@ ghost use Rattle.live_blocks.specs.Trees.{blocks_at_least};
 ghost use Rattle.fb_values.specs.Lists.{list_in};
 ghost use Rattle.live_index.specs.Listed.{AreIndexes, lists_of};
 
+use crate::half::{Half, Rest};
 use crate::indexes::Indexes;
 use crate::pool::NEWEST;
 use fb_memory::Memory;
@@ -83,6 +84,19 @@ impl Holding {
                 } else {
                     None
                 }
+            }
+        }
+    }
+
+    /// The walk over the order's list from a place on.
+    pub(crate) fn walk(&self, order: Order, place: u64) -> Half<'_>
+        ensures { result ≡ drop place (list_in self.now order) }
+    {
+        match &self.indexes {
+            None => Half::of(Rest::Nothing),
+            Some(indexes) => {
+                let list = indexes.list(order);
+                Half::of(Rest::Holding(list.walk(&indexes.pool, place as usize)))
             }
         }
     }

@@ -3,10 +3,12 @@
 #![tactic(auto)]
 
 mod ending;
+mod half;
 mod holding;
 mod indexes;
 mod laws;
 mod listed;
+mod listed_walk;
 mod live;
 mod newest;
 mod past;
@@ -17,7 +19,9 @@ mod splitting;
 mod walk;
 
 pub use holding::Holding;
-pub use laws::{next_entries_bring_no_twins, next_entries_may_follow};
+pub use laws::{
+    next_entries_bring_no_twins, next_entries_may_follow, next_entries_may_follow_a_refill,
+};
 pub use live::Live;
 pub use past::Past;
-pub use walk::Cursor;
+pub use walk::{Cursor, Walk};

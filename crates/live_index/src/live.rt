@@ -25,6 +25,9 @@ use fb_values::{Datom, Entry, Order};
 use std::alloc::Global;
 use std::marker::Model;
 
+/// From so many datoms on an entry may be taken for a large one.
+const MANY: u64 = 256;
+
 /// What was said since the trees were made, in four lists that strictly rise: of each what holds, and beside it what does
 /// not. AVET and VAET have the datoms of some attributes only.
 #[derive(Drop)]
@@ -134,7 +137,23 @@ impl Live {
         filled.grown(entry.datoms.as_slice(), after)
     }
 
+    /// With the datoms of an entry that comes next. Where they are at least as many as hold already, all lists are made anew:
+    /// that costs less than one way down a tree for each.
     fn grown(&self, datoms: &[Datom], covers: &Covers) -> Result<Live, Memory>
+        requires held { (order : Order)
+            → All (λ d. IsTrue (is_held covers.now order d)) (list_in self.now order) }
+        requires follow { (order : Order) → MayFollow (list_in self.now order) datoms.now }
+        ensures { IfOk result (λ live. (order : Order)
+            → IsGrown order covers.now (list_in self.now order) [] datoms.now (list_in live order)) }
+    {
+        if datoms.len() as u64 >= self.holding.len(Order::Eavt).max(MANY) {
+            return self.made_anew(datoms, covers, covers, &[]);
+        }
+        self.with_each(datoms, covers)
+    }
+
+    /// The same, where one datom after the other goes in.
+    fn with_each(&self, datoms: &[Datom], covers: &Covers) -> Result<Live, Memory>
         requires held { (order : Order)
             → All (λ d. IsTrue (is_held covers.now order d)) (list_in self.now order) }
         requires follow { (order : Order) → MayFollow (list_in self.now order) datoms.now }

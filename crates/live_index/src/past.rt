@@ -1,5 +1,5 @@
 //! What was said and holds no longer, in the four orders.
-ghost use Rattle.std.specs.Prelude.{◌≡◌, ℕ, ◌+◌, ◌*◌, ◌^◌, ◌<◌, ◌≤◌, true, length, [], Contains, IfOk};
+ghost use Rattle.std.specs.Prelude.{◌≡◌, ℕ, ◌+◌, ◌*◌, ◌^◌, ◌<◌, ◌≤◌, true, drop, length, [], Contains, IfOk};
 ghost use Rattle.std.specs.List.{list_any, slice_get};
 ghost use Rattle.std.specs.Option.{option_copied};
 ghost use Rattle.fb_values.specs.declared.facts.Datom.{Datom};
@@ -12,6 +12,7 @@ ghost use Rattle.live_blocks.specs.Trees.{blocks_at_least};
 ghost use Rattle.live_index.specs.Ending.{is_mate};
 
 use crate::ending::is_mate;
+use crate::half::{Half, Rest};
 use fb_memory::Memory;
 use fb_search::Steps;
 use fb_values::{Datom, Order, Probe};
@@ -73,6 +74,13 @@ impl Past {
         ensures { option_copied result ≡ slice_get (list_in self.now order) place }
     {
         self.list(order).at(place as usize)
+    }
+
+    /// The walk over the order's list from a place on.
+    pub(crate) fn walk(&self, order: Order, place: u64) -> Half<'_>
+        ensures { result ≡ drop place (list_in self.now order) }
+    {
+        Half::of(Rest::Past(self.list(order).walk(place as usize)))
     }
 
     /// The first place whose datom is not below the probe, in the list of the probe's order.

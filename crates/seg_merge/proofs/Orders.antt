@@ -1,14 +1,14 @@
 -- The plan and the tree of one order, and those of all four.
 use Rattle.std.proofs.Common.{◌≡◌, ℕ, ◌-◌, ◌<◌, ◌≤◌, List, ◌++◌, max, sym, ap, ◌∙◌, subst, inl, inr, arith}
-use Rattle.std.specs.Prelude.{Contains, filter}
+use Rattle.std.specs.Prelude.{Contains, IsTrue, filter}
 use Rattle.std.specs.List.{All, range_with_len}
 use Rattle.std.proofs.lemmas.List.Elements.{All-weaker, Contains-append_left, Contains-append_right, Contains-append_cases}
 use Rattle.fb_values.specs.declared.facts.Datom.{Datom}
 use Rattle.fb_values.specs.declared.indexes.Order.{Order}
 use Rattle.fb_values.specs.declared.indexes.Order.TheVariants.{Eavt, Aevt, Avet, Vaet}
-use Rattle.fb_covers.specs.Coverage.{Coverage}
+use Rattle.fb_covers.specs.Coverage.{Coverage, StaysIn}
 use Rattle.fb_values.specs.Rising.{IsRising}
-use Rattle.live_index.specs.Growth.{HasNoTwins}
+use Rattle.live_index.specs.Growth.{HasNoTwins, is_held}
 use Rattle.live_index.proofs.Members.{from_filter, into_filter}
 use Rattle.seg_tree.specs.Nodes.{LeafNode, DirectoryNode, leaf_datoms, tree_datoms, tree_leaves}
 use Rattle.seg_tree.specs.Ids.{leaf_ids, node_ids, ids_of_four, next_above, is_new, old_leaves, AreDistinct, IsInRow}
@@ -16,7 +16,7 @@ use Rattle.seg_tree.specs.Built.{Build, IsBuilt}
 use Rattle.seg_tree.specs.Indexes.{tree_in, root_ids}
 use Rattle.seg_tree.specs.declared.roots.Roots.{Roots}
 use Rattle.seg_tree.proofs.Making.{tree_datoms-leaves, next_above_append}
-use Rattle.seg_merge.specs.Merged.{is_due, due_of, KeepsLeaves}
+use Rattle.seg_merge.specs.Merged.{AreHeld, is_due, due_of, KeepsLeaves}
 use Rattle.seg_merge.specs.Plans.{Planned, IsUnion, RepeatsNone}
 use Rattle.seg_merge.specs.Merges.{IsPlan}
 use Rattle.seg_merge.proofs.Before.{rising-filter}
@@ -28,6 +28,13 @@ use Rattle.seg_merge.proofs.Distinct.{four_distinct}
 
 pub leaves_rise : (order : Order) (tree : List DirectoryNode) (ls : List LeafNode) → ls ≡ tree_leaves tree → IsRising order (tree_datoms tree) → IsRising order (leaf_datoms ls)
 leaves_rise order tree ls is rising = subst (λ (xs : List LeafNode). IsRising order (leaf_datoms xs)) (sym is) (subst (IsRising order) (tree_datoms-leaves tree) rising)
+
+-- where the index still holds what it held, all of the leaves' datoms are held
+pub leaves_held : (order : Order) (held coverage : Coverage) (tree : List DirectoryNode) (ls : List LeafNode) → ls ≡ tree_leaves tree
+    → StaysIn order held coverage → AreHeld held order (tree_datoms tree) → AreHeld coverage order (leaf_datoms ls)
+leaves_held order held coverage tree ls is stays all =
+    subst (AreHeld coverage order) (tree_datoms-leaves tree ∙ ap leaf_datoms (sym is))
+    (All-weaker (λ d. IsTrue (is_held held order d)) (λ d. IsTrue (is_held coverage order d)) (λ d. stays d.a) (tree_datoms tree) all)
 
 pub due_rises : (order : Order) (coverage : Coverage) (c : ℕ) (live due : List Datom) → due ≡ due_of coverage c order live → IsRising order live → IsRising order due
 due_rises order coverage c live due is rising = subst (IsRising order) (sym is) (rising-filter order (is_due coverage c order) live rising)

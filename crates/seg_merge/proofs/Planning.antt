@@ -1,5 +1,5 @@
 -- The plan of a tree, one leaf after another.
-use Rattle.std.proofs.Common.{◌≡◌, ℕ, zero, suc, ◌+◌, ◌<◌, ◌≤◌, ◌⊎◌, true, false, List, [], ◌∷◌, ◌++◌, length, take, drop, refl, sym, ap, ◌∙◌, subst, inl, inr, arith, append_assoc, append-nil, Option, Some}
+use Rattle.std.proofs.Common.{◌≡◌, ℕ, zero, suc, get_or, ◌+◌, ◌<◌, ◌≤◌, ◌⊎◌, true, false, List, [], ◌∷◌, ◌++◌, length, take, drop, refl, sym, ap, ◌∙◌, subst, inl, inr, arith, append_assoc, append-nil, Option, Some}
 use Rattle.std.specs.Prelude.{◌↔◌, Contains, IsTrue}
 use Rattle.std.specs.List.{All, slice_get}
 use Rattle.std.specs.Ordering.{is_lt}
@@ -7,7 +7,7 @@ use Rattle.std.specs.declared.cmp.Ordering.{Ordering}
 use Rattle.std.specs.declared.cmp.Ordering.TheVariants.{Less, Equal, Greater}
 use Rattle.std.proofs.lemmas.Bool.{cases_lt}
 use Rattle.std.proofs.lemmas.List.{take-append-drop, take_all}
-use Rattle.std.proofs.lemmas.List.Elements.{Contains-append_left, Contains-append_right, Contains-append_cases}
+use Rattle.std.proofs.lemmas.List.Elements.{All-contains, Contains-get_or, Contains-append_left, Contains-append_right, Contains-append_cases}
 use Rattle.std.proofs.lemmas.Option.{slice_get_within}
 use Rattle.fb_values.specs.declared.facts.Datom.{Datom}
 use Rattle.fb_values.specs.declared.indexes.Order.{Order}
@@ -20,7 +20,7 @@ use Rattle.live_index.specs.Growth.{HasNoTwins, is_held}
 use Rattle.live_index.proofs.Members.{contains-cons, contains_head, contains_none}
 use Rattle.seg_tree.specs.Nodes.{LeafNode, leaf_datoms}
 use Rattle.seg_tree.proofs.Making.{leaf_datoms-append}
-use Rattle.seg_merge.specs.Merged.{goes_before_leaf, goes_before, FallsInto, KeepsLeaves}
+use Rattle.seg_merge.specs.Merged.{AreHeld, goes_before_leaf, goes_before, FallsInto, KeepsLeaves}
 use Rattle.seg_merge.specs.Plans.{Planned, IsUnion, AddsLeaf, RepeatsNone}
 use Rattle.seg_merge.proofs.Before.{stands_at, rising_before}
 use Rattle.seg_merge.proofs.Merges.{Merges, IsNext, merges_none, merges_more}
@@ -77,6 +77,12 @@ pub leaf_within : (ls : List LeafNode) (k : ℕ) (leaf : LeafNode) (d : Datom) �
 leaf_within ls k leaf d read there =
     subst (λ (ds : List Datom). Contains ds d) (parts_at ls k leaf read)
     (Contains-append_right (leaf_datoms (take k ls)) (leaf.datoms ++ leaf_datoms (drop (suc k) ls)) d (Contains-append_left leaf.datoms (leaf_datoms (drop (suc k) ls)) d there))
+
+pub leaf_held : (order : Order) (coverage : Coverage) (ls : List LeafNode) (k : ℕ) (leaf : LeafNode) → slice_get ls k ≡ Some leaf
+    → AreHeld coverage order (leaf_datoms ls) → AreHeld coverage order leaf.datoms
+leaf_held order coverage ls k leaf read all = λ i d within.
+    All-contains (held coverage order) (leaf_datoms ls) (get_or leaf.datoms i d) all
+    (leaf_within ls k leaf (get_or leaf.datoms i d) read (Contains-get_or leaf.datoms i d within))
 
 pub leaf_and_rest_rise : (order : Order) (ls : List LeafNode) (k : ℕ) (leaf : LeafNode) → slice_get ls k ≡ Some leaf → IsRising order (leaf_datoms ls) → IsRising order (leaf.datoms ++ leaf_datoms (drop (suc k) ls))
 leaf_and_rest_rise order ls k leaf read rising =

@@ -31,6 +31,10 @@ pub record IsMergeable (order : Order) (old live : List Datom) : Type 0 where
   pub live_rises : IsRising order live
   pub single : HasNoTwins (old ++ live)
 
+-- the order's index holds the attribute of each of the datoms
+abbrev pub AreHeld : Coverage → Order → List Datom → Type 0
+AreHeld coverage order ds = All (λ d. IsTrue (is_held coverage order d)) ds
+
 -- the datom goes before the first datom of the leaf, or there is no leaf
 abbrev pub goes_before_leaf : Order → Option LeafNode → Datom → Bool
 goes_before_leaf order leaf d =

@@ -9,7 +9,7 @@ ghost use Rattle.fb_values.specs.Lists.{Lists, list_in};
 ghost use Rattle.seg_tree.specs.Nodes.{tree_datoms, tree_leaves};
 ghost use Rattle.seg_tree.specs.Ids.{next_above, AreDistinct, IsInRow, old_leaves};
 ghost use Rattle.seg_tree.specs.Indexes.{tree_in, trees_of, root_ids};
-ghost use Rattle.seg_merge.specs.Merged.{IsMergeable, IsMerged, KeepsLeaves, due_of};
+ghost use Rattle.seg_merge.specs.Merged.{AreHeld, IsMergeable, IsMerged, KeepsLeaves, due_of};
 ghost use Rattle.seg_merge.specs.Merges.{IsPlan, HasOlderLeaves, HasNewDirectories};
 ghost use Rattle.seg_merge.specs.Standing.{CanMerge};
 ghost use Rattle.view_model.specs.Stands.{RootStands};
@@ -26,8 +26,9 @@ use std::alloc::Global;
 use std::thread;
 use std::thread::Threads;
 
-/// The trees of the older ones and of the live datoms up to the transaction `c`. AVET and VAET hold the attributes of
-/// `covers`. The four orders are merged side by side; new nodes are numbered from `first_id` on.
+/// The trees of the older ones, which were made by the coverage `held`, and of the live datoms up to the transaction `c`.
+/// AVET and VAET hold the attributes of `covers`. The four orders are merged side by side; new nodes are numbered from
+/// `first_id` on. Where an order's index still holds all that it held, only leaves that a datom falls into are read.
 pub fn merge4<R: Threads + Sync>(
     rt: &R,
     alloc: Global,
@@ -35,12 +36,15 @@ pub fn merge4<R: Threads + Sync>(
     live: &Live,
     c: u32,
     first_id: u64,
+    held: &Covers,
     covers: &Covers,
 ) -> Result<Roots, Memory>
     requires fresh { next_above (root_ids roots.now) ≤ first_id }
     requires small { first_id ≤ 2 ^ 61 }
     requires mergeable { (order : Order)
         → IsMergeable order (tree_datoms (tree_in roots.now order)) (list_in live.now order) }
+    requires held { (order : Order)
+        → AreHeld held.now order (tree_datoms (tree_in roots.now order)) }
 
     ensures merged { IfOk result (λ new. (order : Order)
         → IsMerged order covers.now c (tree_datoms (tree_in roots.now order))
@@ -61,7 +65,7 @@ pub fn merge4<R: Threads + Sync>(
         → CanMerge h old c covers.now (trees_of roots.now) live.now
         → RootStands (trees_of new) h c) }
 {
-    let plans = Plans::of(rt, alloc, roots, live, c, covers)?;
+    let plans = Plans::of(rt, alloc, roots, live, c, held, covers)?;
     let merged = plans.build(alloc, first_id)?;
     Ok(merged)
 }
@@ -85,10 +89,13 @@ impl Plans {
         roots: &Roots,
         live: &Live,
         c: u32,
+        held: &Covers,
         covers: &Covers,
     ) -> Result<Plans, Memory>
-        requires { (order : Order)
+        requires mergeable { (order : Order)
             → IsMergeable order (tree_datoms (tree_in roots.now order)) (list_in live.now order) }
+        requires held { (order : Order)
+            → AreHeld held.now order (tree_datoms (tree_in roots.now order)) }
         ensures { IfOk result (λ plans. (order : Order)
             → IsPlan order covers.now c (tree_in roots.now order) (list_in live.now order)
             (plan_in plans order)) }
@@ -96,23 +103,51 @@ impl Plans {
         let (by_entity, by_value) = thread::join(
             rt,
             ||
-                requires { (order : Order)
+                requires mergeable { (order : Order)
                     → IsMergeable order (tree_datoms (tree_in roots.now order))
                     (list_in live.now order) }
+                requires held { (order : Order)
+                    → AreHeld held.now order (tree_datoms (tree_in roots.now order)) }
                 ensures { IfOk result.0 (λ plan. IsPlan Eavt covers.entry.now c
                     (tree_in roots.entry.now Eavt) (list_in live.entry.now Eavt) plan)
                     × IfOk result.1 (λ plan. IsPlan Aevt covers.entry.now c
                     (tree_in roots.entry.now Aevt) (list_in live.entry.now Aevt) plan) }
-            { plan_two(rt, alloc, Order::Eavt, Order::Aevt, roots, live, c, covers) },
+            {
+                plan_two(
+                    rt,
+                    alloc,
+                    Order::Eavt,
+                    Order::Aevt,
+                    roots,
+                    live,
+                    c,
+                    held,
+                    covers,
+                )
+            },
             ||
-                requires { (order : Order)
+                requires mergeable { (order : Order)
                     → IsMergeable order (tree_datoms (tree_in roots.now order))
                     (list_in live.now order) }
+                requires held { (order : Order)
+                    → AreHeld held.now order (tree_datoms (tree_in roots.now order)) }
                 ensures { IfOk result.0 (λ plan. IsPlan Avet covers.entry.now c
                     (tree_in roots.entry.now Avet) (list_in live.entry.now Avet) plan)
                     × IfOk result.1 (λ plan. IsPlan Vaet covers.entry.now c
                     (tree_in roots.entry.now Vaet) (list_in live.entry.now Vaet) plan) }
-            { plan_two(rt, alloc, Order::Avet, Order::Vaet, roots, live, c, covers) },
+            {
+                plan_two(
+                    rt,
+                    alloc,
+                    Order::Avet,
+                    Order::Vaet,
+                    roots,
+                    live,
+                    c,
+                    held,
+                    covers,
+                )
+            },
         );
         Ok(Plans {
             eavt: by_entity.0?,
@@ -156,10 +191,13 @@ fn plan_two<R: Threads + Sync>(
     roots: &Roots,
     live: &Live,
     c: u32,
+    held: &Covers,
     covers: &Covers,
 ) -> (Result<Plan, Memory>, Result<Plan, Memory>)
-    requires { (order : Order)
+    requires mergeable { (order : Order)
         → IsMergeable order (tree_datoms (tree_in roots.now order)) (list_in live.now order) }
+    requires held { (order : Order)
+        → AreHeld held.now order (tree_datoms (tree_in roots.now order)) }
     ensures first { IfOk result.0 (λ plan. IsPlan first covers.now c (tree_in roots.now first)
         (list_in live.now first) plan) }
     ensures second { IfOk result.1 (λ plan. IsPlan second covers.now c (tree_in roots.now second)
@@ -167,8 +205,8 @@ fn plan_two<R: Threads + Sync>(
 {
     thread::join(
         rt,
-        || plan_one(alloc, first, roots, live, c, covers),
-        || plan_one(alloc, second, roots, live, c, covers),
+        || plan_one(alloc, first, roots, live, c, held, covers),
+        || plan_one(alloc, second, roots, live, c, held, covers),
     )
 }
 
@@ -179,15 +217,18 @@ fn plan_one(
     roots: &Roots,
     live: &Live,
     c: u32,
+    held: &Covers,
     covers: &Covers,
 ) -> Result<Plan, Memory>
-    requires { IsMergeable order (tree_datoms (tree_in roots.now order)) (list_in live.now order) }
+    requires mergeable { IsMergeable order (tree_datoms (tree_in roots.now order)) (list_in live.now order) }
+    requires held { AreHeld held.now order (tree_datoms (tree_in roots.now order)) }
     ensures { IfOk result (λ plan. IsPlan order covers.now c (tree_in roots.now order)
         (list_in live.now order) plan) }
 {
     let leaves = roots.tree(order).leaves(alloc)?;
     let due = due(alloc, live, order, c, covers)?;
-    planned(alloc, order, covers, &leaves, &due)
+    let all_stay = held.stays_in(covers, order);
+    planned(alloc, order, covers, all_stay, &leaves, &due)
 }
 
 /// Trees and live lists that stand for a history may be merged.

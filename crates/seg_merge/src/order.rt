@@ -1,5 +1,5 @@
 //! The merge in one order, leaf by leaf.
-ghost use Rattle.std.specs.Prelude.{◌≡◌, ◌<◌, ◌≤◌, ◌++◌, Some, true, false, length, map, take, drop, IfOk, Contains};
+ghost use Rattle.std.specs.Prelude.{◌≡◌, ◌<◌, ◌≤◌, ◌++◌, Some, true, false, length, map, take, drop, IfOk, IsTrue, Contains};
 ghost use Rattle.std.specs.List.{All, slice_get};
 ghost use Rattle.std.specs.Option.{option_copied};
 ghost use Rattle.std.specs.Arc.{arc_value};
@@ -7,7 +7,7 @@ ghost use Rattle.fb_values.specs.declared.facts.Datom.{Datom};
 ghost use Rattle.fb_values.specs.Rising.{IsRising};
 ghost use Rattle.live_index.specs.Growth.{HasNoTwins};
 ghost use Rattle.seg_tree.specs.Nodes.{LeafNode, leaf_datoms};
-ghost use Rattle.seg_merge.specs.Merged.{goes_before, KeepsLeaves};
+ghost use Rattle.seg_merge.specs.Merged.{AreHeld, goes_before, KeepsLeaves};
 ghost use Rattle.seg_merge.specs.Plans.{IsUnion, AddsLeaf, RepeatsNone};
 
 use crate::leaf::{are_held, union};
@@ -20,17 +20,21 @@ use seg_tree::Leaf;
 use std::alloc::Global;
 use std::sync::Arc;
 
-/// The older leaves with the added datoms: a leaf stays where no added datom falls into its range.
+/// The older leaves with the added datoms: a leaf stays where no added datom falls into its range. Where the order's index
+/// is known to hold all of the older datoms still, such a leaf is not read.
 pub fn planned(
     alloc: Global,
     order: Order,
     covers: &Covers,
+    all_stay: bool,
     leaves: &[Arc<Leaf>],
     added: &[Datom],
 ) -> Result<Plan, Memory>
     requires leaves_rise { IsRising order (leaf_datoms (map arc_value leaves.now)) }
     requires added_rises { IsRising order added.now }
     requires single { HasNoTwins (leaf_datoms (map arc_value leaves.now) ++ added.now) }
+    requires known { IsTrue all_stay
+        → AreHeld covers.now order (leaf_datoms (map arc_value leaves.now)) }
     ensures union { IfOk result (λ plan. IsUnion order covers.now
         (leaf_datoms (map arc_value leaves.now)) added.now plan.datoms) }
     ensures older { IfOk result (λ plan. All (Contains (map arc_value leaves.now)) plan.kept) }
@@ -42,7 +46,7 @@ pub fn planned(
     let mut left = added;
     for place in 0..leaves.len() {
         let (now, behind) = left.split_at(before_leaf(order, leaves, place + 1, left));
-        plan = with_leaf(alloc, plan, order, covers, &leaves[place], now)?;
+        plan = with_leaf(alloc, plan, order, covers, all_stay, &leaves[place], now)?;
         left = behind;
     }
     // Where there is a leaf, the last one took them all.
@@ -82,17 +86,29 @@ fn with_leaf(
     plan: Plan,
     order: Order,
     covers: &Covers,
+    all_stay: bool,
     leaf: &Arc<Leaf>,
     added: &[Datom],
 ) -> Result<Plan, Memory>
     requires leaf_rises { IsRising order (arc_value leaf.now).datoms }
     requires added_rises { IsRising order added.now }
     requires single { HasNoTwins ((arc_value leaf.now).datoms ++ added.now) }
+    requires known { IsTrue all_stay → AreHeld covers.now order (arc_value leaf.now).datoms }
     ensures { IfOk result
         (λ new. AddsLeaf order covers.now (arc_value leaf.now) added.now plan new) }
 {
-    if added.is_empty() && are_held(order, covers, leaf.datoms()) {
+    if added.is_empty() && is_whole(order, covers, all_stay, leaf) {
         return plan.keep(leaf);
     }
     plan.add(union(alloc, order, covers, leaf.datoms(), added)?)
+}
+
+/// Whether the order's index holds all of the leaf. Where that is known the leaf is not read.
+fn is_whole(order: Order, covers: &Covers, known: bool, leaf: &Leaf) -> bool
+    requires rises { IsRising order leaf.now.datoms }
+    requires known { IsTrue known → AreHeld covers.now order leaf.now.datoms }
+    ensures held { IsTrue result → AreHeld covers.now order leaf.now.datoms }
+    ensures all { AreHeld covers.now order leaf.now.datoms → IsTrue result }
+{
+    known || are_held(order, covers, leaf.datoms())
 }

@@ -3,3 +3,4 @@ pub mod Triples
 pub mod Places
 pub mod Promises
 pub mod Parts
+pub mod Said

@@ -1,30 +1,30 @@
-//! What the facts of one entity say of it as an attribute.
-ghost use Rattle.std.specs.Prelude.{◌≡◌, ◌||◌, nat_eq, IfOk};
-ghost use Rattle.std.specs.Option.{option_copied, option_map};
+//! What an entity is as an attribute, by what is said of it.
+ghost use Rattle.std.specs.Prelude.{◌≡◌, ◌||◌, ℕ, nat_eq, IfOk, option_and_then, false};
+ghost use Rattle.std.specs.Option.{option_map, option_map_or};
 ghost use Rattle.fb_numbers.specs.Numbers.{cardinality_one, cardinality_many};
-ghost use Rattle.fb_model.specs.Facts.{value_of as model_value_of};
 ghost use Rattle.fb_model.specs.Schema as schema;
 ghost use Rattle.fb_schema.specs.Parts.{attribute_in};
+ghost use Rattle.tx_after.specs.Said as model;
 
+use crate::said::Said;
 use edn_values::{begins_with_one_of, local_name};
 use fb_memory::Memory;
 use fb_numbers::{
-    CARDINALITY, CARDINALITY_MANY, CARDINALITY_ONE, IDENT, INDEX, IS_COMPONENT, TYPE_KEYWORD,
-    TYPE_URI, UNIQUE, UNIQUE_IDENTITY, UNIQUE_VALUE, USER_ENTITIES, VALUE_TYPE,
+    CARDINALITY_MANY, CARDINALITY_ONE, TYPE_KEYWORD, TYPE_URI, UNIQUE_IDENTITY, UNIQUE_VALUE,
+    USER_ENTITIES,
 };
 use fb_schema::Attribute;
 use fb_text::Text;
-use fb_values::{Datom, Value};
+use fb_values::Value;
 
 /// The entity as an attribute, if it has an ident, a type and a cardinality.
-pub fn attribute_of(facts: &[Datom], e: u64) -> Result<Option<Attribute>, Memory>
-    ensures { IfOk result
-        (λ found. option_map attribute_in found ≡ schema.attribute_of facts.now e) }
+pub fn attribute_of(said: &Said, e: u64) -> Result<Option<Attribute>, Memory>
+    ensures { IfOk result (λ found. option_map attribute_in found ≡ model.attribute_of said.now e) }
 {
     let (Some(name), Some(kind), Some(count)) = (
-        keyword_of(facts, e, IDENT),
-        entity_of(facts, e, VALUE_TYPE),
-        entity_of(facts, e, CARDINALITY),
+        keyword_in(&said.ident),
+        entity_in(&said.value_type),
+        entity_in(&said.cardinality),
     ) else {
         return Ok(None);
     };
@@ -33,23 +33,32 @@ pub fn attribute_of(facts: &[Datom], e: u64) -> Result<Option<Attribute>, Memory
         ident: name.copy()?,
         kind,
         many: count == CARDINALITY_MANY,
-        unique: entity_of(facts, e, UNIQUE).unwrap_or(0),
-        component: truth_of(facts, e, IS_COMPONENT),
-        indexed: truth_of(facts, e, INDEX),
+        unique: entity_in(&said.unique).unwrap_or(0),
+        component: truth_in(&said.is_component),
+        indexed: truth_in(&said.index),
     }))
 }
 
-/// Whether the entity has all that an attribute needs.
-pub fn is_whole(facts: &[Datom], e: u64) -> Result<bool, Memory>
-    ensures { IfOk result (λ whole. whole ≡ schema.is_whole facts.now e) }
+/// Whether the attribute, as which this is said of it, has all that it needs.
+pub fn is_whole(said: &Said, attribute: &Option<Attribute>) -> bool
+    ensures { (e : ℕ) → option_map attribute_in attribute.now ≡ model.attribute_of said.now e
+        → result ≡ model.is_whole said.now e }
 {
-    let Some(attribute) = attribute_of(facts, e)? else {
-        return Ok(false);
+    let (Some(attribute), Some(count)) = (attribute, entity_in(&said.cardinality)) else {
+        return false;
     };
-    let Some(count) = entity_of(facts, e, CARDINALITY) else {
-        return Ok(false);
-    };
-    Ok(is_whole_attribute(&attribute) && is_a_cardinality(count))
+    is_whole_attribute(attribute) && is_a_cardinality(count)
+}
+
+/// Whether something is said that is said of attributes alone.
+pub fn says_attribute(said: &Said) -> bool
+    ensures { result ≡ model.says_attribute said.now }
+{
+    said.value_type.is_some()
+        || said.cardinality.is_some()
+        || said.unique.is_some()
+        || said.is_component.is_some()
+        || said.index.is_some()
 }
 
 fn is_whole_attribute(attribute: &Attribute) -> bool
@@ -73,41 +82,30 @@ fn is_a_cardinality(count: u64) -> bool
     count == CARDINALITY_ONE || count == CARDINALITY_MANY
 }
 
-fn keyword_of(facts: &[Datom], e: u64, a: u64) -> Option<&Text>
-    ensures { option_map (λ name. name.now) result ≡ schema.keyword_of facts.now e a }
+fn keyword_in(value: &Option<Value>) -> Option<&Text>
+    ensures { option_map (λ name. name.now) result
+        ≡ option_and_then schema.keyword_in value.now }
 {
-    match value_of(facts, e, a)? {
-        Value::Keyword(name) => Some(name),
+    match value {
+        Some(Value::Keyword(name)) => Some(name),
         _ => None,
     }
 }
 
-fn entity_of(facts: &[Datom], e: u64, a: u64) -> Option<u64>
-    ensures { result ≡ schema.entity_of facts.now e a }
+fn entity_in(value: &Option<Value>) -> Option<u64>
+    ensures { result ≡ option_and_then schema.entity_in value.now }
 {
-    match value_of(facts, e, a)? {
-        Value::Ref(entity) => Some(*entity),
+    match value {
+        Some(Value::Ref(entity)) => Some(*entity),
         _ => None,
     }
 }
 
-fn truth_of(facts: &[Datom], e: u64, a: u64) -> bool
-    ensures { result ≡ schema.truth_of facts.now e a }
+fn truth_in(value: &Option<Value>) -> bool
+    ensures { result ≡ option_map_or schema.truth_in value.now false }
 {
-    match value_of(facts, e, a) {
+    match value {
         Some(Value::Bool(b)) => *b,
         _ => false,
     }
-}
-
-/// The first value of the entity under the attribute.
-fn value_of(facts: &[Datom], e: u64, a: u64) -> Option<&Value>
-    ensures { option_copied result ≡ model_value_of facts.now e a }
-{
-    for d in facts {
-        if d.e == e && d.a == a {
-            return Some(&d.v);
-        }
-    }
-    None
 }

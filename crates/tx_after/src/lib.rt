@@ -11,11 +11,11 @@ mod laws;
 mod merge;
 mod parts;
 mod promises;
+mod said;
 mod told;
 
-pub use attributes::{attribute_of, is_whole};
 pub use by_attribute::ByAttribute;
-pub use described::{attribute_after, is_whole_after};
+pub use described::{Description, attribute_after, description_after};
 pub use facts::{facts_of, facts_under, values_of};
 pub use laws::{
     datoms_in_order_are_changes, values_are_as_many, what_is_asked_of_a_part_is_asked_of_it_alone,

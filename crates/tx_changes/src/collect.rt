@@ -80,8 +80,9 @@ pub fn replaced<F: Facts>(
 {
     let mut askings = Vec::new(alloc);
     let mut known = BTreeMap::new(alloc);
+    let issued = facts.issued();
     for addition in added {
-        push_replaced(&mut askings, &mut known, addition, facts, schema)?;
+        push_replaced(&mut askings, &mut known, addition, issued, facts, schema)?;
     }
     Ok(askings)
 }
@@ -90,9 +91,11 @@ fn push_replaced<F: Facts>(
     askings: &mut Vec<Asking>,
     known: &mut BTreeMap<(u64, u64), Vec<Value>>,
     addition: &Asking,
+    issued: u64,
     facts: &F,
     schema: &Schema,
 ) -> Result<(), Memory>
+    requires { issued ≡ users_issued (F.history facts.now) }
     ensures known { KnowsValues (F.history facts.now) known.old
         → OnOk result (KnowsValues (F.history facts.now) known.new) }
     ensures askings { KnowsValues (F.history facts.now) known.old
@@ -104,7 +107,7 @@ fn push_replaced<F: Facts>(
     if !has_one_value(schema, addition.a) {
         return Ok(());
     }
-    if is_new(facts, addition.e) {
+    if is_new(issued, addition.e) {
         return Ok(());
     }
     learn_values(known, facts, addition.e, addition.a)?;
@@ -183,9 +186,9 @@ fn has_one_value(schema: &Schema, a: u64) -> bool
     }
 }
 
-/// Whether it is a user entity that is not issued yet, of which nothing holds.
-pub fn is_new<F: Facts>(facts: &F, e: u64) -> bool
-    ensures { result ≡ nat_lt (users_issued (F.history facts.now)) (model_user_number e) }
+/// Whether it is a user entity behind those that are issued, of which nothing holds.
+pub fn is_new(issued: u64, e: u64) -> bool
+    ensures { result ≡ nat_lt issued (model_user_number e) }
 {
-    facts.issued() < user_number(e)
+    issued < user_number(e)
 }

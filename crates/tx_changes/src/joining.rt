@@ -1,6 +1,7 @@
 //! The triples in their order, each with what is told of it.
 ghost use Rattle.std.specs.Prelude.{◌≡◌, IfOk};
 ghost use Rattle.fb_model.specs.Facts.{holds as model_holds};
+ghost use Rattle.fb_model.specs.History.{users_issued};
 ghost use Rattle.fb_schema.specs.Described.{SchemaStands};
 ghost use Rattle.tx_model.specs.Tempids.{db_of};
 ghost use Rattle.tx_model.specs.Transaction.{Transaction};
@@ -74,18 +75,20 @@ fn triples_of<F: Facts>(
         → AreMarks tx marks → AreTriples tx triples.items) }
 {
     let mut triples = Vec::with_capacity(alloc, marks.len())?;
+    let issued = facts.issued();
     for (triple, marks) in marks {
-        triples.push(triple_of(facts, triple, marks))?;
+        triples.push(triple_of(facts, issued, triple, marks))?;
     }
     Ok(triples)
 }
 
-fn triple_of<F: Facts>(facts: &F, triple: (u64, u64, Value), marks: Marks) -> Triple
-    requires { IsHeld (F.history facts.now) (triple, marks) }
+fn triple_of<F: Facts>(facts: &F, issued: u64, triple: (u64, u64, Value), marks: Marks) -> Triple
+    requires issued { issued ≡ users_issued (F.history facts.now) }
+    requires held { IsHeld (F.history facts.now) (triple, marks) }
     ensures { result ≡ triple_from (F.history facts.now) (triple, marks) }
 {
     let (e, a, v) = triple;
-    let holds = is_found(marks) || holds(facts, e, a, &v);
+    let holds = is_found(marks) || holds(facts, issued, e, a, &v);
     Triple {
         e,
         a,
@@ -106,11 +109,12 @@ fn is_found(marks: Marks) -> bool
 }
 
 /// Whether the triple holds, with no search for an entity that is new.
-fn holds<F: Facts>(facts: &F, e: u64, a: u64, v: &Value) -> bool
+fn holds<F: Facts>(facts: &F, issued: u64, e: u64, a: u64, v: &Value) -> bool
+    requires { issued ≡ users_issued (F.history facts.now) }
     ensures { result ≡ model_holds (F.history facts.now) e a v.now }
 {
     new_users_have_no_facts();
-    if is_new(facts, e) {
+    if is_new(issued, e) {
         return false;
     }
     facts.holds(e, a, v)

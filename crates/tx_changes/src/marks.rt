@@ -91,8 +91,7 @@ fn mark_one(
         → marks_at marks.new e a v ≡ noted_one way e a v (marks_at marks.old e a v) asking) }
 {
     let Asking { e, a, v, place } = asking;
-    let triple = (e, a, v);
-    let known = marks.get(&triple).copied().unwrap_or(Marks::none());
-    marks.insert(triple, known.with(way, place))?;
+    let known = marks.entry((e, a, v))?.or_insert(Marks::none());
+    *known = known.with(way, place);
     Ok(())
 }

@@ -20,7 +20,7 @@ use fb_schema::{Attribute, Schema};
 use fb_values::Datom;
 use std::alloc::Global;
 use std::collections::BTreeMap;
-use tx_after::{ByAttribute, attribute_after, gives_one_holder, gives_one_value, is_whole_after};
+use tx_after::{ByAttribute, description_after, gives_one_holder, gives_one_value};
 
 /// An entity after the entry, which may be an attribute.
 #[derive(Drop)]
@@ -148,10 +148,9 @@ fn look_at<F: Facts>(
         ≡ model_altered (facts_in (F.history facts.now)) (after (F.history facts.now) datoms.now)
         e) }
 {
-    let attribute = attribute_after(alloc, facts, datoms, e)?;
-    let one = is_one_value(&attribute);
-    let unique = has_one_holder(&attribute);
-    let whole = is_whole_after(alloc, facts, datoms, e)?;
+    let found = description_after(facts, datoms, e)?;
+    let one = is_one_value(&found.attribute);
+    let unique = has_one_holder(&found.attribute);
     let keeps_values = keeps_values(
         alloc,
         facts,
@@ -173,7 +172,7 @@ fn look_at<F: Facts>(
     Ok(Altered {
         one,
         unique,
-        whole,
+        whole: found.whole,
         keeps_values,
         keeps_holders,
     })

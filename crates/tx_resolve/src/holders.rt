@@ -119,7 +119,7 @@ fn keep_holder(kept: &mut Holders, tempid: &Tempid, holder: Option<u64>) -> Resu
         → IfOk result (λ _. Updates tempid_cmp kept.old kept.new tempid.now
         (Some (held_of (option_to_list holder ++ es)))) }
 {
-    let later = kept.get(tempid).copied().unwrap_or(Held::NONE);
-    kept.insert(tempid.copy()?, later.before(holder))?;
+    let held = kept.entry(tempid.copy()?)?.or_insert(Held::NONE);
+    *held = held.before(holder);
     Ok(())
 }

@@ -1,6 +1,6 @@
 -- What an attribute promises of all its facts, part by part.
 use Rattle.std.proofs.Common.{◌≡◌, ℕ, Bool, true, false, not, ◌&&◌, ◌||◌, eqb, leb, cond, List, [], ◌∷◌, length, refl, ap, sym, ◌∙◌, Result, Ok, Err}
-use Rattle.std.specs.Prelude.{filter, IfOk}
+use Rattle.std.specs.Prelude.{IfOk}
 use Rattle.std.specs.List.{list_all, list_any}
 use Rattle.std.specs.Ordering.{is_lt, ordering_reverse}
 use Rattle.std.specs.declared.cmp.Ordering.{Ordering}
@@ -14,8 +14,7 @@ use Rattle.fb_values.specs.OrderLaws.{key_cmp-Equal, value_cmp_total}
 use Rattle.fb_model.specs.Rising.{in_order, put_in_order}
 use Rattle.fb_model.specs.Facts.{values_of}
 use Rattle.fb_model.specs.Schema.{is_one, is_unique}
-use Rattle.fb_model.specs.Laws.{has_no_other_holder, says_attribute}
-use Rattle.fb_facts.specs.Told.{is_of_entity}
+use Rattle.fb_model.specs.Laws.{has_no_other_holder}
 use Rattle.tx_model.specs.ChangeRules.{keeps_its_promise}
 use Rattle.tx_after.specs.Promises.{gives_one_value, gives_one_holder}
 
@@ -59,7 +58,7 @@ module _ (facts : List Datom) (a : ℕ) where
   pub promise-parts : keeps_its_promise facts a ≡ ((not (is_one facts a) || gives_one_value facts a) && (not (is_unique facts a) || gives_one_holder facts a))
   promise-parts = parts (is_one facts a) (is_unique facts a) facts
 
--- ---- what is said of an entity, in order
+-- ---- a test of the facts in order
 
 module _ (p : Datom → Bool) (blind : (x y : Datom) → x.e ≡ y.e → x.a ≡ y.a → x.v ≡ y.v → p x ≡ p y) where
   any-put : (d : Datom) (ds : List Datom) → list_any p (put_in_order Eavt d ds) ≡ (p d || list_any p ds)
@@ -95,20 +94,6 @@ module _ (p : Datom → Bool) (blind : (x y : Datom) → x.e ≡ y.e → x.a ≡
   pub any-in_order : (ds : List Datom) → list_any p (in_order Eavt ds) ≡ list_any p ds
   any-in_order [] = refl
   any-in_order (d ∷ ds) = any-put d (in_order Eavt ds) ∙ ap (λ b. p d || b) (any-in_order ds)
-
-  pub any-of_entity : (e : ℕ) (ds : List Datom) → list_any p (in_order Eavt (filter (is_of_entity e) ds)) ≡ list_any (λ d. eqb d.e e && p d) ds
-  any-of_entity e ds = any-in_order (filter (is_of_entity e) ds) ∙ filtered ds
-    where
-      filtered : (ds : List Datom) → list_any p (filter (is_of_entity e) ds) ≡ list_any (λ d. eqb d.e e && p d) ds
-      filtered [] = refl
-      filtered (d ∷ ds) = go (eqb d.e e) (filtered ds)
-        where
-          go : (b : Bool) → list_any p (filter (is_of_entity e) ds) ≡ list_any (λ d. eqb d.e e && p d) ds → list_any p (cond b (d ∷ filter (is_of_entity e) ds) (filter (is_of_entity e) ds)) ≡ ((b && p d) || list_any (λ d. eqb d.e e && p d) ds)
-          go true rest = ap (λ r. p d || r) rest
-          go false rest = rest
-
-pub says-of_entity : (e : ℕ) (ds : List Datom) → list_any says_attribute (in_order Eavt (filter (is_of_entity e) ds)) ≡ list_any (λ d. eqb d.e e && says_attribute d) ds
-says-of_entity e ds = any-of_entity says_attribute (λ x y e_is same v_is. ap (λ n. leb 2 n && leb n 6) same) e ds
 
 -- what follows of an answer that is not out of memory
 pub IfOk-map : {A E : Type 0} (P Q : A → Type 0) → ((a : A) → P a → Q a) → (result : Result A E) → IfOk result P → IfOk result Q

@@ -169,7 +169,7 @@ fn keeps_its_promise<F: Facts>(
     ensures { IfOk result
         (λ kept. kept ≡ rules.keeps_its_promise (after (F.history facts.now) changes.now) a) }
 {
-    let attribute = attribute_after(alloc, facts, changes, a)?;
+    let attribute = attribute_after(facts, changes, a)?;
     let has_one_value = keeps_one_value(alloc, &attribute, a, changes, by_attribute, facts)?;
     if !has_one_value {
         return Ok(false);

@@ -126,7 +126,7 @@ fn first_place<F: Facts>(
         Reason::CasFailed => first_failed(forms, facts),
         Reason::DatomsConflict => first_conflict(alloc, triples, schema),
         Reason::UniqueConflict => first_shared(alloc, triples, changes, facts, schema),
-        Reason::IncompleteAttribute => first_incomplete(alloc, triples, changes, facts, schema),
+        Reason::IncompleteAttribute => first_incomplete(triples, changes, facts, schema),
         Reason::AttributeFixed => Ok(first_fixed(triples, schema)),
         Reason::TooLarge => Ok(if is_too_large(changes) { Some(0) } else { None }),
         Reason::Full => Ok(if is_full(facts, changes) {

@@ -1,8 +1,6 @@
 //! Attributes that lack something.
 ghost use Rattle.std.specs.Prelude.{◌≡◌, ◌&&◌, if◌then◌else◌, None, IfOk, IfSome};
-ghost use Rattle.std.specs.List.{list_any};
 ghost use Rattle.fb_model.specs.Lawful.{IsLawful};
-ghost use Rattle.fb_model.specs.Laws.{says_attribute as model_says_attribute};
 ghost use Rattle.tx_after.specs.After.{AreChanges, after};
 ghost use Rattle.tx_rules.specs.Places as places;
 ghost use Rattle.tx_rules.specs.Whole as model;
@@ -11,11 +9,10 @@ use crate::fixed::is_attribute;
 use crate::places::{earlier, named_at, recorded_at};
 use fb_facts::Facts;
 use fb_memory::Memory;
-use fb_numbers::{CARDINALITY, IDENT, INDEX, UNIQUE, VALUE_TYPE};
+use fb_numbers::{CARDINALITY, IDENT, INDEX, UNIQUE};
 use fb_schema::Schema;
 use fb_values::Datom;
-use std::alloc::Global;
-use tx_after::{facts_of, is_whole_after};
+use tx_after::description_after;
 use tx_asks::Triple;
 
 /// Whether an entity lacks something that it needs as an attribute.
@@ -30,7 +27,6 @@ struct Lack {
 
 /// The first form that asks something of a new attribute that is not whole, or changes an attribute so that it is not.
 pub fn first_incomplete<F: Facts>(
-    alloc: Global,
     triples: &[Triple],
     changes: &[Datom],
     facts: &F,
@@ -45,7 +41,7 @@ pub fn first_incomplete<F: Facts>(
     let mut last = None;
     for triple in triples {
         if describes(triple) {
-            let lack = known_or_found(alloc, last, triple.e, changes, facts, schema)?;
+            let lack = known_or_found(last, triple.e, changes, facts, schema)?;
             last = Some(lack);
             first = earlier(first, lack_at(&lack, triple));
         }
@@ -95,7 +91,6 @@ fn alters(triple: &Triple) -> bool
 
 /// What the entity lacks. It is looked at once, since the triples of an entity stand side by side.
 fn known_or_found<F: Facts>(
-    alloc: Global,
     last: Option<Lack>,
     e: u64,
     changes: &[Datom],
@@ -111,54 +106,21 @@ fn known_or_found<F: Facts>(
 {
     match last {
         Some(lack) if lack.e == e => Ok(lack),
-        _ => lack_of(alloc, e, changes, facts, schema),
+        _ => lack_of(e, changes, facts, schema),
     }
 }
 
-fn lack_of<F: Facts>(
-    alloc: Global,
-    e: u64,
-    changes: &[Datom],
-    facts: &F,
-    schema: &Schema,
-) -> Result<Lack, Memory>
+fn lack_of<F: Facts>(e: u64, changes: &[Datom], facts: &F, schema: &Schema) -> Result<Lack, Memory>
     requires lawful { IsLawful (F.history facts.now) }
     requires changes { AreChanges changes.now }
     ensures { IfOk result
         (λ lack. lack ≡ model.lack_of schema.now (after (F.history facts.now) changes.now) e) }
 {
-    let is_new = is_of_new_attribute(alloc, e, changes, facts, schema)?;
     let was_one = is_attribute(schema, e);
-    let lacks = !is_whole_after(alloc, facts, changes, e)?;
+    let found = description_after(facts, changes, e)?;
     Ok(Lack {
         e,
-        as_new: is_new && lacks,
-        as_altered: was_one && lacks,
+        as_new: !was_one && found.says_attribute && !found.whole,
+        as_altered: was_one && !found.whole,
     })
-}
-
-/// Whether the entity is described as an attribute after the changes, and was none before.
-fn is_of_new_attribute<F: Facts>(
-    alloc: Global,
-    e: u64,
-    changes: &[Datom],
-    facts: &F,
-    schema: &Schema,
-) -> Result<bool, Memory>
-    requires { AreChanges changes.now }
-    ensures { IfOk result (λ is. is
-        ≡ model.is_of_new_attribute schema.now (after (F.history facts.now) changes.now) e) }
-{
-    if is_attribute(schema, e) {
-        return Ok(false);
-    }
-    let of_entity = facts_of(alloc, facts, changes, e)?;
-    Ok(says_attribute(&of_entity))
-}
-
-/// Whether one of the facts says something that only an attribute has.
-fn says_attribute(facts: &[Datom]) -> bool
-    ensures { result ≡ list_any model_says_attribute facts.now }
-{
-    facts.iter().any(|d| VALUE_TYPE <= d.a && d.a <= INDEX)
 }

@@ -1,9 +1,10 @@
 //! Live indexes and trees of numbered datoms, merges and seeks.
 ghost use Rattle.std.specs.Prelude.{◌≡◌, IfOk};
 ghost use Rattle.fb_values.specs.Rising.{IsRising};
+ghost use Rattle.fb_covers.specs.Coverage.{Coverage};
 ghost use Rattle.live_index.specs.Samples.{adds, AreSamples};
 ghost use Rattle.seg_tree.specs.Nodes.{tree_datoms};
-ghost use Rattle.bench.specs.Rising.{LiveRises, TreesRise};
+ghost use Rattle.bench.specs.Rising.{LiveRises, TreesAreHeld, TreesRise};
 
 use crate::common::{Draws, live_of, no_samples, pushed, sample};
 use fb_covers::Covers;
@@ -82,7 +83,8 @@ pub(crate) fn trees_of<R: Threads + Sync>(
     covers: &Covers,
     numbers: Numbers,
 ) -> Result<Roots, Memory>
-    ensures { IfOk result (λ roots. TreesRise roots) }
+    ensures rise { IfOk result (λ roots. TreesRise roots) }
+    ensures held { IfOk result (λ roots. TreesAreHeld covers.now roots) }
 {
     let none = no_roots(alloc)?;
     let live = index(alloc, covers, numbers, OLDER)?;
@@ -91,12 +93,14 @@ pub(crate) fn trees_of<R: Threads + Sync>(
 
 /// Trees without a datom.
 fn no_roots(alloc: Global) -> Result<Roots, Memory>
-    ensures { IfOk result (λ roots. TreesRise roots) }
+    ensures rise { IfOk result (λ roots. TreesRise roots) }
+    ensures held { IfOk result
+        (λ roots. (coverage : Coverage) → TreesAreHeld coverage roots) }
 {
     Roots::empty(alloc)
 }
 
-/// The trees with the live datoms up to the transaction `c`.
+/// The trees with the live datoms up to the transaction `c`, by the coverage of both.
 fn merged<R: Threads + Sync>(
     alloc: Global,
     rt: &R,
@@ -106,14 +110,16 @@ fn merged<R: Threads + Sync>(
     covers: &Covers,
 ) -> Result<Roots, Memory>
     requires roots { TreesRise roots.now }
+    requires held { TreesAreHeld covers.now roots.now }
     requires live { LiveRises live.now }
-    ensures { IfOk result (λ new. TreesRise new) }
+    ensures rise { IfOk result (λ new. TreesRise new) }
+    ensures held { IfOk result (λ new. TreesAreHeld covers.now new) }
 {
     let first = roots.next_id();
     if first > 1 << 61 {
         return Err(Memory);
     }
-    merge4(rt, alloc, roots, live, c, first, covers)
+    merge4(rt, alloc, roots, live, c, first, covers, covers)
 }
 
 /// Merges live datoms into trees. The id is the one that would follow those of the new trees.
@@ -125,6 +131,7 @@ pub(crate) fn next_id<R: Threads + Sync>(
     covers: &Covers,
 ) -> Result<u64, Memory>
     requires roots { TreesRise roots.now }
+    requires held { TreesAreHeld covers.now roots.now }
     requires live { LiveRises live.now }
 {
     let new = merged(alloc, rt, roots, live, NEWER, covers)?;

@@ -1,26 +1,22 @@
 use Rattle.std.proofs.Common.{◌∙◌, ◌++◌, ◌∷◌, [], ap, sym, append_assoc}
 use Rattle.std.specs.List.{take_while}
 use Rattle.fb_values.specs.Lists.{list_in}
-use Rattle.live_index.specs.Walks.{ahead, at_hand}
 use Rattle.fb_index.specs.Ranges.{is_led}
 use Rattle.fb_index.proofs.Merging.{run_from, run_step}
 use Rattle.fb_index.proofs.ranges.push_live.Goals as goal
 
-pub loop-next-init : goal.loop-next-init
-loop-next-init c =
+pub loop-d-init : goal.loop-d-init
+loop-d-init c =
     let p = c.args.probe.now in
     ap (λ l. c.args.found.now.items ++ l)
-    (ap (take_while (is_led p)) (c.next-next.ensures ∙ c.live_start.ensures.ahead) ∙ run_from p (list_in c.args.live.now p.order)
-    c.live_start.ensures.rising)
+    (ap (take_while (is_led p)) c.said_walk-walk.ensures.walk
+    ∙ run_from p (list_in c.args.live.now p.order) c.said_walk-walk.ensures.rising)
 
-pub loop-next-preserved : goal.loop-next-preserved
-loop-next-preserved c =
+pub loop-d-preserved : goal.loop-d-preserved
+loop-d-preserved c =
     let p = c.args.probe.now in
-    let ds = list_in c.args.live.now p.order in
     rw (c.in_ok-push.ensures.items, c.in_ok-copy.ensures)
-    (append_assoc c.loop-next.found.items (c.in-Some.d.now ∷ []) _
-    ∙ ap (λ l. c.loop-next.found.items ++ c.in-Some.d.now ∷ take_while (is_led p) l) c.next-next-in-Some.ensures
-    ∙ ap (λ l. c.loop-next.found.items ++ l)
-    (sym (run_step p c.in-Some.d.now (ahead p.order ds c.in-Some.at) (sym c.is_led.ensures ∙ c.if-not-is_led.false)))
-    ∙ ap (λ n. c.loop-next.found.items ++ take_while (is_led p) (at_hand p.order ds n)) (sym c.in-Some.is)
-    ∙ c.loop-next.invariant)
+    (append_assoc c.loop-d.found.items (c.in-Some.d.now ∷ []) _
+    ∙ ap (λ l. c.loop-d.found.items ++ l) (sym (run_step p c.in-Some.d.now c.next.new.self (sym c.is_led.ensures ∙ c.if-not-is_led.false)))
+    ∙ ap (λ l. c.loop-d.found.items ++ take_while (is_led p) l) (sym c.in-Some.ensures)
+    ∙ c.loop-d.invariant)

@@ -4,10 +4,11 @@ use Rattle.fb_schema.specs.Tables.{HasCoverage}
 use Rattle.fb_values.specs.Lists.{Lists, list_in}
 use Rattle.seg_tree.specs.Indexes.{tree_in, trees_of}
 use Rattle.seg_tree.specs.Nodes.{tree_datoms}
-use Rattle.seg_merge.specs.Merged.{IsMergeable}
+use Rattle.fb_covers.specs.Coverage.{Coverage}
+use Rattle.seg_merge.specs.Merged.{AreHeld, IsMergeable}
 use Rattle.seg_merge.specs.Standing.{CanMerge}
 use Rattle.view_model.specs.Stands.{RootStands}
-use Rattle.fb_merge.proofs.Merges.{can_merge, mergeable}
+use Rattle.fb_merge.proofs.Merges.{can_merge, mergeable, are_held}
 use Rattle.fb_merge.proofs.trees.with_live.Goals as goal
 
 pub merge4-requires-clause-mergeable : goal.merge4-requires-clause-mergeable
@@ -19,6 +20,12 @@ merge4-requires-clause-mergeable g c lifetimes within order =
     let own = c.what_stands_may_be_merged.ensures k.entries k.covered (basis k.entries) coverage (trees_of base) k.live can order in
     subst (λ (live : Lists). IsMergeable order (tree_datoms (tree_in base order)) (list_in live order)) (sym c.live.ensures.live)
     (mergeable base k.live order own)
+
+pub merge4-requires-clause-held : goal.merge4-requires-clause-held
+merge4-requires-clause-held g c lifetimes within order =
+    let base = c.args.base.now in
+    subst (λ (held : Coverage). AreHeld held order (tree_datoms (tree_in base order))) (sym c.held.ensures.held)
+    (are_held c.args.beside.now base c.held.ensures.stands c.requires.base order)
 
 pub returns-clause-stand : goal.returns-clause-stand
 returns-clause-stand g c =

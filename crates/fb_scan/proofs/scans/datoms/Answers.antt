@@ -1,15 +1,14 @@
+use Rattle.std.proofs.Common.{◌∙◌, Bor, ap, map, subst, sym}
 use Rattle.std.proofs.lemmas.Result.{IfOk-weaker}
-use Rattle.fb_values.specs.Orders.{probe_cmp}
-use Rattle.view_model.specs.Scan.{leading}
+use Rattle.fb_values.specs.declared.facts.Datom.{Datom}
+use Rattle.view_model.specs.Scan.{IsScan, leading}
 use Rattle.fb_db.specs.Seen.{window_of}
-use Rattle.fb_scan.specs.declared.ends.End.TheVariants.{Behind}
-use Rattle.fb_scan.proofs.Ending.{leading_ends}
-use Rattle.fb_scan.proofs.Stepping.{walk_is_scan}
 use Rattle.fb_scan.proofs.scans.datoms.Goals as goal
 
 pub returns : goal.returns
 returns g c =
-    IfOk-weaker c.collect.result _ _
-    (λ ds is. walk_is_scan c.args.db.now.snapshot.entries (window_of c.args.db.now) (g.S.Selector.selects c.args.db.now.filter)
-    c.args.probe.now (Behind c.args.probe) (leading c.args.probe.now) ds (λ d. leading_ends (probe_cmp c.args.probe.now d)) is)
-    c.collect.ensures
+    IfOk-weaker c.copies.result _ _
+    (λ ds same.
+    subst (IsScan c.args.db.now.snapshot.entries (window_of c.args.db.now) (g.S.Selector.selects c.args.db.now.filter) c.args.probe.now.order (leading c.args.probe.now))
+    (sym (same ∙ ap (map (λ (d : Bor Datom). d.now)) c.deref.ensures.value)) c.in_ok-found.ensures)
+    c.copies.ensures

@@ -1,12 +1,15 @@
+use Rattle.std.proofs.Common.{◌∙◌, Bor, ap, map, subst, sym}
 use Rattle.std.proofs.lemmas.Result.{IfOk-weaker}
+use Rattle.fb_values.specs.declared.facts.Datom.{Datom}
+use Rattle.fb_values.specs.declared.indexes.Order.TheVariants.{Avet}
+use Rattle.view_model.specs.Scan.{IsScan, between}
 use Rattle.fb_db.specs.Seen.{window_of}
-use Rattle.fb_scan.proofs.Stepping.{range_is_scan}
 use Rattle.fb_scan.proofs.scans.index_range.Goals as goal
 
 pub returns : goal.returns
 returns g c =
-    IfOk-weaker c.collect.result _ _
-    (λ ds is. range_is_scan c.args.db.now.snapshot.entries (window_of c.args.db.now) (g.S.Selector.selects c.args.db.now.filter)
-    c.valued-from.result _ c.end_at.result c.args.attr c.args.bounds.start c.args.bounds.end ds c.end_at.ensures c.valued-from.ensures
-    c.valued-to.ensures is)
-    c.collect.ensures
+    IfOk-weaker c.copies.result _ _
+    (λ ds same.
+    subst (IsScan c.args.db.now.snapshot.entries (window_of c.args.db.now) (g.S.Selector.selects c.args.db.now.filter) Avet (between c.args.attr c.args.bounds.start c.args.bounds.end))
+    (sym (same ∙ ap (map (λ (d : Bor Datom). d.now)) c.deref.ensures.value)) c.in_ok-found.ensures)
+    c.copies.ensures

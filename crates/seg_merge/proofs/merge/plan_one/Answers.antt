@@ -9,24 +9,31 @@ use Rattle.seg_merge.specs.Merged.{KeepsLeaves}
 use Rattle.seg_merge.specs.Plans.{Planned, IsUnion, RepeatsNone}
 use Rattle.seg_merge.specs.Merges.{IsPlan}
 use Rattle.seg_merge.proofs.Lists.{if_ok_four}
-use Rattle.seg_merge.proofs.Orders.{leaves_rise, due_rises, due_single, plan_is}
+use Rattle.seg_merge.proofs.Orders.{leaves_rise, leaves_held, due_rises, due_single, plan_is}
 use Rattle.seg_merge.proofs.merge.plan_one.Goals as goal
 
 pub planned-requires-clause-leaves_rise : goal.planned-requires-clause-leaves_rise
 planned-requires-clause-leaves_rise c =
     let ls = map arc_value c.deref.result.now in
     let ls_is = ap (map arc_value) c.deref.ensures.value ∙ c.in_ok-leaves.ensures ∙ ap tree_leaves c.tree.ensures in
-    leaves_rise c.args.order (tree_in c.args.roots.now c.args.order) ls ls_is c.requires.old_rises
+    leaves_rise c.args.order (tree_in c.args.roots.now c.args.order) ls ls_is c.requires.mergeable.old_rises
 
 pub planned-requires-clause-added_rises : goal.planned-requires-clause-added_rises
 planned-requires-clause-added_rises c =
-    due_rises c.args.order c.args.covers.now c.args.c (list_in c.args.live.now c.args.order) c.deref-2.result.now (c.deref-2.ensures.value ∙ c.in_ok-due.ensures) c.requires.live_rises
+    due_rises c.args.order c.args.covers.now c.args.c (list_in c.args.live.now c.args.order) c.deref-2.result.now (c.deref-2.ensures.value ∙ c.in_ok-due.ensures) c.requires.mergeable.live_rises
 
 pub planned-requires-clause-single : goal.planned-requires-clause-single
 planned-requires-clause-single c =
     let ls = map arc_value c.deref.result.now in
     let ls_is = ap (map arc_value) c.deref.ensures.value ∙ c.in_ok-leaves.ensures ∙ ap tree_leaves c.tree.ensures in
-    due_single c.args.order c.args.covers.now c.args.c (tree_in c.args.roots.now c.args.order) ls (list_in c.args.live.now c.args.order) c.deref-2.result.now ls_is (c.deref-2.ensures.value ∙ c.in_ok-due.ensures) c.requires.single
+    due_single c.args.order c.args.covers.now c.args.c (tree_in c.args.roots.now c.args.order) ls (list_in c.args.live.now c.args.order) c.deref-2.result.now ls_is (c.deref-2.ensures.value ∙ c.in_ok-due.ensures) c.requires.mergeable.single
+
+pub planned-requires-clause-known : goal.planned-requires-clause-known
+planned-requires-clause-known c = λ stay.
+    let ls = map arc_value c.deref.result.now in
+    let ls_is = ap (map arc_value) c.deref.ensures.value ∙ c.in_ok-leaves.ensures ∙ ap tree_leaves c.tree.ensures in
+    leaves_held c.args.order c.args.held.now c.args.covers.now (tree_in c.args.roots.now c.args.order) ls ls_is
+    (c.stays_in-all_stay.ensures.0 stay) c.requires.held
 
 pub returns : goal.returns
 returns c =

@@ -12,7 +12,7 @@ use Rattle.seg_tree.specs.Nodes.{LeafNode, leaf_datoms}
 use Rattle.seg_merge.specs.Merged.{KeepsLeaves}
 use Rattle.seg_merge.specs.Plans.{Planned, IsUnion, RepeatsNone}
 use Rattle.seg_merge.proofs.Lists.{read_at, length_map}
-use Rattle.seg_merge.proofs.Planning.{IsPlanning, planning_none, planning_next, left_rises_at, taken_rises, leaf_and_rest_rise, single_leaf, single_part, union_all, keeps_all}
+use Rattle.seg_merge.proofs.Planning.{IsPlanning, planning_none, planning_next, leaf_held, left_rises_at, taken_rises, leaf_and_rest_rise, single_leaf, single_part, union_all, keeps_all}
 use Rattle.fb_search.proofs.Ends.{rising-append_left}
 use Rattle.seg_merge.proofs.order.planned.Goals as goal
 
@@ -57,6 +57,15 @@ with_leaf-requires-clause-single c =
     let leaf = arc_value c.index-leaves-place.result in
     let read = read_at arc_value leaves place c.index-leaves-place.result within c.index-leaves-place.is in
     subst (λ (ds : List Datom). HasNoTwins (leaf.datoms ++ ds)) (sym c.split_at.ensures.front) (single_leaf order coverage ls added place left plan c.before_leaf.result leaf c.requires.single read p)
+
+pub with_leaf-requires-clause-known : goal.with_leaf-requires-clause-known
+with_leaf-requires-clause-known c = λ all_stay.
+    let leaves = c.args.leaves.now in
+    let place = c.loop-place.place in
+    let within : place < length leaves = omega arith in
+    let leaf = arc_value c.index-leaves-place.result in
+    let read = read_at arc_value leaves place c.index-leaves-place.result within c.index-leaves-place.is in
+    leaf_held c.args.order c.args.covers.now (map arc_value leaves) place leaf read (c.requires.known all_stay)
 
 pub loop-place-preserved : goal.loop-place-preserved
 loop-place-preserved c =

@@ -20,8 +20,8 @@ loop-triple-init g c =
       held = subst (λ (es : List ((ℕ × ℕ × Value) × Marks)). All (IsHeld h) es) (sym start) (entries_held h c.args.marks c.len.ensures.ordered c.requires);
     }
 
-pub triple_of-requires : goal.triple_of-requires
-triple_of-requires g c =
+pub triple_of-requires-clause-held : goal.triple_of-requires-clause-held
+triple_of-requires-clause-held g c =
     let h = g.F.Facts.history c.args.facts.now in
     All-head (IsHeld h) (c.in-Some.triple, c.in-Some.marks) c.next.new.self
     (subst (λ (es : List ((ℕ × ℕ × Value) × Marks)). All (IsHeld h) es) c.in-Some.ensures.steps c.loop-triple.invariant.held)

@@ -1,9 +1,11 @@
-use Rattle.fb_index.proofs.Walking.{all_at_hand}
+use Rattle.std.proofs.Common.{◌∙◌}
+use Rattle.seg_tree.specs.Nodes.{tree_datoms}
+use Rattle.fb_index.specs.Sides.{whole}
+use Rattle.fb_index.proofs.Merging.{upto_from}
 use Rattle.fb_index.proofs.sides.Sides.led.Goals as goal
 
-pub loop-next-init : goal.loop-next-init
-loop-next-init c =
+pub loop-datom-init : goal.loop-datom-init
+loop-datom-init c =
     let self = c.args.self.now in
-    let run = all_at_hand c.args.probe.now self.extent self.order self.tree.now self.live.now c.start.result c.next_upto-next.result
-    c.start.ensures c.next_upto-next.ensures in
-    rw c.new-found.ensures.items run
+    rw c.new-found.ensures.items
+    (c.walk-walk.ensures ∙ upto_from c.args.probe.now (whole self.extent self.order (tree_datoms self.tree.now) self.live.now))
