@@ -1,5 +1,6 @@
 -- A backup has one plan.
-use Rattle.std.proofs.Common.{inl, inr, ⊎_elim, ◌⊎◌, ◌≡◌, ◌≢◌, ◌+◌, ℕ, suc, List, [], ◌∷◌, ◌++◌, length, get_or, drop, refl, sym, ◌∙◌, ap, subst, arith, append_assoc, length-append}
+use Rattle.std.proofs.Common.{inl, inr, ⊎_elim, ◌⊎◌, ◌≡◌, ◌≢◌, ◌+◌, ℕ, suc, List, [], ◌∷◌, ◌++◌, length, get_or, drop, refl, sym, ◌∙◌, ap}
+use Rattle.std.proofs.Common.{subst, arith, append_assoc, length-append}
 use Rattle.std.proofs.lemmas.List.{append_cancel_left}
 use Rattle.fb_values.specs.declared.facts.Entry.{Entry}
 use Rattle.disk_model.specs.Journal.{log_mark, JournalStands}
@@ -8,17 +9,20 @@ use Rattle.log_model.specs.Log.{RecordsSay, hold, bad_at, entries_behind}
 use Rattle.log_model.proofs.Logs.{entries_of, IsHeld}
 use Rattle.backup_model.specs.Backup.{Plan, appends, bad_target, differs_at, IsLogWith, IsBadLog, Differs, BackupSays}
 
-same_records : (file : List ℕ) (records more : List (List ℕ)) → JournalStands log_mark records file → JournalStands log_mark more file → records ≡ more
+same_records : (file : List ℕ) (records more : List (List ℕ)) → JournalStands log_mark records file → JournalStands log_mark more file
+    → records ≡ more
 same_records file records more one other = one-stands log_mark records more file one other
 
 same_entries : (file : List ℕ) (xs ys : List Entry) → IsLogWith file xs → IsLogWith file ys → xs ≡ ys
 same_entries file xs ys one other =
-    ap entries_of (sym one.hold_them ∙ ap (entries_behind []) (same_records file one.records other.records one.journal other.journal) ∙ other.hold_them)
+    ap entries_of
+    (sym one.hold_them ∙ ap (entries_behind []) (same_records file one.records other.records one.journal other.journal) ∙ other.hold_them)
 
 no_bad_log : (file : List ℕ) (xs : List Entry) (nth at : ℕ) → IsLogWith file xs → IsBadLog file nth at → ⊥
 no_bad_log file xs nth at good bad = ⊎_elim
     (λ breaks. not-both log_mark good.records bad.records file nth at good.journal breaks)
-    (λ stands. subst IsHeld (sym good.hold_them ∙ ap (entries_behind []) (same_records file good.records bad.records good.journal stands.0) ∙ stands.1) tt)
+    (λ stands. subst IsHeld
+    (sym good.hold_them ∙ ap (entries_behind []) (same_records file good.records bad.records good.journal stands.0) ∙ stands.1) tt)
     bad.fault
 
 abbrev nth_of : RecordsSay → ℕ
@@ -29,16 +33,19 @@ abbrev at_of : RecordsSay → ℕ
 at_of (hold entries) = 0
 at_of (bad_at nth at) = at
 
-one_bad_place : (file : List ℕ) (nth at other there : ℕ) → IsBadLog file nth at → IsBadLog file other there → bad_target nth at ≡ bad_target other there
+one_bad_place : (file : List ℕ) (nth at other there : ℕ) → IsBadLog file nth at → IsBadLog file other there
+    → bad_target nth at ≡ bad_target other there
 one_bad_place file nth at other there first second = ⊎_elim
     (λ breaks. ⊎_elim
-    (λ breaks_too. let same = one-fault log_mark first.records second.records file nth other at there breaks breaks_too in λ i. bad_target (same.1 i) (same.2 i))
+    (λ breaks_too. let same = one-fault log_mark first.records second.records file nth other at there breaks breaks_too in
+    λ i. bad_target (same.1 i) (same.2 i))
     (λ stands. absurd (not-both log_mark second.records first.records file nth at stands.0 breaks))
     second.fault)
     (λ stands. ⊎_elim
     (λ breaks. absurd (not-both log_mark first.records second.records file other there stands.0 breaks))
     (λ stands_too.
-    let same = sym stands.1 ∙ ap (entries_behind []) (same_records file first.records second.records stands.0 stands_too.0) ∙ stands_too.1 in
+    let same =
+    sym stands.1 ∙ ap (entries_behind []) (same_records file first.records second.records stands.0 stands_too.0) ∙ stands_too.1 in
     λ i. bad_target (nth_of (same i)) (at_of (same i)))
     second.fault)
     first.fault
@@ -46,7 +53,8 @@ one_bad_place file nth at other there first second = ⊎_elim
 -- ---- the first entry that is not ours
 
 abbrev IsOther : List Entry → Entry → List Entry → Type 0
-IsOther before entry ours = (ours ≡ before) ⊎ ((instead : Entry) × (more : List Entry) × (ours ≡ before ++ instead ∷ more) × (entry ≢ instead))
+IsOther before entry ours =
+    (ours ≡ before) ⊎ ((instead : Entry) × (more : List Entry) × (ours ≡ before ++ instead ∷ more) × (entry ≢ instead))
 
 head_same : (x y : Entry) (xs ys : List Entry) → x ∷ xs ≡ y ∷ ys → x ≡ y
 head_same x y xs ys same = ap (λ l. get_or l 0 x) same
@@ -64,7 +72,8 @@ tail_other : (x entry : Entry) (before ours : List Entry) → IsOther (x ∷ bef
 tail_other x entry before ours (inl same) = inl (ap (λ l. drop 1 l) same)
 tail_other x entry before ours (inr other) = inr (other.0, other.1, ap (λ l. drop 1 l) other.2, other.3)
 
-one_place : (before earlier : List Entry) (entry other : Entry) (behind later ours : List Entry) → before ++ entry ∷ behind ≡ earlier ++ other ∷ later
+one_place : (before earlier : List Entry) (entry other : Entry) (behind later ours : List Entry)
+    → before ++ entry ∷ behind ≡ earlier ++ other ∷ later
     → IsOther before entry ours → IsOther earlier other ours → length before ≡ length earlier
 one_place [] [] entry other behind later ours same first second = refl
 one_place [] (x ∷ earlier) entry other behind later ours same first second =
@@ -74,11 +83,14 @@ one_place (x ∷ before) [] entry other behind later ours same first second =
     let from = begins x entry before ours first in
     absurd (not_first other x ours (head_same other x later (before ++ entry ∷ behind) (sym same)) second from.0 from.1)
 one_place (x ∷ before) (y ∷ earlier) entry other behind later ours same first second =
-    ap suc (one_place before earlier entry other behind later (drop 1 ours) (ap (λ l. drop 1 l) same) (tail_other x entry before ours first) (tail_other y other earlier ours second))
+    ap suc (one_place before earlier entry other behind later (drop 1 ours) (ap (λ l. drop 1 l) same) (tail_other x entry before ours first)
+    (tail_other y other earlier ours second))
 
 one_difference : (entries ours : List Entry) (t other : ℕ) → Differs entries ours t → Differs entries ours other → t ≡ other
 one_difference entries ours t other first second =
-    let same = one_place first.before second.before first.entry second.entry first.behind second.behind ours (sym first.entries_are ∙ second.entries_are) first.other second.other in
+    let same =
+    one_place first.before second.before first.entry second.entry first.behind second.behind ours
+    (sym first.entries_are ∙ second.entries_are) first.other second.other in
     first.t_is ∙ ap (λ n. n + 1) same ∙ sym second.t_is
 
 -- what is a beginning of ours does not differ

@@ -42,7 +42,8 @@ entry_eq first second = eqb first.t second.t && int_eq first.instant second.inst
 
 entry_eq-true : (first second : Entry) → entry_eq first second ≡ true → first ≡ second
 entry_eq-true first second same =
-    let parts = and_parts (eqb first.t second.t && int_eq first.instant second.instant) (pointwise datom_eq first.datoms second.datoms) same in
+    let parts =
+    and_parts (eqb first.t second.t && int_eq first.instant second.instant) (pointwise datom_eq first.datoms second.datoms) same in
     let numbers = and_parts (eqb first.t second.t) (int_eq first.instant second.instant) parts.0 in
     let t_is = eqb-true first.t second.t numbers.0 in
     let instant_is = (Decides-int_eq first.instant second.instant).0 numbers.1 in
@@ -51,7 +52,8 @@ entry_eq-true first second same =
 
 entry_eq-refl : (entry : Entry) → entry_eq entry entry ≡ true
 entry_eq-refl entry =
-    and_from _ _ (and_from _ _ (eq-eqb entry.t entry.t refl) ((Decides-int_eq entry.instant entry.instant).1 refl)) ((datoms_eq-Decides entry.datoms entry.datoms).1 refl)
+    and_from _ _ (and_from _ _ (eq-eqb entry.t entry.t refl) ((Decides-int_eq entry.instant entry.instant).1 refl))
+    ((datoms_eq-Decides entry.datoms entry.datoms).1 refl)
 
 pub same_or_not : (first second : Entry) → (first ≡ second) ⊎ (first ≢ second)
 same_or_not first second = go (entry_eq first second) refl

@@ -1,6 +1,7 @@
 -- Backups: what a copy of a log lacks, which logs are no copies, and what is copied of the trees.
--- This project's own choice; Datomic, Backup and Restore, tells of copies that are gone on with.
-use Rattle.std.specs.Prelude.{◌≡◌, ◌≢◌, ◌⊎◌, ℕ, ◌+◌, List, [], ◌∷◌, ◌++◌, length, map, flat_map, drop, IsTrue, Contains}
+-- This project's own choice; Datomic, Backup and Restore, describes copies that are gone on with.
+use Rattle.std.specs.Prelude.{◌≡◌, ◌≢◌, ◌⊎◌, ℕ, ◌+◌, List, [], ◌∷◌, ◌++◌, length, map, flat_map}
+use Rattle.std.specs.Prelude.{drop, IsTrue, Contains}
 use Rattle.fb_values.specs.declared.facts.Entry.{Entry}
 use Rattle.disk_model.specs.Journal.{log_mark, JournalStands, JournalBreaks}
 use Rattle.log_model.specs.Payload.{entry_bytes, written_format}
@@ -11,7 +12,7 @@ use Rattle.log_model.specs.Kept.{KeptRoot, with_nodes, kept_root}
 
 -- what a backup of a history does to a target
 pub data Plan : Type 0 where
-  -- it appends these entries, in order
+  -- the backup appends these entries, in order
   appends : List Entry → Plan
   -- the target is no log: the record, and the byte of the file
   bad_target : ℕ → ℕ → Plan
@@ -30,7 +31,7 @@ pub record IsBadLog (file : List ℕ) (nth at : ℕ) : Type 0 where
   pub fault : JournalBreaks log_mark records file nth at
       ⊎ (JournalStands log_mark records file × (entries_behind [] records ≡ bad_at nth at))
 
--- The first of the entries that is not one of ours stands behind these, and its t is t.
+-- The first of the entries that is not one of ours follows these, and its t is t.
 pub record Differs (entries ours : List Entry) (t : ℕ) : Type 0 where
   pub before : List Entry
   pub entry : Entry
@@ -52,7 +53,7 @@ BackupSays file h (bad_target nth at) = IsBadLog file nth at
 BackupSays file h (differs_at t) =
     (entries : List Entry) × IsLogWith file entries × Differs entries (drop 1 h) t
 
--- the records of the target with these entries behind them
+-- the records of the target with these entries after them
 abbrev pub with_entries : List (List ℕ) → List Entry → List (List ℕ)
 with_entries records entries = records ++ map entry_bytes entries
 

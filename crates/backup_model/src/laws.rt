@@ -18,7 +18,7 @@ pub fn a_backup_has_one_plan()
         → BackupSays file h plan → BackupSays file h other → plan ≡ other }
 {}
 
-/// With all that it lacks behind its records, a target stands for the history.
+/// With all that it lacks after its records, a target stands for the history.
 pub fn a_copy_stands_for_the_history()
     ensures { (h entries lacking : List Entry) (records : List (List ℕ))
         → IsLawful h → All AreAllBytes records → entries_behind [] records ≡ hold entries

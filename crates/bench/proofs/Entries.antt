@@ -1,5 +1,6 @@
 -- Entries of new entities may follow one another.
-use Rattle.std.proofs.Common.{◌≡◌, ◌∙◌, ℕ, ◌+◌, ◌<◌, ◌≤◌, ◌⊎◌, inl, inr, true, false, List, [], ◌∷◌, ◌++◌, length, get_or, refl, sym, ap, subst, arith}
+use Rattle.std.proofs.Common.{◌≡◌, ◌∙◌, ℕ, ◌+◌, ◌<◌, ◌≤◌, ◌⊎◌, inl, inr, true, false, List, [], ◌∷◌, ◌++◌, length, get_or, refl, sym, ap}
+use Rattle.std.proofs.Common.{subst, arith}
 use Rattle.std.specs.Prelude.{Contains, IsTrue}
 use Rattle.std.specs.List.{All}
 use Rattle.std.proofs.lemmas.List.Elements.{Contains-append_cases, Contains-get_or}
@@ -67,7 +68,8 @@ apart m n x d less small of_x of_d same =
       | inr ux ↦ elim of_d.e [ inl td ↦ absurd (omega arith) | inr ud ↦ absurd (omega arith) ]
     ]
 
-module _ (order : Order) (n : ℕ) (old ds : List Datom) (small : n < 4294967296) (rising : IsRising order old) (older : AreOlder n old) (entry : IsEntry n ds) where
+module _ (order : Order) (n : ℕ) (old ds : List Datom) (small : n < 4294967296) (rising : IsRising order old) (older : AreOlder n old)
+    (entry : IsEntry n ds) where
   no_mates : (x d : Datom) → Contains old x → Contains ds d → is_mate d x ≡ true → ⊥
   no_mates x d x_in d_in mate =
       let was = older x x_in in
@@ -97,7 +99,8 @@ module _ (order : Order) (n : ℕ) (old ds : List Datom) (small : n < 4294967296
     fresh = λ x d x_in d_in mate. absurd (no_mates x d (standing_member old x x_in) d_in mate);
   }
 
-pub grown : (order : Order) (c : Coverage) (n : ℕ) (old ds new : List Datom) → AreOlder n old → IsEntry n ds → IsGrown order c old [] ds new → IsBefore c (n + 1) order new
+pub grown : (order : Order) (c : Coverage) (n : ℕ) (old ds new : List Datom) → AreOlder n old → IsEntry n ds → IsGrown order c old [] ds new
+    → IsBefore c (n + 1) order new
 grown order c n old ds new older entry g =
     record {
       rising = g.rising;
@@ -112,7 +115,8 @@ grown order c n old ds new older entry g =
     }
 
 -- nothing but older ones are in lists that were refilled with nothing
-pub filled_older : (order : Order) (c : Coverage) (n : ℕ) (old filled : List Datom) → AreOlder n old → IsGrown order c old [] [] filled → AreOlder n filled
+pub filled_older : (order : Order) (c : Coverage) (n : ℕ) (old filled : List Datom) → AreOlder n old → IsGrown order c old [] [] filled
+    → AreOlder n filled
 filled_older order c n old filled older g d there =
     elim ((g.members d).0 there).0 [
       | inl was ↦ elim was [ inl one ↦ older d one | inr more ↦ absurd (contains_none d more.1) ]

@@ -20,7 +20,7 @@ pub record IsOf (n : ℕ) (d : Datom) : Type 0 where
   pub t : d.t ≡ n
   pub e : (d.e ≡ transaction_entity n) ⊎ (d.e ≡ user_entity n)
 
--- such datoms, of attributes below a, each of which stands once
+-- such datoms, of attributes below a, each of them once
 pub record AreOf (n a : ℕ) (ds : List Datom) : Type 0 where
   pub of : (d : Datom) → Contains ds d → IsOf n d
   pub below : (d : Datom) → Contains ds d → d.a < a

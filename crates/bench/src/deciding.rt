@@ -27,8 +27,8 @@ pub(crate) fn perform(rt: &HostRuntime, words: &[String]) -> Result<bool> {
         bail!("there is no transaction");
     };
     let snapshot = recorded(rt.alloc(), before)?;
-    let told = decided_each(rt.alloc(), &snapshot, last, rounds)?;
-    println!(rt; "{told}")?;
+    let outcome = decided_each(rt.alloc(), &snapshot, last, rounds)?;
+    println!(rt; "{outcome}")?;
     Ok(true)
 }
 
@@ -39,9 +39,9 @@ fn forms_of(rt: &HostRuntime, file: &str) -> Result<Vec<Edn>> {
     let mut at = 0;
     for _ in 0..bytes.len() {
         match read_form(rt.alloc(), &bytes, at) {
-            Ok(Some((form, behind))) => {
+            Ok(Some((form, after))) => {
                 forms.push(form)?;
-                at = behind;
+                at = after;
             }
             Ok(None) => break,
             Err(_) => bail!("the text is no EDN"),
@@ -69,16 +69,16 @@ fn with_form(alloc: Global, snapshot: &Snapshot, form: &Edn) -> Result<Snapshot>
 
 /// What a transaction comes to: how many datoms it records, or why it is refused.
 #[derive(Clone, Copy)]
-enum Told {
+enum Outcome {
     Datoms(usize),
     Refused(Refusal),
 }
 
-impl fmt::Display for Told {
+impl fmt::Display for Outcome {
     fn fmt<W: fmt::Write>(&self, f: &mut fmt::Formatter<W>) -> fmt::Result {
         match self {
-            Told::Datoms(count) => write!(f, "{count} datoms"),
-            Told::Refused(refusal) => {
+            Outcome::Datoms(count) => write!(f, "{count} datoms"),
+            Outcome::Refused(refusal) => {
                 write!(f, "rule {} at {}", refusal.reason.number(), refusal.at)
             }
         }
@@ -86,18 +86,18 @@ impl fmt::Display for Told {
 }
 
 /// What it comes to, decided so many times over, and once before.
-fn decided_each(alloc: Global, snapshot: &Snapshot, form: &Edn, rounds: u32) -> Result<Told> {
-    let mut told = decided(alloc, snapshot, form)?;
+fn decided_each(alloc: Global, snapshot: &Snapshot, form: &Edn, rounds: u32) -> Result<Outcome> {
+    let mut outcome = decided(alloc, snapshot, form)?;
     for _ in 0..rounds {
-        told = decided(alloc, snapshot, form)?;
+        outcome = decided(alloc, snapshot, form)?;
     }
-    Ok(told)
+    Ok(outcome)
 }
 
-fn decided(alloc: Global, snapshot: &Snapshot, form: &Edn) -> Result<Told> {
+fn decided(alloc: Global, snapshot: &Snapshot, form: &Edn) -> Result<Outcome> {
     match decide(alloc, form, snapshot, snapshot.schema(), CLOCK, &NoGuard) {
-        Ok(accepted) => Ok(Told::Datoms(accepted.entry.datoms.len())),
-        Err(TxStop::Refused(refusal)) => Ok(Told::Refused(refusal)),
+        Ok(accepted) => Ok(Outcome::Datoms(accepted.entry.datoms.len())),
+        Err(TxStop::Refused(refusal)) => Ok(Outcome::Refused(refusal)),
         Err(TxStop::Memory) => bail!("out of memory"),
     }
 }

@@ -7,7 +7,7 @@ use fb_journal::{Journal, Mark, frame};
 use fb_ports::{Disk, Host, Part};
 use real_ports::RealHost;
 
-/// The payload of each record: with its length and the gate behind it a record takes 92 bytes.
+/// The payload of each record: with its length and the gate after it a record takes 92 bytes.
 const PAYLOAD: [u8; 83] = [7; 83];
 
 #[derive(Clone, Copy)]

@@ -151,7 +151,7 @@ fn entry_of(t: u32, datoms: Vec<Datom>) -> Entry
     }
 }
 
-/// What the indexes hold by value once `count` unique attributes were installed, the n-th user entity and those behind it.
+/// What the indexes hold by value once `count` unique attributes were installed, the n-th user entity and those after it.
 fn coverage(alloc: Global, n: u32, count: u32) -> Result<Covers, Memory> {
     let mut avet = vec![in alloc; IDENT, KEY, NUMBER]?;
     for i in 0..count {

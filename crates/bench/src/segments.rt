@@ -1,7 +1,7 @@
 //! Segment trees: `bench segments COUNT MERGED SOUGHT` makes trees of COUNT datoms, and then does one round for each line of standard
 //! input and answers it with a line of its own, so that its rounds can be timed one by one. `seek` looks for SOUGHT datoms and prints
 //! the sum of the entities found. `merge` merges MERGED datoms into the trees, from their first one to their last, and `behind` as
-//! many behind the last one: each prints the id that would follow those of the new trees.
+//! many after the last one: each prints the id that would follow those of the new trees.
 ghost use Rattle.bench.specs.Rising.{LiveRises, TreesAreHeld, TreesRise};
 
 mod trees;
@@ -60,7 +60,7 @@ impl Sizes {
         }
     }
 
-    /// A number behind those of the trees' datoms.
+    /// A number after those of the trees' datoms.
     fn end(&self) -> u32 {
         self.count.saturating_mul(STEP)
     }

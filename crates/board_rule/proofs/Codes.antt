@@ -30,7 +30,8 @@ module _ {A : Type 0} (c : Coded A) where
 pub codes_snoc : {A : Type 0} (f : A → Gv) (l : List A) (e : A) → codes f (l ++ e ∷ []) ≡ codes f l ++ code f e ∷ []
 codes_snoc f l e = map-append (code f) l (e ∷ [])
 
-pub lawful_snoc : {A : Type 0} (follows : List A → A → Type 0) (l : List A) (e : A) → IsLawful follows l → follows l e → IsLawful follows (l ++ e ∷ [])
+pub lawful_snoc : {A : Type 0} (follows : List A → A → Type 0) (l : List A) (e : A) → IsLawful follows l → follows l e
+    → IsLawful follows (l ++ e ∷ [])
 lawful_snoc follows [] e h f zero a at = subst (follows []) (some-injective e a at) f
 lawful_snoc follows [] e h f (suc i) a at = absurd (some-ne-none a (sym at))
 lawful_snoc follows (x ∷ l) e h f zero a at = h zero a at

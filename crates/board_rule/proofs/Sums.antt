@@ -1,5 +1,6 @@
 -- Sums over the seats, of which a step changes one.
-use Rattle.std.proofs.Common.{◌≡◌, ◌≢◌, ℕ, zero, suc, ◌+◌, ◌-◌, ◌<◌, ◌≤◌, List, [], ◌∷◌, ◌++◌, set, cond, eqb, sym, refl, ap, arith, eq-eqb, ne_eqb, Some, None}
+use Rattle.std.proofs.Common.{◌≡◌, ◌≢◌, ℕ, zero, suc, ◌+◌, ◌-◌, ◌<◌, ◌≤◌, List, [], ◌∷◌, ◌++◌, set, cond, eqb, sym, refl, ap, arith, eq-eqb}
+use Rattle.std.proofs.Common.{ne_eqb, Some, None}
 use mathlib.Core.Option.{some, some-injective, some-ne-none}
 use lib.ListN.{get_elem?}
 use Rattle.board_rule.specs.declared.view.View.{View}
@@ -48,7 +49,8 @@ module _ {E : Type 0} where
   left_spent v e = ap (λ b. cond b 0 (4294967296 - v.draws)) (eq-eqb v.seats 0 e)
 
   pub numbered_live : (z : ℕ) (v : View E) → 0 < v.seats → numbered z v ≡ one_if (eqb v.number z) + total (has_number z) v.joined
-  numbered_live z v live = ap (λ b. cond b 0 (one_if (eqb v.number z)) + total (has_number z) v.joined) (ne_eqb v.seats 0 (λ e. omega arith))
+  numbered_live z v live =
+      ap (λ b. cond b 0 (one_if (eqb v.number z)) + total (has_number z) v.joined) (ne_eqb v.seats 0 (λ e. omega arith))
 
   pub numbered_own : (v : View E) → 0 < v.seats → numbered v.number v ≡ 1 + total (has_number v.number) v.joined
   numbered_own v live = omega (arith, numbered_live v.number v live, one_same v.number v.number refl)
@@ -61,5 +63,6 @@ module _ {E : Type 0} where
   note_numbered v k p at = let c : ℕ = cond (eqb v.seats 0) 0 (one_if (eqb v.number p.number)) in omega (arith, note_counts v k p at)
 
   -- where one seat weighs as much as all, the others weigh nothing
-  pub others_zero : (g : View E → ℕ) (l : List (View E)) (j k : ℕ) (v u : View E) → k ≢ j → get_elem? l j ≡ some v → get_elem? l k ≡ some u → total g l ≤ g v → g u ≡ 0
+  pub others_zero : (g : View E → ℕ) (l : List (View E)) (j k : ℕ) (v u : View E) → k ≢ j → get_elem? l j ≡ some v → get_elem? l k ≡ some u
+      → total g l ≤ g v → g u ≡ 0
   others_zero g l j k v u ne e d h = omega (arith, terms_le g l j k v u ne e d)

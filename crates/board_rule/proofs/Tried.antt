@@ -13,7 +13,8 @@ abbrev Has : ℕ → ℕ → List ℕ → Type 0
 Has m n ts = (s : ℕ) → m ≤ s → s < n → (k : ℕ) × (get_elem? ts k ≡ some s)
 
 tried_from : (m n : ℕ) (ts : List ℕ) → m ≤ n → Has m n ts → IsTried n (tried_down m (Some ts))
-tried_from zero n ts le has = λ us e s lt. let t = has s (omega arith) lt in (t.0, ap (λ (l : List ℕ). get_elem? l t.0) (sym (same_some ts us e)) ∙ t.1)
+tried_from zero n ts le has =
+    λ us e s lt. let t = has s (omega arith) lt in (t.0, ap (λ (l : List ℕ). get_elem? l t.0) (sym (same_some ts us e)) ∙ t.1)
 tried_from (suc m) n ts le has = tried_from m n (ts ++ m ∷ []) (omega arith) (λ s lo lt. dite (ℕ_discrete m s)
     (λ same. (length ts, at_last ts m (length ts) refl ∙ ap some same))
     (λ ne. let t = has s (omega arith) lt in (t.0, at_longer ts (m ∷ []) t.0 s t.1)))

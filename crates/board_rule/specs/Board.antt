@@ -1,8 +1,11 @@
 -- The rule of the board: what holds between any two steps of any seats.
--- Word 0 is the number of tickets drawn, word 1 the ticket served, word 2 the basis of the history, word s + 3 the mail word of session s: 0 free, 1 held by its reader, 2 by the holder of the turn.
--- Slot 0 has the value that stands for the history, and slot s + 1 the last snapshot mailed to session s.
+-- Word 0 is the number of tickets drawn, word 1 the ticket served, word 2 the basis of the history,
+-- word s + 3 the mail word of session s: 0 free, 1 held by its reader, 2 by the holder of the turn.
+-- Slot 0 has the value that stands for the history,
+-- and slot s + 1 the last snapshot mailed to session s.
 -- This project's own choice.
-use Rattle.std.specs.Prelude.{◌≡◌, ◌≢◌, ◌⊎◌, ℕ, ◌+◌, ◌-◌, ◌*◌, ◌<◌, ◌≤◌, ◌==◌, Bool, if◌then◌else◌, List, [], ◌∷◌, length, slice_index, Option, Some, None}
+use Rattle.std.specs.Prelude.{◌≡◌, ◌≢◌, ◌⊎◌, ℕ, ◌+◌, ◌-◌, ◌*◌, ◌<◌, ◌≤◌, ◌==◌, Bool, if◌then◌else◌}
+use Rattle.std.specs.Prelude.{List, [], ◌∷◌, length, slice_index, Option, Some, None}
 use mathlib.Core.Option.{some, none}
 use mathlib.Core.Option as maybe
 use lib.ListN.{get_elem?}
@@ -22,9 +25,11 @@ use Rattle.board_rule.specs.declared.view.Grab.{Grab}
 use Rattle.board_rule.specs.declared.view.Grab.TheVariants.{Free, Grabbed, Found, Writing}
 use Rattle.board_rule.specs.declared.view.Code.{Code}
 use Rattle.board_rule.specs.declared.view.View.{View}
-use Rattle.board_rule.specs.Views.{worker, StartsWith, AreLawful, codes, commits_of, AllBelow, marked, MayMark, story, HasTurn, session_of}
+use Rattle.board_rule.specs.Views.{worker, StartsWith, AreLawful, codes, commits_of, AllBelow}
+use Rattle.board_rule.specs.Views.{marked, MayMark, story, HasTurn, session_of}
 
--- what the values in the slots stand for, and what else holds of the one in slot 0: that it is sound, and keeps its origin
+-- what the values in the slots stand for, and what else holds of the one in slot 0:
+-- that it is sound, and keeps its origin
 pub record Naming (H S E : Type 0) : Type 1 where
   pub entries : H → List E
   pub authors : H → List ℕ
@@ -45,7 +50,8 @@ naming {H} {S} {A} f entries authors marks follows sound mailed = record {
   lawful = AreLawful f follows;
 }
 
--- What the rule says there is. `turn` is 0, or 1 more than the seat that has the turn; `shown` are the marks that word 1 names, and `next` those that the turn's end will name, where they change.
+-- What the rule says there is. `turn` is 0, or 1 more than the seat that has the turn; `shown` are
+-- the marks that word 1 names, and `next` those that the turn's end will name, where they change.
 -- `mail s` is how the word of session s is held, and `owner s` the seat that holds it.
 pub record Scene (E : Type 0) : Type 0 where
   pub drawn : ℕ
@@ -140,7 +146,7 @@ module _ {E : Type 0} where
       × (0 < v.seats → v.commits ≡ commits_of v.number (start + 1) x.authors)
       × (0 < v.seats → AllBelow (length v.seen) v.commits)
 
-  -- the same of a seat that was joined to another, and what it was told of a stop
+  -- the same of a seat that was joined to another, and which stop it was notified of
   abbrev pub IsNote : ℕ → Scene E → Joined E → Type 0
   IsNote start x p =
       (StartsWith x.entries p.seen × StartsWith x.entries p.beside)
@@ -173,7 +179,8 @@ module _ {E : Type 0} where
       × (0 < v.seats → (p : Stop) → x.shown.stop ≡ Some p → v.number ≡ p.author → v.stop ≡ Some p)
       × (0 < v.seats → v.number ≡ worker → v.covered ≡ x.shown.covered)
 
-  -- What the seat j knows is so. Of one that was joined away little is said: its notes are with the seat that stays.
+  -- What the seat j knows is so.
+  -- Of one that was joined away little is said: its notes are with the seat that stays.
   pub record Knows (n start : ℕ) (x : Scene E) (j : ℕ) (v : View E) : Type 0 where
     pub ticket : HasTicket x v
     pub past : Recalls start x v
@@ -184,7 +191,8 @@ module _ {E : Type 0} where
     pub told : KnowsMarks x v
     pub grab : Claims n x.mail x.owner x.turn j v.seats v.number v.grab
 
-  -- Slot 0 is out of its place only in a turn, and so are next marks. A number that no seat was given is the author of no stop.
+  -- Slot 0 is out of its place only in a turn, and so are next marks.
+  -- A number that no seat was given is the author of no stop.
   pub record TurnOk (given turn : ℕ) (core : At) (shown : Marks) (next : Option Marks)
       (vs : List (View E)) : Type 0 where
     pub idle : turn ≡ 0 → (core ≡ Home) × (next ≡ None)

@@ -2,7 +2,8 @@
 -- This project's own choice.
 use Rattle.std.specs.Prelude.{◌≡◌, ℕ, List}
 use Rattle.board_rule.specs.declared.note.Note.{Note}
-use Rattle.board_rule.specs.declared.note.Note.TheVariants.{Nothing, Marks as MarksOf, Found as TheFound}
+use Rattle.board_rule.specs.declared.note.Note.TheVariants.{Nothing, Marks as MarksOf}
+use Rattle.board_rule.specs.declared.note.Note.TheVariants.{Found as TheFound}
 use Rattle.board_rule.specs.declared.view.Marks.{Marks}
 use Rattle.board_rule.specs.declared.view.At.TheVariants.{Away}
 use Rattle.board_rule.specs.declared.view.Grab.TheVariants.{Grabbed}

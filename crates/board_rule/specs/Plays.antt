@@ -1,6 +1,8 @@
--- What each step tells its seat. `m` is the seat before the step and `m'` after it, and `n` the number found, or the one stored.
+-- What a seat learns by each step.
+-- `m` is the seat before the step and `m'` after it, and `n` the number found, or the one stored.
 -- This project's own choice.
-use Rattle.std.specs.Prelude.{Bool, true, ◌≡◌, ◌≢◌, ℕ, ◌+◌, ◌-◌, ◌<◌, List, [], ◌∷◌, length, Option, Some, None}
+use Rattle.std.specs.Prelude.{Bool, true, ◌≡◌, ◌≢◌, ℕ, ◌+◌, ◌-◌, ◌<◌, List, [], ◌∷◌, length, Option}
+use Rattle.std.specs.Prelude.{Some, None}
 use Rattle.atomic_table.specs.Table.{Me, Step}
 use Rattle.board_rule.specs.declared.board.SlotValue.{SlotValue}
 use Rattle.board_rule.specs.declared.board.SlotValue.TheVariants.{Core, Mail}
@@ -11,7 +13,9 @@ use Rattle.board_rule.specs.declared.view.Content.{Content}
 use Rattle.board_rule.specs.declared.view.Content.TheVariants.{InHand, Empty, Full}
 use Rattle.board_rule.specs.declared.view.Grab.TheVariants.{Free}
 use Rattle.board_rule.specs.declared.view.View.{View}
-use Rattle.board_rule.specs.Views.{StartsWith, HasTurn, history_of, content_of, found_of, refilled, drew, noted, added, ended, counted, grabbed, passed, found, let_go, writing, skipped, Looks}
+use Rattle.board_rule.specs.Views.{StartsWith, HasTurn, history_of, content_of, found_of, refilled}
+use Rattle.board_rule.specs.Views.{drew, noted, added, ended, counted, grabbed, passed, found}
+use Rattle.board_rule.specs.Views.{let_go, writing, skipped, Looks}
 
 abbrev pub at_of : {H : Type 0} → Option H → At
 at_of None = Away

@@ -1,6 +1,8 @@
 -- What a seat knows, and how each step changes it.
 -- This project's own choice.
-use Rattle.std.specs.Prelude.{◌≡◌, ◌≢◌, ℕ, zero, suc, ◌+◌, ◌<◌, ◌≤◌, nat_lt, ◌==◌, Bool, true, false, if◌then◌else◌, ◌⊎◌, List, [], ◌∷◌, ◌++◌, map, length, take, Option, Some, None}
+use Rattle.std.specs.Prelude.{◌≡◌, ◌≢◌, ℕ, zero, suc, ◌+◌, ◌<◌, ◌≤◌, nat_lt, ◌==◌, Bool, true}
+use Rattle.std.specs.Prelude.{false, if◌then◌else◌, ◌⊎◌, List, [], ◌∷◌, ◌++◌, map, length, take}
+use Rattle.std.specs.Prelude.{Option, Some, None}
 use mathlib.Core.Option.{some}
 use lib.ListN.{get_elem?}
 use base.Stored.{Gv}
@@ -36,7 +38,7 @@ IsLawful {E} follows l = (i : ℕ) (e : E) → get_elem? l i ≡ some e → foll
 abbrev pub IsSoundSince : {H O : Type 0} → (H → Type 0) → (H → O) → H → H → Type 0
 IsSoundSince sound origin begun h = sound h × (origin h ≡ origin begun)
 
--- entries as they stand in views
+-- entries as views have them
 abbrev pub code : {A : Type 0} → (A → Gv) → A → Code
 code f a = record { of = f a }
 
@@ -64,7 +66,8 @@ abbrev pub marked : Marks → Option Marks → Marks
 marked m None = m
 marked m (Some k) = k
 
--- The seat of this number may note k as the next marks, where m are named: it keeps a named stop, a new one is its own, and only the worker changes `covered`
+-- The seat of this number may note k as the next marks, where m are named:
+-- it keeps a named stop, a new one is its own, and only the worker changes `covered`
 abbrev pub MayMark : ℕ → Marks → Marks → Type 0
 MayMark number m k =
     ((p : Stop) → m.stop ≡ Some p → k.stop ≡ Some p)
@@ -110,7 +113,8 @@ module _ {E : Type 0} where
   abbrev pub HasTurn : View E → Type 0
   HasTurn v = (y : Story E) × (v.turn ≡ Some y)
 
-  -- of the holder of the turn: the whole history, its authors, the named marks, and those of slot 0's value
+  -- of the holder of the turn:
+  -- the whole history, its authors, the named marks, and those of slot 0's value
   abbrev pub history_of : View E → List E
   history_of v = entries_in v.turn
 
@@ -123,7 +127,8 @@ module _ {E : Type 0} where
   abbrev pub marks_of : View E → Marks
   marks_of v = marked (named_of v) v.next
 
-  -- these are the list, authors and marks of a value that may lie in slot 0, and the rest holds of it
+  -- these are the list, authors and marks of a value
+  -- that may lie in slot 0, and the rest holds of it
   abbrev pub Fits : List E → List ℕ → Marks → Type 0 → View E → Type 0
   Fits entries authors marks sound v =
       (entries ≡ history_of v) × (authors ≡ authors_of v) × (marks ≡ marks_of v) × sound
@@ -152,7 +157,8 @@ module _ {E : Type 0} where
   refilled (Found l c) d = Found l d
   refilled (Writing s c) d = Writing s d
 
-  -- the seat may move the snapshot of this session: it holds the mail word, and has noted what is there
+  -- the seat may move the snapshot of this session:
+  -- it holds the mail word, and has noted what is there
   abbrev pub MayMove : ℕ → ℕ → Grab E → Type 0
   MayMove number s Free = ⊥
   MayMove number s Grabbed = ⊥
@@ -296,7 +302,7 @@ module _ {E : Type 0} where
   IsIdle v = (v.ticket ≡ None) × (v.turn ≡ None) × (v.grab ≡ Free)
 
   -- what a seat learns as its turn begins
-  pub record IsTold (lawful : List E → Type 0) (v : View E) (y : Story E) : Type 0 where
+  pub record Learned (lawful : List E → Type 0) (v : View E) (y : Story E) : Type 0 where
     pub lawful_now : lawful y.entries
     pub seen : StartsWith y.entries v.seen
     pub commits : v.commits ≡ commits_of v.number (v.start + 1) y.authors
@@ -305,14 +311,16 @@ module _ {E : Type 0} where
     pub own_stop : (p : Stop) → y.marks.stop ≡ Some p → v.number ≡ p.author → v.stop ≡ Some p
     pub covered : v.number ≡ worker → v.covered ≡ y.marks.covered
 
-  -- what a look tells, by whether the seat had the turn: w is the view after it, and n the word
+  -- what a seat learns by a look, by whether it had the turn:
+  -- w is the view after it, and n the word
   abbrev pub Looks : (List E → Type 0) → Option (Story E) → View E → ℕ → View E → Type 0
   Looks lawful None v n w =
-      (v.ticket ≡ Some n → (y : Story E) × (w ≡ began v y) × IsTold lawful v y)
+      (v.ticket ≡ Some n → (y : Story E) × (w ≡ began v y) × Learned lawful v y)
       × (v.ticket ≢ Some n → w ≡ v)
   Looks lawful (Some h) v n w = (w ≡ v) × (v.ticket ≡ Some n)
 
-  -- What holds of slot 0's value as the board is closed, beside that its history is lawful and that it is sound: v is the last view of the first seat, to which all others were joined
+  -- What holds of slot 0's value as the board is closed, beside that its history is lawful
+  -- and that it is sound: v is the last view of the first seat, to which all others were joined
   pub record IsWhole (entries : List E) (authors : List ℕ) (marks : Marks) (v : View E)
       : Type 0 where
     pub seen : StartsWith entries v.seen

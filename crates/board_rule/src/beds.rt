@@ -1,4 +1,4 @@
-//! Where seats sleep until their turn comes. A bed is no word of the table, so no step concerns it, and no clause says who wakes.
+//! Where seats sleep until their turn comes. A bed is not a word of the table, so no step concerns it, and no clause says who wakes.
 use std::array;
 use std::sync::Wait;
 use std::sync::atomic::AtomicU64;

@@ -64,7 +64,7 @@ impl<H: Named, S: Mailed + Named<Entry = H::Entry>> Board<H, S> {
         (self.table.slot_count() - 1) as u32
     }
 
-    /// Whether the ticket is the one behind the ticket served.
+    /// Whether the ticket is the one after the ticket served.
     pub fn is_next(&self, ticket: u64) -> bool {
         self.table.shared.peek(1).checked_add(1) == Some(ticket)
     }

@@ -25,7 +25,7 @@ pub fn a_beginning_of_a_beginning_is_one<A>()
     ensures { (l m first : List A) → StartsWith l m → StartsWith m first → StartsWith l first }
 {}
 
-/// A join writes its note behind those that the seat has, and the notes of the other seat behind it.
+/// A join writes its note after those that the seat has, and the notes of the other seat after it.
 pub fn a_join_adds_its_note_behind_the_others()
     ensures stay { (v u : View Code) (k : ℕ) (p : Joined Code) → get_elem? v.joined k ≡ some p
         → get_elem? (both v u).joined k ≡ some p }

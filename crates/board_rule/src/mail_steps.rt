@@ -13,7 +13,7 @@ use crate::plays::{GrabMail, GrabOwn, KeepAndLetGo, LetMailGo, LetOwnGo, PutMail
 use crate::seat::BoardSeat;
 use crate::steps::open;
 
-/// Takes the seat's own mail word, where it is free. It is not where the holder of the turn has it.
+/// Takes the seat's own mail word, if it is free. It is not free while the holder of the turn has it.
 pub fn step_reader_grab<H: Named, S: Mailed + Named<Entry = H::Entry>>(
     board: &Board<H, S>,
     seat: &mut BoardSeat,
@@ -62,7 +62,7 @@ pub fn step_reader_let_go<H: Named, S: Mailed + Named<Entry = H::Entry>>(
     seat.badge = opened.into_badge();
 }
 
-/// Takes a session's mail word by the holder of the turn, where it is free. It is not where its reader has it.
+/// Takes a session's mail word by the holder of the turn, if it is free. It is not free while its reader has it.
 pub fn step_holder_grab<H: Named, S: Mailed + Named<Entry = H::Entry>>(
     board: &Board<H, S>,
     seat: &mut BoardSeat,

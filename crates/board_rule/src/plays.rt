@@ -1,4 +1,4 @@
-//! What each single step on the table tells.
+//! What a seat learns by each single step on the table.
 ghost use Rattle.std.specs.Prelude.{ℕ, List, [], true, false};
 ghost use Rattle.board_rule.specs.declared.view.Code.{Code};
 ghost use Rattle.board_rule.specs.declared.view.Marks.{Marks};

@@ -22,7 +22,7 @@ use atomic_table::{Badge, Seat};
 use std::marker::Brand;
 use std::mem;
 
-/// The seat of the table, which a badge that stands for no seat replaces.
+/// The seat of the table, in whose place is a badge of no seat.
 pub(crate) fn open<H, S>(badge: &mut Badge<View<Code>>) -> Seat<SlotValue<H, S>, View<Code>>
     requires { badge.old.views ≡ first_of badge.old.views ∷ [] }
     ensures { (result.table_id ≡ badge.old.table_id)

@@ -106,9 +106,9 @@ pub struct View<E> {
     pub next: Option<Marks>,
     /// After a commit in this turn: the sessions whose mail was tried since.
     pub tried: Option<LinkedList<u64>>,
-    /// The stop that it was told of.
+    /// The stop that it was notified of.
     pub stop: Option<Stop>,
-    /// Of the first seat: the `covered` that it was told of last.
+    /// Of the first seat: the `covered` that it learnt last.
     pub covered: u64,
     pub grab: Grab<E>,
 }

@@ -14,7 +14,8 @@ use Rattle.board_rule.specs.Views.{worker, StartsWith, IsLawful, codes, commits_
 abbrev pub Sees : {A : Type 0} → (A → Gv) → View Code → List A → Type 0
 Sees f v l = v.seen ≡ codes f l
 
--- The seat has the turn, with the value of slot 0: the history is this list, and these are its authors.
+-- The seat has the turn, with the value of slot 0:
+-- the history is this list, and these are its authors.
 abbrev pub Holds : {A : Type 0} → (A → Gv) → View Code → List A → List ℕ → Type 0
 Holds f v entries authors =
     (v.turn ≡ Some (story (codes f entries) authors (named_of v)))

@@ -9,11 +9,12 @@ use Rattle.board_rule.specs.declared.view.View.{View}
 use Rattle.board_rule.specs.Views.{codes, tried_down, story, named_of, drew, counted}
 use Rattle.board_turn.specs.Turn.{holding, left}
 
--- it drew the ticket t and has the turn: slot 0's value stands for this list, of these authors, and has these marks
+-- the seat drew the ticket t and has the turn:
+-- slot 0's value stands for this list, of these authors, and has these marks
 abbrev pub entered : {A : Type 0} → (A → Gv) → View Code → ℕ → List A → List ℕ → Marks → View Code
 entered f v t entries authors marks = holding (drew v t) (codes f entries) authors marks
 
--- it added the entry t, which is the last of this list, and tried each of n sessions
+-- the seat added the entry t, which is the last of this list, and tried each of n sessions
 abbrev pub gained : {A : Type 0} → (A → Gv) → View Code → ℕ → List A → List ℕ → ℕ → View Code
 gained f v t entries authors n =
     record v {

@@ -97,7 +97,7 @@ pub fn end<H: Named, S: Mailed + Named<Entry = H::Entry>>(
     leave(board, seat, held);
 }
 
-/// The same, after a load of the basis in the turn: the seat has seen the whole history.
+/// Ends the turn after a load of the basis: the seat has seen the whole history.
 pub fn end_seen<H: Named, S: Mailed + Named<Entry = H::Entry>>(
     board: &Board<H, S>,
     seat: &mut BoardSeat,

@@ -4,7 +4,7 @@ ghost use Rattle.board_rule.specs.declared.view.Code.{Code};
 ghost use Rattle.board_rule.specs.declared.view.Story.{Story};
 ghost use Rattle.board_rule.specs.declared.view.At.TheVariants.{Away};
 ghost use Rattle.board_rule.specs.declared.view.Grab.TheVariants.{Free};
-ghost use Rattle.board_rule.specs.Views.{StartsWith, IsLawful, AreLawful, codes, HasTurn, history_of, authors_of, named_of, marks_of, MayMark, IsTried, story, drew, began, added, counted, IsTold};
+ghost use Rattle.board_rule.specs.Views.{StartsWith, IsLawful, AreLawful, codes, HasTurn, history_of, authors_of, named_of, marks_of, MayMark, IsTried, story, drew, began, added, counted, Learned};
 ghost use Rattle.board_rule.specs.Calls.{view_of, board_of};
 ghost use Rattle.board_turn.specs.Turn.{holding, left};
 
@@ -47,7 +47,7 @@ fn look<'a, H: Named, S: Mailed + Named<Entry = H::Entry>>(
     ensures turn { MatchBool result
         ((y : Story Code)
         × (view_of seat.new ≡ began (view_of seat.old) y)
-        × IsTold (AreLawful H.Entry.row.coded.code H.follows) (view_of seat.old) y)
+        × Learned (AreLawful H.Entry.row.coded.code H.follows) (view_of seat.old) y)
         (view_of seat.new ≡ view_of seat.old) }
 {
     let ticket = seat.ticket();
@@ -66,7 +66,7 @@ fn comes_soon<H: Named, S: Mailed + Named<Entry = H::Entry>>(
     ensures turn { MatchBool result
         ((y : Story Code)
         × (view_of seat.new ≡ began (view_of seat.old) y)
-        × IsTold (AreLawful H.Entry.row.coded.code H.follows) (view_of seat.old) y)
+        × Learned (AreLawful H.Entry.row.coded.code H.follows) (view_of seat.old) y)
         (view_of seat.new ≡ view_of seat.old) }
 {
     for _ in 0..LOOKS {
@@ -101,7 +101,7 @@ fn comes_while_awake<H: Named, S: Mailed + Named<Entry = H::Entry>>(
     ensures turn { MatchBool result
         ((y : Story Code)
         × (view_of seat.new ≡ began (view_of seat.old) y)
-        × IsTold (AreLawful H.Entry.row.coded.code H.follows) (view_of seat.old) y)
+        × Learned (AreLawful H.Entry.row.coded.code H.follows) (view_of seat.old) y)
         (view_of seat.new ≡ view_of seat.old) }
 {
     for _ in 0..ROUNDS {
@@ -127,7 +127,7 @@ fn wait_for_turn<H: Named, S: Mailed + Named<Entry = H::Entry>, R: Wait>(
     ensures seat { board_of seat.new ≡ board_of seat.old }
     ensures turn { (y : Story Code)
         × (view_of seat.new ≡ began (view_of seat.old) y)
-        × IsTold (AreLawful H.Entry.row.coded.code H.follows) (view_of seat.old) y }
+        × Learned (AreLawful H.Entry.row.coded.code H.follows) (view_of seat.old) y }
 {
     let Some(ticket) = seat.ticket() else {
         unreachable!()
@@ -159,7 +159,7 @@ pub fn turn<H: Named, S: Mailed + Named<Entry = H::Entry>, R: Wait>(
     ensures holding { view_of seat.new
         ≡ holding (view_of seat.old) (codes H.Entry.row.coded.code (H.entries result.home))
         (H.authors result.home) (H.marks result.home) }
-    ensures told { IsTold (AreLawful H.Entry.row.coded.code H.follows) (view_of seat.old)
+    ensures learned { Learned (AreLawful H.Entry.row.coded.code H.follows) (view_of seat.old)
         (story (codes H.Entry.row.coded.code (H.entries result.home)) (H.authors result.home)
         (H.marks result.home)) }
     ensures lawful { IsLawful H.follows (H.entries result.home) }

@@ -1,5 +1,6 @@
 -- What a word is, to the definition of a command line and to `clap`.
-use Rattle.std.proofs.Common.{◌≡◌, ◌∙◌, ◌⊎◌, ℕ, ◌==◌, ◌<◌, ◌≤◌, Bool, true, false, true≢false, refl, sym, ap, subst, inl, inr, List, [], ◌∷◌, ◌++◌, length, take, drop, get_or, map, Option, Some, None, codes, arith, nat_eq}
+use Rattle.std.proofs.Common.{◌≡◌, ◌∙◌, ◌⊎◌, ℕ, ◌==◌, ◌<◌, ◌≤◌, Bool, true, false, true≢false, refl, sym, ap, subst, inl, inr, List, []}
+use Rattle.std.proofs.Common.{◌∷◌, ◌++◌, length, take, drop, get_or, map, Option, Some, None, codes, arith, nat_eq}
 use Rattle.std.specs.Prelude.{String, encode_utf8, slice_get, string_bytes}
 use Rattle.std.specs.List.{before_first, after_first, position_or_len, starts_with}
 use Rattle.std.specs.Str.{IsUtf8, bytes_eq, chars}

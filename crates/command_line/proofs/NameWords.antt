@@ -10,7 +10,7 @@ use Rattle.clap.specs.Faults.{defaults_fault, flag_word_fault, turn_fault, walk_
 use Rattle.clap.specs.declared.error.kind.ErrorKind.TheVariants.{UnknownArgument}
 use Rattle.clap.proofs.FaultLemmas.{leaf_fault}
 use Rattle.command_line.specs.Words.{one_name, is_name}
-use Rattle.command_line.specs.ByClap.{name_app, name_told, told, without_fault}
+use Rattle.command_line.specs.ByClap.{name_app, name_parsed, parsed, without_fault}
 use Rattle.command_line.proofs.Dashes.{AreTexts, HasOneOption, IsNameWord, Meaning, asks, ends, held, meaning_of, naming, says, stray}
 use Rattle.command_line.proofs.Walks.{first_fails, walk_at}
 use Rattle.command_line.proofs.Walks as walks
@@ -26,7 +26,7 @@ one_option : HasOneOption rules
 one_option = record { short = λ x. refl; long = λ name e. refl }
 
 abbrev outcome : Walk → List Text → Option Text
-outcome = walks.outcome shape name_told
+outcome = walks.outcome shape name_parsed
 
 abbrev turn : Walk → Text → Kinds
 turn = turn_fault shape []
@@ -36,10 +36,10 @@ step = walked rules []
 
 passes : (w after : Walk) (word : Text) (words : List Text) → turn w word ≡ [] → step w word ≡ after
     → outcome w (word ∷ words) ≡ outcome after words
-passes = walks.passes shape name_told
+passes = walks.passes shape name_parsed
 
 fails : (w : Walk) (word : Text) (words : List Text) → turn w word ≡ UnknownArgument ∷ [] → outcome w (word ∷ words) ≡ None
-fails w word words = walks.fails shape name_told w word words UnknownArgument []
+fails w word words = walks.fails shape name_parsed w word words UnknownArgument []
 
 -- with no name yet, and with one
 abbrev fresh : Bool → Walk
@@ -161,8 +161,8 @@ all : (words : List Text) → AreTexts words → outcome (fresh false) words ≡
 all [] texts = nothing false
 all (word ∷ words) texts = first word words texts.1 (kind_by word (meaning_of rules one_option word texts.0))
 
-pub name_words : (words : List Text) → AreTexts words → option_and_then name_told (told name_app words) ≡ one_name words
+pub name_words : (words : List Text) → AreTexts words → option_and_then name_parsed (parsed name_app words) ≡ one_name words
 name_words words texts =
-    ap (λ k. option_and_then name_told (without_fault k (matches_of name_app words)))
+    ap (λ k. option_and_then name_parsed (without_fault k (matches_of name_app words)))
     (leaf_fault (built name_app) nothing_held words refl)
     ∙ all words texts

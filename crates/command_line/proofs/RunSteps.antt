@@ -6,25 +6,26 @@ use Rattle.clap.specs.Faults.{turn_fault, walk_fault}
 use Rattle.clap.specs.declared.error.kind.ErrorKind.{ErrorKind}
 use Rattle.clap.specs.declared.error.kind.ErrorKind.TheVariants.{InvalidValue, UnknownArgument}
 use Rattle.command_line.specs.Words.{Command, merge_at_is}
-use Rattle.command_line.specs.ByClap.{run_told}
+use Rattle.command_line.specs.ByClap.{run_parsed}
 use Rattle.command_line.proofs.Dashes.{AreTexts, IsNameWord, IsStray, Meaning, asks, ends, held, meaning_of, naming, says, stray}
-use Rattle.command_line.proofs.RunSpots.{IsIdle, Spot, asking, at, by_idle, fault_at, name_fault, not_both, one_option, position_of, rested, rows_at, rules, shape, waiting_after, waits_for, with_name, with_number}
+use Rattle.command_line.proofs.RunSpots.{IsIdle, Spot, asking, at, by_idle, fault_at, name_fault, not_both, one_option, position_of, rested}
+use Rattle.command_line.proofs.RunSpots.{rows_at, rules, shape, waiting_after, waits_for, with_name, with_number}
 use Rattle.command_line.proofs.Walks.{first_fails, walk_at}
 use Rattle.command_line.proofs.Walks as walks
 
 -- what comes of the words from there on
 abbrev pub outcome : Walk → List Text → Option Command
-outcome = walks.outcome shape run_told
+outcome = walks.outcome shape run_parsed
 
 abbrev turn : Walk → Text → Kinds
 turn = turn_fault shape []
 
 passes : (w after : Walk) (word : Text) (words : List Text) → turn w word ≡ [] → walked rules [] w word ≡ after
     → outcome w (word ∷ words) ≡ outcome after words
-passes = walks.passes shape run_told
+passes = walks.passes shape run_parsed
 
 fails : (w : Walk) (word : Text) (words : List Text) (k : ErrorKind) (ks : Kinds) → turn w word ≡ k ∷ ks → outcome w (word ∷ words) ≡ None
-fails = walks.fails shape run_told
+fails = walks.fails shape run_parsed
 
 -- ---- a word that goes to a positional
 
@@ -151,7 +152,7 @@ module _ (s : Spot) (words : List Text) where
 module _ (s : Spot) (k : ErrorKind) (ks : Kinds) (fault : fault_at s ≡ k ∷ ks) where
   doomed_at_end : (waiting : Waiting) (is_trailing : Bool) → outcome (at s waiting is_trailing) [] ≡ None
   unfolding walk_fault
-  doomed_at_end waiting is_trailing = ap (λ x. walks.ends_by shape run_told [] x (held s.rows s.pending)) fault
+  doomed_at_end waiting is_trailing = ap (λ x. walks.ends_by shape run_parsed [] x (held s.rows s.pending)) fault
 
   pub doomed_behind : (waiting : Waiting) (words : List Text) → outcome (at s waiting true) words ≡ None
   doomed_behind waiting [] = doomed_at_end waiting true

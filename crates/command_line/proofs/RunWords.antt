@@ -1,5 +1,6 @@
 -- `clap` reads of the words behind `run` what the definition's walk reads.
-use Rattle.std.proofs.Common.{◌≡◌, ◌∙◌, ℕ, ◌||◌, Bool, cond, true, false, refl, sym, ap, List, [], ◌∷◌, ◌++◌, drop, length, Option, Some, None, codes, nat_eq}
+use Rattle.std.proofs.Common.{◌≡◌, ◌∙◌, ℕ, ◌||◌, Bool, cond, true, false, refl, sym, ap, List, [], ◌∷◌, ◌++◌, drop, length, Option, Some}
+use Rattle.std.proofs.Common.{None, codes, nat_eq}
 use Rattle.std.specs.List.{fold, starts_with}
 use Rattle.std.specs.Prelude.{option_and_then}
 use Rattle.std.specs.Str.{bytes_eq}
@@ -9,10 +10,13 @@ use Rattle.clap.specs.Faults.{check_fault, defaults_fault, walk_fault}
 use Rattle.clap.specs.Simple.{built, matches_of}
 use Rattle.clap.specs.declared.error.kind.ErrorKind.TheVariants.{ArgumentConflict}
 use Rattle.clap.proofs.FaultLemmas.{leaf_fault}
-use Rattle.command_line.specs.Words.{Anywhere, AtNumber, BehindOptions, Command, Place, Progress, command_from, command_with, is_name, merge_at_in, merge_at_is, greatest_merge_at, number_up_to, numbered, start, walked as goes}
-use Rattle.command_line.specs.ByClap.{run_app, run_told, told, without_fault}
+use Rattle.command_line.specs.Words.{Anywhere, AtNumber, BehindOptions, Command, Place, Progress, command_from, command_with, is_name}
+use Rattle.command_line.specs.Words.{merge_at_in, merge_at_is, greatest_merge_at, number_up_to, numbered, start, walked as goes}
+use Rattle.command_line.specs.ByClap.{run_app, run_parsed, parsed, without_fault}
 use Rattle.command_line.proofs.Dashes.{AreTexts, IsNameWord, IsStray, Meaning, asks, ends, meaning_of, naming, says, stray}
-use Rattle.command_line.proofs.RunSpots.{Has, IsIdle, Spot, Stands, asking, at, idle_after, one_option, rested, rows_at, rules, second_number, shape, stands_by_name, stands_by_number, stands_rested, waiting_after, with_name, with_number}
+use Rattle.command_line.proofs.RunSpots.{Has, IsIdle, Spot, Stands, asking, at, idle_after, one_option, rested, rows_at, rules}
+use Rattle.command_line.proofs.RunSpots.{second_number, shape, stands_by_name, stands_by_number, stands_rested, waiting_after, with_name}
+use Rattle.command_line.proofs.RunSpots.{with_number}
 use Rattle.command_line.proofs.RunSteps.{doomed, doomed_behind, outcome}
 use Rattle.command_line.proofs.RunSteps as steps
 
@@ -88,7 +92,7 @@ no_scripts directory None = refl
 no_scripts directory (Some n) = refl
 
 asked : (names : List Text) (number : Option Text) (rows : List Row) → Has names number rows
-    → option_and_then run_told (without_fault (check_fault shape rows false) rows) ≡ command_with names (merge_at_in number)
+    → option_and_then run_parsed (without_fault (check_fault shape rows false) rows) ≡ command_with names (merge_at_in number)
 asked [] number rows has = simp has.directory refl
 asked (directory ∷ []) number rows has = simp (has.directory, has.scripts) (no_scripts directory (merge_at_in number))
 asked (directory ∷ s ∷ ss) None rows has = simp (has.directory, has.scripts, has.numbers) refl
@@ -102,7 +106,7 @@ at_end s waiting is_trailing stands =
     let passes = defaults_pass rows in
     let stay = no_defaults rows in
     (λ i. let fault = or_else (stands.settles i) (or_else (passes i) (check_fault shape (stay i) false)) in
-    option_and_then run_told (without_fault fault (stay i)))
+    option_and_then run_parsed (without_fault fault (stay i)))
     ∙ asked s.names s.number rows stands.has
 
 -- ---- from there over the words
@@ -216,8 +220,8 @@ abbrev at_start : Spot
 at_start = record { names = []; number = None; rows = []; pending = None }
 
 pub run_words : (words : List Text) → AreTexts words
-    → option_and_then run_told (told run_app words) ≡ command_from (goes (Some start) words)
+    → option_and_then run_parsed (parsed run_app words) ≡ command_from (goes (Some start) words)
 run_words words texts =
     let stands : Stands at_start = record { settles = refl; has = record { directory = refl; scripts = refl; numbers = refl } } in
-    ap (λ k. option_and_then run_told (without_fault k (matches_of run_app words))) (leaf_fault (built run_app) nothing_held words refl)
+    ap (λ k. option_and_then run_parsed (without_fault k (matches_of run_app words))) (leaf_fault (built run_app) nothing_held words refl)
     ∙ (agree words texts).anywhere at_start idle tt stands

@@ -1,17 +1,18 @@
 -- What a parse says of the matches and of the faults.
 use Rattle.std.proofs.Common.{◌≡◌, ◌∙◌, true, refl, sym, ap, List, [], ◌∷◌, Option, Some, None, codes}
 use Rattle.std.specs.Option.{option_map}
-use Rattle.clap.specs.Words.{App, HasMatchesOf, IsAmong, Kinds, Row, Text, fault_of, first_value, found_of, is_simple_and_free, matched_of, matches_of, raw_values, rows_of}
+use Rattle.clap.specs.Words.{App, HasMatchesOf, IsAmong, Kinds, Row, Text, fault_of, first_value, found_of, is_simple_and_free, matched_of}
+use Rattle.clap.specs.Words.{matches_of, raw_values, rows_of}
 use Rattle.clap.specs.declared.error.kind.ErrorKind.{ErrorKind}
 use Rattle.clap.specs.declared.parser.matches.ArgMatches.{ArgMatches}
 use Rattle.clap.proofs.WalkLemmas.{both, first_value-rows, raw_values-rows}
 use Rattle.clap.specs.declared.parser.matches.Found.{Found}
-use Rattle.command_line.specs.ByClap.{run_told, run_with, told, without_fault}
+use Rattle.command_line.specs.ByClap.{run_parsed, run_with, parsed, without_fault}
 use Rattle.command_line.specs.Words.{merge_at_in}
 
 pub told_matches : (a : App) (words : List Text) (m : ArgMatches) → is_simple_and_free a ≡ true → fault_of a words ≡ []
     → HasMatchesOf a words m
-    → Some (rows_of (found_of m)) ≡ told a words
+    → Some (rows_of (found_of m)) ≡ parsed a words
 told_matches a words m simple none found =
     ap Some (found (both _ _ simple).0).0 ∙ sym (ap (λ k. without_fault k (matches_of a words)) none)
 
@@ -23,7 +24,7 @@ told_fault k (x ∷ xs) rows among = refl
 pub asks_for : (f : Found) (directory : Option Text) (scripts : Option (List Text)) (number : Option Text)
     → directory ≡ first_value f (codes "DIR")
     → scripts ≡ option_map raw_values (matched_of f (codes "SCRIPT")) → number ≡ first_value f (codes "merge-at")
-    → run_with directory scripts (merge_at_in number) ≡ run_told (rows_of f)
+    → run_with directory scripts (merge_at_in number) ≡ run_parsed (rows_of f)
 asks_for f directory scripts number d s n =
     let d_is = d ∙ first_value-rows f (codes "DIR") in
     let s_is = s ∙ raw_values-rows f (codes "SCRIPT") in

@@ -1,7 +1,8 @@
--- The commands of `clap` that read the words behind a verb, and what is taken from their matches.
+-- The commands of `clap` that read the words after a verb, and what is taken from their matches.
 -- This project's own choice.
 use Rattle.std.specs.Prelude.{true, List, [], ◌∷◌, Option, Some, None, ℕ, codes}
-use Rattle.clap.specs.Words.{App, Row, Rule, Text, all_of, first_of, fault_of, matches_of, new_app, new_rule, with_rule, Kinds}
+use Rattle.clap.specs.Words.{App, Row, Rule, Text, all_of, first_of, fault_of, matches_of, new_app}
+use Rattle.clap.specs.Words.{new_rule, with_rule, Kinds}
 use Rattle.clap.specs.declared.builder.ArgAction.TheVariants.{Set, Append}
 use Rattle.command_line.specs.Words.{Command, command_with, merge_at_in}
 
@@ -24,7 +25,7 @@ merge_at_rule = record (new_rule (codes "merge-at")) {
 abbrev pub directory_rule : Rule
 directory_rule = record (new_rule (codes "DIR")) { required = true }
 
--- Append, since an option may stand between two scripts.
+-- Append, since an option may come between two scripts.
 abbrev pub script_rule : Rule
 script_rule = record (new_rule (codes "SCRIPT")) { required = true; action = Some Append }
 
@@ -33,7 +34,7 @@ run_app =
     with_rule (with_rule (with_rule (plain_app (codes "run")) merge_at_rule) directory_rule)
     script_rule
 
--- one name, behind `check` and `load`
+-- one name, after `check` and `load`
 abbrev pub name_rule : Rule
 name_rule = record (new_rule (codes "NAME")) { required = true }
 
@@ -46,18 +47,18 @@ without_fault [] rows = Some rows
 without_fault (k ∷ ks) rows = None
 
 -- the matches that the command has on these words, where it takes them
-abbrev pub told : App → List Text → Option (List Row)
-told app words = without_fault (fault_of app words) (matches_of app words)
+abbrev pub parsed : App → List Text → Option (List Row)
+parsed app words = without_fault (fault_of app words) (matches_of app words)
 
 abbrev pub run_with : Option Text → Option (List Text) → Option ℕ → Option Command
 run_with (Some directory) (Some scripts) merge_at = command_with (directory ∷ scripts) merge_at
 run_with _ _ merge_at = None
 
 -- the run that the matches ask for
-abbrev pub run_told : List Row → Option Command
-run_told rows = run_with (first_of (codes "DIR") rows) (all_of (codes "SCRIPT") rows)
+abbrev pub run_parsed : List Row → Option Command
+run_parsed rows = run_with (first_of (codes "DIR") rows) (all_of (codes "SCRIPT") rows)
     (merge_at_in (first_of (codes "merge-at") rows))
 
 -- the name that they have
-abbrev pub name_told : List Row → Option Text
-name_told = first_of (codes "NAME")
+abbrev pub name_parsed : List Row → Option Text
+name_parsed = first_of (codes "NAME")

@@ -1,13 +1,14 @@
--- What the program's own words for a command stand for.
+-- The command of the definitions that the program's own command is.
 -- This project's own choice.
 use Rattle.std.specs.Prelude.{◌≡◌, ◌≤◌, ℕ, true, List, map}
 use Rattle.std.specs.Borrow.{Bor}
 use Rattle.command_line.specs.declared.commands.Run.{Run}
 use Rattle.command_line.specs.declared.commands.Request.{Request}
-use Rattle.command_line.specs.declared.commands.Request.TheVariants.{Run as Runs, Check as Checks, Load as Loads}
+use Rattle.command_line.specs.declared.commands.Request.TheVariants.{Run as Runs, Check as Checks}
+use Rattle.command_line.specs.declared.commands.Request.TheVariants.{Load as Loads}
 use Rattle.command_line.specs.Words.{Command, run, check, load, are_scripts}
 
--- the texts behind references
+-- the texts after references
 abbrev pub names_in : List (Bor (List ℕ)) → List (List ℕ)
 names_in = map (λ s. s.now)
 
@@ -19,7 +20,7 @@ command_by (Runs r) = run_by r
 command_by (Checks directory) = check directory.now
 command_by (Loads count) = load count
 
--- its scripts may run together, and merges become due
+-- the scripts of a run may run together, and merges become due
 abbrev pub CanRun : Request → Type 0
 CanRun (Runs r) = (are_scripts (names_in r.scripts.items) ≡ true) × (1 ≤ r.options.merge_at)
 CanRun (Checks directory) = Unit {0}

@@ -1,6 +1,8 @@
 -- What the words of a command line ask for.
 -- This project's own choice.
-use Rattle.std.specs.Prelude.{ℕ, ◌==◌, Bool, true, false, not, ◌&&◌, ◌||◌, List, [], ◌∷◌, ◌++◌, Option, Some, None, is_some, length, drop, take, option_and_then, if◌then◌else◌, nat_eq, nat_lt, nat_le, bytes_eq, codes}
+use Rattle.std.specs.Prelude.{ℕ, ◌==◌, Bool, true, false, not, ◌&&◌, ◌||◌, List, [], ◌∷◌, ◌++◌}
+use Rattle.std.specs.Prelude.{Option, Some, None, is_some, length, drop, take, option_and_then}
+use Rattle.std.specs.Prelude.{if◌then◌else◌, nat_eq, nat_lt, nat_le, bytes_eq, codes}
 use Rattle.std.specs.List.{list_any, starts_with}
 use Rattle.std.specs.Option.{option_map}
 use Rattle.std.specs.Str.{all_ascii_digits}
@@ -50,7 +52,7 @@ standard = codes "-"
 abbrev pub sink_of : List ℕ → List ℕ
 sink_of script = if bytes_eq script standard then standard else script ++ codes ".out"
 
--- the name is the script's with `.out` behind it
+-- the name is the script's with `.out` after it
 abbrev pub is_out_of : List ℕ → List ℕ → Bool
 is_out_of name script =
     bytes_eq (take (length script) name) script
@@ -68,7 +70,7 @@ are_apart (name ∷ names) = not (list_any (clash name) names) && are_apart name
 abbrev pub most_scripts : ℕ
 most_scripts = 16
 
--- they may run together
+-- the scripts may run together
 abbrev pub are_scripts : List (List ℕ) → Bool
 are_scripts names =
     nat_lt 0 (length names) && (nat_le (length names) most_scripts && are_apart names)
@@ -99,22 +101,22 @@ number_up_to greatest word =
     then Some (digits_value 10 word)
     else None
 
--- the number of `--merge-at` that is said, or else the usual one
+-- the number of `--merge-at` that is given, or else the usual one
 abbrev pub merge_at_in : Option (List ℕ) → Option ℕ
 merge_at_in None = Some usual_merge_at
 merge_at_in (Some word) = number_up_to greatest_merge_at word
 
--- ---- the walk over the words behind the verb, from left to right
+-- ---- the walk over the words after the verb, from left to right
 
 pub data Place : Type 0 where
-  -- an option or a name may stand next
+  -- an option or a name may come next
   Anywhere : Place
   -- the number of `--merge-at`
   AtNumber : Place
   -- names alone, since `--` has ended the options
   BehindOptions : Place
 
--- what may stand next, the names so far, and the number that was said
+-- what may come next, the names so far, and the number that was given
 pub record Progress : Type 0 where
   pub place : Place
   pub names : List (List ℕ)
@@ -126,7 +128,7 @@ start = record { place = Anywhere; names = []; number = None }
 abbrev pub named : Progress → List ℕ → Progress
 named p word = record p { names = p.names ++ word ∷ [] }
 
--- the word is the number of `--merge-at`, which stands once at most
+-- the word is the number of `--merge-at`, which occurs once at most
 abbrev pub numbered : Progress → List ℕ → Option Progress
 numbered p word =
     if is_some p.number then None else Some (record p { place = Anywhere; number = Some word })
@@ -134,8 +136,8 @@ numbered p word =
 abbrev pub merge_at_is : List ℕ
 merge_at_is = codes "--merge-at="
 
--- a step where an option may stand: `--` ends the options, `--merge-at` takes the next word or its own rest, and what else is no
--- name makes no command
+-- a step where an option may come: `--` ends the options,
+-- `--merge-at` takes the next word or its own rest, and what else is no name makes no command
 abbrev pub step_anywhere : Progress → List ℕ → Option Progress
 step_anywhere p word =
     if bytes_eq word (codes "--") then Some (record p { place = BehindOptions })
@@ -179,7 +181,7 @@ abbrev pub command_from : Option Progress → Option Command
 command_from None = None
 command_from (Some p) = command_at p.place p
 
--- the one name that the words give; there is no option, and `--` may stand on either side of the name
+-- the one name that the words give; there is no option, and `--` may be on either side of the name
 abbrev pub one_name : List (List ℕ) → Option (List ℕ)
 one_name (word ∷ []) = if is_name word then Some word else None
 one_name (word ∷ other ∷ []) =
@@ -195,7 +197,7 @@ check_of words = option_map check (one_name words)
 abbrev pub load_of : List (List ℕ) → Option Command
 load_of words = option_map load (option_and_then (number_up_to greatest_load) (one_name words))
 
--- the command that the words behind the program's name are, or none
+-- the command that the words after the program's name are, or none
 abbrev pub command_of : List (List ℕ) → Option Command
 command_of [] = None
 command_of (verb ∷ words) =

@@ -1,8 +1,8 @@
-//! The words behind a verb, read by `clap`.
+//! The words after a verb, read by `clap`.
 ghost use Rattle.std.specs.Prelude.{◌≡◌, map, string_bytes, true, IfOk};
 ghost use Rattle.std.specs.Option.{option_map};
 ghost use Rattle.clap.specs.Words.{app_of, found_of, is_simple_and_free, rows_of};
-ghost use Rattle.command_line.specs.ByClap.{plain_app, run_app, name_app, told};
+ghost use Rattle.command_line.specs.ByClap.{plain_app, run_app, name_app, parsed};
 
 use clap::error::ErrorKind;
 use clap::{Arg, ArgAction, ArgMatches, Command};
@@ -17,7 +17,7 @@ pub(crate) fn run_command<'a>(alloc: Global) -> Result<Command<'a>, Memory>
         .long("merge-at")
         .action(ArgAction::Set);
     let directory = Arg::new(alloc, "DIR").required(true);
-    // An option may stand between two scripts.
+    // An option may come between two scripts.
     let script = Arg::new(alloc, "SCRIPT")
         .required(true)
         .action(ArgAction::Append);
@@ -25,7 +25,7 @@ pub(crate) fn run_command<'a>(alloc: Global) -> Result<Command<'a>, Memory>
     Ok(command.arg(merge_at)?.arg(directory)?.arg(script)?)
 }
 
-/// One name, as it stands behind `check` and behind `load`.
+/// One name, as it follows `check` and `load`.
 pub(crate) fn name_command<'a>(alloc: Global) -> Result<Command<'a>, Memory>
     ensures { IfOk result (λ command. app_of command ≡ name_app) }
 {
@@ -50,7 +50,7 @@ pub(crate) fn matches_in<'a>(
 ) -> Result<Option<ArgMatches<'a>>, Memory>
     ensures { is_simple_and_free (app_of command.entry) ≡ true → IfOk result
         (λ matches. option_map (λ m. rows_of (found_of m)) matches
-        ≡ told (app_of command.entry) (map string_bytes words.entry.now)) }
+        ≡ parsed (app_of command.entry) (map string_bytes words.entry.now)) }
 {
     match command.try_get_matches_from(words) {
         Ok(matches) => Ok(Some(matches)),

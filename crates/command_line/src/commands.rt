@@ -2,7 +2,7 @@
 ghost use Rattle.std.specs.Prelude.{◌≡◌, ◌≤◌, ◌∷◌, true, map, Some, string_bytes, IfSome, IfOk};
 ghost use Rattle.std.specs.Option.{option_map};
 ghost use Rattle.clap.specs.Words.{found_of, rows_of};
-ghost use Rattle.command_line.specs.ByClap.{run_told};
+ghost use Rattle.command_line.specs.ByClap.{run_parsed};
 ghost use Rattle.command_line.specs.Words.{load, are_scripts, merge_at_in, start, walked, command_with, command_from, one_name, load_of, command_of};
 ghost use Rattle.command_line.specs.Views.{names_in, run_by, command_by, CanRun};
 
@@ -38,7 +38,7 @@ pub enum Request<'a> {
     Load(u32),
 }
 
-/// The command that the words behind the program's name are, where they are one.
+/// The command that the words after the program's name are, where they are one.
 pub fn command_in<'a>(alloc: Global, words: &'a [String]) -> Result<Option<Request<'a>>, Memory>
     ensures asks { IfOk result
         (λ asked. option_map command_by asked ≡ command_of (map string_bytes words.now)) }
@@ -68,7 +68,7 @@ pub fn command_in<'a>(alloc: Global, words: &'a [String]) -> Result<Option<Reque
     }
 }
 
-/// How many numbers the words behind `load` ask for.
+/// How many numbers the words after `load` ask for.
 fn count_in(alloc: Global, words: &[String]) -> Result<Option<u32>, Memory>
     ensures { IfOk result
         (λ count. option_map load count ≡ load_of (map string_bytes words.now)) }
@@ -79,7 +79,7 @@ fn count_in(alloc: Global, words: &[String]) -> Result<Option<u32>, Memory>
     }
 }
 
-/// The one name that the words behind the verb are.
+/// The one name that the words after the verb are.
 fn name_in<'a>(alloc: Global, words: &'a [String]) -> Result<Option<&'a str>, Memory>
     ensures { IfOk result (λ name. option_map (λ s. s.now) name
         ≡ one_name (map string_bytes words.now)) }
@@ -90,7 +90,7 @@ fn name_in<'a>(alloc: Global, words: &'a [String]) -> Result<Option<&'a str>, Me
     }
 }
 
-/// The run that the words behind the verb ask for.
+/// The run that the words after the verb ask for.
 fn run_in<'a>(alloc: Global, words: &'a [String]) -> Result<Option<Run<'a>>, Memory>
     ensures run { IfOk result (λ run. option_map run_by run
         ≡ command_from (walked (Some start) (map string_bytes words.now))) }
@@ -107,7 +107,7 @@ fn run_in<'a>(alloc: Global, words: &'a [String]) -> Result<Option<Run<'a>>, Mem
 /// The run that the matches ask for.
 fn run_of<'a>(alloc: Global, matches: &ArgMatches<'a>) -> Result<Option<Run<'a>>, Memory>
     ensures run { IfOk result (λ run. option_map run_by run
-        ≡ run_told (rows_of (found_of matches.now))) }
+        ≡ run_parsed (rows_of (found_of matches.now))) }
     ensures scripts { IfOk result (λ run. IfSome run
         (λ run. are_scripts (names_in run.scripts.items) ≡ true)) }
     ensures merge_at { IfOk result (λ run. IfSome run (λ run. 1 ≤ run.options.merge_at)) }

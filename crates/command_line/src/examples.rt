@@ -2,7 +2,7 @@
 ghost use Rattle.std.specs.Prelude.{◌≡◌, [], ◌∷◌, Some, None, codes};
 ghost use Rattle.command_line.specs.Words.{run, check, load, command_of, sink_of};
 
-/// A name or more behind `run` and a directory is a command.
+/// A name or more after `run` and a directory is a command.
 pub fn words()
     ensures standard_input { command_of (codes "run" ∷ codes ":memory:" ∷ codes "-" ∷ [])
         ≡ Some (run (record { merge_at = 65536 }) (codes ":memory:") (codes "-" ∷ [])) }
@@ -41,7 +41,7 @@ pub fn loads()
     ensures none { command_of (codes "load" ∷ []) ≡ None }
 {}
 
-/// Options stand anywhere in front of `--`, and `--merge-at` once at most.
+/// Options may be anywhere in front of `--`, and `--merge-at` once at most.
 pub fn options()
     ensures next_word { command_of
         (codes "run" ∷ codes ":memory:" ∷ codes "--merge-at" ∷ codes "8" ∷ codes "a" ∷ [])

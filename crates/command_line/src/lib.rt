@@ -1,4 +1,4 @@
-//! The words of the program's command line, and how they are read. The program itself stands on this crate alone for them.
+//! The words of the program's command line, and how they are read. For them the program depends on this crate alone.
 #![tactic(auto)]
 
 mod by_clap;

@@ -3,14 +3,14 @@ ghost use Rattle.std.specs.Prelude.{◌≡◌, ◌≤◌, IfSome};
 ghost use Rattle.std.specs.Option.{option_map};
 ghost use Rattle.command_line.specs.Words.{begins_above_zero, number_up_to, greatest_load, merge_at_in};
 
-/// The number of `--merge-at` where none is said.
+/// The number of `--merge-at` where none is given.
 const USUAL_MERGE_AT: u64 = 65_536;
 
 const GREATEST_MERGE_AT: u64 = 1_000_000;
 
 const GREATEST_LOAD: u64 = 5_000;
 
-/// The number of `--merge-at` that is said, or else the usual one.
+/// The number of `--merge-at` that is given, or else the usual one.
 pub(crate) fn merge_at_in(word: Option<&str>) -> Option<u64>
     ensures is { result ≡ merge_at_in (option_map (λ s. s.now) word.entry) }
     ensures positive { IfSome result (λ n. 1 ≤ n) }

@@ -43,7 +43,7 @@ fn clash(one: &str, other: &str) -> bool
     one == other || is_out_of(one, other) || is_out_of(other, one)
 }
 
-/// Whether the name is the script's with `.out` behind it.
+/// Whether the name is the script's with `.out` after it.
 fn is_out_of(name: &str, script: &str) -> bool
     ensures { result ≡ is_out_of name.now script.now }
 {

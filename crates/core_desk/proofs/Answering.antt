@@ -12,7 +12,8 @@ use Rattle.fb_desk.specs.declared.answers.Receipt.{Receipt}
 use Rattle.fb_desk.specs.Desks.{State, GoesOn, IsReceipt}
 
 -- nothing was recorded
-pub goes_on-still : (old new : State) → new.entries ≡ old.entries → new.opening ≡ old.opening → old.stop ≡ None → new.seat ≡ old.seat → old.left ≤ new.left + 1 → GoesOn old new
+pub goes_on-still : (old new : State) → new.entries ≡ old.entries → new.opening ≡ old.opening → old.stop ≡ None → new.seat ≡ old.seat
+    → old.left ≤ new.left + 1 → GoesOn old new
 goes_on-still old new entries opening untold seat left =
     record {
       went_on = record {
@@ -30,7 +31,8 @@ goes_on-still old new entries opening untold seat left =
 pub receipt_is : (may : ℤ → Type 0) (guard : Guard) (asked : Form) (old new : State) (receipt : Receipt) (draft : Draft) (reading : ℤ)
     → may reading → step old.entries asked reading guard ≡ accepted (entry_of draft) draft.tempids.items
     → new.entries ≡ old.entries ++ entry_of draft ∷ [] → new.commits ≡ old.commits ++ receipt.t ∷ [] → new.tally ≡ old.tally
-    → old.stop ≡ None → receipt.t ≡ basis new.entries → receipt.instant ≡ (entry_of draft).instant → receipt.tempids.items ≡ draft.tempids.items → receipt.snapshot.entries ≡ new.entries
+    → old.stop ≡ None → receipt.t ≡ basis new.entries → receipt.instant ≡ (entry_of draft).instant
+    → receipt.tempids.items ≡ draft.tempids.items → receipt.snapshot.entries ≡ new.entries
     → IsReceipt may guard asked old new receipt
 receipt_is may guard asked old new receipt draft reading may_be step_is entries commits tally untold t instant tempids snapshot =
     record {
@@ -39,7 +41,10 @@ receipt_is may guard asked old new receipt draft reading may_be step_is entries 
       reading = reading;
       may_be = may_be;
       entry = entry_of draft;
-      step_is = ap (λ (h : List Entry). step h asked reading guard) (append-nil old.entries) ∙ step_is ∙ ap (accepted (entry_of draft)) (sym tempids);
+      step_is =
+          ap (λ (h : List Entry). step h asked reading guard) (append-nil old.entries)
+          ∙ step_is
+          ∙ ap (accepted (entry_of draft)) (sym tempids);
       entries = entries ∙ ap (λ (h : List Entry). h ++ entry_of draft ∷ []) (sym (append-nil old.entries));
       t = t;
       instant = instant;

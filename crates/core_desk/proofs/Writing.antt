@@ -14,21 +14,25 @@ use Rattle.core_desk.specs.Alone.{opening_of, IsAlone}
 abbrev pub with_draft : Draft → CoreParts
 with_draft draft = record { snapshot = draft.after; authors = draft.authors }
 
-by_session-push : (authors : List ℕ) → AllByRecursion (λ author. author ≡ 0) authors → AllByRecursion (λ author. author ≡ 0) (authors ++ 0 ∷ [])
+by_session-push : (authors : List ℕ) → AllByRecursion (λ author. author ≡ 0) authors
+    → AllByRecursion (λ author. author ≡ 0) (authors ++ 0 ∷ [])
 by_session-push [] all = (refl, tt)
 by_session-push (author ∷ authors) all = (all.0, by_session-push authors all.1)
 
-pub opening_stays : (core : CoreParts) (draft : Draft) → basis draft.after.entries ≡ basis core.snapshot.entries + 1 → IsDraftOf core 0 draft → opening_of (with_draft draft) ≡ opening_of core
+pub opening_stays : (core : CoreParts) (draft : Draft) → basis draft.after.entries ≡ basis core.snapshot.entries + 1
+    → IsDraftOf core 0 draft → opening_of (with_draft draft) ≡ opening_of core
 opening_stays core draft last is =
     let count : length draft.authors ≡ length core.authors + 1 = ap length is.authors ∙ length-append core.authors (0 ∷ []) in
     omega (arith, last, count)
 
-pub one_more : (core : CoreParts) (draft : Draft) (commits : List ℕ) → CoreStands core → basis draft.after.entries ≡ basis core.snapshot.entries + 1 → IsDraftOf core 0 draft → IsAlone core commits
+pub one_more : (core : CoreParts) (draft : Draft) (commits : List ℕ) → CoreStands (with_draft draft)
+    → basis draft.after.entries ≡ basis core.snapshot.entries + 1 → IsDraftOf core 0 draft → IsAlone core commits
     → IsAlone (with_draft draft) (commits ++ basis draft.after.entries ∷ [])
 one_more core draft commits stands last is alone =
     let opening = opening_of core in
     let fits = stands.authors in
-    let next : opening + length core.authors + 1 ≡ basis draft.after.entries = omega (arith, last, fits) in
+    let count : length draft.authors ≡ length core.authors + 1 = ap length is.authors ∙ length-append core.authors (0 ∷ []) in
+    let next : opening + length core.authors + 1 ≡ basis draft.after.entries = omega (arith, last, fits, count) in
     record {
       by_session = subst (AllByRecursion (λ author. author ≡ 0)) (sym is.authors) (by_session-push core.authors alone.by_session);
       commits_are =

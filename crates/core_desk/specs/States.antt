@@ -5,7 +5,8 @@ use Rattle.fb_desk.specs.Desks.{State, most_calls}
 use Rattle.core_desk.specs.declared.alone.CoreDesk.{CoreDesk}
 use Rattle.core_desk.specs.Alone.{opening_of}
 
--- it sees the core's latest value, and is never told of a log that stopped; it is the only one
+-- the desk sees the core's latest value,
+-- and is never notified of a log that stopped; it is the only one
 abbrev pub state_of : CoreDesk → State
 state_of desk = record {
   entries = desk.core.snapshot.entries;

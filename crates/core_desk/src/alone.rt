@@ -66,7 +66,7 @@ impl CoreDesk {
             ≡ commits_behind (state_of self).opening 0 result.authors }
         ensures stands { CoreStands result }
     {
-        // A core that is asked tells that it stands for its history.
+        // This call brings into the proof that the core represents its history.
         let _basis = self.core.basis();
         self.core
     }

@@ -46,12 +46,10 @@ impl CoreDesk {
         ensures tempids { result.tempids.items ≡ draft.tempids.items }
         ensures snapshot { result.snapshot.entries ≡ (state_of self.new).entries }
     {
-        // A core that is asked tells that it stands for its history.
-        let _basis = self.core.basis();
-        let t = snapshot.basis();
         let instant = draft.entry().instant;
         let tempids = draft.take_tempids();
         self.core.accept(draft);
+        let t = self.core.basis();
         self.commits.push_reserved(t);
         self.counts.calls += 1;
         Receipt {

@@ -1,18 +1,18 @@
 -- What a log keeps as it is opened, with one entry more, and after a failure.
 use Rattle.std.proofs.Common.{◌≡◌, ◌≤◌, ℕ, List, [], ◌∷◌, ◌++◌, length, Option, None, Result, Err, refl, sym, ◌∙◌, ap, subst, arith}
-use Rattle.fb_calls.specs.Faults.{Rose}
+use Rattle.io_faults.specs.Faults.{Rose}
 use Rattle.fb_values.specs.declared.facts.Entry.{Entry}
 use Rattle.fb_model.specs.History.{basis}
 use Rattle.fb_model.specs.Lawful.{IsLawfulAfter}
 use Rattle.fb_model.proofs.OneMoreEntry.{basis-push}
 use Rattle.fb_model.proofs.Times.{next_t}
-use Rattle.disk_model.specs.Disk.{WhereTold, LeavesOnly}
+use Rattle.disk_model.specs.Disk.{IfKnown, LeavesOnly}
 use Rattle.disk_model.specs.Journal.{log_mark, JournalStands}
 use Rattle.disk_model.proofs.Journals.{stands-holds}
 use Rattle.disk_model.proofs.Moments.{started}
 use Rattle.log_model.specs.Storable.{IsPayloadOf}
 use Rattle.log_model.specs.Log.{LogStands, IsLogOf}
-use Rattle.fb_journal.specs.Journals.{disk_of, mark_of, stop_of, Keeps, StaysTold, IsBeforeOrAfter}
+use Rattle.fb_journal.specs.Journals.{disk_of, mark_of, stop_of, Keeps, StaysKnown, IsBeforeOrAfter}
 use Rattle.fb_journal.specs.declared.journals.Journal.{Journal}
 use Rattle.fb_journal.specs.declared.journals.JournalFault.{JournalFault}
 use Rattle.fb_journal.specs.declared.journals.JournalFault.TheVariants.{Disk, Stopped}
@@ -25,7 +25,7 @@ use Rattle.disk_log.proofs.Histories.{stands-push, stands-count, whole-from, bef
 pub left-of : {D : Type 0} {g : _} (bytes : D → Option (List ℕ)) (images : D → List ℕ → Type 0) (records : List (List ℕ)) (h : List Entry)
     (j : Journal D g)
     → Keeps bytes images records j → mark_of j ≡ log_mark → LogStands records h
-    → WhereTold (bytes (disk_of j)) (λ _. (image : List ℕ) → images (disk_of j) image → IsLogOf image h)
+    → IfKnown (bytes (disk_of j)) (λ _. (image : List ℕ) → images (disk_of j) image → IsLogOf image h)
 left-of bytes images records h j keeps mark stands = λ file told image left.
     let kept = keeps.file file told in
     let here : JournalStands log_mark records file = subst (λ (m : List ℕ). JournalStands m records file) mark
@@ -54,7 +54,7 @@ keeps-opened bytes images faults moment since only_now records h log keeps mark 
       opening = within;
       disk = record {
         unfailed = refl;
-        told = λ file told. (file, told);
+        known = λ file told. (file, told);
         left = left;
         any_moment = λ file told.
             started moment since (disk_in log) (IsLogFrom (count_in log) h)
@@ -71,9 +71,9 @@ module _ {D : Type 0} (bytes : D → Option (List ℕ)) (images : D → List ℕ
   pub keeps-added : {g : _} (begun old new : DiskLog D g)
       → ((records : List (List ℕ)) → Keeps bytes images records old.journal → Keeps bytes images (records ++ payload ∷ []) new.journal)
       → ((records : List (List ℕ)) → Keeps bytes images records old.journal
-      → WhereTold (bytes (disk_in old))
+      → IfKnown (bytes (disk_in old))
       (λ _. LeavesOnly moment since (disk_in old) (disk_in new) (IsBeforeOrAfter (mark_of old.journal) records payload)))
-      → StaysTold (bytes (disk_in old)) (bytes (disk_in new)) → mark_of new.journal ≡ mark_of old.journal
+      → StaysKnown (bytes (disk_in old)) (bytes (disk_in new)) → mark_of new.journal ≡ mark_of old.journal
       → faults (disk_in new) ≡ faults (disk_in old)
       → KeepsHistory bytes images faults moment since begun h old
       → KeepsHistory bytes images faults moment since begun (h ++ entry ∷ []) new
@@ -89,12 +89,12 @@ module _ {D : Type 0} (bytes : D → Option (List ℕ)) (images : D → List ℕ
         opening = omega (arith, keeps.opening, basis-push h entry, next_t h entry next);
         disk = record {
           unfailed = counted ∙ keeps.disk.unfailed;
-          told = λ file was. let mid = keeps.disk.told file was in told mid.0 mid.1;
+          known = λ file was. let mid = keeps.disk.known file was in told mid.0 mid.1;
           left = λ file was.
-              let mid = keeps.disk.told file was in let now = told mid.0 mid.1 in
+              let mid = keeps.disk.known file was in let now = told mid.0 mid.1 in
               left-of bytes images (records ++ payload ∷ []) (h ++ entry ∷ []) new.journal journal mark stands now.0 now.1;
           any_moment = λ file was.
-              let mid = keeps.disk.told file was in
+              let mid = keeps.disk.known file was in
               run-added moment since (disk_in begun) (disk_in old) (disk_in new) (count_in begun) records h entry payload
               (mark_of old.journal) keeps.stands next is keeps.mark keeps.opening
               (keeps.disk.any_moment file was) (any_moment records keeps.journal mid.0 mid.1);
@@ -104,7 +104,7 @@ module _ {D : Type 0} (bytes : D → Option (List ℕ)) (images : D → List ℕ
   pub broke-added : {g : _} (begun old new : DiskLog D g)
       → ((disk : D) (t : ℕ) (image : List ℕ) → t ≤ moment disk → images disk image → since disk t image)
       → ((records : List (List ℕ)) → Keeps bytes images records old.journal
-      → WhereTold (bytes (disk_in old))
+      → IfKnown (bytes (disk_in old))
       (λ _. LeavesOnly moment since (disk_in old) (disk_in new) (IsBeforeOrAfter (mark_of old.journal) records payload)))
       → (stop_of old.journal ≡ None → Rose (faults (disk_in old)) (faults (disk_in new)))
       → KeepsHistory bytes images faults moment since begun h old → BrokeAt bytes images faults moment since begun h entry new
@@ -112,11 +112,11 @@ module _ {D : Type 0} (bytes : D → Option (List ℕ)) (images : D → List ℕ
       let records : List (List ℕ) = keeps.records in record {
         failed = subst (λ (n : ℕ). Rose n (faults (disk_in new))) keeps.disk.unfailed (rose keeps.journal.goes_on);
         left = λ file was image here.
-            let mid = keeps.disk.told file was in let run = any_moment records keeps.journal mid.0 mid.1 in
+            let mid = keeps.disk.known file was in let run = any_moment records keeps.journal mid.0 mid.1 in
             before-or-after records h entry payload image (mark_of old.journal) keeps.stands next is keeps.mark
             (run.each image (counts_now (disk_in new) (moment (disk_in old)) image run.later here));
         any_moment = λ file was.
-            let mid = keeps.disk.told file was in
+            let mid = keeps.disk.known file was in
             run-added moment since (disk_in begun) (disk_in old) (disk_in new) (count_in begun) records h entry payload
             (mark_of old.journal) keeps.stands next is keeps.mark keeps.opening
             (keeps.disk.any_moment file was) (any_moment records keeps.journal mid.0 mid.1);

@@ -16,7 +16,8 @@ disk_in log = disk_of log.journal
 abbrev pub count_in : {D : Type 0} {g : _} → DiskLog D g → ℕ
 count_in log = count_of log.journal
 
--- The log goes on, and its records stand for this history, which has all that it had at the opening.
+-- The log goes on, and its records stand for this history,
+-- which has all that it had at the opening.
 pub record KeepsHistory {D : Type 0} {g : _} (bytes : D → Option (List ℕ))
     (images : D → List ℕ → Type 0) (faults moment : D → ℕ) (since : D → ℕ → List ℕ → Type 0)
     (begun : DiskLog D g) (h : List Entry) (now : DiskLog D g) : Type 0 where
@@ -28,7 +29,7 @@ pub record KeepsHistory {D : Type 0} {g : _} (bytes : D → Option (List ℕ))
   pub disk : HasKept bytes images faults moment since (count_in begun) (disk_in begun) h
       (disk_in now)
 
--- it kept this history until it failed at this entry
+-- the log kept this history until it failed at this entry
 abbrev pub BrokeAt : {D : Type 0} {g : _} → (D → Option (List ℕ)) → (D → List ℕ → Type 0)
     → (D → ℕ) → (D → ℕ) → (D → ℕ → List ℕ → Type 0)
     → DiskLog D g → List Entry → Entry → DiskLog D g → Type 0

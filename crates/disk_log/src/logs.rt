@@ -7,13 +7,13 @@ ghost use Rattle.log_model.specs.Storable.{IsPayloadOf};
 ghost use Rattle.fb_journal.specs.Journals.{disk_of, mark_of, Keeps};
 ghost use Rattle.disk_log.specs.Disks.{HasKept, HasBroken};
 
-use fb_calls::Failed;
 use fb_codec::entry_bytes;
 use fb_disk::Disk;
 use fb_journal::{Framed, Journal, frame};
 use fb_log::Log;
 use fb_memory::Memory;
 use fb_values::Entry;
+use io_faults::Failed;
 use log_model::entries_of_lawful_histories_are_storable;
 use std::alloc::Global;
 
@@ -26,7 +26,7 @@ pub struct DiskLog<D: Disk> {
 impl<D: Disk> DiskLog<D> {
     ghost use Rattle.disk_log.specs.Logs.{disk_in, count_in, KeepsHistory, BrokeAt};
 
-    /// The log that goes on behind the records of a journal.
+    /// The log that goes on after the records of a journal.
     pub fn of(journal: Journal<D>) -> DiskLog<D>
         requires { mark_of journal ≡ log_mark }
         ensures disk { disk_in result ≡ disk_of journal }

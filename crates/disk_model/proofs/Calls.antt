@@ -1,5 +1,6 @@
 -- What a write and a cut make of a file is among what a crash may make of it.
-use Rattle.std.proofs.Common.{inl, inr, ◌≡◌, ◌+◌, ◌-◌, ◌≤◌, ℕ, List, ◌++◌, length, take, drop, replicate, min, max, refl, sym, ◌∙◌, ap, arith, append_assoc, length-append, length-drop}
+use Rattle.std.proofs.Common.{inl, inr, ◌≡◌, ◌+◌, ◌-◌, ◌≤◌, ℕ, List, ◌++◌, length, take, drop, replicate, min, max, refl, sym, ◌∙◌, ap}
+use Rattle.std.proofs.Common.{arith, append_assoc, length-append, length-drop}
 use Rattle.std.proofs.lemmas.List.{append-nil, take_at, drop_at, take_all, take-take, length-take, length-replicate}
 use Rattle.std.proofs.lemmas.Bool.{cases_lt}
 use Rattle.disk_model.specs.Disk.{written, Torn, TornCut}
@@ -7,22 +8,35 @@ use Rattle.disk_model.specs.Disk.{written, Torn, TornCut}
 module _ (at : ℕ) (piece file : List ℕ) where
   length-front : length (take at file ++ replicate (at - length file) 0) ≡ at
   length-front =
-      omega (arith, length-append (take at file) (replicate (at - length file) 0), length-take at file, length-replicate {A = ℕ} (at - length file) 0)
+      omega (
+        arith,
+        length-append (take at file) (replicate (at - length file) 0),
+        length-take at file,
+        length-replicate {A = ℕ} (at - length file) 0,
+      )
 
   length-through : length (take at file ++ replicate (at - length file) 0 ++ piece) ≡ at + length piece
   length-through = omega (arith, length-front, length-append (take at file ++ replicate (at - length file) 0) piece)
 
   pub length-written : length (written at piece file) ≡ max (length file) (at + length piece)
   length-written =
-      omega (arith, length-through, length-append (take at file ++ replicate (at - length file) 0 ++ piece) (drop (at + length piece) file), length-drop (at + length piece) file)
+      omega (
+        arith,
+        length-through,
+        length-append (take at file ++ replicate (at - length file) 0 ++ piece) (drop (at + length piece) file),
+        length-drop (at + length piece) file,
+      )
 
   split : written at piece file ≡ take at file ++ (replicate (at - length file) 0 ++ (piece ++ drop (at + length piece) file))
   split = simp append_assoc
 
   pub torn-written : Torn at (length piece) file (written at piece file)
   torn-written = record {
-    before = ap (λ (l : List ℕ). take (min at (length file)) l) split ∙ take_at (take at file) _ (min at (length file)) (length-take at file);
-    behind = drop_at (take at file ++ replicate (at - length file) 0 ++ piece) (drop (at + length piece) file) (at + length piece) length-through;
+    before =
+        ap (λ (l : List ℕ). take (min at (length file)) l) split ∙ take_at (take at file) _ (min at (length file)) (length-take at file);
+    behind =
+        drop_at (take at file ++ replicate (at - length file) 0 ++ piece) (drop (at + length piece) file)
+        (at + length piece) length-through;
     no_shorter = omega (arith, length-written);
     no_longer = omega (arith, length-written);
   }

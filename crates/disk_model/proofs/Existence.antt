@@ -1,5 +1,7 @@
 -- Every file of bytes has a reading.
-use Rattle.std.proofs.Common.{Bool, true, false, inl, inr, ⊎_elim, ◌⊎◌, ◌≡◌, ◌≢◌, ◌+◌, ◌≤◌, ◌<◌, ◌^◌, ℕ, zero, suc, List, [], ◌∷◌, ◌++◌, length, get_or, take, drop, All, refl, sym, ◌∙◌, ap, subst, arith, append_assoc, length-take, length-drop, take-append-drop}
+use Rattle.std.proofs.Common.{Bool, true, false, inl, inr, ⊎_elim, ◌⊎◌, ◌≡◌, ◌≢◌, ◌+◌, ◌≤◌, ◌<◌, ◌^◌, ℕ, zero, suc, List, [], ◌∷◌, ◌++◌}
+use Rattle.std.proofs.Common.{length, get_or, take, drop, All, refl, sym, ◌∙◌, ap, subst, arith, append_assoc, length-take, length-drop}
+use Rattle.std.proofs.Common.{take-append-drop}
 use Rattle.std.proofs.lemmas.Bool.{cases_eq, cases_lt}
 use Rattle.std.proofs.lemmas.List.{get_or-take, get_or_past}
 use Rattle.std.proofs.lemmas.List.Elements.{All-drop, All-get_or}
@@ -32,7 +34,8 @@ small bytes n within are i = elim (cases_lt i n) [
 ]
 
 -- a whole record behind an open gate
-module _ (rest : List ℕ) (n : ℕ) (is : n ≡ from_be_bytes w64 (take 8 rest)) (room : 8 + n + 1 ≤ length rest) (fits : n < 2 ^ 64) (are : AreBytes rest) where
+module _ (rest : List ℕ) (n : ℕ) (is : n ≡ from_be_bytes w64 (take 8 rest)) (room : 8 + n + 1 ≤ length rest) (fits : n < 2 ^ 64)
+    (are : AreBytes rest) where
   abbrev payload : List ℕ
   payload = take n (drop 8 rest)
 
@@ -43,7 +46,8 @@ module _ (rest : List ℕ) (n : ℕ) (is : n ≡ from_be_bytes w64 (take 8 rest)
   front =
       take-add 8 n rest
       ∙ ap (λ (l : List ℕ). l ++ take n (drop 8 rest))
-      (sym (be_bytes_8 (take 8 rest) (length payload) (omega (arith, room, length-take 8 rest)) (small rest 8 (omega (arith, room)) are) (length-payload ∙ is)))
+      (sym (be_bytes_8 (take 8 rest) (length payload) (omega (arith, room, length-take 8 rest)) (small rest 8 (omega (arith, room)) are)
+      (length-payload ∙ is)))
 
   more : Walked (drop (8 + n) rest) → Walked (1 ∷ rest)
   more walked = record {
@@ -51,14 +55,25 @@ module _ (rest : List ℕ) (n : ℕ) (is : n ≡ from_be_bytes w64 (take 8 rest)
     lengths = (omega (arith, length-payload, fits), walked.lengths);
     behind = walked.behind;
     bytes =
-        ap (λ (l : List ℕ). 1 ∷ l) (sym (take-append-drop (8 + n) rest) ∙ ap (λ (l : List ℕ). l ++ drop (8 + n) rest) front ∙ ap (λ (l : List ℕ). framed payload ++ l) walked.bytes)
+        ap (λ (l : List ℕ). 1 ∷ l) (sym (take-append-drop (8 + n) rest) ∙ ap (λ (l : List ℕ). l ++ drop (8 + n) rest) front
+        ∙ ap (λ (l : List ℕ). framed payload ++ l) walked.bytes)
         ∙ sym (append_assoc (1 ∷ framed payload) (opened walked.records) walked.behind);
     ends = walked.ends;
   }
 
 length_fits : (rest : List ℕ) → 8 ≤ length rest → AreBytes rest → from_be_bytes w64 (take 8 rest) < 2 ^ 64
 length_fits rest long are =
-    omega (arith, small rest 8 long are 0, small rest 8 long are 1, small rest 8 long are 2, small rest 8 long are 3, small rest 8 long are 4, small rest 8 long are 5, small rest 8 long are 6, small rest 8 long are 7)
+    omega (
+      arith,
+      small rest 8 long are 0,
+      small rest 8 long are 1,
+      small rest 8 long are 2,
+      small rest 8 long are 3,
+      small rest 8 long are 4,
+      small rest 8 long are 5,
+      small rest 8 long are 6,
+      small rest 8 long are 7,
+    )
 
 cut_short : (rest : List ℕ) → IsCutShort rest → Walked (1 ∷ rest)
 cut_short rest short = record { records = []; lengths = tt; behind = 1 ∷ rest; bytes = refl; ends = inr (rest, refl, short) }
@@ -76,19 +91,23 @@ walked (suc fuel) (gate ∷ rest) short some are = elim (cases_eq gate 1) [
         | inr long ↦ elim (cases_lt (length rest) (8 + n + 1)) [
           | inl no_room ↦ cut_short rest (inr no_room)
           | inr room ↦ more rest n refl room (length_fits rest long here) here
-              (walked fuel (drop (8 + n) rest) (omega (arith, short, length-drop (8 + n) rest)) (omega (arith, room, length-drop (8 + n) rest)) (All-drop (λ byte. byte < 256) (8 + n) rest here))
+              (walked fuel (drop (8 + n) rest) (omega (arith, short, length-drop (8 + n) rest))
+              (omega (arith, room, length-drop (8 + n) rest)) (All-drop (λ byte. byte < 256) (8 + n) rest here))
         ]
       ])
 ]
 
 -- what a file stands for, or its first fault
 abbrev pub Reading : List ℕ → List ℕ → Type 0
-Reading mark file = (records : List (List ℕ)) × (JournalStands mark records file ⊎ ((nth : ℕ) × (at : ℕ) × JournalBreaks mark records file nth at))
+Reading mark file =
+    (records : List (List ℕ)) × (JournalStands mark records file ⊎ ((nth : ℕ) × (at : ℕ) × JournalBreaks mark records file nth at))
 
 -- a file that is longer than a new journal and begins with the mark
-from_walk : (mark file : List ℕ) → 16 < length file → file ≡ mark ++ drop (length mark) file → Walked (drop (length mark) file) → Reading mark file
+from_walk : (mark file : List ℕ) → 16 < length file → file ≡ mark ++ drop (length mark) file → Walked (drop (length mark) file)
+    → Reading mark file
 from_walk mark file longer marked walk =
-    let whole : file ≡ mark ++ opened walk.records ++ walk.behind = marked ∙ ap (λ (l : List ℕ). mark ++ l) walk.bytes ∙ sym (append_assoc mark (opened walk.records) walk.behind) in (
+    let whole : file ≡ mark ++ opened walk.records ++ walk.behind =
+    marked ∙ ap (λ (l : List ℕ). mark ++ l) walk.bytes ∙ sym (append_assoc mark (opened walk.records) walk.behind) in (
       walk.records,
       ⊎_elim
           (λ closed. inl (inr (
@@ -121,15 +140,20 @@ from_walk mark file longer marked walk =
 
 begins : (mark file : List ℕ) → bytes_eq (take (length mark) file) mark ≡ true → file ≡ mark ++ drop (length mark) file
 begins mark file same =
-    sym (take-append-drop (length mark) file) ∙ ap (λ (l : List ℕ). l ++ drop (length mark) file) ((bytes_eq-Decides (take (length mark) file) mark).0 same)
+    sym (take-append-drop (length mark) file)
+    ∙ ap (λ (l : List ℕ). l ++ drop (length mark) file) ((bytes_eq-Decides (take (length mark) file) mark).0 same)
 
-marked : (mark file : List ℕ) (same : Bool) → bytes_eq (take (length mark) file) mark ≡ same → length mark ≡ 15 → 16 < length file → AreBytes file → Reading mark file
+marked : (mark file : List ℕ) (same : Bool) → bytes_eq (take (length mark) file) mark ≡ same → length mark ≡ 15 → 16 < length file
+    → AreBytes file → Reading mark file
 marked mark file true is fifteen longer are =
     from_walk mark file longer (begins mark file is)
-    (walked (length file) (drop (length mark) file) (omega (arith, length-drop (length mark) file)) (omega (arith, fifteen, longer, length-drop (length mark) file))
+    (walked (length file) (drop (length mark) file) (omega (arith, length-drop (length mark) file))
+    (omega (arith, fifteen, longer, length-drop (length mark) file))
     (All-drop (λ byte. byte < 256) (length mark) file are))
 marked mark file false is fifteen longer are =
-    let differs : take (length mark) file ≢ mark = λ same. let yes : bytes_eq (take (length mark) file) mark ≡ true = (bytes_eq-Decides (take (length mark) file) mark).1 same in absurd (cc) in
+    let differs : take (length mark) file ≢ mark =
+    λ same. let yes : bytes_eq (take (length mark) file) mark ≡ true = (bytes_eq-Decides (take (length mark) file) mark).1 same in
+    absurd (cc) in
     ([], inr (0, 0, (longer, inl (differs, refl, refl, refl))))
 
 pub some-reading : (mark file : List ℕ) → length mark ≡ 15 → All (λ byte. byte < 256) file → Reading mark file

@@ -1,5 +1,6 @@
 -- What a journal's file stands for while a record is appended.
-use Rattle.std.proofs.Common.{inl, inr, ◌≡◌, ◌⊎◌, ◌+◌, ◌≤◌, ◌<◌, ◌^◌, ℕ, List, [], ◌∷◌, ◌++◌, length, get_or, take, drop, min, refl, sym, ◌∙◌, ap, subst, arith, append_assoc, length-append, take-append-drop}
+use Rattle.std.proofs.Common.{inl, inr, ◌≡◌, ◌⊎◌, ◌+◌, ◌≤◌, ◌<◌, ◌^◌, ℕ, List, [], ◌∷◌, ◌++◌, length, get_or, take, drop, min, refl, sym}
+use Rattle.std.proofs.Common.{◌∙◌, ap, subst, arith, append_assoc, length-append, take-append-drop}
 use Rattle.std.proofs.lemmas.List.{append-nil, take_at, drop_at, drop_more}
 use Rattle.std.proofs.lemmas.Bool.{cases_eq, cases_lt}
 use Rattle.std.proofs.Math.Seq.{drop-append-add}
@@ -9,9 +10,12 @@ use Rattle.disk_model.proofs.Calls.{written-within}
 
 pub opened-push : (records : List (List ℕ)) (payload : List ℕ) → opened (records ++ payload ∷ []) ≡ opened records ++ 1 ∷ framed payload
 opened-push [] payload = ap (λ (l : List ℕ). 1 ∷ l) (append-nil (framed payload))
-opened-push (p ∷ records) payload = ap (λ (l : List ℕ). 1 ∷ l) (ap (λ (l : List ℕ). framed p ++ l) (opened-push records payload) ∙ sym (append_assoc (framed p) (opened records) (1 ∷ framed payload)))
+opened-push (p ∷ records) payload =
+    ap (λ (l : List ℕ). 1 ∷ l)
+    (ap (λ (l : List ℕ). framed p ++ l) (opened-push records payload) ∙ sym (append_assoc (framed p) (opened records) (1 ∷ framed payload)))
 
-pub lengths-push : (records : List (List ℕ)) (payload : List ℕ) → HaveLengths records → length payload < 2 ^ 64 → HaveLengths (records ++ payload ∷ [])
+pub lengths-push : (records : List (List ℕ)) (payload : List ℕ) → HaveLengths records → length payload < 2 ^ 64
+    → HaveLengths (records ++ payload ∷ [])
 lengths-push [] payload have fits = (fits, tt)
 lengths-push (p ∷ records) payload have fits = (have.0, lengths-push records payload have.1 fits)
 
@@ -50,7 +54,10 @@ module _ (mark : List ℕ) (records : List (List ℕ)) (file : List ℕ) (holds 
   holds-same image same = record {
     gate = holds.gate;
     rest = drop end image;
-    bytes = sym (take-append-drop end image) ∙ ap (λ (l : List ℕ). l ++ drop end image) (same ∙ take-end) ∙ append_assoc (mark ++ opened records) (holds.gate ∷ []) (drop end image);
+    bytes =
+        sym (take-append-drop end image)
+        ∙ ap (λ (l : List ℕ). l ++ drop end image) (same ∙ take-end)
+        ∙ append_assoc (mark ++ opened records) (holds.gate ∷ []) (drop end image);
     closed = holds.closed;
     lengths = holds.lengths;
   }
@@ -66,7 +73,8 @@ module _ (mark : List ℕ) (records : List (List ℕ)) (file : List ℕ) (holds 
     written_behind =
         let n = length (record_of payload) in
         let past : drop (end + n) file ≡ drop n holds.rest =
-        ap (λ (l : List ℕ). drop (end + n) l) through ∙ ap (λ (k : ℕ). drop (k + n) ((mark ++ opened records ++ holds.gate ∷ []) ++ holds.rest)) (sym length-through)
+        ap (λ (l : List ℕ). drop (end + n) l) through
+        ∙ ap (λ (k : ℕ). drop (k + n) ((mark ++ opened records ++ holds.gate ∷ []) ++ holds.rest)) (sym length-through)
         ∙ drop-append-add (mark ++ opened records ++ holds.gate ∷ []) holds.rest n in
         written-within end (record_of payload) file (omega (arith, length-file))
         ∙ ap (λ (l : List ℕ). l ++ record_of payload ++ drop (end + n) file) take-end
@@ -80,9 +88,11 @@ pub holds-appended : (mark : List ℕ) (records : List (List ℕ)) (payload rest
 holds-appended mark records payload rest lengths fits = record {
   gate = 0;
   rest = drop (length (record_of payload)) rest;
-  bytes = ap (λ (l : List ℕ). mark ++ opened records ++ 1 ∷ l) (append_assoc (framed payload) (0 ∷ []) (drop (length (record_of payload)) rest))
+  bytes =
+      ap (λ (l : List ℕ). mark ++ opened records ++ 1 ∷ l) (append_assoc (framed payload) (0 ∷ []) (drop (length (record_of payload)) rest))
       ∙ sym (append_assoc (mark ++ opened records) (1 ∷ framed payload) (0 ∷ drop (length (record_of payload)) rest))
-      ∙ ap (λ (l : List ℕ). l ++ 0 ∷ drop (length (record_of payload)) rest) (append_assoc mark (opened records) (1 ∷ framed payload) ∙ ap (λ (l : List ℕ). mark ++ l) (sym (opened-push records payload)));
+      ∙ ap (λ (l : List ℕ). l ++ 0 ∷ drop (length (record_of payload)) rest)
+      (append_assoc mark (opened records) (1 ∷ framed payload) ∙ ap (λ (l : List ℕ). mark ++ l) (sym (opened-push records payload)));
   closed = omega arith;
   lengths = lengths-push records payload lengths fits;
 }
@@ -91,11 +101,20 @@ holds-appended mark records payload rest lengths fits = record {
 abbrev pub IsBeforeOrAfter : List ℕ → List (List ℕ) → List ℕ → List ℕ → Type 0
 IsBeforeOrAfter mark records payload file = Holds mark records file ⊎ Holds mark (records ++ payload ∷ []) file
 
-pub holds-any_gate : (mark : List ℕ) (records : List (List ℕ)) (gate : ℕ) (payload rest : List ℕ) → HaveLengths records → length payload < 2 ^ 64
+pub holds-any_gate : (mark : List ℕ) (records : List (List ℕ)) (gate : ℕ) (payload rest : List ℕ) → HaveLengths records
+    → length payload < 2 ^ 64
     → IsBeforeOrAfter mark records payload (staged (mark ++ opened records) gate payload rest)
 holds-any_gate mark records gate payload rest lengths fits = elim (cases_eq gate 1) [
-  | inl is_open ↦ inr (subst (λ (g : ℕ). Holds mark (records ++ payload ∷ []) (staged (mark ++ opened records) g payload rest)) (sym is_open) (holds-appended mark records payload rest lengths fits))
-  | inr shut ↦ inl (record { gate = gate; rest = record_of payload ++ drop (length (record_of payload)) rest; bytes = refl; closed = shut; lengths = lengths })
+  | inl is_open ↦
+      inr (subst (λ (g : ℕ). Holds mark (records ++ payload ∷ []) (staged (mark ++ opened records) g payload rest)) (sym is_open)
+      (holds-appended mark records payload rest lengths fits))
+  | inr shut ↦ inl (record {
+    gate = gate;
+    rest = record_of payload ++ drop (length (record_of payload)) rest;
+    bytes = refl;
+    closed = shut;
+    lengths = lengths;
+  })
 ]
 
 module _ (mark : List ℕ) (records : List (List ℕ)) (gate : ℕ) (payload rest : List ℕ) where
@@ -124,7 +143,8 @@ module _ (mark : List ℕ) (records : List (List ℕ)) (gate : ℕ) (payload res
   ahead = take_at (mark ++ opened records) (gate ∷ behind) place at_place
 
   -- each outcome of the write of the gate
-  pub torn_gate : (image : List ℕ) → Torn place 1 (staged (mark ++ opened records) gate payload rest) image → HaveLengths records → length payload < 2 ^ 64
+  pub torn_gate : (image : List ℕ) → Torn place 1 (staged (mark ++ opened records) gate payload rest) image → HaveLengths records
+      → length payload < 2 ^ 64
       → IsBeforeOrAfter mark records payload image
   torn_gate image torn lengths fits =
       let long : place < length image = omega (arith, torn.no_shorter, length-staged) in
@@ -134,10 +154,13 @@ module _ (mark : List ℕ) (records : List (List ℕ)) (gate : ℕ) (payload res
       subst (λ (k : ℕ). take k image ≡ take place (staged (mark ++ opened records) gate payload rest)) least torn.before ∙ ahead in
       let last : drop place image ≡ is ∷ behind = drop_more image place 0 long ∙ ap (λ (l : List ℕ). is ∷ l) (torn.behind ∙ back) in
       let whole : image ≡ mark ++ opened records ++ is ∷ behind =
-      sym (take-append-drop place image) ∙ ap (λ (l : List ℕ). l ++ drop place image) before ∙ ap (λ (l : List ℕ). mark ++ opened records ++ l) last in
+      sym (take-append-drop place image)
+      ∙ ap (λ (l : List ℕ). l ++ drop place image) before
+      ∙ ap (λ (l : List ℕ). mark ++ opened records ++ l) last in
       subst (IsBeforeOrAfter mark records payload) (sym whole) (holds-any_gate mark records is payload rest lengths fits)
 
-  pub written_gate : written place (1 ∷ []) (staged (mark ++ opened records) gate payload rest) ≡ appended (mark ++ opened records) payload rest
+  pub written_gate : written place (1 ∷ []) (staged (mark ++ opened records) gate payload rest)
+      ≡ appended (mark ++ opened records) payload rest
   written_gate =
       written-within place (1 ∷ []) (staged (mark ++ opened records) gate payload rest) (omega (arith, length-staged))
       ∙ ap (λ (l : List ℕ). l ++ (1 ∷ []) ++ drop (place + 1) (staged (mark ++ opened records) gate payload rest)) ahead
@@ -145,7 +168,8 @@ module _ (mark : List ℕ) (records : List (List ℕ)) (gate : ℕ) (payload res
       ∙ append_assoc (mark ++ opened records) (1 ∷ []) behind
 
 -- what holds records stands for them
-pub stands-holds : (mark : List ℕ) (records : List (List ℕ)) (file : List ℕ) → length mark ≡ 15 → Holds mark records file → JournalStands mark records file
+pub stands-holds : (mark : List ℕ) (records : List (List ℕ)) (file : List ℕ) → length mark ≡ 15 → Holds mark records file
+    → JournalStands mark records file
 stands-holds mark records file fifteen holds = elim (cases_lt 16 (length file)) [
   | inl longer ↦ inr (longer, holds)
   | inr short ↦ inl (short, none records holds.bytes (omega (arith, short)))
@@ -154,11 +178,19 @@ stands-holds mark records file fifteen holds = elim (cases_lt 16 (length file)) 
     none : (rs : List (List ℕ)) → file ≡ mark ++ opened rs ++ holds.gate ∷ holds.rest → length file ≤ 16 → rs ≡ []
     none [] is short = refl
     none (p ∷ rs) is short =
-        absurd (omega (arith, fifteen, short, ap length is, length-append (mark ++ opened (p ∷ rs)) (holds.gate ∷ holds.rest), length-append mark (opened (p ∷ rs))))
+        absurd (omega (
+          arith,
+          fifteen,
+          short,
+          ap length is,
+          length-append (mark ++ opened (p ∷ rs)) (holds.gate ∷ holds.rest),
+          length-append mark (opened (p ∷ rs)),
+        ))
 
 -- a file of at most sixteen bytes, whatever they are, and the new journal that is written over it
 pub stands-short : (mark : List ℕ) (image : List ℕ) → length image ≤ 16 → JournalStands mark [] image
 stands-short mark image short = inl (short, refl)
 
 pub holds-new : (mark : List ℕ) → Holds mark [] (new_journal mark)
-holds-new mark = record { gate = 0; rest = []; bytes = ap (λ (l : List ℕ). l ++ 0 ∷ []) (sym (append-nil mark)); closed = omega arith; lengths = tt }
+holds-new mark =
+    record { gate = 0; rest = []; bytes = ap (λ (l : List ℕ). l ++ 0 ∷ []) (sym (append-nil mark)); closed = omega arith; lengths = tt }

@@ -1,21 +1,25 @@
 -- What the calls of a disk do to what a read gives, and to the images that a crash may leave.
 -- This project's own choice.
-use Rattle.std.specs.Prelude.{◌≡◌, ◌⊎◌, ◌<◌, ◌≤◌, ◌+◌, ◌-◌, ℕ, List, ◌++◌, length, take, drop, replicate, min, max, Option, Some}
+use Rattle.std.specs.Prelude.{◌≡◌, ◌⊎◌, ◌<◌, ◌≤◌, ◌+◌, ◌-◌, ℕ, List, ◌++◌, length, take, drop}
+use Rattle.std.specs.Prelude.{replicate, min, max, Option, Some}
 
--- A write puts its bytes at this place, over what is there and past the end. A gap behind the old end reads as zeros.
+-- A write puts its bytes at this place, over what is there and past the end.
+-- A gap after the old end reads as zeros.
 abbrev pub written : ℕ → List ℕ → List ℕ → List ℕ
 written at piece file =
     take at file ++ replicate (at - length file) 0 ++ piece ++ drop (at + length piece) file
 
--- What a crash may make of an image while n bytes are written at this place, and until a sync: any bytes in the
--- written range and past the old end, some length between, and every other byte as it was.
+-- What a crash may make of an image while n bytes are written at this place, and until a sync:
+-- any bytes in the written range and past the old end,
+-- some length between, and every other byte as it was.
 pub record Torn (at n : ℕ) (old new : List ℕ) : Type 0 where
   pub before : take (min at (length old)) new ≡ take at old
   pub behind : drop (at + n) new ≡ drop (at + n) old
   pub no_shorter : length old ≤ length new
   pub no_longer : length new ≤ max (length old) (at + n)
 
--- The same of a cut to n bytes: any bytes in the range that was cut off, some length between, and every other byte as it was.
+-- The same of a cut to n bytes:
+-- any bytes in the range that was cut off, some length between, and every other byte as it was.
 pub record TornCut (n : ℕ) (old new : List ℕ) : Type 0 where
   pub before : take n new ≡ take n old
   pub no_shorter : min n (length old) ≤ length new
@@ -33,19 +37,19 @@ Within old new = (image : List ℕ) → new image → old image
 abbrev pub Only : List ℕ → (List ℕ → Type 0) → Type 0
 Only file images = (image : List ℕ) → images image → image ≡ file
 
--- where a disk tells its bytes, this holds of them
-abbrev pub WhereTold : Option (List ℕ) → (List ℕ → Type 0) → Type 0
-WhereTold told P = (file : List ℕ) → told ≡ Some file → P file
+-- where the bytes of a disk are known, this holds of them
+abbrev pub IfKnown : Option (List ℕ) → (List ℕ → Type 0) → Type 0
+IfKnown known P = (file : List ℕ) → known ≡ Some file → P file
 
--- A read at this place, with room for so many bytes, placed so many: bytes of the file from there on, and at least one
--- where there is one and room for it.
+-- A read at this place, with room for so many bytes, placed so many:
+-- bytes of the file from there on, and at least one where there is one and room for it.
 pub record Reads (file : List ℕ) (at room count : ℕ) (placed : List ℕ) : Type 0 where
   pub within : count ≤ length (drop at file)
   pub bytes : placed ≡ take count (drop at file)
   pub some : 0 < room → at < length file → 0 < count
 
--- Time goes on over a call: a crash since a moment before it leaves what a crash since then could leave before the
--- call, or what a crash may leave after it.
+-- Time goes on over a call: a crash since a moment before it leaves what a crash
+-- since then could leave before the call, or what a crash may leave after it.
 pub record Elapses (before now : ℕ) (past since : ℕ → List ℕ → Type 0) (images : List ℕ → Type 0)
     : Type 0 where
   pub later : before ≤ now

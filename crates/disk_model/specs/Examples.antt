@@ -1,4 +1,5 @@
--- Worked examples of what a write leaves and of what a journal's bytes stand for, each closed by computation.
+-- Worked examples of what a write leaves and of what a journal's bytes stand for,
+-- each closed by computation.
 -- This project's own choice.
 use Rattle.std.specs.Prelude.{◌≡◌, ℕ, List, [], ◌∷◌, ◌++◌, length, refl}
 use Rattle.disk_model.specs.Disk.{written}
@@ -12,7 +13,7 @@ written-over = refl
 pub written-within : written 0 (7 ∷ []) (1 ∷ 2 ∷ 3 ∷ []) ≡ 7 ∷ 2 ∷ 3 ∷ []
 written-within = refl
 
--- a gap behind the old end reads as zeros
+-- a gap after the old end reads as zeros
 pub written-past : written 3 (9 ∷ []) (1 ∷ []) ≡ 1 ∷ 0 ∷ 0 ∷ 9 ∷ []
 written-past = refl
 

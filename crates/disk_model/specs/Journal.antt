@@ -1,6 +1,7 @@
--- The bytes of a journal: a mark, and records behind gates, and what they stand for.
+-- The bytes of a journal: a mark, and records after gates, and what they stand for.
 -- This project's own choice.
-use Rattle.std.specs.Prelude.{◌≡◌, ◌≢◌, ◌⊎◌, ◌<◌, ◌≤◌, ◌+◌, ◌^◌, ℕ, List, [], ◌∷◌, ◌++◌, length, take, codes}
+use Rattle.std.specs.Prelude.{◌≡◌, ◌≢◌, ◌⊎◌, ◌<◌, ◌≤◌, ◌+◌, ◌^◌, ℕ, List, [], ◌∷◌, ◌++◌, length}
+use Rattle.std.specs.Prelude.{take, codes}
 use Rattle.std.specs.List.{AllByRecursion}
 use Rattle.std.specs.Int.{w64, to_be_bytes, from_be_bytes}
 
@@ -11,7 +12,7 @@ log_mark = codes "FACTBASE LOG 1" ++ 10 ∷ []
 abbrev pub segments_mark : List ℕ
 segments_mark = codes "FACTBASE SEG 1" ++ 10 ∷ []
 
--- a payload behind its length
+-- a payload after its length
 abbrev pub framed : List ℕ → List ℕ
 framed payload = to_be_bytes w64 (length payload) ++ payload
 
@@ -23,7 +24,7 @@ record_of payload = framed payload ++ 0 ∷ []
 abbrev pub new_journal : List ℕ → List ℕ
 new_journal mark = mark ++ 0 ∷ []
 
--- open gates, each with its payload behind it
+-- open gates, each with its payload after it
 abbrev pub opened : List (List ℕ) → List ℕ
 opened [] = []
 opened (payload ∷ payloads) = 1 ∷ framed payload ++ opened payloads
@@ -32,7 +33,7 @@ opened (payload ∷ payloads) = 1 ∷ framed payload ++ opened payloads
 abbrev pub HaveLengths : List (List ℕ) → Type 0
 HaveLengths payloads = AllByRecursion (λ payload. length payload < 2 ^ 64) payloads
 
--- The records stand behind open gates, and a closed gate is next. What stands behind it counts for nothing.
+-- Each record follows an open gate, and a closed gate is next. What follows it counts for nothing.
 pub record Holds (mark : List ℕ) (records : List (List ℕ)) (file : List ℕ) : Type 0 where
   pub gate : ℕ
   pub rest : List ℕ
@@ -45,12 +46,13 @@ abbrev pub JournalStands : List ℕ → List (List ℕ) → List ℕ → Type 0
 JournalStands mark records file =
     ((length file ≤ 16) × (records ≡ [])) ⊎ ((16 < length file) × Holds mark records file)
 
--- Behind an open gate there is no length, or one that leaves no room for the payload and the next gate.
+-- After an open gate there is no length,
+-- or one that leaves no room for the payload and the next gate.
 abbrev pub IsCutShort : List ℕ → Type 0
 IsCutShort rest = (length rest < 8) ⊎ (length rest < 8 + from_be_bytes w64 (take 8 rest) + 1)
 
--- The first fault lies behind these records. The records are counted from 0, as bytes are, and the fault is at the first
--- byte of the length.
+-- The first fault lies after these records.
+-- The records are counted from 0, as bytes are, and the fault is at the first byte of the length.
 pub record BreaksBehind (mark : List ℕ) (records : List (List ℕ)) (file : List ℕ) (nth at : ℕ)
     : Type 0 where
   pub rest : List ℕ

@@ -1,4 +1,5 @@
--- A disk as the record of what was done to it: what a read gives, and which images a crash may leave.
+-- A disk as the record of what was done to it:
+-- what a read gives, and which images a crash may leave.
 -- This project's own choice.
 use Rattle.std.specs.Prelude.{◌≡◌, ◌≤◌, ℕ, List, [], ◌∷◌, length, take}
 use Rattle.disk_model.specs.Disk.{written, Torn, TornCut}
@@ -15,13 +16,14 @@ changed (wrote at piece) file = written at piece file
 changed (cut_to n) file = take n file
 changed synced file = file
 
--- and after all of them, the first of them first
+-- what a read gives after all of these changes, the first of them first
 abbrev pub replayed : List Change → List ℕ → List ℕ
 replayed [] file = file
 replayed (change ∷ changes) file = replayed changes (changed change file)
 
--- What a crash may make of an image in a change and after it, where a read gave this file before: until a sync the
--- range of a write or a cut may hold anything, and a sync leaves what a read gives.
+-- What a crash may make of an image in a change and after it, where a read gave this file before:
+-- until a sync the range of a write or a cut may hold anything,
+-- and a sync leaves what a read gives.
 abbrev pub MayMake : Change → List ℕ → List ℕ → List ℕ → Type 0
 MayMake (wrote at piece) file old new = Torn at (length piece) old new
 MayMake (cut_to n) file old new = TornCut n old new

@@ -1,5 +1,6 @@
 -- A whole form falls to a construct, and a construct closes.
-use Rattle.std.proofs.Common.{◌≡◌, ℕ, ◌≤◌, Bool, true, false, IsTrue, List, [], ◌∷◌, ◌++◌, length, drop, Vec, Global, refl, ap, ◌∙◌, sym, subst, arith, eq-eqb}
+use Rattle.std.proofs.Common.{◌≡◌, ℕ, ◌≤◌, Bool, true, false, IsTrue, List, [], ◌∷◌, ◌++◌, length, drop, Vec, Global, refl, ap, ◌∙◌, sym}
+use Rattle.std.proofs.Common.{subst, arith, eq-eqb}
 use Rattle.std.specs.Prelude.{not, Some, None, Result, Ok, Err, IfOk, OnErr}
 use Rattle.edn_model.specs.Form as model
 use Rattle.edn_model.specs.Likeness.{alike, any, distinct, keys}
@@ -14,10 +15,11 @@ use Rattle.edn_form.specs.View as view
 use Rattle.edn_form.specs.declared.form.Edn.{Edn, Map as AMap}
 use Rattle.edn_form.specs.declared.form.Pairs.{Pairs}
 use Rattle.edn_form.proofs.Views.{form_of-Map}
-use Rattle.edn_alike.specs.Inside.{IsDistinctInside, AreDistinctInside, ArePairsDistinctInside}
-use Rattle.edn_alike.specs.Said.{HasSaid}
-use Rattle.edn_alike.specs.declared.said.Said.{Said}
-use Rattle.edn_core.specs.Frames.{open_of, inside, frames_of, KeptOpen, KeptFrame, Kept, Becomes, IsAgain, LandsAs, IsRead, EndsWith, ClosesAs, LeadsOn, LeadsTo, LeadsAstray, Leads, Whole}
+use Rattle.edn_duplicates.specs.Inside.{IsDistinctInside, AreDistinctInside, ArePairsDistinctInside}
+use Rattle.edn_duplicates.specs.FormCodes.{HasCodesOf}
+use Rattle.edn_duplicates.specs.declared.form_codes.FormCodes.{FormCodes}
+use Rattle.edn_core.specs.Frames.{open_of, inside, frames_of, IsSoundOpen, IsSoundFrame, AreSound, Becomes, IsAgain, LandsAs, ReadsForm}
+use Rattle.edn_core.specs.Frames.{EndsWith, ClosesAs, LeadsOn, LeadsTo, LeadsAstray, Leads, Whole}
 use Rattle.edn_core.specs.declared.construct.Construct.TheVariants.{List as List', Vector, Map, Set}
 use Rattle.edn_core.specs.declared.construct.Construct.{Construct}
 use Rattle.edn_core.specs.declared.construct.Frame.{Frame}
@@ -48,29 +50,37 @@ inside-last model.no_forms f h k = (k, tt)
 inside-last (model.form g gs) f h k = (h.0, inside-last gs f h.1 k)
 
 -- one more pair, and those before
-pairs_inside-last : (ps : model.Pairs) (k v : model.Form) → ArePairsDistinctInside ps → IsDistinctInside k → IsDistinctInside v → ArePairsDistinctInside (model.with_last_pair ps k v)
+pairs_inside-last : (ps : model.Pairs) (k v : model.Form) → ArePairsDistinctInside ps → IsDistinctInside k → IsDistinctInside v
+    → ArePairsDistinctInside (model.with_last_pair ps k v)
 pairs_inside-last model.no_pairs k v h a b = (a, b, tt)
 pairs_inside-last (model.pair l w ps) k v h a b = (h.0, h.1, pairs_inside-last ps k v h.2 a b)
 
 -- ---- what lands
 
-pub list_lands : (v w : Vec Edn Global) (x : Edn) → w.items ≡ v.items ++ x ∷ [] → AreDistinctInside (members v.items) → IsDistinctInside (form_of x) → Becomes (List' v) (form_of x) (List' w)
+pub list_lands : (v w : Vec Edn Global) (x : Edn) → w.items ≡ v.items ++ x ∷ [] → AreDistinctInside (members v.items)
+    → IsDistinctInside (form_of x) → Becomes (List' v) (form_of x) (List' w)
 list_lands v w x is h k =
-    let same = ap members is ∙ members-last v.items x in
-    (subst AreDistinctInside (sym same) (inside-last (members v.items) (form_of x) h k), λ outer opened at rest. ap (λ fs. going (frame (faults.in_list fs) opened outer) rest) (sym same))
+    let same = ap members is ∙ members-last v.items x in (
+      subst AreDistinctInside (sym same) (inside-last (members v.items) (form_of x) h k),
+      λ outer opened at rest. ap (λ fs. going (frame (faults.in_list fs) opened outer) rest) (sym same),
+    )
 
-pub vector_lands : (v w : Vec Edn Global) (x : Edn) → w.items ≡ v.items ++ x ∷ [] → AreDistinctInside (members v.items) → IsDistinctInside (form_of x) → Becomes (Vector v) (form_of x) (Vector w)
+pub vector_lands : (v w : Vec Edn Global) (x : Edn) → w.items ≡ v.items ++ x ∷ [] → AreDistinctInside (members v.items)
+    → IsDistinctInside (form_of x) → Becomes (Vector v) (form_of x) (Vector w)
 vector_lands v w x is h k =
-    let same = ap members is ∙ members-last v.items x in
-    (subst AreDistinctInside (sym same) (inside-last (members v.items) (form_of x) h k), λ outer opened at rest. ap (λ fs. going (frame (faults.in_vector fs) opened outer) rest) (sym same))
+    let same = ap members is ∙ members-last v.items x in (
+      subst AreDistinctInside (sym same) (inside-last (members v.items) (form_of x) h k),
+      λ outer opened at rest. ap (λ fs. going (frame (faults.in_vector fs) opened outer) rest) (sym same),
+    )
 
-pub value_lands : (v w : Vec (Edn × Edn) Global) (said : Said) (k x : Edn) → w.items ≡ v.items ++ (k, x) ∷ [] → KeptOpen (Map v (Some k) said) → IsDistinctInside (form_of x)
+pub value_lands : (v w : Vec (Edn × Edn) Global) (said : FormCodes) (k x : Edn) → w.items ≡ v.items ++ (k, x) ∷ []
+    → IsSoundOpen (Map v (Some k) said) → IsDistinctInside (form_of x)
     → Becomes (Map v (Some k) said) (form_of x) (Map w None said)
 value_lands v w said k x is h inside =
     let same = ap entries is ∙ entries-last v.items k x in
     let names = ap keys same ∙ keys-last (entries v.items) (form_of k) (form_of x) in (
       (
-        subst (λ fs. HasSaid fs said) (sym names) h.0,
+        subst (λ fs. HasCodesOf fs said) (sym names) h.0,
         subst (λ fs. IsTrue (distinct fs)) (sym names) h.1,
         subst ArePairsDistinctInside (sym same) (pairs_inside-last (entries v.items) (form_of k) (form_of x) h.2 h.3 inside),
       ),
@@ -88,50 +98,59 @@ false_not false h = absurd (let wrong = h in cc)
 said_before : (b again : Bool) → b ≡ not again → b ≡ false → again ≡ true
 said_before b again is h = false_not again (sym is ∙ h)
 
-pub key_lands : (v : Vec (Edn × Edn) Global) (said after : Said) (x : Edn) (fresh : Bool) → KeptOpen (Map v None said) → IsDistinctInside (form_of x)
-    → fresh ≡ not (any (alike (form_of x)) (keys (entries v.items))) → fresh ≡ true → HasSaid (model.with_last (keys (entries v.items)) (form_of x)) after
+pub key_lands : (v : Vec (Edn × Edn) Global) (said after : FormCodes) (x : Edn) (fresh : Bool) → IsSoundOpen (Map v None said)
+    → IsDistinctInside (form_of x)
+    → fresh ≡ not (any (alike (form_of x)) (keys (entries v.items))) → fresh ≡ true
+    → HasCodesOf (model.with_last (keys (entries v.items)) (form_of x)) after
     → Becomes (Map v None said) (form_of x) (Map v (Some x) after)
 key_lands v said after x fresh h inside is first_time has =
     let names = keys (entries v.items) in
     let new = unsaid fresh (any (alike (form_of x)) names) is first_time in (
       (has, distinct-last model.no_forms names (form_of x) h.1 new, h.2, inside),
-      λ outer opened at rest. by_likeness (any (alike (form_of x)) names) (ended (fault faults.bad at)) (going (frame (faults.behind_key (entries v.items) (form_of x)) opened outer) rest) new,
+      λ outer opened at rest. by_likeness (any (alike (form_of x)) names) (ended (fault faults.bad at))
+          (going (frame (faults.behind_key (entries v.items) (form_of x)) opened outer) rest) new,
     )
 
-pub key_again : (v : Vec (Edn × Edn) Global) (said : Said) (x : Edn) (fresh : Bool)
+pub key_again : (v : Vec (Edn × Edn) Global) (said : FormCodes) (x : Edn) (fresh : Bool)
     → fresh ≡ not (any (alike (form_of x)) (keys (entries v.items))) → fresh ≡ false → IsAgain (Map v None said) (form_of x)
 key_again v said x fresh is h outer opened at rest =
     let names = keys (entries v.items) in
-    by_unlikeness (any (alike (form_of x)) names) (ended (fault faults.bad at)) (going (frame (faults.behind_key (entries v.items) (form_of x)) opened outer) rest)
+    by_unlikeness (any (alike (form_of x)) names) (ended (fault faults.bad at))
+    (going (frame (faults.behind_key (entries v.items) (form_of x)) opened outer) rest)
     (said_before fresh (any (alike (form_of x)) names) is h)
 
-pub member_lands : (v w : Vec Edn Global) (said after : Said) (x : Edn) (fresh : Bool) → w.items ≡ v.items ++ x ∷ [] → KeptOpen (Set v said) → IsDistinctInside (form_of x)
-    → fresh ≡ not (any (alike (form_of x)) (members v.items)) → fresh ≡ true → HasSaid (model.with_last (members v.items) (form_of x)) after
+pub member_lands : (v w : Vec Edn Global) (said after : FormCodes) (x : Edn) (fresh : Bool) → w.items ≡ v.items ++ x ∷ []
+    → IsSoundOpen (Set v said) → IsDistinctInside (form_of x)
+    → fresh ≡ not (any (alike (form_of x)) (members v.items)) → fresh ≡ true
+    → HasCodesOf (model.with_last (members v.items) (form_of x)) after
     → Becomes (Set v said) (form_of x) (Set w after)
 member_lands v w said after x fresh is h inside test first_time has =
     let fs = members v.items in
     let same = ap members is ∙ members-last v.items x in
     let new = unsaid fresh (any (alike (form_of x)) fs) test first_time in (
       (
-        subst (λ gs. HasSaid gs after) (sym same) has,
+        subst (λ gs. HasCodesOf gs after) (sym same) has,
         subst (λ gs. IsTrue (distinct gs)) (sym same) (distinct-last model.no_forms fs (form_of x) h.1 new),
         subst AreDistinctInside (sym same) (inside-last fs (form_of x) h.2 inside),
       ),
       λ outer opened at rest.
-          by_likeness (any (alike (form_of x)) fs) (ended (fault faults.bad at)) (going (frame (faults.in_set (model.with_last fs (form_of x))) opened outer) rest) new
+          by_likeness (any (alike (form_of x)) fs) (ended (fault faults.bad at))
+          (going (frame (faults.in_set (model.with_last fs (form_of x))) opened outer) rest) new
           ∙ ap (λ gs. going (frame (faults.in_set gs) opened outer) rest) (sym same),
     )
 
-pub member_again : (v : Vec Edn Global) (said : Said) (x : Edn) (fresh : Bool)
+pub member_again : (v : Vec Edn Global) (said : FormCodes) (x : Edn) (fresh : Bool)
     → fresh ≡ not (any (alike (form_of x)) (members v.items)) → fresh ≡ false → IsAgain (Set v said) (form_of x)
 member_again v said x fresh is h outer opened at rest =
     let fs = members v.items in
-    by_unlikeness (any (alike (form_of x)) fs) (ended (fault faults.bad at)) (going (frame (faults.in_set (model.with_last fs (form_of x))) opened outer) rest)
+    by_unlikeness (any (alike (form_of x)) fs) (ended (fault faults.bad at))
+    (going (frame (faults.in_set (model.with_last fs (form_of x))) opened outer) rest)
     (said_before fresh (any (alike (form_of x)) fs) is h)
 
 -- ---- what closes
 
-pub map_closes : (v : Vec (Edn × Edn) Global) (said : Said) (p : Pairs) (b : ℕ) → view.entries p ≡ v.items → b ≡ 125 → KeptOpen (Map v None said)
+pub map_closes : (v : Vec (Edn × Edn) Global) (said : FormCodes) (p : Pairs) (b : ℕ) → view.entries p ≡ v.items → b ≡ 125
+    → IsSoundOpen (Map v None said)
     → ClosesAs (Map v None said) b (form_of (AMap p)) × IsDistinctInside (form_of (AMap p))
 map_closes v said p b same is h =
     let seen : form_of (AMap p) ≡ model.map (entries v.items) = form_of-Map p ∙ ap (λ z. model.map (entries z)) same in
@@ -142,7 +161,8 @@ map_closes v said p b same is h =
 reaches_same : {s t : State} → s ≡ t → Reaches s t
 reaches_same {s = s} e = subst (Reaches s) e stay
 
-read_alone : (bytes : List ℕ) (start here at n : ℕ) (old : List Frame) (f : Edn) → length old ≡ 0 → Whole bytes start here at n old (form_of f)
+read_alone : (bytes : List ℕ) (start here at n : ℕ) (old : List Frame) (f : Edn) → length old ≡ 0
+    → Whole bytes start here at n old (form_of f)
     → LeadsTo bytes here (steps.land (frames_of bytes old) (form_of f) (drop at bytes) (drop n bytes)) (form_of f) n
 read_alone bytes start here at n old f none h =
     record {
@@ -151,11 +171,13 @@ read_alone bytes start here at n old f none h =
       runs = reaches_same (ap (λ xs. steps.land (frames_of bytes xs) (form_of f) (drop at bytes) (drop n bytes)) (none_there old none));
     }
 
-pub read_there : (bytes : List ℕ) (start here at n : ℕ) (old new : List Frame) (f : Edn) (r : Result Progress EdnFault) → length old ≡ 0 → Whole bytes start here at n old (form_of f)
-    → IsRead f n r → Leads bytes start here (steps.land (frames_of bytes old) (form_of f) (drop at bytes) (drop n bytes)) r new
+pub read_there : (bytes : List ℕ) (start here at n : ℕ) (old new : List Frame) (f : Edn) (r : Result Progress EdnFault) → length old ≡ 0
+    → Whole bytes start here at n old (form_of f)
+    → ReadsForm f n r → Leads bytes start here (steps.land (frames_of bytes old) (form_of f) (drop at bytes) (drop n bytes)) r new
 read_there bytes start here at n old new f (Ok (Read boxed m)) none h is =
     let begun = steps.land (frames_of bytes old) (form_of f) (drop at bytes) (drop n bytes) in
-    subst (λ k. LeadsTo bytes here begun (form_of boxed.value) k) (sym is.1) (subst (λ e. LeadsTo bytes here begun (form_of e) n) (sym is.0) (read_alone bytes start here at n old f none h))
+    subst (λ k. LeadsTo bytes here begun (form_of boxed.value) k) (sym is.1)
+    (subst (λ e. LeadsTo bytes here begun (form_of e) n) (sym is.0) (read_alone bytes start here at n old f none h))
 read_there bytes start here at n old new f (Ok (Further m)) none h is = absurd is
 read_there bytes start here at n old new f (Ok End) none h is = absurd is
 read_there bytes start here at n old new f (Err (Bad byte)) none h is = absurd is
@@ -166,16 +188,21 @@ read_there bytes start here at n old new f (Err Memory) none h is = tt
 
 -- the state from which a form lands in the innermost
 landing : (bytes : List ℕ) (at n : ℕ) (old outer : List Frame) (i : Frame) (f : model.Form) → old ≡ outer ++ i ∷ []
-    → steps.land (frames_of bytes old) f (drop at bytes) (drop n bytes) ≡ steps.land (inside bytes (frames_of bytes outer) i) f (drop at bytes) (drop n bytes)
-landing bytes at n old outer i f is = ap (λ z. steps.land z f (drop at bytes) (drop n bytes)) (ap (frames_of bytes) is ∙ frames-last bytes outer i)
+    → steps.land (frames_of bytes old) f (drop at bytes) (drop n bytes)
+    ≡ steps.land (inside bytes (frames_of bytes outer) i) f (drop at bytes) (drop n bytes)
+landing bytes at n old outer i f is =
+    ap (λ z. steps.land z f (drop at bytes) (drop n bytes)) (ap (frames_of bytes) is ∙ frames-last bytes outer i)
 
-pub kept_outer : (bytes : List ℕ) (start : ℕ) (old outer : List Frame) (i : Frame) → old ≡ outer ++ i ∷ [] → Kept start (length bytes) old → Kept start (length bytes) outer
-kept_outer bytes start old outer i is h = (kept-split outer i (subst (Kept start (length bytes)) is h)).before
+pub kept_outer : (bytes : List ℕ) (start : ℕ) (old outer : List Frame) (i : Frame) → old ≡ outer ++ i ∷ []
+    → AreSound start (length bytes) old → AreSound start (length bytes) outer
+kept_outer bytes start old outer i is h = (kept-split outer i (subst (AreSound start (length bytes)) is h)).before
 
-pub kept_inner : (bytes : List ℕ) (start : ℕ) (old outer : List Frame) (i : Frame) → old ≡ outer ++ i ∷ [] → Kept start (length bytes) old → KeptFrame start (length bytes) i
-kept_inner bytes start old outer i is h = (kept-split outer i (subst (Kept start (length bytes)) is h)).innermost
+pub kept_inner : (bytes : List ℕ) (start : ℕ) (old outer : List Frame) (i : Frame) → old ≡ outer ++ i ∷ []
+    → AreSound start (length bytes) old → IsSoundFrame start (length bytes) i
+kept_inner bytes start old outer i is h = (kept-split outer i (subst (AreSound start (length bytes)) is h)).innermost
 
-pub goes_there : (bytes : List ℕ) (start here at n : ℕ) (old outer new : List Frame) (i j : Frame) (f : model.Form) → old ≡ outer ++ i ∷ [] → new ≡ outer ++ j ∷ [] → j.at ≡ i.at
+pub goes_there : (bytes : List ℕ) (start here at n : ℕ) (old outer new : List Frame) (i j : Frame) (f : model.Form) → old ≡ outer ++ i ∷ []
+    → new ≡ outer ++ j ∷ [] → j.at ≡ i.at
     → Whole bytes start here at n old f → Becomes i.construct f j.construct
     → LeadsOn bytes start here (steps.land (frames_of bytes old) f (drop at bytes) (drop n bytes)) n new
 goes_there bytes start here at n old outer new i j f is now same h lands =
@@ -187,8 +214,9 @@ goes_there bytes start here at n old outer new i j f is now same h lands =
     record {
       ahead = h.ahead;
       within = h.within;
-      kept = subst (Kept start (length bytes)) (sym now)
-          (kept_last outer j (kept_outer bytes start old outer i is h.kept) (record { after = omega arith; within = omega arith; kept = lands.0 }));
+      kept = subst (AreSound start (length bytes)) (sym now)
+          (kept_last outer j (kept_outer bytes start old outer i is h.kept)
+          (record { after = omega arith; within = omega arith; kept = lands.0 }));
       runs = reaches_same
           (landing bytes at n old outer i f is ∙ (lands.1 (frames_of bytes outer) (drop i.at bytes) (drop at bytes) (drop n bytes)
           ∙ ap (λ z. going z (drop n bytes)) (opened ∙ sym frames)));
@@ -202,16 +230,21 @@ over_there bytes start here at n old outer i f is h lands =
       ahead = h.ahead;
       within = h.within;
       kept = kept_outer bytes start old outer i is h.kept;
-      runs = reaches_same (landing bytes at n old outer i f is ∙ lands (frames_of bytes outer) (drop i.at bytes) (drop at bytes) (drop n bytes));
+      runs =
+          reaches_same
+          (landing bytes at n old outer i f is ∙ lands (frames_of bytes outer) (drop i.at bytes) (drop at bytes) (drop n bytes));
     }
 
 -- the same, by what is left open
-pub over_leads : (bytes : List ℕ) (start here at n : ℕ) (old outer new : List Frame) (i : Frame) (f : model.Form) (r : Result Progress EdnFault) → old ≡ outer ++ i ∷ []
+pub over_leads : (bytes : List ℕ) (start here at n : ℕ) (old outer new : List Frame) (i : Frame) (f : model.Form)
+    (r : Result Progress EdnFault)
+    → old ≡ outer ++ i ∷ []
     → r ≡ Ok (Further n) → new ≡ outer → Whole bytes start here at n old f → EndsWith i.construct f
     → Leads bytes start here (steps.land (frames_of bytes old) f (drop at bytes) (drop n bytes)) r new
 over_leads bytes start here at n old outer new i f r is on now h lands =
     let begun = steps.land (frames_of bytes old) f (drop at bytes) (drop n bytes) in
-    subst (λ z. Leads bytes start here begun z new) (sym on) (subst (λ (xs : List Frame). LeadsOn bytes start here begun n xs) (sym now) (over_there bytes start here at n old outer i f is h lands))
+    subst (λ z. Leads bytes start here begun z new) (sym on)
+    (subst (λ (xs : List Frame). LeadsOn bytes start here begun n xs) (sym now) (over_there bytes start here at n old outer i f is h lands))
 
 again_there : (bytes : List ℕ) (start here at n : ℕ) (old outer : List Frame) (i : Frame) (f : model.Form) → old ≡ outer ++ i ∷ []
     → Whole bytes start here at n old f → IsAgain i.construct f
@@ -220,12 +253,16 @@ again_there bytes start here at n old outer i f is h lands =
     record {
       ahead = h.after;
       within = h.before;
-      runs = reaches_same (landing bytes at n old outer i f is ∙ lands (frames_of bytes outer) (drop i.at bytes) (drop at bytes) (drop n bytes));
+      runs =
+          reaches_same
+          (landing bytes at n old outer i f is ∙ lands (frames_of bytes outer) (drop i.at bytes) (drop at bytes) (drop n bytes));
     }
 
 -- where the innermost becomes another in its place, or the form is said again
-pub lands_there : (bytes : List ℕ) (start here at n : ℕ) (old outer new : List Frame) (i j : Frame) (f : model.Form) (r : Result Progress EdnFault)
-    → old ≡ outer ++ i ∷ [] → new ≡ outer ++ j ∷ [] → j.at ≡ i.at → Whole bytes start here at n old f → LandsAs i.construct f at n r j.construct
+pub lands_there : (bytes : List ℕ) (start here at n : ℕ) (old outer new : List Frame) (i j : Frame) (f : model.Form)
+    (r : Result Progress EdnFault)
+    → old ≡ outer ++ i ∷ [] → new ≡ outer ++ j ∷ [] → j.at ≡ i.at → Whole bytes start here at n old f
+    → LandsAs i.construct f at n r j.construct
     → Leads bytes start here (steps.land (frames_of bytes old) f (drop at bytes) (drop n bytes)) r new
 lands_there bytes start here at n old outer new i j f (Ok (Further m)) is now same h lands =
     subst (λ k. LeadsOn bytes start here (steps.land (frames_of bytes old) f (drop at bytes) (drop n bytes)) k new) (sym lands.0)

@@ -10,7 +10,7 @@ use Rattle.edn_core.specs.declared.fault.EdnFault.TheVariants.{Bad, Unsupported,
 use Rattle.edn_form.specs.declared.form.Edn.{Edn}
 use Rattle.edn_form.specs.View.{form_of}
 
--- the fault and its byte; want of memory is none
+-- the fault and its byte; running out of memory has no byte
 abbrev pub fault_of : EdnFault → Option (model.Fault × ℕ)
 fault_of (Bad byte) = Some (model.bad, byte)
 fault_of (Unsupported byte what) = Some (model.unsupported (what_of what), byte)
@@ -22,8 +22,8 @@ abbrev pub MatchFault : Option (model.Fault × ℕ) → (model.Fault → ℕ →
 MatchFault (Some p) fault = fault p.0 p.1
 MatchFault None fault = Unit {0}
 
--- a fact of the form and the place behind its text, one where there is none, and one of a fault and its byte; want of
--- memory says nothing
+-- a fact of the form and the place after its text,
+-- one where there is none, and one of a fault and its byte; want of memory says nothing
 abbrev pub MatchAnswer : Result (Option (Edn × ℕ)) EdnFault → (Form → ℕ → Type 0) → Type 0
     → (model.Fault → ℕ → Type 0) → Type 0
 MatchAnswer (Ok (Some p)) read end fault = read (form_of p.0) p.1

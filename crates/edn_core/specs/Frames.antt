@@ -1,17 +1,20 @@
 -- What the constructs that the reader keeps open stand for, and what its steps come to.
 -- This project's own choice.
-use Rattle.std.specs.Prelude.{◌≡◌, ℕ, ◌<◌, ◌≤◌, true, false, IsTrue, List, [], ◌∷◌, length, drop, fold, Some, None, Result, Ok, Err}
+use Rattle.std.specs.Prelude.{◌≡◌, ℕ, ◌<◌, ◌≤◌, true, false, IsTrue, List, [], ◌∷◌, length, drop}
+use Rattle.std.specs.Prelude.{fold, Some, None, Result, Ok, Err}
 use Rattle.edn_model.specs.Form as model
 use Rattle.edn_model.specs.Likeness.{distinct, keys}
 use Rattle.edn_model.specs.Faults as faults
-use Rattle.edn_model.specs.Steps.{Frames, outermost, frame, opens_of, State, going, ended, read, nothing, fault, Step, Reaches, land, closed, Free, HasRoom}
+use Rattle.edn_model.specs.Steps.{Frames, outermost, frame, opens_of, State, going, ended, read}
+use Rattle.edn_model.specs.Steps.{nothing, fault, Step, Reaches, land, closed, Free, HasRoom}
 use Rattle.edn_form.specs.declared.form.Edn.{Edn}
 use Rattle.edn_form.specs.View.{form_of, forms_of, pairs_of}
-use Rattle.edn_alike.specs.Inside.{IsDistinctInside, AreDistinctInside, ArePairsDistinctInside}
-use Rattle.edn_alike.specs.Said.{HasSaid}
+use Rattle.edn_duplicates.specs.Inside.{IsDistinctInside, AreDistinctInside, ArePairsDistinctInside}
+use Rattle.edn_duplicates.specs.FormCodes.{HasCodesOf}
 use Rattle.edn_core.specs.Answers.{MatchFault, fault_of}
 use Rattle.edn_core.specs.declared.construct.Construct.{Construct}
-use Rattle.edn_core.specs.declared.construct.Construct.TheVariants.{List as List', Vector, Map, Set, Discard, Inst, Uuid}
+use Rattle.edn_core.specs.declared.construct.Construct.TheVariants.{List as List', Vector, Map, Set}
+use Rattle.edn_core.specs.declared.construct.Construct.TheVariants.{Discard, Inst, Uuid}
 use Rattle.edn_core.specs.declared.construct.Frame.{Frame}
 use Rattle.edn_core.specs.declared.fault.EdnFault.{EdnFault}
 use Rattle.edn_core.specs.declared.fault.EdnFault.TheVariants.{Bad, Deep, Memory}
@@ -36,62 +39,62 @@ inside bytes outer f = frame (open_of f.construct) (drop f.at bytes) outer
 abbrev pub frames_of : List ℕ → List Frame → Frames
 frames_of bytes frames = fold (inside bytes) outermost frames
 
--- inside its forms nothing is said twice, nor among its members or keys, and their codes are kept
-abbrev pub KeptOpen : Construct → Type 0
-KeptOpen (List' v) = AreDistinctInside (model.forms (forms_of v.items))
-KeptOpen (Vector v) = AreDistinctInside (model.forms (forms_of v.items))
-KeptOpen (Map v None said) =
-    HasSaid (keys (model.pairs (pairs_of v.items))) said
+-- there are no duplicates inside its forms, nor among its members or keys, and their codes are kept
+abbrev pub IsSoundOpen : Construct → Type 0
+IsSoundOpen (List' v) = AreDistinctInside (model.forms (forms_of v.items))
+IsSoundOpen (Vector v) = AreDistinctInside (model.forms (forms_of v.items))
+IsSoundOpen (Map v None said) =
+    HasCodesOf (keys (model.pairs (pairs_of v.items))) said
     × IsTrue (distinct (keys (model.pairs (pairs_of v.items))))
     × ArePairsDistinctInside (model.pairs (pairs_of v.items))
-KeptOpen (Map v (Some key) said) =
-    HasSaid (model.with_last (keys (model.pairs (pairs_of v.items))) (form_of key)) said
+IsSoundOpen (Map v (Some key) said) =
+    HasCodesOf (model.with_last (keys (model.pairs (pairs_of v.items))) (form_of key)) said
     × IsTrue (distinct (model.with_last (keys (model.pairs (pairs_of v.items))) (form_of key)))
     × ArePairsDistinctInside (model.pairs (pairs_of v.items)) × IsDistinctInside (form_of key)
-KeptOpen (Set v said) =
-    HasSaid (model.forms (forms_of v.items)) said
+IsSoundOpen (Set v said) =
+    HasCodesOf (model.forms (forms_of v.items)) said
     × IsTrue (distinct (model.forms (forms_of v.items)))
     × AreDistinctInside (model.forms (forms_of v.items))
-KeptOpen Discard = Unit {0}
-KeptOpen Inst = Unit {0}
-KeptOpen Uuid = Unit {0}
+IsSoundOpen Discard = Unit {0}
+IsSoundOpen Inst = Unit {0}
+IsSoundOpen Uuid = Unit {0}
 
--- it opens between two places
-pub record KeptFrame (start last : ℕ) (f : Frame) : Type 0 where
+-- the frame opens between two places
+pub record IsSoundFrame (start last : ℕ) (f : Frame) : Type 0 where
   pub after : start ≤ f.at
   pub within : f.at ≤ last
-  pub kept : KeptOpen f.construct
+  pub kept : IsSoundOpen f.construct
 
-abbrev pub Kept : ℕ → ℕ → List Frame → Type 0
-Kept start last [] = Unit {0}
-Kept start last (f ∷ fs) = KeptFrame start last f × Kept start last fs
+abbrev pub AreSound : ℕ → ℕ → List Frame → Type 0
+AreSound start last [] = Unit {0}
+AreSound start last (f ∷ fs) = IsSoundFrame start last f × AreSound start last fs
 
 -- what a whole form makes of the construct, as the steps have it
 abbrev pub Becomes : Construct → model.Form → Construct → Type 0
 Becomes o f p =
-    KeptOpen p
+    IsSoundOpen p
     × ((outer : Frames) (opened at rest : List ℕ)
     → land (frame (open_of o) opened outer) f at rest ≡ going (frame (open_of p) opened outer) rest)
 
--- a form alike to it was said before
+-- a form alike to it was there before
 abbrev pub IsAgain : Construct → model.Form → Type 0
 IsAgain o f =
     (outer : Frames) (opened at rest : List ℕ)
     → land (frame (open_of o) opened outer) f at rest ≡ ended (fault faults.bad at)
 
--- a whole form, from one place up to the next, makes the one construct of the other, or is said again; want of memory
--- says nothing
+-- a whole form, from one place up to the next,
+-- makes the one construct of the other, or is a duplicate; running out of memory says nothing
 abbrev pub LandsAs : Construct → model.Form → ℕ → ℕ → Result Progress EdnFault → Construct → Type 0
 LandsAs o f at next (Ok (Further n)) p = (n ≡ next) × Becomes o f p
 LandsAs o f at next (Err (Bad byte)) p = (byte ≡ at) × IsAgain o f
 LandsAs o f at next (Err Memory) p = Unit {0}
 LandsAs o f at next _ p = ⊥
 
--- the form is what was to be read, up to a place; want of memory says nothing
-abbrev pub IsRead : Edn → ℕ → Result Progress EdnFault → Type 0
-IsRead form next (Ok (Read boxed n)) = (boxed.value ≡ form) × (n ≡ next)
-IsRead form next (Err Memory) = Unit {0}
-IsRead form next _ = ⊥
+-- the form is what was to be read, up to a place; running out of memory says nothing
+abbrev pub ReadsForm : Edn → ℕ → Result Progress EdnFault → Type 0
+ReadsForm form next (Ok (Read boxed n)) = (boxed.value ≡ form) × (n ≡ next)
+ReadsForm form next (Err Memory) = Unit {0}
+ReadsForm form next _ = ⊥
 
 -- a discard has its form, and is over; so would be a tag
 abbrev pub EndsWith : Construct → model.Form → Type 0
@@ -114,7 +117,7 @@ pub record LeadsOn (bytes : List ℕ) (start here : ℕ) (begun : State) (next :
     (frames : List Frame) : Type 0 where
   pub ahead : here < next
   pub within : next ≤ length bytes
-  pub kept : Kept start (length bytes) frames
+  pub kept : AreSound start (length bytes) frames
   pub runs : Reaches begun (going (frames_of bytes frames) (drop next bytes))
 
 pub record LeadsTo (bytes : List ℕ) (here : ℕ) (begun : State) (f : model.Form) (next : ℕ)
@@ -129,7 +132,7 @@ pub record LeadsAstray (bytes : List ℕ) (start : ℕ) (begun : State) (why : f
   pub within : byte ≤ length bytes
   pub runs : Reaches begun (ended (fault why (drop byte bytes)))
 
--- the steps from a state on come to this answer, behind a place, and leave these open
+-- the steps from a state on come to this answer, after a place, and leave these open
 abbrev pub Leads : List ℕ → ℕ → ℕ → State → Result Progress EdnFault → List Frame → Type 0
 Leads bytes start here begun (Ok (Further next)) frames = LeadsOn bytes start here begun next frames
 Leads bytes start here begun (Ok (Read form next)) frames =
@@ -141,7 +144,7 @@ Leads bytes start here begun (Err e) frames =
 -- the same from a place on, with what is open there
 abbrev pub LeadsFrom : List ℕ → ℕ → List Frame → Result Progress EdnFault → List Frame → Type 0
 LeadsFrom bytes at old result new =
-    (start : ℕ) → start ≤ at → at ≤ length bytes → Kept start (length bytes) old
+    (start : ℕ) → start ≤ at → at ≤ length bytes → AreSound start (length bytes) old
     → Leads bytes start at (going (frames_of bytes old) (drop at bytes)) result new
 
 -- ---- what one step asks for
@@ -154,14 +157,14 @@ pub record Whole (bytes : List ℕ) (start here at next : ℕ) (frames : List Fr
   pub before : at ≤ length bytes
   pub ahead : here < next
   pub within : next ≤ length bytes
-  pub kept : Kept start (length bytes) frames
+  pub kept : AreSound start (length bytes) frames
 
 -- a construct opens by a step, and its inside begins at the next place
 pub record Enters (bytes : List ℕ) (frames : List Frame) (o : Construct) (at next : ℕ)
     : Type 0 where
   pub ahead : at < next
   pub within : next ≤ length bytes
-  pub kept : KeptOpen o
+  pub kept : IsSoundOpen o
   pub step : Step (going (frames_of bytes frames) (drop at bytes))
       (going (frame (open_of o) (drop at bytes) (frames_of bytes frames)) (drop next bytes))
 

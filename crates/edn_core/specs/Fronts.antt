@@ -1,11 +1,13 @@
--- What stands at the front of some bytes where neither white space nor a comment does.
+-- What is at the front of some bytes that begin with neither white space nor a comment.
 -- EDN, edn-format: "Built-in elements".
 use Rattle.std.specs.Prelude.{◌≡◌, ◌≢◌, ℕ, true, List, [], ◌∷◌, drop}
-use Rattle.edn_model.specs.Bytes.{quote, hash, open_paren, open_bracket, underscore, open_brace, is_closing, is_token_byte}
+use Rattle.edn_model.specs.Bytes.{quote, hash, open_paren, open_bracket, underscore, open_brace}
+use Rattle.edn_model.specs.Bytes.{is_closing, is_token_byte}
 use Rattle.edn_core.specs.declared.front.Front.{Front}
-use Rattle.edn_core.specs.declared.front.Front.TheVariants.{End, Quote, Closing, Discard, List as List', Vector, Map, Set, Token}
+use Rattle.edn_core.specs.declared.front.Front.TheVariants.{End, Quote, Closing, Discard}
+use Rattle.edn_core.specs.declared.front.Front.TheVariants.{List as List', Vector, Map, Set, Token}
 
--- a byte that may stand in a token, and with the next one no mark of a discard or a set
+-- a byte that may be in a token, and with the next one no mark of a discard or a set
 pub record BeginsToken (here : List ℕ) : Type 0 where
   pub first : ℕ
   pub behind : List ℕ

@@ -1,12 +1,12 @@
-//! What is open while a form is read: constructs inside one another, each with the forms that stand whole in it.
+//! What is open while a form is read: constructs inside one another, each with the whole forms in it.
 ghost use Rattle.std.specs.Prelude.{◌≡◌, ℕ, List, MatchBool, MatchOption};
 ghost use Rattle.edn_model.specs.Faults as faults;
 ghost use Rattle.edn_model.specs.Steps.{opens_of, HasRoom};
 ghost use Rattle.edn_form.specs.View.{form_of};
-ghost use Rattle.edn_alike.specs.Inside.{IsDistinctInside};
-ghost use Rattle.edn_core.specs.Frames.{open_of, frames_of, KeptOpen, ClosesAs, ClosesNothing};
+ghost use Rattle.edn_duplicates.specs.Inside.{IsDistinctInside};
+ghost use Rattle.edn_core.specs.Frames.{open_of, frames_of, IsSoundOpen, ClosesAs, ClosesNothing};
 
-use edn_alike::Said;
+use edn_duplicates::FormCodes;
 use edn_form::{Edn, Items, Pairs};
 
 /// How many collections and discards may be open at one place.
@@ -17,9 +17,9 @@ const MAX_DEPTH: usize = 64;
 pub(crate) enum Construct {
     List(Vec<Edn>),
     Vector(Vec<Edn>),
-    /// Behind the pairs may stand a key whose value has not come.
-    Map(Vec<(Edn, Edn)>, Option<Edn>, Said),
-    Set(Vec<Edn>, Said),
+    /// After the pairs there may be a key whose value has not come.
+    Map(Vec<(Edn, Edn)>, Option<Edn>, FormCodes),
+    Set(Vec<Edn>, FormCodes),
     Discard,
     Inst,
     Uuid,
@@ -32,7 +32,7 @@ pub(crate) struct Frame {
     pub(crate) at: usize,
 }
 
-/// Whether a form that is no string can't stand next, since the innermost construct is a tag.
+/// Whether a form that is no string can't come next, since the innermost construct is a tag.
 pub(crate) fn wants_string(frames: &[Frame]) -> bool
     ensures { (bytes : List ℕ)
         → result ≡ faults.wants_string (opens_of (frames_of bytes frames.now)) }
@@ -43,7 +43,7 @@ pub(crate) fn wants_string(frames: &[Frame]) -> bool
     }
 }
 
-/// Whether one more collection or discard may open. Few are ever open, and so they are counted anew: a tag stands only in
+/// Whether one more collection or discard may open. Few are ever open, and so they are counted anew: a tag is only in
 /// one that counts, or outermost.
 pub(crate) fn has_room(frames: &[Frame]) -> bool
     ensures { (bytes : List ℕ) → MatchBool result
@@ -71,7 +71,7 @@ fn is_tag(construct: &Construct) -> bool
 
 /// The form that the construct is once this bracket closes it, where it does.
 pub(crate) fn closed(construct: Construct, bracket: u8) -> Option<Edn>
-    ensures { KeptOpen construct → MatchOption result
+    ensures { IsSoundOpen construct → MatchOption result
         (ClosesNothing construct bracket)
         (λ form. ClosesAs construct bracket (form_of form) × IsDistinctInside (form_of form)) }
 {

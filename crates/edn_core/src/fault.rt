@@ -5,7 +5,7 @@ use thiserror::Error;
 
 #[derive(Clone, Copy, Debug, PartialEq, Eq, Error)]
 pub enum EdnFault {
-    /// A token of no kind, a bracket that closes nothing, a bad escape, a form that is said twice, or a byte that is no UTF-8.
+    /// A token of no kind, a bracket that closes nothing, a bad escape, a duplicate, or a byte that is not UTF-8.
     #[error("bad at byte {at}")]
     Bad { at: usize },
     /// What EDN has and this reader does not.

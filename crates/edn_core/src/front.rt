@@ -1,4 +1,4 @@
-//! What stands next, by its first two bytes.
+//! What comes next, by its first two bytes.
 ghost use Rattle.std.specs.Prelude.{◌∷◌};
 ghost use Rattle.edn_model.specs.Bytes.{hash};
 ghost use Rattle.edn_token.specs.Gaps.{GoesNoFurther};
@@ -18,7 +18,7 @@ pub(crate) enum Front {
     Token,
 }
 
-/// Neither white space nor a comment may stand here.
+/// Neither white space nor a comment may be here.
 pub(crate) fn front_of(here: &[u8]) -> Front
     requires { GoesNoFurther here.now }
     ensures { FrontIs here.now result }

@@ -6,8 +6,8 @@ ghost use Rattle.edn_model.specs.Steps as steps;
 ghost use Rattle.edn_model.specs.Steps.{Free, HasRoom};
 ghost use Rattle.edn_form.specs.View.{form_of};
 ghost use Rattle.edn_form.specs.declared.form.Edn.{Edn};
-ghost use Rattle.edn_alike.specs.Inside.{IsDistinctInside};
-ghost use Rattle.edn_core.specs.Frames.{frames_of, KeptOpen, LandsAs, IsRead, Leads, LeadsFrom, Whole, Opens, RefusedAt};
+ghost use Rattle.edn_duplicates.specs.Inside.{IsDistinctInside};
+ghost use Rattle.edn_core.specs.Frames.{frames_of, IsSoundOpen, LandsAs, ReadsForm, Leads, LeadsFrom, Whole, Opens, RefusedAt};
 ghost use Rattle.edn_core.specs.declared.construct.Construct.TheVariants.{Map, Set};
 ghost use Rattle.edn_core.specs.declared.fault.EdnFault.{EdnFault};
 ghost use Rattle.edn_core.specs.declared.progress.Progress.TheVariants.{Further};
@@ -15,7 +15,7 @@ ghost use Rattle.edn_core.specs.declared.progress.Progress.TheVariants.{Further}
 use crate::construct::{Construct, Frame, closed, has_room, wants_string};
 use crate::fault::EdnFault;
 use crate::progress::Progress;
-use edn_alike::Said;
+use edn_duplicates::FormCodes;
 use edn_form::Edn;
 use std::alloc::Global;
 
@@ -50,7 +50,7 @@ pub(crate) fn put(
     }
 }
 
-/// One more item stands behind the others.
+/// One more item is added at the end.
 pub(crate) fn grow<T: Drop>(items: &mut Vec<T>, item: T, next: usize) -> Result<Progress, EdnFault>
     ensures ok { IfOk result
         (λ p. (p ≡ Further next) × (items.new.items ≡ items.old.items ++ item ∷ [])) }
@@ -62,17 +62,17 @@ pub(crate) fn grow<T: Drop>(items: &mut Vec<T>, item: T, next: usize) -> Result<
     }
 }
 
-/// A form stands in a map: the value of the key that waits for one, or the next key.
+/// A form in a map: it is the value of the key that waits for one, or the next key.
 fn entry(
     alloc: Global,
     pairs: &mut Vec<(Edn, Edn)>,
     waiting: &mut Option<Edn>,
-    said: &mut Said,
+    said: &mut FormCodes,
     form: Edn,
     at: usize,
     next: usize,
 ) -> Result<Progress, EdnFault>
-    ensures { KeptOpen (Map pairs.old waiting.old said.old) → IsDistinctInside (form_of form)
+    ensures { IsSoundOpen (Map pairs.old waiting.old said.old) → IsDistinctInside (form_of form)
         → LandsAs (Map pairs.old waiting.old said.old) (form_of form) at next result
         (Map pairs.new waiting.new said.new) }
 {
@@ -82,21 +82,21 @@ fn entry(
     }
 }
 
-/// One more key stands in a map in which none waits for its value, or was said there before.
+/// Adds a key to a map in which none waits for its value, unless it was there before.
 fn key(
     alloc: Global,
     waiting: &mut Option<Edn>,
-    said: &mut Said,
+    said: &mut FormCodes,
     form: Edn,
     at: usize,
     next: usize,
 ) -> Result<Progress, EdnFault>
-    ensures { (pairs : Vec (Edn × Edn) Global) → KeptOpen (Map pairs None said.old)
+    ensures { (pairs : Vec (Edn × Edn) Global) → IsSoundOpen (Map pairs None said.old)
         → IsDistinctInside (form_of form)
         → LandsAs (Map pairs None said.old) (form_of form) at next result
         (Map pairs waiting.new said.new) }
 {
-    if said.say_form(alloc, &form)? {
+    if said.insert_form(alloc, &form)? {
         *waiting = Some(form);
         Ok(Progress::Further(next))
     } else {
@@ -104,19 +104,19 @@ fn key(
     }
 }
 
-/// One more member stands in a set, or was said there before.
+/// Adds a member to a set, unless it was there before.
 fn member(
     alloc: Global,
     items: &mut Vec<Edn>,
-    said: &mut Said,
+    said: &mut FormCodes,
     form: Edn,
     at: usize,
     next: usize,
 ) -> Result<Progress, EdnFault>
-    ensures { KeptOpen (Set items.old said.old) → IsDistinctInside (form_of form)
+    ensures { IsSoundOpen (Set items.old said.old) → IsDistinctInside (form_of form)
         → LandsAs (Set items.old said.old) (form_of form) at next result (Set items.new said.new) }
 {
-    if said.say_form(alloc, &form)? {
+    if said.insert_form(alloc, &form)? {
         grow(items, form, next)
     } else {
         Err(EdnFault::Bad { at })
@@ -135,7 +135,7 @@ fn over(frames: &mut Vec<Frame>, form: Edn, next: usize) -> Result<Progress, Edn
 
 /// The form is what was to be read.
 fn whole(alloc: Global, form: Edn, next: usize) -> Result<Progress, EdnFault>
-    ensures { IsRead form next result }
+    ensures { ReadsForm form next result }
 {
     match Box::new(alloc, form) {
         Ok(form) => Ok(Progress::Read(form, next)),

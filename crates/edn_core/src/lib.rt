@@ -1,4 +1,4 @@
-//! The reader of EDN: the bytes of a text, and the form that stands next in them.
+//! The reader of EDN: the bytes of a text, and the next form in them.
 #![tactic(auto)]
 
 mod construct;

@@ -7,7 +7,7 @@ use crate::construct::{Construct, Frame};
 use crate::fault::EdnFault;
 use crate::land::{grow, may_open};
 use crate::progress::Progress;
-use edn_alike::Said;
+use edn_duplicates::FormCodes;
 use std::alloc::Global;
 
 pub(crate) fn list(
@@ -49,7 +49,7 @@ pub(crate) fn map(
         → LeadsFrom bytes at frames.old.items result frames.new.items }
 {
     may_open(frames.as_slice(), at)?;
-    let construct = Construct::Map(Vec::new(alloc), None, Said::new(alloc));
+    let construct = Construct::Map(Vec::new(alloc), None, FormCodes::new(alloc));
     grow(frames, Frame { construct, at }, next)
 }
 
@@ -64,6 +64,6 @@ pub(crate) fn set(
         → LeadsFrom bytes at frames.old.items result frames.new.items }
 {
     may_open(frames.as_slice(), at)?;
-    let construct = Construct::Set(Vec::new(alloc), Said::new(alloc));
+    let construct = Construct::Set(Vec::new(alloc), FormCodes::new(alloc));
     grow(frames, Frame { construct, at }, next)
 }

@@ -5,9 +5,9 @@ use edn_form::Edn;
 pub(crate) enum Progress {
     /// To this place, with what is open there.
     Further(usize),
-    /// The form is read, and this is the place behind it. It is boxed, since most steps lead further, and each call on the
+    /// The form is read, and this is the place after it. It is boxed, since most steps lead further, and each call on the
     /// way hands on what the step comes to.
     Read(Box<Edn>, usize),
-    /// Nothing more stands in the text.
+    /// Nothing more is in the text.
     End,
 }

@@ -1,7 +1,7 @@
-//! Reads the form that stands next.
+//! Reads the next form.
 ghost use Rattle.std.specs.Prelude.{◌≡◌, ◌<◌, ◌≤◌, ℕ, ⊤, length};
 ghost use Rattle.edn_model.specs.Form.{Form};
-ghost use Rattle.edn_model.specs.Grammar.{FormStands, OnlyGap};
+ghost use Rattle.edn_model.specs.Grammar.{FormAt, OnlyGap};
 ghost use Rattle.edn_model.specs.Faults.{Fault, FaultAt};
 ghost use Rattle.edn_core.specs.Answers.{MatchAnswer, Answers};
 
@@ -11,15 +11,15 @@ use crate::step::step;
 use edn_form::Edn;
 use std::alloc::Global;
 
-/// The form that stands next from a place on, and the place behind its text; none where white space, comments and
+/// The next form from a place on, and the place after its text; none where white space, comments and
 /// discarded forms alone remain.
 pub fn read_form(alloc: Global, bytes: &[u8], at: usize) -> Result<Option<(Edn, usize)>, EdnFault>
     ensures next { MatchAnswer result
-        (FormStands bytes.now at) (OnlyGap bytes.now at) (FaultAt bytes.now at) }
+        (FormAt bytes.now at) (OnlyGap bytes.now at) (FaultAt bytes.now at) }
     ensures ahead { MatchAnswer result
         (λ _ next. (at < next) × (next ≤ length bytes.now)) ⊤
         (λ _ byte. (at ≤ byte) × (byte ≤ length bytes.now)) }
-    ensures form { (f : Form) (next : ℕ) → FormStands bytes.now at f next
+    ensures form { (f : Form) (next : ℕ) → FormAt bytes.now at f next
         → MatchAnswer result (λ g m. (g ≡ f) × (m ≡ next)) ⊥ (λ _ _. ⊥) }
     ensures end { OnlyGap bytes.now at → MatchAnswer result (λ _ _. ⊥) ⊤ (λ _ _. ⊥) }
     ensures fault { (why : Fault) (byte : ℕ) → FaultAt bytes.now at why byte

@@ -1,4 +1,4 @@
-//! One step of the reader: over what stands between forms, and over what stands next.
+//! One step of the reader: over what is between forms, and over what comes next.
 ghost use Rattle.std.specs.Prelude.{◌≡◌, ℕ, ◌≤◌, List, [], length, drop};
 ghost use Rattle.edn_token.specs.Gaps.{GoesNoFurther};
 ghost use Rattle.edn_core.specs.Frames.{LeadsFrom};
@@ -29,7 +29,7 @@ pub(crate) fn step(
     }
 }
 
-/// Over what stands here, where neither white space nor a comment does.
+/// Over what is here, which is neither white space nor a comment.
 fn take(
     alloc: Global,
     bytes: &[u8],

@@ -2,10 +2,10 @@
 ghost use Rattle.std.specs.Prelude.{◌≡◌, ℕ, ◌+◌, ◌<◌, ◌≤◌, true, ◌∷◌, List, length, drop};
 ghost use Rattle.edn_model.specs.Bytes.{quote, TokenEnds};
 ghost use Rattle.edn_model.specs.Faults as faults;
-ghost use Rattle.edn_model.specs.Faults.{TokenStands};
+ghost use Rattle.edn_model.specs.Faults.{TokenAt};
 ghost use Rattle.edn_model.specs.Steps.{opens_of, Free};
 ghost use Rattle.edn_model.specs.Form as model;
-ghost use Rattle.edn_model.specs.Tokens.{IsAtom, StringStands};
+ghost use Rattle.edn_model.specs.Tokens.{IsAtom, StringAt};
 ghost use Rattle.edn_core.specs.Fronts.{BeginsToken};
 ghost use Rattle.edn_core.specs.Frames.{frames_of, LeadsFrom, Enters};
 
@@ -19,7 +19,7 @@ use edn_token::{StringStop, Token, judge, keyword_name, read_string, read_token}
 use fb_text::Text;
 use std::alloc::Global;
 
-/// The token that stands here.
+/// The token here.
 pub(crate) fn token(
     alloc: Global,
     bytes: &[u8],
@@ -40,7 +40,7 @@ pub(crate) fn token(
     }
 }
 
-/// What the token comes to that stands from one place up to the next.
+/// What the token from one place up to the next comes to.
 fn judged(
     alloc: Global,
     frames: &mut Vec<Frame>,
@@ -49,7 +49,7 @@ fn judged(
     next: usize,
 ) -> Result<Progress, EdnFault>
     ensures { (bytes : List ℕ) → at < next → next ≤ length bytes
-        → TokenStands (drop at bytes) token.now (drop next bytes) → TokenEnds (drop next bytes)
+        → TokenAt (drop at bytes) token.now (drop next bytes) → TokenEnds (drop next bytes)
         → 0 < length token.now → Free (frames_of bytes frames.old.items)
         → LeadsFrom bytes at frames.old.items result frames.new.items }
 {
@@ -66,7 +66,7 @@ fn judged(
     }
 }
 
-/// The symbol that stands from one place up to the next. What makes a text has a call of its own, so that other tokens
+/// The symbol from one place up to the next. What makes a text has a call of its own, so that other tokens
 /// make no room for it.
 fn symbol(
     alloc: Global,
@@ -76,14 +76,14 @@ fn symbol(
     next: usize,
 ) -> Result<Progress, EdnFault>
     ensures { (bytes : List ℕ) → IsAtom (model.symbol token.now) token.now → at < next
-        → next ≤ length bytes → TokenStands (drop at bytes) token.now (drop next bytes)
+        → next ≤ length bytes → TokenAt (drop at bytes) token.now (drop next bytes)
         → TokenEnds (drop next bytes) → Free (frames_of bytes frames.old.items)
         → LeadsFrom bytes at frames.old.items result frames.new.items }
 {
     put(alloc, frames, Edn::Sym(Text::of(alloc, token)?), at, next)
 }
 
-/// The keyword that stands from one place up to the next.
+/// The keyword from one place up to the next.
 fn keyword(
     alloc: Global,
     frames: &mut Vec<Frame>,
@@ -92,7 +92,7 @@ fn keyword(
     next: usize,
 ) -> Result<Progress, EdnFault>
     ensures { (bytes : List ℕ) → IsAtom (model.keyword (drop 1 token.now)) token.now → at < next
-        → next ≤ length bytes → TokenStands (drop at bytes) token.now (drop next bytes)
+        → next ≤ length bytes → TokenAt (drop at bytes) token.now (drop next bytes)
         → TokenEnds (drop next bytes) → Free (frames_of bytes frames.old.items)
         → LeadsFrom bytes at frames.old.items result frames.new.items }
 {
@@ -112,7 +112,7 @@ fn tag(
     grow(frames, Frame { construct, at }, next)
 }
 
-/// The string whose first quote stands here.
+/// The string whose first quote is here.
 pub(crate) fn string(
     alloc: Global,
     bytes: &[u8],
@@ -132,7 +132,7 @@ pub(crate) fn string(
     }
 }
 
-/// What a string comes to that stands from one place up to the next.
+/// What a string from one place up to the next comes to.
 fn whole_string(
     alloc: Global,
     frames: &mut Vec<Frame>,
@@ -141,7 +141,7 @@ fn whole_string(
     next: usize,
 ) -> Result<Progress, EdnFault>
     ensures { (bytes : List ℕ) → at < next → next ≤ length bytes
-        → StringStands text (drop at bytes) (drop next bytes)
+        → StringAt text (drop at bytes) (drop next bytes)
         → LeadsFrom bytes at frames.old.items result frames.new.items }
 {
     if wants_string(frames.as_slice()) {
@@ -151,7 +151,7 @@ fn whole_string(
     }
 }
 
-/// What the innermost construct, which is a tag, makes of the string behind it.
+/// What the innermost construct, which is a tag, makes of the string after it.
 fn tagged(
     alloc: Global,
     frames: &mut Vec<Frame>,
@@ -162,7 +162,7 @@ fn tagged(
     requires { (bytes : List ℕ)
         → faults.wants_string (opens_of (frames_of bytes frames.now.items)) ≡ true }
     ensures { (bytes : List ℕ) → at < next → next ≤ length bytes
-        → StringStands text (drop at bytes) (drop next bytes)
+        → StringAt text (drop at bytes) (drop next bytes)
         → LeadsFrom bytes at frames.old.items result frames.new.items }
 {
     let Some(innermost) = frames.pop() else {

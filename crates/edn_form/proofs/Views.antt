@@ -3,7 +3,8 @@ use Rattle.std.proofs.Common.{◌≡◌, Bool, ℕ, zero, suc, ℤ, List, [], �
 use Rattle.std.proofs.lemmas.List.{length-map}
 use Rattle.edn_model.specs.Form as form
 use Rattle.fb_text.specs.declared.texts.Text.{Text}
-use Rattle.edn_form.specs.declared.form.Edn.{Edn, Nil, Bool as Bool', Int, Str, Sym, Key, List as List', Vector, Map, Set, Inst, Uuid, the_lemmas}
+use Rattle.edn_form.specs.declared.form.Edn.{Edn, Nil, Bool as Bool', Int, Str, Sym, Key, List as List', Vector, Map, Set, Inst, Uuid}
+use Rattle.edn_form.specs.declared.form.Edn.{the_lemmas}
 use Rattle.edn_form.specs.declared.form.Items.{Items}
 use Rattle.edn_form.specs.declared.form.Pairs.{Pairs}
 use Rattle.edn_form.specs.View.{form_of, forms_of, pairs_of, members, entries}

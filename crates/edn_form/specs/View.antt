@@ -1,4 +1,4 @@
--- The form that a value of `Edn` stands for.
+-- The form that a value of `Edn` is.
 -- EDN, edn-format: "Built-in elements" and "Built-in tagged elements".
 use Rattle.std.specs.Prelude.{List, map}
 use Rattle.edn_model.specs.Form as form

@@ -50,42 +50,52 @@ split number here text rest date is =
 
 -- ---- what was read of a date, and what follows
 
-after_year : (year : ℕ) (number : ℤ) (here rest x : List ℕ) (s : Split number here x) → Front (IsFour year) here rest → Cut year s.year rest (behind_year s.month s.day x)
+after_year : (year : ℕ) (number : ℤ) (here rest x : List ℕ) (s : Split number here x) → Front (IsFour year) here rest
+    → Cut year s.year rest (behind_year s.month s.day x)
 after_year year number here rest x s front = after_four year s.year here rest (behind_year s.month s.day x) front s.year_below s.is
 
-after_month : (year month : ℕ) (number : ℤ) (here between rest x : List ℕ) (s : Split number here x) → Front (IsFour year) here (minus ∷ between) → Front (IsTwo month) between rest
+after_month : (year month : ℕ) (number : ℤ) (here between rest x : List ℕ) (s : Split number here x)
+    → Front (IsFour year) here (minus ∷ between) → Front (IsTwo month) between rest
     → Cut month s.month rest (behind_month s.day x)
 after_month year month number here between rest x s years months =
-    after_two month s.month between rest (behind_month s.day x) months s.month_below (tails (after_year year number here (minus ∷ between) x s years).rest)
+    after_two month s.month between rest (behind_month s.day x) months s.month_below
+    (tails (after_year year number here (minus ∷ between) x s years).rest)
 
 pub no_year : (here : List ℕ) → ((n : ℕ) → NoFront (IsFour n) here) → (number : ℤ) → NoFront (IsDate number) here
 no_year here none number text rest date is =
     let s = split number here text rest date is in
     none s.year (digits 4 s.year) (behind_year s.month s.day rest) (s.year_below, refl) s.is
 
-pub no_first_mark : (year : ℕ) (here rest : List ℕ) → Front (IsFour year) here rest → ((x : List ℕ) → rest ≢ minus ∷ x) → (number : ℤ) → NoFront (IsDate number) here
+pub no_first_mark : (year : ℕ) (here rest : List ℕ) → Front (IsFour year) here rest
+    → ((x : List ℕ) → rest ≢ minus ∷ x) → (number : ℤ) → NoFront (IsDate number) here
 no_first_mark year here rest front none number text x date is =
     let s = split number here text x date is in
     none (digits 2 s.month ++ behind_month s.day x) (after_year year number here rest x s front).rest
 
-pub no_month : (year : ℕ) (here rest : List ℕ) → Front (IsFour year) here (minus ∷ rest) → ((n : ℕ) → NoFront (IsTwo n) rest) → (number : ℤ) → NoFront (IsDate number) here
+pub no_month : (year : ℕ) (here rest : List ℕ) → Front (IsFour year) here (minus ∷ rest)
+    → ((n : ℕ) → NoFront (IsTwo n) rest) → (number : ℤ) → NoFront (IsDate number) here
 no_month year here rest front none number text x date is =
     let s = split number here text x date is in
-    none s.month (digits 2 s.month) (behind_month s.day x) (s.month_below, refl) (tails (after_year year number here (minus ∷ rest) x s front).rest)
+    none s.month (digits 2 s.month) (behind_month s.day x) (s.month_below, refl)
+    (tails (after_year year number here (minus ∷ rest) x s front).rest)
 
-pub no_second_mark : (year month : ℕ) (here between rest : List ℕ) → Front (IsFour year) here (minus ∷ between) → Front (IsTwo month) between rest → ((x : List ℕ) → rest ≢ minus ∷ x)
+pub no_second_mark : (year month : ℕ) (here between rest : List ℕ) → Front (IsFour year) here (minus ∷ between)
+    → Front (IsTwo month) between rest → ((x : List ℕ) → rest ≢ minus ∷ x)
     → (number : ℤ) → NoFront (IsDate number) here
 no_second_mark year month here between rest years months none number text x date is =
     let s = split number here text x date is in
     none (digits 2 s.day ++ x) (after_month year month number here between rest x s years months).rest
 
-pub no_day : (year month : ℕ) (here between rest : List ℕ) → Front (IsFour year) here (minus ∷ between) → Front (IsTwo month) between (minus ∷ rest) → ((n : ℕ) → NoFront (IsTwo n) rest)
+pub no_day : (year month : ℕ) (here between rest : List ℕ) → Front (IsFour year) here (minus ∷ between)
+    → Front (IsTwo month) between (minus ∷ rest) → ((n : ℕ) → NoFront (IsTwo n) rest)
     → (number : ℤ) → NoFront (IsDate number) here
 no_day year month here between rest years months none number text x date is =
     let s = split number here text x date is in
-    none s.day (digits 2 s.day) x (s.day_below, refl) (tails (after_month year month number here between (minus ∷ rest) x s years months).rest)
+    none s.day (digits 2 s.day) x (s.day_below, refl)
+    (tails (after_month year month number here between (minus ∷ rest) x s years months).rest)
 
-pub no_such_day : (year month day : ℕ) (here between behind rest : List ℕ) → Front (IsFour year) here (minus ∷ between) → Front (IsTwo month) between (minus ∷ behind)
+pub no_such_day : (year month day : ℕ) (here between behind rest : List ℕ) → Front (IsFour year) here (minus ∷ between)
+    → Front (IsTwo month) between (minus ∷ behind)
     → Front (IsTwo day) behind rest → ¬ IsDay year month day → (number : ℤ) → NoFront (IsDate number) here
 no_such_day year month day here between behind rest years months days none number text x date is =
     let s = split number here text x date is in
@@ -97,7 +107,8 @@ no_such_day year month day here between behind rest years months days none numbe
     let R : ℕ → Type 0 = λ d. IsDay s.year s.month d in
     none (subst P (sym first.number) (subst Q (sym second.number) (subst R (sym third.number) s.exists)))
 
-pub is_date : (year month day : ℕ) (number : ℤ) (here between behind rest : List ℕ) → Front (IsFour year) here (minus ∷ between) → Front (IsTwo month) between (minus ∷ behind)
+pub is_date : (year month day : ℕ) (number : ℤ) (here between behind rest : List ℕ) → Front (IsFour year) here (minus ∷ between)
+    → Front (IsTwo month) between (minus ∷ behind)
     → Front (IsTwo day) behind rest → IsDay year month day → number ≡ days_from_civil (pos year) month day → Front (IsDate number) here rest
 is_date year month day number here between behind rest years months days exists is =
     record {
@@ -105,6 +116,7 @@ is_date year month day number here between behind rest years months days exists 
       kind = record { year = year; month = month; day = day; later = exists.0; exists = exists.1; text = refl; is = is };
       is = years.is ∙ ap (λ (t : List ℕ). t ++ minus ∷ between) years.kind.1
           ∙ ap (λ (t : List ℕ). digits 4 year ++ minus ∷ t) (months.is ∙ ap (λ (t : List ℕ). t ++ minus ∷ behind) months.kind.1)
-          ∙ ap (λ (t : List ℕ). digits 4 year ++ minus ∷ (digits 2 month ++ minus ∷ t)) (days.is ∙ ap (λ (t : List ℕ). t ++ rest) days.kind.1)
+          ∙ ap (λ (t : List ℕ). digits 4 year ++ minus ∷ (digits 2 month ++ minus ∷ t))
+          (days.is ∙ ap (λ (t : List ℕ). t ++ rest) days.kind.1)
           ∙ sym (spread year month day rest);
     }

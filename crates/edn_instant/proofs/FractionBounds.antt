@@ -16,7 +16,8 @@ fold_below (b ∷ digits) n h =
     let parts = Each-tail is_digit b digits h in
     let rest = fold_below digits (with_digit n b) parts.1 in
     let value = digit_value b parts.0 in
-    let wider : (with_digit n b + 1) * 10 ^ length digits ≤ ((n + 1) * 10) * 10 ^ length digits = mul-le-mul_right (10 ^ length digits) (omega arith) in
+    let wider : (with_digit n b + 1) * 10 ^ length digits ≤ ((n + 1) * 10) * 10 ^ length digits =
+    mul-le-mul_right (10 ^ length digits) (omega arith) in
     let whole : ((n + 1) * 10) * 10 ^ length digits ≡ (n + 1) * 10 ^ length (b ∷ digits) =
     mul_assoc (n + 1) 10 (10 ^ length digits) ∙ ap (λ (k : ℕ). (n + 1) * k) (sym (pow-succ' 10 (length digits))) in
     omega (arith, rest, wider, whole)

@@ -7,11 +7,13 @@ use Rattle.edn_instant.specs.Fronts.{Front, NoFront, IsTwo, IsFour}
 -- what stands in front of a text is read in one way
 pub after_two : (m n : ℕ) (here rest x : List ℕ) → Front (IsTwo m) here rest → n < 100 → here ≡ digits 2 n ++ x → Cut m n rest x
 after_two m n here rest x front below is =
-    same_digits 2 m n rest x (omega (arith, front.kind.0)) (omega arith) (ap (λ (t : List ℕ). t ++ rest) (sym front.kind.1) ∙ sym front.is ∙ is)
+    same_digits 2 m n rest x (omega (arith, front.kind.0)) (omega arith)
+    (ap (λ (t : List ℕ). t ++ rest) (sym front.kind.1) ∙ sym front.is ∙ is)
 
 pub after_four : (m n : ℕ) (here rest x : List ℕ) → Front (IsFour m) here rest → n < 10000 → here ≡ digits 4 n ++ x → Cut m n rest x
 after_four m n here rest x front below is =
-    same_digits 4 m n rest x (omega (arith, front.kind.0)) (omega arith) (ap (λ (t : List ℕ). t ++ rest) (sym front.kind.1) ∙ sym front.is ∙ is)
+    same_digits 4 m n rest x (omega (arith, front.kind.0)) (omega arith)
+    (ap (λ (t : List ℕ). t ++ rest) (sym front.kind.1) ∙ sym front.is ∙ is)
 
 pub front_then : (Kind : List ℕ → Type 0) (here rest x : List ℕ) → Front Kind here rest → rest ≡ x → Front Kind here x
 front_then Kind here rest x front is = subst (Front Kind here) is front
@@ -44,7 +46,10 @@ no_high here none n text rest four is =
     none (n / 100) (digits 2 (n / 100)) (digits 2 (n % 100) ++ rest) (high_of n four.0, refl)
     (is ∙ ap (λ (t : List ℕ). t ++ rest) four.1 ∙ four_is_two_and_two n rest)
 
-pub no_low : (high : ℕ) (here behind : List ℕ) → Front (IsTwo high) here behind → ((n : ℕ) → NoFront (IsTwo n) behind) → (n : ℕ) → NoFront (IsFour n) here
+pub no_low : (high : ℕ) (here behind : List ℕ) → Front (IsTwo high) here behind
+    → ((n : ℕ) → NoFront (IsTwo n) behind) → (n : ℕ) → NoFront (IsFour n) here
 no_low high here behind front none n text rest four is =
-    let cut = after_two high (n / 100) here behind (digits 2 (n % 100) ++ rest) front (high_of n four.0) (is ∙ ap (λ (t : List ℕ). t ++ rest) four.1 ∙ four_is_two_and_two n rest) in
+    let cut =
+    after_two high (n / 100) here behind (digits 2 (n % 100) ++ rest) front (high_of n four.0)
+    (is ∙ ap (λ (t : List ℕ). t ++ rest) four.1 ∙ four_is_two_and_two n rest) in
     none (n % 100) (digits 2 (n % 100)) rest (low_of n, refl) cut.rest

@@ -1,10 +1,10 @@
--- What stands in front of an instant's text, part by part.
+-- What is at the front of an instant's text, part by part.
 -- This project's own choice; the parts are those of RFC 3339.
 use Rattle.std.specs.Prelude.{◌≡◌, ◌≢◌, ℕ, ◌+◌, ◌*◌, ◌<◌, ◌≤◌, ℤ, pos, List, ◌++◌}
 use Rattle.jiff_core.specs.Calendar.{IsCivilDate}
 use Rattle.edn_model.specs.Instants.{digits, minute_text, second_text, IsFraction, IsTime, IsOffset}
 
--- a text of this kind stands here, up to rest
+-- a text of this kind is here, up to rest
 pub record Front (Kind : List ℕ → Type 0) (here rest : List ℕ) : Type 0 where
   pub text : List ℕ
   pub kind : Kind text

@@ -1,4 +1,4 @@
-//! The strings behind `#inst` and `#uuid`: which instant, and which identifier.
+//! The strings after `#inst` and `#uuid`: which instant, and which identifier.
 #![tactic(auto)]
 
 mod dates;

@@ -120,7 +120,7 @@ fn offset(bytes: &[u8]) -> Option<i32>
     }
 }
 
-/// The minutes of `hh:mm` with nothing behind it.
+/// The minutes of `hh:mm` with nothing after it.
 fn whole_clock(bytes: &[u8]) -> Option<u32>
     ensures { MatchOption result ((minutes : ℕ) → ¬ IsClock minutes bytes.now)
         (λ minutes. IsClock minutes bytes.now) }

@@ -43,8 +43,10 @@ mutual
   alike-self (form.keyword k) = same_bytes k
   alike-self (form.list fs) = in_order-self fs
   alike-self (form.vector fs) = in_order-self fs
-  alike-self (form.map ps) = both_true (count_pairs ps == count_pairs ps) (pairs_among ps ps) (same_number (count_pairs ps)) (pairs_among-self ps ps (λ test h. h))
-  alike-self (form.set fs) = both_true (count fs == count fs) (forms_among fs fs) (same_number (count fs)) (forms_among-self fs fs (λ test h. h))
+  alike-self (form.map ps) =
+      both_true (count_pairs ps == count_pairs ps) (pairs_among ps ps) (same_number (count_pairs ps)) (pairs_among-self ps ps (λ test h. h))
+  alike-self (form.set fs) =
+      both_true (count fs == count fs) (forms_among fs fs) (same_number (count fs)) (forms_among-self fs fs (λ test h. h))
   alike-self (form.instant z) = same_int z
   alike-self (form.uuid n) = same_number n
 
@@ -58,9 +60,11 @@ mutual
       both_true (any (alike f) gs) (forms_among fs gs) (within (alike f) (either_left (alike f f) (any (alike f) fs) (alike-self f)))
       (forms_among-self fs gs (λ test h. within test (either_right (test f) (any test fs) h)))
 
-  pairs_among-self : (ps qs : form.Pairs) → ((test : form.Form → form.Form → Bool) → any_pair test ps ≡ true → any_pair test qs ≡ true) → pairs_among ps qs ≡ true
+  pairs_among-self : (ps qs : form.Pairs)
+      → ((test : form.Form → form.Form → Bool) → any_pair test ps ≡ true → any_pair test qs ≡ true) → pairs_among ps qs ≡ true
   pairs_among-self form.no_pairs qs within = refl
   pairs_among-self (form.pair k v ps) qs within =
       let test : form.Form → form.Form → Bool = λ l w. alike k l && alike v w in
-      both_true (any_pair test qs) (pairs_among ps qs) (within test (either_left (test k v) (any_pair test ps) (both_true (alike k k) (alike v v) (alike-self k) (alike-self v))))
+      both_true (any_pair test qs) (pairs_among ps qs)
+      (within test (either_left (test k v) (any_pair test ps) (both_true (alike k k) (alike v v) (alike-self k) (alike-self v))))
       (pairs_among-self ps qs (λ other h. within other (either_right (other k v) (any_pair other ps) h)))

@@ -7,7 +7,7 @@ use Rattle.std.specs.Prelude.{◌==◌, not, if◌then◌else◌}
 use Rattle.std.specs.Str.{IsUtf8}
 use Rattle.edn_model.specs.Form as form
 use Rattle.edn_model.specs.Bytes.{quote, backslash, is_plain, TokenEnds}
-use Rattle.edn_model.specs.Tokens.{IsAtom, IsSymbol, IsKeyword, Spells, nothing, plain, escape, StringStands}
+use Rattle.edn_model.specs.Tokens.{IsAtom, IsSymbol, IsKeyword, Spells, nothing, plain, escape, StringAt}
 use Rattle.edn_model.specs.Grammar.{Text, atom, string}
 use Rattle.edn_model.specs.Canon.{escaped, string_text, Canon}
 use Rattle.edn_model.proofs.Runs.{both_true}
@@ -41,10 +41,13 @@ quote_spells tail text rest h = escape refl refl h
 backslash_spells : (tail text rest : List ℕ) → Spells tail text rest → Spells (escaped 92 ++ tail) (92 ∷ text) rest
 backslash_spells tail text rest h = escape refl refl h
 
-plain_spells : (b : ℕ) (tail text rest : List ℕ) → (b == 9) ≡ false → (b == 10) ≡ false → (b == 13) ≡ false → (b == quote) ≡ false → (b == backslash) ≡ false
+plain_spells : (b : ℕ) (tail text rest : List ℕ) → (b == 9) ≡ false → (b == 10) ≡ false → (b == 13) ≡ false → (b == quote) ≡ false
+    → (b == backslash) ≡ false
     → Spells tail text rest → Spells (escaped b ++ tail) (b ∷ text) rest
 plain_spells b tail text rest p q r s t h =
-    let alone : escaped b ≡ b ∷ [] = none_of_five (b == 9) (b == 10) (b == 13) (b == quote) (b == backslash) (backslash ∷ 116 ∷ []) (backslash ∷ 110 ∷ []) (backslash ∷ 114 ∷ []) (backslash ∷ quote ∷ []) (backslash ∷ backslash ∷ []) (b ∷ []) p q r s t in
+    let alone : escaped b ≡ b ∷ [] =
+    none_of_five (b == 9) (b == 10) (b == 13) (b == quote) (b == backslash) (backslash ∷ 116 ∷ []) (backslash ∷ 110 ∷ [])
+    (backslash ∷ 114 ∷ []) (backslash ∷ quote ∷ []) (backslash ∷ backslash ∷ []) (b ∷ []) p q r s t in
     let itself : is_plain b ≡ true = both_true (not (b == quote)) (not (b == backslash)) (ap not s) (ap not t) in
     let family : List ℕ → Type 0 = λ z. Spells (z ++ tail) (b ∷ text) rest in
     subst family (sym alone) (plain itself h)
@@ -73,9 +76,10 @@ pub escaped_spells : (s rest : List ℕ) → Spells (flat_map escaped s ++ quote
 escaped_spells [] rest = nothing
 escaped_spells (b ∷ s) rest =
     let family : List ℕ → Type 0 = λ z. Spells z (b ∷ s) (quote ∷ rest) in
-    subst family (sym (append_assoc (escaped b) (flat_map escaped s) (quote ∷ rest))) (byte_spells b (flat_map escaped s ++ quote ∷ rest) s (quote ∷ rest) (escaped_spells s rest))
+    subst family (sym (append_assoc (escaped b) (flat_map escaped s) (quote ∷ rest)))
+    (byte_spells b (flat_map escaped s ++ quote ∷ rest) s (quote ∷ rest) (escaped_spells s rest))
 
-pub string_stands : (s rest : List ℕ) → IsUtf8 s → StringStands s (string_text s ++ rest) rest
+pub string_stands : (s rest : List ℕ) → IsUtf8 s → StringAt s (string_text s ++ rest) rest
 string_stands s rest utf8 = record {
   inside = flat_map escaped s ++ quote ∷ rest;
   opens = ap (λ (z : List ℕ). quote ∷ z) (append_assoc (flat_map escaped s) (quote ∷ []) rest);
@@ -85,7 +89,8 @@ string_stands s rest utf8 = record {
 
 -- ---- tokens
 
-pub string_text_is : (depth : ℕ) (s bytes rest : List ℕ) → IsUtf8 s → Canon (form.string s) bytes → Text depth (form.string s) (bytes ++ rest) rest
+pub string_text_is : (depth : ℕ) (s bytes rest : List ℕ) → IsUtf8 s → Canon (form.string s) bytes
+    → Text depth (form.string s) (bytes ++ rest) rest
 string_text_is depth s bytes rest utf8 e =
     let family : List ℕ → Type 0 = λ z. Text depth (form.string s) (z ++ rest) rest in
     subst family (sym e) (string (string_stands s rest utf8))
@@ -96,11 +101,14 @@ atom_text_is depth f bytes rest h ends = atom bytes h refl ends
 pub nil_text_is : (depth : ℕ) (bytes rest : List ℕ) → Canon form.nil bytes → TokenEnds rest → Text depth form.nil (bytes ++ rest) rest
 nil_text_is depth bytes rest e ends = atom_text_is depth form.nil bytes rest e ends
 
-pub boolean_text_is : (depth : ℕ) (b : Bool) (bytes rest : List ℕ) → Canon (form.boolean b) bytes → TokenEnds rest → Text depth (form.boolean b) (bytes ++ rest) rest
+pub boolean_text_is : (depth : ℕ) (b : Bool) (bytes rest : List ℕ) → Canon (form.boolean b) bytes → TokenEnds rest
+    → Text depth (form.boolean b) (bytes ++ rest) rest
 boolean_text_is depth b bytes rest e ends = atom_text_is depth (form.boolean b) bytes rest e ends
 
-pub symbol_text_is : (depth : ℕ) (s bytes rest : List ℕ) → IsSymbol s → Canon (form.symbol s) bytes → TokenEnds rest → Text depth (form.symbol s) (bytes ++ rest) rest
+pub symbol_text_is : (depth : ℕ) (s bytes rest : List ℕ) → IsSymbol s → Canon (form.symbol s) bytes → TokenEnds rest
+    → Text depth (form.symbol s) (bytes ++ rest) rest
 symbol_text_is depth s bytes rest h e ends = atom_text_is depth (form.symbol s) bytes rest (e, h) ends
 
-pub keyword_text_is : (depth : ℕ) (k bytes rest : List ℕ) → IsKeyword k → Canon (form.keyword k) bytes → TokenEnds rest → Text depth (form.keyword k) (bytes ++ rest) rest
+pub keyword_text_is : (depth : ℕ) (k bytes rest : List ℕ) → IsKeyword k → Canon (form.keyword k) bytes → TokenEnds rest
+    → Text depth (form.keyword k) (bytes ++ rest) rest
 keyword_text_is depth k bytes rest h e ends = atom_text_is depth (form.keyword k) bytes rest (e, h) ends

@@ -3,9 +3,12 @@ use Rattle.std.proofs.Common.{◌≡◌, ◌≢◌, ◌⊎◌, ℕ, ◌≤◌, B
 use Rattle.std.proofs.lemmas.Bool.Decides.{nat_tests}
 use Rattle.std.specs.Prelude.{◌==◌, ◌&&◌, ◌||◌, not, if◌then◌else◌}
 use Rattle.edn_model.specs.Form as form
-use Rattle.edn_model.specs.Bytes.{quote, hash, open_paren, close_paren, semicolon, open_bracket, close_bracket, underscore, open_brace, close_brace, is_blank, is_opening, is_closing, is_token_byte, ends_token, may_begin_token, begins_no_token, Each, NoCharacter}
+use Rattle.edn_model.specs.Bytes.{quote, hash, open_paren, close_paren, semicolon, open_bracket, close_bracket, underscore, open_brace}
+use Rattle.edn_model.specs.Bytes.{close_brace, is_blank, is_opening, is_closing, is_token_byte, ends_token, may_begin_token}
+use Rattle.edn_model.specs.Bytes.{begins_no_token, Each, NoCharacter}
 use Rattle.edn_model.specs.Tokens.{IsAtom}
-use Rattle.edn_model.specs.Faults.{Open, in_list, in_vector, in_map, behind_key, in_set, behind_discard, behind_inst, behind_uuid, closes, opens_collection, opens_discard, TokenStands}
+use Rattle.edn_model.specs.Faults.{Open, in_list, in_vector, in_map, behind_key, in_set, behind_discard, behind_inst, behind_uuid, closes}
+use Rattle.edn_model.specs.Faults.{opens_collection, opens_discard, TokenAt}
 use Rattle.edn_model.proofs.Runs.{both, Each-tail}
 use Rattle.edn_model.proofs.Utf8.{no_character_high}
 use Rattle.edn_model.proofs.OneForm.{not_true, atom_first}
@@ -27,7 +30,8 @@ by_tests blank comment closing string paren bracket brace marked n =
 abbrev pub front : List ℕ → ℕ
 front [] = 0
 front (b ∷ bytes) =
-    by_tests (is_blank b) (b == semicolon) (is_closing b) (b == quote) (b == open_paren) (b == open_bracket) (b == open_brace) (b == hash) (behind_hash bytes)
+    by_tests (is_blank b) (b == semicolon) (is_closing b) (b == quote) (b == open_paren) (b == open_bracket) (b == open_brace) (b == hash)
+    (behind_hash bytes)
 
 -- ---- white space and closing brackets
 
@@ -37,7 +41,8 @@ blank_first false q r s t u v w n h = cc
 
 pub blank_front : (b : ℕ) (bytes : List ℕ) → is_blank b ≡ true → front (b ∷ bytes) ≡ 1
 blank_front b bytes h =
-    blank_first (is_blank b) (b == semicolon) (is_closing b) (b == quote) (b == open_paren) (b == open_bracket) (b == open_brace) (b == hash) (behind_hash bytes) h
+    blank_first (is_blank b) (b == semicolon) (is_closing b) (b == quote) (b == open_paren) (b == open_bracket) (b == open_brace)
+    (b == hash) (behind_hash bytes) h
 
 closing_first : (p q r s t u v w : Bool) (n : ℕ) → p ≡ false → q ≡ false → r ≡ true → by_tests p q r s t u v w n ≡ 3
 closing_first true q r s t u v w n hp hq hr = cc
@@ -53,7 +58,8 @@ closing_no_comment b h = grind (arith, nat_tests)
 
 pub closing_front : (b : ℕ) (bytes : List ℕ) → is_closing b ≡ true → front (b ∷ bytes) ≡ 3
 closing_front b bytes h =
-    closing_first (is_blank b) (b == semicolon) (is_closing b) (b == quote) (b == open_paren) (b == open_bracket) (b == open_brace) (b == hash) (behind_hash bytes) (closing_no_blank b h) (closing_no_comment b h) h
+    closing_first (is_blank b) (b == semicolon) (is_closing b) (b == quote) (b == open_paren) (b == open_bracket) (b == open_brace)
+    (b == hash) (behind_hash bytes) (closing_no_blank b h) (closing_no_comment b h) h
 
 paren_closes : (b : ℕ) → (b == close_paren) ≡ true → is_closing b ≡ true
 paren_closes b h = grind (arith, nat_tests)
@@ -98,9 +104,18 @@ token_tests b h =
     let paren = neither (b == open_paren) (b == open_bracket || b == open_brace) brackets.0 in
     let square = neither (b == open_bracket) (b == open_brace) paren.1 in
     let marks = neither (b == quote) (b == semicolon) others.1 in
-    record { blank = blank.0; comment = marks.1; closing = brackets.1; string = marks.0; paren = paren.0; bracket = square.0; brace = square.1 }
+    record {
+      blank = blank.0;
+      comment = marks.1;
+      closing = brackets.1;
+      string = marks.0;
+      paren = paren.0;
+      bracket = square.0;
+      brace = square.1;
+    }
 
-token_first : (p q r s t u v w : Bool) (n : ℕ) → p ≡ false → q ≡ false → r ≡ false → s ≡ false → t ≡ false → u ≡ false → v ≡ false → (w ≡ true → n ≡ 10) → by_tests p q r s t u v w n ≡ 10
+token_first : (p q r s t u v w : Bool) (n : ℕ) → p ≡ false → q ≡ false → r ≡ false → s ≡ false → t ≡ false → u ≡ false → v ≡ false
+    → (w ≡ true → n ≡ 10) → by_tests p q r s t u v w n ≡ 10
 token_first true q r s t u v w n hp hq hr hs ht hu hv hw = cc
 token_first false true r s t u v w n hp hq hr hs ht hu hv hw = cc
 token_first false false true s t u v w n hp hq hr hs ht hu hv hw = cc
@@ -111,10 +126,12 @@ token_first false false false false false false true w n hp hq hr hs ht hu hv hw
 token_first false false false false false false false true n hp hq hr hs ht hu hv hw = hw refl
 token_first false false false false false false false false n hp hq hr hs ht hu hv hw = refl
 
-token_byte_front : (b : ℕ) (bytes : List ℕ) → is_token_byte b ≡ true → ((b == hash) ≡ true → behind_hash bytes ≡ 10) → front (b ∷ bytes) ≡ 10
+token_byte_front : (b : ℕ) (bytes : List ℕ) → is_token_byte b ≡ true → ((b == hash) ≡ true → behind_hash bytes ≡ 10)
+    → front (b ∷ bytes) ≡ 10
 token_byte_front b bytes h k =
     let t = token_tests b h in
-    token_first (is_blank b) (b == semicolon) (is_closing b) (b == quote) (b == open_paren) (b == open_bracket) (b == open_brace) (b == hash) (behind_hash bytes)
+    token_first (is_blank b) (b == semicolon) (is_closing b) (b == quote) (b == open_paren) (b == open_bracket) (b == open_brace)
+    (b == hash) (behind_hash bytes)
     t.blank t.comment t.closing t.string t.paren t.bracket t.brace k
 
 abbrev by_two : Bool → Bool → ℕ
@@ -131,22 +148,27 @@ equal a b h = grind (arith, nat_tests)
 unequal : (a b : ℕ) → a ≢ b → (a == b) ≡ false
 unequal a b h = grind (arith, nat_tests)
 
-lone_hash : (bytes : List ℕ) → ((more : List ℕ) → bytes ≢ underscore ∷ more) → ((more : List ℕ) → bytes ≢ open_brace ∷ more) → behind_hash bytes ≡ 10
+lone_hash : (bytes : List ℕ)
+    → ((more : List ℕ) → bytes ≢ underscore ∷ more) → ((more : List ℕ) → bytes ≢ open_brace ∷ more) → behind_hash bytes ≡ 10
 lone_hash [] h k = refl
 lone_hash (b ∷ bytes) h k =
-    hash_kind (b == underscore) (b == open_brace) (unequal b underscore (λ e. h bytes (ap (λ z. z ∷ bytes) e))) (unequal b open_brace (λ e. k bytes (ap (λ z. z ∷ bytes) e)))
+    hash_kind (b == underscore) (b == open_brace) (unequal b underscore (λ e. h bytes (ap (λ z. z ∷ bytes) e)))
+    (unequal b open_brace (λ e. k bytes (ap (λ z. z ∷ bytes) e)))
 
 hash_then : (b : ℕ) (bytes more : List ℕ) (c : ℕ) → (b == hash) ≡ true → bytes ≡ c ∷ more → b ∷ bytes ≡ hash ∷ c ∷ more
 hash_then b bytes more c h e = let same = equal b hash h in cc
 
-whole_front : (here bytes : List ℕ) (b : ℕ) → here ≡ b ∷ bytes → is_token_byte b ≡ true → ((more : List ℕ) → here ≢ hash ∷ underscore ∷ more) → ((more : List ℕ) → here ≢ hash ∷ open_brace ∷ more) → front here ≡ 10
+whole_front : (here bytes : List ℕ) (b : ℕ) → here ≡ b ∷ bytes → is_token_byte b ≡ true
+    → ((more : List ℕ) → here ≢ hash ∷ underscore ∷ more) → ((more : List ℕ) → here ≢ hash ∷ open_brace ∷ more) → front here ≡ 10
 whole_front here bytes b is h discard set =
     ap front is ∙ token_byte_front b bytes h
-    (λ e. lone_hash bytes (λ more i. discard more (is ∙ hash_then b bytes more underscore e i)) (λ more i. set more (is ∙ hash_then b bytes more open_brace e i)))
+    (λ e. lone_hash bytes (λ more i. discard more (is ∙ hash_then b bytes more underscore e i))
+    (λ more i. set more (is ∙ hash_then b bytes more open_brace e i)))
 
-pub stands_front : (here token rest : List ℕ) → TokenStands here token rest → token ≢ [] → front here ≡ 10
+pub stands_front : (here token rest : List ℕ) → TokenAt here token rest → token ≢ [] → front here ≡ 10
 stands_front here [] rest h some = absurd (some refl)
-stands_front here (b ∷ token) rest h some = whole_front here (token ++ rest) b h.is (Each-tail is_token_byte b token h.each).0 h.no_discard h.no_set
+stands_front here (b ∷ token) rest h some =
+    whole_front here (token ++ rest) b h.is (Each-tail is_token_byte b token h.each).0 h.no_discard h.no_set
 
 high_in_token : (b : ℕ) → 128 ≤ b → is_token_byte b ≡ true
 high_in_token b h = grind (arith, nat_tests)
@@ -161,13 +183,14 @@ no_character_front (b ∷ rest) n =
     let other = high_no_hash b high in
     token_byte_front b rest (high_in_token b high) (λ e. absurd (let wrong : true ≡ false = sym e ∙ other in cc))
 
-pub character_front : (here token rest : List ℕ) → TokenStands here token rest → NoCharacter rest → front here ≡ 10
+pub character_front : (here token rest : List ℕ) → TokenAt here token rest → NoCharacter rest → front here ≡ 10
 character_front here [] rest h n = ap front h.is ∙ no_character_front rest n
 character_front here (b ∷ token) rest h n = stands_front here (b ∷ token) rest h (λ e. let wrong = e in cc)
 
 no_token_front_of : (b : ℕ) (bytes : List ℕ) → is_token_byte b ≡ true → may_begin_token b ≡ false → front (b ∷ bytes) ≡ 10
 no_token_front_of b bytes h fails =
-    token_byte_front b bytes h (λ e. absurd (let same : may_begin_token b ≡ may_begin_token hash = ap may_begin_token (equal b hash e) in cc))
+    token_byte_front b bytes h
+    (λ e. absurd (let same : may_begin_token b ≡ may_begin_token hash = ap may_begin_token (equal b hash e) in cc))
 
 pub no_token_front : (here : List ℕ) → begins_no_token here ≡ true → front here ≡ 10
 no_token_front [] h = cc
@@ -180,7 +203,8 @@ atom_front f here token rest h is =
     let a = atom_first f token h in
     let parts = both (is_token_byte a.first) (not (a.first == hash)) a.passes in
     let other = not_true (a.first == hash) parts.1 in
-    ap front (first_here token rest here a.others a.first is a.is) ∙ token_byte_front a.first (a.others ++ rest) parts.0 (λ e. absurd (let wrong : true ≡ false = sym e ∙ other in cc))
+    ap front (first_here token rest here a.others a.first is a.is)
+    ∙ token_byte_front a.first (a.others ++ rest) parts.0 (λ e. absurd (let wrong : true ≡ false = sym e ∙ other in cc))
 
 -- ---- opening brackets
 

@@ -50,7 +50,8 @@ apart_first seen f fs h =
     let parts = both (not (any (alike f) seen)) (distinct_from (with_last seen f) fs) h in
     record { first = not_true (any (alike f) seen) parts.0; others = parts.1 }
 
-pub distinct-last : (seen fs : Forms) (f : Form) → distinct_from seen fs ≡ true → any (alike f) (join seen fs) ≡ false → distinct_from seen (with_last fs f) ≡ true
+pub distinct-last : (seen fs : Forms) (f : Form) → distinct_from seen fs ≡ true → any (alike f) (join seen fs) ≡ false
+    → distinct_from seen (with_last fs f) ≡ true
 distinct-last seen no_forms f h k =
     both_true (not (any (alike f) seen)) true (not_false (any (alike f) seen) (sym (ap (any (alike f)) (join-nothing seen)) ∙ k)) refl
 distinct-last seen (form g fs) f h k =

@@ -1,5 +1,6 @@
 -- A token that is unsupported is none of a form, and is unsupported in one way.
-use Rattle.std.proofs.Common.{◌≡◌, ◌≢◌, ◌⊎◌, ℕ, ℤ, ◌<◌, Bool, true, false, List, [], ◌∷◌, ◌++◌, length, refl, ap, ◌∙◌, sym, subst, arith, inl, inr, codes}
+use Rattle.std.proofs.Common.{◌≡◌, ◌≢◌, ◌⊎◌, ℕ, ℤ, ◌<◌, Bool, true, false, List, [], ◌∷◌, ◌++◌, length, refl, ap, ◌∙◌, sym, subst, arith}
+use Rattle.std.proofs.Common.{inl, inr, codes}
 use Rattle.std.proofs.lemmas.List.{append-nil}
 use Rattle.std.proofs.lemmas.Bool.Decides.{nat_tests}
 use Rattle.std.specs.Prelude.{◌==◌, ◌&&◌, not, if◌then◌else◌}
@@ -9,7 +10,8 @@ use Rattle.edn_model.specs.Tokens.{IsName, IsSymbol, IsReserved, begins_symbol, 
 use Rattle.edn_model.specs.Faults.{What, char, float, big_int, wide, namespaced_map, tag, DigitsBefore, is_float_mark, IsUnsupported}
 use Rattle.edn_model.specs.Runs.{Stops}
 use Rattle.edn_model.proofs.Runs.{heads, tails, both, Each-tail, one_run}
-use Rattle.edn_model.proofs.OneForm.{begins_atom, atom_first, numeral_no_symbol, numeral_no_keyword, reserved_no_numeral, same_numeral, boolean_reserved, apart}
+use Rattle.edn_model.proofs.OneForm.{begins_atom, atom_first, numeral_no_symbol, numeral_no_keyword, reserved_no_numeral, same_numeral}
+use Rattle.edn_model.proofs.OneForm.{boolean_reserved, apart}
 
 -- ---- a sign and digits in front
 
@@ -32,22 +34,40 @@ sign_of sign (inr (inl e)) = subst IsSign (sym e) plus_sign
 sign_of sign (inr (inr e)) = subst IsSign (sym e) minus_sign
 
 before_mark : (mark : ℕ) (token : List ℕ) (h : DigitsBefore mark token) → SignedDigits token (mark ∷ h.more)
-before_mark mark token h = record { sign = h.sign; digits = h.digits; is = h.is; signs = sign_of h.sign h.signs; some = h.some; each = h.each }
+before_mark mark token h =
+    record { sign = h.sign; digits = h.digits; is = h.is; signs = sign_of h.sign h.signs; some = h.some; each = h.each }
 
 numeral_digits : (z : ℤ) (token : List ℕ) → IsNumeral z token → SignedDigits token []
-numeral_digits z token (unsigned h e) = record { sign = []; digits = token; is = sym (append-nil token); signs = no_sign; some = h.some; each = h.each }
+numeral_digits z token (unsigned h e) =
+    record { sign = []; digits = token; is = sym (append-nil token); signs = no_sign; some = h.some; each = h.each }
 numeral_digits z token (positive {digits = digits} is h e) =
-    record { sign = plus ∷ []; digits = digits; is = is ∙ ap (λ x. plus ∷ x) (sym (append-nil digits)); signs = plus_sign; some = h.some; each = h.each }
+    record {
+      sign = plus ∷ [];
+      digits = digits;
+      is = is ∙ ap (λ x. plus ∷ x) (sym (append-nil digits));
+      signs = plus_sign;
+      some = h.some;
+      each = h.each;
+    }
 numeral_digits z token (negative {digits = digits} is h e) =
-    record { sign = minus ∷ []; digits = digits; is = is ∙ ap (λ x. minus ∷ x) (sym (append-nil digits)); signs = minus_sign; some = h.some; each = h.each }
+    record {
+      sign = minus ∷ [];
+      digits = digits;
+      is = is ∙ ap (λ x. minus ∷ x) (sym (append-nil digits));
+      signs = minus_sign;
+      some = h.some;
+      each = h.each;
+    }
 
-digit_differs : (digits more other : List ℕ) (b : ℕ) → 0 < length digits → Each is_digit digits → is_digit b ≡ false → digits ++ more ≡ b ∷ other → ⊥
+digit_differs : (digits more other : List ℕ) (b : ℕ) → 0 < length digits → Each is_digit digits → is_digit b ≡ false
+    → digits ++ more ≡ b ∷ other → ⊥
 digit_differs [] more other b some each fails e = omega arith
 digit_differs (d ∷ digits) more other b some each fails e =
     let same : is_digit d ≡ is_digit b = ap is_digit (heads e) in
     let passes = (Each-tail is_digit d digits each).0 in cc
 
-strip : {s t : List ℕ} → IsSign s → IsSign t → (a x b y : List ℕ) → 0 < length a → 0 < length b → Each is_digit a → Each is_digit b → s ++ (a ++ x) ≡ t ++ (b ++ y) → a ++ x ≡ b ++ y
+strip : {s t : List ℕ} → IsSign s → IsSign t → (a x b y : List ℕ) → 0 < length a → 0 < length b → Each is_digit a → Each is_digit b
+    → s ++ (a ++ x) ≡ t ++ (b ++ y) → a ++ x ≡ b ++ y
 strip no_sign no_sign a x b y sa sb ha hb e = e
 strip no_sign plus_sign a x b y sa sb ha hb e = absurd (digit_differs a x (b ++ y) plus sa ha refl e)
 strip no_sign minus_sign a x b y sa sb ha hb e = absurd (digit_differs a x (b ++ y) minus sa ha refl e)
@@ -76,7 +96,8 @@ float_no_digit b h = grind (arith, nat_tests)
 
 pub mark_no_numeral : (mark : ℕ) (z : ℤ) (token : List ℕ) → is_digit mark ≡ false → DigitsBefore mark token → IsNumeral z token → ⊥
 mark_no_numeral mark z token fails h k =
-    let gone : mark ∷ h.more ≡ [] = same_behind token (mark ∷ h.more) [] (before_mark mark token h) (numeral_digits z token k) fails refl in cc
+    let gone : mark ∷ h.more ≡ [] = same_behind token (mark ∷ h.more) [] (before_mark mark token h) (numeral_digits z token k) fails refl in
+    cc
 
 pub one_mark : (m n : ℕ) (token : List ℕ) → is_digit m ≡ false → is_digit n ≡ false → DigitsBefore m token → DigitsBefore n token → m ≡ n
 one_mark m n token fails none h k =
@@ -87,7 +108,8 @@ pub data NumberFront : List ℕ → Type 0 where
   bare : (d : ℕ) (others : List ℕ) → is_digit d ≡ true → NumberFront (d ∷ others)
   signed : (b d : ℕ) (others : List ℕ) → (b ≡ plus) ⊎ (b ≡ minus) → is_digit d ≡ true → NumberFront (b ∷ d ∷ others)
 
-front_of : {sign : List ℕ} → IsSign sign → (digits rest : List ℕ) → 0 < length digits → Each is_digit digits → NumberFront (sign ++ (digits ++ rest))
+front_of : {sign : List ℕ} → IsSign sign → (digits rest : List ℕ) → 0 < length digits → Each is_digit digits
+    → NumberFront (sign ++ (digits ++ rest))
 front_of s [] rest some each = absurd (omega arith)
 front_of no_sign (d ∷ digits) rest some each = bare d (digits ++ rest) (Each-tail is_digit d digits each).0
 front_of plus_sign (d ∷ digits) rest some each = signed plus d (digits ++ rest) (inl refl) (Each-tail is_digit d digits each).0
@@ -142,9 +164,11 @@ number_no_reserved n (inr (inr e)) = number_first n 102 (codes "alse") e refl
 -- digits before a mark, or an integer that has no 64 bits
 marked_no_atom : (mark : ℕ) (f : form.Form) (token : List ℕ) → is_digit mark ≡ false → DigitsBefore mark token → IsAtom f token → ⊥
 marked_no_atom mark form.nil token fails h k = number_no_reserved (number_front token _ (before_mark mark token h)) (inl k)
-marked_no_atom mark (form.boolean b) token fails h k = number_no_reserved (number_front token _ (before_mark mark token h)) (boolean_reserved b token k)
+marked_no_atom mark (form.boolean b) token fails h k =
+    number_no_reserved (number_front token _ (before_mark mark token h)) (boolean_reserved b token k)
 marked_no_atom mark (form.integer z) token fails h k = mark_no_numeral mark z token fails h k.0
-marked_no_atom mark (form.symbol s) token fails h k = number_no_symbol (number_front token _ (before_mark mark token h)) (subst IsSymbol (sym k.0) k.1)
+marked_no_atom mark (form.symbol s) token fails h k =
+    number_no_symbol (number_front token _ (before_mark mark token h)) (subst IsSymbol (sym k.0) k.1)
 marked_no_atom mark (form.keyword s) token fails h k = number_first (number_front token _ (before_mark mark token h)) colon s k.0 refl
 marked_no_atom mark _ token fails h k = absurd k
 
@@ -209,7 +233,8 @@ data Class (token : List ℕ) : What → Type 0 where
   is_char : (more : List ℕ) → token ≡ backslash ∷ more → Class token char
   is_hashes : (more : List ℕ) → token ≡ hash ∷ hash ∷ more → Class token float
   is_namespaced : (more : List ℕ) → token ≡ hash ∷ colon ∷ more → Class token namespaced_map
-  is_tag : (b : ℕ) (more : List ℕ) → token ≡ hash ∷ b ∷ more → is_letter b ≡ true → token ≢ codes "#inst" → token ≢ codes "#uuid" → Class token tag
+  is_tag : (b : ℕ) (more : List ℕ) → token ≡ hash ∷ b ∷ more → is_letter b ≡ true → token ≢ codes "#inst" → token ≢ codes "#uuid"
+      → Class token tag
   is_float : (mark : ℕ) → is_float_mark mark ≡ true → DigitsBefore mark token → Class token float
   is_big : DigitsBefore 78 token → Class token big_int
   is_wide : (z : ℤ) → IsNumeral z token → Class token wide
@@ -292,11 +317,13 @@ same_what (is_tag b more e h n m) (is_tag c rest i k o p) = refl
 same_what (is_tag b more e h n m) d = absurd (let same = same_class (is_tag b more e h n m) d in omega arith)
 same_what (is_float mark f h) (is_float other g k) = refl
 same_what {token = token} (is_float mark f h) (is_big k) =
-    absurd (let same : is_float_mark mark ≡ is_float_mark 78 = ap is_float_mark (one_mark mark 78 token (float_no_digit mark f) refl h k) in cc)
+    absurd
+    (let same : is_float_mark mark ≡ is_float_mark 78 = ap is_float_mark (one_mark mark 78 token (float_no_digit mark f) refl h k) in cc)
 same_what {token = token} (is_float mark f h) (is_wide z k) = absurd (mark_no_numeral mark z token (float_no_digit mark f) h k)
 same_what (is_float mark f h) d = absurd (let same = same_class (is_float mark f h) d in omega arith)
 same_what {token = token} (is_big h) (is_float mark f k) =
-    absurd (let same : is_float_mark mark ≡ is_float_mark 78 = ap is_float_mark (one_mark mark 78 token (float_no_digit mark f) refl k h) in cc)
+    absurd
+    (let same : is_float_mark mark ≡ is_float_mark 78 = ap is_float_mark (one_mark mark 78 token (float_no_digit mark f) refl k h) in cc)
 same_what (is_big h) (is_big k) = refl
 same_what {token = token} (is_big h) (is_wide z k) = absurd (mark_no_numeral 78 z token refl h k)
 same_what (is_big h) d = absurd (let same = same_class (is_big h) d in omega arith)
@@ -309,7 +336,8 @@ pub one_what : (a b : What) (token : List ℕ) → IsUnsupported a token → IsU
 one_what a b token h k = same_what (class_of a token h) (class_of b token k)
 
 -- the two tags that are read are supported
-tag_supported : {token : List ℕ} {what : What} → Class token what → (name : List ℕ) → token_class name ≡ 4 → (name ≡ codes "#inst") ⊎ (name ≡ codes "#uuid") → token ≡ name → ⊥
+tag_supported : {token : List ℕ} {what : What} → Class token what → (name : List ℕ) → token_class name ≡ 4
+    → (name ≡ codes "#inst") ⊎ (name ≡ codes "#uuid") → token ≡ name → ⊥
 tag_supported (is_tag b more e h n m) name four (inl is) i = n (i ∙ is)
 tag_supported (is_tag b more e h n m) name four (inr is) i = m (i ∙ is)
 tag_supported c name four is i = let same : token_class name ≡ class_number c = sym (ap token_class i) ∙ class_is c in omega arith
@@ -331,7 +359,9 @@ numeral_some z token (negative is h e) i = let wrong = sym is ∙ i in cc
 
 marked_some : (mark : ℕ) (token : List ℕ) → DigitsBefore mark token → token ≡ [] → ⊥
 marked_some mark token h i =
-    let wrong : mark ∷ h.more ≡ [] = append_nothing h.digits (mark ∷ h.more) (append_nothing h.sign (h.digits ++ mark ∷ h.more) (sym h.is ∙ i)) in cc
+    let wrong : mark ∷ h.more ≡ [] =
+    append_nothing h.digits (mark ∷ h.more) (append_nothing h.sign (h.digits ++ mark ∷ h.more) (sym h.is ∙ i)) in
+    cc
 
 pub unsupported_some : (what : What) (token : List ℕ) → IsUnsupported what token → token ≡ [] → ⊥
 unsupported_some char token h i = let wrong = sym h.1 ∙ i in cc
@@ -361,12 +391,15 @@ pub unsupported_zero : (what : What) (token : List ℕ) → token_class token �
 unsupported_zero what token zero h = zero_front (class_of what token h) zero
 
 -- a sign or none and digits, with what stands behind them
-pub digits_front : (token rest sign digits : List ℕ) → token ≡ sign ++ (digits ++ rest) → (sign ≡ []) ⊎ ((sign ≡ plus ∷ []) ⊎ (sign ≡ minus ∷ [])) → 0 < length digits → Each is_digit digits → NumberFront token
+pub digits_front : (token rest sign digits : List ℕ) → token ≡ sign ++ (digits ++ rest)
+    → (sign ≡ []) ⊎ ((sign ≡ plus ∷ []) ⊎ (sign ≡ minus ∷ [])) → 0 < length digits → Each is_digit digits → NumberFront token
 digits_front token rest sign digits is signs some each =
     number_front token rest (record { sign = sign; digits = digits; is = is; signs = sign_of sign signs; some = some; each = each })
 
 -- where nothing stands behind the digits, no mark does
-pub no_mark : (mark : ℕ) (token sign digits : List ℕ) → is_digit mark ≡ false → DigitsBefore mark token → token ≡ sign ++ (digits ++ []) → (sign ≡ []) ⊎ ((sign ≡ plus ∷ []) ⊎ (sign ≡ minus ∷ [])) → 0 < length digits → Each is_digit digits → ⊥
+pub no_mark : (mark : ℕ) (token sign digits : List ℕ) → is_digit mark ≡ false → DigitsBefore mark token → token ≡ sign ++ (digits ++ [])
+    → (sign ≡ []) ⊎ ((sign ≡ plus ∷ []) ⊎ (sign ≡ minus ∷ [])) → 0 < length digits → Each is_digit digits → ⊥
 no_mark mark token sign digits no_digit h is signs some each =
-    let alone : SignedDigits token [] = record { sign = sign; digits = digits; is = is; signs = sign_of sign signs; some = some; each = each } in
+    let alone : SignedDigits token [] =
+    record { sign = sign; digits = digits; is = is; signs = sign_of sign signs; some = some; each = each } in
     let gone : mark ∷ h.more ≡ [] = same_behind token (mark ∷ h.more) [] (before_mark mark token h) alone no_digit refl in cc

@@ -1,5 +1,6 @@
 -- What `decimal` writes of a number is a numeral of it.
-use Rattle.std.proofs.Common.{◌≡◌, ℕ, zero, suc, ◌+◌, ◌-◌, ◌*◌, ◌/◌, ◌%◌, ◌^◌, ◌<◌, ◌≤◌, Bool, true, List, [], ◌∷◌, ◌++◌, length, length-append, ℤ, pos, negsuc, refl, ap, sym, subst, arith, inl, inr, decimal}
+use Rattle.std.proofs.Common.{◌≡◌, ℕ, zero, suc, ◌+◌, ◌-◌, ◌*◌, ◌/◌, ◌%◌, ◌^◌, ◌<◌, ◌≤◌, Bool, true, List, [], ◌∷◌, ◌++◌, length}
+use Rattle.std.proofs.Common.{length-append, ℤ, pos, negsuc, refl, ap, sym, subst, arith, inl, inr, decimal}
 use Rattle.std.proofs.lemmas.Bool.Decides.{nat_tests}
 use Rattle.std.proofs.lemmas.Fmt.{decimal_by_steps}
 use Rattle.std.proofs.lemmas.List.Sums.{fold-append}
@@ -51,7 +52,8 @@ more_digits n digits h s =
     let some = s.some in
     record {
       some = omega (arith, length-append digits ((48 + n % 10) ∷ []));
-      each = Each-append is_digit digits ((48 + n % 10) ∷ []) s.each (both_true (is_digit (48 + n % 10)) true (digit_of (n % 10) last) refl);
+      each =
+          Each-append is_digit digits ((48 + n % 10) ∷ []) s.each (both_true (is_digit (48 + n % 10)) true (digit_of (n % 10) last) refl);
       leading = λ _. begins_more no_zero digits ((48 + n % 10) ∷ []) some (s.leading (omega arith));
       alone = λ e. absurd (omega arith);
       is = let front = s.is in let value = number-push digits (48 + n % 10) in omega arith;
@@ -77,7 +79,8 @@ signed_decimal_is (negsuc n) h =
     let below : n ≤ 9223372036854775807 = grind (arith, nat_tests) in
     negative refl (decimal_is (suc n) (omega arith)) refl
 
-pub integer_text_is : (depth : ℕ) (z : ℤ) (bytes rest : List ℕ) → IsLong z → Canon (form.integer z) bytes → TokenEnds rest → Text depth (form.integer z) (bytes ++ rest) rest
+pub integer_text_is : (depth : ℕ) (z : ℤ) (bytes rest : List ℕ) → IsLong z → Canon (form.integer z) bytes → TokenEnds rest
+    → Text depth (form.integer z) (bytes ++ rest) rest
 integer_text_is depth z bytes rest fits e ends =
     let numeral : IsNumeral z bytes = subst (IsNumeral z) (sym e) (signed_decimal_is z fits) in
     atom bytes (numeral, fits) refl ends

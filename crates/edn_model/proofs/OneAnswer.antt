@@ -1,7 +1,7 @@
 -- Next in a text stands one form, or the end, or one fault.
 use Rattle.std.proofs.Common.{◌≡◌, ℕ, ◌+◌, List, [], length, drop, refl, ap, sym, subst, arith}
 use Rattle.edn_model.specs.Form as form
-use Rattle.edn_model.specs.Grammar.{FormStands, OnlyGap}
+use Rattle.edn_model.specs.Grammar.{FormAt, OnlyGap}
 use Rattle.edn_model.specs.Faults.{Fault, FaultAt}
 use Rattle.edn_model.specs.Steps.{outermost, Reading, read, nothing, fault, State, going, ended, Step, end, Reaches, stay, next}
 use Rattle.edn_model.proofs.OneStep.{one_step}
@@ -18,18 +18,21 @@ one_outcome {b = b} (next x r) (next y q) = one_outcome r (subst (λ z. Reaches 
 
 -- ---- what stands next is reached
 
-pub form_reached : {bytes : List ℕ} {at to : ℕ} {f : form.Form} → FormStands bytes at f to → Reaches (going outermost (drop at bytes)) (ended (read f (drop to bytes)))
+pub form_reached : {bytes : List ℕ} {at to : ℕ} {f : form.Form} → FormAt bytes at f to
+    → Reaches (going outermost (drop at bytes)) (ended (read f (drop to bytes)))
 form_reached h = joined (run_gap h.before outermost refl) (run_text h.text outermost refl refl)
 
 pub end_reached : (bytes : List ℕ) (at : ℕ) → OnlyGap bytes at → Reaches (going outermost (drop at bytes)) (ended nothing)
 end_reached bytes at h = joined (run_gap h outermost refl) (one end)
 
-pub fault_reached : {bytes : List ℕ} {at byte : ℕ} {why : Fault} (h : FaultAt bytes at why byte) → Reaches (going outermost (drop at bytes)) (ended (fault why h.place))
+pub fault_reached : {bytes : List ℕ} {at byte : ℕ} {why : Fault} (h : FaultAt bytes at why byte)
+    → Reaches (going outermost (drop at bytes)) (ended (fault why h.place))
 fault_reached h = let reached = framed h.stands in joined reached.runs (fails h.is reached.frames reached.same)
 
 -- ---- the laws
 
-pub no_fault_at_form : {bytes : List ℕ} {at to byte : ℕ} {f : form.Form} {why : Fault} → FormStands bytes at f to → FaultAt bytes at why byte → ⊥
+pub no_fault_at_form : {bytes : List ℕ} {at to byte : ℕ} {f : form.Form} {why : Fault} → FormAt bytes at f to → FaultAt bytes at why byte
+    → ⊥
 no_fault_at_form h k = let wrong = one_outcome (form_reached h) (fault_reached k) in cc
 
 pub no_fault_in_gap : (bytes : List ℕ) (at byte : ℕ) (why : Fault) → OnlyGap bytes at → FaultAt bytes at why byte → ⊥

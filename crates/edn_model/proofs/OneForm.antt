@@ -1,12 +1,15 @@
 -- At one place stands one text, of one form; and a gap ends at one place.
-use Rattle.std.proofs.Common.{◌≡◌, ◌≢◌, ℕ, Bool, true, false, List, [], ◌∷◌, ◌++◌, ℤ, pos, neg_ℤ, refl, ap, ◌∙◌, sym, subst, arith, inl, inr, codes, IsTrue}
+use Rattle.std.proofs.Common.{◌≡◌, ◌≢◌, ℕ, Bool, true, false, List, [], ◌∷◌, ◌++◌, ℤ, pos, neg_ℤ, refl, ap, ◌∙◌, sym, subst, arith, inl}
+use Rattle.std.proofs.Common.{inr, codes, IsTrue}
 use Rattle.std.proofs.lemmas.Bool.{cases_Bool}
 use Rattle.std.proofs.lemmas.Bool.Decides.{nat_tests}
 use Rattle.std.specs.Prelude.{◌==◌, ◌&&◌, ◌||◌, not}
 use Rattle.edn_model.specs.Form as form
 use Rattle.edn_model.specs.Runs.{Each, Stops}
-use Rattle.edn_model.specs.Bytes.{hash, plus, minus, point, slash, colon, is_digit, is_letter, is_name_byte, is_token_byte, ends_token, begins, TokenEnds}
-use Rattle.edn_model.specs.Tokens.{IsName, IsKeyword, IsSymbol, IsReserved, begins_symbol, number, IsDecimal, IsNumeral, unsigned, positive, negative, IsAtom}
+use Rattle.edn_model.specs.Bytes.{hash, plus, minus, point, slash, colon, is_digit, is_letter, is_name_byte, is_token_byte, ends_token}
+use Rattle.edn_model.specs.Bytes.{begins, TokenEnds}
+use Rattle.edn_model.specs.Tokens.{IsName, IsKeyword, IsSymbol, IsReserved, begins_symbol, number, IsDecimal, IsNumeral, unsigned, positive}
+use Rattle.edn_model.specs.Tokens.{negative, IsAtom}
 use Rattle.edn_model.proofs.Runs.{both, both_true, Each-append, Each-tail, Each-weaken, heads, tails}
 
 -- ---- bytes
@@ -37,7 +40,8 @@ name_bytes : (bytes : List ℕ) → IsName bytes → Each is_token_byte bytes
 name_bytes bytes h = Each-weaken is_name_byte is_token_byte name_in_token bytes h.1
 
 joined_bytes : (a b bytes : List ℕ) → bytes ≡ a ++ slash ∷ b → Each is_token_byte a → Each is_token_byte b → Each is_token_byte bytes
-joined_bytes a b bytes e h k = subst (Each is_token_byte) (sym e) (Each-append is_token_byte a (slash ∷ b) h (both_true (is_token_byte slash) _ refl k))
+joined_bytes a b bytes e h k =
+    subst (Each is_token_byte) (sym e) (Each-append is_token_byte a (slash ∷ b) h (both_true (is_token_byte slash) _ refl k))
 
 keyword_bytes : (k : List ℕ) → IsKeyword k → Each is_token_byte k
 keyword_bytes k h = elim h.1 [
@@ -59,8 +63,10 @@ digits_bytes n digits h = Each-weaken is_digit is_token_byte digit_in_token digi
 
 numeral_bytes : (z : ℤ) (bytes : List ℕ) → IsNumeral z bytes → Each is_token_byte bytes
 numeral_bytes z bytes (unsigned {n = n} h e) = digits_bytes n bytes h
-numeral_bytes z bytes (positive {n = n} {digits = digits} is h e) = subst (Each is_token_byte) (sym is) (both_true (is_token_byte plus) _ refl (digits_bytes n digits h))
-numeral_bytes z bytes (negative {n = n} {digits = digits} is h e) = subst (Each is_token_byte) (sym is) (both_true (is_token_byte minus) _ refl (digits_bytes n digits h))
+numeral_bytes z bytes (positive {n = n} {digits = digits} is h e) =
+    subst (Each is_token_byte) (sym is) (both_true (is_token_byte plus) _ refl (digits_bytes n digits h))
+numeral_bytes z bytes (negative {n = n} {digits = digits} is h e) =
+    subst (Each is_token_byte) (sym is) (both_true (is_token_byte minus) _ refl (digits_bytes n digits h))
 
 pub atom_bytes : (f : form.Form) (token : List ℕ) → IsAtom f token → Each is_token_byte token
 atom_bytes form.nil token h = subst (Each is_token_byte) (sym h) refl
@@ -91,7 +97,8 @@ digit_begins : (b : ℕ) → is_digit b ≡ true → begins_atom b ≡ true
 digit_begins b h = grind (arith, nat_tests)
 
 numeral_first : (z : ℤ) (bytes : List ℕ) → IsNumeral z bytes → FirstByte begins_atom bytes
-numeral_first z bytes (unsigned {n = n} h e) = let d = digits_first n bytes h in record { first = d.first; others = d.others; is = d.is; passes = digit_begins d.first d.passes }
+numeral_first z bytes (unsigned {n = n} h e) =
+    let d = digits_first n bytes h in record { first = d.first; others = d.others; is = d.is; passes = digit_begins d.first d.passes }
 numeral_first z bytes (positive {digits = digits} is h e) = record { first = plus; others = digits; is = is; passes = refl }
 numeral_first z bytes (negative {digits = digits} is h e) = record { first = minus; others = digits; is = is; passes = refl }
 
@@ -116,7 +123,12 @@ symbol_parts b s h =
 symbol_start : (s : List ℕ) → IsTrue (begins_symbol s) → Each is_token_byte s → FirstByte begins_atom s
 symbol_start [] h each = absurd (let fails : false ≡ true = h in cc)
 symbol_start (b ∷ s) h each =
-    record { first = b; others = s; is = refl; passes = both_true (is_token_byte b) (not (b == hash)) (Each-tail is_token_byte b s each).0 (symbol_parts b s h).no_hash }
+    record {
+      first = b;
+      others = s;
+      is = refl;
+      passes = both_true (is_token_byte b) (not (b == hash)) (Each-tail is_token_byte b s each).0 (symbol_parts b s h).no_hash;
+    }
 
 symbol_first : (s : List ℕ) → IsSymbol s → FirstByte begins_atom s
 symbol_first s h = elim h.1 [
@@ -155,15 +167,19 @@ same_numeral z w bytes (unsigned {n = m} h e) (unsigned {n = n} k i) = e ∙ ap 
 same_numeral z w bytes (unsigned {n = m} h e) (positive {digits = b} js k i) = absurd (no_sign m plus bytes b h js refl)
 same_numeral z w bytes (unsigned {n = m} h e) (negative {digits = b} js k i) = absurd (no_sign m minus bytes b h js refl)
 same_numeral z w bytes (positive {digits = a} is h e) (unsigned {n = n} k i) = absurd (no_sign n plus bytes a k is refl)
-same_numeral z w bytes (positive {n = m} {digits = a} is h e) (positive {n = n} {digits = b} js k i) = e ∙ ap pos (number_same m n a b h k (tails (sym is ∙ js))) ∙ sym i
-same_numeral z w bytes (positive {digits = a} is h e) (negative {digits = b} js k i) = absurd (let wrong = apart plus minus a b bytes is js in omega arith)
+same_numeral z w bytes (positive {n = m} {digits = a} is h e) (positive {n = n} {digits = b} js k i) =
+    e ∙ ap pos (number_same m n a b h k (tails (sym is ∙ js))) ∙ sym i
+same_numeral z w bytes (positive {digits = a} is h e) (negative {digits = b} js k i) =
+    absurd (let wrong = apart plus minus a b bytes is js in omega arith)
 same_numeral z w bytes (negative {digits = a} is h e) (unsigned {n = n} k i) = absurd (no_sign n minus bytes a k is refl)
-same_numeral z w bytes (negative {digits = a} is h e) (positive {digits = b} js k i) = absurd (let wrong = apart minus plus a b bytes is js in omega arith)
+same_numeral z w bytes (negative {digits = a} is h e) (positive {digits = b} js k i) =
+    absurd (let wrong = apart minus plus a b bytes is js in omega arith)
 same_numeral z w bytes (negative {n = m} {digits = a} is h e) (negative {n = n} {digits = b} js k i) =
     e ∙ ap (λ d. neg_ℤ (pos d)) (number_same m n a b h k (tails (sym is ∙ js))) ∙ sym i
 
 -- what begins otherwise is no numeral
-no_numeral : (z : ℤ) (b : ℕ) (bytes others : List ℕ) → IsNumeral z bytes → bytes ≡ b ∷ others → is_digit b ≡ false → b ≢ plus → b ≢ minus → ⊥
+no_numeral : (z : ℤ) (b : ℕ) (bytes others : List ℕ) → IsNumeral z bytes → bytes ≡ b ∷ others → is_digit b ≡ false → b ≢ plus → b ≢ minus
+    → ⊥
 no_numeral z b bytes others (unsigned {n = n} h e) is fails no_plus no_minus = no_sign n b bytes others h is fails
 no_numeral z b bytes others (positive js h e) is fails no_plus no_minus = no_plus (heads (sym is ∙ js))
 no_numeral z b bytes others (negative js h e) is fails no_plus no_minus = no_minus (heads (sym is ∙ js))
@@ -197,7 +213,8 @@ pub not_true : (b : Bool) → not b ≡ true → b ≡ false
 not_true true h = cc
 not_true false h = refl
 
-signed_no_symbol : (n b : ℕ) (bytes digits : List ℕ) → bytes ≡ b ∷ digits → IsDecimal n digits → (begins_symbol (b ∷ digits) ≡ true → begins is_digit digits ≡ false) → IsTrue (begins_symbol bytes) → ⊥
+signed_no_symbol : (n b : ℕ) (bytes digits : List ℕ) → bytes ≡ b ∷ digits → IsDecimal n digits
+    → (begins_symbol (b ∷ digits) ≡ true → begins is_digit digits ≡ false) → IsTrue (begins_symbol bytes) → ⊥
 signed_no_symbol n b bytes digits is h fails start =
     let d = digits_first n digits h in
     let begin : begins is_digit digits ≡ is_digit d.first = ap (begins is_digit) d.is in
@@ -212,8 +229,10 @@ numeral_no_long z (b ∷ bytes) (unsigned {n = n} h e) start =
     let fails : not (is_digit b) ≡ true = (symbol_parts b bytes start).no_digit in
     let turned : not (is_digit b) ≡ false = ap not digit in
     cc
-numeral_no_long z (b ∷ bytes) (positive {n = n} {digits = digits} is h e) start = signed_no_symbol n plus (b ∷ bytes) digits is h (λ begin. not_true (begins is_digit digits) begin) start
-numeral_no_long z (b ∷ bytes) (negative {n = n} {digits = digits} is h e) start = signed_no_symbol n minus (b ∷ bytes) digits is h (λ begin. not_true (begins is_digit digits) begin) start
+numeral_no_long z (b ∷ bytes) (positive {n = n} {digits = digits} is h e) start =
+    signed_no_symbol n plus (b ∷ bytes) digits is h (λ begin. not_true (begins is_digit digits) begin) start
+numeral_no_long z (b ∷ bytes) (negative {n = n} {digits = digits} is h e) start =
+    signed_no_symbol n minus (b ∷ bytes) digits is h (λ begin. not_true (begins is_digit digits) begin) start
 
 pub numeral_no_symbol : (z : ℤ) (bytes : List ℕ) → IsNumeral z bytes → IsSymbol bytes → ⊥
 numeral_no_symbol z bytes h k = elim k.1 [
@@ -230,7 +249,8 @@ symbol_no_keyword s k h is = elim h.1 [
   | inr (long) ↦ let start : begins_symbol s ≡ true = long.0 in let fails : begins_symbol s ≡ false = ap begins_symbol is in cc
 ]
 
-same_boolean : (a b : Bool) (token : List ℕ) → IsAtom (form.boolean a) token → IsAtom (form.boolean b) token → form.boolean a ≡ form.boolean b
+same_boolean : (a b : Bool) (token : List ℕ) → IsAtom (form.boolean a) token → IsAtom (form.boolean b) token
+    → form.boolean a ≡ form.boolean b
 same_boolean true true token h k = refl
 same_boolean false false token h k = refl
 same_boolean true false token h k = absurd (let wrong = apart 116 102 (codes "rue") (codes "alse") token h k in omega arith)
@@ -250,7 +270,8 @@ same_atom form.nil _ token h k = absurd k
 same_atom (form.boolean a) form.nil token h k = absurd (nil_no_boolean a token k h)
 same_atom (form.boolean a) (form.boolean b) token h k = same_boolean a b token h k
 same_atom (form.boolean a) (form.integer w) token h k = absurd (reserved_no_numeral w token (boolean_reserved a token h) k.0)
-same_atom (form.boolean a) (form.symbol t) token h k = absurd (reserved_no_symbol token (boolean_reserved a token h) (subst IsSymbol (sym k.0) k.1))
+same_atom (form.boolean a) (form.symbol t) token h k =
+    absurd (reserved_no_symbol token (boolean_reserved a token h) (subst IsSymbol (sym k.0) k.1))
 same_atom (form.boolean a) (form.keyword t) token h k = absurd (reserved_no_keyword token t (boolean_reserved a token h) k.0)
 same_atom (form.boolean a) _ token h k = absurd k
 same_atom (form.integer z) form.nil token h k = absurd (reserved_no_numeral z token (inl k) h.0)
@@ -260,7 +281,8 @@ same_atom (form.integer z) (form.symbol t) token h k = absurd (numeral_no_symbol
 same_atom (form.integer z) (form.keyword t) token h k = absurd (numeral_no_keyword z token t h.0 k.0)
 same_atom (form.integer z) _ token h k = absurd k
 same_atom (form.symbol s) form.nil token h k = absurd (reserved_no_symbol token (inl k) (subst IsSymbol (sym h.0) h.1))
-same_atom (form.symbol s) (form.boolean b) token h k = absurd (reserved_no_symbol token (boolean_reserved b token k) (subst IsSymbol (sym h.0) h.1))
+same_atom (form.symbol s) (form.boolean b) token h k =
+    absurd (reserved_no_symbol token (boolean_reserved b token k) (subst IsSymbol (sym h.0) h.1))
 same_atom (form.symbol s) (form.integer w) token h k = absurd (numeral_no_symbol w token k.0 (subst IsSymbol (sym h.0) h.1))
 same_atom (form.symbol s) (form.symbol t) token h k = ap form.symbol (sym h.0 ∙ k.0)
 same_atom (form.symbol s) (form.keyword t) token h k = absurd (symbol_no_keyword s t h.1 (sym h.0 ∙ k.0))

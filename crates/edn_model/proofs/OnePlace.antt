@@ -1,16 +1,20 @@
 -- At one place stands a text of one form, and it ends at one place; so do gaps, members and entries.
-use Rattle.std.proofs.Common.{◌≡◌, ℕ, ◌<◌, Bool, true, false, List, [], ◌∷◌, ◌++◌, refl, ap, ◌∙◌, sym, subst, arith, lit<, codes, IsTrue, Some}
+use Rattle.std.proofs.Common.{◌≡◌, ℕ, ◌<◌, Bool, true, false, List, [], ◌∷◌, ◌++◌, refl, ap, ◌∙◌, sym, subst, arith, lit<, codes, IsTrue}
+use Rattle.std.proofs.Common.{Some}
 use Rattle.std.proofs.lemmas.Bool.Decides.{nat_tests}
 use Rattle.std.proofs.lemmas.List.{append-nil}
 use Rattle.std.specs.Prelude.{◌==◌, ◌&&◌, ◌||◌, not, if◌then◌else◌, encode_utf8}
 use Rattle.std.specs.Int.{w128, from_be_bytes}
 use Rattle.uuid.specs.Text.{parsed}
 use Rattle.edn_model.specs.Form as form
-use Rattle.edn_model.specs.Bytes.{quote, hash, open_paren, semicolon, open_bracket, underscore, open_brace, line_feed, backslash, is_blank, is_opening, is_closing, is_token_byte, ends_token, is_line_byte, is_plain, begins, TokenEnds}
-use Rattle.edn_model.specs.Tokens.{IsAtom, Spells, nothing, plain, escape, code, IsCode, escape_of, StringStands}
+use Rattle.edn_model.specs.Bytes.{quote, hash, open_paren, semicolon, open_bracket, underscore, open_brace, line_feed, backslash, is_blank}
+use Rattle.edn_model.specs.Bytes.{is_opening, is_closing, is_token_byte, ends_token, is_line_byte, is_plain, begins, TokenEnds}
+use Rattle.edn_model.specs.Tokens.{IsAtom, Spells, nothing, plain, escape, code, IsCode, escape_of, StringAt}
 use Rattle.edn_model.specs.Instants.{IsInstant}
 use Rattle.edn_model.specs.Uuids.{IsUuid}
-use Rattle.edn_model.specs.Grammar.{CommentStands, LastComment, Gap, no_gap, blank, comment, last_comment, discard, Text, atom, string, list, vector, map, set, instant, uuid, Members, no_members, member, Entries, no_entries, entry, FormStands, OnlyGap, IsWholeTextOf}
+use Rattle.edn_model.specs.Grammar.{CommentAt, LastComment, Gap, no_gap, blank, comment, last_comment, discard, Text, atom, string, list}
+use Rattle.edn_model.specs.Grammar.{vector, map, set, instant, uuid, Members, no_members, member, Entries, no_entries, entry, FormAt}
+use Rattle.edn_model.specs.Grammar.{OnlyGap, IsWholeTextOf}
 use Rattle.edn_model.proofs.Runs.{both, heads, tails, one_run}
 use Rattle.edn_model.proofs.OneInstant.{one_instant}
 use Rattle.edn_model.proofs.Places.{one_place}
@@ -42,7 +46,8 @@ same_code a b c d p q r s m n e1 e2 e3 e4 h k =
     let four = subst (λ z. IsCode p q r z m) e4 three in
     four.is ∙ sym k.is
 
-same_spelling : {here there s t r u : List ℕ} → Spells here s r → Spells there t u → here ≡ there → (x y : List ℕ) → r ≡ quote ∷ x → u ≡ quote ∷ y → SameText s t r u
+same_spelling : {here there s t r u : List ℕ} → Spells here s r → Spells there t u → here ≡ there → (x y : List ℕ) → r ≡ quote ∷ x
+    → u ≡ quote ∷ y → SameText s t r u
 same_spelling nothing nothing same x y e i = record { text = refl; rest = same }
 same_spelling nothing (plain {b = b} {here = h} p k) same x y e i = absurd (plain_is_none b h x p (sym same ∙ e))
 same_spelling nothing (escape {after = h} is p k) same x y e i = absurd (quote_no_escape _ x _ e (same ∙ is))
@@ -64,11 +69,14 @@ same_spelling (escape {b = b} {e = c} {text = s} is p h) (escape {b = d} {e = f}
     let text : s ≡ t = others.text in
     let found : Some c ≡ Some f = sym p ∙ value ∙ q in
     record { text = cc; rest = others.rest }
-same_spelling (escape {b = b} {e = c} is p h) (code js q k a) same x y e i = absurd (no_code_letter b c p (heads (tails (sym is ∙ same ∙ js))))
+same_spelling (escape {b = b} {e = c} is p h) (code js q k a) same x y e i =
+    absurd (no_code_letter b c p (heads (tails (sym is ∙ same ∙ js))))
 same_spelling (code is p h a) nothing same x y e i = absurd (quote_no_escape _ y _ i (sym same ∙ is))
 same_spelling (code is p h a) (plain {b = b} {here = k} q l) same x y e i = absurd (plain_no_escape b k _ q (sym same ∙ is))
-same_spelling (code is p h a) (escape {b = b} {e = c} js q k) same x y e i = absurd (no_code_letter b c q (heads (tails (sym js ∙ sym same ∙ is))))
-same_spelling (code {a = a1} {b = b1} {c = c1} {d = d1} {n = m} {text = s} is p h l) (code {a = a2} {b = b2} {c = c2} {d = d2} {n = n} {text = t} js q k o) same x y e i =
+same_spelling (code is p h a) (escape {b = b} {e = c} js q k) same x y e i =
+    absurd (no_code_letter b c q (heads (tails (sym js ∙ sym same ∙ is))))
+same_spelling (code {a = a1} {b = b1} {c = c1} {d = d1} {n = m} {text = s} is p h l)
+    (code {a = a2} {b = b2} {c = c2} {d = d2} {n = n} {text = t} js q k o) same x y e i =
     let first = tails (tails (sym is ∙ same ∙ js)) in
     let second = tails first in
     let third = tails second in
@@ -77,7 +85,7 @@ same_spelling (code {a = a1} {b = b1} {c = c1} {d = d1} {n = m} {text = s} is p 
     let number : m ≡ n = same_code a1 b1 c1 d1 a2 b2 c2 d2 m n (heads first) (heads second) (heads third) (heads fourth) p q in
     record { text = l ∙ ap (λ z. encode_utf8 z ++ s) number ∙ ap (λ z. encode_utf8 n ++ z) others.text ∙ sym o; rest = others.rest }
 
-pub same_string : {s t here there r u : List ℕ} → StringStands s here r → StringStands t there u → here ≡ there → SameText s t r u
+pub same_string : {s t here there r u : List ℕ} → StringAt s here r → StringAt t there u → here ≡ there → SameText s t r u
 same_string h k same =
     let inside = tails (sym h.opens ∙ same ∙ k.opens) in
     let found = same_spelling h.spells k.spells inside _ _ refl refl in
@@ -153,7 +161,8 @@ none_of_five false false false false false n hp hq hr hs ht = refl
 atom_kind : (b : ℕ) (bytes : List ℕ) → begins_atom b ≡ true → front_kind (b ∷ bytes) ≡ 0
 atom_kind b bytes h =
     let o = ordinary b h in
-    none_of_five (b == quote) (b == open_paren) (b == open_bracket) (b == open_brace) (b == hash) (hash_kind bytes) o.no_quote o.no_paren o.no_bracket o.no_brace o.no_hash
+    none_of_five (b == quote) (b == open_paren) (b == open_bracket) (b == open_brace) (b == hash)
+    (hash_kind bytes) o.no_quote o.no_paren o.no_bracket o.no_brace o.no_hash
 
 pub first_here : (token rest here others : List ℕ) (b : ℕ) → here ≡ token ++ rest → token ≡ b ∷ others → here ≡ b ∷ (others ++ rest)
 first_here token rest here others b is first = is ∙ ap (λ z. z ++ rest) first
@@ -170,7 +179,8 @@ kind_is (set is h d) = ap front_kind is
 kind_is (instant tag gap s i) = ap front_kind tag.is
 kind_is (uuid tag gap s i) = ap front_kind tag.is
 
-same_kind : {m n : ℕ} {f g : form.Form} {here there r u : List ℕ} (x : Text m f here r) (y : Text n g there u) → here ≡ there → text_kind x ≡ text_kind y
+same_kind : {m n : ℕ} {f g : form.Form} {here there r u : List ℕ} (x : Text m f here r) (y : Text n g there u) → here ≡ there
+    → text_kind x ≡ text_kind y
 same_kind x y e = sym (kind_is x) ∙ ap front_kind e ∙ kind_is y
 
 -- ---- gaps
@@ -256,7 +266,8 @@ closing_not_hash b h = grind (arith, nat_tests)
 pub closing_ends_gap : (bytes : List ℕ) → Closes bytes → GapEnds bytes
 closing_ends_gap [] h = refl
 closing_ends_gap (b ∷ bytes) h =
-    none_of_three (is_blank b) (b == semicolon) (b == hash) (begins (λ c. c == underscore) bytes) (closing_not_blank b h) (closing_not_semicolon b h) (closing_not_hash b h)
+    none_of_three (is_blank b) (b == semicolon) (b == hash) (begins (λ c. c == underscore) bytes) (closing_not_blank b h)
+    (closing_not_semicolon b h) (closing_not_hash b h)
 
 atom_no_closing : (b : ℕ) → begins_atom b ≡ true → is_closing b ≡ false
 atom_no_closing b h = (ordinary b h).no_closing
@@ -279,20 +290,24 @@ pub record SameForm (f g : form.Form) (r u : List ℕ) : Type 0 where
   pub same : f ≡ g
   pub rest : r ≡ u
 
-pub same_token : (f g : form.Form) (a b r u : List ℕ) → IsAtom f a → IsAtom g b → TokenEnds r → TokenEnds u → a ++ r ≡ b ++ u → SameForm f g r u
+pub same_token : (f g : form.Form) (a b r u : List ℕ) → IsAtom f a → IsAtom g b → TokenEnds r → TokenEnds u → a ++ r ≡ b ++ u
+    → SameForm f g r u
 same_token f g a b r u h k ends stops e =
     let run = one_run is_token_byte a b r u (atom_bytes f a h) (atom_bytes g b k) (token_stops r ends) (token_stops u stops) e in
     record { same = same_atom f g b (subst (IsAtom f) run.0 h) k; rest = run.1 }
 
 -- ---- comments
 
-pub same_comment : {here there r u : List ℕ} → CommentStands here r → CommentStands there u → here ≡ there → r ≡ u
+pub same_comment : {here there r u : List ℕ} → CommentAt here r → CommentAt there u → here ≡ there → r ≡ u
 same_comment {r = r} {u = u} h k e =
-    tails (one_run is_line_byte h.text k.text (line_feed ∷ r) (line_feed ∷ u) h.one_line k.one_line refl refl (tails (sym h.is ∙ e ∙ k.is))).1
+    tails
+    (one_run is_line_byte h.text k.text (line_feed ∷ r) (line_feed ∷ u) h.one_line k.one_line refl refl (tails (sym h.is ∙ e ∙ k.is))).1
 
-pub comment_goes_on : {here there r : List ℕ} → CommentStands here r → LastComment there → here ≡ there → ⊥
+pub comment_goes_on : {here there r : List ℕ} → CommentAt here r → LastComment there → here ≡ there → ⊥
 comment_goes_on {r = r} h k e =
-    let gone = (one_run is_line_byte h.text k.text (line_feed ∷ r) [] h.one_line k.one_line refl tt (tails (sym h.is ∙ e ∙ k.is) ∙ sym (append-nil k.text))).1 in
+    let gone =
+    (one_run is_line_byte h.text k.text (line_feed ∷ r) [] h.one_line k.one_line refl tt
+    (tails (sym h.is ∙ e ∙ k.is) ∙ sym (append-nil k.text))).1 in
     cc
 
 -- ---- forms
@@ -305,7 +320,8 @@ pub record SamePairs (ps qs : form.Pairs) (r u : List ℕ) : Type 0 where
   pub pairs : ps ≡ qs
   pub rest : r ≡ u
 
-closing_no_text : {depth : ℕ} {f : form.Form} {here rest : List ℕ} (bytes : List ℕ) → Closes bytes → Text depth f here rest → bytes ≡ here → ⊥
+closing_no_text : {depth : ℕ} {f : form.Form} {here rest : List ℕ} (bytes : List ℕ) → Closes bytes → Text depth f here rest → bytes ≡ here
+    → ⊥
 closing_no_text bytes closes t e =
     let wrong : begins is_closing bytes ≡ false = ap (begins is_closing) e ∙ text_no_closing t in
     let right : begins is_closing bytes ≡ true = closes in
@@ -324,9 +340,12 @@ one_uuid m n s t h k e =
     h.is ∙ ap (from_be_bytes w128) bytes ∙ sym k.is
 
 mutual
-  pub same_text : {m n : ℕ} {f g : form.Form} {here there r u : List ℕ} → Text m f here r → Text n g there u → here ≡ there → SameForm f g r u
-  same_text {f = f} {g = g} {r = r} {u = u} (atom token h is ends) (atom other k js stops) e = same_token f g token other r u h k ends stops (sym is ∙ e ∙ js)
-  same_text (atom {depth = d} {f = a} token h is ends) y e = absurd (let same = same_kind (atom {depth = d} {f = a} token h is ends) y e in omega arith)
+  pub same_text : {m n : ℕ} {f g : form.Form} {here there r u : List ℕ} → Text m f here r → Text n g there u → here ≡ there
+      → SameForm f g r u
+  same_text {f = f} {g = g} {r = r} {u = u} (atom token h is ends) (atom other k js stops) e =
+      same_token f g token other r u h k ends stops (sym is ∙ e ∙ js)
+  same_text (atom {depth = d} {f = a} token h is ends) y e =
+      absurd (let same = same_kind (atom {depth = d} {f = a} token h is ends) y e in omega arith)
   same_text (string h) (string k) e = let same = same_string h k e in record { same = ap form.string same.text; rest = same.rest }
   same_text (string {depth = d} h) y e = absurd (let same = same_kind (string {depth = d} h) y e in omega arith)
   same_text (list is h) (list js k) e =
@@ -379,19 +398,27 @@ mutual
       same_gap h l gone.rest a b
   same_gap (discard is g t h) y e a b = absurd (let same = same_gap_kind (discard is g t h) y e in omega arith)
 
-  pub same_members : {m n : ℕ} {fs gs : form.Forms} {here there r u : List ℕ} → Members m fs here r → Members n gs there u → here ≡ there → Closes r → Closes u → SameForms fs gs r u
-  same_members {r = r} {u = u} (no_members g) (no_members h) e a b = record { forms = refl; rest = same_gap g h e (closing_ends_gap r a) (closing_ends_gap u b) }
-  same_members {r = r} (no_members g) (member h t n) e a b = absurd (closing_no_text r a t (same_gap g h e (closing_ends_gap r a) (text_ends_gap t)))
-  same_members {u = u} (member g t m) (no_members h) e a b = absurd (closing_no_text u b t (sym (same_gap g h e (text_ends_gap t) (closing_ends_gap u b))))
+  pub same_members : {m n : ℕ} {fs gs : form.Forms} {here there r u : List ℕ} → Members m fs here r → Members n gs there u → here ≡ there
+      → Closes r → Closes u → SameForms fs gs r u
+  same_members {r = r} {u = u} (no_members g) (no_members h) e a b =
+      record { forms = refl; rest = same_gap g h e (closing_ends_gap r a) (closing_ends_gap u b) }
+  same_members {r = r} (no_members g) (member h t n) e a b =
+      absurd (closing_no_text r a t (same_gap g h e (closing_ends_gap r a) (text_ends_gap t)))
+  same_members {u = u} (member g t m) (no_members h) e a b =
+      absurd (closing_no_text u b t (sym (same_gap g h e (text_ends_gap t) (closing_ends_gap u b))))
   same_members (member {f = f} {fs = fs} g t m) (member {f = k} {fs = gs} h v n) e a b =
       let first = same_text t v (same_gap g h e (text_ends_gap t) (text_ends_gap v)) in
       let others = same_members m n first.rest a b in
       record { forms = ap (λ z. form.form z fs) first.same ∙ ap (form.form k) others.forms; rest = others.rest }
 
-  pub same_entries : {m n : ℕ} {ps qs : form.Pairs} {here there r u : List ℕ} → Entries m ps here r → Entries n qs there u → here ≡ there → Closes r → Closes u → SamePairs ps qs r u
-  same_entries {r = r} {u = u} (no_entries g) (no_entries h) e a b = record { pairs = refl; rest = same_gap g h e (closing_ends_gap r a) (closing_ends_gap u b) }
-  same_entries {r = r} (no_entries g) (entry h t o v n) e a b = absurd (closing_no_text r a t (same_gap g h e (closing_ends_gap r a) (text_ends_gap t)))
-  same_entries {u = u} (entry g t o v m) (no_entries h) e a b = absurd (closing_no_text u b t (sym (same_gap g h e (text_ends_gap t) (closing_ends_gap u b))))
+  pub same_entries : {m n : ℕ} {ps qs : form.Pairs} {here there r u : List ℕ} → Entries m ps here r → Entries n qs there u → here ≡ there
+      → Closes r → Closes u → SamePairs ps qs r u
+  same_entries {r = r} {u = u} (no_entries g) (no_entries h) e a b =
+      record { pairs = refl; rest = same_gap g h e (closing_ends_gap r a) (closing_ends_gap u b) }
+  same_entries {r = r} (no_entries g) (entry h t o v n) e a b =
+      absurd (closing_no_text r a t (same_gap g h e (closing_ends_gap r a) (text_ends_gap t)))
+  same_entries {u = u} (entry g t o v m) (no_entries h) e a b =
+      absurd (closing_no_text u b t (sym (same_gap g h e (text_ends_gap t) (closing_ends_gap u b))))
   same_entries (entry {v = v1} {ps = ps} g t o v m) (entry {k = k2} {v = v2} h s p w n) e a b =
       let key = same_text t s (same_gap g h e (text_ends_gap t) (text_ends_gap s)) in
       let value = same_text v w (same_gap o p key.rest (text_ends_gap v) (text_ends_gap w)) in
@@ -424,13 +451,13 @@ pub record SameNext (f g : form.Form) (m n : ℕ) : Type 0 where
   pub same : f ≡ g
   pub next : m ≡ n
 
-pub one_next : (bytes : List ℕ) (at : ℕ) (f g : form.Form) (m n : ℕ) → FormStands bytes at f m → FormStands bytes at g n → SameNext f g m n
+pub one_next : (bytes : List ℕ) (at : ℕ) (f g : form.Form) (m n : ℕ) → FormAt bytes at f m → FormAt bytes at g n → SameNext f g m n
 one_next bytes at f g m n h k =
     let start = same_gap h.before k.before refl (text_ends_gap h.text) (text_ends_gap k.text) in
     let text = same_text h.text k.text start in
     record { same = text.same; next = one_place bytes m n h.order.1 k.order.1 text.rest }
 
-pub no_form_in_gap : (bytes : List ℕ) (at : ℕ) (f : form.Form) (next : ℕ) → OnlyGap bytes at → FormStands bytes at f next → ⊥
+pub no_form_in_gap : (bytes : List ℕ) (at : ℕ) (f : form.Form) (next : ℕ) → OnlyGap bytes at → FormAt bytes at f next → ⊥
 no_form_in_gap bytes at f next only h = text_not_empty h.text (sym (same_gap only h.before refl refl (text_ends_gap h.text)))
 
 pub one_whole : (bytes : List ℕ) (f g : form.Form) → IsWholeTextOf f bytes → IsWholeTextOf g bytes → f ≡ g

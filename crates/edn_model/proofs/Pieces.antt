@@ -1,5 +1,6 @@
 -- Pieces of the worked examples.
-use Rattle.std.proofs.Common.{◌≡◌, ℕ, zero, suc, ◌+◌, ◌/◌, ◌<◌, ◌≤◌, Bool, true, false, nat_lt, List, [], ◌∷◌, ◌++◌, length, get_or, replicate, pos, cond, refl, ap, ◌∙◌, arith, inl, inr, IsTrue}
+use Rattle.std.proofs.Common.{◌≡◌, ℕ, zero, suc, ◌+◌, ◌/◌, ◌<◌, ◌≤◌, Bool, true, false, nat_lt, List, [], ◌∷◌, ◌++◌, length, get_or}
+use Rattle.std.proofs.Common.{replicate, pos, cond, refl, ap, ◌∙◌, arith, inl, inr, IsTrue}
 use Rattle.std.proofs.lemmas.Str.{IsUtf8-from_ascii}
 use Rattle.std.proofs.lemmas.Bool.Decides.{nat_tests}
 use Rattle.std.specs.Str.{IsUtf8}
@@ -8,7 +9,7 @@ use Rattle.edn_model.specs.Form as form
 use Rattle.edn_model.specs.Bytes.{colon, open_bracket, is_name_byte, is_plain, Each, TokenEnds, NoCharacter}
 use Rattle.edn_model.specs.Tokens.{IsDecimal, unsigned, is_long, begins_keyword, Spells, nothing, plain}
 use Rattle.edn_model.specs.Grammar.{no_gap, Text, atom, no_members, max_depth}
-use Rattle.edn_model.specs.Faults.{Open, in_vector, wants_string, depth_of, Stands, inside}
+use Rattle.edn_model.specs.Faults.{Open, in_vector, wants_string, depth_of, Faultless, inside}
 use Rattle.edn_model.proofs.Runs.{heads, Each-tail}
 
 abbrev pub is_ascii : ℕ → Bool
@@ -32,7 +33,8 @@ bytes_of : (c : ℕ) → encode c ≡ bytes_by (nat_lt c 0x80) (nat_lt c 0x800) 
 unfolding encode
 bytes_of c = refl
 
-first_below : (one two three : Bool) (c : ℕ) (bytes rest : List ℕ) → (one ≡ true → c < 0x80) → (two ≡ true → c < 0x800) → (three ≡ true → c < 0x1_0000)
+first_below : (one two three : Bool) (c : ℕ) (bytes rest : List ℕ) → (one ≡ true → c < 0x80) → (two ≡ true → c < 0x800)
+    → (three ≡ true → c < 0x1_0000)
     → c < 0x11_0000 → 255 ∷ bytes ≡ bytes_by one two three c ++ rest → ⊥
 first_below true q r c bytes rest hp hq hr below e = let low = hp refl in let first = heads e in omega arith
 first_below false true r c bytes rest hp hq hr below e = let low = hq refl in let first = heads e in omega arith
@@ -51,7 +53,8 @@ scalar_below c h = elim (scalar_cases c h) [
 -- no character begins with the highest byte
 pub no_character_255 : (bytes : List ℕ) → NoCharacter (255 ∷ bytes)
 no_character_255 bytes = λ c rest h e.
-    first_below (nat_lt c 0x80) (nat_lt c 0x800) (nat_lt c 0x1_0000) c bytes rest (below c 0x80) (below c 0x800) (below c 0x1_0000) (scalar_below c h)
+    first_below (nat_lt c 0x80) (nat_lt c 0x800) (nat_lt c 0x1_0000) c bytes rest (below c 0x80) (below c 0x800) (below c 0x1_0000)
+    (scalar_below c h)
     (e ∙ ap (λ z. z ++ rest) (bytes_of c))
 
 -- bytes that stand for themselves
@@ -60,10 +63,12 @@ spelled_plain [] rest h = nothing
 spelled_plain (b ∷ text) rest h = let parts = Each-tail is_plain b text h in plain parts.0 (spelled_plain text rest parts.1)
 
 -- an unsigned integer of more than one digit, or not 0
-pub int_text : (depth n : ℕ) (digits rest : List ℕ) → IsDecimal n digits → IsTrue (is_long (pos n)) → TokenEnds rest → Text depth (form.integer (pos n)) (digits ++ rest) rest
+pub int_text : (depth n : ℕ) (digits rest : List ℕ) → IsDecimal n digits → IsTrue (is_long (pos n)) → TokenEnds rest
+    → Text depth (form.integer (pos n)) (digits ++ rest) rest
 int_text depth n digits rest is fits ends = atom digits (unsigned is refl, fits) refl ends
 
-pub key_text : (depth : ℕ) (k rest : List ℕ) → 0 < length k → Each is_name_byte k → IsTrue (begins_keyword k) → Each is_ascii k → TokenEnds rest → Text depth (form.keyword k) (colon ∷ (k ++ rest)) rest
+pub key_text : (depth : ℕ) (k rest : List ℕ) → 0 < length k → Each is_name_byte k → IsTrue (begins_keyword k) → Each is_ascii k
+    → TokenEnds rest → Text depth (form.keyword k) (colon ∷ (k ++ rest)) rest
 key_text depth k rest some each begin ascii ends = atom (colon ∷ k) (refl, (ascii_utf8 k ascii, inl ((some, each), begin))) refl ends
 
 -- vectors that are open in one another
@@ -71,7 +76,9 @@ abbrev pub pile : ℕ → List Open → List Open
 pile zero opens = opens
 pile (suc k) opens = pile k (in_vector form.no_forms ∷ opens)
 
-pub deeper : (k : ℕ) (bytes : List ℕ) (opens : List Open) (rest : List ℕ) → wants_string opens ≡ false → k + depth_of opens ≤ max_depth → Stands bytes opens (replicate k open_bracket ++ rest) → Stands bytes (pile k opens) rest
+pub deeper : (k : ℕ) (bytes : List ℕ) (opens : List Open) (rest : List ℕ) → wants_string opens ≡ false → k + depth_of opens ≤ max_depth
+    → Faultless bytes opens (replicate k open_bracket ++ rest) → Faultless bytes (pile k opens) rest
 deeper zero bytes opens rest free fits stands = stands
 deeper (suc k) bytes opens rest free fits stands =
-    deeper k bytes (in_vector form.no_forms ∷ opens) rest refl (omega arith) (inside stands (rw free refl) (omega arith) (replicate k open_bracket ++ rest, refl, no_members no_gap))
+    deeper k bytes (in_vector form.no_forms ∷ opens) rest refl (omega arith)
+    (inside stands (rw free refl) (omega arith) (replicate k open_bracket ++ rest, refl, no_members no_gap))

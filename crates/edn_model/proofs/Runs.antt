@@ -23,7 +23,8 @@ Each-append test (x ∷ a) b h k =
     let parts = Each-tail test x a h in
     both_true (test x) (list_all test (a ++ b)) parts.0 (Each-append test a b parts.1 k)
 
-pub Each-weaken : (test other : ℕ → Bool) → ((b : ℕ) → test b ≡ true → other b ≡ true) → (bytes : List ℕ) → Each test bytes → Each other bytes
+pub Each-weaken : (test other : ℕ → Bool) → ((b : ℕ) → test b ≡ true → other b ≡ true) → (bytes : List ℕ) → Each test bytes
+    → Each other bytes
 Each-weaken test other weaker [] h = refl
 Each-weaken test other weaker (x ∷ bytes) h =
     let parts = Each-tail test x bytes h in
@@ -41,7 +42,8 @@ stop_differs test b (c ∷ x) rest stops e h =
     let same : test c ≡ test b = ap test (heads e) in cc
 
 -- one list is cut in one way into a run and what stops it
-pub one_run : (test : ℕ → Bool) (a b x y : List ℕ) → Each test a → Each test b → Stops test x → Stops test y → a ++ x ≡ b ++ y → (a ≡ b) × (x ≡ y)
+pub one_run : (test : ℕ → Bool) (a b x y : List ℕ) → Each test a → Each test b → Stops test x → Stops test y → a ++ x ≡ b ++ y
+    → (a ≡ b) × (x ≡ y)
 one_run test [] [] x y ha hb sx sy e = (refl, e)
 one_run test [] (c ∷ b) x y ha hb sx sy e = absurd (stop_differs test c x (b ++ y) sx e (Each-tail test c b hb).0)
 one_run test (c ∷ a) [] x y ha hb sx sy e = absurd (stop_differs test c y (a ++ x) sy (sym e) (Each-tail test c a ha).0)

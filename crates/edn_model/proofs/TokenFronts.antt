@@ -1,11 +1,13 @@
 -- With which bytes tokens begin.
-use Rattle.std.proofs.Common.{◌≡◌, ℕ, ◌<◌, Bool, true, false, List, [], ◌∷◌, ◌++◌, length, lit<, refl, ap, ◌∙◌, sym, subst, arith, inl, inr, codes}
+use Rattle.std.proofs.Common.{◌≡◌, ℕ, ◌<◌, Bool, true, false, List, [], ◌∷◌, ◌++◌, length, lit<, refl, ap, ◌∙◌, sym, subst, arith, inl, inr}
+use Rattle.std.proofs.Common.{codes}
 use Rattle.std.proofs.lemmas.List.{append-nil}
 use Rattle.std.proofs.lemmas.Bool.{cases_Bool}
 use Rattle.std.proofs.lemmas.Bool.Decides.{nat_tests}
 use Rattle.std.specs.Prelude.{◌==◌, ◌&&◌, ◌||◌, not}
 use Rattle.edn_model.specs.Form as form
-use Rattle.edn_model.specs.Bytes.{hash, plus, minus, point, slash, colon, backslash, is_digit, is_name_byte, is_token_byte, may_begin_token, begins_no_token, Each}
+use Rattle.edn_model.specs.Bytes.{hash, plus, minus, point, slash, colon, backslash, is_digit, is_name_byte, is_token_byte, may_begin_token}
+use Rattle.edn_model.specs.Bytes.{begins_no_token, Each}
 use Rattle.edn_model.specs.Tokens.{IsName, IsSymbol, IsReserved, begins_symbol, IsKeyword, IsAtom}
 use Rattle.edn_model.specs.Faults.{What, char, float, big_int, wide, namespaced_map, tag, DigitsBefore, IsUnsupported, IsNoToken}
 use Rattle.edn_model.proofs.Runs.{heads, both, both_true, Each-tail}
@@ -104,7 +106,8 @@ one_byte test b h = both_true (test b) true h refl
 
 float_of : (b : ℕ) → is_digit b ≡ true → TokenOf b
 float_of b h =
-    let before : DigitsBefore point (b ∷ point ∷ []) = record { sign = []; digits = b ∷ []; more = []; is = refl; signs = inl refl; some = lit< tt; each = one_byte is_digit b h } in
+    let before : DigitsBefore point (b ∷ point ∷ []) =
+    record { sign = []; digits = b ∷ []; more = []; is = refl; signs = inl refl; some = lit< tt; each = one_byte is_digit b h } in
     (point ∷ [], λ none. none.supported float (inl (point, refl, before)))
 
 keyword_a : IsKeyword (codes "a")
@@ -122,7 +125,8 @@ slash_alone = ([], λ none. none.no_form (form.symbol (slash ∷ [])) (refl, (as
 char_of : TokenOf backslash
 char_of = ([], λ none. none.supported char ([], refl))
 
-begins_by : (digit colon hash sign : Bool) → digit ≡ false → colon ≡ false → hash ≡ false → (not digit && ((not colon && not hash) && not (sign && false))) ≡ true
+begins_by : (digit colon hash sign : Bool) → digit ≡ false → colon ≡ false → hash ≡ false
+    → (not digit && ((not colon && not hash) && not (sign && false))) ≡ true
 begins_by true q r s hp hq hr = cc
 begins_by false true r s hp hq hr = cc
 begins_by false false true s hp hq hr = cc
@@ -136,7 +140,8 @@ one_unreserved b (inr (inr e)) = let wrong = ap length e in omega arith
 
 symbol_of : (b : ℕ) → b < 128 → is_name_byte b ≡ true → is_digit b ≡ false → (b == colon) ≡ false → (b == hash) ≡ false → TokenOf b
 symbol_of b low name no_digit no_colon no_hash =
-    let first : begins_symbol (b ∷ []) ≡ true = begins_by (is_digit b) (b == colon) (b == hash) (b == point || (b == plus || b == minus)) no_digit no_colon no_hash in
+    let first : begins_symbol (b ∷ []) ≡ true =
+    begins_by (is_digit b) (b == colon) (b == hash) (b == point || (b == plus || b == minus)) no_digit no_colon no_hash in
     let symbol : IsSymbol (b ∷ []) = (one_low b low, inr (first, one_unreserved b, inl (lit< tt, one_byte is_name_byte b name))) in
     ([], λ none. none.no_form (form.symbol (b ∷ [])) (refl, symbol))
 
@@ -163,6 +168,7 @@ token_of b low may = elim (cases_Bool (is_name_byte b)) [
   | inl name ↦ name_token b low name
   | inr (no_name) ↦ elim (cases_Bool (b == slash)) [
     | inl is ↦ subst TokenOf (sym (equal b slash is)) slash_alone
-    | inr no_slash ↦ subst TokenOf (sym (equal b backslash (either (is_name_byte b) (b == slash) (b == backslash) may no_name no_slash))) char_of
+    | inr no_slash ↦
+        subst TokenOf (sym (equal b backslash (either (is_name_byte b) (b == slash) (b == backslash) may no_name no_slash))) char_of
   ]
 ]

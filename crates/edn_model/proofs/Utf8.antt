@@ -1,5 +1,6 @@
 -- Whole characters stand in one way in front of bytes with which no character begins.
-use Rattle.std.proofs.Common.{◌≡◌, ℕ, zero, suc, ◌<◌, ◌≤◌, Bool, true, false, List, [], ◌∷◌, ◌++◌, ◌+◌, append_assoc, length, length-append, get_or, take, drop, lit<, refl, ap, ◌∙◌, sym, subst, arith, inl, inr}
+use Rattle.std.proofs.Common.{◌≡◌, ℕ, zero, suc, ◌<◌, ◌≤◌, Bool, true, false, List, [], ◌∷◌, ◌++◌, ◌+◌, append_assoc, length, length-append}
+use Rattle.std.proofs.Common.{get_or, take, drop, lit<, refl, ap, ◌∙◌, sym, subst, arith, inl, inr}
 use Rattle.std.proofs.Math.Seq.{take-append_seam, drop-append_seam}
 use Rattle.std.proofs.lemmas.Bool.{cases_lt}
 use Rattle.std.proofs.lemmas.Str.{IsUtf8-from_ascii, IsUtf8-drop, IsCharBoundary-from_take}
@@ -38,13 +39,15 @@ pub utf8_behind : (a c : List ℕ) → IsUtf8 a → IsUtf8 (a ++ c) → IsUtf8 c
 utf8_behind a c u v =
     let size : length (a ++ c) ≡ length a + length c = length-append a c in
     let front : IsUtf8 (take (length a) (a ++ c)) = subst IsUtf8 (sym (take-append_seam a c)) u in
-    subst IsUtf8 (drop-append_seam a c) (IsUtf8-drop (a ++ c) (length a) v (IsCharBoundary-from_take (a ++ c) (length a) v (omega arith) front))
+    subst IsUtf8 (drop-append_seam a c)
+    (IsUtf8-drop (a ++ c) (length a) v (IsCharBoundary-from_take (a ++ c) (length a) v (omega arith) front))
 
 -- a text that begins with a character
 no_text_of : (cs l r : List ℕ) (b : ℕ) → scalars cs ≡ true → encode_utf8_all cs ≡ b ∷ l → StartsWithNoChar ((b ∷ l) ++ r) → ⊥
 no_text_of [] l r b h e n = let wrong : [] ≡ b ∷ l = e in cc
 no_text_of (c ∷ cs) l r b h e n =
-    n c (encode_utf8_all cs ++ r) (both (scalar c) (scalars cs) h).0 (ap (λ z. z ++ r) (sym e) ∙ append_assoc (encode_utf8 c) (encode_utf8_all cs) r)
+    n c (encode_utf8_all cs ++ r) (both (scalar c) (scalars cs) h).0
+    (ap (λ z. z ++ r) (sym e) ∙ append_assoc (encode_utf8 c) (encode_utf8_all cs) r)
 
 no_text : (b : ℕ) (l r : List ℕ) → StartsWithNoChar ((b ∷ l) ++ r) → IsUtf8 (b ∷ l) → ⊥
 no_text b l r n u = no_text_of u.0 l r b u.1.0 u.1.1 n

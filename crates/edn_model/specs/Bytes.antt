@@ -1,6 +1,7 @@
 -- Kinds of bytes in a text.
 -- EDN, edn-format: "General considerations", "Symbols", "Keywords".
-use Rattle.std.specs.Prelude.{ℕ, nat_le, ◌==◌, Bool, true, false, ◌&&◌, ◌||◌, not, IsTrue, List, [], ◌∷◌}
+use Rattle.std.specs.Prelude.{ℕ, nat_le, ◌==◌, Bool, true, false, ◌&&◌, ◌||◌, not, IsTrue, List, []}
+use Rattle.std.specs.Prelude.{◌∷◌}
 use Rattle.std.specs.Str.{byte, StartsWithNoChar}
 pub use Rattle.edn_model.specs.Runs.{Each}
 
@@ -89,7 +90,7 @@ is_sign b =
     || (((b == byte "?" || b == byte "$") || (b == byte "%" || (b == byte "&" || b == byte "=")))
     || ((b == byte "<" || b == byte ">") || (b == colon || b == hash)))
 
--- stands in a name: a letter, a digit, one of the signs, or part of a character past ASCII
+-- is part of a name: a letter, a digit, one of the signs, or part of a character past ASCII
 abbrev pub is_name_byte : ℕ → Bool
 is_name_byte b = (is_letter b || is_digit b) || (is_sign b || nat_le 0x80 b)
 
@@ -103,18 +104,19 @@ is_closing b = b == close_paren || (b == close_bracket || b == close_brace)
 abbrev pub ends_token : ℕ → Bool
 ends_token b = is_blank b || ((is_opening b || is_closing b) || (b == quote || b == semicolon))
 
--- ends no token, and so stands in one
+-- does not end a token, and so is part of one
 abbrev pub is_token_byte : ℕ → Bool
 is_token_byte b = not (ends_token b)
 
--- a token may begin with it: it stands in a name, or is the slash that is a symbol, or a character's backslash
+-- a token may begin with it:
+-- it is part of a name, or is the slash that is a symbol, or a character's backslash
 abbrev pub may_begin_token : ℕ → Bool
 may_begin_token b = is_name_byte b || (b == slash || b == backslash)
 
 abbrev pub is_line_byte : ℕ → Bool
 is_line_byte b = not (b == line_feed)
 
--- stands in a string for itself
+-- is itself in a string
 abbrev pub is_plain : ℕ → Bool
 is_plain b = not (b == quote) && not (b == backslash)
 
@@ -135,7 +137,7 @@ token_ends (b ∷ bytes) = ends_token b
 abbrev pub TokenEnds : List ℕ → Type 0
 TokenEnds bytes = IsTrue (token_ends bytes)
 
--- bytes stand here, and no character begins with them
+-- there are bytes here, and no character begins with them
 abbrev pub NoCharacter : List ℕ → Type 0
 NoCharacter [] = ⊥
 NoCharacter (b ∷ bytes) = StartsWithNoChar (b ∷ bytes)

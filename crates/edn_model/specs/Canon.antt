@@ -1,17 +1,21 @@
--- The one canonical text of a form: one space between the forms of a collection and none elsewhere, five escapes in a
--- string, members in their order, identifiers in lower case, and instants in UTC with three digits of a second's fraction.
+-- The one canonical text of a form: one space between the forms of a collection and none elsewhere,
+-- five escapes in a string, members in their order,
+-- identifiers in lower case, and instants in UTC with three digits of a second's fraction.
 -- This project's own choice.
-use Rattle.std.specs.Prelude.{◌≡◌, ℕ, ◌+◌, ◌*◌, ◌<◌, ◌≤◌, ◌==◌, if◌then◌else◌, ℤ, pos, List, [], ◌∷◌, ◌++◌, codes, flat_map}
+use Rattle.std.specs.Prelude.{◌≡◌, ℕ, ◌+◌, ◌*◌, ◌<◌, ◌≤◌, ◌==◌, if◌then◌else◌, ℤ, pos, List, []}
+use Rattle.std.specs.Prelude.{◌∷◌, ◌++◌, codes, flat_map}
 use Rattle.std.specs.Fmt.{signed_decimal}
 use Rattle.std.specs.Int.{w128, to_be_bytes}
 use Rattle.jiff_core.specs.Calendar.{IsCivilDate, days_from_civil}
 use Rattle.uuid.specs.Text.{lower, hyphenated_text}
 use Rattle.std.specs.Str.{byte}
 use Rattle.edn_model.specs.Form as form
-use Rattle.edn_model.specs.Bytes.{tab, line_feed, carriage_return, space, quote, hash, open_paren, close_paren, colon, point, open_bracket, backslash, close_bracket, open_brace, close_brace}
+use Rattle.edn_model.specs.Bytes.{tab, line_feed, carriage_return, space, quote, hash, open_paren}
+use Rattle.edn_model.specs.Bytes.{close_paren, colon, point, open_bracket, backslash, close_bracket}
+use Rattle.edn_model.specs.Bytes.{open_brace, close_brace}
 use Rattle.edn_model.specs.Instants.{digits, date_text, second_text, instant_of}
 
--- what stands in a string for a byte of its text
+-- what a string has for a byte of its text
 abbrev pub escaped : ℕ → List ℕ
 escaped b =
     if b == tab then codes "\\t"

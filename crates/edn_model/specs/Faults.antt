@@ -1,16 +1,24 @@
--- The first fault of a text, from left to right: up to some place whole forms stand and constructs are open, and what
--- stands there can't go on.
--- This project's own choice; what is unsupported is of EDN, edn-format: "Characters", "Floating point numbers",
+-- The first fault of a text, from left to right:
+-- up to some place there are whole forms and open constructs, and what is there can't go on.
+-- This project's own choice; what is unsupported is of EDN, edn-format:
+-- "Characters", "Floating point numbers",
 -- "Integers", "Tagged elements".
-use Rattle.std.specs.Prelude.{◌≡◌, ◌≢◌, ◌⊎◌, ℕ, suc, ◌+◌, ◌-◌, ◌<◌, ◌≤◌, ◌==◌, Bool, true, false, ◌&&◌, ◌||◌, not, IsTrue, IsUtf8, ℤ, List, [], ◌∷◌, ◌++◌, length, drop, codes, None}
+use Rattle.std.specs.Prelude.{◌≡◌, ◌≢◌, ◌⊎◌, ℕ, suc, ◌+◌, ◌-◌, ◌<◌, ◌≤◌, ◌==◌, Bool, true, false}
+use Rattle.std.specs.Prelude.{◌&&◌, ◌||◌, not, IsTrue, IsUtf8, ℤ, List, [], ◌∷◌, ◌++◌, length, drop}
+use Rattle.std.specs.Prelude.{codes, None}
 use Rattle.std.specs.Str.{byte}
 use Rattle.edn_model.specs.Form as form
-use Rattle.edn_model.specs.Bytes.{quote, hash, open_paren, close_paren, plus, minus, point, colon, semicolon, open_bracket, backslash, close_bracket, underscore, open_brace, close_brace, is_blank, is_digit, is_letter, is_opening, is_closing, is_token_byte, is_line_byte, begins_no_token, Each, TokenEnds, NoCharacter}
-use Rattle.edn_model.specs.Tokens.{IsNumeral, IsLong, IsAtom, IsCode, Spells, StringStands, escape_of, is_hex_digit}
+use Rattle.edn_model.specs.Bytes.{quote, hash, open_paren, close_paren, plus, minus, point, colon}
+use Rattle.edn_model.specs.Bytes.{semicolon, open_bracket, backslash, close_bracket, underscore}
+use Rattle.edn_model.specs.Bytes.{open_brace, close_brace, is_blank, is_digit, is_letter}
+use Rattle.edn_model.specs.Bytes.{is_opening, is_closing, is_token_byte, is_line_byte}
+use Rattle.edn_model.specs.Bytes.{begins_no_token, Each, TokenEnds, NoCharacter}
+use Rattle.edn_model.specs.Tokens.{IsNumeral, IsLong, IsAtom, IsCode, Spells, StringAt, escape_of}
+use Rattle.edn_model.specs.Tokens.{is_hex_digit}
 use Rattle.edn_model.specs.Instants.{IsInstant}
 use Rattle.edn_model.specs.Uuids.{IsUuid}
 use Rattle.edn_model.specs.Likeness.{alike, any, distinct, keys}
-use Rattle.edn_model.specs.Grammar.{max_depth, TagStands, Gap, Text, Members, Entries}
+use Rattle.edn_model.specs.Grammar.{max_depth, TagAt, Gap, Text, Members, Entries}
 
 -- what EDN has and this reader does not
 pub data What : Type 0 where
@@ -30,12 +38,12 @@ pub data Fault : Type 0 where
 
 -- ---- what is open
 
--- a construct that is open, with the forms that stand whole in it
+-- a construct that is open, with the whole forms in it
 pub data Open : Type 0 where
   in_list : form.Forms → Open
   in_vector : form.Forms → Open
   in_map : form.Pairs → Open
-  -- a key behind the pairs, whose value has not come
+  -- a key after the pairs, whose value has not come
   behind_key : form.Pairs → form.Form → Open
   in_set : form.Forms → Open
   behind_discard : Open
@@ -62,7 +70,7 @@ depth_of (inner ∷ outer) = suc (depth_of outer)
 abbrev pub room : List Open → ℕ
 room opens = max_depth - depth_of opens
 
--- the construct opens at a place, inside others, and its whole forms stand up to here
+-- the construct opens at a place, inside others, and its whole forms are up to here
 abbrev pub Opened : ℕ → Open → List ℕ → List ℕ → Type 0
 Opened depth (in_list fs) at here =
     (inside : List ℕ) × (at ≡ open_paren ∷ inside) × Members depth fs inside here
@@ -89,25 +97,25 @@ Opened depth (in_set fs) at here =
 Opened depth behind_discard at here =
     (inside : List ℕ) × (at ≡ hash ∷ underscore ∷ inside) × Gap depth inside here
 Opened depth behind_inst at here =
-    (inside : List ℕ) × TagStands (codes "inst") at inside × Gap depth inside here
+    (inside : List ℕ) × TagAt (codes "inst") at inside × Gap depth inside here
 Opened depth behind_uuid at here =
-    (inside : List ℕ) × TagStands (codes "uuid") at inside × Gap depth inside here
+    (inside : List ℕ) × TagAt (codes "uuid") at inside × Gap depth inside here
 
 abbrev pub is_discard : Open → Bool
 is_discard behind_discard = true
 is_discard _ = false
 
--- Up to here nothing is at fault: in each construct that is open, the innermost first, whole forms stand. A tag is
--- followed by its string alone, and by what may stand before it.
-pub data Stands : List ℕ → List Open → List ℕ → Type 0 where
-  outside : {bytes here : List ℕ} → Gap max_depth bytes here → Stands bytes [] here
-  inside : {bytes at here : List ℕ} {inner : Open} {outer : List Open} → Stands bytes outer at
+-- Up to here nothing is at fault: in each construct that is open, the innermost first,
+-- there are whole forms. A tag is followed by its string alone, and by what may come before it.
+pub data Faultless : List ℕ → List Open → List ℕ → Type 0 where
+  outside : {bytes here : List ℕ} → Gap max_depth bytes here → Faultless bytes [] here
+  inside : {bytes at here : List ℕ} {inner : Open} {outer : List Open} → Faultless bytes outer at
       → IsTrue (is_discard inner || not (wants_string outer)) → depth_of (inner ∷ outer) ≤ max_depth
-      → Opened (room (inner ∷ outer)) inner at here → Stands bytes (inner ∷ outer) here
+      → Opened (room (inner ∷ outer)) inner at here → Faultless bytes (inner ∷ outer) here
 
 -- ---- tokens at fault
 
--- an optional sign and digits, and what stands behind them
+-- an optional sign and digits, and what follows them
 pub record DigitsBefore (mark : ℕ) (token : List ℕ) : Type 0 where
   pub sign : List ℕ
   pub digits : List ℕ
@@ -143,8 +151,8 @@ pub record IsNoToken (token : List ℕ) : Type 0 where
   pub supported : (what : What) → ¬ IsUnsupported what token
   pub no_tag : (token ≢ codes "#inst") × (token ≢ codes "#uuid")
 
--- the characters of a token in front, and what stands behind them
-pub record TokenStands (here token rest : List ℕ) : Type 0 where
+-- the characters of a token in front, and what follows them
+pub record TokenAt (here token rest : List ℕ) : Type 0 where
   pub is : here ≡ token ++ rest
   pub each : Each is_token_byte token
   pub utf8 : IsUtf8 token
@@ -154,7 +162,7 @@ pub record TokenStands (here token rest : List ℕ) : Type 0 where
 
 -- ---- strings at fault
 
--- the bytes behind a backslash, and no escape begins with them
+-- the bytes after a backslash, and no escape begins with them
 pub data IsBadEscape : List ℕ → Type 0 where
   unknown : {b : ℕ} {more : List ℕ} → escape_of b ≡ None → b ≢ byte "u" → IsBadEscape (b ∷ more)
   no_digit : {bytes : List ℕ} → (digits : List ℕ) (b : ℕ) (more : List ℕ)
@@ -164,13 +172,13 @@ pub data IsBadEscape : List ℕ → Type 0 where
       → Each is_hex_digit (a ∷ b ∷ c ∷ d ∷ [])
       → ((n : ℕ) → ¬ IsCode a b c d n) → IsBadEscape bytes
 
--- the bytes behind a backslash, which end within an escape
+-- the bytes after a backslash, which end within an escape
 pub data IsCutEscape : List ℕ → Type 0 where
   no_letter : IsCutEscape []
   few_digits : {digits : List ℕ} → length digits < 4 → Each is_hex_digit digits
       → IsCutEscape (byte "u" ∷ digits)
 
--- the bytes behind the quote of a string, which is not whole
+-- the bytes after the quote of a string, which is not whole
 pub data StringFault : List ℕ → Fault → List ℕ → Type 0 where
   no_quote : {inside text : List ℕ} → Spells inside text [] → IsUtf8 text
       → StringFault inside cut []
@@ -231,24 +239,24 @@ pub data Stuck : List Open → List ℕ → Fault → List ℕ → Type 0 where
       → begins_no_token here ≡ true → Stuck opens here bad here
   bad_character : {opens : List Open} {here token rest : List ℕ} → wants_string opens ≡ false
       → begins_no_token here ≡ false
-      → TokenStands here token rest → NoCharacter rest → Stuck opens here bad rest
+      → TokenAt here token rest → NoCharacter rest → Stuck opens here bad rest
   bad_token : {opens : List Open} {here token rest : List ℕ} → wants_string opens ≡ false
-      → TokenStands here token rest → TokenEnds rest
+      → TokenAt here token rest → TokenEnds rest
       → 0 < length token → IsNoToken token → Stuck opens here bad here
   unsupported_token : {opens : List Open} {what : What} {here token rest : List ℕ}
-      → wants_string opens ≡ false → TokenStands here token rest
+      → wants_string opens ≡ false → TokenAt here token rest
       → TokenEnds rest → IsUnsupported what token → Stuck opens here (unsupported what) here
   in_string : {opens : List Open} {fault : Fault} {bytes place : List ℕ}
       → StringFault bytes fault place → Stuck opens (quote ∷ bytes) fault place
   in_comment : {opens : List Open} {text place : List ℕ} → Each is_line_byte text → IsUtf8 text
       → NoCharacter place
       → Stuck opens (semicolon ∷ (text ++ place)) bad place
-  no_instant : {outer : List Open} {s here rest : List ℕ} → StringStands s here rest
+  no_instant : {outer : List Open} {s here rest : List ℕ} → StringAt s here rest
       → ((z : ℤ) → ¬ IsInstant z s) → Stuck (behind_inst ∷ outer) here bad here
-  no_uuid : {outer : List Open} {s here rest : List ℕ} → StringStands s here rest
+  no_uuid : {outer : List Open} {s here rest : List ℕ} → StringAt s here rest
       → ((n : ℕ) → ¬ IsUuid n s) → Stuck (behind_uuid ∷ outer) here bad here
 
--- In these constructs what stands here is at fault: nothing can go on, or what stands here was said before.
+-- In these constructs what is here is at fault: nothing can go on, or it is a duplicate.
 pub data FaultIn : List Open → List ℕ → Fault → List ℕ → Type 0 where
   stuck : {opens : List Open} {fault : Fault} {here place : List ℕ} → Stuck opens here fault place
       → FaultIn opens here fault place
@@ -264,6 +272,6 @@ pub record FaultAt (bytes : List ℕ) (at : ℕ) (fault : Fault) (byte : ℕ) : 
   pub opens : List Open
   pub here : List ℕ
   pub place : List ℕ
-  pub stands : Stands (drop at bytes) opens here
+  pub stands : Faultless (drop at bytes) opens here
   pub is : FaultIn opens here fault place
   pub byte_is : byte + length place ≡ length bytes

@@ -1,4 +1,5 @@
--- What a form is, without where it lies in a text. A map's pairs and a set's members stand in the order of their text.
+-- What a form is, without where it lies in a text.
+-- A map's pairs and a set's members are in the order of their text.
 -- EDN, edn-format: "Built-in elements" and "Built-in tagged elements".
 use Rattle.std.specs.Prelude.{ℕ, ℤ, Bool, List, [], ◌∷◌}
 
@@ -28,7 +29,7 @@ mutual
     no_pairs : Pairs
     pair : Form → Form → Pairs → Pairs
 
--- the forms of a list, and behind them those that follow
+-- the forms of a list, and after them those that follow
 abbrev pub prepend : List Form → Forms → Forms
 prepend [] after = after
 prepend (f ∷ fs) after = form f (prepend fs after)
@@ -40,12 +41,12 @@ abbrev pub pairs : List (Form × Form) → Pairs
 pairs [] = no_pairs
 pairs (p ∷ ps) = pair p.0 p.1 (pairs ps)
 
--- the list that members stand for
+-- the members as a list
 abbrev pub items : Forms → List Form
 items no_forms = []
 items (form f fs) = f ∷ items fs
 
--- the forms, and one behind them
+-- the forms, and one after them
 abbrev pub with_last : Forms → Form → Forms
 with_last no_forms g = form g no_forms
 with_last (form f fs) g = form f (with_last fs g)

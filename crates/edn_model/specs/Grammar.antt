@@ -1,10 +1,14 @@
--- Which bytes are a text of which form. Each definition says what stands from one place in a text up to a later one: here
--- are the bytes from the first place on, and rest those from the later one on.
--- EDN, edn-format: "General considerations", "Lists", "Vectors", "Maps", "Sets", "Tagged elements", "Comments", "Discard".
-use Rattle.std.specs.Prelude.{◌≡◌, ℕ, suc, ◌<◌, ◌≤◌, true, IsTrue, IsUtf8, ℤ, List, [], ◌∷◌, ◌++◌, length, drop, codes}
+-- Which bytes are a text of which form. Each definition says what a text has from one place up
+-- to a later one: here are the bytes from the first place on, and rest those from the later one on.
+-- EDN, edn-format: "General considerations",
+-- "Lists", "Vectors", "Maps", "Sets", "Tagged elements", "Comments", "Discard".
+use Rattle.std.specs.Prelude.{◌≡◌, ℕ, suc, ◌<◌, ◌≤◌, true, IsTrue, IsUtf8, ℤ, List, [], ◌∷◌, ◌++◌}
+use Rattle.std.specs.Prelude.{length, drop, codes}
 use Rattle.edn_model.specs.Form as form
-use Rattle.edn_model.specs.Bytes.{line_feed, hash, open_paren, close_paren, semicolon, open_bracket, close_bracket, underscore, open_brace, close_brace, is_blank, is_line_byte, Each, TokenEnds}
-use Rattle.edn_model.specs.Tokens.{IsAtom, StringStands}
+use Rattle.edn_model.specs.Bytes.{line_feed, hash, open_paren, close_paren, semicolon, open_bracket}
+use Rattle.edn_model.specs.Bytes.{close_bracket, underscore, open_brace, close_brace, is_blank}
+use Rattle.edn_model.specs.Bytes.{is_line_byte, Each, TokenEnds}
+use Rattle.edn_model.specs.Tokens.{IsAtom, StringAt}
 use Rattle.edn_model.specs.Instants.{IsInstant}
 use Rattle.edn_model.specs.Uuids.{IsUuid}
 use Rattle.edn_model.specs.Likeness.{distinct, keys}
@@ -14,12 +18,12 @@ abbrev pub max_depth : ℕ
 max_depth = 64
 
 -- a tag: a hash and its name
-pub record TagStands (name here rest : List ℕ) : Type 0 where
+pub record TagAt (name here rest : List ℕ) : Type 0 where
   pub is : here ≡ hash ∷ (name ++ rest)
   pub ends : TokenEnds rest
 
 -- a comment up to its line feed
-pub record CommentStands (here rest : List ℕ) : Type 0 where
+pub record CommentAt (here rest : List ℕ) : Type 0 where
   pub text : List ℕ
   pub is : here ≡ semicolon ∷ (text ++ line_feed ∷ rest)
   pub one_line : Each is_line_byte text
@@ -34,12 +38,12 @@ pub record LastComment (here : List ℕ) : Type 0 where
 
 -- The number says how many collections and discards may still open.
 mutual
-  -- what may stand between forms: white space, comments, and discarded forms
+  -- what may be between forms: white space, comments, and discarded forms
   pub data Gap : ℕ → List ℕ → List ℕ → Type 0 where
     no_gap : {depth : ℕ} {here : List ℕ} → Gap depth here here
     blank : {depth b : ℕ} {here rest : List ℕ} → is_blank b ≡ true → Gap depth here rest
         → Gap depth (b ∷ here) rest
-    comment : {depth : ℕ} {here after rest : List ℕ} → CommentStands here after
+    comment : {depth : ℕ} {here after rest : List ℕ} → CommentAt here after
         → Gap depth after rest → Gap depth here rest
     last_comment : {depth : ℕ} {here : List ℕ} → LastComment here → Gap depth here []
     discard : {depth : ℕ} {f : form.Form} {here inside at after rest : List ℕ}
@@ -50,7 +54,7 @@ mutual
     atom : {depth : ℕ} {f : form.Form} {here rest : List ℕ} → (token : List ℕ) → IsAtom f token
         → here ≡ token ++ rest → TokenEnds rest
         → Text depth f here rest
-    string : {depth : ℕ} {s here rest : List ℕ} → StringStands s here rest
+    string : {depth : ℕ} {s here rest : List ℕ} → StringAt s here rest
         → Text depth (form.string s) here rest
     list : {depth : ℕ} {fs : form.Forms} {here inside rest : List ℕ} → here ≡ open_paren ∷ inside
         → Members depth fs inside (close_paren ∷ rest) → Text (suc depth) (form.list fs) here rest
@@ -66,11 +70,11 @@ mutual
         → Members depth fs inside (close_brace ∷ rest) → IsTrue (distinct fs)
         → Text (suc depth) (form.set fs) here rest
     instant : {depth : ℕ} {z : ℤ} {s here after at rest : List ℕ}
-        → TagStands (codes "inst") here after → Gap depth after at
-        → StringStands s at rest → IsInstant z s → Text depth (form.instant z) here rest
-    uuid : {depth n : ℕ} {s here after at rest : List ℕ} → TagStands (codes "uuid") here after
+        → TagAt (codes "inst") here after → Gap depth after at
+        → StringAt s at rest → IsInstant z s → Text depth (form.instant z) here rest
+    uuid : {depth n : ℕ} {s here after at rest : List ℕ} → TagAt (codes "uuid") here after
         → Gap depth after at
-        → StringStands s at rest → IsUuid n s → Text depth (form.uuid n) here rest
+        → StringAt s at rest → IsUuid n s → Text depth (form.uuid n) here rest
 
   -- forms with gaps round them
   pub data Members : ℕ → form.Forms → List ℕ → List ℕ → Type 0 where
@@ -80,7 +84,7 @@ mutual
         → Gap depth here at → Text depth f at after
         → Members depth fs after rest → Members depth (form.form f fs) here rest
 
-  -- keys, each with its value behind it
+  -- keys, each with its value after it
   pub data Entries : ℕ → form.Pairs → List ℕ → List ℕ → Type 0 where
     no_entries : {depth : ℕ} {here rest : List ℕ} → Gap depth here rest
         → Entries depth form.no_pairs here rest
@@ -92,8 +96,8 @@ mutual
 abbrev pub IsWholeTextOf : form.Form → List ℕ → Type 0
 IsWholeTextOf f bytes = Text max_depth f bytes []
 
--- behind a gap stands a text of the form, which ends at next
-pub record FormStands (bytes : List ℕ) (at : ℕ) (f : form.Form) (next : ℕ) : Type 0 where
+-- after a gap there is a text of the form, which ends at next
+pub record FormAt (bytes : List ℕ) (at : ℕ) (f : form.Form) (next : ℕ) : Type 0 where
   pub order : (at < next) × (next ≤ length bytes)
   pub start : List ℕ
   pub before : Gap max_depth (drop at bytes) start

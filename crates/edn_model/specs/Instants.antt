@@ -1,6 +1,9 @@
 -- Which text is which instant. A day has the number that `jiff`'s calendar gives it.
--- EDN, edn-format: "#inst"; the texts are those of RFC 3339, of which the time, its fraction and its offset may be left out.
-use Rattle.std.specs.Prelude.{◌≡◌, ℕ, zero, suc, ◌+◌, ◌*◌, ◌/◌, ◌%◌, ◌^◌, ◌<◌, ◌≤◌, ℤ, pos, negsuc, neg_ℤ, ◌+ℤ◌, ◌-ℤ◌, ◌*ℤ◌, int_le, Bool, ◌&&◌, IsTrue, List, [], ◌∷◌, ◌++◌, length, codes}
+-- EDN, edn-format: "#inst"; the texts are those of RFC 3339,
+-- of which the time, its fraction and its offset may be left out.
+use Rattle.std.specs.Prelude.{◌≡◌, ℕ, zero, suc, ◌+◌, ◌*◌, ◌/◌, ◌%◌, ◌^◌, ◌<◌, ◌≤◌, ℤ, pos, negsuc}
+use Rattle.std.specs.Prelude.{neg_ℤ, ◌+ℤ◌, ◌-ℤ◌, ◌*ℤ◌, int_le, Bool, ◌&&◌, IsTrue, List, [], ◌∷◌}
+use Rattle.std.specs.Prelude.{◌++◌, length, codes}
 use Rattle.std.specs.Str.{byte}
 use Rattle.jiff_core.specs.Calendar.{IsCivilDate, days_from_civil}
 use Rattle.edn_model.specs.Bytes.{plus, minus, point, colon, is_digit, Each}
@@ -66,14 +69,15 @@ pub data IsOffset : ℤ → List ℕ → Type 0 where
 
 -- ---- instants
 
--- from 0001-01-01T00:00:00.000Z to 9999-12-31T23:59:59.999Z, in milliseconds from 1970-01-01T00:00:00Z
+-- from 0001-01-01T00:00:00.000Z to 9999-12-31T23:59:59.999Z,
+-- in milliseconds from 1970-01-01T00:00:00Z
 abbrev pub in_range : ℤ → Bool
 in_range z = int_le (negsuc 62135596799999) z && int_le z (pos 253402300799999)
 
 abbrev pub instant_of : ℤ → ℕ → ℤ → ℤ
 instant_of day millis offset = (day *ℤ pos 86400000 +ℤ pos millis) -ℤ offset *ℤ pos 60000
 
--- a date, and the letter T and a time of day behind it or none, where it is midnight UTC
+-- a date, and the letter T and a time of day after it or none, where it is midnight UTC
 pub data IsInstant : ℤ → List ℕ → Type 0 where
   at_midnight : {z day : ℤ} {bytes : List ℕ} → IsDate day bytes → z ≡ instant_of day 0 (pos 0)
       → IsInstant z bytes

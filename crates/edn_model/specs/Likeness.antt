@@ -1,8 +1,11 @@
 -- Which forms are alike: what a map may not have twice as its key, nor a set twice as its member.
 -- EDN, edn-format: "Equality".
-use Rattle.std.specs.Prelude.{ℕ, ◌==◌, Bool, true, false, ◌&&◌, ◌||◌, not, if◌then◌else◌, suc, bytes_eq}
+use Rattle.std.specs.Prelude.{ℕ, ◌==◌, Bool, true, false, ◌&&◌, ◌||◌, not, if◌then◌else◌, suc}
+use Rattle.std.specs.Prelude.{bytes_eq}
 use Rattle.std.specs.Ordering.{int_eq}
-use Rattle.edn_model.specs.Form.{Form, nil, boolean, integer, string, symbol, keyword, list, vector, map, set, instant, uuid, Forms, no_forms, form, Pairs, no_pairs, pair, with_last}
+use Rattle.edn_model.specs.Form.{Form, nil, boolean, integer, string, symbol, keyword, list, vector}
+use Rattle.edn_model.specs.Form.{map, set, instant, uuid, Forms, no_forms, form, Pairs, no_pairs}
+use Rattle.edn_model.specs.Form.{pair, with_last}
 
 abbrev pub count : Forms → ℕ
 count no_forms = 0
@@ -24,7 +27,8 @@ any_pair test (pair k v ps) = test k v || any_pair test ps
 abbrev pub bool_eq : Bool → Bool → Bool
 bool_eq a b = if a then b else not b
 
--- Lists and vectors are alike in order, sets and maps without it, and other forms where they are of one kind and value.
+-- Lists and vectors are alike in order,
+-- sets and maps without it, and other forms where they are of one kind and value.
 abbrev mutual
   pub alike : Form → Form → Bool
   alike nil nil = true

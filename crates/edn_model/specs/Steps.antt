@@ -1,15 +1,20 @@
--- Reading step by step: what is open, with the bytes from where each construct opens, and the bytes that are left. Laws on
--- readings and faults, and a reader's loop, go by these steps; what they come to is said by the grammar and the faults alone.
+-- Reading step by step: what is open, with the bytes from where each construct opens,
+-- and the bytes that are left. Laws on readings and faults, and a reader's loop, go by these steps;
+-- the grammar and the faults alone say what they come to.
 -- This project's own choice.
-use Rattle.std.specs.Prelude.{◌≡◌, ℕ, ◌<◌, true, false, if◌then◌else◌, ℤ, List, [], ◌∷◌, ◌++◌, codes}
+use Rattle.std.specs.Prelude.{◌≡◌, ℕ, ◌<◌, true, false, if◌then◌else◌, ℤ, List, [], ◌∷◌, ◌++◌}
+use Rattle.std.specs.Prelude.{codes}
 use Rattle.edn_model.specs.Form as form
-use Rattle.edn_model.specs.Bytes.{hash, open_paren, open_bracket, underscore, open_brace, is_blank, TokenEnds}
-use Rattle.edn_model.specs.Tokens.{IsAtom, StringStands}
+use Rattle.edn_model.specs.Bytes.{hash, open_paren, open_bracket, underscore, open_brace, is_blank}
+use Rattle.edn_model.specs.Bytes.{TokenEnds}
+use Rattle.edn_model.specs.Tokens.{IsAtom, StringAt}
 use Rattle.edn_model.specs.Instants.{IsInstant}
 use Rattle.edn_model.specs.Uuids.{IsUuid}
 use Rattle.edn_model.specs.Likeness.{alike, any, keys}
-use Rattle.edn_model.specs.Grammar.{TagStands, CommentStands, LastComment}
-use Rattle.edn_model.specs.Faults.{Open, in_list, in_vector, in_map, behind_key, in_set, behind_discard, behind_inst, behind_uuid, wants_string, room, closes, Fault, bad, Stuck}
+use Rattle.edn_model.specs.Grammar.{TagAt, CommentAt, LastComment}
+use Rattle.edn_model.specs.Faults.{Open, in_list, in_vector, in_map, behind_key, in_set}
+use Rattle.edn_model.specs.Faults.{behind_discard, behind_inst, behind_uuid, wants_string, room}
+use Rattle.edn_model.specs.Faults.{closes, Fault, bad, Stuck}
 
 -- what is open, the innermost first, each with the bytes from its first one on
 pub data Frames : Type 0 where
@@ -20,7 +25,8 @@ abbrev pub opens_of : Frames → List Open
 opens_of outermost = []
 opens_of (frame inner at outer) = inner ∷ opens_of outer
 
--- what a reading comes to: a form and the bytes behind its text, the end, or a fault and the bytes from its place on
+-- what a reading comes to: a form and the bytes after its text,
+-- the end, or a fault and the bytes from its place on
 pub data Reading : Type 0 where
   read : form.Form → List ℕ → Reading
   nothing : Reading
@@ -70,7 +76,7 @@ HasRoom frames = 0 < room (opens_of frames)
 pub data Step : State → State → Type 0 where
   blank : {frames : Frames} {b : ℕ} {here rest : List ℕ} → here ≡ b ∷ rest → is_blank b ≡ true
       → Step (going frames here) (going frames rest)
-  comment : {frames : Frames} {here rest : List ℕ} → CommentStands here rest
+  comment : {frames : Frames} {here rest : List ℕ} → CommentAt here rest
       → Step (going frames here) (going frames rest)
   last_comment : {frames : Frames} {here : List ℕ} → LastComment here
       → Step (going frames here) (going frames [])
@@ -89,24 +95,24 @@ pub data Step : State → State → Type 0 where
   set : {frames : Frames} {here inside : List ℕ} → here ≡ hash ∷ open_brace ∷ inside → Free frames
       → HasRoom frames
       → Step (going frames here) (going (frame (in_set form.no_forms) here frames) inside)
-  inst : {frames : Frames} {here inside : List ℕ} → TagStands (codes "inst") here inside
+  inst : {frames : Frames} {here inside : List ℕ} → TagAt (codes "inst") here inside
       → Free frames
       → Step (going frames here) (going (frame behind_inst here frames) inside)
-  uuid : {frames : Frames} {here inside : List ℕ} → TagStands (codes "uuid") here inside
+  uuid : {frames : Frames} {here inside : List ℕ} → TagAt (codes "uuid") here inside
       → Free frames
       → Step (going frames here) (going (frame behind_uuid here frames) inside)
   atom : {frames : Frames} {here : List ℕ} → (f : form.Form) (token rest : List ℕ) → IsAtom f token
       → here ≡ token ++ rest → TokenEnds rest → Free frames
       → Step (going frames here) (land frames f here rest)
-  string : {frames : Frames} {s here rest : List ℕ} → StringStands s here rest → Free frames
+  string : {frames : Frames} {s here rest : List ℕ} → StringAt s here rest → Free frames
       → Step (going frames here) (land frames (form.string s) here rest)
   close : {inner : Open} {outer : Frames} {b : ℕ} {at here rest : List ℕ} → here ≡ b ∷ rest
       → closes (inner ∷ opens_of outer) b ≡ true
       → Step (going (frame inner at outer) here) (land outer (closed inner) at rest)
-  instant : {outer : Frames} {z : ℤ} {s at here rest : List ℕ} → StringStands s here rest
+  instant : {outer : Frames} {z : ℤ} {s at here rest : List ℕ} → StringAt s here rest
       → IsInstant z s
       → Step (going (frame behind_inst at outer) here) (land outer (form.instant z) at rest)
-  identifier : {outer : Frames} {n : ℕ} {s at here rest : List ℕ} → StringStands s here rest
+  identifier : {outer : Frames} {n : ℕ} {s at here rest : List ℕ} → StringAt s here rest
       → IsUuid n s
       → Step (going (frame behind_uuid at outer) here) (land outer (form.uuid n) at rest)
   stuck : {frames : Frames} {why : Fault} {here place : List ℕ}

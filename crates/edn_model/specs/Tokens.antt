@@ -1,9 +1,14 @@
 -- Which bytes are a text of which token: nil, booleans, integers, symbols, keywords and strings.
 -- EDN, edn-format: "nil", "Booleans", "Strings", "Symbols", "Keywords", "Integers".
-use Rattle.std.specs.Prelude.{◌≡◌, ◌⊎◌, ℕ, ◌+◌, ◌-◌, ◌*◌, ◌<◌, ◌≤◌, nat_le, ◌==◌, Bool, true, false, ◌&&◌, ◌||◌, not, if◌then◌else◌, IsTrue, IsUtf8, ℤ, pos, negsuc, neg_ℤ, int_le, fold, List, [], ◌∷◌, ◌++◌, length, Option, Some, None, codes, encode_utf8}
+use Rattle.std.specs.Prelude.{◌≡◌, ◌⊎◌, ℕ, ◌+◌, ◌-◌, ◌*◌, ◌<◌, ◌≤◌, nat_le, ◌==◌, Bool, true, false}
+use Rattle.std.specs.Prelude.{◌&&◌, ◌||◌, not, if◌then◌else◌, IsTrue, IsUtf8, ℤ, pos, negsuc, neg_ℤ}
+use Rattle.std.specs.Prelude.{int_le, fold, List, [], ◌∷◌, ◌++◌, length, Option, Some, None, codes}
+use Rattle.std.specs.Prelude.{encode_utf8}
 use Rattle.std.specs.Str.{byte}
 use Rattle.edn_model.specs.Form as form
-use Rattle.edn_model.specs.Bytes.{backspace, tab, line_feed, form_feed, carriage_return, quote, hash, plus, minus, point, slash, colon, backslash, is_digit, is_name_byte, is_plain, begins, Each}
+use Rattle.edn_model.specs.Bytes.{backspace, tab, line_feed, form_feed, carriage_return, quote}
+use Rattle.edn_model.specs.Bytes.{hash, plus, minus, point, slash, colon, backslash, is_digit}
+use Rattle.edn_model.specs.Bytes.{is_name_byte, is_plain, begins, Each}
 
 -- ---- names
 
@@ -27,13 +32,13 @@ begins_keyword bytes = begins (λ b. not (b == colon) && not (b == hash)) bytes
 abbrev pub IsKeywordName : List ℕ → Type 0
 IsKeywordName bytes = IsName bytes × IsTrue (begins_keyword bytes)
 
--- what stands in a keyword behind its colon
+-- what stands in a keyword after its colon
 abbrev pub IsKeyword : List ℕ → Type 0
 IsKeyword bytes = IsUtf8 bytes × (IsKeywordName bytes ⊎ Joined IsKeywordName IsKeywordName bytes)
 
 -- ---- symbols
 
--- no digit, no colon and no hash comes first, and behind a point, a plus or a minus no digit
+-- no digit, no colon and no hash comes first, and after a point, a plus or a minus no digit
 abbrev pub begins_symbol : List ℕ → Bool
 begins_symbol [] = false
 begins_symbol (b ∷ bytes) =
@@ -99,8 +104,8 @@ IsAtom (form.uuid n) bytes = ⊥
 
 -- ---- strings
 
--- the character that a backslash and this byte stand for: tab, carriage return, line feed, backslash, quote,
--- backspace, form feed
+-- the character that a backslash and this byte spell:
+-- tab, carriage return, line feed, backslash, quote, backspace, form feed
 abbrev pub escape_of : ℕ → Option ℕ
 escape_of b =
     if b == byte "t" then Some tab
@@ -129,7 +134,7 @@ pub record IsCode (a b c d code : ℕ) : Type 0 where
   pub is : code ≡ ((hex_value a * 16 + hex_value b) * 16 + hex_value c) * 16 + hex_value d
   pub no_surrogate : (code < 0xD800) ⊎ (0xE000 ≤ code)
 
--- from one place to a later one stand characters and escapes that spell the text
+-- from one place to a later one there are characters and escapes that spell the text
 pub data Spells : List ℕ → List ℕ → List ℕ → Type 0 where
   nothing : {here : List ℕ} → Spells here [] here
   plain : {b : ℕ} {here text rest : List ℕ} → is_plain b ≡ true → Spells here text rest
@@ -141,8 +146,8 @@ pub data Spells : List ℕ → List ℕ → List ℕ → Type 0 where
       → here ≡ backslash ∷ byte "u" ∷ a ∷ b ∷ c ∷ d ∷ after → IsCode a b c d n
       → Spells after text rest → all ≡ encode_utf8 n ++ text → Spells here all rest
 
--- from one place to a later one stands a string between its quotes
-pub record StringStands (s here rest : List ℕ) : Type 0 where
+-- from one place to a later one there is a string between its quotes
+pub record StringAt (s here rest : List ℕ) : Type 0 where
   pub inside : List ℕ
   pub opens : here ≡ quote ∷ inside
   pub spells : Spells inside s (quote ∷ rest)

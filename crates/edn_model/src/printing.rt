@@ -6,7 +6,7 @@ ghost use Rattle.edn_model.specs.Tokens.{IsLong, IsSymbol, IsKeyword};
 ghost use Rattle.edn_model.specs.Grammar.{Text};
 ghost use Rattle.edn_model.specs.Canon.{Canon};
 
-/// A string's text is one whatever stands behind it.
+/// A string's text is one whatever follows it.
 pub fn strings()
     ensures { (depth : ℕ) (s bytes rest : List ℕ) → IsUtf8 s → Canon (form.string s) bytes
         → Text depth (form.string s) (bytes ++ rest) rest }

@@ -1,9 +1,9 @@
-//! Next in a text stands one form, or the end, or one fault at one byte, and no two of them.
+//! Next in a text comes one form, or the end, or one fault at one byte, and no two of them.
 ghost use Rattle.std.specs.Prelude.{◌≡◌, ℕ, ◌<◌, true, false, List, ◌∷◌};
 ghost use Rattle.edn_model.specs.Form.{Form};
 ghost use Rattle.edn_model.specs.Bytes.{may_begin_token};
 ghost use Rattle.edn_model.specs.Likeness.{alike};
-ghost use Rattle.edn_model.specs.Grammar.{IsWholeTextOf, FormStands, OnlyGap};
+ghost use Rattle.edn_model.specs.Grammar.{IsWholeTextOf, FormAt, OnlyGap};
 ghost use Rattle.edn_model.specs.Faults.{Fault, IsNoToken, FaultAt};
 
 /// A text is the text of one form.
@@ -12,16 +12,16 @@ pub fn one_form()
         → f ≡ g }
 {}
 
-/// Behind a place stands one form at most, and its text ends at one place.
+/// After a place comes one form at most, and its text ends at one place.
 pub fn one_next()
     ensures { (bytes : List ℕ) (at : ℕ) (f g : Form) (m n : ℕ) →
-        FormStands bytes at f m → FormStands bytes at g n → (f ≡ g) × (m ≡ n) }
+        FormAt bytes at f m → FormAt bytes at g n → (f ≡ g) × (m ≡ n) }
 {}
 
-/// No form stands where white space, comments and discards alone remain.
+/// No form comes where white space, comments and discards alone remain.
 pub fn no_form_in_a_gap()
     ensures { (bytes : List ℕ) (at : ℕ) (f : Form) (next : ℕ) → OnlyGap bytes at
-        → ¬ FormStands bytes at f next }
+        → ¬ FormAt bytes at f next }
 {}
 
 /// Each form is alike to itself.
@@ -29,19 +29,19 @@ pub fn alike_itself()
     ensures { (f : Form) → alike f f ≡ true }
 {}
 
-/// No fault stands where a form does.
+/// No fault comes where a form does.
 pub fn no_fault_at_a_form()
     ensures { (bytes : List ℕ) (at : ℕ) (f : Form) (next : ℕ) (fault : Fault) (byte : ℕ) →
-        FormStands bytes at f next → ¬ FaultAt bytes at fault byte }
+        FormAt bytes at f next → ¬ FaultAt bytes at fault byte }
 {}
 
-/// No fault stands where white space, comments and discards alone remain.
+/// No fault comes where white space, comments and discards alone remain.
 pub fn no_fault_in_a_gap()
     ensures { (bytes : List ℕ) (at : ℕ) (fault : Fault) (byte : ℕ) → OnlyGap bytes at
         → ¬ FaultAt bytes at fault byte }
 {}
 
-/// Behind a place stands one fault at most, and it is at one byte.
+/// After a place stands one fault at most, and it is at one byte.
 pub fn one_fault()
     ensures { (bytes : List ℕ) (at : ℕ) (a b : Fault) (m n : ℕ) →
         FaultAt bytes at a m → FaultAt bytes at b n → (a ≡ b) × (m ≡ n) }

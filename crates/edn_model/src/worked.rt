@@ -1,18 +1,18 @@
 //! The grammar, likeness, the faults and the canonical text at texts written out by hand.
 ghost use Rattle.std.specs.Prelude.{◌≡◌, pos, true, false, [], ◌∷◌, ◌++◌, codes, replicate};
 ghost use Rattle.edn_model.specs.Form as form;
-ghost use Rattle.edn_model.specs.Grammar.{IsWholeTextOf, FormStands, OnlyGap};
+ghost use Rattle.edn_model.specs.Grammar.{IsWholeTextOf, FormAt, OnlyGap};
 ghost use Rattle.edn_model.specs.Likeness.{alike};
 ghost use Rattle.edn_model.specs.Faults.{FaultAt, bad, unsupported, deep, cut, float, big_int, wide, namespaced_map, tag, char};
 ghost use Rattle.edn_model.specs.Canon.{Canon};
 
-/// A sign may stand before an integer.
+/// A sign may come before an integer.
 pub fn integers()
     ensures plus { IsWholeTextOf (form.integer (pos 7)) (codes "+7") }
     ensures minus_zero { IsWholeTextOf (form.integer (pos 0)) (codes "-0") }
 {}
 
-/// Commas are white space, and a code stands for its character.
+/// Commas are white space, and a code spells its character.
 pub fn vectors()
     ensures { IsWholeTextOf
         (form.vector
@@ -32,9 +32,9 @@ pub fn uuids()
         (codes "#uuid \"F81D4FAE-7DEC-11D0-A765-00A0C91E6BF6\"") }
 {}
 
-/// Behind a form a discard and a comment remain.
+/// After a form a discard and a comment remain.
 pub fn gaps()
-    ensures first { FormStands (codes "1 #_ 2 ; c") 0 (form.integer (pos 1)) 1 }
+    ensures first { FormAt (codes "1 #_ 2 ; c") 0 (form.integer (pos 1)) 1 }
     ensures rest { OnlyGap (codes "1 #_ 2 ; c") 1 }
 {}
 
@@ -58,7 +58,7 @@ pub fn likeness()
     ensures kinds { alike (form.string (codes "a")) (form.symbol (codes "a")) ≡ false }
 {}
 
-/// Faults of nesting, of brackets and of what is said twice.
+/// Faults of nesting, of brackets and of duplicates.
 pub fn faults()
     ensures deep { FaultAt (replicate 65 91) 0 deep 64 }
     ensures cut { FaultAt (replicate 64 91) 0 cut 64 }
@@ -91,7 +91,7 @@ pub fn printed()
         (codes "#uuid \"f81d4fae-7dec-11d0-a765-00a0c91e6bf6\"") }
 {}
 
-/// Faults of a bracket, of a tag with no string behind it, and of strings that the end cuts off.
+/// Faults of a bracket, of a tag with no string after it, and of strings that the end cuts off.
 pub fn faults_inside()
     ensures bracket { FaultAt (codes "(1]") 0 bad 2 }
     ensures no_string { FaultAt (codes "#inst 5") 0 bad 6 }
@@ -106,7 +106,7 @@ pub fn unsupported_tokens()
     ensures namespaced { FaultAt (codes "#:a{}") 0 (unsupported namespaced_map) 0 }
 {}
 
-/// Where a byte stands with which no character begins. It is the first fault unless the run of bytes that it stands in
+/// The place of a byte with which no character begins. It is the first fault unless the run of bytes that it is in
 /// begins with one with which no token does.
 pub fn broken_tokens()
     ensures tilde { FaultAt (codes "~a" ++ 0xFF ∷ []) 0 bad 0 }

@@ -9,7 +9,11 @@ use Rattle.edn_form.proofs.Views.{form_of-Map}
 use Rattle.edn_print.specs.Printed.{Appends, Encloses}
 use Rattle.edn_print.specs.Printable.{printable, printable_pairs}
 
-pub of_map : (e : Edn) (p : Pairs) (xs : List (Edn × Edn)) (old new : List ℕ) → e ≡ Map p → xs ≡ entries p → Appends (Encloses (123 ∷ []) 125 (CanonPairs (printable_pairs (form.pairs (pairs_of xs))))) old new → Appends (Canon (printable (form_of e))) old new
+pub of_map : (e : Edn) (p : Pairs) (xs : List (Edn × Edn)) (old new : List ℕ)
+    → e ≡ Map p → xs ≡ entries p → Appends (Encloses (123 ∷ []) 125 (CanonPairs (printable_pairs (form.pairs (pairs_of xs))))) old new
+    → Appends (Canon (printable (form_of e))) old new
 of_map e p xs old new is at a =
-    let seen : form_of e ≡ form.map (form.pairs (pairs_of xs)) = ap form_of is ∙ form_of-Map p ∙ ap (λ z. form.map (form.pairs (pairs_of z))) (sym at) in
-    subst (λ f. Appends (Canon (printable f)) old new) (sym seen) (record { text = a.text; is = (a.is.inside, a.is.is, a.is.text); behind = a.behind })
+    let seen : form_of e ≡ form.map (form.pairs (pairs_of xs)) =
+    ap form_of is ∙ form_of-Map p ∙ ap (λ z. form.map (form.pairs (pairs_of z))) (sym at) in
+    subst (λ f. Appends (Canon (printable f)) old new) (sym seen)
+    (record { text = a.text; is = (a.is.inside, a.is.is, a.is.text); behind = a.behind })

@@ -1,5 +1,6 @@
 -- Runs of bytes that need no escape.
-use Rattle.std.proofs.Common.{◌≡◌, ℕ, ◌+◌, ◌<◌, ◌≤◌, true, false, List, [], ◌∷◌, ◌++◌, length, length-append, take, drop, flat_map, refl, ap, ◌∙◌, sym, subst, arith}
+use Rattle.std.proofs.Common.{◌≡◌, ℕ, ◌+◌, ◌<◌, ◌≤◌, true, false, List, [], ◌∷◌, ◌++◌, length, length-append, take, drop, flat_map, refl}
+use Rattle.std.proofs.Common.{ap, ◌∙◌, sym, subst, arith}
 use Rattle.std.proofs.lemmas.List.{append_assoc, append-nil, take-append-drop}
 use Rattle.std.proofs.lemmas.List.Concat.{flat_map-append}
 use Rattle.std.proofs.lemmas.List.Sums.{prefix_len-le-length}
@@ -36,7 +37,8 @@ plain_text (b ∷ s) h =
 pub run_fits : (bytes : List ℕ) (n : ℕ) → n ≡ prefix_len is_unescaped bytes → n ≤ length bytes
 run_fits bytes n e = omega (arith, prefix_len-le-length is_unescaped bytes)
 
-pub run_split : (bytes run rest : List ℕ) (n : ℕ) → n ≡ prefix_len is_unescaped bytes → run ≡ take n bytes → rest ≡ drop n bytes → IsRun is_unescaped bytes run rest
+pub run_split : (bytes run rest : List ℕ) (n : ℕ) → n ≡ prefix_len is_unescaped bytes → run ≡ take n bytes → rest ≡ drop n bytes
+    → IsRun is_unescaped bytes run rest
 run_split bytes run rest n e front back = record {
   is = sym (take-append-drop n bytes) ∙ ap (λ z. z ++ drop n bytes) (sym front) ∙ ap (λ z. run ++ z) (sym back);
   each = subst (Each is_unescaped) (sym (front ∙ ap (λ k. take k bytes) e)) (prefix_passes is_unescaped bytes);
@@ -45,12 +47,16 @@ run_split bytes run rest n e front back = record {
 
 -- ---- a run and what follows it, printed
 
-pub run_printed : (total out plain_out next rest plain behind after : List ℕ) (b : ℕ) → out ++ flat_map escaped rest ≡ total → IsRun is_unescaped rest plain behind
+pub run_printed : (total out plain_out next rest plain behind after : List ℕ) (b : ℕ) → out ++ flat_map escaped rest ≡ total
+    → IsRun is_unescaped rest plain behind
     → plain_out ≡ out ++ plain → behind ≡ b ∷ after → next ≡ plain_out ++ escaped b → next ++ flat_map escaped after ≡ total
 run_printed total out plain_out next rest plain behind after b so_far run a first e =
     let text : flat_map escaped rest ≡ plain ++ (escaped b ++ flat_map escaped after) =
-    ap (flat_map escaped) (run.is ∙ ap (λ (z : List ℕ). plain ++ z) first) ∙ flat_map-append escaped plain (b ∷ after) ∙ ap (λ (z : List ℕ). z ++ flat_map escaped (b ∷ after)) (plain_text plain run.each) in
-    let whole : next ++ flat_map escaped after ≡ ((out ++ plain) ++ escaped b) ++ flat_map escaped after = ap (λ (z : List ℕ). z ++ flat_map escaped after) (e ∙ ap (λ (z : List ℕ). z ++ escaped b) a) in
+    ap (flat_map escaped) (run.is ∙ ap (λ (z : List ℕ). plain ++ z) first)
+    ∙ flat_map-append escaped plain (b ∷ after)
+    ∙ ap (λ (z : List ℕ). z ++ flat_map escaped (b ∷ after)) (plain_text plain run.each) in
+    let whole : next ++ flat_map escaped after ≡ ((out ++ plain) ++ escaped b) ++ flat_map escaped after =
+    ap (λ (z : List ℕ). z ++ flat_map escaped after) (e ∙ ap (λ (z : List ℕ). z ++ escaped b) a) in
     let here : next ++ flat_map escaped after ≡ out ++ (plain ++ (escaped b ++ flat_map escaped after)) = whole ∙ simp append_assoc in
     here ∙ ap (λ (z : List ℕ). out ++ z) (sym text) ∙ so_far
 
@@ -58,14 +64,17 @@ nothing : (bytes : List ℕ) → length bytes ≡ 0 → bytes ≡ []
 nothing [] h = refl
 nothing (b ∷ bytes) h = absurd (omega arith)
 
-pub last_run_printed : (total out plain_out rest plain behind : List ℕ) → out ++ flat_map escaped rest ≡ total → IsRun is_unescaped rest plain behind
+pub last_run_printed : (total out plain_out rest plain behind : List ℕ) → out ++ flat_map escaped rest ≡ total
+    → IsRun is_unescaped rest plain behind
     → plain_out ≡ out ++ plain → length behind ≡ 0 → plain_out ≡ total
 last_run_printed total out plain_out rest plain behind so_far run a none =
-    let text : flat_map escaped rest ≡ plain = ap (flat_map escaped) (run.is ∙ ap (λ (z : List ℕ). plain ++ z) (nothing behind none) ∙ append-nil plain) ∙ plain_text plain run.each in
+    let text : flat_map escaped rest ≡ plain =
+    ap (flat_map escaped) (run.is ∙ ap (λ (z : List ℕ). plain ++ z) (nothing behind none) ∙ append-nil plain) ∙ plain_text plain run.each in
     a ∙ ap (λ (z : List ℕ). out ++ z) (sym text) ∙ so_far
 
 -- what stands behind the run's end is shorter
-pub shorter : (rest plain behind after : List ℕ) → IsRun is_unescaped rest plain behind → length after + 1 ≡ length behind → length after < length rest
+pub shorter : (rest plain behind after : List ℕ) → IsRun is_unescaped rest plain behind → length after + 1 ≡ length behind
+    → length after < length rest
 shorter rest plain behind after run h =
     let size : length rest ≡ length plain + length behind = ap length run.is ∙ length-append plain behind in
     omega arith

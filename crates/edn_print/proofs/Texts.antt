@@ -18,32 +18,45 @@ mutual
   one_text (form.symbol s) a b h k = h ∙ sym k
   one_text (form.keyword s) a b h k = h ∙ sym k
   one_text (form.list fs) a b h k = h.2 ∙ ap (λ (z : List ℕ). open_paren ∷ (z ++ close_paren ∷ [])) (one_all fs h.0 k.0 h.1 k.1) ∙ sym k.2
-  one_text (form.vector fs) a b h k = h.2 ∙ ap (λ (z : List ℕ). open_bracket ∷ (z ++ close_bracket ∷ [])) (one_all fs h.0 k.0 h.1 k.1) ∙ sym k.2
+  one_text (form.vector fs) a b h k =
+      h.2 ∙ ap (λ (z : List ℕ). open_bracket ∷ (z ++ close_bracket ∷ [])) (one_all fs h.0 k.0 h.1 k.1) ∙ sym k.2
   one_text (form.map ps) a b h k = h.2 ∙ ap (λ (z : List ℕ). open_brace ∷ (z ++ close_brace ∷ [])) (one_pairs ps h.0 k.0 h.1 k.1) ∙ sym k.2
-  one_text (form.set fs) a b h k = h.2 ∙ ap (λ (z : List ℕ). hash ∷ open_brace ∷ (z ++ close_brace ∷ [])) (one_all fs h.0 k.0 h.1 k.1) ∙ sym k.2
-  one_text (form.instant z) a b h k = h.2 ∙ ap (λ (s : List ℕ). codes "#inst " ++ string_text s) (moment.one_text z h.0 k.0 h.1 k.1) ∙ sym k.2
+  one_text (form.set fs) a b h k =
+      h.2 ∙ ap (λ (z : List ℕ). hash ∷ open_brace ∷ (z ++ close_brace ∷ [])) (one_all fs h.0 k.0 h.1 k.1) ∙ sym k.2
+  one_text (form.instant z) a b h k =
+      h.2 ∙ ap (λ (s : List ℕ). codes "#inst " ++ string_text s) (moment.one_text z h.0 k.0 h.1 k.1) ∙ sym k.2
   one_text (form.uuid n) a b h k = h ∙ sym k
 
   one_all : (fs : form.Forms) (a b : List ℕ) → CanonAll fs a → CanonAll fs b → a ≡ b
   one_all form.no_forms a b h k = h ∙ sym k
   one_all (form.form f fs) a b h k =
-      h.4 ∙ ap (λ (z : List ℕ). z ++ h.1) (one_text f h.0 k.0 h.2 k.2) ∙ ap (λ (z : List ℕ). k.0 ++ z) (one_rest fs h.1 k.1 h.3 k.3) ∙ sym k.4
+      h.4
+      ∙ ap (λ (z : List ℕ). z ++ h.1) (one_text f h.0 k.0 h.2 k.2)
+      ∙ ap (λ (z : List ℕ). k.0 ++ z) (one_rest fs h.1 k.1 h.3 k.3)
+      ∙ sym k.4
 
   one_rest : (fs : form.Forms) (a b : List ℕ) → CanonRest fs a → CanonRest fs b → a ≡ b
   one_rest form.no_forms a b h k = h ∙ sym k
   one_rest (form.form f fs) a b h k =
-      h.4 ∙ ap (λ (z : List ℕ). 32 ∷ (z ++ h.1)) (one_text f h.0 k.0 h.2 k.2) ∙ ap (λ (z : List ℕ). 32 ∷ (k.0 ++ z)) (one_rest fs h.1 k.1 h.3 k.3) ∙ sym k.4
+      h.4
+      ∙ ap (λ (z : List ℕ). 32 ∷ (z ++ h.1)) (one_text f h.0 k.0 h.2 k.2)
+      ∙ ap (λ (z : List ℕ). 32 ∷ (k.0 ++ z)) (one_rest fs h.1 k.1 h.3 k.3)
+      ∙ sym k.4
 
   one_pairs : (ps : form.Pairs) (a b : List ℕ) → CanonPairs ps a → CanonPairs ps b → a ≡ b
   one_pairs form.no_pairs a b h k = h ∙ sym k
   one_pairs (form.pair x y ps) a b h k =
-      h.6 ∙ ap (λ (z : List ℕ). z ++ 32 ∷ (h.1 ++ h.2)) (one_text x h.0 k.0 h.3 k.3) ∙ ap (λ (z : List ℕ). k.0 ++ 32 ∷ (z ++ h.2)) (one_text y h.1 k.1 h.4 k.4)
+      h.6
+      ∙ ap (λ (z : List ℕ). z ++ 32 ∷ (h.1 ++ h.2)) (one_text x h.0 k.0 h.3 k.3)
+      ∙ ap (λ (z : List ℕ). k.0 ++ 32 ∷ (z ++ h.2)) (one_text y h.1 k.1 h.4 k.4)
       ∙ ap (λ (z : List ℕ). k.0 ++ 32 ∷ (k.1 ++ z)) (one_later ps h.2 k.2 h.5 k.5) ∙ sym k.6
 
   one_later : (ps : form.Pairs) (a b : List ℕ) → CanonRestPairs ps a → CanonRestPairs ps b → a ≡ b
   one_later form.no_pairs a b h k = h ∙ sym k
   one_later (form.pair x y ps) a b h k =
-      h.6 ∙ ap (λ (z : List ℕ). 32 ∷ (z ++ 32 ∷ (h.1 ++ h.2))) (one_text x h.0 k.0 h.3 k.3) ∙ ap (λ (z : List ℕ). 32 ∷ (k.0 ++ 32 ∷ (z ++ h.2))) (one_text y h.1 k.1 h.4 k.4)
+      h.6
+      ∙ ap (λ (z : List ℕ). 32 ∷ (z ++ 32 ∷ (h.1 ++ h.2))) (one_text x h.0 k.0 h.3 k.3)
+      ∙ ap (λ (z : List ℕ). 32 ∷ (k.0 ++ 32 ∷ (z ++ h.2))) (one_text y h.1 k.1 h.4 k.4)
       ∙ ap (λ (z : List ℕ). 32 ∷ (k.0 ++ 32 ∷ (k.1 ++ z))) (one_later ps h.2 k.2 h.5 k.5) ∙ sym k.6
 
 -- ---- each form that a reader can give has one
@@ -118,5 +131,6 @@ mutual
   printable_pairs-readable : (depth : ℕ) (ps : form.Pairs) → ArePairsReadable depth ps → printable_pairs ps ≡ ps
   printable_pairs-readable depth form.no_pairs h = refl
   printable_pairs-readable depth (form.pair k v ps) h =
-      ap (λ z. form.pair z (printable v) (printable_pairs ps)) (printable-readable depth k h.0) ∙ ap (λ z. form.pair k z (printable_pairs ps)) (printable-readable depth v h.1)
+      ap (λ z. form.pair z (printable v) (printable_pairs ps)) (printable-readable depth k h.0)
+      ∙ ap (λ z. form.pair k z (printable_pairs ps)) (printable-readable depth v h.1)
       ∙ ap (λ z. form.pair k v z) (printable_pairs-readable depth ps h.2)

@@ -1,4 +1,5 @@
--- The form that is printed: an instant that no text names is the nearest one that has a text, and all else is as it was.
+-- The form that is printed:
+-- an instant that no text names is the nearest one that has a text, and all else is as it was.
 -- This project's own choice.
 use Rattle.std.specs.Prelude.{ℤ, pos, negsuc}
 use Rattle.std.specs.Int.{int_min, int_max}

@@ -1,19 +1,19 @@
-//! What stands in a string: runs of bytes that stand for themselves, and escapes between them.
+//! What a string has: runs of bytes as they are, and escapes between them.
 ghost use Rattle.std.specs.Prelude.{◌≡◌, [], ◌∷◌, ◌++◌, OnOk, MatchOption, flat_map};
 ghost use Rattle.std.specs.List.{prefix_len};
 ghost use Rattle.edn_model.specs.Bytes.{backslash};
 ghost use Rattle.edn_model.specs.Runs.{IsRun};
 ghost use Rattle.edn_model.specs.Canon.{escaped};
 ghost use Rattle.edn_print.specs.Printed as printed;
-ghost use Rattle.edn_print.specs.Printed.{Keeps};
+ghost use Rattle.edn_print.specs.Printed.{KeepsFront};
 
 use crate::token::append;
 use fb_memory::Memory;
 
-/// What stands between a string's quotes.
+/// What is between a string's quotes.
 pub(crate) fn print_inside(out: &mut Vec<u8>, bytes: &[u8]) -> Result<(), Memory>
     ensures ok { OnOk result (out.new.items ≡ out.old.items ++ flat_map escaped bytes.now) }
-    ensures kept { Keeps out.old.items out.new.items }
+    ensures kept { KeepsFront out.old.items out.new.items }
 {
     let mut rest = bytes;
     loop {
@@ -29,7 +29,7 @@ pub(crate) fn print_inside(out: &mut Vec<u8>, bytes: &[u8]) -> Result<(), Memory
     }
 }
 
-/// The bytes in front that stand for themselves, and what follows.
+/// The bytes in front that are written as they are, and what follows.
 fn split_plain(bytes: &[u8]) -> (&[u8], &[u8])
     ensures { IsRun printed.is_unescaped bytes.now result.0.now result.1.now }
 {
@@ -50,7 +50,7 @@ fn is_unescaped(b: u8) -> bool
 
 fn print_byte(out: &mut Vec<u8>, b: u8) -> Result<(), Memory>
     ensures ok { OnOk result (out.new.items ≡ out.old.items ++ escaped b) }
-    ensures kept { Keeps out.old.items out.new.items }
+    ensures kept { KeepsFront out.old.items out.new.items }
 {
     match escape_letter(b) {
         None => append(out, &[b]),
@@ -58,7 +58,7 @@ fn print_byte(out: &mut Vec<u8>, b: u8) -> Result<(), Memory>
     }
 }
 
-/// The letter that stands behind a backslash for the byte, where it is escaped.
+/// The letter that follows a backslash for the byte, where it is escaped.
 fn escape_letter(b: u8) -> Option<u8>
     ensures { MatchOption result (escaped b ≡ b ∷ [])
         (λ letter. escaped b ≡ backslash ∷ letter ∷ []) }

@@ -4,7 +4,7 @@ ghost use Rattle.edn_model.specs.Form as model;
 ghost use Rattle.edn_model.specs.Readable.{IsReadable};
 ghost use Rattle.edn_model.specs.Canon.{Canon, CanonAll, CanonPairs};
 ghost use Rattle.edn_form.specs.View.{form_of, forms_of, pairs_of};
-ghost use Rattle.edn_print.specs.Printed.{Appends, Encloses, Keeps, space_before};
+ghost use Rattle.edn_print.specs.Printed.{Appends, Encloses, KeepsFront, space_before};
 ghost use Rattle.edn_print.specs.Printable.{printable, printables, printable_pairs};
 
 use crate::instant::print_instant;
@@ -32,12 +32,12 @@ pub fn print(form: &Edn, out: &mut Vec<u8>) -> Result<(), Memory>
     Ok(())
 }
 
-/// On an error part of the text may stand there.
+/// On an error part of the text may be there.
 #[cycle(print)]
 fn print_form(form: &Edn, out: &mut Vec<u8>) -> Result<(), Memory>
     ensures ok { OnOk result
         (Appends (Canon (printable (form_of form.now))) out.old.items out.new.items) }
-    ensures kept { Keeps out.old.items out.new.items }
+    ensures kept { KeepsFront out.old.items out.new.items }
 {
     match form {
         Edn::Nil => print_nil(out),
@@ -61,7 +61,7 @@ fn print_items(items: &[Edn], opening: &[u8], closing: u8, out: &mut Vec<u8>) ->
     ensures ok { OnOk result (Appends
         (Encloses opening.now closing (CanonAll (printables (model.forms (forms_of items.now)))))
         out.old.items out.new.items) }
-    ensures kept { Keeps out.old.items out.new.items }
+    ensures kept { KeepsFront out.old.items out.new.items }
 {
     append(out, opening)?;
     for (index, item) in items.iter().enumerate() {
@@ -71,13 +71,13 @@ fn print_items(items: &[Edn], opening: &[u8], closing: u8, out: &mut Vec<u8>) ->
     append(out, &[closing])
 }
 
-/// The keys, each with its value behind it, between braces.
+/// The keys, each with its value after it, between braces.
 #[cycle(print)]
 fn print_pairs(pairs: &[(Edn, Edn)], out: &mut Vec<u8>) -> Result<(), Memory>
     ensures ok { OnOk result (Appends
         (Encloses (123 ∷ []) 125 (CanonPairs (printable_pairs (model.pairs (pairs_of pairs.now)))))
         out.old.items out.new.items) }
-    ensures kept { Keeps out.old.items out.new.items }
+    ensures kept { KeepsFront out.old.items out.new.items }
 {
     append(out, b"{")?;
     for (index, (key, value)) in pairs.iter().enumerate() {
@@ -89,10 +89,10 @@ fn print_pairs(pairs: &[(Edn, Edn)], out: &mut Vec<u8>) -> Result<(), Memory>
     append(out, b"}")
 }
 
-/// A space stands before each member but the first.
+/// A space comes before each member but the first.
 fn separate(index: usize, out: &mut Vec<u8>) -> Result<(), Memory>
     ensures ok { OnOk result (out.new.items ≡ out.old.items ++ space_before index) }
-    ensures kept { Keeps out.old.items out.new.items }
+    ensures kept { KeepsFront out.old.items out.new.items }
 {
     match index {
         0 => Ok(()),

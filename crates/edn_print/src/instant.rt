@@ -3,7 +3,7 @@ ghost use Rattle.std.specs.Prelude.{◌≡◌, ◌+◌, ◌%◌, ◌≤◌, pos,
 ghost use Rattle.edn_model.specs.Form as model;
 ghost use Rattle.edn_model.specs.Instants.{date_text, IsDate};
 ghost use Rattle.edn_model.specs.Canon.{Canon};
-ghost use Rattle.edn_print.specs.Printed.{Appends, Keeps, clock_text};
+ghost use Rattle.edn_print.specs.Printed.{Appends, KeepsFront, clock_text};
 ghost use Rattle.edn_print.specs.Printable.{nearest};
 
 use crate::token::append;
@@ -25,7 +25,7 @@ const DAYS_BEFORE: u32 = 3_652_425;
 pub(crate) fn print_instant(out: &mut Vec<u8>, millis: i64) -> Result<(), Memory>
     ensures ok { OnOk result
         (Appends (Canon (model.instant (nearest millis))) out.old.items out.new.items) }
-    ensures kept { Keeps out.old.items out.new.items }
+    ensures kept { KeepsFront out.old.items out.new.items }
 {
     let since_first = millis.clamp(FIRST, LAST).abs_diff(FIRST);
     append(out, b"#inst \"")?;
@@ -40,7 +40,7 @@ fn print_date(out: &mut Vec<u8>, days: u32) -> Result<(), Memory>
     requires { days ≤ 3652058 }
     ensures ok { OnOk result
         (Appends (IsDate (pos days -ℤ pos 719162)) out.old.items out.new.items) }
-    ensures kept { Keeps out.old.items out.new.items }
+    ensures kept { KeepsFront out.old.items out.new.items }
 {
     let date = Date::from_days_since_min(days + DAYS_BEFORE);
     let year = date.year.unsigned_abs();

@@ -5,7 +5,7 @@ ghost use Rattle.edn_model.specs.Form.{Form};
 ghost use Rattle.edn_model.specs.Bytes.{TokenEnds};
 ghost use Rattle.edn_model.specs.Readable.{IsReadable};
 ghost use Rattle.edn_model.specs.Canon.{Canon};
-ghost use Rattle.edn_model.specs.Grammar.{Text, FormStands, max_depth};
+ghost use Rattle.edn_model.specs.Grammar.{Text, FormAt, max_depth};
 
 /// Each form that a reader can give has one canonical text, and no form has two.
 pub fn one_canonical_text()
@@ -13,7 +13,7 @@ pub fn one_canonical_text()
     ensures one { (f : Form) (a b : List ℕ) → Canon f a → Canon f b → a ≡ b }
 {}
 
-/// It is a text of the form and of no other, wherever a token may end behind it.
+/// It is a text of the form and of no other, wherever a token may end after it.
 pub fn text_of_one_form()
     ensures text { (depth : ℕ) (f : Form) (text rest : List ℕ) → IsReadable depth f → Canon f text
         → TokenEnds rest → Text depth f (text ++ rest) rest }
@@ -22,13 +22,13 @@ pub fn text_of_one_form()
         → (g ≡ f) × (after ≡ rest) }
 {}
 
-/// Read from where it stands, it gives the form and the place behind it.
+/// Read from its first byte on, it gives the form and the place after it.
 pub fn reads_as_printed()
     ensures stands { (f : Form) (before text rest : List ℕ) → IsReadable max_depth f → Canon f text
         → TokenEnds rest
-        → FormStands (before ++ (text ++ rest)) (length before) f (length before + length text) }
+        → FormAt (before ++ (text ++ rest)) (length before) f (length before + length text) }
     ensures alone { (f g : Form) (before text rest : List ℕ) (next : ℕ) → IsReadable max_depth f
         → Canon f text → TokenEnds rest
-        → FormStands (before ++ (text ++ rest)) (length before) g next
+        → FormAt (before ++ (text ++ rest)) (length before) g next
         → (g ≡ f) × (next ≡ length before + length text) }
 {}

@@ -1,11 +1,11 @@
-//! The texts of the tokens. Each call appends, and on an error keeps what stood there in front.
+//! The texts of the tokens. Each call appends, and on an error keeps what was there in front.
 ghost use Rattle.std.specs.Prelude.{◌≡◌, ◌≤◌, ◌∷◌, ◌++◌, OnOk, if◌then◌else◌, codes, length};
 ghost use Rattle.std.specs.Fmt.{signed_decimal};
 ghost use Rattle.std.specs.Int.{w128, to_be_bytes};
 ghost use Rattle.uuid.specs.Text.{lower, hyphenated_text};
 ghost use Rattle.edn_model.specs.Canon.{string_text};
 ghost use Rattle.edn_model.specs.Bytes.{colon};
-ghost use Rattle.edn_print.specs.Printed.{Keeps};
+ghost use Rattle.edn_print.specs.Printed.{KeepsFront};
 
 use crate::escape::print_inside;
 use fb_memory::Memory;
@@ -14,7 +14,7 @@ use uuid::Uuid;
 
 pub(crate) fn print_nil(out: &mut Vec<u8>) -> Result<(), Memory>
     ensures ok { OnOk result (out.new.items ≡ out.old.items ++ codes "nil") }
-    ensures kept { Keeps out.old.items out.new.items }
+    ensures kept { KeepsFront out.old.items out.new.items }
 {
     append(out, b"nil")
 }
@@ -22,7 +22,7 @@ pub(crate) fn print_nil(out: &mut Vec<u8>) -> Result<(), Memory>
 pub(crate) fn print_bool(out: &mut Vec<u8>, b: bool) -> Result<(), Memory>
     ensures ok { OnOk result (out.new.items
         ≡ out.old.items ++ (if b then codes "true" else codes "false")) }
-    ensures kept { Keeps out.old.items out.new.items }
+    ensures kept { KeepsFront out.old.items out.new.items }
 {
     if b {
         append(out, b"true")
@@ -33,7 +33,7 @@ pub(crate) fn print_bool(out: &mut Vec<u8>, b: bool) -> Result<(), Memory>
 
 pub(crate) fn print_int(out: &mut Vec<u8>, n: i64) -> Result<(), Memory>
     ensures ok { OnOk result (out.new.items ≡ out.old.items ++ signed_decimal n) }
-    ensures kept { Keeps out.old.items out.new.items }
+    ensures kept { KeepsFront out.old.items out.new.items }
 {
     append(out, Buffer::new().format(n).as_bytes())
 }
@@ -41,7 +41,7 @@ pub(crate) fn print_int(out: &mut Vec<u8>, n: i64) -> Result<(), Memory>
 /// Five characters are escaped: tab, line feed, carriage return, the quote and the backslash.
 pub(crate) fn print_str(out: &mut Vec<u8>, s: &str) -> Result<(), Memory>
     ensures ok { OnOk result (out.new.items ≡ out.old.items ++ string_text s.now) }
-    ensures kept { Keeps out.old.items out.new.items }
+    ensures kept { KeepsFront out.old.items out.new.items }
 {
     append(out, b"\"")?;
     print_inside(out, s.as_bytes())?;
@@ -50,7 +50,7 @@ pub(crate) fn print_str(out: &mut Vec<u8>, s: &str) -> Result<(), Memory>
 
 pub(crate) fn print_sym(out: &mut Vec<u8>, s: &str) -> Result<(), Memory>
     ensures ok { OnOk result (out.new.items ≡ out.old.items ++ s.now) }
-    ensures kept { Keeps out.old.items out.new.items }
+    ensures kept { KeepsFront out.old.items out.new.items }
 {
     append(out, s.as_bytes())
 }
@@ -58,7 +58,7 @@ pub(crate) fn print_sym(out: &mut Vec<u8>, s: &str) -> Result<(), Memory>
 /// A keyword, given without its colon.
 pub(crate) fn print_key(out: &mut Vec<u8>, k: &str) -> Result<(), Memory>
     ensures ok { OnOk result (out.new.items ≡ out.old.items ++ colon ∷ k.now) }
-    ensures kept { Keeps out.old.items out.new.items }
+    ensures kept { KeepsFront out.old.items out.new.items }
 {
     append(out, b":")?;
     append(out, k.as_bytes())
@@ -68,7 +68,7 @@ pub(crate) fn print_uuid(out: &mut Vec<u8>, n: u128) -> Result<(), Memory>
     ensures ok { OnOk result (out.new.items
         ≡ out.old.items
         ++ (codes "#uuid " ++ string_text (hyphenated_text lower (to_be_bytes w128 n)))) }
-    ensures kept { Keeps out.old.items out.new.items }
+    ensures kept { KeepsFront out.old.items out.new.items }
 {
     append(out, b"#uuid ")?;
     print_hyphenated(out, n)
@@ -77,7 +77,7 @@ pub(crate) fn print_uuid(out: &mut Vec<u8>, n: u128) -> Result<(), Memory>
 fn print_hyphenated(out: &mut Vec<u8>, n: u128) -> Result<(), Memory>
     ensures ok { OnOk result (out.new.items
         ≡ out.old.items ++ string_text (hyphenated_text lower (to_be_bytes w128 n))) }
-    ensures kept { Keeps out.old.items out.new.items }
+    ensures kept { KeepsFront out.old.items out.new.items }
 {
     let mut buffer = Uuid::encode_buffer();
     let text = lower_text(Uuid::from_u128(n), &mut buffer);
@@ -94,7 +94,7 @@ fn lower_text<'b>(uuid: Uuid, buffer: &'b mut [u8]) -> &'b str
 /// The bytes as they are.
 pub(crate) fn append(out: &mut Vec<u8>, bytes: &[u8]) -> Result<(), Memory>
     ensures ok { OnOk result (out.new.items ≡ out.old.items ++ bytes.now) }
-    ensures kept { Keeps out.old.items out.new.items }
+    ensures kept { KeepsFront out.old.items out.new.items }
 {
     out.extend_from_slice(bytes)?;
     Ok(())

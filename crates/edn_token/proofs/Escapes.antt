@@ -1,5 +1,6 @@
 -- Escapes, and what is none.
-use Rattle.std.proofs.Common.{◌≡◌, ◌≢◌, ◌⊎◌, ℕ, zero, suc, ◌+◌, ◌*◌, ◌<◌, ◌≤◌, Bool, true, false, Option, Some, None, List, [], ◌∷◌, ◌++◌, take, drop, length, get_or, take_all, refl, ap, ◌∙◌, sym, subst, arith, inl, inr}
+use Rattle.std.proofs.Common.{◌≡◌, ◌≢◌, ◌⊎◌, ℕ, zero, suc, ◌+◌, ◌*◌, ◌<◌, ◌≤◌, Bool, true, false, Option, Some, None, List, [], ◌∷◌, ◌++◌}
+use Rattle.std.proofs.Common.{take, drop, length, get_or, take_all, refl, ap, ◌∙◌, sym, subst, arith, inl, inr}
 use Rattle.std.proofs.lemmas.Bool.{cases_Bool}
 use Rattle.std.proofs.lemmas.Bool.Decides.{nat_tests}
 use Rattle.std.proofs.lemmas.List.{append-nil, take_more}
@@ -11,13 +12,15 @@ use Rattle.std.specs.Char.{IsScalar, InScalarRange, OutOfScalarRange}
 use Rattle.edn_model.specs.Runs.{Each}
 use Rattle.edn_model.specs.Bytes.{backslash}
 use Rattle.edn_model.specs.Tokens.{escape_of, is_hex_digit, hex_value, Spells, nothing, escape, code}
-use Rattle.edn_model.specs.Faults.{StringFault, bad, cut, cut_escape, bad_escape, IsBadEscape, unknown, no_digit, surrogate, IsCutEscape, no_letter, few_digits}
+use Rattle.edn_model.specs.Faults.{StringFault, bad, cut, cut_escape, bad_escape, IsBadEscape, unknown, no_digit, surrogate, IsCutEscape}
+use Rattle.edn_model.specs.Faults.{no_letter, few_digits}
 use Rattle.edn_model.proofs.Runs.{Each-tail, Each-append, both_true}
 use Rattle.edn_token.specs.Strings.{hex_number, Spelled}
 
 -- ---- faults of an escape are faults of its string
 
-pub bad_here : (more : List ℕ) → IsBadEscape more → (0 < length (backslash ∷ more)) × StringFault (backslash ∷ more) bad (drop 0 (backslash ∷ more))
+pub bad_here : (more : List ℕ) → IsBadEscape more
+    → (0 < length (backslash ∷ more)) × StringFault (backslash ∷ more) bad (drop 0 (backslash ∷ more))
 bad_here more h = (omega arith, bad_escape nothing IsUtf8-nil h)
 
 pub cut_here : (more : List ℕ) → IsCutEscape more → StringFault (backslash ∷ more) cut []
@@ -82,13 +85,16 @@ hex_small (a ∷ b ∷ c ∷ d ∷ []) each few =
 hex_small (a ∷ b ∷ c ∷ d ∷ e ∷ digits) each few = absurd (omega arith)
 
 -- one digit more
-pub hex_more : (digits : List ℕ) (i : ℕ) → i < length digits → hex_number (take (i + 1) digits) ≡ hex_number (take i digits) * 16 + hex_value (get_or digits i 0)
+pub hex_more : (digits : List ℕ) (i : ℕ) → i < length digits
+    → hex_number (take (i + 1) digits) ≡ hex_number (take i digits) * 16 + hex_value (get_or digits i 0)
 hex_more digits i inside =
     ap hex_number (take_more digits i 0 inside) ∙ fold-append (λ n b. n * 16 + hex_value b) 0 (take i digits) (get_or digits i 0 ∷ [])
 
-pub each_more : (digits : List ℕ) (i : ℕ) → i < length digits → Each is_hex_digit (take i digits) → is_hex_digit (get_or digits i 0) ≡ true → Each is_hex_digit (take (i + 1) digits)
+pub each_more : (digits : List ℕ) (i : ℕ) → i < length digits → Each is_hex_digit (take i digits) → is_hex_digit (get_or digits i 0) ≡ true
+    → Each is_hex_digit (take (i + 1) digits)
 each_more digits i inside each digit =
-    subst (Each is_hex_digit) (sym (take_more digits i 0 inside)) (Each-append is_hex_digit (take i digits) (get_or digits i 0 ∷ []) each (both_true _ true digit refl))
+    subst (Each is_hex_digit) (sym (take_more digits i 0 inside))
+    (Each-append is_hex_digit (take i digits) (get_or digits i 0 ∷ []) each (both_true _ true digit refl))
 
 -- ---- codes
 
@@ -160,25 +166,30 @@ digit_none b e = elim (cases_Bool (is_hex_digit b)) [
   | inr stops ↦ stops
 ]
 
-pub code_there : (digits : List ℕ) (n : ℕ) → 4 ≤ length digits → Each is_hex_digit (take 4 digits) → n ≡ hex_number (take 4 digits) → IsScalar n → InScalarRange n
+pub code_there : (digits : List ℕ) (n : ℕ) → 4 ≤ length digits → Each is_hex_digit (take 4 digits) → n ≡ hex_number (take 4 digits)
+    → IsScalar n → InScalarRange n
     → Spelled (backslash ∷ 117 ∷ digits) (encode_utf8 n) (drop 4 digits)
 code_there [] n long each is scalar range = absurd (omega arith)
 code_there (a ∷ []) n long each is scalar range = absurd (omega arith)
 code_there (a ∷ b ∷ []) n long each is scalar range = absurd (omega arith)
 code_there (a ∷ b ∷ c ∷ []) n long each is scalar range = absurd (omega arith)
 code_there (a ∷ b ∷ c ∷ d ∷ more) n long each is scalar range = record {
-  spells = code refl (record { digits = each; is = omega arith; no_surrogate = no_surrogate_of n range }) nothing (sym (append-nil (encode_utf8 n)));
+  spells =
+      code refl (record { digits = each; is = omega arith; no_surrogate = no_surrogate_of n range }) nothing
+      (sym (append-nil (encode_utf8 n)));
   utf8 = IsUtf8-encode n scalar;
 }
 
-pub no_code_there : (digits : List ℕ) (n : ℕ) → 4 ≤ length digits → Each is_hex_digit (take 4 digits) → n ≡ hex_number (take 4 digits) → OutOfScalarRange n → IsBadEscape (117 ∷ digits)
+pub no_code_there : (digits : List ℕ) (n : ℕ) → 4 ≤ length digits → Each is_hex_digit (take 4 digits) → n ≡ hex_number (take 4 digits)
+    → OutOfScalarRange n → IsBadEscape (117 ∷ digits)
 no_code_there [] n long each is range = absurd (omega arith)
 no_code_there (a ∷ []) n long each is range = absurd (omega arith)
 no_code_there (a ∷ b ∷ []) n long each is range = absurd (omega arith)
 no_code_there (a ∷ b ∷ c ∷ []) n long each is range = absurd (omega arith)
 no_code_there (a ∷ b ∷ c ∷ d ∷ more) n long each is range =
     let small : n < 65536 = omega (arith, hex_small (a ∷ b ∷ c ∷ d ∷ []) each (omega arith)) in
-    surrogate refl each (λ m k. let same : m ≡ n = omega (arith, k.is) in out_of_range n small range (subst (λ z. (z < 0xD800) ⊎ (0xE000 ≤ z)) same k.no_surrogate))
+    surrogate refl each (λ m k. let same : m ≡ n = omega (arith, k.is) in
+    out_of_range n small range (subst (λ z. (z < 0xD800) ⊎ (0xE000 ≤ z)) same k.no_surrogate))
 
 -- ---- the bytes behind a backslash
 
@@ -193,7 +204,8 @@ bad_letter behind digits letter is unlike none = bad_here behind (subst IsBadEsc
 pub letter_is : (behind digits : List ℕ) (letter e c : ℕ) → behind ≡ letter ∷ digits → Some e ≡ escape_of letter → c ≡ e
     → (0 < 2) × (2 ≤ length (backslash ∷ behind)) × Spelled (backslash ∷ behind) (encode_utf8 c) (drop 2 (backslash ∷ behind))
 letter_is behind digits letter e c is some same =
-    let stands : Spelled (backslash ∷ letter ∷ digits) (encode_utf8 c) digits = subst (λ z. Spelled (backslash ∷ letter ∷ digits) (encode_utf8 z) digits) (sym same) (letter_there letter e digits (sym some)) in (
+    let stands : Spelled (backslash ∷ letter ∷ digits) (encode_utf8 c) digits =
+    subst (λ z. Spelled (backslash ∷ letter ∷ digits) (encode_utf8 z) digits) (sym same) (letter_there letter e digits (sym some)) in (
       omega arith,
       omega (arith, ap length is),
       subst (λ z. Spelled (backslash ∷ z) (encode_utf8 c) (drop 2 (backslash ∷ z))) (sym is) stands,
@@ -205,13 +217,17 @@ pub bad_code_there : (digits front : List ℕ) → front ≡ take 4 digits → �
     → (0 < length (backslash ∷ 117 ∷ digits)) × StringFault (backslash ∷ 117 ∷ digits) bad (drop 0 (backslash ∷ 117 ∷ digits))
 bad_code_there digits front is h = bad_here (117 ∷ digits) (bad_code digits (subst (λ z. ¬ Each is_hex_digit z) is h))
 
-pub code_is : (digits front : List ℕ) (n c : ℕ) → front ≡ take 4 digits → 4 ≤ length digits → Each is_hex_digit front × (n ≡ hex_number front) → IsScalar n → c ≡ n → InScalarRange n
-    → (0 < 6) × (6 ≤ length (backslash ∷ 117 ∷ digits)) × Spelled (backslash ∷ 117 ∷ digits) (encode_utf8 c) (drop 6 (backslash ∷ 117 ∷ digits))
+pub code_is : (digits front : List ℕ) (n c : ℕ) → front ≡ take 4 digits → 4 ≤ length digits
+    → Each is_hex_digit front × (n ≡ hex_number front) → IsScalar n → c ≡ n → InScalarRange n
+    → (0 < 6) × (6 ≤ length (backslash ∷ 117 ∷ digits))
+    × Spelled (backslash ∷ 117 ∷ digits) (encode_utf8 c) (drop 6 (backslash ∷ 117 ∷ digits))
 code_is digits front n c is long h scalar same range =
-    let stands : Spelled (backslash ∷ 117 ∷ digits) (encode_utf8 n) (drop 4 digits) = code_there digits n long (subst (Each is_hex_digit) is h.0) (h.1 ∙ ap hex_number is) scalar range in
+    let stands : Spelled (backslash ∷ 117 ∷ digits) (encode_utf8 n) (drop 4 digits) =
+    code_there digits n long (subst (Each is_hex_digit) is h.0) (h.1 ∙ ap hex_number is) scalar range in
     (omega arith, omega arith, subst (λ z. Spelled (backslash ∷ 117 ∷ digits) (encode_utf8 z) (drop 4 digits)) (sym same) stands)
 
-pub surrogate_there : (digits front : List ℕ) (n : ℕ) → front ≡ take 4 digits → 4 ≤ length digits → Each is_hex_digit front × (n ≡ hex_number front) → OutOfScalarRange n
+pub surrogate_there : (digits front : List ℕ) (n : ℕ) → front ≡ take 4 digits → 4 ≤ length digits
+    → Each is_hex_digit front × (n ≡ hex_number front) → OutOfScalarRange n
     → (0 < length (backslash ∷ 117 ∷ digits)) × StringFault (backslash ∷ 117 ∷ digits) bad (drop 0 (backslash ∷ 117 ∷ digits))
 surrogate_there digits front n is long h range =
     bad_here (117 ∷ digits) (no_code_there digits n long (subst (Each is_hex_digit) is h.0) (h.1 ∙ ap hex_number is) range)

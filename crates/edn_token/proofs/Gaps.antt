@@ -1,12 +1,13 @@
 -- White space and comments, one behind another.
-use Rattle.std.proofs.Common.{◌≡◌, ◌≢◌, ℕ, ◌+◌, ◌-◌, ◌<◌, ◌≤◌, true, false, Ok, Err, List, [], ◌∷◌, ◌++◌, drop, length, length-append, append_assoc, refl, ap, ◌∙◌, sym, subst, arith}
+use Rattle.std.proofs.Common.{◌≡◌, ◌≢◌, ℕ, ◌+◌, ◌-◌, ◌<◌, ◌≤◌, true, false, Ok, Err, List, [], ◌∷◌, ◌++◌, drop, length, length-append}
+use Rattle.std.proofs.Common.{append_assoc, refl, ap, ◌∙◌, sym, subst, arith}
 use Rattle.std.proofs.lemmas.Bool.Decides.{nat_tests}
 use Rattle.std.proofs.lemmas.List.{append-nil, drop_at, drop_all, length_push}
 use Rattle.std.specs.Prelude.{IsUtf8}
 use Rattle.std.specs.Str.{IsValidUpTo}
 use Rattle.edn_model.specs.Runs.{Each, Stops, IsRun}
 use Rattle.edn_model.specs.Bytes.{semicolon, line_feed, is_blank, is_line_byte}
-use Rattle.edn_model.specs.Grammar.{CommentStands, Gap}
+use Rattle.edn_model.specs.Grammar.{CommentAt, Gap}
 use Rattle.edn_model.specs.Grammar as grammar
 use Rattle.edn_model.proofs.Runs.{Each-tail}
 use Rattle.edn_token.specs.Gaps.{Blanks, no_blanks, blank, comment, last_comment, GoesNoFurther, BrokenComment, SkippedTo, LineIs}
@@ -42,7 +43,9 @@ blanks_behind (blank {b = b} p h) = let more = blanks_behind h in (b ∷ more.0,
 blanks_behind {rest = rest} (comment s h) =
     let more = blanks_behind h in (
       semicolon ∷ (s.text ++ line_feed ∷ more.0),
-      s.is ∙ ap (λ z. semicolon ∷ (s.text ++ line_feed ∷ z)) more.1 ∙ ap (λ z. semicolon ∷ z) (sym (append_assoc s.text (line_feed ∷ more.0) rest)),
+      s.is
+          ∙ ap (λ z. semicolon ∷ (s.text ++ line_feed ∷ z)) more.1
+          ∙ ap (λ z. semicolon ∷ z) (sym (append_assoc s.text (line_feed ∷ more.0) rest)),
     )
 blanks_behind (last_comment {here = here} s) = (here, sym (append-nil here))
 
@@ -56,48 +59,59 @@ high_in_line : (b : ℕ) → 128 ≤ b → is_line_byte b ≡ true
 high_in_line b h = grind (arith, nat_tests)
 
 -- the comment ends with the input
-pub line_last : (line text rest : List ℕ) → IsRun is_line_byte line text rest → IsUtf8 text → length rest ≡ 0 → (length text ≤ length line) × Blanks (semicolon ∷ line) (drop (length text) line)
+pub line_last : (line text rest : List ℕ) → IsRun is_line_byte line text rest → IsUtf8 text → length rest ≡ 0
+    → (length text ≤ length line) × Blanks (semicolon ∷ line) (drop (length text) line)
 line_last line text (b ∷ rest) run utf8 none = absurd (omega arith)
 line_last line text [] run utf8 none =
     let all : line ≡ text = run.is ∙ append-nil text in
     let size : length line ≡ length text = ap length all in
-    let last : Blanks (semicolon ∷ line) [] = last_comment (record { text = text; is = ap (λ z. semicolon ∷ z) all; one_line = run.each; utf8 = utf8 }) in
+    let last : Blanks (semicolon ∷ line) [] =
+    last_comment (record { text = text; is = ap (λ z. semicolon ∷ z) all; one_line = run.each; utf8 = utf8 }) in
     (omega arith, subst (Blanks (semicolon ∷ line)) (sym (drop_all (length text) line (omega arith))) last)
 
 feed_stops : (b : ℕ) → is_line_byte b ≡ false → b ≡ line_feed
 feed_stops b h = grind (arith, nat_tests)
 
 -- the comment ends with a line feed
-pub line_ends : (line text rest more : List ℕ) (b : ℕ) → IsRun is_line_byte line text rest → IsUtf8 text → rest ≡ b ∷ more → (length text + 1 ≤ length line) × Blanks (semicolon ∷ line) (drop (length text + 1) line)
+pub line_ends : (line text rest more : List ℕ) (b : ℕ) → IsRun is_line_byte line text rest → IsUtf8 text → rest ≡ b ∷ more
+    → (length text + 1 ≤ length line) × Blanks (semicolon ∷ line) (drop (length text + 1) line)
 line_ends line text [] more b run utf8 next = absurd cc
 line_ends line text (c ∷ rest) more b run utf8 next =
     let is : line ≡ text ++ line_feed ∷ rest = run.is ∙ ap (λ z. text ++ z ∷ rest) (feed_stops c run.stops) in
     let size : length line ≡ length text + length (line_feed ∷ rest) = ap length is ∙ length-append text (line_feed ∷ rest) in
     let parts : line ≡ (text ++ line_feed ∷ []) ++ rest = is ∙ sym (append_assoc text (line_feed ∷ []) rest) in
-    let back : drop (length text + 1) line ≡ rest = ap (drop (length text + 1)) parts ∙ drop_at (text ++ line_feed ∷ []) rest (length text + 1) (length_push text line_feed) in
-    let stands : CommentStands (semicolon ∷ line) rest = record { text = text; is = ap (λ z. semicolon ∷ z) is; one_line = run.each; utf8 = utf8 } in
+    let back : drop (length text + 1) line ≡ rest =
+    ap (drop (length text + 1)) parts ∙ drop_at (text ++ line_feed ∷ []) rest (length text + 1) (length_push text line_feed) in
+    let stands : CommentAt (semicolon ∷ line) rest =
+    record { text = text; is = ap (λ z. semicolon ∷ z) is; one_line = run.each; utf8 = utf8 } in
     (omega arith, subst (Blanks (semicolon ∷ line)) (sym back) (comment stands no_blanks))
 
-pub line_broken : (line text rest : List ℕ) (n : ℕ) → IsRun is_line_byte line text rest → IsValidUpTo text n → (n < length line) × BrokenComment (semicolon ∷ line) (drop n line)
+pub line_broken : (line text rest : List ℕ) (n : ℕ) → IsRun is_line_byte line text rest → IsValidUpTo text n
+    → (n < length line) × BrokenComment (semicolon ∷ line) (drop n line)
 line_broken line text rest n run valid =
-    let stops = broken is_line_byte high_in_line line text rest n run valid in
-    (stops.inside, record { text = _; is = ap (λ z. semicolon ∷ z) stops.run.is; one_line = stops.run.each; utf8 = stops.run.utf8; none = stops.none })
+    let stops = broken is_line_byte high_in_line line text rest n run valid in (
+      stops.inside,
+      record { text = _; is = ap (λ z. semicolon ∷ z) stops.run.is; one_line = stops.run.each; utf8 = stops.run.utf8; none = stops.none },
+    )
 
 -- ---- one step more
 
 pub skip_more : (here rest run after : List ℕ) → Blanks here rest → IsRun is_blank rest run after → Blanks here after
 skip_more here rest run after h is = blanks_then h (subst (λ z. Blanks z after) (sym is.is) (blanks_run run after is.each))
 
-pub skip_line : (here after line rest : List ℕ) → Blanks here after → after ≡ semicolon ∷ line → Blanks (semicolon ∷ line) rest → Blanks here rest
+pub skip_line : (here after line rest : List ℕ) → Blanks here after → after ≡ semicolon ∷ line → Blanks (semicolon ∷ line) rest
+    → Blanks here rest
 skip_line here after line rest h is k = blanks_then (subst (Blanks here) is h) k
 
-pub skip_ends : (here after : List ℕ) → Blanks here after → Stops is_blank after → ((line : List ℕ) → after ≢ semicolon ∷ line) → SkippedTo here (Ok (length here - length after))
+pub skip_ends : (here after : List ℕ) → Blanks here after → Stops is_blank after
+    → ((line : List ℕ) → after ≢ semicolon ∷ line) → SkippedTo here (Ok (length here - length after))
 skip_ends here after h stops none =
     let behind = blanks_behind h in
     let back = behind_drop here after behind in
     (omega arith, subst (Blanks here) (sym back) h, subst GoesNoFurther (sym back) (no_further after stops none))
 
-pub skip_broken : (here after line : List ℕ) (n : ℕ) → Blanks here after → after ≡ semicolon ∷ line → LineIs line (Err n) → SkippedTo here (Err (length here - length line + n))
+pub skip_broken : (here after line : List ℕ) (n : ℕ) → Blanks here after → after ≡ semicolon ∷ line → LineIs line (Err n)
+    → SkippedTo here (Err (length here - length line + n))
 skip_broken here after line n h is broken =
     let to_comment : Blanks here (semicolon ∷ line) = subst (Blanks here) is h in
     let behind = behind_then here (semicolon ∷ line) line (blanks_behind to_comment) (semicolon ∷ [], refl) in

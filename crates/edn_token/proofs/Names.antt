@@ -18,7 +18,8 @@ each_behind (b ∷ a) c h = each_behind a c (Each-tail is_name_byte b (a ++ c) h
 
 -- a byte inside names is one of theirs
 inside_name : (first second text : List ℕ) (b : ℕ) → Each is_name_byte text → text ≡ first ++ b ∷ second → is_name_byte b ≡ true
-inside_name first second text b each is = (Each-tail is_name_byte b second (each_behind first (b ∷ second) (subst (Each is_name_byte) is each))).0
+inside_name first second text b each is =
+    (Each-tail is_name_byte b second (each_behind first (b ∷ second) (subst (Each is_name_byte) is each))).0
 
 slash_inside : (first second text : List ℕ) → Each is_name_byte text → text ≡ first ++ slash ∷ second → ⊥
 slash_inside first second text each is =
@@ -39,27 +40,36 @@ stops_there text first (c ∷ rest) second b run e = ap is_name_byte (heads (sym
 
 module _ (Name : List ℕ → Type 0) (bytes_of : (bytes : List ℕ) → Name bytes → Each is_name_byte bytes) where
   -- a text of a name's bytes is not two names
-  pub one_name : (text first rest : List ℕ) → IsRun is_name_byte text first rest → length rest ≡ 0 → Name text ⊎ Joined Name Name text → Name first
+  pub one_name : (text first rest : List ℕ) → IsRun is_name_byte text first rest → length rest ≡ 0 → Name text ⊎ Joined Name Name text
+      → Name first
   one_name text first rest run none (inl one) = subst Name (whole_run text first rest run none) one
-  one_name text first rest run none (inr two) = absurd (slash_inside two.0 two.1 first run.each (sym (whole_run text first rest run none) ∙ two.2))
+  one_name text first rest run none (inr two) =
+      absurd (slash_inside two.0 two.1 first run.each (sym (whole_run text first rest run none) ∙ two.2))
 
   -- where a slash ends the bytes of a name, a text is two names as it is parted there
-  pub two_names : (text first rest second : List ℕ) (b : ℕ) → IsRun is_name_byte text first rest → rest ≡ b ∷ second → b ≡ slash → Name text ⊎ Joined Name Name text → Name first × Name second
-  two_names text first rest second b run e same (inl one) = absurd (slash_inside first second text (bytes_of text one) (parted text first rest second b run e ∙ ap (λ z. first ++ z ∷ second) same))
+  pub two_names : (text first rest second : List ℕ) (b : ℕ) → IsRun is_name_byte text first rest → rest ≡ b ∷ second → b ≡ slash
+      → Name text ⊎ Joined Name Name text → Name first × Name second
+  two_names text first rest second b run e same (inl one) =
+      absurd
+      (slash_inside first second text (bytes_of text one) (parted text first rest second b run e ∙ ap (λ z. first ++ z ∷ second) same))
   two_names text first rest second b run e same (inr two) =
       let is = parted text first rest second b run e ∙ ap (λ z. first ++ z ∷ second) same in
-      let one = one_run is_name_byte two.0 first (slash ∷ two.1) (slash ∷ second) (bytes_of two.0 two.3) run.each refl refl (sym two.2 ∙ is) in
+      let one =
+      one_run is_name_byte two.0 first (slash ∷ two.1) (slash ∷ second) (bytes_of two.0 two.3) run.each refl refl (sym two.2 ∙ is) in
       (subst Name one.0 two.3, subst Name (tails one.1) two.4)
 
   -- where another byte does, it is no name and no two
-  pub no_names : (text first rest second : List ℕ) (b : ℕ) → IsRun is_name_byte text first rest → rest ≡ b ∷ second → (b ≡ slash → ⊥) → Name text ⊎ Joined Name Name text → ⊥
+  pub no_names : (text first rest second : List ℕ) (b : ℕ) → IsRun is_name_byte text first rest → rest ≡ b ∷ second → (b ≡ slash → ⊥)
+      → Name text ⊎ Joined Name Name text → ⊥
   no_names text first rest second b run e other (inl one) =
       let passes = inside_name first second text b (bytes_of text one) (parted text first rest second b run e) in
       let fails = stops_there text first rest second b run e in
       cc
   no_names text first rest second b run e other (inr two) =
       let fails = stops_there text first rest second b run e in
-      let one = one_run is_name_byte two.0 first (slash ∷ two.1) (b ∷ second) (bytes_of two.0 two.3) run.each refl fails (sym two.2 ∙ parted text first rest second b run e) in
+      let one =
+      one_run is_name_byte two.0 first (slash ∷ two.1) (b ∷ second) (bytes_of two.0 two.3) run.each refl fails
+      (sym two.2 ∙ parted text first rest second b run e) in
       other (sym (heads one.1))
 
 -- what begins a keyword's name is not empty

@@ -1,12 +1,15 @@
 -- Tokens that are none of the language.
-use Rattle.std.proofs.Common.{◌≡◌, ◌≢◌, ◌⊎◌, ℕ, ℤ, ◌<◌, Bool, true, false, List, [], ◌∷◌, ◌++◌, length, length-append, refl, ap, ◌∙◌, sym, subst, arith, inl, inr, codes}
+use Rattle.std.proofs.Common.{◌≡◌, ◌≢◌, ◌⊎◌, ℕ, ℤ, ◌<◌, Bool, true, false, List, [], ◌∷◌, ◌++◌, length, length-append, refl, ap, ◌∙◌, sym}
+use Rattle.std.proofs.Common.{subst, arith, inl, inr, codes}
 use Rattle.std.proofs.lemmas.Bool.Decides.{nat_tests}
 use Rattle.std.specs.Prelude.{◌==◌, ◌||◌, IsUtf8}
 use Rattle.edn_model.specs.Form as form
 use Rattle.edn_model.specs.Runs.{Each}
 use Rattle.edn_model.specs.Bytes.{hash, plus, minus, slash, colon, backslash, is_digit, is_letter}
-use Rattle.edn_model.specs.Tokens.{IsReserved, IsKeyword, IsKeywordName, IsSymbol, Joined, begins_symbol, IsNumeral, unsigned, positive, negative, IsAtom}
-use Rattle.edn_model.specs.Faults.{What, char, float, big_int, wide, namespaced_map, tag, DigitsBefore, is_float_mark, IsUnsupported, IsNoToken}
+use Rattle.edn_model.specs.Tokens.{IsReserved, IsKeyword, IsKeywordName, IsSymbol, Joined, begins_symbol, IsNumeral, unsigned, positive}
+use Rattle.edn_model.specs.Tokens.{negative, IsAtom}
+use Rattle.edn_model.specs.Faults.{What, char, float, big_int, wide, namespaced_map, tag, DigitsBefore, is_float_mark, IsUnsupported}
+use Rattle.edn_model.specs.Faults.{IsNoToken}
 use Rattle.edn_model.proofs.Runs.{Each-tail, heads, tails}
 use Rattle.edn_model.proofs.OneForm.{no_sign}
 use Rattle.edn_token.specs.Names.{IsSymbolOrWord}
@@ -61,7 +64,10 @@ pub no_token : (token : List ℕ) → NoKind token → IsNoToken token
 no_token token h = record {
   no_form = no_form token h;
   supported = supported token h;
-  no_tag = (λ e. let none : is_tag_mark 105 ≡ false = h.no_tag 105 (codes "nst") e in cc, λ e. let none : is_tag_mark 117 ≡ false = h.no_tag 117 (codes "uid") e in cc);
+  no_tag = (
+    λ e. let none : is_tag_mark 105 ≡ false = h.no_tag 105 (codes "nst") e in cc,
+    λ e. let none : is_tag_mark 117 ≡ false = h.no_tag 117 (codes "uid") e in cc,
+  );
 }
 
 -- ---- first bytes
@@ -72,31 +78,36 @@ symbol_word token h = elim h.1 [
   | inr (long) ↦ inr (long.0, long.2)
 ]
 
-numeral_begins : (z : ℤ) (b : ℕ) (token more : List ℕ) → IsNumeral z token → token ≡ b ∷ more → is_digit b ≡ false → b ≢ plus → b ≢ minus → ⊥
+numeral_begins : (z : ℤ) (b : ℕ) (token more : List ℕ) → IsNumeral z token → token ≡ b ∷ more → is_digit b ≡ false → b ≢ plus → b ≢ minus
+    → ⊥
 numeral_begins z b token more (unsigned {n = n} h e) is fails no_plus no_minus = no_sign n b token more h is fails
 numeral_begins z b token more (positive js h e) is fails no_plus no_minus = no_plus (heads (sym is ∙ js))
 numeral_begins z b token more (negative js h e) is fails no_plus no_minus = no_minus (heads (sym is ∙ js))
 
-pub digits_begin : (digits after more : List ℕ) (b : ℕ) → 0 < length digits → Each is_digit digits → digits ++ after ≡ b ∷ more → is_digit b ≡ true
+pub digits_begin : (digits after more : List ℕ) (b : ℕ) → 0 < length digits → Each is_digit digits → digits ++ after ≡ b ∷ more
+    → is_digit b ≡ true
 digits_begin [] after more b some each e = absurd (omega arith)
 digits_begin (d ∷ digits) after more b some each e =
     let digit : is_digit d ≡ true = (Each-tail is_digit d digits each).0 in
     let same : is_digit d ≡ is_digit b = ap is_digit (heads e) in
     cc
 
-mark_begins : (mark b : ℕ) (token more : List ℕ) → DigitsBefore mark token → token ≡ b ∷ more → is_digit b ≡ false → b ≢ plus → b ≢ minus → ⊥
+mark_begins : (mark b : ℕ) (token more : List ℕ) → DigitsBefore mark token → token ≡ b ∷ more → is_digit b ≡ false → b ≢ plus → b ≢ minus
+    → ⊥
 mark_begins mark b token more h is fails no_plus no_minus =
     let after = h.digits ++ mark ∷ h.more in
     elim h.signs [
       | inl none ↦
-          let begin : is_digit b ≡ true = digits_begin h.digits (mark ∷ h.more) more b h.some h.each (sym (h.is ∙ ap (λ z. z ++ after) none) ∙ is) in
+          let begin : is_digit b ≡ true =
+          digits_begin h.digits (mark ∷ h.more) more b h.some h.each (sym (h.is ∙ ap (λ z. z ++ after) none) ∙ is) in
           cc
       | inr (inl sign) ↦ no_plus (heads (sym is ∙ h.is ∙ ap (λ z. z ++ after) sign))
       | inr (inr sign) ↦ no_minus (heads (sym is ∙ h.is ∙ ap (λ z. z ++ after) sign))
     ]
 
 mark_some : (mark : ℕ) (token : List ℕ) → DigitsBefore mark token → token ≡ [] → ⊥
-mark_some mark token h e = omega (arith, ap length h.is, ap length e, length-append h.sign (h.digits ++ mark ∷ h.more), length-append h.digits (mark ∷ h.more))
+mark_some mark token h e =
+    omega (arith, ap length h.is, ap length e, length-append h.sign (h.digits ++ mark ∷ h.more), length-append h.digits (mark ∷ h.more))
 
 reserved_begins : (b : ℕ) (token more : List ℕ) → IsReserved token → token ≡ b ∷ more → is_letter b ≡ true
 reserved_begins b token more (inl e) is = ap is_letter (heads (sym is ∙ e))
@@ -148,7 +159,8 @@ no_colon name none = no_token (colon ∷ name) (record {
   no_tag = λ b more e. absurd (let wrong = heads e in omega arith);
 })
 
-pub no_hash : (token behind : List ℕ) → token ≡ hash ∷ behind → ((b : ℕ) (more : List ℕ) → behind ≡ b ∷ more → is_tag_mark b ≡ false) → IsNoToken token
+pub no_hash : (token behind : List ℕ) → token ≡ hash ∷ behind
+    → ((b : ℕ) (more : List ℕ) → behind ≡ b ∷ more → is_tag_mark b ≡ false) → IsNoToken token
 no_hash token behind is none = no_token token (record {
   no_word = λ h. let begin : is_letter hash ≡ true = reserved_begins hash token behind h is in cc;
   no_numeral = λ z h. numeral_begins z hash token behind h is refl (λ e. omega arith) (λ e. omega arith);
@@ -162,11 +174,13 @@ no_hash token behind is none = no_token token (record {
 other_mark : (b : ℕ) → b ≢ hash → b ≢ colon → is_letter b ≡ false → is_tag_mark b ≡ false
 other_mark b no_hash no_colon no_letter = grind (arith, nat_tests)
 
-pub no_hash_but : (token behind more : List ℕ) (second : ℕ) → token ≡ hash ∷ behind → behind ≡ second ∷ more → second ≢ hash → second ≢ colon → is_letter second ≡ false → IsNoToken token
+pub no_hash_but : (token behind more : List ℕ) (second : ℕ) → token ≡ hash ∷ behind → behind ≡ second ∷ more → second ≢ hash
+    → second ≢ colon → is_letter second ≡ false → IsNoToken token
 no_hash_but token behind more second is next unlike_hash unlike_colon no_letter =
     no_hash token behind is (λ b rest e. ap is_tag_mark (heads (sym e ∙ next)) ∙ other_mark second unlike_hash unlike_colon no_letter)
 
-pub no_number : (token : List ℕ) → NoWord token → ((z : ℤ) → ¬ IsNumeral z token) → ((mark : ℕ) → is_mark mark ≡ true → ¬ DigitsBefore mark token) → IsNoToken token
+pub no_number : (token : List ℕ) → NoWord token
+    → ((z : ℤ) → ¬ IsNumeral z token) → ((mark : ℕ) → is_mark mark ≡ true → ¬ DigitsBefore mark token) → IsNoToken token
 no_number token word no_numeral no_mark = no_token token (record {
   no_word = word.no_word;
   no_numeral = no_numeral;

@@ -15,9 +15,11 @@ fold_grows (b ∷ digits) n = let more = fold_grows digits (with_digit n b) in o
 -- a front with one more digit
 pub number_front : (digits : List ℕ) (i : ℕ) → i < length digits → number (take i digits) * 10 + (get_or digits i 0 - 48) ≤ number digits
 number_front digits i h =
-    let whole : number digits ≡ fold with_digit (number (take i digits)) (drop i digits) = ap number (sym (take-append-drop i digits)) ∙ fold-append with_digit 0 (take i digits) (drop i digits) in
+    let whole : number digits ≡ fold with_digit (number (take i digits)) (drop i digits) =
+    ap number (sym (take-append-drop i digits)) ∙ fold-append with_digit 0 (take i digits) (drop i digits) in
     let next : drop i digits ≡ get_or digits i 0 ∷ drop (suc i) digits = drop-cons digits i 0 h in
-    let folded : fold with_digit (number (take i digits)) (drop i digits) ≡ fold with_digit (with_digit (number (take i digits)) (get_or digits i 0)) (drop (suc i) digits) =
+    let folded : fold with_digit (number (take i digits)) (drop i digits)
+    ≡ fold with_digit (with_digit (number (take i digits)) (get_or digits i 0)) (drop (suc i) digits) =
     ap (fold with_digit (number (take i digits))) next in
     let grown = fold_grows (drop (suc i) digits) (with_digit (number (take i digits)) (get_or digits i 0)) in
     omega arith

@@ -24,7 +24,8 @@ minus_digits z token digits is (unsigned {n = n} h e) = absurd (no_sign n minus 
 minus_digits z token digits is (positive {digits = a} js h e) = absurd (let wrong = apart minus plus digits a token is js in omega arith)
 minus_digits z token digits is (negative {n = n} {digits = a} js h e) = own_number n digits (subst (IsDecimal n) (tails (sym js ∙ is)) h)
 
-own_digits : (z : ℤ) (token : List ℕ) → ((x : List ℕ) → token ≢ plus ∷ x) → ((x : List ℕ) → token ≢ minus ∷ x) → IsNumeral z token → IsDecimal (number token) token
+own_digits : (z : ℤ) (token : List ℕ) → ((x : List ℕ) → token ≢ plus ∷ x) → ((x : List ℕ) → token ≢ minus ∷ x) → IsNumeral z token
+    → IsDecimal (number token) token
 own_digits z token no_plus no_minus (unsigned {n = n} h e) = own_number n token h
 own_digits z token no_plus no_minus (positive {digits = a} js h e) = absurd (no_plus a js)
 own_digits z token no_plus no_minus (negative {digits = a} js h e) = absurd (no_minus a js)
@@ -34,12 +35,14 @@ behind_plus token digits None is h = λ z k. h (plus_digits z token digits is k)
 behind_plus token digits (Some (Long z)) is h = positive is h.0 h.1
 behind_plus token digits (Some Wide) is h = (pos (number digits), positive is h.0 refl, h.1)
 
-pub behind_minus : (token digits : List ℕ) (r : Option Number) → token ≡ minus ∷ digits → DigitsAre (λ n. neg_ℤ (pos n)) digits r → NumeralIs token r
+pub behind_minus : (token digits : List ℕ) (r : Option Number) → token ≡ minus ∷ digits → DigitsAre (λ n. neg_ℤ (pos n)) digits r
+    → NumeralIs token r
 behind_minus token digits None is h = λ z k. h (minus_digits z token digits is k)
 behind_minus token digits (Some (Long z)) is h = negative is h.0 h.1
 behind_minus token digits (Some Wide) is h = (neg_ℤ (pos (number digits)), negative is h.0 refl, h.1)
 
-pub without_sign : (token : List ℕ) (r : Option Number) → ((x : List ℕ) → token ≢ plus ∷ x) → ((x : List ℕ) → token ≢ minus ∷ x) → DigitsAre pos token r → NumeralIs token r
+pub without_sign : (token : List ℕ) (r : Option Number)
+    → ((x : List ℕ) → token ≢ plus ∷ x) → ((x : List ℕ) → token ≢ minus ∷ x) → DigitsAre pos token r → NumeralIs token r
 without_sign token None no_plus no_minus h = λ z k. h (own_digits z token no_plus no_minus k)
 without_sign token (Some (Long z)) no_plus no_minus h = unsigned h.0 h.1
 without_sign token (Some Wide) no_plus no_minus h = (pos (number token), unsigned h.0 refl, h.1)

@@ -1,19 +1,21 @@
 -- A string, piece by piece.
-use Rattle.std.proofs.Common.{◌≡◌, ℕ, ◌+◌, ◌-◌, ◌<◌, ◌≤◌, true, false, List, [], ◌∷◌, ◌++◌, take, drop, length, length-append, length-drop, append_assoc, refl, ap, ◌∙◌, sym, subst, arith}
+use Rattle.std.proofs.Common.{◌≡◌, ℕ, ◌+◌, ◌-◌, ◌<◌, ◌≤◌, true, false, List, [], ◌∷◌, ◌++◌, take, drop, length, length-append, length-drop}
+use Rattle.std.proofs.Common.{append_assoc, refl, ap, ◌∙◌, sym, subst, arith}
 use Rattle.std.proofs.lemmas.Bool.Decides.{nat_tests}
 use Rattle.std.proofs.lemmas.Str.{IsUtf8-append, IsUtf8-nil}
 use Rattle.std.specs.Prelude.{IsUtf8, encode_utf8}
 use Rattle.std.specs.Str.{IsValidUpTo}
 use Rattle.edn_model.specs.Runs.{Stops, IsRun}
 use Rattle.edn_model.specs.Bytes.{quote, backslash, is_plain, begins}
-use Rattle.edn_model.specs.Tokens.{Spells, nothing, plain, escape, code, StringStands}
+use Rattle.edn_model.specs.Tokens.{Spells, nothing, plain, escape, code, StringAt}
 use Rattle.edn_model.specs.Faults.{Fault, bad, cut, StringFault, no_quote, cut_escape, bad_escape, no_character}
 use Rattle.edn_model.proofs.Pieces.{spelled_plain}
 use Rattle.edn_token.specs.Strings.{Spelled}
 use Rattle.edn_token.proofs.WholeCharacters.{broken, run_back}
 use Rattle.edn_token.proofs.Places.{Behind, behind_short, behind_drop_more}
 
-pub spells_then : {here between rest text more : List ℕ} → Spells here text between → Spells between more rest → Spells here (text ++ more) rest
+pub spells_then : {here between rest text more : List ℕ} → Spells here text between → Spells between more rest
+    → Spells here (text ++ more) rest
 spells_then nothing k = k
 spells_then (plain p h) k = plain p (spells_then h k)
 spells_then (escape is e h) k = escape is e (spells_then h k)
@@ -33,13 +35,16 @@ spells_behind (code {a = a} {b = b} {c = c} {d = d} is digits h all) =
 pub so_far_nothing : (inside : List ℕ) → Spelled inside [] inside
 so_far_nothing inside = record { spells = nothing; utf8 = IsUtf8-nil }
 
-pub so_far_then : (inside text between more rest : List ℕ) → Spelled inside text between → Spelled between more rest → Spelled inside (text ++ more) rest
-so_far_then inside text between more rest h k = record { spells = spells_then h.spells k.spells; utf8 = IsUtf8-append text more h.utf8 k.utf8 }
+pub so_far_then : (inside text between more rest : List ℕ) → Spelled inside text between → Spelled between more rest
+    → Spelled inside (text ++ more) rest
+so_far_then inside text between more rest h k =
+    record { spells = spells_then h.spells k.spells; utf8 = IsUtf8-append text more h.utf8 k.utf8 }
 
 pub so_far_behind : (inside text rest : List ℕ) → Spelled inside text rest → Behind inside rest
 so_far_behind inside text rest h = spells_behind h.spells
 
-pub so_far_fault : {inside text rest place : List ℕ} {fault : Fault} → Spelled inside text rest → StringFault rest fault place → StringFault inside fault place
+pub so_far_fault : {inside text rest place : List ℕ} {fault : Fault} → Spelled inside text rest → StringFault rest fault place
+    → StringFault inside fault place
 so_far_fault {text = text} h (no_quote {text = more} s u) = no_quote (spells_then h.spells s) (IsUtf8-append text more h.utf8 u)
 so_far_fault {text = text} h (cut_escape {text = more} s u e) = cut_escape (spells_then h.spells s) (IsUtf8-append text more h.utf8 u) e
 so_far_fault {text = text} h (bad_escape {text = more} s u e) = bad_escape (spells_then h.spells s) (IsUtf8-append text more h.utf8 u) e
@@ -47,7 +52,8 @@ so_far_fault {text = text} h (no_character {text = more} s u n) = no_character (
 
 -- the quote stands here that ends the string
 pub string_there : (inside text rest : List ℕ) → Spelled inside text rest → rest ≡ quote ∷ drop 1 rest
-    → (0 < length inside - length rest + 1) × (length inside - length rest + 1 ≤ length inside) × StringStands text (quote ∷ inside) (drop (length inside - length rest + 1) inside)
+    → (0 < length inside - length rest + 1) × (length inside - length rest + 1 ≤ length inside)
+    × StringAt text (quote ∷ inside) (drop (length inside - length rest + 1) inside)
 string_there inside text rest h closes =
     let behind = spells_behind h.spells in
     let short = behind_short inside rest behind in
@@ -71,7 +77,8 @@ string_ends inside text h = no_quote h.spells h.utf8
 high_in_plain : (b : ℕ) → 128 ≤ b → is_plain b ≡ true
 high_in_plain b h = grind (arith, nat_tests)
 
-pub plain_there : (here run rest text : List ℕ) → IsRun is_plain here run rest → text ≡ run → IsUtf8 run → Spelled here text (drop (length text) here)
+pub plain_there : (here run rest text : List ℕ) → IsRun is_plain here run rest → text ≡ run → IsUtf8 run
+    → Spelled here text (drop (length text) here)
 plain_there here run rest text is e utf8 =
     let back : drop (length text) here ≡ rest = ap (λ z. drop (length z) here) e ∙ run_back is_plain here run rest is in
     let spells : Spells here run rest = subst (λ z. Spells z run rest) (sym is.is) (spelled_plain run rest is.each) in
@@ -100,10 +107,12 @@ plain_is here run rest text is begin e utf8 =
     let same = ap length e in
     (omega arith, omega arith, plain_there here run rest text is e utf8)
 
-pub plain_broken : (here run rest : List ℕ) (n : ℕ) → IsRun is_plain here run rest → IsValidUpTo run n → (n < length here) × StringFault here bad (drop n here)
+pub plain_broken : (here run rest : List ℕ) (n : ℕ) → IsRun is_plain here run rest → IsValidUpTo run n
+    → (n < length here) × StringFault here bad (drop n here)
 plain_broken here run rest n is valid =
     let stops = broken is_plain high_in_plain here run rest n is valid in
-    let spells : Spells (take n here ++ drop n here) (take n here) (drop n here) = spelled_plain (take n here) (drop n here) stops.run.each in
+    let spells : Spells (take n here ++ drop n here) (take n here) (drop n here) =
+    spelled_plain (take n here) (drop n here) stops.run.each in
     (stops.inside, no_character (subst (λ z. Spells z (take n here) (drop n here)) (sym stops.run.is) spells) stops.run.utf8 stops.none)
 
 -- ---- the string from its pieces
@@ -119,11 +128,12 @@ piece_fault inside text rest n h k =
 -- a string that is one run of characters
 pub whole_string : (inside text : List ℕ) → length text ≤ length inside → Spelled inside text (drop (length text) inside)
     → drop (length text) inside ≡ quote ∷ drop 1 (drop (length text) inside)
-    → (0 < length text + 1) × (length text + 1 ≤ length inside) × StringStands text (quote ∷ inside) (drop (length text + 1) inside)
+    → (0 < length text + 1) × (length text + 1 ≤ length inside) × StringAt text (quote ∷ inside) (drop (length text + 1) inside)
 whole_string inside text short h closes =
     let rest = drop (length text) inside in
     let same : length inside - length rest + 1 ≡ length text + 1 = omega (arith, length-drop (length text) inside) in
-    subst (λ n. (0 < n) × (n ≤ length inside) × StringStands text (quote ∷ inside) (drop n inside)) same (string_there inside text rest h closes)
+    subst (λ n. (0 < n) × (n ≤ length inside) × StringAt text (quote ∷ inside) (drop n inside)) same
+    (string_there inside text rest h closes)
 
 pub string_short : (inside text rest : List ℕ) → Spelled inside text rest → length rest ≤ length inside
 string_short inside text rest h = behind_short inside rest (spells_behind h.spells)
@@ -142,19 +152,23 @@ plain_begins here behind b is passes = ap (begins is_plain) is ∙ passes
 
 -- ---- with what the code made of it
 
-pub so_far_is : (inside text rest more after whole next : List ℕ) → Spelled inside text rest → Spelled rest more after → whole ≡ text ++ more → next ≡ after → Spelled inside whole next
+pub so_far_is : (inside text rest more after whole next : List ℕ) → Spelled inside text rest → Spelled rest more after
+    → whole ≡ text ++ more → next ≡ after → Spelled inside whole next
 so_far_is inside text rest more after whole next h k is js =
-    subst (λ z. Spelled inside z next) (sym is) (subst (Spelled inside (text ++ more)) (sym js) (so_far_then inside text rest more after h k))
+    subst (λ z. Spelled inside z next) (sym is)
+    (subst (Spelled inside (text ++ more)) (sym js) (so_far_then inside text rest more after h k))
 
 pub string_is : (inside text rest s : List ℕ) → Spelled inside text rest → rest ≡ quote ∷ drop 1 rest → s ≡ text
-    → (0 < length inside - length rest + 1) × (length inside - length rest + 1 ≤ length inside) × StringStands s (quote ∷ inside) (drop (length inside - length rest + 1) inside)
+    → (0 < length inside - length rest + 1) × (length inside - length rest + 1 ≤ length inside)
+    × StringAt s (quote ∷ inside) (drop (length inside - length rest + 1) inside)
 string_is inside text rest s h closes is =
     let there = string_there inside text rest h closes in
-    (there.0, there.1, subst (λ z. StringStands z (quote ∷ inside) (drop (length inside - length rest + 1) inside)) (sym is) there.2)
+    (there.0, there.1, subst (λ z. StringAt z (quote ∷ inside) (drop (length inside - length rest + 1) inside)) (sym is) there.2)
 
-pub whole_string_is : (inside text rest s : List ℕ) → length text ≤ length inside → Spelled inside text (drop (length text) inside) → rest ≡ drop (length text) inside
+pub whole_string_is : (inside text rest s : List ℕ) → length text ≤ length inside → Spelled inside text (drop (length text) inside)
+    → rest ≡ drop (length text) inside
     → rest ≡ quote ∷ drop 1 rest → s ≡ text
-    → (0 < length text + 1) × (length text + 1 ≤ length inside) × StringStands s (quote ∷ inside) (drop (length text + 1) inside)
+    → (0 < length text + 1) × (length text + 1 ≤ length inside) × StringAt s (quote ∷ inside) (drop (length text + 1) inside)
 whole_string_is inside text rest s short h at closes is =
     let there = whole_string inside text short h (subst (λ z. z ≡ quote ∷ drop 1 z) at closes) in
-    (there.0, there.1, subst (λ z. StringStands z (quote ∷ inside) (drop (length text + 1) inside)) (sym is) there.2)
+    (there.0, there.1, subst (λ z. StringAt z (quote ∷ inside) (drop (length text + 1) inside)) (sym is) there.2)

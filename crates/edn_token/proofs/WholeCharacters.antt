@@ -1,10 +1,12 @@
 -- Where the characters of a run end, and bytes begin with which no character does.
-use Rattle.std.proofs.Common.{◌≡◌, ℕ, ◌+◌, ◌-◌, ◌<◌, ◌≤◌, Bool, true, false, List, [], ◌∷◌, ◌++◌, take, drop, length, get_or, length-append, length-drop, take-append-drop, refl, ap, ◌∙◌, sym, subst, arith, inl, inr}
+use Rattle.std.proofs.Common.{◌≡◌, ℕ, ◌+◌, ◌-◌, ◌<◌, ◌≤◌, Bool, true, false, List, [], ◌∷◌, ◌++◌, take, drop, length, get_or, length-append}
+use Rattle.std.proofs.Common.{length-drop, take-append-drop, refl, ap, ◌∙◌, sym, subst, arith, inl, inr}
 use Rattle.std.proofs.Math.Seq.{take-add}
 use Rattle.std.proofs.lemmas.Bool.{cases_lt}
 use Rattle.std.proofs.lemmas.Bool.Decides.{nat_tests}
 use Rattle.std.proofs.lemmas.List.{take_at, drop_at, take-append-le, drop-append-le, get_or_at}
-use Rattle.std.proofs.lemmas.Str.{IsCharBoundary-after_ascii, IsUtf8-drop, IsUtf8-append, IsUtf8-encode, inside_one, length-encode, len_utf8_ascii, len_utf8_bounds}
+use Rattle.std.proofs.lemmas.Str.{IsCharBoundary-after_ascii, IsUtf8-drop, IsUtf8-append, IsUtf8-encode, inside_one, length-encode}
+use Rattle.std.proofs.lemmas.Str.{len_utf8_ascii, len_utf8_bounds}
 use Rattle.std.specs.Prelude.{encode_utf8, IsUtf8, IsCharBoundary, not, if◌then◌else◌}
 use Rattle.std.specs.Str.{StartsWithNoChar, IsValidUpTo}
 use Rattle.edn_model.specs.Runs.{Each, Stops, IsRun}
@@ -40,7 +42,8 @@ later_high c i rest bytes is later inside = elim (cases_lt (get_or bytes i 0) 12
 
 module _ (test : ℕ → Bool) (high : (b : ℕ) → 128 ≤ b → test b ≡ true) where
   -- a character that begins in a run ends in it
-  fits : (run rest more : List ℕ) (c : ℕ) → 0 < length run → Stops test rest → run ++ rest ≡ encode_utf8 c ++ more → length (encode_utf8 c) ≤ length run
+  fits : (run rest more : List ℕ) (c : ℕ) → 0 < length run → Stops test rest → run ++ rest ≡ encode_utf8 c ++ more
+      → length (encode_utf8 c) ≤ length run
   fits run [] more c some stops e = omega (arith, length-append run [], length-append (encode_utf8 c) more, ap length e)
   fits run (b ∷ rest) more c some stops e = elim (cases_lt (length run) (length (encode_utf8 c))) [
     | inl over ↦
@@ -59,9 +62,11 @@ module _ (test : ℕ → Bool) (high : (b : ℕ) → 128 ≤ b → test b ≡ tr
       let len = length (encode_utf8 c) in
       let within : len ≤ length (drop n run) = fits (drop n run) rest more c (omega arith) stops e in
       let some : 0 < len = omega (arith, (len_utf8_bounds c).0, length-encode c) in
-      let front : take len (drop n run) ≡ encode_utf8 c = sym (take-append-le len (drop n run) rest within) ∙ ap (take len) e ∙ take_at (encode_utf8 c) more len refl in
+      let front : take len (drop n run) ≡ encode_utf8 c =
+      sym (take-append-le len (drop n run) rest within) ∙ ap (take len) e ∙ take_at (encode_utf8 c) more len refl in
       let longer : take (n + len) run ≡ take n run ++ encode_utf8 c = take-add n len run ∙ ap (λ z. take n run ++ z) front in
-      valid.longest (n + len) (omega arith) (subst IsUtf8 (sym longer) (IsUtf8-append (take n run) (encode_utf8 c) valid.front (IsUtf8-encode c scalar)))
+      valid.longest (n + len) (omega arith)
+      (subst IsUtf8 (sym longer) (IsUtf8-append (take n run) (encode_utf8 c) valid.front (IsUtf8-encode c scalar)))
 
   pub broken : (here run rest : List ℕ) (n : ℕ) → IsRun test here run rest → IsValidUpTo run n → BrokenRun test here n
   broken here run rest n is valid =
@@ -76,7 +81,9 @@ module _ (test : ℕ → Bool) (high : (b : ℕ) → 128 ≤ b → test b ≡ tr
           each = subst (Each test) (sym front) (each_take test n run is.each);
           utf8 = subst IsUtf8 (sym front) valid.front;
         };
-        none = subst NoCharacter (sym back) (no_character_of _ (omega (arith, length-append (drop n run) rest, length-drop n run)) (no_character_behind run rest n valid is.stops));
+        none =
+            subst NoCharacter (sym back) (no_character_of _ (omega (arith, length-append (drop n run) rest, length-drop n run))
+            (no_character_behind run rest n valid is.stops));
       }
 
 -- what follows a whole run is the rest
@@ -92,7 +99,8 @@ ends_where_stops : (rest : List ℕ) → Stops is_token_byte rest → TokenEnds 
 ends_where_stops [] stops = refl
 ends_where_stops (b ∷ rest) stops = not_false (ends_token b) stops
 
-pub token_front : (here run rest token : List ℕ) → IsRun is_token_byte here run rest → token ≡ run → IsUtf8 run → TokenFront here token (drop (length token) here)
+pub token_front : (here run rest token : List ℕ) → IsRun is_token_byte here run rest → token ≡ run → IsUtf8 run
+    → TokenFront here token (drop (length token) here)
 token_front here run rest token is e utf8 =
     let back : drop (length token) here ≡ rest = ap (λ z. drop (length z) here) e ∙ run_back is_token_byte here run rest is in
     record {
@@ -104,9 +112,11 @@ token_front here run rest token is e utf8 =
       ends = subst TokenEnds (sym back) (ends_where_stops rest is.stops);
     }
 
-pub token_broken : (here run rest : List ℕ) (n place : ℕ) → IsRun is_token_byte here run rest → IsValidUpTo run n → place ≡ (if begins_no_token here then 0 else n)
+pub token_broken : (here run rest : List ℕ) (n place : ℕ) → IsRun is_token_byte here run rest → IsValidUpTo run n
+    → place ≡ (if begins_no_token here then 0 else n)
     → BrokenToken here place
-token_broken here run rest n place is valid e = record { at = n; broken = broken is_token_byte high_in_token here run rest n is valid; is = e }
+token_broken here run rest n place is valid e =
+    record { at = n; broken = broken is_token_byte high_in_token here run rest n is valid; is = e }
 
 -- ---- behind a byte of ASCII
 

@@ -1,6 +1,6 @@
 -- What a token is, by its text.
--- EDN, edn-format: "nil", "Booleans", "Symbols", "Keywords", "Integers", "Tagged elements"; what is unsupported is this
--- project's own choice.
+-- EDN, edn-format: "nil", "Booleans", "Symbols", "Keywords", "Integers", "Tagged elements";
+-- what is unsupported is this project's own choice.
 use Rattle.std.specs.Prelude.{◌≡◌, ◌≢◌, ℕ, false, Option, Some, None, List, [], ◌∷◌, drop, codes}
 use Rattle.edn_model.specs.Form as form
 use Rattle.edn_model.specs.Bytes.{hash, plus, minus, colon, backslash, is_digit}
@@ -8,9 +8,11 @@ use Rattle.edn_model.specs.Tokens.{IsReserved, IsAtom}
 use Rattle.edn_model.specs.Faults as faults
 use Rattle.edn_model.specs.Faults.{DigitsBefore, IsUnsupported, IsNoToken}
 use Rattle.edn_token.specs.declared.token.Token.{Token}
-use Rattle.edn_token.specs.declared.token.Token.TheVariants.{Nil, Bool, Int, Symbol, Keyword, Inst, Uuid, Unsupported, Bad}
+use Rattle.edn_token.specs.declared.token.Token.TheVariants.{Nil, Bool, Int, Symbol, Keyword, Inst}
+use Rattle.edn_token.specs.declared.token.Token.TheVariants.{Uuid, Unsupported, Bad}
 use Rattle.edn_token.specs.declared.token.What.{What}
-use Rattle.edn_token.specs.declared.token.What.TheVariants.{Char, Float, BigInt, Wide, NamespacedMap, Tag}
+use Rattle.edn_token.specs.declared.token.What.TheVariants.{Char, Float, BigInt, Wide}
+use Rattle.edn_token.specs.declared.token.What.TheVariants.{NamespacedMap, Tag}
 use Rattle.edn_token.specs.Names.{IsSymbolOrWord}
 
 -- what is unsupported, in the definitions' words
@@ -46,20 +48,20 @@ pub record BeginsWord (token : List ℕ) : Type 0 where
   pub no_tag : (more : List ℕ) → token ≢ hash ∷ more
   pub no_char : (more : List ℕ) → token ≢ backslash ∷ more
 
--- such a text that is no symbol and no word
+-- such a text that is neither a symbol nor a word
 pub record NoWord (token : List ℕ) : Type 0 where
   pub begins : BeginsWord token
   pub no_word : ¬ IsReserved token
   pub no_symbol : ¬ IsSymbolOrWord token
 
--- the text behind a sign, where there is one
+-- the text after a sign, where there is one
 pub data Unsigned (token : List ℕ) : List ℕ → Type 0 where
   behind_plus : {body : List ℕ} → token ≡ plus ∷ body → Unsigned token body
   behind_minus : {body : List ℕ} → token ≡ minus ∷ body → Unsigned token body
   without_sign : ((more : List ℕ) → token ≢ plus ∷ more) → ((more : List ℕ) → token ≢ minus ∷ more)
       → Unsigned token token
 
--- the one byte, itself no digit, behind an optional sign and digits
+-- the one byte, itself no digit, after an optional sign and digits
 abbrev pub MarkIs : List ℕ → Option ℕ → Type 0
 MarkIs token (Some mark) =
     DigitsBefore mark token

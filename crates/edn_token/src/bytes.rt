@@ -1,4 +1,4 @@
-//! Kinds of bytes, and the runs of one kind that stand in front of others.
+//! Kinds of bytes, and the runs of one kind in front of others.
 ghost use Rattle.std.specs.Prelude.{◌≡◌, ◌||◌, IsTrue};
 ghost use Rattle.std.specs.List.{prefix_len};
 ghost use Rattle.edn_model.specs.Bytes as text;
@@ -63,7 +63,7 @@ fn is_letter_or_digit(b: u8) -> bool
     }
 }
 
-/// Whether the byte stands in a name; each byte of a character past ASCII does.
+/// Whether the byte may be in a name; each byte of a character past ASCII may.
 pub fn is_name_byte(b: u8) -> bool
     ensures { result ≡ text.is_name_byte b }
 {
@@ -113,7 +113,7 @@ fn may_begin_token(b: u8) -> bool
     is_name_byte(b) || matches!(b, b'/' | b'\\')
 }
 
-/// The bytes in front that stand in a string for themselves, and what follows.
+/// The bytes in front that are themselves in a string, and what follows.
 pub fn split_plain(bytes: &[u8]) -> (&[u8], &[u8])
     ensures { IsRun text.is_plain bytes.now result.0.now result.1.now }
 {
@@ -152,7 +152,7 @@ fn digits_len(bytes: &[u8]) -> usize
     bytes.iter().take_while(|b| b.is_ascii_digit()).count()
 }
 
-/// The bytes in front that stand in a name, and what follows.
+/// The bytes in front that may be in a name, and what follows.
 pub fn split_name(bytes: &[u8]) -> (&[u8], &[u8])
     ensures { IsRun text.is_name_byte bytes.now result.0.now result.1.now }
 {

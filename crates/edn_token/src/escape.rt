@@ -1,4 +1,4 @@
-//! The letters behind a backslash.
+//! The letters after a backslash.
 ghost use Rattle.std.specs.Prelude.{◌≡◌, ◌<◌, ◌≤◌, ◌∷◌, Some, None, if◌then◌else◌, length, MatchOption};
 ghost use Rattle.std.specs.Str.{byte};
 ghost use Rattle.edn_model.specs.Bytes.{backslash, Each};
@@ -11,7 +11,7 @@ const BACKSPACE: u8 = 0x08;
 
 const FORM_FEED: u8 = 0x0c;
 
-/// The escape whose backslash stands before these bytes.
+/// The escape whose backslash is before these bytes.
 pub(crate) fn read_escape(behind: &[u8]) -> Piece<'_>
     ensures { PieceIs (backslash ∷ behind.now) result }
 {
@@ -30,7 +30,7 @@ pub(crate) fn read_escape(behind: &[u8]) -> Piece<'_>
     }
 }
 
-/// The character that a backslash and this letter stand for, but for the `u` of a code.
+/// The character that a backslash and this letter spell, but for the `u` of a code.
 pub fn escape_of(letter: u8) -> Option<u8>
     ensures { result ≡ text.escape_of letter }
 {
@@ -46,7 +46,7 @@ pub fn escape_of(letter: u8) -> Option<u8>
     }
 }
 
-/// The escape whose backslash and `u` stand before these bytes.
+/// The escape whose backslash and `u` are before these bytes.
 fn read_code(digits: &[u8]) -> Piece<'_>
     ensures { PieceIs (backslash ∷ byte "u" ∷ digits.now) result }
 {
@@ -63,7 +63,7 @@ fn read_code(digits: &[u8]) -> Piece<'_>
     }
 }
 
-/// The same, where the input ends before a fourth digit.
+/// A code where the input ends before a fourth digit.
 fn read_short_code(digits: &[u8]) -> Piece<'_>
     requires { length digits.now < 4 }
     ensures { PieceIs (backslash ∷ byte "u" ∷ digits.now) result }

@@ -33,7 +33,7 @@ fn behind_semicolon(bytes: &[u8]) -> Option<&[u8]>
     if *first == b';' { Some(line) } else { None }
 }
 
-/// How long the rest of a comment is behind its semicolon, with the line feed that ends it.
+/// How long the rest of a comment is after its semicolon, with the line feed that ends it.
 fn line_end(line: &[u8]) -> Result<usize, usize>
     ensures { LineIs line.now result }
 {

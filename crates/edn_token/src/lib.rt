@@ -1,4 +1,4 @@
-//! The tokens and strings of EDN, and what may stand between forms without being one. Each call reads the front of some
+//! The tokens and strings of EDN, and what may be between forms without being one. Each call reads the front of some
 //! bytes and counts from there.
 #![tactic(auto)]
 

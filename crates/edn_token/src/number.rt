@@ -43,10 +43,10 @@ pub enum Number {
     Wide,
 }
 
-/// The first number past those of 64 bits with a sign; behind a minus it is still one.
+/// The first number past those of 64 bits with a sign; after a minus it is still one.
 const WIDE: u64 = 1 << 63;
 
-/// The number of digits without a sign, or behind a plus.
+/// The number of digits without a sign, or after a plus.
 pub fn positive(digits: &[u8]) -> Option<Number>
     ensures { DigitsAre pos digits.now result }
 {
@@ -59,7 +59,7 @@ pub fn positive(digits: &[u8]) -> Option<Number>
     }
 }
 
-/// The number of digits behind a minus.
+/// The number of digits after a minus.
 pub fn negative(digits: &[u8]) -> Option<Number>
     ensures { DigitsAre (λ n. neg_ℤ (pos n)) digits.now result }
 {

@@ -7,10 +7,10 @@ use crate::bytes::split_plain;
 use crate::characters::characters;
 use crate::escape::read_escape;
 
-/// What stands next in a string.
+/// What comes next in a string.
 #[derive(Clone, Copy, Drop)]
 pub(crate) enum Piece<'a> {
-    /// Characters that stand for themselves, up to the next that does not.
+    /// Characters that spell themselves, up to the next that does not.
     Plain(&'a str),
     /// An escape, and how long it is.
     Char { c: char, len: usize },

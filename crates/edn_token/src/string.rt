@@ -9,7 +9,7 @@ use std::alloc::{AllocError, Global};
 /// Why no string was read.
 #[derive(Clone, Copy, Debug, PartialEq, Eq)]
 pub enum StringStop {
-    /// An escape that is none, or a byte with which no character begins: its place behind the string's first quote.
+    /// An escape that is none, or a byte with which no character begins: its place after the string's first quote.
     Bad { at: usize },
     /// The input ends within the string.
     Cut,
@@ -38,7 +38,7 @@ impl From<AllocError> for StringStop {
     }
 }
 
-/// The string whose first quote stands before these bytes, and the place behind its second.
+/// The string whose first quote is before these bytes, and the place after its second.
 pub fn read_string(alloc: Global, inside: &[u8]) -> Result<(Text, usize), StringStop>
     ensures { StringIs inside.now result }
 {

@@ -15,7 +15,7 @@ pub enum Token {
     Int(i64),
     /// The token is its text.
     Symbol,
-    /// The token is its text behind the colon.
+    /// The token is its text after the colon.
     Keyword,
     /// The tag of an instant.
     Inst,
@@ -144,7 +144,7 @@ fn judge_mark(token: &[u8]) -> Token
     }
 }
 
-/// The byte behind an optional sign and digits.
+/// The byte after an optional sign and digits.
 fn mark_of(token: &[u8]) -> Option<u8>
     ensures { MarkIs token.now result }
 {
@@ -155,7 +155,7 @@ fn mark_of(token: &[u8]) -> Option<u8>
     rest.first().copied()
 }
 
-/// What stands behind a sign, where there is one.
+/// What follows a sign, where there is one.
 fn unsigned(token: &[u8]) -> &[u8]
     ensures { Unsigned token.now result.now }
 {

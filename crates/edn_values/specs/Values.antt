@@ -1,11 +1,15 @@
--- Values and forms: the value that a form is under a type, and the form in which a value is printed.
--- Datomic, Schema (:db/valueType). That an entity may be given and is printed by its number is Transaction Data, Entity Identifiers.
-use Rattle.std.specs.Prelude.{ℕ, ℤ, pos, negsuc, Bool, true, ◌==◌, nat_le, if◌then◌else◌, Option, Some, None}
+-- Values and forms: the value that a form is under a type,
+-- and the form in which a value is printed.
+-- Datomic, Schema (:db/valueType).
+-- That an entity may be given and is printed by its number is Transaction Data, Entity Identifiers.
+use Rattle.std.specs.Prelude.{ℕ, ℤ, pos, negsuc, Bool, true, ◌==◌, nat_le, if◌then◌else◌, Option}
+use Rattle.std.specs.Prelude.{Some, None}
 use Rattle.std.specs.Int.{int_min}
 use Rattle.edn_model.specs.Form as edn
 use Rattle.edn_model.specs.Form.{Form}
 use Rattle.fb_values.specs.declared.facts.Value.{Value}
-use Rattle.fb_values.specs.declared.facts.Value.TheVariants.{Keyword, Str, Bool as Boolean, Long, Ref, Instant, Uuid, Symbol, Uri}
+use Rattle.fb_values.specs.declared.facts.Value.TheVariants.{Keyword, Str, Bool as Boolean, Long}
+use Rattle.fb_values.specs.declared.facts.Value.TheVariants.{Ref, Instant, Uuid, Symbol, Uri}
 use Rattle.fb_numbers.specs.Numbers.{type_ref}
 use Rattle.tx_model.specs.Values.{value_in}
 
@@ -18,8 +22,8 @@ abbrev pub entity_of : ℤ → Option Value
 entity_of (pos n) = Some (Ref n)
 entity_of (negsuc n) = None
 
--- the value that the form is under the type: an integer may be an entity, and under every other type a form is the plain
--- value that it is in a transaction
+-- the value that the form is under the type: an integer may be an entity,
+-- and under every other type a form is the plain value that it is in a transaction
 abbrev pub value_of_form : ℕ → Form → Option Value
 value_of_form kind (edn.integer z) =
     if kind == type_ref then entity_of z else value_in kind (edn.integer z)
@@ -41,7 +45,7 @@ form_of_value (Uuid n) = edn.uuid n
 form_of_value (Symbol text) = edn.symbol text
 form_of_value (Uri text) = edn.string text
 
--- the value's form tells it whole: its entity is one that an integer can number
+-- the value's form says all of it: its entity is one that an integer can number
 abbrev pub is_printed_whole : Value → Bool
 is_printed_whole (Ref e) = nat_le e greatest_long
 is_printed_whole v = true

@@ -28,7 +28,7 @@ pub fn type_of(v: &Value) -> u64
     }
 }
 
-/// Whether the value may stand under an attribute of the type: it is of the type, and not too long.
+/// Whether an attribute of the type may have the value: it is of the type, and not too long.
 pub fn is_of_type(kind: u64, v: &Value) -> bool
     ensures { result ≡ model_is_of_type kind v.now }
 {

@@ -40,7 +40,7 @@ fn entity_of(n: i64) -> Option<Value>
     }
 }
 
-/// The value that the form stands for, whatever its length. Only a string can be one of two types.
+/// The value that the form is, whatever its length. Only a string can be one of two types.
 fn read_as(kind: u64, form: &Edn) -> Result<Option<Value>, Memory>
     ensures { IfOk result (λ v. v ≡ model_read_as kind (form_of form.now)) }
 {
@@ -73,7 +73,7 @@ pub fn as_edn(v: &Value) -> Result<Edn, Memory>
     })
 }
 
-/// The greatest integer stands for every number past it, which no entity has.
+/// Every number past the greatest integer is printed as that integer; no entity has it.
 fn number_of_entity(entity: u64) -> i64
     ensures { result ≡ model_number_of_entity entity }
 {

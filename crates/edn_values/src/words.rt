@@ -55,14 +55,14 @@ pub fn begins_with_one_of(bytes: &[u8], text: &[u8]) -> bool
     }
 }
 
-/// A name that may stand behind the colon of a keyword, or behind its slash.
+/// A name that may follow the colon of a keyword, or its slash.
 fn is_keyword_name(text: &str) -> bool
     ensures { result ≡ words.is_keyword_name text.now }
 {
     is_name(text.as_bytes()) && !begins_with_one_of(b":#", text.as_bytes())
 }
 
-/// The parts before and behind the first slash, where there is one.
+/// The parts before and after the first slash, where there is one.
 pub fn split(text: &str) -> Option<(&str, &str)>
     ensures { option_map {U = List ℕ × List ℕ} (λ parts. (parts.0.now, parts.1.now)) result
         ≡ cut_at_slash text.now }
@@ -80,7 +80,7 @@ fn namespace(text: &str) -> &str
     }
 }
 
-/// The part behind the slash, or the whole text.
+/// The part after the slash, or the whole text.
 pub fn local_name(text: &str) -> &str
     ensures { result.now ≡ words.local_name text.now }
 {

@@ -1,5 +1,6 @@
 -- Each event leaves a sound world sound.
-use Rattle.std.proofs.Common.{◌≡◌, ◌⊎◌, ℕ, ◌+◌, ◌<◌, ◌≤◌, ℤ, List, [], ◌∷◌, ◌++◌, Option, Some, None, refl, sym, ◌∙◌, ap, subst, inl, inr, arith}
+use Rattle.std.proofs.Common.{◌≡◌, ◌⊎◌, ℕ, ◌+◌, ◌<◌, ◌≤◌, ℤ, List, [], ◌∷◌, ◌++◌, Option, Some, None, refl, sym, ◌∙◌, ap, subst, inl, inr}
+use Rattle.std.proofs.Common.{arith}
 use Rattle.std.specs.Prelude.{All, Contains}
 use Rattle.std.proofs.lemmas.List.Elements.{All-push, All-weaker, All-contains}
 use Rattle.edn_model.specs.Form.{Form}
@@ -13,10 +14,13 @@ use Rattle.tx_model.specs.Step.{Guard, step, accepted}
 use Rattle.tx_model.proofs.Steps.{accepted_at}
 use Rattle.tx_model.proofs.StepLaws.{step-lawful}
 use Rattle.event_model.specs.World.{Session, Stop, World, opened, IsBeginning, changed, with_session}
-use Rattle.event_model.specs.Event.{Event, accept, refuse, fail, stopped, mail, glance, held, sync, begin, keep, adopt, abandon, crash, with_snap, with_mail, with_commit, at_its_mail, synced, committed, stopped_at, IsLogOf, IsFoundIn, Crashes, Happens}
+use Rattle.event_model.specs.Event.{Event, accept, refuse, fail, stopped, mail, glance, held, sync, begin, keep, adopt, abandon, crash}
+use Rattle.event_model.specs.Event.{with_snap, with_mail, with_commit, at_its_mail, synced, committed, stopped_at, IsLogOf, IsFoundIn}
+use Rattle.event_model.specs.Event.{Crashes, Happens}
 use Rattle.event_model.specs.Runs.{Runs, IsReached}
 use Rattle.event_model.specs.Sound.{IsSoundSession, HasOneAuthor, IsSoundStop, IsSound}
-use Rattle.event_model.proofs.Sessions.{changed_by, opened_session, session_with_snap, session_with_mail, session_at_its_mail, session_with_more, session_with_commit, same_author, author_before, author_of_new}
+use Rattle.event_model.proofs.Sessions.{changed_by, opened_session, session_with_snap, session_with_mail, session_at_its_mail}
+use Rattle.event_model.proofs.Sessions.{session_with_more, session_with_commit, same_author, author_before, author_of_new}
 
 pub none_not_some : {A : Type 0} (x : A) (P : Type 0) → None ≡ Some x → P
 none_not_some {A} x P is = absurd (subst IsNothing is tt)
@@ -38,7 +42,8 @@ stop_in other (Some stop) = stop
 
 -- ---- worlds that have just been opened
 
-pub opened-IsSound : (h : List Entry) (adopted : ℕ) (kept : List ℕ) → IsLawful h → adopted ≤ basis h → All (λ c. c ≤ basis h) kept → IsSound (opened h adopted kept)
+pub opened-IsSound : (h : List Entry) (adopted : ℕ) (kept : List ℕ) → IsLawful h → adopted ≤ basis h → All (λ c. c ≤ basis h) kept
+    → IsSound (opened h adopted kept)
 opened-IsSound h adopted kept lawful adopted_low kept_low =
     record {
       lawful = lawful;
@@ -62,8 +67,10 @@ beginning-IsSound world begins =
 -- ---- events of sessions
 
 -- a session changes, and its commits stay
-module _ (change : World → Session → Session) (same : (world : World) (session : Session) → (change world session).commits ≡ session.commits)
-    (keeps : (world : World) (session : Session) → IsSoundSession world.opening (basis world.history) session → IsSoundSession world.opening (basis world.history) (change world session)) where
+module _ (change : World → Session → Session)
+    (same : (world : World) (session : Session) → (change world session).commits ≡ session.commits)
+    (keeps : (world : World) (session : Session) → IsSoundSession world.opening (basis world.history) session
+    → IsSoundSession world.opening (basis world.history) (change world session)) where
   changed-IsSound : (s : ℕ) (world : World) → IsSound world → IsSound (with_session s (change world) world)
   changed-IsSound s world sound =
       record {
@@ -100,12 +107,14 @@ glanced-IsSound =
 
 -- ---- transactions
 
-pub accepted-IsLawfulAfter : (h : List Entry) (asked : Form) (guard : Guard) (reading : ℤ) (entry : Entry) (tempids : List (List ℕ × ℕ)) → IsLawful h → step h asked reading guard ≡ accepted entry tempids → IsLawfulAfter h entry
+pub accepted-IsLawfulAfter : (h : List Entry) (asked : Form) (guard : Guard) (reading : ℤ) (entry : Entry) (tempids : List (List ℕ × ℕ))
+    → IsLawful h → step h asked reading guard ≡ accepted entry tempids → IsLawfulAfter h entry
 accepted-IsLawfulAfter h asked guard reading entry tempids lawful is =
     let at = accepted_at h asked guard reading entry tempids is in
     subst (IsLawfulAfter h) (sym at.entry_is) (step-lawful h at.forms reading lawful at.is_not_refused)
 
-pub committed-IsSound : (s : ℕ) (entry : Entry) (world : World) → world.stop ≡ None → IsLawfulAfter world.history entry → IsSound world → IsSound (committed s entry world)
+pub committed-IsSound : (s : ℕ) (entry : Entry) (world : World) → world.stop ≡ None → IsLawfulAfter world.history entry → IsSound world
+    → IsSound (committed s entry world)
 committed-IsSound s entry world none next sound =
     let h = world.history in
     let after = h ++ entry ∷ [] in
@@ -121,7 +130,8 @@ committed-IsSound s entry world none next sound =
       sessions =
           subst (λ b. (n : ℕ) → IsSoundSession world.opening b (changed s (with_commit entry.t) world.sessions n)) (sym last)
           (changed_by (λ _ session. IsSoundSession world.opening entry.t session) s (with_commit entry.t) world.sessions
-          (session_with_commit world.opening (basis h) entry.t (world.sessions s) sound.opening (omega (arith, one_more)) (sound.sessions s))
+          (session_with_commit world.opening (basis h) entry.t (world.sessions s) sound.opening (omega (arith, one_more))
+          (sound.sessions s))
           (λ n. session_with_more world.opening (basis h) entry.t (world.sessions n) (omega (arith, one_more)) (sound.sessions n)));
       authors = λ t above below. author t above (t_cases t (basis h) entry.t one_more (omega (arith, last, below)));
     }
@@ -129,7 +139,8 @@ committed-IsSound s entry world none next sound =
     t_cases : (t b new : ℕ) → new ≡ b + 1 → t ≤ new → (t ≤ b) ⊎ (new ≡ t)
     t_cases t b new is low = grind arith
 
-    author : (t : ℕ) → world.opening < t → (t ≤ basis world.history) ⊎ (entry.t ≡ t) → HasOneAuthor (changed s (with_commit entry.t) world.sessions) t
+    author : (t : ℕ) → world.opening < t → (t ≤ basis world.history) ⊎ (entry.t ≡ t)
+        → HasOneAuthor (changed s (with_commit entry.t) world.sessions) t
     author t above (inl below) =
         let one_more : entry.t ≡ basis world.history + 1 = next_t world.history entry next in
         author_before s entry.t t world.sessions (omega (arith, one_more, below)) (sound.authors t above below)
@@ -138,7 +149,8 @@ committed-IsSound s entry world none next sound =
         (author_of_new s entry.t world.sessions (λ other.
         let one = sound.sessions other in
         All-weaker (λ u. u ≤ (world.sessions other).snap) (λ u. u < entry.t)
-        (λ u low. let one_more : entry.t ≡ basis world.history + 1 = next_t world.history entry next in omega (arith, low, one.snap, one_more))
+        (λ u low. let one_more : entry.t ≡ basis world.history + 1 = next_t world.history entry next in
+        omega (arith, low, one.snap, one_more))
         (world.sessions other).commits one.seen))
 
 pub stopped-IsSound : (entry : Entry) (world : World) → IsLawfulAfter world.history entry → IsSound world → IsSound (stopped_at entry world)
@@ -171,7 +183,8 @@ begun-IsSound world sound =
       authors = sound.authors;
     }
 
-pub kept-IsSound : (c : ℕ) (world : World) → c ≤ basis world.history → IsSound world → IsSound (record world { kept = world.kept ++ c ∷ [] })
+pub kept-IsSound : (c : ℕ) (world : World) → c ≤ basis world.history → IsSound world
+    → IsSound (record world { kept = world.kept ++ c ∷ [] })
 kept-IsSound c world low sound =
     record {
       lawful = sound.lawful;
@@ -184,7 +197,8 @@ kept-IsSound c world low sound =
       authors = sound.authors;
     }
 
-pub adopted-IsSound : (c : ℕ) (world : World) → c ≤ basis world.history → IsSound world → IsSound (record world { adopted = c; merging = None })
+pub adopted-IsSound : (c : ℕ) (world : World) → c ≤ basis world.history → IsSound world
+    → IsSound (record world { adopted = c; merging = None })
 adopted-IsSound c world low sound =
     record {
       lawful = sound.lawful;
@@ -224,19 +238,24 @@ crashed-IsBeginning before after sound crashes =
       adopted = subst (λ b. after.adopted ≤ b) (sym opening) (found_low after.kept after.history after.adopted crashes.adopted);
       kept =
           All-weaker (Contains before.kept) (λ c. c ≤ after.opening)
-          (λ c was_kept. let low : c ≤ basis before.history = All-contains (λ c. c ≤ basis before.history) before.kept c sound.kept was_kept in omega (arith, low, log.1, opening))
+          (λ c was_kept. let low : c ≤ basis before.history =
+          All-contains (λ c. c ≤ basis before.history) before.kept c sound.kept was_kept in omega (arith, low, log.1, opening))
           after.kept crashes.kept;
     }
 
 -- ---- all events
 
-pub happens-IsSound : (guard : Guard) (before : World) (event : Event) (after : World) → IsSound before → Happens guard before event after → IsSound after
+pub happens-IsSound : (guard : Guard) (before : World) (event : Event) (after : World) → IsSound before → Happens guard before event after
+    → IsSound after
 happens-IsSound guard before (accept s asked reading) after sound (entry, tempids, none, is, same) =
-    subst IsSound (sym same) (committed-IsSound s entry before none (accepted-IsLawfulAfter before.history asked guard reading entry tempids sound.lawful is) sound)
-happens-IsSound guard before (refuse s asked) after sound (reading, refusal, none, is, same) = subst IsSound (sym same) (synced-IsSound s before sound)
+    subst IsSound (sym same)
+    (committed-IsSound s entry before none (accepted-IsLawfulAfter before.history asked guard reading entry tempids sound.lawful is) sound)
+happens-IsSound guard before (refuse s asked) after sound (reading, refusal, none, is, same) =
+    subst IsSound (sym same) (synced-IsSound s before sound)
 happens-IsSound guard before (fail s asked reading) after sound (entry, tempids, none, is, same) =
     subst IsSound (sym same)
-    (stopped-IsSound entry (synced s before) (accepted-IsLawfulAfter before.history asked guard reading entry tempids sound.lawful is) (synced-IsSound s before sound))
+    (stopped-IsSound entry (synced s before) (accepted-IsLawfulAfter before.history asked guard reading entry tempids sound.lawful is)
+    (synced-IsSound s before sound))
 happens-IsSound guard before (stopped s) after sound (stop, is, same) = subst IsSound (sym same) (synced-IsSound s before sound)
 happens-IsSound guard before (mail s) after sound same = subst IsSound (sym same) (mailed-IsSound s before sound)
 happens-IsSound guard before (glance s) after sound same = subst IsSound (sym same) (glanced-IsSound s before sound)
@@ -244,17 +263,20 @@ happens-IsSound guard before (held s) after sound same = subst IsSound (sym same
 happens-IsSound guard before (sync s) after sound same = subst IsSound (sym same) (synced-IsSound s before sound)
 happens-IsSound guard before begin after sound (none, same) = subst IsSound (sym same) (begun-IsSound before sound)
 happens-IsSound guard before keep after sound (c, is, same) = subst IsSound (sym same) (kept-IsSound c before (sound.merging c is) sound)
-happens-IsSound guard before adopt after sound (c, is, was_kept, same) = subst IsSound (sym same) (adopted-IsSound c before (sound.merging c is) sound)
+happens-IsSound guard before adopt after sound (c, is, was_kept, same) =
+    subst IsSound (sym same) (adopted-IsSound c before (sound.merging c is) sound)
 happens-IsSound guard before abandon after sound (c, is, same) = subst IsSound (sym same) (abandoned-IsSound before sound)
 happens-IsSound guard before crash after sound crashes = beginning-IsSound after (crashed-IsBeginning before after sound crashes)
 
-pub runs-IsSound : (guard : Guard) (before : World) (events : List Event) (after : World) → IsSound before → Runs guard before events after → IsSound after
+pub runs-IsSound : (guard : Guard) (before : World) (events : List Event) (after : World) → IsSound before → Runs guard before events after
+    → IsSound after
 runs-IsSound guard before [] after sound same = subst IsSound (sym same) sound
 runs-IsSound guard before (event ∷ events) after sound (between, happens, runs) =
     runs-IsSound guard between events after (happens-IsSound guard before event between sound happens) runs
 
 pub reached-IsSound : (guard : Guard) (world : World) → IsReached guard world → IsSound world
-reached-IsSound guard world reached = runs-IsSound guard reached.start reached.events world (beginning-IsSound reached.start reached.begins) reached.runs
+reached-IsSound guard world reached =
+    runs-IsSound guard reached.start reached.events world (beginning-IsSound reached.start reached.begins) reached.runs
 
 -- a session's commit is no later than the last transaction
 pub commit-low : (world : World) (s t : ℕ) → IsSound world → Contains (world.sessions s).commits t → t ≤ basis world.history

@@ -65,13 +65,15 @@ adopted c world = record world { adopted = c; merging = None }
 abbrev pub abandoned : World → World
 abandoned world = record world { merging = None }
 
-pub records : (s : ℕ) (bytes : List ℕ) (world : World) → world.stop ≡ None → is_accepted (step world.history (text bytes) clock no_guard) ≡ true
+pub records : (s : ℕ) (bytes : List ℕ) (world : World) → world.stop ≡ None
+    → is_accepted (step world.history (text bytes) clock no_guard) ≡ true
     → Happens no_guard world (accept s (text bytes) clock) (recorded s bytes world)
 records s bytes world none is =
     let outcome = step world.history (text bytes) clock no_guard in
     (entry_in outcome, tempids_in outcome, none, accepted_is outcome is, refl)
 
-pub fails : (s : ℕ) (bytes : List ℕ) (world : World) → world.stop ≡ None → is_accepted (step world.history (text bytes) clock no_guard) ≡ true
+pub fails : (s : ℕ) (bytes : List ℕ) (world : World) → world.stop ≡ None
+    → is_accepted (step world.history (text bytes) clock no_guard) ≡ true
     → Happens no_guard world (fail s (text bytes) clock) (failed s bytes world)
 fails s bytes world none is =
     let outcome = step world.history (text bytes) clock no_guard in
@@ -85,7 +87,8 @@ refuses s asked world none is =
 
 -- ---- crashes
 
-pub crashes_to : (before : World) (h : List Entry) (adopted : ℕ) → IsLogOf before h → IsFoundIn before.kept h adopted → Happens no_guard before crash (opened h adopted before.kept)
+pub crashes_to : (before : World) (h : List Entry) (adopted : ℕ) → IsLogOf before h → IsFoundIn before.kept h adopted
+    → Happens no_guard before crash (opened h adopted before.kept)
 crashes_to before h adopted log found = record { log = log; kept = All-contains_itself before.kept; adopted = found; is_opened = refl }
 
 -- ---- the worlds
@@ -99,5 +102,6 @@ a_and_b_by s other = recorded other (codes "b") (a_by s)
 pub a_happens : (s : ℕ) → Happens no_guard start (accept s (text (codes "a")) clock) (a_by s)
 a_happens s = records s (codes "a") start refl refl
 
-pub a_and_b_happen : (s other : ℕ) → Runs no_guard start (accept s (text (codes "a")) clock ∷ accept other (text (codes "b")) clock ∷ []) (a_and_b_by s other)
+pub a_and_b_happen : (s other : ℕ)
+    → Runs no_guard start (accept s (text (codes "a")) clock ∷ accept other (text (codes "b")) clock ∷ []) (a_and_b_by s other)
 a_and_b_happen s other = (a_by s, a_happens s, (a_and_b_by s other, records other (codes "b") (a_by s) refl refl, refl))

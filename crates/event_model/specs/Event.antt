@@ -1,6 +1,7 @@
 -- What may happen to a database that many sessions share, and what each event makes of a world.
 -- This project's own choice.
-use Rattle.std.specs.Prelude.{◌≡◌, ℕ, ◌+◌, ◌≤◌, ◌⊎◌, ℤ, Bool, true, false, max, List, [], ◌∷◌, ◌++◌, Some, None, All, Contains}
+use Rattle.std.specs.Prelude.{◌≡◌, ℕ, ◌+◌, ◌≤◌, ◌⊎◌, ℤ, Bool, true, false, max, List, [], ◌∷◌, ◌++◌}
+use Rattle.std.specs.Prelude.{Some, None, All, Contains}
 use Rattle.edn_model.specs.Form.{Form}
 use Rattle.fb_values.specs.declared.facts.Entry.{Entry}
 use Rattle.fb_model.specs.History.{basis}
@@ -9,15 +10,15 @@ use Rattle.tx_model.specs.Step.{Guard, refused, accepted, step}
 use Rattle.event_model.specs.World.{Session, Stop, World, opened, with_session}
 
 -- sessions are numbered, and a form is the data of a transaction, with the reading of the clock
--- behind it
+-- after it
 pub data Event : Type 0 where
   -- a transaction is recorded, is refused, or its append to the log fails
   accept : ℕ → Form → ℤ → Event
   refuse : ℕ → Form → Event
   fail : ℕ → Form → ℤ → Event
-  -- a transaction is turned away behind a failed append
+  -- a transaction is turned away after a failed append
   stopped : ℕ → Event
-  -- a snapshot is mailed to a session; it looks at its mail, or not; it asks for what stands
+  -- a snapshot is mailed to a session; it looks at its mail, or not; it asks for the latest value
   mail : ℕ → Event
   glance : ℕ → Event
   held : ℕ → Event
@@ -38,7 +39,7 @@ with_snap b session = record session { snap = b }
 abbrev pub with_mail : ℕ → Session → Session
 with_mail b session = record session { mailed = b }
 
--- it made a transaction, and has the snapshot behind it
+-- the session made a transaction, and has the snapshot after it
 abbrev pub with_commit : ℕ → Session → Session
 with_commit t session = record session { snap = t; commits = session.commits ++ t ∷ [] }
 
@@ -48,7 +49,7 @@ at_its_mail session = with_snap (max session.snap session.mailed) session
 
 -- ---- what becomes of a world
 
--- the session has a snapshot of what stands
+-- the session has a snapshot of the latest value
 abbrev pub synced : ℕ → World → World
 synced s world = with_session s (with_snap (basis world.history)) world
 
@@ -83,8 +84,8 @@ pub record Crashes (before after : World) : Type 0 where
 
 -- ---- events
 
--- the event may happen to the one world, and makes the other of it: no clock tells in a refusal, so
--- any reading will do
+-- the event may happen to the one world, and makes the other of it:
+-- no refusal depends on a clock, so any reading will do
 abbrev pub Happens : Guard → World → Event → World → Type 0
 Happens guard before (accept s asked reading) after =
     (entry : Entry) × (tempids : List (List ℕ × ℕ)) × (before.stop ≡ None)

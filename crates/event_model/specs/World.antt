@@ -33,7 +33,7 @@ pub record World : Type 0 where
   pub merging : Option ℕ
   pub sessions : ℕ → Session
 
--- a database that has just been opened: each session has what stands, and nothing is under way
+-- a database that has just been opened: each session has the latest value, and nothing is under way
 abbrev pub opened : List Entry → ℕ → List ℕ → World
 opened h adopted kept =
     record {

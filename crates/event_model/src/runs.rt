@@ -22,7 +22,7 @@ pub fn a_run_goes_on()
         → IsReached guard before → Runs guard before events after → IsReached guard after }
 {}
 
-/// Behind a failed append nothing is recorded until the database is opened again.
+/// After a failed append nothing is recorded until the database is opened again.
 pub fn a_failed_append_ends_the_log()
     ensures stop { (guard : Guard) (before : World) (events : List Event) (after : World)
         (stop : Stop)

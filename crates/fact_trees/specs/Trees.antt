@@ -5,7 +5,8 @@ use Rattle.fb_model.specs.Facts.{standing}
 use Rattle.seg_tree.specs.Nodes.{DirectoryNode, tree_datoms}
 use Rattle.seg_tree.specs.Ids.{node_ids, count_of, AreNumbered}
 
--- the tree has what stands by the older one; its new ids are in a row, and the others are ids of the older one
+-- the tree has what holds by the older one;
+-- its new ids are in a row, and the others are ids of the older one
 pub record IsOfFacts (older : List DirectoryNode) (first : ℕ) (tree : List DirectoryNode) (next : ℕ)
     : Type 0 where
   pub datoms : tree_datoms tree ≡ standing (tree_datoms older)

@@ -1,4 +1,4 @@
-//! What holds of one leaf's datoms. They rise, so a datom and the one behind it tell whether its triple holds.
+//! What holds of one leaf's datoms. They rise, so a datom and the next one show whether its triple holds.
 ghost use Rattle.std.specs.Prelude.{◌≡◌, ◌+◌, ◌<◌, ◌++◌, false, length, drop, slice_index_or, IfOk};
 ghost use Rattle.std.specs.Option.{option_copied, option_map_or};
 ghost use Rattle.fb_model.specs.Facts.{is_of};
@@ -21,7 +21,7 @@ pub fn all_stand(datoms: &[Datom], next: Option<&Datom>) -> bool
     true
 }
 
-/// The list with copies of those that hold behind it.
+/// The list with copies of those that hold after it.
 pub fn with_facts(
     list: Vec<Datom>,
     datoms: &[Datom],
@@ -39,7 +39,7 @@ pub fn with_facts(
     Ok(list)
 }
 
-/// Whether the datom at the place is an addition, and the one behind it is of another triple.
+/// Whether the datom at the place is an addition, and the one after it is of another triple.
 fn stands(datoms: &[Datom], place: usize, next: Option<&Datom>) -> bool
     requires { place < length datoms.now }
     ensures { result ≡ stands_at (slice_index_or datoms.now place nothing)
@@ -59,7 +59,7 @@ fn first_or<'a>(datoms: &'a [Datom], next: Option<&'a Datom>) -> Option<&'a Dato
     }
 }
 
-/// Whether the datom behind it, if there is one, is of its triple.
+/// Whether the datom after it, if there is one, is of its triple.
 fn is_followed(datom: &Datom, next: Option<&Datom>) -> bool
     ensures { result ≡ option_map_or (is_of datom.now.e datom.now.a datom.now.v)
         (option_copied next.entry) false }

@@ -1,4 +1,4 @@
-//! The trees of what holds, made of trees of all that was said.
+//! The trees of what holds, made of the trees of all datoms.
 #![tactic(auto)]
 
 mod builder;

@@ -37,7 +37,7 @@ fn main(rt: HostRuntime) -> ExitCode {
     ExitCode::from(outcome.status)
 }
 
-/// The words behind the program's name. Words that are no text are no command, so they count as none at all.
+/// The words after the program's name. Arguments that are not UTF-8 count as an empty command line.
 fn words_of(rt: &HostRuntime) -> Result<Vec<String>, Memory> {
     match env::args(rt) {
         Ok(args) => Ok(args.skip(1).collect(rt.alloc())?),

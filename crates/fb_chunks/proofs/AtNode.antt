@@ -18,13 +18,16 @@ pub record AtFork {X : Type 0} (whole : List X) (each len : ℕ) (sides : List (
   pub list : Layered whole each sides last len
   pub fork : IsFork each len sides last
 
-pub at_fork : {X : Type 0} {n : Node X} {whole : List X} {each len : ℕ} {full : Vec (Arc (Tree X) Global) Global} {last : Arc (Tree X) Global} → items_of n ≡ whole → IsTree n → n ≡ Fork each len full last → AtFork whole each len (map arc_value full.items) (arc_value last)
+pub at_fork : {X : Type 0} {n : Node X} {whole : List X} {each len : ℕ} {full : Vec (Arc (Tree X) Global) Global}
+    {last : Arc (Tree X) Global}
+    → items_of n ≡ whole → IsTree n → n ≡ Fork each len full last → AtFork whole each len (map arc_value full.items) (arc_value last)
 at_fork {each = each} {len = len} {full = full} {last = last} view good is =
     let fork : IsFork each len (map arc_value full.items) (arc_value last) = subst IsTree is good in
     record { list = layered (ap items_of (sym is) ∙ view) fork.layer (omega (arith, fork.last_begun, fork.layer.last_fits)); fork = fork }
 
 -- a side that is read behind its pointer
-pub side_read : {X : Type 0} (full : List (Arc (Tree X) Global)) (k : ℕ) (side : Arc (Tree X) Global) → k < length full → side ≡ get_or full k side → slice_get (map arc_value full) k ≡ Some (arc_value side)
+pub side_read : {X : Type 0} (full : List (Arc (Tree X) Global)) (k : ℕ) (side : Arc (Tree X) Global) → k < length full
+    → side ≡ get_or full k side → slice_get (map arc_value full) k ≡ Some (arc_value side)
 side_read full k side within read =
     slice_get_read (map arc_value full) (length full) k (arc_value side) (sym (length-map full arc_value)) within
     (ap arc_value read ∙ sym (get_or-map arc_value full k side (arc_value side) within))

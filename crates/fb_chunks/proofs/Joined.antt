@@ -1,5 +1,6 @@
 -- Where the items of a list in chunks stand.
-use Rattle.std.proofs.Common.{◌≡◌, ℕ, ◌+◌, ◌-◌, ◌*◌, ◌/◌, ◌%◌, ◌<◌, ◌≤◌, List, [], ◌∷◌, ◌++◌, length, get_or, take, refl, sym, ◌∙◌, ap, arith, length-append, Some}
+use Rattle.std.proofs.Common.{◌≡◌, ℕ, ◌+◌, ◌-◌, ◌*◌, ◌/◌, ◌%◌, ◌<◌, ◌≤◌, List, [], ◌∷◌, ◌++◌, length, get_or, take, refl, sym, ◌∙◌, ap}
+use Rattle.std.proofs.Common.{arith, length-append, Some}
 use Rattle.std.proofs.Math.Nat.{div-add-mod, mod-lt, div-lt_iff_lt-mul, mul-le-mul_left, mul-le-mul_right}
 use Rattle.std.proofs.Math.ListN.{get_or-append}
 use Rattle.std.proofs.lemmas.List.{length-take-le, get_or-append_right}
@@ -26,10 +27,12 @@ pub record Layered {X : Type 0} (whole : List X) (size : ℕ) (chunks : List (Li
   pub some : 0 < size
   pub layer : IsLayer size chunks last len
 
-pub layered : {X : Type 0} {whole : List X} {size : ℕ} {chunks : List (List X)} {last : List X} {len : ℕ} → joined chunks ++ last ≡ whole → IsLayer size chunks last len → 0 < size → Layered whole size chunks last len
+pub layered : {X : Type 0} {whole : List X} {size : ℕ} {chunks : List (List X)} {last : List X} {len : ℕ} → joined chunks ++ last ≡ whole
+    → IsLayer size chunks last len → 0 < size → Layered whole size chunks last len
 layered view layer some = record { is = sym view; some = some; layer = layer }
 
-module _ {X : Type 0} {whole : List X} {size : ℕ} {chunks : List (List X)} {last : List X} {len : ℕ} (list : Layered whole size chunks last len) where
+module _ {X : Type 0} {whole : List X} {size : ℕ} {chunks : List (List X)} {last : List X} {len : ℕ}
+    (list : Layered whole size chunks last len) where
   before_last : length (joined chunks) ≡ length chunks * size
   before_last = length-joined size chunks list.layer.full
 
@@ -65,7 +68,12 @@ module _ {X : Type 0} {whole : List X} {size : ℕ} {chunks : List (List X)} {la
       read_in_chunk d =
           let at = place / size in
           let before : length (joined (take at chunks)) + place % size ≡ place =
-          omega (arith, length-joined size (take at chunks) (All-take (IsFull size) at chunks list.layer.full), ap (λ n. n * size) (length-take-le at chunks (omega (arith, within_chunks))), div-add-mod place size) in
+          omega (
+            arith,
+            length-joined size (take at chunks) (All-take (IsFull size) at chunks list.layer.full),
+            ap (λ n. n * size) (length-take-le at chunks (omega (arith, within_chunks))),
+            div-add-mod place size,
+          ) in
           ap (λ n. get_or (joined chunks) n d) (sym before)
           ∙ get_or-flat_map (λ c. c) chunks at (place % size) chunk d within_chunks (rw chunk_is in_chunk)
           ∙ ap (λ c. get_or c (place % size) d) chunk_is
@@ -92,4 +100,5 @@ module _ {X : Type 0} {whole : List X} {size : ℕ} {chunks : List (List X)} {la
       found_in_last x read =
           let k : place % size ≡ place - length chunks * size = omega (arith, last_place) in
           rw list.is (slice_get_read (joined chunks ++ last) (length whole) place x (ap length list.is) within
-          (read ∙ ap (λ n. get_or last n x) k ∙ sym (get_or-append_right (joined chunks) last _ place x before_last (omega (arith, last_place)))))
+          (read ∙ ap (λ n. get_or last n x) k
+          ∙ sym (get_or-append_right (joined chunks) last _ place x before_last (omega (arith, last_place)))))

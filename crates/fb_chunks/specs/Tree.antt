@@ -1,4 +1,4 @@
--- What a node of a tree of items stands for, and what holds of it.
+-- The items that a node of a tree has, and what holds of it.
 -- This project's own choice.
 use Rattle.std.specs.Prelude.{ℕ, ◌<◌, ◌≤◌, List, ◌++◌, length, map}
 use Rattle.std.specs.Arc.{arc_value}

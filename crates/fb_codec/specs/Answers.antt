@@ -3,7 +3,7 @@
 use Rattle.std.specs.Prelude.{◌≡◌, ◌≤◌, ℕ, List, length, drop, Result, Ok, Err, ⊤}
 use Rattle.fb_values.specs.declared.facts.Entry.{Entry}
 use Rattle.log_model.specs.Fields.{Reading, found, misfit}
-use Rattle.log_model.specs.Payload.{Says, holds, breaks_at}
+use Rattle.log_model.specs.Payload.{PayloadSays, holds, breaks_at}
 use Rattle.fb_codec.specs.declared.faults.BytesFault.{BytesFault}
 use Rattle.fb_codec.specs.declared.faults.BytesFault.TheVariants.{At, Memory}
 
@@ -26,11 +26,11 @@ abbrev pub Gives : {A : Type 0} → List ℕ → Result (A × ℕ) BytesFault �
 Gives bytes result reading = GivesBy (λ a. a) bytes result reading
 
 -- the fault, where a payload holds no entry
-abbrev pub TellsFault : BytesFault → Says → Type 0
-TellsFault (At byte) says = says ≡ breaks_at byte
-TellsFault Memory says = ⊤
+abbrev pub MatchesFault : BytesFault → PayloadSays → Type 0
+MatchesFault (At byte) says = says ≡ breaks_at byte
+MatchesFault Memory says = ⊤
 
 -- the entry that a payload holds, or where it breaks
-abbrev pub Tells : Result Entry BytesFault → Says → Type 0
-Tells (Ok entry) says = says ≡ holds entry
-Tells (Err fault) says = TellsFault fault says
+abbrev pub Matches : Result Entry BytesFault → PayloadSays → Type 0
+Matches (Ok entry) says = says ≡ holds entry
+Matches (Err fault) says = MatchesFault fault says

@@ -3,7 +3,8 @@
 use Rattle.std.specs.Prelude.{◌≡◌, ℕ, Option, Some, None, IsTrue, IsFalse}
 use Rattle.log_model.specs.Values.{is_tag}
 use Rattle.fb_codec.specs.declared.tags.Tag.{Tag}
-use Rattle.fb_codec.specs.declared.tags.Tag.TheVariants.{Keyword, Str, Bool as Boolean, Long, Ref, Instant, Uuid, Symbol, Uri}
+use Rattle.fb_codec.specs.declared.tags.Tag.TheVariants.{Keyword, Str, Bool as Boolean, Long, Ref}
+use Rattle.fb_codec.specs.declared.tags.Tag.TheVariants.{Instant, Uuid, Symbol, Uri}
 
 abbrev pub byte_of : Tag → ℕ
 byte_of Keyword = 1

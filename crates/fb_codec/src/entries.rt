@@ -1,7 +1,7 @@
 //! Datoms and entries.
 ghost use Rattle.std.specs.Prelude.{◌≡◌, ◌≤◌, ◌++◌, length, drop, flat_map, IsTrue, IfOk, OnOk};
 ghost use Rattle.std.specs.List.{list_all};
-ghost use Rattle.fb_codec.specs.Answers.{Gives, GivesBy, Tells};
+ghost use Rattle.fb_codec.specs.Answers.{Gives, GivesBy, Matches};
 ghost use Rattle.fb_codec.specs.Entries.{reads_entry, has_storable_value};
 ghost use Rattle.log_model.specs.Fields.{several};
 ghost use Rattle.log_model.specs.Values.{is_format};
@@ -59,7 +59,7 @@ pub fn put_datom(datom: &Datom, out: &mut Vec<u8>) -> Result<(), Memory>
 
 /// The entry that a payload holds, or the payload's first field that does not fit.
 pub fn entry_of(alloc: Global, payload: &[u8]) -> Result<Entry, BytesFault>
-    ensures { Tells result (payload_says payload.now) }
+    ensures { Matches result (payload_says payload.now) }
 {
     let (entry, end) = get_entry(alloc, payload)?;
     if end < payload.len() {

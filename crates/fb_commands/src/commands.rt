@@ -3,7 +3,7 @@ use edn_form::Edn;
 use fb_text::Text;
 use fb_values::Order;
 
-/// What is looked at, of what the session has seen, with the forms that stand behind its word.
+/// What is looked at, of what the session has seen, with the forms that follow its word.
 #[derive(Clone, Copy)]
 pub enum Look<'a> {
     /// `[:datoms index c ..]`
@@ -18,7 +18,7 @@ pub enum Look<'a> {
     Pull(&'a Edn, &'a Edn),
 }
 
-/// What changes in the view of the looks behind it.
+/// What changes in the view of later looks.
 #[derive(Clone, Copy)]
 pub enum Turn<'a> {
     /// `[:as-of point]`
@@ -56,16 +56,16 @@ pub enum Command<'a> {
 impl<'a> Command<'a> {
     ghost use Rattle.std.specs.Prelude.{◌≡◌};
     ghost use Rattle.talk_model.specs.Commands as model;
-    ghost use Rattle.fb_commands.specs.Asked.{asked, looked, turned};
+    ghost use Rattle.fb_commands.specs.View.{model_command, model_look, model_turn};
 
     pub(crate) fn look(what: Look<'a>) -> Command<'a>
-        ensures { asked result ≡ model.looks (looked what.entry) }
+        ensures { model_command result ≡ model.looks (model_look what.entry) }
     {
         Command::Read(Read::Look(what))
     }
 
     pub(crate) fn turn(what: Turn<'a>) -> Command<'a>
-        ensures { asked result ≡ model.turns (turned what.entry) }
+        ensures { model_command result ≡ model.turns (model_turn what.entry) }
     {
         Command::Read(Read::Turn(what))
     }

@@ -4,7 +4,7 @@ ghost use Rattle.std.specs.Option.{option_map};
 ghost use Rattle.std.specs.Prelude.{option_and_then};
 ghost use Rattle.edn_form.specs.View.{form_of, forms_of};
 ghost use Rattle.talk_model.specs.Commands as model;
-ghost use Rattle.fb_commands.specs.Asked.{asked};
+ghost use Rattle.fb_commands.specs.View.{model_command};
 
 use crate::commands::{Command, Look, Read, Turn};
 use edn_form::Edn;
@@ -13,7 +13,7 @@ use fb_values::Order;
 
 /// The command that the form is, if it is one.
 pub fn command_in(form: &Edn) -> Option<Command<'_>>
-    ensures { option_map (λ command. asked command) result ≡ model.command_in (form_of form.now) }
+    ensures { option_map (λ command. model_command command) result ≡ model.command_in (form_of form.now) }
 {
     match form {
         Edn::Vector(items) => command_of(items.as_slice()),
@@ -22,7 +22,7 @@ pub fn command_in(form: &Edn) -> Option<Command<'_>>
 }
 
 fn command_of(members: &[Edn]) -> Option<Command<'_>>
-    ensures { option_map (λ command. asked command) result
+    ensures { option_map (λ command. model_command command) result
         ≡ model.command_of (forms_of members.now) }
 {
     match members.split_first()? {
@@ -31,9 +31,9 @@ fn command_of(members: &[Edn]) -> Option<Command<'_>>
     }
 }
 
-/// The command that the word begins, where these forms stand behind it.
+/// The command that the word begins, where these forms follow it.
 fn command_named<'a>(word: &str, behind: &'a [Edn]) -> Option<Command<'a>>
-    ensures { option_map (λ command. asked command) result
+    ensures { option_map (λ command. model_command command) result
         ≡ option_and_then (λ command. command)
         (model.beside word.now (model.before (forms_of behind.now))) }
 {
@@ -47,7 +47,7 @@ fn command_named<'a>(word: &str, behind: &'a [Edn]) -> Option<Command<'a>>
 }
 
 fn alone<'a>(word: &str) -> Option<Command<'a>>
-    ensures { option_map (λ command. asked command) result
+    ensures { option_map (λ command. model_command command) result
         ≡ option_and_then (λ command. command) (model.beside word.now (model.before [])) }
 {
     match word {
@@ -61,7 +61,7 @@ fn alone<'a>(word: &str) -> Option<Command<'a>>
 }
 
 fn before_one<'a>(word: &str, x: &'a Edn) -> Option<Command<'a>>
-    ensures { option_map (λ command. asked command) result
+    ensures { option_map (λ command. model_command command) result
         ≡ option_and_then (λ command. command)
         (model.beside word.now (model.before (form_of x.now ∷ []))) }
 {
@@ -76,7 +76,7 @@ fn before_one<'a>(word: &str, x: &'a Edn) -> Option<Command<'a>>
 
 fn before_two<'a>(word: &str, x: &'a Edn, y: &'a Edn, rest: &'a [Edn]) -> Option<Command<'a>>
     requires { forms_of rest.now ≡ form_of y.now ∷ [] }
-    ensures { option_map (λ command. asked command) result
+    ensures { option_map (λ command. model_command command) result
         ≡ option_and_then (λ command. command)
         (model.beside word.now (model.before (form_of x.now ∷ form_of y.now ∷ []))) }
 {
@@ -95,7 +95,7 @@ fn before_three<'a>(
     rest: &'a [Edn],
 ) -> Option<Command<'a>>
     requires { forms_of rest.now ≡ form_of y.now ∷ form_of z.now ∷ [] }
-    ensures { option_map (λ command. asked command) result
+    ensures { option_map (λ command. model_command command) result
         ≡ option_and_then (λ command. command) (model.beside word.now
         (model.before (form_of x.now ∷ form_of y.now ∷ form_of z.now ∷ []))) }
 {
@@ -107,7 +107,7 @@ fn before_three<'a>(
 
 /// A command that begins with an index.
 fn of_an_index<'a>(word: &str, index: &'a Edn, components: &'a [Edn]) -> Option<Command<'a>>
-    ensures { option_map (λ command. asked command) result
+    ensures { option_map (λ command. model_command command) result
         ≡ option_and_then (λ command. command)
         (model.beside word.now (model.of_an_index (form_of index.now) (forms_of components.now))) }
 {

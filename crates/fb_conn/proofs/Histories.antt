@@ -1,5 +1,6 @@
 -- Lawful histories as the board sees them, and the longer of two.
-use Rattle.std.proofs.Common.{◌≡◌, ◌∙◌, ℕ, zero, suc, ◌<◌, ◌≤◌, Bool, true, false, nat_lt, if◌then◌else◌, List, [], ◌∷◌, ◌++◌, length, take, sym, ap, subst, arith, append_assoc}
+use Rattle.std.proofs.Common.{◌≡◌, ◌∙◌, ℕ, zero, suc, ◌<◌, ◌≤◌, Bool, true, false, nat_lt, if◌then◌else◌, List, [], ◌∷◌, ◌++◌, length, take}
+use Rattle.std.proofs.Common.{sym, ap, subst, arith, append_assoc}
 use Rattle.std.proofs.lemmas.Bool.{lt-ltb, le-ltb}
 use Rattle.std.proofs.lemmas.List.{append-nil}
 use mathlib.Core.Option.{some, some-injective, some-ne-none}
@@ -18,12 +19,15 @@ pub follows_lawful : (h : List Entry) (entry : Entry) → IsLawful (h ++ entry �
 follows_lawful [] entry lawful next = lawful.0
 follows_lawful (first ∷ rest) entry lawful next = next
 
-behind : (h rest : List Entry) (i : ℕ) (entry : Entry) → IsLawfulFrom h rest → get_elem? rest i ≡ some entry → IsLawfulAfter (h ++ take i rest) entry
+behind : (h rest : List Entry) (i : ℕ) (entry : Entry) → IsLawfulFrom h rest → get_elem? rest i ≡ some entry
+    → IsLawfulAfter (h ++ take i rest) entry
 behind h [] i entry lawful at = absurd (some-ne-none entry (sym at))
 behind h (next ∷ rest) zero entry lawful at =
-    subst (λ (e : Entry). IsLawfulAfter (h ++ []) e) (some-injective next entry at) (subst (λ (l : List Entry). IsLawfulAfter l next) (sym (append-nil h)) lawful.0)
+    subst (λ (e : Entry). IsLawfulAfter (h ++ []) e) (some-injective next entry at)
+    (subst (λ (l : List Entry). IsLawfulAfter l next) (sym (append-nil h)) lawful.0)
 behind h (next ∷ rest) (suc i) entry lawful at =
-    subst (λ (l : List Entry). IsLawfulAfter l entry) (append_assoc h (next ∷ []) (take i rest)) (behind (h ++ next ∷ []) rest i entry lawful.1 at)
+    subst (λ (l : List Entry). IsLawfulAfter l entry) (append_assoc h (next ∷ []) (take i rest))
+    (behind (h ++ next ∷ []) rest i entry lawful.1 at)
 
 pub each_follows : (h : List Entry) → IsLawful h → EachFollows follows h
 each_follows [] lawful i entry at = absurd lawful
@@ -40,10 +44,12 @@ module _ (a b : List Entry) (first : IsLawful a) (second : IsLawful b) where
   pub later_is_longer : basis a < basis b → b ≡ longer a b
   later_is_longer less =
       let m = IsLawful-length a first in let n = IsLawful-length b second in
-      let test : nat_lt (length a) (length b) ≡ true = lt-ltb (length a) (length b) (omega (arith, m, n)) in sym (ap (λ (t : Bool). if t then b else a) test)
+      let test : nat_lt (length a) (length b) ≡ true = lt-ltb (length a) (length b) (omega (arith, m, n)) in
+      sym (ap (λ (t : Bool). if t then b else a) test)
 
   pub no_later_is_longer : basis b ≤ basis a → a ≡ longer a b
   no_later_is_longer le =
       let m = IsLawful-length a first in let n = IsLawful-length b second in
       let within : length b ≤ length a = omega (arith, m, n) in
-      let test : nat_lt (length a) (length b) ≡ false = le-ltb (length a) (length b) within in sym (ap (λ (t : Bool). if t then b else a) test)
+      let test : nat_lt (length a) (length b) ≡ false = le-ltb (length a) (length b) within in
+      sym (ap (λ (t : Bool). if t then b else a) test)

@@ -23,7 +23,8 @@ told : (n : ℕ) (old new : Option Stop) → ((p : Stop) → old ≡ Some p → 
 told n None new keeps = inl refl
 told n (Some p) new keeps = let same = keeps p refl in inr (ap (option_map at_of) same, ap (is_own n) same)
 
-pub goes_on : (t u : TableId) (v w : View Code) (last new : List Entry) → u ≡ t → StartsWith new last → (IsLawful last → IsLawful new) → w.start ≡ v.start → w.number ≡ v.number
+pub goes_on : (t u : TableId) (v w : View Code) (last new : List Entry) → u ≡ t → StartsWith new last → (IsLawful last → IsLawful new)
+    → w.start ≡ v.start → w.number ≡ v.number
     → ((p : Stop) → v.stop ≡ Some p → w.stop ≡ Some p) → w.draws ≤ v.draws + 1 → GoesOn (state_by t v last) (state_by u w new)
 goes_on t u v w last new table begins lawful start number stop draws =
     record {
@@ -32,7 +33,9 @@ goes_on t u v w last new table begins lawful start number stop draws =
         entries = begins.1;
         lawful = lawful;
         opening = start;
-        stop = subst (λ (n : ℕ). (option_map at_of v.stop ≡ None) ⊎ ((option_map at_of w.stop ≡ option_map at_of v.stop) × (is_own n w.stop ≡ is_own v.number v.stop)))
+        stop =
+            subst (λ (n : ℕ). (option_map at_of v.stop ≡ None)
+            ⊎ ((option_map at_of w.stop ≡ option_map at_of v.stop) × (is_own n w.stop ≡ is_own v.number v.stop)))
             (sym number) (told v.number v.stop w.stop stop);
         seat = (λ i. number i ∷ numbers_of (table i));
       };
@@ -40,7 +43,8 @@ goes_on t u v w last new table begins lawful start number stop draws =
     }
 
 -- a seat that has just been made
-pub as_new : (t : TableId) (v : View Code) (last h : List Entry) (start k : ℕ) (seen : List Code) → v ≡ record (starting start seen 0) { number = k } → last ≡ h → start ≡ basis h
+pub as_new : (t : TableId) (v : View Code) (last h : List Entry) (start k : ℕ) (seen : List Code)
+    → v ≡ record (starting start seen 0) { number = k } → last ≡ h → start ≡ basis h
     → state_by t v last ≡ record (as_opened h) { seat = v.number ∷ numbers_of t }
 as_new t v last h start k seen view same begins = λ i.
     record {
@@ -60,8 +64,10 @@ untold None now none keeps = refl
 untold (Some p) now none keeps = let told = sym (keeps p refl) ∙ none in absurd (cc told)
 
 -- a seat of a session stays one
-pub stays_seat : {L R : Type 0} (conn : Conn L R) (old new : Seat) → IsSeatOf conn old → board_of new.board ≡ board_of old.board → (view_of new.board).ticket ≡ None → (view_of new.board).turn ≡ None
-    → (view_of new.board).grab ≡ Free → (view_of new.board).seats ≡ (view_of old.board).seats → (view_of new.board).number ≡ (view_of old.board).number
+pub stays_seat : {L R : Type 0} (conn : Conn L R) (old new : Seat) → IsSeatOf conn old → board_of new.board ≡ board_of old.board
+    → (view_of new.board).ticket ≡ None → (view_of new.board).turn ≡ None
+    → (view_of new.board).grab ≡ Free → (view_of new.board).seats ≡ (view_of old.board).seats
+    → (view_of new.board).number ≡ (view_of old.board).number
     → (view_of new.board).seen ≡ codes code_of new.last.entries → IsSeatOf conn new
 stays_seat conn old new was board ticket turn grab seats number seen = (
   record { on = board ∙ was.0.on; idle = (ticket, turn, grab); alone = seats ∙ was.0.alone; seen = seen },
@@ -71,8 +77,22 @@ stays_seat conn old new was board ticket turn grab seats number seen = (
 -- the numbers of a table tell it from others
 pub same_table : (n m : ℕ) (t u : TableId) → (n ∷ numbers_of t) ≡ (m ∷ numbers_of u) → (n ≡ m) × (t ≡ u)
 same_table n m t u e =
-    let words : t.words ≡ u.words = cc e in let slots : t.slots ≡ u.slots = cc e in let views : t.views_name ≡ u.views_name = cc e in let atom : t.atom ≡ u.atom = cc e in
-    let block : t.block ≡ u.block = cc e in let offset : t.offset ≡ u.offset = cc e in let names : t.slot_names ≡ u.slot_names = cc e in let number : n ≡ m = cc e in (
+    let words : t.words ≡ u.words = cc e in
+    let slots : t.slots ≡ u.slots = cc e in
+    let views : t.views_name ≡ u.views_name = cc e in
+    let atom : t.atom ≡ u.atom = cc e in
+    let block : t.block ≡ u.block = cc e in
+    let offset : t.offset ≡ u.offset = cc e in
+    let names : t.slot_names ≡ u.slot_names = cc e in
+    let number : n ≡ m = cc e in (
       number,
-      (λ i. record { words = words i; slots = slots i; views_name = views i; atom = atom i; block = block i; offset = offset i; slot_names = names i }),
+      (λ i. record {
+        words = words i;
+        slots = slots i;
+        views_name = views i;
+        atom = atom i;
+        block = block i;
+        offset = offset i;
+        slot_names = names i;
+      }),
     )

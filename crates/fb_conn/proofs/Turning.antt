@@ -18,11 +18,13 @@ use Rattle.fb_conn.specs.Turns.{HasTurn, committed}
 pub holds : {L R : Type 0} (conn : Conn L R) (seat : Seat) (home : Home L R) → HasTurn conn seat home
     → Holds code_of (view_of seat.board) home.core.snapshot.entries (authors_of (view_of seat.board))
 holds conn seat home has =
-    let y = sym has.turn in (has.turn ∙ (λ i. Some (story (codes code_of home.core.snapshot.entries) (authors_in (y i)) (marks_in (y i)))), has.core, has.grab)
+    let y = sym has.turn in
+    (has.turn ∙ (λ i. Some (story (codes code_of home.core.snapshot.entries) (authors_in (y i)) (marks_in (y i)))), has.core, has.grab)
 
 -- after a commit, in the draft's words
 pub is_committed : (v w x : View Code) (entries grown : List Entry) (authors : List ℕ) (n t u : ℕ) (marks named : Marks) → x ≡ left w named
-    → w ≡ record (gained code_of v u grown authors n) { met = w.met } → grown ≡ entries → named ≡ marks → u ≡ t → x ≡ committed v entries t marks x.met
+    → w ≡ record (gained code_of v u grown authors n) { met = w.met } → grown ≡ entries → named ≡ marks → u ≡ t
+    → x ≡ committed v entries t marks x.met
 is_committed v w x entries grown authors n t u marks named ends adds same_entries same_marks same_t =
     let met : w.met ≡ x.met = sym (ap (λ (z : View Code). z.met) ends) in
     ends ∙ (ap (λ (z : View Code). left z named) adds ∙ (λ i. committed v (same_entries i) (same_t i) (same_marks i) (met i)))

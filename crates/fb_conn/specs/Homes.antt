@@ -1,4 +1,4 @@
--- What the value in slot 0 of the board stands for, and when its log goes with it.
+-- The history that the value in slot 0 of the board represents, and when its log goes with it.
 -- This project's own choice.
 use Rattle.std.specs.Prelude.{◌≡◌, ℕ, List, [], ◌∷◌, ◌++◌, length, Option, Some, None, option_map}
 use base.Stored.{Gv}
@@ -13,7 +13,7 @@ use Rattle.board_rule.specs.declared.view.Marks.{Marks}
 use Rattle.fb_conn.specs.declared.home.Stop.{Stop}
 use Rattle.fb_conn.specs.declared.home.Home.{Home}
 
--- an entry as it stands in views
+-- an entry as views have it
 abbrev pub code_of : Entry → Gv
 code_of = an_entry.the_row.coded.code
 
@@ -30,7 +30,8 @@ marks_by stop covered = record { stop = option_map named_stop stop; covered = co
 
 module _ {L : Type 0} (keeps : L → List Entry → L → Type 0)
     (broke : L → List Entry → Entry → L → Type 0) where
-  -- The log keeps the history; or it failed at the entry that was to come next, that of the torn transaction.
+  -- The log keeps the history;
+  -- or it failed at the entry that was to come next, that of the torn transaction.
   abbrev pub LogStands : L → List Entry → L → Option Stop → Option Draft → Type 0
   LogStands begun entries log None torn = (torn ≡ None) × keeps begun entries log
   LogStands begun entries log (Some stop) torn =

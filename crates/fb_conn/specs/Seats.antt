@@ -1,6 +1,7 @@
 -- When a seat is at rest between two calls, and what a session knows through it.
 -- This project's own choice.
-use Rattle.std.specs.Prelude.{◌≡◌, ℕ, ◌+◌, ◌-◌, ◌<◌, ◌==◌, Bool, false, List, [], ◌∷◌, Option, Some, None, option_map}
+use Rattle.std.specs.Prelude.{◌≡◌, ℕ, ◌+◌, ◌-◌, ◌<◌, ◌==◌, Bool, false, List, [], ◌∷◌, Option, Some}
+use Rattle.std.specs.Prelude.{None, option_map}
 use base.Stored.{Coded-set, Gv-set}
 use Rattle.std.proofs.Props.{props}
 use Rattle.atomic_table.specs.Seated.{TableId, table_id_coded}
@@ -68,7 +69,7 @@ abbrev pub is_own : ℕ → Option Stop → Bool
 is_own number None = false
 is_own number (Some stop) = stop.author == number
 
--- all that tells one table from others
+-- what distinguishes one table from others
 abbrev pub numbers_of : TableId → List ℕ
 numbers_of table =
     table.words
@@ -90,8 +91,8 @@ state_by table v entries = record {
 abbrev pub state_of : Seat → State
 state_of seat = state_by (board_of seat.board) (view_of seat.board) seat.last.entries
 
--- A fresh snapshot has at least what this call's grab found in the mail. The other one is answered where the grab met the
--- holder of the turn, and has what was seen before.
+-- A fresh snapshot has at least what this call's grab found in the mail. The other one is answered
+-- where the grab met the holder of the turn, and has what was seen before.
 abbrev pub Finds : View Code → List Entry → Glance → Type 0
 Finds v last (Fresh snapshot) =
     (v.met ≡ 0)

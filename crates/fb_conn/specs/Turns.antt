@@ -4,7 +4,7 @@ use Rattle.std.specs.Prelude.{◌≡◌, ℕ, List, [], ◌∷◌, ◌++◌, len
 use Rattle.std.specs.List.{All}
 use Rattle.fb_values.specs.declared.facts.Entry.{Entry}
 use Rattle.fb_model.specs.History.{basis}
-use Rattle.fb_view.specs.Kept.{Kept}
+use Rattle.fb_view.specs.SnapshotModel.{SnapshotModel}
 use Rattle.fb_core.specs.declared.accepting.Draft.{Draft}
 use Rattle.fb_core.specs.Cores.{entry_of}
 use Rattle.fb_desk.specs.declared.answers.Receipt.{Receipt}
@@ -26,7 +26,8 @@ use Rattle.fb_conn.specs.declared.recording.Ready.{Ready}
 use Rattle.fb_conn.specs.Homes.{code_of, marks_of}
 use Rattle.fb_conn.specs.Seats.{table_of, begun_of}
 
--- the seat has the turn of the connection's board, with slot 0's value, and has changed nothing that the board knows of
+-- the seat has the turn of the connection's board,
+-- with slot 0's value, and has changed nothing that the board knows of
 pub record HasTurn {L R : Type 0} (conn : Conn L R) (seat : Seat) (home : Home L R) : Type 0 where
   pub on : board_of seat.board ≡ table_of conn
   pub turn : (view_of seat.board).turn
@@ -44,7 +45,8 @@ committed v entries t marks met =
     record (left v marks)
     { grab = Free; seen = codes code_of entries; commits = v.commits ++ t ∷ []; met = met }
 
--- what is named after a turn in which the log failed at the draft's entry, which the seat of this number added
+-- what is named after a turn in which the log failed at the draft's entry,
+-- which the seat of this number added
 abbrev pub stopped_at : ℕ → Draft → Marks
 stopped_at number draft =
     record {
@@ -60,9 +62,9 @@ pub record IsReceiptOf (draft : Draft) (receipt : Receipt) : Type 0 where
   pub snapshot : receipt.snapshot ≡ draft.after
 
 -- the fault that says that the log did not take the draft's entry, with the value before it
-abbrev pub IsLogFaultOf : Kept → Draft → TxFault → Type 0
+abbrev pub IsLogFaultOf : SnapshotModel → Draft → TxFault → Type 0
 IsLogFaultOf before draft fault =
-    (snapshot : Kept)
+    (snapshot : SnapshotModel)
     × (fault ≡ LogFault (basis draft.after.entries) snapshot)
     × (snapshot.entries ≡ before.entries)
 
@@ -71,8 +73,10 @@ abbrev pub ArePosted : Draft → ℕ → List Letter → Type 0
 ArePosted draft n letters =
     (length letters ≡ n) × All (λ letter. letter.one.entries ≡ draft.after.entries) letters
 
--- All that recording the draft's entry takes memory for: its record, snapshots without it and with it, and those to be mailed
-pub record IsReady {R : Type 0} (is_of : R → Entry → Type 0) (before : Kept) (draft : Draft) (n : ℕ)
+-- All that recording the draft's entry takes memory for:
+-- its record, snapshots without it and with it, and those to be mailed
+pub record IsReady {R : Type 0} (is_of : R → Entry → Type 0) (before : SnapshotModel)
+    (draft : Draft) (n : ℕ)
     (ready : Ready R) : Type 0 where
   pub made : is_of ready.made (entry_of draft)
   pub before_is : ready.before.one ≡ before

@@ -59,7 +59,7 @@ impl<L: Log> Conn<L> {
         } = worker;
         gather(&board, &mut first, seats);
         let home = board.close(first);
-        // A core that is asked tells that it stands for its history.
+        // This call brings into the proof that the core represents its history.
         let _basis = home.core.basis();
         let Home {
             core,

@@ -43,11 +43,11 @@ impl<L: Log> Conn<L> {
             ((view_of seat.new.board).covered ≡ (view_of seat.old.board).covered) }
     {
         let mut held = enter(&self.board, rt, &mut seat.board);
-        // A snapshot that is asked tells that it stands for its history.
+        // This call brings into the proof that the snapshot represents its history.
         let _basis = ahead.basis();
         match held.home.core.rebase_on(ahead) {
             Ok(rebased) => {
-                // It is dropped behind the turn.
+                // It is dropped after the turn.
                 let _before = held.home.core.adopt(rebased);
                 end(&self.board, &mut seat.board, held);
                 Ok(())

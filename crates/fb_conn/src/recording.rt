@@ -119,7 +119,7 @@ impl<L: Log> Conn<L> {
         let t = one.basis();
         let instant = draft.entry().instant;
         let tempids = draft.take_tempids();
-        // It is dropped behind the turn.
+        // It is dropped after the turn.
         let _before = held.home.core.accept(draft);
         add(&self.board, &mut seat.board, &mut held, mails);
         end(&self.board, &mut seat.board, held);

@@ -96,7 +96,7 @@ impl<L: Log> Conn<L> {
     {
         refusals_do_not_depend_on_the_clock();
         let held = enter(&self.board, rt, &mut seat.board);
-        // A core that is asked tells that it stands for its history.
+        // This call brings into the proof that the core represents its history.
         let _basis = held.home.core.basis();
         if let Some(stop) = held.home.stop {
             let snapshot = self.show_latest(seat, held)?;
@@ -125,7 +125,7 @@ impl<L: Log> Conn<L> {
         }
     }
 
-    /// Ends the turn. The latest value is answered, and is the seat's last snapshot. After want of memory the seat has seen no more.
+    /// Ends the turn. The latest value is answered, and is the seat's last snapshot. Where memory runs out, the seat has seen no more.
     pub(crate) fn show_latest(
         &self,
         seat: &mut Seat,

@@ -21,7 +21,8 @@ last_of-push h entry = fold-append (λ _ (e : Entry). e) first_entry h (entry �
 behind_first : (x y : Entry) (xs : List Entry) (n : ℕ) → slice_get (x ∷ y ∷ xs) (suc (suc n) - 1) ≡ slice_get (y ∷ xs) (suc n - 1)
 behind_first x y xs n = let one : suc (suc n) - 1 ≡ suc n = omega arith in let less : suc n - 1 ≡ n = omega arith in rw (one, less) refl
 
-fold_last : (start : Entry) (h : List Entry) (entry : Entry) → slice_get h (length h - 1) ≡ Some entry → fold (λ _ (e : Entry). e) start h ≡ entry
+fold_last : (start : Entry) (h : List Entry) (entry : Entry) → slice_get h (length h - 1) ≡ Some entry
+    → fold (λ _ (e : Entry). e) start h ≡ entry
 fold_last start [] entry read = absurd (cc)
 fold_last start (x ∷ []) entry read = cc
 fold_last start (x ∷ y ∷ h) entry read = fold_last x (y ∷ h) entry (sym (behind_first x y h (length h)) ∙ read)

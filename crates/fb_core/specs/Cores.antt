@@ -6,12 +6,13 @@ use Rattle.fb_values.specs.Lists.{Lists}
 use Rattle.fb_model.specs.FirstEntry.{first_entry}
 use Rattle.fb_model.specs.History.{basis}
 use Rattle.fb_model.specs.Lawful.{IsLawfulAfter}
-use Rattle.fb_view.specs.Kept.{Stands}
+use Rattle.fb_view.specs.SnapshotModel.{Stands}
 use Rattle.fb_core.specs.declared.shared.CoreParts.{CoreParts}
 use Rattle.fb_core.specs.declared.accepting.Draft.{Draft}
 use Rattle.fb_core.specs.declared.adopting.Rebased.{Rebased}
 
--- the snapshot stands for its history, and of its entries but the first one each has at most one author
+-- the snapshot stands for its history,
+-- and of its entries but the first one each has at most one author
 pub record CoreStands (core : CoreParts) : Type 0 where
   pub snapshot : Stands core.snapshot
   pub authors : length core.authors ≤ basis core.snapshot.entries

@@ -1,11 +1,12 @@
--- When a core is that of a database that many sessions share, as the machine of worlds and events has it.
+-- When a core is that of a database that many sessions share,
+-- as the machine of worlds and events has it.
 -- This project's own choice.
 use Rattle.std.specs.Prelude.{◌≡◌, ℕ, ◌+◌, if◌then◌else◌, ◌==◌, List, [], ◌∷◌, length}
 use Rattle.fb_model.specs.History.{basis}
 use Rattle.event_model.specs.World.{World}
 use Rattle.fb_core.specs.declared.shared.CoreParts.{CoreParts}
 
--- the t of the session's entries, where the authors are those of the entries behind t
+-- the t of the session's entries, where the authors are those of the entries after t
 abbrev pub commits_behind : ℕ → ℕ → List ℕ → List ℕ
 commits_behind t s [] = []
 commits_behind t s (author ∷ authors) =

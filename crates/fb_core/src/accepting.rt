@@ -3,7 +3,7 @@ ghost use Rattle.std.specs.Prelude.{◌≡◌, ℕ, IfOk, IfErr};
 ghost use Rattle.edn_form.specs.View.{form_of};
 ghost use Rattle.fb_model.specs.Lawful.{IsLawfulAfter};
 ghost use Rattle.tx_model.specs.Step as model;
-ghost use Rattle.tx_step.specs.Outcomes.{Tells};
+ghost use Rattle.tx_step.specs.Outcomes.{Matches};
 
 use crate::shared::{Core, CoreParts};
 use edn_form::Edn;
@@ -77,15 +77,12 @@ impl Core {
             (form_of asked.now) now (G.bars guard.now)
             ≡ model.accepted (entry_of draft) draft.tempids.items) }
         ensures draft { IfOk result (λ draft. IsDraftOf self.now author draft) }
-        ensures refused { IfErr result (λ stop. Tells stop
+        ensures refused { IfErr result (λ stop. Matches stop
             (model.step self.now.snapshot.entries (form_of asked.now) now (G.bars guard.now))) }
     {
         an_accepted_entry_is_lawful();
         let accepted = self.accepted(asked, now, guard)?;
-        match self.drafted(accepted, author) {
-            Ok(draft) => Ok(draft),
-            Err(_) => Err(TxStop::Memory),
-        }
+        Ok(self.drafted(accepted, author)?)
     }
 
     /// What the transaction is to record.
@@ -98,7 +95,7 @@ impl Core {
         ensures accepted { IfOk result (λ done. model.step self.now.snapshot.entries
             (form_of asked.now) now (G.bars guard.now)
             ≡ model.accepted done.entry done.tempids.items) }
-        ensures refused { IfErr result (λ stop. Tells stop
+        ensures refused { IfErr result (λ stop. Matches stop
             (model.step self.now.snapshot.entries (form_of asked.now) now (G.bars guard.now))) }
         ensures stands { CoreStands self.now }
     {

@@ -3,7 +3,7 @@ ghost use Rattle.std.specs.Prelude.{◌≡◌, IfOk};
 ghost use Rattle.fb_model.specs.History.{basis, upto};
 ghost use Rattle.view_model.specs.Stands.{RootStands};
 ghost use Rattle.seg_tree.specs.Indexes.{trees_of};
-ghost use Rattle.fb_view.specs.Kept.{Stands};
+ghost use Rattle.fb_view.specs.SnapshotModel.{Stands};
 
 use crate::shared::Core;
 use fb_memory::Memory;
@@ -46,7 +46,7 @@ impl Core {
         Ok(Rebased { snapshot })
     }
 
-    /// The newer trees stand from now on. The history and its authors stay. It takes no memory. The value before is given
+    /// The newer trees are in use from now on. The history and its authors stay. It takes no memory. The value before is given
     /// back, to be dropped where nobody waits.
     pub fn adopt(&mut self, rebased: Rebased) -> Snapshot
         requires { IsRebaseOf self.old rebased }
@@ -65,7 +65,7 @@ pub fn caught_up(ahead: &Snapshot, latest: &Snapshot) -> Result<Snapshot, Memory
     ensures covered { IfOk result (λ snapshot. snapshot.covered ≡ ahead.now.covered) }
     ensures stands { IfOk result (λ snapshot. Stands snapshot) }
 {
-    // A snapshot that is asked tells that it stands for its history.
+    // This call brings into the proof that the snapshot represents its history.
     let _basis = latest.basis();
     let entries = latest.entries();
     let len = entries.len();

@@ -11,7 +11,7 @@ ghost use Rattle.view_model.specs.Scan.{Range, IsScan};
 ghost use Rattle.tx_model.specs.Step.{Guard, step, accepted as is_accepted};
 ghost use Rattle.event_model.specs.World.{World, opened as opened_world};
 ghost use Rattle.event_model.specs.Event.{Happens, committed, accept as accept_event, adopt as adopt_event};
-ghost use Rattle.fb_view.specs.Kept.{Kept, Stands};
+ghost use Rattle.fb_view.specs.SnapshotModel.{SnapshotModel, Stands};
 ghost use Rattle.fb_core.specs.declared.shared.CoreParts.{CoreParts};
 ghost use Rattle.fb_core.specs.declared.accepting.Draft.{Draft};
 ghost use Rattle.fb_core.specs.declared.adopting.Rebased.{Rebased};
@@ -38,7 +38,7 @@ pub fn a_beginning_stays_one()
     ensures latest { (core : CoreParts) (author : ℕ) (draft : Draft) → CoreStands core
         → IsDraftOf core author draft
         → upto draft.after.entries (basis core.snapshot.entries) ≡ core.snapshot.entries }
-    ensures older { (core : CoreParts) (author : ℕ) (draft : Draft) (older : Kept)
+    ensures older { (core : CoreParts) (author : ℕ) (draft : Draft) (older : SnapshotModel)
         → IsDraftOf core author draft → Stands older
         → upto core.snapshot.entries (basis older.entries) ≡ older.entries
         → upto draft.after.entries (basis older.entries) ≡ older.entries }
@@ -61,7 +61,7 @@ pub fn adopting_changes_no_view()
 
 /// The core of a database that has just been opened is that of the world that the machine begins with.
 pub fn opening_makes_a_world()
-    ensures { (snapshot : Kept) (kept : List ℕ)
+    ensures { (snapshot : SnapshotModel) (kept : List ℕ)
         → IsCoreOf (record { snapshot = snapshot; authors = [] })
         (opened_world snapshot.entries snapshot.covered kept) }
 {}

@@ -1,4 +1,4 @@
-//! The core, how it comes about, and what it tells.
+//! The core, how it is made, and what it answers.
 ghost use Rattle.std.specs.Prelude.{◌≡◌, [], IfOk, nat_le};
 ghost use Rattle.fb_model.specs.History.{basis};
 ghost use Rattle.fb_model.specs.Lawful.{IsLawful};
@@ -46,7 +46,7 @@ impl Core {
     pub fn of(alloc: Global, snapshot: Snapshot) -> Result<Core, Memory>
         ensures { IfOk result (λ core. core ≡ record { snapshot = snapshot; authors = [] }) }
     {
-        // A snapshot that is asked tells that it stands for its history.
+        // This call brings into the proof that the snapshot represents its history.
         let _basis = snapshot.basis();
         let authors = Authors::new(alloc)?;
         Ok(Core {

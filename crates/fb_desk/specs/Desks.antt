@@ -7,7 +7,7 @@ use Rattle.fb_model.specs.History.{basis}
 use Rattle.fb_model.specs.Lawful.{IsLawful}
 use Rattle.tx_refusals.specs.declared.reasons.Refusal.{Refusal}
 use Rattle.tx_model.specs.Step.{Guard, step, accepted, refused}
-use Rattle.fb_view.specs.Kept.{Kept}
+use Rattle.fb_view.specs.SnapshotModel.{SnapshotModel}
 use Rattle.fb_desk.specs.declared.answers.Receipt.{Receipt}
 use Rattle.fb_desk.specs.declared.answers.TxFault.{TxFault}
 use Rattle.fb_desk.specs.declared.answers.TxFault.TheVariants.{Refused, LogFault, Stopped, Memory}
@@ -27,7 +27,7 @@ pub record State : Type 0 where
   pub opening : ℕ
   -- the t of each transaction that was accepted through it
   pub commits : List ℕ
-  -- the t that the log did not take, once the desk was told of one, and whether it was this desk's transaction
+  -- the t that the log did not take, once the desk was notified of one, and whether it was this desk's transaction
   pub stop : Option ℕ
   pub teller : Bool
   pub tally : Tally
@@ -58,7 +58,7 @@ glanced tally = record tally { glances = tally.glances + 1 }
 abbrev pub loaded : Tally → Tally
 loaded tally = record tally { loads = tally.loads + 1 }
 
--- The desk has seen all that was seen before, since the same opening, and what it has seen stays lawful. Once it was told of a
+-- The desk has seen all that was seen before, since the same opening, and what it has seen stays lawful. Once it was notified of a
 -- log that has stopped, that stays so.
 pub record WentOn (old new : State) : Type 0 where
   pub more : List Entry
@@ -73,7 +73,7 @@ pub record GoesOn (old new : State) : Type 0 where
   pub went_on : WentOn old new
   pub left : old.left ≤ new.left + 1
 
--- The desk was told of no stop. The transaction is the last of the history that is seen now: its entry is what the step gives
+-- The desk was notified of no stop. The transaction is the last of the history that is seen now: its entry is what the step gives
 -- after the entries before it, which have all that was seen, at a number that the clock may read.
 pub record IsReceipt (may : ℤ → Type 0) (guard : Guard) (asked : Form) (old new : State)
     (receipt : Receipt) : Type 0 where
@@ -92,21 +92,22 @@ pub record IsReceipt (may : ℤ → Type 0) (guard : Guard) (asked : Form) (old 
   pub tally : new.tally ≡ old.tally
 
 -- no transaction of the desk was accepted, and this is the database that it was answered
-pub record IsNotAccepted (old new : State) (snapshot : Kept) : Type 0 where
+pub record IsNotAccepted (old new : State) (snapshot : SnapshotModel) : Type 0 where
   pub commits : new.commits ≡ old.commits
   pub tally : new.tally ≡ loaded old.tally
   pub snapshot_is : snapshot.entries ≡ new.entries
 
--- the desk was told of no stop, and it is refused at the history that is seen now, whatever the clock reads
+-- the desk was notified of no stop, and it is refused at the history that is seen now, whatever the clock reads
 pub record IsRefusal (guard : Guard) (asked : Form) (old new : State) (refusal : Refusal)
-    (snapshot : Kept) : Type 0 where
+    (snapshot : SnapshotModel) : Type 0 where
   pub untold : old.stop ≡ None
   pub step_is : (reading : ℤ) → step new.entries asked reading guard ≡ refused refusal
   pub rest : IsNotAccepted old new snapshot
 
--- it is accepted at the history that is seen now, and the log did not take its entry, of which the desk is told for the first time
+-- the transaction is accepted at the history that is seen now, and the log did not take its entry, of which the desk is notified for
+-- the first time
 pub record IsLogFault (may : ℤ → Type 0) (guard : Guard) (asked : Form) (old new : State) (at : ℕ)
-    (snapshot : Kept) : Type 0 where
+    (snapshot : SnapshotModel) : Type 0 where
   pub reading : ℤ
   pub may_be : may reading
   pub entry : Entry
@@ -118,14 +119,14 @@ pub record IsLogFault (may : ℤ → Type 0) (guard : Guard) (asked : Form) (old
   pub teller : new.teller ≡ true
   pub rest : IsNotAccepted old new snapshot
 
--- the log had stopped; it was another desk's transaction, unless this desk was told of it before
-pub record IsStopped (old new : State) (at : ℕ) (snapshot : Kept) : Type 0 where
+-- the log had stopped; it was another desk's transaction, unless this desk was notified of it before
+pub record IsStopped (old new : State) (at : ℕ) (snapshot : SnapshotModel) : Type 0 where
   pub at_is : at ≡ basis new.entries + 1
   pub stop : new.stop ≡ Some at
   pub teller : (old.stop ≡ None) → new.teller ≡ false
   pub rest : IsNotAccepted old new snapshot
 
--- nothing was accepted, for want of memory
+-- memory ran out, and nothing was accepted
 pub record IsOutOfMemory (old new : State) : Type 0 where
   pub commits : new.commits ≡ old.commits
   pub tally : new.tally ≡ old.tally
@@ -138,6 +139,6 @@ IsFault may guard asked old new (LogFault at snapshot) =
 IsFault may guard asked old new (Stopped at snapshot) = IsStopped old new at snapshot
 IsFault may guard asked old new Memory = IsOutOfMemory old new
 
-abbrev pub snapshot_of : Glance → Kept
+abbrev pub snapshot_of : Glance → SnapshotModel
 snapshot_of (Fresh snapshot) = snapshot
 snapshot_of (Held snapshot) = snapshot

@@ -14,7 +14,7 @@ use std::sync::Wait;
 use std::thread::Threads;
 use tx_step::Guard;
 
-/// What a session answers an accepted transaction with. It is made before the entry is recorded, so that want of memory never
+/// What a session answers an accepted transaction with. It is made before the entry is recorded, so that running out of memory never
 /// keeps it back.
 pub trait Reply: Drop {
     /// It says that the transaction of this t was accepted, with these entities of the tempids by the bytes of their names.
@@ -72,7 +72,7 @@ pub trait Desk: Drop {
 
     /// Asks for a merge of the indexes, which changes nothing that the database says.
     fn ring<R: Threads + Wait + Sync>(&mut self, rt: &R) -> Result<(), Memory>
-        // A body is not told of the bound by itself, and needs it where it starts threads.
+        // A body does not get the bound by itself, and needs it where it starts threads.
         requires { IsSync R.row }
         ensures { state self.new ≡ state self.old };
 }

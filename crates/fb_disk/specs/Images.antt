@@ -1,6 +1,7 @@
 -- The image of a disk in memory in which the writes since the last sync are cut short.
 -- This project's own choice.
-use Rattle.std.specs.Prelude.{◌+◌, ◌-◌, ℕ, List, [], ◌∷◌, ◌++◌, length, take, replicate, min, slice_get}
+use Rattle.std.specs.Prelude.{◌+◌, ◌-◌, ℕ, List, [], ◌∷◌, ◌++◌, length, take, replicate, min}
+use Rattle.std.specs.Prelude.{slice_get}
 use Rattle.std.specs.Option.{option_map_or}
 use Rattle.disk_model.specs.Disk.{written}
 use Rattle.disk_model.specs.Record.{Change, wrote, cut_to, synced}
@@ -9,12 +10,12 @@ use Rattle.disk_model.specs.Record.{Change, wrote, cut_to, synced}
 abbrev pub kept_of : List ℕ → ℕ → ℕ → ℕ
 kept_of cuts n len = option_map_or (λ kept. min len kept) (slice_get cuts n) len
 
--- the front of a piece, and zeros behind
+-- the front of a piece, and then zeros
 abbrev pub torn_to : ℕ → List ℕ → List ℕ
 torn_to kept piece = take kept piece ++ replicate (length piece - kept) 0
 
--- What these changes make of an image, n writes after the last sync: a write is cut short, and a sync leaves what a read
--- gives.
+-- What these changes make of an image, n writes after the last sync:
+-- a write is cut short, and a sync leaves what a read gives.
 abbrev pub image_from : List ℕ → ℕ → List Change → List ℕ → List ℕ → List ℕ
 image_from cuts n [] file image = image
 image_from cuts n (wrote at piece ∷ changes) file image =

@@ -1,11 +1,12 @@
 -- A disk in memory.
 -- This project's own choice.
 use Rattle.std.specs.Prelude.{◌||◌, ◌+◌, ℕ, Bool, List, length, nat_lt, Option, Some}
-use Rattle.fb_calls.specs.Calls.{Calls, fails_next}
+use Rattle.io_faults.specs.Calls.{Calls, fails_next}
 use Rattle.disk_model.specs.Record.{Change, replayed, MayLeave, MayHaveLeft}
 use Rattle.fb_disk.specs.Room.{room_taken}
 
--- the bytes as its record began, all of them on the disk, and what was done since, the first of it first
+-- the bytes as its record began,
+-- all of them on the disk, and what was done since, the first of it first
 pub record Past : Type 0 where
   pub first : List ℕ
   pub changes : List Change
@@ -16,9 +17,9 @@ pub record Past : Type 0 where
 abbrev pub file_of : Past → List ℕ
 file_of d = replayed d.changes d.first
 
--- what it tells
-abbrev pub told_by : Past → Option (List ℕ)
-told_by d = Some (file_of d)
+-- its bytes, which are known
+abbrev pub known_bytes : Past → Option (List ℕ)
+known_bytes d = Some (file_of d)
 
 -- what a crash now may leave
 abbrev pub images_of : Past → List ℕ → Type 0
@@ -36,10 +37,11 @@ images_since_of d = MayHaveLeft d.first d.changes
 abbrev pub is_full : Past → ℕ → Bool
 is_full d n = nat_lt d.room (room_taken d.changes + 24 + n)
 
--- whether a write of n bytes at this place fails: it is made to, it would end past the room, or the record is full
+-- whether a write of n bytes at this place fails:
+-- it is made to, it would end past the room, or the record is full
 abbrev pub fails_write : Past → ℕ → ℕ → Bool
 fails_write d at n = fails_next d.calls || (nat_lt d.room (at + n) || is_full d n)
 
--- and a cut or a sync
+-- whether a cut or a sync fails: it is made to, or the record is full
 abbrev pub fails_change : Past → Bool
 fails_change d = fails_next d.calls || is_full d 0

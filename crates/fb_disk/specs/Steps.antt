@@ -1,4 +1,4 @@
--- How a record lies in memory: its entries, and the bytes that they wrote, one behind another.
+-- How a record lies in memory: its entries, and the bytes that they wrote, one after another.
 -- This project's own choice.
 use Rattle.std.specs.Prelude.{◌+◌, ℕ, List, [], ◌∷◌, take, drop, max}
 use Rattle.disk_model.specs.Record.{Change, wrote, cut_to, synced}

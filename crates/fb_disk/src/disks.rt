@@ -1,18 +1,18 @@
 //! A file that may crash. No call of a disk takes memory.
 ghost use Rattle.std.specs.Prelude.{◌≡◌, ◌≤◌, ◌<◌, ◌+◌, ◌^◌, ℕ, List, length, take, Option, IfOk, OnOk, option_map};
-ghost use Rattle.fb_calls.specs.Faults.{Counts};
-ghost use Rattle.disk_model.specs.Disk.{written, Torn, TornCut, Follows, Within, Only, WhereTold, Reads, Elapses};
+ghost use Rattle.io_faults.specs.Faults.{Counts};
+ghost use Rattle.disk_model.specs.Disk.{written, Torn, TornCut, Follows, Within, Only, IfKnown, Reads, Elapses};
 
-use fb_calls::Failed;
+use io_faults::Failed;
 
 /// A file that may crash. Between two syncs each written range, each cut range and what lies past the old end may hold
 /// any bytes after a crash, and the length lies between the least and the greatest since the last sync. All other bytes
 /// stay. After a sync that answers Ok a crash leaves what a read gives.
 pub trait Disk: Drop {
-    /// How many calls have failed. It stands still at 2^64 - 1.
+    /// How many calls have failed. At 2^64 - 1 it stays.
     ghost faults: { Self → ℕ };
 
-    /// What a read gives, where the disk tells its bytes.
+    /// What a read gives, where the bytes of the disk are known.
     ghost bytes: { Self → Option (List ℕ) };
 
     /// What a crash now may leave.
@@ -29,18 +29,18 @@ pub trait Disk: Drop {
 
     /// The length of the file.
     fn len(&mut self) -> Result<u64, Failed>
-        ensures length { IfOk result (λ n. WhereTold (bytes self.old) (λ file. n ≡ length file)) }
+        ensures length { IfOk result (λ n. IfKnown (bytes self.old) (λ file. n ≡ length file)) }
         ensures bytes { bytes self.new ≡ bytes self.old }
         ensures crash { Within (images self.old) (images self.new) }
         ensures time { Elapses (moment self.old) (moment self.new) (images_since self.old)
             (images_since self.new) (images self.new) }
         ensures counted { Counts result (faults self.old) (faults self.new) };
 
-    /// Reads into the front of `buf` what stands from `at` on, and answers how many bytes it placed there. What lies
-    /// behind them in `buf` is free.
+    /// Reads what the file has from `at` on into the front of `buf`, and answers how many bytes it placed there. What lies
+    /// after them in `buf` is free.
     fn read_at(&mut self, at: u64, buf: &mut [u8]) -> Result<usize, Failed>
         ensures within { IfOk result (λ n. n ≤ length buf.old) }
-        ensures read { IfOk result (λ n. WhereTold (bytes self.old)
+        ensures read { IfOk result (λ n. IfKnown (bytes self.old)
             (λ file. Reads file at (length buf.old) n (take n buf.new))) }
         ensures bytes { bytes self.new ≡ bytes self.old }
         ensures crash { Within (images self.old) (images self.new) }
@@ -48,7 +48,7 @@ pub trait Disk: Drop {
             (images_since self.new) (images self.new) }
         ensures counted { Counts result (faults self.old) (faults self.new) };
 
-    /// Writes over what is there, and past the end. A gap behind the old end reads as zeros. After a fault nothing is
+    /// Writes over what is there, and past the end. A gap after the old end reads as zeros. After a fault nothing is
     /// known of the written range.
     fn write_at(&mut self, at: u64, piece: &[u8]) -> Result<(), Failed>
         ensures within { OnOk result (at + length piece.now < 2 ^ 64) }
@@ -71,14 +71,14 @@ pub trait Disk: Drop {
     fn sync(&mut self) -> Result<(), Failed>
         ensures bytes { OnOk result (bytes self.new ≡ bytes self.old) }
         ensures durable { OnOk result
-            (WhereTold (bytes self.old) (λ file. Only file (images self.new))) }
+            (IfKnown (bytes self.old) (λ file. Only file (images self.new))) }
         ensures crash { Within (images self.old) (images self.new) }
         ensures time { Elapses (moment self.old) (moment self.new) (images_since self.old)
             (images_since self.new) (images self.new) }
         ensures counted { Counts result (faults self.old) (faults self.new) };
 
     /// What a read gives, a crash may leave.
-    ghost reads_an_image: { (disk : Self) → WhereTold (bytes disk) (images disk) };
+    ghost reads_an_image: { (disk : Self) → IfKnown (bytes disk) (images disk) };
 
     /// This moment is one of those since an earlier one.
     ghost counts_now: { (disk : Self) (t : ℕ) (image : List ℕ) → t ≤ moment disk → images disk image

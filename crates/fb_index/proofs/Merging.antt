@@ -11,7 +11,7 @@ use Rattle.fb_values.specs.declared.facts.Datom.{Datom}
 use Rattle.fb_values.specs.declared.indexes.Order.{Order}
 use Rattle.fb_values.specs.declared.indexes.Probe.{Probe}
 use Rattle.fb_values.specs.Orders.{key_cmp, probe_cmp}
-use Rattle.fb_values.specs.Rising.{StandsBefore, IsRising}
+use Rattle.fb_values.specs.Rising.{IsBelowAll, IsRising}
 use Rattle.fb_values.proofs.Rising.{less_is}
 use Rattle.fb_search.specs.Places.{is_below, place_of}
 use Rattle.fb_search.proofs.Below.{below_earlier}
@@ -106,7 +106,7 @@ filter-filter f g (d ∷ ds) = go (f d) (g d) refl refl (filter-filter f g ds)
 -- ---- where a probe leads
 
 -- behind a datom that is not below a probe none is
-all_from : (p : Probe) (x : Datom) (ds : List Datom) → StandsBefore p.order x ds → is_below p x ≡ false → from_probe p ds ≡ ds
+all_from : (p : Probe) (x : Datom) (ds : List Datom) → IsBelowAll p.order x ds → is_below p x ≡ false → from_probe p ds ≡ ds
 all_from p x [] before above = refl
 all_from p x (d ∷ ds) before above =
     elim (cases_Bool (is_below p d)) [
@@ -124,7 +124,7 @@ from_place p (d ∷ ds) rising =
     ]
 
 -- behind a datom that is above a probe it leads to none
-none_led : (p : Probe) (x : Datom) (ds : List Datom) → StandsBefore p.order x ds → probe_cmp p x ≡ Less → led_to p ds ≡ []
+none_led : (p : Probe) (x : Datom) (ds : List Datom) → IsBelowAll p.order x ds → probe_cmp p x ≡ Less → led_to p ds ≡ []
 none_led p x [] before above = refl
 none_led p x (d ∷ ds) before above = rw (above_not_led (probe_cmp p d) (above_later p x d before.0 above)) (none_led p x ds before.1 above)
 
@@ -161,7 +161,7 @@ run_end p d ds other = rw other refl
 
 -- ---- what is not above a probe
 
-all_above : (p : Probe) (x : Datom) (ds : List Datom) → StandsBefore p.order x ds → probe_cmp p x ≡ Less → upto_probe p ds ≡ []
+all_above : (p : Probe) (x : Datom) (ds : List Datom) → IsBelowAll p.order x ds → probe_cmp p x ≡ Less → upto_probe p ds ≡ []
 all_above p x [] before above = refl
 all_above p x (d ∷ ds) before above = rw (above_later p x d before.0 above) (all_above p x ds before.1 above)
 

@@ -1,5 +1,6 @@
 -- What a probe leads to stands together in a rising list, from the probe's place on.
-use Rattle.std.proofs.Common.{◌≡◌, ℕ, zero, suc, ◌+◌, ◌<◌, ◌≤◌, true, false, List, [], ◌∷◌, length, take, drop, get_or, refl, sym, ap, subst, arith, Some, None, inl, inr}
+use Rattle.std.proofs.Common.{◌≡◌, ℕ, zero, suc, ◌+◌, ◌<◌, ◌≤◌, true, false, List, [], ◌∷◌, length, take, drop, get_or, refl, sym, ap}
+use Rattle.std.proofs.Common.{subst, arith, Some, None, inl, inr}
 use Rattle.std.specs.List.{slice_get}
 use Rattle.std.specs.Ordering.{ordering_then, is_eq, is_gt}
 use Rattle.std.specs.Cmp.{IsTotalOrder}
@@ -11,7 +12,7 @@ use Rattle.fb_values.specs.declared.facts.Datom.{Datom}
 use Rattle.fb_values.specs.declared.indexes.Probe.{Probe}
 use Rattle.fb_values.specs.Orders.{key_of, key_cmp, given, probe_cmp}
 use Rattle.fb_values.specs.OrderLaws.{value_cmp_total}
-use Rattle.fb_values.specs.Rising.{StandsBefore, IsRising}
+use Rattle.fb_values.specs.Rising.{IsBelowAll, IsRising}
 use Rattle.fb_search.specs.Places.{is_below, place_of}
 use Rattle.fb_search.proofs.Below.{place_behind}
 use Rattle.fb_index.specs.Ranges.{is_led, led_to}
@@ -66,7 +67,7 @@ led_from_place p (d ∷ ds) =
     ]
 
 -- none behind a datom that is above the probe
-none_behind : (p : Probe) (x : Datom) (ds : List Datom) → StandsBefore p.order x ds → probe_cmp p x ≡ Less → led_to p ds ≡ []
+none_behind : (p : Probe) (x : Datom) (ds : List Datom) → IsBelowAll p.order x ds → probe_cmp p x ≡ Less → led_to p ds ≡ []
 none_behind p x [] before above = refl
 none_behind p x (d ∷ ds) before above =
     rw (above_not_led (probe_cmp p d) (above_later p x d before.0 above)) (none_behind p x ds before.1 above)

@@ -1,8 +1,10 @@
 -- The steps of a walk over both lists.
-use Rattle.std.proofs.Common.{◌≡◌, ◌∙◌, ℕ, zero, suc, ◌+◌, true, false, not, List, [], ◌∷◌, length, drop, refl, sym, ap, subst, arith, Option, Some, None, Bor}
-use Rattle.std.specs.Prelude.{min, IfSome}
+use Rattle.std.proofs.Common.{◌≡◌, ◌∙◌, ℕ, zero, suc, ◌+◌, Bool, true, false, not, List, [], ◌∷◌, length, drop, refl, sym, ap, subst, arith}
+use Rattle.std.proofs.Common.{Option, Some, None, Bor}
+use Rattle.std.specs.Prelude.{min, find, IfSome}
 use Rattle.std.specs.List.{slice_get}
 use Rattle.std.specs.Option.{option_copied}
+use Rattle.std.proofs.lemmas.Option.{none-some, same_Some}
 use Rattle.fb_values.specs.declared.facts.Datom.{Datom}
 use Rattle.fb_values.specs.declared.indexes.Order.{Order}
 use Rattle.fb_values.specs.declared.indexes.Probe.{Probe}
@@ -11,14 +13,16 @@ use Rattle.fb_values.specs.Rising.{IsRising}
 use Rattle.fb_search.specs.Places.{is_below, place_of}
 use Rattle.live_blocks.specs.Walks.{IsFirstOf}
 use Rattle.live_index.specs.Halves.{IsPair, merged}
+use Rattle.live_index.specs.Walks.{before_rest, comes_first}
 use Rattle.live_index.proofs.Members.{contains_tail}
 use Rattle.seg_tree.specs.Nodes.{DirectoryNode, tree_datoms}
 use Rattle.seg_tree.specs.Ranks.{rank}
 use Rattle.seg_tree.specs.declared.tree.Place.{Place}
 use Rattle.fb_index.specs.declared.sides.Extent.{Extent}
 use Rattle.fb_index.specs.Ranges.{from_probe, within}
-use Rattle.fb_index.specs.Sides.{AreBeside, older_read, older_ahead, live_read, whole, at_hand, is_first}
-use Rattle.fb_index.proofs.Merging.{part_pair, first_of_older_alone, first_of_live_alone, first_of_older, first_of_live, filter_pair, merged-filter}
+use Rattle.fb_index.specs.Sides.{AreBeside, older_read, older_ahead, live_read, whole}
+use Rattle.fb_index.proofs.Merging.{part_pair, first_of_older_alone, first_of_live_alone, first_of_older, first_of_live, filter_pair}
+use Rattle.fb_index.proofs.Merging.{merged-filter}
 use Rattle.fb_index.proofs.Reading.{older_from, within_pair, within_both}
 
 drop_none : (ds : List Datom) (n : ℕ) → ds ≡ [] → drop n ds ≡ []
@@ -46,7 +50,7 @@ rises_to None order ds same rising = tt
 rises_to (Some p) order ds same rising = subst (λ (o : Order). IsRising o ds) (sym same) rising
 
 -- what was left is at hand and behind it
-pub hand_is : (next : Option (Bor Datom)) (old new : List Datom) → IsFirstOf old new next → at_hand next new ≡ old
+pub hand_is : (next : Option (Bor Datom)) (old new : List Datom) → IsFirstOf old new next → before_rest next new ≡ old
 hand_is None old new is = sym is.0
 hand_is (Some d) old new is = sym is
 
@@ -98,21 +102,22 @@ live_tail : (order : Order) (xs : List Datom) (y : Datom) (ys : List Datom) → 
 live_tail order xs y ys pair =
     part_pair order xs (y ∷ ys) xs ys pair pair.older_rises pair.live_rises.1 (λ d there. there) (λ d there. contains_tail y ys d there)
 
-behind_older : (order : Order) (o : Option (Bor Datom)) (l : Option Datom) (os ls : List Datom) → is_first order (option_copied o) l ≡ true
-    → IsPair order (at_hand o os) ls → IsPair order os ls
+behind_older : (order : Order) (o : Option (Bor Datom)) (l : Option Datom) (os ls : List Datom)
+    → comes_first order (option_copied o) l ≡ true
+    → IsPair order (before_rest o os) ls → IsPair order os ls
 behind_older order None l os ls first pair = absurd (cc)
 behind_older order (Some x) l os ls first pair = older_tail order x.now os ls pair
 
-take_older : (order : Order) (o l : Option (Bor Datom)) (os ls : List Datom) → IsPair order (at_hand o os) (at_hand l ls)
-    → is_first order (option_copied o) (option_copied l) ≡ true
-    → IsFirstOf (merged order (at_hand o os) (at_hand l ls)) (merged order os (at_hand l ls)) o
+take_older : (order : Order) (o l : Option (Bor Datom)) (os ls : List Datom) → IsPair order (before_rest o os) (before_rest l ls)
+    → comes_first order (option_copied o) (option_copied l) ≡ true
+    → IsFirstOf (merged order (before_rest o os) (before_rest l ls)) (merged order os (before_rest l ls)) o
 take_older order None l os ls pair first = absurd (cc)
 take_older order (Some x) None os ls pair first = first_of_older_alone order x.now os pair
 take_older order (Some x) (Some y) os ls pair first = first_of_older order x.now y.now os ls pair first
 
-take_live : (order : Order) (o : Option (Bor Datom)) (y : Datom) (os ls : List Datom) → IsPair order (at_hand o os) (y ∷ ls)
-    → is_first order (option_copied o) (Some y) ≡ false
-    → merged order (at_hand o os) (y ∷ ls) ≡ y ∷ merged order (at_hand o os) ls
+take_live : (order : Order) (o : Option (Bor Datom)) (y : Datom) (os ls : List Datom) → IsPair order (before_rest o os) (y ∷ ls)
+    → comes_first order (option_copied o) (Some y) ≡ false
+    → merged order (before_rest o os) (y ∷ ls) ≡ y ∷ merged order (before_rest o os) ls
 take_live order None y os ls pair other = first_of_live_alone order y ls pair
 take_live order (Some x) y os ls pair other = first_of_live order x.now y os ls pair other
 
@@ -121,49 +126,62 @@ first_is : (old new : List Datom) (result : Option (Bor Datom)) → IsFirstOf ol
 first_is old new None is = sym (ap (λ (ds : List Datom). slice_get ds 0) is.0)
 first_is old new (Some d) is = sym (ap (λ (ds : List Datom). slice_get ds 0) is)
 
-module _ (order : Order) (o l : Option (Bor Datom)) (os ls value : List Datom) (pair : IsPair order (at_hand o os) (at_hand l ls))
-    (view_is : merged order (at_hand o os) (at_hand l ls) ≡ value) where
-  module _ (first : is_first order (option_copied o) (option_copied l) ≡ true) where
+-- a search that begins with what is looked at
+pub finds_first : (p : Datom → Bool) (ds : List Datom) (d : Datom) → Some d ≡ slice_get ds 0 → p d ≡ true → find p ds ≡ Some d
+finds_first p [] d at passes = absurd (none-some d (sym at))
+finds_first p (x ∷ xs) d at passes =
+    let same = same_Some d x at in
+    let here : p x ≡ true = subst (λ (y : Datom). p y ≡ true) same passes in
+    rw here (ap Some (sym same))
+
+pub finds_none : (p : Datom → Bool) (ds : List Datom) → None ≡ slice_get ds 0 → find p ds ≡ None
+finds_none p [] at = refl
+finds_none p (x ∷ xs) at = absurd (none-some x at)
+
+module _ (order : Order) (o l : Option (Bor Datom)) (os ls value : List Datom) (pair : IsPair order (before_rest o os) (before_rest l ls))
+    (view_is : merged order (before_rest o os) (before_rest l ls) ≡ value) where
+  module _ (first : comes_first order (option_copied o) (option_copied l) ≡ true) where
     pub older_first : option_copied o ≡ slice_get value 0
     older_first =
-        first_is value (merged order os (at_hand l ls)) o
-        (subst (λ (ds : List Datom). IsFirstOf ds (merged order os (at_hand l ls)) o) view_is (take_older order o l os ls pair first))
+        first_is value (merged order os (before_rest l ls)) o
+        (subst (λ (ds : List Datom). IsFirstOf ds (merged order os (before_rest l ls)) o) view_is (take_older order o l os ls pair first))
 
     module _ (next : Option (Bor Datom)) (new : List Datom) (step : IsFirstOf os new next) where
-      pub older_pair : IsPair order (at_hand next new) (at_hand l ls)
+      pub older_pair : IsPair order (before_rest next new) (before_rest l ls)
       older_pair =
-          subst (λ (ds : List Datom). IsPair order ds (at_hand l ls)) (sym (hand_is next os new step))
-          (behind_older order o (option_copied l) os (at_hand l ls) first pair)
+          subst (λ (ds : List Datom). IsPair order ds (before_rest l ls)) (sym (hand_is next os new step))
+          (behind_older order o (option_copied l) os (before_rest l ls) first pair)
 
-      pub older_step : IsFirstOf value (merged order (at_hand next new) (at_hand l ls)) o
+      pub older_step : IsFirstOf value (merged order (before_rest next new) (before_rest l ls)) o
       older_step =
-          subst (λ (ds : List Datom). IsFirstOf ds (merged order (at_hand next new) (at_hand l ls)) o) view_is
-          (subst (λ (ds : List Datom). IsFirstOf (merged order (at_hand o os) (at_hand l ls)) (merged order ds (at_hand l ls)) o)
+          subst (λ (ds : List Datom). IsFirstOf ds (merged order (before_rest next new) (before_rest l ls)) o) view_is
+          (subst
+          (λ (ds : List Datom). IsFirstOf (merged order (before_rest o os) (before_rest l ls)) (merged order ds (before_rest l ls)) o)
           (sym (hand_is next os new step)) (take_older order o l os ls pair first))
 
-  module _ (other : is_first order (option_copied o) (option_copied l) ≡ false) where
+  module _ (other : comes_first order (option_copied o) (option_copied l) ≡ false) where
     pub live_first : option_copied l ≡ slice_get value 0
     live_first = go o l pair other ∙ ap (λ (ds : List Datom). slice_get ds 0) view_is
       where
-        go : (o l : Option (Bor Datom)) → IsPair order (at_hand o os) (at_hand l ls)
-            → is_first order (option_copied o) (option_copied l) ≡ false
-            → option_copied l ≡ slice_get (merged order (at_hand o os) (at_hand l ls)) 0
+        go : (o l : Option (Bor Datom)) → IsPair order (before_rest o os) (before_rest l ls)
+            → comes_first order (option_copied o) (option_copied l) ≡ false
+            → option_copied l ≡ slice_get (merged order (before_rest o os) (before_rest l ls)) 0
         go None None pair other = refl
         go (Some x) None pair other = absurd (cc)
         go o (Some y) pair other = sym (ap (λ (ds : List Datom). slice_get ds 0) (take_live order o y.now os ls pair other))
 
     module _ (y : Bor Datom) (is : l ≡ Some y) (next : Option (Bor Datom)) (new : List Datom) (step : IsFirstOf ls new next) where
-      from_live : IsPair order (at_hand o os) (y.now ∷ ls)
-      from_live = subst (λ (m : Option (Bor Datom)). IsPair order (at_hand o os) (at_hand m ls)) is pair
+      from_live : IsPair order (before_rest o os) (y.now ∷ ls)
+      from_live = subst (λ (m : Option (Bor Datom)). IsPair order (before_rest o os) (before_rest m ls)) is pair
 
-      pub live_pair : IsPair order (at_hand o os) (at_hand next new)
+      pub live_pair : IsPair order (before_rest o os) (before_rest next new)
       live_pair =
-          subst (IsPair order (at_hand o os)) (sym (hand_is next ls new step)) (live_tail order (at_hand o os) y.now ls from_live)
+          subst (IsPair order (before_rest o os)) (sym (hand_is next ls new step)) (live_tail order (before_rest o os) y.now ls from_live)
 
-      pub live_step : value ≡ y.now ∷ merged order (at_hand o os) (at_hand next new)
+      pub live_step : value ≡ y.now ∷ merged order (before_rest o os) (before_rest next new)
       live_step =
           sym view_is
-          ∙ ap (λ (m : Option (Bor Datom)). merged order (at_hand o os) (at_hand m ls)) is
+          ∙ ap (λ (m : Option (Bor Datom)). merged order (before_rest o os) (before_rest m ls)) is
           ∙ take_live order o y.now os ls from_live
-          (subst (λ (m : Option (Bor Datom)). is_first order (option_copied o) (option_copied m) ≡ false) is other)
-          ∙ ap (λ (ds : List Datom). y.now ∷ merged order (at_hand o os) ds) (sym (hand_is next ls new step))
+          (subst (λ (m : Option (Bor Datom)). comes_first order (option_copied o) (option_copied m) ≡ false) is other)
+          ∙ ap (λ (ds : List Datom). y.now ∷ merged order (before_rest o os) ds) (sym (hand_is next ls new step))

@@ -19,7 +19,7 @@ led_to probe ds = filter (is_led probe) ds
 abbrev pub from_probe : Probe → List Datom → List Datom
 from_probe probe ds = filter (λ d. not (is_below probe d)) ds
 
--- the datom stands behind all those that the probe leads to
+-- the datom comes after all those that the probe leads to
 abbrev pub is_above : Probe → Datom → Bool
 is_above probe d = is_lt (probe_cmp probe d)
 

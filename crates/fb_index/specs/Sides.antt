@@ -1,12 +1,9 @@
--- The lists of an order, a tree's and the live ones, read as one: all that was said, or what holds of it.
+-- The lists of an order, a tree's and the live ones, read as one: all datoms, or those that hold.
 -- Restates Indexes of Datomic's documentation (the merging of recent datoms with older ones).
-use denote.Ref.{Bor}
-use Rattle.std.specs.Prelude.{Bool, true, false, List, [], ◌∷◌, filter, drop, Option, Some, None}
-use Rattle.std.specs.Ordering.{is_lt}
+use Rattle.std.specs.Prelude.{Bool, true, List, filter, drop}
 use Rattle.fb_values.specs.declared.facts.Datom.{Datom}
 use Rattle.fb_values.specs.declared.indexes.Order.{Order}
 use Rattle.fb_values.specs.Lists.{Lists, list_in}
-use Rattle.fb_values.specs.Orders.{key_cmp}
 use Rattle.fb_values.specs.Rising.{IsRising}
 use Rattle.fb_model.specs.Facts.{standing}
 use Rattle.live_index.specs.Halves.{IsPair, IsLater, merged, outlives, withdrawn}
@@ -16,7 +13,7 @@ use Rattle.seg_tree.specs.declared.tree.Place.{Place}
 use Rattle.fb_index.specs.declared.sides.Extent.{Extent}
 use Rattle.fb_index.specs.declared.sides.Extent.TheVariants.{Said, Held}
 
--- what is read of a tree's datoms: all, or those whose triple no later datom tells of
+-- what is read of a tree's datoms: all, or those whose triple has no later datom
 abbrev pub older_read : Extent → Lists → List Datom → List Datom
 older_read Said live older = older
 older_read Held live older = filter (outlives (withdrawn live.eavt)) older
@@ -41,20 +38,10 @@ abbrev pub older_ahead : Extent → List DirectoryNode → Lists → Place → L
 older_ahead extent tree live place =
     older_read extent live (drop (rank tree place) (tree_datoms tree))
 
--- the lists can be read as one, and the live ones tell of each triple later than the tree
+-- the lists can be read as one,
+-- and what the live ones have of a triple is later than what the tree has
 pub record AreBeside (extent : Extent) (order : Order) (older : List Datom) (live : Lists)
     : Type 0 where
   pub rises : IsRising order older
   pub pair : IsPair order (older_read extent live older) (live_read extent (list_in live order))
   pub later : IsLater older live.eavt
-
--- the datom at hand, if there is one, and those behind it
-abbrev pub at_hand : Option (Bor Datom) → List Datom → List Datom
-at_hand None rest = []
-at_hand (Some d) rest = d.now ∷ rest
-
--- of the first datoms of two lists that are read as one, the left one comes first
-abbrev pub is_first : Order → Option Datom → Option Datom → Bool
-is_first order None other = false
-is_first order (Some x) None = true
-is_first order (Some x) (Some y) = is_lt (key_cmp order x y)

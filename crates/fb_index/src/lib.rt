@@ -1,4 +1,4 @@
-//! The lists of an order, a tree's and the live ones, read as one rising list: of all that was said, or of what holds.
+//! The lists of an order, a tree's and the live ones, read as one rising list: of all datoms, or of those that hold.
 #![tactic(auto)]
 
 mod ranges;

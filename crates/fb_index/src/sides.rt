@@ -19,7 +19,7 @@ use std::alloc::Global;
 /// What is read of an order.
 #[derive(Clone, Copy, Debug, PartialEq, Eq)]
 pub enum Extent {
-    /// All that was said.
+    /// All datoms.
     Said,
     /// What holds. The tree has facts alone.
     Held,
@@ -63,10 +63,11 @@ impl<'a> Sides<'a> {
             self.now.live.now))) }
     {
         let mut walk = self.walk(probe, Some(probe));
-        while let Some(datom) = walk.next() {
+        while let Some(datom) = walk.peek() {
             if datom.v == *v {
                 return Some(datom.e);
             }
+            walk.next();
         }
         None
     }
@@ -83,7 +84,7 @@ impl<'a> Sides<'a> {
         }
     }
 
-    /// The tree's first datom from a place on that is read and not above the end, and the place behind it.
+    /// The tree's first datom from a place on that is read and not above the end, and the place after it.
     pub(crate) fn next_older(&self, end: Option<&Probe>, from: Place) -> (Option<&'a Datom>, Place)
         requires beside { AreBeside self.now.extent self.now.order (tree_datoms self.now.tree.now)
             self.now.live.now }

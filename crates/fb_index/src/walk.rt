@@ -5,9 +5,10 @@ ghost use Rattle.std.specs.Option.{option_copied};
 ghost use Rattle.fb_values.specs.declared.indexes.Order.{Order};
 ghost use Rattle.fb_values.specs.Rising.{IsRising};
 ghost use Rattle.live_blocks.specs.Walks.{IsFirstOf};
+ghost use Rattle.live_index.specs.Walks.{comes_first};
 ghost use Rattle.seg_tree.specs.Nodes.{tree_datoms};
 ghost use Rattle.fb_index.specs.Ranges.{from_probe, within};
-ghost use Rattle.fb_index.specs.Sides.{is_first, whole, AreBeside};
+ghost use Rattle.fb_index.specs.Sides.{whole, AreBeside};
 
 use crate::ranges::is_past;
 use crate::sides::Sides;
@@ -23,10 +24,10 @@ pub struct Walk<'a, 'p> {
     sides: Sides<'a>,
     end: Option<&'p Probe>,
     older: Option<&'a Datom>,
-    /// Behind the older datom at hand.
+    /// After the older datom at hand.
     place: Place,
     live: Option<&'a Datom>,
-    /// Behind the live datom at hand.
+    /// After the live datom at hand.
     rest: live_index::Walk<'a>,
 }
 
@@ -36,24 +37,25 @@ impl<'a, 'p> Model for Walk<'a, 'p> {
     ghost use Rattle.fb_values.specs.declared.facts.Datom.{Datom};
     ghost use Rattle.fb_values.specs.Rising.{IsRising};
     ghost use Rattle.live_index.specs.Halves.{IsPair, merged};
+    ghost use Rattle.live_index.specs.Walks.{before_rest};
     ghost use Rattle.seg_tree.specs.Nodes.{tree_datoms};
     ghost use Rattle.fb_index.specs.Ranges.{within};
-    ghost use Rattle.fb_index.specs.Sides.{at_hand, older_ahead, AreBeside};
+    ghost use Rattle.fb_index.specs.Sides.{older_ahead, AreBeside};
 
     ghost Value = { List Datom };
 
     ghost view = { λ w. merged w.sides.order
-        (at_hand w.older (within (option_copied w.end)
+        (before_rest w.older (within (option_copied w.end)
         (older_ahead w.sides.extent w.sides.tree.now w.sides.live.now w.place)))
-        (at_hand w.live (within (option_copied w.end) w.rest)) };
+        (before_rest w.live (within (option_copied w.end) w.rest)) };
 
     ghost invariant = { λ w.
         (AreBeside w.sides.extent w.sides.order (tree_datoms w.sides.tree.now) w.sides.live.now)
         × (IfSome (option_copied w.end) (λ probe. probe.order ≡ w.sides.order))
         × (IsPair w.sides.order
-        (at_hand w.older (within (option_copied w.end)
+        (before_rest w.older (within (option_copied w.end)
         (older_ahead w.sides.extent w.sides.tree.now w.sides.live.now w.place)))
-        (at_hand w.live (within (option_copied w.end) w.rest)))
+        (before_rest w.live (within (option_copied w.end) w.rest)))
         × (IsRising w.sides.order w.rest) };
 }
 
@@ -130,7 +132,8 @@ fn next_live<'a>(end: Option<&Probe>, rest: &mut live_index::Walk<'a>) -> Option
 
 /// Whether of the first datoms of two lists the left one comes first.
 fn is_first(order: Order, left: Option<&Datom>, right: Option<&Datom>) -> bool
-    ensures { result ≡ is_first order (option_copied left.entry) (option_copied right.entry) }
+    ensures { result ≡ comes_first order (option_copied left.entry)
+        (option_copied right.entry) }
 {
     match (left, right) {
         (None, _) => false,

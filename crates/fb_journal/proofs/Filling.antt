@@ -3,7 +3,8 @@ use Rattle.std.proofs.Common.{◌≡◌, ◌+◌, ◌≤◌, ℕ, List, ◌++◌
 use Rattle.std.proofs.lemmas.List.{take-append-le, take_at, take_all}
 use Rattle.std.proofs.Math.Seq.{take-add, take-append-add}
 
-pub filled-more : (buf part behind file : List ℕ) (at count : ℕ) → at ≤ length buf → take at buf ≡ take at file → count ≤ length part → take count part ≡ take count (drop at file)
+pub filled-more : (buf part behind file : List ℕ) (at count : ℕ) → at ≤ length buf → take at buf ≡ take at file → count ≤ length part
+    → take count part ≡ take count (drop at file)
     → take (at + count) (take at buf ++ (part ++ behind)) ≡ take (at + count) file
 filled-more buf part behind file at count within so_far fits more =
     let front : length (take at buf) ≡ at = omega (arith, length-take at buf) in
@@ -14,7 +15,8 @@ filled-more buf part behind file at count within so_far fits more =
     ∙ sym (take-add at count file)
 
 -- a buffer that was filled whole and is cut to what was filled
-pub filled-whole : (count size : ℕ) (now was file items : List ℕ) → items ≡ take count (take size (now ++ drop (length now) was)) → size ≡ length file → count ≡ length file → now ≡ file → items ≡ file
+pub filled-whole : (count size : ℕ) (now was file items : List ℕ) → items ≡ take count (take size (now ++ drop (length now) was))
+    → size ≡ length file → count ≡ length file → now ≡ file → items ≡ file
 filled-whole count size now was file items is long all same =
     is
     ∙ ap (λ (l : List ℕ). take count l) (take_at now (drop (length now) was) size (omega (arith, long, ap length same)))

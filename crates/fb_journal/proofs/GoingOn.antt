@@ -1,15 +1,16 @@
 -- How a reading goes on: over calls that only read, over a record, to the end and to a fault.
-use Rattle.std.proofs.Common.{inl, inr, ⊎_elim, ◌≡◌, ◌≢◌, ◌+◌, ◌≤◌, ◌<◌, ◌∙◌, ℕ, List, [], ◌∷◌, ◌++◌, length, get_or, take, drop, Option, Some, sym, ap, subst, arith, length-append}
+use Rattle.std.proofs.Common.{inl, inr, ⊎_elim, ◌≡◌, ◌≢◌, ◌+◌, ◌≤◌, ◌<◌, ◌∙◌, ℕ, List, [], ◌∷◌, ◌++◌, length, get_or, take, drop, Option}
+use Rattle.std.proofs.Common.{Some, sym, ap, subst, arith, length-append}
 use Rattle.std.proofs.lemmas.List.{drop_at, get_or-drop}
-use Rattle.disk_model.specs.Disk.{WhereTold}
+use Rattle.disk_model.specs.Disk.{IfKnown}
 use Rattle.disk_model.specs.Journal.{new_journal, opened, framed, Holds, JournalStands, IsCutShort, BreaksBehind, JournalBreaks}
 use Rattle.disk_model.proofs.Journals.{opened-push, lengths-push, stands-holds}
 use Rattle.disk_model.proofs.Moments.{joined, weakened}
 use Rattle.fb_journal.specs.Marks.{mark_bytes}
 use Rattle.fb_journal.specs.Starts.{IsNotBad}
 use Rattle.fb_journal.specs.Windows.{Shows, OnlyReads}
-use Rattle.fb_journal.specs.Gates.{StandsAt}
-use Rattle.fb_journal.specs.Readings.{IsBegun, LeavesBegun, HasRead, IsRead, IsFirstFault}
+use Rattle.fb_journal.specs.Gates.{IsAheadAt}
+use Rattle.fb_journal.specs.Readings.{IsBegun, LeavesBegun, HasRead, HasReadAll, IsFirstFault}
 use Rattle.fb_journal.specs.declared.gates.Ahead.TheVariants.{CutShort, Record}
 use Rattle.fb_journal.specs.declared.readings.Reading.{Reading}
 use Rattle.fb_journal.specs.declared.starts.StartFault.{StartFault}
@@ -46,7 +47,7 @@ module _ {D : Type 0} (bytes : D → Option (List ℕ)) (images : D → List ℕ
         (λ image was. was)
         (λ image left. run.each image (counts_now old.disk (moment disk) image run.later left))
 
-    begun : WhereTold (bytes disk) (λ was. (now : List ℕ) × (bytes new.disk ≡ Some now) × IsBegun mark was now)
+    begun : IfKnown (bytes disk) (λ was. (now : List ℕ) × (bytes new.disk ≡ Some now) × IsBegun mark was now)
     begun = λ was told. let now = has.begun was told in (now.0, leaves.same ∙ now.1, now.2)
 
     -- the same records
@@ -69,8 +70,8 @@ module _ {D : Type 0} (bytes : D → Option (List ℕ)) (images : D → List ℕ
 
     -- and the one behind the gate
     pub read-more : (payload : List ℕ) (n : ℕ) → length payload ≡ n → new.records ≡ old.records + 1 → new.gate ≡ old.gate + 9 + n
-        → WhereTold (bytes old.disk) (λ file. Shows file old.window
-        → StandsAt file old.gate (Record n) × (payload ≡ take n (drop (old.gate + 9) file)))
+        → IfKnown (bytes old.disk) (λ file. Shows file old.window
+        → IsAheadAt file old.gate (Record n) × (payload ≡ take n (drop (old.gate + 9) file)))
         → HasRead bytes images moment since mark disk (records ++ payload ∷ []) new
     read-more payload n size count gate stands = record {
       marked = ap mark_bytes same ∙ has.marked;
@@ -125,8 +126,8 @@ module _ {D : Type 0} {g : _} (bytes : D → Option (List ℕ)) (images : D → 
       still_new mark records now was short new_one.0 (stands-holds mark records now fifteen holds)
   stands-begun was now (inr longer) holds = inr (longer.0, subst (Holds mark records) longer.1 holds)
 
-  pub read-all : WhereTold (bytes r.disk) (λ file. Shows file r.window → get_or file r.gate 0 ≢ 1)
-      → IsRead bytes images moment since mark disk records r
+  pub read-all : IfKnown (bytes r.disk) (λ file. Shows file r.window → get_or file r.gate 0 ≢ 1)
+      → HasReadAll bytes images moment since mark disk records r
   read-all closed = record {
     read = has;
     stands = stands;
@@ -136,7 +137,7 @@ module _ {D : Type 0} {g : _} (bytes : D → Option (List ℕ)) (images : D → 
         (λ image left. ⊎_elim (λ old. inl old) (λ short. inr (still_new mark records was image short.0 short.1 (stands was told))) left);
   }
     where
-      stands : WhereTold (bytes disk) (λ file. JournalStands mark records file)
+      stands : IfKnown (bytes disk) (λ file. JournalStands mark records file)
       stands = λ was told.
           let now = has.begun was told in
           stands-begun was now.0 now.2 (holds-closed now.0 now.1 (closed now.0 now.1 (has.file now.0 now.1).1))
@@ -154,7 +155,7 @@ module _ {D : Type 0} {g : _} (bytes : D → Option (List ℕ)) (images : D → 
         place = omega (arith, has.gate);
       }
 
-  breaks-begun : (was now : List ℕ) → IsBegun mark was now → bytes r.disk ≡ Some now → StandsAt now r.gate CutShort
+  breaks-begun : (was now : List ℕ) → IsBegun mark was now → bytes r.disk ≡ Some now → IsAheadAt now r.gate CutShort
       → JournalBreaks mark records was r.records (r.gate + 1)
   breaks-begun was now (inl new_one) told at =
       let size : r.window.len ≡ 16 = omega (arith, (has.file now told).1.len, ap length new_one.1, fifteen, length-append mark (0 ∷ [])) in
@@ -166,19 +167,19 @@ module _ {D : Type 0} {g : _} (bytes : D → Option (List ℕ)) (images : D → 
       (longer.0, inr (subst (λ (f : List ℕ). BreaksBehind mark records f r.records (r.gate + 1)) longer.1 (breaks-here now told at.0 at.1)))
 
   pub first-fault : (fault : StartFault) → fault ≡ BadLog r.records (r.gate + 1)
-      → WhereTold (bytes r.disk) (λ file. Shows file r.window → StandsAt file r.gate CutShort)
+      → IfKnown (bytes r.disk) (λ file. Shows file r.window → IsAheadAt file r.gate CutShort)
       → IsFirstFault mark (bytes disk) records fault
   first-fault fault is stands =
       subst (IsFirstFault mark (bytes disk) records) (sym is)
       (λ was told. let now = has.begun was told in breaks-begun was now.0 now.2 now.1 (stands now.0 now.1 (has.file now.0 now.1).1))
 
-  no-fault : (fault : StartFault) → WhereTold (bytes disk) (λ was. IsNotBad fault) → IsFirstFault mark (bytes disk) records fault
+  no-fault : (fault : StartFault) → IfKnown (bytes disk) (λ was. IsNotBad fault) → IsFirstFault mark (bytes disk) records fault
   no-fault (BadLog nth at) not_bad = λ was told. absurd (not_bad was told)
   no-fault Disk not_bad = tt
   no-fault Memory not_bad = tt
 
   -- a fault that is none of a file that is told
-  pub other-fault : (fault : StartFault) → WhereTold (bytes r.disk) (λ file. Shows file r.window → IsNotBad fault)
+  pub other-fault : (fault : StartFault) → IfKnown (bytes r.disk) (λ file. Shows file r.window → IsNotBad fault)
       → IsFirstFault mark (bytes disk) records fault
   other-fault fault not_bad =
       no-fault fault (λ was told. let now = has.begun was told in not_bad now.0 now.1 (has.file now.0 now.1).1)

@@ -5,7 +5,7 @@ use lib.Dec.{eqb}
 use Rattle.std.proofs.lemmas.Bool.Decides.{Decides-eqb}
 use Rattle.std.proofs.lemmas.Slice.Eq.{slice_eq-Decides}
 use Rattle.std.proofs.lemmas.List.{take_all, get_or-take, get_or-drop}
-use Rattle.fb_journal.specs.Gates.{StandsBehind, StandsAt}
+use Rattle.fb_journal.specs.Gates.{IsAhead, IsAheadAt}
 use Rattle.fb_journal.specs.declared.gates.Ahead.{Ahead}
 use Rattle.fb_journal.specs.declared.gates.Ahead.TheVariants.{Closed, CutShort, Record}
 use Rattle.fb_journal.specs.declared.windows.Window.{Window}
@@ -17,8 +17,8 @@ first-byte file buf gate is =
     ∙ get_or-drop gate file 0 0
     ∙ ap (λ (n : ℕ). get_or file n 0) (omega arith)
 
-pub stands-open : (file : List ℕ) (gate : ℕ) (ahead : Ahead) → get_or file gate 0 ≡ 1 → StandsBehind (drop (gate + 1) file) ahead
-    → StandsAt file gate ahead
+pub stands-open : (file : List ℕ) (gate : ℕ) (ahead : Ahead) → get_or file gate 0 ≡ 1 → IsAhead (drop (gate + 1) file) ahead
+    → IsAheadAt file gate ahead
 stands-open file gate Closed is stands = absurd stands
 stands-open file gate CutShort is stands = (is, stands)
 stands-open file gate (Record len) is stands = (is, stands)

@@ -1,5 +1,6 @@
 -- What one more record does to the records of a file's bytes that were read so far.
-use Rattle.std.proofs.Common.{inl, inr, ◌≡◌, ◌+◌, ◌≤◌, ◌<◌, ℕ, List, [], ◌∷◌, ◌++◌, length, get_or, take, drop, suc, sym, ◌∙◌, ap, arith, append_assoc, length-take, length-drop}
+use Rattle.std.proofs.Common.{inl, inr, ◌≡◌, ◌+◌, ◌≤◌, ◌<◌, ℕ, List, [], ◌∷◌, ◌++◌, length, get_or, take, drop, suc, sym, ◌∙◌, ap, arith}
+use Rattle.std.proofs.Common.{append_assoc, length-take, length-drop}
 use Rattle.std.proofs.lemmas.List.{drop_more, drop-drop, get_or-take, get_or-drop, get_or_past, map-append}
 use Rattle.std.proofs.lemmas.Bool.{cases_lt}
 use Rattle.std.proofs.lemmas.Nat.{be_bytes_8}
@@ -34,7 +35,8 @@ module _ (file : List ℕ) (gate n : ℕ) (within : gate < length file) (open_ga
   payload = take n (drop (gate + 1 + 8) file)
 
   length-payload : length payload ≡ n
-  length-payload = omega (arith, room, length-take n (drop (gate + 1 + 8) file), length-drop (gate + 1 + 8) file, length-drop (gate + 1) file)
+  length-payload =
+      omega (arith, room, length-take n (drop (gate + 1 + 8) file), length-drop (gate + 1 + 8) file, length-drop (gate + 1) file)
 
   bytes-length : to_be_bytes w64 (length payload) ≡ take 8 rest
   bytes-length = ap (λ (k : ℕ). to_be_bytes w64 k) length-payload ∙ told
@@ -52,7 +54,8 @@ module _ (file : List ℕ) (gate n : ℕ) (within : gate < length file) (open_ga
       ap (λ (l : List ℕ). take (1 + (8 + n)) l) front ∙ ap (λ (k : ℕ). take k (1 ∷ rest)) more ∙ ap (λ (l : List ℕ). 1 ∷ l) behind
 
   -- the records with one more
-  pub front-more : (mark : List ℕ) (records : List (List ℕ)) → take gate file ≡ mark ++ opened records → take (gate + 1 + 8 + n) file ≡ mark ++ opened (records ++ payload ∷ [])
+  pub front-more : (mark : List ℕ) (records : List (List ℕ)) → take gate file ≡ mark ++ opened records
+      → take (gate + 1 + 8 + n) file ≡ mark ++ opened (records ++ payload ∷ [])
   front-more mark records so_far =
       let sum : gate + 1 + 8 + n ≡ gate + (1 + (8 + n)) = omega arith in
       ap (λ (k : ℕ). take k file) sum ∙ take-add gate (1 + (8 + n)) file
@@ -61,9 +64,11 @@ module _ (file : List ℕ) (gate n : ℕ) (within : gate < length file) (open_ga
       ∙ append_assoc mark (opened records) (1 ∷ framed payload)
       ∙ ap (λ (l : List ℕ). mark ++ l) (sym (opened-push records payload))
 
-pub payloads_of-push : (file : List ℕ) (places : List Span) (place : Span) → payloads_of file (places ++ place ∷ []) ≡ payloads_of file places ++ payload_at file place ∷ []
+pub payloads_of-push : (file : List ℕ) (places : List Span) (place : Span)
+    → payloads_of file (places ++ place ∷ []) ≡ payloads_of file places ++ payload_at file place ∷ []
 payloads_of-push file places place = map-append (payload_at file) places (place ∷ [])
 
-pub within-push : (file : List ℕ) (places : List Span) (place : Span) → AreWithin file places → place.start + place.len ≤ length file → AreWithin file (places ++ place ∷ [])
+pub within-push : (file : List ℕ) (places : List Span) (place : Span) → AreWithin file places → place.start + place.len ≤ length file
+    → AreWithin file (places ++ place ∷ [])
 within-push file [] place so_far ends = (ends, tt)
 within-push file (p ∷ places) place so_far ends = (so_far.0, within-push file places place so_far.1 ends)

@@ -2,6 +2,6 @@
 -- This project's own choice.
 use Rattle.std.specs.Prelude.{◌-◌, ℕ, List, length, take, drop}
 
--- what lies between the length in front and the gate behind
+-- what lies between the length in front and the gate after
 abbrev pub payload_in : List ℕ → List ℕ
 payload_in bytes = take (length bytes - 9) (drop 8 bytes)

@@ -5,7 +5,7 @@ use Rattle.disk_model.specs.Journal.{opened, Holds, JournalStands, JournalBreaks
 use Rattle.fb_journal.specs.declared.records.End.{End}
 use Rattle.fb_journal.specs.declared.records.End.TheVariants.{Closed, Broken}
 
--- behind these records, at a closed gate or at the first fault
+-- after these records, at a closed gate or at the first fault
 abbrev pub EndsAt : List ℕ → List (List ℕ) → List ℕ → End → Type 0
 EndsAt mark records file (Closed gate) =
     Holds mark records file × (gate ≡ length mark + length (opened records))

@@ -8,7 +8,7 @@ use fb_memory::Memory;
 use std::alloc::Global;
 use std::marker::Model;
 
-/// What a record takes beside its payload: the length in front, and the gate behind.
+/// What a record takes beside its payload: the length in front, and the gate after.
 const AROUND: usize = 9;
 
 /// One record, ready to be written: the length of its payload, the payload, and the closed gate of the next record. A
@@ -48,7 +48,7 @@ pub fn frame(alloc: Global, payload: &[u8]) -> Result<Framed, Memory>
     frame_in(bytes)
 }
 
-/// Makes the record of the payload behind the first 8 bytes, in place: its length is written over them. It takes no memory
+/// Makes the record of the payload after the first 8 bytes, in place: its length is written over them. It takes no memory
 /// where the vector has room for one byte more.
 pub fn frame_in(bytes: Vec<u8>) -> Result<Framed, Memory>
     requires { 8 ≤ length bytes.items }
@@ -60,7 +60,7 @@ pub fn frame_in(bytes: Vec<u8>) -> Result<Framed, Memory>
     Ok(Framed { bytes })
 }
 
-/// Writes how many bytes stand behind the first 8, over these.
+/// Writes how many bytes follow the first 8, over these.
 fn write_length(bytes: &mut [u8])
     requires { 8 ≤ length bytes.old }
     ensures { bytes.new ≡ to_be_bytes w64 (length bytes.old - 8) ++ drop 8 bytes.old }

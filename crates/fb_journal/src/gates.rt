@@ -1,9 +1,9 @@
-//! What stands at a gate of a file.
+//! What is at a gate of a file.
 ghost use Rattle.std.specs.Prelude.{◌≡◌, ◌≤◌, ◌<◌, ◌+◌, drop, IfOk};
 ghost use Rattle.std.specs.Int.{w64, to_be_bytes, from_be_bytes};
-ghost use Rattle.fb_calls.specs.Faults.{Counts};
-ghost use Rattle.disk_model.specs.Disk.{WhereTold};
-ghost use Rattle.fb_journal.specs.Gates.{StandsAt, StandsBehind, HasRoom};
+ghost use Rattle.io_faults.specs.Faults.{Counts};
+ghost use Rattle.disk_model.specs.Disk.{IfKnown};
+ghost use Rattle.fb_journal.specs.Gates.{IsAheadAt, IsAhead, HasRoom};
 ghost use Rattle.fb_journal.specs.Windows.{Shows, OnlyReads};
 
 use crate::records::{LENGTH, OPEN};
@@ -14,21 +14,21 @@ use fb_disk::{Disk, Failed};
 pub(crate) enum Ahead {
     /// The gate is closed.
     Closed,
-    /// Behind the open gate there is no length, or one that leaves no room for the payload and the next gate.
+    /// After the open gate there is no length, or one that leaves no room for the payload and the next gate.
     CutShort,
     /// The gate is open, and a payload of this length follows.
     Record { len: usize },
 }
 
-/// Looks at a gate, and where it is open at the length behind it.
+/// Looks at a gate, and where it is open at the length after it.
 pub(crate) fn look_ahead<D: Disk>(
     disk: &mut D,
     window: &mut Window,
     gate: u64,
 ) -> Result<Ahead, Failed>
     requires { gate < window.old.len }
-    ensures stands { IfOk result (λ ahead. WhereTold (D.bytes disk.old) (λ file. Shows file window.old
-        → StandsAt file gate ahead)) }
+    ensures stands { IfOk result (λ ahead. IfKnown (D.bytes disk.old) (λ file. Shows file window.old
+        → IsAheadAt file gate ahead)) }
     ensures room { IfOk result (HasRoom window.old.len (gate + 1)) }
     ensures leaves { OnlyReads D.bytes D.images D.moment D.images_since disk.old disk.new
         window.old window.new }
@@ -44,11 +44,11 @@ pub(crate) fn look_ahead<D: Disk>(
     look_behind(disk, window, gate + 1)
 }
 
-/// Looks at what stands behind an open gate.
+/// Looks at what follows an open gate.
 fn look_behind<D: Disk>(disk: &mut D, window: &mut Window, at: u64) -> Result<Ahead, Failed>
     requires { at ≤ window.old.len }
-    ensures stands { IfOk result (λ ahead. WhereTold (D.bytes disk.old) (λ file. Shows file window.old
-        → StandsBehind (drop at file) ahead)) }
+    ensures stands { IfOk result (λ ahead. IfKnown (D.bytes disk.old) (λ file. Shows file window.old
+        → IsAhead (drop at file) ahead)) }
     ensures room { IfOk result (HasRoom window.old.len at) }
     ensures leaves { OnlyReads D.bytes D.images D.moment D.images_since disk.old disk.new
         window.old window.new }

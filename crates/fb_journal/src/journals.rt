@@ -1,7 +1,7 @@
 //! A journal over a disk.
 ghost use Rattle.std.specs.Prelude.{◌≡◌, ◌≤◌, ◌<◌, ◌+◌, ◌^◌, ◌++◌, [], ◌∷◌, ℕ, List, None, Some, OnOk, IsErrOf};
-ghost use Rattle.fb_calls.specs.Faults.{Rose};
-ghost use Rattle.disk_model.specs.Disk.{WhereTold, LeavesOnly};
+ghost use Rattle.io_faults.specs.Faults.{Rose};
+ghost use Rattle.disk_model.specs.Disk.{IfKnown, LeavesOnly};
 
 use crate::marks::MARK;
 use crate::stores::{add_record, empty};
@@ -21,7 +21,7 @@ pub enum JournalFault {
 }
 
 /// A journal whose file is on the disk. After a fault it stops: the file then holds the records from before, or those
-/// with the new one, and which of the two a new start tells.
+/// with the new one, and a new start finds out which.
 #[derive(Drop)]
 pub struct Journal<D: Disk> {
     pub(crate) disk: D,
@@ -34,7 +34,7 @@ pub struct Journal<D: Disk> {
 }
 
 impl<D: Disk> Journal<D> {
-    ghost use Rattle.fb_journal.specs.Journals.{disk_of, mark_of, stop_of, count_of, Keeps, StaysTold, IsBeforeOrAfter};
+    ghost use Rattle.fb_journal.specs.Journals.{disk_of, mark_of, stop_of, count_of, Keeps, StaysKnown, IsBeforeOrAfter};
     ghost use Rattle.fb_journal.specs.declared.journals.JournalFault.{JournalFault};
 
     /// Adds a record. At Ok it is on the disk: from then on each crash leaves a file that has it. It takes no memory.
@@ -45,11 +45,11 @@ impl<D: Disk> Journal<D> {
 
         // A crash at any moment of the call leaves the records from before it, or those with the new one.
         ensures any_moment { (records : List (List ℕ)) → Keeps D.bytes D.images records self.old
-            → WhereTold (D.bytes (disk_of self.old)) (λ _. LeavesOnly D.moment D.images_since
+            → IfKnown (D.bytes (disk_of self.old)) (λ _. LeavesOnly D.moment D.images_since
             (disk_of self.old) (disk_of self.new)
             (IsBeforeOrAfter (mark_of self.old) records framed.now)) }
-        ensures told { OnOk result
-            (StaysTold (D.bytes (disk_of self.old)) (D.bytes (disk_of self.new))) }
+        ensures known { OnOk result
+            (StaysKnown (D.bytes (disk_of self.old)) (D.bytes (disk_of self.new))) }
         ensures mark { mark_of self.new ≡ mark_of self.old }
 
         // It fails only where the disk did, and then stops at this record.
@@ -83,8 +83,8 @@ impl<D: Disk> Journal<D> {
     /// memory.
     pub fn reset(&mut self) -> Result<(), JournalFault>
         ensures emptied { OnOk result (Keeps D.bytes D.images [] self.new) }
-        ensures told { OnOk result
-            (StaysTold (D.bytes (disk_of self.old)) (D.bytes (disk_of self.new))) }
+        ensures known { OnOk result
+            (StaysKnown (D.bytes (disk_of self.old)) (D.bytes (disk_of self.new))) }
         ensures mark { mark_of self.new ≡ mark_of self.old }
 
         // It fails only where the disk did, and then stops at record 0.

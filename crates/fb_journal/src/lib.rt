@@ -1,4 +1,4 @@
-//! Journals: a file of records behind gates, of which a crash leaves those before it, or those with the one that was
+//! Journals: a file of records after gates, of which a crash leaves those before it, or those with the one that was
 //! being added. A record is acknowledged when it is on the disk.
 #![tactic(auto)]
 

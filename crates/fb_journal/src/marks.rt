@@ -3,7 +3,7 @@ ghost use Rattle.std.specs.Prelude.{◌≡◌};
 ghost use Rattle.disk_model.specs.Journal.{new_journal};
 ghost use Rattle.fb_journal.specs.Marks.{mark_bytes};
 
-/// How long a mark is. The gate of the first record stands behind it.
+/// How long a mark is. The gate of the first record follows it.
 pub(crate) const MARK: usize = 15;
 
 /// What the file begins with.

@@ -1,6 +1,6 @@
 //! Opening the file of a journal, whose records are read later.
 ghost use Rattle.std.specs.Prelude.{◌≡◌, ◌≤◌, ◌<◌, ℕ, List, [], length, take, Some, IfOk, IfErr, MatchResult};
-ghost use Rattle.disk_model.specs.Disk.{Only, Within, WhereTold, LeavesOnly};
+ghost use Rattle.disk_model.specs.Disk.{Only, Within, IfKnown, LeavesOnly};
 ghost use Rattle.fb_journal.specs.Marks.{mark_bytes};
 ghost use Rattle.fb_journal.specs.Readings.{IsBegun, LeavesBegun};
 ghost use Rattle.fb_journal.specs.Starts.{CountsStart, IsWhyNot};
@@ -18,9 +18,9 @@ use std::alloc::Global;
 
 /// Makes a new journal of a file that is no longer than one, and of a longer one reads the mark.
 pub(crate) fn begin<D: Disk>(alloc: Global, disk: &mut D, mark: Mark) -> Result<Window, StartFault>
-    ensures begun { IfOk result (λ _. WhereTold (D.bytes disk.old) (λ was. (now : List ℕ)
+    ensures begun { IfOk result (λ _. IfKnown (D.bytes disk.old) (λ was. (now : List ℕ)
         × (D.bytes disk.new ≡ Some now) × IsBegun (mark_bytes mark) was now)) }
-    ensures file { IfOk result (λ window. WhereTold (D.bytes disk.new) (λ file.
+    ensures file { IfOk result (λ window. IfKnown (D.bytes disk.new) (λ file.
         (take 15 file ≡ mark_bytes mark) × Shows file window × Only file (D.images disk.new))) }
     ensures room { IfOk result (λ window. 15 < window.len) }
     ensures why_not { IfErr result
@@ -48,8 +48,8 @@ fn read_mark<D: Disk>(
     len: u64,
 ) -> Result<Window, StartFault>
     requires longer { 16 < len }
-    requires len { WhereTold (D.bytes disk.old) (λ file. len ≡ length file) }
-    ensures file { IfOk result (λ window. WhereTold (D.bytes disk.old) (λ file.
+    requires len { IfKnown (D.bytes disk.old) (λ file. len ≡ length file) }
+    ensures file { IfOk result (λ window. IfKnown (D.bytes disk.old) (λ file.
         (take 15 file ≡ mark_bytes mark) × Shows file window)) }
     ensures len { IfOk result (λ window. window.len ≡ len) }
     ensures why_not { IfErr result

@@ -1,6 +1,6 @@
 //! Reading a journal record by record. Of the file no more is in memory than a window and one payload.
 ghost use Rattle.std.specs.Prelude.{◌≡◌, ◌⊎◌, ◌≤◌, ◌<◌, ◌+◌, ◌-◌, ◌^◌, ◌++◌, [], ◌∷◌, ℕ, List, length, take, drop, IfOk, IfErr, OnOk, OnErr, MatchOption, MatchResult, ⊤};
-ghost use Rattle.disk_model.specs.Disk.{WhereTold, LeavesOnly};
+ghost use Rattle.disk_model.specs.Disk.{IfKnown, LeavesOnly};
 ghost use Rattle.disk_model.specs.Journal.{opened};
 ghost use Rattle.fb_journal.specs.Marks.{mark_bytes};
 ghost use Rattle.fb_journal.specs.Journals.{disk_of, mark_of, Keeps};
@@ -14,10 +14,10 @@ use crate::{Journal, Mark, Payloads, StartFault, StartStop};
 use fb_disk::Disk;
 use std::alloc::Global;
 
-/// What stands in front of a payload: an open gate, and the payload's length.
+/// What precedes a payload: an open gate, and the payload's length.
 const BEFORE_PAYLOAD: u64 = 9;
 
-/// Where a record stands: its number, counted from 0, and the byte of the file at which its payload begins.
+/// The place of a record: its number, counted from 0, and the byte of the file at which its payload begins.
 #[derive(Clone, Copy, Debug, PartialEq, Eq)]
 pub struct Place {
     pub nth: u64,
@@ -80,10 +80,10 @@ impl<D: Disk> Journal<D> {
 
 impl<D: Disk> Reading<D> {
     ghost use Rattle.fb_journal.specs.Windows.{Shows, OnlyReads};
-    ghost use Rattle.fb_journal.specs.Readings.{disk_from, left_in, HasRead, IsRead, IsFirstFault};
+    ghost use Rattle.fb_journal.specs.Readings.{disk_from, left_in, HasRead, HasReadAll, IsFirstFault};
     ghost use Rattle.fb_journal.specs.declared.starts.StartFault.{StartFault};
 
-    /// Reads the next record's payload, in place of what the vector holds, and answers where the record stands; or answers
+    /// Reads the next record's payload, in place of what the vector holds, and answers the place of the record; or answers
     /// that there is none. After an error the reading is where it was.
     pub fn next(&mut self, payload: &mut Vec<u8>) -> Result<Option<Place>, StartFault>
         ensures record { IfOk result (λ next. MatchOption next ⊤ (λ place. (mark : List ℕ) (disk : D)
@@ -96,7 +96,7 @@ impl<D: Disk> Reading<D> {
         ensures end { IfOk result (λ next. MatchOption next ((mark : List ℕ) (disk : D)
             (records : List (List ℕ))
             → HasRead D.bytes D.images D.moment D.images_since mark disk records self.old
-            → IsRead D.bytes D.images D.moment D.images_since mark disk records self.new)
+            → HasReadAll D.bytes D.images D.moment D.images_since mark disk records self.new)
             (λ _. ⊤)) }
 
         // A fault of the file is its first, and the disk's is counted.
@@ -122,7 +122,7 @@ impl<D: Disk> Reading<D> {
         }
     }
 
-    /// Reads the payload of this length behind the gate.
+    /// Reads the payload of this length after the gate.
     fn take(&mut self, len: usize, payload: &mut Vec<u8>) -> Result<Place, StartFault>
         requires { self.old.gate + 9 + len < self.old.window.len }
         ensures place { IfOk result (λ place. (place.nth ≡ self.old.records)
@@ -130,7 +130,7 @@ impl<D: Disk> Reading<D> {
         ensures len { OnOk result (length payload.new.items ≡ len) }
         ensures gone_on { OnOk result ((self.new.records ≡ self.old.records + 1)
             × (self.new.gate ≡ self.old.gate + 9 + len)) }
-        ensures read { OnOk result (WhereTold (D.bytes (disk_from self.old)) (λ file.
+        ensures read { OnOk result (IfKnown (D.bytes (disk_from self.old)) (λ file.
             Shows file self.old.window
             → payload.new.items ≡ take len (drop (self.old.gate + 9) file))) }
         ensures stays { OnErr result ((self.new.records ≡ self.old.records)
@@ -138,7 +138,7 @@ impl<D: Disk> Reading<D> {
         ensures mark { self.new.mark ≡ self.old.mark }
         ensures leaves { OnlyReads D.bytes D.images D.moment D.images_since (disk_from self.old)
             (disk_from self.new) self.old.window self.new.window }
-        ensures why_not { IfErr result (λ fault. WhereTold (D.bytes (disk_from self.old)) (λ file.
+        ensures why_not { IfErr result (λ fault. IfKnown (D.bytes (disk_from self.old)) (λ file.
             Shows file self.old.window → IsNotBad fault)) }
         ensures counted { MatchResult result
             (λ _. D.faults (disk_from self.new) ≡ D.faults (disk_from self.old))
@@ -158,7 +158,7 @@ impl<D: Disk> Reading<D> {
         Ok(place)
     }
 
-    /// The fault of the record behind the gate.
+    /// The fault of the record after the gate.
     fn broken(&self) -> StartFault
         ensures { result ≡ StartFault.BadLog self.now.records (self.now.gate + 1) }
     {
@@ -168,13 +168,13 @@ impl<D: Disk> Reading<D> {
         }
     }
 
-    /// The journal that goes on behind the records, once all are read.
+    /// The journal that goes on after the records, once all are read.
     pub fn finish(self) -> Journal<D>
         requires { (mark : List ℕ) × (disk : D) × (records : List (List ℕ))
-            × IsRead D.bytes D.images D.moment D.images_since mark disk records self }
+            × HasReadAll D.bytes D.images D.moment D.images_since mark disk records self }
         ensures disk { disk_of result ≡ disk_from self }
         ensures keeps { (mark : List ℕ) (disk : D) (records : List (List ℕ))
-            → IsRead D.bytes D.images D.moment D.images_since mark disk records self
+            → HasReadAll D.bytes D.images D.moment D.images_since mark disk records self
             → Keeps D.bytes D.images records result × (mark_of result ≡ mark) }
     {
         Journal {

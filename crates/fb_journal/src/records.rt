@@ -47,7 +47,7 @@ pub(crate) fn read_records(alloc: Global, file: Vec<u8>, mark: Mark) -> Result<R
     })
 }
 
-/// Goes over the records behind the mark.
+/// Goes over the records after the mark.
 fn read_places(alloc: Global, file: &[u8]) -> Result<(Vec<Span>, End), AllocError>
     requires { 15 < length file.now }
     ensures within { IfOk result (λ r. AreWithin file.now r.0.items) }
@@ -69,7 +69,7 @@ fn read_places(alloc: Global, file: &[u8]) -> Result<(Vec<Span>, End), AllocErro
     Ok((places, End::Closed { gate }))
 }
 
-/// The length in front of what stands behind an open gate, where it leaves room for the payload and the next gate.
+/// The length in front of what follows an open gate, where it leaves room for the payload and the next gate.
 fn payload_len(rest: &[u8]) -> Option<usize>
     ensures { MatchOption result (IsCutShort rest.now)
         (λ n. (n ≡ from_be_bytes w64 (take 8 rest.now)) × (8 + n + 1 ≤ length rest.now)) }

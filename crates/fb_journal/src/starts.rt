@@ -1,11 +1,11 @@
 //! Starting a journal: a new one, or what a file holds.
 ghost use Rattle.std.specs.Prelude.{◌≡◌, ◌⊎◌, ◌≤◌, ◌<◌, [], length, None, IfOk, IfErr, OnOk, MatchResult};
-ghost use Rattle.fb_calls.specs.Faults.{Rose};
-ghost use Rattle.disk_model.specs.Disk.{WhereTold, LeavesOnly};
+ghost use Rattle.io_faults.specs.Faults.{Rose};
+ghost use Rattle.disk_model.specs.Disk.{IfKnown, LeavesOnly};
 ghost use Rattle.disk_model.specs.Journal.{JournalStands};
 ghost use Rattle.fb_journal.specs.Marks.{mark_bytes};
 ghost use Rattle.fb_journal.specs.Walks.{IsReading};
-ghost use Rattle.fb_journal.specs.Journals.{disk_of, mark_of, Keeps, StaysTold};
+ghost use Rattle.fb_journal.specs.Journals.{disk_of, mark_of, Keeps, StaysKnown};
 ghost use Rattle.fb_journal.specs.Starts.{CountsStart, IsNotBad, IsPlace, IsKept};
 
 use crate::marks::MARK;
@@ -65,7 +65,7 @@ impl From<AllocError> for StartFault {
 }
 
 impl<D: Disk> Journal<D> {
-    ghost use Rattle.fb_journal.specs.Journals.{disk_of, mark_of, Keeps, StaysTold};
+    ghost use Rattle.fb_journal.specs.Journals.{disk_of, mark_of, Keeps, StaysKnown};
     ghost use Rattle.fb_journal.specs.Starts.{CountsStart, IsWhyNot, IsPlace, IsFaultOf, disk_after};
     ghost use Rattle.fb_journal.specs.declared.records.End.TheVariants.{Closed};
 
@@ -73,10 +73,10 @@ impl<D: Disk> Journal<D> {
     /// they stand for, or their first fault.
     pub fn start(alloc: Global, disk: D, mark: Mark) -> Result<(Journal<D>, Payloads), StartStop<D>>
         ensures stands { IfOk result
-            (λ r. WhereTold (D.bytes disk) (λ file. JournalStands (mark_bytes mark) r.1 file)) }
+            (λ r. IfKnown (D.bytes disk) (λ file. JournalStands (mark_bytes mark) r.1 file)) }
         ensures keeps { IfOk result (λ r. Keeps D.bytes D.images r.1 r.0) }
         ensures mark { IfOk result (λ r. mark_of r.0 ≡ mark_bytes mark) }
-        ensures told { IfOk result (λ r. StaysTold (D.bytes disk) (D.bytes (disk_of r.0))) }
+        ensures known { IfOk result (λ r. StaysKnown (D.bytes disk) (D.bytes (disk_of r.0))) }
 
         // A fault of the file is its first, and the disk's is counted.
         ensures why_not { IfErr result
@@ -85,12 +85,12 @@ impl<D: Disk> Journal<D> {
             (λ s. CountsStart s.fault (D.faults disk) (D.faults s.disk)) }
 
         // A crash at any moment leaves an image from before, or at most 16 bytes where there were no more: a new journal.
-        ensures any_moment { WhereTold (D.bytes disk) (λ file. LeavesOnly D.moment D.images_since
+        ensures any_moment { IfKnown (D.bytes disk) (λ file. LeavesOnly D.moment D.images_since
             disk (disk_after result)
             (λ image. D.images disk image ⊎ ((length file ≤ 16) × (length image ≤ 16)))) }
 
         // So it leaves an image from before, or a file that stands for the same records.
-        ensures any_moment_stands { IfOk result (λ r. WhereTold (D.bytes disk) (λ _. LeavesOnly
+        ensures any_moment_stands { IfOk result (λ r. IfKnown (D.bytes disk) (λ _. LeavesOnly
             D.moment D.images_since disk (disk_of r.0)
             (λ image. D.images disk image ⊎ JournalStands (mark_bytes mark) r.1 image))) }
     {
@@ -109,7 +109,7 @@ impl<D: Disk> Journal<D> {
     pub fn anew(alloc: Global, disk: D, mark: Mark) -> Result<Journal<D>, StartStop<D>>
         ensures keeps { IfOk result (λ j. Keeps D.bytes D.images [] j) }
         ensures mark { IfOk result (λ j. mark_of j ≡ mark_bytes mark) }
-        ensures told { IfOk result (λ j. StaysTold (D.bytes disk) (D.bytes (disk_of j))) }
+        ensures known { IfOk result (λ j. StaysKnown (D.bytes disk) (D.bytes (disk_of j))) }
         ensures why_not { IfErr result (λ s. (s.fault ≡ StartFault.Disk) × (s.before ≡ [])) }
         ensures counted { MatchResult result (λ j. D.faults (disk_of j) ≡ D.faults disk)
             (λ s. Rose (D.faults disk) (D.faults s.disk)) }
@@ -131,7 +131,7 @@ impl<D: Disk> Journal<D> {
         }
     }
 
-    /// The journal that goes on behind these records, or their fault.
+    /// The journal that goes on after these records, or their fault.
     fn behind(disk: D, mark: Mark, records: Records) -> Result<(Journal<D>, Payloads), StartStop<D>>
         requires { IsPlace records.payloads records.end }
         ensures { MatchResult result
@@ -170,16 +170,16 @@ impl<D: Disk> Journal<D> {
 /// Reads what a disk holds, or makes a new journal on it. A file that is longer than what can be read of it is no new
 /// journal, and is not written over.
 fn open_records<D: Disk>(alloc: Global, disk: &mut D, mark: Mark) -> Result<Records, StartFault>
-    ensures reading { IfOk result (λ r. WhereTold (D.bytes disk.old)
+    ensures reading { IfOk result (λ r. IfKnown (D.bytes disk.old)
         (λ file. IsReading (mark_bytes mark) r.payloads file r.end)) }
     ensures place { IfOk result (λ r. IsPlace r.payloads r.end) }
     ensures kept { IfOk result
         (λ r. IsKept D.bytes D.images (mark_bytes mark) r.payloads disk.new r.end) }
-    ensures told { OnOk result (StaysTold (D.bytes disk.old) (D.bytes disk.new)) }
+    ensures known { OnOk result (StaysKnown (D.bytes disk.old) (D.bytes disk.new)) }
     ensures not_bad { IfErr result IsNotBad }
     ensures counted { MatchResult result (λ _. D.faults disk.new ≡ D.faults disk.old)
         (λ e. CountsStart e (D.faults disk.old) (D.faults disk.new)) }
-    ensures any_moment { WhereTold (D.bytes disk.old) (λ file. LeavesOnly D.moment D.images_since
+    ensures any_moment { IfKnown (D.bytes disk.old) (λ file. LeavesOnly D.moment D.images_since
         disk.old disk.new
         (λ image. D.images disk.old image ⊎ ((length file ≤ 16) × (length image ≤ 16)))) }
 {

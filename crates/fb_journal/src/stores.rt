@@ -1,20 +1,20 @@
 //! What a journal does to its disk. Each call leaves on the disk what it wrote before it answers Ok.
 ghost use Rattle.std.specs.Prelude.{◌≡◌, ◌⊎◌, ◌<◌, ◌+◌, ◌^◌, [], ◌∷◌, List, ℕ, length, OnOk, option_map};
-ghost use Rattle.fb_calls.specs.Faults.{Counts};
-ghost use Rattle.disk_model.specs.Disk.{written, Torn, Only, WhereTold, LeavesOnly};
+ghost use Rattle.io_faults.specs.Faults.{Counts};
+ghost use Rattle.disk_model.specs.Disk.{written, Torn, Only, IfKnown, LeavesOnly};
 ghost use Rattle.disk_model.specs.Journal.{new_journal};
 ghost use Rattle.fb_journal.specs.Marks.{mark_bytes};
 
 use crate::Mark;
-use fb_calls::Failed;
 use fb_disk::Disk;
+use io_faults::Failed;
 
 pub(crate) fn store<D: Disk>(disk: &mut D, at: u64, piece: &[u8]) -> Result<(), Failed>
     ensures within { OnOk result (at + length piece.now < 2 ^ 64) }
     ensures bytes { OnOk result
         (D.bytes disk.new ≡ option_map (written at piece.now) (D.bytes disk.old)) }
     ensures durable { OnOk result
-        (WhereTold (D.bytes disk.new) (λ file. Only file (D.images disk.new))) }
+        (IfKnown (D.bytes disk.new) (λ file. Only file (D.images disk.new))) }
     ensures any_moment { (file : List ℕ) → Only file (D.images disk.old)
         → LeavesOnly D.moment D.images_since disk.old disk.new (Torn at (length piece.now) file) }
     ensures counted { Counts result (D.faults disk.old) (D.faults disk.new) }
@@ -23,7 +23,7 @@ pub(crate) fn store<D: Disk>(disk: &mut D, at: u64, piece: &[u8]) -> Result<(), 
     disk.sync()
 }
 
-/// Writes a record behind its closed gate, and then opens the gate.
+/// Writes a record after its closed gate, and then opens the gate.
 pub(crate) fn add_record<D: Disk>(disk: &mut D, gate: u64, piece: &[u8]) -> Result<(), Failed>
     requires { gate + 1 < 2 ^ 64 }
     ensures within { OnOk result (gate + 1 + length piece.now < 2 ^ 64) }
@@ -31,8 +31,8 @@ pub(crate) fn add_record<D: Disk>(disk: &mut D, gate: u64, piece: &[u8]) -> Resu
         ≡ option_map (λ file. written gate (1 ∷ []) (written (gate + 1) piece.now file))
         (D.bytes disk.old)) }
     ensures durable { OnOk result
-        (WhereTold (D.bytes disk.new) (λ file. Only file (D.images disk.new))) }
-    ensures any_moment { WhereTold (D.bytes disk.old) (λ file. Only file (D.images disk.old)
+        (IfKnown (D.bytes disk.new) (λ file. Only file (D.images disk.new))) }
+    ensures any_moment { IfKnown (D.bytes disk.old) (λ file. Only file (D.images disk.old)
         → LeavesOnly D.moment D.images_since disk.old disk.new (λ image. Torn (gate + 1)
         (length piece.now) file image
         ⊎ Torn gate 1 (written (gate + 1) piece.now file) image)) }
@@ -42,13 +42,13 @@ pub(crate) fn add_record<D: Disk>(disk: &mut D, gate: u64, piece: &[u8]) -> Resu
     store(disk, gate, &[1])
 }
 
-/// Starts the file anew. The cut is on the disk before anything is written: what a torn cut leaves could else stand
-/// behind the new journal's bytes.
+/// Starts the file anew. The cut is on the disk before anything is written: what a torn cut leaves could otherwise come
+/// after the new journal's bytes.
 pub(crate) fn empty<D: Disk>(disk: &mut D, mark: Mark) -> Result<(), Failed>
     ensures bytes { OnOk result
         (D.bytes disk.new ≡ option_map (λ _. new_journal (mark_bytes mark)) (D.bytes disk.old)) }
     ensures durable { OnOk result
-        (WhereTold (D.bytes disk.new) (λ file. Only file (D.images disk.new))) }
+        (IfKnown (D.bytes disk.new) (λ file. Only file (D.images disk.new))) }
     ensures counted { Counts result (D.faults disk.old) (D.faults disk.new) }
 {
     disk.cut(0)?;

@@ -1,7 +1,7 @@
 //! Reading a file through a window, so that what is in memory of it does not grow with the file.
 ghost use Rattle.std.specs.Prelude.{◌≡◌, ◌≤◌, ◌<◌, ◌+◌, ◌-◌, ◌↔◌, ◌^◌, List, ℕ, Some, length, take, drop, min, IsTrue, IfOk, OnOk};
-ghost use Rattle.fb_calls.specs.Faults.{Counts};
-ghost use Rattle.disk_model.specs.Disk.{Within, WhereTold, LeavesOnly};
+ghost use Rattle.io_faults.specs.Faults.{Counts};
+ghost use Rattle.disk_model.specs.Disk.{Within, IfKnown, LeavesOnly};
 
 use crate::reads::fill;
 use fb_disk::{Disk, Failed};
@@ -36,7 +36,7 @@ impl Window {
         })
     }
 
-    /// Reads what stands at a place, and answers whether that fills the buffer. What does not fit into a window is read past
+    /// Reads what is at a place, and answers whether that fills the buffer. What does not fit into a window is read past
     /// it.
     pub(crate) fn read<D: Disk>(
         &mut self,
@@ -45,7 +45,7 @@ impl Window {
         buf: &mut [u8],
     ) -> Result<bool, Failed>
         requires { at + length buf.old ≤ self.old.len }
-        ensures read { IfOk result (λ whole. WhereTold (D.bytes disk.old) (λ file. Shows file self.old
+        ensures read { IfOk result (λ whole. IfKnown (D.bytes disk.old) (λ file. Shows file self.old
             → IsTrue whole × (buf.new ≡ take (length buf.old) (drop at file)))) }
         ensures leaves { OnlyReads D.bytes D.images D.moment D.images_since disk.old disk.new
             self.old self.new }
@@ -63,7 +63,7 @@ impl Window {
     fn show<D: Disk>(&mut self, disk: &mut D, at: u64, n: usize) -> Result<(), Failed>
         requires within { at + n ≤ self.old.len }
         requires room { n ≤ length self.old.bytes.items }
-        ensures shown { OnOk result (WhereTold (D.bytes disk.old) (λ file. Shows file self.old
+        ensures shown { OnOk result (IfKnown (D.bytes disk.old) (λ file. Shows file self.old
             → Has self.new at n)) }
         ensures leaves { OnlyReads D.bytes D.images D.moment D.images_since disk.old disk.new
             self.old self.new }
@@ -77,7 +77,7 @@ impl Window {
 
     fn move_to<D: Disk>(&mut self, disk: &mut D, at: u64) -> Result<(), Failed>
         requires { at ≤ self.old.len }
-        ensures shown { OnOk result (WhereTold (D.bytes disk.old) (λ file. Shows file self.old
+        ensures shown { OnOk result (IfKnown (D.bytes disk.old) (λ file. Shows file self.old
             → (n : ℕ) → at + n ≤ self.old.len → n ≤ length self.old.bytes.items
             → Has self.new at n)) }
         ensures leaves { OnlyReads D.bytes D.images D.moment D.images_since disk.old disk.new
@@ -116,12 +116,12 @@ impl Window {
     }
 }
 
-/// Fills the first n bytes of a buffer with what stands from a place on.
+/// Fills the first n bytes of a buffer with what the file has from a place on.
 fn fill_front<D: Disk>(disk: &mut D, at: u64, buf: &mut [u8], n: usize) -> Result<usize, Failed>
     requires within { n ≤ length buf.old }
     requires room { at + n < 2 ^ 64 }
     ensures within { IfOk result (λ filled. filled ≤ n) }
-    ensures read { IfOk result (λ filled. WhereTold (D.bytes disk.old)
+    ensures read { IfOk result (λ filled. IfKnown (D.bytes disk.old)
         (λ file. at + n ≤ length file
         → (filled ≡ n) × (take n buf.new ≡ take n (drop at file)))) }
     ensures bytes { D.bytes disk.new ≡ D.bytes disk.old }

@@ -3,5 +3,5 @@
 
 mod logs;
 
-pub use fb_calls::Failed;
+pub use io_faults::Failed;
 pub use logs::{Log, NoLog};

@@ -3,14 +3,14 @@ ghost use Rattle.std.specs.Prelude.{List, [], ◌∷◌, ◌++◌, IfOk, OnOk, O
 ghost use Rattle.fb_values.specs.declared.facts.Entry.{Entry};
 ghost use Rattle.fb_model.specs.Lawful.{IsLawful, IsLawfulAfter};
 
-use fb_calls::Failed;
 use fb_memory::Memory;
 use fb_values::Entry;
+use io_faults::Failed;
 use std::alloc::Global;
 
 /// A log that entries are added to, one after another.
 pub trait Log: Drop {
-    /// An entry as it will stand in the log.
+    /// An entry as it will be in the log.
     type Record: Drop;
 
     /// The record is of this entry.

@@ -1,4 +1,4 @@
-//! The one error of a call that was refused memory. Every layer stands on this crate.
+//! The one error of a call that was refused memory, for every layer.
 #![tactic(auto)]
 
 use std::alloc::{AllocError, AllocFailed};

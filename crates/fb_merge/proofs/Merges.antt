@@ -18,11 +18,11 @@ use Rattle.seg_tree.specs.declared.roots.Roots.{Roots}
 use Rattle.seg_tree.specs.Nodes.{tree_datoms}
 use Rattle.seg_merge.specs.Merged.{AreHeld, IsMergeable}
 use Rattle.seg_merge.specs.Standing.{CanMerge}
-use Rattle.fb_view.specs.Kept.{Kept, Stands}
+use Rattle.fb_view.specs.SnapshotModel.{SnapshotModel, Stands}
 use Rattle.fb_view.proofs.Standing.{coverage_of}
 use Rattle.seg_tree.proofs.Indexes.{list_in-trees_of}
 
-pub can_merge : (k : Kept) (roots : Lists) (coverage : Coverage) → Stands k → RootStands roots k.entries k.covered
+pub can_merge : (k : SnapshotModel) (roots : Lists) (coverage : Coverage) → Stands k → RootStands roots k.entries k.covered
     → HasCoverage coverage k.schema → CanMerge k.entries k.covered (basis k.entries) coverage roots k.live
 can_merge k roots coverage stands trees has = record {
   lawful = stands.history.lawful;
@@ -41,7 +41,7 @@ pub mergeable : (roots : Roots) (live : Lists) (order : Order) → IsMergeable o
 mergeable roots live order is = subst (λ ds. IsMergeable order ds (list_in live order)) (list_in-trees_of roots order) is
 
 -- the trees hold attributes of the value's older coverage alone
-pub are_held : (k : Kept) (roots : Roots) → Stands k → RootStands (trees_of roots) k.entries k.covered → (order : Order)
+pub are_held : (k : SnapshotModel) (roots : Roots) → Stands k → RootStands (trees_of roots) k.entries k.covered → (order : Order)
     → AreHeld k.held order (tree_datoms (tree_in roots order))
 are_held k roots stands trees order = λ i d within.
     let ds = tree_datoms (tree_in roots order) in

@@ -25,10 +25,12 @@ neither Less p q = absurd (true≢false p)
 neither Equal p q = refl
 neither Greater p q = absurd (true≢false q)
 
-pub equal_keys : (order : Order) (x y : Datom) → is_lt (key_cmp order x y) ≡ false → is_lt (key_cmp order y x) ≡ false → key_cmp order x y ≡ Equal
+pub equal_keys : (order : Order) (x y : Datom) → is_lt (key_cmp order x y) ≡ false → is_lt (key_cmp order y x) ≡ false
+    → key_cmp order x y ≡ Equal
 equal_keys order x y p q = neither (key_cmp order x y) p (sym (ap is_lt ((key_cmp_total order).antisymm y x)) ∙ q)
 
-pub put_has_new : (order : Order) (x : Datom) (ds : List Datom) → ((y : Datom) → Contains ds y → key_cmp order x y ≡ Equal → x ≡ y) → Contains (put_in_order order x ds) x
+pub put_has_new : (order : Order) (x : Datom) (ds : List Datom)
+    → ((y : Datom) → Contains ds y → key_cmp order x y ≡ Equal → x ≡ y) → Contains (put_in_order order x ds) x
 put_has_new order x [] same = here x []
 put_has_new order x (y ∷ ds) same =
     go (is_lt (key_cmp order x y)) refl (is_lt (key_cmp order y x)) refl (put_has_new order x ds (λ z member. same z (there y z ds member)))
@@ -41,7 +43,8 @@ put_has_new order x (y ∷ ds) same =
 
 pub put_has_old : (order : Order) (x : Datom) (ds : List Datom) (d : Datom) → Contains ds d → Contains (put_in_order order x ds) d
 put_has_old order x [] d member = absurd (none_of d member)
-put_has_old order x (y ∷ ds) d member = go (is_lt (key_cmp order x y)) (is_lt (key_cmp order y x)) (put_has_old order x ds d) (cases_of y d ds member)
+put_has_old order x (y ∷ ds) d member =
+    go (is_lt (key_cmp order x y)) (is_lt (key_cmp order y x)) (put_has_old order x ds d) (cases_of y d ds member)
   where
     go : (b c : Bool) → (Contains ds d → Contains (put_in_order order x ds) d) → (y ≡ d) ⊎ Contains ds d
         → Contains (cond b (x ∷ y ∷ ds) (cond c (y ∷ put_in_order order x ds) (y ∷ ds))) d
@@ -67,7 +70,8 @@ is_less Less e = refl
 is_less Equal e = absurd (true≢false (sym e))
 is_less Greater e = absurd (true≢false (sym e))
 
-lt_chain : (order : Order) (x y z : Datom) → is_lt (key_cmp order x y) ≡ true → is_lt (key_cmp order y z) ≡ true → is_lt (key_cmp order x z) ≡ true
+lt_chain : (order : Order) (x y z : Datom) → is_lt (key_cmp order x y) ≡ true → is_lt (key_cmp order y z) ≡ true
+    → is_lt (key_cmp order x z) ≡ true
 lt_chain order x y z p q = ap is_lt ((key_cmp_total order).trans x y z (is_less (key_cmp order x y) p) (is_less (key_cmp order y z) q))
 
 not_itself : (order : Order) (x : Datom) → is_lt (key_cmp order x x) ≡ true → ⊥
@@ -80,7 +84,8 @@ rest_rises : (order : Order) (x : Datom) (ds : List Datom) → rises order (x �
 rest_rises order x [] rising = refl
 rest_rises order x (y ∷ ds) rising = (and_parts _ _ rising).1
 
-pub first_is_least : (order : Order) (x : Datom) (ds : List Datom) (d : Datom) → rises order (x ∷ ds) ≡ true → Contains ds d → is_lt (key_cmp order x d) ≡ true
+pub first_is_least : (order : Order) (x : Datom) (ds : List Datom) (d : Datom) → rises order (x ∷ ds) ≡ true → Contains ds d
+    → is_lt (key_cmp order x d) ≡ true
 first_is_least order x [] d rising member = absurd (none_of d member)
 first_is_least order x (y ∷ ds) d rising member =
     let parts = and_parts (is_lt (key_cmp order x y)) (rises order (y ∷ ds)) rising in
@@ -89,18 +94,23 @@ first_is_least order x (y ∷ ds) d rising member =
       | inr later ↦ lt_chain order x y d parts.0 (first_is_least order y ds d parts.1 later)
     ]
 
-pub one_rising_list : (order : Order) (ds es : List Datom) → rises order ds ≡ true → rises order es ≡ true → ((d : Datom) → Contains ds d → Contains es d) → ((d : Datom) → Contains es d → Contains ds d) → ds ≡ es
+pub one_rising_list : (order : Order) (ds es : List Datom) → rises order ds ≡ true → rises order es ≡ true
+    → ((d : Datom) → Contains ds d → Contains es d) → ((d : Datom) → Contains es d → Contains ds d) → ds ≡ es
 one_rising_list order [] [] p q there_too back = refl
 one_rising_list order [] (y ∷ es) p q there_too back = absurd (none_of y (back y (here y es)))
 one_rising_list order (x ∷ ds) [] p q there_too back = absurd (none_of x (there_too x (here x ds)))
 one_rising_list order (x ∷ ds) (y ∷ es) p q there_too back = cons x y first_same ds es
     (one_rising_list order ds es (rest_rises order x ds p) (rest_rises order y es q)
     (λ d member. elim (cases_of y d es (there_too d (there x d ds member))) [
-      | inl same ↦ absurd (not_itself order d (subst (λ z. is_lt (key_cmp order z d) ≡ true) (first_same ∙ same) (first_is_least order x ds d p member)))
+      | inl same ↦
+          absurd
+          (not_itself order d (subst (λ z. is_lt (key_cmp order z d) ≡ true) (first_same ∙ same) (first_is_least order x ds d p member)))
       | inr later ↦ later
     ])
     (λ d member. elim (cases_of x d ds (back d (there y d es member))) [
-      | inl same ↦ absurd (not_itself order d (subst (λ z. is_lt (key_cmp order z d) ≡ true) (sym first_same ∙ same) (first_is_least order y es d q member)))
+      | inl same ↦
+          absurd (not_itself order d
+          (subst (λ z. is_lt (key_cmp order z d) ≡ true) (sym first_same ∙ same) (first_is_least order y es d q member)))
       | inr later ↦ later
     ]))
   where

@@ -1,5 +1,6 @@
 -- In lawful histories each number is that of an entity, each attribute is installed, and each value is of its type.
-use Rattle.std.proofs.Common.{◌≡◌, ℕ, ◌+◌, ◌-◌, ◌≤◌, Bool, true, false, cond, ◌&&◌, ◌||◌, List, [], ◌∷◌, ◌++◌, max, min, refl, ap, sym, ◌∙◌, subst, arith, inl, inr, ◌⊎◌, eqb, leb, Option, Some, None}
+use Rattle.std.proofs.Common.{◌≡◌, ℕ, ◌+◌, ◌-◌, ◌≤◌, Bool, true, false, cond, ◌&&◌, ◌||◌, List, [], ◌∷◌, ◌++◌, max, min, refl, ap, sym, ◌∙◌}
+use Rattle.std.proofs.Common.{subst, arith, inl, inr, ◌⊎◌, eqb, leb, Option, Some, None}
 use Rattle.std.specs.Prelude.{Contains, is_some, option_and_then}
 use Rattle.std.specs.List.{list_all}
 use Rattle.std.specs.Option.{option_map_or}
@@ -32,17 +33,23 @@ more_issued : (n b c u v : ℕ) → b ≤ c → u ≤ v
 more_issued n b c u v bases users issued = go (or_cases _ _ issued)
   where
     wider : (x y z : ℕ) → y ≤ z → (leb x n && leb n y) ≡ true → (leb x n && leb n z) ≡ true
-    wider x y z below within = let parts = and_parts (leb x n) (leb n y) within in and_from _ _ parts.0 (le-leb n z (omega (arith, leb-true n y parts.1)))
+    wider x y z below within =
+        let parts = and_parts (leb x n) (leb n y) within in and_from _ _ parts.0 (le-leb n z (omega (arith, leb-true n y parts.1)))
 
-    low : (is_builtin n ≡ true) ⊎ ((leb (transaction_of 0) n && leb n (transaction_of b)) ≡ true) → (is_builtin n || (leb (transaction_of 0) n && leb n (transaction_of c))) ≡ true
+    low : (is_builtin n ≡ true) ⊎ ((leb (transaction_of 0) n && leb n (transaction_of b)) ≡ true)
+        → (is_builtin n || (leb (transaction_of 0) n && leb n (transaction_of c))) ≡ true
     low (inl builtin) = or_left _ _ builtin
     low (inr within) = or_right _ _ (wider (transaction_of 0) (transaction_of b) (transaction_of c) (omega arith) within)
 
-    go : ((is_builtin n || (leb (transaction_of 0) n && leb n (transaction_of b))) ≡ true) ⊎ ((leb (user_entity 1) n && leb n (user_entity u)) ≡ true) → (is_builtin n || (leb (transaction_of 0) n && leb n (transaction_of c)) || (leb (user_entity 1) n && leb n (user_entity v))) ≡ true
+    go : ((is_builtin n || (leb (transaction_of 0) n && leb n (transaction_of b))) ≡ true)
+        ⊎ ((leb (user_entity 1) n && leb n (user_entity u)) ≡ true)
+        → (is_builtin n || (leb (transaction_of 0) n && leb n (transaction_of c)) || (leb (user_entity 1) n && leb n (user_entity v)))
+        ≡ true
     go (inl first) = or_left _ _ (low (or_cases _ _ first))
     go (inr user) = or_right _ _ (wider (user_entity 1) (user_entity u) (user_entity v) (omega arith) user)
 
-pub issued_stays : (h : List Entry) (entry : Entry) (n : ℕ) → IsLawfulAfter h entry → is_issued h n ≡ true → is_issued (h ++ entry ∷ []) n ≡ true
+pub issued_stays : (h : List Entry) (entry : Entry) (n : ℕ) → IsLawfulAfter h entry → is_issued h n ≡ true
+    → is_issued (h ++ entry ∷ []) n ≡ true
 issued_stays h entry n next issued =
     more_issued n (basis h) (basis (h ++ entry ∷ [])) (users_issued h) (users_issued (h ++ entry ∷ []))
     (omega (arith, basis-push h entry, next_t h entry next)) (users_issued_grows h entry) issued
@@ -61,24 +68,29 @@ users_behind_bound : (more ds : List Datom) (n : ℕ) → users_behind more ds n
 users_behind_bound [] ds n = omega arith
 users_behind_bound (_ ∷ more) ds n = go (is_asserted ds (user_entity (n + 1))) refl (users_behind_bound more ds (n + 1))
   where
-    go : (b : Bool) → is_asserted ds (user_entity (n + 1)) ≡ b → users_behind more ds (n + 1) ≤ max (n + 1) (users_in ds) → cond b (users_behind more ds (n + 1)) n ≤ max n (users_in ds)
+    go : (b : Bool) → is_asserted ds (user_entity (n + 1)) ≡ b → users_behind more ds (n + 1) ≤ max (n + 1) (users_in ds)
+        → cond b (users_behind more ds (n + 1)) n ≤ max n (users_in ds)
     go true is bound = omega (arith, bound, asserted_bound ds (n + 1) is)
     go false is bound = omega arith
 
-pub known_issued : (h : List Entry) (entry : Entry) (n : ℕ) → IsLawfulAfter h entry → is_known h entry n ≡ true → is_issued (h ++ entry ∷ []) n ≡ true
+pub known_issued : (h : List Entry) (entry : Entry) (n : ℕ) → IsLawfulAfter h entry → is_known h entry n ≡ true
+    → is_issued (h ++ entry ∷ []) n ≡ true
 known_issued h entry n next known =
-    elim (or_cases (is_issued h n || eqb n (transaction_of entry.t)) (leb (user_entity 1) n && leb n (user_entity (users_after h entry))) known) [
+    elim (or_cases (is_issued h n || eqb n (transaction_of entry.t))
+    (leb (user_entity 1) n && leb n (user_entity (users_after h entry))) known) [
       | inl first ↦ elim (or_cases (is_issued h n) (eqb n (transaction_of entry.t)) first) [
         | inl issued ↦ issued_stays h entry n next issued
         | inr own ↦ or_left _ _ (or_right _ _ (and_from _ _
             (le-leb (transaction_of 0) n (omega (arith, eqb-true n (transaction_of entry.t) own)))
-            (le-leb n (transaction_of (basis (h ++ entry ∷ []))) (omega (arith, eqb-true n (transaction_of entry.t) own, basis-push h entry)))))
+            (le-leb n (transaction_of (basis (h ++ entry ∷ [])))
+            (omega (arith, eqb-true n (transaction_of entry.t) own, basis-push h entry)))))
       ]
       | inr user ↦ or_right _ _ (and_from _ _ (and_parts _ _ user).0
           (le-leb n (user_entity (users_issued (h ++ entry ∷ [])))
           (omega (
             arith,
-            leb-true n (user_entity (users_after h entry)) (and_parts (leb (user_entity 1) n) (leb n (user_entity (users_after h entry))) user).1,
+            leb-true n (user_entity (users_after h entry))
+                (and_parts (leb (user_entity 1) n) (leb n (user_entity (users_after h entry))) user).1,
             users_behind_bound entry.datoms entry.datoms (users_issued h),
             users_issued-push h entry,
           ))))
@@ -92,11 +104,13 @@ is_issued_value h v = true
 abbrev pub has_issued_numbers : List Entry → Datom → Bool
 has_issued_numbers h d = is_issued h d.e && is_issued_value h d.v
 
-issued_value_stays : (h : List Entry) (entry : Entry) (v : Value) → IsLawfulAfter h entry → is_issued_value h v ≡ true → is_issued_value (h ++ entry ∷ []) v ≡ true
+issued_value_stays : (h : List Entry) (entry : Entry) (v : Value) → IsLawfulAfter h entry → is_issued_value h v ≡ true
+    → is_issued_value (h ++ entry ∷ []) v ≡ true
 issued_value_stays h entry (Ref n) next issued = issued_stays h entry n next issued
 issued_value_stays h entry v next issued = refl
 
-known_value_issued : (h : List Entry) (entry : Entry) (v : Value) → IsLawfulAfter h entry → is_known_value h entry v ≡ true → is_issued_value (h ++ entry ∷ []) v ≡ true
+known_value_issued : (h : List Entry) (entry : Entry) (v : Value) → IsLawfulAfter h entry → is_known_value h entry v ≡ true
+    → is_issued_value (h ++ entry ∷ []) v ≡ true
 known_value_issued h entry (Ref n) next known = known_issued h entry n next known
 known_value_issued h entry v next known = refl
 
@@ -107,9 +121,11 @@ said_issued =
     ap (list_all (has_issued_numbers (h ++ entry ∷ []))) (said-push h entry)
     ∙ list_all-append (has_issued_numbers (h ++ entry ∷ [])) (said h) entry.datoms
     ∙ and_from _ _
-    (all_pass (has_issued_numbers h) (has_issued_numbers (h ++ entry ∷ [])) (λ d issued. let parts = and_parts _ _ issued in and_from _ _ (issued_stays h entry d.e next parts.0) (issued_value_stays h entry d.v next parts.1)) (said h) before)
+    (all_pass (has_issued_numbers h) (has_issued_numbers (h ++ entry ∷ [])) (λ d issued. let parts = and_parts _ _ issued in
+    and_from _ _ (issued_stays h entry d.e next parts.0) (issued_value_stays h entry d.v next parts.1)) (said h) before)
     (all_pass (λ d. is_known h entry d.e && is_known_value h entry d.v) (has_issued_numbers (h ++ entry ∷ []))
-    (λ d known. let parts = and_parts _ _ known in and_from _ _ (known_issued h entry d.e next parts.0) (known_value_issued h entry d.v next parts.1)) entry.datoms next.known_numbers))
+    (λ d known. let parts = and_parts _ _ known in
+    and_from _ _ (known_issued h entry d.e next parts.0) (known_value_issued h entry d.v next parts.1)) entry.datoms next.known_numbers))
 
 pub facts_issued : (h : List Entry) → IsLawful h → (d : Datom) → Contains (facts h) d → has_issued_numbers h d ≡ true
 facts_issued h lawful d member = member_passes (has_issued_numbers h) (said h) d (said_issued h lawful) (standing_member (said h) d member)
@@ -130,7 +146,9 @@ pub record HasFact (facts : List Datom) (e a : ℕ) (v : Value) : Type 0 where
 holder_at : (e : ℕ) (a : ℕ) (v : Value) (d : Datom) (facts : List Datom) (b : Bool) (rest : Option ℕ) → (eqb d.a a && value_eq d.v v) ≡ b
     → ((o : ℕ) → rest ≡ Some o → HasFact facts o a v)
     → cond b (least d.e rest) rest ≡ Some e → HasFact (d ∷ facts) e a v
-holder_at e a v d facts false rest is next found = let has = next e found in record { datom = has.datom; member = there d has.datom facts has.member; e_is = has.e_is; a_is = has.a_is; v_is = has.v_is }
+holder_at e a v d facts false rest is next found =
+    let has = next e found in
+    record { datom = has.datom; member = there d has.datom facts has.member; e_is = has.e_is; a_is = has.a_is; v_is = has.v_is }
 holder_at e a v d facts true None is next found =
     let parts = and_parts (eqb d.a a) (value_eq d.v v) is in
     record { datom = d; member = here d facts; e_is = some_is found; a_is = parts.0; v_is = parts.1 }
@@ -145,10 +163,22 @@ holder_at e a v d facts true (Some o) is next found = go (leb d.e o) refl
     go : (b : Bool) → leb d.e o ≡ b → HasFact (d ∷ facts) e a v
     go true below =
         let parts = and_parts (eqb d.a a) (value_eq d.v v) is in
-        record { datom = d; member = here d facts; e_is = omega (arith, some_is (min d.e o) e found, leb-true d.e o below); a_is = parts.0; v_is = parts.1 }
+        record {
+          datom = d;
+          member = here d facts;
+          e_is = omega (arith, some_is (min d.e o) e found, leb-true d.e o below);
+          a_is = parts.0;
+          v_is = parts.1;
+        }
     go false above =
         let has = next o refl in
-        record { datom = has.datom; member = there d has.datom facts has.member; e_is = has.e_is ∙ omega (arith, some_is (min d.e o) e found, not_below d.e o above); a_is = has.a_is; v_is = has.v_is }
+        record {
+          datom = has.datom;
+          member = there d has.datom facts has.member;
+          e_is = has.e_is ∙ omega (arith, some_is (min d.e o) e found, not_below d.e o above);
+          a_is = has.a_is;
+          v_is = has.v_is;
+        }
       where
         not_below : (x y : ℕ) → leb x y ≡ false → y ≤ x
         not_below x y is = grind (arith, nat_tests)
@@ -156,7 +186,8 @@ holder_at e a v d facts true (Some o) is next found = go (leb d.e o) refl
 -- a holder has a fact
 pub holder-HasFact : (facts : List Datom) (e a : ℕ) (v : Value) → holder facts a v ≡ Some e → HasFact facts e a v
 holder-HasFact [] e a v found = absurd (cc)
-holder-HasFact (d ∷ facts) e a v found = holder_at e a v d facts (eqb d.a a && value_eq d.v v) (holder facts a v) refl (λ o is. holder-HasFact facts o a v is) found
+holder-HasFact (d ∷ facts) e a v found =
+    holder_at e a v d facts (eqb d.a a && value_eq d.v v) (holder facts a v) refl (λ o is. holder-HasFact facts o a v is) found
 
 pub holder_issued : (h : List Entry) (e a : ℕ) (v : Value) → IsLawful h → holder (facts h) a v ≡ Some e → is_issued h e ≡ true
 holder_issued h e a v lawful found =
@@ -171,8 +202,10 @@ said_installed =
     (λ h entry lawful before next. rw (facts-push, said-push)
     (list_all-append (λ (d : Datom). is_attribute (facts_with h entry) d.a) (said h) entry.datoms
     ∙ and_from _ _
-    (all_pass (λ d. is_attribute (facts h) d.a) (λ d. is_attribute (facts_with h entry) d.a) (λ d. attribute_stays h entry d.a next) (said h) before)
-    (all_pass (λ d. is_attribute (facts h) d.a) (λ d. is_attribute (facts_with h entry) d.a) (λ d. attribute_stays h entry d.a next) entry.datoms next.installed_attributes)))
+    (all_pass (λ d. is_attribute (facts h) d.a) (λ d. is_attribute (facts_with h entry) d.a) (λ d. attribute_stays h entry d.a next)
+    (said h) before)
+    (all_pass (λ d. is_attribute (facts h) d.a) (λ d. is_attribute (facts_with h entry) d.a)
+    (λ d. attribute_stays h entry d.a next) entry.datoms next.installed_attributes)))
 
 abbrev pub is_typed : List Datom → Datom → Bool
 is_typed facts d = option_map_or (λ attribute. is_of_type attribute.kind d.v) (attribute_of facts d.a) false
@@ -185,18 +218,23 @@ typed_from e (Some n) None count uniqueness component indexed v = refl
 typed_from e (Some n) (Some k) None uniqueness component indexed v = refl
 typed_from e (Some n) (Some k) (Some c) uniqueness component indexed v = refl
 
-is_typed-kind : (facts : List Datom) (d : Datom) → is_typed facts d ≡ (is_attribute facts d.a && option_map_or (λ k. is_of_type k d.v) (entity_of facts d.a value_type) false)
+is_typed-kind : (facts : List Datom) (d : Datom)
+    → is_typed facts d ≡ (is_attribute facts d.a && option_map_or (λ k. is_of_type k d.v) (entity_of facts d.a value_type) false)
 is_typed-kind facts d =
     typed_from d.a (keyword_of facts d.a ident) (entity_of facts d.a value_type) (entity_of facts d.a cardinality) _ _ _ d.v
 
-kind_stays : (h : List Entry) (entry : Entry) (e : ℕ) → IsLawfulAfter h entry → is_attribute (facts h) e ≡ true → entity_of (facts_with h entry) e value_type ≡ entity_of (facts h) e value_type
+kind_stays : (h : List Entry) (entry : Entry) (e : ℕ) → IsLawfulAfter h entry → is_attribute (facts h) e ≡ true
+    → entity_of (facts_with h entry) e value_type ≡ entity_of (facts h) e value_type
 kind_stays h entry e next installed =
     ap (option_and_then entity_in) (value_of-untouched (said h) entry.datoms e value_type
     (none_about (facts h) e value_type (fixed_forbidden (facts h) e value_type installed refl) entry.datoms next.allowed_changes))
 
-pub typed_stays : (h : List Entry) (entry : Entry) (d : Datom) → IsLawfulAfter h entry → is_typed (facts h) d ≡ true → is_typed (facts_with h entry) d ≡ true
+pub typed_stays : (h : List Entry) (entry : Entry) (d : Datom) → IsLawfulAfter h entry → is_typed (facts h) d ≡ true
+    → is_typed (facts_with h entry) d ≡ true
 typed_stays h entry d next typed =
-    let parts = and_parts (is_attribute (facts h) d.a) (option_map_or (λ k. is_of_type k d.v) (entity_of (facts h) d.a value_type) false) (sym (is_typed-kind (facts h) d) ∙ typed) in
+    let parts =
+    and_parts (is_attribute (facts h) d.a) (option_map_or (λ k. is_of_type k d.v) (entity_of (facts h) d.a value_type) false)
+    (sym (is_typed-kind (facts h) d) ∙ typed) in
     is_typed-kind (facts_with h entry) d
     ∙ and_from _ _ (attribute_stays h entry d.a next parts.0)
     (ap (λ o. option_map_or (λ k. is_of_type k d.v) o false) (kind_stays h entry d.a next parts.0) ∙ parts.1)
@@ -211,7 +249,8 @@ said_typed =
     (all_pass (is_typed (facts h)) (is_typed (facts_with h entry)) (λ d. typed_stays h entry d next) entry.datoms next.typed_values)))
 
 pub facts_installed : (h : List Entry) → IsLawful h → (d : Datom) → Contains (facts h) d → is_attribute (facts h) d.a ≡ true
-facts_installed h lawful d member = member_passes (λ d. is_attribute (facts h) d.a) (said h) d (said_installed h lawful) (standing_member (said h) d member)
+facts_installed h lawful d member =
+    member_passes (λ d. is_attribute (facts h) d.a) (said h) d (said_installed h lawful) (standing_member (said h) d member)
 
 pub facts_typed : (h : List Entry) → IsLawful h → (d : Datom) → Contains (facts h) d → is_typed (facts h) d ≡ true
 facts_typed h lawful d member = member_passes (is_typed (facts h)) (said h) d (said_typed h lawful) (standing_member (said h) d member)

@@ -1,5 +1,6 @@
 -- What a history with one more entry says, and what it leaves as it was.
-use Rattle.std.proofs.Common.{◌≡◌, ℕ, ◌+◌, ◌<◌, ◌≤◌, ℤ, pos, ◌+ℤ◌, Bool, true, false, cond, ◌||◌, List, [], ◌∷◌, ◌++◌, length, max, refl, ap, ◌∙◌, arith, eqb}
+use Rattle.std.proofs.Common.{◌≡◌, ℕ, ◌+◌, ◌<◌, ◌≤◌, ℤ, pos, ◌+ℤ◌, Bool, true, false, cond, ◌||◌, List, [], ◌∷◌, ◌++◌, length, max, refl}
+use Rattle.std.proofs.Common.{ap, ◌∙◌, arith, eqb}
 use Rattle.std.proofs.lemmas.Bool.{true≢false}
 use Rattle.std.specs.Prelude.{int_lt, int_le}
 use Rattle.std.specs.List.{list_any}
@@ -62,11 +63,13 @@ unused h n above = unused_in (said h) n above
 
 -- ---- what holds
 
-pub holds_after-append : (before : Bool) (ds more : List Datom) (e a : ℕ) (v : Value) → holds_after before (ds ++ more) e a v ≡ holds_after (holds_after before ds e a v) more e a v
+pub holds_after-append : (before : Bool) (ds more : List Datom) (e a : ℕ) (v : Value)
+    → holds_after before (ds ++ more) e a v ≡ holds_after (holds_after before ds e a v) more e a v
 holds_after-append before [] more e a v = refl
 holds_after-append before (d ∷ ds) more e a v = holds_after-append (cond (is_of e a v d) d.added before) ds more e a v
 
-pub holds-push : (h : List Entry) (entry : Entry) (e a : ℕ) (v : Value) → holds (h ++ entry ∷ []) e a v ≡ holds_after (holds h e a v) entry.datoms e a v
+pub holds-push : (h : List Entry) (entry : Entry) (e a : ℕ) (v : Value)
+    → holds (h ++ entry ∷ []) e a v ≡ holds_after (holds h e a v) entry.datoms e a v
 holds-push h entry e a v =
     ap (λ ds. holds_after false ds e a v) (said-push h entry) ∙ holds_after-append false (said h) entry.datoms e a v
 
@@ -76,7 +79,8 @@ both_false false true e = absurd (true≢false e)
 both_false true b e = absurd (true≢false e)
 
 -- a triple whose entity no datom has stays as it was
-pub holds_after-unused : (before : Bool) (ds : List Datom) (e a : ℕ) (v : Value) → list_any (λ d. eqb d.e e) ds ≡ false → holds_after before ds e a v ≡ before
+pub holds_after-unused : (before : Bool) (ds : List Datom) (e a : ℕ) (v : Value) → list_any (λ d. eqb d.e e) ds ≡ false
+    → holds_after before ds e a v ≡ before
 holds_after-unused before [] e a v none = refl
 holds_after-unused before (d ∷ ds) e a v none =
     let apart : (eqb d.e e ≡ false) × (list_any (λ d. eqb d.e e) ds ≡ false) = both_false _ _ none in

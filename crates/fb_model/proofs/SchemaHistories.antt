@@ -1,5 +1,6 @@
 -- What becomes of attributes in lawful histories.
-use Rattle.std.proofs.Common.{◌≡◌, ℕ, Bool, true, false, not, ◌&&◌, ◌||◌, List, [], ◌∷◌, refl, ap, sym, ◌∙◌, subst, eqb, leb, Option, Some, None}
+use Rattle.std.proofs.Common.{◌≡◌, ℕ, Bool, true, false, not, ◌&&◌, ◌||◌, List, [], ◌∷◌, refl, ap, sym, ◌∙◌, subst, eqb, leb, Option, Some}
+use Rattle.std.proofs.Common.{None}
 use Rattle.std.specs.Prelude.{is_some}
 use Rattle.std.specs.List.{list_any, list_all}
 use Rattle.std.specs.Option.{option_map_or}
@@ -19,7 +20,8 @@ use Rattle.fb_model.proofs.Invariants.{of_lawful, facts-push, both_pass, or_true
 -- ---- lists
 
 -- where what passes the second test fails the first, and each datom passes the first, none passes the second
-pub none_pass : (p q : Datom → Bool) → ((d : Datom) → q d ≡ true → p d ≡ true → true ≡ false) → (ds : List Datom) → list_all p ds ≡ true → list_any q ds ≡ false
+pub none_pass : (p q : Datom → Bool) → ((d : Datom) → q d ≡ true → p d ≡ true → true ≡ false) → (ds : List Datom) → list_all p ds ≡ true
+    → list_any q ds ≡ false
 none_pass p q apart [] every = refl
 none_pass p q apart (d ∷ ds) every =
     let parts = and_parts (p d) (list_all p ds) every in
@@ -30,7 +32,8 @@ none_pass p q apart (d ∷ ds) every =
     go true is pass = absurd (true≢false (apart d is pass))
 
 -- where what passes the first test passes the second, and each datom passes the first, each passes the second
-pub all_pass : (p q : Datom → Bool) → ((d : Datom) → p d ≡ true → q d ≡ true) → (ds : List Datom) → list_all p ds ≡ true → list_all q ds ≡ true
+pub all_pass : (p q : Datom → Bool) → ((d : Datom) → p d ≡ true → q d ≡ true) → (ds : List Datom) → list_all p ds ≡ true
+    → list_all q ds ≡ true
 all_pass p q next [] every = refl
 all_pass p q next (d ∷ ds) every =
     let parts = and_parts (p d) (list_all p ds) every in
@@ -39,23 +42,29 @@ all_pass p q next (d ∷ ds) every =
 -- ---- what may not change
 
 -- where each datom of the entity and the attribute is forbidden, there is none
-pub none_about : (before : List Datom) (e a : ℕ) → ((d : Datom) → d.e ≡ e → d.a ≡ a → is_forbidden before d ≡ true) → (ds : List Datom) → are_allowed before ds ≡ true → list_any (is_about e a) ds ≡ false
+pub none_about : (before : List Datom) (e a : ℕ)
+    → ((d : Datom) → d.e ≡ e → d.a ≡ a → is_forbidden before d ≡ true) → (ds : List Datom) → are_allowed before ds ≡ true
+    → list_any (is_about e a) ds ≡ false
 none_about before e a forbidden ds allowed =
     none_pass (λ d. not (is_forbidden before d)) (is_about e a)
     (λ d about pass. let numbers = and_parts (eqb d.e e) (eqb d.a a) about in
     sym pass ∙ ap not (forbidden d (eqb-true d.e e numbers.0) (eqb-true d.a a numbers.1)))
     ds allowed
 
-pub builtin_forbidden : (before : List Datom) (e a : ℕ) → is_builtin e ≡ true → (leb ident a && leb a index) ≡ true → (d : Datom) → d.e ≡ e → d.a ≡ a → is_forbidden before d ≡ true
+pub builtin_forbidden : (before : List Datom) (e a : ℕ) → is_builtin e ≡ true → (leb ident a && leb a index) ≡ true → (d : Datom) → d.e ≡ e
+    → d.a ≡ a → is_forbidden before d ≡ true
 builtin_forbidden before e a builtin part d e_is a_is =
     let changes : ((leb ident d.a && leb d.a index) && is_builtin d.e) ≡ true =
     and_from _ _ (subst (λ x. (leb ident x && leb x index) ≡ true) (sym a_is) part) (subst (λ x. is_builtin x ≡ true) (sym e_is) builtin) in
-    or_left _ (eqb d.a tx_instant && not d.added) (or_right (((eqb d.a ident || eqb d.a value_type) || eqb d.a is_component) && is_attribute before d.e) _ changes)
+    or_left _ (eqb d.a tx_instant && not d.added)
+    (or_right (((eqb d.a ident || eqb d.a value_type) || eqb d.a is_component) && is_attribute before d.e) _ changes)
 
-pub fixed_forbidden : (before : List Datom) (e a : ℕ) → is_attribute before e ≡ true → ((eqb a ident || eqb a value_type) || eqb a is_component) ≡ true → (d : Datom) → d.e ≡ e → d.a ≡ a → is_forbidden before d ≡ true
+pub fixed_forbidden : (before : List Datom) (e a : ℕ) → is_attribute before e ≡ true
+    → ((eqb a ident || eqb a value_type) || eqb a is_component) ≡ true → (d : Datom) → d.e ≡ e → d.a ≡ a → is_forbidden before d ≡ true
 fixed_forbidden before e a installed part d e_is a_is =
     let changes : (((eqb d.a ident || eqb d.a value_type) || eqb d.a is_component) && is_attribute before d.e) ≡ true =
-    and_from _ _ (subst (λ x. ((eqb x ident || eqb x value_type) || eqb x is_component) ≡ true) (sym a_is) part) (subst (λ x. is_attribute before x ≡ true) (sym e_is) installed) in
+    and_from _ _ (subst (λ x. ((eqb x ident || eqb x value_type) || eqb x is_component) ≡ true) (sym a_is) part)
+    (subst (λ x. is_attribute before x ≡ true) (sym e_is) installed) in
     or_left _ (eqb d.a tx_instant && not d.added) (or_left _ ((leb ident d.a && leb d.a index) && is_builtin d.e) changes)
 
 -- ---- the built-in attributes stay as they are
@@ -71,7 +80,8 @@ described_by_none before ds e builtin allowed =
       index_none = none_about before e index (builtin_forbidden before e index builtin refl) ds allowed;
     }
 
-pub builtin_stays : (e : ℕ) → is_builtin e ≡ true → (h : List Entry) → IsLawful h → attribute_of (facts h) e ≡ attribute_of (facts (first_entry ∷ [])) e
+pub builtin_stays : (e : ℕ) → is_builtin e ≡ true → (h : List Entry) → IsLawful h
+    → attribute_of (facts h) e ≡ attribute_of (facts (first_entry ∷ [])) e
 builtin_stays e builtin =
     of_lawful (λ h. attribute_of (facts h) e ≡ attribute_of (facts (first_entry ∷ [])) e) refl
     (λ h entry lawful before after. rw facts-push
@@ -86,7 +96,8 @@ whole-attribute facts e whole = some_one (attribute_of facts e) (and_parts _ _ w
     some_one None is = absurd (true≢false (sym is))
     some_one (Some attribute) is = refl
 
-about_altered : (e a : ℕ) → (eqb a cardinality || eqb a unique || eqb a index) ≡ true → (ds : List Datom) → list_any (λ d. is_alteration d && eqb d.e e) ds ≡ false → list_any (is_about e a) ds ≡ false
+about_altered : (e a : ℕ) → (eqb a cardinality || eqb a unique || eqb a index) ≡ true
+    → (ds : List Datom) → list_any (λ d. is_alteration d && eqb d.e e) ds ≡ false → list_any (is_about e a) ds ≡ false
 about_altered e a part [] none = refl
 about_altered e a part (d ∷ ds) none =
     let parts = or_parts (is_alteration d && eqb d.e e) (list_any (λ d. is_alteration d && eqb d.e e) ds) none in
@@ -96,9 +107,11 @@ about_altered e a part (d ∷ ds) none =
     go false is apart = is
     go true is apart =
         let numbers = and_parts (eqb d.e e) (eqb d.a a) is in
-        absurd (true≢false (sym (and_from (is_alteration d) (eqb d.e e) (subst (λ x. (eqb x cardinality || eqb x unique || eqb x index) ≡ true) (sym (eqb-true d.a a numbers.1)) part) numbers.0) ∙ apart))
+        absurd (true≢false (sym (and_from (is_alteration d) (eqb d.e e)
+        (subst (λ x. (eqb x cardinality || eqb x unique || eqb x index) ≡ true) (sym (eqb-true d.a a numbers.1)) part) numbers.0) ∙ apart))
 
-unaltered : (before ds : List Datom) (e : ℕ) → is_attribute before e ≡ true → are_allowed before ds ≡ true → list_any (λ d. is_alteration d && eqb d.e e) ds ≡ false → SaysNothingOf e ds
+unaltered : (before ds : List Datom) (e : ℕ) → is_attribute before e ≡ true → are_allowed before ds ≡ true
+    → list_any (λ d. is_alteration d && eqb d.e e) ds ≡ false → SaysNothingOf e ds
 unaltered before ds e installed allowed none =
     record {
       ident_none = none_about before e ident (fixed_forbidden before e ident installed refl) ds allowed;
@@ -109,22 +122,30 @@ unaltered before ds e installed allowed none =
       index_none = about_altered e index refl ds none;
     }
 
-pub attribute_stays : (h : List Entry) (entry : Entry) (e : ℕ) → IsLawfulAfter h entry → is_attribute (facts h) e ≡ true → is_attribute (facts_with h entry) e ≡ true
+pub attribute_stays : (h : List Entry) (entry : Entry) (e : ℕ) → IsLawfulAfter h entry → is_attribute (facts h) e ≡ true
+    → is_attribute (facts_with h entry) e ≡ true
 attribute_stays h entry e next installed = go (list_any (λ d. is_alteration d && eqb d.e e) entry.datoms) refl
   where
     go : (b : Bool) → list_any (λ d. is_alteration d && eqb d.e e) entry.datoms ≡ b → is_attribute (facts_with h entry) e ≡ true
     go false none =
-        ap is_some (attribute_of-untouched (said h) entry.datoms e (unaltered (facts h) entry.datoms e installed next.allowed_changes none)) ∙ installed
+        ap is_some (attribute_of-untouched (said h) entry.datoms e (unaltered (facts h) entry.datoms e installed next.allowed_changes none))
+        ∙ installed
     go true some =
-        let found = both_pass (λ d. not (is_alteration d && is_attribute (facts h) d.e) || is_whole (facts_with h entry) d.e) (λ d. is_alteration d && eqb d.e e) entry.datoms
+        let found =
+        both_pass (λ d. not (is_alteration d && is_attribute (facts h) d.e) || is_whole (facts_with h entry) d.e)
+        (λ d. is_alteration d && eqb d.e e) entry.datoms
         (and_parts _ _ next.whole_attributes).1 some in
         let parts = and_parts (is_alteration found.element) (eqb found.element.e e) found.passes_q in
         altered found.element (eqb-true found.element.e e parts.1) parts.0 found.passes_p
       where
-        altered : (d : Datom) → d.e ≡ e → is_alteration d ≡ true → (not (is_alteration d && is_attribute (facts h) d.e) || is_whole (facts_with h entry) d.e) ≡ true → is_attribute (facts_with h entry) e ≡ true
+        altered : (d : Datom) → d.e ≡ e
+            → is_alteration d ≡ true → (not (is_alteration d && is_attribute (facts h) d.e) || is_whole (facts_with h entry) d.e) ≡ true
+            → is_attribute (facts_with h entry) e ≡ true
         altered d e_is alters whole =
-            let before : (is_alteration d && is_attribute (facts h) d.e) ≡ true = and_from _ _ alters (subst (λ x. is_attribute (facts h) x ≡ true) (sym e_is) installed) in
-            subst (λ x. is_attribute (facts_with h entry) x ≡ true) e_is (whole-attribute (facts_with h entry) d.e (or_true _ _ before whole))
+            let before : (is_alteration d && is_attribute (facts h) d.e) ≡ true =
+            and_from _ _ alters (subst (λ x. is_attribute (facts h) x ≡ true) (sym e_is) installed) in
+            subst (λ x. is_attribute (facts_with h entry) x ≡ true) e_is
+            (whole-attribute (facts_with h entry) d.e (or_true _ _ before whole))
 
 -- what is described as an attribute is one
 abbrev pub are_described_ones_attributes : List Datom → Bool
@@ -134,8 +155,10 @@ pub described_ones : (h : List Entry) → IsLawful h → are_described_ones_attr
 described_ones =
     of_lawful (λ h. are_described_ones_attributes (facts h) ≡ true) refl
     (λ h entry lawful before after. rw facts-push
-    (all_pass (λ d. (not (says_attribute d) || is_attribute (facts h) d.e) || is_whole (facts_with h entry) d.e) (λ d. not (says_attribute d) || is_attribute (facts_with h entry) d.e)
-    (λ d pass. either (not (says_attribute d)) (is_attribute (facts h) d.e) (is_whole (facts_with h entry) d.e) (is_attribute (facts_with h entry) d.e) pass (attribute_stays h entry d.e after) (whole-attribute (facts_with h entry) d.e))
+    (all_pass (λ d. (not (says_attribute d) || is_attribute (facts h) d.e) || is_whole (facts_with h entry) d.e)
+    (λ d. not (says_attribute d) || is_attribute (facts_with h entry) d.e)
+    (λ d pass. either (not (says_attribute d)) (is_attribute (facts h) d.e) (is_whole (facts_with h entry) d.e)
+    (is_attribute (facts_with h entry) d.e) pass (attribute_stays h entry d.e after) (whole-attribute (facts_with h entry) d.e))
     (facts_with h entry) (and_parts _ _ after.whole_attributes).0))
   where
     either : (x y z w : Bool) → ((x || y) || z) ≡ true → (y ≡ true → w ≡ true) → (z ≡ true → w ≡ true) → (x || w) ≡ true
@@ -144,4 +167,5 @@ described_ones =
     either false false z w some f g = g some
 
 pub reserved_names : (h : List Entry) → IsLawful h → keeps_reserved_names (facts h) ≡ true
-reserved_names = of_lawful (λ h. keeps_reserved_names (facts h) ≡ true) refl (λ h entry lawful before after. rw facts-push after.no_reserved_names)
+reserved_names =
+    of_lawful (λ h. keeps_reserved_names (facts h) ≡ true) refl (λ h entry lawful before after. rw facts-push after.no_reserved_names)

@@ -14,7 +14,7 @@ use Rattle.fb_values.specs.Orders.{value_cmp}
 use Rattle.std.specs.Cmp.{tied_itself}
 use Rattle.fb_values.specs.OrderLaws.{value_cmp-IsAntisymmetric, value_cmp_total}
 use Rattle.fb_model.specs.History.{said}
-use Rattle.fb_model.specs.Facts.{value_eq, is_of, holds_after, holds, stands_before, standing, facts}
+use Rattle.fb_model.specs.Facts.{value_eq, is_of, holds_after, holds, is_last_assertion, standing, facts}
 
 -- ---- one triple
 
@@ -43,13 +43,15 @@ is_of-same e a v d other h =
     let of = is_of-true e a v d h in
     rw (of.e_is, of.a_is, of.v_is) refl
 
-pub list_any-same : (e a : ℕ) (v : Value) (d : Datom) (ds : List Datom) → is_of e a v d ≡ true → list_any (is_of d.e d.a d.v) ds ≡ list_any (is_of e a v) ds
+pub list_any-same : (e a : ℕ) (v : Value) (d : Datom) (ds : List Datom) → is_of e a v d ≡ true
+    → list_any (is_of d.e d.a d.v) ds ≡ list_any (is_of e a v) ds
 list_any-same e a v d [] h = refl
 list_any-same e a v d (other ∷ ds) h = rw (is_of-same e a v d other h, list_any-same e a v d ds h) refl
 
 -- ---- what stands holds
 
-pub list_any-kept : (p : Datom → Bool) (keep : Bool) (d : Datom) (ds : List Datom) → list_any p (cond keep (d ∷ ds) ds) ≡ ((keep && p d) || list_any p ds)
+pub list_any-kept : (p : Datom → Bool) (keep : Bool) (d : Datom) (ds : List Datom)
+    → list_any p (cond keep (d ∷ ds) ds) ≡ ((keep && p d) || list_any p ds)
 list_any-kept p true d ds = refl
 list_any-kept p false d ds = refl
 
@@ -72,18 +74,21 @@ and_true true = refl
 pub holds_after-standing : (before : Bool) (ds : List Datom) (e a : ℕ) (v : Value) →
     holds_after before ds e a v ≡ (list_any (is_of e a v) (standing ds) || (before && not (list_any (is_of e a v) ds)))
 holds_after-standing before [] e a v = and_true before
-holds_after-standing before (d ∷ ds) e a v = go (is_of e a v d) refl (holds_after-standing d.added ds e a v) (holds_after-standing before ds e a v)
+holds_after-standing before (d ∷ ds) e a v =
+    go (is_of e a v d) refl (holds_after-standing d.added ds e a v) (holds_after-standing before ds e a v)
   where
     go : (m : Bool) → is_of e a v d ≡ m
         → holds_after d.added ds e a v ≡ (list_any (is_of e a v) (standing ds) || (d.added && not (list_any (is_of e a v) ds)))
         → holds_after before ds e a v ≡ (list_any (is_of e a v) (standing ds) || (before && not (list_any (is_of e a v) ds)))
-        → holds_after before (d ∷ ds) e a v ≡ (list_any (is_of e a v) (standing (d ∷ ds)) || (before && not (list_any (is_of e a v) (d ∷ ds))))
+        → holds_after before (d ∷ ds) e a v
+        ≡ (list_any (is_of e a v) (standing (d ∷ ds)) || (before && not (list_any (is_of e a v) (d ∷ ds))))
     go true is added_after before_after =
-        rw (is, list_any-kept (is_of e a v) (stands_before d ds) d (standing ds), is, list_any-same e a v d ds is)
+        rw (is, list_any-kept (is_of e a v) (is_last_assertion d ds) d (standing ds), is, list_any-same e a v d ds is)
         (added_after ∙ last_is (d.added && not (list_any (is_of e a v) ds)) (list_any (is_of e a v) (standing ds)) before)
     go false is added_after before_after =
-        rw (is, list_any-kept (is_of e a v) (stands_before d ds) d (standing ds), is)
-        (before_after ∙ other_is (stands_before d ds) (list_any (is_of e a v) (standing ds)) (before && not (list_any (is_of e a v) ds)))
+        rw (is, list_any-kept (is_of e a v) (is_last_assertion d ds) d (standing ds), is)
+        (before_after
+        ∙ other_is (is_last_assertion d ds) (list_any (is_of e a v) (standing ds)) (before && not (list_any (is_of e a v) ds)))
 
 pub or_false : (b : Bool) → (b || false) ≡ b
 or_false false = refl
@@ -104,7 +109,8 @@ neither false f g = refl
 neither true false g = refl
 neither true true g = refl
 
-pub filter-kept : (p : Datom → Bool) (keep : Bool) (d : Datom) (ds : List Datom) → filter p (cond keep (d ∷ ds) ds) ≡ cond (keep && p d) (d ∷ filter p ds) (filter p ds)
+pub filter-kept : (p : Datom → Bool) (keep : Bool) (d : Datom) (ds : List Datom)
+    → filter p (cond keep (d ∷ ds) ds) ≡ cond (keep && p d) (d ∷ filter p ds) (filter p ds)
 filter-kept p true d ds = refl
 filter-kept p false d ds = refl
 
@@ -118,8 +124,8 @@ standing-append (d ∷ ds) more =
     rw (
       list_any-append (is_of d.e d.a d.v) ds more,
       standing-append ds more,
-      filter-kept (not_followed more) (stands_before d ds) d (standing ds),
-      kept-append (stands_before d ds && not_followed more d) d (filter (not_followed more) (standing ds)) (standing more),
+      filter-kept (not_followed more) (is_last_assertion d ds) d (standing ds),
+      kept-append (is_last_assertion d ds && not_followed more d) d (filter (not_followed more) (standing ds)) (standing more),
       neither d.added (list_any (is_of d.e d.a d.v) ds) (list_any (is_of d.e d.a d.v) more),
     ) refl
 

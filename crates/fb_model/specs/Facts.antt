@@ -1,6 +1,7 @@
 -- Facts: which triples of an entity, an attribute and a value hold after a list of datoms.
 -- Datomic, Transaction Data: an added datom asserts its triple, any other retracts it.
-use Rattle.std.specs.Prelude.{ℕ, Bool, false, not, ◌&&◌, List, [], ◌∷◌, map, filter, min, ◌==◌, nat_eq, if◌then◌else◌, IsTrue, Option, Some, None}
+use Rattle.std.specs.Prelude.{ℕ, Bool, false, not, ◌&&◌, List, [], ◌∷◌, map, filter, min, ◌==◌}
+use Rattle.std.specs.Prelude.{nat_eq, if◌then◌else◌, IsTrue, Option, Some, None}
 use Rattle.std.specs.List.{list_any}
 use Rattle.std.specs.Ordering.{is_eq}
 use Rattle.fb_values.specs.Orders.{value_cmp}
@@ -17,7 +18,8 @@ value_eq v w = is_eq (value_cmp v w)
 abbrev pub is_of : ℕ → ℕ → Value → Datom → Bool
 is_of e a v d = nat_eq d.e e && nat_eq d.a a && value_eq d.v v
 
--- whether the triple holds after the datoms, where `before` says whether it held before them: its last datom decides
+-- whether the triple holds after the datoms,
+-- where `before` says whether it held before them: its last datom decides
 abbrev pub holds_after : Bool → List Datom → ℕ → ℕ → Value → Bool
 holds_after before [] e a v = before
 holds_after before (d ∷ ds) e a v = holds_after (if is_of e a v d then d.added else before) ds e a v
@@ -29,14 +31,14 @@ holds h e a v = holds_after false (said h) e a v
 abbrev pub Holds : List Entry → ℕ → ℕ → Value → Type 0
 Holds h e a v = IsTrue (holds h e a v)
 
--- the datom asserts its triple, and none of the datoms behind it is of that triple
-abbrev pub stands_before : Datom → List Datom → Bool
-stands_before d ds = d.added && not (list_any (is_of d.e d.a d.v) ds)
+-- the datom asserts its triple, and none of the datoms after it is of that triple
+abbrev pub is_last_assertion : Datom → List Datom → Bool
+is_last_assertion d ds = d.added && not (list_any (is_of d.e d.a d.v) ds)
 
 -- one datom for each triple that holds after the datoms: the last one of the triple
 abbrev pub standing : List Datom → List Datom
 standing [] = []
-standing (d ∷ ds) = if stands_before d ds then d ∷ standing ds else standing ds
+standing (d ∷ ds) = if is_last_assertion d ds then d ∷ standing ds else standing ds
 
 -- the facts of a history
 abbrev pub facts : List Entry → List Datom

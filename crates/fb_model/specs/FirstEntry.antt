@@ -5,7 +5,11 @@ use Rattle.fb_values.specs.declared.facts.Datom.{Datom}
 use Rattle.fb_values.specs.declared.facts.Entry.{Entry}
 use Rattle.fb_values.specs.declared.facts.Value.{Value}
 use Rattle.fb_values.specs.declared.facts.Value.TheVariants.{Keyword, Ref, Bool, Instant}
-use Rattle.fb_numbers.specs.Numbers.{transaction_of, ident, value_type, cardinality, unique, is_component, index, doc, tx_instant, type_keyword, type_string, type_boolean, type_long, type_ref, type_instant, type_uuid, type_symbol, type_uri, cardinality_one, cardinality_many, unique_identity, unique_value}
+use Rattle.fb_numbers.specs.Numbers.{transaction_of, ident, value_type, cardinality, unique}
+use Rattle.fb_numbers.specs.Numbers.{is_component, index, doc, tx_instant, type_keyword}
+use Rattle.fb_numbers.specs.Numbers.{type_string, type_boolean, type_long, type_ref, type_instant}
+use Rattle.fb_numbers.specs.Numbers.{type_uuid, type_symbol, type_uri, cardinality_one}
+use Rattle.fb_numbers.specs.Numbers.{cardinality_many, unique_identity, unique_value}
 
 -- the first entry records that the entity has the value
 abbrev pub first_datom : ℕ → ℕ → Value → Datom

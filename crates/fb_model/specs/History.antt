@@ -1,10 +1,14 @@
--- Histories: the entries 0, 1, 2 and so on of a database, its issued numbers and the instant of the entry that comes next.
--- Datomic, Transaction Data and Log API. That a transaction's instant is above the last one is this project's own choice.
-use Rattle.std.specs.Prelude.{ℕ, ◌+◌, ℤ, pos, ◌+ℤ◌, Bool, ◌&&◌, ◌||◌, List, [], ◌∷◌, nat_le, max, fold, flat_map, take, IsTrue}
+-- Histories: the entries 0, 1, 2 and so on of a database,
+-- its issued numbers and the instant of the entry that comes next.
+-- Datomic, Transaction Data and Log API.
+-- That a transaction's instant is above the last one is this project's own choice.
+use Rattle.std.specs.Prelude.{ℕ, ◌+◌, ℤ, pos, ◌+ℤ◌, Bool, ◌&&◌, ◌||◌, List, [], ◌∷◌, nat_le, max}
+use Rattle.std.specs.Prelude.{fold, flat_map, take, IsTrue}
 use Rattle.std.specs.Int.{int_min, int_max}
 use Rattle.fb_values.specs.declared.facts.Datom.{Datom}
 use Rattle.fb_values.specs.declared.facts.Entry.{Entry}
-use Rattle.fb_numbers.specs.Numbers.{transaction_of, user_entity, user_number, is_builtin, least_instant, greatest_instant}
+use Rattle.fb_numbers.specs.Numbers.{transaction_of, user_entity, user_number, is_builtin}
+use Rattle.fb_numbers.specs.Numbers.{least_instant, greatest_instant}
 
 -- the t of the last entry
 abbrev pub basis : List Entry → ℕ
@@ -38,7 +42,8 @@ users_in (d ∷ ds) = max (user_number d.e) (users_in ds)
 abbrev pub users_issued : List Entry → ℕ
 users_issued h = users_in (said h)
 
--- the number is that of an entity: a built-in one, a transaction of the history, or one of its user entities
+-- the number is that of an entity:
+-- a built-in one, a transaction of the history, or one of its user entities
 abbrev pub is_issued : List Entry → ℕ → Bool
 is_issued h n =
     is_builtin n

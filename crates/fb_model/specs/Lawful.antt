@@ -1,9 +1,15 @@
--- Lawful histories: those that a database may have, which entry may follow one, and the least law that an entry breaks.
+-- Lawful histories: those that a database may have,
+-- which entry may follow one, and the least law that an entry breaks.
 -- Datomic, Transaction Data and Schema, as this project reads them.
-use Rattle.std.specs.Prelude.{◌≡◌, ℕ, ◌+◌, Bool, ◌&&◌, List, [], ◌∷◌, ◌++◌, IsTrue, ⊤, Option, Some, None, if◌then◌else◌}
+use Rattle.std.specs.Prelude.{◌≡◌, ℕ, ◌+◌, Bool, ◌&&◌, List, [], ◌∷◌, ◌++◌, IsTrue, ⊤, Option, Some}
+use Rattle.std.specs.Prelude.{None, if◌then◌else◌}
 use Rattle.fb_values.specs.declared.facts.Entry.{Entry}
 use Rattle.fb_model.specs.FirstEntry.{first_entry}
-use Rattle.fb_model.specs.Laws.{has_next_t, has_later_instant, has_known_numbers, has_installed_attributes, has_typed_values, has_datoms_in_order, has_changes_alone, has_one_value_each, has_one_holder_each, has_whole_attributes, has_allowed_changes, has_no_reserved_names, has_own_instant_alone}
+use Rattle.fb_model.specs.Laws.{has_next_t, has_later_instant, has_known_numbers}
+use Rattle.fb_model.specs.Laws.{has_installed_attributes, has_typed_values, has_datoms_in_order}
+use Rattle.fb_model.specs.Laws.{has_changes_alone, has_one_value_each, has_one_holder_each}
+use Rattle.fb_model.specs.Laws.{has_whole_attributes, has_allowed_changes, has_no_reserved_names}
+use Rattle.fb_model.specs.Laws.{has_own_instant_alone}
 
 -- the entry may follow the history
 pub record IsLawfulAfter (h : List Entry) (entry : Entry) : Type 0 where

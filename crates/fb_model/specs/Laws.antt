@@ -1,6 +1,9 @@
--- The laws that an entry keeps where it may follow a history. One test for each part of a law, in the order of the laws.
--- Datomic, Transaction Data and Schema, for whoever reads a log: this project's own choice of what an entry may record.
-use Rattle.std.specs.Prelude.{ℕ, ◌+◌, Bool, true, false, not, ◌&&◌, ◌||◌, List, [], ◌∷◌, ◌++◌, nat_eq, nat_le, int_lt, length, if◌then◌else◌}
+-- The laws that an entry keeps where it may follow a history.
+-- One test for each part of a law, in the order of the laws.
+-- Datomic, Transaction Data and Schema, for whoever reads a log:
+-- this project's own choice of what an entry may record.
+use Rattle.std.specs.Prelude.{ℕ, ◌+◌, Bool, true, false, not, ◌&&◌, ◌||◌, List, [], ◌∷◌, ◌++◌}
+use Rattle.std.specs.Prelude.{nat_eq, nat_le, int_lt, length, if◌then◌else◌}
 use Rattle.std.specs.List.{list_all, list_any}
 use Rattle.std.specs.Option.{option_map_or}
 use Rattle.fb_values.specs.declared.facts.Datom.{Datom}
@@ -9,7 +12,9 @@ use Rattle.fb_values.specs.declared.facts.Value.{Value}
 use Rattle.fb_values.specs.declared.facts.Value.TheVariants.{Keyword, Ref, Instant}
 use Rattle.fb_values.specs.declared.indexes.Order.TheVariants.{Eavt}
 use Rattle.fb_values.specs.Rising.{rises}
-use Rattle.fb_numbers.specs.Numbers.{transaction_of, user_entity, tx_instant, ident, value_type, cardinality, unique, is_component, index, is_builtin, greatest_t, is_instant, most_datoms}
+use Rattle.fb_numbers.specs.Numbers.{transaction_of, user_entity, tx_instant, ident, value_type}
+use Rattle.fb_numbers.specs.Numbers.{cardinality, unique, is_component, index, is_builtin}
+use Rattle.fb_numbers.specs.Numbers.{greatest_t, is_instant, most_datoms}
 use Rattle.fb_model.specs.Words.{is_reserved}
 use Rattle.fb_model.specs.History.{basis, last_instant, said, users_issued, is_issued}
 use Rattle.fb_model.specs.Facts.{holds, is_of, value_eq, values_of, standing, facts}
@@ -36,8 +41,8 @@ has_later_instant h entry = int_lt (last_instant h) entry.instant && is_instant 
 abbrev pub is_asserted : List Datom → ℕ → Bool
 is_asserted ds e = list_any (λ d. nat_eq d.e e && d.added) ds
 
--- how far the user numbers behind n go on without a gap, each that of an asserted entity; the first list is as long as the second,
--- and only bounds how many are looked for
+-- how far the user numbers after n go on without a gap, each that of an asserted entity;
+-- the first list is as long as the second, and only bounds how many are looked for
 abbrev pub users_behind : List Datom → List Datom → ℕ → ℕ
 users_behind [] ds n = n
 users_behind (_ ∷ more) ds n =
@@ -53,7 +58,7 @@ is_known h entry n =
     is_issued h n || nat_eq n (transaction_of entry.t)
     || (nat_le (user_entity 1) n && nat_le n (user_entity (users_after h entry)))
 
--- so is a value that is an entity's number
+-- a value that is an entity's number is known where that number is
 abbrev pub is_known_value : List Entry → Entry → Value → Bool
 is_known_value h entry (Ref n) = is_known h entry n
 is_known_value h entry _ = true
@@ -80,7 +85,8 @@ are_typed facts ds =
 abbrev pub has_typed_values : List Entry → Entry → Bool
 has_typed_values h entry = are_typed (facts h) entry.datoms
 
--- ---- 5: the datoms are of this transaction, strictly rise by entity, attribute, value and t, and are not too many
+-- ---- 5: the datoms are of this transaction,
+-- strictly rise by entity, attribute, value and t, and are not too many
 
 abbrev pub has_datoms_in_order : List Entry → Entry → Bool
 has_datoms_in_order h entry =
@@ -116,13 +122,15 @@ keeps_one_holder facts =
 abbrev pub has_one_holder_each : List Entry → Entry → Bool
 has_one_holder_each h entry = keeps_one_holder (facts_with h entry)
 
--- ---- 9: attributes are whole, and change only in what may change; names are not the database's own; the instant is recorded
+-- ---- 9: attributes are whole, and change only in what may change;
+-- names are not the database's own; the instant is recorded
 
 -- the datom says something that only an attribute has
 abbrev pub says_attribute : Datom → Bool
 says_attribute d = nat_le value_type d.a && nat_le d.a index
 
--- the datom is about what an installed attribute may change: its cardinality, its uniqueness, its index
+-- the datom is about what an installed attribute may change:
+-- its cardinality, its uniqueness, its index
 abbrev pub is_alteration : Datom → Bool
 is_alteration d = nat_eq d.a cardinality || nat_eq d.a unique || nat_eq d.a index
 
@@ -141,8 +149,8 @@ has_whole_attributes h entry =
     are_new_ones_whole (facts h) (facts_with h entry)
     && are_altered_ones_whole (facts h) (facts_with h entry) entry.datoms
 
--- the datom changes what stays as it is: the name, the type or the part of an attribute, a built-in entity, or the instant of a
--- transaction
+-- the datom changes what stays as it is: the name,
+-- the type or the part of an attribute, a built-in entity, or the instant of a transaction
 abbrev pub is_forbidden : List Datom → Datom → Bool
 is_forbidden before d =
     ((nat_eq d.a ident || nat_eq d.a value_type || nat_eq d.a is_component)

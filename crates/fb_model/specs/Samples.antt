@@ -3,8 +3,10 @@ use Rattle.std.specs.Prelude.{ℕ, ◌+◌, pos, Bool, true, List, [], ◌∷◌
 use Rattle.fb_values.specs.declared.facts.Datom.{Datom}
 use Rattle.fb_values.specs.declared.facts.Entry.{Entry}
 use Rattle.fb_values.specs.declared.facts.Value.{Value}
-use Rattle.fb_values.specs.declared.facts.Value.TheVariants.{Keyword, Str, Ref, Long, Instant, Bool as Boolean}
-use Rattle.fb_numbers.specs.Numbers.{transaction_of, user_entity, ident, value_type, cardinality, index, tx_instant, doc, type_long, cardinality_one}
+use Rattle.fb_values.specs.declared.facts.Value.TheVariants.{Keyword, Str, Ref, Long, Instant}
+use Rattle.fb_values.specs.declared.facts.Value.TheVariants.{Bool as Boolean}
+use Rattle.fb_numbers.specs.Numbers.{transaction_of, user_entity, ident, value_type, cardinality}
+use Rattle.fb_numbers.specs.Numbers.{index, tx_instant, doc, type_long, cardinality_one}
 use Rattle.fb_model.specs.FirstEntry.{first_entry}
 
 abbrev pub datom : ℕ → ℕ → Value → ℕ → Bool → Datom

@@ -1,6 +1,9 @@
--- The schema: which entities are attributes, what is said of each, and which indexes hold its datoms.
+-- The schema: which entities are attributes,
+-- what the facts of each say, and which indexes hold its datoms.
 -- Datomic, Schema and Indexes.
-use Rattle.std.specs.Prelude.{◌≡◌, ℕ, Bool, true, false, not, ◌&&◌, ◌||◌, List, [], ◌∷◌, filter, filter_map, nat_eq, nat_le, if◌then◌else◌, is_some, Option, Some, None, unwrap_or, option_map, option_and_then}
+use Rattle.std.specs.Prelude.{◌≡◌, ℕ, Bool, true, false, not, ◌&&◌, ◌||◌, List, [], ◌∷◌, filter}
+use Rattle.std.specs.Prelude.{filter_map, nat_eq, nat_le, if◌then◌else◌, is_some, Option, Some}
+use Rattle.std.specs.Prelude.{None, unwrap_or, option_map, option_and_then}
 use Rattle.std.specs.List.{list_any}
 use Rattle.std.specs.Option.{option_map_or}
 use Rattle.fb_values.specs.declared.facts.Datom.{Datom}
@@ -9,7 +12,9 @@ use Rattle.fb_values.specs.declared.facts.Value.{Value}
 use Rattle.fb_values.specs.declared.facts.Value.TheVariants.{Keyword, Bool as Boolean, Ref}
 use Rattle.fb_values.specs.declared.indexes.Order.{Order}
 use Rattle.fb_values.specs.declared.indexes.Order.TheVariants.{Eavt, Aevt, Avet, Vaet}
-use Rattle.fb_numbers.specs.Numbers.{ident, value_type, cardinality, unique, is_component, index, type_keyword, type_ref, type_uri, cardinality_one, cardinality_many, unique_identity, unique_value, user_entity}
+use Rattle.fb_numbers.specs.Numbers.{ident, value_type, cardinality, unique, is_component, index}
+use Rattle.fb_numbers.specs.Numbers.{type_keyword, type_ref, type_uri, cardinality_one}
+use Rattle.fb_numbers.specs.Numbers.{cardinality_many, unique_identity, unique_value, user_entity}
 use Rattle.fb_model.specs.Words.{local_name, begins_with_one_of, underscore}
 use Rattle.fb_model.specs.Rising.{in_order}
 use Rattle.fb_model.specs.Facts.{value_of, holder, facts}
@@ -26,9 +31,9 @@ pub record Attribute : Type 0 where
   pub many : Bool
   -- `unique_identity` or `unique_value`, or 0 where two entities may have one value
   pub uniqueness : ℕ
-  -- its values are parts of their entities
+  -- the attribute's values are parts of their entities
   pub component : Bool
-  -- it is kept in the index by value
+  -- the attribute is in the index by value
   pub indexed : Bool
 
 -- ---- from facts
@@ -55,7 +60,8 @@ entity_of facts e a = option_and_then entity_in (value_of facts e a)
 abbrev pub truth_of : List Datom → ℕ → ℕ → Bool
 truth_of facts e a = option_map_or truth_in (value_of facts e a) false
 
--- from an entity's ident, type and cardinality, without which it is no attribute, and what else is said of it
+-- from an entity's ident, type and cardinality,
+-- without which it is no attribute, and what else its facts say
 abbrev pub attribute_from : ℕ → Option (List ℕ) → Option ℕ → Option ℕ → Option ℕ → Bool → Bool
     → Option Attribute
 attribute_from e (Some name) (Some kind) (Some count) uniqueness component indexed =
@@ -167,8 +173,8 @@ schema_of h = schema_in (facts h)
 
 -- ---- whole attributes
 
--- what an attribute has to have before it may be installed: it is a user entity with a name of its own, a type and a
--- cardinality; a unique one is no ref, and a component is a ref
+-- what an attribute has to have before it may be installed: it is a user entity with a name
+-- of its own, a type and a cardinality; a unique one is no ref, and a component is a ref
 abbrev pub is_whole_attribute : Attribute → Bool
 is_whole_attribute attribute =
     nat_le (user_entity 1) attribute.id
@@ -179,7 +185,7 @@ is_whole_attribute attribute =
     && not (nat_eq attribute.kind type_ref)))
     && (not attribute.component || nat_eq attribute.kind type_ref)
 
--- so is its cardinality one of the two
+-- the entity has one of the two cardinalities
 abbrev has_a_cardinality : List Datom → ℕ → Bool
 has_a_cardinality facts e =
     option_map_or (λ count. nat_eq count cardinality_one || nat_eq count cardinality_many)

@@ -2,8 +2,11 @@
 -- Datomic, Schema (:db/valueType). The limits on texts are this project's own choice.
 use Rattle.std.specs.Prelude.{ℕ, Bool, true, ◌&&◌, nat_eq, nat_le, length}
 use Rattle.fb_values.specs.declared.facts.Value.{Value}
-use Rattle.fb_values.specs.declared.facts.Value.TheVariants.{Keyword, Str, Bool as Boolean, Long, Ref, Instant, Uuid, Symbol, Uri}
-use Rattle.fb_numbers.specs.Numbers.{type_keyword, type_string, type_boolean, type_long, type_ref, type_instant, type_uuid, type_symbol, type_uri, is_instant, is_long, is_reference, is_uuid}
+use Rattle.fb_values.specs.declared.facts.Value.TheVariants.{Keyword, Str, Bool as Boolean, Long}
+use Rattle.fb_values.specs.declared.facts.Value.TheVariants.{Ref, Instant, Uuid, Symbol, Uri}
+use Rattle.fb_numbers.specs.Numbers.{type_keyword, type_string, type_boolean, type_long, type_ref}
+use Rattle.fb_numbers.specs.Numbers.{type_instant, type_uuid, type_symbol, type_uri, is_instant}
+use Rattle.fb_numbers.specs.Numbers.{is_long, is_reference, is_uuid}
 use Rattle.fb_numbers.specs.declared.limits.TheConstants.{LONGEST_NAME, LONGEST_STRING}
 use Rattle.fb_model.specs.Utf8.{is_utf8_text}
 use Rattle.fb_model.specs.Words.{is_keyword_text, is_symbol_text, is_uri_text}
@@ -20,8 +23,9 @@ type_of (Uuid n) = type_uuid
 type_of (Symbol text) = type_symbol
 type_of (Uri text) = type_uri
 
--- a number lies in its range, and a text is in UTF-8; a keyword and a symbol have texts of their own kind besides, and a uri has visible
--- ASCII characters, which are UTF-8 as they stand
+-- a number lies in its range, and a text is in UTF-8;
+-- a keyword and a symbol have texts of their own kind besides, and a uri has visible
+-- ASCII characters, which are UTF-8 already
 abbrev pub is_well_formed : Value → Bool
 is_well_formed (Keyword text) = is_utf8_text text && is_keyword_text text
 is_well_formed (Str text) = is_utf8_text text
@@ -40,6 +44,6 @@ is_short_enough (Symbol text) = nat_le (length text) LONGEST_NAME
 is_short_enough (Uri text) = nat_le (length text) LONGEST_NAME
 is_short_enough v = true
 
--- the value may stand under an attribute of the type
+-- an attribute of the type may have the value
 abbrev pub is_of_type : ℕ → Value → Bool
 is_of_type kind v = nat_eq (type_of v) kind && is_well_formed v && is_short_enough v

@@ -1,5 +1,6 @@
 -- Texts: which bytes are UTF-8.
--- RFC 3629, section 4: which bytes begin a character, how many follow, and which may be the first of these.
+-- RFC 3629, section 4: which bytes begin a character,
+-- how many follow, and which may be the first of these.
 use Rattle.std.specs.Prelude.{ℕ, zero, suc, Bool, true, false, ◌&&◌, ◌||◌, List, [], ◌∷◌, nat_lt}
 use Rattle.std.specs.Int.{is_in_range}
 use Rattle.std.specs.Str.{continuation_len}
@@ -8,7 +9,8 @@ use Rattle.std.specs.Str.Lossy.{second_byte_min, second_byte_max}
 abbrev pub begins_character : ℕ → Bool
 begins_character b = nat_lt b 0x80 || is_in_range 0xC2 0xF4 b
 
--- n bytes of a character are due, the first of them from low to high and the others from 0x80 to 0xBF; then characters follow
+-- n bytes of a character are due,
+-- the first of them from low to high and the others from 0x80 to 0xBF; then characters follow
 abbrev pub goes_on : ℕ → ℕ → ℕ → List ℕ → Bool
 goes_on zero low high [] = true
 goes_on zero low high (b ∷ rest) =

@@ -1,6 +1,7 @@
 -- Words: which texts are keywords, symbols and uris, and what the names of entities are made of.
 -- EDN, edn-format, "Symbols" and "Keywords". What a uri is made of is this project's own choice.
-use Rattle.std.specs.Prelude.{ℕ, Bool, false, not, ◌&&◌, ◌||◌, List, [], ◌∷◌, nat_eq, nat_le, length, codes, bytes_eq, if◌then◌else◌}
+use Rattle.std.specs.Prelude.{ℕ, Bool, false, not, ◌&&◌, ◌||◌, List, [], ◌∷◌, nat_eq, nat_le}
+use Rattle.std.specs.Prelude.{length, codes, bytes_eq, if◌then◌else◌}
 use Rattle.std.specs.List.{list_all, list_any, before_first, after_first, starts_with}
 
 -- the bytes of `/` and of `_`
@@ -32,11 +33,11 @@ abbrev pub begins_with_one_of : List ℕ → List ℕ → Bool
 begins_with_one_of bytes [] = false
 begins_with_one_of bytes (b ∷ rest) = list_any (nat_eq b) bytes
 
--- a name that may stand behind the colon of a keyword, or behind its slash
+-- a name that may follow the colon of a keyword, or its slash
 abbrev pub is_keyword_name : List ℕ → Bool
 is_keyword_name text = is_name text && not (begins_with_one_of (codes ":#") text)
 
--- the part before the slash, if there is one, and the part behind it
+-- the part before the slash, if there is one, and the part after it
 abbrev pub has_namespace : List ℕ → Bool
 has_namespace text = list_any is_slash text
 
@@ -52,7 +53,7 @@ is_keyword_text text =
     is_keyword_name (local_name text)
     && (not (has_namespace text) || is_keyword_name (namespace text))
 
--- a symbol is no number, and no name of a value
+-- a symbol is neither a number nor the name of a value
 abbrev is_symbol_start : List ℕ → Bool
 is_symbol_start [] = false
 is_symbol_start (b ∷ rest) =

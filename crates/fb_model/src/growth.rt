@@ -13,7 +13,7 @@ pub fn basis_after_an_entry()
     ensures earlier { (h more : List Entry) (t : ℕ) → t < length h → upto (h ++ more) t ≡ upto h t }
 {}
 
-/// A longer history says what the shorter one said, and what is new behind it.
+/// A longer history says what the shorter one said, and what is new after it.
 pub fn facts_after_an_entry()
     ensures said { (h : List Entry) (entry : Entry)
         → said (h ++ entry ∷ []) ≡ said h ++ entry.datoms }

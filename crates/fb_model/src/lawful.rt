@@ -24,7 +24,7 @@ pub fn lawful_entries_make_lawful_histories()
         → IsLawful (first ∷ rest) × IsLawfulAfter (first ∷ rest) entry }
 {}
 
-/// Entry t stands at place t, and the last instant is in its range.
+/// Entry t is at place t, and the last instant is in its range.
 pub fn lawful_histories_are_counted_by_t()
     ensures counted { (h : List Entry) → IsLawful h → length h ≡ basis h + 1 }
     ensures instant { (h : List Entry) → IsLawful h → IsTrue (is_instant (last_instant h)) }

@@ -1,5 +1,6 @@
 -- The entity that has a value is that of the first datom of the value in AVET.
-use Rattle.std.proofs.Common.{◌≡◌, ℕ, ◌<◌, ◌≤◌, true, false, ◌&&◌, List, [], ◌∷◌, refl, ap, sym, ◌∙◌, subst, arith, inl, inr, Option, Some, None, eqb}
+use Rattle.std.proofs.Common.{◌≡◌, ℕ, ◌<◌, ◌≤◌, true, false, ◌&&◌, List, [], ◌∷◌, refl, ap, sym, ◌∙◌, subst, arith, inl, inr, Option, Some}
+use Rattle.std.proofs.Common.{None, eqb}
 use Rattle.std.specs.Prelude.{slice_get}
 use Rattle.std.specs.Option.{option_map}
 use Rattle.std.specs.Ordering.{is_eq, is_lt, nat_cmp, ordering_then, ordering_reverse}
@@ -72,9 +73,11 @@ upto m n rest less =
 -- of two datoms with one attribute and value the one with the lesser entity stands first
 by_entity : (x y : Datom) → x.a ≡ y.a → x.v ≡ y.v → is_lt (key_cmp Avet x y) ≡ true → x.e ≤ y.e
 by_entity x y same_a same_v less =
-    let a_is : value_cmp (Ref x.a) (Ref y.a) ≡ Equal = subst (λ n. value_cmp (Ref x.a) (Ref n) ≡ Equal) same_a (tied_itself value_cmp_total (Ref x.a)) in
+    let a_is : value_cmp (Ref x.a) (Ref y.a) ≡ Equal =
+    subst (λ n. value_cmp (Ref x.a) (Ref n) ≡ Equal) same_a (tied_itself value_cmp_total (Ref x.a)) in
     let v_is : value_cmp x.v y.v ≡ Equal = subst (λ v. value_cmp x.v v ≡ Equal) same_v (tied_itself value_cmp_total x.v) in
-    let behind_a = then_lt (value_cmp (Ref x.a) (Ref y.a)) (slice_cmp value_cmp (x.v ∷ Ref x.e ∷ Ref x.t ∷ []) (y.v ∷ Ref y.e ∷ Ref y.t ∷ [])) a_is less in
+    let behind_a =
+    then_lt (value_cmp (Ref x.a) (Ref y.a)) (slice_cmp value_cmp (x.v ∷ Ref x.e ∷ Ref x.t ∷ []) (y.v ∷ Ref y.e ∷ Ref y.t ∷ [])) a_is less in
     let behind_v = then_lt (value_cmp x.v y.v) (slice_cmp value_cmp (Ref x.e ∷ Ref x.t ∷ []) (Ref y.e ∷ Ref y.t ∷ [])) v_is behind_a in
     upto x.e y.e (slice_cmp value_cmp (Ref x.t ∷ []) (Ref y.t ∷ [])) behind_v
 
@@ -83,10 +86,14 @@ module _ (h : List Entry) (w : Window) (Selects : Datom → Type 0) (a : ℕ) (v
   scanned e has =
       let own = is_of-true e a v has.datom has.says in
       let held : covers (facts h) Avet has.datom.a ≡ true = subst (λ n. covers (facts h) Avet n ≡ true) (sym own.a_is) covered in
-      let led : is_eq (probe_cmp (of_value a v) has.datom) ≡ true = leads a v has.datom ∙ and_from (eqb has.datom.a a) (value_eq has.datom.v v) (eq-eqb has.datom.a a own.a_is) (subst (λ u. value_eq has.datom.v u ≡ true) own.v_is (value_eq-refl has.datom.v)) in
+      let led : is_eq (probe_cmp (of_value a v) has.datom) ≡ true =
+      leads a v has.datom
+      ∙ and_from (eqb has.datom.a a) (value_eq has.datom.v v) (eq-eqb has.datom.a a own.a_is)
+      (subst (λ u. value_eq has.datom.v u ≡ true) own.v_is (value_eq-refl has.datom.v)) in
       and_from (covers (facts h) Avet has.datom.a) (is_eq (probe_cmp (of_value a v) has.datom)) held led
 
-  pub holder_in_scan : (ds : List Datom) → IsScan h (without_history w) Selects Avet (leading (of_value a v)) ds → IsHolder h w Selects a v (option_map (λ d. d.e) (slice_get ds 0))
+  pub holder_in_scan : (ds : List Datom) → IsScan h (without_history w) Selects Avet (leading (of_value a v)) ds
+      → IsHolder h w Selects a v (option_map (λ d. d.e) (slice_get ds 0))
   holder_in_scan [] scan = λ e has. none_of has.datom ((scan.members has.datom).1 (has.in_view, scanned e has))
   holder_in_scan (d ∷ ds) scan =
       let mine = (scan.members d).0 (here d ds) in
@@ -97,21 +104,30 @@ module _ (h : List Entry) (w : Window) (Selects : Datom → Type 0) (a : ℕ) (v
         record {
           datom = d;
           in_view = mine.0;
-          says = and_from (eqb d.e d.e && eqb d.a a) (value_eq d.v v) (and_from (eqb d.e d.e) (eqb d.a a) (eq-eqb d.e d.e refl) both.0) both.1;
+          says =
+              and_from (eqb d.e d.e && eqb d.a a) (value_eq d.v v) (and_from (eqb d.e d.e) (eqb d.a a) (eq-eqb d.e d.e refl) both.0) both.1;
         },
         λ other has.
             let own = is_of-true other a v has.datom has.says in
             elim (cases_of d has.datom ds ((scan.members has.datom).1 (has.in_view, scanned other has))) [
               | inl same ↦ let e_is : d.e ≡ has.datom.e = ap (λ (x : Datom). x.e) same in omega (arith, e_is, own.e_is)
-              | inr later ↦ omega (arith, own.e_is, by_entity d has.datom (a_is ∙ sym own.a_is) (v_is ∙ sym own.v_is) (first_is_least Avet d ds has.datom scan.rising later))
+              | inr later ↦ omega (
+                arith,
+                own.e_is,
+                by_entity d has.datom (a_is ∙ sym own.a_is) (v_is ∙ sym own.v_is) (first_is_least Avet d ds has.datom scan.rising later),
+              )
             ],
       )
 
 -- the same of a value that is lent
-pub holder_from : {F : Type 0} (Selects : F → Datom → Type 0) (h there : List Entry) (w present : Window) (filter lent : F) (a : ℕ) (v : Value) (ds : List Datom) (first : Option Datom) → there ≡ h → present ≡ without_history w → lent ≡ filter
-    → covers (facts h) Avet a ≡ true → IsScan there present (Selects lent) Avet (leading (of_value a v)) ds → first ≡ slice_get ds 0 → IsHolder h w (Selects filter) a v (option_map (λ d. d.e) first)
+pub holder_from : {F : Type 0} (Selects : F → Datom → Type 0) (h there : List Entry) (w present : Window) (filter lent : F) (a : ℕ)
+    (v : Value) (ds : List Datom) (first : Option Datom)
+    → there ≡ h → present ≡ without_history w → lent ≡ filter
+    → covers (facts h) Avet a ≡ true → IsScan there present (Selects lent) Avet (leading (of_value a v)) ds → first ≡ slice_get ds 0
+    → IsHolder h w (Selects filter) a v (option_map (λ d. d.e) first)
 holder_from Selects h there w present filter lent a v ds first same_h same_w same_f covered scan at =
     let one = subst (λ x. IsScan x present (Selects lent) Avet (leading (of_value a v)) ds) same_h scan in
     let two = subst (λ x. IsScan h x (Selects lent) Avet (leading (of_value a v)) ds) same_w one in
     let three = subst (λ x. IsScan h (without_history w) (Selects x) Avet (leading (of_value a v)) ds) same_f two in
-    subst (λ (o : Option Datom). IsHolder h w (Selects filter) a v (option_map (λ d. d.e) o)) (sym at) (holder_in_scan h w (Selects filter) a v covered ds three)
+    subst (λ (o : Option Datom). IsHolder h w (Selects filter) a v (option_map (λ d. d.e) o)) (sym at)
+    (holder_in_scan h w (Selects filter) a v covered ds three)

@@ -5,16 +5,21 @@ use Rattle.fb_values.specs.declared.facts.Datom.{Datom}
 use Rattle.fb_values.specs.declared.indexes.Order.TheVariants.{Avet}
 use Rattle.fb_model.specs.Schema.{Attribute, attribute_from, attribute_of, attribute_named, named, is_held, covers}
 
-own_id : (e : ℕ) (x : Attribute) (name : Option (List ℕ)) (kind count uniqueness : Option ℕ) (component indexed : Bool) → attribute_from e name kind count uniqueness component indexed ≡ Some x → x.id ≡ e
+own_id : (e : ℕ) (x : Attribute) (name : Option (List ℕ)) (kind count uniqueness : Option ℕ) (component indexed : Bool)
+    → attribute_from e name kind count uniqueness component indexed ≡ Some x → x.id ≡ e
 own_id e x None kind count uniqueness component indexed same = absurd (cc)
 own_id e x (Some name) None count uniqueness component indexed same = absurd (cc)
 own_id e x (Some name) (Some kind) None uniqueness component indexed same = absurd (cc)
-own_id e x (Some name) (Some kind) (Some count) uniqueness component indexed same = sym (ap (λ (o : Option Attribute). option_map_or (λ (a : Attribute). a.id) o e) same)
+own_id e x (Some name) (Some kind) (Some count) uniqueness component indexed same =
+    sym (ap (λ (o : Option Attribute). option_map_or (λ (a : Attribute). a.id) o e) same)
 
-unique_is_held : (facts : List Datom) (e : ℕ) (x : Attribute) → attribute_of facts e ≡ Some x → eqb x.uniqueness 0 ≡ false → covers facts Avet e ≡ true
-unique_is_held facts e x is unique = ap (λ (o : Option Attribute). option_map_or (is_held Avet) o false) is ∙ ap (λ b. not b || x.indexed) unique
+unique_is_held : (facts : List Datom) (e : ℕ) (x : Attribute) → attribute_of facts e ≡ Some x → eqb x.uniqueness 0 ≡ false
+    → covers facts Avet e ≡ true
+unique_is_held facts e x is unique =
+    ap (λ (o : Option Attribute). option_map_or (is_held Avet) o false) is ∙ ap (λ b. not b || x.indexed) unique
 
-pub named_is_held : (facts : List Datom) (k : List ℕ) (x : Attribute) → attribute_named facts k ≡ Some x → eqb x.uniqueness 0 ≡ false → covers facts Avet x.id ≡ true
+pub named_is_held : (facts : List Datom) (k : List ℕ) (x : Attribute) → attribute_named facts k ≡ Some x → eqb x.uniqueness 0 ≡ false
+    → covers facts Avet x.id ≡ true
 named_is_held facts k x = go (named facts k)
   where
     go : (o : Option ℕ) → option_and_then (attribute_of facts) o ≡ Some x → eqb x.uniqueness 0 ≡ false → covers facts Avet x.id ≡ true

@@ -1,5 +1,6 @@
 -- The instants of a lawful history rise, so that its early entries are the first ones.
-use Rattle.std.proofs.Common.{◌≡◌, ◌+◌, ◌<◌, ◌≤◌, ℕ, zero, suc, ℤ, pos, negsuc, true, false, cond, List, [], ◌∷◌, ◌++◌, length, refl, sym, subst, arith, Some}
+use Rattle.std.proofs.Common.{◌≡◌, ◌+◌, ◌<◌, ◌≤◌, ℕ, zero, suc, ℤ, pos, negsuc, true, false, cond, List, [], ◌∷◌, ◌++◌, length, refl, sym}
+use Rattle.std.proofs.Common.{subst, arith, Some}
 use Rattle.std.specs.Prelude.{filter, slice_get, int_lt}
 use Rattle.std.proofs.lemmas.Bool.{and_parts}
 use Rattle.std.proofs.lemmas.Int.{ints}
@@ -27,7 +28,8 @@ later_from h (e ∷ rest) lawful = (
 -- the first entry's is above -1
 pub are_later : (h : List Entry) → IsLawful h → AreLater (negsuc 0) h
 are_later [] lawful = absurd lawful
-are_later (e ∷ rest) lawful = (subst (λ first. int_lt (negsuc 0) first.instant ≡ true) (sym lawful.0) refl, later_from (e ∷ []) rest lawful.1)
+are_later (e ∷ rest) lawful =
+    (subst (λ first. int_lt (negsuc 0) first.instant ≡ true) (sym lawful.0) refl, later_from (e ∷ []) rest lawful.1)
 
 lt_trans : (x y z : ℤ) → int_lt x y ≡ true → int_lt y z ≡ true → int_lt x z ≡ true
 lt_trans x y z less more = grind (arith, ints)
@@ -37,13 +39,16 @@ above_all z [] i e later is = absurd (cc)
 above_all z (x ∷ h) zero e later is = let same : x ≡ e = cc in subst (λ first. int_lt z first.instant ≡ true) same later.0
 above_all z (x ∷ h) (suc i) e later is = lt_trans z x.instant e.instant later.0 (above_all x.instant h i e later.1 is)
 
-rising : (z : ℤ) (h : List Entry) (i j : ℕ) (x y : Entry) → AreLater z h → i < j → slice_get h i ≡ Some x → slice_get h j ≡ Some y → int_lt x.instant y.instant ≡ true
+rising : (z : ℤ) (h : List Entry) (i j : ℕ) (x y : Entry) → AreLater z h → i < j → slice_get h i ≡ Some x → slice_get h j ≡ Some y
+    → int_lt x.instant y.instant ≡ true
 rising z [] i j x y later less at_i at_j = absurd (cc)
 rising z (e ∷ h) i zero x y later less at_i at_j = absurd (omega arith)
-rising z (e ∷ h) zero (suc j) x y later less at_i at_j = let same : e ≡ x = cc in subst (λ first. int_lt first.instant y.instant ≡ true) same (above_all e.instant h j y later.1 at_j)
+rising z (e ∷ h) zero (suc j) x y later less at_i at_j =
+    let same : e ≡ x = cc in subst (λ first. int_lt first.instant y.instant ≡ true) same (above_all e.instant h j y later.1 at_j)
 rising z (e ∷ h) (suc i) (suc j) x y later less at_i at_j = rising e.instant h i j x y later.1 (omega arith) at_i at_j
 
-pub instants_rise : (h : List Entry) (i j : ℕ) (x y : Entry) → IsLawful h → i < j → slice_get h i ≡ Some x → slice_get h j ≡ Some y → int_lt x.instant y.instant ≡ true
+pub instants_rise : (h : List Entry) (i j : ℕ) (x y : Entry) → IsLawful h → i < j → slice_get h i ≡ Some x → slice_get h j ≡ Some y
+    → int_lt x.instant y.instant ≡ true
 instants_rise h i j x y lawful less at_i at_j = rising (negsuc 0) h i j x y (are_later h lawful) less at_i at_j
 
 -- ---- early instants come first
@@ -64,10 +69,12 @@ none_behind early z (e ∷ h) later late =
     rw here (none_behind early e.instant h later.1 here)
 
 -- before an early one there is no late one
-first_is_early : (early : Early) (z : ℤ) (h : List Entry) (i : ℕ) (e : Entry) → AreLater z h → slice_get h i ≡ Some e → is_early early e.instant ≡ true → is_early early z ≡ true
+first_is_early : (early : Early) (z : ℤ) (h : List Entry) (i : ℕ) (e : Entry) → AreLater z h → slice_get h i ≡ Some e
+    → is_early early e.instant ≡ true → is_early early z ≡ true
 first_is_early early z h i e later at is = early_before early z e.instant (above_all z h i e later at) is
 
-counted_behind : (early : Early) (z : ℤ) (h : List Entry) (i : ℕ) (e : Entry) → AreLater z h → slice_get h i ≡ Some e → is_early early e.instant ≡ true → i < count_early h early
+counted_behind : (early : Early) (z : ℤ) (h : List Entry) (i : ℕ) (e : Entry) → AreLater z h → slice_get h i ≡ Some e
+    → is_early early e.instant ≡ true → i < count_early h early
 counted_behind early z [] i e later at is = absurd (cc)
 counted_behind early z (x ∷ h) zero e later at is =
     let same : e ≡ x = cc in
@@ -78,7 +85,8 @@ counted_behind early z (x ∷ h) (suc i) e later at is =
     let more = counted_behind early x.instant h i e later.1 at is in
     rw here (omega arith)
 
-counted_upto : (early : Early) (z : ℤ) (h : List Entry) (i : ℕ) (e : Entry) → AreLater z h → slice_get h i ≡ Some e → is_early early e.instant ≡ false → count_early h early ≤ i
+counted_upto : (early : Early) (z : ℤ) (h : List Entry) (i : ℕ) (e : Entry) → AreLater z h → slice_get h i ≡ Some e
+    → is_early early e.instant ≡ false → count_early h early ≤ i
 counted_upto early z [] i e later at is = absurd (cc)
 counted_upto early z (x ∷ h) zero e later at is =
     let same : e ≡ x = cc in
@@ -86,23 +94,27 @@ counted_upto early z (x ∷ h) zero e later at is =
     rw (here, none_behind early x.instant h later.1 here) (omega arith)
 counted_upto early z (x ∷ h) (suc i) e later at is =
     let more = counted_upto early x.instant h i e later.1 at is in
-    elim (is_early early x.instant) as (λ b. length (cond b (x ∷ filter (λ entry. is_early early entry.instant) h) (filter (λ entry. is_early early entry.instant) h)) ≤ suc i) [
+    elim (is_early early x.instant) as (λ b.
+    length (cond b (x ∷ filter (λ entry. is_early early entry.instant) h) (filter (λ entry. is_early early entry.instant) h)) ≤ suc i) [
       | true ↦ omega arith
       | false ↦ omega arith
     ]
 
 -- in a lawful history an early entry is counted, and a late one is not
-pub early_is_counted : (early : Early) (h : List Entry) (i : ℕ) (e : Entry) → IsLawful h → slice_get h i ≡ Some e → is_early early e.instant ≡ true → i + 1 ≤ count_early h early
+pub early_is_counted : (early : Early) (h : List Entry) (i : ℕ) (e : Entry) → IsLawful h → slice_get h i ≡ Some e
+    → is_early early e.instant ≡ true → i + 1 ≤ count_early h early
 early_is_counted early h i e lawful at is = let more = counted_behind early (negsuc 0) h i e (are_later h lawful) at is in omega arith
 
-pub late_is_not_counted : (early : Early) (h : List Entry) (i : ℕ) (e : Entry) → IsLawful h → slice_get h i ≡ Some e → is_early early e.instant ≡ false → count_early h early ≤ i
+pub late_is_not_counted : (early : Early) (h : List Entry) (i : ℕ) (e : Entry) → IsLawful h → slice_get h i ≡ Some e
+    → is_early early e.instant ≡ false → count_early h early ≤ i
 late_is_not_counted early h i e lawful at is = counted_upto early (negsuc 0) h i e (are_later h lawful) at is
 
 pub counted_are_entries : (early : Early) (h : List Entry) → count_early h early ≤ length h
 counted_are_entries early [] = omega arith
 counted_are_entries early (e ∷ h) =
     let more = counted_are_entries early h in
-    elim (is_early early e.instant) as (λ b. length (cond b (e ∷ filter (λ entry. is_early early entry.instant) h) (filter (λ entry. is_early early entry.instant) h)) ≤ suc (length h)) [
+    elim (is_early early e.instant) as (λ b. length
+    (cond b (e ∷ filter (λ entry. is_early early entry.instant) h) (filter (λ entry. is_early early entry.instant) h)) ≤ suc (length h)) [
       | true ↦ omega arith
       | false ↦ omega arith
     ]

@@ -4,8 +4,8 @@ use Rattle.read_model.specs.Components as model
 use Rattle.fb_names.specs.declared.probes.Component.{Component}
 use Rattle.fb_names.specs.declared.probes.Component.TheVariants.{Entity, Attribute, Value, T}
 
-abbrev pub part_in : Component → model.Component
-part_in Entity = model.an_entity
-part_in Attribute = model.an_attribute
-part_in Value = model.a_value
-part_in T = model.a_t
+abbrev pub model_component : Component → model.Component
+model_component Entity = model.an_entity
+model_component Attribute = model.an_attribute
+model_component Value = model.a_value
+model_component T = model.a_t

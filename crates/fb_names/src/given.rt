@@ -6,7 +6,7 @@ ghost use Rattle.fb_values.specs.declared.facts.Entry.{Entry};
 ghost use Rattle.fb_model.specs.Facts.{facts};
 ghost use Rattle.fb_model.specs.Schema.{is_held as model_is_held};
 ghost use Rattle.fb_schema.specs.Described.{SchemaStands};
-ghost use Rattle.fb_schema.specs.Parts.{attribute_in as attribute_seen};
+ghost use Rattle.fb_schema.specs.Parts.{model_attribute};
 ghost use Rattle.fb_db.specs.Seen.{window_of};
 ghost use Rattle.read_model.specs.Names.{id_in};
 ghost use Rattle.read_model.specs.Given.{refusal};
@@ -87,7 +87,7 @@ pub fn attribute(schema: &Schema, order: Order, form: &Edn, at: usize) -> Result
 
 /// Whether the index holds the attribute.
 fn is_held(order: Order, attribute: &Attribute) -> bool
-    ensures { result ≡ model_is_held order (attribute_seen attribute.now) }
+    ensures { result ≡ model_is_held order (model_attribute attribute.now) }
 {
     match order {
         Order::Eavt | Order::Aevt => true,

@@ -1,4 +1,4 @@
-//! The entity that a form names in a read. What the names mean is told by the whole history, and what they find by the view.
+//! The entity that a form names in a read. What the names mean depends on the whole history, and what they find on the view.
 ghost use Rattle.std.specs.Prelude.{◌≡◌, List, true, IfOk, Some};
 ghost use Rattle.std.specs.Option.{option_map, option_map_or};
 ghost use Rattle.edn_form.specs.View.{form_of, forms_of, members};
@@ -40,7 +40,7 @@ pub struct Lookup {
     pub value: Value,
 }
 
-/// The entity that the form names in the view: none where it is no name, or finds no entity. A number names itself.
+/// The entity that the form names in the view: none where it is not a name, or finds no entity. A number names itself.
 pub fn entid<S: Selector>(alloc: Global, db: &Db<S>, form: &Edn) -> Result<Option<u64>, Memory>
     ensures { IfOk result (λ e. IsEntityOf db.now.snapshot.entries (window_of db.now)
         (S.selects db.now.filter) (form_of form.now) e) }

@@ -21,7 +21,7 @@ pub struct LogRange {
     pub stop: u32,
 }
 
-/// The end of the point that stands behind the command's word: the t behind the last transaction up to it. An instant
+/// The end of the point that follows the command's word: the t after the last transaction up to it. An instant
 /// costs a logarithm of the entries.
 pub fn point(snapshot: &Snapshot, form: &Edn) -> Result<u32, Refusal>
     ensures { result ≡ point_in snapshot.now.entries (form_of form.now) }
@@ -29,7 +29,7 @@ pub fn point(snapshot: &Snapshot, form: &Edn) -> Result<u32, Refusal>
     end_of(snapshot, form).ok_or(bad_point(1))
 }
 
-/// The range of the log that the two forms behind the command's word give.
+/// The range of the log that the two forms after the command's word give.
 pub fn log_range(snapshot: &Snapshot, start: &Edn, stop: &Edn) -> Result<LogRange, Refusal>
     ensures { MatchResult result
         (λ range. model_log_range snapshot.now.entries (form_of start.now) (form_of stop.now)
@@ -90,7 +90,7 @@ fn bound_of(snapshot: &Snapshot, form: &Edn) -> Option<u32>
     }
 }
 
-/// The t behind the last transaction.
+/// The t after the last transaction.
 fn log_end(snapshot: &Snapshot) -> u32
     ensures { result ≡ basis snapshot.now.entries + 1 }
 {

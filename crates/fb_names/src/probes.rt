@@ -8,7 +8,7 @@ ghost use Rattle.fb_schema.specs.Described.{SchemaStands};
 ghost use Rattle.fb_db.specs.Seen.{window_of};
 ghost use Rattle.read_model.specs.Components.{AreComponents, with_next as model_with_next, no_component as model_no_component, parts_of as model_parts_of, kind_behind as model_kind_behind, no_command as model_no_command};
 ghost use Rattle.fb_names.specs.Answers.{IsGiven, AnswersAs};
-ghost use Rattle.fb_names.specs.Parts.{part_in};
+ghost use Rattle.fb_names.specs.Parts.{model_component};
 
 use crate::given::{attribute, entity, t, value};
 use crate::stops::NameStop;
@@ -24,7 +24,7 @@ use std::alloc::Global;
 /// How many components an index has.
 const COMPONENTS: usize = 4;
 
-/// The place of the first component, behind the index's.
+/// The place of the first component, after the index's.
 const FIRST: usize = 2;
 
 /// What a component is.
@@ -36,8 +36,8 @@ pub enum Component {
     T,
 }
 
-/// The probe that the forms behind the index's name give, or the first place that fails. An index has four components, and
-/// a form with more is no command.
+/// The probe that the forms after the index's name give, or the first place that fails. An index has four components, and
+/// a form with more is not a command.
 pub fn components<S: Selector>(
     alloc: Global,
     db: &Db<S>,
@@ -69,17 +69,17 @@ fn no_command() -> Refusal
     }
 }
 
-/// What stands at a place of the components, counted from 0.
+/// What is at a place of the components, counted from 0.
 fn part_at(order: Order, place: usize) -> Component
     requires { place < 4 }
-    ensures { slice_get (model_parts_of order) place ≡ Some (part_in result) }
+    ensures { slice_get (model_parts_of order) place ≡ Some (model_component result) }
 {
     let parts = parts_of(order);
     parts[place]
 }
 
 fn parts_of(order: Order) -> [Component; 4]
-    ensures { map part_in result ≡ model_parts_of order }
+    ensures { map model_component result ≡ model_parts_of order }
 {
     match order {
         Order::Eavt => [
@@ -132,7 +132,7 @@ fn with_next<S: Selector>(
 ) -> Result<Probe, NameStop>
     ensures { AnswersAs
         (IsGiven db.now.snapshot.entries (window_of db.now) (S.selects db.now.filter) at
-        (model_with_next (facts db.now.snapshot.entries) probe (part_in part) (form_of form.now)))
+        (model_with_next (facts db.now.snapshot.entries) probe (model_component part) (form_of form.now)))
         result }
 {
     match part {

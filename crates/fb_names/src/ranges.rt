@@ -23,7 +23,7 @@ pub struct ValueRange {
     pub end: Option<Value>,
 }
 
-/// The range that an attribute's keyword and two values or nils behind the command's word give. AVET has to hold the
+/// The range that an attribute's keyword and two values or nils after the command's word give. AVET has to hold the
 /// attribute.
 pub fn index_range<S: Selector>(
     alloc: Global,

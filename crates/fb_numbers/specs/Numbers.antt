@@ -35,7 +35,7 @@ is_component = IS_COMPONENT
 abbrev pub index : ℕ
 index = INDEX
 
--- a text that tells what an entity is
+-- a text that says what an entity is
 abbrev pub doc : ℕ
 doc = DOC
 

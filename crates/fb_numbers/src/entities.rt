@@ -56,10 +56,10 @@ pub const UNIQUE_VALUE: u64 = 31;
 
 // ---- where the transactions' and the users' entities begin
 
-/// The entity of transaction 0. That of transaction t lies t behind it.
+/// The entity of transaction 0. That of transaction t is greater by t.
 pub const TRANSACTIONS: u64 = 3 << 42;
 
-/// The number before the first user entity. The n-th lies n behind it.
+/// The number before the first user entity. The n-th is greater by n.
 pub const USER_ENTITIES: u64 = 4 << 42;
 
 /// The entity of transaction t.

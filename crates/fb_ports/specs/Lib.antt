@@ -1,3 +1,3 @@
 pub mod Faults
-pub mod Told
-pub mod Telling
+pub mod HostSpec
+pub mod HostCalls

@@ -10,8 +10,8 @@ mod streams;
 
 pub use clocks::Clock;
 pub use fails::OpenFail;
-pub use fb_calls::Failed;
 pub use fb_disk::Disk;
 pub use fb_memory::Memory;
 pub use hosts::{Host, Part};
+pub use io_faults::Failed;
 pub use streams::{Sink, Source};

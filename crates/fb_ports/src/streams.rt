@@ -7,16 +7,16 @@ use crate::Failed;
 
 /// Where bytes come from.
 pub trait Source: Drop {
-    /// How many calls have failed. It stands still at 2^64 - 1.
+    /// How many calls have failed. At 2^64 - 1 it stays.
     ghost faults: { Self → ℕ };
 
-    /// The bytes still to be read, where the source tells them.
+    /// The bytes still to be read, where they are known.
     ghost left: { Self → Option (List ℕ) };
 
     fn faults(&self) -> u64
         ensures { result ≡ faults self.now };
 
-    /// Reads into the front of `buf` and answers how many bytes it placed there. What lies behind them in `buf` is free.
+    /// Reads into the front of `buf` and answers how many bytes it placed there. What lies after them in `buf` is free.
     /// It takes no memory.
     fn read(&mut self, buf: &mut [u8]) -> Result<usize, Failed>
         ensures within { IfOk result (λ n. n ≤ length buf.old) }
@@ -31,10 +31,10 @@ pub trait Source: Drop {
 
 /// Where bytes go.
 pub trait Sink: Drop {
-    /// How many calls have failed. It stands still at 2^64 - 1.
+    /// How many calls have failed. At 2^64 - 1 it stays.
     ghost faults: { Self → ℕ };
 
-    /// The bytes that it has taken, where the sink tells them.
+    /// The bytes that it has taken, where they are known.
     ghost contents: { Self → Option (List ℕ) };
 
     fn faults(&self) -> u64

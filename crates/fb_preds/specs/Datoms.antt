@@ -1,9 +1,11 @@
--- Datoms that a program can hold: their numbers lie in the ranges of their types, and their texts are UTF-8.
+-- Datoms that a program can hold:
+-- their numbers lie in the ranges of their types, and their texts are UTF-8.
 -- This project's own choice.
 use Rattle.std.specs.Prelude.{ℤ, pos, negsuc, ◌<◌, ◌^◌, IsUtf8}
 use Rattle.fb_values.specs.declared.facts.Datom.{Datom}
 use Rattle.fb_values.specs.declared.facts.Value.{Value}
-use Rattle.fb_values.specs.declared.facts.Value.TheVariants.{Keyword, Str, Bool as Boolean, Long, Ref, Instant, Uuid, Symbol, Uri}
+use Rattle.fb_values.specs.declared.facts.Value.TheVariants.{Keyword, Str, Bool as Boolean, Long}
+use Rattle.fb_values.specs.declared.facts.Value.TheVariants.{Ref, Instant, Uuid, Symbol, Uri}
 
 -- of 64 bits
 abbrev pub IsLong : ℤ → Type 0

@@ -1,6 +1,8 @@
--- Filters by their names, in a table that finds a place by a name, has a name at a place, and a filter there.
+-- Filters by their names, in a table that finds a place by a name,
+-- has a name at a place, and a filter there.
 -- Datomic, Database Filters (d/filter). That filters have names is this project's own choice.
-use Rattle.std.specs.Prelude.{◌≡◌, ℕ, List, [], ◌∷◌, ◌++◌, nat_eq, if◌then◌else◌, Option, Some, MatchOption}
+use Rattle.std.specs.Prelude.{◌≡◌, ℕ, List, [], ◌∷◌, ◌++◌, nat_eq, if◌then◌else◌, Option, Some}
+use Rattle.std.specs.Prelude.{MatchOption}
 use Rattle.std.specs.List.{AllByRecursion, AllByRecursion-prop, list_any}
 use Rattle.std.proofs.Props.{props}
 use Rattle.fb_values.specs.declared.facts.Datom.{Datom}

@@ -1,16 +1,20 @@
 -- Filters by name: which filter a name finds, and which datoms it selects.
--- Datomic, Database Filters (d/filter). Which filters a table begins with is this project's own choice.
-use Rattle.std.specs.Prelude.{ℕ, ◌+◌, negsuc, Bool, true, false, not, List, [], ◌∷◌, nat_eq, nat_lt, bytes_eq, if◌then◌else◌, slice_get, Option, Some, None, IsTrue, MatchOption, codes}
+-- Datomic, Database Filters (d/filter).
+-- Which filters a table begins with is this project's own choice.
+use Rattle.std.specs.Prelude.{ℕ, ◌+◌, negsuc, Bool, true, false, not, List, [], ◌∷◌, nat_eq, nat_lt}
+use Rattle.std.specs.Prelude.{bytes_eq, if◌then◌else◌, slice_get, Option, Some, None, IsTrue}
+use Rattle.std.specs.Prelude.{MatchOption, codes}
 use Rattle.std.specs.Option.{option_map_or}
 use Rattle.fb_values.specs.declared.facts.Datom.{Datom}
 use Rattle.fb_values.specs.declared.facts.Value.{Value}
 use Rattle.fb_values.specs.declared.facts.Value.TheVariants.{Long}
 use Rattle.fb_numbers.specs.Numbers.{user_entity, doc}
 use Rattle.fb_preds.specs.declared.filters.Filter.{Filter}
-use Rattle.fb_preds.specs.declared.filters.Filter.TheVariants.{Users, NoDoc, Positive, Stored, Closure}
+use Rattle.fb_preds.specs.declared.filters.Filter.TheVariants.{Users, NoDoc, Positive, Stored}
+use Rattle.fb_preds.specs.declared.filters.Filter.TheVariants.{Closure}
 use Rattle.fb_preds.specs.declared.filters.NamedFilter.{NamedFilter}
 
--- the last place at which the name stands
+-- the last place of the name
 abbrev pub last_place : {S K : Type 0} → List ℕ → List (NamedFilter S K) → Option ℕ
 last_place name [] = None
 last_place name (named ∷ rest) =

@@ -4,9 +4,9 @@ use fb_text::Text;
 /// A filter of a table. Callers store an `S` or a closure, which is kept as a `K`.
 #[derive(Drop)]
 pub enum Filter<S, K> {
-    /// What is said of the users' entities.
+    /// The datoms of the users' entities.
     Users,
-    /// What is said under every attribute but `:db/doc`.
+    /// The datoms of every attribute but `:db/doc`.
     NoDoc,
     /// Every value but a negative long.
     Positive,

@@ -1,4 +1,4 @@
-//! What a table is asked: where a name stands last, and what a value is.
+//! What a table is asked: the last place of a name, and what a value is.
 ghost use Rattle.std.specs.Prelude.{◌≡◌, ◌<◌, length, IfSome};
 ghost use Rattle.fb_preds.specs.Table.{last_place, is_negative as model_is_negative};
 

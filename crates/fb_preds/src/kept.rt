@@ -2,7 +2,7 @@
 ghost use Rattle.std.specs.Prelude.{◌≡◌, true, false};
 ghost use Rattle.fb_preds.specs.Datoms.{IsDatom};
 
-use crate::ranges::meet;
+use crate::ranges::numbers_in_range;
 use crate::selector::Selector;
 use fb_values::Datom;
 
@@ -33,7 +33,7 @@ impl Selector for Kept {
     ghost selects = { λ kept d. (x : _) × (x.now ≡ d) × BoxedTest.post kept.answers x true };
 
     fn test(&self, d: &Datom) -> bool {
-        meet(d);
+        numbers_in_range(d);
         (self.answers)(d)
     }
 }

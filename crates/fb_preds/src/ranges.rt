@@ -4,16 +4,16 @@ ghost use Rattle.fb_preds.specs.Datoms.{IsDatom, IsValue};
 use fb_values::{Datom, Value};
 
 /// The numbers of a datom lie in the ranges of their types.
-pub fn meet(d: &Datom)
+pub fn numbers_in_range(d: &Datom)
     ensures { IsDatom d.now }
 {
     let _e = d.e;
     let _a = d.a;
     let _t = d.t;
-    meet_value(&d.v);
+    value_in_range(&d.v);
 }
 
-fn meet_value(v: &Value)
+fn value_in_range(v: &Value)
     ensures { IsValue v.now }
 {
     match v {

@@ -42,7 +42,7 @@ impl PredTable {
         Ok(())
     }
 
-    /// The same of a closure.
+    /// Adds a closure as a filter.
     pub fn keep(&mut self, name: Text, kept: Kept) -> Result<(), Memory>
         ensures added { IfOk result (λ _. self.new.filters.items
             ≡ self.old.filters.items ++ record { name = name; filter = Filter.Closure kept } ∷ []) }

@@ -104,7 +104,8 @@ module _ {Y : Type 0} (F : List Datom → List Y) (a : ℕ) (ds : List Datom) (i
   abbrev pub behind : List Datom
   behind = filter (has a) (drop (i + 1) ds)
 
-  first_ahead : was ++ F (take left (filter (has a) (drop i ds))) ≡ whole → was ++ F (take left (cond (has a d) (d ∷ behind) behind)) ≡ whole
+  first_ahead : was ++ F (take left (filter (has a) (drop i ds))) ≡ whole
+      → was ++ F (take left (cond (has a d) (d ∷ behind) behind)) ≡ whole
   first_ahead goes = subst (λ (l : List Datom). was ++ F (take left (filter (has a) l)) ≡ whole) ahead goes
 
   pub one_taken : (one : List Y) → ((ds : List Datom) → F (d ∷ ds) ≡ one ++ F ds) → d.a ≡ a → 0 < left → new_left ≡ left - 1

@@ -5,4 +5,4 @@ pub mod Attributes
 pub mod Runs
 pub mod Limits
 pub mod Known
-pub mod Telling
+pub mod Making

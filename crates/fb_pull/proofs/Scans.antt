@@ -15,7 +15,7 @@ use Rattle.fb_values.specs.declared.indexes.Order.TheVariants.{Eavt, Vaet}
 use Rattle.fb_values.specs.declared.indexes.Probe.{Probe}
 use Rattle.fb_values.specs.Orders.{key_cmp, value_cmp, probe_cmp}
 use Rattle.fb_values.specs.OrderLaws.{value_cmp_total}
-use Rattle.fb_values.specs.Rising.{StandsBefore, IsRising}
+use Rattle.fb_values.specs.Rising.{IsBelowAll, IsRising}
 use Rattle.fb_values.proofs.Rising.{rises_from, rising_from}
 use Rattle.fb_model.specs.Facts.{facts as facts_of, value_eq}
 use Rattle.fb_model.specs.Schema.{is_about, is_ref}
@@ -97,7 +97,7 @@ by_entity e a x y x_is y_is =
     (ap (λ (v : Value). value_cmp x.v v) (sym values) ∙ tied_itself value_cmp_total x.v)
 
 before_in_vaet : (e a : ℕ) (x : Datom) (ds : List Datom) → refers e a x ≡ true → ((d : Datom) → Contains ds d → refers e a d ≡ true)
-    → StandsBefore Eavt x ds → StandsBefore Vaet x ds
+    → IsBelowAll Eavt x ds → IsBelowAll Vaet x ds
 before_in_vaet e a x [] is all before = tt
 before_in_vaet e a x (y ∷ ds) is all before =
     (by_entity e a x y is (all y (here y ds)) ∙ before.0, before_in_vaet e a x ds is (λ d member. all d (there y d ds member)) before.1)

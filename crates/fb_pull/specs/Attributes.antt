@@ -6,7 +6,7 @@ use Rattle.fb_values.specs.declared.facts.Datom.{Datom}
 use Rattle.fb_model.specs.Schema.{attribute_of}
 use Rattle.pull_model.specs.Found.{put_name, names_in_order}
 
--- each number is below all behind it
+-- each number is below all after it
 abbrev pub Rise : List ℕ → Type 0
 Rise [] = Unit {0}
 Rise (n ∷ ns) = All (λ m. n < m) ns × Rise ns

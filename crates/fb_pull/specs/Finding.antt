@@ -1,5 +1,5 @@
--- What a pull finds under a name of what there is: of values as many as may be told, and of entities one more than the maps that may
--- still be made, if the limit allows so many.
+-- What a pull finds under a name of what there is: of values as many as may be given,
+-- and of entities one more than the maps that may still be made, if the limit allows so many.
 -- This project's own choice.
 use Rattle.std.specs.Prelude.{◌≡◌, ℕ, ◌+◌, List, map, take, min, Option, Some, None}
 use Rattle.edn_form.specs.View.{forms_of}

@@ -4,6 +4,6 @@ use Rattle.edn_model.specs.Form as edn
 use Rattle.fb_pull.specs.declared.keys.Key.{Key}
 use Rattle.fb_pull.specs.declared.keys.Key.TheVariants.{Word, Str}
 
-abbrev pub key_in : Key → edn.Form
-key_in (Word text) = edn.keyword text.now
-key_in (Str text) = edn.string text.now
+abbrev pub model_key : Key → edn.Form
+model_key (Word text) = edn.keyword text.now
+model_key (Str text) = edn.string text.now

@@ -6,5 +6,5 @@ pub mod Below
 pub mod Finding
 pub mod Made
 pub mod Stands
-pub mod Telling
+pub mod Making
 pub mod Pulls

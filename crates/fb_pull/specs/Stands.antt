@@ -1,4 +1,4 @@
--- Where a pull stands, as the definitions see it.
+-- The state of a pull, as the definitions have it.
 -- Datomic, Pull.
 use Rattle.std.specs.Prelude.{◌≡◌, ℕ, ◌∷◌, drop}
 use Rattle.fb_values.specs.declared.facts.Datom.{Datom}
@@ -7,7 +7,7 @@ use Rattle.pull_model.specs.Found.{Db}
 use Rattle.pull_model.specs.Made.{Made, Inside}
 use Rattle.pull_model.specs.Patterns.{Item}
 use Rattle.pull_model.specs.Tree.{tree, made_of, inside}
-use Rattle.pull_pattern.specs.View.{pattern_in}
+use Rattle.pull_pattern.specs.View.{model_pattern}
 use Rattle.fb_pull.specs.declared.trees.Stand.{Stand}
 use Rattle.fb_pull.specs.Near.{IsNear}
 
@@ -22,11 +22,11 @@ HasNear db Selects at = IsNear db Selects at.e at.near.now
 -- what an item at a place makes there
 abbrev pub made_at : Stand → Db → ℕ → Item → Made
 made_at at facts =
-    made_of (tree at.limits.depth facts) facts (pattern_in at.pattern.now)
+    made_of (tree at.limits.depth facts) facts (model_pattern at.pattern.now)
     (drop 1 at.path.now) at.e
 
 -- the pairs of the map there
 abbrev pub inside_at : Stand → Db → Inside
 inside_at at facts =
-    inside (tree at.limits.depth facts) facts (pattern_in at.pattern.now)
+    inside (tree at.limits.depth facts) facts (model_pattern at.pattern.now)
     (drop 1 at.path.now) at.e

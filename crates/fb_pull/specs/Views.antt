@@ -10,9 +10,10 @@ use Rattle.fb_db.specs.declared.db.Db.{Db}
 use Rattle.fb_db.specs.Seen.{window_of}
 use Rattle.pull_model.specs.Found as model
 
--- these are the facts of the history, and the list of what the database value sees, where `Selects` says which datoms its
--- filter selects
-pub record Sees {S : Type 0} (db : Db S) (Selects : Datom → Type 0) (facts : model.Db) : Type 0 where
+-- these are the facts of the history, and the list of what the database value sees,
+-- where `Selects` says which datoms its filter selects
+pub record Sees {S : Type 0} (db : Db S) (Selects : Datom → Type 0)
+    (facts : model.Db) : Type 0 where
   pub schema_is : facts.schema ≡ facts_of db.snapshot.entries
   pub seen_is : IsRisingListOf Eavt facts.seen
       (InView db.snapshot.entries (window_of db) Selects)

@@ -1,16 +1,16 @@
-//! What is told of each entity that is found under an item. It is the same for all of them, so it is found out once.
+//! What a pull gives of each entity that is found under an item. It is the same for all of them, so it is found out once.
 ghost use Rattle.std.specs.Prelude.{◌≡◌, ℕ, List, IfOk};
 ghost use Rattle.pull_model.specs.Made.{Made};
 ghost use Rattle.pull_model.specs.Patterns as patterns;
 ghost use Rattle.pull_model.specs.Tree as model;
-ghost use Rattle.pull_pattern.specs.View.{pattern_in, below_in};
-ghost use Rattle.fb_pull.specs.Below.{told_by};
+ghost use Rattle.pull_pattern.specs.View.{model_pattern, model_below};
+ghost use Rattle.fb_pull.specs.Below.{made_by};
 
 use fb_memory::Memory;
 use pull_pattern::{Below, Pattern};
 use std::alloc::Global;
 
-/// What is told of an entity.
+/// What a pull gives of an entity.
 #[derive(Drop)]
 pub enum Inner {
     /// Its number.
@@ -21,7 +21,7 @@ pub enum Inner {
     Apart(Pattern),
 }
 
-/// What is told of the entities under the item at the place of the pattern, which may be parts.
+/// What a pull gives of the entities under the item at the place of the pattern, which may be parts.
 pub fn inner_of(
     alloc: Global,
     pattern: &Pattern,
@@ -30,8 +30,8 @@ pub fn inner_of(
     parts: bool,
 ) -> Result<Inner, Memory>
     ensures { (trees : patterns.Pattern → List ℕ → ℕ → Made) (path : List ℕ) (n : ℕ)
-        → IfOk result (λ inner. told_by trees inner path n
-        ≡ model.told trees (pattern_in pattern.now) place path parts (below_in below.now) n) }
+        → IfOk result (λ inner. made_by trees inner path n
+        ≡ model.pull_below trees (model_pattern pattern.now) place path parts (model_below below.now) n) }
 {
     Ok(match below {
         Below::Usual if !parts => Inner::Number,
@@ -42,9 +42,9 @@ pub fn inner_of(
     })
 }
 
-/// What is told where nothing else is asked for.
+/// What a pull gives where nothing else is asked for.
 pub fn usual() -> Below
-    ensures { below_in result ≡ patterns.usual }
+    ensures { model_below result ≡ patterns.usual }
 {
     Below::Usual
 }

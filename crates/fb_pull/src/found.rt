@@ -1,11 +1,11 @@
-//! What is found under an item's name, as far as it may be told.
+//! What is found under an item's name, as far as it may be given.
 ghost use Rattle.std.specs.Prelude.{◌≡◌, Some, IfOk};
 ghost use Rattle.fb_model.specs.Facts.{facts as facts_of};
 ghost use Rattle.fb_model.specs.Schema.{attribute_of};
-ghost use Rattle.fb_schema.specs.Parts.{attribute_in};
+ghost use Rattle.fb_schema.specs.Parts.{model_attribute};
 ghost use Rattle.pull_model.specs.Found as model;
 ghost use Rattle.pull_model.specs.Tree as tree;
-ghost use Rattle.pull_pattern.specs.View.{options_in, limit_in};
+ghost use Rattle.pull_pattern.specs.View.{model_options, model_limit};
 ghost use Rattle.fb_pull.specs.Finding.{Finds, most_in, most_entities};
 ghost use Rattle.fb_pull.specs.Near.{IsNear};
 ghost use Rattle.fb_pull.specs.Views.{Sees};
@@ -20,7 +20,7 @@ use fb_schema::{Attribute, schemas_tell_of_attributes};
 use pull_pattern::{Limit, Name, Options};
 use std::alloc::Global;
 
-/// How many values are told where no limit is given.
+/// How many values a pull gives without a limit.
 const USUAL_LIMIT: u32 = 1000;
 
 /// What is found under a name.
@@ -41,7 +41,7 @@ pub enum Found {
     },
 }
 
-/// What is found of the entity under the name, forward or reversed: of entities one more than may be told as maps, which is one too
+/// What is found of the entity under the name, forward or reversed: of entities one more than may be given as maps, which is one too
 /// many.
 pub fn found_under<S: Selector>(
     alloc: Global,
@@ -55,7 +55,7 @@ pub fn found_under<S: Selector>(
     requires { IsNear db.now (S.selects db.now.filter) e near.now }
     ensures { (facts : model.Db) → Sees db.now (S.selects db.now.filter) facts
         → IfOk result
-        (λ found. Finds (model.found facts e name.now) (options_in options.now) maps found) }
+        (λ found. Finds (model.found facts e name.now) (model_options options.now) maps found) }
 {
     schemas_tell_of_attributes();
     match name.reversed() {
@@ -80,11 +80,11 @@ fn found_forward<S: Selector>(
     maps: u32,
 ) -> Result<Found, Memory>
     requires known { attribute_of (facts_of db.now.snapshot.entries) attribute.now.id
-        ≡ Some (attribute_in attribute.now) }
+        ≡ Some (model_attribute attribute.now) }
     requires near { IsNear db.now (S.selects db.now.filter) e near.now }
     ensures { (facts : model.Db) → Sees db.now (S.selects db.now.filter) facts
         → IfOk result (λ found. Finds
-        (model.found_forward facts e (Some (attribute_in attribute.now))) (options_in options.now)
+        (model.found_forward facts e (Some (model_attribute attribute.now))) (model_options options.now)
         maps found) }
 {
     let several = attribute.many;
@@ -111,10 +111,10 @@ fn found_backward<S: Selector>(
     maps: u32,
 ) -> Result<Found, Memory>
     requires { attribute_of (facts_of db.now.snapshot.entries) attribute.now.id
-        ≡ Some (attribute_in attribute.now) }
+        ≡ Some (model_attribute attribute.now) }
     ensures { (facts : model.Db) → Sees db.now (S.selects db.now.filter) facts
         → IfOk result (λ found. Finds
-        (model.found_backward facts e (Some (attribute_in attribute.now))) (options_in options.now)
+        (model.found_backward facts e (Some (model_attribute attribute.now))) (model_options options.now)
         maps found) }
 {
     if !attribute.is_ref() {
@@ -131,7 +131,7 @@ fn found_backward<S: Selector>(
 }
 
 fn limit_for(several: bool, options: &Options) -> Limit
-    ensures { limit_in result ≡ tree.limit_for several (options_in options.now) }
+    ensures { model_limit result ≡ tree.limit_for several (model_options options.now) }
 {
     if !several {
         return Limit::First(1);
@@ -143,7 +143,7 @@ fn limit_for(several: bool, options: &Options) -> Limit
 }
 
 fn most_values(limit: Limit) -> Option<usize>
-    ensures { result ≡ most_in (limit_in limit) }
+    ensures { result ≡ most_in (model_limit limit) }
 {
     match limit {
         Limit::First(n) => Some(n as usize),
@@ -153,7 +153,7 @@ fn most_values(limit: Limit) -> Option<usize>
 
 /// One entity more than the maps that may be made is too many.
 fn most_entities(limit: Limit, maps: u32) -> usize
-    ensures { result ≡ most_entities (limit_in limit) maps }
+    ensures { result ≡ most_entities (model_limit limit) maps }
 {
     let too_many = maps as usize + 1;
     match limit {

@@ -1,4 +1,4 @@
-//! Pulls: the tree that a pattern gives of an entity in a database value. A pull reads no more than it tells, and stops as soon as it
+//! Pulls: the tree that a pattern gives of an entity in a database value. A pull reads no more than it gives, and stops as soon as it
 //! is too large.
 #![tactic(auto)]
 

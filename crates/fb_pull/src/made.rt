@@ -16,15 +16,15 @@ use fb_values::Value;
 use std::alloc::Global;
 use std::sync::Arc;
 
-/// What is told in one place.
+/// What is given in one place.
 #[derive(Drop)]
-pub struct Told {
-    /// Nothing where there is nothing to tell.
+pub struct Pulled {
+    /// Nothing where there is nothing to give.
     pub form: Option<Edn>,
     pub maps: u32,
 }
 
-/// What is told of several entities.
+/// What is given of several entities.
 #[derive(Drop)]
 pub struct Several {
     pub forms: Vec<Edn>,
@@ -38,7 +38,7 @@ pub struct Inside {
     pub maps: u32,
 }
 
-/// How many maps may stand inside one another from here on, and how many may be made.
+/// How many maps may be inside one another from here on, and how many may be made.
 #[derive(Clone, Copy)]
 pub struct Limits {
     pub depth: u32,
@@ -98,14 +98,14 @@ impl Several {
         }
     }
 
-    /// Adds what is told of one more entity.
-    pub fn add(&mut self, told: Told) -> Result<(), Memory>
+    /// Adds what is given of one more entity.
+    pub fn add(&mut self, told: Pulled) -> Result<(), Memory>
         ensures forms { IfOk result (λ _. forms_of self.new.forms.items
             ≡ forms_of self.old.forms.items ++ form_in (option_map form_of told.form)) }
         ensures maps { IfOk result
             (λ _. self.new.maps ≡ min (self.old.maps + told.maps) u32.MAX) }
     {
-        let Told { form, maps } = told;
+        let Pulled { form, maps } = told;
         add_form(&mut self.forms, form)?;
         self.maps = self.maps.saturating_add(maps);
         Ok(())
@@ -123,15 +123,15 @@ impl Inside {
         }
     }
 
-    /// Adds what is told under the key, a pair where that is something.
-    pub fn add(&mut self, key: Edn, told: Told) -> Result<(), Memory>
+    /// Adds what is given under the key, a pair where that is something.
+    pub fn add(&mut self, key: Edn, told: Pulled) -> Result<(), Memory>
         ensures pairs { IfOk result (λ _. pairs_of self.new.pairs.items
             ≡ pairs_of self.old.pairs.items
             ++ model.pair_of (form_of key) (option_map form_of told.form)) }
         ensures maps { IfOk result
             (λ _. self.new.maps ≡ min (self.old.maps + told.maps) u32.MAX) }
     {
-        let Told { form, maps } = told;
+        let Pulled { form, maps } = told;
         add_pair(&mut self.pairs, key, form)?;
         self.maps = self.maps.saturating_add(maps);
         Ok(())

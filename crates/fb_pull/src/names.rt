@@ -118,7 +118,7 @@ fn put_attribute(list: &mut Vec<Text>, schema: &Schema, a: u64) -> Result<(), Me
     }
 }
 
-/// Puts the name in its place of a list in order, where it does not stand there.
+/// Puts the name in its place of a list in order, where it is not there yet.
 fn put_name(list: &mut Vec<Text>, name: &Text) -> Result<(), Memory>
     ensures { IfOk result (λ _. list.new.items ≡ model.put_name name.now list.old.items) }
 {

@@ -4,11 +4,11 @@ ghost use Rattle.edn_model.specs.Form.{nil};
 ghost use Rattle.edn_form.specs.View as view;
 ghost use Rattle.pull_model.specs.Found.{Db as Facts, IsDb};
 ghost use Rattle.pull_model.specs.Pull.{pulled};
-ghost use Rattle.pull_pattern.specs.View.{pattern_in};
+ghost use Rattle.pull_pattern.specs.View.{model_pattern};
 ghost use Rattle.fb_db.specs.Seen.{window_of};
 ghost use Rattle.fb_pull.specs.Pulls.{Answers};
 
-use crate::made::{Limits, Told};
+use crate::made::{Limits, Pulled};
 use crate::stops::{PullStop, Stop};
 use crate::trees::{Walk, tree};
 use edn_form::Edn;
@@ -20,10 +20,10 @@ use std::alloc::Global;
 /// The most maps of a pull.
 const MOST_MAPS: u32 = 65_536;
 
-/// The most maps that may stand around one.
+/// The most maps that may be around one.
 const MOST_AROUND: u32 = 256;
 
-/// The tree of the entity under the pattern, and nil if it has nothing to tell. It recurses through at most 256 maps.
+/// The tree of the entity under the pattern, and nil if there is nothing to give. It recurses through at most 256 maps.
 pub fn pull<S: Selector>(
     alloc: Global,
     db: &Db<S>,
@@ -32,7 +32,7 @@ pub fn pull<S: Selector>(
 ) -> Result<Edn, PullStop>
     ensures { (facts : Facts)
         → IsDb db.now.snapshot.entries (window_of db.now) (S.selects db.now.filter) facts
-        → Answers (pulled db.now.history facts (pattern_in pattern.now) e) result }
+        → Answers (pulled db.now.history facts (model_pattern pattern.now) e) result }
 {
     if db.history {
         return Err(PullStop::History);
@@ -49,8 +49,8 @@ pub fn pull<S: Selector>(
     }
 }
 
-/// The form that is told, or nil.
-fn form_of(told: Told) -> Edn
+/// The form that is given, or nil.
+fn form_of(told: Pulled) -> Edn
     ensures { view.form_of result ≡ unwrap_or (option_map view.form_of told.form) nil }
 {
     told.form.unwrap_or(Edn::Nil)

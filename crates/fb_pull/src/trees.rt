@@ -1,4 +1,4 @@
-//! The tree of an entity. It recurses as deep as maps may stand inside one another.
+//! The tree of an entity. It recurses as deep as maps may be inside one another.
 ghost use Rattle.std.specs.Prelude.{◌≡◌, ◌∷◌, ◌&&◌, ◌==◌, [], not, map, fold, drop, List, ℕ, if◌then◌else◌, IfOk};
 ghost use Rattle.edn_form.specs.View.{form_of, pairs_of};
 ghost use Rattle.pull_model.specs.Found as found;
@@ -6,17 +6,17 @@ ghost use Rattle.pull_model.specs.Found.{Db as Facts};
 ghost use Rattle.pull_model.specs.Made as made;
 ghost use Rattle.pull_model.specs.Patterns as patterns;
 ghost use Rattle.pull_model.specs.Tree as model;
-ghost use Rattle.pull_pattern.specs.View.{pattern_in, pattern_of, item_in, options_in, below_in};
-ghost use Rattle.fb_pull.specs.Below.{told_by};
+ghost use Rattle.pull_pattern.specs.View.{model_pattern, pattern_of, model_item, model_options, model_below};
+ghost use Rattle.fb_pull.specs.Below.{made_by};
 ghost use Rattle.fb_pull.specs.Finding.{Finds};
 ghost use Rattle.fb_pull.specs.Stands.{IsAt, HasNear, made_at, inside_at};
-ghost use Rattle.fb_pull.specs.Telling.{Tells, TellsInside, TellsSeveral, Adds, IsInside, with_own};
+ghost use Rattle.fb_pull.specs.Making.{Makes, MakesInside, MakesSeveral, Adds, IsInside, with_own};
 ghost use Rattle.fb_pull.specs.Views.{Sees};
 
 use crate::below::{Inner, inner_of, usual};
 use crate::found::{Found, found_under};
 use crate::keys::Key;
-use crate::made::{Inside, Limits, Several, Told, collected, number, or_default, stub};
+use crate::made::{Inside, Limits, Pulled, Several, collected, number, or_default, stub};
 use crate::names::names_of_entity;
 use crate::near::{Near, at_hand};
 use crate::stops::Stop;
@@ -35,7 +35,7 @@ pub struct Walk<'a, S> {
     pub db: &'a Db<S>,
 }
 
-/// Where it stands: at an entity, with what is at hand of it, and the path that led to it, which begins with the entity itself.
+/// Where it is: at an entity, with what is at hand of it, and the path that led to it, which begins with the entity itself.
 #[derive(Clone, Copy)]
 struct Stand<'a> {
     pattern: &'a Pattern,
@@ -62,9 +62,9 @@ pub fn tree<S: Selector>(
     above: &[u64],
     e: u64,
     limits: Limits,
-) -> Result<Told, Stop>
+) -> Result<Pulled, Stop>
     ensures { (facts : Facts) → Sees walk.now.db.now (S.selects walk.now.db.now.filter) facts
-        → Tells (model.tree limits.depth facts (pattern_in pattern.now) above.now e) limits result }
+        → Makes (model.tree limits.depth facts (model_pattern pattern.now) above.now e) limits result }
 {
     if limits.depth == 0 || limits.maps == 0 {
         return Err(Stop::TooLarge);
@@ -82,7 +82,7 @@ pub fn tree<S: Selector>(
         },
     };
     let inside = pairs(walk, &at)?;
-    Ok(Told {
+    Ok(Pulled {
         maps: inside.maps.saturating_add(1),
         form: inside.map(),
     })
@@ -94,7 +94,7 @@ fn pairs<S: Selector>(walk: &Walk<'_, S>, at: &Stand<'_>) -> Result<Inside, Stop
     requires path { IsAt at.now }
     requires near { HasNear walk.now.db.now (S.selects walk.now.db.now.filter) at.now }
     ensures { (facts : Facts) → Sees walk.now.db.now (S.selects walk.now.db.now.filter) facts
-        → TellsInside (inside_at at.now facts) at.now.limits result }
+        → MakesInside (inside_at at.now facts) at.now.limits result }
 {
     let items = at.pattern.items();
     let mut inside = Inside::none(walk.alloc);
@@ -118,8 +118,8 @@ fn add_item<S: Selector>(
     ensures { (facts : Facts) → Sees walk.now.db.now (S.selects walk.now.db.now.filter) facts
         → (before : made.Inside) → IsInside before at.now.limits inside.old
         → Adds (fold (model.with_item (made_at at.now facts)) before
-        (model.items_from facts at.now.e (pattern_in at.now.pattern.now) place
-        (patterns.one (item_in item.now)))) at.now.limits inside.new result }
+        (model.items_from facts at.now.e (model_pattern at.now.pattern.now) place
+        (patterns.one (model_item item.now)))) at.now.limits inside.new result }
 {
     match item {
         Item::Wildcard => add_everything(walk, at, inside, place),
@@ -154,7 +154,7 @@ fn add_everything<S: Selector>(
         → (before : made.Inside) → IsInside before at.now.limits inside.old
         → Adds (fold (model.with_item (made_at at.now facts)) before
         (map (λ i. (place, i))
-        (model.wildcard_items facts at.now.e (pattern_in at.now.pattern.now))))
+        (model.wildcard_items facts at.now.e (model_pattern at.now.pattern.now))))
         at.now.limits inside.new result }
 {
     add_own(walk.alloc, inside, at.e, &Options::none())?;
@@ -165,7 +165,7 @@ fn add_everything<S: Selector>(
     Ok(())
 }
 
-/// Adds what the attribute tells, if the pattern has no item for it.
+/// Adds what the attribute gives, if the pattern has no item for it.
 #[cycle(tree)]
 fn add_other<S: Selector>(
     walk: &Walk<'_, S>,
@@ -178,7 +178,7 @@ fn add_other<S: Selector>(
     requires near { HasNear walk.now.db.now (S.selects walk.now.db.now.filter) at.now }
     ensures { (facts : Facts) → Sees walk.now.db.now (S.selects walk.now.db.now.filter) facts
         → (before : made.Inside) → IsInside before at.now.limits inside.old
-        → Adds (if model.has_item_for name.now (pattern_in at.now.pattern.now) then before
+        → Adds (if model.has_item_for name.now (model_pattern at.now.pattern.now) then before
         else model.with_item (made_at at.now facts) before
         (place, patterns.attribute name.now patterns.no_options patterns.usual))
         at.now.limits inside.new result }
@@ -195,7 +195,7 @@ fn add_other<S: Selector>(
     add_attribute(walk, at, inside, &asked)
 }
 
-/// Adds what the attribute tells, if its key does not stand yet.
+/// Adds what the attribute gives, if its key is not there yet.
 #[cycle(tree)]
 fn add_attribute<S: Selector>(
     walk: &Walk<'_, S>,
@@ -209,8 +209,8 @@ fn add_attribute<S: Selector>(
         → (before : made.Inside) → IsInside before at.now.limits inside.old
         → Adds (model.with_item (made_at at.now facts) before (
           asked.now.place,
-          patterns.attribute asked.now.name.now (options_in asked.now.options.now)
-              (below_in asked.now.below.now),
+          patterns.attribute asked.now.name.now (model_options asked.now.options.now)
+              (model_below asked.now.below.now),
         )) at.now.limits inside.new result }
 {
     let key = Key::of(asked.name.written(), asked.options);
@@ -221,23 +221,23 @@ fn add_attribute<S: Selector>(
     let told = value(walk, at, asked, left)?;
     let form = or_default(told.form, &asked.options.default)?;
     let maps = told.maps;
-    inside.add(key.form()?, Told { form, maps })?;
+    inside.add(key.form()?, Pulled { form, maps })?;
     Ok(())
 }
 
-/// What the attribute tells, where so many maps may still be made.
+/// What the attribute gives, where so many maps may still be made.
 #[cycle(tree)]
 fn value<S: Selector>(
     walk: &Walk<'_, S>,
     at: &Stand<'_>,
     asked: &Asked<'_>,
     left: u32,
-) -> Result<Told, Stop>
+) -> Result<Pulled, Stop>
     requires { HasNear walk.now.db.now (S.selects walk.now.db.now.filter) at.now }
     ensures { (facts : Facts) → Sees walk.now.db.now (S.selects walk.now.db.now.filter) facts
-        → Tells (model.value_of (model.tree at.now.limits.depth facts)
-        (pattern_in at.now.pattern.now) asked.now.place at.now.path.now
-        (options_in asked.now.options.now) (below_in asked.now.below.now)
+        → Makes (model.value_of (model.tree at.now.limits.depth facts)
+        (model_pattern at.now.pattern.now) asked.now.place at.now.path.now
+        (model_options asked.now.options.now) (model_below asked.now.below.now)
         (found.found facts at.now.e asked.now.name.now))
         (record { depth = at.now.limits.depth; maps = left }) result }
 {
@@ -250,11 +250,11 @@ fn value<S: Selector>(
         asked.options,
         left,
     )? {
-        Found::Absent => Ok(Told {
+        Found::Absent => Ok(Pulled {
             form: None,
             maps: 0,
         }),
-        Found::Values { several, forms } => Ok(Told {
+        Found::Values { several, forms } => Ok(Pulled {
             form: collected(several, forms),
             maps: 0,
         }),
@@ -269,7 +269,7 @@ fn value<S: Selector>(
                 maps: left,
             };
             let all = all_told(walk, at.path, &inner, &list, limits)?;
-            Ok(Told {
+            Ok(Pulled {
                 form: collected(several, all.forms),
                 maps: all.maps,
             })
@@ -277,7 +277,7 @@ fn value<S: Selector>(
     }
 }
 
-/// What is told of each of the entities.
+/// What a pull gives of each of the entities.
 #[cycle(tree)]
 fn all_told<S: Selector>(
     walk: &Walk<'_, S>,
@@ -287,8 +287,8 @@ fn all_told<S: Selector>(
     limits: Limits,
 ) -> Result<Several, Stop>
     ensures { (facts : Facts) → Sees walk.now.db.now (S.selects walk.now.db.now.filter) facts
-        → TellsSeveral
-        (map (told_by (model.tree limits.depth facts) inner.now path.now) entities.now)
+        → MakesSeveral
+        (map (made_by (model.tree limits.depth facts) inner.now path.now) entities.now)
         limits result }
 {
     let mut all = Several::none(walk.alloc);
@@ -303,7 +303,7 @@ fn all_told<S: Selector>(
     Ok(all)
 }
 
-/// What is told of an entity.
+/// What a pull gives of an entity.
 #[cycle(tree)]
 fn told<S: Selector>(
     walk: &Walk<'_, S>,
@@ -311,9 +311,9 @@ fn told<S: Selector>(
     inner: &Inner,
     n: u64,
     limits: Limits,
-) -> Result<Told, Stop>
+) -> Result<Pulled, Stop>
     ensures { (facts : Facts) → Sees walk.now.db.now (S.selects walk.now.db.now.filter) facts
-        → Tells (told_by (model.tree limits.depth facts) inner.now path.now n) limits result }
+        → Makes (made_by (model.tree limits.depth facts) inner.now path.now n) limits result }
 {
     match inner {
         Inner::Number => number_alone(walk.alloc, n, limits),
@@ -324,22 +324,22 @@ fn told<S: Selector>(
 }
 
 /// A map of the entity's number alone.
-fn number_alone(alloc: Global, n: u64, limits: Limits) -> Result<Told, Stop>
-    ensures { Tells (made.stub n) limits result }
+fn number_alone(alloc: Global, n: u64, limits: Limits) -> Result<Pulled, Stop>
+    ensures { Makes (made.stub n) limits result }
 {
     if limits.depth == 0 || limits.maps == 0 {
         return Err(Stop::TooLarge);
     }
-    Ok(Told {
+    Ok(Pulled {
         form: Some(stub(alloc, n)?),
         maps: 1,
     })
 }
 
-/// Adds the entity's number, if the key does not stand yet.
+/// Adds the entity's number, if the key is not there yet.
 fn add_own(alloc: Global, inside: &mut Inside, e: u64, options: &Options) -> Result<(), Memory>
     ensures pairs { IfOk result (λ _. pairs_of inside.new.pairs.items
-        ≡ with_own (pairs_of inside.old.pairs.items) (options_in options.now) e) }
+        ≡ with_own (pairs_of inside.old.pairs.items) (model_options options.now) e) }
     ensures maps { IfOk result (λ _. inside.new.maps ≡ inside.old.maps) }
 {
     let name = Text::of(alloc, "db/id")?;
@@ -363,7 +363,7 @@ fn has_item_for(name: &Text, items: &[Item]) -> bool
 }
 
 fn is_for(item: &Item, name: &Text) -> bool
-    ensures { result ≡ model.has_item_for name.now (patterns.one (item_in item.now)) }
+    ensures { result ≡ model.has_item_for name.now (patterns.one (model_item item.now)) }
 {
     match item {
         Item::Attribute { name: other, .. } => other.written().as_str() == name.as_str(),

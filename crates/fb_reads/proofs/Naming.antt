@@ -1,5 +1,6 @@
 -- What is answered of a filter's name, and what becomes of the names.
-use Rattle.std.proofs.Common.{◌≡◌, ℕ, Bool, true, false, cond, List, [], ◌∷◌, ◌++◌, map, bytes_eq, eqb, Option, Some, None, Result, Ok, Err, inl, inr, refl, sym, subst, ap, ◌∙◌}
+use Rattle.std.proofs.Common.{◌≡◌, ℕ, Bool, true, false, cond, List, [], ◌∷◌, ◌++◌, map, bytes_eq, eqb, Option, Some, None, Result, Ok, Err}
+use Rattle.std.proofs.Common.{inl, inr, refl, sym, subst, ap, ◌∙◌}
 use Rattle.std.specs.Prelude.{is_some, IfOk, OnOk}
 use Rattle.std.specs.List.{list_any}
 use Rattle.std.proofs.lemmas.List.{map-append}
@@ -13,7 +14,8 @@ use Rattle.read_refusals.specs.declared.reasons.Refusal.{Refusal}
 use Rattle.talk_model.specs.Reads.{refused}
 use Rattle.fb_reads.specs.Answers.{no_filter}
 
-pub unnamed : {T E : Type 0} (r : Result T E) (o : Option ℕ) (basis n : ℕ) (refusal : Refusal) (line : List ℕ) → o ≡ None → n ≡ basis → refusal ≡ no_filter
+pub unnamed : {T E : Type 0} (r : Result T E) (o : Option ℕ) (basis n : ℕ) (refusal : Refusal) (line : List ℕ) → o ≡ None → n ≡ basis
+    → refusal ≡ no_filter
     → OnOk r (IsLineOf (refused n refusal) line) → OnOk r (IsLineOf (cond (is_some o) (done_reply basis) (refused basis no_filter)) line)
 unnamed r o basis n refusal line is same alike says =
     subst (λ (o : Option ℕ). OnOk r (IsLineOf (cond (is_some o) (done_reply basis) (refused basis no_filter)) line)) (sym is)
@@ -27,7 +29,8 @@ named_done (Ok x) o place basis n line is same says =
 named_done (Err e) o place basis n line is same says = tt
 
 -- a name stands already exactly where its place does
-one_name : (place_of : List ℕ → Option ℕ) (name_at : ℕ → List ℕ) (place p : ℕ) (name : List ℕ) → place_of name ≡ Some place → name_at place ≡ name
+one_name : (place_of : List ℕ → Option ℕ) (name_at : ℕ → List ℕ) (place p : ℕ) (name : List ℕ) → place_of name ≡ Some place
+    → name_at place ≡ name
     → IsFound place_of name_at p → bytes_eq name (name_at p) ≡ eqb place p
 one_name place_of name_at place p name is named found =
     elim (cases_Bool (eqb place p)) [
@@ -43,23 +46,28 @@ one_name place_of name_at place p name is named found =
           ]
     ]
 
-names_there : (place_of : List ℕ → Option ℕ) (name_at : ℕ → List ℕ) (place : ℕ) (name : List ℕ) (places : List ℕ) → place_of name ≡ Some place → name_at place ≡ name
+names_there : (place_of : List ℕ → Option ℕ) (name_at : ℕ → List ℕ) (place : ℕ) (name : List ℕ) (places : List ℕ)
+    → place_of name ≡ Some place → name_at place ≡ name
     → AreFound place_of name_at places → list_any (bytes_eq name) (map name_at places) ≡ list_any (eqb place) places
 names_there place_of name_at place name [] is named are = refl
 names_there place_of name_at place name (p ∷ places) is named are =
     rw (one_name place_of name_at place p name is named are.0, names_there place_of name_at place name places is named are.1) refl
 
-names_with : (place_of : List ℕ → Option ℕ) (name_at : ℕ → List ℕ) (place : ℕ) (name : List ℕ) (places : List ℕ) → place_of name ≡ Some place → name_at place ≡ name
+names_with : (place_of : List ℕ → Option ℕ) (name_at : ℕ → List ℕ) (place : ℕ) (name : List ℕ) (places : List ℕ)
+    → place_of name ≡ Some place → name_at place ≡ name
     → AreFound place_of name_at places → map name_at (with_place places place) ≡ with_name (map name_at places) name
 names_with place_of name_at place name places is named are =
     by_any (list_any (eqb place) places)
-    ∙ ap (λ b. cond b (map name_at places) (map name_at places ++ name ∷ [])) (sym (names_there place_of name_at place name places is named are))
+    ∙ ap (λ b. cond b (map name_at places) (map name_at places ++ name ∷ []))
+    (sym (names_there place_of name_at place name places is named are))
   where
     by_any : (b : Bool) → map name_at (cond b places (places ++ place ∷ [])) ≡ cond b (map name_at places) (map name_at places ++ name ∷ [])
     by_any true = refl
     by_any false = map-append name_at places (place ∷ []) ∙ ap (λ (n : List ℕ). map name_at places ++ n ∷ []) named
 
-pub named_more : {T E : Type 0} (r : Result T E) (place_of : List ℕ → Option ℕ) (name_at : ℕ → List ℕ) (place : ℕ) (name : List ℕ) (old new : List ℕ) → place_of name ≡ Some place
+pub named_more : {T E : Type 0} (r : Result T E) (place_of : List ℕ → Option ℕ) (name_at : ℕ → List ℕ) (place : ℕ) (name : List ℕ)
+    (old new : List ℕ)
+    → place_of name ≡ Some place
     → name_at place ≡ name → AreFound place_of name_at old → IfOk r (λ _. new ≡ with_place old place)
     → OnOk r (map name_at new ≡ cond (is_some (place_of name)) (with_name (map name_at old) name) (map name_at old))
 named_more (Ok x) place_of name_at place name old new is named are added =

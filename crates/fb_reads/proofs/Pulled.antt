@@ -13,30 +13,38 @@ use Rattle.pull_model.specs.Patterns.{Pattern}
 use Rattle.pull_model.specs.Pull.{IsPulled}
 use Rattle.talk_model.specs.Replies.{pull_reply, IsLineOf}
 use Rattle.talk_model.specs.Reads.{refused, pull_shown, HasTree, HasPull}
-use Rattle.fb_reads.specs.Answers.{Says}
+use Rattle.fb_reads.specs.Answers.{IsLineFor}
 
 module _ (h : List Entry) (w : Window) (Selects : Datom → Type 0) (line : List ℕ) where
-  pub told : (pattern : Pattern) (e : ℕ) (tree : Form) → IsPulled h w Selects pattern e (Ok tree) → IsLineOf (pull_reply (basis h) tree) line
-      → Says (HasTree h w Selects pattern (Some e)) line
+  pub told : (pattern : Pattern) (e : ℕ) (tree : Form) → IsPulled h w Selects pattern e (Ok tree)
+      → IsLineOf (pull_reply (basis h) tree) line
+      → IsLineFor (HasTree h w Selects pattern (Some e)) line
   told pattern e tree is says = (pull_reply (basis h) tree, λ db is_db. ap (pull_shown (basis h)) (is db is_db), says)
 
-  pub not_told : (pattern : Pattern) (e : ℕ) (reason : Reason) → IsPulled h w Selects pattern e (Err reason) → IsLineOf (refused (basis h) (refusal reason 0)) line
-      → Says (HasTree h w Selects pattern (Some e)) line
+  pub not_told : (pattern : Pattern) (e : ℕ) (reason : Reason) → IsPulled h w Selects pattern e (Err reason)
+      → IsLineOf (refused (basis h) (refusal reason 0)) line
+      → IsLineFor (HasTree h w Selects pattern (Some e)) line
   not_told pattern e reason is says = (refused (basis h) (refusal reason 0), λ db is_db. ap (pull_shown (basis h)) (is db is_db), says)
 
-  pub of_found : (pattern : Pattern) (entity : Form) (e : ℕ) → IsEntityOf h w Selects entity (Some e) → Says (HasTree h w Selects pattern (Some e)) line
-      → Says (HasPull h w Selects (Ok pattern) entity) line
+  pub of_found : (pattern : Pattern) (entity : Form) (e : ℕ) → IsEntityOf h w Selects entity (Some e)
+      → IsLineFor (HasTree h w Selects pattern (Some e)) line
+      → IsLineFor (HasPull h w Selects (Ok pattern) entity) line
   of_found pattern entity e found says = (says.0, (Some e, found, says.1), says.2)
 
-  pub of_none : (pattern : Pattern) (entity : Form) → IsEntityOf h w Selects entity None → IsLineOf (refused (basis h) (refusal NotAnEntity 2)) line
-      → Says (HasPull h w Selects (Ok pattern) entity) line
+  pub of_none : (pattern : Pattern) (entity : Form) → IsEntityOf h w Selects entity None
+      → IsLineOf (refused (basis h) (refusal NotAnEntity 2)) line
+      → IsLineFor (HasPull h w Selects (Ok pattern) entity) line
   of_none pattern entity none says = (refused (basis h) (refusal NotAnEntity 2), (None, none, refl), says)
 
-  pub by_pattern : (answer : Result Pattern ℕ) (pattern : Pattern) (entity : Form) → answer ≡ Ok pattern → Says (HasPull h w Selects (Ok pattern) entity) line
-      → Says (HasPull h w Selects answer entity) line
-  by_pattern answer pattern entity is says = subst (λ (answer : Result Pattern ℕ). Says (HasPull h w Selects answer entity) line) (sym is) says
+  pub by_pattern : (answer : Result Pattern ℕ) (pattern : Pattern) (entity : Form)
+      → answer ≡ Ok pattern → IsLineFor (HasPull h w Selects (Ok pattern) entity) line
+      → IsLineFor (HasPull h w Selects answer entity) line
+  by_pattern answer pattern entity is says =
+      subst (λ (answer : Result Pattern ℕ). IsLineFor (HasPull h w Selects answer entity) line) (sym is) says
 
-  pub by_none : (answer : Result Pattern ℕ) (item : ℕ) (entity : Form) → answer ≡ Err item → IsLineOf (refused (basis h) (refusal BadPattern item)) line
-      → Says (HasPull h w Selects answer entity) line
+  pub by_none : (answer : Result Pattern ℕ) (item : ℕ) (entity : Form) → answer ≡ Err item
+      → IsLineOf (refused (basis h) (refusal BadPattern item)) line
+      → IsLineFor (HasPull h w Selects answer entity) line
   by_none answer item entity is says =
-      subst (λ (answer : Result Pattern ℕ). Says (HasPull h w Selects answer entity) line) (sym is) (refused (basis h) (refusal BadPattern item), refl, says)
+      subst (λ (answer : Result Pattern ℕ). IsLineFor (HasPull h w Selects answer entity) line) (sym is)
+      (refused (basis h) (refusal BadPattern item), refl, says)

@@ -22,20 +22,24 @@ use Rattle.fb_names.specs.declared.stops.NameStop.TheVariants.{Refused, Memory}
 use Rattle.fb_names.specs.declared.ranges.ValueRange.{ValueRange}
 use Rattle.fb_names.specs.Answers.{AnswersAs}
 use Rattle.fb_names.specs.Ranges.{range_of}
-use Rattle.fb_reads.specs.Answers.{Says, IsRefused}
+use Rattle.fb_reads.specs.Answers.{IsLineFor, IsRefused}
 use Rattle.fb_reads.proofs.Orders.{probe_order}
 
 -- ---- any answer
 
-pub done : (basis : ℕ) (answer : Result ℕ Refusal) (end : ℕ) (line : List ℕ) → Ok end ≡ answer → IsLineOf (done_reply basis) line → IsLineOf (done_at basis answer) line
+pub done : (basis : ℕ) (answer : Result ℕ Refusal) (end : ℕ) (line : List ℕ) → Ok end ≡ answer → IsLineOf (done_reply basis) line
+    → IsLineOf (done_at basis answer) line
 done basis answer end line is says = subst (λ (answer : Result ℕ Refusal). IsLineOf (done_at basis answer) line) is says
 
-pub not_done : (basis : ℕ) (answer : Result ℕ Refusal) (r : Refusal) (line : List ℕ) → Err r ≡ answer → IsLineOf (refused basis r) line → IsLineOf (done_at basis answer) line
+pub not_done : (basis : ℕ) (answer : Result ℕ Refusal) (r : Refusal) (line : List ℕ) → Err r ≡ answer → IsLineOf (refused basis r) line
+    → IsLineOf (done_at basis answer) line
 not_done basis answer r line is says = subst (λ (answer : Result ℕ Refusal). IsLineOf (done_at basis answer) line) is says
 
-pub refuses : {X : Type 0} (basis : ℕ) (IsReplyTo : X → Form → Type 0) (answer : Result X Refusal) (r : Refusal) (line : List ℕ) → answer ≡ Err r → IsLineOf (refused basis r) line
-    → Says (Shows basis IsReplyTo answer) line
-refuses {X} basis IsReplyTo answer r line is says = subst (λ (answer : Result X Refusal). Says (Shows basis IsReplyTo answer) line) (sym is) (refused basis r, refl, says)
+pub refuses : {X : Type 0} (basis : ℕ) (IsReplyTo : X → Form → Type 0) (answer : Result X Refusal) (r : Refusal) (line : List ℕ)
+    → answer ≡ Err r → IsLineOf (refused basis r) line
+    → IsLineFor (Shows basis IsReplyTo answer) line
+refuses {X} basis IsReplyTo answer r line is says =
+    subst (λ (answer : Result X Refusal). IsLineFor (Shows basis IsReplyTo answer) line) (sym is) (refused basis r, refl, says)
 
 -- what holds of each holds of some of them
 pub all_kept : {X : Type 0} (p q : X → Bool) (xs : List X) → list_all p xs ≡ true → list_all p (filter q xs) ≡ true
@@ -51,33 +55,42 @@ all_kept {X} p q (x ∷ xs) every = by_test (q x) (all_kept p q xs parts.1)
 
 -- ---- scans
 
-pub found_at : (h : List Entry) (w : Window) (Selects : Datom → Type 0) (order : Order) (range : Probe → Range) (fs : List Form) (probe : Probe) (ds : List Datom) (line : List ℕ)
-    → AreComponents h w Selects order fs (Ok probe) → IsScan h w Selects probe.order (range probe) ds → IsLineOf (datoms_reply (basis h) (facts h) ds) line
-    → Says (HasDatomsAt h w Selects order range fs) line
+pub found_at : (h : List Entry) (w : Window) (Selects : Datom → Type 0) (order : Order) (range : Probe → Range) (fs : List Form)
+    (probe : Probe) (ds : List Datom) (line : List ℕ)
+    → AreComponents h w Selects order fs (Ok probe) → IsScan h w Selects probe.order (range probe) ds
+    → IsLineOf (datoms_reply (basis h) (facts h) ds) line
+    → IsLineFor (HasDatomsAt h w Selects order range fs) line
 found_at h w Selects order range fs probe ds line are scan says =
     let in_order = subst (λ (o : Order). IsScan h w Selects o (range probe) ds) (probe_order h w Selects order fs probe are) scan in
     (datoms_reply (basis h) (facts h) ds, (Ok probe, are, (ds, in_order, refl)), says)
 
-pub stopped_at : (h : List Entry) (w : Window) (Selects : Datom → Type 0) (order : Order) (range : Probe → Range) (fs : List Form) (stop : NameStop) (line : List ℕ)
-    → AnswersAs (AreComponents h w Selects order fs) (Err stop) → IsRefused (basis h) stop line → Says (HasDatomsAt h w Selects order range fs) line
+pub stopped_at : (h : List Entry) (w : Window) (Selects : Datom → Type 0) (order : Order) (range : Probe → Range) (fs : List Form)
+    (stop : NameStop) (line : List ℕ)
+    → AnswersAs (AreComponents h w Selects order fs) (Err stop) → IsRefused (basis h) stop line
+    → IsLineFor (HasDatomsAt h w Selects order range fs) line
 stopped_at h w Selects order range fs (Refused r) line are says = (refused (basis h) r, (Err r, are, refl), says)
 stopped_at h w Selects order range fs Memory line are says = absurd says
 
-pub found_between : (h : List Entry) (w : Window) (Selects : Datom → Type 0) (a start end : Form) (range : ValueRange) (ds : List Datom) (line : List ℕ)
-    → IsIndexRange h w Selects a start end (range_of (Ok range)) → IsScan h w Selects Avet (between range.attribute range.start range.end) ds → IsLineOf (datoms_reply (basis h) (facts h) ds) line
-    → Says (HasDatomsBetween h w Selects a start end) line
+pub found_between : (h : List Entry) (w : Window) (Selects : Datom → Type 0) (a start end : Form) (range : ValueRange) (ds : List Datom)
+    (line : List ℕ)
+    → IsIndexRange h w Selects a start end (range_of (Ok range))
+    → IsScan h w Selects Avet (between range.attribute range.start range.end) ds → IsLineOf (datoms_reply (basis h) (facts h) ds) line
+    → IsLineFor (HasDatomsBetween h w Selects a start end) line
 found_between h w Selects a start end range ds line is scan says =
     (datoms_reply (basis h) (facts h) ds, (range_of (Ok range), is, (ds, scan, refl)), says)
 
 pub stopped_between : (h : List Entry) (w : Window) (Selects : Datom → Type 0) (a start end : Form) (stop : NameStop) (line : List ℕ)
-    → AnswersAs (λ (answer : Result ValueRange Refusal). IsIndexRange h w Selects a start end (range_of answer)) (Err stop) → IsRefused (basis h) stop line
-    → Says (HasDatomsBetween h w Selects a start end) line
+    → AnswersAs (λ (answer : Result ValueRange Refusal). IsIndexRange h w Selects a start end (range_of answer)) (Err stop)
+    → IsRefused (basis h) stop line
+    → IsLineFor (HasDatomsBetween h w Selects a start end) line
 stopped_between h w Selects a start end (Refused r) line is says = (refused (basis h) r, (range_of (Err r), is, refl), says)
 stopped_between h w Selects a start end Memory line is says = absurd says
 
 -- ---- the log
 
 pub logged : (h : List Entry) (answer : Result (ℕ × ℕ) Refusal) (start end : ℕ) (line : List ℕ) → answer ≡ Ok (start, end)
-    → IsLineOf (transactions_reply (basis h) (facts h) (transactions h start end)) line → Says (Shows (basis h) (HasTransactions h) answer) line
+    → IsLineOf (transactions_reply (basis h) (facts h) (transactions h start end)) line
+    → IsLineFor (Shows (basis h) (HasTransactions h) answer) line
 logged h answer start end line is says =
-    subst (λ (answer : Result (ℕ × ℕ) Refusal). Says (Shows (basis h) (HasTransactions h) answer) line) (sym is) (transactions_reply (basis h) (facts h) (transactions h start end), refl, says)
+    subst (λ (answer : Result (ℕ × ℕ) Refusal). IsLineFor (Shows (basis h) (HasTransactions h) answer) line) (sym is)
+    (transactions_reply (basis h) (facts h) (transactions h start end), refl, says)

@@ -1,4 +1,4 @@
--- What a read answers, and where its session stands behind it.
+-- What a read answers, and what it changes of its session.
 -- This project's own choice.
 use Rattle.std.specs.Prelude.{ℕ, Bool, List, Option, is_some, map, Result, Ok, Err}
 use Rattle.edn_model.specs.Form.{Form}
@@ -16,11 +16,12 @@ use Rattle.fb_names.specs.declared.stops.NameStop.{NameStop}
 use Rattle.fb_names.specs.declared.stops.NameStop.TheVariants.{Refused, Memory}
 
 -- the line is that of such a reply
-abbrev pub Says : (Form → Type 0) → List ℕ → Type 0
-Says IsAnswer line = (reply : Form) × IsAnswer reply × IsLineOf reply line
+abbrev pub IsLineFor : (Form → Type 0) → List ℕ → Type 0
+IsLineFor IsAnswer line = (reply : Form) × IsAnswer reply × IsLineOf reply line
 
--- what a read has of a view whose filters stand at these places of a table
-abbrev pub sight_in : (List ℕ → Option ℕ) → (ℕ → List ℕ) → (ℕ → Datom → Type 0) → List Entry → Window
+-- what a read has of a view whose filters are at these places of a table
+abbrev pub sight_in : (List ℕ → Option ℕ) → (ℕ → List ℕ) → (ℕ → Datom → Type 0) → List Entry
+    → Window
     → List ℕ → Sight
 sight_in place_of name_at SelectsAt h w places =
     record {
@@ -31,12 +32,12 @@ sight_in place_of name_at SelectsAt h w places =
       is_filter = λ name. is_some (place_of name);
     }
 
--- the line is that of the refusal; there is none of want of memory
+-- the line is that of the refusal; running out of memory has no line
 abbrev pub IsRefused : ℕ → NameStop → List ℕ → Type 0
 IsRefused basis (Refused r) line = IsLineOf (refused basis r) line
 IsRefused basis Memory line = ⊥
 
--- no filter has the name behind the command's word
+-- no filter has the name after the command's word
 abbrev pub no_filter : Refusal
 no_filter = refusal NoFilter 1
 
@@ -45,6 +46,8 @@ abbrev pub narrowed : (ℕ → Window → Window) → Result ℕ Refusal → Win
 narrowed change (Ok end) w = change end w
 narrowed change (Err r) w = w
 
--- a session at this place, told or not, whose reads see the window under the filters of these names
+-- a session at this place, notified of a stop or not,
+-- whose reads see the window under the filters of these names
 abbrev pub standing_at : ℕ → Bool → Window → List (List ℕ) → Standing
-standing_at place told w names = record { place = place; window = w; filters = names; told = told }
+standing_at place notified w names =
+    record { place = place; window = w; filters = names; was_notified = notified }

@@ -1,4 +1,4 @@
-//! Answers the reads of a session, and what is no command: one line each, of what the session has
+//! Answers the reads of a session, and what is not a command: one line each, of what the session has
 //! seen, and the change of what it sees.
 #![tactic(auto)]
 

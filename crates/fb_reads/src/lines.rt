@@ -26,7 +26,7 @@ pub fn refuse_stop(line: &mut Vec<u8>, stop: NameStop, basis: u32) -> Result<(),
     }
 }
 
-/// The line of what is no command.
+/// The line of what is not a command.
 pub fn not_a_command(line: &mut Vec<u8>, basis: u32) -> Result<(), Memory>
     ensures { OnOk result (IsLineOf (refused basis no_command) line.new.items) }
 {

@@ -5,10 +5,10 @@ ghost use Rattle.fb_model.specs.History.{basis};
 ghost use Rattle.fb_db.specs.Seen.{window_of};
 ghost use Rattle.read_model.specs.Given.{refusal};
 ghost use Rattle.pull_model.specs.Reading as model;
-ghost use Rattle.pull_pattern.specs.View.{pattern_in};
+ghost use Rattle.pull_pattern.specs.View.{model_pattern};
 ghost use Rattle.talk_model.specs.Reads.{refused, HasTree, HasPull};
 ghost use Rattle.talk_model.specs.Replies.{IsLineOf};
-ghost use Rattle.fb_reads.specs.Answers.{Says};
+ghost use Rattle.fb_reads.specs.Answers.{IsLineFor};
 
 use crate::lines::refuse;
 use edn_form::Edn;
@@ -30,7 +30,7 @@ pub fn answer_pull<S: Selector>(
     entity: &Edn,
     line: &mut Vec<u8>,
 ) -> Result<(), Memory>
-    ensures { OnOk result (Says
+    ensures { OnOk result (IsLineFor
         (HasPull view.now.snapshot.entries (window_of view.now) (S.selects view.now.filter)
         (model.pattern_in (form_of pattern.now)) (form_of entity.now))
         line.new.items) }
@@ -50,9 +50,9 @@ fn answer_by<S: Selector>(
     entity: &Edn,
     line: &mut Vec<u8>,
 ) -> Result<(), Memory>
-    ensures { OnOk result (Says
+    ensures { OnOk result (IsLineFor
         (HasPull view.now.snapshot.entries (window_of view.now) (S.selects view.now.filter)
-        (Ok (pattern_in pattern.now)) (form_of entity.now))
+        (Ok (model_pattern pattern.now)) (form_of entity.now))
         line.new.items) }
 {
     match entid(alloc, view, entity)? {
@@ -69,9 +69,9 @@ fn answer_of<S: Selector>(
     e: u64,
     line: &mut Vec<u8>,
 ) -> Result<(), Memory>
-    ensures { OnOk result (Says
+    ensures { OnOk result (IsLineFor
         (HasTree view.now.snapshot.entries (window_of view.now) (S.selects view.now.filter)
-        (pattern_in pattern.now) (Some e))
+        (model_pattern pattern.now) (Some e))
         line.new.items) }
 {
     match pull(alloc, view, pattern, e) {

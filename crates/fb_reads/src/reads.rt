@@ -4,8 +4,8 @@ ghost use Rattle.std.specs.Option.{option_map};
 ghost use Rattle.fb_db.specs.Seen.{window_of};
 ghost use Rattle.talk_model.specs.Reads.{IsLook, IsReply, turn_reply, turned, behind};
 ghost use Rattle.talk_model.specs.Replies.{IsLineOf};
-ghost use Rattle.fb_commands.specs.Asked.{read_of, looked, turned as asked_turn};
-ghost use Rattle.fb_reads.specs.Answers.{Says, sight_in, standing_at};
+ghost use Rattle.fb_commands.specs.View.{model_read, model_look, model_turn as asked_turn};
+ghost use Rattle.fb_reads.specs.Answers.{IsLineFor, sight_in, standing_at};
 
 use crate::lines::not_a_command;
 use crate::pulls::answer_pull;
@@ -18,7 +18,7 @@ use fb_preds::{FilterTable, Picks};
 use fb_replies::write_done;
 use std::alloc::Global;
 
-/// Answers a read, or what is no command, of what its session has seen: its line takes the place of what the buffer held, and
+/// Answers a read, or what is not a command, of what its session has seen: its line takes the place of what the buffer held, and
 /// the view changes as the read says. Where memory runs out the view stays, and nothing is promised of the buffer.
 pub fn answer_read<T: FilterTable>(
     alloc: Global,
@@ -27,22 +27,22 @@ pub fn answer_read<T: FilterTable>(
     line: &mut Vec<u8>,
 ) -> Result<(), Memory>
     ensures line { let table = view.old.filter.table.now in OnOk result
-        (Says
+        (IsLineFor
         (IsReply
         (sight_in (T.place_of table) (T.name_at table) (T.selects_at table)
         view.old.snapshot.entries (window_of view.old) view.old.filter.places.items)
-        (option_map (λ read. read_of read) asked.entry))
+        (option_map (λ read. model_read read) asked.entry))
         line.new.items) }
     ensures stands { let table = view.old.filter.table.now in OnOk result
-        ((place : ℕ) (told : Bool)
-        → standing_at place told (window_of view.new)
+        ((place : ℕ) (notified : Bool)
+        → standing_at place notified (window_of view.new)
         (map (T.name_at table) view.new.filter.places.items)
         ≡ behind
         (sight_in (T.place_of table) (T.name_at table) (T.selects_at table)
         view.old.snapshot.entries (window_of view.old) view.old.filter.places.items)
-        (standing_at place told (window_of view.old)
+        (standing_at place notified (window_of view.old)
         (map (T.name_at table) view.old.filter.places.items))
-        (option_map (λ read. read_of read) asked.entry)) }
+        (option_map (λ read. model_read read) asked.entry)) }
     ensures unchanged { OnErr result ((window_of view.new ≡ window_of view.old)
         × (view.new.filter.places.items ≡ view.old.filter.places.items)) }
     ensures snapshot { view.new.snapshot ≡ view.old.snapshot }
@@ -67,11 +67,11 @@ fn answer_look<T: FilterTable>(
     line: &mut Vec<u8>,
 ) -> Result<(), Memory>
     ensures { let table = view.now.filter.table.now in OnOk result
-        (Says
+        (IsLineFor
         (IsLook
         (sight_in (T.place_of table) (T.name_at table) (T.selects_at table)
         view.now.snapshot.entries (window_of view.now) view.now.filter.places.items)
-        (looked look.entry))
+        (model_look look.entry))
         line.new.items) }
 {
     match look {
@@ -97,13 +97,13 @@ fn turn_view<T: FilterTable>(
         (asked_turn turn.entry))
         line.new.items) }
     ensures stands { let table = view.old.filter.table.now in OnOk result
-        ((place : ℕ) (told : Bool)
-        → standing_at place told (window_of view.new)
+        ((place : ℕ) (notified : Bool)
+        → standing_at place notified (window_of view.new)
         (map (T.name_at table) view.new.filter.places.items)
         ≡ turned
         (sight_in (T.place_of table) (T.name_at table) (T.selects_at table)
         view.old.snapshot.entries (window_of view.old) view.old.filter.places.items)
-        (standing_at place told (window_of view.old)
+        (standing_at place notified (window_of view.old)
         (map (T.name_at table) view.old.filter.places.items))
         (asked_turn turn.entry)) }
     ensures unchanged { OnErr result ((window_of view.new ≡ window_of view.old)

@@ -9,7 +9,7 @@ ghost use Rattle.fb_db.specs.Seen.{window_of};
 ghost use Rattle.read_model.specs.Points.{log_range as model_log_range};
 ghost use Rattle.talk_model.specs.Replies.{datoms_reply, transactions_reply, IsLineOf};
 ghost use Rattle.talk_model.specs.Reads.{Shows, HasDatomsAt, HasDatomsBetween, HasTransactions};
-ghost use Rattle.fb_reads.specs.Answers.{Says};
+ghost use Rattle.fb_reads.specs.Answers.{IsLineFor};
 
 use crate::lines::{refuse, refuse_stop};
 use edn_form::Edn;
@@ -34,7 +34,7 @@ pub fn answer_datoms<S: Selector>(
     given: &[Edn],
     line: &mut Vec<u8>,
 ) -> Result<(), Memory>
-    ensures { OnOk result (Says
+    ensures { OnOk result (IsLineFor
         (HasDatomsAt view.now.snapshot.entries (window_of view.now) (S.selects view.now.filter) order leading (forms_of given.now))
         line.new.items) }
 {
@@ -55,7 +55,7 @@ pub fn answer_seek<S: Selector>(
     given: &[Edn],
     line: &mut Vec<u8>,
 ) -> Result<(), Memory>
-    ensures { OnOk result (Says
+    ensures { OnOk result (IsLineFor
         (HasDatomsAt view.now.snapshot.entries (window_of view.now) (S.selects view.now.filter) order not_below (forms_of given.now))
         line.new.items) }
 {
@@ -77,7 +77,7 @@ pub fn answer_index_range<S: Selector>(
     end: &Edn,
     line: &mut Vec<u8>,
 ) -> Result<(), Memory>
-    ensures { OnOk result (Says
+    ensures { OnOk result (IsLineFor
         (HasDatomsBetween view.now.snapshot.entries (window_of view.now) (S.selects view.now.filter)
         (form_of a.now) (form_of start.now) (form_of end.now))
         line.new.items) }
@@ -125,7 +125,7 @@ pub fn answer_tx_range(
     end: &Edn,
     line: &mut Vec<u8>,
 ) -> Result<(), Memory>
-    ensures { OnOk result (Says
+    ensures { OnOk result (IsLineFor
         (Shows (basis snapshot.now.entries)
         (HasTransactions snapshot.now.entries)
         (model_log_range snapshot.now.entries (form_of start.now) (form_of end.now)))

@@ -1,4 +1,4 @@
-//! The turns of a view: what changes in what the looks behind them see. The line is written first, so that a view changes only where all
+//! The turns of a view: what the later looks see. The line is written first, so that a view changes only where all
 //! went well.
 ghost use Rattle.std.specs.Prelude.{◌≡◌, [], OnOk, OnErr, if◌then◌else◌, is_some, map};
 ghost use Rattle.edn_form.specs.View.{form_of};

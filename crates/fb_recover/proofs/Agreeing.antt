@@ -1,5 +1,6 @@
 -- The trees that a history is opened with: those of the newest root that it agrees with, or of its first entry.
-use Rattle.std.proofs.Common.{◌≡◌, ◌∙◌, ◌⊎◌, ◌≤◌, ◌*◌, ◌^◌, inl, inr, ⊎_elim, ℕ, List, [], ◌∷◌, Option, Some, Result, Ok, Err, length, map, refl, sym, ap, subst, arith}
+use Rattle.std.proofs.Common.{◌≡◌, ◌∙◌, ◌⊎◌, ◌≤◌, ◌*◌, ◌^◌, inl, inr, ⊎_elim, ℕ, List, [], ◌∷◌, Option, Some, Result, Ok, Err, length, map}
+use Rattle.std.proofs.Common.{refl, sym, ap, subst, arith}
 use Rattle.std.specs.Prelude.{Contains, IsTrue, IfOk}
 use Rattle.std.proofs.lemmas.Bool.{eqb-true}
 use Rattle.std.proofs.lemmas.List.{nil_from_length}
@@ -7,12 +8,12 @@ use Rattle.std.proofs.lemmas.List.Elements.{All-contains}
 use Rattle.fb_values.specs.declared.facts.Entry.{Entry}
 use Rattle.fb_model.specs.FirstEntry.{first_entry}
 use Rattle.fb_model.specs.Lawful.{IsLawful}
-use Rattle.disk_model.specs.Disk.{WhereTold}
+use Rattle.disk_model.specs.Disk.{IfKnown}
 use Rattle.view_model.specs.Stands.{RootStands}
 use Rattle.log_model.specs.Nodes.{Roots as FileRoots}
 use Rattle.log_model.specs.Kept.{KeptRoot, FileKeeps, NoneAgrees, kept_roots, nodes_of, are_good}
 use Rattle.log_model.proofs.KeptRoots.{one_keeping}
-use Rattle.fb_journal.specs.Journals.{StaysTold}
+use Rattle.fb_journal.specs.Journals.{StaysKnown}
 use Rattle.seg_tree.specs.Ids.{next_above}
 use Rattle.seg_tree.specs.Indexes.{root_ids, trees_of}
 use Rattle.seg_codec.specs.Trees.{AreTreesOf, Fits}
@@ -35,7 +36,7 @@ pub IfOk-both : {T E : Type 0} (r : Result T E) (P Q : T → Type 0) → IfOk r 
 IfOk-both (Ok x) P Q p q = (p, q)
 IfOk-both (Err e) P Q p q = tt
 
-pub told_on : (first second third : Option (List ℕ)) → StaysTold first second → StaysTold second third → StaysTold first third
+pub told_on : (first second third : Option (List ℕ)) → StaysKnown first second → StaysKnown second third → StaysKnown first third
 told_on first second third begun later = λ file was. let then = begun file was in later then.0 then.1
 
 no_root_no_record : (records : List (List ℕ)) → kept_roots records ≡ [] → IsTrue (are_good records) → records ≡ []
@@ -68,7 +69,7 @@ module _ {D : Type 0} {g : _} (bytes : D → Option (List ℕ)) (images : D → 
 
   -- a root that was loaded is one of the store's file, unless the file that was loaded has a fault
   root_loaded : (loaded : Loaded D g) (trees : KeptTrees) → IsLoaded bytes images told loaded → Contains loaded.kept.items trees
-      → WhereTold told (λ file. HasFault file ⊎ HasRoot bytes images loaded.store (kept_of trees))
+      → IfKnown told (λ file. HasFault file ⊎ HasRoot bytes images loaded.store (kept_of trees))
   root_loaded loaded trees is member file was = ⊎_elim
       (λ same.
       let there = mapped_member kept_of loaded.kept.items trees member in
@@ -79,12 +80,12 @@ module _ {D : Type 0} {g : _} (bytes : D → Option (List ℕ)) (images : D → 
 
   -- the newest root that the history agrees with
   pub based_found : (loaded : Loaded D g) (trees : KeptTrees) (based : Based D g) → IsLoaded bytes images told loaded
-      → WhereTold told (λ file. FileKeeps file (map kept_of loaded.kept.items))
+      → IfKnown told (λ file. FileKeeps file (map kept_of loaded.kept.items))
       → IsNewest h loaded.kept.items (Some trees)
       → based.trees ≡ trees → FitsStore bytes images based.store trees.roots
       → (HasRoot bytes images loaded.store (kept_of trees) → HasRoot bytes images based.store (kept_of trees))
       → node_count based.store ≤ 2 * length (root_ids trees.roots)
-      → StaysTold told (bytes (disk_in based.store))
+      → StaysKnown told (bytes (disk_in based.store))
       → IsBased bytes images told h based
   based_found loaded trees based is keeps newest same fits goes_on room stays =
       let member = newest.0 in
@@ -110,12 +111,12 @@ module _ {D : Type 0} {g : _} (bytes : D → Option (List ℕ)) (images : D → 
 
   -- the first entry
   pub based_first : (loaded : Loaded D g) (based : Based D g) → IsLawful h
-      → WhereTold told (λ file. FileKeeps file (map kept_of loaded.kept.items))
+      → IfKnown told (λ file. FileKeeps file (map kept_of loaded.kept.items))
       → NoneAgrees h (map kept_of loaded.kept.items)
       → StoreKeeps bytes images [] based.store
       → RootStands (trees_of based.trees.roots) (first_entry ∷ []) 0 × (based.trees.c ≡ 0)
       → AreNumberedFromOne based.trees.roots → next_above (root_ids based.trees.roots) ≤ 2 ^ 61
-      → StaysTold told (bytes (disk_in based.store)) → IsBased bytes images told h based
+      → StaysKnown told (bytes (disk_in based.store)) → IsBased bytes images told h based
   based_first loaded based lawful keeps none empty stands ids few stays = record {
     stands = subst (λ (c : ℕ). RootStands (trees_of based.trees.roots) h c) (sym stands.1)
         (first-stands (trees_of based.trees.roots) h lawful stands.0);

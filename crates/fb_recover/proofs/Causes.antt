@@ -1,6 +1,6 @@
 -- What the faults of a start and of the records tell of a file.
 use Rattle.std.proofs.Common.{◌≡◌, inl, inr, ℕ, List, Option, refl, sym}
-use Rattle.disk_model.specs.Disk.{WhereTold}
+use Rattle.disk_model.specs.Disk.{IfKnown}
 use Rattle.disk_model.specs.Journal.{log_mark, JournalStands}
 use Rattle.log_model.specs.Log.{LogSays, log_says}
 use Rattle.fb_journal.specs.Starts.{IsWhyNot, CountsStart}
@@ -9,11 +9,11 @@ use Rattle.fb_journal.specs.declared.starts.StartFault.{StartFault}
 use Rattle.fb_journal.specs.declared.starts.StartFault.TheVariants.{Disk as StartDisk, BadLog as StartBadLog, Memory as StartMemory}
 use Rattle.fb_recover.specs.declared.faults.OpenFault.{OpenFault}
 use Rattle.fb_recover.specs.declared.faults.OpenFault.TheVariants.{Disk, BadLog, Unlawful, Memory}
-use Rattle.fb_recover.specs.Faults.{fault_of, TellsFault, IsCause, CountsLog}
+use Rattle.fb_recover.specs.Faults.{fault_of, MatchesFault, IsCause, CountsLog}
 
 -- of the start
 pub start-cause : (told : Option (List ℕ)) (start : StartFault) (before : List (List ℕ)) → IsWhyNot log_mark told start before
-    → WhereTold told (IsCause (fault_of start))
+    → IfKnown told (IsCause (fault_of start))
 start-cause told StartDisk before why = λ file is. tt
 start-cause told StartMemory before why = λ file is. tt
 start-cause told (StartBadLog nth at) before why = λ file is. (before, inr (nth, at, why file is, refl))
@@ -25,21 +25,21 @@ start-counts StartMemory old new counts = counts
 
 -- of the journal, where its records are read
 pub reading-cause : (told : Option (List ℕ)) (start : StartFault) (records : List (List ℕ)) → IsFirstFault log_mark told records start
-    → WhereTold told (IsCause (fault_of start))
+    → IfKnown told (IsCause (fault_of start))
 reading-cause told StartDisk records first = λ file is. tt
 reading-cause told StartMemory records first = λ file is. tt
 reading-cause told (StartBadLog nth at) records first = λ file is. (records, inr (nth, at, first file is, refl))
 
 -- of the records
-pub records-cause : (told : Option (List ℕ)) (records : List (List ℕ)) (fault : OpenFault) → TellsFault fault (log_says records)
-    → WhereTold told (λ file. JournalStands log_mark records file)
-    → WhereTold told (IsCause fault)
+pub records-cause : (told : Option (List ℕ)) (records : List (List ℕ)) (fault : OpenFault) → MatchesFault fault (log_says records)
+    → IfKnown told (λ file. JournalStands log_mark records file)
+    → IfKnown told (IsCause fault)
 records-cause told records (BadLog nth at) tells stands = λ file is. (records, inl (stands file is, sym tells))
 records-cause told records (Unlawful t law) tells stands = λ file is. (records, inl (stands file is, sym tells))
 records-cause told records Memory tells stands = λ file is. tt
 records-cause told records (Disk which) tells stands = absurd tells
 
-pub records-count : (says : LogSays) (fault : OpenFault) (old new : ℕ) → TellsFault fault says → new ≡ old → CountsLog fault old new
+pub records-count : (says : LogSays) (fault : OpenFault) (old new : ℕ) → MatchesFault fault says → new ≡ old → CountsLog fault old new
 records-count says (BadLog nth at) old new tells same = same
 records-count says (Unlawful t law) old new tells same = same
 records-count says Memory old new tells same = same

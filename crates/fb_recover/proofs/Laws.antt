@@ -9,7 +9,7 @@ use Rattle.fb_model.specs.FirstEntry.{first_entry}
 use Rattle.fb_model.specs.Lawful.{IsLawful, IsLawfulFrom, least_law}
 use Rattle.fb_model.proofs.Invariants.{least_law-lawful}
 use Rattle.fb_schema.specs.Described.{SchemaStands}
-use Rattle.log_model.specs.Log.{first_unlawful, hold, told, judged, unlawful}
+use Rattle.log_model.specs.Log.{first_unlawful, hold, log_reading, judged, unlawful}
 use Rattle.fb_recover.specs.declared.judging.Judged.{Judged}
 use Rattle.fb_recover.specs.declared.judging.Judged.TheVariants.{Lawful, Unlawful}
 use Rattle.fb_recover.specs.Judging.{IsJudged, IsFollowed}
@@ -77,5 +77,5 @@ pub lawful-followed : (h after : List Entry) (entry : Entry) (schema : List Dato
 lawful-followed h after entry schema lawful is stands =
     (is, subst IsLawful (sym is) lawful, subst (λ (l : List Entry). SchemaStands schema l) (sym is) stands)
 
-pub unlawful-told : (entries : List Entry) (t law : ℕ) → IsJudged entries (Unlawful t law) → told (hold entries) ≡ unlawful t law
+pub unlawful-told : (entries : List Entry) (t law : ℕ) → IsJudged entries (Unlawful t law) → log_reading (hold entries) ≡ unlawful t law
 unlawful-told entries t law is = ap (judged entries) is

@@ -5,8 +5,9 @@ use Rattle.fb_values.specs.declared.facts.Entry.{Entry}
 use Rattle.fb_model.specs.FirstEntry.{first_entry}
 use Rattle.fb_model.specs.Lawful.{IsLawful}
 use Rattle.disk_model.specs.Journal.{log_mark}
-use Rattle.log_model.specs.Payload.{Says, holds, breaks_at, payload_says}
-use Rattle.log_model.specs.Log.{RecordsSay, ArePayloadsOf, LogStands, hold, bad_at, byte_in_log, with_entry, with_record, entries_behind, told, log_says}
+use Rattle.log_model.specs.Payload.{PayloadSays, holds, breaks_at, payload_says}
+use Rattle.log_model.specs.Log.{RecordsSay, ArePayloadsOf, LogStands, hold, bad_at, byte_in_log, with_entry, with_record, entries_behind}
+use Rattle.log_model.specs.Log.{log_reading, log_says}
 use Rattle.log_model.proofs.Entries.{says-entry_bytes}
 use Rattle.disk_log.proofs.Histories.{payloads-push}
 use Rattle.fb_journal.specs.Readings.{HasRead}
@@ -16,7 +17,7 @@ use Rattle.fb_recover.specs.declared.faults.OpenFault.{OpenFault}
 use Rattle.fb_recover.specs.declared.judging.Judged.{Judged}
 use Rattle.fb_recover.specs.declared.records.Found.{Found}
 use Rattle.fb_recover.specs.declared.records.Found.TheVariants.{Entries, Misfit}
-use Rattle.fb_recover.specs.Faults.{TellsFault}
+use Rattle.fb_recover.specs.Faults.{MatchesFault}
 use Rattle.fb_recover.specs.Finding.{HaveFound, IsFound}
 
 hold-behind : (before : List (List ℕ)) (entries : List Entry) (records : List (List ℕ)) → ArePayloadsOf entries records
@@ -25,26 +26,27 @@ hold-behind before [] [] are = refl
 hold-behind before [] (payload ∷ records) are = absurd are
 hold-behind before (entry ∷ entries) [] are = absurd are
 hold-behind before (entry ∷ entries) (payload ∷ records) are =
-    ap (λ (said : Says). with_record before said (entries_behind (before ++ payload ∷ []) records)) (says-entry_bytes entry payload are.0)
+    ap (λ (said : PayloadSays). with_record before said (entries_behind (before ++ payload ∷ []) records))
+    (says-entry_bytes entry payload are.0)
     ∙ ap (with_entry entry) (hold-behind (before ++ payload ∷ []) entries records are.1)
 
 bad-behind : (before : List (List ℕ)) (entries : List Entry) (part : List (List ℕ)) (payload : List ℕ) (rest : List (List ℕ)) (byte : ℕ)
     → ArePayloadsOf entries part → payload_says payload ≡ breaks_at byte
     → entries_behind before (part ++ payload ∷ rest) ≡ bad_at (length (before ++ part)) (byte_in_log (before ++ part) byte)
 bad-behind before [] [] payload rest byte are breaks =
-    ap (λ (said : Says). with_record before said (entries_behind (before ++ payload ∷ []) rest)) breaks
+    ap (λ (said : PayloadSays). with_record before said (entries_behind (before ++ payload ∷ []) rest)) breaks
     ∙ ap (λ (l : List (List ℕ)). bad_at (length l) (byte_in_log l byte)) (sym (append-nil before))
 bad-behind before [] (p ∷ part) payload rest byte are breaks = absurd are
 bad-behind before (entry ∷ entries) [] payload rest byte are breaks = absurd are
 bad-behind before (entry ∷ entries) (p ∷ part) payload rest byte are breaks =
-    ap (λ (said : Says). with_record before said (entries_behind (before ++ p ∷ []) (part ++ payload ∷ rest)))
+    ap (λ (said : PayloadSays). with_record before said (entries_behind (before ++ p ∷ []) (part ++ payload ∷ rest)))
     (says-entry_bytes entry p are.0)
     ∙ ap (with_entry entry) (bad-behind (before ++ p ∷ []) entries part payload rest byte are.1 breaks)
     ∙ ap (λ (l : List (List ℕ)). bad_at (length l) (byte_in_log l byte)) (append_assoc before (p ∷ []) part)
 
 -- ---- one record more
 
-with-stays : (before : List (List ℕ)) (said : Says) (behind longer : RecordsSay) (nth at : ℕ)
+with-stays : (before : List (List ℕ)) (said : PayloadSays) (behind longer : RecordsSay) (nth at : ℕ)
     → (behind ≡ bad_at nth at → longer ≡ bad_at nth at)
     → with_record before said behind ≡ bad_at nth at → with_record before said longer ≡ bad_at nth at
 with-stays before (holds entry) (hold entries) longer nth at later is = absurd (cc)
@@ -84,8 +86,8 @@ stands-whole records entries h are is lawful =
     subst (λ (l : List Entry). LogStands records l) (sym is) (record { lawful = subst IsLawful is lawful; payloads = are })
 
 pub told-whole : (records : List (List ℕ)) (entries : List Entry) (fault : OpenFault) → ArePayloadsOf entries records
-    → TellsFault fault (told (hold entries)) → TellsFault fault (log_says records)
-told-whole records entries fault are tells = subst (TellsFault fault) (sym (ap told (hold-behind [] entries records are))) tells
+    → MatchesFault fault (log_reading (hold entries)) → MatchesFault fault (log_says records)
+told-whole records entries fault are tells = subst (MatchesFault fault) (sym (ap log_reading (hold-behind [] entries records are))) tells
 
 -- ---- as they are read
 

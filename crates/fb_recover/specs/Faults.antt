@@ -1,15 +1,18 @@
--- What a fault tells of a log, and of the two disks.
+-- What a fault says of a log, and of the two disks.
 -- This project's own choice.
 use Rattle.std.specs.Prelude.{◌≡◌, ℕ, List, ⊤}
-use Rattle.fb_calls.specs.Faults.{Rose}
+use Rattle.io_faults.specs.Faults.{Rose}
 use Rattle.fb_values.specs.declared.facts.Entry.{Entry}
 use Rattle.fb_ports.specs.declared.hosts.Part.{Part}
 use Rattle.fb_ports.specs.declared.hosts.Part.TheVariants.{Log, Segments}
 use Rattle.log_model.specs.Log.{LogSays, bad_record, unlawful, FileSays, IsLogOf}
 use Rattle.fb_journal.specs.declared.starts.StartFault.{StartFault}
-use Rattle.fb_journal.specs.declared.starts.StartFault.TheVariants.{Disk as StartDisk, BadLog as StartBadLog, Memory as StartMemory}
+use Rattle.fb_journal.specs.declared.starts.StartFault.TheVariants.{Disk as StartDisk}
+use Rattle.fb_journal.specs.declared.starts.StartFault.TheVariants.{BadLog as StartBadLog}
+use Rattle.fb_journal.specs.declared.starts.StartFault.TheVariants.{Memory as StartMemory}
 use Rattle.seg_store.specs.declared.loads.LoadFault.{LoadFault}
-use Rattle.seg_store.specs.declared.loads.LoadFault.TheVariants.{Disk as LoadDisk, Memory as LoadMemory}
+use Rattle.seg_store.specs.declared.loads.LoadFault.TheVariants.{Disk as LoadDisk}
+use Rattle.seg_store.specs.declared.loads.LoadFault.TheVariants.{Memory as LoadMemory}
 use Rattle.fb_recover.specs.declared.faults.OpenFault.{OpenFault}
 use Rattle.fb_recover.specs.declared.faults.OpenFault.TheVariants.{Disk, BadLog, Unlawful, Memory}
 
@@ -23,13 +26,14 @@ fault_of_load LoadDisk = Disk Segments
 fault_of_load LoadMemory = Memory
 
 -- The log's records say this fault, or memory ran out.
-abbrev pub TellsFault : OpenFault → LogSays → Type 0
-TellsFault (BadLog nth at) says = says ≡ bad_record nth at
-TellsFault (Unlawful t law) says = says ≡ unlawful t law
-TellsFault Memory says = ⊤
-TellsFault (Disk which) says = ⊥
+abbrev pub MatchesFault : OpenFault → LogSays → Type 0
+MatchesFault (BadLog nth at) says = says ≡ bad_record nth at
+MatchesFault (Unlawful t law) says = says ≡ unlawful t law
+MatchesFault Memory says = ⊤
+MatchesFault (Disk which) says = ⊥
 
--- The log's file says this fault, where it is one of the log. One of the segments comes only over a log of a history.
+-- The log's file says this fault, where it is one of the log.
+-- One of the segments comes only over a log of a history.
 abbrev pub IsCause : OpenFault → List ℕ → Type 0
 IsCause (BadLog nth at) file = FileSays file (bad_record nth at)
 IsCause (Unlawful t law) file = FileSays file (unlawful t law)
@@ -37,7 +41,7 @@ IsCause Memory file = ⊤
 IsCause (Disk Log) file = ⊤
 IsCause (Disk Segments) file = (h : List Entry) × IsLogOf file h
 
--- it is one of the log, of its disk or of its file
+-- the fault is one of the log, of its disk or of its file
 abbrev pub IsOfLog : OpenFault → Type 0
 IsOfLog (Disk Log) = ⊤
 IsOfLog (Disk Segments) = ⊥
@@ -55,7 +59,8 @@ CountsOpening (BadLog nth at) part old new = new ≡ old
 CountsOpening (Unlawful t law) part old new = new ≡ old
 CountsOpening Memory part old new = new ≡ old
 
--- The fault is none of the segments. One of the log's disk raised the disk's count, and nothing else did.
+-- The fault is none of the segments.
+-- One of the log's disk raised the disk's count, and nothing else did.
 abbrev pub CountsLog : OpenFault → ℕ → ℕ → Type 0
 CountsLog (Disk Log) old new = Rose old new
 CountsLog (Disk Segments) old new = ⊥

@@ -9,13 +9,14 @@ use Rattle.log_model.specs.Log.{first_unlawful}
 use Rattle.fb_recover.specs.declared.judging.Judged.{Judged}
 use Rattle.fb_recover.specs.declared.judging.Judged.TheVariants.{Lawful, Unlawful}
 
--- behind the first entry they make a lawful history, or this is the first of them that may not follow
+-- after the first entry they make a lawful history,
+-- or this is the first of them that may not follow
 abbrev pub IsJudged : List Entry → Judged → Type 0
 IsJudged entries (Lawful held schema) =
     (held ≡ first_entry ∷ entries) × IsLawful held × SchemaStands schema held
 IsJudged entries (Unlawful t law) = first_unlawful (first_entry ∷ []) entries ≡ Some (t, law)
 
--- the history with the entry behind it, or the least law that the entry breaks
+-- the history with the entry after it, or the least law that the entry breaks
 abbrev pub IsFollowed : List Entry → Entry → Judged → Type 0
 IsFollowed h entry (Lawful held schema) =
     (held ≡ h ++ entry ∷ []) × IsLawful held × SchemaStands schema held

@@ -1,9 +1,10 @@
--- The log's disk after an opening, and what the trees and the store are that a database is opened with.
+-- The log's disk after an opening,
+-- and what the trees and the store are that a database is opened with.
 -- This project's own choice.
 use Rattle.std.specs.Prelude.{◌≡◌, ℕ, List, length, Option, Result, Ok, Err, Contains}
 use Rattle.std.specs.List.{range_with_len}
 use Rattle.fb_values.specs.declared.facts.Entry.{Entry}
-use Rattle.disk_model.specs.Disk.{WhereTold}
+use Rattle.disk_model.specs.Disk.{IfKnown}
 use Rattle.log_model.specs.Nodes.{Roots as FileRoots}
 use Rattle.log_model.specs.Kept.{KeptRoot, FileKeeps, NoneAgrees, IsCoverage, kept_roots, nodes_of}
 use Rattle.seg_tree.specs.Indexes.{root_ids}
@@ -26,10 +27,10 @@ log_after (Err stop) = stop.log
 abbrev pub AreNumberedFromOne : Roots → Type 0
 AreNumberedFromOne roots = root_ids roots ≡ range_with_len 1 (length (root_ids roots))
 
--- each node of the trees is one of a file, which is this one where it is told
+-- each node of the trees is one of a file, which is this one where it is known
 abbrev pub AreOfFile : Option (List ℕ) → Roots → Type 0
-AreOfFile told roots =
-    (records : List (List ℕ)) × WhereTold told (AreRecordsOf records)
+AreOfFile known roots =
+    (records : List (List ℕ)) × IfKnown known (AreRecordsOf records)
     × (ids : FileRoots) × AreTreesOf (nodes_of records) ids roots
 
 -- The file keeps roots, and so far go the trees of the newest that the history agrees with.

@@ -1,6 +1,6 @@
 //! The trees that a history is opened with, and the store whose file they fit.
 ghost use Rattle.std.specs.Prelude.{◌≡◌, ◌≤◌, ◌*◌, ◌^◌, [], ◌∷◌, ℕ, List, length, true, false, IfOk, MatchResult};
-ghost use Rattle.disk_model.specs.Disk.{WhereTold};
+ghost use Rattle.disk_model.specs.Disk.{IfKnown};
 ghost use Rattle.fb_model.specs.FirstEntry.{first_entry};
 ghost use Rattle.fb_model.specs.Lawful.{IsLawful};
 ghost use Rattle.view_model.specs.Stands.{RootStands};
@@ -9,7 +9,7 @@ ghost use Rattle.seg_tree.specs.Indexes.{root_ids, trees_of};
 ghost use Rattle.seg_store.specs.Stores.{disk_in as segments_in, node_count, StoreKeeps};
 ghost use Rattle.seg_store.specs.Trees.{root_of, HaveStorableDatoms};
 ghost use Rattle.seg_store.specs.Keeping.{FitsStore};
-ghost use Rattle.fb_journal.specs.Journals.{StaysTold};
+ghost use Rattle.fb_journal.specs.Journals.{StaysKnown};
 ghost use Rattle.seg_store.specs.Loads.{CountsLoad};
 ghost use Rattle.fb_recover.specs.Openings.{AreNumberedFromOne, HasRoot};
 ghost use Rattle.fb_recover.specs.Basing.{IsBased};
@@ -79,8 +79,8 @@ fn with_room<D: Disk>(
         (λ b. HasRoot D.bytes D.images store (root_of trees.roots trees.c)
         → HasRoot D.bytes D.images b.store (root_of trees.roots trees.c)) }
     ensures room { IfOk result (λ b. node_count b.store ≤ 2 * length (root_ids trees.roots)) }
-    ensures told { IfOk result
-        (λ b. StaysTold (D.bytes (segments_in store)) (D.bytes (segments_in b.store))) }
+    ensures known { IfOk result
+        (λ b. StaysKnown (D.bytes (segments_in store)) (D.bytes (segments_in b.store))) }
     ensures counted { MatchResult result
         (λ b. D.faults (segments_in b.store) ≡ D.faults (segments_in store))
         (λ s. CountsLoad s.fault (D.faults (segments_in store)) (D.faults s.disk)) }
@@ -111,8 +111,8 @@ fn of_first<D: Disk>(
     requires keeps { (records : List (List ℕ)) × StoreKeeps D.bytes D.images records store }
     requires none { keeps_some ≡ false → StoreKeeps D.bytes D.images [] store }
     ensures empty { IfOk result (λ b. StoreKeeps D.bytes D.images [] b.store) }
-    ensures told { IfOk result
-        (λ b. StaysTold (D.bytes (segments_in store)) (D.bytes (segments_in b.store))) }
+    ensures known { IfOk result
+        (λ b. StaysKnown (D.bytes (segments_in store)) (D.bytes (segments_in b.store))) }
     ensures stands { IfOk result
         (λ b. RootStands (trees_of b.trees.roots) (first_entry ∷ []) 0 × (b.trees.c ≡ 0)) }
     ensures ids { IfOk result (λ b. AreNumberedFromOne b.trees.roots) }
@@ -139,8 +139,8 @@ fn emptied<D: Disk>(store: SegStore<D>, keeps_some: bool) -> Result<SegStore<D>,
     requires keeps { (records : List (List ℕ)) × StoreKeeps D.bytes D.images records store }
     requires none { keeps_some ≡ false → StoreKeeps D.bytes D.images [] store }
     ensures empty { IfOk result (StoreKeeps D.bytes D.images []) }
-    ensures told { IfOk result
-        (λ now. StaysTold (D.bytes (segments_in store)) (D.bytes (segments_in now))) }
+    ensures known { IfOk result
+        (λ now. StaysKnown (D.bytes (segments_in store)) (D.bytes (segments_in now))) }
     ensures counted { MatchResult result
         (λ now. D.faults (segments_in now) ≡ D.faults (segments_in store))
         (λ s. CountsLoad s.fault (D.faults (segments_in store)) (D.faults s.disk)) }

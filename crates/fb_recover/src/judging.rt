@@ -4,8 +4,8 @@ ghost use Rattle.fb_values.specs.declared.facts.Entry.{Entry};
 ghost use Rattle.fb_model.specs.FirstEntry.{first_entry};
 ghost use Rattle.fb_model.specs.Lawful.{IsLawful};
 ghost use Rattle.fb_schema.specs.Described.{SchemaStands};
-ghost use Rattle.log_model.specs.Log.{told, hold};
-ghost use Rattle.fb_recover.specs.Faults.{TellsFault};
+ghost use Rattle.log_model.specs.Log.{log_reading, hold};
+ghost use Rattle.fb_recover.specs.Faults.{MatchesFault};
 ghost use Rattle.fb_recover.specs.Judging.{IsJudged, IsFollowed};
 
 use crate::OpenFault;
@@ -23,12 +23,12 @@ use std::alloc::Global;
 use tx_laws::lawful;
 use tx_model::lawful_histories_are_small;
 
-/// What the entries so far are, behind the first one of every history.
+/// What the entries so far are, after the first one of every history.
 #[derive(Drop)]
 pub(crate) enum Judged {
     /// A lawful history, with its schema.
     Lawful { held: Held, schema: Schema },
-    /// The first of them that may not follow those before it, and the least law that it breaks. What stands behind it is
+    /// The first of them that may not follow those before it, and the least law that it breaks. What follows it is
     /// not judged.
     Unlawful { t: u32, law: u8 },
 }
@@ -62,7 +62,7 @@ impl Judged {
         ensures lawful { IfOk result (λ h. (entries : List Entry) → IsJudged entries self
             → (h ≡ first_entry ∷ entries) × IsLawful h) }
         ensures unlawful { IfErr result (λ fault. (entries : List Entry) → IsJudged entries self
-            → TellsFault fault (told (hold entries))) }
+            → MatchesFault fault (log_reading (hold entries))) }
     {
         match self {
             Judged::Lawful { held, .. } => Ok(held.into_entries()),

@@ -1,11 +1,11 @@
 //! Reading the records of a log as a history.
 ghost use Rattle.std.specs.Prelude.{◌≡◌, ◌<◌, ◌+◌, ◌^◌, ◌++◌, [], ◌∷◌, ℕ, List, length, IfOk, IfErr, MatchResult};
 ghost use Rattle.fb_values.specs.declared.facts.Entry.{Entry};
-ghost use Rattle.disk_model.specs.Disk.{WhereTold};
+ghost use Rattle.disk_model.specs.Disk.{IfKnown};
 ghost use Rattle.disk_model.specs.Journal.{log_mark};
 ghost use Rattle.log_model.specs.Log.{LogStands, byte_in_log, log_says};
-ghost use Rattle.fb_journal.specs.Readings.{disk_from, HasRead, IsRead, LeavesBegun};
-ghost use Rattle.fb_recover.specs.Faults.{TellsFault, IsCause, CountsLog};
+ghost use Rattle.fb_journal.specs.Readings.{disk_from, HasRead, HasReadAll, LeavesBegun};
+ghost use Rattle.fb_recover.specs.Faults.{MatchesFault, IsCause, CountsLog};
 ghost use Rattle.fb_recover.specs.Finding.{IsFound, HaveFound};
 ghost use Rattle.fb_recover.specs.Judging.{IsJudged};
 
@@ -24,13 +24,13 @@ use std::alloc::Global;
 pub(crate) enum Found {
     /// Each holds an entry.
     Entries { judged: Judged },
-    /// The first that holds none, and the byte of the file at which its first misfit begins. What the records behind it hold
+    /// The first that holds none, and the byte of the file at which its first misfit begins. What the records after it hold
     /// is not read.
     Misfit { nth: u64, at: u64 },
 }
 
-/// The history that the records of a log hold, or what is wrong with the log first. A record that holds no entry is told
-/// once all records were found, since a fault of the journal behind it comes before it.
+/// The history that the records of a log hold, or what is wrong with the log first. A record that holds no entry is reported
+/// once all records were found, since a fault of the journal after it comes before it.
 pub(crate) fn history_of<D: Disk>(
     alloc: Global,
     log: &mut Reading<D>,
@@ -40,11 +40,11 @@ pub(crate) fn history_of<D: Disk>(
     ensures read { IfOk result (λ h. (disk : D)
         → HasRead D.bytes D.images D.moment D.images_since log_mark disk [] log.old
         → (records : List (List ℕ))
-        × IsRead D.bytes D.images D.moment D.images_since log_mark disk records log.new
+        × HasReadAll D.bytes D.images D.moment D.images_since log_mark disk records log.new
         × LogStands records h) }
     ensures why_not { IfErr result (λ fault. (disk : D)
         → HasRead D.bytes D.images D.moment D.images_since log_mark disk [] log.old
-        → WhereTold (D.bytes disk) (IsCause fault)) }
+        → IfKnown (D.bytes disk) (IsCause fault)) }
     ensures counted { MatchResult result
         (λ _. D.faults (disk_from log.new) ≡ D.faults (disk_from log.old))
         (λ fault. CountsLog fault (D.faults (disk_from log.old)) (D.faults (disk_from log.new))) }
@@ -88,7 +88,7 @@ impl Found {
         ensures stands { IfOk result (λ h. (records : List (List ℕ)) → HaveFound records self
             → LogStands records h) }
         ensures fault { IfErr result (λ fault. (records : List (List ℕ)) → HaveFound records self
-            → TellsFault fault (log_says records)) }
+            → MatchesFault fault (log_says records)) }
     {
         match self {
             Found::Entries { judged } => judged.into_entries(),

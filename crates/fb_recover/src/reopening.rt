@@ -4,9 +4,9 @@ ghost use Rattle.fb_model.specs.History.{basis};
 ghost use Rattle.fb_model.specs.Lawful.{IsLawful};
 ghost use Rattle.view_model.specs.Stands.{RootStands};
 ghost use Rattle.seg_tree.specs.Indexes.{trees_of};
-ghost use Rattle.disk_model.specs.Disk.{WhereTold, LeavesOnly};
+ghost use Rattle.disk_model.specs.Disk.{IfKnown, LeavesOnly};
 ghost use Rattle.log_model.specs.Log.{IsLogOf};
-ghost use Rattle.fb_journal.specs.Journals.{StaysTold};
+ghost use Rattle.fb_journal.specs.Journals.{StaysKnown};
 ghost use Rattle.fb_core.specs.Cores.{CoreStands};
 ghost use Rattle.seg_store.specs.Stores.{disk_in as segments_in, node_count, StoreKeeps};
 ghost use Rattle.disk_log.specs.Logs.{disk_in, count_in, KeepsHistory};
@@ -42,7 +42,7 @@ pub struct Opened<D: Disk> {
 }
 
 /// Opens the database of a log and of a file of segments. The trees are those of the newest root that the file keeps and the
-/// history agrees with, and the entries behind them are live. A file then starts anew with this root alone, where more than
+/// history agrees with, and the entries after them are live. A file then starts anew with this root alone, where more than
 /// half of its nodes are none of these trees'. Where there is no such root, the trees are of the first entry alone, and a file
 /// that keeps roots starts anew.
 ///
@@ -51,13 +51,13 @@ pub struct Opened<D: Disk> {
 pub fn reopen<D: Disk>(alloc: Global, log: D, segments: D) -> Result<Opened<D>, OpenStop<D>>
     // The file is the log of the history that the core has.
     ensures history { IfOk result
-        (λ o. WhereTold (D.bytes log) (λ file. IsLogOf file o.core.snapshot.entries)) }
+        (λ o. IfKnown (D.bytes log) (λ file. IsLogOf file o.core.snapshot.entries)) }
     ensures core { IfOk result (λ o. CoreStands o.core × (o.core.authors ≡ [])) }
     ensures recovered { IfOk result (λ o. o.recovered ≡ basis o.core.snapshot.entries) }
 
     // The trees are the newest of the file of segments that the history agrees with.
     ensures covered { IfOk result (λ o. o.covered ≡ o.core.snapshot.covered) }
-    ensures coverage { IfOk result (λ o. WhereTold (D.bytes segments)
+    ensures coverage { IfOk result (λ o. IfKnown (D.bytes segments)
         (HasCoverage o.core.snapshot.entries o.covered)) }
 
     // They fit the file that the store goes on with. Their nodes are numbered from 1 on, or are those of the file before.
@@ -68,18 +68,18 @@ pub fn reopen<D: Disk>(alloc: Global, log: D, segments: D) -> Result<Opened<D>, 
 
     // Unless the file of segments has a fault, or no root of it agrees, the store's file keeps the trees as a root. At most
     // half of its nodes are none of theirs.
-    ensures root { IfOk result (λ o. WhereTold (D.bytes segments) (λ file. HasFault file
+    ensures root { IfOk result (λ o. IfKnown (D.bytes segments) (λ file. HasFault file
         ⊎ AgreesWithNone o.core.snapshot.entries file
         ⊎ HasRoot D.bytes D.images o.store (root_of o.core.snapshot.roots o.covered))) }
     ensures room { IfOk result
         (λ o. node_count o.store ≤ 2 * length (root_ids o.core.snapshot.roots)) }
 
-    // Where they have a number behind which no merge may go, the file had it before.
-    ensures great { IfOk result (λ o. WhereTold (D.bytes segments)
+    // Where they have a number after which no merge may go, the file had it before.
+    ensures great { IfOk result (λ o. IfKnown (D.bytes segments)
         (λ file. 2 ^ 61 < next_above (root_ids o.core.snapshot.roots) → HasGreatNode file)) }
 
     // Where no root agrees, the store's file has none from now on.
-    ensures anew { IfOk result (λ o. WhereTold (D.bytes segments)
+    ensures anew { IfOk result (λ o. IfKnown (D.bytes segments)
         (λ file. AgreesWithNone o.core.snapshot.entries file
         → AreNumberedFromOne o.core.snapshot.roots
         × StoreKeeps D.bytes D.images [] o.store)) }
@@ -88,12 +88,12 @@ pub fn reopen<D: Disk>(alloc: Global, log: D, segments: D) -> Result<Opened<D>, 
     ensures keeps { IfOk result (λ o. KeepsHistory D.bytes D.images D.faults D.moment
         D.images_since o.log o.core.snapshot.entries o.log) }
     ensures count { IfOk result (λ o. count_in o.log ≡ o.recovered) }
-    ensures told { IfOk result (λ o. StaysTold (D.bytes log) (D.bytes (disk_in o.log))) }
-    ensures segments_told { IfOk result
-        (λ o. StaysTold (D.bytes segments) (D.bytes (segments_in o.store))) }
+    ensures known { IfOk result (λ o. StaysKnown (D.bytes log) (D.bytes (disk_in o.log))) }
+    ensures segments_known { IfOk result
+        (λ o. StaysKnown (D.bytes segments) (D.bytes (segments_in o.store))) }
 
     // A fault of the log is what its file says, one of the segments comes over a good log, and those of the disks are counted.
-    ensures why_not { IfErr result (λ s. WhereTold (D.bytes log) (IsCause s.fault)) }
+    ensures why_not { IfErr result (λ s. IfKnown (D.bytes log) (IsCause s.fault)) }
     ensures counted { MatchResult result (λ o. D.faults (disk_in o.log) ≡ D.faults log)
         (λ s. CountsOpening s.fault Log (D.faults log) (D.faults s.log)) }
     ensures segments_counted { MatchResult result
@@ -104,12 +104,12 @@ pub fn reopen<D: Disk>(alloc: Global, log: D, segments: D) -> Result<Opened<D>, 
     ensures untouched { IfErr result (λ s. IsOfLog s.fault → s.segments ≡ segments) }
 
     // A crash at any moment leaves an image from before, or at most 16 bytes where there were no more: a new log.
-    ensures any_moment { WhereTold (D.bytes log) (λ file. LeavesOnly D.moment D.images_since
+    ensures any_moment { IfKnown (D.bytes log) (λ file. LeavesOnly D.moment D.images_since
         log (log_after result)
         (λ image. D.images log image ⊎ ((length file ≤ 16) × (length image ≤ 16)))) }
 
     // So it leaves an image from before, or the log of the same history.
-    ensures any_moment_stands { IfOk result (λ o. WhereTold (D.bytes log) (λ _. LeavesOnly
+    ensures any_moment_stands { IfOk result (λ o. IfKnown (D.bytes log) (λ _. LeavesOnly
         D.moment D.images_since log (disk_in o.log)
         (λ image. D.images log image ⊎ IsLogOf image o.core.snapshot.entries))) }
 {

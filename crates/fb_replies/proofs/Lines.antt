@@ -9,7 +9,8 @@ use Rattle.edn_print.specs.Printed.{Appends}
 use Rattle.edn_print.specs.Printable.{printable}
 use Rattle.fb_values.specs.declared.facts.Datom.{Datom}
 use Rattle.fb_values.specs.declared.facts.Entry.{Entry}
-use Rattle.talk_model.specs.Replies.{number, vector, map_of, tempid_pair, datom_form, transaction_form, receipt, basis_reply, done_reply, datoms_reply, transactions_reply, pull_reply, refusal_reply, fault_reply, IsLineOf}
+use Rattle.talk_model.specs.Replies.{number, vector, map_of, tempid_pair, datom_form, transaction_form, receipt, basis_reply, done_reply}
+use Rattle.talk_model.specs.Replies.{datoms_reply, transactions_reply, pull_reply, refusal_reply, fault_reply, IsLineOf}
 use Rattle.fb_replies.specs.Faults.{place_text}
 
 -- ---- fields
@@ -23,10 +24,16 @@ braces inside = 123 ∷ (inside ++ 125 ∷ [])
 pub one_field : (k : List ℕ) (v : Form) (t : List ℕ) → Canon v t → Canon (map_of ((k, v) ∷ [])) (braces (field_text k t []))
 one_field k v t h = (field_text k t [], (58 ∷ k, t, [], refl, h, refl, refl), refl)
 
-pub two_fields : (k l : List ℕ) (v w : Form) (t u : List ℕ) → Canon v t → Canon w u → Canon (map_of ((k, v) ∷ (l, w) ∷ [])) (braces (field_text k t (32 ∷ field_text l u [])))
-two_fields k l v w t u h i = (field_text k t (32 ∷ field_text l u []), (58 ∷ k, t, 32 ∷ field_text l u [], refl, h, (58 ∷ l, u, [], refl, i, refl, refl), refl), refl)
+pub two_fields : (k l : List ℕ) (v w : Form) (t u : List ℕ) → Canon v t → Canon w u
+    → Canon (map_of ((k, v) ∷ (l, w) ∷ [])) (braces (field_text k t (32 ∷ field_text l u [])))
+two_fields k l v w t u h i = (
+  field_text k t (32 ∷ field_text l u []),
+  (58 ∷ k, t, 32 ∷ field_text l u [], refl, h, (58 ∷ l, u, [], refl, i, refl, refl), refl),
+  refl,
+)
 
-pub three_fields : (k l m : List ℕ) (v w x : Form) (t u s : List ℕ) → Canon v t → Canon w u → Canon x s → Canon (map_of ((k, v) ∷ (l, w) ∷ (m, x) ∷ [])) (braces (field_text k t (32 ∷ field_text l u (32 ∷ field_text m s []))))
+pub three_fields : (k l m : List ℕ) (v w x : Form) (t u s : List ℕ) → Canon v t → Canon w u → Canon x s
+    → Canon (map_of ((k, v) ∷ (l, w) ∷ (m, x) ∷ [])) (braces (field_text k t (32 ∷ field_text l u (32 ∷ field_text m s []))))
 three_fields k l m v w x t u s h i j =
     let last = 32 ∷ field_text m s [] in
     let later = 32 ∷ field_text l u last in
@@ -50,29 +57,45 @@ number_ended n =
     let grouped : n ++ 125 ∷ 10 ∷ [] ≡ (n ++ 125 ∷ []) ++ 10 ∷ [] = simp append_assoc in
     grouped ∙ ap (λ (z : List ℕ). (z ++ 125 ∷ []) ++ 10 ∷ []) (sym (append-nil n))
 
-place_ended : (word at basis : List ℕ) → word ++ (codes " :at " ++ (at ++ (codes " :basis " ++ (basis ++ 125 ∷ 10 ∷ [])))) ≡ ((word ++ (codes " :at " ++ (at ++ (codes " :basis " ++ (basis ++ []))))) ++ 125 ∷ []) ++ 10 ∷ []
+place_ended : (word at basis : List ℕ)
+    → word ++ (codes " :at " ++ (at ++ (codes " :basis " ++ (basis ++ 125 ∷ 10 ∷ []))))
+    ≡ ((word ++ (codes " :at " ++ (at ++ (codes " :basis " ++ (basis ++ []))))) ++ 125 ∷ []) ++ 10 ∷ []
 place_ended word at basis =
-    let grouped : word ++ (codes " :at " ++ (at ++ (codes " :basis " ++ (basis ++ 125 ∷ 10 ∷ [])))) ≡ ((word ++ (codes " :at " ++ (at ++ (codes " :basis " ++ basis)))) ++ 125 ∷ []) ++ 10 ∷ [] = simp append_assoc in
-    grouped ∙ ap (λ (z : List ℕ). ((word ++ (codes " :at " ++ (at ++ (codes " :basis " ++ z)))) ++ 125 ∷ []) ++ 10 ∷ []) (sym (append-nil basis))
+    let grouped : word ++ (codes " :at " ++ (at ++ (codes " :basis " ++ (basis ++ 125 ∷ 10 ∷ []))))
+    ≡ ((word ++ (codes " :at " ++ (at ++ (codes " :basis " ++ basis)))) ++ 125 ∷ []) ++ 10 ∷ [] =
+    simp append_assoc in
+    grouped
+    ∙ ap (λ (z : List ℕ). ((word ++ (codes " :at " ++ (at ++ (codes " :basis " ++ z)))) ++ 125 ∷ []) ++ 10 ∷ []) (sym (append-nil basis))
 
 -- of a number and of something else
 abbrev pub numbered : List ℕ → ℕ → List ℕ → List ℕ → List ℕ
 numbered k n l u = braces (field_text k (decimal n) (32 ∷ field_text l u []))
 
-pub numbered_text : (k l : List ℕ) (n : ℕ) (w : Form) (u : List ℕ) → Canon w u → Canon (map_of ((k, number n) ∷ (l, w) ∷ [])) (numbered k n l u)
+pub numbered_text : (k l : List ℕ) (n : ℕ) (w : Form) (u : List ℕ) → Canon w u
+    → Canon (map_of ((k, number n) ∷ (l, w) ∷ [])) (numbered k n l u)
 numbered_text k l n w u h = two_fields k l (number n) w (decimal n) u refl h
 
-pub receipt_line : (t : ℕ) (tempids : List (List ℕ × ℕ)) (l0 l1 l2 l3 l4 : List ℕ) → l0 ≡ codes "{:t " → l1 ≡ l0 ++ decimal t → l2 ≡ l1 ++ codes " :tempids {" → Appends (CanonPairs (pairs (map tempid_pair tempids))) l2 l3 → l4 ≡ l3 ++ codes "}}\n" → IsLineOf (receipt t tempids) l4
+pub receipt_line : (t : ℕ) (tempids : List (List ℕ × ℕ)) (l0 l1 l2 l3 l4 : List ℕ) → l0 ≡ codes "{:t " → l1 ≡ l0 ++ decimal t
+    → l2 ≡ l1 ++ codes " :tempids {" → Appends (CanonPairs (pairs (map tempid_pair tempids))) l2 l3 → l4 ≡ l3 ++ codes "}}\n"
+    → IsLineOf (receipt t tempids) l4
 receipt_line t tempids l0 l1 l2 l3 l4 e0 e1 e2 a e4 =
-    let inside = map_text (map tempid_pair tempids) a.text a.is in
-    (numbered (codes "t") t (codes "tempids") (braces a.text), numbered_text (codes "t") (codes "tempids") t (edn.map (pairs (map tempid_pair tempids))) (braces a.text) inside, simp (e4, a.behind, e2, e1, e0, append_assoc, append-nil))
+    let inside = map_text (map tempid_pair tempids) a.text a.is in (
+      numbered (codes "t") t (codes "tempids") (braces a.text),
+      numbered_text (codes "t") (codes "tempids") t (edn.map (pairs (map tempid_pair tempids))) (braces a.text) inside,
+      simp (e4, a.behind, e2, e1, e0, append_assoc, append-nil),
+    )
 
-pub basis_line : (basis : ℕ) (l0 l1 l2 : List ℕ) → l0 ≡ codes "{:basis " → l1 ≡ l0 ++ decimal basis → l2 ≡ l1 ++ codes "}\n" → IsLineOf (basis_reply basis) l2
+pub basis_line : (basis : ℕ) (l0 l1 l2 : List ℕ) → l0 ≡ codes "{:basis " → l1 ≡ l0 ++ decimal basis → l2 ≡ l1 ++ codes "}\n"
+    → IsLineOf (basis_reply basis) l2
 basis_line basis l0 l1 l2 e0 e1 e2 =
-    let pieces : l2 ≡ (codes "{:basis " ++ decimal basis) ++ codes "}\n" = simp (e2, e1, e0) in
-    (braces (field_text (codes "basis") (decimal basis) []), one_field (codes "basis") (number basis) (decimal basis) refl, pieces ∙ ap (λ (z : List ℕ). codes "{:basis " ++ z) (number_ended (decimal basis)))
+    let pieces : l2 ≡ (codes "{:basis " ++ decimal basis) ++ codes "}\n" = simp (e2, e1, e0) in (
+      braces (field_text (codes "basis") (decimal basis) []),
+      one_field (codes "basis") (number basis) (decimal basis) refl,
+      pieces ∙ ap (λ (z : List ℕ). codes "{:basis " ++ z) (number_ended (decimal basis)),
+    )
 
-pub done_line : (basis : ℕ) (l0 l1 l2 : List ℕ) → l0 ≡ codes "{:ok true :basis " → l1 ≡ l0 ++ decimal basis → l2 ≡ l1 ++ codes "}\n" → IsLineOf (done_reply basis) l2
+pub done_line : (basis : ℕ) (l0 l1 l2 : List ℕ) → l0 ≡ codes "{:ok true :basis " → l1 ≡ l0 ++ decimal basis → l2 ≡ l1 ++ codes "}\n"
+    → IsLineOf (done_reply basis) l2
 done_line basis l0 l1 l2 e0 e1 e2 =
     let pieces : l2 ≡ (codes "{:ok true :basis " ++ decimal basis) ++ codes "}\n" = simp (e2, e1, e0) in (
       braces (field_text (codes "ok") (codes "true") (32 ∷ field_text (codes "basis") (decimal basis) [])),
@@ -80,34 +103,60 @@ done_line basis l0 l1 l2 e0 e1 e2 =
       pieces ∙ ap (λ (z : List ℕ). codes "{:ok true :basis " ++ z) (number_ended (decimal basis)),
     )
 
-pub datoms_line : (basis : ℕ) (facts ds : List Datom) (l0 l1 l2 l3 l4 : List ℕ) → l0 ≡ codes "{:basis " → l1 ≡ l0 ++ decimal basis → l2 ≡ l1 ++ codes " :datoms [" → Appends (CanonAll (forms (map (datom_form facts) ds))) l2 l3 → l4 ≡ l3 ++ codes "]}\n" → IsLineOf (datoms_reply basis facts ds) l4
+pub datoms_line : (basis : ℕ) (facts ds : List Datom) (l0 l1 l2 l3 l4 : List ℕ) → l0 ≡ codes "{:basis " → l1 ≡ l0 ++ decimal basis
+    → l2 ≡ l1 ++ codes " :datoms [" → Appends (CanonAll (forms (map (datom_form facts) ds))) l2 l3 → l4 ≡ l3 ++ codes "]}\n"
+    → IsLineOf (datoms_reply basis facts ds) l4
 datoms_line basis facts ds l0 l1 l2 l3 l4 e0 e1 e2 a e4 =
-    let inside = vector_text (map (datom_form facts) ds) a.text a.is in
-    (numbered (codes "basis") basis (codes "datoms") (in_brackets a.text), numbered_text (codes "basis") (codes "datoms") basis (vector (map (datom_form facts) ds)) (in_brackets a.text) inside, simp (e4, a.behind, e2, e1, e0, append_assoc, append-nil))
+    let inside = vector_text (map (datom_form facts) ds) a.text a.is in (
+      numbered (codes "basis") basis (codes "datoms") (in_brackets a.text),
+      numbered_text (codes "basis") (codes "datoms") basis (vector (map (datom_form facts) ds)) (in_brackets a.text) inside,
+      simp (e4, a.behind, e2, e1, e0, append_assoc, append-nil),
+    )
 
-pub transactions_line : (basis : ℕ) (facts : List Datom) (entries : List Entry) (l0 l1 l2 l3 l4 : List ℕ) → l0 ≡ codes "{:basis " → l1 ≡ l0 ++ decimal basis → l2 ≡ l1 ++ codes " :txs [" → Appends (CanonAll (forms (map (transaction_form facts) entries))) l2 l3 → l4 ≡ l3 ++ codes "]}\n" → IsLineOf (transactions_reply basis facts entries) l4
+pub transactions_line : (basis : ℕ) (facts : List Datom) (entries : List Entry) (l0 l1 l2 l3 l4 : List ℕ) → l0 ≡ codes "{:basis "
+    → l1 ≡ l0 ++ decimal basis → l2 ≡ l1 ++ codes " :txs [" → Appends (CanonAll (forms (map (transaction_form facts) entries))) l2 l3
+    → l4 ≡ l3 ++ codes "]}\n" → IsLineOf (transactions_reply basis facts entries) l4
 transactions_line basis facts entries l0 l1 l2 l3 l4 e0 e1 e2 a e4 =
-    let inside = vector_text (map (transaction_form facts) entries) a.text a.is in
-    (numbered (codes "basis") basis (codes "txs") (in_brackets a.text), numbered_text (codes "basis") (codes "txs") basis (vector (map (transaction_form facts) entries)) (in_brackets a.text) inside, simp (e4, a.behind, e2, e1, e0, append_assoc, append-nil))
+    let inside = vector_text (map (transaction_form facts) entries) a.text a.is in (
+      numbered (codes "basis") basis (codes "txs") (in_brackets a.text),
+      numbered_text (codes "basis") (codes "txs") basis (vector (map (transaction_form facts) entries)) (in_brackets a.text) inside,
+      simp (e4, a.behind, e2, e1, e0, append_assoc, append-nil),
+    )
 
-pub pull_line : (basis : ℕ) (tree : Form) (l0 l1 l2 l3 l4 : List ℕ) → l0 ≡ codes "{:basis " → l1 ≡ l0 ++ decimal basis → l2 ≡ l1 ++ codes " :pull "
+pub pull_line : (basis : ℕ) (tree : Form) (l0 l1 l2 l3 l4 : List ℕ) → l0 ≡ codes "{:basis " → l1 ≡ l0 ++ decimal basis
+    → l2 ≡ l1 ++ codes " :pull "
     → Appends (Canon (printable tree)) l2 l3 → l4 ≡ l3 ++ codes "}\n" → IsLineOf (pull_reply basis tree) l4
-pull_line basis tree l0 l1 l2 l3 l4 e0 e1 e2 a e4 =
-    (numbered (codes "basis") basis (codes "pull") a.text, numbered_text (codes "basis") (codes "pull") basis (printable tree) a.text a.is, simp (e4, a.behind, e2, e1, e0, append_assoc, append-nil))
+pull_line basis tree l0 l1 l2 l3 l4 e0 e1 e2 a e4 = (
+  numbered (codes "basis") basis (codes "pull") a.text,
+  numbered_text (codes "basis") (codes "pull") basis (printable tree) a.text a.is,
+  simp (e4, a.behind, e2, e1, e0, append_assoc, append-nil),
+)
 
 -- of a keyword and two numbers
 abbrev placed : List ℕ → List ℕ → ℕ → ℕ → List ℕ
-placed k word at basis = braces (field_text k (58 ∷ word) (32 ∷ field_text (codes "at") (decimal at) (32 ∷ field_text (codes "basis") (decimal basis) [])))
+placed k word at basis =
+    braces (field_text k (58 ∷ word) (32 ∷ field_text (codes "at") (decimal at) (32 ∷ field_text (codes "basis") (decimal basis) [])))
 
-placed_text : (k word : List ℕ) (at basis : ℕ) → Canon (map_of ((k, edn.keyword word) ∷ (codes "at", number at) ∷ (codes "basis", number basis) ∷ [])) (placed k word at basis)
-placed_text k word at basis = three_fields k (codes "at") (codes "basis") (edn.keyword word) (number at) (number basis) (58 ∷ word) (decimal at) (decimal basis) refl refl refl
+placed_text : (k word : List ℕ) (at basis : ℕ)
+    → Canon (map_of ((k, edn.keyword word) ∷ (codes "at", number at) ∷ (codes "basis", number basis) ∷ [])) (placed k word at basis)
+placed_text k word at basis =
+    three_fields k (codes "at") (codes "basis") (edn.keyword word) (number at) (number basis) (58 ∷ word) (decimal at)
+    (decimal basis) refl refl refl
 
-pub refusal_line : (word : List ℕ) (at basis : ℕ) (l0 l1 l2 : List ℕ) → l0 ≡ codes "{:refused :" → l1 ≡ l0 ++ word → l2 ≡ l1 ++ place_text at basis → IsLineOf (refusal_reply word at basis) l2
+pub refusal_line : (word : List ℕ) (at basis : ℕ) (l0 l1 l2 : List ℕ) → l0 ≡ codes "{:refused :" → l1 ≡ l0 ++ word
+    → l2 ≡ l1 ++ place_text at basis → IsLineOf (refusal_reply word at basis) l2
 refusal_line word at basis l0 l1 l2 e0 e1 e2 =
-    let pieces : l2 ≡ (codes "{:refused :" ++ word) ++ place_text at basis = simp (e2, e1, e0) in
-    (placed (codes "refused") word at basis, placed_text (codes "refused") word at basis, pieces ∙ ap (λ (z : List ℕ). codes "{:refused :" ++ z) (place_ended word (decimal at) (decimal basis)))
+    let pieces : l2 ≡ (codes "{:refused :" ++ word) ++ place_text at basis = simp (e2, e1, e0) in (
+      placed (codes "refused") word at basis,
+      placed_text (codes "refused") word at basis,
+      pieces ∙ ap (λ (z : List ℕ). codes "{:refused :" ++ z) (place_ended word (decimal at) (decimal basis)),
+    )
 
-pub fault_line : (word : List ℕ) (at basis : ℕ) (l0 l1 l2 : List ℕ) → l0 ≡ codes "{:fault :" → l1 ≡ l0 ++ word → l2 ≡ l1 ++ place_text at basis → IsLineOf (fault_reply word at basis) l2
+pub fault_line : (word : List ℕ) (at basis : ℕ) (l0 l1 l2 : List ℕ) → l0 ≡ codes "{:fault :" → l1 ≡ l0 ++ word
+    → l2 ≡ l1 ++ place_text at basis → IsLineOf (fault_reply word at basis) l2
 fault_line word at basis l0 l1 l2 e0 e1 e2 =
-    let pieces : l2 ≡ (codes "{:fault :" ++ word) ++ place_text at basis = simp (e2, e1, e0) in
-    (placed (codes "fault") word at basis, placed_text (codes "fault") word at basis, pieces ∙ ap (λ (z : List ℕ). codes "{:fault :" ++ z) (place_ended word (decimal at) (decimal basis)))
+    let pieces : l2 ≡ (codes "{:fault :" ++ word) ++ place_text at basis = simp (e2, e1, e0) in (
+      placed (codes "fault") word at basis,
+      placed_text (codes "fault") word at basis,
+      pieces ∙ ap (λ (z : List ℕ). codes "{:fault :" ++ z) (place_ended word (decimal at) (decimal basis)),
+    )

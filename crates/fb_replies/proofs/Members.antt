@@ -12,7 +12,10 @@ use Rattle.fb_numbers.specs.Numbers.{transaction_of}
 use Rattle.talk_model.specs.Replies.{entity, attribute, datom_form, datom_forms, transaction_form}
 use Rattle.fb_replies.proofs.Lines.{in_brackets, vector_text, numbered, numbered_text}
 
-pub datom_behind : (facts : List Datom) (d : Datom) (l0 l1 l2 l3 l4 l5 l6 l7 l8 l9 : List ℕ) → l1 ≡ l0 ++ codes "[" → Appends (Canon (entity d.e)) l1 l2 → l3 ≡ l2 ++ codes " " → Appends (Canon (attribute facts d.a)) l3 l4 → l5 ≡ l4 ++ codes " " → Appends (Canon (form_of_value d.v)) l5 l6 → l7 ≡ l6 ++ codes " " → Appends (Canon (entity (transaction_of d.t))) l7 l8 → l9 ≡ l8 ++ 32 ∷ ((if d.added then codes "true" else codes "false") ++ 93 ∷ []) → Appends (Canon (datom_form facts d)) l0 l9
+pub datom_behind : (facts : List Datom) (d : Datom) (l0 l1 l2 l3 l4 l5 l6 l7 l8 l9 : List ℕ) → l1 ≡ l0 ++ codes "["
+    → Appends (Canon (entity d.e)) l1 l2 → l3 ≡ l2 ++ codes " " → Appends (Canon (attribute facts d.a)) l3 l4 → l5 ≡ l4 ++ codes " "
+    → Appends (Canon (form_of_value d.v)) l5 l6 → l7 ≡ l6 ++ codes " " → Appends (Canon (entity (transaction_of d.t))) l7 l8
+    → l9 ≡ l8 ++ 32 ∷ ((if d.added then codes "true" else codes "false") ++ 93 ∷ []) → Appends (Canon (datom_form facts d)) l0 l9
 datom_behind facts d l0 l1 l2 l3 l4 l5 l6 l7 l8 l9 e1 e e3 a e5 v e7 t e9 =
     let added : List ℕ = if d.added then codes "true" else codes "false" in
     let last : List ℕ = 32 ∷ (added ++ []) in
@@ -22,16 +25,34 @@ datom_behind facts d l0 l1 l2 l3 l4 l5 l6 l7 l8 l9 e1 e e3 a e5 v e7 t e9 =
     let l4_is : l4 ≡ (((l0 ++ codes "[") ++ e.text) ++ codes " ") ++ a.text = simp (a.behind, e3, e.behind, e1) in
     let l6_is : l6 ≡ (l4 ++ codes " ") ++ v.text = simp (v.behind, e5) in
     let l8_is : l8 ≡ (l6 ++ codes " ") ++ t.text = simp (t.behind, e7) in
-    let grouped : (b : List ℕ) → ((((((((l0 ++ codes "[") ++ e.text) ++ codes " ") ++ a.text) ++ codes " ") ++ v.text) ++ codes " ") ++ t.text) ++ 32 ∷ (b ++ 93 ∷ []) ≡ l0 ++ 91 ∷ ((e.text ++ 32 ∷ (a.text ++ 32 ∷ (v.text ++ 32 ∷ (t.text ++ 32 ∷ (b ++ []))))) ++ 93 ∷ []) = λ b. simp (append_assoc, append-nil) in
-    let whole : l9 ≡ ((((((((l0 ++ codes "[") ++ e.text) ++ codes " ") ++ a.text) ++ codes " ") ++ v.text) ++ codes " ") ++ t.text) ++ 32 ∷ (added ++ 93 ∷ []) =
-    e9 ∙ ap (λ (z : List ℕ). z ++ 32 ∷ (added ++ 93 ∷ [])) (l8_is ∙ ap (λ (z : List ℕ). (z ++ codes " ") ++ t.text) (l6_is ∙ ap (λ (z : List ℕ). (z ++ codes " ") ++ v.text) l4_is)) in
+    let grouped : (b : List ℕ)
+    → ((((((((l0 ++ codes "[") ++ e.text) ++ codes " ") ++ a.text) ++ codes " ") ++ v.text) ++ codes " ") ++ t.text) ++ 32 ∷ (b ++ 93 ∷ [])
+    ≡ l0 ++ 91 ∷ ((e.text ++ 32 ∷ (a.text ++ 32 ∷ (v.text ++ 32 ∷ (t.text ++ 32 ∷ (b ++ []))))) ++ 93 ∷ []) =
+    λ b. simp (append_assoc, append-nil) in
+    let whole : l9 ≡ ((((((((l0 ++ codes "[") ++ e.text) ++ codes " ") ++ a.text) ++ codes " ") ++ v.text) ++ codes " ") ++ t.text) ++ 32
+    ∷ (added ++ 93 ∷ []) =
+    e9
+    ∙ ap (λ (z : List ℕ). z ++ 32 ∷ (added ++ 93 ∷ []))
+    (l8_is ∙ ap (λ (z : List ℕ). (z ++ codes " ") ++ t.text) (l6_is ∙ ap (λ (z : List ℕ). (z ++ codes " ") ++ v.text) l4_is)) in
     record {
       text = 91 ∷ ((e.text ++ at_a) ++ 93 ∷ []);
-      is = (e.text ++ at_a, (e.text, at_a, e.is, (a.text, at_v, a.is, (v.text, at_t, v.is, (t.text, last, t.is, (added, [], refl, refl, refl), refl), refl), refl), refl), refl);
+      is = (
+        e.text ++ at_a,
+        (
+          e.text,
+          at_a,
+          e.is,
+          (a.text, at_v, a.is, (v.text, at_t, v.is, (t.text, last, t.is, (added, [], refl, refl, refl), refl), refl), refl),
+          refl,
+        ),
+        refl,
+      );
       behind = whole ∙ grouped added;
     }
 
-pub transaction_behind : (facts : List Datom) (entry : Entry) (l0 l1 l2 l3 l4 l5 : List ℕ) → l1 ≡ l0 ++ codes "{:t " → l2 ≡ l1 ++ decimal entry.t → l3 ≡ l2 ++ codes " :data [" → Appends (CanonAll (forms (map (datom_form facts) entry.datoms))) l3 l4 → l5 ≡ l4 ++ codes "]}" → Appends (Canon (transaction_form facts entry)) l0 l5
+pub transaction_behind : (facts : List Datom) (entry : Entry) (l0 l1 l2 l3 l4 l5 : List ℕ) → l1 ≡ l0 ++ codes "{:t "
+    → l2 ≡ l1 ++ decimal entry.t → l3 ≡ l2 ++ codes " :data [" → Appends (CanonAll (forms (map (datom_form facts) entry.datoms))) l3 l4
+    → l5 ≡ l4 ++ codes "]}" → Appends (Canon (transaction_form facts entry)) l0 l5
 transaction_behind facts entry l0 l1 l2 l3 l4 l5 e1 e2 e3 a e5 =
     let inside = vector_text (map (datom_form facts) entry.datoms) a.text a.is in
     record {

@@ -20,7 +20,7 @@ use Rattle.fb_values.specs.declared.facts.Value.TheVariants.{Keyword, Str, Bool 
 use Rattle.fb_model.specs.Schema as model
 use Rattle.fb_model.specs.Schema.{attribute_of}
 use Rattle.fb_schema.specs.declared.attribute.Attribute.{Attribute}
-use Rattle.fb_schema.specs.Parts.{attribute_in}
+use Rattle.fb_schema.specs.Parts.{model_attribute}
 use Rattle.talk_model.specs.Replies.{entity, attribute}
 use Rattle.fb_replies.specs.Texts.{has_text}
 
@@ -37,7 +37,8 @@ printable_value (Symbol text) h = refl
 printable_value (Uri text) h = refl
 
 -- a text as a string
-pub string_behind : (e : Edn) (copy : Text) (text old new : List ℕ) → e ≡ StrForm copy → copy ≡ text → Appends (Canon (printable (form_of e))) old new → new ≡ old ++ string_text text
+pub string_behind : (e : Edn) (copy : Text) (text old new : List ℕ) → e ≡ StrForm copy → copy ≡ text
+    → Appends (Canon (printable (form_of e))) old new → new ≡ old ++ string_text text
 string_behind e copy text old new is same a =
     let seen : form_of e ≡ edn.string text = ap form_of is ∙ form_of-Str copy ∙ ap edn.string same in
     let b : Appends (Canon (edn.string text)) old new = subst (λ (f : Form). Appends (Canon (printable f)) old new) seen a in
@@ -46,9 +47,13 @@ string_behind e copy text old new is same a =
 abbrev attribute_from : Option model.Attribute → ℕ → Form
 attribute_from known a = option_map_or (λ known. edn.keyword known.name) known (entity a)
 
-pub known_attribute : (facts : List Datom) (a : ℕ) (known : Attribute) (word old new : List ℕ) → Some (attribute_in known) ≡ attribute_of facts a → word ≡ known.ident → new ≡ old ++ colon ∷ word → Appends (Canon (attribute facts a)) old new
+pub known_attribute : (facts : List Datom) (a : ℕ) (known : Attribute) (word old new : List ℕ)
+    → Some (model_attribute known) ≡ attribute_of facts a → word ≡ known.ident → new ≡ old ++ colon ∷ word
+    → Appends (Canon (attribute facts a)) old new
 known_attribute facts a known word old new is same e =
-    subst (λ (o : Option model.Attribute). Appends (Canon (attribute_from o a)) old new) is (record { text = colon ∷ known.ident; is = refl; behind = e ∙ ap (λ (z : List ℕ). old ++ colon ∷ z) same })
+    subst (λ (o : Option model.Attribute). Appends (Canon (attribute_from o a)) old new) is
+    (record { text = colon ∷ known.ident; is = refl; behind = e ∙ ap (λ (z : List ℕ). old ++ colon ∷ z) same })
 
-pub unknown_attribute : (facts : List Datom) (a : ℕ) (old new : List ℕ) → None ≡ attribute_of facts a → Appends (Canon (entity a)) old new → Appends (Canon (attribute facts a)) old new
+pub unknown_attribute : (facts : List Datom) (a : ℕ) (old new : List ℕ) → None ≡ attribute_of facts a → Appends (Canon (entity a)) old new
+    → Appends (Canon (attribute facts a)) old new
 unknown_attribute facts a old new is number = subst (λ (o : Option model.Attribute). Appends (Canon (attribute_from o a)) old new) is number

@@ -9,7 +9,7 @@ abbrev pub word_of : LogFault → List ℕ
 word_of Failed = codes "log"
 word_of Stopped = codes "log-stopped"
 
--- behind the first field
+-- after the first field
 abbrev pub place_text : ℕ → ℕ → List ℕ
 place_text at basis =
     codes " :at " ++ (decimal at ++ (codes " :basis " ++ (decimal basis ++ codes "}\n")))

@@ -1,4 +1,5 @@
--- Which values have a text: an instant has one where it lies in the range of instants, and every other value has one.
+-- Which values have a text: an instant has one where it lies in the range of instants,
+-- and every other value has one.
 -- EDN, edn-format, "Built-in tagged elements".
 use Rattle.std.specs.Prelude.{Bool, true, List}
 use Rattle.std.specs.List.{list_all}

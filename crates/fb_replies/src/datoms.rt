@@ -1,5 +1,5 @@
-//! The members of a reply's vectors: datoms, and transactions with their datoms. No form is made of them, and none takes memory
-//! but for the line itself.
+//! The members of a reply's vectors: datoms, and transactions with their datoms. No form is made of them, so they take little
+//! memory but for the line itself.
 ghost use Rattle.std.specs.Prelude.{◌≡◌, ◌∷◌, ◌++◌, [], IsTrue, OnOk, if◌then◌else◌, codes, map};
 ghost use Rattle.edn_model.specs.Form.{forms};
 ghost use Rattle.edn_model.specs.Canon.{Canon, CanonAll};
@@ -44,11 +44,22 @@ fn append_transaction(line: &mut Vec<u8>, schema: &Schema, entry: &Entry) -> Res
     append(line, b"{:t ")?;
     append_count(line, u64::from(entry.t))?;
     append(line, b" :data [")?;
-    append_datoms(line, schema, entry.datoms.as_slice())?;
+    append_owned(line, schema, entry.datoms.as_slice())?;
     append(line, b"]}")
 }
 
-/// Each datom of a scan as a vector.
+/// Each datom that an entry has as a vector. They are lent first, so that there is one loop, which has the code of a datom in
+/// its body.
+fn append_owned(line: &mut Vec<u8>, schema: &Schema, datoms: &[Datom]) -> Result<(), Memory>
+    requires { IsTrue (have_texts datoms.now) }
+    ensures { OnOk result (Appends (CanonAll (forms (map (datom_form schema.now) datoms.now)))
+        line.old.items line.new.items) }
+{
+    let lent: Vec<&Datom> = datoms.iter().collect(*line.allocator())?;
+    append_lent(line, schema, &lent)
+}
+
+/// Each datom as a vector.
 pub(crate) fn append_lent(
     line: &mut Vec<u8>,
     schema: &Schema,
@@ -57,19 +68,6 @@ pub(crate) fn append_lent(
     requires { IsTrue (have_texts (map (λ d. d.now) datoms.now)) }
     ensures { OnOk result (Appends
         (CanonAll (forms (map (datom_form schema.now) (map (λ d. d.now) datoms.now))))
-        line.old.items line.new.items) }
-{
-    for (index, d) in datoms.iter().enumerate() {
-        separate(line, index)?;
-        append_datom(line, schema, d)?;
-    }
-    Ok(())
-}
-
-/// Each datom as a vector.
-fn append_datoms(line: &mut Vec<u8>, schema: &Schema, datoms: &[Datom]) -> Result<(), Memory>
-    requires { IsTrue (have_texts datoms.now) }
-    ensures { OnOk result (Appends (CanonAll (forms (map (datom_form schema.now) datoms.now)))
         line.old.items line.new.items) }
 {
     for (index, d) in datoms.iter().enumerate() {

@@ -15,7 +15,7 @@ use fb_schema::Schema;
 use fb_text::Text;
 use fb_values::{Datom, Entry};
 
-/// What a transaction is told that the log kept from being recorded.
+/// The reply to a transaction that the log did not take.
 #[derive(Clone, Copy)]
 pub enum LogFault {
     /// The log did not take this transaction.
@@ -36,7 +36,7 @@ impl LogFault {
     }
 }
 
-/// `{:t 1 :tempids {"x" 17592186044417}}`: the transaction was recorded as t, and its tempids stand for these entities.
+/// `{:t 1 :tempids {"x" 17592186044417}}`: the transaction was recorded as t, and its tempids are these entities.
 pub fn write_receipt(line: &mut Vec<u8>, t: u32, tempids: &[(Text, u64)]) -> Result<(), Memory>
     ensures { OnOk result (IsLineOf (receipt t tempids.now) line.new.items) }
 {
@@ -131,7 +131,7 @@ pub fn write_fault(line: &mut Vec<u8>, fault: LogFault, at: u32, basis: u32) -> 
     append_place(line, u64::from(at), basis)
 }
 
-/// Where something stands, and on which basis: the end of a line.
+/// Where something is, and on which basis: the end of a line.
 fn append_place(line: &mut Vec<u8>, at: u64, basis: u32) -> Result<(), Memory>
     ensures { OnOk result (line.new.items ≡ line.old.items ++ place_text at basis) }
 {

@@ -30,7 +30,7 @@ pub(crate) fn append(line: &mut Vec<u8>, bytes: &[u8]) -> Result<(), Memory>
     Ok(())
 }
 
-/// A space stands before each member but the first.
+/// A space comes before each member but the first.
 #[inline]
 pub(crate) fn separate(line: &mut Vec<u8>, index: usize) -> Result<(), Memory>
     ensures { OnOk result (line.new.items ≡ line.old.items ++ space_before index) }
@@ -62,7 +62,7 @@ pub(crate) fn append_entity(line: &mut Vec<u8>, e: u64) -> Result<(), Memory>
     append_long(line, number_of_entity(e))
 }
 
-/// The greatest integer stands for every number past it, which no entity has.
+/// Every number past the greatest integer is printed as that integer; no entity has it.
 fn number_of_entity(e: u64) -> i64
     ensures { result ≡ model_number_of_entity e }
 {
@@ -84,7 +84,7 @@ fn append_string(line: &mut Vec<u8>, text: &Text) -> Result<(), Memory>
     print(&form, line)
 }
 
-/// The tempids, each with its entity behind it.
+/// The tempids, each with its entity after it.
 pub(crate) fn append_tempids(line: &mut Vec<u8>, tempids: &[(Text, u64)]) -> Result<(), Memory>
     ensures { OnOk result (Appends (CanonPairs (pairs (map tempid_pair tempids.now)))
         line.old.items line.new.items) }

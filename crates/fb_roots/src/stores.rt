@@ -1,6 +1,6 @@
 //! The store of trees as the worker sees it, and that of a database whose trees are had in memory alone.
 ghost use Rattle.std.specs.Prelude.{◌≡◌, ◌≤◌, ℕ, List, OnOk, IsErrOf};
-ghost use Rattle.fb_calls.specs.Faults.{Rose};
+ghost use Rattle.io_faults.specs.Faults.{Rose};
 ghost use Rattle.fb_values.specs.declared.facts.Entry.{Entry};
 ghost use Rattle.fb_model.specs.Lawful.{IsLawful};
 ghost use Rattle.seg_tree.specs.declared.roots.Roots.{Roots};

@@ -1,12 +1,14 @@
 -- What a run says, why, and what its scripts' names have to do with what was opened for them.
-use Rattle.std.proofs.Common.{◌≡◌, ◌⊎◌, inl, inr, ℕ, Bool, true, false, List, [], ◌∷◌, map, length, Option, Some, None, zero, suc, refl, sym, ap, ◌∙◌, subst, arith}
+use Rattle.std.proofs.Common.{◌≡◌, ◌⊎◌, inl, inr, ℕ, Bool, true, false, List, [], ◌∷◌, map, length, Option, Some, None, zero, suc, refl}
+use Rattle.std.proofs.Common.{sym, ap, ◌∙◌, subst, arith}
 use Rattle.std.specs.Option.{option_map}
 use Rattle.std.specs.Borrow.{Bor}
 use Rattle.command_line.specs.Views.{names_in}
-use Rattle.std.specs.Prelude.{◌==◌, ◌-◌, ◌<◌, ◌≤◌, get_or, take, drop, ◌&&◌, nat_lt, nat_le, IfOk, OnErr, Result, Ok, Err, IsSome, IfSome, string_bytes}
+use Rattle.std.specs.Prelude.{◌==◌, ◌-◌, ◌<◌, ◌≤◌, get_or, take, drop, ◌&&◌, nat_lt, nat_le, IfOk, OnErr, Result, Ok, Err, IsSome, IfSome}
+use Rattle.std.specs.Prelude.{string_bytes}
 use Rattle.std.proofs.lemmas.Bool.{ltb-true, leb-true}
 use Rattle.fb_ports.specs.Faults.{Rose}
-use Rattle.fb_ports.specs.Told.{Told}
+use Rattle.fb_ports.specs.HostSpec.{HostSpec}
 use Rattle.fb_values.specs.declared.facts.Entry.{Entry}
 use Rattle.command_line.specs.Words.{Command, check, scripts_of, are_scripts, are_apart, standard}
 use Rattle.fb_session.specs.declared.outcome.SessionEnd.{SessionEnd}
@@ -15,7 +17,7 @@ use Rattle.fb_session.specs.Sessions.{Terms}
 use Rattle.fb_session.specs.Replies.{SessionRun, Replies, SourceCount, SinkCount}
 use Rattle.fb_run.specs.declared.outcome.SessionOut.{SessionOut}
 use Rattle.fb_run.specs.declared.outcome.Outcome.{Outcome}
-use Rattle.disk_model.specs.Disk.{WhereTold}
+use Rattle.disk_model.specs.Disk.{IfKnown}
 use Rattle.disk_log.specs.Logs.{disk_in}
 use Rattle.fb_core.specs.declared.accepting.Draft.{Draft}
 use Rattle.fb_recover.specs.Faults.{IsCause, CountsOpening, IsOfLog}
@@ -34,16 +36,19 @@ use Rattle.fb_run.specs.declared.database.Obstacle.TheVariants as obstacle
 use Rattle.fb_run.specs.declared.database.Unready.{Unready}
 use Rattle.fb_run.specs.declared.opening.Unopened.TheVariants as unopened
 use Rattle.fb_run.specs.declared.looking.Look.{Look}
-use Rattle.fb_run.specs.Outside.{Tells, DiskTells, IsDiskOf, run_from, run_of, setting_of, EachOf}
-use Rattle.fb_view.specs.Kept.{Kept}
+use Rattle.fb_run.specs.Outside.{StreamSpec, DiskSpec, IsDiskOf, run_from, run_of, setting_of, EachOf}
+use Rattle.fb_view.specs.SnapshotModel.{SnapshotModel}
 use Rattle.fb_run.specs.Logs.{IsUnharmed, LogHolds}
 use Rattle.fb_run.specs.Database.{why_unready, LeaveLogUnharmed, LeavesBehind, IsObstacle, IsUnready}
-use Rattle.fb_run.specs.Looking.{IsLook, HasTold}
+use Rattle.fb_run.specs.Looking.{IsLook, HasPrinted}
 use Rattle.fb_run.specs.Opening.{IsOpenedFor}
 use Rattle.fb_run.specs.Headline.{EachReplies, stop_of}
 use Rattle.fb_run.specs.Generated.{loads_of}
-use Rattle.fb_run.specs.StatusLines.{reported, usage, ended_early, console_failed, memory, usage_line, out_of_memory, status_of_end, line_of_end, first_early, why_of, why_not}
-use Rattle.fb_run.specs.Causes.{HasDisks, NoSession, HasNoDisk, OutOfMemory, IsOutOfMemory, SaysWhy, Counts, IsRun, HaveRun, directory_of, names_of, HandsBack, IsNotOpened, IsUntouched, IsUnfailed, TookWhole, TookPart, HasLooked, CauseOf, HasConsole, Causes}
+use Rattle.fb_run.specs.StatusLines.{reported, usage, ended_early, console_failed, memory, usage_line, out_of_memory, status_of_end}
+use Rattle.fb_run.specs.StatusLines.{line_of_end, first_early, why_of, why_not}
+use Rattle.fb_run.specs.Causes.{HasDisks, NoSession, HasNoDisk, OutOfMemory, IsOutOfMemory, SaysWhy, Counts, IsRun, HaveRun, directory_of}
+use Rattle.fb_run.specs.Causes.{names_of, HandsBack, IsNotOpened, IsUntouched, IsUnfailed, TookWhole, TookPart, HasLooked, CauseOf}
+use Rattle.fb_run.specs.Causes.{HasConsole, Causes}
 use Rattle.fb_run.specs.Running.{RepliesBy, CountsBy, HaveEnded}
 use Rattle.fb_run.proofs.Lists.{each_through, cut_first, names_cut}
 
@@ -129,10 +134,10 @@ module _ {S : Type 0} (end_of : S → SessionEnd) (scripts : List (Bor (List ℕ
       d).now others (end_of s) ends not)) said
 
 -- what is said of the same is the same
-pub says_same : (names others : List (List ℕ)) (ends those : List SessionEnd) (stop told : Option ℕ) (end : WorkEnd) (status n : ℕ)
-    (line text : List ℕ) → names ≡ others → ends ≡ those → stop ≡ told → n ≡ status → text ≡ line
-    → SaysWhy (why_of (first_early names ends) stop end) status line → SaysWhy (why_of (first_early others those) told end) n text
-says_same names others ends those stop told end status n line text by_names by_ends by_stop by_status by_line says =
+pub says_same : (names others : List (List ℕ)) (ends those : List SessionEnd) (stop spec : Option ℕ) (end : WorkEnd) (status n : ℕ)
+    (line text : List ℕ) → names ≡ others → ends ≡ those → stop ≡ spec → n ≡ status → text ≡ line
+    → SaysWhy (why_of (first_early names ends) stop end) status line → SaysWhy (why_of (first_early others those) spec end) n text
+says_same names others ends those stop spec end status n line text by_names by_ends by_stop by_status by_line says =
     rw (← by_names, ← by_ends, ← by_stop, by_status, by_line) says
 
 -- ---- success
@@ -178,7 +183,8 @@ not_success (name ∷ names) (ended.Memory ∷ ends) stop end status line fails 
 pub success_is_merged : (end : WorkEnd) (names : List (List ℕ)) (ends : List SessionEnd) (stop : Option ℕ) (status : ℕ)
     (line : List ℕ) → SaysWhy (why_of (first_early names ends) stop end) status line → status ≡ 0 → (end ≡ Shut) ⊎ (end ≡ Spent)
 success_is_merged Shut names hows stop status line says none = inl refl
-success_is_merged StoreFault names hows stop status line says none = absurd (not_success names hows stop StoreFault status line tt says none)
+success_is_merged StoreFault names hows stop status line says none =
+    absurd (not_success names hows stop StoreFault status line tt says none)
 success_is_merged Spent names hows stop status line says none = inr refl
 success_is_merged NoMemory names hows stop status line says none = absurd (not_success names hows stop NoMemory status line tt says none)
 
@@ -205,69 +211,69 @@ few_scripts names are =
 
 -- ---- from what was opened to what the host told
 
-module _ {I O : Type 0} (terms : Terms) (told : Told) (tells : Tells I O) where
-  reply_of : (h : List Entry) (stop : Option ℕ) (opening teller m : ℕ) (name : List ℕ) (old new : SessionOut I O) → IsOpenedFor told tells
+module _ {I O : Type 0} (terms : Terms) (spec : HostSpec) (io : StreamSpec I O) where
+  reply_of : (h : List Entry) (stop : Option ℕ) (opening teller m : ℕ) (name : List ℕ) (old new : SessionOut I O) → IsOpenedFor spec io
       name old
-      → Replies (setting_of terms h stop (teller == m)) opening (run_from tells old.source old.sink new)
-      → Replies (setting_of terms h stop (teller == m)) opening (run_of told tells name new)
+      → Replies (setting_of terms h stop (teller == m)) opening (run_from io old.source old.sink new)
+      → Replies (setting_of terms h stop (teller == m)) opening (run_of spec io name new)
   reply_of h stop opening teller m name old new opened reply =
       let P : Option (List ℕ) → Option (List ℕ) → SessionRun = λ held had. record {
         held = held;
-        left = tells.left new.source;
+        left = io.left new.source;
         had = had;
-        has = tells.contents new.sink;
+        has = io.contents new.sink;
         places = new.places;
         commits = new.commits;
         end = new.end;
       } in
       let Q : SessionRun → Type 0 = Replies (setting_of terms h stop (teller == m)) opening in
-      subst (λ (had : Option (List ℕ)). Q (P (told.sources name) had)) opened.sink.contents
-      (subst (λ (held : Option (List ℕ)). Q (P held (tells.contents old.sink))) opened.source.left reply)
+      subst (λ (had : Option (List ℕ)). Q (P (spec.sources name) had)) opened.sink.contents
+      (subst (λ (held : Option (List ℕ)). Q (P held (io.contents old.sink))) opened.source.left reply)
 
   pub replies_told : (h : List Entry) (stop : Option ℕ) (opening : ℕ) (names : List (List ℕ)) (opened sessions : List (SessionOut I O))
-      → EachOf (λ n name (s : SessionOut I O). IsOpenedFor told tells name s) 0 names opened
-      → RepliesBy terms tells opening stop opened sessions h → EachReplies terms told tells opening stop names sessions h
+      → EachOf (λ n name (s : SessionOut I O). IsOpenedFor spec io name s) 0 names opened
+      → RepliesBy terms io opening stop opened sessions h → EachReplies terms spec io opening stop names sessions h
   replies_told h stop opening names opened sessions each replies = (
     replies.0,
-    each_through (λ n name (s : SessionOut I O). IsOpenedFor told tells name s)
-        (λ n (old new : SessionOut I O). Replies (setting_of terms h stop (replies.0 == n)) opening (run_from tells old.source old.sink
+    each_through (λ n name (s : SessionOut I O). IsOpenedFor spec io name s)
+        (λ n (old new : SessionOut I O). Replies (setting_of terms h stop (replies.0 == n)) opening (run_from io old.source old.sink
         new))
-        (λ n name (s : SessionOut I O). Replies (setting_of terms h stop (replies.0 == n)) opening (run_of told tells name s))
+        (λ n name (s : SessionOut I O). Replies (setting_of terms h stop (replies.0 == n)) opening (run_of spec io name s))
         (λ m name old new opened reply. reply_of h stop opening replies.0 m name old new opened reply) 0 names opened sessions each
         replies.1,
   )
 
-module _ {I O : Type 0} (told : Told) (tells : Tells I O) where
-  counts_of : (name : List ℕ) (old new : SessionOut I O) → IsOpenedFor told tells name old → CountsBy tells old new → Counts told tells
+module _ {I O : Type 0} (spec : HostSpec) (io : StreamSpec I O) where
+  counts_of : (name : List ℕ) (old new : SessionOut I O) → IsOpenedFor spec io name old → CountsBy io old new → Counts spec io
       name new
   counts_of name old new opened counts = record {
-    source = subst (λ (n : ℕ). SourceCount new.end n (tells.source_faults new.source)) opened.source.faults counts.source;
-    sink = subst (λ (n : ℕ). SinkCount new.end n (tells.sink_faults new.sink)) opened.sink.faults counts.sink;
+    source = subst (λ (n : ℕ). SourceCount new.end n (io.source_faults new.source)) opened.source.faults counts.source;
+    sink = subst (λ (n : ℕ). SinkCount new.end n (io.sink_faults new.sink)) opened.sink.faults counts.sink;
   }
 
   pub counts_told : (names : List (List ℕ)) (opened sessions : List (SessionOut I O))
-      → EachOf (λ n name (s : SessionOut I O). IsOpenedFor told tells name s) 0 names opened
-      → EachOf (λ n (old new : SessionOut I O). CountsBy tells old new) 0 opened sessions
-      → EachOf (λ n name (s : SessionOut I O). Counts told tells name s) 0 names sessions
+      → EachOf (λ n name (s : SessionOut I O). IsOpenedFor spec io name s) 0 names opened
+      → EachOf (λ n (old new : SessionOut I O). CountsBy io old new) 0 opened sessions
+      → EachOf (λ n name (s : SessionOut I O). Counts spec io name s) 0 names sessions
   counts_told names opened sessions each counts =
-      each_through (λ n name (s : SessionOut I O). IsOpenedFor told tells name s) (λ n (old new : SessionOut I O). CountsBy tells old new)
-      (λ n name (s : SessionOut I O). Counts told tells name s) (λ m name old new opened counts. counts_of name old new opened counts) 0
+      each_through (λ n name (s : SessionOut I O). IsOpenedFor spec io name s) (λ n (old new : SessionOut I O). CountsBy io old new)
+      (λ n name (s : SessionOut I O). Counts spec io name s) (λ m name old new opened counts. counts_of name old new opened counts) 0
       names opened sessions each counts
 
 -- ---- causes
 
 -- the log stopped where a transaction is torn, and then its count rose
-module _ {I O D : Type 0} (told : Told) (disks : DiskTells D) (outcome : Outcome I O D) (dir : List ℕ) where
-  torn_by : (last : Option Kept) (log : Option D) → outcome.log ≡ log
-      → IfSome last (λ l. IfSome log (LogHolds told disks dir l.entries outcome.recovered outcome.torn)) → IsSome last → IsSome log
-      → IsSome outcome.torn → (disk : D) × (outcome.log ≡ Some disk) × Rose (told.disk_faults dir Log) (disks.faults disk)
+module _ {I O D : Type 0} (spec : HostSpec) (disks : DiskSpec D) (outcome : Outcome I O D) (dir : List ℕ) where
+  torn_by : (last : Option SnapshotModel) (log : Option D) → outcome.log ≡ log
+      → IfSome last (λ l. IfSome log (LogHolds spec disks dir l.entries outcome.recovered outcome.torn)) → IsSome last → IsSome log
+      → IsSome outcome.torn → (disk : D) × (outcome.log ≡ Some disk) × Rose (spec.disk_faults dir Log) (disks.faults disk)
   torn_by None log is holds there both torn = absurd (cc)
   torn_by (Some l) None is holds there both torn = absurd (cc)
   torn_by (Some l) (Some disk) is holds there both torn = (disk, is, holds.failed torn)
 
-  pub counts_torn : IfSome outcome.last (λ l. IfSome outcome.log (LogHolds told disks dir l.entries outcome.recovered outcome.torn))
+  pub counts_torn : IfSome outcome.last (λ l. IfSome outcome.log (LogHolds spec disks dir l.entries outcome.recovered outcome.torn))
       → IsSome outcome.last → IsSome outcome.log
-      → IsSome outcome.torn → (disk : D) × (outcome.log ≡ Some disk) × Rose (told.disk_faults dir Log) (disks.faults disk)
+      → IsSome outcome.torn → (disk : D) × (outcome.log ≡ Some disk) × Rose (spec.disk_faults dir Log) (disks.faults disk)
   counts_torn holds there both torn = torn_by outcome.last outcome.log refl holds there both torn
 
 module _ {I O D : Type 0} (outcome : Outcome I O D) (none : outcome.console ≡ None) where
@@ -315,14 +321,14 @@ module _ {I O D : Type 0} (outcome : Outcome I O D) (left : Option (Disks D))
   }
   hands_back (suc place) some = both_left left refl some
 
-module _ {I O D : Type 0} (told : Told) (tells : Tells I O) (disks : DiskTells D) (new : ℕ) (outcome : Outcome I O D) where
+module _ {I O D : Type 0} (spec : HostSpec) (io : StreamSpec I O) (disks : DiskSpec D) (new : ℕ) (outcome : Outcome I O D) where
   cause_why : (command : Command) (early : Option (List ℕ × SessionEnd)) (torn : Option Draft) (end : WorkEnd) → outcome.torn ≡ torn
-      → IfSome outcome.last (λ l. IfSome outcome.log (LogHolds told disks (directory_of (Some command)) l.entries outcome.recovered
+      → IfSome outcome.last (λ l. IfSome outcome.log (LogHolds spec disks (directory_of (Some command)) l.entries outcome.recovered
       outcome.torn))
       → (segments : D) → outcome.segments ≡ Some segments
-      → CountsMerges end (told.disk_faults (directory_of (Some command)) Segments) (disks.faults segments)
-      → HaveRun told tells new (Some command) outcome early → loads_of (Some command) ≡ []
-      → CauseOf told tells disks new (Some command) outcome (why_of early (stop_of torn) end)
+      → CountsMerges end (spec.disk_faults (directory_of (Some command)) Segments) (disks.faults segments)
+      → HaveRun spec io new (Some command) outcome early → loads_of (Some command) ≡ []
+      → CauseOf spec io disks new (Some command) outcome (why_of early (stop_of torn) end)
   cause_why command None None Shut is holds segments there counted ran scripts = (ran, is, (segments, there, counted), scripts)
   cause_why command None None StoreFault is holds segments there counted ran scripts = (ran, is, (segments, there, counted))
   cause_why command None None Spent is holds segments there counted ran scripts = (ran, is, (segments, there, counted), scripts)
@@ -330,37 +336,37 @@ module _ {I O D : Type 0} (told : Told) (tells : Tells I O) (disks : DiskTells D
   cause_why command None (Some draft) end is holds segments there counted ran scripts = (
     ran,
     ap stop_of is,
-    counts_torn told disks outcome (directory_of (Some command)) holds ran.last ran.disks.log (subst IsSome (sym is)
+    counts_torn spec disks outcome (directory_of (Some command)) holds ran.last ran.disks.log (subst IsSome (sym is)
         refl),
   )
   cause_why command (Some p) torn end is holds segments there counted ran scripts = ran
 
   pub caused_by_memory : (command : Command) → NoSession outcome → outcome.console ≡ None → IsOutOfMemory outcome
-      → Causes told tells disks new (Some command) outcome
+      → Causes spec io disks new (Some command) outcome
   caused_by_memory command none no_console refused =
       record { why = memory; says = inr refused; cause = inl (none, refl); console = no_console }
 
   -- whatever the words are
-  pub caused_by_words : (command : Option Command) → new ≡ told.faults → NoSession outcome → HasNoDisk outcome → outcome.console ≡ None
-      → IsOutOfMemory outcome → Causes told tells disks new command outcome
+  pub caused_by_words : (command : Option Command) → new ≡ spec.faults → NoSession outcome → HasNoDisk outcome → outcome.console ≡ None
+      → IsOutOfMemory outcome → Causes spec io disks new command outcome
   caused_by_words None same none no_disk no_console refused =
       record { why = usage; says = inr refused; cause = (none, no_disk, refl, same); console = no_console }
   caused_by_words (Some command) same none no_disk no_console refused = caused_by_memory command none no_console refused
 
-  pub caused_by_usage : (command : Option Command) → None ≡ command → new ≡ told.faults → NoSession outcome → HasNoDisk outcome
+  pub caused_by_usage : (command : Option Command) → None ≡ command → new ≡ spec.faults → NoSession outcome → HasNoDisk outcome
       → outcome.console ≡ None
-      → ((outcome.status ≡ 1) × (string_bytes outcome.line ≡ usage_line)) ⊎ IsOutOfMemory outcome → Causes told tells disks new command
+      → ((outcome.status ≡ 1) × (string_bytes outcome.line ≡ usage_line)) ⊎ IsOutOfMemory outcome → Causes spec io disks new command
       outcome
   caused_by_usage command is same none no_disk no_console said =
       record { why = usage; says = said; cause = (none, no_disk, sym is, same); console = no_console }
 
   by_fault : (command : Command) (fault : OpenFault) (log segments : D) → outcome.log ≡ Some log → outcome.segments ≡ Some segments
-      → IsNotOpened told disks new (Some command) outcome
-      → WhereTold (told.disks (directory_of (Some command)) Log) (IsCause fault)
-      → CountsOpening fault Log (told.disk_faults (directory_of (Some command)) Log) (disks.faults log)
-      → CountsOpening fault Segments (told.disk_faults (directory_of (Some command)) Segments) (disks.faults segments)
-      → (IsOfLog fault → IsUntouched told disks (Some command) outcome)
-      → CauseOf told tells disks new (Some command) outcome (why_not fault)
+      → IsNotOpened spec disks new (Some command) outcome
+      → IfKnown (spec.disks (directory_of (Some command)) Log) (IsCause fault)
+      → CountsOpening fault Log (spec.disk_faults (directory_of (Some command)) Log) (disks.faults log)
+      → CountsOpening fault Segments (spec.disk_faults (directory_of (Some command)) Segments) (disks.faults segments)
+      → (IsOfLog fault → IsUntouched spec disks (Some command) outcome)
+      → CauseOf spec io disks new (Some command) outcome (why_not fault)
   by_fault command (fault.Disk Log) log segments is there not_opened cause counted also untouched =
       (not_opened, untouched tt, (log, is, counted))
   by_fault command (fault.Disk Segments) log segments is there not_opened cause counted also untouched =
@@ -370,21 +376,21 @@ module _ {I O D : Type 0} (told : Told) (tells : Tells I O) (disks : DiskTells D
   by_fault command fault.Memory log segments is there not_opened cause counted also untouched = inl (not_opened.none, refl)
 
   pub caused_by_sessions : {g : _} (command : Command) (opened : List (SessionOut I O)) (merge_at : ℕ) (begun : Trees D g)
-      → EachOf (λ n name (s : SessionOut I O). IsOpenedFor told tells name s) 0 (scripts_of (Some command)) opened
-      → IsRun (Some command) → loads_of (Some command) ≡ [] → outcome.loads.items ≡ [] → new ≡ told.faults → outcome.console ≡ None
-      → disks.faults (segments_in begun.store) ≡ told.disk_faults (directory_of (Some command)) Segments
-      → IfSome outcome.last (λ l. IfSome outcome.log (LogHolds told disks (directory_of (Some command)) l.entries outcome.recovered
+      → EachOf (λ n name (s : SessionOut I O). IsOpenedFor spec io name s) 0 (scripts_of (Some command)) opened
+      → IsRun (Some command) → loads_of (Some command) ≡ [] → outcome.loads.items ≡ [] → new ≡ spec.faults → outcome.console ≡ None
+      → disks.faults (segments_in begun.store) ≡ spec.disk_faults (directory_of (Some command)) Segments
+      → IfSome outcome.last (λ l. IfSome outcome.log (LogHolds spec disks (directory_of (Some command)) l.entries outcome.recovered
       outcome.torn))
       → (NoSession outcome × IsOutOfMemory outcome)
-      ⊎ HaveEnded tells disks merge_at (scripts_of (Some command)) opened begun outcome
-      → Causes told tells disks new (Some command) outcome
+      ⊎ HaveEnded io disks merge_at (scripts_of (Some command)) opened begun outcome
+      → Causes spec io disks new (Some command) outcome
   caused_by_sessions command opened merge_at begun has is_run scripts no_loads same no_console unfailed holds (inl none) =
       caused_by_memory command none.0 no_console none.1
   caused_by_sessions command opened merge_at begun has is_run scripts no_loads same no_console unfailed holds (inr ran) =
       let early = first_early (scripts_of (Some command)) (map (λ (s : SessionOut I O). s.end) outcome.sessions.items) in
-      let each = counts_told told tells (scripts_of (Some command)) opened outcome.sessions.items has ran.each in
+      let each = counts_told spec io (scripts_of (Some command)) opened outcome.sessions.items has ran.each in
       let ends = ran.ends in
-      let counted : CountsMerges ends.end (told.disk_faults (directory_of (Some command)) Segments) (disks.faults ends.segments) =
+      let counted : CountsMerges ends.end (spec.disk_faults (directory_of (Some command)) Segments) (disks.faults ends.segments) =
       subst (λ (n : ℕ). CountsMerges ends.end n (disks.faults ends.segments)) unfailed ends.trees.counts in
       record {
         why = why_of early (stop_of outcome.torn) ends.end;
@@ -404,13 +410,13 @@ module _ {I O D : Type 0} (told : Told) (tells : Tells I O) (disks : DiskTells D
 
 -- ---- a command that can't begin
 
-module _ {I O D : Type 0} (told new : Told) (tells : Tells I O) (disks : DiskTells D) (outcome : Outcome I O D) (command : Command)
+module _ {I O D : Type 0} (spec new : HostSpec) (io : StreamSpec I O) (disks : DiskSpec D) (outcome : Outcome I O D) (command : Command)
     (none : NoSession outcome) (left : Option (Disks D))
     (log_is : outcome.log ≡ option_map (λ (d : Disks D). d.log) left)
     (segments_is : outcome.segments ≡ option_map (λ (d : Disks D). d.segments) left)
-    (unharmed : IfSome left (LeaveLogUnharmed told disks (directory_of (Some command)))) where
-  cause_unready : (why : Obstacle) → IsObstacle told new disks (directory_of (Some command)) (names_of (Some command)) left why
-      → CauseOf told tells disks new.faults (Some command) outcome (why_unready why)
+    (unharmed : IfSome left (LeaveLogUnharmed spec disks (directory_of (Some command)))) where
+  cause_unready : (why : Obstacle) → IsObstacle spec new disks (directory_of (Some command)) (names_of (Some command)) left why
+      → CauseOf spec io disks new.faults (Some command) outcome (why_unready why)
   cause_unready (obstacle.Unopened (unopened.CannotOpen name)) is = record {
     none = none;
     host = is.1;
@@ -423,8 +429,8 @@ module _ {I O D : Type 0} (told new : Told) (tells : Tells I O) (disks : DiskTel
       let both = is.1.both in
       let log = log_left outcome left log_is segments_is both is.1.is in
       let segments = segments_left outcome left log_is segments_is both is.1.is in
-      let its = subst (λ (o : Option (Disks D)). IfSome o (LeaveLogUnharmed told disks (directory_of (Some command)))) is.1.is unharmed in
-      let not_opened : IsNotOpened told disks new.faults (Some command) outcome = record {
+      let its = subst (λ (o : Option (Disks D)). IfSome o (LeaveLogUnharmed spec disks (directory_of (Some command)))) is.1.is unharmed in
+      let not_opened : IsNotOpened spec disks new.faults (Some command) outcome = record {
         is_command = refl;
         none = none;
         host = is.0;
@@ -433,53 +439,53 @@ module _ {I O D : Type 0} (told new : Told) (tells : Tells I O) (disks : DiskTel
         log_is = log;
         unharmed = its;
       } in
-      by_fault told tells disks new.faults outcome command fault both.log both.segments log segments not_opened is.1.cause is.1.counted
+      by_fault spec io disks new.faults outcome command fault both.log both.segments log segments not_opened is.1.cause is.1.counted
       is.1.segments_counted
-      (λ of. subst (λ (o : Option D). IfSome o (IsDiskOf told disks (directory_of (Some command)) Segments)) (sym segments)
+      (λ of. subst (λ (o : Option D). IfSome o (IsDiskOf spec disks (directory_of (Some command)) Segments)) (sym segments)
       (is.1.untouched of))
 
   -- what is handed back of the log is unharmed
-  unharmed_by : (l : Option (Disks D)) → left ≡ l → IfSome l (LeaveLogUnharmed told disks (directory_of (Some command)))
-      → IfSome outcome.log (IsUnharmed told disks (directory_of (Some command)))
+  unharmed_by : (l : Option (Disks D)) → left ≡ l → IfSome l (LeaveLogUnharmed spec disks (directory_of (Some command)))
+      → IfSome outcome.log (IsUnharmed spec disks (directory_of (Some command)))
   unharmed_by None is its =
-      subst (λ (o : Option D). IfSome o (IsUnharmed told disks (directory_of (Some command))))
+      subst (λ (o : Option D). IfSome o (IsUnharmed spec disks (directory_of (Some command))))
       (sym (log_is ∙ ap (option_map (λ (d : Disks D). d.log)) is)) tt
   unharmed_by (Some both) is its =
-      subst (λ (o : Option D). IfSome o (IsUnharmed told disks (directory_of (Some command))))
+      subst (λ (o : Option D). IfSome o (IsUnharmed spec disks (directory_of (Some command))))
       (sym (log_left outcome left log_is segments_is both is)) its
 
-module _ {I O D : Type 0} (told new : Told) (tells : Tells I O) (disks : DiskTells D) (outcome : Outcome I O D) (command : Command)
+module _ {I O D : Type 0} (spec new : HostSpec) (io : StreamSpec I O) (disks : DiskSpec D) (outcome : Outcome I O D) (command : Command)
     (unready : Unready D)
-    (is : IsUnready told new disks (directory_of (Some command)) (names_of (Some command)) unready) (none : NoSession outcome)
+    (is : IsUnready spec new disks (directory_of (Some command)) (names_of (Some command)) unready) (none : NoSession outcome)
     (log_is : outcome.log ≡ option_map (λ (d : Disks D). d.log) unready.disks)
     (segments_is : outcome.segments ≡ option_map (λ (d : Disks D). d.segments) unready.disks) where
   pub caused_by_unready : outcome.console ≡ None → SaysWhy (why_unready unready.why) outcome.status (string_bytes outcome.line)
-      → Causes told tells disks new.faults (Some command) outcome
+      → Causes spec io disks new.faults (Some command) outcome
   caused_by_unready no_console said = record {
     why = why_unready unready.why;
     says = said;
-    cause = cause_unready told new tells disks outcome command none unready.disks log_is segments_is is.unharmed unready.why is.why;
+    cause = cause_unready spec new io disks outcome command none unready.disks log_is segments_is is.unharmed unready.why is.why;
     console = console_unready outcome no_console unready.why;
   }
 
-  pub unready_unharmed : IfSome outcome.log (IsUnharmed told disks (directory_of (Some command)))
+  pub unready_unharmed : IfSome outcome.log (IsUnharmed spec disks (directory_of (Some command)))
   unready_unharmed =
-      unharmed_by told new tells disks outcome command none unready.disks log_is segments_is is.unharmed unready.disks refl is.unharmed
+      unharmed_by spec new io disks outcome command none unready.disks log_is segments_is is.unharmed unready.disks refl is.unharmed
 
 -- ---- a look at a directory
 
-module _ {I O D : Type 0} {g : _} (told new : Told) (tells : Tells I O) (disks : DiskTells D) (outcome : Outcome I O D) (dir : List ℕ)
-    (look : Look O D g) (is : IsLook told new tells disks dir look) (none : NoSession outcome)
+module _ {I O D : Type 0} {g : _} (spec new : HostSpec) (io : StreamSpec I O) (disks : DiskSpec D) (outcome : Outcome I O D) (dir : List ℕ)
+    (look : Look O D g) (is : IsLook spec new io disks dir look) (none : NoSession outcome)
     (log_is : outcome.log ≡ Some (disk_in look.directory.log)) (segments_is : outcome.segments ≡ Some (segments_in look.directory.store))
-    (has : HasTold tells.contents tells.sink_faults (string_bytes look.answer.line) look.answer.console outcome) where
-  look_unfailed : (part : Part) → IsUnfailed told disks (Some (check dir)) outcome part
+    (has : HasPrinted io.contents io.sink_faults (string_bytes look.answer.line) look.answer.console outcome) where
+  look_unfailed : (part : Part) → IsUnfailed spec disks (Some (check dir)) outcome part
   look_unfailed Log = (disk_in look.directory.log, log_is, is.unfailed)
   look_unfailed Segments = (segments_in look.directory.store, segments_is, is.segments_unfailed)
 
   has_looked : (Took : List ℕ → Option (List ℕ) → Option (List ℕ) → ℕ → ℕ → Type 0)
-      → Took (string_bytes look.answer.line) (tells.contents look.answer.console) (tells.contents has.now)
-      (tells.sink_faults look.answer.console) (tells.sink_faults has.now)
-      → HasLooked told tells disks new.faults (Some (check dir)) outcome Took
+      → Took (string_bytes look.answer.line) (io.contents look.answer.console) (io.contents has.now)
+      (io.sink_faults look.answer.console) (io.sink_faults has.now)
+      → HasLooked spec io disks new.faults (Some (check dir)) outcome Took
   has_looked Took took = record {
     directory = dir;
     is_check = refl;
@@ -492,15 +498,15 @@ module _ {I O D : Type 0} {g : _} (told new : Told) (tells : Tells I O) (disks :
     unfailed = look_unfailed;
     console = has.now;
     console_is = has.console_is;
-    took = subst (λ (l : List ℕ). Took l (told.sinks standard) (tells.contents has.now) (told.sink_faults standard)
-        (tells.sink_faults has.now)) is.line
-        (subst (λ (had : Option (List ℕ)). Took (string_bytes look.answer.line) had (tells.contents has.now) (told.sink_faults standard)
-        (tells.sink_faults has.now)) is.console.contents
-        (subst (λ (n : ℕ). Took (string_bytes look.answer.line) (tells.contents look.answer.console) (tells.contents has.now) n
-        (tells.sink_faults has.now)) is.console.faults took));
+    took = subst (λ (l : List ℕ). Took l (spec.sinks standard) (io.contents has.now) (spec.sink_faults standard)
+        (io.sink_faults has.now)) is.line
+        (subst (λ (had : Option (List ℕ)). Took (string_bytes look.answer.line) had (io.contents has.now) (spec.sink_faults standard)
+        (io.sink_faults has.now)) is.console.contents
+        (subst (λ (n : ℕ). Took (string_bytes look.answer.line) (io.contents look.answer.console) (io.contents has.now) n
+        (io.sink_faults has.now)) is.console.faults took));
   }
 
-  pub caused_by_look : Causes told tells disks new.faults (Some (check dir)) outcome
+  pub caused_by_look : Causes spec io disks new.faults (Some (check dir)) outcome
   caused_by_look =
       let there : IsSome outcome.console = subst IsSome (sym has.console_is) refl in
       elim has.took [
@@ -508,5 +514,5 @@ module _ {I O D : Type 0} {g : _} (told new : Told) (tells : Tells I O) (disks :
         | inr part ↦ record { why = console_failed; says = part.0; cause = inl (has_looked TookPart part.1); console = there }
       ]
 
-  pub look_unharmed : IfSome outcome.log (IsUnharmed told disks dir)
-  look_unharmed = subst (λ (o : Option D). IfSome o (IsUnharmed told disks dir)) (sym log_is) is.unharmed
+  pub look_unharmed : IfSome outcome.log (IsUnharmed spec disks dir)
+  look_unharmed = subst (λ (o : Option D). IfSome o (IsUnharmed spec disks dir)) (sym log_is) is.unharmed

@@ -1,5 +1,6 @@
 -- Scripts with nothing wrong are answered whole.
-use Rattle.std.proofs.Common.{◌≡◌, ℕ, ◌+◌, ◌<◌, ◌≤◌, ◌⊎◌, Bool, false, List, [], ◌∷◌, ◌++◌, map, Option, Some, None, length, length-append, refl, ap, ◌∙◌, sym, subst, inl, inr, arith}
+use Rattle.std.proofs.Common.{◌≡◌, ℕ, ◌+◌, ◌<◌, ◌≤◌, ◌⊎◌, Bool, false, List, [], ◌∷◌, ◌++◌, map, Option, Some, None, length, length-append}
+use Rattle.std.proofs.Common.{refl, ap, ◌∙◌, sym, subst, inl, inr, arith}
 use Rattle.std.proofs.lemmas.List.{append-nil}
 use Rattle.std.proofs.lemmas.Option.{none-some, some_pair_parts, IfSome_then}
 use Rattle.std.specs.Prelude.{◌==◌, IfSome, IsSome, string_bytes}
@@ -14,8 +15,8 @@ use Rattle.fb_model.specs.Lawful.{IsLawful}
 use Rattle.fb_model.proofs.LawfulHistories.{IsLawful-length}
 use Rattle.fb_core.specs.declared.accepting.Draft.{Draft}
 use Rattle.fb_ports.specs.Faults.{Rose}
-use Rattle.fb_ports.specs.Told.{Told}
-use Rattle.fb_view.specs.Kept.{Kept}
+use Rattle.fb_ports.specs.HostSpec.{HostSpec}
+use Rattle.fb_view.specs.SnapshotModel.{SnapshotModel}
 use Rattle.command_line.specs.Words.{Command, run as runs, check, load, scripts_of, sink_of}
 use Rattle.command_line.specs.declared.commands.Options.{Options}
 use Rattle.script_model.specs.Script.{Ending, whole, fault, too_many, Script}
@@ -30,15 +31,16 @@ use Rattle.fb_session.specs.Replies.{Trace, AnswersAll, AnswersUpTo, SessionRun,
 use Rattle.fb_session.proofs.LongerHistories.{replies_longer}
 use Rattle.fb_run.specs.declared.outcome.SessionOut.{SessionOut}
 use Rattle.fb_run.specs.declared.outcome.Outcome.{Outcome}
-use Rattle.disk_model.specs.Disk.{WhereTold}
+use Rattle.disk_model.specs.Disk.{IfKnown}
 use Rattle.log_model.specs.Log.{LogSays, stands_for, bad_record as bad_record_there, unlawful as unlawful_there, FileSays}
 use Rattle.log_model.proofs.LogFiles.{one_said, IsLogOf-says}
 use Rattle.fb_ports.specs.declared.hosts.Part.TheVariants.{Log, Segments}
-use Rattle.fb_run.specs.Outside.{Tells, DiskTells, run_of, setting_of, EachOf, EachWhile}
+use Rattle.fb_run.specs.Outside.{StreamSpec, DiskSpec, run_of, setting_of, EachOf, EachWhile}
 use Rattle.fb_run.specs.Logs.{LogHolds}
 use Rattle.fb_run.specs.Headline.{OneHistory, stop_of, EachReplies}
-use Rattle.fb_run.specs.StatusLines.{Why, answered, reported, usage, unopened, disk_failed, bad_record, unlawful, ended_early, console_failed, log_stopped, segments_failed, memory, status_of_end, line_of_end, first_early}
-use Rattle.fb_run.specs.Generated.{loads_of, told_in_memory, in_memory}
+use Rattle.fb_run.specs.StatusLines.{Why, answered, reported, usage, unopened, disk_failed, bad_record, unlawful, ended_early}
+use Rattle.fb_run.specs.StatusLines.{console_failed, log_stopped, segments_failed, memory, status_of_end, line_of_end, first_early}
+use Rattle.fb_run.specs.Generated.{loads_of, spec_in_memory, in_memory}
 use Rattle.fb_run.specs.Causes.{HasDisks, IsOutOfMemory, SaysWhy, Counts, IsRun, HaveRun, directory_of, CauseOf, Causes}
 use Rattle.fb_run.specs.Complete.{HoldsForms, HoldsFormsAlone, HoldsHistory, NoneRose, EachHasItsLine, AnsweredWhole, Complete}
 use Rattle.fb_run.proofs.Causing.{first_done, says_memory, counts_torn}
@@ -46,25 +48,25 @@ use Rattle.fb_run.proofs.Causing.{first_done, says_memory, counts_torn}
 -- what was taken of a source that tells, up to its end, is what it held
 taken_whole : (held left : Option (List ℕ)) (bytes script : List ℕ) → held ≡ Some bytes → held ≡ prepend_known script left → IsAtEnd left →
     script ≡ bytes
-taken_whole held None bytes script told taken at_end = let wrong = sym told ∙ taken in cc
-taken_whole held (Some xs) bytes script told taken at_end =
-    let one : Some (script ++ xs) ≡ Some bytes = sym taken ∙ told in
+taken_whole held None bytes script spec taken at_end = let wrong = sym spec ∙ taken in cc
+taken_whole held (Some xs) bytes script spec taken at_end =
+    let one : Some (script ++ xs) ≡ Some bytes = sym taken ∙ spec in
     let same : script ++ xs ≡ bytes = cc in
     sym (append-nil script) ∙ ap (λ ys. script ++ ys) (sym at_end) ∙ same
 
 -- it is no more than was held
 taken_part : (held left : Option (List ℕ)) (bytes script : List ℕ) → held ≡ Some bytes → held ≡ prepend_known script left → longest_script
     < length script → longest_script < length bytes
-taken_part held None bytes script told taken long = let wrong = sym told ∙ taken in absurd cc
-taken_part held (Some xs) bytes script told taken long =
-    let one : Some (script ++ xs) ≡ Some bytes = sym taken ∙ told in
+taken_part held None bytes script spec taken long = let wrong = sym spec ∙ taken in absurd cc
+taken_part held (Some xs) bytes script spec taken long =
+    let one : Some (script ++ xs) ≡ Some bytes = sym taken ∙ spec in
     let same : script ++ xs ≡ bytes = cc in
     rw (← same) (omega (arith, long, length-append script xs))
 
 same_reading : (held left : Option (List ℕ)) (script : List ℕ) (forms read : List Form) (ending : Ending) → HoldsForms held forms
     → held ≡ prepend_known script left → IsAtEnd left → Script script read ending → OneReading read forms ending whole
 same_reading held left script forms read ending holds taken at_end stands =
-    let same = taken_whole held left holds.script script holds.told taken at_end in
+    let same = taken_whole held left holds.script script holds.known taken at_end in
     let P : List ℕ → Type 0 = λ bytes. Script bytes read ending in
     one_script holds.script read forms ending whole (subst P same stands) holds.read
 
@@ -115,7 +117,7 @@ module _ (s : Setting) (opening : ℕ) (ran : SessionRun) (replies : Replies s o
       answers.read).endings in
       absurd cc
   ends_well m k n j forms holds ended.TooLong how source sink calm_source calm_sink =
-      let long = taken_part ran.held ran.left holds.script replies.script holds.told replies.taken (replies.too_long.0 how) in
+      let long = taken_part ran.held ran.left holds.script replies.script holds.known replies.taken (replies.too_long.0 how) in
       absurd (omega (arith, long, holds.fits))
   ends_well m k n j forms holds ended.ReadFault how source sink calm_source calm_sink = absurd (calm_source source)
   ends_well m k n j forms holds ended.WriteFault how source sink calm_source calm_sink = absurd (calm_sink sink)
@@ -123,14 +125,15 @@ module _ (s : Setting) (opening : ℕ) (ran : SessionRun) (replies : Replies s o
 
 -- ---- all of them
 
-module _ {I O : Type 0} (terms : Terms) (told : Told) (tells : Tells I O) (h : List Entry) (opening teller : ℕ) (lawful : IsLawful h) (seen
+module _ {I O : Type 0} (terms : Terms) (spec : HostSpec) (io : StreamSpec I O) (h : List Entry) (opening teller : ℕ) (lawful : IsLawful h)
+    (seen
     : opening ≤ basis h) where
   abbrev pub IsWhole : ℕ → List ℕ → SessionOut I O → Type 0
-  IsWhole n name s = (forms : List Form) → HoldsForms (told.sources name) forms → EachHasItsLine (setting_of terms h None false) opening
-      forms (run_of told tells name s)
+  IsWhole n name s = (forms : List Form) → HoldsForms (spec.sources name) forms → EachHasItsLine (setting_of terms h None false) opening
+      forms (run_of spec io name s)
 
   abbrev pub IsReplied : ℕ → List ℕ → SessionOut I O → Type 0
-  IsReplied n name s = Replies (setting_of terms h None (teller == n)) opening (run_of told tells name s)
+  IsReplied n name s = Replies (setting_of terms h None (teller == n)) opening (run_of spec io name s)
 
   -- where the log has not stopped nobody is its teller
   untold : (flag : Bool) (run : SessionRun) → Replies (setting_of terms h None flag) opening run → Replies (setting_of terms h None false)
@@ -144,19 +147,19 @@ module _ {I O : Type 0} (terms : Terms) (told : Told) (tells : Tells I O) (h : L
 
   -- the first that ended early ended for want of memory, or none did
   pub all_well : (n : ℕ) (names : List (List ℕ)) (sessions : List (SessionOut I O)) (early : Option (List ℕ × SessionEnd))
-      → EachOf (λ m name (s : SessionOut I O). Counts told tells name s) n names sessions → EachOf IsReplied n names sessions
-      → AllByRecursion (λ name. HoldsFormsAlone (told.sources name)) names
-      → EachWhile (λ name (s : SessionOut I O). ¬ Rose (told.source_faults name) (tells.source_faults s.source)) names sessions
-      → EachWhile (λ name (s : SessionOut I O). ¬ Rose (told.sink_faults (sink_of name)) (tells.sink_faults s.sink)) names sessions
+      → EachOf (λ m name (s : SessionOut I O). Counts spec io name s) n names sessions → EachOf IsReplied n names sessions
+      → AllByRecursion (λ name. HoldsFormsAlone (spec.sources name)) names
+      → EachWhile (λ name (s : SessionOut I O). ¬ Rose (spec.source_faults name) (io.source_faults s.source)) names sessions
+      → EachWhile (λ name (s : SessionOut I O). ¬ Rose (spec.sink_faults (sink_of name)) (io.sink_faults s.sink)) names sessions
       → first_early names (map (λ (s : SessionOut I O). s.end) sessions) ≡ early
       → ((early ≡ None) × EachOf IsWhole n names sessions) ⊎ ((name : List ℕ) × (early ≡ Some (name, ended.Memory)))
   all_well n [] [] early counts replies holds calm_sources calm_sinks first = inl (sym first, tt)
   all_well n [] (s ∷ ss) early counts replies holds calm_sources calm_sinks first = absurd counts
   all_well n (x ∷ xs) [] early counts replies holds calm_sources calm_sinks first = absurd counts
   all_well n (x ∷ xs) (s ∷ ss) early counts replies holds calm_sources calm_sinks first =
-      let ours = untold (teller == n) (run_of told tells x s) replies.0 in
-      elim (ends_well (setting_of terms h None false) opening (run_of told tells x s) ours
-      (told.source_faults x) (tells.source_faults s.source) (told.sink_faults (sink_of x)) (tells.sink_faults s.sink) holds.0.0 holds.0.1
+      let ours = untold (teller == n) (run_of spec io x s) replies.0 in
+      elim (ends_well (setting_of terms h None false) opening (run_of spec io x s) ours
+      (spec.source_faults x) (io.source_faults s.source) (spec.sink_faults (sink_of x)) (io.sink_faults s.sink) holds.0.0 holds.0.1
       s.end refl counts.0.source counts.0.sink calm_sources.0 calm_sinks.0) [
         | inl done ↦ elim (all_well (n + 1) xs ss early counts.1 replies.1 holds.1 calm_sources.1 calm_sinks.1
             (sym (first_done x xs s.end (map (λ (z : SessionOut I O). z.end) ss) done.0) ∙ first)) [
@@ -180,40 +183,42 @@ stands_behind n m k same = omega (arith, same)
 
 -- ---- the run
 
-module _ {I O D : Type 0} (terms : Terms) (told : Told) (tells : Tells I O) (disks : DiskTells D) (new : ℕ) (command : Command) (outcome :
+module _ {I O D : Type 0} (terms : Terms) (spec : HostSpec) (io : StreamSpec I O) (disks : DiskSpec D) (new : ℕ) (command : Command)
+    (outcome :
     Outcome
-    I O D) (last : Kept)
+    I O D) (last : SnapshotModel)
     (lawful : IsLawful last.entries) (seen : outcome.recovered ≤ basis last.entries) (kept : outcome.last ≡ Some last)
-    (replies : EachReplies terms told tells outcome.recovered None (scripts_of (Some command)) outcome.sessions.items last.entries)
-    (holds : AllByRecursion (λ name. HoldsFormsAlone (told.sources name)) (scripts_of (Some command)))
-    (calm : NoneRose told tells disks new (Some command) outcome) (scripts : loads_of (Some command) ≡ []) where
-  no_loads : {early : Option (List ℕ × SessionEnd)} → HaveRun told tells new (Some command) outcome early → outcome.loads.items ≡ []
+    (replies : EachReplies terms spec io outcome.recovered None (scripts_of (Some command)) outcome.sessions.items last.entries)
+    (holds : AllByRecursion (λ name. HoldsFormsAlone (spec.sources name)) (scripts_of (Some command)))
+    (calm : NoneRose spec io disks new (Some command) outcome) (scripts : loads_of (Some command) ≡ []) where
+  no_loads : {early : Option (List ℕ × SessionEnd)} → HaveRun spec io new (Some command) outcome early → outcome.loads.items ≡ []
   no_loads ran =
-      nothing_beside {A = List ℕ} (λ n name s. Counts (told_in_memory told (Some command)) in_memory name s) 0 outcome.loads.items
+      nothing_beside {A = List ℕ} (λ n name s. Counts (spec_in_memory spec (Some command)) in_memory name s) 0 outcome.loads.items
       (rw scripts at ran.loads)
 
-  ran_well : (early : Option (List ℕ × SessionEnd)) → HaveRun told tells new (Some command) outcome early
-      → ((early ≡ None) × EachOf (IsWhole terms told tells last.entries outcome.recovered replies.0 lawful seen) 0 (scripts_of (Some
+  ran_well : (early : Option (List ℕ × SessionEnd)) → HaveRun spec io new (Some command) outcome early
+      → ((early ≡ None) × EachOf (IsWhole terms spec io last.entries outcome.recovered replies.0 lawful seen) 0 (scripts_of (Some
       command)) outcome.sessions.items)
       ⊎ ((name : List ℕ) × (early ≡ Some (name, ended.Memory)))
   ran_well early ran =
-      all_well terms told tells last.entries outcome.recovered replies.0 lawful seen 0 (scripts_of (Some command)) outcome.sessions.items
+      all_well terms spec io last.entries outcome.recovered replies.0 lawful seen 0 (scripts_of (Some command)) outcome.sessions.items
       early
       ran.each replies.1 holds calm.sessions.sources calm.sessions.sinks (rw (scripts, no_loads ran) at ran.first)
 
-  pub answered_whole : outcome.status ≡ 0 → HaveRun told tells new (Some command) outcome None → AnsweredWhole terms told tells (Some command) outcome
+  pub answered_whole : outcome.status ≡ 0 → HaveRun spec io new (Some command) outcome None
+      → AnsweredWhole terms spec io (Some command) outcome
   answered_whole success ran = elim (ran_well None ran) [
     | inl well ↦ record { succeeded = success; last = last; kept = kept; each = well.1; loads = rw (scripts, no_loads ran) tt }
     | inr wrong ↦ absurd (none-some _ wrong.1)
   ]
 
-  early_memory : (name : List ℕ) (how : SessionEnd) → HaveRun told tells new (Some command) outcome (Some (name, how)) → how ≡ ended.Memory
+  early_memory : (name : List ℕ) (how : SessionEnd) → HaveRun spec io new (Some command) outcome (Some (name, how)) → how ≡ ended.Memory
   early_memory name how ran = elim (ran_well (Some (name, how)) ran) [
     | inl wrong ↦ absurd (none-some _ (sym wrong.0))
     | inr refused ↦ (some_pair_parts name refused.0 how ended.Memory refused.1).1
   ]
 
-  pub refused : (name : List ℕ) (how : SessionEnd) → HaveRun told tells new (Some command) outcome (Some (name, how))
+  pub refused : (name : List ℕ) (how : SessionEnd) → HaveRun spec io new (Some command) outcome (Some (name, how))
       → ((outcome.status ≡ status_of_end how) × (string_bytes outcome.line ≡ line_of_end name how)) ⊎ IsOutOfMemory outcome → IsOutOfMemory
       outcome
   refused name how ran (inl said) =
@@ -221,29 +226,31 @@ module _ {I O D : Type 0} (terms : Terms) (told : Told) (tells : Tells I O) (dis
   refused name how ran (inr said) = said
 
 -- the log of a history says nothing else
-says_history : (held : Option (List ℕ)) (said : LogSays) → HoldsHistory held → WhereTold held (λ file. FileSays file said)
+says_history : (held : Option (List ℕ)) (said : LogSays) → HoldsHistory held → IfKnown held (λ file. FileSays file said)
     → (h : List Entry) × (stands_for h ≡ said)
 says_history held said holds says = (
   holds.history,
   one_said holds.file (stands_for holds.history) said (IsLogOf-says holds.file holds.history holds.is) (says holds.file
-      holds.told),
+      holds.known),
 )
 
-module _ {I O D : Type 0} (terms : Terms) (told : Told) (tells : Tells I O) (disks : DiskTells D) (new : ℕ) (command : Command) (outcome :
+module _ {I O D : Type 0} (terms : Terms) (spec : HostSpec) (io : StreamSpec I O) (disks : DiskSpec D) (new : ℕ) (command : Command)
+    (outcome :
     Outcome I O D)
-    (log : HoldsHistory (told.disks (directory_of (Some command)) Log))
-    (holds : AllByRecursion (λ name. HoldsFormsAlone (told.sources name)) (scripts_of (Some command)))
-    (calm : NoneRose told tells disks new (Some command) outcome) where
-  pub no_bad_record : (nth at : ℕ) → WhereTold (told.disks (directory_of (Some command)) Log) (λ file. FileSays file (bad_record_there nth at))
+    (log : HoldsHistory (spec.disks (directory_of (Some command)) Log))
+    (holds : AllByRecursion (λ name. HoldsFormsAlone (spec.sources name)) (scripts_of (Some command)))
+    (calm : NoneRose spec io disks new (Some command) outcome) where
+  pub no_bad_record : (nth at : ℕ)
+      → IfKnown (spec.disks (directory_of (Some command)) Log) (λ file. FileSays file (bad_record_there nth at))
       → ⊥
   no_bad_record nth at says = let wrong = (says_history _ _ log says).1 in absurd (cc)
 
-  pub no_unlawful : (t law : ℕ) → WhereTold (told.disks (directory_of (Some command)) Log) (λ file. FileSays file (unlawful_there t law)) → ⊥
+  pub no_unlawful : (t law : ℕ) → IfKnown (spec.disks (directory_of (Some command)) Log) (λ file. FileSays file (unlawful_there t law)) → ⊥
   no_unlawful t law says = let wrong = (says_history _ _ log says).1 in absurd (cc)
 
   -- a look at a directory that has nothing wrong succeeds
   looked_by : (IsRun (Some command) → ⊥) → (why : Why) → SaysWhy why outcome.status (string_bytes outcome.line)
-      → CauseOf told tells disks new (Some command) outcome why → (outcome.status ≡ 0) ⊎ IsOutOfMemory outcome
+      → CauseOf spec io disks new (Some command) outcome why → (outcome.status ≡ 0) ⊎ IsOutOfMemory outcome
   looked_by not answered says cause = absurd (not cause.0.is_run)
   looked_by not reported says cause = inl says.0
   looked_by not usage says cause = absurd (none-some command (sym cause.2))
@@ -258,15 +265,15 @@ module _ {I O D : Type 0} (terms : Terms) (told : Told) (tells : Tells I O) (dis
   looked_by not segments_failed says cause = absurd (not cause.0.is_run)
   looked_by not memory says cause = inr (says_memory outcome.status (string_bytes outcome.line) says)
 
-  pub complete_check : (IsRun (Some command) → ⊥) → Causes told tells disks new (Some command) outcome
+  pub complete_check : (IsRun (Some command) → ⊥) → Causes spec io disks new (Some command) outcome
       → (outcome.status ≡ 0) ⊎ IsOutOfMemory outcome
   complete_check not causes = looked_by not causes.why causes.says causes.cause
 
   -- the sessions ran, so there is a history
   module _ (lawful : IfSome outcome.last (λ last. IsLawful last.entries × (outcome.recovered ≤ basis last.entries)))
-      (replies : IfSome outcome.last (λ last. EachReplies terms told tells outcome.recovered (stop_of outcome.torn) (scripts_of (Some
+      (replies : IfSome outcome.last (λ last. EachReplies terms spec io outcome.recovered (stop_of outcome.torn) (scripts_of (Some
       command)) outcome.sessions.items last.entries))
-      (kept : IfSome outcome.last (λ last. IfSome outcome.log (LogHolds told disks (directory_of (Some command)) last.entries
+      (kept : IfSome outcome.last (λ last. IfSome outcome.log (LogHolds spec disks (directory_of (Some command)) last.entries
       outcome.recovered outcome.torn))) (scripts : loads_of (Some command) ≡ []) where
     not_load : (count : ℕ) → Some command ≡ Some (load count) → ⊥
     not_load count is = let wrong = sym (ap loads_of is) ∙ scripts in absurd (cc)
@@ -275,40 +282,43 @@ module _ {I O D : Type 0} (terms : Terms) (told : Told) (tells : Tells I O) (dis
     not_torn : (torn : Option Draft) → outcome.torn ≡ torn → IsSome outcome.last → HasDisks outcome → torn ≡ None
     not_torn None is there both = refl
     not_torn (Some draft) is there both =
-        let rose = counts_torn told disks outcome (directory_of (Some command)) kept there both.log (subst IsSome (sym is) refl) in
+        let rose = counts_torn spec disks outcome (directory_of (Some command)) kept there both.log (subst IsSome (sym is) refl) in
         absurd (calm.parts Log rose.0 rose.1 rose.2)
 
-    going : {early : Option (List ℕ × SessionEnd)} → HaveRun told tells new (Some command) outcome early → outcome.torn ≡ None
+    going : {early : Option (List ℕ × SessionEnd)} → HaveRun spec io new (Some command) outcome early → outcome.torn ≡ None
     going ran = not_torn outcome.torn refl ran.last ran.disks
 
     unstopped : (h : List Entry) → outcome.torn ≡ None
-        → EachReplies terms told tells outcome.recovered (stop_of outcome.torn) (scripts_of (Some command)) outcome.sessions.items h
-        → EachReplies terms told tells outcome.recovered None (scripts_of (Some command)) outcome.sessions.items h
+        → EachReplies terms spec io outcome.recovered (stop_of outcome.torn) (scripts_of (Some command)) outcome.sessions.items h
+        → EachReplies terms spec io outcome.recovered None (scripts_of (Some command)) outcome.sessions.items h
     unstopped h none says =
-        subst (λ (torn : Option Draft). EachReplies terms told tells outcome.recovered (stop_of torn) (scripts_of (Some command))
+        subst (λ (torn : Option Draft). EachReplies terms spec io outcome.recovered (stop_of torn) (scripts_of (Some command))
         outcome.sessions.items h) none says
 
-    whole_by : (last : Option Kept) → outcome.last ≡ last → IsSome last → outcome.status ≡ 0 → HaveRun told tells new (Some command)
+    whole_by : (last : Option SnapshotModel) → outcome.last ≡ last → IsSome last → outcome.status ≡ 0 → HaveRun spec io new (Some command)
         outcome None
-        → AnsweredWhole terms told tells (Some command) outcome
+        → AnsweredWhole terms spec io (Some command) outcome
     whole_by None is there success ran = absurd (cc)
     whole_by (Some l) is there success ran =
         let stands = rw is at lawful in let says = rw is at replies in
-        answered_whole terms told tells disks new command outcome l stands.0 stands.1 is (unstopped l.entries (going ran) says) holds calm
+        answered_whole terms spec io disks new command outcome l stands.0 stands.1 is (unstopped l.entries (going ran) says) holds calm
         scripts success ran
 
-    refused_by : (last : Option Kept) → outcome.last ≡ last → IsSome last → (name : List ℕ) (how : SessionEnd) → HaveRun told tells new
+    refused_by : (last : Option SnapshotModel) → outcome.last ≡ last → IsSome last → (name : List ℕ) (how : SessionEnd)
+        → HaveRun spec io new
         (Some command) outcome (Some (name, how))
         → ((outcome.status ≡ status_of_end how) × (string_bytes outcome.line ≡ line_of_end name how)) ⊎ IsOutOfMemory outcome →
         IsOutOfMemory outcome
     refused_by None is there name how ran said = absurd (cc)
     refused_by (Some l) is there name how ran said =
         let stands = rw is at lawful in let says = rw is at replies in
-        refused terms told tells disks new command outcome l stands.0 stands.1 is (unstopped l.entries (going ran) says) holds calm scripts name how
+        refused terms spec io disks new command outcome l stands.0 stands.1 is
+        (unstopped l.entries (going ran) says) holds calm scripts name how
         ran said
 
-    by_why : IsRun (Some command) → (why : Why) → SaysWhy why outcome.status (string_bytes outcome.line) → CauseOf told tells disks new (Some command) outcome why
-        → AnsweredWhole terms told tells (Some command) outcome ⊎ IsOutOfMemory outcome
+    by_why : IsRun (Some command) → (why : Why) → SaysWhy why outcome.status (string_bytes outcome.line)
+        → CauseOf spec io disks new (Some command) outcome why
+        → AnsweredWhole terms spec io (Some command) outcome ⊎ IsOutOfMemory outcome
     by_why is_run answered says cause = inl (whole_by outcome.last refl cause.0.last says.0 cause.0)
     by_why is_run reported says (inl looked) = absurd (subst IsRun looked.is_check is_run)
     by_why is_run reported says (inr loaded) = absurd (not_load loaded.count loaded.is_load)
@@ -324,30 +334,31 @@ module _ {I O D : Type 0} (terms : Terms) (told : Told) (tells : Tells I O) (dis
     by_why is_run segments_failed says cause = absurd (calm.parts Segments cause.2.0 cause.2.1 cause.2.2)
     by_why is_run memory says cause = inr (says_memory outcome.status (string_bytes outcome.line) says)
 
-    pub complete_run : IsRun (Some command) → Causes told tells disks new (Some command) outcome → AnsweredWhole terms told tells (Some command) outcome
+    pub complete_run : IsRun (Some command) → Causes spec io disks new (Some command) outcome
+        → AnsweredWhole terms spec io (Some command) outcome
         ⊎ IsOutOfMemory outcome
     complete_run is_run causes = by_why is_run causes.why causes.says causes.cause
 
-pub complete_look : {I O D : Type 0} (terms : Terms) (told : Told) (tells : Tells I O) (disks : DiskTells D) (new : ℕ) (dir : List ℕ)
+pub complete_look : {I O D : Type 0} (terms : Terms) (spec : HostSpec) (io : StreamSpec I O) (disks : DiskSpec D) (new : ℕ) (dir : List ℕ)
     (outcome : Outcome I O D)
-    → Causes told tells disks new (Some (check dir)) outcome → Complete terms told tells disks new (Some (check dir)) outcome
-complete_look terms told tells disks new dir outcome causes =
-    λ log holds none calm. complete_check terms told tells disks new (check dir) outcome log holds calm (λ wrong. wrong) causes
+    → Causes spec io disks new (Some (check dir)) outcome → Complete terms spec io disks new (Some (check dir)) outcome
+complete_look terms spec io disks new dir outcome causes =
+    λ log holds none calm. complete_check terms spec io disks new (check dir) outcome log holds calm (λ wrong. wrong) causes
 
-pub complete_scripts : {I O D : Type 0} (terms : Terms) (told : Told) (tells : Tells I O) (disks : DiskTells D) (new : ℕ)
+pub complete_scripts : {I O D : Type 0} (terms : Terms) (spec : HostSpec) (io : StreamSpec I O) (disks : DiskSpec D) (new : ℕ)
     (options : Options) (dir : List ℕ) (scripts : List (List ℕ)) (outcome : Outcome I O D) (authors : List ℕ) (commits : List (List ℕ))
     → IfSome outcome.last (λ last. OneHistory last.entries outcome.recovered authors commits)
-    → IfSome outcome.last (λ last. EachReplies terms told tells outcome.recovered (stop_of outcome.torn) scripts outcome.sessions.items
+    → IfSome outcome.last (λ last. EachReplies terms spec io outcome.recovered (stop_of outcome.torn) scripts outcome.sessions.items
     last.entries)
-    → IfSome outcome.last (λ last. IfSome outcome.log (LogHolds told disks dir last.entries outcome.recovered outcome.torn))
-    → Causes told tells disks new (Some (runs options dir scripts)) outcome
-    → Complete terms told tells disks new (Some (runs options dir scripts)) outcome
-complete_scripts terms told tells disks new options dir scripts outcome authors commits history replies kept causes =
+    → IfSome outcome.last (λ last. IfSome outcome.log (LogHolds spec disks dir last.entries outcome.recovered outcome.torn))
+    → Causes spec io disks new (Some (runs options dir scripts)) outcome
+    → Complete terms spec io disks new (Some (runs options dir scripts)) outcome
+complete_scripts terms spec io disks new options dir scripts outcome authors commits history replies kept causes =
     let lawful : IfSome outcome.last (λ last. IsLawful last.entries × (outcome.recovered ≤ basis last.entries)) =
     IfSome_then outcome.last history (λ last one. (
       one.lawful,
       stands_behind outcome.recovered (length authors) (basis last.entries)
           one.each_t,
     )) in
-    λ log holds none calm. complete_run terms told tells disks new (runs options dir scripts) outcome log holds calm lawful replies kept
+    λ log holds none calm. complete_run terms spec io disks new (runs options dir scripts) outcome log holds calm lawful replies kept
     refl tt causes

@@ -201,7 +201,8 @@ Desk-send ℓ L R g log = let conn = Conn-sync L R g log in
 
 -- the worker goes to a thread with its seat and its trees, if the disk of their store may be sent
 Trees-send : (D : RattleType) (g : DiskGhosts D.Denot) → IsSend D → IsSend (Trees.the_row D g)
-Trees-send D g disk = declared_send (Trees.the_type D g) (base.the_send, (search (sendable, base.the_send) depth 20, (store.the_send D g disk, tt)))
+Trees-send D g disk =
+    declared_send (Trees.the_type D g) (base.the_send, (search (sendable, base.the_send) depth 20, (store.the_send D g disk, tt)))
 
 pub Worker-send : (D : RattleType) (g : DiskGhosts D.Denot) → IsSend D → IsSend (Worker.the_row D g)
 Worker-send D g disk = declared_send (Worker.the_type D g) (Seat-row, (Trees-send D g disk, (ended.the_send, tt)))

@@ -1,5 +1,6 @@
 -- What opening a directory gives, in the words of what the host told before, and what the run leaves of the log.
-use Rattle.std.proofs.Common.{◌≡◌, ℕ, ◌+◌, ◌≤◌, ◌⊎◌, inl, inr, List, [], ◌∷◌, ◌++◌, length, Option, Some, None, suc, refl, sym, ap, ◌∙◌, subst, ⊎_elim, arith}
+use Rattle.std.proofs.Common.{◌≡◌, ℕ, ◌+◌, ◌≤◌, ◌⊎◌, inl, inr, List, [], ◌∷◌, ◌++◌, length, Option, Some, None, suc, refl, sym, ap, ◌∙◌}
+use Rattle.std.proofs.Common.{subst, ⊎_elim, arith}
 use Rattle.std.proofs.lemmas.List.{take-append-le, length-take}
 use Rattle.std.specs.Prelude.{IsSome, IfSome, Result, Ok, Err, IfErr}
 use Rattle.fb_values.specs.declared.facts.Entry.{Entry}
@@ -8,17 +9,17 @@ use Rattle.fb_model.specs.Lawful.{IsLawful}
 use Rattle.fb_model.proofs.LawfulHistories.{IsLawful-length}
 use Rattle.fb_model.proofs.OneMoreEntry.{basis-push}
 use Rattle.fb_model.proofs.Times.{next_t}
-use Rattle.disk_model.specs.Disk.{WhereTold, LeavesOnly}
+use Rattle.disk_model.specs.Disk.{IfKnown, LeavesOnly}
 use Rattle.log_model.specs.Log.{IsLogOf}
 use Rattle.disk_log.specs.Disks.{IsLogFrom, HasKept, HasBroken}
 use Rattle.disk_log.specs.Logs.{disk_in}
 use Rattle.fb_core.specs.declared.accepting.Draft.{Draft}
 use Rattle.fb_core.specs.Cores.{entry_of}
-use Rattle.fb_view.specs.Kept.{Kept}
+use Rattle.fb_view.specs.SnapshotModel.{SnapshotModel}
 use Rattle.fb_ports.specs.Faults.{Rose}
 use Rattle.fb_ports.specs.declared.hosts.Part.TheVariants.{Log, Segments}
-use Rattle.fb_ports.specs.Told.{Told}
-use Rattle.fb_ports.specs.Telling.{StaysButDisk}
+use Rattle.fb_ports.specs.HostSpec.{HostSpec}
+use Rattle.fb_ports.specs.HostCalls.{StaysButDisk}
 use Rattle.fb_recover.specs.Faults.{CountsOpening}
 use Rattle.fb_run.specs.declared.database.Directory.{Directory}
 use Rattle.fb_run.specs.declared.database.Disks.{Disks}
@@ -29,15 +30,16 @@ use Rattle.fb_run.specs.declared.opening.Unopened.{Unopened}
 use Rattle.fb_run.specs.declared.opening.Unopened.TheVariants as unopened
 use Rattle.fb_run.specs.declared.outcome.SessionOut.{SessionOut}
 use Rattle.fb_run.specs.declared.outcome.Outcome.{Outcome}
-use Rattle.fb_run.specs.Outside.{Tells, DiskTells, IsDiskOf, EachOf}
+use Rattle.fb_run.specs.Outside.{StreamSpec, DiskSpec, IsDiskOf, EachOf}
 use Rattle.fb_run.specs.Opening.{IsOpenedFor, HasOpened, IsUnopened}
 use Rattle.fb_run.specs.Logs.{IsUnharmed, LogHolds}
-use Rattle.fb_run.specs.Database.{SameStreams, IsOpened, IsRefused, IsUnopenedBy, IsUnopenedPart, LeaveLogUnharmed, IsObstacle, IsUnready, disks_in}
+use Rattle.fb_run.specs.Database.{SameStreams, IsOpened, IsRefused, IsUnopenedBy, IsUnopenedPart, LeaveLogUnharmed, IsObstacle, IsUnready}
+use Rattle.fb_run.specs.Database.{disks_in}
 use Rattle.fb_run.specs.Running.{LeavesLog, HandsLogBack, GoesOnFrom}
 
 -- ---- what is opened behind the directory
 
-module _ {D : Type 0} (disks : DiskTells D) (dir : List ℕ) (names : List (List ℕ)) (old mid new : Told) where
+module _ {D : Type 0} (disks : DiskSpec D) (dir : List ℕ) (names : List (List ℕ)) (old mid new : HostSpec) where
   part_obstacle : (left : Option (Disks D)) (why : Obstacle) → mid.faults ≡ old.faults → left ≡ None → IsUnopenedBy mid new dir why
       → IsObstacle old new disks dir (dir ∷ names) left why
   part_obstacle left (obstacle.Unopened (unopened.CannotOpen name)) same none not =
@@ -66,7 +68,7 @@ module _ {D : Type 0} (disks : DiskTells D) (dir : List ℕ) (names : List (List
       record { why = later_obstacle (Some both) why same refl not; unharmed = unharmed }
 
 -- opening the log changes nothing that the host tells of the segments
-pub other_part : {D : Type 0} (disks : DiskTells D) (dir : List ℕ) (old mid : Told) (disk : D) → StaysButDisk dir Log old mid
+pub other_part : {D : Type 0} (disks : DiskSpec D) (dir : List ℕ) (old mid : HostSpec) (disk : D) → StaysButDisk dir Log old mid
     → IsDiskOf mid disks dir Segments disk → IsDiskOf old disks dir Segments disk
 other_part disks dir old mid disk stays is = record {
   bytes = is.bytes ∙ stays.disks dir Segments (λ _ e. absurd (cc));
@@ -77,9 +79,9 @@ other_part disks dir old mid disk stays is = record {
   moment = is.moment ∙ stays.disk_moment dir Segments (λ _ e. absurd (cc));
 }
 
-module _ {D : Type 0} (told : Told) (disks : DiskTells D) (dir : List ℕ) (disk : D) (is : IsDiskOf told disks dir Log disk) where
-  unharmed_log : (log : D) → WhereTold (disks.bytes disk) (λ file. LeavesOnly disks.moment disks.images_since disk log
-      (λ image. disks.images disk image ⊎ ((length file ≤ 16) × (length image ≤ 16)))) → IsUnharmed told disks dir log
+module _ {D : Type 0} (spec : HostSpec) (disks : DiskSpec D) (dir : List ℕ) (disk : D) (is : IsDiskOf spec disks dir Log disk) where
+  unharmed_log : (log : D) → IfKnown (disks.bytes disk) (λ file. LeavesOnly disks.moment disks.images_since disk log
+      (λ image. disks.images disk image ⊎ ((length file ≤ 16) × (length image ≤ 16)))) → IsUnharmed spec disks dir log
   unharmed_log log leaves = λ file told_is image since.
       ⊎_elim
       (λ (left : disks.images disk image). inl ((is.images image).0 left))
@@ -88,12 +90,12 @@ module _ {D : Type 0} (told : Told) (disks : DiskTells D) (dir : List ℕ) (disk
       (subst (λ (t : ℕ). disks.images_since log t image) (sym is.moment) since))
 
   -- the database of a directory was not reopened
-  pub unready_log : (names : List (List ℕ)) (new : Told) (segments : D) (unready : Unready D)
-      → IsDiskOf told disks dir Segments segments → new.faults ≡ told.faults → IsRefused disks disk segments unready
-      → IsUnready told new disks dir names unready
+  pub unready_log : (names : List (List ℕ)) (new : HostSpec) (segments : D) (unready : Unready D)
+      → IsDiskOf spec disks dir Segments segments → new.faults ≡ spec.faults → IsRefused disks disk segments unready
+      → IsUnready spec new disks dir names unready
   unready_log names new segments unready its same refused =
       let both : Disks D = record { log = refused.log; segments = refused.file } in
-      subst (λ (u : Unready D). IsUnready told new disks dir names u) (sym refused.is) (record {
+      subst (λ (u : Unready D). IsUnready spec new disks dir names u) (sym refused.is) (record {
         why = (
           same,
           record {
@@ -103,26 +105,26 @@ module _ {D : Type 0} (told : Told) (disks : DiskTells D) (dir : List ℕ) (disk
             counted = subst (λ (n : ℕ). CountsOpening refused.fault Log n (disks.faults refused.log)) is.faults refused.counted;
             segments_counted = subst (λ (n : ℕ). CountsOpening refused.fault Segments n (disks.faults refused.file)) its.faults
                 refused.segments_counted;
-            untouched = λ of. subst (IsDiskOf told disks dir Segments) (sym (refused.untouched of)) its;
+            untouched = λ of. subst (IsDiskOf spec disks dir Segments) (sym (refused.untouched of)) its;
           },
         );
         unharmed = unharmed_log refused.log refused.unharmed;
       })
 
-  pub not_reopened : {T : Type 0} (r : Result T (Unready D)) (names : List (List ℕ)) (new : Told) (segments : D)
-      → IsDiskOf told disks dir Segments segments → new.faults ≡ told.faults → IfErr r (IsRefused disks disk segments)
-      → IfErr r (IsUnready told new disks dir names)
+  pub not_reopened : {T : Type 0} (r : Result T (Unready D)) (names : List (List ℕ)) (new : HostSpec) (segments : D)
+      → IsDiskOf spec disks dir Segments segments → new.faults ≡ spec.faults → IfErr r (IsRefused disks disk segments)
+      → IfErr r (IsUnready spec new disks dir names)
   not_reopened (Ok x) names new segments its same refused = tt
   not_reopened (Err unready) names new segments its same refused = unready_log names new segments unready its same refused
 
 -- a directory that was opened is left as it was
-pub opened_unharmed : {D : Type 0} {g : _} (told : Told) (disks : DiskTells D) (dir : List ℕ) (directory : Directory D g)
-    → IsOpened told disks dir directory → LeaveLogUnharmed told disks dir (disks_in directory)
-opened_unharmed told disks dir directory opened =
-    unharmed_log told disks dir opened.disk opened.log (disk_in directory.log) opened.reopened.unharmed
+pub opened_unharmed : {D : Type 0} {g : _} (spec : HostSpec) (disks : DiskSpec D) (dir : List ℕ) (directory : Directory D g)
+    → IsOpened spec disks dir directory → LeaveLogUnharmed spec disks dir (disks_in directory)
+opened_unharmed spec disks dir directory opened =
+    unharmed_log spec disks dir opened.disk opened.log (disk_in directory.log) opened.reopened.unharmed
 
-module _ {I O : Type 0} (tells : Tells I O) (old mid : Told) (streams : SameStreams old mid) where
-  one_over : (name : List ℕ) (s : SessionOut I O) → IsOpenedFor mid tells name s → IsOpenedFor old tells name s
+module _ {I O : Type 0} (io : StreamSpec I O) (old mid : HostSpec) (streams : SameStreams old mid) where
+  one_over : (name : List ℕ) (s : SessionOut I O) → IsOpenedFor mid io name s → IsOpenedFor old io name s
   one_over name s opened = record {
     source = record {
       left = opened.source.left ∙ streams.sources name;
@@ -135,15 +137,15 @@ module _ {I O : Type 0} (tells : Tells I O) (old mid : Told) (streams : SameStre
   }
 
   each_over : (n : ℕ) (names : List (List ℕ)) (sessions : List (SessionOut I O))
-      → EachOf (λ m name (s : SessionOut I O). IsOpenedFor mid tells name s) n names sessions
-      → EachOf (λ m name (s : SessionOut I O). IsOpenedFor old tells name s) n names sessions
+      → EachOf (λ m name (s : SessionOut I O). IsOpenedFor mid io name s) n names sessions
+      → EachOf (λ m name (s : SessionOut I O). IsOpenedFor old io name s) n names sessions
   each_over n [] [] each = tt
   each_over n [] (s ∷ ss) each = absurd each
   each_over n (x ∷ xs) [] each = absurd each
   each_over n (x ∷ xs) (s ∷ ss) each = (one_over x s each.0, each_over (n + 1) xs ss each.1)
 
-  pub opened_over : (names : List (List ℕ)) (new : Told) (sessions : List (SessionOut I O)) → HasOpened tells names mid new sessions
-      → HasOpened tells names old new sessions
+  pub opened_over : (names : List (List ℕ)) (new : HostSpec) (sessions : List (SessionOut I O)) → HasOpened io names mid new sessions
+      → HasOpened io names old new sessions
   opened_over names new sessions opened =
       record { each = each_over 0 names sessions opened.each; faults = opened.faults ∙ streams.faults }
 
@@ -159,7 +161,8 @@ longer_upto : (h before more : List Entry) (r : ℕ) → IsLawful before → bas
 longer_upto h before more r lawful start is =
     take-append-le (r + 1) h more (within_upto h before r lawful start is) ∙ is
 
-module _ {D : Type 0} {g : _} (told : Told) (disks : DiskTells D) (dir : List ℕ) (directory : Directory D g) (opened : IsOpened told disks
+module _ {D : Type 0} {g : _} (spec : HostSpec) (disks : DiskSpec D) (dir : List ℕ) (directory : Directory D g)
+    (opened : IsOpened spec disks
     dir directory) (h : List Entry) (opening : ℕ)
     (recovered : opening ≡ directory.recovered) (within : opening ≤ basis h) (begins : upto h opening ≡ directory.core.snapshot.entries)
     (log : D) where
@@ -176,17 +179,17 @@ module _ {D : Type 0} {g : _} (told : Told) (disks : DiskTells D) (dir : List �
   begun = disk_in directory.log
 
   -- where the host told, the disk tells as the log is opened
-  told_then : (file : List ℕ) → told.disks dir Log ≡ Some file → (later : List ℕ) × (disks.bytes begun ≡ Some later)
-  told_then file is = opened.reopened.told file (opened.log.bytes ∙ is)
+  told_then : (file : List ℕ) → spec.disks dir Log ≡ Some file → (later : List ℕ) × (disks.bytes begun ≡ Some later)
+  told_then file is = opened.reopened.known file (opened.log.bytes ∙ is)
 
-  unfailed : disks.faults begun ≡ told.disk_faults dir Log
+  unfailed : disks.faults begun ≡ spec.disk_faults dir Log
   unfailed = opened.reopened.unfailed ∙ opened.log.faults
 
   -- what a crash leaves since the host handed out the disk, if this is what it leaves since the log was opened
   any_moment : (l : List Entry) → opening ≤ basis l → upto l opening ≡ before
-      → WhereTold (disks.bytes begun) (λ _. LeavesOnly disks.moment disks.images_since begun log (IsLogFrom opening l))
-      → WhereTold (told.disks dir Log) (λ _. (image : List ℕ) → disks.images_since log (told.disk_moment dir Log) image
-      → told.disk_images dir Log image ⊎ IsLogFrom opening l image)
+      → IfKnown (disks.bytes begun) (λ _. LeavesOnly disks.moment disks.images_since begun log (IsLogFrom opening l))
+      → IfKnown (spec.disks dir Log) (λ _. (image : List ℕ) → disks.images_since log (spec.disk_moment dir Log) image
+      → spec.disk_images dir Log image ⊎ IsLogFrom opening l image)
   any_moment l least is later = λ file told_is image since.
       let first = opened.reopened.any_moment file (opened.log.bytes ∙ told_is) in
       let then_told = told_then file told_is in
@@ -202,7 +205,7 @@ module _ {D : Type 0} {g : _} (told : Told) (disks : DiskTells D) (dir : List �
       (second.before (disks.moment opened.disk) image first.later here)
 
   pub log_holds : (torn : Option Draft) → LeavesLog disks directory.recovered begun h torn log
-      → LogHolds told disks dir h opening torn log
+      → LogHolds spec disks dir h opening torn log
   log_holds None left =
       let kept : HasKept disks.bytes disks.images disks.faults disks.moment disks.images_since opening begun h log =
       subst (λ (r : ℕ). HasKept disks.bytes disks.images disks.faults disks.moment disks.images_since r begun h log) (sym recovered) left in
@@ -229,35 +232,35 @@ module _ {D : Type 0} {g : _} (told : Told) (disks : DiskTells D) (dir : List �
       }
 
   -- the file was the log of the history so far
-  pub opening_is : WhereTold (told.disks dir Log) (λ file. IsLogOf file (upto h opening))
+  pub opening_is : IfKnown (spec.disks dir Log) (λ file. IsLogOf file (upto h opening))
   opening_is = λ file is.
       subst (IsLogOf file) (sym begins) (opened.reopened.history file (opened.log.bytes ∙ is))
 
-module _ {I O D : Type 0} {g : _} (told : Told) (disks : DiskTells D) (dir : List ℕ) (directory : Directory D g) (opened : IsOpened told
+module _ {I O D : Type 0} {g : _} (spec : HostSpec) (disks : DiskSpec D) (dir : List ℕ) (directory : Directory D g) (opened : IsOpened spec
     disks
     dir directory) (outcome : Outcome I O D)
     (h : List Entry) (goes_on : GoesOnFrom directory h outcome) where
-  pub run_opens : WhereTold (told.disks dir Log) (λ file. IsLogOf file (upto h outcome.recovered))
+  pub run_opens : IfKnown (spec.disks dir Log) (λ file. IsLogOf file (upto h outcome.recovered))
   run_opens =
-      opening_is told disks dir directory opened h outcome.recovered goes_on.recovered goes_on.within goes_on.opened (disk_in directory.log)
+      opening_is spec disks dir directory opened h outcome.recovered goes_on.recovered goes_on.within goes_on.opened (disk_in directory.log)
 
   pub run_log : HandsLogBack disks directory.recovered (disk_in directory.log) h outcome
-      → IfSome outcome.log (LogHolds told disks dir h outcome.recovered outcome.torn)
+      → IfSome outcome.log (LogHolds spec disks dir h outcome.recovered outcome.torn)
   run_log leaves =
-      subst (λ (o : Option D). IfSome o (LogHolds told disks dir h outcome.recovered outcome.torn)) (sym leaves.log_is)
-      (log_holds told disks dir directory opened h outcome.recovered goes_on.recovered goes_on.within goes_on.opened leaves.log outcome.torn
+      subst (λ (o : Option D). IfSome o (LogHolds spec disks dir h outcome.recovered outcome.torn)) (sym leaves.log_is)
+      (log_holds spec disks dir directory opened h outcome.recovered goes_on.recovered goes_on.within goes_on.opened leaves.log outcome.torn
       leaves.left)
 
-module _ {I O D : Type 0} {g : _} (told : Told) (disks : DiskTells D) (dir : List ℕ) (directory : Directory D g) (opened : IsOpened told
+module _ {I O D : Type 0} {g : _} (spec : HostSpec) (disks : DiskSpec D) (dir : List ℕ) (directory : Directory D g) (opened : IsOpened spec
     disks
     dir directory) (outcome : Outcome I O D) where
-  logs_by : (last : Option Kept) → IfSome last (λ l. GoesOnFrom directory l.entries outcome)
+  logs_by : (last : Option SnapshotModel) → IfSome last (λ l. GoesOnFrom directory l.entries outcome)
       → IfSome last (λ l. HandsLogBack disks directory.recovered (disk_in directory.log) l.entries outcome)
-      → IfSome last (λ l. IfSome outcome.log (LogHolds told disks dir l.entries outcome.recovered outcome.torn))
+      → IfSome last (λ l. IfSome outcome.log (LogHolds spec disks dir l.entries outcome.recovered outcome.torn))
   logs_by None goes_on leaves = tt
-  logs_by (Some l) goes_on leaves = run_log told disks dir directory opened outcome l.entries goes_on leaves
+  logs_by (Some l) goes_on leaves = run_log spec disks dir directory opened outcome l.entries goes_on leaves
 
   pub run_logs : IfSome outcome.last (λ l. GoesOnFrom directory l.entries outcome)
       → IfSome outcome.last (λ l. HandsLogBack disks directory.recovered (disk_in directory.log) l.entries outcome)
-      → IfSome outcome.last (λ l. IfSome outcome.log (LogHolds told disks dir l.entries outcome.recovered outcome.torn))
+      → IfSome outcome.last (λ l. IfSome outcome.log (LogHolds spec disks dir l.entries outcome.recovered outcome.torn))
   run_logs goes_on leaves = logs_by outcome.last goes_on leaves

@@ -9,9 +9,9 @@ use Rattle.std.specs.List.{range_with_len, AllByRecursion}
 use Rattle.std.specs.Str.Parse.{digits_value}
 use Rattle.fb_model.specs.History.{basis}
 use Rattle.talk_model.specs.Prefixes.{Prefixes}
-use Rattle.fb_view.specs.Kept.{Kept}
+use Rattle.fb_view.specs.SnapshotModel.{SnapshotModel}
 use Rattle.fb_core.specs.declared.accepting.Draft.{Draft}
-use Rattle.fb_ports.specs.Told.{Told}
+use Rattle.fb_ports.specs.HostSpec.{HostSpec}
 use Rattle.mem_ports.specs.InMemory.{Supply, Store}
 use Rattle.command_line.specs.Words.{Command, load, standard}
 use Rattle.load_scripts.specs.Scripts.{script_of}
@@ -20,16 +20,18 @@ use Rattle.fb_session.specs.declared.outcome.SessionEnd.TheVariants as ended
 use Rattle.fb_session.specs.Sessions.{Terms}
 use Rattle.fb_run.specs.declared.outcome.SessionOut.{SessionOut}
 use Rattle.fb_run.specs.declared.outcome.Outcome.{Outcome}
-use Rattle.fb_run.specs.Outside.{Tells, DiskTells, IsSinkOf, EachOf}
+use Rattle.fb_run.specs.Outside.{StreamSpec, DiskSpec, IsSinkOf, EachOf}
 use Rattle.fb_run.specs.Opening.{IsOpenedFor}
 use Rattle.fb_run.specs.Headline.{OneHistory, EachReplies, stop_of}
-use Rattle.fb_run.specs.Generated.{loads_of, told_in_memory, in_memory}
+use Rattle.fb_run.specs.Generated.{loads_of, spec_in_memory, in_memory}
 use Rattle.fb_run.specs.Summary.{IsSummary}
 use Rattle.fb_run.specs.Logs.{LogHolds}
 use Rattle.fb_run.specs.StatusLines.{answered, reported, console_failed, memory, first_early, why_of}
-use Rattle.fb_run.specs.Causes.{NoSession, IsOutOfMemory, SaysWhy, HaveRun, directory_of, IsUnfailed, TookWhole, TookPart, HasLoaded, CauseOf, Causes}
-use Rattle.fb_run.specs.Looking.{HasTold}
-use Rattle.fb_run.specs.Loading.{supply, room, AreGenerated, Left, left_of, Said, said_of, HasReported, SumsUp, SaysSame, HasSummedUp, SaysFurther}
+use Rattle.fb_run.specs.Causes.{NoSession, IsOutOfMemory, SaysWhy, HaveRun, directory_of, IsUnfailed, TookWhole, TookPart, HasLoaded}
+use Rattle.fb_run.specs.Causes.{CauseOf, Causes}
+use Rattle.fb_run.specs.Looking.{HasPrinted}
+use Rattle.fb_run.specs.Loading.{supply, room, AreGenerated, Left, left_of, Said, said_of, HasReported, SumsUp, SaysSame, HasSummedUp}
+use Rattle.fb_run.specs.Loading.{SaysFurther}
 use Rattle.fb_run.specs.Running.{RepliesBy, HaveEnded}
 use Rattle.fb_run.specs.declared.merging.Trees.{Trees}
 use Rattle.fb_run.specs.Merging.{CountsMerges}
@@ -47,9 +49,9 @@ one_more of f k was now s pushed is before =
     ap (map of) pushed ∙ map-append of was (s ∷ []) ∙ ap (λ xs. xs ++ of s ∷ []) before
     ∙ ap (λ x. map f (range_with_len 0 k) ++ x ∷ []) is ∙ sym (map-range_with_len_more f 0 k k (omega arith))
 
-module _ (told : Told) (count : ℕ) where
-  abbrev ours : Told
-  ours = told_in_memory told (Some (load count))
+module _ (spec : HostSpec) (count : ℕ) where
+  abbrev ours : HostSpec
+  ours = spec_in_memory spec (Some (load count))
 
   one_opened : (name : List ℕ) (k : ℕ) (s : SessionOut Supply Store) → digits_value 10 name ≡ k → s.source ≡ supply count k
       → s.sink ≡ room k → IsOpenedFor ours in_memory name s
@@ -85,9 +87,9 @@ module _ (told : Told) (count : ℕ) where
 -- ---- what is said
 
 pub has_reported : {I O D : Type 0} (contents : O → Option (List ℕ)) (faults : O → ℕ) (line : List ℕ) (was : O) (outcome : Outcome I O D)
-    → HasTold contents faults line was outcome → HasReported contents faults line was (said_of outcome)
-has_reported contents faults line was outcome told =
-    record { now = told.now; console_is = told.console_is; took = told.took }
+    → HasPrinted contents faults line was outcome → HasReported contents faults line was (said_of outcome)
+has_reported contents faults line was outcome spec =
+    record { now = spec.now; console_is = spec.console_is; took = spec.took }
 
 -- where the status is 0, no session ended early and the log did not stop
 log_whole : (stop : Option ℕ) (end : WorkEnd) (status : ℕ) (line : List ℕ) → SaysWhy (why_of None stop end) status line
@@ -125,14 +127,14 @@ not_torn (Some draft) none = absurd (cc)
 
 -- ---- the outcome of the generator, from that of the run of its sessions
 
-module _ {I O D : Type 0} (told new : Told) (tells : Tells I O) (disks : DiskTells D) (count : ℕ) (ran : Outcome Supply Store D)
+module _ {I O D : Type 0} (spec new : HostSpec) (io : StreamSpec I O) (disks : DiskSpec D) (count : ℕ) (ran : Outcome Supply Store D)
     (out : Outcome I O D) (left : left_of out ≡ left_of ran) (loads : out.loads.items ≡ ran.sessions.items)
     (none : out.sessions.items ≡ []) where
   abbrev command : Option Command
   command = Some (load count)
 
-  abbrev generators : Told
-  generators = told_in_memory told command
+  abbrev generators : HostSpec
+  generators = spec_in_memory spec command
 
   abbrev names : List (List ℕ)
   names = loads_of command
@@ -181,7 +183,7 @@ module _ {I O D : Type 0} (told new : Told) (tells : Tells I O) (disks : DiskTel
   succeeded contents faults was (inl says) success = sym (ap (λ (s : Said O). s.status) says.same) ∙ success
   succeeded contents faults was (inr says) success = says.success
 
-  pub load_merged : (Merged : Option D → Kept → Type 0) (contents : O → Option (List ℕ)) (faults : O → ℕ) (was : O)
+  pub load_merged : (Merged : Option D → SnapshotModel → Type 0) (contents : O → Option (List ℕ)) (faults : O → ℕ) (was : O)
       → SaysFurther contents faults ran.status (string_bytes ran.line) ran.last was (said_of out)
       → IfSome ran.last (λ last. ran.status ≡ 0 → Merged ran.segments last)
       → IfSome out.last (λ last. out.status ≡ 0 → Merged out.segments last)
@@ -190,15 +192,15 @@ module _ {I O D : Type 0} (told new : Told) (tells : Tells I O) (disks : DiskTel
       (IfSome_then ran.last holds (λ last merged success. merged (succeeded contents faults was says success)))
 
   module _ {g : _} (merge_at : ℕ) (begun : Trees D g)
-      (calm : disks.faults (segments_in begun.store) ≡ told.disk_faults (directory_of command) Segments) where
+      (calm : disks.faults (segments_in begun.store) ≡ spec.disk_faults (directory_of command) Segments) where
     abbrev Ended : List (SessionOut Supply Store) → Type 0
     Ended opened = HaveEnded in_memory disks merge_at names opened begun ran
 
     -- what it says of how its sessions ran
-    have_run : (early : Option (List ℕ × SessionEnd)) (opened : List (SessionOut Supply Store)) → new.faults ≡ told.faults
+    have_run : (early : Option (List ℕ × SessionEnd)) (opened : List (SessionOut Supply Store)) → new.faults ≡ spec.faults
         → EachOf (λ n name s. IsOpenedFor generators in_memory name s) 0 names opened
         → Ended opened → first_early names (map end_of ran.sessions.items) ≡ early
-        → HaveRun told tells new.faults command out early
+        → HaveRun spec io new.faults command out early
     have_run early opened same each ended first = record {
       is_run = tt;
       host = same;
@@ -223,13 +225,13 @@ module _ {I O D : Type 0} (told new : Told) (tells : Tells I O) (disks : DiskTel
 
     -- what went wrong
     cause_wrong : (early : Option (List ℕ × SessionEnd)) (torn : Option Draft) (end : WorkEnd) → out.torn ≡ torn
-        → IfSome out.last (λ l. IfSome out.log (LogHolds told disks (directory_of command) l.entries out.recovered out.torn))
+        → IfSome out.last (λ l. IfSome out.log (LogHolds spec disks (directory_of command) l.entries out.recovered out.torn))
         → (segments : D) → out.segments ≡ Some segments
-        → CountsMerges end (told.disk_faults (directory_of command) Segments) (disks.faults segments)
-        → HaveRun told tells new.faults command out early
+        → CountsMerges end (spec.disk_faults (directory_of command) Segments) (disks.faults segments)
+        → HaveRun spec io new.faults command out early
         → (SaysWhy answered out.status (string_bytes out.line) → ⊥)
         → SaysWhy (why_of early (stop_of torn) end) out.status (string_bytes out.line)
-        → CauseOf told tells disks new.faults command out (why_of early (stop_of torn) end)
+        → CauseOf spec io disks new.faults command out (why_of early (stop_of torn) end)
     cause_wrong None None Shut is holds segments there counted run wrong says = absurd (wrong says)
     cause_wrong None None StoreFault is holds segments there counted run wrong says = (run, is, (segments, there, counted))
     cause_wrong None None Spent is holds segments there counted run wrong says = absurd (wrong says)
@@ -237,16 +239,16 @@ module _ {I O D : Type 0} (told new : Told) (tells : Tells I O) (disks : DiskTel
     cause_wrong None (Some draft) end is holds segments there counted run wrong says = (
       run,
       ap stop_of is,
-      counts_torn told disks out (directory_of command) holds run.last run.disks.log (subst IsSome (sym is) refl),
+      counts_torn spec disks out (directory_of command) holds run.last run.disks.log (subst IsSome (sym is) refl),
     )
     cause_wrong (Some p) torn end is holds segments there counted run wrong says = run
 
-    module _ (opened : List (SessionOut Supply Store)) (same : new.faults ≡ told.faults)
+    module _ (opened : List (SessionOut Supply Store)) (same : new.faults ≡ spec.faults)
         (each : EachOf (λ n name s. IsOpenedFor generators in_memory name s) 0 names opened)
-        (was : O) (sink : IsSinkOf told tells standard was)
-        (holds : IfSome out.last (λ l. IfSome out.log (LogHolds told disks (directory_of command) l.entries out.recovered out.torn))) where
+        (was : O) (sink : IsSinkOf spec io standard was)
+        (holds : IfSome out.last (λ l. IfSome out.log (LogHolds spec disks (directory_of command) l.entries out.recovered out.torn))) where
       wrong_says : Ended opened → SaysSame ran.status (string_bytes ran.line) ran.last (said_of out)
-          → Causes told tells disks new.faults command out
+          → Causes spec io disks new.faults command out
       wrong_says ended says =
           let early = first_early names (map end_of ran.sessions.items) in
           let e = ended.ends in
@@ -255,7 +257,7 @@ module _ {I O D : Type 0} (told new : Told) (tells : Tells I O) (disks : DiskTel
           let torn : out.torn ≡ ran.torn = ap (λ (l : Left D). l.torn) left in
           let its : SaysWhy (why_of early (stop_of out.torn) e.end) out.status (string_bytes out.line) = rw (status, line, torn) e.says in
           let there : IsSome ran.last = subst IsSome (sym e.last_is) refl in
-          let counted : CountsMerges e.end (told.disk_faults (directory_of command) Segments) (disks.faults e.segments) =
+          let counted : CountsMerges e.end (spec.disk_faults (directory_of command) Segments) (disks.faults e.segments) =
           subst (λ (n : ℕ). CountsMerges e.end n (disks.faults e.segments)) calm e.trees.counts in
           record {
             why = why_of early (stop_of out.torn) e.end;
@@ -267,10 +269,11 @@ module _ {I O D : Type 0} (told new : Told) (tells : Tells I O) (disks : DiskTel
           }
 
       -- the line went out to the console
-      loaded : IsUnfailed told disks command out Segments → (k : Kept) (line : List ℕ) (now : O) (Took : List ℕ → Option (List ℕ) → Option (List ℕ) → ℕ → ℕ → Type 0)
-          → HaveRun told tells new.faults command out None → out.torn ≡ None → out.last ≡ Some k → IsSummary k.entries line
-          → out.console ≡ Some now → Took line (tells.contents was) (tells.contents now) (tells.sink_faults was) (tells.sink_faults now)
-          → HasLoaded told tells disks new.faults command out Took
+      loaded : IsUnfailed spec disks command out Segments
+          → (k : SnapshotModel) (line : List ℕ) (now : O) (Took : List ℕ → Option (List ℕ) → Option (List ℕ) → ℕ → ℕ → Type 0)
+          → HaveRun spec io new.faults command out None → out.torn ≡ None → out.last ≡ Some k → IsSummary k.entries line
+          → out.console ≡ Some now → Took line (io.contents was) (io.contents now) (io.sink_faults was) (io.sink_faults now)
+          → HasLoaded spec io disks new.faults command out Took
       loaded stays k line now Took run torn last_is summary console_is took = record {
         count = count;
         is_load = refl;
@@ -283,13 +286,14 @@ module _ {I O D : Type 0} (told new : Told) (tells : Tells I O) (disks : DiskTel
         summary = summary;
         console = now;
         console_is = console_is;
-        took = subst (λ (had : Option (List ℕ)). Took line had (tells.contents now) (told.sink_faults standard) (tells.sink_faults now))
+        took = subst (λ (had : Option (List ℕ)). Took line had (io.contents now) (spec.sink_faults standard) (io.sink_faults now))
             sink.contents
-            (subst (λ (n : ℕ). Took line (tells.contents was) (tells.contents now) n (tells.sink_faults now)) sink.faults took);
+            (subst (λ (n : ℕ). Took line (io.contents was) (io.contents now) n (io.sink_faults now)) sink.faults took);
       }
 
-      sums_up : IsUnfailed told disks command out Segments → HaveRun told tells new.faults command out None → out.torn ≡ None → (k : Kept) → out.last ≡ Some k
-          → SumsUp tells.contents tells.sink_faults k.entries was (said_of out) → Causes told tells disks new.faults command out
+      sums_up : IsUnfailed spec disks command out Segments → HaveRun spec io new.faults command out None → out.torn ≡ None
+          → (k : SnapshotModel) → out.last ≡ Some k
+          → SumsUp io.contents io.sink_faults k.entries was (said_of out) → Causes spec io disks new.faults command out
       sums_up stays run torn k last_is (inl refused) =
           record { why = memory; says = inr refused.0; cause = inr (run, torn); console = refused.1 }
       sums_up stays run torn k last_is (inr told_it) =
@@ -311,26 +315,26 @@ module _ {I O D : Type 0} (told new : Told) (tells : Tells I O) (disks : DiskTel
           ]
 
       well_says : Ended opened
-          → HasSummedUp tells.contents tells.sink_faults ran.status ran.last was (said_of out)
-          → Causes told tells disks new.faults command out
+          → HasSummedUp io.contents io.sink_faults ran.status ran.last was (said_of out)
+          → Causes spec io disks new.faults command out
       well_says ended says =
           let e = ended.ends in
           let ends = map end_of ran.sessions.items in
           let whole = success_whole names ends (stop_of ran.torn) e.end ran.status (string_bytes ran.line) e.says says.success in
           let merged = success_is_merged e.end names ends (stop_of ran.torn) ran.status (string_bytes ran.line) e.says says.success in
-          let stays : disks.faults e.segments ≡ told.disk_faults (directory_of command) Segments =
+          let stays : disks.faults e.segments ≡ spec.disk_faults (directory_of command) Segments =
           unfailed_well e.end _ _ merged e.trees.counts ∙ calm in
           sums_up (e.segments, over (λ l. l.segments ≡ Some e.segments) e.segments_is, stays) (have_run None opened same each ended whole.0)
           (over (λ l. l.torn ≡ None) (not_torn ran.torn whole.1)) says.kept (over (λ l. l.last ≡ Some says.kept) says.last_is) says.sums_up
 
       pub caused_by_load : (NoSession ran × IsOutOfMemory ran) ⊎ Ended opened
-          → SaysFurther tells.contents tells.sink_faults ran.status (string_bytes ran.line) ran.last was (said_of out)
-          → Causes told tells disks new.faults command out
+          → SaysFurther io.contents io.sink_faults ran.status (string_bytes ran.line) ran.last was (said_of out)
+          → Causes spec io disks new.faults command out
       caused_by_load (inl nothing) (inl says) =
           let status : out.status ≡ ran.status = ap (λ (s : Said O). s.status) says.same in
           let line : string_bytes out.line ≡ string_bytes ran.line = ap (λ (s : Said O). s.line) says.same in
           let refused : IsOutOfMemory out = rw (status, line) nothing.1 in
-          caused_by_memory told tells disks new.faults out (load count) (no_session nothing.0) (ap (λ (s : Said O). s.console) says.same)
+          caused_by_memory spec io disks new.faults out (load count) (no_session nothing.0) (ap (λ (s : Said O). s.console) says.same)
           refused
       caused_by_load (inl nothing) (inr says) = absurd (omega (arith, nothing.1.0, says.success))
       caused_by_load (inr ended) (inl says) = wrong_says ended says
@@ -338,25 +342,25 @@ module _ {I O D : Type 0} (told new : Told) (tells : Tells I O) (disks : DiskTel
 
 -- ---- where a list of sessions is empty
 
-pub nothing_replies : {I O : Type 0} (terms : Terms) (told : Told) (tells : Tells I O) (opening : ℕ) (stop : Option ℕ)
-    (sessions : List (SessionOut I O)) → sessions ≡ [] → (last : Option Kept)
-    → IfSome last (λ l. EachReplies terms told tells opening stop [] sessions l.entries)
-nothing_replies terms told tells opening stop sessions none None = tt
-nothing_replies terms told tells opening stop sessions none (Some l) = (0, rw none tt)
+pub nothing_replies : {I O : Type 0} (terms : Terms) (spec : HostSpec) (io : StreamSpec I O) (opening : ℕ) (stop : Option ℕ)
+    (sessions : List (SessionOut I O)) → sessions ≡ [] → (last : Option SnapshotModel)
+    → IfSome last (λ l. EachReplies terms spec io opening stop [] sessions l.entries)
+nothing_replies terms spec io opening stop sessions none None = tt
+nothing_replies terms spec io opening stop sessions none (Some l) = (0, rw none tt)
 
-pub nothing_all : {S : Type 0} (P : Kept → S → Type 0) (sessions : List S) → sessions ≡ [] → (last : Option Kept)
+pub nothing_all : {S : Type 0} (P : SnapshotModel → S → Type 0) (sessions : List S) → sessions ≡ [] → (last : Option SnapshotModel)
     → IfSome last (λ l. AllByRecursion (P l) sessions)
 nothing_all P sessions none None = tt
 nothing_all P sessions none (Some l) = rw none tt
 
-pub no_loads_history : {I O : Type 0} (last : Option Kept) (opening : ℕ) (authors : List ℕ) (loads : List (SessionOut I O))
+pub no_loads_history : {I O : Type 0} (last : Option SnapshotModel) (opening : ℕ) (authors : List ℕ) (loads : List (SessionOut I O))
     (commits : List (List ℕ)) → loads ≡ [] → IfSome last (λ l. OneHistory l.entries opening authors commits)
     → IfSome last (λ l. OneHistory l.entries opening authors (map (λ (s : SessionOut I O). s.commits) loads ++ commits))
 no_loads_history {I} {O} last opening authors loads commits none holds =
     subst (λ cs. IfSome last (λ l. OneHistory l.entries opening authors cs))
     (sym (ap (λ ls. map (λ (s : SessionOut I O). s.commits) ls ++ commits) none)) holds
 
-pub no_sessions_history : {I O : Type 0} (last : Option Kept) (opening : ℕ) (authors : List ℕ) (commits : List (List ℕ))
+pub no_sessions_history : {I O : Type 0} (last : Option SnapshotModel) (opening : ℕ) (authors : List ℕ) (commits : List (List ℕ))
     (sessions : List (SessionOut I O)) → sessions ≡ [] → IfSome last (λ l. OneHistory l.entries opening authors commits)
     → IfSome last (λ l. OneHistory l.entries opening authors (commits ++ map (λ (s : SessionOut I O). s.commits) sessions))
 no_sessions_history {I} {O} last opening authors commits sessions none holds =

@@ -4,7 +4,7 @@ use Rattle.fb_values.specs.declared.facts.Entry.{Entry}
 use Rattle.command_line.specs.Words.{standard}
 use Rattle.disk_log.specs.Logs.{disk_in}
 use Rattle.seg_store.specs.Stores.{disk_in as segments_in}
-use Rattle.fb_ports.specs.Told.{Told}
+use Rattle.fb_ports.specs.HostSpec.{HostSpec}
 use Rattle.std.specs.Prelude.{Result, Ok, Err, IfOk, IfErr, OnOk, OnErr, MatchResult, string_bytes}
 use Rattle.std.specs.Io.KnownBytes.{append_known}
 use Rattle.fb_ports.specs.Faults.{Counts}
@@ -14,11 +14,11 @@ use Rattle.fb_run.specs.declared.database.Directory.{Directory}
 use Rattle.fb_run.specs.declared.database.Unready.{Unready}
 use Rattle.fb_run.specs.declared.looking.Look.{Look}
 use Rattle.fb_run.specs.StatusLines.{reported, console_failed, history_line}
-use Rattle.fb_run.specs.Outside.{Tells, DiskTells}
+use Rattle.fb_run.specs.Outside.{StreamSpec, DiskSpec}
 use Rattle.fb_run.specs.Opening.{OpensSink, IsNotOpened}
 use Rattle.fb_run.specs.Database.{SameStreams, IsOpened, LeaveLogUnharmed, IsUnready, disks_in}
 use Rattle.fb_run.specs.Causes.{SaysWhy}
-use Rattle.fb_run.specs.Looking.{IsLook, IsUnanswered, HasTold}
+use Rattle.fb_run.specs.Looking.{IsLook, IsUnanswered, HasPrinted}
 use Rattle.fb_run.proofs.Directories.{opened_unharmed, unready_later}
 use Rattle.fb_run.proofs.Telling.{first_unopened}
 
@@ -28,7 +28,7 @@ pub has_told : {I O D E : Type 0} (contents : O → Option (List ℕ)) (faults :
     → Counts r (faults was) (faults now)
     → MatchResult r (λ _. SaysWhy reported outcome.status (string_bytes outcome.line))
     (λ _. SaysWhy console_failed outcome.status (string_bytes outcome.line))
-    → HasTold contents faults line was outcome
+    → HasPrinted contents faults line was outcome
 has_told contents faults line sent was now outcome (Ok u) same is whole part counted said = record {
   now = now;
   console_is = is;
@@ -44,7 +44,7 @@ has_told contents faults line sent was now outcome (Err e) same is whole part co
 }
 
 -- what a look begins with, in the words of what the host told before
-module _ {I O D : Type 0} {g : _} (old mid new : Told) (tells : Tells I O) (disks : DiskTells D) (dir name : List ℕ)
+module _ {I O D : Type 0} {g : _} (old mid new : HostSpec) (io : StreamSpec I O) (disks : DiskSpec D) (dir name : List ℕ)
     (directory : Directory D g) (opened : IsOpened old disks dir directory) (streams : SameStreams old mid) (standard_is : name ≡ standard)
   where
     abbrev h : List Entry
@@ -52,9 +52,9 @@ module _ {I O D : Type 0} {g : _} (old mid new : Told) (tells : Tells I O) (disk
 
     look_of : (look : Look O D g) → look.directory ≡ directory
         → string_bytes look.answer.line ≡ history_line directory.recovered directory.core.snapshot.covered
-        → OpensSink tells name mid new look.answer.console → IsLook old new tells disks dir look
+        → OpensSink io name mid new look.answer.console → IsLook old new io disks dir look
     look_of look is line sink =
-        let its = subst (λ (n : List ℕ). OpensSink tells n mid new look.answer.console) standard_is sink in
+        let its = subst (λ (n : List ℕ). OpensSink io n mid new look.answer.console) standard_is sink in
         record {
           history = h;
           opening = λ file held. opened.reopened.history file (opened.log.bytes ∙ held);
@@ -75,7 +75,7 @@ module _ {I O D : Type 0} {g : _} (old mid new : Told) (tells : Tells I O) (disk
 
     pub is_look : {E : Type 0} (r : Result (Look O D g) E) → IfOk r (λ look. look.directory ≡ directory)
         → IfOk r (λ look. string_bytes look.answer.line ≡ history_line directory.recovered directory.core.snapshot.covered)
-        → IfOk r (λ look. OpensSink tells name mid new look.answer.console) → IfOk r (IsLook old new tells disks dir)
+        → IfOk r (λ look. OpensSink io name mid new look.answer.console) → IfOk r (IsLook old new io disks dir)
     is_look (Ok look) is line sink = look_of look is line sink
     is_look (Err e) is line sink = tt
 

@@ -1,5 +1,6 @@
 -- What the closed database and the sessions that ran leave: one history, and what each session did in it.
-use Rattle.std.proofs.Common.{◌≡◌, ℕ, ◌+◌, ◌<◌, ◌≤◌, ◌⊎◌, inl, inr, List, [], ◌∷◌, ◌++◌, map, length, length-append, Option, Some, None, refl, sym, ap, ◌∙◌, subst, arith}
+use Rattle.std.proofs.Common.{◌≡◌, ℕ, ◌+◌, ◌<◌, ◌≤◌, ◌⊎◌, inl, inr, List, [], ◌∷◌, ◌++◌, map, length, length-append, Option, Some, None}
+use Rattle.std.proofs.Common.{refl, sym, ap, ◌∙◌, subst, arith}
 use Rattle.std.proofs.lemmas.Option.{get_or_from_slice_get, slice_get_within}
 use Rattle.std.proofs.lemmas.List.{append_assoc}
 use Rattle.std.proofs.Math.Seq.{take-append_seam}
@@ -13,7 +14,7 @@ use Rattle.fb_model.specs.Lawful.{IsLawful, IsLawfulAfter}
 use Rattle.fb_model.proofs.LawfulHistories.{IsLawful-length}
 use Rattle.fb_model.proofs.Times.{next_t}
 use Rattle.fb_core.specs.Worlds.{commits_behind}
-use Rattle.fb_view.specs.Kept.{Kept}
+use Rattle.fb_view.specs.SnapshotModel.{SnapshotModel}
 use Rattle.fb_desk.specs.Desks.{State, as_opened}
 use Rattle.fb_conn.specs.declared.conn.Conn.{Conn}
 use Rattle.fb_conn.specs.declared.seats.Seat.{Seat}
@@ -34,7 +35,7 @@ use Rattle.fb_session.specs.Sessions.{Terms}
 use Rattle.fb_session.specs.Replies.{Replies}
 use Rattle.fb_session.proofs.LongerHistories.{replies_longer, prefixes_longer}
 use Rattle.fb_run.specs.declared.outcome.SessionOut.{SessionOut}
-use Rattle.fb_run.specs.Outside.{Tells, DiskTells, run_from, setting_of, EachOf}
+use Rattle.fb_run.specs.Outside.{StreamSpec, DiskSpec, run_from, setting_of, EachOf}
 use Rattle.fb_run.specs.Jobs.{HasTalked, HaveTalked}
 use Rattle.fb_run.specs.declared.outcome.Outcome.{Outcome}
 use Rattle.fb_run.specs.Headline.{OneHistory, stop_of}
@@ -52,8 +53,8 @@ abbrev pub teller_of : Option Stop → ℕ
 teller_of None = 0
 teller_of (Some stop) = stop.author
 
-module _ {I O : Type 0} (terms : Terms) (tells : Tells I O) (h : List Entry) (begun : IsLawful h) (r : ℕ) (start : basis h ≡ r) (stopped :
-    Option Stop) (last : Kept)
+module _ {I O : Type 0} (terms : Terms) (io : StreamSpec I O) (h : List Entry) (begun : IsLawful h) (r : ℕ) (start : basis h ≡ r) (stopped :
+    Option Stop) (last : SnapshotModel)
     (authors : List ℕ) (lawful : IsLawful last.entries) where
   abbrev stop : Option ℕ
   stop = option_map at_of stopped
@@ -63,8 +64,8 @@ module _ {I O : Type 0} (terms : Terms) (tells : Tells I O) (h : List Entry) (be
     commits : new.commits ≡ commits_behind r k authors
     rising : IsStrictlyIncreasing new.commits
     prefixes : Prefixes r (basis last.entries) new.places new.commits
-    replies : Replies (setting_of terms last.entries stop (teller_of stopped == k)) r (run_from tells old.source old.sink new)
-    counts : CountsBy tells old new
+    replies : Replies (setting_of terms last.entries stop (teller_of stopped == k)) r (run_from io old.source old.sink new)
+    counts : CountsBy io old new
 
   stays_by : (z : State) (who : Option Stop) (k : ℕ) → (z.stop ≡ None) ⊎ ((z.stop ≡ option_map at_of who) × (z.teller ≡ is_author k who))
       → (z.stop ≡ None) ⊎ ((option_map at_of who ≡ z.stop) × ((teller_of who == k) ≡ z.teller))
@@ -74,7 +75,7 @@ module _ {I O : Type 0} (terms : Terms) (tells : Tells I O) (h : List Entry) (be
   stays_by z (Some who) k (inr one) = inr (sym one.0, sym one.1)
 
   -- the history goes on from the opening's
-  grown_by : (k : ℕ) (s z : State) (old new : SessionOut I O) → IsNew h s → HasTalked terms tells s z old new
+  grown_by : (k : ℕ) (s z : State) (old new : SessionOut I O) → IsNew h s → HasTalked terms io s z old new
       → IsTakenIn (record { snapshot = last; authors = authors }) r stopped k z → (more : List Entry) × (last.entries ≡ h ++ more)
   grown_by k s z old new is_new talked taken =
       let entries : s.entries ≡ h = ap (λ (x : State). x.entries) is_new in (
@@ -84,7 +85,7 @@ module _ {I O : Type 0} (terms : Terms) (tells : Tells I O) (h : List Entry) (be
             ∙ append_assoc h talked.went_on.more taken.more),
       )
 
-  part_of : (k : ℕ) (s z : State) (old new : SessionOut I O) → IsNew h s → HasTalked terms tells s z old new
+  part_of : (k : ℕ) (s z : State) (old new : SessionOut I O) → IsNew h s → HasTalked terms io s z old new
       → IsTakenIn (record { snapshot = last; authors = authors }) r stopped k z → Part k old new
   part_of k s z old new is_new talked taken =
       let entries : s.entries ≡ h = ap (λ (x : State). x.entries) is_new in
@@ -110,10 +111,10 @@ module _ {I O : Type 0} (terms : Terms) (tells : Tells I O) (h : List Entry) (be
       ) in
       let prefixes : Prefixes r (basis z.entries) new.places new.commits =
       subst (λ (n : ℕ). Prefixes n (basis z.entries) new.places new.commits) first talked.prefixes in
-      let replies : Replies (setting_of terms z.entries z.stop z.teller) r (run_from tells old.source old.sink new) =
-      subst (λ (n : ℕ). Replies (setting_of terms z.entries z.stop z.teller) n (run_from tells old.source old.sink new)) first
+      let replies : Replies (setting_of terms z.entries z.stop z.teller) r (run_from io old.source old.sink new) =
+      subst (λ (n : ℕ). Replies (setting_of terms z.entries z.stop z.teller) n (run_from io old.source old.sink new)) first
       talked.replies in
-      let over : Replies (setting_of terms (z.entries ++ taken.more) stop (teller_of stopped == k)) r (run_from tells old.source old.sink
+      let over : Replies (setting_of terms (z.entries ++ taken.more) stop (teller_of stopped == k)) r (run_from io old.source old.sink
       new) =
       replies_longer (setting_of terms z.entries z.stop z.teller) taken.more stop (teller_of stopped == k) count grows (stays_by z stopped k
       taken.stop) r seen _ replies in
@@ -121,7 +122,7 @@ module _ {I O : Type 0} (terms : Terms) (tells : Tells I O) (h : List Entry) (be
         commits = sym ours ∙ taken.commits;
         rising = commits_rise _ _ _ _ talked.prefixes.committed_before;
         prefixes = prefixes_longer r (basis z.entries) (basis last.entries) new.places new.commits within prefixes;
-        replies = subst (λ (l : List Entry). Replies (setting_of terms l stop (teller_of stopped == k)) r (run_from tells old.source
+        replies = subst (λ (l : List Entry). Replies (setting_of terms l stop (teller_of stopped == k)) r (run_from io old.source
             old.sink
             new)) (sym taken.entries) over;
         counts = record { source = talked.source_count; sink = talked.sink_count };
@@ -129,7 +130,7 @@ module _ {I O : Type 0} (terms : Terms) (tells : Tells I O) (h : List Entry) (be
 
   module _ {L R : Type 0} (conn : Conn L R) (given : List Seat) (opened : List (SessionOut I O)) (seats : List Seat) (sessions : List
       (SessionOut I O))
-      (talked : HaveTalked terms tells conn given opened seats sessions) (count : length opened ≡ length given)
+      (talked : HaveTalked terms io conn given opened seats sessions) (count : length opened ≡ length given)
       (is_new : (k : ℕ) (seat : Seat) → slice_get given k ≡ Some seat → IsNew h (state_of seat))
       (taken : (k : ℕ) (seat : Seat) → slice_get seats k ≡ Some seat → IsTakenIn (record { snapshot = last; authors = authors }) r stopped k
       (state_of seat)) where
@@ -186,20 +187,20 @@ module _ {I O : Type 0} (terms : Terms) (tells : Tells I O) (h : List Entry) (be
     same_count : length opened ≡ length sessions
     same_count = omega (arith, count, talked.session_count)
 
-    pub all_replies : RepliesBy terms tells r stop opened sessions last.entries
+    pub all_replies : RepliesBy terms io r stop opened sessions last.entries
     all_replies = (
       teller_of stopped,
-      each_at (λ n (old new : SessionOut I O). Replies (setting_of terms last.entries stop (teller_of stopped == n)) r (run_from tells
+      each_at (λ n (old new : SessionOut I O). Replies (setting_of terms last.entries stop (teller_of stopped == n)) r (run_from io
           old.source old.sink
           new)) 0 opened sessions same_count (λ k m old new is is_old is_new_one.
           let same : m ≡ k = omega (arith, is) in
-          subst (λ (n : ℕ). Replies (setting_of terms last.entries stop (teller_of stopped == n)) r (run_from tells old.source old.sink
+          subst (λ (n : ℕ). Replies (setting_of terms last.entries stop (teller_of stopped == n)) r (run_from io old.source old.sink
           new)) (sym same)
           (part_at k old new is_old is_new_one (slice_get_within sessions k new is_new_one)).replies),
     )
 
-    pub all_counts : EachOf (λ n (old new : SessionOut I O). CountsBy tells old new) 0 opened sessions
-    all_counts = each_at (λ n (old new : SessionOut I O). CountsBy tells old new) 0 opened sessions same_count (λ k m old new is is_old
+    pub all_counts : EachOf (λ n (old new : SessionOut I O). CountsBy io old new) 0 opened sessions
+    all_counts = each_at (λ n (old new : SessionOut I O). CountsBy io old new) 0 opened sessions same_count (λ k m old new is is_old
         is_new_one.
         (part_at k old new is_old is_new_one (slice_get_within sessions k new is_new_one)).counts)
 
@@ -231,7 +232,7 @@ by_last (x ∷ xs) n e same = by_last xs x.t x refl
 next_of : (h : List Entry) (draft : Draft) → IsLawfulAfter h (entry_of draft) → basis draft.after.entries ≡ basis h + 1
 next_of h draft next = by_last draft.after.entries 0 _ refl ∙ next_t h (entry_of draft) next
 
-pub torn_at : {D : Type 0} {g : _} (disks : DiskTells D) (begun log : DiskLog D g) (h : List Entry) (stopped : Option Stop) (torn : Option
+pub torn_at : {D : Type 0} {g : _} (disks : DiskSpec D) (begun log : DiskLog D g) (h : List Entry) (stopped : Option Stop) (torn : Option
     Draft) → IsLawful h
     → LogStands (KeepsHistory disks.bytes disks.images disks.faults disks.moment disks.images_since)
     (BrokeAt disks.bytes disks.images disks.faults disks.moment disks.images_since) begun h log stopped torn
@@ -242,7 +243,7 @@ torn_at disks begun log h (Some who) torn lawful stands =
     let t : basis draft.after.entries ≡ who.at = omega (arith, next_of h draft stands.1.3, IsLawful-length h lawful, stands.0) in
     ap stop_of stands.1.1 ∙ ap (λ (n : ℕ). Some n) t
 
-module _ {D : Type 0} {g : _} (disks : DiskTells D) (begun log : DiskLog D g) (disk : D)
+module _ {D : Type 0} {g : _} (disks : DiskSpec D) (begun log : DiskLog D g) (disk : D)
     (kept : (from : DiskLog D g) (h : List Entry) → KeepsHistory disks.bytes disks.images disks.faults disks.moment disks.images_since from
     h
     log
@@ -307,9 +308,9 @@ opened_upto h l more r lawful start is =
     let count : r + 1 ≡ length h = omega (arith, IsLawful-length h lawful, start) in
     ap (λ (n : ℕ). take n l) count ∙ (ap (take (length h)) is ∙ take-append_seam h more)
 
-module _ {I O D L R : Type 0} (terms : Terms) (tells : Tells I O) (conn : Conn L R) (given : List Seat) (opened : List (SessionOut I O))
+module _ {I O D L R : Type 0} (terms : Terms) (io : StreamSpec I O) (conn : Conn L R) (given : List Seat) (opened : List (SessionOut I O))
     (seats : List Seat)
-    (sessions : List (SessionOut I O)) (talked : HaveTalked terms tells conn given opened seats sessions) (count : length opened ≡ length
+    (sessions : List (SessionOut I O)) (talked : HaveTalked terms io conn given opened seats sessions) (count : length opened ≡ length
     given)
     (h : List Entry) (begun : IsLawful h) (r : ℕ) (opens : basis h ≡ r)
     (is_new : (k : ℕ) (seat : Seat) → slice_get given k ≡ Some seat → IsNew h (state_of seat)) (outcome : Outcome I O D) (closes : Closes
@@ -321,16 +322,16 @@ module _ {I O D L R : Type 0} (terms : Terms) (tells : Tells I O) (conn : Conn L
       some_then (λ last. OneHistory last.entries outcome.recovered (unwrap_or outcome.authors []) (map (λ (s : SessionOut I O). s.commits)
       outcome.sessions.items))
       outcome.last closes.last closes.last_is
-      (rw (start, same, closes.authors_is) (one_history terms tells h begun r opens closes.stopped closes.last closes.authors closes.lawful
+      (rw (start, same, closes.authors_is) (one_history terms io h begun r opens closes.stopped closes.last closes.authors closes.lawful
       conn given opened seats sessions talked count is_new closes.taken
       closes.each_t closes.by_sessions))
 
-  pub run_replies : IfSome outcome.last (λ last. RepliesBy terms tells outcome.recovered (stop_of outcome.torn) opened
+  pub run_replies : IfSome outcome.last (λ last. RepliesBy terms io outcome.recovered (stop_of outcome.torn) opened
       outcome.sessions.items last.entries)
   run_replies =
-      some_then (λ last. RepliesBy terms tells outcome.recovered (stop_of outcome.torn) opened outcome.sessions.items last.entries)
+      some_then (λ last. RepliesBy terms io outcome.recovered (stop_of outcome.torn) opened outcome.sessions.items last.entries)
       outcome.last closes.last closes.last_is
-      (rw (start, same, closes.torn) (all_replies terms tells h begun r opens closes.stopped closes.last closes.authors closes.lawful conn
+      (rw (start, same, closes.torn) (all_replies terms io h begun r opens closes.stopped closes.last closes.authors closes.lawful conn
       given opened seats sessions talked count is_new closes.taken))
 
   pub run_prefixes : IfSome outcome.last (λ last. AllByRecursion (λ (s : SessionOut I O). Prefixes outcome.recovered (basis last.entries)
@@ -339,14 +340,14 @@ module _ {I O D L R : Type 0} (terms : Terms) (tells : Tells I O) (conn : Conn L
       some_then (λ last. AllByRecursion (λ (s : SessionOut I O). Prefixes outcome.recovered (basis last.entries) s.places s.commits)
       outcome.sessions.items)
       outcome.last closes.last closes.last_is
-      (rw (start, same) (all_prefixes terms tells h begun r opens closes.stopped closes.last closes.authors closes.lawful conn given opened
+      (rw (start, same) (all_prefixes terms io h begun r opens closes.stopped closes.last closes.authors closes.lawful conn given opened
       seats sessions talked count is_new closes.taken))
 
   pub run_opening : {g : _} (directory : Directory D g) → directory.core.snapshot.entries ≡ h → directory.recovered ≡ r → 0 < length
       sessions
       → IfSome outcome.last (λ last. GoesOnFrom directory last.entries outcome)
   run_opening directory is_h is_r some =
-      let grown = opened_history terms tells h begun r opens closes.stopped closes.last closes.authors closes.lawful conn given opened seats
+      let grown = opened_history terms io h begun r opens closes.stopped closes.last closes.authors closes.lawful conn given opened seats
       sessions talked count is_new closes.taken some in
       some_then (λ last. GoesOnFrom directory last.entries outcome) outcome.last closes.last closes.last_is
       (record {
@@ -355,15 +356,15 @@ module _ {I O D L R : Type 0} (terms : Terms) (tells : Tells I O) (conn : Conn L
         opened = ap (upto closes.last.entries) start ∙ (opened_upto h closes.last.entries grown.0 r begun opens grown.1 ∙ sym is_h);
       })
 
-  pub run_ended : {g : _} (names : List (List ℕ)) (disks : DiskTells D) (merge_at n : ℕ) (was : D) (trees : Trees D g)
+  pub run_ended : {g : _} (names : List (List ℕ)) (disks : DiskSpec D) (merge_at n : ℕ) (was : D) (trees : Trees D g)
       → IfSome outcome.last (λ last. HandsLogBack disks n was last.entries outcome)
       → EndsWith disks merge_at names trees outcome
-      → HaveEnded tells disks merge_at names opened trees outcome
+      → HaveEnded io disks merge_at names opened trees outcome
   run_ended names disks merge_at n was trees leaves ends =
       let left : HandsLogBack disks n was closes.last.entries outcome =
-      subst (λ (o : Option Kept). IfSome o (λ last. HandsLogBack disks n was last.entries outcome)) closes.last_is leaves in
+      subst (λ (o : Option SnapshotModel). IfSome o (λ last. HandsLogBack disks n was last.entries outcome)) closes.last_is leaves in
       record {
-        each = rw same (all_counts terms tells h begun r opens closes.stopped closes.last closes.authors closes.lawful conn given opened
+        each = rw same (all_counts terms io h begun r opens closes.stopped closes.last closes.authors closes.lawful conn given opened
             seats sessions talked count is_new closes.taken);
         ends = ends;
         authors = rw closes.authors_is refl;

@@ -1,9 +1,10 @@
 -- What becomes of a run's trees, from the opening to the end.
-use Rattle.std.proofs.Common.{◌≡◌, ◌⊎◌, ◌<◌, ◌^◌, inl, inr, ℕ, Bool, true, false, List, ◌++◌, Option, Some, None, refl, sym, ap, ◌∙◌, subst, arith}
+use Rattle.std.proofs.Common.{◌≡◌, ◌⊎◌, ◌<◌, ◌^◌, inl, inr, ℕ, Bool, true, false, List, ◌++◌, Option, Some, None, refl, sym, ap, ◌∙◌, subst}
+use Rattle.std.proofs.Common.{arith}
 use Rattle.std.specs.Prelude.{IfSome, nat_lt, map, string_bytes}
 use Rattle.std.proofs.lemmas.Bool.{ltb-true, ltb-false}
 use Rattle.std.proofs.lemmas.Option.{IfSome_then}
-use Rattle.fb_calls.specs.Faults.{Rose}
+use Rattle.io_faults.specs.Faults.{Rose}
 use Rattle.fb_values.specs.declared.facts.Entry.{Entry}
 use Rattle.fb_model.specs.History.{upto}
 use Rattle.fb_model.specs.Lawful.{IsLawful}
@@ -17,9 +18,9 @@ use Rattle.seg_store.specs.declared.stores.SegStore.{SegStore}
 use Rattle.seg_store.proofs.Rooting.{great_left}
 use Rattle.fb_recover.specs.Openings.{HasCoverage}
 use Rattle.fb_roots.specs.declared.bases.Base.{Base}
-use Rattle.fb_view.specs.Kept.{Kept}
+use Rattle.fb_view.specs.SnapshotModel.{SnapshotModel}
 use Rattle.fb_core.specs.Cores.{live_datoms}
-use Rattle.fb_ports.specs.Told.{Told}
+use Rattle.fb_ports.specs.HostSpec.{HostSpec}
 use Rattle.merge_worker.proofs.Standing.{of_longer}
 use Rattle.merge_worker.specs.declared.ends.WorkEnd.{WorkEnd}
 use Rattle.merge_worker.specs.declared.ends.WorkEnd.TheVariants.{Shut, StoreFault, Spent, Memory}
@@ -28,11 +29,12 @@ use Rattle.fb_run.specs.declared.database.Directory.{Directory}
 use Rattle.fb_run.specs.declared.merging.Trees.{Trees}
 use Rattle.fb_run.specs.declared.outcome.SessionOut.{SessionOut}
 use Rattle.fb_run.specs.declared.outcome.Outcome.{Outcome}
-use Rattle.fb_run.specs.Outside.{Tells, DiskTells}
+use Rattle.fb_run.specs.Outside.{StreamSpec, DiskSpec}
 use Rattle.fb_run.specs.Database.{IsOpened}
 use Rattle.fb_run.specs.Headline.{stop_of}
 use Rattle.fb_run.specs.Causes.{NoSession, IsOutOfMemory}
-use Rattle.fb_run.specs.Merging.{TreesStand, TreesFit, trees_in, CountsMerges, HaveMerged, NumbersAreUsedUp, HaveSettled, LeavesTrees, GoAsFar, IsMerged}
+use Rattle.fb_run.specs.Merging.{TreesStand, TreesFit, trees_in, CountsMerges, HaveMerged, NumbersAreUsedUp, HaveSettled, LeavesTrees}
+use Rattle.fb_run.specs.Merging.{GoAsFar, IsMerged}
 use Rattle.fb_run.specs.Running.{GoesOnFrom, EndsWith, HaveEnded}
 use Rattle.fb_run.proofs.Causing.{success_is_merged}
 
@@ -73,12 +75,12 @@ chained keeps s t first mid now (inl was) still (inl is) = inl (is ∙ was)
 chained keeps s t first mid now (inr kept) still (inl is) = inr (subst (λ (b : Base). keeps b t) (sym is) (still kept))
 chained keeps s t first mid now before still (inr kept) = inr kept
 
-module _ {D : Type 0} {g : _} (disks : DiskTells D) where
+module _ {D : Type 0} {g : _} (disks : DiskSpec D) where
   pub goes_on : (trees : Trees D g) → TreesFit disks trees → GoesOn disks.bytes disks.images trees.store trees.store
-  goes_on trees fit = record { records = fit.records; store = fit.keeps; told = λ file told. (file, told) }
+  goes_on trees fit = record { records = fit.records; store = fit.keeps; known = λ file spec. (file, spec) }
 
   -- nothing more was merged
-  pub settled_so : (merge_at : ℕ) (begun now : Trees D g) (end : WorkEnd) (last : Kept) → (end ≡ Shut → ⊥) → (end ≡ Spent → ⊥)
+  pub settled_so : (merge_at : ℕ) (begun now : Trees D g) (end : WorkEnd) (last : SnapshotModel) → (end ≡ Shut → ⊥) → (end ≡ Spent → ⊥)
       → HaveMerged disks begun now end → HaveSettled disks merge_at begun now end last
   settled_so merge_at begun now end last not_shut not_spent merged = record {
     base = merged.base;
@@ -90,8 +92,8 @@ module _ {D : Type 0} {g : _} (disks : DiskTells D) where
   module _ (begun mid : Trees D g) (end : WorkEnd) (merged : HaveMerged disks begun mid end) (unfailed : end ≡ StoreFault → ⊥)
       (fit : TreesFit disks mid) (none : begun.ahead ≡ None) where
     great_in_file : 2 ^ 61 < next_in mid.store → NumbersAreUsedUp disks begun (disk_in mid.store)
-    great_in_file great = inr (λ file told image left.
-        let later = (merged.goes unfailed).told file told in
+    great_in_file great = inr (λ file spec image left.
+        let later = (merged.goes unfailed).known file spec in
         great_left disks.bytes disks.images fit.records mid.store fit.keeps great later.0 later.1 image left)
 
     great_base : 2 ^ 61 < next_above (root_ids mid.base.roots) → NumbersAreUsedUp disks begun (disk_in mid.store)
@@ -119,9 +121,10 @@ module _ {D : Type 0} {g : _} (disks : DiskTells D) where
         go false small = great_start mid.ahead refl (omega (arith, out, ltb-false (2 ^ 61) (next_in mid.store) small))
 
     -- merging went on in the closed core
-    pub settled_on : (merge_at : ℕ) (now : Trees D g) (then : WorkEnd) (last : Kept)
+    pub settled_on : (merge_at : ℕ) (now : Trees D g) (then : WorkEnd) (last : SnapshotModel)
         → IsOldOrKept (HasKept disks.bytes disks.images begun.store) mid.base now.store now.base
-        → (HasKept disks.bytes disks.images begun.store mid.base mid.store → HasKept disks.bytes disks.images begun.store mid.base now.store)
+        → (HasKept disks.bytes disks.images begun.store mid.base mid.store
+        → HasKept disks.bytes disks.images begun.store mid.base now.store)
         → CountsMerges then (disks.faults (disk_in mid.store)) (disks.faults (disk_in now.store))
         → (then ≡ Shut → live_datoms last.live < merge_at)
         → (then ≡ Spent → IsOutOfIds (next_in mid.store) (start_of mid.base mid.ahead)) → (then ≡ Spent → now.store ≡ mid.store)
@@ -135,15 +138,16 @@ module _ {D : Type 0} {g : _} (disks : DiskTells D) where
     }
 
   -- the trees of a closed database, and the disk of their store
-  pub leaves_trees : (merge_at : ℕ) (begun now : Trees D g) (end : WorkEnd) (last : Kept) → HaveSettled disks merge_at begun now end last
+  pub leaves_trees : (merge_at : ℕ) (begun now : Trees D g) (end : WorkEnd) (last : SnapshotModel)
+      → HaveSettled disks merge_at begun now end last
       → TreesStand now last.entries last.covered → LeavesTrees disks merge_at begun end last (disk_in now.store)
   leaves_trees merge_at begun now end last settled stand = record {
     counts = settled.counts;
     covers = elim settled.base [
       | inl was ↦ inl (sym stand.base.0 ∙ ap (λ (b : Base). b.c) was)
-      | inr kept ↦ inr (λ file told image left. (
+      | inr kept ↦ inr (λ file spec image left. (
         root_of now.base.roots now.base.c,
-        kept.root file told image left,
+        kept.root file spec image left,
         stand.base.0,
         subst (λ (c : ℕ). RootStands (trees_of now.base.roots) last.entries c) (sym stand.base.0) stand.base.1,
       ))
@@ -154,59 +158,60 @@ module _ {D : Type 0} {g : _} (disks : DiskTells D) where
 
 -- ---- the end, in the words of what the host told
 
-module _ {D : Type 0} {g : _} (told : Told) (disks : DiskTells D) (dir : List ℕ) (directory : Directory D g)
-    (opened : IsOpened told disks dir directory) (merge_at : ℕ) (end : WorkEnd) (last : Kept) (segments : D)
+module _ {D : Type 0} {g : _} (spec : HostSpec) (disks : DiskSpec D) (dir : List ℕ) (directory : Directory D g)
+    (opened : IsOpened spec disks dir directory) (merge_at : ℕ) (end : WorkEnd) (last : SnapshotModel) (segments : D)
     (trees : LeavesTrees disks merge_at (trees_in directory) end last segments) where
-  far : (opening : List Entry) → opening ≡ directory.core.snapshot.entries → GoAsFar told disks dir opening last segments
+  far : (opening : List Entry) → opening ≡ directory.core.snapshot.entries → GoAsFar spec disks dir opening last segments
   far opening begins = λ file is.
       let held = opened.segments.bytes ∙ is in
       elim trees.covers [
         | inl same ↦ inl (subst (λ (h : List Entry). HasCoverage h last.covered file) (sym begins)
             (subst (λ (c : ℕ). HasCoverage directory.core.snapshot.entries c file) (sym same) (opened.reopened.coverage file held)))
-        | inr left ↦ let then = opened.reopened.segments_told file held in inr (left then.0 then.1)
+        | inr left ↦ let then = opened.reopened.segments_known file held in inr (left then.0 then.1)
       ]
 
-  none_due : (end ≡ Shut) ⊎ (end ≡ Spent) → IsMerged told disks dir merge_at last segments
+  none_due : (end ≡ Shut) ⊎ (end ≡ Spent) → IsMerged spec disks dir merge_at last segments
   none_due (inl shut) = inl (trees.shut shut)
   none_due (inr spent) = inr (λ file is.
       let held = opened.segments.bytes ∙ is in
       elim (trees.spent spent) [
         | inl great ↦ inl (opened.reopened.great file held great)
-        | inr left ↦ let then = opened.reopened.segments_told file held in inr (left then.0 then.1)
+        | inr left ↦ let then = opened.reopened.segments_known file held in inr (left then.0 then.1)
       ])
 
-module _ {I O D : Type 0} {g : _} (told : Told) (tells : Tells I O) (disks : DiskTells D) (dir : List ℕ) (directory : Directory D g)
-    (opened : IsOpened told disks dir directory) (merge_at : ℕ) (names : List (List ℕ)) (sessions : List (SessionOut I O))
+module _ {I O D : Type 0} {g : _} (spec : HostSpec) (io : StreamSpec I O) (disks : DiskSpec D) (dir : List ℕ) (directory : Directory D g)
+    (opened : IsOpened spec disks dir directory) (merge_at : ℕ) (names : List (List ℕ)) (sessions : List (SessionOut I O))
     (outcome : Outcome I O D)
-    (ended : (NoSession outcome × IsOutOfMemory outcome) ⊎ HaveEnded tells disks merge_at names sessions (trees_in directory) outcome) where
-  ends : (l : Kept) → outcome.last ≡ Some l → (e : EndsWith disks merge_at names (trees_in directory) outcome) × (e.last ≡ l)
+    (ended : (NoSession outcome × IsOutOfMemory outcome) ⊎ HaveEnded io disks merge_at names sessions (trees_in directory) outcome) where
+  ends : (l : SnapshotModel) → outcome.last ≡ Some l → (e : EndsWith disks merge_at names (trees_in directory) outcome) × (e.last ≡ l)
   ends l is = elim ended [
     | inl none ↦ let wrong : Some l ≡ None = sym is ∙ none.0.last in absurd (cc)
     | inr ran ↦ let one : Some ran.ends.last ≡ Some l = sym ran.ends.last_is ∙ is in (ran.ends, cc)
   ]
 
-  covers_by : (last : Option Kept) → outcome.last ≡ last → IfSome last (λ l. GoesOnFrom directory l.entries outcome)
-      → IfSome last (λ l. IfSome outcome.segments (GoAsFar told disks dir (upto l.entries outcome.recovered) l))
+  covers_by : (last : Option SnapshotModel) → outcome.last ≡ last → IfSome last (λ l. GoesOnFrom directory l.entries outcome)
+      → IfSome last (λ l. IfSome outcome.segments (GoAsFar spec disks dir (upto l.entries outcome.recovered) l))
   covers_by None is goes_on = tt
   covers_by (Some l) is goes_on =
       let e = ends l is in
-      let leaves = subst (λ (k : Kept). LeavesTrees disks merge_at (trees_in directory) e.0.end k e.0.segments) e.1 e.0.trees in
-      subst (λ (o : Option D). IfSome o (GoAsFar told disks dir (upto l.entries outcome.recovered) l)) (sym e.0.segments_is)
-      (far told disks dir directory opened merge_at e.0.end l e.0.segments leaves (upto l.entries outcome.recovered) goes_on.opened)
+      let leaves = subst (λ (k : SnapshotModel). LeavesTrees disks merge_at (trees_in directory) e.0.end k e.0.segments) e.1 e.0.trees in
+      subst (λ (o : Option D). IfSome o (GoAsFar spec disks dir (upto l.entries outcome.recovered) l)) (sym e.0.segments_is)
+      (far spec disks dir directory opened merge_at e.0.end l e.0.segments leaves (upto l.entries outcome.recovered) goes_on.opened)
 
   pub run_covers : IfSome outcome.last (λ l. GoesOnFrom directory l.entries outcome)
-      → IfSome outcome.last (λ l. IfSome outcome.segments (GoAsFar told disks dir (upto l.entries outcome.recovered) l))
+      → IfSome outcome.last (λ l. IfSome outcome.segments (GoAsFar spec disks dir (upto l.entries outcome.recovered) l))
   run_covers goes_on = covers_by outcome.last refl goes_on
 
-  merged_by : (last : Option Kept) → outcome.last ≡ last
-      → IfSome last (λ l. outcome.status ≡ 0 → IfSome outcome.segments (IsMerged told disks dir merge_at l))
+  merged_by : (last : Option SnapshotModel) → outcome.last ≡ last
+      → IfSome last (λ l. outcome.status ≡ 0 → IfSome outcome.segments (IsMerged spec disks dir merge_at l))
   merged_by None is = tt
   merged_by (Some l) is = λ success.
       let e = ends l is in
-      let leaves = subst (λ (k : Kept). LeavesTrees disks merge_at (trees_in directory) e.0.end k e.0.segments) e.1 e.0.trees in
-      subst (λ (o : Option D). IfSome o (IsMerged told disks dir merge_at l)) (sym e.0.segments_is)
-      (none_due told disks dir directory opened merge_at e.0.end l e.0.segments leaves (success_is_merged e.0.end names (map (λ (s : SessionOut I O). s.end)
+      let leaves = subst (λ (k : SnapshotModel). LeavesTrees disks merge_at (trees_in directory) e.0.end k e.0.segments) e.1 e.0.trees in
+      subst (λ (o : Option D). IfSome o (IsMerged spec disks dir merge_at l)) (sym e.0.segments_is)
+      (none_due spec disks dir directory opened merge_at e.0.end l e.0.segments leaves
+      (success_is_merged e.0.end names (map (λ (s : SessionOut I O). s.end)
       outcome.sessions.items) (stop_of outcome.torn) outcome.status (string_bytes outcome.line) e.0.says success))
 
-  pub run_merges : IfSome outcome.last (λ l. outcome.status ≡ 0 → IfSome outcome.segments (IsMerged told disks dir merge_at l))
+  pub run_merges : IfSome outcome.last (λ l. outcome.status ≡ 0 → IfSome outcome.segments (IsMerged spec disks dir merge_at l))
   run_merges = merged_by outcome.last refl

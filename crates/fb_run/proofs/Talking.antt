@@ -14,11 +14,11 @@ use Rattle.fb_conn.proofs.States.{same_table}
 use Rattle.fb_session.specs.Sessions.{Terms}
 use Rattle.fb_run.specs.declared.jobs.Job.{Job}
 use Rattle.fb_run.specs.declared.outcome.SessionOut.{SessionOut}
-use Rattle.fb_run.specs.Outside.{Tells}
+use Rattle.fb_run.specs.Outside.{StreamSpec}
 use Rattle.fb_run.specs.Jobs.{HasTalked, HaveTalked}
 use Rattle.fb_run.proofs.Lists.{all_at, map_at, at_map}
 
-module _ {I O L R : Type 0} (terms : Terms) (tells : Tells I O) where
+module _ {I O L R : Type 0} (terms : Terms) (io : StreamSpec I O) where
   abbrev seat_in : Job I O L R → Seat
   seat_in job = job.desk.seat
 
@@ -26,7 +26,7 @@ module _ {I O L R : Type 0} (terms : Terms) (tells : Tells I O) where
   out_in job = job.out
 
   abbrev JobTalked : Job I O L R → Job I O L R → Type 0
-  JobTalked old new = HasTalked terms tells (state_of old.desk.seat) (state_of new.desk.seat) old.out new.out
+  JobTalked old new = HasTalked terms io (state_of old.desk.seat) (state_of new.desk.seat) old.out new.out
 
   module _ (conn : Conn L R) (before after : List (Job I O L R)) (same : length after ≡ length before)
       (desks : All (λ (job : Job I O L R). job.desk.conn.now ≡ conn) before)
@@ -41,18 +41,18 @@ module _ {I O L R : Type 0} (terms : Terms) (tells : Tells I O) where
 
     pub jobs_talked : (k : ℕ) (was now : Seat) (old new : SessionOut I O) → slice_get (map seat_in before) k ≡ Some was → slice_get (map
         seat_in after) k ≡ Some now
-        → slice_get (map out_in before) k ≡ Some old → slice_get (map out_in after) k ≡ Some new → HasTalked terms tells (state_of was)
+        → slice_get (map out_in before) k ≡ Some old → slice_get (map out_in after) k ≡ Some new → HasTalked terms io (state_of was)
         (state_of now) old new
     jobs_talked k was now old new is_was is_now is_old is_new =
         let a = map_at seat_in before k was is_was in let b = map_at seat_in after k now is_now in
         let c = map_at out_in before k old is_old in let d = map_at out_in after k new is_new in
         let one : c.0 ≡ a.0 = same_Some c.0 a.0 (sym c.1 ∙ a.1) in let two : d.0 ≡ b.0 = same_Some d.0 b.0 (sym d.1 ∙ b.1) in
         let talked = ran_at k a.0 b.0 a.1 b.1 (slice_get_within before k a.0 a.1) in
-        subst (λ (s : Seat). HasTalked terms tells (state_of s) (state_of now) old new) a.2
-        (subst (λ (s : Seat). HasTalked terms tells (state_of (seat_in a.0)) (state_of s) old new) b.2
-        (subst (λ (o : SessionOut I O). HasTalked terms tells (state_of (seat_in a.0)) (state_of (seat_in b.0)) o new) (sym (ap out_in one)
+        subst (λ (s : Seat). HasTalked terms io (state_of s) (state_of now) old new) a.2
+        (subst (λ (s : Seat). HasTalked terms io (state_of (seat_in a.0)) (state_of s) old new) b.2
+        (subst (λ (o : SessionOut I O). HasTalked terms io (state_of (seat_in a.0)) (state_of (seat_in b.0)) o new) (sym (ap out_in one)
         ∙ c.2)
-        (subst (λ (o : SessionOut I O). HasTalked terms tells (state_of (seat_in a.0)) (state_of (seat_in b.0)) (out_in a.0) o) (sym (ap
+        (subst (λ (o : SessionOut I O). HasTalked terms io (state_of (seat_in a.0)) (state_of (seat_in b.0)) (out_in a.0) o) (sym (ap
         out_in two) ∙ d.2) talked)))
 
     pub jobs_rested : (k : ℕ) (was now : Seat) → slice_get (map seat_in before) k ≡ Some was → slice_get (map seat_in after) k ≡ Some now
@@ -107,54 +107,54 @@ module _ {I O L R : Type 0} where
       at k (slice_index_or jobs k d).desk.seat (subst (λ (l : List Seat). slice_get l k ≡ Some (slice_index_or jobs k d).desk.seat) is
       (at_map (λ (job : Job I O L R). job.desk.seat) jobs k (slice_index_or jobs k d) (slice_get-get_or jobs k d within))))
 
-  pub have_talked : (terms : Terms) (tells : Tells I O) (conn : Conn L R) (given : List Seat) (opened : List (SessionOut I O))
+  pub have_talked : (terms : Terms) (io : StreamSpec I O) (conn : Conn L R) (given : List Seat) (opened : List (SessionOut I O))
       (seats : List Seat)
       (sessions : List (SessionOut I O)) (before after : List (Job I O L R)) → map (λ (job : Job I O L R). job.desk.seat) before ≡ given
       → map (λ (job : Job I O L R). job.out) before ≡ opened → All (λ (job : Job I O L R). job.desk.conn.now ≡ conn) before
-      → ((k : ℕ) (d : Job I O L R) → k < length before → HasTalked terms tells (state_of (slice_index_or before k d).desk.seat) (state_of
+      → ((k : ℕ) (d : Job I O L R) → k < length before → HasTalked terms io (state_of (slice_index_or before k d).desk.seat) (state_of
       (slice_index_or after k d).desk.seat)
       (slice_index_or before k d).out (slice_index_or after k d).out)
       → length after ≡ length before → seats ≡ map (λ (job : Job I O L R). job.desk.seat) after → sessions ≡ map (λ (job : Job I O L R).
       job.out)
       after
-      → HaveTalked terms tells conn given opened seats sessions
-  have_talked terms tells conn given opened seats sessions before after is_given is_opened desks ran same is_seats is_sessions =
+      → HaveTalked terms io conn given opened seats sessions
+  have_talked terms io conn given opened seats sessions before after is_given is_opened desks ran same is_seats is_sessions =
       let one : length given ≡ length before = sym (ap length is_given) ∙ length-map before (λ (job : Job I O L R). job.desk.seat) in
       let two : length seats ≡ length after = ap length is_seats ∙ length-map after (λ (job : Job I O L R). job.desk.seat) in
       let three : length sessions ≡ length after = ap length is_sessions ∙ length-map after (λ (job : Job I O L R). job.out) in
       record {
         seat_count = omega (arith, one, two, same);
         session_count = omega (arith, one, three, same);
-        talked = λ k was now old new is_was is_now is_old is_new. jobs_talked terms tells conn before after same desks ran k was now old new
+        talked = λ k was now old new is_was is_now is_old is_new. jobs_talked terms io conn before after same desks ran k was now old new
             (subst (λ (l : List Seat). slice_get l k ≡ Some was) (sym is_given) is_was) (subst (λ (l : List Seat). slice_get l k ≡ Some
             now) is_seats is_now)
             (subst (λ (l : List (SessionOut I O)). slice_get l k ≡ Some old) (sym is_opened) is_old)
             (subst (λ (l : List (SessionOut I O)). slice_get l k ≡ Some new) is_sessions is_new);
-        rested = λ k was now is_was is_now. jobs_rested terms tells conn before after same desks ran k was now
+        rested = λ k was now is_was is_now. jobs_rested terms io conn before after same desks ran k was now
             (subst (λ (l : List Seat). slice_get l k ≡ Some was) (sym is_given) is_was) (subst (λ (l : List Seat). slice_get l k ≡ Some
             now) is_seats is_now);
       }
 
   -- the same where the jobs were lent as a slice, and written back
-  pub have_talked_in : (terms : Terms) (tells : Tells I O) (conn : Conn L R) (given : List Seat) (opened : List (SessionOut I
+  pub have_talked_in : (terms : Terms) (io : StreamSpec I O) (conn : Conn L R) (given : List Seat) (opened : List (SessionOut I
       O)) (seats : List Seat)
       (sessions : List (SessionOut I O)) (before slice after : List (Job I O L R)) (n : ℕ) → map (λ (job : Job I O L R). job.desk.seat)
       before ≡
       given
       → map (λ (job : Job I O L R). job.out) before ≡ opened → All (λ (job : Job I O L R). job.desk.conn.now ≡ conn) before → slice ≡ before
-      → ((k : ℕ) (d : Job I O L R) → k < length slice → HasTalked terms tells (state_of (slice_index_or slice k d).desk.seat) (state_of
+      → ((k : ℕ) (d : Job I O L R) → k < length slice → HasTalked terms io (state_of (slice_index_or slice k d).desk.seat) (state_of
       (slice_index_or after k d).desk.seat)
       (slice_index_or slice k d).out (slice_index_or after k d).out)
       → length after ≡ length slice → n ≡ length before → seats ≡ map (λ (job : Job I O L R). job.desk.seat) (take n (after ++ drop (length
       after) before))
-      → sessions ≡ map (λ (job : Job I O L R). job.out) (take n (after ++ drop (length after) before)) → HaveTalked terms tells conn given
+      → sessions ≡ map (λ (job : Job I O L R). job.out) (take n (after ++ drop (length after) before)) → HaveTalked terms io conn given
       opened seats sessions
-  have_talked_in terms tells conn given opened seats sessions before slice after n is_given is_opened desks lent ran same wide is_seats
+  have_talked_in terms io conn given opened seats sessions before slice after n is_given is_opened desks lent ran same wide is_seats
       is_sessions =
       let count : length after ≡ length before = same ∙ ap length lent in
       let back : take n (after ++ drop (length after) before) ≡ after = written n after before count wide in
-      have_talked terms tells conn given opened seats sessions before after is_given is_opened desks
-      (subst (λ (l : List (Job I O L R)). (k : ℕ) (d : Job I O L R) → k < length l → HasTalked terms tells (state_of (slice_index_or l k
+      have_talked terms io conn given opened seats sessions before after is_given is_opened desks
+      (subst (λ (l : List (Job I O L R)). (k : ℕ) (d : Job I O L R) → k < length l → HasTalked terms io (state_of (slice_index_or l k
       d).desk.seat)
       (state_of (slice_index_or after k d).desk.seat) (slice_index_or l k d).out (slice_index_or after k d).out) lent ran)
       count (is_seats ∙ ap (map (λ (job : Job I O L R). job.desk.seat)) back) (is_sessions ∙ ap (map (λ (job : Job I O L R). job.out)) back)

@@ -1,22 +1,24 @@
 -- What a host tells of scripts that are opened one after another is what it told at first.
-use Rattle.std.proofs.Common.{◌≡◌, ◌≢◌, ℕ, ◌+◌, Bool, true, false, List, [], ◌∷◌, ◌++◌, map, length, length-append, Some, suc, refl, sym, ap, ◌∙◌, subst, arith}
+use Rattle.std.proofs.Common.{◌≡◌, ◌≢◌, ℕ, ◌+◌, Bool, true, false, List, [], ◌∷◌, ◌++◌, map, length, length-append, Some, suc, refl, sym}
+use Rattle.std.proofs.Common.{ap, ◌∙◌, subst, arith}
 use Rattle.std.proofs.lemmas.Bool.{not-true}
 use Rattle.std.proofs.lemmas.List.{append-nil, append_assoc, append_cancel_right}
 use Rattle.std.proofs.lemmas.Slice.Eq.{bytes_eq-Decides}
-use Rattle.std.specs.Prelude.{◌-◌, ◌<◌, ◌≤◌, ◌&&◌, ◌||◌, not, bytes_eq, codes, get_or, take, drop, if◌then◌else◌, Result, Ok, Err, OnOk, IfErr}
+use Rattle.std.specs.Prelude.{◌-◌, ◌<◌, ◌≤◌, ◌&&◌, ◌||◌, not, bytes_eq, codes, get_or, take, drop, if◌then◌else◌, Result, Ok, Err, OnOk}
+use Rattle.std.specs.Prelude.{IfErr}
 use Rattle.std.specs.Borrow.{Bor}
 use lib.ListN.{length-map}
 use Rattle.command_line.specs.Views.{names_in}
 use Rattle.fb_run.proofs.Lists.{each_len, names_cut}
 use Rattle.std.specs.List.{list_any, AllByRecursion}
 use Rattle.fb_ports.specs.Faults.{Rose}
-use Rattle.fb_ports.specs.Told.{Told}
-use Rattle.fb_ports.specs.Telling.{Same, SameBut}
+use Rattle.fb_ports.specs.HostSpec.{HostSpec}
+use Rattle.fb_ports.specs.HostCalls.{Same, SameBut}
 use Rattle.command_line.specs.Words.{standard, sink_of, is_out_of, clash, are_apart}
 use Rattle.fb_run.specs.declared.outcome.SessionOut.{SessionOut}
 use Rattle.fb_run.specs.declared.opening.Unopened.{Unopened}
 use Rattle.fb_run.specs.declared.opening.Unopened.TheVariants.{CannotOpen, Memory}
-use Rattle.fb_run.specs.Outside.{Tells, IsSourceOf, IsSinkOf, EachOf}
+use Rattle.fb_run.specs.Outside.{StreamSpec, IsSourceOf, IsSinkOf, EachOf}
 use Rattle.fb_run.specs.Opening.{AddsSource, OpensSources, AddsSession, AddsSessions, IsOpenedFor, HasOpened, IsNotOpened, IsUnopened}
 
 -- ---- names that are apart
@@ -75,9 +77,9 @@ sinks_differ a b ne e = ne (sinks_apart a b (bytes_eq a standard) (bytes_eq b st
 
 -- ---- sources
 
-module _ {I O : Type 0} (tells : Tells I O) where
-  pub no_sources : (had : List I) (told : Told) → OpensSources tells [] had had told told
-  no_sources had told = record {
+module _ {I O : Type 0} (io : StreamSpec I O) where
+  pub no_sources : (had : List I) (spec : HostSpec) → OpensSources io [] had had spec spec
+  no_sources had spec = record {
     opened = [];
     each = tt;
     added = sym (append-nil had);
@@ -87,9 +89,10 @@ module _ {I O : Type 0} (tells : Tells I O) where
         refl;
   }
 
-  each_source : (name : List ℕ) (old mid : Told) → SameBut name old.sources mid.sources → SameBut name old.source_faults mid.source_faults
+  each_source : (name : List ℕ) (old mid : HostSpec) → SameBut name old.sources mid.sources
+      → SameBut name old.source_faults mid.source_faults
       → (n m : ℕ) (names : List (List ℕ)) (opened : List I) → AllByRecursion (λ other. other ≢ name) names
-      → EachOf (λ k x s. IsSourceOf mid tells x s) n names opened → EachOf (λ k x s. IsSourceOf old tells x s) m names opened
+      → EachOf (λ k x s. IsSourceOf mid io x s) n names opened → EachOf (λ k x s. IsSourceOf old io x s) m names opened
   each_source name old mid bytes counts n m [] [] differ each = tt
   each_source name old mid bytes counts n m [] (s ∷ ss) differ each = absurd each
   each_source name old mid bytes counts n m (x ∷ xs) [] differ each = absurd each
@@ -98,14 +101,15 @@ module _ {I O : Type 0} (tells : Tells I O) where
     each_source name old mid bytes counts (n + 1) (m + 1) xs ss differ.1 each.1,
   )
 
-  pub more_sources : (name : List ℕ) (names : List (List ℕ)) (had mid has : List I) (old told new : Told) → are_apart (name ∷ names) ≡ true
-      → AddsSource tells name had mid old told → OpensSources tells names mid has told new → OpensSources tells (name ∷ names) had has old
+  pub more_sources : (name : List ℕ) (names : List (List ℕ)) (had mid has : List I) (old spec new : HostSpec)
+      → are_apart (name ∷ names) ≡ true
+      → AddsSource io name had mid old spec → OpensSources io names mid has spec new → OpensSources io (name ∷ names) had has old
       new
-  more_sources name names had mid has old told new apart first rest = record {
+  more_sources name names had mid has old spec new apart first rest = record {
     opened = first.source ∷ rest.opened;
     each = (
       first.is,
-      each_source name old told first.sources first.source_faults 0 1 names rest.opened (first_apart name names apart).0
+      each_source name old spec first.sources first.source_faults 0 1 names rest.opened (first_apart name names apart).0
           rest.each,
     );
     added = rest.added ∙ (ap (λ l. l ++ rest.opened) first.added ∙ append_assoc had (first.source ∷ []) rest.opened);
@@ -116,15 +120,15 @@ module _ {I O : Type 0} (tells : Tells I O) where
 
   -- ---- sinks
 
-  pub no_sessions : (sources : List I) (had : List (SessionOut I O)) (told : Told) → [] ≡ sources → AddsSessions tells [] sources had had
-      told told
-  no_sessions sources had told none = record { opened = []; each = tt; sources_are = none; added = sym (append-nil had); faults = refl }
+  pub no_sessions : (sources : List I) (had : List (SessionOut I O)) (spec : HostSpec) → [] ≡ sources → AddsSessions io [] sources had had
+      spec spec
+  no_sessions sources had spec none = record { opened = []; each = tt; sources_are = none; added = sym (append-nil had); faults = refl }
 
-  each_sink : (name : List ℕ) (old mid : Told) → SameBut (sink_of name) old.sinks mid.sinks → SameBut (sink_of name) old.sink_faults
+  each_sink : (name : List ℕ) (old mid : HostSpec) → SameBut (sink_of name) old.sinks mid.sinks → SameBut (sink_of name) old.sink_faults
       mid.sink_faults
       → (n m : ℕ) (names : List (List ℕ)) (opened : List (SessionOut I O)) → AllByRecursion (λ other. other ≢ name) names
-      → EachOf (λ k x (s : SessionOut I O). IsSinkOf mid tells x s.sink) n names opened → EachOf (λ k x (s : SessionOut I O). IsSinkOf old
-      tells x s.sink) m names opened
+      → EachOf (λ k x (s : SessionOut I O). IsSinkOf mid io x s.sink) n names opened → EachOf (λ k x (s : SessionOut I O). IsSinkOf old
+      io x s.sink) m names opened
   each_sink name old mid bytes counts n m [] [] differ each = tt
   each_sink name old mid bytes counts n m [] (s ∷ ss) differ each = absurd each
   each_sink name old mid bytes counts n m (x ∷ xs) [] differ each = absurd each
@@ -134,16 +138,16 @@ module _ {I O : Type 0} (tells : Tells I O) where
         each_sink name old mid bytes counts (n + 1) (m + 1) xs ss differ.1 each.1,
       )
 
-  pub more_sessions : (name : List ℕ) (names : List (List ℕ)) (sources behind : List I) (had mid has : List (SessionOut I O)) (old told new
-      : Told)
-      → are_apart (name ∷ names) ≡ true → AddsSession tells name sources behind had mid old told → AddsSessions tells names behind mid has
-      told new
-      → AddsSessions tells (name ∷ names) sources had has old new
-  more_sessions name names sources behind had mid has old told new apart first rest = record {
+  pub more_sessions : (name : List ℕ) (names : List (List ℕ)) (sources behind : List I) (had mid has : List (SessionOut I O)) (old spec new
+      : HostSpec)
+      → are_apart (name ∷ names) ≡ true → AddsSession io name sources behind had mid old spec → AddsSessions io names behind mid has
+      spec new
+      → AddsSessions io (name ∷ names) sources had has old new
+  more_sessions name names sources behind had mid has old spec new apart first rest = record {
     opened = first.session ∷ rest.opened;
     each = (
       first.opens.is,
-      each_sink name old told first.opens.sinks first.opens.sink_faults 0 1 names rest.opened (first_apart name names
+      each_sink name old spec first.opens.sinks first.opens.sink_faults 0 1 names rest.opened (first_apart name names
           apart).0 rest.each,
     );
     sources_are = ap (λ l. first.session.source ∷ l) rest.sources_are ∙ sym first.source;
@@ -153,11 +157,12 @@ module _ {I O : Type 0} (tells : Tells I O) where
 
   -- ---- both
 
-  each_both : (old mid : Told) → Same old.sinks mid.sinks → Same old.sink_faults mid.sink_faults → (n : ℕ) (names : List (List ℕ)) (opened
+  each_both : (old mid : HostSpec) → Same old.sinks mid.sinks → Same old.sink_faults mid.sink_faults
+      → (n : ℕ) (names : List (List ℕ)) (opened
       : List (SessionOut I O))
-      → EachOf (λ k x s. IsSourceOf old tells x s) n names (map (λ (s : SessionOut I O). s.source) opened)
-      → EachOf (λ k x (s : SessionOut I O). IsSinkOf mid tells x s.sink) n names opened
-      → EachOf (λ k x (s : SessionOut I O). IsOpenedFor old tells x s) n names opened
+      → EachOf (λ k x s. IsSourceOf old io x s) n names (map (λ (s : SessionOut I O). s.source) opened)
+      → EachOf (λ k x (s : SessionOut I O). IsSinkOf mid io x s.sink) n names opened
+      → EachOf (λ k x (s : SessionOut I O). IsOpenedFor old io x s) n names opened
   each_both old mid bytes counts n [] [] sources sinks = tt
   each_both old mid bytes counts n [] (s ∷ ss) sources sinks = absurd sinks
   each_both old mid bytes counts n (x ∷ xs) [] sources sinks = absurd sinks
@@ -170,13 +175,13 @@ module _ {I O : Type 0} (tells : Tells I O) where
   )
 
   -- the sources were put into a list without others, and so were the sessions
-  pub opened_all : (names : List (List ℕ)) (sources : List I) (sessions : List (SessionOut I O)) (old mid new : Told)
-      → OpensSources tells names [] sources old mid → AddsSessions tells names sources [] sessions mid new → HasOpened tells names old new
+  pub opened_all : (names : List (List ℕ)) (sources : List I) (sessions : List (SessionOut I O)) (old mid new : HostSpec)
+      → OpensSources io names [] sources old mid → AddsSessions io names sources [] sessions mid new → HasOpened io names old new
       sessions
   opened_all names sources sessions old mid new first second =
-      let P : List I → Type 0 = λ xs. EachOf (λ k x s. IsSourceOf old tells x s) 0 names xs in
+      let P : List I → Type 0 = λ xs. EachOf (λ k x s. IsSourceOf old io x s) 0 names xs in
       let ours = subst P (sym first.added ∙ sym second.sources_are) first.each in
-      let Q : List (SessionOut I O) → Type 0 = λ ss. EachOf (λ k x (s : SessionOut I O). IsOpenedFor old tells x s) 0 names ss in
+      let Q : List (SessionOut I O) → Type 0 = λ ss. EachOf (λ k x (s : SessionOut I O). IsOpenedFor old io x s) 0 names ss in
       record {
         each = subst Q (sym second.added) (each_both old mid first.sinks first.sink_faults 0 names second.opened ours second.each);
         faults = second.faults ∙ first.faults;
@@ -184,18 +189,21 @@ module _ {I O : Type 0} (tells : Tells I O) where
 
 -- ---- what is not opened
 
-pub first_unopened : (name : List ℕ) (names : List (List ℕ)) (old new : Told) (why : Unopened) → IsNotOpened name old new why → IsUnopened
+pub first_unopened : (name : List ℕ) (names : List (List ℕ)) (old new : HostSpec) (why : Unopened) → IsNotOpened name old new why
+    → IsUnopened
     (name ∷ names) old new why
 first_unopened name names old new (CannotOpen why) not = ((0, ap Some (sym not.0)), not.1)
 first_unopened name names old new Memory not = tt
 
-pub later_unopened : (name : List ℕ) (names : List (List ℕ)) (old mid new : Told) (why : Unopened) → mid.faults ≡ old.faults → IsUnopened
+pub later_unopened : (name : List ℕ) (names : List (List ℕ)) (old mid new : HostSpec) (why : Unopened) → mid.faults ≡ old.faults
+    → IsUnopened
     names mid new why
     → IsUnopened (name ∷ names) old new why
 later_unopened name names old mid new (CannotOpen why) same not = ((suc not.0.0, not.0.1), subst (λ n. Rose n new.faults) same not.1)
 later_unopened name names old mid new Memory same not = tt
 
-pub then_unopened : (names : List (List ℕ)) (old mid new : Told) (why : Unopened) → mid.faults ≡ old.faults → IsUnopened names mid new why
+pub then_unopened : (names : List (List ℕ)) (old mid new : HostSpec) (why : Unopened) → mid.faults ≡ old.faults
+    → IsUnopened names mid new why
     → IsUnopened names old new why
 then_unopened names old mid new (CannotOpen why) same not = (not.0, subst (λ n. Rose n new.faults) same not.1)
 then_unopened names old mid new Memory same not = tt
@@ -205,7 +213,8 @@ omega_eq a b c e f = sym e ∙ f
 
 -- ---- in the words of the functions that open them one after another
 
-pub stop_step : {T : Type 0} (r : Result T Unopened) (scripts : List (Bor (List ℕ))) (old mid new : Told) → 1 ≤ length scripts → mid.faults
+pub stop_step : {T : Type 0} (r : Result T Unopened) (scripts : List (Bor (List ℕ))) (old mid new : HostSpec) → 1 ≤ length scripts
+    → mid.faults
     ≡ old.faults
     → IfErr r (IsUnopened (names_in (take (length scripts - 1) (drop 1 scripts))) mid new) → IfErr r (IsUnopened (names_in scripts) old new)
 stop_step (Ok x) scripts old mid new some same not = tt
@@ -214,51 +223,52 @@ stop_step (Err why) scripts old mid new some same not =
     subst (λ (names : List (List ℕ)). IsUnopened names old new why) (sym (names_cut scripts d some)) (later_unopened (get_or scripts 0
     d).now _ old mid new why same not)
 
-module _ {I O : Type 0} (tells : Tells I O) where
-  pub sources_none : (scripts : List (Bor (List ℕ))) (had : List I) (told : Told) → length scripts < 1 → OpensSources tells (names_in
-      scripts) had had told told
-  sources_none [] had told none = no_sources tells had told
-  sources_none (x ∷ xs) had told none = absurd (omega (arith, none))
+module _ {I O : Type 0} (io : StreamSpec I O) where
+  pub sources_none : (scripts : List (Bor (List ℕ))) (had : List I) (spec : HostSpec) → length scripts < 1 → OpensSources io (names_in
+      scripts) had had spec spec
+  sources_none [] had spec none = no_sources io had spec
+  sources_none (x ∷ xs) had spec none = absurd (omega (arith, none))
 
   pub sources_step : {E : Type 0} (r : Result (Unit {0}) E) (scripts : List (Bor (List ℕ))) (d : Bor (List ℕ)) (had mid has : List I) (old
-      told new : Told)
-      → 1 ≤ length scripts → are_apart (names_in scripts) ≡ true → AddsSource tells (get_or scripts 0 d).now had mid old told
-      → OnOk r (OpensSources tells (names_in (take (length scripts - 1) (drop 1 scripts))) mid has told new) → OnOk r (OpensSources tells
+      spec new : HostSpec)
+      → 1 ≤ length scripts → are_apart (names_in scripts) ≡ true → AddsSource io (get_or scripts 0 d).now had mid old spec
+      → OnOk r (OpensSources io (names_in (take (length scripts - 1) (drop 1 scripts))) mid has spec new) → OnOk r (OpensSources io
       (names_in scripts) had has old new)
-  sources_step (Err e) scripts d had mid has old told new some apart first rest = tt
-  sources_step (Ok x) scripts d had mid has old told new some apart first rest =
+  sources_step (Err e) scripts d had mid has old spec new some apart first rest = tt
+  sources_step (Ok x) scripts d had mid has old spec new some apart first rest =
       let cut = names_cut scripts d some in
-      subst (λ (names : List (List ℕ)). OpensSources tells names had has old new) (sym cut)
-      (more_sources tells (get_or scripts 0 d).now (names_in (take (length scripts - 1) (drop 1 scripts))) had mid has old told new
+      subst (λ (names : List (List ℕ)). OpensSources io names had has old new) (sym cut)
+      (more_sources io (get_or scripts 0 d).now (names_in (take (length scripts - 1) (drop 1 scripts))) had mid has old spec new
       (subst (λ (names : List (List ℕ)). are_apart names ≡ true) cut apart) first rest)
 
   pub sessions_step : {E : Type 0} (r : Result (Unit {0}) E) (scripts : List (Bor (List ℕ))) (d : Bor (List ℕ)) (sources behind : List I)
       (had mid has : List (SessionOut I O))
-      (old told new : Told) → 1 ≤ length scripts → are_apart (names_in scripts) ≡ true → AddsSession tells (get_or scripts 0 d).now sources
-      behind had mid old told
-      → OnOk r (AddsSessions tells (names_in (take (length scripts - 1) (drop 1 scripts))) behind mid has told new)
-      → OnOk r (AddsSessions tells (names_in scripts) sources had has old new)
-  sessions_step (Err e) scripts d sources behind had mid has old told new some apart first rest = tt
-  sessions_step (Ok x) scripts d sources behind had mid has old told new some apart first rest =
+      (old spec new : HostSpec) → 1 ≤ length scripts → are_apart (names_in scripts) ≡ true → AddsSession io (get_or scripts 0 d).now sources
+      behind had mid old spec
+      → OnOk r (AddsSessions io (names_in (take (length scripts - 1) (drop 1 scripts))) behind mid has spec new)
+      → OnOk r (AddsSessions io (names_in scripts) sources had has old new)
+  sessions_step (Err e) scripts d sources behind had mid has old spec new some apart first rest = tt
+  sessions_step (Ok x) scripts d sources behind had mid has old spec new some apart first rest =
       let cut = names_cut scripts d some in
-      subst (λ (names : List (List ℕ)). AddsSessions tells names sources had has old new) (sym cut)
-      (more_sessions tells (get_or scripts 0 d).now (names_in (take (length scripts - 1) (drop 1 scripts))) sources behind had mid has old
-      told new
+      subst (λ (names : List (List ℕ)). AddsSessions io names sources had has old new) (sym cut)
+      (more_sessions io (get_or scripts 0 d).now (names_in (take (length scripts - 1) (drop 1 scripts))) sources behind had mid has old
+      spec new
       (subst (λ (names : List (List ℕ)). are_apart names ≡ true) cut apart) first rest)
 
-  pub count_sources : (scripts : List (Bor (List ℕ))) (had has : List I) (old new : Told) → OpensSources tells (names_in scripts) had has
+  pub count_sources : (scripts : List (Bor (List ℕ))) (had has : List I) (old new : HostSpec) → OpensSources io (names_in scripts) had has
       old new → had ≡ [] → length has ≡ length scripts
   count_sources scripts had has old new opens none =
-      let wide = each_len (λ n name source. IsSourceOf old tells name source) 0 (names_in scripts) opens.opened opens.each in
+      let wide = each_len (λ n name source. IsSourceOf old io name source) 0 (names_in scripts) opens.opened opens.each in
       let whole : has ≡ opens.opened = opens.added ∙ ap (λ (l : List I). l ++ opens.opened) none in
       ap (length {A = I}) whole ∙ omega_eq (length opens.opened) (length (names_in scripts)) (length scripts) wide (length-map scripts (λ
       s. s.now))
 
-  pub opened_by : (names : List (List ℕ)) (had has items : List I) (fresh sessions : List (SessionOut I O)) (old mid new : Told) → had ≡ []
+  pub opened_by : (names : List (List ℕ)) (had has items : List I) (fresh sessions : List (SessionOut I O)) (old mid new : HostSpec)
+      → had ≡ []
       → fresh ≡ [] → items ≡ has
-      → OpensSources tells names had has old mid → AddsSessions tells names items fresh sessions mid new → HasOpened tells names old new
+      → OpensSources io names had has old mid → AddsSessions io names items fresh sessions mid new → HasOpened io names old new
       sessions
   opened_by names had has items fresh sessions old mid new no_had no_fresh same first second =
-      opened_all tells names has sessions old mid new (subst (λ (l : List I). OpensSources tells names l has old mid) no_had first)
-      (subst (λ (l : List (SessionOut I O)). AddsSessions tells names has l sessions mid new) no_fresh
-      (subst (λ (l : List I). AddsSessions tells names l fresh sessions mid new) same second))
+      opened_all io names has sessions old mid new (subst (λ (l : List I). OpensSources io names l has old mid) no_had first)
+      (subst (λ (l : List (SessionOut I O)). AddsSessions io names has l sessions mid new) no_fresh
+      (subst (λ (l : List I). AddsSessions io names l fresh sessions mid new) same second))

@@ -1,14 +1,16 @@
 -- What causes the status of a run, the line that it says and what it hands back.
 -- This project's own choice.
-use Rattle.std.specs.Prelude.{◌≡◌, ℕ, zero, suc, ◌⊎◌, List, [], ◌∷◌, ◌++◌, codes, map, Option, Some, None, IsSome, IfSome, slice_get, string_bytes}
+use Rattle.std.specs.Prelude.{◌≡◌, ℕ, zero, suc, ◌⊎◌, List, [], ◌∷◌, ◌++◌, codes, map, Option, Some}
+use Rattle.std.specs.Prelude.{None, IsSome, IfSome, slice_get, string_bytes}
 use Rattle.std.specs.Io.KnownBytes.{append_known}
 use Rattle.fb_values.specs.declared.facts.Entry.{Entry}
 use Rattle.fb_model.specs.History.{basis}
-use Rattle.disk_model.specs.Disk.{WhereTold}
-use Rattle.log_model.specs.Log.{IsLogOf, FileSays, bad_record as bad_record_there, unlawful as unlawful_there}
-use Rattle.fb_view.specs.Kept.{Kept}
+use Rattle.disk_model.specs.Disk.{IfKnown}
+use Rattle.log_model.specs.Log.{IsLogOf, FileSays, bad_record as bad_record_there}
+use Rattle.log_model.specs.Log.{unlawful as unlawful_there}
+use Rattle.fb_view.specs.SnapshotModel.{SnapshotModel}
 use Rattle.fb_ports.specs.Faults.{Rose}
-use Rattle.fb_ports.specs.Told.{Told}
+use Rattle.fb_ports.specs.HostSpec.{HostSpec}
 use Rattle.fb_ports.specs.declared.hosts.Part.{Part}
 use Rattle.fb_ports.specs.declared.hosts.Part.TheVariants.{Log, Segments}
 use Rattle.command_line.specs.Words.{Command, run, check, load, scripts_of, sink_of, standard}
@@ -17,13 +19,16 @@ use Rattle.fb_session.specs.Replies.{SourceCount, SinkCount}
 use Rattle.fb_session.specs.Written.{TakesPart}
 use Rattle.fb_run.specs.declared.outcome.SessionOut.{SessionOut}
 use Rattle.fb_run.specs.declared.outcome.Outcome.{Outcome}
-use Rattle.fb_run.specs.Outside.{Tells, DiskTells, IsDiskOf, EachOf}
+use Rattle.fb_run.specs.Outside.{StreamSpec, DiskSpec, IsDiskOf, EachOf}
 use Rattle.fb_run.specs.Headline.{stop_of}
-use Rattle.fb_run.specs.Generated.{loads_of, told_in_memory, in_memory}
+use Rattle.fb_run.specs.Generated.{loads_of, spec_in_memory, in_memory}
 use Rattle.fb_run.specs.Summary.{IsSummary}
 use Rattle.fb_run.specs.Logs.{IsUnharmed}
 use Rattle.fb_recover.specs.Openings.{HasCoverage}
-use Rattle.fb_run.specs.StatusLines.{Why, answered, reported, usage, unopened, disk_failed, bad_record, unlawful, ended_early, console_failed, log_stopped, segments_failed, memory, out_of_memory, history_line, status_of, line_of, first_early}
+use Rattle.fb_run.specs.StatusLines.{Why, answered, reported, usage, unopened, disk_failed}
+use Rattle.fb_run.specs.StatusLines.{bad_record, unlawful, ended_early, console_failed, log_stopped}
+use Rattle.fb_run.specs.StatusLines.{segments_failed, memory, out_of_memory, history_line}
+use Rattle.fb_run.specs.StatusLines.{status_of, line_of, first_early}
 
 -- ---- what is handed back
 
@@ -56,7 +61,7 @@ pub record NoSession {I O D : Type 0} (outcome : Outcome I O D) : Type 0 where
   pub recovered : outcome.recovered ≡ 0
   pub covered : outcome.covered ≡ 0
 
--- ---- what is said
+-- ---- what is reported
 
 -- memory was refused, maybe also to the line
 abbrev pub OutOfMemory : ℕ → List ℕ → Type 0
@@ -65,7 +70,8 @@ OutOfMemory status line = (status ≡ 9) × ((line ≡ out_of_memory) ⊎ (line 
 abbrev pub IsOutOfMemory : {I O D : Type 0} → Outcome I O D → Type 0
 IsOutOfMemory outcome = OutOfMemory outcome.status (string_bytes outcome.line)
 
--- the status and the line of why the program ends; where there is something to say, memory may be refused to it
+-- the status and the line of why the program ends;
+-- where there is something to say, memory may be refused to it
 abbrev pub SaysWhy : Why → ℕ → List ℕ → Type 0
 SaysWhy answered status line = (status ≡ 0) × (line ≡ [])
 SaysWhy reported status line = (status ≡ 0) × (line ≡ [])
@@ -75,12 +81,12 @@ SaysWhy why status line =
 -- ---- its cause
 
 -- no count rose but that of the object whose fault ended the session
-pub record Counts {I O : Type 0} (told : Told) (tells : Tells I O) (name : List ℕ)
+pub record Counts {I O : Type 0} (spec : HostSpec) (io : StreamSpec I O) (name : List ℕ)
     (session : SessionOut I O) : Type 0 where
   pub source :
-      SourceCount session.end (told.source_faults name) (tells.source_faults session.source)
+      SourceCount session.end (spec.source_faults name) (io.source_faults session.source)
   pub sink :
-      SinkCount session.end (told.sink_faults (sink_of name)) (tells.sink_faults session.sink)
+      SinkCount session.end (spec.sink_faults (sink_of name)) (io.sink_faults session.sink)
 
 -- sessions are to be run
 abbrev pub IsRun : Option Command → Type 0
@@ -94,15 +100,16 @@ abbrev pub ends_of : {I O D : Type 0} → Outcome I O D → List SessionEnd
 ends_of outcome =
     map (λ s. s.end) outcome.loads.items ++ map (λ s. s.end) outcome.sessions.items
 
--- a session ran for each script, or by each number of the generator's, and this is the first that ended early
-pub record HaveRun {I O D : Type 0} (told : Told) (tells : Tells I O) (new : ℕ)
+-- a session ran for each script,
+-- or by each number of the generator's, and this is the first that ended early
+pub record HaveRun {I O D : Type 0} (spec : HostSpec) (io : StreamSpec I O) (new : ℕ)
     (command : Option Command) (outcome : Outcome I O D) (early : Option (List ℕ × SessionEnd))
     : Type 0 where
   pub is_run : IsRun command
-  pub host : new ≡ told.faults
-  pub each : EachOf (λ n name (s : SessionOut I O). Counts told tells name s) 0
+  pub host : new ≡ spec.faults
+  pub each : EachOf (λ n name (s : SessionOut I O). Counts spec io name s) 0
       (scripts_of command) outcome.sessions.items
-  pub loads : EachOf (λ n name s. Counts (told_in_memory told command) in_memory name s) 0
+  pub loads : EachOf (λ n name s. Counts (spec_in_memory spec command) in_memory name s) 0
       (loads_of command) outcome.loads.items
   pub first : first_early (loads_of command ++ scripts_of command) (ends_of outcome) ≡ early
   pub last : IsSome outcome.last
@@ -129,150 +136,152 @@ HandsBack zero outcome = HasNoDisk outcome
 HandsBack (suc place) outcome = HasDisks outcome
 
 -- the host could not open what has this name
-pub record CannotOpen {I O D : Type 0} (told : Told) (new : ℕ) (command : Option Command)
+pub record CannotOpen {I O D : Type 0} (spec : HostSpec) (new : ℕ) (command : Option Command)
     (outcome : Outcome I O D) (name : List ℕ) : Type 0 where
   pub none : NoSession outcome
-  pub host : Rose told.faults new
+  pub host : Rose spec.faults new
   pub place : ℕ
   pub named : slice_get (names_of command) place ≡ Some name
   pub disks : HandsBack place outcome
 
 -- the directory's disks were opened, and its database was not
-pub record IsNotOpened {I O D : Type 0} (told : Told) (disks : DiskTells D) (new : ℕ)
+pub record IsNotOpened {I O D : Type 0} (spec : HostSpec) (disks : DiskSpec D) (new : ℕ)
     (command : Option Command) (outcome : Outcome I O D) : Type 0 where
   pub is_command : IsSome command
   pub none : NoSession outcome
-  pub host : new ≡ told.faults
+  pub host : new ≡ spec.faults
   pub segments : IsSome outcome.segments
   pub log : D
   pub log_is : outcome.log ≡ Some log
-  pub unharmed : IsUnharmed told disks (directory_of command) log
+  pub unharmed : IsUnharmed spec disks (directory_of command) log
 
 -- nothing was asked of the segments' disk
-abbrev pub IsUntouched : {I O D : Type 0} → Told → DiskTells D → Option Command → Outcome I O D
+abbrev pub IsUntouched : {I O D : Type 0} → HostSpec → DiskSpec D → Option Command → Outcome I O D
     → Type 0
-IsUntouched told disks command outcome =
-    IfSome outcome.segments (IsDiskOf told disks (directory_of command) Segments)
+IsUntouched spec disks command outcome =
+    IfSome outcome.segments (IsDiskOf spec disks (directory_of command) Segments)
 
 -- The log is judged whole before anything is asked of the segments' disk.
-abbrev pub IsInTurn : {I O D : Type 0} → Told → DiskTells D → Option Command → Outcome I O D
+abbrev pub IsInTurn : {I O D : Type 0} → HostSpec → DiskSpec D → Option Command → Outcome I O D
     → Part → Type 0
-IsInTurn told disks command outcome Log = IsUntouched told disks command outcome
-IsInTurn told disks command outcome Segments =
-    WhereTold (told.disks (directory_of command) Log)
+IsInTurn spec disks command outcome Log = IsUntouched spec disks command outcome
+IsInTurn spec disks command outcome Segments =
+    IfKnown (spec.disks (directory_of command) Log)
     (λ file. (history : List Entry) × IsLogOf file history)
 
 -- the disk of this part failed, or it did not
-abbrev pub Failed : {I O D : Type 0} → Told → DiskTells D → Option Command → Outcome I O D → Part
+abbrev pub Failed : {I O D : Type 0} → HostSpec → DiskSpec D → Option Command → Outcome I O D → Part
     → Type 0
-Failed {I} {O} {D} told disks command outcome part =
+Failed {I} {O} {D} spec disks command outcome part =
     (disk : D)
     × (part_of outcome part ≡ Some disk)
-    × Rose (told.disk_faults (directory_of command) part) (disks.faults disk)
+    × Rose (spec.disk_faults (directory_of command) part) (disks.faults disk)
 
-abbrev pub IsUnfailed : {I O D : Type 0} → Told → DiskTells D → Option Command → Outcome I O D
+abbrev pub IsUnfailed : {I O D : Type 0} → HostSpec → DiskSpec D → Option Command → Outcome I O D
     → Part → Type 0
-IsUnfailed {I} {O} {D} told disks command outcome part =
+IsUnfailed {I} {O} {D} spec disks command outcome part =
     (disk : D)
     × (part_of outcome part ≡ Some disk)
-    × (disks.faults disk ≡ told.disk_faults (directory_of command) part)
+    × (disks.faults disk ≡ spec.disk_faults (directory_of command) part)
 
 -- a sink took the whole line
 pub record TookWhole (line : List ℕ) (had has : Option (List ℕ)) (old new : ℕ) : Type 0 where
   pub gained : has ≡ append_known had line
   pub unfailed : new ≡ old
 
--- it failed, and took less than the whole
+-- the console failed, and took less than the whole line
 pub record TookPart (line : List ℕ) (had has : Option (List ℕ)) (old new : ℕ) : Type 0 where
   pub part : TakesPart line had has
   pub failed : Rose old new
 
--- The directory's log was that of a history. The console took the line about it and about how far its trees go, so far.
-pub record HasLooked {I O D : Type 0} (told : Told) (tells : Tells I O) (disks : DiskTells D)
+-- The directory's log was that of a history.
+-- The console took the line about it and about how far its trees go, so far.
+pub record HasLooked {I O D : Type 0} (spec : HostSpec) (io : StreamSpec I O) (disks : DiskSpec D)
     (new : ℕ) (command : Option Command) (outcome : Outcome I O D)
     (Took : List ℕ → Option (List ℕ) → Option (List ℕ) → ℕ → ℕ → Type 0) : Type 0 where
   pub directory : List ℕ
   pub is_check : command ≡ Some (check directory)
   pub none : NoSession outcome
-  pub host : new ≡ told.faults
+  pub host : new ≡ spec.faults
   pub history : List Entry
-  pub opening : WhereTold (told.disks directory Log) (λ file. IsLogOf file history)
+  pub opening : IfKnown (spec.disks directory Log) (λ file. IsLogOf file history)
   pub covered : ℕ
-  pub coverage : WhereTold (told.disks directory Segments) (HasCoverage history covered)
-  pub unfailed : (part : Part) → IsUnfailed told disks command outcome part
+  pub coverage : IfKnown (spec.disks directory Segments) (HasCoverage history covered)
+  pub unfailed : (part : Part) → IsUnfailed spec disks command outcome part
   pub console : O
   pub console_is : outcome.console ≡ Some console
   pub took : Took (history_line (basis history) covered)
-      (told.sinks standard) (tells.contents console)
-      (told.sink_faults standard) (tells.sink_faults console)
+      (spec.sinks standard) (io.contents console)
+      (spec.sink_faults standard) (io.sink_faults console)
 
--- The sessions of the generator answered all of their scripts. The console took the line about what they left, so far.
-pub record HasLoaded {I O D : Type 0} (told : Told) (tells : Tells I O) (disks : DiskTells D)
+-- The sessions of the generator answered all of their scripts.
+-- The console took the line about what they left, so far.
+pub record HasLoaded {I O D : Type 0} (spec : HostSpec) (io : StreamSpec I O) (disks : DiskSpec D)
     (new : ℕ) (command : Option Command) (outcome : Outcome I O D)
     (Took : List ℕ → Option (List ℕ) → Option (List ℕ) → ℕ → ℕ → Type 0) : Type 0 where
   pub count : ℕ
   pub is_load : command ≡ Some (load count)
-  pub ran : HaveRun told tells new command outcome None
+  pub ran : HaveRun spec io new command outcome None
   pub taken : outcome.torn ≡ None
-  pub unfailed : IsUnfailed told disks command outcome Segments
-  pub last : Kept
+  pub unfailed : IsUnfailed spec disks command outcome Segments
+  pub last : SnapshotModel
   pub last_is : outcome.last ≡ Some last
   pub line : List ℕ
   pub summary : IsSummary last.entries line
   pub console : O
   pub console_is : outcome.console ≡ Some console
-  pub took : Took line (told.sinks standard) (tells.contents console)
-      (told.sink_faults standard) (tells.sink_faults console)
+  pub took : Took line (spec.sinks standard) (io.contents console)
+      (spec.sink_faults standard) (io.sink_faults console)
 
 -- the line of the command went out to the console, so far
-abbrev pub Reports : {I O D : Type 0} → Told → Tells I O → DiskTells D → ℕ → Option Command
+abbrev pub Reports : {I O D : Type 0} → HostSpec → StreamSpec I O → DiskSpec D → ℕ → Option Command
     → Outcome I O D
     → (List ℕ → Option (List ℕ) → Option (List ℕ) → ℕ → ℕ → Type 0) → Type 0
-Reports told tells disks new command outcome Took =
-    HasLooked told tells disks new command outcome Took
-    ⊎ HasLoaded told tells disks new command outcome Took
+Reports spec io disks new command outcome Took =
+    HasLooked spec io disks new command outcome Took
+    ⊎ HasLoaded spec io disks new command outcome Took
 
-abbrev pub CauseOf : {I O D : Type 0} → Told → Tells I O → DiskTells D → ℕ → Option Command
+abbrev pub CauseOf : {I O D : Type 0} → HostSpec → StreamSpec I O → DiskSpec D → ℕ → Option Command
     → Outcome I O D → Why → Type 0
-CauseOf told tells disks new command outcome answered =
-    HaveRun told tells new command outcome None × (outcome.torn ≡ None)
-    × IsUnfailed told disks command outcome Segments
+CauseOf spec io disks new command outcome answered =
+    HaveRun spec io new command outcome None × (outcome.torn ≡ None)
+    × IsUnfailed spec disks command outcome Segments
     × (loads_of command ≡ [])
-CauseOf told tells disks new command outcome reported =
-    Reports told tells disks new command outcome TookWhole
-CauseOf told tells disks new command outcome usage =
-    NoSession outcome × HasNoDisk outcome × (command ≡ None) × (new ≡ told.faults)
-CauseOf told tells disks new command outcome (unopened name) =
-    CannotOpen told new command outcome name
-CauseOf told tells disks new command outcome (disk_failed part) =
-    IsNotOpened told disks new command outcome
-    × IsInTurn told disks command outcome part
-    × Failed told disks command outcome part
-CauseOf told tells disks new command outcome (bad_record nth at) =
-    IsNotOpened told disks new command outcome
-    × IsInTurn told disks command outcome Log
-    × WhereTold (told.disks (directory_of command) Log)
+CauseOf spec io disks new command outcome reported =
+    Reports spec io disks new command outcome TookWhole
+CauseOf spec io disks new command outcome usage =
+    NoSession outcome × HasNoDisk outcome × (command ≡ None) × (new ≡ spec.faults)
+CauseOf spec io disks new command outcome (unopened name) =
+    CannotOpen spec new command outcome name
+CauseOf spec io disks new command outcome (disk_failed part) =
+    IsNotOpened spec disks new command outcome
+    × IsInTurn spec disks command outcome part
+    × Failed spec disks command outcome part
+CauseOf spec io disks new command outcome (bad_record nth at) =
+    IsNotOpened spec disks new command outcome
+    × IsInTurn spec disks command outcome Log
+    × IfKnown (spec.disks (directory_of command) Log)
     (λ file. FileSays file (bad_record_there nth at))
-CauseOf told tells disks new command outcome (unlawful t law) =
-    IsNotOpened told disks new command outcome
-    × IsInTurn told disks command outcome Log
-    × WhereTold (told.disks (directory_of command) Log)
+CauseOf spec io disks new command outcome (unlawful t law) =
+    IsNotOpened spec disks new command outcome
+    × IsInTurn spec disks command outcome Log
+    × IfKnown (spec.disks (directory_of command) Log)
     (λ file. FileSays file (unlawful_there t law))
-CauseOf told tells disks new command outcome (ended_early name how) =
-    HaveRun told tells new command outcome (Some (name, how))
-CauseOf told tells disks new command outcome console_failed =
-    Reports told tells disks new command outcome TookPart
-CauseOf told tells disks new command outcome (log_stopped t) =
-    HaveRun told tells new command outcome None
+CauseOf spec io disks new command outcome (ended_early name how) =
+    HaveRun spec io new command outcome (Some (name, how))
+CauseOf spec io disks new command outcome console_failed =
+    Reports spec io disks new command outcome TookPart
+CauseOf spec io disks new command outcome (log_stopped t) =
+    HaveRun spec io new command outcome None
     × (stop_of outcome.torn ≡ Some t)
-    × Failed told disks command outcome Log
-CauseOf told tells disks new command outcome segments_failed =
-    HaveRun told tells new command outcome None
+    × Failed spec disks command outcome Log
+CauseOf spec io disks new command outcome segments_failed =
+    HaveRun spec io new command outcome None
     × (outcome.torn ≡ None)
-    × Failed told disks command outcome Segments
-CauseOf told tells disks new command outcome memory =
+    × Failed spec disks command outcome Segments
+CauseOf spec io disks new command outcome memory =
     (NoSession outcome × IsSome command)
-    ⊎ (HaveRun told tells new command outcome None × (outcome.torn ≡ None))
+    ⊎ (HaveRun spec io new command outcome None × (outcome.torn ≡ None))
 
 -- a console is handed back where there was a line for it
 abbrev pub HasConsole : {I O D : Type 0} → Why → Outcome I O D → Type 0
@@ -280,10 +289,12 @@ HasConsole reported outcome = IsSome outcome.console
 HasConsole console_failed outcome = IsSome outcome.console
 HasConsole why outcome = outcome.console ≡ None
 
--- There is a reason why the run ended as it did. It is told by the status and the line, and has its cause.
-pub record Causes {I O D : Type 0} (told : Told) (tells : Tells I O) (disks : DiskTells D) (new : ℕ)
+-- There is a reason why the run ended as it did.
+-- The status and the line say it, and it has its cause.
+pub record Causes {I O D : Type 0} (spec : HostSpec) (io : StreamSpec I O) (disks : DiskSpec D)
+    (new : ℕ)
     (command : Option Command) (outcome : Outcome I O D) : Type 0 where
   pub why : Why
   pub says : SaysWhy why outcome.status (string_bytes outcome.line)
-  pub cause : CauseOf told tells disks new command outcome why
+  pub cause : CauseOf spec io disks new command outcome why
   pub console : HasConsole why outcome

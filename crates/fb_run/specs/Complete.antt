@@ -5,12 +5,12 @@ use Rattle.std.specs.List.{concat, AllByRecursion}
 use Rattle.std.specs.Io.KnownBytes.{append_known}
 use Rattle.edn_model.specs.Form.{Form}
 use Rattle.fb_values.specs.declared.facts.Entry.{Entry}
-use Rattle.fb_view.specs.Kept.{Kept}
+use Rattle.fb_view.specs.SnapshotModel.{SnapshotModel}
 use Rattle.log_model.specs.Log.{IsLogOf}
 use Rattle.fb_ports.specs.Faults.{Rose}
 use Rattle.fb_ports.specs.declared.hosts.Part.{Part}
 use Rattle.fb_ports.specs.declared.hosts.Part.TheVariants.{Log}
-use Rattle.fb_ports.specs.Told.{Told}
+use Rattle.fb_ports.specs.HostSpec.{HostSpec}
 use Rattle.command_line.specs.Words.{Command, check, scripts_of, sink_of, standard}
 use Rattle.script_model.specs.Script.{whole, Script}
 use Rattle.talk_model.specs.Session.{Setting, Standing, opened_at}
@@ -20,48 +20,49 @@ use Rattle.fb_session.specs.Taken.{longest_script}
 use Rattle.fb_session.specs.Replies.{SessionRun}
 use Rattle.fb_run.specs.declared.outcome.SessionOut.{SessionOut}
 use Rattle.fb_run.specs.declared.outcome.Outcome.{Outcome}
-use Rattle.fb_run.specs.Outside.{Tells, DiskTells, run_of, setting_of, EachOf, EachWhile}
-use Rattle.fb_run.specs.Generated.{loads_of, generated, told_in_memory, in_memory}
+use Rattle.fb_run.specs.Outside.{StreamSpec, DiskSpec, run_of, setting_of, EachOf, EachWhile}
+use Rattle.fb_run.specs.Generated.{loads_of, generated, spec_in_memory, in_memory}
 use Rattle.fb_run.specs.Causes.{directory_of, part_of, IsOutOfMemory}
 
 -- the source holds these forms, within the limits, and nothing else
 pub record HoldsForms (held : Option (List ℕ)) (forms : List Form) : Type 0 where
   pub script : List ℕ
-  pub told : held ≡ Some script
+  pub known : held ≡ Some script
   pub fits : length script ≤ longest_script
   pub read : Script script forms whole
 
--- it holds forms alone
+-- the source holds forms alone
 abbrev pub HoldsFormsAlone : Option (List ℕ) → Type 0
 HoldsFormsAlone held = (forms : List Form) × HoldsForms held forms
 
--- the log tells its bytes, and they are the log of a history
+-- the log's bytes are known, and they are the log of a history
 pub record HoldsHistory (held : Option (List ℕ)) : Type 0 where
   pub file : List ℕ
-  pub told : held ≡ Some file
+  pub known : held ≡ Some file
   pub history : List Entry
   pub is : IsLogOf file history
 
 -- no count of a session's source or sink rose
-pub record StreamsStay {I O : Type 0} (told : Told) (tells : Tells I O) (names : List (List ℕ))
+pub record StreamsStay {I O : Type 0} (spec : HostSpec) (io : StreamSpec I O)
+    (names : List (List ℕ))
     (sessions : List (SessionOut I O)) : Type 0 where
   pub sources : EachWhile (λ name (s : SessionOut I O).
-      ¬ Rose (told.source_faults name) (tells.source_faults s.source)) names sessions
+      ¬ Rose (spec.source_faults name) (io.source_faults s.source)) names sessions
   pub sinks : EachWhile (λ name (s : SessionOut I O).
-      ¬ Rose (told.sink_faults (sink_of name)) (tells.sink_faults s.sink)) names sessions
+      ¬ Rose (spec.sink_faults (sink_of name)) (io.sink_faults s.sink)) names sessions
 
--- no count of faults rose: not the host's, nor that of a disk that is handed back, nor that of a session's source or sink or of the
--- console
-pub record NoneRose {I O D : Type 0} (told : Told) (tells : Tells I O) (disks : DiskTells D)
+-- no count of faults rose: not the host's,
+-- nor that of a disk that is handed back, nor that of a session's source or sink or of the console
+pub record NoneRose {I O D : Type 0} (spec : HostSpec) (io : StreamSpec I O) (disks : DiskSpec D)
     (new : ℕ) (command : Option Command) (outcome : Outcome I O D) : Type 0 where
-  pub host : ¬ Rose told.faults new
+  pub host : ¬ Rose spec.faults new
   pub parts : (part : Part) (disk : D) → part_of outcome part ≡ Some disk
-      → ¬ Rose (told.disk_faults (directory_of command) part) (disks.faults disk)
-  pub sessions : StreamsStay told tells (scripts_of command) outcome.sessions.items
-  pub loads : StreamsStay (told_in_memory told command) in_memory (loads_of command)
+      → ¬ Rose (spec.disk_faults (directory_of command) part) (disks.faults disk)
+  pub sessions : StreamsStay spec io (scripts_of command) outcome.sessions.items
+  pub loads : StreamsStay (spec_in_memory spec command) in_memory (loads_of command)
       outcome.loads.items
   pub console : (console : O) → outcome.console ≡ Some console
-      → ¬ Rose (told.sink_faults standard) (tells.sink_faults console)
+      → ¬ Rose (spec.sink_faults standard) (io.sink_faults console)
 
 -- each of the forms has its line, and the sink gained nothing else
 pub record EachHasItsLine (s : Setting) (opening : ℕ) (forms : List Form) (run : SessionRun)
@@ -75,42 +76,42 @@ pub record EachHasItsLine (s : Setting) (opening : ℕ) (forms : List Form) (run
   pub gained : run.has ≡ append_known run.had (concat (lines_of exchanges))
 
 -- each of these sessions answered all forms of its script; the log has not stopped
-abbrev pub EachAnswers : {I O : Type 0} → Terms → Told → Tells I O → ℕ → List Entry
+abbrev pub EachAnswers : {I O : Type 0} → Terms → HostSpec → StreamSpec I O → ℕ → List Entry
     → List (List ℕ) → List (SessionOut I O) → Type 0
-EachAnswers {I} {O} terms told tells opening h names sessions =
+EachAnswers {I} {O} terms spec io opening h names sessions =
     EachOf (λ n name (s : SessionOut I O).
-    (forms : List Form) → HoldsForms (told.sources name) forms
-    → EachHasItsLine (setting_of terms h None false) opening forms (run_of told tells name s))
+    (forms : List Form) → HoldsForms (spec.sources name) forms
+    → EachHasItsLine (setting_of terms h None false) opening forms (run_of spec io name s))
     0 names sessions
 
 -- the run succeeded, and each of its sessions answered all forms of its script
-pub record AnsweredWhole {I O D : Type 0} (terms : Terms) (told : Told) (tells : Tells I O)
+pub record AnsweredWhole {I O D : Type 0} (terms : Terms) (spec : HostSpec) (io : StreamSpec I O)
     (command : Option Command) (outcome : Outcome I O D) : Type 0 where
   pub succeeded : outcome.status ≡ 0
-  pub last : Kept
+  pub last : SnapshotModel
   pub kept : outcome.last ≡ Some last
-  pub each : EachAnswers terms told tells outcome.recovered last.entries (scripts_of command)
+  pub each : EachAnswers terms spec io outcome.recovered last.entries (scripts_of command)
       outcome.sessions.items
-  pub loads : EachAnswers terms (told_in_memory told command) in_memory outcome.recovered
+  pub loads : EachAnswers terms (spec_in_memory spec command) in_memory outcome.recovered
       last.entries (loads_of command) outcome.loads.items
 
--- each form of its scripts, or of the generator's, was answered; or the look at the directory, which has no script, succeeded, so it
--- told its line
-abbrev pub Succeeds : {I O D : Type 0} → Terms → Told → Tells I O → Command → Outcome I O D
+-- each form of its scripts, or of the generator's, was answered;
+-- or the look at the directory, which has no script, succeeded, so it printed its line
+abbrev pub Succeeds : {I O D : Type 0} → Terms → HostSpec → StreamSpec I O → Command → Outcome I O D
     → Type 0
-Succeeds terms told tells (check directory) outcome = outcome.status ≡ 0
-Succeeds terms told tells command outcome =
-    AnsweredWhole terms told tells (Some command) outcome
+Succeeds terms spec io (check directory) outcome = outcome.status ≡ 0
+Succeeds terms spec io command outcome =
+    AnsweredWhole terms spec io (Some command) outcome
 
--- Where the words are a command, its log is that of a history, its scripts are forms within the limits, and no count of faults rises,
--- it succeeds, or memory was refused.
-abbrev pub Complete : {I O D : Type 0} → Terms → Told → Tells I O → DiskTells D → ℕ
+-- Where the words are a command, its log is that of a history, its scripts
+-- are forms within the limits, and no count of faults rises, it succeeds, or memory was refused.
+abbrev pub Complete : {I O D : Type 0} → Terms → HostSpec → StreamSpec I O → DiskSpec D → ℕ
     → Option Command → Outcome I O D → Type 0
-Complete terms told tells disks new None outcome = Unit {0}
-Complete terms told tells disks new (Some command) outcome =
-    HoldsHistory (told.disks (directory_of (Some command)) Log)
-    → AllByRecursion (λ name. HoldsFormsAlone (told.sources name)) (scripts_of (Some command))
+Complete terms spec io disks new None outcome = Unit {0}
+Complete terms spec io disks new (Some command) outcome =
+    HoldsHistory (spec.disks (directory_of (Some command)) Log)
+    → AllByRecursion (λ name. HoldsFormsAlone (spec.sources name)) (scripts_of (Some command))
     → AllByRecursion (λ name. HoldsFormsAlone (generated (Some command) name))
     (loads_of (Some command))
-    → NoneRose told tells disks new (Some command) outcome
-    → Succeeds terms told tells command outcome ⊎ IsOutOfMemory outcome
+    → NoneRose spec io disks new (Some command) outcome
+    → Succeeds terms spec io command outcome ⊎ IsOutOfMemory outcome

@@ -1,14 +1,16 @@
--- What opening a directory gives: its disks, and the database that its log holds, with the trees that its segments keep.
+-- What opening a directory gives:
+-- its disks, and the database that its log holds, with the trees that its segments keep.
 -- This project's own choice.
-use Rattle.std.specs.Prelude.{◌≡◌, ◌⊎◌, ◌≤◌, ◌<◌, ◌^◌, ℕ, zero, suc, List, [], length, Option, Some, None, IsSome, IfSome, slice_get}
+use Rattle.std.specs.Prelude.{◌≡◌, ◌⊎◌, ◌≤◌, ◌<◌, ◌^◌, ℕ, zero, suc, List, [], length, Option, Some}
+use Rattle.std.specs.Prelude.{None, IsSome, IfSome, slice_get}
 use Rattle.fb_model.specs.History.{basis}
-use Rattle.disk_model.specs.Disk.{WhereTold, LeavesOnly}
+use Rattle.disk_model.specs.Disk.{IfKnown, LeavesOnly}
 use Rattle.log_model.specs.Log.{IsLogOf}
 use Rattle.seg_tree.specs.Ids.{next_above}
 use Rattle.seg_tree.specs.Indexes.{root_ids}
 use Rattle.seg_store.specs.Stores.{disk_in as segments_in}
 use Rattle.seg_store.specs.Keeping.{HasGreatNode, FitsStore}
-use Rattle.fb_journal.specs.Journals.{StaysTold}
+use Rattle.fb_journal.specs.Journals.{StaysKnown}
 use Rattle.disk_log.specs.Logs.{disk_in, count_in, KeepsHistory}
 use Rattle.fb_core.specs.Cores.{CoreStands}
 use Rattle.fb_recover.specs.Faults.{IsCause, CountsOpening, IsOfLog}
@@ -16,8 +18,8 @@ use Rattle.fb_recover.specs.Openings.{HasCoverage}
 use Rattle.fb_recover.specs.declared.faults.OpenFault.{OpenFault}
 use Rattle.fb_ports.specs.Faults.{Rose}
 use Rattle.fb_ports.specs.declared.hosts.Part.TheVariants.{Log, Segments}
-use Rattle.fb_ports.specs.Told.{Told}
-use Rattle.fb_ports.specs.Telling.{Same}
+use Rattle.fb_ports.specs.HostSpec.{HostSpec}
+use Rattle.fb_ports.specs.HostCalls.{Same}
 use Rattle.fb_run.specs.declared.database.Directory.{Directory}
 use Rattle.fb_run.specs.declared.database.Disks.{Disks}
 use Rattle.fb_run.specs.declared.database.Obstacle.{Obstacle}
@@ -25,22 +27,22 @@ use Rattle.fb_run.specs.declared.database.Obstacle.TheVariants.{Unopened, NotReo
 use Rattle.fb_run.specs.declared.database.Unready.{Unready}
 use Rattle.fb_run.specs.declared.opening.Unopened.TheVariants.{CannotOpen, Memory}
 use Rattle.fb_run.specs.StatusLines.{Why, unopened, memory, why_not}
-use Rattle.fb_run.specs.Outside.{DiskTells, IsDiskOf}
+use Rattle.fb_run.specs.Outside.{DiskSpec, IsDiskOf}
 use Rattle.fb_run.specs.Logs.{IsUnharmed}
 
--- what the host tells of sources and sinks is as it was, and it has not failed
-pub record SameStreams (old new : Told) : Type 0 where
+-- what the host's record has of sources and sinks is as it was, and it has not failed
+pub record SameStreams (old new : HostSpec) : Type 0 where
   pub faults : new.faults ≡ old.faults
   pub sources : Same old.sources new.sources
   pub source_faults : Same old.source_faults new.source_faults
   pub sinks : Same old.sinks new.sinks
   pub sink_faults : Same old.sink_faults new.sink_faults
 
--- The log goes on behind the history that its file held, and the store behind the roots of its own, over disks that were handed out
--- for them.
-pub record IsReopened {D : Type 0} {g : _} (disks : DiskTells D) (disk segments : D)
+-- The log goes on after the history that its file held,
+-- and the store after the roots of its own, over disks that were handed out for them.
+pub record IsReopened {D : Type 0} {g : _} (disks : DiskSpec D) (disk segments : D)
     (directory : Directory D g) : Type 0 where
-  pub history : WhereTold (disks.bytes disk)
+  pub history : IfKnown (disks.bytes disk)
       (λ file. IsLogOf file directory.core.snapshot.entries)
   pub core : CoreStands directory.core
   pub fresh : directory.core.authors ≡ []
@@ -48,34 +50,35 @@ pub record IsReopened {D : Type 0} {g : _} (disks : DiskTells D) (disk segments 
   pub keeps : KeepsHistory disks.bytes disks.images disks.faults disks.moment disks.images_since
       directory.log directory.core.snapshot.entries directory.log
   pub count : count_in directory.log ≡ directory.recovered
-  pub told : StaysTold (disks.bytes disk) (disks.bytes (disk_in directory.log))
+  pub known : StaysKnown (disks.bytes disk) (disks.bytes (disk_in directory.log))
   pub unfailed : disks.faults (disk_in directory.log) ≡ disks.faults disk
-  pub any_moment : WhereTold (disks.bytes disk) (λ _. LeavesOnly disks.moment disks.images_since
+  pub any_moment : IfKnown (disks.bytes disk) (λ _. LeavesOnly disks.moment disks.images_since
       disk (disk_in directory.log)
       (λ image. disks.images disk image ⊎ IsLogOf image directory.core.snapshot.entries))
-  pub unharmed : WhereTold (disks.bytes disk) (λ file. LeavesOnly disks.moment disks.images_since
+  pub unharmed : IfKnown (disks.bytes disk) (λ file. LeavesOnly disks.moment disks.images_since
       disk (disk_in directory.log)
       (λ image. disks.images disk image ⊎ ((length file ≤ 16) × (length image ≤ 16))))
-  pub coverage : WhereTold (disks.bytes segments)
+  pub coverage : IfKnown (disks.bytes segments)
       (HasCoverage directory.core.snapshot.entries directory.core.snapshot.covered)
   pub fit : FitsStore disks.bytes disks.images directory.store directory.core.snapshot.roots
   -- a great number of the trees is one of the file
-  pub great : WhereTold (disks.bytes segments)
+  pub great : IfKnown (disks.bytes segments)
       (λ file. 2 ^ 61 < next_above (root_ids directory.core.snapshot.roots) → HasGreatNode file)
-  pub segments_told :
-      StaysTold (disks.bytes segments) (disks.bytes (segments_in directory.store))
+  pub segments_known :
+      StaysKnown (disks.bytes segments) (disks.bytes (segments_in directory.store))
   pub segments_unfailed : disks.faults (segments_in directory.store) ≡ disks.faults segments
 
--- the directory's disks were handed out as the host told of them, and the database was reopened over them
-pub record IsOpened {D : Type 0} {g : _} (told : Told) (disks : DiskTells D) (dir : List ℕ)
+-- the directory's disks were handed out as the host's record has them,
+-- and the database was reopened over them
+pub record IsOpened {D : Type 0} {g : _} (spec : HostSpec) (disks : DiskSpec D) (dir : List ℕ)
     (directory : Directory D g) : Type 0 where
   pub disk : D
   pub file : D
-  pub log : IsDiskOf told disks dir Log disk
-  pub segments : IsDiskOf told disks dir Segments file
+  pub log : IsDiskOf spec disks dir Log disk
+  pub segments : IsDiskOf spec disks dir Segments file
   pub reopened : IsReopened disks disk file directory
 
--- its disks
+-- the disks of a directory
 abbrev pub disks_in : {D : Type 0} {g : _} → Directory D g → Disks D
 disks_in directory =
     record { log = disk_in directory.log; segments = segments_in directory.store }
@@ -88,7 +91,7 @@ why_unready (Unopened Memory) = memory
 why_unready (NotReopened fault) = why_not fault
 
 -- the database over these disks was not reopened: the log's file says why, or a disk's count rose
-pub record IsRefused {D : Type 0} (disks : DiskTells D) (disk segments : D) (unready : Unready D)
+pub record IsRefused {D : Type 0} (disks : DiskSpec D) (disk segments : D) (unready : Unready D)
     : Type 0 where
   pub fault : OpenFault
   pub log : D
@@ -97,47 +100,48 @@ pub record IsRefused {D : Type 0} (disks : DiskTells D) (disk segments : D) (unr
     why = NotReopened fault;
     disks = Some (record { log = log; segments = file });
   }
-  pub cause : WhereTold (disks.bytes disk) (IsCause fault)
+  pub cause : IfKnown (disks.bytes disk) (IsCause fault)
   pub counted : CountsOpening fault Log (disks.faults disk) (disks.faults log)
   pub segments_counted : CountsOpening fault Segments (disks.faults segments) (disks.faults file)
   pub untouched : IsOfLog fault → file ≡ segments
-  pub unharmed : WhereTold (disks.bytes disk) (λ file. LeavesOnly disks.moment disks.images_since
+  pub unharmed : IfKnown (disks.bytes disk) (λ file. LeavesOnly disks.moment disks.images_since
       disk log (λ image. disks.images disk image ⊎ ((length file ≤ 16) × (length image ≤ 16))))
 
 -- the host could not open a part of the directory, and no disk is left
-abbrev pub IsUnopenedBy : Told → Told → List ℕ → Obstacle → Type 0
+abbrev pub IsUnopenedBy : HostSpec → HostSpec → List ℕ → Obstacle → Type 0
 IsUnopenedBy old new dir (Unopened (CannotOpen name)) =
     (name.now ≡ dir) × Rose old.faults new.faults
 IsUnopenedBy old new dir (Unopened Memory) = Unit {0}
 IsUnopenedBy old new dir (NotReopened fault) = ⊥
 
-abbrev pub IsUnopenedPart : {D : Type 0} → Told → Told → List ℕ → Unready D → Type 0
+abbrev pub IsUnopenedPart : {D : Type 0} → HostSpec → HostSpec → List ℕ → Unready D → Type 0
 IsUnopenedPart old new dir unready =
     (unready.disks ≡ None) × IsUnopenedBy old new dir unready.why
 
 -- the log is unharmed
-abbrev pub LeaveLogUnharmed : {D : Type 0} → Told → DiskTells D → List ℕ → Disks D → Type 0
-LeaveLogUnharmed told disks dir both = IsUnharmed told disks dir both.log
+abbrev pub LeaveLogUnharmed : {D : Type 0} → HostSpec → DiskSpec D → List ℕ → Disks D → Type 0
+LeaveLogUnharmed spec disks dir both = IsUnharmed spec disks dir both.log
 
--- the database was not reopened, in the words of what the host told of its disks; with a fault of the log nothing was asked of the
--- segments' disk
-pub record IsNotReopened {D : Type 0} (told : Told) (disks : DiskTells D) (dir : List ℕ)
+-- the database was not reopened, in the words of what the host's record had of its disks;
+-- with a fault of the log nothing was asked of the segments' disk
+pub record IsNotReopened {D : Type 0} (spec : HostSpec) (disks : DiskSpec D) (dir : List ℕ)
     (fault : OpenFault) (left : Option (Disks D)) : Type 0 where
   pub both : Disks D
   pub is : left ≡ Some both
-  pub cause : WhereTold (told.disks dir Log) (IsCause fault)
-  pub counted : CountsOpening fault Log (told.disk_faults dir Log) (disks.faults both.log)
-  pub segments_counted : CountsOpening fault Segments (told.disk_faults dir Segments)
+  pub cause : IfKnown (spec.disks dir Log) (IsCause fault)
+  pub counted : CountsOpening fault Log (spec.disk_faults dir Log) (disks.faults both.log)
+  pub segments_counted : CountsOpening fault Segments (spec.disk_faults dir Segments)
       (disks.faults both.segments)
-  pub untouched : IsOfLog fault → IsDiskOf told disks dir Segments both.segments
+  pub untouched : IsOfLog fault → IsDiskOf spec disks dir Segments both.segments
 
--- The disks of the directory, which is the first of the names, are left where what has a later name was not opened.
+-- The disks of the directory, which is the first of the names,
+-- are left where what has a later name was not opened.
 abbrev pub LeavesBehind : {D : Type 0} → ℕ → Option (Disks D) → Type 0
 LeavesBehind zero left = left ≡ None
 LeavesBehind (suc place) left = IsSome left
 
 -- the host could not open what has one of these names, or the database was not reopened
-abbrev pub IsObstacle : {D : Type 0} → Told → Told → DiskTells D → List ℕ → List (List ℕ)
+abbrev pub IsObstacle : {D : Type 0} → HostSpec → HostSpec → DiskSpec D → List ℕ → List (List ℕ)
     → Option (Disks D) → Obstacle → Type 0
 IsObstacle old new disks dir names left (Unopened (CannotOpen name)) =
     ((place : ℕ) × (slice_get names place ≡ Some name.now) × LeavesBehind place left)
@@ -147,7 +151,7 @@ IsObstacle old new disks dir names left (NotReopened fault) =
     (new.faults ≡ old.faults) × IsNotReopened old disks dir fault left
 
 -- why a command over the directory can't begin, and what is left of its disks
-pub record IsUnready {D : Type 0} (old new : Told) (disks : DiskTells D) (dir : List ℕ)
+pub record IsUnready {D : Type 0} (old new : HostSpec) (disks : DiskSpec D) (dir : List ℕ)
     (names : List (List ℕ)) (unready : Unready D) : Type 0 where
   pub why : IsObstacle old new disks dir names unready.disks unready.why
   pub unharmed : IfSome unready.disks (LeaveLogUnharmed old disks dir)

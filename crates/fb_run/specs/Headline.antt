@@ -1,5 +1,5 @@
--- What a run promises: the accepted transactions form one history, and each reply is that of a database with one thread at a prefix
--- of the history which holds all that its session had seen.
+-- What a run promises: the accepted transactions form one history, and each reply is that of
+-- a database with one thread at a prefix of the history which holds all that its session had seen.
 -- This project's own choice.
 use Rattle.std.specs.Prelude.{◌≡◌, ℕ, ◌+◌, ◌<◌, ◌==◌, List, [], Option, length, slice_index_or}
 use Rattle.std.specs.Option.{option_map}
@@ -10,14 +10,14 @@ use Rattle.fb_model.specs.History.{basis}
 use Rattle.fb_model.specs.Lawful.{IsLawful}
 use Rattle.fb_core.specs.declared.accepting.Draft.{Draft}
 use Rattle.fb_core.specs.Worlds.{commits_behind}
-use Rattle.fb_ports.specs.Told.{Told}
+use Rattle.fb_ports.specs.HostSpec.{HostSpec}
 use Rattle.fb_session.specs.Sessions.{Terms}
 use Rattle.fb_session.specs.Replies.{Replies}
 use Rattle.fb_run.specs.declared.outcome.SessionOut.{SessionOut}
-use Rattle.fb_run.specs.Outside.{Tells, run_of, setting_of, EachOf}
+use Rattle.fb_run.specs.Outside.{StreamSpec, run_of, setting_of, EachOf}
 
--- The history is lawful. Each t behind the opening's has one author, a session, and is among the commits of that session and of no
--- other. Commits strictly rise, and have nothing else.
+-- The history is lawful. Each t after the opening's has one author, a session, and is
+-- among the commits of that session and of no other. Commits strictly rise, and have nothing else.
 pub record OneHistory (h : List Entry) (opening : ℕ) (authors : List ℕ) (commits : List (List ℕ))
     : Type 0 where
   pub lawful : IsLawful h
@@ -31,11 +31,11 @@ pub record OneHistory (h : List Entry) (opening : ℕ) (authors : List ℕ) (com
 abbrev pub stop_of : Option Draft → Option ℕ
 stop_of torn = option_map (λ draft. basis draft.after.entries) torn
 
--- The session of each script answered it over the one history since its opening, where one session at most, the teller, asked for
--- what the log did not take.
-abbrev pub EachReplies : {I O : Type 0} → Terms → Told → Tells I O → ℕ → Option ℕ
+-- The session of each script answered it over the one history since its opening,
+-- where one session at most, the teller, asked for what the log did not take.
+abbrev pub EachReplies : {I O : Type 0} → Terms → HostSpec → StreamSpec I O → ℕ → Option ℕ
     → List (List ℕ) → List (SessionOut I O) → List Entry → Type 0
-EachReplies {I} {O} terms told tells opening stop scripts sessions h =
+EachReplies {I} {O} terms spec io opening stop scripts sessions h =
     (teller : ℕ) × EachOf (λ n name (s : SessionOut I O).
-    Replies (setting_of terms h stop (teller == n)) opening (run_of told tells name s))
+    Replies (setting_of terms h stop (teller == n)) opening (run_of spec io name s))
     0 scripts sessions

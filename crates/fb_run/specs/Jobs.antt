@@ -11,22 +11,24 @@ use Rattle.fb_conn.specs.Seats.{table_of, IsAtRest, state_of}
 use Rattle.fb_session.specs.Sessions.{Terms, over}
 use Rattle.fb_session.specs.Replies.{Replies, SourceCount, SinkCount}
 use Rattle.fb_run.specs.declared.outcome.SessionOut.{SessionOut}
-use Rattle.fb_run.specs.Outside.{Tells, run_from}
+use Rattle.fb_run.specs.Outside.{StreamSpec, run_from}
 
--- a session was answered by its desk, which went from one state to another, and became this of what it was
-pub record HasTalked {I O : Type 0} (terms : Terms) (tells : Tells I O) (was now : State)
+-- a session was answered by its desk,
+-- which went from one state to another, and became this of what it was
+pub record HasTalked {I O : Type 0} (terms : Terms) (io : StreamSpec I O) (was now : State)
     (old new : SessionOut I O) : Type 0 where
   pub replies : Replies (over terms now) (basis was.entries)
-      (run_from tells old.source old.sink new)
+      (run_from io old.source old.sink new)
   pub prefixes : Prefixes (basis was.entries) (basis now.entries) new.places new.commits
   pub commits : now.commits ≡ was.commits ++ new.commits
   pub went_on : WentOn was now
   pub source_count :
-      SourceCount new.end (tells.source_faults old.source) (tells.source_faults new.source)
-  pub sink_count : SinkCount new.end (tells.sink_faults old.sink) (tells.sink_faults new.sink)
+      SourceCount new.end (io.source_faults old.source) (io.source_faults new.source)
+  pub sink_count : SinkCount new.end (io.sink_faults old.sink) (io.sink_faults new.sink)
 
--- Each of the sessions talked at its seat: these are the seats between two calls, and what is left of the sessions.
-pub record HaveTalked {I O L R : Type 0} (terms : Terms) (tells : Tells I O) (conn : Conn L R)
+-- Each of the sessions talked at its seat:
+-- these are the seats between two calls, and what is left of the sessions.
+pub record HaveTalked {I O L R : Type 0} (terms : Terms) (io : StreamSpec I O) (conn : Conn L R)
     (given : List Seat) (opened : List (SessionOut I O)) (seats : List Seat)
     (sessions : List (SessionOut I O)) : Type 0 where
   pub seat_count : length seats ≡ length given
@@ -34,7 +36,7 @@ pub record HaveTalked {I O L R : Type 0} (terms : Terms) (tells : Tells I O) (co
   pub talked : (k : ℕ) (was now : Seat) (old new : SessionOut I O) → slice_get given k ≡ Some was
       → slice_get seats k ≡ Some now → slice_get opened k ≡ Some old
       → slice_get sessions k ≡ Some new
-      → HasTalked terms tells (state_of was) (state_of now) old new
+      → HasTalked terms io (state_of was) (state_of now) old new
   pub rested : (k : ℕ) (was now : Seat) → slice_get given k ≡ Some was
       → slice_get seats k ≡ Some now
       → IsAtRest (table_of conn) now × ((view_of now.board).number ≡ (view_of was.board).number)

@@ -1,11 +1,12 @@
--- How a run of the generator ends: its sessions become loads, and where nothing went wrong its summary goes out to the console.
+-- How a run of the generator ends:
+-- its sessions become loads, and where nothing went wrong its summary goes out to the console.
 -- This project's own choice.
 use Rattle.std.specs.Prelude.{◌≡◌, ◌⊎◌, ℕ, List, [], map, Option, Some, None, string_bytes}
 use Rattle.std.specs.List.{range_with_len}
 use Rattle.fb_values.specs.declared.facts.Entry.{Entry}
-use Rattle.fb_view.specs.Kept.{Kept}
+use Rattle.fb_view.specs.SnapshotModel.{SnapshotModel}
 use Rattle.fb_core.specs.declared.accepting.Draft.{Draft}
-use Rattle.fb_calls.specs.Calls.{no_calls}
+use Rattle.io_faults.specs.Calls.{no_calls}
 use Rattle.mem_ports.specs.InMemory.{Supply, Store}
 use Rattle.load_scripts.specs.Scripts.{script_of}
 use Rattle.fb_run.specs.declared.outcome.SessionOut.{SessionOut}
@@ -32,7 +33,7 @@ pub record Left (D : Type 0) : Type 0 where
   pub log : Option D
   pub segments : Option D
   pub authors : Option (List ℕ)
-  pub last : Option Kept
+  pub last : Option SnapshotModel
   pub torn : Option Draft
   pub recovered : ℕ
   pub covered : ℕ
@@ -81,21 +82,22 @@ SumsUp contents faults h was said =
     (OutOfMemory said.status said.line × (said.console ≡ None))
     ⊎ ((line : List ℕ) × IsSummary h line × HasReported contents faults line was said)
 
--- what went wrong is said still
-pub record SaysSame {O : Type 0} (status : ℕ) (line : List ℕ) (last : Option Kept) (said : Said O)
+-- what went wrong is reported still
+pub record SaysSame {O : Type 0} (status : ℕ) (line : List ℕ) (last : Option SnapshotModel)
+    (said : Said O)
     : Type 0 where
   pub failed : status ≡ 0 → last ≡ None
   pub same : said ≡ record { status = status; line = line; console = None }
 
 -- nothing went wrong, and the last value is summed up
 pub record HasSummedUp {O : Type 0} (contents : O → Option (List ℕ)) (faults : O → ℕ) (status : ℕ)
-    (last : Option Kept) (was : O) (said : Said O) : Type 0 where
+    (last : Option SnapshotModel) (was : O) (said : Said O) : Type 0 where
   pub success : status ≡ 0
-  pub kept : Kept
+  pub kept : SnapshotModel
   pub last_is : last ≡ Some kept
   pub sums_up : SumsUp contents faults kept.entries was said
 
 abbrev pub SaysFurther : {O : Type 0} → (O → Option (List ℕ)) → (O → ℕ) → ℕ → List ℕ
-    → Option Kept → O → Said O → Type 0
+    → Option SnapshotModel → O → Said O → Type 0
 SaysFurther contents faults status line last was said =
     SaysSame status line last said ⊎ HasSummedUp contents faults status last was said

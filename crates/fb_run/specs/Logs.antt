@@ -1,21 +1,23 @@
--- What a run leaves of the log on its disk: a crash at any moment leaves a history that the log had at that moment, or the one that
--- the log failed to lengthen.
+-- What a run leaves of the log on its disk: a crash at any moment leaves a history
+-- that the log had at that moment, or the one that the log failed to lengthen.
 -- This project's own choice.
-use Rattle.std.specs.Prelude.{◌≡◌, ◌⊎◌, ◌+◌, ◌≤◌, ℕ, List, [], ◌∷◌, ◌++◌, length, Option, Some, None, IsSome, IfSome}
+use Rattle.std.specs.Prelude.{◌≡◌, ◌⊎◌, ◌+◌, ◌≤◌, ℕ, List, [], ◌∷◌, ◌++◌, length, Option, Some}
+use Rattle.std.specs.Prelude.{None, IsSome, IfSome}
 use Rattle.fb_values.specs.declared.facts.Entry.{Entry}
 use Rattle.fb_model.specs.History.{basis}
 use Rattle.fb_model.specs.Lawful.{IsLawfulAfter}
-use Rattle.disk_model.specs.Disk.{WhereTold}
+use Rattle.disk_model.specs.Disk.{IfKnown}
 use Rattle.log_model.specs.Log.{IsLogOf}
 use Rattle.disk_log.specs.Disks.{IsLogFrom}
 use Rattle.fb_core.specs.declared.accepting.Draft.{Draft}
 use Rattle.fb_core.specs.Cores.{entry_of}
 use Rattle.fb_ports.specs.Faults.{Rose}
 use Rattle.fb_ports.specs.declared.hosts.Part.TheVariants.{Log}
-use Rattle.fb_ports.specs.Told.{Told}
-use Rattle.fb_run.specs.Outside.{DiskTells}
+use Rattle.fb_ports.specs.HostSpec.{HostSpec}
+use Rattle.fb_run.specs.Outside.{DiskSpec}
 
--- the history, and behind it the entry of the transaction that the log did not take, where there is one
+-- the history, and after it the entry of the transaction
+-- that the log did not take, where there is one
 abbrev pub with_torn : List Entry → Option Draft → List Entry
 with_torn h None = h
 with_torn h (Some draft) = h ++ entry_of draft ∷ []
@@ -26,26 +28,26 @@ pub record IsNext (h : List Entry) (draft : Draft) : Type 0 where
   pub entries : draft.after.entries ≡ h ++ entry_of draft ∷ []
   pub t : basis draft.after.entries ≡ basis h + 1
 
--- The log has this history, which goes on from the opening's basis; or it failed at the torn transaction, and may have its entry or
--- not.
-pub record LogHolds {D : Type 0} (told : Told) (disks : DiskTells D) (dir : List ℕ)
+-- The log has this history, which goes on from the opening's basis;
+-- or it failed at the torn transaction, and may have its entry or not.
+pub record LogHolds {D : Type 0} (spec : HostSpec) (disks : DiskSpec D) (dir : List ℕ)
     (h : List Entry) (opening : ℕ) (torn : Option Draft) (log : D) : Type 0 where
   pub stopped : IfSome torn (IsNext h)
   -- the log's count of faults rose where a transaction is torn, and nowhere else
-  pub failed : IsSome torn → Rose (told.disk_faults dir Log) (disks.faults log)
-  pub unfailed : torn ≡ None → disks.faults log ≡ told.disk_faults dir Log
+  pub failed : IsSome torn → Rose (spec.disk_faults dir Log) (disks.faults log)
+  pub unfailed : torn ≡ None → disks.faults log ≡ spec.disk_faults dir Log
   -- what a crash leaves
-  pub at_end : WhereTold (told.disks dir Log) (λ _. (image : List ℕ) → disks.images log image
+  pub at_end : IfKnown (spec.disks dir Log) (λ _. (image : List ℕ) → disks.images log image
       → IsLogOf image h ⊎ IsLogOf image (with_torn h torn))
-  -- and what one left at each moment since the host handed out the disk
-  pub any_moment : WhereTold (told.disks dir Log) (λ _. (image : List ℕ)
-      → disks.images_since log (told.disk_moment dir Log) image
-      → told.disk_images dir Log image ⊎ IsLogFrom opening (with_torn h torn) image)
+  -- what a crash left at each moment since the host handed out the disk
+  pub any_moment : IfKnown (spec.disks dir Log) (λ _. (image : List ℕ)
+      → disks.images_since log (spec.disk_moment dir Log) image
+      → spec.disk_images dir Log image ⊎ IsLogFrom opening (with_torn h torn) image)
 
--- Opening it wrote nothing but the mark of a new log: a crash since the host handed out the disk leaves an image from before, or at
--- most 16 bytes where there were no more.
-abbrev pub IsUnharmed : {D : Type 0} → Told → DiskTells D → List ℕ → D → Type 0
-IsUnharmed told disks dir log =
-    WhereTold (told.disks dir Log) (λ file. (image : List ℕ)
-    → disks.images_since log (told.disk_moment dir Log) image
-    → told.disk_images dir Log image ⊎ ((length file ≤ 16) × (length image ≤ 16)))
+-- Opening it wrote nothing but the mark of a new log: a crash since the host
+-- handed out the disk leaves an image from before, or at most 16 bytes where there were no more.
+abbrev pub IsUnharmed : {D : Type 0} → HostSpec → DiskSpec D → List ℕ → D → Type 0
+IsUnharmed spec disks dir log =
+    IfKnown (spec.disks dir Log) (λ file. (image : List ℕ)
+    → disks.images_since log (spec.disk_moment dir Log) image
+    → spec.disk_images dir Log image ⊎ ((length file ≤ 16) × (length image ≤ 16)))

@@ -1,22 +1,22 @@
--- What opening sources and sinks of scripts gives, and what the host tells from then on.
+-- What opening sources and sinks of scripts gives, and the host's record from then on.
 -- This project's own choice.
 use Rattle.std.specs.Prelude.{◌≡◌, ℕ, List, [], ◌∷◌, ◌++◌, map, Some, slice_get}
 use Rattle.fb_ports.specs.Faults.{Rose}
-use Rattle.fb_ports.specs.Told.{Told}
-use Rattle.fb_ports.specs.Telling.{Same, SameBut}
+use Rattle.fb_ports.specs.HostSpec.{HostSpec}
+use Rattle.fb_ports.specs.HostCalls.{Same, SameBut}
 use Rattle.command_line.specs.Words.{sink_of}
 use Rattle.fb_run.specs.declared.outcome.SessionOut.{SessionOut}
 use Rattle.fb_run.specs.declared.opening.Unopened.{Unopened}
 use Rattle.fb_run.specs.declared.opening.Unopened.TheVariants.{CannotOpen, Memory}
-use Rattle.fb_run.specs.Outside.{Tells, IsSourceOf, IsSinkOf, EachOf}
+use Rattle.fb_run.specs.Outside.{StreamSpec, IsSourceOf, IsSinkOf, EachOf}
 
 -- ---- sources
 
--- the source of this name was added, and of all else the host tells what it told
-pub record AddsSource {I O : Type 0} (tells : Tells I O) (name : List ℕ) (had has : List I)
-    (old new : Told) : Type 0 where
+-- the source of this name was added, and of all else the host's record is as it was
+pub record AddsSource {I O : Type 0} (io : StreamSpec I O) (name : List ℕ) (had has : List I)
+    (old new : HostSpec) : Type 0 where
   pub source : I
-  pub is : IsSourceOf old tells name source
+  pub is : IsSourceOf old io name source
   pub added : has ≡ had ++ source ∷ []
   pub faults : new.faults ≡ old.faults
   pub sources : SameBut name old.sources new.sources
@@ -24,11 +24,11 @@ pub record AddsSource {I O : Type 0} (tells : Tells I O) (name : List ℕ) (had 
   pub sinks : Same old.sinks new.sinks
   pub sink_faults : Same old.sink_faults new.sink_faults
 
--- the sources of all these names were added, and of sinks the host tells what it told
-pub record OpensSources {I O : Type 0} (tells : Tells I O) (names : List (List ℕ))
-    (had has : List I) (old new : Told) : Type 0 where
+-- the sources of all these names were added, and of sinks the host's record is as it was
+pub record OpensSources {I O : Type 0} (io : StreamSpec I O) (names : List (List ℕ))
+    (had has : List I) (old new : HostSpec) : Type 0 where
   pub opened : List I
-  pub each : EachOf (λ n name source. IsSourceOf old tells name source) 0 names opened
+  pub each : EachOf (λ n name source. IsSourceOf old io name source) 0 names opened
   pub added : has ≡ had ++ opened
   pub faults : new.faults ≡ old.faults
   pub sinks : Same old.sinks new.sinks
@@ -36,27 +36,30 @@ pub record OpensSources {I O : Type 0} (tells : Tells I O) (names : List (List �
 
 -- ---- sinks
 
--- the sink for the lines of this name was opened, and of every other one the host tells what it told
-pub record OpensSink {I O : Type 0} (tells : Tells I O) (name : List ℕ) (old new : Told) (sink : O)
+-- the sink for the lines of this name was opened,
+-- and of every other one the host's record is as it was
+pub record OpensSink {I O : Type 0} (io : StreamSpec I O) (name : List ℕ) (old new : HostSpec)
+    (sink : O)
     : Type 0 where
-  pub is : IsSinkOf old tells name sink
+  pub is : IsSinkOf old io name sink
   pub faults : new.faults ≡ old.faults
   pub sinks : SameBut (sink_of name) old.sinks new.sinks
   pub sink_faults : SameBut (sink_of name) old.sink_faults new.sink_faults
 
--- a session with it and with the first of the sources was added, and these are the sources behind
-pub record AddsSession {I O : Type 0} (tells : Tells I O) (name : List ℕ) (sources behind : List I)
-    (had has : List (SessionOut I O)) (old new : Told) : Type 0 where
+-- a session with it and with the first of the sources was added, and these are the sources after
+pub record AddsSession {I O : Type 0} (io : StreamSpec I O) (name : List ℕ)
+    (sources behind : List I)
+    (had has : List (SessionOut I O)) (old new : HostSpec) : Type 0 where
   pub session : SessionOut I O
   pub source : sources ≡ session.source ∷ behind
-  pub opens : OpensSink tells name old new session.sink
+  pub opens : OpensSink io name old new session.sink
   pub added : has ≡ had ++ session ∷ []
 
 -- a session for each of the names was added, each with its sink and one of the sources
-pub record AddsSessions {I O : Type 0} (tells : Tells I O) (names : List (List ℕ))
-    (sources : List I) (had has : List (SessionOut I O)) (old new : Told) : Type 0 where
+pub record AddsSessions {I O : Type 0} (io : StreamSpec I O) (names : List (List ℕ))
+    (sources : List I) (had has : List (SessionOut I O)) (old new : HostSpec) : Type 0 where
   pub opened : List (SessionOut I O)
-  pub each : EachOf (λ n name (s : SessionOut I O). IsSinkOf old tells name s.sink) 0 names opened
+  pub each : EachOf (λ n name (s : SessionOut I O). IsSinkOf old io name s.sink) 0 names opened
   pub sources_are : map (λ (s : SessionOut I O). s.source) opened ≡ sources
   pub added : has ≡ had ++ opened
   pub faults : new.faults ≡ old.faults
@@ -64,25 +67,26 @@ pub record AddsSessions {I O : Type 0} (tells : Tells I O) (names : List (List �
 -- ---- both
 
 -- a session has the source and the sink of this name
-pub record IsOpenedFor {I O : Type 0} (told : Told) (tells : Tells I O) (name : List ℕ)
+pub record IsOpenedFor {I O : Type 0} (spec : HostSpec) (io : StreamSpec I O) (name : List ℕ)
     (session : SessionOut I O) : Type 0 where
-  pub source : IsSourceOf told tells name session.source
-  pub sink : IsSinkOf told tells name session.sink
+  pub source : IsSourceOf spec io name session.source
+  pub sink : IsSinkOf spec io name session.sink
 
 -- a session for each of the names was opened
-pub record HasOpened {I O : Type 0} (tells : Tells I O) (names : List (List ℕ)) (old new : Told)
+pub record HasOpened {I O : Type 0} (io : StreamSpec I O) (names : List (List ℕ))
+    (old new : HostSpec)
     (sessions : List (SessionOut I O)) : Type 0 where
-  pub each : EachOf (λ n name (s : SessionOut I O). IsOpenedFor old tells name s) 0 names sessions
+  pub each : EachOf (λ n name (s : SessionOut I O). IsOpenedFor old io name s) 0 names sessions
   pub faults : new.faults ≡ old.faults
 
--- ---- what is not opened is so by the host's own fault, or for want of memory
+-- ---- what cannot be opened: by the host's own fault, or because memory runs out
 
-abbrev pub IsNotOpened : List ℕ → Told → Told → Unopened → Type 0
+abbrev pub IsNotOpened : List ℕ → HostSpec → HostSpec → Unopened → Type 0
 IsNotOpened name old new (CannotOpen why) = (why.now ≡ name) × Rose old.faults new.faults
 IsNotOpened name old new Memory = Unit {0}
 
 -- it is one of these names
-abbrev pub IsUnopened : List (List ℕ) → Told → Told → Unopened → Type 0
+abbrev pub IsUnopened : List (List ℕ) → HostSpec → HostSpec → Unopened → Type 0
 IsUnopened names old new (CannotOpen why) =
     ((place : ℕ) × (slice_get names place ≡ Some why.now)) × Rose old.faults new.faults
 IsUnopened names old new Memory = Unit {0}

@@ -1,11 +1,13 @@
--- How a run comes about: what its sessions are given, and what the closed database and the sessions leave.
+-- How a run comes about: what its sessions are given,
+-- and what the closed database and the sessions leave.
 -- This project's own choice.
-use Rattle.std.specs.Prelude.{◌≡◌, ℕ, ◌+◌, ◌<◌, ◌≤◌, ◌==◌, List, map, length, Option, Some, None, option_map, IsSome, slice_get, string_bytes}
+use Rattle.std.specs.Prelude.{◌≡◌, ℕ, ◌+◌, ◌<◌, ◌≤◌, ◌==◌, List, map, length, Option, Some, None}
+use Rattle.std.specs.Prelude.{option_map, IsSome, slice_get, string_bytes}
 use Rattle.std.specs.List.{AllByRecursion}
 use Rattle.fb_values.specs.declared.facts.Entry.{Entry}
 use Rattle.fb_model.specs.History.{basis, upto}
 use Rattle.fb_model.specs.Lawful.{IsLawful}
-use Rattle.fb_view.specs.Kept.{Kept}
+use Rattle.fb_view.specs.SnapshotModel.{SnapshotModel}
 use Rattle.fb_desk.specs.Desks.{as_opened}
 use Rattle.board_rule.specs.Calls.{view_of}
 use Rattle.fb_conn.specs.declared.conn.Conn.{Conn}
@@ -25,7 +27,7 @@ use Rattle.fb_run.specs.declared.database.Directory.{Directory}
 use Rattle.fb_run.specs.declared.merging.Trees.{Trees}
 use Rattle.merge_worker.specs.declared.ends.WorkEnd.{WorkEnd}
 use Rattle.fb_run.specs.Merging.{LeavesTrees}
-use Rattle.fb_run.specs.Outside.{Tells, DiskTells, run_from, setting_of, EachOf}
+use Rattle.fb_run.specs.Outside.{StreamSpec, DiskSpec, run_from, setting_of, EachOf}
 use Rattle.fb_run.specs.Headline.{stop_of}
 use Rattle.fb_run.specs.Logs.{IsNext}
 use Rattle.fb_run.specs.Causes.{HasDisks, SaysWhy}
@@ -41,11 +43,12 @@ pub record IsMade {L R : Type 0} (sessions : ℕ) (h : List Entry) (conn : Conn 
   pub given : (view_of worker.board).given ≡ sessions
   pub start : (view_of worker.board).start ≡ basis h
 
--- The closed database has one lawful history, whose entries behind the opening's are the sessions', and has taken in what each of
--- their seats knew. The log stopped or did not, and what is torn is what it did not take.
+-- The closed database has one lawful history, whose entries after the opening's are the sessions',
+-- and has taken in what each of their seats knew.
+-- The log stopped or did not, and what is torn is what it did not take.
 pub record Closes {I O D : Type 0} (seats : List Seat) (opening : ℕ) (outcome : Outcome I O D)
     : Type 0 where
-  pub last : Kept
+  pub last : SnapshotModel
   pub authors : List ℕ
   pub stopped : Option Stop
   pub last_is : outcome.last ≡ Some last
@@ -57,8 +60,9 @@ pub record Closes {I O D : Type 0} (seats : List Seat) (opening : ℕ) (outcome 
       → IsTakenIn (record { snapshot = last; authors = authors }) opening stopped k (state_of seat)
   pub torn : stop_of outcome.torn ≡ option_map at_of stopped
 
--- what became of the log's disk since it was opened with the entries 0 to r: it kept the history, or failed at what is torn
-abbrev pub LeavesLog : {D : Type 0} → DiskTells D → ℕ → D → List Entry → Option Draft → D → Type 0
+-- what became of the log's disk since it was opened with the entries 0 to r:
+-- it kept the history, or failed at what is torn
+abbrev pub LeavesLog : {D : Type 0} → DiskSpec D → ℕ → D → List Entry → Option Draft → D → Type 0
 LeavesLog disks r begun h None log =
     HasKept disks.bytes disks.images disks.faults disks.moment disks.images_since r begun h log
 LeavesLog disks r begun h (Some draft) log =
@@ -67,7 +71,7 @@ LeavesLog disks r begun h (Some draft) log =
     (entry_of draft) log
 
 -- the log's disk is handed back
-pub record HandsLogBack {I O D : Type 0} (disks : DiskTells D) (r : ℕ) (begun : D) (h : List Entry)
+pub record HandsLogBack {I O D : Type 0} (disks : DiskSpec D) (r : ℕ) (begun : D) (h : List Entry)
     (outcome : Outcome I O D) : Type 0 where
   pub log : D
   pub log_is : outcome.log ≡ Some log
@@ -81,37 +85,39 @@ pub record GoesOnFrom {I O D : Type 0} {g : _} (directory : Directory D g) (h : 
   pub opened : upto h outcome.recovered ≡ directory.core.snapshot.entries
 
 -- the sessions answered what they were opened with, over the one history since its opening
-abbrev pub RepliesBy : {I O : Type 0} → Terms → Tells I O → ℕ → Option ℕ → List (SessionOut I O)
+abbrev pub RepliesBy : {I O : Type 0} → Terms → StreamSpec I O → ℕ → Option ℕ
+    → List (SessionOut I O)
     → List (SessionOut I O) → List Entry → Type 0
-RepliesBy {I} {O} terms tells opening stop opened sessions h =
+RepliesBy {I} {O} terms io opening stop opened sessions h =
     (teller : ℕ) × EachOf (λ n (old new : SessionOut I O).
-    Replies (setting_of terms h stop (teller == n)) opening (run_from tells old.source old.sink new))
+    Replies (setting_of terms h stop (teller == n)) opening (run_from io old.source old.sink new))
     0 opened sessions
 
 -- no count rose but that of the object whose fault ended the session
-pub record CountsBy {I O : Type 0} (tells : Tells I O) (old new : SessionOut I O) : Type 0 where
-  pub source : SourceCount new.end (tells.source_faults old.source) (tells.source_faults new.source)
-  pub sink : SinkCount new.end (tells.sink_faults old.sink) (tells.sink_faults new.sink)
+pub record CountsBy {I O : Type 0} (io : StreamSpec I O) (old new : SessionOut I O) : Type 0 where
+  pub source : SourceCount new.end (io.source_faults old.source) (io.source_faults new.source)
+  pub sink : SinkCount new.end (io.sink_faults old.sink) (io.sink_faults new.sink)
 
--- The run ended, and its trees with it. What is said is of the first session that ended early, else of the log, else of the trees.
-pub record EndsWith {I O D : Type 0} {g : _} (disks : DiskTells D) (merge_at : ℕ)
+-- The run ended, and its trees with it.
+-- What is reported is of the first session that ended early, else of the log, else of the trees.
+pub record EndsWith {I O D : Type 0} {g : _} (disks : DiskSpec D) (merge_at : ℕ)
     (names : List (List ℕ)) (begun : Trees D g) (outcome : Outcome I O D) : Type 0 where
   pub end : WorkEnd
   pub says : SaysWhy
       (why_of (first_early names (map (λ (s : SessionOut I O). s.end) outcome.sessions.items))
       (stop_of outcome.torn) end)
       outcome.status (string_bytes outcome.line)
-  pub last : Kept
+  pub last : SnapshotModel
   pub last_is : outcome.last ≡ Some last
   pub segments : D
   pub segments_is : outcome.segments ≡ Some segments
   pub trees : LeavesTrees disks merge_at begun end last segments
 
 -- the sessions ran
-pub record HaveEnded {I O D : Type 0} {g : _} (tells : Tells I O) (disks : DiskTells D)
+pub record HaveEnded {I O D : Type 0} {g : _} (io : StreamSpec I O) (disks : DiskSpec D)
     (merge_at : ℕ) (names : List (List ℕ)) (opened : List (SessionOut I O)) (begun : Trees D g)
     (outcome : Outcome I O D) : Type 0 where
-  pub each : EachOf (λ n (old new : SessionOut I O). CountsBy tells old new) 0 opened
+  pub each : EachOf (λ n (old new : SessionOut I O). CountsBy io old new) 0 opened
       outcome.sessions.items
   pub ends : EndsWith disks merge_at names begun outcome
   pub authors : IsSome outcome.authors

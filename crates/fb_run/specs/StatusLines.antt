@@ -6,13 +6,17 @@ use Rattle.edn_core.specs.Answers.{fault_of}
 use Rattle.fb_ports.specs.declared.hosts.Part.{Part}
 use Rattle.fb_ports.specs.declared.hosts.Part.TheVariants.{Log, Segments}
 use Rattle.fb_recover.specs.declared.faults.OpenFault.{OpenFault}
-use Rattle.fb_recover.specs.declared.faults.OpenFault.TheVariants.{Disk, BadLog, Unlawful, Memory as OutOfMemory}
+use Rattle.fb_recover.specs.declared.faults.OpenFault.TheVariants.{Disk, BadLog, Unlawful}
+use Rattle.fb_recover.specs.declared.faults.OpenFault.TheVariants.{Memory as OutOfMemory}
 use Rattle.merge_worker.specs.declared.ends.WorkEnd.{WorkEnd}
-use Rattle.merge_worker.specs.declared.ends.WorkEnd.TheVariants.{Shut, StoreFault, Spent, Memory as NoMemory}
+use Rattle.merge_worker.specs.declared.ends.WorkEnd.TheVariants.{Shut, StoreFault, Spent}
+use Rattle.merge_worker.specs.declared.ends.WorkEnd.TheVariants.{Memory as NoMemory}
 use Rattle.fb_session.specs.declared.outcome.SessionEnd.{SessionEnd}
-use Rattle.fb_session.specs.declared.outcome.SessionEnd.TheVariants.{Done, Script, TooLong, TooMany, ReadFault, WriteFault, Memory}
+use Rattle.fb_session.specs.declared.outcome.SessionEnd.TheVariants.{Done, Script, TooLong, TooMany}
+use Rattle.fb_session.specs.declared.outcome.SessionEnd.TheVariants.{ReadFault, WriteFault, Memory}
 
--- ---- the line of a look at a directory: the basis of its history, and the t up to which it stands in trees
+-- ---- the line of a look at a directory:
+-- the basis of its history, and the t up to which it is in trees
 
 abbrev pub history_line : ℕ → ℕ → List ℕ
 history_line basis covered =
@@ -99,7 +103,7 @@ pub data Why : Type 0 where
   answered : Why
   -- the console took the line of a look, or that of the generator
   reported : Why
-  -- the words are no command
+  -- the words are not a command
   usage : Why
   -- the host could not open what has this name
   unopened : List ℕ → Why
@@ -162,7 +166,8 @@ why_merged StoreFault = segments_failed
 why_merged Spent = answered
 why_merged NoMemory = memory
 
--- What decides where sessions ran: the first that ended early; else the t that the log did not take; else how merging ended.
+-- What decides where sessions ran:
+-- the first that ended early; else the t that the log did not take; else how merging ended.
 abbrev pub why_of : Option (List ℕ × SessionEnd) → Option ℕ → WorkEnd → Why
 why_of (Some p) stop end = ended_early p.0 p.1
 why_of None (Some t) end = log_stopped t

@@ -1,6 +1,7 @@
--- What the generator tells of the last value of the database.
+-- The summary that the generator prints of the last value of the database.
 -- This project's own choice.
-use Rattle.std.specs.Prelude.{◌≡◌, ℕ, ℤ, pos, ◌+ℤ◌, List, [], ◌++◌, fold, length, Option, Some, None, codes, decimal}
+use Rattle.std.specs.Prelude.{◌≡◌, ℕ, ℤ, pos, ◌+ℤ◌, List, [], ◌++◌, fold, length, Option, Some}
+use Rattle.std.specs.Prelude.{None, codes, decimal}
 use Rattle.std.specs.Fmt.{signed_decimal}
 use Rattle.std.specs.Option.{option_map}
 use Rattle.fb_values.specs.declared.facts.Datom.{Datom}

@@ -3,7 +3,7 @@ ghost use Rattle.std.specs.Prelude.{◌≡◌, ◌<◌, ◌≤◌, ◌∷◌, []
 ghost use Rattle.board_rule.specs.Calls.{view_of};
 ghost use Rattle.fb_conn.specs.Seats.{begun_of};
 ghost use Rattle.disk_log.specs.Logs.{KeepsHistory};
-ghost use Rattle.fb_ports.specs.Telling.{StaysButDisk};
+ghost use Rattle.fb_ports.specs.HostCalls.{StaysButDisk};
 ghost use Rattle.fb_run.specs.Outside.{disks_of, IsDiskOf};
 ghost use Rattle.fb_run.specs.Merging.{CanWork, trees_in};
 ghost use Rattle.fb_run.specs.Database.{SameStreams, IsReopened, IsRefused, IsOpened, IsUnopenedPart, IsUnready, disks_in};
@@ -85,12 +85,12 @@ pub(crate) fn open_directory<'a, H: Host>(
     host: &mut H,
     dir: &'a str,
 ) -> Result<Directory<H::Disk>, Unready<'a, H::Disk>>
-    ensures opened { IfOk result (IsOpened (H.told host.old)
+    ensures opened { IfOk result (IsOpened (H.spec host.old)
         (disks_of H.Disk.bytes H.Disk.faults H.Disk.images H.Disk.moment H.Disk.images_since)
         dir.now) }
-    ensures streams { IfOk result (λ _. SameStreams (H.told host.old) (H.told host.new)) }
-    ensures stop { (names : List (List ℕ)) → IfErr result (IsUnready (H.told host.old)
-        (H.told host.new)
+    ensures streams { IfOk result (λ _. SameStreams (H.spec host.old) (H.spec host.new)) }
+    ensures stop { (names : List (List ℕ)) → IfErr result (IsUnready (H.spec host.old)
+        (H.spec host.new)
         (disks_of H.Disk.bytes H.Disk.faults H.Disk.images H.Disk.moment H.Disk.images_since)
         dir.now (dir.now ∷ names)) }
 {
@@ -106,12 +106,12 @@ fn open_part<'a, H: Host>(
     dir: &'a str,
     part: Part,
 ) -> Result<H::Disk, Unready<'a, H::Disk>>
-    ensures opened { IfOk result (IsDiskOf (H.told host.old)
+    ensures opened { IfOk result (IsDiskOf (H.spec host.old)
         (disks_of H.Disk.bytes H.Disk.faults H.Disk.images H.Disk.moment H.Disk.images_since)
         dir.now part) }
-    ensures unfailed { IfOk result (λ _. (H.told host.new).faults ≡ (H.told host.old).faults) }
-    ensures others { StaysButDisk dir.now part (H.told host.old) (H.told host.new) }
-    ensures stop { IfErr result (IsUnopenedPart (H.told host.old) (H.told host.new) dir.now) }
+    ensures unfailed { IfOk result (λ _. (H.spec host.new).faults ≡ (H.spec host.old).faults) }
+    ensures others { StaysButDisk dir.now part (H.spec host.old) (H.spec host.new) }
+    ensures stop { IfErr result (IsUnopenedPart (H.spec host.old) (H.spec host.new) dir.now) }
 {
     let why = match host.disk(alloc, dir, part) {
         Ok(disk) => return Ok(disk),

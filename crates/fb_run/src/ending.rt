@@ -74,7 +74,7 @@ pub(crate) fn closed<R: Threads + Sync, I: Drop, O: Drop, D: Disk>(
         mut trees,
         end,
     } = worker;
-    // A snapshot that is asked tells that it stands for its history.
+    // This call brings into the proof that the snapshot represents its history.
     let _basis = seat.last().basis();
     let Closed {
         mut core,
@@ -200,7 +200,7 @@ pub(crate) fn not_begun<I: Drop, O: Drop, D: Drop>(
     }
 }
 
-/// The outcome where this obstacle is all that there is to tell.
+/// The outcome where this obstacle is all that there is to say.
 fn obstructed<I: Drop, O: Drop, D: Drop>(alloc: Global, why: Obstacle<'_>) -> Outcome<I, O, D>
     ensures none { NoSession result }
     ensures no_console { HasNoConsole result }

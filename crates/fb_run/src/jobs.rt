@@ -3,10 +3,11 @@ ghost use denote.Param.Send.{IsSync};
 ghost use Rattle.std.specs.Prelude.{◌≡◌, ℕ, ◌+◌, ◌≤◌, ◌<◌, [], ◌∷◌, map, length, Some, IfOk, slice_get, slice_index_or, vec_len, vec_capacity};
 ghost use Rattle.std.specs.List.{All};
 ghost use Rattle.std.specs.Vec.Iter.{into_iter_items, into_iter_len};
+ghost use Rattle.script_model.specs.Script.{most_commands};
 ghost use Rattle.fb_conn.specs.declared.seats.Seat.{Seat};
 ghost use Rattle.fb_conn.specs.Seats.{IsSeatOf, state_of};
-ghost use Rattle.fb_session.specs.Sessions.{terms_of};
-ghost use Rattle.fb_run.specs.Outside.{tells_of, disks_of};
+ghost use Rattle.fb_session.specs.Sessions.{terms_at};
+ghost use Rattle.fb_run.specs.Outside.{streams_of, disks_of};
 ghost use Rattle.fb_run.specs.Jobs.{HasTalked, HaveTalked};
 ghost use Rattle.fb_run.specs.Merging.{TreesFit, CanWork, HasWorked};
 
@@ -71,15 +72,14 @@ pub(crate) fn serve_all<
 where
     L::Record: Send,
     requires seats { (k : ℕ) (seat : Seat) → slice_get seats.items k ≡ Some seat
-        → IsSeatOf conn.now seat × (1_000_000 ≤ (state_of seat).left) }
+        → IsSeatOf conn.now seat × (most_commands ≤ (state_of seat).left) }
     requires opened { length opened.items ≡ length seats.items }
     requires can_work { CanWork conn.now worker.old }
     requires fit { TreesFit (disks_of D.bytes D.faults D.images D.moment D.images_since)
         worker.old.trees }
     ensures talked { IfOk result (λ ended. HaveTalked
-        (terms_of (K.may_answer clock.now) (G.bars guard.now) (P.place_of preds.now)
-        (P.selects_at preds.now))
-        (tells_of I.left I.faults O.contents O.faults) conn.now seats.items opened.items
+        (terms_at K.may_answer G.bars P.place_of P.selects_at clock.now guard.now preds.now)
+        (streams_of I.left I.faults O.contents O.faults) conn.now seats.items opened.items
         ended.seats.items ended.sessions.items) }
     ensures worked { IfOk result (λ _. HasWorked
         (disks_of D.bytes D.faults D.images D.moment D.images_since) conn.now worker.old
@@ -186,14 +186,13 @@ fn serve_from<
 )
 where
     L::Record: Send,
-    requires left { All (λ job. 1_000_000 ≤ (state_of job.desk.seat).left) jobs.old }
+    requires left { All (λ job. most_commands ≤ (state_of job.desk.seat).left) jobs.old }
     requires can_work { CanWork conn.now worker.old }
     requires fit { TreesFit (disks_of D.bytes D.faults D.images D.moment D.images_since)
         worker.old.trees }
     ensures talked { (k : ℕ) (d : _) → k < length jobs.old → HasTalked
-        (terms_of (K.may_answer clock.now) (G.bars guard.now) (P.place_of preds.now)
-        (P.selects_at preds.now))
-        (tells_of I.left I.faults O.contents O.faults)
+        (terms_at K.may_answer G.bars P.place_of P.selects_at clock.now guard.now preds.now)
+        (streams_of I.left I.faults O.contents O.faults)
         (state_of (slice_index_or jobs.old k d).desk.seat)
         (state_of (slice_index_or jobs.new k d).desk.seat) (slice_index_or jobs.old k d).out
         (slice_index_or jobs.new k d).out }
@@ -233,14 +232,13 @@ fn serve_last_ahead<
 )
 where
     L::Record: Send,
-    requires left { All (λ job. 1_000_000 ≤ (state_of job.desk.seat).left) jobs.old }
+    requires left { All (λ job. most_commands ≤ (state_of job.desk.seat).left) jobs.old }
     requires can_work { CanWork conn.now worker.old }
     requires fit { TreesFit (disks_of D.bytes D.faults D.images D.moment D.images_since)
         worker.old.trees }
     ensures talked { (k : ℕ) (d : _) → k < length jobs.old → HasTalked
-        (terms_of (K.may_answer clock.now) (G.bars guard.now) (P.place_of preds.now)
-        (P.selects_at preds.now))
-        (tells_of I.left I.faults O.contents O.faults)
+        (terms_at K.may_answer G.bars P.place_of P.selects_at clock.now guard.now preds.now)
+        (streams_of I.left I.faults O.contents O.faults)
         (state_of (slice_index_or jobs.old k d).desk.seat)
         (state_of (slice_index_or jobs.new k d).desk.seat) (slice_index_or jobs.old k d).out
         (slice_index_or jobs.new k d).out }
@@ -290,14 +288,13 @@ fn serve_each<
 )
 where
     L::Record: Send,
-    requires left { All (λ job. 1_000_000 ≤ (state_of job.desk.seat).left) jobs.old }
+    requires left { All (λ job. most_commands ≤ (state_of job.desk.seat).left) jobs.old }
     requires can_work { CanWork conn.now worker.old }
     requires fit { TreesFit (disks_of D.bytes D.faults D.images D.moment D.images_since)
         worker.old.trees }
     ensures talked { (k : ℕ) (d : _) → k < length jobs.old → HasTalked
-        (terms_of (K.may_answer clock.now) (G.bars guard.now) (P.place_of preds.now)
-        (P.selects_at preds.now))
-        (tells_of I.left I.faults O.contents O.faults)
+        (terms_at K.may_answer G.bars P.place_of P.selects_at clock.now guard.now preds.now)
+        (streams_of I.left I.faults O.contents O.faults)
         (state_of (slice_index_or jobs.old k d).desk.seat)
         (state_of (slice_index_or jobs.new k d).desk.seat) (slice_index_or jobs.old k d).out
         (slice_index_or jobs.new k d).out }
@@ -305,11 +302,11 @@ where
         conn.now worker.old worker.new }
 {
     let serve = |_, job: &mut Job<I, O, L>|
-        requires { IsSync R.row × (1_000_000 ≤ (state_of job.old.desk.seat).left) }
+        requires { IsSync R.row × (most_commands ≤ (state_of job.old.desk.seat).left) }
         ensures { HasTalked
-            (terms_of (K.may_answer clock.entry.now) (G.bars guard.entry.now)
-            (P.place_of preds.entry.now) (P.selects_at preds.entry.now))
-            (tells_of I.left I.faults O.contents O.faults) (state_of job.old.desk.seat)
+            (terms_at K.may_answer G.bars P.place_of P.selects_at clock.entry.now guard.entry.now
+            preds.entry.now)
+            (streams_of I.left I.faults O.contents O.faults) (state_of job.old.desk.seat)
             (state_of job.new.desk.seat) job.old.out job.new.out }
     { job.serve(rt, alloc, clock, guard, preds) };
     let mut merges = ||
@@ -333,11 +330,10 @@ impl<I: Source, O: Sink, L: Log> Job<'_, I, O, L> {
         preds: &P,
     )
         requires sync { IsSync R.row }
-        requires left { 1_000_000 ≤ (state_of self.old.desk.seat).left }
+        requires left { most_commands ≤ (state_of self.old.desk.seat).left }
         ensures { HasTalked
-            (terms_of (K.may_answer clock.now) (G.bars guard.now) (P.place_of preds.now)
-            (P.selects_at preds.now))
-            (tells_of I.left I.faults O.contents O.faults) (state_of self.old.desk.seat)
+            (terms_at K.may_answer G.bars P.place_of P.selects_at clock.now guard.now preds.now)
+            (streams_of I.left I.faults O.contents O.faults) (state_of self.old.desk.seat)
             (state_of self.new.desk.seat) self.old.out self.new.out }
     {
         let served = serve_desk(

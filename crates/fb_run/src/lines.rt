@@ -86,7 +86,7 @@ fn unlawful(alloc: Global, t: u32, law: u8) -> Result<String, Memory>
     Ok(format!(in alloc; "factbase: bad log: t {t} breaks law {law}")?)
 }
 
-/// What a look at a directory tells of its history.
+/// What a look at a directory says of its history.
 pub(crate) fn history_line(alloc: Global, reach: Reach) -> Result<String, Memory>
     ensures { IfOk result (λ line. string_bytes line ≡ history_line reach.basis reach.covered) }
 {

@@ -3,15 +3,15 @@ ghost use Rattle.std.specs.Prelude.{◌≡◌, ◌∷◌, ℕ, [], map, None, So
 ghost use Rattle.std.specs.Option.{unwrap_or};
 ghost use Rattle.std.specs.List.{AllByRecursion};
 ghost use Rattle.fb_model.specs.History.{basis, upto};
-ghost use Rattle.disk_model.specs.Disk.{WhereTold};
+ghost use Rattle.disk_model.specs.Disk.{IfKnown};
 ghost use Rattle.log_model.specs.Log.{IsLogOf};
 ghost use Rattle.talk_model.specs.Prefixes.{Prefixes};
 ghost use Rattle.command_line.specs.Words.{load, load_merge_at, standard};
 ghost use Rattle.command_line.specs.Views.{names_in};
 ghost use Rattle.fb_ports.specs.declared.hosts.Part.{Part};
-ghost use Rattle.fb_session.specs.Sessions.{terms_of};
-ghost use Rattle.fb_run.specs.Outside.{tells_of, disks_of, IsSinkOf};
-ghost use Rattle.fb_run.specs.Generated.{loads_of, told_in_memory, in_memory};
+ghost use Rattle.fb_session.specs.Sessions.{terms_at};
+ghost use Rattle.fb_run.specs.Outside.{streams_of, disks_of, IsSinkOf};
+ghost use Rattle.fb_run.specs.Generated.{loads_of, spec_in_memory, in_memory};
 ghost use Rattle.fb_run.specs.Opening.{OpensSink, IsNotOpened};
 ghost use Rattle.fb_run.specs.Database.{IsOpened, IsUnready};
 ghost use Rattle.fb_run.specs.Headline.{OneHistory, stop_of, EachReplies};
@@ -77,33 +77,32 @@ pub(crate) fn load<
     ensures one_history { IfSome result.last (λ last. OneHistory last.entries result.recovered
         (unwrap_or result.authors []) (map (λ s. s.commits) result.loads.items)) }
     ensures replies { IfSome result.last (λ last. EachReplies
-        (terms_of (K.may_answer clock.now) (G.bars guard.now) (P.place_of preds.now)
-        (P.selects_at preds.now))
-        (told_in_memory (H.told host.old) (Some (load count))) in_memory result.recovered
+        (terms_at K.may_answer G.bars P.place_of P.selects_at clock.now guard.now preds.now)
+        (spec_in_memory (H.spec host.old) (Some (load count))) in_memory result.recovered
         (stop_of result.torn) (loads_of (Some (load count))) result.loads.items last.entries) }
     ensures prefixes { IfSome result.last (λ last. AllByRecursion
         (λ s. Prefixes result.recovered (basis last.entries) s.places s.commits)
         result.loads.items) }
-    ensures opening { IfSome result.last (λ last. WhereTold
-        ((H.told host.old).disks (directory_of (Some (load count))) Part.Log)
+    ensures opening { IfSome result.last (λ last. IfKnown
+        ((H.spec host.old).disks (directory_of (Some (load count))) Part.Log)
         (λ file. IsLogOf file (upto last.entries result.recovered))) }
-    ensures log { IfSome result.last (λ last. IfSome result.log (LogHolds (H.told host.old)
+    ensures log { IfSome result.last (λ last. IfSome result.log (LogHolds (H.spec host.old)
         (disks_of H.Disk.bytes H.Disk.faults H.Disk.images H.Disk.moment H.Disk.images_since)
         (directory_of (Some (load count))) last.entries result.recovered result.torn)) }
-    ensures causes { Causes (H.told host.old)
-        (tells_of H.In.left H.In.faults H.Out.contents H.Out.faults)
+    ensures causes { Causes (H.spec host.old)
+        (streams_of H.In.left H.In.faults H.Out.contents H.Out.faults)
         (disks_of H.Disk.bytes H.Disk.faults H.Disk.images H.Disk.moment H.Disk.images_since)
-        (H.told host.new).faults (Some (load count)) result }
-    ensures unharmed { result.last ≡ None → IfSome result.log (IsUnharmed (H.told host.old)
+        (H.spec host.new).faults (Some (load count)) result }
+    ensures unharmed { result.last ≡ None → IfSome result.log (IsUnharmed (H.spec host.old)
         (disks_of H.Disk.bytes H.Disk.faults H.Disk.images H.Disk.moment H.Disk.images_since)
         (directory_of (Some (load count)))) }
     ensures covered { IfSome result.last (λ last. result.covered ≡ last.covered) }
     ensures coverage { IfSome result.last (λ last. IfSome result.segments (GoAsFar
-        (H.told host.old)
+        (H.spec host.old)
         (disks_of H.Disk.bytes H.Disk.faults H.Disk.images H.Disk.moment H.Disk.images_since)
         (directory_of (Some (load count))) (upto last.entries result.recovered) last)) }
     ensures merged { IfSome result.last (λ last. result.status ≡ 0
-        → IfSome result.segments (IsMerged (H.told host.old)
+        → IfSome result.segments (IsMerged (H.spec host.old)
         (disks_of H.Disk.bytes H.Disk.faults H.Disk.images H.Disk.moment H.Disk.images_since)
         (directory_of (Some (load count))) load_merge_at last)) }
 {
@@ -146,15 +145,15 @@ fn open_load<'a, H: Host>(
     host: &mut H,
     count: u32,
 ) -> Result<Prepared<H::Out, H::Disk>, Unready<'a, H::Disk>>
-    ensures directory { IfOk result (λ made. IsOpened (H.told host.old)
+    ensures directory { IfOk result (λ made. IsOpened (H.spec host.old)
         (disks_of H.Disk.bytes H.Disk.faults H.Disk.images H.Disk.moment H.Disk.images_since)
         (directory_of (Some (load count))) made.ready.directory) }
     ensures sessions { IfOk result (λ made. AreGenerated count made.ready.sessions.items) }
-    ensures console { IfOk result (λ made. IsSinkOf (H.told host.old)
-        (tells_of H.In.left H.In.faults H.Out.contents H.Out.faults) standard made.console) }
+    ensures console { IfOk result (λ made. IsSinkOf (H.spec host.old)
+        (streams_of H.In.left H.In.faults H.Out.contents H.Out.faults) standard made.console) }
     ensures unfailed { IfOk result
-        (λ _. (H.told host.new).faults ≡ (H.told host.old).faults) }
-    ensures stop { IfErr result (IsUnready (H.told host.old) (H.told host.new)
+        (λ _. (H.spec host.new).faults ≡ (H.spec host.old).faults) }
+    ensures stop { IfErr result (IsUnready (H.spec host.old) (H.spec host.new)
         (disks_of H.Disk.bytes H.Disk.faults H.Disk.images H.Disk.moment H.Disk.images_since)
         (directory_of (Some (load count))) (names_of (Some (load count)))) }
 {
@@ -174,10 +173,10 @@ fn prepare_over<'a, H: Host>(
     ensures directory { IfOk result (λ made. made.ready.directory ≡ directory) }
     ensures sessions { IfOk result (λ made. AreGenerated count made.ready.sessions.items) }
     ensures console { IfOk result (λ made. OpensSink
-        (tells_of H.In.left H.In.faults H.Out.contents H.Out.faults) standard (H.told host.old)
-        (H.told host.new) made.console) }
+        (streams_of H.In.left H.In.faults H.Out.contents H.Out.faults) standard (H.spec host.old)
+        (H.spec host.new) made.console) }
     ensures stop { IfErr result
-        (IsUnanswered (H.told host.old) (H.told host.new) standard directory) }
+        (IsUnanswered (H.spec host.old) (H.spec host.new) standard directory) }
 {
     match open_sessions(alloc, host, count) {
         Ok(Streams { sessions, console }) => Ok(Prepared {
@@ -209,10 +208,10 @@ fn open_sessions<'a, H: Host>(
     count: u32,
 ) -> Result<Streams<H::Out>, Unopened<'a>>
     ensures console { IfOk result (λ made. OpensSink
-        (tells_of H.In.left H.In.faults H.Out.contents H.Out.faults) standard (H.told host.old)
-        (H.told host.new) made.console) }
+        (streams_of H.In.left H.In.faults H.Out.contents H.Out.faults) standard (H.spec host.old)
+        (H.spec host.new) made.console) }
     ensures sessions { IfOk result (λ made. AreGenerated count made.sessions.items) }
-    ensures stop { IfErr result (IsNotOpened standard (H.told host.old) (H.told host.new)) }
+    ensures stop { IfErr result (IsNotOpened standard (H.spec host.old) (H.spec host.new)) }
 {
     let console = open_sink(alloc, host, CONSOLE)?;
     match sessions_of(alloc, count) {
@@ -286,7 +285,7 @@ fn summed_up<I: Drop, O: Sink, D: Disk>(
     }
 }
 
-/// What is said where a run ended with this status, this line and this value of the database.
+/// What is printed where a run ended with this status, this line and this value of the database.
 fn said_further<I: Drop, O: Sink, D: Drop>(
     alloc: Global,
     status: u8,
@@ -299,13 +298,13 @@ fn said_further<I: Drop, O: Sink, D: Drop>(
         (said_of result) }
 {
     match last {
-        Some(last) if status == 0 => told(alloc, last, console),
+        Some(last) if status == 0 => printed(alloc, last, console),
         _ => without_session(alloc, status, Ok(line)),
     }
 }
 
-/// The outcome where the summary of this value is told on the console.
-fn told<I: Drop, O: Sink, D: Drop>(
+/// The outcome where the summary of this value is printed on the console.
+fn printed<I: Drop, O: Sink, D: Drop>(
     alloc: Global,
     last: &Snapshot,
     mut console: O,

@@ -1,4 +1,4 @@
-//! A look at a directory: its history is told on the console, and nothing is changed.
+//! A look at a directory: its history is summed up on the console, and nothing is changed.
 ghost use Rattle.std.specs.Prelude.{◌≡◌, ◌∷◌, [], Some, string_bytes, IfOk, IfErr, IfSome, OnOk, OnErr, MatchResult};
 ghost use Rattle.std.specs.Io.KnownBytes.{append_known};
 ghost use Rattle.command_line.specs.Words.{check, standard};
@@ -6,13 +6,13 @@ ghost use Rattle.disk_log.specs.Logs.{disk_in};
 ghost use Rattle.seg_store.specs.Stores.{disk_in as segments_in};
 ghost use Rattle.fb_ports.specs.Faults.{Counts};
 ghost use Rattle.fb_session.specs.Written.{TakesPart};
-ghost use Rattle.fb_run.specs.Outside.{tells_of, disks_of};
+ghost use Rattle.fb_run.specs.Outside.{streams_of, disks_of};
 ghost use Rattle.fb_run.specs.Logs.{IsUnharmed};
 ghost use Rattle.fb_run.specs.Opening.{OpensSink, IsNotOpened};
 ghost use Rattle.fb_run.specs.Database.{IsUnready};
 ghost use Rattle.fb_run.specs.StatusLines.{history_line, reported, console_failed};
 ghost use Rattle.fb_run.specs.Causes.{HasNoConsole, NoSession, SaysWhy, Causes};
-ghost use Rattle.fb_run.specs.Looking.{IsLook, IsUnanswered, HasTold};
+ghost use Rattle.fb_run.specs.Looking.{IsLook, IsUnanswered, HasPrinted};
 
 use crate::database::{Directory, Obstacle, Unready, open_directory};
 use crate::ending::{not_begun, without_session};
@@ -26,20 +26,20 @@ use std::alloc::Global;
 /// The name of standard output.
 pub(crate) const CONSOLE: &str = "-";
 
-/// Opens the directory, and tells its history on the console.
+/// Opens the directory, and prints a line about its history on the console.
 pub(crate) fn check_directory<H: Host>(
     alloc: Global,
     host: &mut H,
     directory: &str,
 ) -> Outcome<H::In, H::Out, H::Disk>
     ensures none { NoSession result }
-    ensures unharmed { IfSome result.log (IsUnharmed (H.told host.old)
+    ensures unharmed { IfSome result.log (IsUnharmed (H.spec host.old)
         (disks_of H.Disk.bytes H.Disk.faults H.Disk.images H.Disk.moment H.Disk.images_since)
         directory.now) }
-    ensures causes { Causes (H.told host.old)
-        (tells_of H.In.left H.In.faults H.Out.contents H.Out.faults)
+    ensures causes { Causes (H.spec host.old)
+        (streams_of H.In.left H.In.faults H.Out.contents H.Out.faults)
         (disks_of H.Disk.bytes H.Disk.faults H.Disk.images H.Disk.moment H.Disk.images_since)
-        (H.told host.new).faults (Some (check directory.now)) result }
+        (H.spec host.new).faults (Some (check directory.now)) result }
 {
     let names = Names {
         directory,
@@ -79,11 +79,11 @@ fn open_look<'a, H: Host>(
     names: &Names<'a>,
 ) -> Result<Look<H::Out, H::Disk>, Unready<'a, H::Disk>>
     requires console { names.now.console.now ≡ standard }
-    ensures look { IfOk result (IsLook (H.told host.old) (H.told host.new)
-        (tells_of H.In.left H.In.faults H.Out.contents H.Out.faults)
+    ensures look { IfOk result (IsLook (H.spec host.old) (H.spec host.new)
+        (streams_of H.In.left H.In.faults H.Out.contents H.Out.faults)
         (disks_of H.Disk.bytes H.Disk.faults H.Disk.images H.Disk.moment H.Disk.images_since)
         names.now.directory.now) }
-    ensures stop { IfErr result (IsUnready (H.told host.old) (H.told host.new)
+    ensures stop { IfErr result (IsUnready (H.spec host.old) (H.spec host.new)
         (disks_of H.Disk.bytes H.Disk.faults H.Disk.images H.Disk.moment H.Disk.images_since)
         names.now.directory.now (names.now.directory.now ∷ standard ∷ [])) }
 {
@@ -104,10 +104,10 @@ fn look_into<'a, H: Host>(
     ensures line { IfOk result (λ look. string_bytes look.answer.line
         ≡ history_line directory.recovered directory.core.snapshot.covered) }
     ensures console { IfOk result (λ look. OpensSink
-        (tells_of H.In.left H.In.faults H.Out.contents H.Out.faults) names.now.console.now
-        (H.told host.old) (H.told host.new) look.answer.console) }
+        (streams_of H.In.left H.In.faults H.Out.contents H.Out.faults) names.now.console.now
+        (H.spec host.old) (H.spec host.new) look.answer.console) }
     ensures stop { IfErr result
-        (IsUnanswered (H.told host.old) (H.told host.new) names.now.console.now directory) }
+        (IsUnanswered (H.spec host.old) (H.spec host.new) names.now.console.now directory) }
 {
     let reach = directory.reach();
     match open_answer(alloc, host, names, reach) {
@@ -129,10 +129,10 @@ fn open_answer<'a, H: Host>(
     ensures line { IfOk result
         (λ answer. string_bytes answer.line ≡ history_line reach.basis reach.covered) }
     ensures console { IfOk result (λ answer. OpensSink
-        (tells_of H.In.left H.In.faults H.Out.contents H.Out.faults) names.now.console.now (H.told host.old)
-        (H.told host.new) answer.console) }
+        (streams_of H.In.left H.In.faults H.Out.contents H.Out.faults) names.now.console.now (H.spec host.old)
+        (H.spec host.new) answer.console) }
     ensures stop { IfErr result
-        (IsNotOpened names.now.console.now (H.told host.old) (H.told host.new)) }
+        (IsNotOpened names.now.console.now (H.spec host.old) (H.spec host.new)) }
 {
     let Ok(line) = history_line(alloc, reach) else {
         return Err(Unopened::Memory);
@@ -146,7 +146,7 @@ fn looked<I: Drop, O: Sink, D: Disk>(alloc: Global, look: Look<O, D>) -> Outcome
     ensures none { NoSession result }
     ensures log { result.log ≡ Some (disk_in look.directory.log) }
     ensures segments { result.segments ≡ Some (segments_in look.directory.store) }
-    ensures told { HasTold O.contents O.faults (string_bytes look.answer.line)
+    ensures printed { HasPrinted O.contents O.faults (string_bytes look.answer.line)
         look.answer.console result }
 {
     let Look { directory, answer } = look;

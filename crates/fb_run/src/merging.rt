@@ -35,7 +35,7 @@ pub(crate) struct Trees<D: Disk> {
 }
 
 /// Does each of the jobs, in a thread of its own where one can be made, and merges beside them until the last is done. Where the
-/// worker has no thread, it comes behind them.
+/// worker has no thread, it comes after them.
 pub(crate) fn beside<
     R: Threads + Wait + Sync,
     L: Log,
@@ -55,7 +55,7 @@ pub(crate) fn beside<
     join_mut(rt, merges, &mut sessions);
 }
 
-/// Does each of the jobs, and then tells the worker that none is left.
+/// Does each of the jobs, and then lets the worker know that none is left.
 fn do_each<R: Threads + Wait + Sync, L: Log, J: Send, F: Fn(usize, &mut J) + Sync>(
     rt: &R,
     conn: &Conn<L>,

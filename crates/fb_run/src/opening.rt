@@ -3,7 +3,7 @@ ghost use Rattle.std.specs.Prelude.{◌≡◌, ◌+◌, ◌<◌, ◌∷◌, true
 ghost use Rattle.std.specs.Vec.Iter.{into_iter_items, into_iter_len};
 ghost use Rattle.command_line.specs.Words.{are_apart};
 ghost use Rattle.command_line.specs.Views.{names_in};
-ghost use Rattle.fb_run.specs.Outside.{tells_of, disks_of};
+ghost use Rattle.fb_run.specs.Outside.{streams_of, disks_of};
 ghost use Rattle.fb_run.specs.Database.{IsOpened, IsUnready};
 ghost use Rattle.fb_run.specs.Opening.{AddsSource, OpensSources, OpensSink, AddsSession, AddsSessions, HasOpened, IsNotOpened, IsUnopened};
 
@@ -39,14 +39,14 @@ pub(crate) fn open_run<'a, H: Host>(
     command: &Run<'a>,
 ) -> Result<Ready<H::In, H::Out, H::Disk>, Unready<'a, H::Disk>>
     requires apart { are_apart (names_in command.now.scripts.items) ≡ true }
-    ensures directory { IfOk result (λ ready. IsOpened (H.told host.old)
+    ensures directory { IfOk result (λ ready. IsOpened (H.spec host.old)
         (disks_of H.Disk.bytes H.Disk.faults H.Disk.images H.Disk.moment H.Disk.images_since)
         command.now.directory.now ready.directory) }
     ensures sessions { IfOk result (λ ready. HasOpened
-        (tells_of H.In.left H.In.faults H.Out.contents H.Out.faults)
-        (names_in command.now.scripts.items) (H.told host.old) (H.told host.new)
+        (streams_of H.In.left H.In.faults H.Out.contents H.Out.faults)
+        (names_in command.now.scripts.items) (H.spec host.old) (H.spec host.new)
         ready.sessions.items) }
-    ensures stop { IfErr result (IsUnready (H.told host.old) (H.told host.new)
+    ensures stop { IfErr result (IsUnready (H.spec host.old) (H.spec host.new)
         (disks_of H.Disk.bytes H.Disk.faults H.Disk.images H.Disk.moment H.Disk.images_since)
         command.now.directory.now
         (command.now.directory.now ∷ names_in command.now.scripts.items)) }
@@ -81,10 +81,10 @@ pub(crate) fn open_all<'a, H: Host>(
 ) -> Result<Vec<SessionOut<H::In, H::Out>>, Unopened<'a>>
     requires apart { are_apart (names_in scripts.now) ≡ true }
     ensures opened { IfOk result (λ opened. HasOpened
-        (tells_of H.In.left H.In.faults H.Out.contents H.Out.faults) (names_in scripts.now)
-        (H.told host.old) (H.told host.new) opened.items) }
+        (streams_of H.In.left H.In.faults H.Out.contents H.Out.faults) (names_in scripts.now)
+        (H.spec host.old) (H.spec host.new) opened.items) }
     ensures stop { IfErr result
-        (IsUnopened (names_in scripts.now) (H.told host.old) (H.told host.new)) }
+        (IsUnopened (names_in scripts.now) (H.spec host.old) (H.spec host.new)) }
 {
     let mut sources = Vec::new(alloc);
     open_sources(alloc, host, scripts, &mut sources)?;
@@ -103,10 +103,10 @@ fn open_sources<'a, H: Host>(
 ) -> Result<(), Unopened<'a>>
     requires apart { are_apart (names_in scripts.now) ≡ true }
     ensures opened { OnOk result (OpensSources
-        (tells_of H.In.left H.In.faults H.Out.contents H.Out.faults) (names_in scripts.now)
-        sources.old.items sources.new.items (H.told host.old) (H.told host.new)) }
+        (streams_of H.In.left H.In.faults H.Out.contents H.Out.faults) (names_in scripts.now)
+        sources.old.items sources.new.items (H.spec host.old) (H.spec host.new)) }
     ensures stop { IfErr result
-        (IsUnopened (names_in scripts.now) (H.told host.old) (H.told host.new)) }
+        (IsUnopened (names_in scripts.now) (H.spec host.old) (H.spec host.new)) }
 {
     match scripts {
         [] => Ok(()),
@@ -125,9 +125,9 @@ fn add_source<'a, H: Host>(
     sources: &mut Vec<H::In>,
 ) -> Result<(), Unopened<'a>>
     ensures opened { OnOk result (AddsSource
-        (tells_of H.In.left H.In.faults H.Out.contents H.Out.faults) name.now
-        sources.old.items sources.new.items (H.told host.old) (H.told host.new)) }
-    ensures stop { IfErr result (IsNotOpened name.now (H.told host.old) (H.told host.new)) }
+        (streams_of H.In.left H.In.faults H.Out.contents H.Out.faults) name.now
+        sources.old.items sources.new.items (H.spec host.old) (H.spec host.new)) }
+    ensures stop { IfErr result (IsNotOpened name.now (H.spec host.old) (H.spec host.new)) }
 {
     match host.source(alloc, name) {
         Ok(source) => match sources.push(source) {
@@ -150,11 +150,11 @@ fn open_sinks<'a, H: Host>(
     requires apart { are_apart (names_in scripts.now) ≡ true }
     requires sources { into_iter_len sources.old ≡ length scripts.now }
     ensures opened { OnOk result (AddsSessions
-        (tells_of H.In.left H.In.faults H.Out.contents H.Out.faults) (names_in scripts.now)
-        (into_iter_items sources.old) sessions.old.items sessions.new.items (H.told host.old)
-        (H.told host.new)) }
+        (streams_of H.In.left H.In.faults H.Out.contents H.Out.faults) (names_in scripts.now)
+        (into_iter_items sources.old) sessions.old.items sessions.new.items (H.spec host.old)
+        (H.spec host.new)) }
     ensures stop { IfErr result
-        (IsUnopened (names_in scripts.now) (H.told host.old) (H.told host.new)) }
+        (IsUnopened (names_in scripts.now) (H.spec host.old) (H.spec host.new)) }
 {
     match scripts {
         [] => Ok(()),
@@ -175,10 +175,10 @@ fn add_session<'a, H: Host>(
 ) -> Result<(), Unopened<'a>>
     requires some { 0 < into_iter_len sources.old }
     ensures opened { OnOk result (AddsSession
-        (tells_of H.In.left H.In.faults H.Out.contents H.Out.faults) name.now
+        (streams_of H.In.left H.In.faults H.Out.contents H.Out.faults) name.now
         (into_iter_items sources.old) (into_iter_items sources.new) sessions.old.items
-        sessions.new.items (H.told host.old) (H.told host.new)) }
-    ensures stop { IfErr result (IsNotOpened name.now (H.told host.old) (H.told host.new)) }
+        sessions.new.items (H.spec host.old) (H.spec host.new)) }
+    ensures stop { IfErr result (IsNotOpened name.now (H.spec host.old) (H.spec host.new)) }
     ensures len { into_iter_len sources.new + 1 ≡ into_iter_len sources.old }
 {
     let source = match sources.next() {
@@ -214,9 +214,9 @@ pub(crate) fn open_sink<'a, H: Host>(
     name: &'a str,
 ) -> Result<H::Out, Unopened<'a>>
     ensures opened { IfOk result (OpensSink
-        (tells_of H.In.left H.In.faults H.Out.contents H.Out.faults) name.now (H.told host.old)
-        (H.told host.new)) }
-    ensures stop { IfErr result (IsNotOpened name.now (H.told host.old) (H.told host.new)) }
+        (streams_of H.In.left H.In.faults H.Out.contents H.Out.faults) name.now (H.spec host.old)
+        (H.spec host.new)) }
+    ensures stop { IfErr result (IsNotOpened name.now (H.spec host.old) (H.spec host.new)) }
 {
     let Ok(lines) = sink_name(alloc, name) else {
         return Err(Unopened::Memory);

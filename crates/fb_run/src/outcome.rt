@@ -22,7 +22,7 @@ pub struct SessionOut<I, O> {
 pub struct Outcome<I, O, D> {
     /// The program's exit status.
     pub status: u8,
-    /// What is said on standard error, where it is not empty.
+    /// What goes to standard error, where it is not empty.
     pub line: String,
     /// One for each script, in order.
     pub sessions: Vec<SessionOut<I, O>>,
@@ -30,10 +30,10 @@ pub struct Outcome<I, O, D> {
     pub console: Option<O>,
     /// The sessions of the generator, by number.
     pub loads: Vec<SessionOut<MemSource, MemSink>>,
-    /// The two disks of the directory, where it was opened. Want of memory may keep them.
+    /// The two disks of the directory, where it was opened. Where memory runs out they may be missing.
     pub log: Option<D>,
     pub segments: Option<D>,
-    /// For each t behind the opening's the number of its session, where sessions ran.
+    /// For each t after the opening, the session that wrote it, where sessions ran.
     pub authors: Option<Authors>,
     /// The last value of the database, where sessions ran: its entries are the one history.
     pub last: Option<Snapshot>,

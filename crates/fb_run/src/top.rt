@@ -3,16 +3,16 @@ ghost use Rattle.std.specs.Prelude.{◌≡◌, ◌⊎◌, ℕ, ◌<◌, ◌≤�
 ghost use Rattle.std.specs.Option.{unwrap_or};
 ghost use Rattle.std.specs.List.{AllByRecursion};
 ghost use Rattle.fb_model.specs.History.{basis, upto};
-ghost use Rattle.disk_model.specs.Disk.{WhereTold};
+ghost use Rattle.disk_model.specs.Disk.{IfKnown};
 ghost use Rattle.log_model.specs.Log.{IsLogOf};
 ghost use Rattle.command_line.specs.Words.{are_scripts, command_of, scripts_of, merge_at_of};
 ghost use Rattle.command_line.specs.Views.{names_in, run_by};
 ghost use Rattle.disk_log.specs.Logs.{disk_in};
 ghost use Rattle.talk_model.specs.Prefixes.{Prefixes};
 ghost use Rattle.fb_ports.specs.declared.hosts.Part.{Part};
-ghost use Rattle.fb_session.specs.Sessions.{terms_of};
-ghost use Rattle.fb_run.specs.Outside.{tells_of, disks_of};
-ghost use Rattle.fb_run.specs.Generated.{loads_of, told_in_memory, in_memory};
+ghost use Rattle.fb_session.specs.Sessions.{terms_at};
+ghost use Rattle.fb_run.specs.Outside.{streams_of, disks_of};
+ghost use Rattle.fb_run.specs.Generated.{loads_of, spec_in_memory, in_memory};
 ghost use Rattle.fb_run.specs.Headline.{OneHistory, stop_of, EachReplies};
 ghost use Rattle.fb_run.specs.Logs.{LogHolds, IsUnharmed};
 ghost use Rattle.fb_run.specs.Causes.{directory_of, HasNoConsole, HasNoDisk, NoSession, IsOutOfMemory, Causes};
@@ -41,7 +41,7 @@ use std::alloc::Global;
 use std::sync::Wait;
 use std::thread::Threads;
 
-/// Runs the command that the words behind the program's name are.
+/// Runs the command that the words after the program's name are.
 pub fn run<
     R: Threads + Wait + Sync,
     H: Host,
@@ -66,16 +66,14 @@ pub fn run<
 
     // Each line answers its form as a database with one thread would at its place in the history.
     ensures replies { IfSome result.last (λ last. EachReplies
-        (terms_of (K.may_answer clock.now) (G.bars guard.now) (P.place_of preds.now)
-        (P.selects_at preds.now))
-        (H.told host.old) (tells_of H.In.left H.In.faults H.Out.contents H.Out.faults)
+        (terms_at K.may_answer G.bars P.place_of P.selects_at clock.now guard.now preds.now)
+        (H.spec host.old) (streams_of H.In.left H.In.faults H.Out.contents H.Out.faults)
         result.recovered (stop_of result.torn)
         (scripts_of (command_of (map string_bytes words.now.items))) result.sessions.items
         last.entries) }
     ensures loads { IfSome result.last (λ last. EachReplies
-        (terms_of (K.may_answer clock.now) (G.bars guard.now) (P.place_of preds.now)
-        (P.selects_at preds.now))
-        (told_in_memory (H.told host.old) (command_of (map string_bytes words.now.items)))
+        (terms_at K.may_answer G.bars P.place_of P.selects_at clock.now guard.now preds.now)
+        (spec_in_memory (H.spec host.old) (command_of (map string_bytes words.now.items)))
         in_memory result.recovered (stop_of result.torn)
         (loads_of (command_of (map string_bytes words.now.items))) result.loads.items
         last.entries) }
@@ -89,49 +87,48 @@ pub fn run<
         result.loads.items) }
 
     // The log's file was that of the history at the opening.
-    ensures opening { IfSome result.last (λ last. WhereTold
-        ((H.told host.old).disks (directory_of (command_of (map string_bytes words.now.items)))
+    ensures opening { IfSome result.last (λ last. IfKnown
+        ((H.spec host.old).disks (directory_of (command_of (map string_bytes words.now.items)))
         Part.Log)
         (λ file. IsLogOf file (upto last.entries result.recovered))) }
 
     // A crash at any moment leaves a log of the history, or of the history with the transaction at which the log failed.
-    ensures log { IfSome result.last (λ last. IfSome result.log (LogHolds (H.told host.old)
+    ensures log { IfSome result.last (λ last. IfSome result.log (LogHolds (H.spec host.old)
         (disks_of H.Disk.bytes H.Disk.faults H.Disk.images H.Disk.moment H.Disk.images_since)
         (directory_of (command_of (map string_bytes words.now.items))) last.entries
         result.recovered result.torn)) }
 
     // Each status and its line have their cause.
-    ensures causes { Causes (H.told host.old)
-        (tells_of H.In.left H.In.faults H.Out.contents H.Out.faults)
+    ensures causes { Causes (H.spec host.old)
+        (streams_of H.In.left H.In.faults H.Out.contents H.Out.faults)
         (disks_of H.Disk.bytes H.Disk.faults H.Disk.images H.Disk.moment H.Disk.images_since)
-        (H.told host.new).faults
+        (H.spec host.new).faults
         (command_of (map string_bytes words.now.items)) result }
 
     // Over a log that is that of a history, scripts that are forms within the limits are answered whole where no count of faults
     // rises, unless memory is refused.
     ensures complete { Complete
-        (terms_of (K.may_answer clock.now) (G.bars guard.now) (P.place_of preds.now)
-        (P.selects_at preds.now))
-        (H.told host.old) (tells_of H.In.left H.In.faults H.Out.contents H.Out.faults)
+        (terms_at K.may_answer G.bars P.place_of P.selects_at clock.now guard.now preds.now)
+        (H.spec host.old) (streams_of H.In.left H.In.faults H.Out.contents H.Out.faults)
         (disks_of H.Disk.bytes H.Disk.faults H.Disk.images H.Disk.moment H.Disk.images_since)
-        (H.told host.new).faults (command_of (map string_bytes words.now.items)) result }
+        (H.spec host.new).faults (command_of (map string_bytes words.now.items)) result }
 
     // How far the trees go: as far as those that the database was opened with, which are the newest that the segments kept and the
     // history agrees with, or as far as ones that the segments keep at the end. Where the program succeeds, no merge is due any longer.
     ensures covered { IfSome result.last (λ last. result.covered ≡ last.covered) }
     ensures coverage { IfSome result.last (λ last. IfSome result.segments (GoAsFar
-        (H.told host.old)
+        (H.spec host.old)
         (disks_of H.Disk.bytes H.Disk.faults H.Disk.images H.Disk.moment H.Disk.images_since)
         (directory_of (command_of (map string_bytes words.now.items)))
         (upto last.entries result.recovered) last)) }
     ensures merged { IfSome result.last (λ last. result.status ≡ 0
         → IfSome (merge_at_of (command_of (map string_bytes words.now.items)))
-        (λ merge_at. IfSome result.segments (IsMerged (H.told host.old)
+        (λ merge_at. IfSome result.segments (IsMerged (H.spec host.old)
         (disks_of H.Disk.bytes H.Disk.faults H.Disk.images H.Disk.moment H.Disk.images_since)
         (directory_of (command_of (map string_bytes words.now.items))) merge_at last))) }
 
     // Where no session ran, the log is unharmed.
-    ensures unharmed { result.last ≡ None → IfSome result.log (IsUnharmed (H.told host.old)
+    ensures unharmed { result.last ≡ None → IfSome result.log (IsUnharmed (H.spec host.old)
         (disks_of H.Disk.bytes H.Disk.faults H.Disk.images H.Disk.moment H.Disk.images_since)
         (directory_of (command_of (map string_bytes words.now.items)))) }
 {
@@ -171,34 +168,33 @@ fn run_command<
     ensures one_history { IfSome result.last (λ last. OneHistory last.entries result.recovered
         (unwrap_or result.authors []) (map (λ s. s.commits) result.sessions.items)) }
     ensures replies { IfSome result.last (λ last. EachReplies
-        (terms_of (K.may_answer clock.now) (G.bars guard.now) (P.place_of preds.now)
-        (P.selects_at preds.now))
-        (H.told host.old) (tells_of H.In.left H.In.faults H.Out.contents H.Out.faults)
+        (terms_at K.may_answer G.bars P.place_of P.selects_at clock.now guard.now preds.now)
+        (H.spec host.old) (streams_of H.In.left H.In.faults H.Out.contents H.Out.faults)
         result.recovered (stop_of result.torn) (names_in command.now.scripts.items)
         result.sessions.items last.entries) }
     ensures prefixes { IfSome result.last (λ last. AllByRecursion
         (λ s. Prefixes result.recovered (basis last.entries) s.places s.commits)
         result.sessions.items) }
-    ensures opening { IfSome result.last (λ last. WhereTold
-        ((H.told host.old).disks command.now.directory.now Part.Log)
+    ensures opening { IfSome result.last (λ last. IfKnown
+        ((H.spec host.old).disks command.now.directory.now Part.Log)
         (λ file. IsLogOf file (upto last.entries result.recovered))) }
-    ensures log { IfSome result.last (λ last. IfSome result.log (LogHolds (H.told host.old)
+    ensures log { IfSome result.last (λ last. IfSome result.log (LogHolds (H.spec host.old)
         (disks_of H.Disk.bytes H.Disk.faults H.Disk.images H.Disk.moment H.Disk.images_since)
         command.now.directory.now last.entries result.recovered result.torn)) }
-    ensures causes { Causes (H.told host.old)
-        (tells_of H.In.left H.In.faults H.Out.contents H.Out.faults)
+    ensures causes { Causes (H.spec host.old)
+        (streams_of H.In.left H.In.faults H.Out.contents H.Out.faults)
         (disks_of H.Disk.bytes H.Disk.faults H.Disk.images H.Disk.moment H.Disk.images_since)
-        (H.told host.new).faults (Some (run_by command.now)) result }
-    ensures unharmed { result.last ≡ None → IfSome result.log (IsUnharmed (H.told host.old)
+        (H.spec host.new).faults (Some (run_by command.now)) result }
+    ensures unharmed { result.last ≡ None → IfSome result.log (IsUnharmed (H.spec host.old)
         (disks_of H.Disk.bytes H.Disk.faults H.Disk.images H.Disk.moment H.Disk.images_since)
         command.now.directory.now) }
     ensures covered { IfSome result.last (λ last. result.covered ≡ last.covered) }
     ensures coverage { IfSome result.last (λ last. IfSome result.segments (GoAsFar
-        (H.told host.old)
+        (H.spec host.old)
         (disks_of H.Disk.bytes H.Disk.faults H.Disk.images H.Disk.moment H.Disk.images_since)
         command.now.directory.now (upto last.entries result.recovered) last)) }
     ensures merged { IfSome result.last (λ last. result.status ≡ 0
-        → IfSome result.segments (IsMerged (H.told host.old)
+        → IfSome result.segments (IsMerged (H.spec host.old)
         (disks_of H.Disk.bytes H.Disk.faults H.Disk.images H.Disk.moment H.Disk.images_since)
         command.now.directory.now command.now.options.merge_at last)) }
     ensures no_console { HasNoConsole result }
@@ -238,9 +234,8 @@ pub(crate) fn run_opened<
     ensures one_history { IfSome result.last (λ last. OneHistory last.entries result.recovered
         (unwrap_or result.authors []) (map (λ s. s.commits) result.sessions.items)) }
     ensures replies { IfSome result.last (λ last. RepliesBy
-        (terms_of (K.may_answer clock.now) (G.bars guard.now) (P.place_of preds.now)
-        (P.selects_at preds.now))
-        (tells_of I.left I.faults O.contents O.faults) result.recovered (stop_of result.torn)
+        (terms_at K.may_answer G.bars P.place_of P.selects_at clock.now guard.now preds.now)
+        (streams_of I.left I.faults O.contents O.faults) result.recovered (stop_of result.torn)
         ready.sessions.items result.sessions.items last.entries) }
     ensures prefixes { IfSome result.last (λ last. AllByRecursion
         (λ s. Prefixes result.recovered (basis last.entries) s.places s.commits)
@@ -251,7 +246,7 @@ pub(crate) fn run_opened<
         (disk_in ready.directory.log) last.entries result) }
     ensures none { result.last ≡ None → HasNoDisk result }
     ensures ended { (NoSession result × IsOutOfMemory result) ⊎ HaveEnded
-        (tells_of I.left I.faults O.contents O.faults)
+        (streams_of I.left I.faults O.contents O.faults)
         (disks_of D.bytes D.faults D.images D.moment D.images_since)
         command.now.options.merge_at (names_in command.now.scripts.items) ready.sessions.items
         (trees_in ready.directory) result }

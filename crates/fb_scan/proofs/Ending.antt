@@ -1,5 +1,6 @@
 -- Where a walk ends: what lies behind a datom beyond the end lies beyond it too; and the ends of the three ranges.
-use Rattle.std.proofs.Common.{◌≡◌, ◌∙◌, ℕ, Bool, true, false, not, cond, ◌&&◌, List, ◌∷◌, refl, sym, ap, subst, arith, eqb, inl, inr, Option, Some, None}
+use Rattle.std.proofs.Common.{◌≡◌, ◌∙◌, ℕ, Bool, true, false, not, cond, ◌&&◌, List, ◌∷◌, refl, sym, ap, subst, arith, eqb, inl, inr}
+use Rattle.std.proofs.Common.{Option, Some, None}
 use Rattle.std.specs.Prelude.{Contains}
 use Rattle.std.specs.Option.{option_map_or}
 use Rattle.std.specs.Ordering.{is_lt, is_eq, is_gt, nat_cmp, ordering_then, ordering_reverse}
@@ -27,18 +28,22 @@ is_less Less is = refl
 is_less Equal is = absurd (true≢false (sym is))
 is_less Greater is = absurd (true≢false (sym is))
 
-pub past_later : (order : Order) (end : End) (x y : Datom) → IsIn order end → key_cmp order x y ≡ Less → is_past end x ≡ true → is_past end y ≡ true
+pub past_later : (order : Order) (end : End) (x y : Datom) → IsIn order end → key_cmp order x y ≡ Less → is_past end x ≡ true
+    → is_past end y ≡ true
 past_later order Never x y inside less past = past
 past_later order (Behind p) x y inside less past =
     ap is_lt (above_later p.now x y (subst (λ (o : Order). key_cmp o x y ≡ Less) (sym inside) less) (is_less (probe_cmp p.now x) past))
 past_later order (Before p) x y inside less past =
     elim (cases_Bool (is_below p.now y)) [
-      | inl below ↦ absurd (true≢false (sym past ∙ ap not (below_earlier p.now x y (subst (λ (o : Order). key_cmp o x y ≡ Less) (sym inside) less) below)))
+      | inl below ↦
+          absurd
+          (true≢false (sym past ∙ ap not (below_earlier p.now x y (subst (λ (o : Order). key_cmp o x y ≡ Less) (sym inside) less) below)))
       | inr above ↦ ap not above
     ]
 
 -- none of the datoms from one on that lies beyond the end lies before it
-pub all_past : (order : Order) (end : End) (x : Datom) (ds : List Datom) (d : Datom) → IsIn order end → IsRising order (x ∷ ds) → is_past end x ≡ true → Contains (x ∷ ds) d → is_past end d ≡ true
+pub all_past : (order : Order) (end : End) (x : Datom) (ds : List Datom) (d : Datom) → IsIn order end → IsRising order (x ∷ ds)
+    → is_past end x ≡ true → Contains (x ∷ ds) d → is_past end d ≡ true
 all_past order end x ds d inside rising past there =
     elim (contains-cons x ds d there) [
       | inl same ↦ subst (λ (z : Datom). is_past end z ≡ true) same past
@@ -89,7 +94,8 @@ module _ (a : ℕ) (d : Datom) where
   closed Equal false = refl
   closed Greater s = refl
 
-  bounded : (o : Ordering) (s e : Bool) → ((is_eq o && not s) && e) ≡ (not (cond (is_eq o) s (is_gt o)) && not (not (cond (is_eq o) e (is_gt o))))
+  bounded : (o : Ordering) (s e : Bool)
+      → ((is_eq o && not s) && e) ≡ (not (cond (is_eq o) s (is_gt o)) && not (not (cond (is_eq o) e (is_gt o))))
   bounded Less s e = refl
   bounded Equal true e = refl
   bounded Equal false true = refl
@@ -114,7 +120,8 @@ module _ (a : ℕ) (d : Datom) where
   below_start (Some v) =
       by_value (nat_cmp a d.a) (value_cmp v d.v) ∙ ap (λ b. cond (is_eq (nat_cmp a d.a)) b (is_gt (nat_cmp a d.a))) (sym (less_back d.v v))
 
-  pub between_open : (start : Option Value) → is_in (between a start None) d ≡ (not (is_below (valued a start) d) && not (is_lt (probe_cmp (valued a None) d)))
+  pub between_open : (start : Option Value)
+      → is_in (between a start None) d ≡ (not (is_below (valued a start) d) && not (is_lt (probe_cmp (valued a None) d)))
   between_open start =
       ap (λ b. (b && option_map_or (λ v. not (is_lt (value_cmp d.v v))) start true) && true) (eq_is d.a a)
       ∙ ap (λ b. (is_eq (nat_cmp a d.a) && b) && true) (early_start start)
@@ -122,10 +129,12 @@ module _ (a : ℕ) (d : Datom) where
       ∙ ap (λ b. not b && not (is_lt (nat_cmp a d.a))) (sym (below_start start))
       ∙ ap (λ o. not (is_below (valued a start) d) && not (is_lt o)) (sym (by_attribute (nat_cmp a d.a)))
 
-  pub between_closed : (start : Option Value) (end : Value) → is_in (between a start (Some end)) d ≡ (not (is_below (valued a start) d) && not (not (is_below (valued a (Some end)) d)))
+  pub between_closed : (start : Option Value) (end : Value)
+      → is_in (between a start (Some end)) d ≡ (not (is_below (valued a start) d) && not (not (is_below (valued a (Some end)) d)))
   between_closed start end =
       ap (λ b. (b && option_map_or (λ v. not (is_lt (value_cmp d.v v))) start true) && is_lt (value_cmp d.v end)) (eq_is d.a a)
       ∙ ap (λ b. (is_eq (nat_cmp a d.a) && b) && is_lt (value_cmp d.v end)) (early_start start)
       ∙ bounded (nat_cmp a d.a) (is_early start) (is_lt (value_cmp d.v end))
-      ∙ ap (λ b. not b && not (not (cond (is_eq (nat_cmp a d.a)) (is_lt (value_cmp d.v end)) (is_gt (nat_cmp a d.a))))) (sym (below_start start))
+      ∙ ap (λ b. not b && not (not (cond (is_eq (nat_cmp a d.a)) (is_lt (value_cmp d.v end)) (is_gt (nat_cmp a d.a)))))
+      (sym (below_start start))
       ∙ ap (λ b. not (is_below (valued a start) d) && not (not b)) (sym (below_start (Some end)))

@@ -12,7 +12,7 @@ use Rattle.fb_values.specs.declared.indexes.Order.{Order}
 use Rattle.fb_values.specs.declared.indexes.Probe.{Probe}
 use Rattle.fb_values.specs.Orders.{key_cmp}
 use Rattle.fb_values.specs.OrderLaws.{key_cmp_total}
-use Rattle.fb_values.specs.Rising.{StandsBefore, IsRising}
+use Rattle.fb_values.specs.Rising.{IsBelowAll, IsRising}
 use Rattle.fb_values.proofs.Rising.{rises_from, rising_from}
 use Rattle.fb_model.specs.Facts.{facts}
 use Rattle.fb_model.specs.Schema.{covers}
@@ -65,8 +65,8 @@ shown_cases extent w x xs d there = go (is_shown extent w x (slice_get xs 0)) re
 
 -- ---- a rising list without one of its datoms rises
 
-before_without : (order : Order) (y : Datom) (xs : List Datom) (x : Datom) (ds : List Datom) → StandsBefore order y (xs ++ x ∷ ds)
-    → StandsBefore order y (xs ++ ds)
+before_without : (order : Order) (y : Datom) (xs : List Datom) (x : Datom) (ds : List Datom) → IsBelowAll order y (xs ++ x ∷ ds)
+    → IsBelowAll order y (xs ++ ds)
 before_without order y [] x ds before = before.1
 before_without order y (z ∷ xs) x ds before = (before.0, before_without order y xs x ds before.1)
 
@@ -75,7 +75,7 @@ rising_without : (order : Order) (xs : List Datom) (x : Datom) (ds : List Datom)
 rising_without order [] x ds rising = rising.1
 rising_without order (y ∷ xs) x ds rising = (before_without order y xs x ds rising.0, rising_without order xs x ds rising.1)
 
-before_front : (order : Order) (y : Datom) (xs ds : List Datom) → StandsBefore order y (xs ++ ds) → StandsBefore order y xs
+before_front : (order : Order) (y : Datom) (xs ds : List Datom) → IsBelowAll order y (xs ++ ds) → IsBelowAll order y xs
 before_front order y [] ds before = tt
 before_front order y (z ∷ xs) ds before = (before.0, before_front order y xs ds before.1)
 

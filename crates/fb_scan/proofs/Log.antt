@@ -1,5 +1,6 @@
 -- The transactions of a log are a part of it, since each entry has the t of its place.
-use Rattle.std.proofs.Common.{◌≡◌, ◌∙◌, ℕ, zero, suc, ◌+◌, ◌-◌, ◌<◌, ◌≤◌, Bool, true, false, cond, ◌&&◌, List, [], ◌∷◌, ◌++◌, length, take, drop, max, min, refl, sym, ap, arith, inl, inr, leb, ltb, Some}
+use Rattle.std.proofs.Common.{◌≡◌, ◌∙◌, ℕ, zero, suc, ◌+◌, ◌-◌, ◌<◌, ◌≤◌, Bool, true, false, cond, ◌&&◌, List, [], ◌∷◌, ◌++◌, length, take}
+use Rattle.std.proofs.Common.{drop, max, min, refl, sym, ap, arith, inl, inr, leb, ltb, Some}
 use Rattle.std.specs.Prelude.{filter}
 use Rattle.std.specs.List.{slice_get}
 use Rattle.std.proofs.lemmas.Bool.{cases_lt}
@@ -55,14 +56,16 @@ no_part zero (suc j) = refl
 no_part (suc i) zero = refl
 no_part (suc i) (suc j) = refl
 
-part_numbered : (from to n : ℕ) (h : List Entry) → IsNumbered n h → filter (λ entry. is_within from to entry.t) h ≡ part_at (max from 1) to n h
+part_numbered : (from to n : ℕ) (h : List Entry) → IsNumbered n h
+    → filter (λ entry. is_within from to entry.t) h ≡ part_at (max from 1) to n h
 part_numbered from to n [] own = sym (no_part (min to (n + 0) - max (max from 1) n) (max from 1 - n))
 part_numbered from to n (x ∷ xs) own =
     elim (cases_lt n (max from 1)) [
       | inl low ↦
           let skipped : is_within from to x.t ≡ false = ap (is_within from to) own.0 ∙ early from to n low in
           let one : max from 1 - n ≡ suc (max from 1 - suc n) = omega (arith, low) in
-          let count : min to (suc n + length xs) - max (max from 1) (suc n) ≡ min to (n + suc (length xs)) - max (max from 1) n = omega (arith, low) in
+          let count : min to (suc n + length xs) - max (max from 1) (suc n) ≡ min to (n + suc (length xs)) - max (max from 1) n =
+          omega (arith, low) in
           ap (λ b. cond b (x ∷ filter (λ entry. is_within from to entry.t) xs) (filter (λ entry. is_within from to entry.t) xs)) skipped
           ∙ part_numbered from to (suc n) xs own.1
           ∙ ap (λ m. take m (drop (max from 1 - suc n) xs)) count
@@ -72,9 +75,11 @@ part_numbered from to n (x ∷ xs) own =
             let taken : is_within from to x.t ≡ true = ap (is_within from to) own.0 ∙ inside from to n high before in
             let front : max from 1 - n ≡ 0 = omega (arith, high) in
             let next : max from 1 - suc n ≡ 0 = omega (arith, high) in
-            let count : min to (n + suc (length xs)) - max (max from 1) n ≡ suc (min to (suc n + length xs) - max (max from 1) (suc n)) = omega (arith, high, before) in
+            let count : min to (n + suc (length xs)) - max (max from 1) n ≡ suc (min to (suc n + length xs) - max (max from 1) (suc n)) =
+            omega (arith, high, before) in
             ap (λ b. cond b (x ∷ filter (λ entry. is_within from to entry.t) xs) (filter (λ entry. is_within from to entry.t) xs)) taken
-            ∙ ap (λ l. x ∷ l) (part_numbered from to (suc n) xs own.1 ∙ ap (λ m. take (min to (suc n + length xs) - max (max from 1) (suc n)) (drop m xs)) next)
+            ∙ ap (λ l. x ∷ l) (part_numbered from to (suc n) xs own.1
+            ∙ ap (λ m. take (min to (suc n + length xs) - max (max from 1) (suc n)) (drop m xs)) next)
             ∙ ap (λ m. take m (x ∷ xs)) (sym count)
             ∙ ap (λ m. take (min to (n + suc (length xs)) - max (max from 1) n) (drop m (x ∷ xs))) (sym front)
         | inr beyond ↦
@@ -103,7 +108,8 @@ part-transactions h from to lawful =
 pub part_done : (h : List Entry) (from to : ℕ) → to ≤ from → part h from to ≡ []
 part_done h from to past = take_none (to - from) (drop from h) (omega (arith, past))
 
-pub part_next : (h : List Entry) (from to : ℕ) (entry : Entry) → from < to → slice_get h from ≡ Some entry → part h from to ≡ entry ∷ part h (from + 1) to
+pub part_next : (h : List Entry) (from to : ℕ) (entry : Entry) → from < to → slice_get h from ≡ Some entry
+    → part h from to ≡ entry ∷ part h (from + 1) to
 part_next h from to entry before read =
     let one : to - from ≡ suc (to - (from + 1)) = omega (arith, before) in
     ap (take (to - from)) (drop_next h from entry read) ∙ ap (λ m. take m (entry ∷ drop (from + 1) h)) one

@@ -32,7 +32,7 @@ use Rattle.fb_index.specs.Ranges.{from_probe}
 use Rattle.fb_index.specs.Sides.{whole}
 use Rattle.fb_index.specs.declared.sides.Extent.{Extent}
 use Rattle.fb_index.specs.declared.sides.Extent.TheVariants.{Said, Held}
-use Rattle.fb_view.specs.Kept.{Kept, Stands, roots_read}
+use Rattle.fb_view.specs.SnapshotModel.{SnapshotModel, Stands, roots_read}
 use Rattle.fb_view.proofs.Telling.{pair_stands, was_said, in_one}
 use Rattle.fb_view.proofs.Present.{present_held}
 use Rattle.fb_scan.specs.Walks.{extent_of, shown}
@@ -40,10 +40,10 @@ use Rattle.fb_scan.proofs.Seeing.{shown-seen_in, seen_in_member, seen_moves, sta
 use Rattle.fb_scan.proofs.Seeing.{held_window}
 
 -- what is read of an index and is not below the probe
-abbrev pub path_of : Kept → Extent → Probe → List Datom
+abbrev pub path_of : SnapshotModel → Extent → Probe → List Datom
 path_of k extent p = from_probe p (whole extent p.order (tree_datoms (tree_in (roots_read extent k) p.order)) k.live)
 
-module _ (k : Kept) (stands : Stands k) (p : Probe) where
+module _ (k : SnapshotModel) (stands : Stands k) (p : Probe) where
   -- the index as both lists have it, and what of it is not below the probe
   abbrev index : List Datom
   index = merged p.order (tree_datoms (tree_in k.roots p.order)) (list_in k.live p.order)
@@ -58,18 +58,21 @@ module _ (k : Kept) (stands : Stands k) (p : Probe) where
   ahead_rises = rising-filter p.order (λ d. not (is_below p d)) index index_rises
 
   is_said : (d : Datom) → Contains index d → Contains (said k.entries) d
-  is_said d there = was_said k stands p.order d (from_merged p.order (tree_datoms (tree_in k.roots p.order)) (list_in k.live p.order) d there)
+  is_said d there =
+      was_said k stands p.order d (from_merged p.order (tree_datoms (tree_in k.roots p.order)) (list_in k.live p.order) d there)
 
   is_indexed : (d : Datom) → Contains (said k.entries) d → covers (facts k.entries) p.order d.a ≡ true → Contains index d
   is_indexed d there held =
-      into_merged p.order (tree_datoms (tree_in k.roots p.order)) (list_in k.live p.order) d (pair_stands k stands p.order).single (in_one k stands p.order d there held)
+      into_merged p.order (tree_datoms (tree_in k.roots p.order)) (list_in k.live p.order) d (pair_stands k stands p.order).single
+      (in_one k stands p.order d there held)
 
   not_true : (b : Bool) → not b ≡ true → b ≡ false
   not_true false is = refl
   not_true true is = absurd (true≢false (sym is))
 
   -- what is below the probe is not later than a datom of its triple that is not below it
-  below_is_early : (d x : Datom) → Contains index d → Contains index x → is_below p d ≡ false → is_below p x ≡ true → is_of d.e d.a d.v x ≡ true → x.t ≤ d.t
+  below_is_early : (d x : Datom) → Contains index d → Contains index x → is_below p d ≡ false → is_below p x ≡ true
+      → is_of d.e d.a d.v x ≡ true → x.t ≤ d.t
   below_is_early d x d_in x_in above below same = go (key_cmp p.order d x) refl
     where
       go : (o : Ordering) → key_cmp p.order d x ≡ o → x.t ≤ d.t
@@ -158,7 +161,8 @@ module _ (k : Kept) (stands : Stands k) (p : Probe) where
     held_of_said d covered there =
         let inside = from_filter (is_within w) (filter is_above (standing index)) d (moves (shown Said w ahead_of) _ d shown_said there) in
         let above = from_filter is_above (standing index) d inside.0 in
-        let read = from_filter is_covered read_held d (moves _ _ d (sym held_is) (into_filter is_covered (standing index) d above.0 covered)) in
+        let read =
+        from_filter is_covered read_held d (moves _ _ d (sym held_is) (into_filter is_covered (standing index) d above.0 covered)) in
         moves _ (shown Held w held_path) d (sym (shown_within w held_path))
         (into_filter (is_within w) held_path d (into_filter is_above read_held d read.0 above.1) inside.1)
 

@@ -1,5 +1,6 @@
 -- What a walk shows of a rising list is what a window sees of it, and lists that have the same of a triple show the same of it.
-use Rattle.std.proofs.Common.{◌≡◌, ◌∙◌, ◌<◌, ◌≤◌, ◌⊎◌, inl, inr, Bool, true, false, not, ◌&&◌, ◌||◌, cond, List, [], ◌∷◌, refl, sym, ap, subst, arith, leb, ltb}
+use Rattle.std.proofs.Common.{◌≡◌, ◌∙◌, ◌<◌, ◌≤◌, ◌⊎◌, inl, inr, Bool, true, false, not, ◌&&◌, ◌||◌, cond, List, [], ◌∷◌, refl, sym, ap}
+use Rattle.std.proofs.Common.{subst, arith, leb, ltb}
 use Rattle.std.specs.Prelude.{Contains, filter}
 use Rattle.std.specs.List.{slice_get, list_any}
 use Rattle.std.specs.declared.cmp.Ordering.TheVariants.{Less}
@@ -13,7 +14,7 @@ use Rattle.fb_search.proofs.Below.{below_earlier}
 use Rattle.fb_values.specs.Orders.{key_cmp}
 use Rattle.fb_values.specs.Rising.{IsRising}
 use Rattle.fb_model.specs.History.{basis}
-use Rattle.fb_model.specs.Facts.{is_of, standing, stands_before}
+use Rattle.fb_model.specs.Facts.{is_of, standing, is_last_assertion}
 use Rattle.fb_model.proofs.Members.{some_member, any_member, standing_member}
 use Rattle.live_index.proofs.Members.{from_filter, into_filter, contains-cons, contains_head, contains_tail}
 use Rattle.view_model.specs.Window.{Window, is_within, within}
@@ -28,14 +29,17 @@ same_bool false false forth back = refl
 
 -- ---- the next datom tells whether any datom of the window follows
 
-module _ (order : Order) (w : Window) (d y : Datom) (ds : List Datom) (rising : IsRising order (d ∷ y ∷ ds)) (in_window : is_within w d ≡ true) where
+module _ (order : Order) (w : Window) (d y : Datom) (ds : List Datom) (rising : IsRising order (d ∷ y ∷ ds))
+    (in_window : is_within w d ≡ true) where
   next_follows : list_any (is_of d.e d.a d.v) (within w (y ∷ ds)) ≡ true → (is_of d.e d.a d.v y && ltb y.t w.to) ≡ true
   next_follows some =
       let found = some_member (is_of d.e d.a d.v) (within w (y ∷ ds)) some in
       let own = from_filter (is_within w) (y ∷ ds) found.0 found.1 in
       let early : found.0.t < w.to = ltb-true found.0.t w.to (and_parts (leb w.from found.0.t) (ltb found.0.t w.to) own.1).1 in
       elim (contains-cons y ds found.0 own.0) [
-        | inl same ↦ subst (λ (z : Datom). (is_of d.e d.a d.v z && ltb z.t w.to) ≡ true) (sym same) (and_from (is_of d.e d.a d.v found.0) (ltb found.0.t w.to) found.2 (lt-ltb found.0.t w.to early))
+        | inl same ↦
+            subst (λ (z : Datom). (is_of d.e d.a d.v z && ltb z.t w.to) ≡ true) (sym same)
+            (and_from (is_of d.e d.a d.v found.0) (ltb found.0.t w.to) found.2 (lt-ltb found.0.t w.to early))
         | inr behind ↦
             let of_next = together order d y found.0 rising.0.0 (before_member order y ds found.0 rising.1.0 behind) found.2 in
             let before = (rising_by_time order (y ∷ ds) rising.1).0 found.0 behind (of_through d y found.0 of_next found.2) in
@@ -48,18 +52,22 @@ module _ (order : Order) (w : Window) (d y : Datom) (ds : List Datom) (rising : 
       let later = (rising_by_time order (d ∷ y ∷ ds) rising).0 y (contains_head y ds y refl) both.0 in
       let start = leb-true w.from d.t (and_parts (leb w.from d.t) (ltb d.t w.to) in_window).0 in
       any_member (is_of d.e d.a d.v) (within w (y ∷ ds)) y
-      (into_filter (is_within w) (y ∷ ds) y (contains_head y ds y refl) (and_from (leb w.from y.t) (ltb y.t w.to) (le-leb w.from y.t (omega (arith, later, start))) both.1)) both.0
+      (into_filter (is_within w) (y ∷ ds) y (contains_head y ds y refl)
+      (and_from (leb w.from y.t) (ltb y.t w.to) (le-leb w.from y.t (omega (arith, later, start))) both.1)) both.0
 
-any_is_followed : (order : Order) (w : Window) (d : Datom) (ds : List Datom) → IsRising order (d ∷ ds) → is_within w d ≡ true → list_any (is_of d.e d.a d.v) (within w ds) ≡ is_followed w d (slice_get ds 0)
+any_is_followed : (order : Order) (w : Window) (d : Datom) (ds : List Datom) → IsRising order (d ∷ ds) → is_within w d ≡ true
+    → list_any (is_of d.e d.a d.v) (within w ds) ≡ is_followed w d (slice_get ds 0)
 any_is_followed order w d [] rising in_window = refl
-any_is_followed order w d (y ∷ ds) rising in_window = same_bool _ _ (next_follows order w d y ds rising in_window) (follows_next order w d y ds rising in_window)
+any_is_followed order w d (y ∷ ds) rising in_window =
+    same_bool _ _ (next_follows order w d y ds rising in_window) (follows_next order w d y ds rising in_window)
 
 -- ---- a walk shows what the window sees
 
 shown_whole : (w : Window) (ds : List Datom) → w.history ≡ true → shown Said w ds ≡ within w ds
 shown_whole w [] history = refl
 shown_whole w (d ∷ ds) history =
-    ap (λ b. cond (is_within w d && (b || (d.added && not (is_followed w d (slice_get ds 0))))) (d ∷ shown Said w ds) (shown Said w ds)) history
+    ap (λ b. cond (is_within w d && (b || (d.added && not (is_followed w d (slice_get ds 0))))) (d ∷ shown Said w ds) (shown Said w ds))
+    history
     ∙ ap (λ l. cond (is_within w d && true) (d ∷ l) l) (shown_whole w ds history)
     ∙ ap (λ b. cond b (d ∷ within w ds) (within w ds)) (and_true (is_within w d))
   where
@@ -67,16 +75,22 @@ shown_whole w (d ∷ ds) history =
     and_true true = refl
     and_true false = refl
 
-shown_standing : (order : Order) (w : Window) (ds : List Datom) → IsRising order ds → w.history ≡ false → shown Said w ds ≡ standing (within w ds)
+shown_standing : (order : Order) (w : Window) (ds : List Datom) → IsRising order ds → w.history ≡ false
+    → shown Said w ds ≡ standing (within w ds)
 shown_standing order w [] rising plain = refl
 shown_standing order w (d ∷ ds) rising plain =
-    ap (λ b. cond (is_within w d && (b || (d.added && not (is_followed w d (slice_get ds 0))))) (d ∷ shown Said w ds) (shown Said w ds)) plain
-    ∙ ap (λ l. cond (is_within w d && (d.added && not (is_followed w d (slice_get ds 0)))) (d ∷ l) l) (shown_standing order w ds rising.1 plain)
+    ap (λ b. cond (is_within w d && (b || (d.added && not (is_followed w d (slice_get ds 0))))) (d ∷ shown Said w ds) (shown Said w ds))
+    plain
+    ∙ ap (λ l. cond (is_within w d && (d.added && not (is_followed w d (slice_get ds 0)))) (d ∷ l) l)
+    (shown_standing order w ds rising.1 plain)
     ∙ go (is_within w d) refl
   where
     go : (b : Bool) → is_within w d ≡ b
-        → cond (b && (d.added && not (is_followed w d (slice_get ds 0)))) (d ∷ standing (within w ds)) (standing (within w ds)) ≡ standing (cond b (d ∷ within w ds) (within w ds))
-    go true is = ap (λ b. cond (d.added && not b) (d ∷ standing (within w ds)) (standing (within w ds))) (sym (any_is_followed order w d ds rising is))
+        → cond (b && (d.added && not (is_followed w d (slice_get ds 0)))) (d ∷ standing (within w ds)) (standing (within w ds))
+        ≡ standing (cond b (d ∷ within w ds) (within w ds))
+    go true is =
+        ap (λ b. cond (d.added && not b) (d ∷ standing (within w ds)) (standing (within w ds)))
+        (sym (any_is_followed order w d ds rising is))
     go false is = refl
 
 pub shown-seen_in : (order : Order) (w : Window) (ds : List Datom) → IsRising order ds → shown Said w ds ≡ seen_in w ds
@@ -122,13 +136,13 @@ standing-passing p (d ∷ ds) passes = go (p d) refl (standing-passing p ds pass
     left_out is false = refl
 
     go : (b : Bool) → p d ≡ b → standing (filter p ds) ≡ filter p (standing ds)
-        → standing (cond b (d ∷ filter p ds) (filter p ds)) ≡ filter p (cond (stands_before d ds) (d ∷ standing ds) (standing ds))
+        → standing (cond b (d ∷ filter p ds) (filter p ds)) ≡ filter p (cond (is_last_assertion d ds) (d ∷ standing ds) (standing ds))
     go true is next =
         ap (λ b. cond (d.added && not b) (d ∷ standing (filter p ds)) (standing (filter p ds)))
         (any_passing p (is_of d.e d.a d.v) ds (λ y there same. passes.0 y there same is))
-        ∙ ap (λ l. cond (stands_before d ds) (d ∷ l) l) next
-        ∙ kept is (stands_before d ds)
-    go false is next = next ∙ left_out is (stands_before d ds)
+        ∙ ap (λ l. cond (is_last_assertion d ds) (d ∷ l) l) next
+        ∙ kept is (is_last_assertion d ds)
+    go false is next = next ∙ left_out is (is_last_assertion d ds)
 
 pub later_within : (w : Window) (ds : List Datom) → IsByTime ds → ((d : Datom) → Contains ds d → d.t < w.to)
     → PassLater (is_within w) ds
@@ -195,7 +209,8 @@ pub seen_moves : (w : Window) (xs ys : List Datom) (d : Datom) → IsByTime xs �
     → Contains (seen_in w xs) d → Contains (seen_in w ys) d
 seen_moves w xs ys d xs_by ys_by there known member = go w.history member
   where
-    go : (b : Bool) → Contains (cond b (within w xs) (standing (within w xs))) d → Contains (cond b (within w ys) (standing (within w ys))) d
+    go : (b : Bool) → Contains (cond b (within w xs) (standing (within w xs))) d
+        → Contains (cond b (within w ys) (standing (within w ys))) d
     go true within_xs = into_filter (is_within w) ys d there (from_filter (is_within w) xs d within_xs).1
     go false stands =
         let last = standing_last (within w xs) d (by_time-filter (is_within w) xs xs_by) stands in

@@ -41,7 +41,7 @@ use Rattle.fb_index.specs.Ranges.{from_probe, is_above, upto_probe, within as up
 use Rattle.fb_index.specs.Sides.{older_read, live_read, whole, AreBeside}
 use Rattle.fb_db.specs.declared.db.Db.{Db}
 use Rattle.fb_db.specs.Seen.{window_of}
-use Rattle.fb_view.specs.Kept.{Kept, Stands, roots_read}
+use Rattle.fb_view.specs.SnapshotModel.{SnapshotModel, Stands, roots_read}
 use Rattle.fb_view.proofs.Standing.{coverage_of}
 use Rattle.fb_scan.specs.declared.ends.End.{End}
 use Rattle.fb_scan.specs.declared.walk.Scan.{Scan}
@@ -60,7 +60,7 @@ path_of sides p = from_probe p (whole sides.extent sides.order (tree_datoms side
 
 -- ---- the lists of an order
 
-pub read_of : (k : Kept) (w : Window) (order : Order) (extent : Extent) (sides : Sides) → extent ≡ extent_of k.entries w
+pub read_of : (k : SnapshotModel) (w : Window) (order : Order) (extent : Extent) (sides : Sides) → extent ≡ extent_of k.entries w
     → sides.extent ≡ extent → sides.order ≡ order → sides.tree.now ≡ tree_in (roots_read extent k) order → sides.live.now ≡ k.live
     → AreBeside extent order (tree_datoms (tree_in (roots_read extent k) order)) k.live → Stands k → AreRead k w order sides
 read_of k w order extent sides reads extent_is order_is tree_is live_is beside stands = record {
@@ -89,7 +89,7 @@ path_rises sides end p =
 
 -- ---- a step
 
-pub held_in : (k : Kept) (stands : Stands k) (coverage : Coverage) (schema : List Datom) (order : Order) (a : ℕ) (held : Bool)
+pub held_in : (k : SnapshotModel) (stands : Stands k) (coverage : Coverage) (schema : List Datom) (order : Order) (a : ℕ) (held : Bool)
     → HasCoverage coverage schema → schema ≡ k.schema → held ≡ held_by coverage order a → held ≡ covers (facts k.entries) order a
 held_in k stands coverage schema order a held has schema_is is =
     is ∙ coverage_of k.schema k.entries coverage stands.schema_is (subst (λ (l : List Datom). HasCoverage coverage l) schema_is has) order
@@ -250,7 +250,8 @@ before_shown w Held (Behind probe) ds d before there = upto_shown w probe.now ds
 before_shown w Held (Before probe) ds d before there =
     upto_shown w probe.now ds d (below_not_above (probe_cmp probe.now d) before) there
 
-module _ (k : Kept) (p : Probe) (w : Window) (end : End) (Selects : Datom → Type 0) (sides : Sides) (read : AreRead k w p.order sides) where
+module _ (k : SnapshotModel) (p : Probe) (w : Window) (end : End) (Selects : Datom → Type 0) (sides : Sides)
+    (read : AreRead k w p.order sides) where
   abbrev pub IsMet : Datom → Type 0
   IsMet d = InView k.entries w Selects d × IsTrue (is_met (facts k.entries) p end d)
 

@@ -1,5 +1,6 @@
 -- The attributes that an entity has in a view.
--- Restates Entities of Datomic's documentation. That they are met in the order of their numbers is this project's own choice.
+-- Restates Entities of Datomic's documentation.
+-- That they are met in the order of their numbers is this project's own choice.
 use Rattle.std.specs.Prelude.{◌≡◌, ◌≤◌, ℕ, List, Option, Some, None}
 use Rattle.fb_values.specs.declared.facts.Datom.{Datom}
 use Rattle.fb_values.specs.declared.facts.Entry.{Entry}

@@ -1,6 +1,7 @@
 -- A scan of an index: what it reads, which of that it gives, and how far it has come.
 -- This project's own choice.
-use Rattle.std.specs.Prelude.{◌≡◌, ◌⊎◌, ◌↔◌, ℕ, List, ◌++◌, Contains, IsTrue, IsFalse, take, Option, Some, None}
+use Rattle.std.specs.Prelude.{◌≡◌, ◌⊎◌, ◌↔◌, ℕ, List, ◌++◌, Contains, IsTrue, IsFalse, take, Option}
+use Rattle.std.specs.Prelude.{Some, None}
 use Rattle.fb_values.specs.declared.facts.Datom.{Datom}
 use Rattle.fb_values.specs.declared.facts.Entry.{Entry}
 use Rattle.fb_values.specs.declared.indexes.Order.{Order}
@@ -17,7 +18,7 @@ use Rattle.fb_index.specs.declared.sides.Extent.TheVariants.{Said, Held}
 use Rattle.fb_index.specs.declared.sides.Sides.{Sides}
 use Rattle.fb_index.specs.Ranges.{from_probe, within}
 use Rattle.fb_index.specs.Sides.{whole, AreBeside}
-use Rattle.fb_view.specs.Kept.{Kept, Stands, roots_read}
+use Rattle.fb_view.specs.SnapshotModel.{SnapshotModel, Stands, roots_read}
 use Rattle.fb_scan.specs.declared.ends.End.{End}
 use Rattle.fb_scan.specs.declared.ends.End.TheVariants.{Never, Behind, Before}
 use Rattle.fb_db.specs.declared.db.Db.{Db}
@@ -32,7 +33,7 @@ CanBeRead sides =
     AreBeside sides.extent sides.order (tree_datoms sides.tree.now) sides.live.now
 
 -- the lists are those of the order, as far as a walk under the window reads them
-pub record AreRead (k : Kept) (w : Window) (order : Order) (sides : Sides) : Type 0 where
+pub record AreRead (k : SnapshotModel) (w : Window) (order : Order) (sides : Sides) : Type 0 where
   pub extent_is : sides.extent ≡ extent_of k.entries w
   pub order_is : sides.order ≡ order
   pub tree_is : sides.tree.now ≡ tree_in (roots_read sides.extent k) order
@@ -40,7 +41,8 @@ pub record AreRead (k : Kept) (w : Window) (order : Order) (sides : Sides) : Typ
   pub beside : CanBeRead sides
   pub stands : Stands k
 
--- the probe up to which a walk reads: of what holds, no datom has to be known that lies beyond the end
+-- the probe up to which a walk reads:
+-- of what holds, no datom has to be known that lies beyond the end
 abbrev pub last_read : Extent → End → Option Probe
 last_read Said end = None
 last_read Held Never = None
@@ -54,7 +56,8 @@ path sides end from =
     (from_probe from
     (whole sides.extent sides.order (tree_datoms sides.tree.now) sides.live.now))
 
--- a walk over the list gives the datom: it is shown, the index holds it, it does not lie beyond the end, and it is selected
+-- a walk over the list gives the datom:
+-- it is shown, the index holds it, it does not lie beyond the end, and it is selected
 pub record IsGiven (h : List Entry) (w : Window) (Selects : Datom → Type 0) (extent : Extent)
     (order : Order) (end : End) (ds : List Datom) (d : Datom) : Type 0 where
   pub is_seen : Contains (shown extent w ds) d
@@ -62,7 +65,8 @@ pub record IsGiven (h : List Entry) (w : Window) (Selects : Datom → Type 0) (e
   pub is_before : IsFalse (is_past end d)
   pub is_selected : Selects d
 
--- the datoms found, and those that are given of the list behind them, are those of the view that lie from the probe on and before the end
+-- the datoms found, and those that are given of the list after them,
+-- are those of the view that lie from the probe on and before the end
 pub record IsGoing (h : List Entry) (w : Window) (Selects : Datom → Type 0) (from : Probe)
     (end : End) (extent : Extent) (found rest : List Datom) : Type 0 where
   pub rising : IsRising from.order (found ++ rest)
@@ -70,7 +74,8 @@ pub record IsGoing (h : List Entry) (w : Window) (Selects : Datom → Type 0) (f
       → (Contains found d ⊎ IsGiven h w Selects extent from.order end rest d)
       ↔ (InView h w Selects d × IsTrue (is_met (facts h) from end d))
 
--- a scan of the database value from the probe to the end has given the datoms, and gives the rest of them
+-- a scan of the database value from the probe to the end has given the datoms,
+-- and gives the rest of them
 pub record HasGiven {S : Type 0} (db : Db S) (Selects : Datom → Type 0) (from : Probe)
     (end : End) (scan : Scan S) (found : List Datom) : Type 0 where
   pub db_is : scan.db.now ≡ db

@@ -8,12 +8,12 @@ use fb_index::Extent;
 use fb_values::{Datom, Probe, cmp_probe};
 use std::cmp::Ordering;
 
-/// Where a scan ends. Each datom of an order behind one that lies beyond the end lies beyond it too.
+/// Where a scan ends. Each datom of an order after one that lies beyond the end lies beyond it too.
 #[derive(Clone, Copy, Drop)]
 pub enum End<'p> {
     /// With the index.
     Never,
-    /// Behind the datoms that the probe leads to.
+    /// After the datoms that the probe leads to.
     Behind(&'p Probe),
     /// Before the datoms that the probe leads to.
     Before(&'p Probe),

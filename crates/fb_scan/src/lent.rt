@@ -1,5 +1,5 @@
 //! The scans of an index, whose datoms are lent. A probe cannot be wrong, and of an attribute that an index does not hold
-//! there is no datom in it, so a scan ends without an answer only for want of memory.
+//! there is no datom in it, so a scan ends without an answer only if memory runs out.
 ghost use Rattle.std.specs.Prelude.{◌≡◌, IfOk, MatchOption, map};
 ghost use Rattle.fb_values.specs.declared.indexes.Order.TheVariants.{Avet};
 ghost use Rattle.view_model.specs.Scan.{IsScan, leading, not_below, between};
@@ -76,7 +76,7 @@ fn valued(attr: u64, v: Option<Value>) -> Probe
     }
 }
 
-/// Before the value, or behind all of the attribute's datoms where the probe has none.
+/// Before the value, or after all of the attribute's datoms where the probe has none.
 fn end_at(probe: &Probe) -> End<'_>
     ensures { MatchOption probe.now.v (result ≡ End.Behind probe.entry)
         (λ _. result ≡ End.Before probe.entry) }

@@ -9,7 +9,7 @@ use fb_index::Extent;
 use fb_preds::Selector;
 use fb_values::Datom;
 
-/// What a walk reads: where the window shows no history and ends behind the last entry, what holds is enough.
+/// What a walk reads: where the window shows no history and ends after the last entry, what holds is enough.
 pub fn extent_of<S: Selector>(db: &Db<S>) -> Extent
     ensures { result ≡ extent_of db.now.snapshot.entries (window_of db.now) }
 {

@@ -15,7 +15,7 @@ use Rattle.fb_model.specs.Schema.{attribute_of, covers, is_held}
 use Rattle.fb_model.proofs.Triples.{is_of-true}
 use Rattle.fb_model.proofs.Members.{filter-standing}
 use Rattle.fb_schema.specs.Described.{describes, described}
-use Rattle.fb_schema.specs.Change.{is_gained, is_told_of, tells_one, told_where}
+use Rattle.fb_schema.specs.Change.{is_gained, is_mention_of, describes_one, described_where}
 use Rattle.fb_schema.proofs.Described.{standing-twice, same_describes, described-push}
 use Rattle.fb_schema.proofs.Lookups.{attribute_of-own}
 
@@ -42,43 +42,44 @@ step true false true true pass h = refl
 step true false true false pass h = sym (h refl)
 step true false false any pass h = refl
 
-any-told_where : (p : ℕ → Bool) (a : ℕ) (ds : List Datom) → list_any (λ b. eqb a b) (told_where p ds) ≡ (list_any (is_told_of a) ds && p a)
-any-told_where p a [] = refl
-any-told_where p a (d ∷ ds) =
-    any-cond (λ b. eqb a b) (describes d && p d.e) d.e (told_where p ds)
-    ∙ ap (λ any. cond (describes d && p d.e) (eqb a d.e || any) any) (any-told_where p a ds)
-    ∙ ap (λ same. cond (describes d && p d.e) (same || (list_any (is_told_of a) ds && p a)) (list_any (is_told_of a) ds && p a))
+any-described_where : (p : ℕ → Bool) (a : ℕ) (ds : List Datom)
+    → list_any (λ b. eqb a b) (described_where p ds) ≡ (list_any (is_mention_of a) ds && p a)
+any-described_where p a [] = refl
+any-described_where p a (d ∷ ds) =
+    any-cond (λ b. eqb a b) (describes d && p d.e) d.e (described_where p ds)
+    ∙ ap (λ any. cond (describes d && p d.e) (eqb a d.e || any) any) (any-described_where p a ds)
+    ∙ ap (λ same. cond (describes d && p d.e) (same || (list_any (is_mention_of a) ds && p a)) (list_any (is_mention_of a) ds && p a))
     (eqb-swapped a d.e)
-    ∙ step (describes d) (p d.e) (eqb d.e a) (list_any (is_told_of a) ds) (p a) (λ same. ap p (sym (eqb-true d.e a same)))
+    ∙ step (describes d) (p d.e) (eqb d.e a) (list_any (is_mention_of a) ds) (p a) (λ same. ap p (sym (eqb-true d.e a same)))
 
 -- where an entity of which nothing is told fails the test
-any-told_where-whole : (p : ℕ → Bool) (a : ℕ) (ds : List Datom) → (list_any (is_told_of a) ds ≡ false → p a ≡ false)
-    → list_any (λ b. eqb a b) (told_where p ds) ≡ p a
-any-told_where-whole p a ds fails = any-told_where p a ds ∙ go (list_any (is_told_of a) ds) refl
+any-described_where-whole : (p : ℕ → Bool) (a : ℕ) (ds : List Datom) → (list_any (is_mention_of a) ds ≡ false → p a ≡ false)
+    → list_any (λ b. eqb a b) (described_where p ds) ≡ p a
+any-described_where-whole p a ds fails = any-described_where p a ds ∙ go (list_any (is_mention_of a) ds) refl
   where
-    go : (b : Bool) → list_any (is_told_of a) ds ≡ b → (b && p a) ≡ p a
+    go : (b : Bool) → list_any (is_mention_of a) ds ≡ b → (b && p a) ≡ p a
     go true is = refl
     go false is = sym (fails is)
 
 -- ---- one more datom
 
-pub told-then : (p : ℕ → Bool) (held all : List ℕ) (d : Datom) (rest : List Datom) → tells_one p d ≡ true
-    → held ++ told_where p (d ∷ rest) ≡ all → (held ++ d.e ∷ []) ++ told_where p rest ≡ all
+pub told-then : (p : ℕ → Bool) (held all : List ℕ) (d : Datom) (rest : List Datom) → describes_one p d ≡ true
+    → held ++ described_where p (d ∷ rest) ≡ all → (held ++ d.e ∷ []) ++ described_where p rest ≡ all
 told-then p held all d rest is before =
-    append_assoc held (d.e ∷ []) (told_where p rest)
-    ∙ ap (λ b. held ++ cond b (d.e ∷ told_where p rest) (told_where p rest)) (sym is)
+    append_assoc held (d.e ∷ []) (described_where p rest)
+    ∙ ap (λ b. held ++ cond b (d.e ∷ described_where p rest) (described_where p rest)) (sym is)
     ∙ before
 
-pub told-else : (p : ℕ → Bool) (held all : List ℕ) (d : Datom) (rest : List Datom) → tells_one p d ≡ false
-    → held ++ told_where p (d ∷ rest) ≡ all → held ++ told_where p rest ≡ all
-told-else p held all d rest is before = ap (λ b. held ++ cond b (d.e ∷ told_where p rest) (told_where p rest)) (sym is) ∙ before
+pub told-else : (p : ℕ → Bool) (held all : List ℕ) (d : Datom) (rest : List Datom) → describes_one p d ≡ false
+    → held ++ described_where p (d ∷ rest) ≡ all → held ++ described_where p rest ≡ all
+told-else p held all d rest is before = ap (λ b. held ++ cond b (d.e ∷ described_where p rest) (described_where p rest)) (sym is) ∙ before
 
 append_nil : (xs : List ℕ) → xs ++ [] ≡ xs
 append_nil [] = refl
 append_nil (x ∷ xs) = ap (λ l. x ∷ l) (append_nil xs)
 
-pub told-end : (p : ℕ → Bool) (held all : List ℕ) (rest : List Datom) → rest ≡ [] → held ++ told_where p rest ≡ all → held ≡ all
-told-end p held all rest none is = sym (append_nil held) ∙ ap (λ ds. held ++ told_where p ds) (sym none) ∙ is
+pub told-end : (p : ℕ → Bool) (held all : List ℕ) (rest : List Datom) → rest ≡ [] → held ++ described_where p rest ≡ all → held ≡ all
+told-end p held all rest none is = sym (append_nil held) ∙ ap (λ ds. held ++ described_where p ds) (sym none) ∙ is
 
 -- ---- what is gained
 
@@ -119,18 +120,18 @@ pub attribute_of-other : (e : ℕ) (ds more : List Datom) → filter (λ d. nat_
 attribute_of-other e ds more none stands =
     sym (attribute_of-own (standing (ds ++ more)) e) ∙ ap (λ l. attribute_of l e) (own-others e ds more none stands) ∙ attribute_of-own ds e
 
-none_told : (e : ℕ) (ds : List Datom) → list_any (is_told_of e) ds ≡ false → filter (λ d. nat_eq d.e e) (filter describes ds) ≡ []
+none_told : (e : ℕ) (ds : List Datom) → list_any (is_mention_of e) ds ≡ false → filter (λ d. nat_eq d.e e) (filter describes ds) ≡ []
 none_told e [] none = refl
 none_told e (d ∷ ds) none = go (describes d) refl (nat_eq d.e e) refl none (none_told e ds)
   where
     go : (b : Bool) → describes d ≡ b → (c : Bool) → nat_eq d.e e ≡ c
-        → ((nat_eq d.e e && describes d) || list_any (is_told_of e) ds) ≡ false
-        → (list_any (is_told_of e) ds ≡ false → filter (λ x. nat_eq x.e e) (filter describes ds) ≡ [])
+        → ((nat_eq d.e e && describes d) || list_any (is_mention_of e) ds) ≡ false
+        → (list_any (is_mention_of e) ds ≡ false → filter (λ x. nat_eq x.e e) (filter describes ds) ≡ [])
         → filter (λ x. nat_eq x.e e) (cond b (d ∷ filter describes ds) (filter describes ds)) ≡ []
     go true is true same some next =
-        absurd (true≢false (sym (ap (λ b. b || list_any (is_told_of e) ds) (and_from (nat_eq d.e e) (describes d) same is)) ∙ some))
-    go true is false same some next = rw same (next (or_parts (nat_eq d.e e && describes d) (list_any (is_told_of e) ds) some).1)
-    go false is c same some next = next (or_parts (nat_eq d.e e && describes d) (list_any (is_told_of e) ds) some).1
+        absurd (true≢false (sym (ap (λ b. b || list_any (is_mention_of e) ds) (and_from (nat_eq d.e e) (describes d) same is)) ∙ some))
+    go true is false same some next = rw same (next (or_parts (nat_eq d.e e && describes d) (list_any (is_mention_of e) ds) some).1)
+    go false is c same some next = next (or_parts (nat_eq d.e e && describes d) (list_any (is_mention_of e) ds) some).1
 
 pub described-stands : (h : List Entry) → standing (described h) ≡ described h
 described-stands h =
@@ -142,12 +143,12 @@ described-stands h =
 
 pub gained_list : (h : List Entry) (entry : Entry) (before after : List Datom)
     → before ≡ described h → after ≡ described (h ++ entry ∷ []) → (a : ℕ)
-    → IsTrue (is_gained Avet before after a) ↔ Contains (told_where (is_gained Avet before after) entry.datoms) a
+    → IsTrue (is_gained Avet before after a) ↔ Contains (described_where (is_gained Avet before after) entry.datoms) a
 gained_list h entry before after was is a =
-    iff a (told_where (is_gained Avet before after) entry.datoms) (is_gained Avet before after a)
-    (any-told_where-whole (is_gained Avet before after) a entry.datoms fails)
+    iff a (described_where (is_gained Avet before after) entry.datoms) (is_gained Avet before after a)
+    (any-described_where-whole (is_gained Avet before after) a entry.datoms fails)
   where
-    same : list_any (is_told_of a) entry.datoms ≡ false → attribute_of after a ≡ attribute_of before a
+    same : list_any (is_mention_of a) entry.datoms ≡ false → attribute_of after a ≡ attribute_of before a
     same none =
         ap (λ l. attribute_of l a) (is ∙ described-push h entry ∙ ap (λ l. standing (l ++ filter describes entry.datoms)) (sym was))
         ∙ attribute_of-other a before (filter describes entry.datoms) (none_told a entry.datoms none)
@@ -157,6 +158,6 @@ gained_list h entry before after was is a =
     no true = refl
     no false = refl
 
-    fails : list_any (is_told_of a) entry.datoms ≡ false → is_gained Avet before after a ≡ false
+    fails : list_any (is_mention_of a) entry.datoms ≡ false → is_gained Avet before after a ≡ false
     fails none =
         ap (λ found. option_map_or (is_held Avet) found false && not (covers before Avet a)) (same none) ∙ no (covers before Avet a)

@@ -13,7 +13,7 @@ use Rattle.fb_values.specs.declared.facts.Datom.{Datom}
 use Rattle.fb_model.specs.Facts.{is_of, standing, value_eq}
 use Rattle.fb_model.proofs.Triples.{is_of-true, is_of-same, value_eq-refl, not_followed, standing-append}
 use Rattle.fb_model.proofs.Members.{are_of_other_triples, standing-apart, filter-standing}
-use Rattle.shared_map.specs.Entries.{get, put, removed, StandsBefore, IsRising}
+use Rattle.shared_map.specs.Entries.{get, put, removed, IsBelowAll, IsRising}
 use Rattle.shared_map.proofs.Lookups.{get-put}
 use Rattle.shared_map.proofs.Rising.{rising-put, rising-removed}
 use Rattle.fb_schema.specs.Numbered.{of_entity, numbers_at, is_number_of, AreBelow, IsKept}
@@ -36,7 +36,7 @@ abbrev AreFound : List (ℕ × Datom) → List (ℕ × Datom) → Type 0
 AreFound facts [] = Unit {0}
 AreFound facts (x ∷ xs) = (get nat_cmp facts x.0 ≡ Some x.1) × AreFound facts xs
 
-found-behind : (x : ℕ × Datom) (facts xs : List (ℕ × Datom)) → StandsBefore nat_cmp x.0 xs → AreFound facts xs → AreFound (x ∷ facts) xs
+found-behind : (x : ℕ × Datom) (facts xs : List (ℕ × Datom)) → IsBelowAll nat_cmp x.0 xs → AreFound facts xs → AreFound (x ∷ facts) xs
 found-behind x facts [] before found = tt
 found-behind x facts (y ∷ ys) before found = (
   ap (λ b. cond b (Some x.1) (get nat_cmp facts y.0)) (less-apart x.0 y.0 before.0) ∙ found.0,
@@ -225,7 +225,7 @@ removed-others d n (y ∷ facts) x found is apart =
 
 -- ---- its number
 
-none-behind : (n : ℕ) (p : ℕ × Datom → Bool) (facts : List (ℕ × Datom)) → StandsBefore nat_cmp n facts
+none-behind : (n : ℕ) (p : ℕ × Datom → Bool) (facts : List (ℕ × Datom)) → IsBelowAll nat_cmp n facts
     → filter (λ m. not (eqb m n)) (keys_of (filter p facts)) ≡ keys_of (filter p facts)
 none-behind n p [] before = refl
 none-behind n p (y ∷ facts) before = go (p y) (none-behind n p facts before.1)
@@ -251,11 +251,11 @@ left-numbers n p (y ∷ facts) rising = go (is_eq (nat_cmp n y.0)) refl (left-nu
     here : (c : Bool) → eqb n y.0 ≡ true
         → filter (λ m. not (eqb m n)) (keys_of (cond c (y ∷ filter p facts) (filter p facts))) ≡ keys_of (filter p facts)
     here true same =
-        let before : StandsBefore nat_cmp n facts = subst (λ m. StandsBefore nat_cmp m facts) (sym (eqb-true n y.0 same)) rising.0 in
+        let before : IsBelowAll nat_cmp n facts = subst (λ m. IsBelowAll nat_cmp m facts) (sym (eqb-true n y.0 same)) rising.0 in
         let dropped : eqb y.0 n ≡ true = eq-eqb y.0 n (sym (eqb-true n y.0 same)) in
         rw dropped (none-behind n p facts before)
     here false same =
-        let before : StandsBefore nat_cmp n facts = subst (λ m. StandsBefore nat_cmp m facts) (sym (eqb-true n y.0 same)) rising.0 in
+        let before : IsBelowAll nat_cmp n facts = subst (λ m. IsBelowAll nat_cmp m facts) (sym (eqb-true n y.0 same)) rising.0 in
         none-behind n p facts before
 
     there : (c : Bool) → eqb y.0 n ≡ false

@@ -15,7 +15,7 @@ use Rattle.fb_model.specs.Schema.{attribute_of, covers, is_held}
 use Rattle.shared_map.specs.Entries.{get, put, removed, IsRising}
 use Rattle.shared_map.proofs.Lookups.{get-put, get-removed}
 use Rattle.fb_schema.specs.declared.attribute.Attribute.{Attribute}
-use Rattle.fb_schema.specs.Parts.{attribute_in}
+use Rattle.fb_schema.specs.Parts.{model_attribute}
 use Rattle.fb_schema.specs.Tables.{HasAttributes, HasCoverage}
 use Rattle.fb_schema.proofs.Meeting.{is_eq-nat_cmp}
 use Rattle.fb_schema.proofs.Gained.{attribute_of-other}
@@ -46,20 +46,21 @@ one_other d k other = rw other refl
 
 pub attributes-step : (old new : List (ℕ × Attribute)) (facts after : List Datom) (d : Datom) (found : Option Attribute)
     → ((k : ℕ) → get nat_cmp new k ≡ cond (eqb d.e k) found (get nat_cmp old k))
-    → option_map attribute_in found ≡ attribute_of after d.e → after ≡ standing (facts ++ d ∷ []) → standing facts ≡ facts
+    → option_map model_attribute found ≡ attribute_of after d.e → after ≡ standing (facts ++ d ∷ []) → standing facts ≡ facts
     → HasAttributes old facts → HasAttributes new after
-attributes-step old new facts after d found updates is stands still has e = ap (option_map attribute_in) (updates e) ∙ go (eqb d.e e) refl
+attributes-step old new facts after d found updates is stands still has e =
+    ap (option_map model_attribute) (updates e) ∙ go (eqb d.e e) refl
   where
-    go : (b : Bool) → eqb d.e e ≡ b → option_map attribute_in (cond b found (get nat_cmp old e)) ≡ attribute_of after e
+    go : (b : Bool) → eqb d.e e ≡ b → option_map model_attribute (cond b found (get nat_cmp old e)) ≡ attribute_of after e
     go true same = is ∙ ap (attribute_of after) (eqb-true d.e e same)
     go false other = has e ∙ sym (ap (λ l. attribute_of l e) stands ∙ attribute_of-other e facts (d ∷ []) (one_other d e other) still)
 
 pub covers-step : (old new : Coverage) (facts after : List Datom) (d : Datom) (found : Option Attribute) (avet vaet : Bool)
     → ((a : ℕ) → held new Avet a ≡ cond (eqb d.e a) avet (held old Avet a))
     → ((a : ℕ) → held new Vaet a ≡ cond (eqb d.e a) vaet (held old Vaet a))
-    → avet ≡ option_map_or (is_held Avet) (option_map attribute_in found) false
-    → vaet ≡ option_map_or (is_held Vaet) (option_map attribute_in found) false
-    → option_map attribute_in found ≡ attribute_of after d.e → after ≡ standing (facts ++ d ∷ []) → standing facts ≡ facts
+    → avet ≡ option_map_or (is_held Avet) (option_map model_attribute found) false
+    → vaet ≡ option_map_or (is_held Vaet) (option_map model_attribute found) false
+    → option_map model_attribute found ≡ attribute_of after d.e → after ≡ standing (facts ++ d ∷ []) → standing facts ≡ facts
     → HasCoverage old facts → HasCoverage new after
 covers-step old new facts after d found avet vaet in_avet in_vaet avet_is vaet_is is stands still has = at
   where

@@ -11,15 +11,15 @@ abbrev pub is_gained : Order → List Datom → List Datom → ℕ → Bool
 is_gained order before after a = covers after order a && not (covers before order a)
 
 -- the datom says something of the entity as an attribute, or names it
-abbrev pub is_told_of : ℕ → Datom → Bool
-is_told_of e d = nat_eq d.e e && describes d
+abbrev pub is_mention_of : ℕ → Datom → Bool
+is_mention_of e d = nat_eq d.e e && describes d
 
 -- the datom does so of an entity that passes a test
-abbrev pub tells_one : (ℕ → Bool) → Datom → Bool
-tells_one passes d = describes d && passes d.e
+abbrev pub describes_one : (ℕ → Bool) → Datom → Bool
+describes_one passes d = describes d && passes d.e
 
--- the entities of which the datoms tell and that pass it
-abbrev pub told_where : (ℕ → Bool) → List Datom → List ℕ
-told_where passes [] = []
-told_where passes (d ∷ ds) =
-    if tells_one passes d then d.e ∷ told_where passes ds else told_where passes ds
+-- the entities that the datoms describe and that pass the test
+abbrev pub described_where : (ℕ → Bool) → List Datom → List ℕ
+described_where passes [] = []
+described_where passes (d ∷ ds) =
+    if describes_one passes d then d.e ∷ described_where passes ds else described_where passes ds

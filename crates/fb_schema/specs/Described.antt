@@ -6,7 +6,8 @@ use Rattle.fb_values.specs.declared.facts.Entry.{Entry}
 use Rattle.fb_numbers.specs.Numbers.{ident, index}
 use Rattle.fb_model.specs.Facts.{facts}
 
--- the datom gives an entity its ident, or says what it is as an attribute: it is of one of the attributes from ident to index
+-- the datom gives an entity its ident, or says what it is as an attribute:
+-- it is of one of the attributes from ident to index
 abbrev pub describes : Datom → Bool
 describes d = nat_le ident d.a && nat_le d.a index
 

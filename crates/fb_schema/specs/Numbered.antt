@@ -27,7 +27,7 @@ abbrev pub AreBelow : ℕ → List (ℕ × Datom) → Type 0
 AreBelow next [] = Unit {0}
 AreBelow next (x ∷ facts) = (x.0 < next) × AreBelow next facts
 
--- each entity's numbers are those of its facts, which stand, and are less than the next
+-- each entity's numbers are those of its facts that hold, and are less than the next
 pub record IsKept (next : ℕ) (facts : List (ℕ × Datom)) (numbers : List (ℕ × Vec ℕ Global))
     : Type 0 where
   pub own : (e : ℕ) → numbers_at numbers e ≡ keys_of (of_entity e facts)

@@ -1,4 +1,4 @@
--- An attribute as the program has it, and what is said of an entity that may be one.
+-- An attribute as the program has it, and the facts of an entity that may be one.
 -- Datomic, Schema.
 use Rattle.std.specs.Prelude.{ℕ, List, Option}
 use Rattle.fb_values.specs.declared.facts.Datom.{Datom}
@@ -8,8 +8,8 @@ use Rattle.fb_schema.specs.declared.attribute.Attribute.{Attribute}
 use Rattle.fb_schema.specs.declared.description.Description.{Description}
 
 -- the attribute of the definitions
-abbrev pub attribute_in : Attribute → model.Attribute
-attribute_in attribute =
+abbrev pub model_attribute : Attribute → model.Attribute
+model_attribute attribute =
     record {
       id = attribute.id;
       name = attribute.ident;

@@ -9,12 +9,12 @@ use Rattle.fb_values.specs.declared.indexes.Order.{Order}
 use Rattle.fb_covers.specs.Coverage.{Coverage, covers as held}
 use Rattle.fb_model.specs.Schema.{attribute_of, covers}
 use Rattle.fb_schema.specs.declared.attribute.Attribute.{Attribute}
-use Rattle.fb_schema.specs.Parts.{attribute_in}
+use Rattle.fb_schema.specs.Parts.{model_attribute}
 
 -- the attributes by their numbers
 abbrev pub HasAttributes : List (ℕ × Attribute) → List Datom → Type 0
 HasAttributes attributes facts =
-    (e : ℕ) → option_map attribute_in (get nat_cmp attributes e) ≡ attribute_of facts e
+    (e : ℕ) → option_map model_attribute (get nat_cmp attributes e) ≡ attribute_of facts e
 
 -- the attributes that each index holds
 abbrev pub HasCoverage : Coverage → List Datom → Type 0

@@ -17,7 +17,7 @@ pub struct Attribute {
     pub many: bool,
     /// The entity of its uniqueness, or 0 where two entities may have one value.
     pub unique: u64,
-    /// Whether its values are parts of their entities.
+    /// Whether the attribute's values are parts of their entities.
     pub component: bool,
     pub indexed: bool,
 }

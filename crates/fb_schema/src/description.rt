@@ -1,4 +1,4 @@
-//! What is said of an entity that may be an attribute.
+//! The facts of an entity that may be an attribute.
 ghost use Rattle.std.specs.Prelude.{◌≡◌, ℕ, List, [], ◌∷◌, IfOk};
 ghost use Rattle.std.specs.Option.{option_map};
 ghost use Rattle.fb_values.specs.declared.facts.Datom.{Datom};
@@ -22,9 +22,9 @@ pub struct Description {
 }
 
 impl Description {
-    ghost use Rattle.fb_schema.specs.Parts.{attribute_in, description_of, attribute_from};
+    ghost use Rattle.fb_schema.specs.Parts.{model_attribute, description_of, attribute_from};
 
-    /// Of which nothing is said.
+    /// Of which there are no facts.
     pub fn empty() -> Description
         ensures { (e : ℕ) → result ≡ description_of [] e }
     {
@@ -38,7 +38,7 @@ impl Description {
         }
     }
 
-    /// With a datom that stands before all others.
+    /// With a datom that precedes all others.
     pub fn with(mut self, d: &Datom) -> Result<Description, Memory>
         ensures { (facts : List Datom) → self ≡ description_of facts d.now.e
             → IfOk result (λ said. said ≡ description_of (d.now ∷ facts) d.now.e) }
@@ -58,7 +58,7 @@ impl Description {
     /// The entity as an attribute, if it has an ident, a type and a cardinality.
     pub fn attribute(&self, id: u64) -> Result<Option<Attribute>, Memory>
         ensures { IfOk result
-            (λ found. option_map attribute_in found ≡ attribute_from id self.now) }
+            (λ found. option_map model_attribute found ≡ attribute_from id self.now) }
     {
         let (Some(name), Some(kind), Some(count)) = (&self.name, self.kind, self.count) else {
             return Ok(None);

@@ -75,7 +75,7 @@ impl Facts {
         Ok(own)
     }
 
-    /// What stands after one more datom.
+    /// What holds after one more datom.
     pub fn with(&self, d: &Datom) -> Result<Facts, Memory>
         ensures { IfOk result (λ facts. facts ≡ standing (self.now ++ d.now ∷ [])) }
     {

@@ -141,7 +141,7 @@ impl Names {
         }
     }
 
-    /// What stands after one more datom.
+    /// What holds after one more datom.
     pub fn with(&self, d: &Datom) -> Result<Names, Memory>
         ensures { IfOk result (λ names. (facts : List Datom) → HasNames self.now facts
             → standing facts ≡ facts → HasNames names (standing (facts ++ d.now ∷ []))) }

@@ -6,7 +6,7 @@ ghost use Rattle.shared_map.specs.Entries.{get};
 ghost use Rattle.fb_values.specs.declared.facts.Datom.{Datom};
 ghost use Rattle.fb_values.specs.declared.indexes.Order.TheVariants.{Avet, Vaet};
 ghost use Rattle.fb_model.specs.Schema.{attribute_of as model_attribute_of, is_held as model_is_held};
-ghost use Rattle.fb_schema.specs.Parts.{attribute_in};
+ghost use Rattle.fb_schema.specs.Parts.{model_attribute};
 
 use crate::attribute::Attribute;
 use crate::description::Description;
@@ -20,7 +20,7 @@ use shared_map::SharedMap;
 pub fn attribute_of(own: &[Datom], e: u64) -> Result<Option<Attribute>, Memory>
     ensures { IfOk result (λ found. (facts : List Datom)
         → own.now ≡ filter (λ d. nat_eq d.e e) facts
-        → option_map attribute_in found ≡ model_attribute_of facts e) }
+        → option_map model_attribute found ≡ model_attribute_of facts e) }
 {
     let mut said = Description::empty();
     let mut i = own.len();
@@ -49,9 +49,9 @@ pub fn with_attribute(
 /// Which indexes hold it.
 pub fn held_of(found: &Option<Attribute>) -> Held
     ensures avet { result.avet
-        ≡ option_map_or (model_is_held Avet) (option_map attribute_in found.now) false }
+        ≡ option_map_or (model_is_held Avet) (option_map model_attribute found.now) false }
     ensures vaet { result.vaet
-        ≡ option_map_or (model_is_held Vaet) (option_map attribute_in found.now) false }
+        ≡ option_map_or (model_is_held Vaet) (option_map model_attribute found.now) false }
 {
     match found {
         Some(attribute) => Held {
@@ -66,7 +66,7 @@ pub fn held_of(found: &Option<Attribute>) -> Held
 }
 
 fn is_held(order: Order, attribute: &Attribute) -> bool
-    ensures { result ≡ model_is_held order (attribute_in attribute.now) }
+    ensures { result ≡ model_is_held order (model_attribute attribute.now) }
 {
     match order {
         Order::Eavt | Order::Aevt => true,

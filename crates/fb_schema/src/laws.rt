@@ -1,4 +1,4 @@
-//! What a schema that is a history's tells of it.
+//! What the schema of a history says of it.
 ghost use Rattle.std.specs.Prelude.{◌≡◌, ℕ, List};
 ghost use Rattle.fb_values.specs.declared.facts.Datom.{Datom};
 ghost use Rattle.fb_values.specs.declared.facts.Entry.{Entry};
@@ -7,7 +7,7 @@ ghost use Rattle.fb_model.specs.Facts.{facts};
 ghost use Rattle.fb_model.specs.Schema.{attribute_of, attribute_named, named, covers, schema_in, schema_of};
 ghost use Rattle.fb_schema.specs.Described.{SchemaStands};
 
-/// It tells of each entity, ident and index what the history's facts tell.
+/// It says of each entity, ident and index what the history's facts say.
 pub fn schemas_tell_of_attributes()
     ensures attribute { (schema : List Datom) (h : List Entry) (e : ℕ) → SchemaStands schema h
         → attribute_of schema e ≡ attribute_of (facts h) e }

@@ -7,9 +7,9 @@ ghost use Rattle.fb_values.specs.declared.facts.Entry.{Entry};
 ghost use Rattle.fb_values.specs.declared.indexes.Order.TheVariants.{Avet};
 ghost use Rattle.fb_model.specs.Schema.{attribute_of, attribute_named, named, is_one as model_is_one, is_unique as model_is_unique};
 ghost use Rattle.fb_schema.specs.Described.{describes as model_describes, SchemaStands};
-ghost use Rattle.fb_schema.specs.Parts.{attribute_in};
+ghost use Rattle.fb_schema.specs.Parts.{model_attribute};
 ghost use Rattle.fb_schema.specs.Tables.{HasCoverage};
-ghost use Rattle.fb_schema.specs.Change.{is_gained as model_is_gained, tells_one};
+ghost use Rattle.fb_schema.specs.Change.{is_gained as model_is_gained, describes_one};
 
 use crate::attribute::Attribute;
 use crate::tables::{Tables, describes};
@@ -79,7 +79,7 @@ impl Schema {
 
     /// The attribute that is this entity.
     pub fn attribute(&self, id: u64) -> Option<&Attribute>
-        ensures { option_map attribute_in (option_copied result) ≡ attribute_of self.now id }
+        ensures { option_map model_attribute (option_copied result) ≡ attribute_of self.now id }
     {
         self.tables.attributes.get(&id)
     }
@@ -93,7 +93,7 @@ impl Schema {
 
     /// The attribute with this ident.
     pub fn named(&self, ident: &Text) -> Option<&Attribute>
-        ensures { option_map attribute_in (option_copied result)
+        ensures { option_map model_attribute (option_copied result)
             ≡ attribute_named self.now ident.now }
     {
         self.attribute(self.entity_named(ident)?)
@@ -136,7 +136,7 @@ impl Schema {
         let (held_before, held_after) = (self.covers(), after.covers());
         let mut gained = Vec::new(self.alloc);
         for d in entry.datoms.as_slice() {
-            if tells_gained(held_before, held_after, d) {
+            if describes_gained(held_before, held_after, d) {
                 gained.push(d.e)?;
             }
         }
@@ -144,11 +144,11 @@ impl Schema {
     }
 }
 
-/// Whether the datom tells of an attribute that AVET holds under the later coverage and not under the earlier one.
-fn tells_gained(before: &Covers, after: &Covers, d: &Datom) -> bool
+/// Whether the datom describes an attribute that AVET holds under the later coverage and not under the earlier one.
+fn describes_gained(before: &Covers, after: &Covers, d: &Datom) -> bool
     ensures { (facts facts_after : List Datom) → HasCoverage before.now facts
         → HasCoverage after.now facts_after
-        → result ≡ tells_one (model_is_gained Avet facts facts_after) d.now }
+        → result ≡ describes_one (model_is_gained Avet facts facts_after) d.now }
 {
     describes(d) && is_gained(before, after, d.e)
 }

@@ -66,7 +66,7 @@ impl Tables {
         })
     }
 
-    /// What stands after more datoms, of which only some describe.
+    /// What holds after more datoms, of which only some describe.
     pub fn with_all(&self, datoms: &[Datom]) -> Result<Tables, Memory>
         ensures { IfOk result
             (λ tables. tables ≡ standing (self.now ++ filter model_describes datoms.now)) }
@@ -80,7 +80,7 @@ impl Tables {
         Ok(tables)
     }
 
-    /// What stands after one more datom.
+    /// What holds after one more datom.
     fn with(&self, d: &Datom) -> Result<Tables, Memory>
         ensures { IfOk result (λ tables. tables ≡ standing (self.now ++ d.now ∷ [])) }
     {

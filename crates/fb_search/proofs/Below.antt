@@ -1,5 +1,6 @@
 -- What a comparison with one datom says of the datoms before and behind it.
-use Rattle.std.proofs.Common.{◌≡◌, ℕ, zero, suc, ◌+◌, ◌^◌, ◌/◌, pow-suc, ◌<◌, ◌≤◌, true, false, cond, List, [], ◌∷◌, length, take, get_or, refl, arith}
+use Rattle.std.proofs.Common.{◌≡◌, ℕ, zero, suc, ◌+◌, ◌^◌, ◌/◌, pow-suc, ◌<◌, ◌≤◌, true, false, cond, List, [], ◌∷◌, length, take, get_or}
+use Rattle.std.proofs.Common.{refl, arith}
 use Rattle.std.specs.Ordering.{ordering_then, is_gt}
 use Rattle.std.specs.Cmp.{IsTotalOrder}
 use Rattle.std.specs.Cmp.Lexicographic.{slice_cmp}
@@ -9,11 +10,13 @@ use Rattle.fb_values.specs.declared.facts.Datom.{Datom}
 use Rattle.fb_values.specs.declared.indexes.Probe.{Probe}
 use Rattle.fb_values.specs.Orders.{key_of, key_cmp, given}
 use Rattle.fb_values.specs.OrderLaws.{value_cmp_total}
-use Rattle.fb_values.specs.Rising.{StandsBefore, IsRising}
+use Rattle.fb_values.specs.Rising.{IsBelowAll, IsRising}
 use Rattle.fb_search.specs.Places.{is_below, place_of}
 
 -- the first components decide, or leave it to the rest
-heads : {K : Type 0} {R : K → K → Ordering} (o : IsTotalOrder R) (v a b : K) (vb ab x y xy : Ordering) → R v b ≡ vb → R a b ≡ ab → (xy ≡ Less → is_gt y ≡ true → is_gt x ≡ true) → ordering_then ab xy ≡ Less → is_gt (ordering_then vb y) ≡ true → is_gt (ordering_then (R v a) x) ≡ true
+heads : {K : Type 0} {R : K → K → Ordering} (o : IsTotalOrder R) (v a b : K) (vb ab x y xy : Ordering) → R v b ≡ vb → R a b ≡ ab
+    → (xy ≡ Less → is_gt y ≡ true → is_gt x ≡ true) → ordering_then ab xy ≡ Less → is_gt (ordering_then vb y) ≡ true
+    → is_gt (ordering_then (R v a) x) ≡ true
 heads {R = R} o v a b Less ab x y xy p q rest less below = absurd (cc)
 heads {R = R} o v a b Greater Less x y xy p q rest less below =
     let back : R b v ≡ Less = cc (o.antisymm b v) in
@@ -34,7 +37,8 @@ heads {R = R} o v a b Equal Equal x y xy p q rest less below =
 heads {R = R} o v a b Equal Greater x y xy p q rest less below = absurd (cc)
 
 -- what leads a greater list above another leads a smaller one above it too
-earlier : {K : Type 0} {R : K → K → Ordering} (o : IsTotalOrder R) (g x y : List K) → slice_cmp R x y ≡ Less → is_gt (slice_cmp R g (take (length g) y)) ≡ true → is_gt (slice_cmp R g (take (length g) x)) ≡ true
+earlier : {K : Type 0} {R : K → K → Ordering} (o : IsTotalOrder R) (g x y : List K) → slice_cmp R x y ≡ Less
+    → is_gt (slice_cmp R g (take (length g) y)) ≡ true → is_gt (slice_cmp R g (take (length g) x)) ≡ true
 earlier o [] x y less below = absurd (cc)
 earlier o (v ∷ g) [] y less below = refl
 earlier o (v ∷ g) (a ∷ x) [] less below = absurd (cc)
@@ -53,13 +57,15 @@ place_of-le-length p (d ∷ ds) =
     ]
 
 -- a datom that stands before others, of which one is below the probe
-pub front_below : (p : Probe) (d : Datom) (ds : List Datom) (i : ℕ) (x : Datom) → StandsBefore p.order d ds → i < length ds → is_below p (get_or ds i x) ≡ true → is_below p d ≡ true
+pub front_below : (p : Probe) (d : Datom) (ds : List Datom) (i : ℕ) (x : Datom) → IsBelowAll p.order d ds → i < length ds
+    → is_below p (get_or ds i x) ≡ true → is_below p d ≡ true
 front_below p d [] i x before within below = absurd (omega arith)
 front_below p d (e ∷ ds) zero x before within below = below_earlier p d e before.0 below
 front_below p d (e ∷ ds) (suc i) x before within below = front_below p d ds i x before.1 (omega arith) below
 
 -- where a datom is below the probe, the place is behind it
-pub place_behind : (p : Probe) (ds : List Datom) (i : ℕ) (x : Datom) → IsRising p.order ds → i < length ds → is_below p (get_or ds i x) ≡ true → i < place_of p ds
+pub place_behind : (p : Probe) (ds : List Datom) (i : ℕ) (x : Datom) → IsRising p.order ds → i < length ds
+    → is_below p (get_or ds i x) ≡ true → i < place_of p ds
 place_behind p [] i x rising within below = absurd (omega arith)
 place_behind p (d ∷ ds) zero x rising within below = rw below (omega arith)
 place_behind p (d ∷ ds) (suc i) x rising within below =

@@ -1,5 +1,6 @@
 -- Where a probe falls in a list of datoms.
--- Restates Indexes of Datomic's documentation (a seek begins at the first datom that is not below what was asked).
+-- Restates Indexes of Datomic's documentation (a seek begins at the first datom
+-- that is not below what was asked).
 use Rattle.std.specs.Prelude.{ℕ, ◌+◌, Bool, List, [], ◌∷◌, if◌then◌else◌, Some}
 use Rattle.std.specs.Ordering.{is_gt}
 use Rattle.fb_values.specs.declared.facts.Datom.{Datom}
@@ -7,7 +8,7 @@ use Rattle.fb_values.specs.declared.indexes.Order.{Order}
 use Rattle.fb_values.specs.declared.indexes.Probe.{Probe}
 use Rattle.fb_values.specs.Orders.{probe_cmp}
 
--- the datom stands before the probe
+-- the datom is below the probe
 abbrev pub is_below : Probe → Datom → Bool
 is_below probe d = is_gt (probe_cmp probe d)
 

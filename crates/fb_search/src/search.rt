@@ -9,7 +9,7 @@ use fb_values::{Datom, Order, Probe, cmp_in, cmp_probe};
 use std::cmp::Ordering;
 use std::sync::ledger::Ledger;
 
-/// Whether the datom stands before the probe. This is the one comparison that a counted search makes, and it counts.
+/// Whether the datom is below the probe. This is the one comparison that a counted search makes, and it counts.
 pub fn is_below<L: Ledger>(probe: &Probe, datom: &Datom, steps: &mut Steps<L>) -> bool
     ensures value { result ≡ is_below probe.now datom.now }
     ensures cost { steps.new ≡ steps.old + 1 }
@@ -42,14 +42,14 @@ pub fn lower_bound<H: HoldsDatom, L: Ledger>(
     from
 }
 
-/// Whether the datom stands behind another one in the order.
+/// Whether the datom follows another one in the order.
 pub fn stands_after(order: Order, datom: &Datom, other: &Datom) -> bool
     ensures { result ≡ is_below (probe_of order datom.now) other.now }
 {
     cmp_in(order, datom, other) == Ordering::Greater
 }
 
-/// The place of a datom in a sorted slice, whether it is there or not: that of the first datom that does not stand
+/// The place of a datom in a sorted slice, whether it is there or not: that of the first datom that is not
 /// before it, or the slice's length. The comparisons do not count.
 pub fn place_of_datom<H: HoldsDatom>(order: Order, holders: &[H], datom: &Datom) -> usize
     requires { IsRising order (H.datoms holders.now) }

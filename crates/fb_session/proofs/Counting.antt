@@ -1,5 +1,6 @@
 -- How often a desk was asked, form by form.
-use Rattle.std.proofs.Common.{◌≡◌, ℕ, ◌+◌, Bool, cond, List, [], ◌∷◌, ◌++◌, Option, Some, None, refl, sym, ap, ◌∙◌, subst, inl, inr, arith, option_map}
+use Rattle.std.proofs.Common.{◌≡◌, ℕ, ◌+◌, Bool, cond, List, [], ◌∷◌, ◌++◌, Option, Some, None, refl, sym, ap, ◌∙◌, subst, inl, inr, arith}
+use Rattle.std.proofs.Common.{option_map}
 use Rattle.std.specs.Prelude.{count_by}
 use Rattle.std.proofs.lemmas.List.Sums.{sum_by-append}
 use Rattle.edn_model.specs.Form.{Form}
@@ -7,7 +8,7 @@ use Rattle.talk_model.specs.Commands.{Read, Command, transact, db, sync, read, c
 use Rattle.fb_desk.specs.Desks.{State, Tally, glanced, loaded}
 use Rattle.fb_session.specs.declared.session.Session.{Session}
 use Rattle.fb_session.specs.Asks.{looks, catches_up, transacts, is_db, is_sync, is_transact, Counted}
-use Rattle.fb_session.specs.Sessions.{Keeps, LoadsOnceAtMost, Unanswered}
+use Rattle.fb_session.specs.Sessions.{KeepsCommit, LoadsOnceAtMost, Unanswered}
 
 -- ---- several forms
 
@@ -17,7 +18,8 @@ counted-none tally = record { glances = omega arith; loads = omega arith }
 count-append : (p : Form → Bool) (fs gs : List Form) → count_by p (fs ++ gs) ≡ count_by p fs + count_by p gs
 count-append p fs gs = sum_by-append (λ (f : Form). cond (p f) 1 0) fs gs
 
-pub counted-push : (fs : List Form) (f : Form) (m n : ℕ) (start was is : Tally) → Counted fs m start was → Counted (f ∷ []) n was is → Counted (fs ++ f ∷ []) (m + n) start is
+pub counted-push : (fs : List Form) (f : Form) (m n : ℕ) (start was is : Tally) → Counted fs m start was → Counted (f ∷ []) n was is
+    → Counted (fs ++ f ∷ []) (m + n) start is
 counted-push fs f m n start was is many one =
     let dbs = count-append is_db fs (f ∷ []) in
     let syncs = count-append is_sync fs (f ∷ []) in
@@ -40,7 +42,8 @@ count-one : (p : Form → Bool) (f : Form) → count_by p (f ∷ []) ≡ one_if 
 count-one p f = zero-plus (one_if (p f))
 
 module _ (form : Form) (command : Option Command) (asks : command_in form ≡ command) (was is : Tally) where
-  counted-one : (n : ℕ) → is.glances ≡ was.glances + one_if (looks command) → is.loads + n ≡ was.loads + (one_if (catches_up command) + one_if (transacts command))
+  counted-one : (n : ℕ) → is.glances ≡ was.glances + one_if (looks command)
+      → is.loads + n ≡ was.loads + (one_if (catches_up command) + one_if (transacts command))
       → Counted (form ∷ []) n was is
   counted-one n glances loads =
       let Glances : Option Command → Type 0 = λ c. is.glances ≡ was.glances + one_if (looks c) in
@@ -51,31 +54,43 @@ module _ (form : Form) (command : Option Command) (asks : command_in form ≡ co
             ∙ ap (λ n. was.loads + (count_by is_sync (form ∷ []) + n)) (sym (count-one is_transact form));
       }
 
-pub counted_accepted : (form asked : Form) (was is : Tally) → command_in form ≡ Some (transact asked) → is ≡ was → Counted (form ∷ []) 1 was is
-counted_accepted form asked was is asks same = counted-one form (Some (transact asked)) asks was is 1 (ap (λ (t : Tally). t.glances) same ∙ omega arith) (ap (λ (t : Tally). t.loads + 1) same)
+pub counted_accepted : (form asked : Form) (was is : Tally) → command_in form ≡ Some (transact asked) → is ≡ was
+    → Counted (form ∷ []) 1 was is
+counted_accepted form asked was is asks same =
+    counted-one form (Some (transact asked)) asks was is 1 (ap (λ (t : Tally). t.glances) same ∙ omega arith)
+    (ap (λ (t : Tally). t.loads + 1) same)
 
-pub counted_denied : (form asked : Form) (was is : Tally) → command_in form ≡ Some (transact asked) → is ≡ loaded was → Counted (form ∷ []) 0 was is
-counted_denied form asked was is asks same = counted-one form (Some (transact asked)) asks was is 0 (ap (λ (t : Tally). t.glances) same ∙ omega arith) (ap (λ (t : Tally). t.loads + 0) same ∙ omega arith)
+pub counted_denied : (form asked : Form) (was is : Tally) → command_in form ≡ Some (transact asked) → is ≡ loaded was
+    → Counted (form ∷ []) 0 was is
+counted_denied form asked was is asks same =
+    counted-one form (Some (transact asked)) asks was is 0 (ap (λ (t : Tally). t.glances) same ∙ omega arith)
+    (ap (λ (t : Tally). t.loads + 0) same ∙ omega arith)
 
 pub counted_sync : (form : Form) (was is : Tally) → command_in form ≡ Some sync → is ≡ loaded was → Counted (form ∷ []) 0 was is
-counted_sync form was is asks same = counted-one form (Some sync) asks was is 0 (ap (λ (t : Tally). t.glances) same ∙ omega arith) (ap (λ (t : Tally). t.loads + 0) same ∙ omega arith)
+counted_sync form was is asks same =
+    counted-one form (Some sync) asks was is 0 (ap (λ (t : Tally). t.glances) same ∙ omega arith)
+    (ap (λ (t : Tally). t.loads + 0) same ∙ omega arith)
 
 pub counted_db : (form : Form) (was is : Tally) → command_in form ≡ Some db → is ≡ glanced was → Counted (form ∷ []) 0 was is
-counted_db form was is asks same = counted-one form (Some db) asks was is 0 (ap (λ (t : Tally). t.glances) same) (ap (λ (t : Tally). t.loads + 0) same ∙ omega arith)
+counted_db form was is asks same =
+    counted-one form (Some db) asks was is 0 (ap (λ (t : Tally). t.glances) same) (ap (λ (t : Tally). t.loads + 0) same ∙ omega arith)
 
 -- a read asks the desk for nothing
-asks_nothing : (asked : Option Read) → let command = option_map read asked in (one_if (looks command) ≡ 0) × (one_if (catches_up command) ≡ 0) × (one_if (transacts command) ≡ 0)
+asks_nothing : (asked : Option Read)
+    → let command = option_map read asked in (one_if (looks command) ≡ 0) × (one_if (catches_up command) ≡ 0)
+    × (one_if (transacts command) ≡ 0)
 asks_nothing (Some r) = (refl, refl, refl)
 asks_nothing None = (refl, refl, refl)
 
-pub counted_read : (form : Form) (asked : Option Read) (tally : Tally) → command_in form ≡ option_map read asked → Counted (form ∷ []) 0 tally tally
+pub counted_read : (form : Form) (asked : Option Read) (tally : Tally) → command_in form ≡ option_map read asked
+    → Counted (form ∷ []) 0 tally tally
 counted_read form asked tally asks =
     let nothing = asks_nothing asked in
     counted-one form (option_map read asked) asks tally tally 0 (omega (arith, nothing.0)) (omega (arith, nothing.1, nothing.2))
 
 -- ---- where memory was refused
 
-module _ {S : Type 0} (form : Form) (old new : Session S) (was is : State) (keeps : Keeps old new was is None) where
+module _ {S : Type 0} (form : Form) (old new : Session S) (was is : State) (keeps : KeepsCommit old new was is None) where
   pub unanswered_still : is.tally ≡ was.tally → Unanswered form old new was is
   unanswered_still same = record { keeps = keeps; counted = inl same }
 
@@ -84,8 +99,15 @@ module _ {S : Type 0} (form : Form) (old new : Session S) (was is : State) (keep
 
   pub unanswered_sync : command_in form ≡ Some sync → LoadsOnceAtMost was is → Unanswered form old new was is
   unanswered_sync asks loads =
-      record { keeps = keeps; counted = elim loads [ inl same ↦ inl same | inr more ↦ inr (counted_sync form was.tally is.tally asks more) ] }
+      record {
+        keeps = keeps;
+        counted = elim loads [ inl same ↦ inl same | inr more ↦ inr (counted_sync form was.tally is.tally asks more) ];
+      }
 
-  pub unanswered_transaction : (asked : Form) → command_in form ≡ Some (transact asked) → LoadsOnceAtMost was is → Unanswered form old new was is
+  pub unanswered_transaction : (asked : Form) → command_in form ≡ Some (transact asked) → LoadsOnceAtMost was is
+      → Unanswered form old new was is
   unanswered_transaction asked asks loads =
-      record { keeps = keeps; counted = elim loads [ inl same ↦ inl same | inr more ↦ inr (counted_denied form asked was.tally is.tally asks more) ] }
+      record {
+        keeps = keeps;
+        counted = elim loads [ inl same ↦ inl same | inr more ↦ inr (counted_denied form asked was.tally is.tally asks more) ];
+      }

@@ -1,5 +1,6 @@
 -- What a desk answers to a transaction is what the talk of its session says of that.
-use Rattle.std.proofs.Common.{◌≡◌, ◌≢◌, ℕ, ◌+◌, ◌-◌, ◌<◌, ◌≤◌, ℤ, Bool, true, false, List, [], ◌∷◌, ◌++◌, Option, Some, None, length, take, refl, sym, ap, ◌∙◌, subst, inl, inr, arith, length-append}
+use Rattle.std.proofs.Common.{◌≡◌, ◌≢◌, ℕ, ◌+◌, ◌-◌, ◌<◌, ◌≤◌, ℤ, Bool, true, false, List, [], ◌∷◌, ◌++◌, Option, Some, None, length, take}
+use Rattle.std.proofs.Common.{refl, sym, ap, ◌∙◌, subst, inl, inr, arith, length-append}
 use Rattle.std.specs.Prelude.{codes}
 use Rattle.std.specs.List.{slice_get}
 use Rattle.std.proofs.Math.Seq.{take-length}
@@ -22,7 +23,7 @@ use Rattle.fb_desk.specs.declared.answers.Receipt.{Receipt}
 use Rattle.fb_desk.specs.declared.answers.TxFault.{TxFault}
 use Rattle.fb_desk.specs.declared.answers.TxFault.TheVariants.{Refused, LogFault, Stopped, Memory}
 use Rattle.fb_session.specs.declared.session.Session.{Session}
-use Rattle.fb_session.specs.Sessions.{Terms, over, StandsAt, Sees, Received, Denied, Transacts, Answered}
+use Rattle.fb_session.specs.Sessions.{Terms, over, HasStanding, Sees, Received, Denied, Transacts, Answered}
 use Rattle.fb_session.proofs.Counting.{counted_accepted, counted_denied}
 
 -- ---- histories
@@ -43,7 +44,8 @@ not_true false never = refl
 some_none : (o : Option ℕ) (n : ℕ) → o ≡ Some n → o ≢ None
 some_none o n some none = let e : Some n ≡ None = sym some ∙ none in absurd (cc)
 
-module _ {S : Type 0} (f : Terms) (names : S → List (List ℕ)) (was is : State) (before : Standing) (old : Session S) (goes : GoesOn was is) (stands : StandsAt old.view names was before) where
+module _ {S : Type 0} (f : Terms) (names : S → List (List ℕ)) (was is : State) (before : Standing) (old : Session S) (goes : GoesOn was is)
+    (stands : HasStanding old.view names was before) where
   counted_was : length was.entries ≡ basis was.entries + 1
   counted_was = IsLawful-length was.entries stands.lawful
 
@@ -52,19 +54,21 @@ module _ {S : Type 0} (f : Terms) (names : S → List (List ℕ)) (was is : Stat
 
   pub grown : before.place ≤ basis is.entries
   grown =
-      let longer : length is.entries ≡ length was.entries + length goes.went_on.more = ap (λ (h : List Entry). length h) goes.went_on.entries ∙ length-append was.entries goes.went_on.more in
+      let longer : length is.entries ≡ length was.entries + length goes.went_on.more =
+      ap (λ (h : List Entry). length h) goes.went_on.entries ∙ length-append was.entries goes.went_on.more in
       omega (arith, counted_was, counted_is, longer, stands.place)
 
-  pub still_told : before.told ≡ true → is.stop ≢ None
+  pub still_told : before.was_notified ≡ true → is.stop ≢ None
   still_told told none =
-      elim goes.went_on.stop [ inl untold ↦ stands.told told untold | inr same ↦ stands.told told (sym same.0 ∙ none) ]
+      elim goes.went_on.stop [ inl untold ↦ stands.was_notified told untold | inr same ↦ stands.was_notified told (sym same.0 ∙ none) ]
 
-  not_told : was.stop ≡ None → before.told ≡ false
-  not_told untold = not_true before.told (λ told. stands.told told untold)
+  not_told : was.stop ≡ None → before.was_notified ≡ false
+  not_told untold = not_true before.was_notified (λ told. stands.was_notified told untold)
 
   -- what is seen now, through the same window and filters
-  pub stands_behind : (new : Session S) (after : Standing) → Sees old new is → after.place ≡ basis is.entries → after.window ≡ before.window → after.filters ≡ before.filters
-      → (after.told ≡ true → is.stop ≢ None) → StandsAt new.view names is after
+  pub stands_behind : (new : Session S) (after : Standing) → Sees old new is → after.place ≡ basis is.entries → after.window ≡ before.window
+      → after.filters ≡ before.filters
+      → (after.was_notified ≡ true → is.stop ≢ None) → HasStanding new.view names is after
   stands_behind new after sees place window filters told =
       record {
         lawful = goes.went_on.lawful stands.lawful;
@@ -72,22 +76,27 @@ module _ {S : Type 0} (f : Terms) (names : S → List (List ℕ)) (was is : Stat
         place = place;
         window = window ∙ stands.window ∙ sym sees.window;
         filters = filters ∙ stands.filters ∙ ap names (sym sees.filter);
-        told = told;
+        was_notified = told;
       }
 
   -- ---- each answer
 
   module _ (asked : Form) (bytes : List ℕ) where
-    accepted_in_talk : (receipt : Receipt) → IsReceipt f.may f.guard asked was is receipt → IsLineOf (reply.receipt receipt.t receipt.tempids.items) bytes
+    accepted_in_talk : (receipt : Receipt) → IsReceipt f.may f.guard asked was is receipt
+        → IsLineOf (reply.receipt receipt.t receipt.tempids.items) bytes
         → IsAccepted (over f is) before asked (moved before receipt.t) bytes (Some receipt.t)
     accepted_in_talk receipt r says =
         let past = was.entries ++ r.others in
-        let longer : length is.entries ≡ length past + 1 = ap (λ (h : List Entry). length h) r.entries ∙ length-append past (r.entry ∷ []) in
+        let longer : length is.entries ≡ length past + 1 =
+        ap (λ (h : List Entry). length h) r.entries ∙ length-append past (r.entry ∷ []) in
         let at : receipt.t ≡ length past = omega (arith, r.t, counted_is, longer) in
         let above : before.place < receipt.t = omega (arith, at, length-append was.entries r.others, counted_was, stands.place) in
         let cut : (receipt.t - 1) + 1 ≡ length past = omega (arith, at, above) in
         let past_is : upto is.entries (receipt.t - 1) ≡ past =
-        ap (λ n. take n is.entries) cut ∙ ap (take (length past)) r.entries ∙ take-append-le (length past) past (r.entry ∷ []) (omega arith) ∙ take-length past in
+        ap (λ n. take n is.entries) cut
+        ∙ ap (take (length past)) r.entries
+        ∙ take-append-le (length past) past (r.entry ∷ []) (omega arith)
+        ∙ take-length past in
         record {
           going = not_told r.untold;
           place = receipt.t;
@@ -105,7 +114,8 @@ module _ {S : Type 0} (f : Terms) (names : S → List (List ℕ)) (was is : Stat
         }
 
     refused_in_talk : (refusal : Refusal) → was.stop ≡ None → ((reading : ℤ) → step is.entries asked reading f.guard ≡ refused refusal)
-        → IsLineOf (reply.refusal_reply (keyword_of refusal.reason) refusal.at (basis is.entries)) bytes → IsRefused (over f is) before asked (moved before (basis is.entries)) bytes None
+        → IsLineOf (reply.refusal_reply (keyword_of refusal.reason) refusal.at (basis is.entries)) bytes
+        → IsRefused (over f is) before asked (moved before (basis is.entries)) bytes None
     refused_in_talk refusal untold is_refused says =
         record {
           going = not_told untold;
@@ -123,8 +133,9 @@ module _ {S : Type 0} (f : Terms) (names : S → List (List ℕ)) (was is : Stat
         → IsLineOf (reply.fault_reply word (basis is.entries + 1) (basis is.entries)) bytes
     at_place word at same says = let P : ℕ → Type 0 = λ n. IsLineOf (reply.fault_reply word n (basis is.entries)) bytes in subst P same says
 
-    not_taken_in_talk : (at : ℕ) (snapshot : _) → IsLogFault f.may f.guard asked was is at snapshot → IsLineOf (reply.fault_reply (codes "log") at (basis is.entries)) bytes
-        → IsNotTaken (over f is) before asked (record before { place = basis is.entries; told = true }) bytes None
+    not_taken_in_talk : (at : ℕ) (snapshot : _) → IsLogFault f.may f.guard asked was is at snapshot
+        → IsLineOf (reply.fault_reply (codes "log") at (basis is.entries)) bytes
+        → IsNotTaken (over f is) before asked (record before { place = basis is.entries; was_notified = true }) bytes None
     not_taken_in_talk at snapshot r says =
         record {
           place = basis is.entries;
@@ -132,7 +143,7 @@ module _ {S : Type 0} (f : Terms) (names : S → List (List ℕ)) (was is : Stat
           within = omega arith;
           stops = r.stop ∙ ap Some r.at_is;
           is_teller = r.teller;
-          not_told = not_told r.untold;
+          not_notified = not_told r.untold;
           reading = r.reading;
           may_be = r.may_be;
           entry = r.entry;
@@ -143,8 +154,9 @@ module _ {S : Type 0} (f : Terms) (names : S → List (List ℕ)) (was is : Stat
           stands = refl;
         }
 
-    stopped_in_talk : (at : ℕ) (snapshot : _) → desk.IsStopped was is at snapshot → IsLineOf (reply.fault_reply (codes "log-stopped") at (basis is.entries)) bytes
-        → IsStopped (over f is) before (record before { place = basis is.entries; told = true }) bytes None
+    stopped_in_talk : (at : ℕ) (snapshot : _) → desk.IsStopped was is at snapshot
+        → IsLineOf (reply.fault_reply (codes "log-stopped") at (basis is.entries)) bytes
+        → IsStopped (over f is) before (record before { place = basis is.entries; was_notified = true }) bytes None
     stopped_in_talk at snapshot r says =
         record {
           place = basis is.entries;
@@ -159,11 +171,14 @@ module _ {S : Type 0} (f : Terms) (names : S → List (List ℕ)) (was is : Stat
   -- ---- the form that asked
 
   module _ (form asked : Form) (asks : command_in form ≡ Some (transact asked)) (new : Session S) where
-    as_form : (after : Standing) (bytes : List ℕ) (commit : Option ℕ) → AnswersCommand (over f is) before (Some (transact asked)) after bytes commit
+    as_form : (after : Standing) (bytes : List ℕ) (commit : Option ℕ)
+        → AnswersCommand (over f is) before (Some (transact asked)) after bytes commit
         → AnswersCommand (over f is) before (command_in form) after bytes commit
-    as_form after bytes commit a = let P : Option Command → Type 0 = λ c. AnswersCommand (over f is) before c after bytes commit in subst P (sym asks) a
+    as_form after bytes commit a =
+        let P : Option Command → Type 0 = λ c. AnswersCommand (over f is) before c after bytes commit in subst P (sym asks) a
 
-    answered_receipt : (receipt : Receipt) (bytes : List ℕ) → Received f.may f.guard asked old new was is receipt → IsLineOf (reply.receipt receipt.t receipt.tempids.items) bytes
+    answered_receipt : (receipt : Receipt) (bytes : List ℕ) → Received f.may f.guard asked old new was is receipt
+        → IsLineOf (reply.receipt receipt.t receipt.tempids.items) bytes
         → Answered f form old new names was is before bytes
     answered_receipt receipt bytes r says =
         record {
@@ -175,39 +190,47 @@ module _ {S : Type 0} (f : Terms) (names : S → List (List ℕ)) (was is : Stat
           counted = counted_accepted form asked was.tally is.tally asks r.is_receipt.tally;
         }
 
-    answered_fault : (why : TxFault) → Denied f.may f.guard asked old new was is why → Answered f form old new names was is before new.line.bytes.items
+    answered_fault : (why : TxFault) → Denied f.may f.guard asked old new was is why
+        → Answered f form old new names was is before new.line.bytes.items
     answered_fault (Refused refusal snapshot) d =
         let after = moved before (basis is.entries) in
         record {
           after = after;
           commit = None;
-          answered = as_form after new.line.bytes.items None (inr (inl (refused_in_talk asked new.line.bytes.items refusal d.is_fault.untold d.is_fault.step_is d.says)));
+          answered =
+              as_form after new.line.bytes.items None
+              (inr (inl (refused_in_talk asked new.line.bytes.items refusal d.is_fault.untold d.is_fault.step_is d.says)));
           stands = stands_behind new after d.sees refl refl refl still_told;
           keeps = d.keeps;
           counted = counted_denied form asked was.tally is.tally asks d.is_fault.rest.tally;
         }
     answered_fault (LogFault at snapshot) d =
-        let after = record before { place = basis is.entries; told = true } in
+        let after = record before { place = basis is.entries; was_notified = true } in
         record {
           after = after;
           commit = None;
-          answered = as_form after new.line.bytes.items None (inr (inr (inl (not_taken_in_talk asked new.line.bytes.items at snapshot d.is_fault d.says))));
+          answered =
+              as_form after new.line.bytes.items None
+              (inr (inr (inl (not_taken_in_talk asked new.line.bytes.items at snapshot d.is_fault d.says))));
           stands = stands_behind new after d.sees refl refl refl (λ _. some_none is.stop at d.is_fault.stop);
           keeps = d.keeps;
           counted = counted_denied form asked was.tally is.tally asks d.is_fault.rest.tally;
         }
     answered_fault (Stopped at snapshot) d =
-        let after = record before { place = basis is.entries; told = true } in
+        let after = record before { place = basis is.entries; was_notified = true } in
         record {
           after = after;
           commit = None;
-          answered = as_form after new.line.bytes.items None (inr (inr (inr (stopped_in_talk asked new.line.bytes.items at snapshot d.is_fault d.says))));
+          answered =
+              as_form after new.line.bytes.items None
+              (inr (inr (inr (stopped_in_talk asked new.line.bytes.items at snapshot d.is_fault d.says))));
           stands = stands_behind new after d.sees refl refl refl (λ _. some_none is.stop at d.is_fault.stop);
           keeps = d.keeps;
           counted = counted_denied form asked was.tally is.tally asks d.is_fault.rest.tally;
         }
     answered_fault Memory d = absurd d.says
 
-    pub answered_transaction : Transacts f.may f.guard asked old new was is → Answered f form old new names was is before new.line.bytes.items
+    pub answered_transaction : Transacts f.may f.guard asked old new was is
+        → Answered f form old new names was is before new.line.bytes.items
     answered_transaction transacts =
         elim transacts [ inl r ↦ answered_receipt r.0 new.line.bytes.items r.1 r.2 | inr d ↦ answered_fault d.0 d.1 ]

@@ -1,5 +1,6 @@
 -- What was told to be left, and what was told to be held, piece by piece.
-use Rattle.std.proofs.Common.{◌≡◌, ℕ, List, [], ◌∷◌, ◌++◌, ◌-◌, length, length-drop, take, drop, Option, Some, None, refl, sym, ap, ◌∙◌, append_assoc, arith}
+use Rattle.std.proofs.Common.{◌≡◌, ℕ, List, [], ◌∷◌, ◌++◌, ◌-◌, length, length-drop, take, drop, Option, Some, None, refl, sym, ap, ◌∙◌}
+use Rattle.std.proofs.Common.{append_assoc, arith}
 use Rattle.std.proofs.lemmas.List.{take-append-le}
 use Rattle.std.proofs.Math.Seq.{take-length}
 use Rattle.std.specs.Io.KnownBytes.{prepend_known, append_known}
@@ -26,7 +27,8 @@ append_known-append (Some held) bs cs = ap Some (append_assoc held bs cs)
 
 -- a buffer that was lent whole
 pub front_of_buffer : (n len : ℕ) (buf rest : List ℕ) → length buf ≡ len → take n buf ≡ take n (take len (buf ++ rest))
-front_of_buffer n len buf rest same = ap (take n) (sym (take-append-le len buf rest (omega arith) ∙ ap (λ k. take k buf) (sym same) ∙ take-length buf))
+front_of_buffer n len buf rest same =
+    ap (take n) (sym (take-append-le len buf rest (omega arith) ∙ ap (λ k. take k buf) (sym same) ∙ take-length buf))
 
 -- all bytes from a place on
 pub rest_of : (at : ℕ) (bytes : List ℕ) → take (length bytes - at) (drop at bytes) ≡ drop at bytes

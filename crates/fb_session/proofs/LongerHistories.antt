@@ -14,7 +14,8 @@ use Rattle.fb_session.specs.declared.outcome.SessionEnd.TheVariants as ended
 use Rattle.fb_session.specs.Replies.{Trace, AnswersAll, AnswersSome, BreaksOff, AnswersUpTo, Answers, SessionRun, Replies}
 
 module _ (s : Setting) (more : List Entry) (stop : Option ℕ) (teller : Bool) (counted : length s.history ≡ basis s.history + 1)
-    (grows : basis s.history ≤ basis (s.history ++ more)) (stays : Stays s stop teller) (opening : ℕ) (seen : opening ≤ basis s.history) (script : List ℕ) (trace : Trace) where
+    (grows : basis s.history ≤ basis (s.history ++ more)) (stays : Stays s stop teller) (opening : ℕ) (seen : opening ≤ basis s.history)
+    (script : List ℕ) (trace : Trace) where
   abbrev t : Setting
   t = grown s more stop teller
 
@@ -69,7 +70,8 @@ module _ (s : Setting) (more : List Entry) (stop : Option ℕ) (teller : Bool) (
   answers_longer ended.Memory a = some_longer a
 
 pub replies_longer : (s : Setting) (more : List Entry) (stop : Option ℕ) (teller : Bool) (counted : length s.history ≡ basis s.history + 1)
-    (grows : basis s.history ≤ basis (s.history ++ more)) (stays : Stays s stop teller) (opening : ℕ) (seen : opening ≤ basis s.history) (run : SessionRun)
+    (grows : basis s.history ≤ basis (s.history ++ more)) (stays : Stays s stop teller) (opening : ℕ) (seen : opening ≤ basis s.history)
+    (run : SessionRun)
     → Replies s opening run → Replies (grown s more stop teller) opening run
 replies_longer s more stop teller counted grows stays opening seen run r =
     record {
@@ -95,4 +97,5 @@ SeesAll-longer b c seen (p ∷ ps) cs more sees = (
 )
 
 pub prefixes_longer : (opening b c : ℕ) (ps cs : List ℕ) → b ≤ c → Prefixes opening b ps cs → Prefixes opening c ps cs
-prefixes_longer opening b c ps cs more prefixes = Prefixes-SeesAll opening c ps cs (SeesAll-longer b c opening ps cs more prefixes.committed_before)
+prefixes_longer opening b c ps cs more prefixes =
+    Prefixes-SeesAll opening c ps cs (SeesAll-longer b c opening ps cs more prefixes.committed_before)

@@ -27,7 +27,8 @@ run_of held left had has served =
 
 -- the script was read to its end
 pub replies-whole : (f : Terms) (script : List ℕ) (start now : State) (held left had has : Option (List ℕ)) (served : Served)
-    → TakesAll script held left → Talks f script start now had has served → Replies (over f now) (basis start.entries) (run_of held left had has served)
+    → TakesAll script held left → Talks f script start now had has served
+    → Replies (over f now) (basis start.entries) (run_of held left had has served)
 replies-whole f script start now held left had has served taken talks =
     record {
       script = script;
@@ -35,13 +36,17 @@ replies-whole f script start now held left had has served taken talks =
       taken = taken.taken;
       gained = talks.gained;
       answers = talks.answers;
-      too_long = (λ same. absurd (let P : SessionEnd → Type 0 = IsPastReading in subst P same talks.past_reading), λ more. absurd (omega (arith, taken.fits)));
+      too_long = (
+        λ same. absurd (let P : SessionEnd → Type 0 = IsPastReading in subst P same talks.past_reading),
+        λ more. absurd (omega (arith, taken.fits)),
+      );
       all = λ _. taken.all;
     }
 
 pub prefixes-talk : (f : Terms) (script : List ℕ) (start now : State) (had has : Option (List ℕ)) (served : Served)
     → Talks f script start now had has served → Prefixes (basis start.entries) (basis now.entries) served.places served.commits
-prefixes-talk f script start now had has served talks = Prefixes-SeesAll (basis start.entries) (basis now.entries) served.places served.commits talks.prefixes
+prefixes-talk f script start now had has served talks =
+    Prefixes-SeesAll (basis start.entries) (basis now.entries) served.places served.commits talks.prefixes
 
 -- nothing was answered and nothing written
 none-answered : (f : Terms) (script : List ℕ) (start : State) (served : Served) → served.places ≡ [] → served.commits ≡ []
@@ -55,7 +60,8 @@ none-answered f script start served p q =
       leaves = rw (p, q) refl;
     }
 
-pub asks-nothing : (held left : Option (List ℕ)) (script : List ℕ) (tally : Tally) (served : Served) → served.places ≡ [] → served.commits ≡ [] → held ≡ prepend_known script left → Asks held left served tally tally
+pub asks-nothing : (held left : Option (List ℕ)) (script : List ℕ) (tally : Tally) (served : Served) → served.places ≡ []
+    → served.commits ≡ [] → held ≡ prepend_known script left → Asks held left served tally tally
 asks-nothing held left script tally served p q taken =
     record {
       script = script;
@@ -67,7 +73,8 @@ asks-nothing held left script tally served p q taken =
     }
 
 -- memory was refused before the first form was looked at
-pub talks-unopened : (f : Terms) (script : List ℕ) (start : State) (served : Served) (had : Option (List ℕ)) → served.end ≡ ended.Memory → served.places ≡ [] → served.commits ≡ []
+pub talks-unopened : (f : Terms) (script : List ℕ) (start : State) (served : Served) (had : Option (List ℕ)) → served.end ≡ ended.Memory
+    → served.places ≡ [] → served.commits ≡ []
     → Talks f script start start had had served
 talks-unopened f script start served had e p q =
     record {
@@ -91,7 +98,8 @@ no_line ps cs p q line =
     absurd (true≢false (sym (subst Q q (subst P p line))))
 
 -- memory was refused before
-pub replies-unread : (f : Terms) (start : State) (served : Served) (held left had : Option (List ℕ)) → served.end ≡ ended.Memory → served.places ≡ [] → served.commits ≡ [] → TakesSome stopped.Memory held left
+pub replies-unread : (f : Terms) (start : State) (served : Served) (held left had : Option (List ℕ)) → served.end ≡ ended.Memory
+    → served.places ≡ [] → served.commits ≡ [] → TakesSome stopped.Memory held left
     → Replies (over f start) (basis start.entries) (run_of held left had had served)
 replies-unread f start served held left had e p q some =
     record {

@@ -1,12 +1,13 @@
 -- The talk of a session goes on by one form, and ends.
-use Rattle.std.proofs.Common.{◌≡◌, ℕ, ◌+◌, ◌<◌, ◌≤◌, ◌⊎◌, List, [], ◌∷◌, ◌++◌, Option, Some, None, length, refl, sym, ap, ◌∙◌, subst, inl, inr, arith, length-append, append_assoc, append-nil}
+use Rattle.std.proofs.Common.{◌≡◌, ℕ, ◌+◌, ◌<◌, ◌≤◌, ◌⊎◌, List, [], ◌∷◌, ◌++◌, Option, Some, None, length, refl, sym, ap, ◌∙◌, subst, inl}
+use Rattle.std.proofs.Common.{inr, arith, length-append, append_assoc, append-nil}
 use Rattle.std.specs.Prelude.{option_to_list}
 use Rattle.std.specs.List.{concat, last_or}
 use Rattle.std.proofs.lemmas.List.{length-map}
 use Rattle.std.proofs.lemmas.List.Folds.{concat-append}
 use Rattle.std.specs.Io.KnownBytes.{prepend_known, append_known}
 use Rattle.edn_model.specs.Form.{Form}
-use Rattle.edn_model.specs.Grammar.{FormStands}
+use Rattle.edn_model.specs.Grammar.{FormAt}
 use Rattle.edn_model.specs.Faults as model
 use Rattle.edn_model.specs.Faults.{FaultAt}
 use Rattle.edn_core.specs.Answers.{what_of, fault_of, MatchFault}
@@ -31,18 +32,23 @@ use Rattle.fb_session.specs.declared.serve.AnswerError.{AnswerError}
 use Rattle.fb_session.specs.declared.serve.AnswerError.TheVariants.{WriteFault, Memory}
 use Rattle.fb_session.specs.Replies.{trace_of, AnswersAll, AnswersSome, AnswersUpTo, Answers, SinkCount}
 use Rattle.fb_session.specs.Asks.{Counted, Asks}
-use Rattle.fb_session.specs.Sessions.{Terms, over, IsOpened, Keeps, Answered, Replied, RepliedPart, RepliedNothing, StopsAt, end_of, TalkSoFar, NoCommand, IsPastReading, served_by, Talks}
+use Rattle.fb_session.specs.Sessions.{Terms, over, IsOpened, KeepsCommit, Answered, Replied, RepliedPart, RepliedNothing, StopsAt, end_of}
+use Rattle.fb_session.specs.Sessions.{TalkSoFar, NoCommand, IsPastReading, served_by, Talks}
 use Rattle.fb_session.proofs.KnownBytes.{append_known-none, append_known-append}
 use Rattle.fb_session.proofs.Seeing.{went_on-nothing}
 use Rattle.fb_session.proofs.Counting.{counted-none, counted-push}
 
 -- one line more is written behind the others
 lines-written : (talk : List Exchange) (x : Exchange) → concat (lines_of (talk ++ x ∷ [])) ≡ concat (lines_of talk) ++ x.line
-lines-written talk x = ap concat (lines-push talk x) ∙ concat-append (lines_of talk) (x.line ∷ []) ∙ ap (λ line. concat (lines_of talk) ++ line) (append-nil x.line)
+lines-written talk x =
+    ap concat (lines-push talk x)
+    ∙ concat-append (lines_of talk) (x.line ∷ [])
+    ∙ ap (λ line. concat (lines_of talk) ++ line) (append-nil x.line)
 
 -- ---- the desk goes on
 
-stop_stays : (start was is : State) → (start.stop ≡ None) ⊎ ((was.stop ≡ start.stop) × (was.teller ≡ start.teller)) → (was.stop ≡ None) ⊎ ((is.stop ≡ was.stop) × (is.teller ≡ was.teller))
+stop_stays : (start was is : State) → (start.stop ≡ None) ⊎ ((was.stop ≡ start.stop) × (was.teller ≡ start.teller))
+    → (was.stop ≡ None) ⊎ ((is.stop ≡ was.stop) × (is.teller ≡ was.teller))
     → (start.stop ≡ None) ⊎ ((is.stop ≡ start.stop) × (is.teller ≡ start.teller))
 stop_stays start was is (inl none) later = inl none
 stop_stays start was is (inr same) (inl none) = inl (sym same.0 ∙ none)
@@ -59,14 +65,19 @@ went_on-more start was is went goes =
       seat = goes.seat ∙ went.seat;
     }
 
-pub commits_on : {S : Type 0} (start was is : State) (old new : Session S) (commit : Option ℕ) → was.commits ≡ start.commits ++ old.commits.items → Keeps old new was is commit → is.commits ≡ start.commits ++ new.commits.items
+pub commits_on : {S : Type 0} (start was is : State) (old new : Session S) (commit : Option ℕ)
+    → was.commits ≡ start.commits ++ old.commits.items → KeepsCommit old new was is commit → is.commits ≡ start.commits ++ new.commits.items
 commits_on start was is old new commit had keeps =
-    keeps.desk ∙ ap (λ cs. cs ++ option_to_list commit) had ∙ append_assoc start.commits old.commits.items (option_to_list commit) ∙ ap (λ cs. start.commits ++ cs) (sym keeps.commits)
+    keeps.desk
+    ∙ ap (λ cs. cs ++ option_to_list commit) had
+    ∙ append_assoc start.commits old.commits.items (option_to_list commit)
+    ∙ ap (λ cs. start.commits ++ cs) (sym keeps.commits)
 
 -- ---- the talk so far
 
 -- the place behind a talk is that of its last line
-last-place : (s : Setting) (before after : Standing) (talk : List Exchange) → Talk s before talk after → last_or (Some before.place) (places_of talk) ≡ Some after.place
+last-place : (s : Setting) (before after : Standing) (talk : List Exchange) → Talk s before talk after
+    → last_or (Some before.place) (places_of talk) ≡ Some after.place
 last-place s before after [] same = ap (λ (x : Standing). Some x.place) (sym same)
 last-place s before after (x ∷ talk) told =
     let P : ℕ → Type 0 = λ n. last_or (Some n) (places_of talk) ≡ Some after.place in subst P told.2 (last-place s told.0 after talk told.3)
@@ -75,7 +86,9 @@ add-zero : (n : ℕ) → n + 0 ≡ n
 add-zero n = omega arith
 
 -- nothing was answered yet
-pub talk-opened : {S : Type 0} (f : Terms) (names : S → List (List ℕ)) (bytes : List ℕ) (session : Session S) (start : State) (had : Option (List ℕ)) → IsOpened session names start → TalkSoFar f bytes 0 session names start start had had
+pub talk-opened : {S : Type 0} (f : Terms) (names : S → List (List ℕ)) (bytes : List ℕ) (session : Session S) (start : State)
+    (had : Option (List ℕ))
+    → IsOpened session names start → TalkSoFar f bytes 0 session names start start had had
 talk-opened f names bytes session start had opened =
     record {
       exchanges = [];
@@ -94,19 +107,24 @@ talk-opened f names bytes session start had opened =
       within = omega arith;
     }
 
-module _ {S : Type 0} (f : Terms) (names : S → List (List ℕ)) (bytes : List ℕ) (start was : State) (old : Session S) (had mid : Option (List ℕ)) (at : ℕ) (so_far : TalkSoFar f bytes at old names start was had mid) where
+module _ {S : Type 0} (f : Terms) (names : S → List (List ℕ)) (bytes : List ℕ) (start was : State) (old : Session S)
+    (had mid : Option (List ℕ)) (at : ℕ) (so_far : TalkSoFar f bytes at old names start was had mid) where
   -- there is one place for each form
   count-forms : length old.places.items ≡ length (forms_of so_far.exchanges)
   count-forms =
-      ap length so_far.places ∙ length-map so_far.exchanges (λ (x : Exchange). x.place) ∙ sym (length-map so_far.exchanges (λ (x : Exchange). x.form))
+      ap length so_far.places
+      ∙ length-map so_far.exchanges (λ (x : Exchange). x.place)
+      ∙ sym (length-map so_far.exchanges (λ (x : Exchange). x.form))
 
   one_more : (x : Exchange) → length old.places.items < most_commands → length (forms_of (so_far.exchanges ++ x ∷ [])) ≤ most_commands
-  one_more x room = omega (arith, ap length (forms-push so_far.exchanges x), length-append (forms_of so_far.exchanges) (x.form ∷ []), count-forms, room)
+  one_more x room =
+      omega (arith, ap length (forms-push so_far.exchanges x), length-append (forms_of so_far.exchanges) (x.form ∷ []), count-forms, room)
 
   -- ---- the end
 
   -- the desk was asked for these forms and no others
-  asks-so_far : (how : SessionEnd) (held left : Option (List ℕ)) → held ≡ prepend_known bytes left → Asks held left (served_by old how) start.tally was.tally
+  asks-so_far : (how : SessionEnd) (held left : Option (List ℕ)) → held ≡ prepend_known bytes left
+      → Asks held left (served_by old how) start.tally was.tally
   asks-so_far how held left taken =
       record {
         script = bytes;
@@ -119,19 +137,25 @@ module _ {S : Type 0} (f : Terms) (names : S → List (List ℕ)) (bytes : List 
 
   seen-so_far : last_or (Some (basis start.entries)) old.places.items ≡ Some (basis was.entries)
   seen-so_far =
-      ap (last_or (Some (basis start.entries))) so_far.places ∙ last-place (over f was) (opened_at (basis start.entries)) so_far.standing so_far.exchanges so_far.talk
+      ap (last_or (Some (basis start.entries))) so_far.places
+      ∙ last-place (over f was) (opened_at (basis start.entries)) so_far.standing so_far.exchanges so_far.talk
       ∙ ap Some so_far.stands.place
 
   sees-all : SeesAll (basis was.entries) (basis start.entries) old.places.items old.commits.items
-  sees-all = rw (so_far.places, so_far.kept) (SeesAll-Talk (over f was) (opened_at (basis start.entries)) so_far.standing so_far.exchanges so_far.from so_far.talk)
+  sees-all = rw (
+    so_far.places,
+    so_far.kept,
+  ) (SeesAll-Talk (over f was) (opened_at (basis start.entries)) so_far.standing so_far.exchanges so_far.from so_far.talk)
 
   -- what was answered so far
-  leaves-so_far : record { written = concat (lines_of so_far.exchanges); places = old.places.items; commits = old.commits.items } ≡ trace_of so_far.exchanges
+  leaves-so_far : record { written = concat (lines_of so_far.exchanges); places = old.places.items; commits = old.commits.items }
+      ≡ trace_of so_far.exchanges
   leaves-so_far = rw (so_far.places, so_far.kept) refl
 
   -- behind the forms stands what the session ended at
   talk-ends : (ending : Ending) → EndsAt bytes (length (forms_of so_far.exchanges)) at ending
-      → AnswersAll (over f was) (basis start.entries) bytes ending (record { written = concat (lines_of so_far.exchanges); places = old.places.items; commits = old.commits.items })
+      → AnswersAll (over f was) (basis start.entries) bytes ending
+      (record { written = concat (lines_of so_far.exchanges); places = old.places.items; commits = old.commits.items })
   talk-ends ending ends =
       record {
         exchanges = so_far.exchanges;
@@ -143,7 +167,8 @@ module _ {S : Type 0} (f : Terms) (names : S → List (List ℕ)) (bytes : List 
 
   -- the session ends so, of which its answers say this
   talk-ended : (how : SessionEnd) → IsPastReading how
-      → Answers (over f was) (basis start.entries) bytes (record { written = concat (lines_of so_far.exchanges); places = old.places.items; commits = old.commits.items }) how
+      → Answers (over f was) (basis start.entries) bytes
+      (record { written = concat (lines_of so_far.exchanges); places = old.places.items; commits = old.commits.items }) how
       → Talks f bytes start was had mid (served_by old how)
   talk-ended how past answers =
       record {
@@ -160,7 +185,8 @@ module _ {S : Type 0} (f : Terms) (names : S → List (List ℕ)) (bytes : List 
 
   -- behind the forms stands a fault
   fault-answers : (why : EdnFault) → (why ≡ edn.Memory → ⊥) → MatchFault (fault_of why) (FaultAt bytes at)
-      → AnswersUpTo (over f was) (basis start.entries) bytes (fault_of why) (record { written = concat (lines_of so_far.exchanges); places = old.places.items; commits = old.commits.items })
+      → AnswersUpTo (over f was) (basis start.entries) bytes (fault_of why)
+      (record { written = concat (lines_of so_far.exchanges); places = old.places.items; commits = old.commits.items })
   fault-answers (edn.Bad byte) no_memory stands = talk-ends (fault model.bad byte) stands
   fault-answers (edn.Unsupported byte what) no_memory stands = talk-ends (fault (model.unsupported (what_of what)) byte) stands
   fault-answers (edn.Deep byte) no_memory stands = talk-ends (fault model.deep byte) stands
@@ -168,7 +194,8 @@ module _ {S : Type 0} (f : Terms) (names : S → List (List ℕ)) (bytes : List 
   fault-answers edn.Memory no_memory stands = absurd (no_memory refl)
 
   -- memory was refused, and the form behind was not looked at
-  memory-answers : AnswersSome (over f was) (basis start.entries) bytes (record { written = concat (lines_of so_far.exchanges); places = old.places.items; commits = old.commits.items })
+  memory-answers : AnswersSome (over f was) (basis start.entries) bytes
+      (record { written = concat (lines_of so_far.exchanges); places = old.places.items; commits = old.commits.items })
   memory-answers =
       record {
         exchanges = so_far.exchanges;
@@ -179,7 +206,8 @@ module _ {S : Type 0} (f : Terms) (names : S → List (List ℕ)) (bytes : List 
       }
 
   -- no command follows
-  pub talk-no_command : (how : SessionEnd) → NoCommand bytes at (length old.places.items) how → Talks f bytes start was had mid (served_by old how)
+  pub talk-no_command : (how : SessionEnd) → NoCommand bytes at (length old.places.items) how
+      → Talks f bytes start was had mid (served_by old how)
   talk-no_command ended.Done none = talk-ended ended.Done tt (talk-ends whole none)
   talk-no_command (ended.Script why) none = talk-ended (ended.Script why) tt (fault-answers why none.0 none.1)
   talk-no_command ended.TooLong none = absurd none
@@ -200,19 +228,24 @@ module _ {S : Type 0} (f : Terms) (names : S → List (List ℕ)) (bytes : List 
 
     counted-now : length (was.entries ++ goes.more) ≡ basis (was.entries ++ goes.more) + 1
     counted-now =
-        let P : List Entry → Type 0 = λ h. length h ≡ basis h + 1 in subst P goes.entries (IsLawful-length is.entries (goes.lawful so_far.stands.lawful))
+        let P : List Entry → Type 0 = λ h. length h ≡ basis h + 1 in
+        subst P goes.entries (IsLawful-length is.entries (goes.lawful so_far.stands.lawful))
 
     grows : basis was.entries ≤ basis (was.entries ++ goes.more)
     grows = omega (arith, counted, counted-now, length-append was.entries goes.more)
 
     from-now : basis start.entries ≤ basis is.entries
-    from-now = let same : basis is.entries ≡ basis (was.entries ++ goes.more) = ap basis goes.entries in omega (arith, same, grows, so_far.from)
+    from-now =
+        let same : basis is.entries ≡ basis (was.entries ++ goes.more) = ap basis goes.entries in omega (arith, same, grows, so_far.from)
 
     talk-now : Talk (over f is) (opened_at (basis start.entries)) so_far.exchanges so_far.standing
     talk-now =
-        let P : List Entry → Type 0 = λ h. Talk (setting f.may f.Selects f.guard f.is_filter h is.stop is.teller) (opened_at (basis start.entries)) so_far.exchanges so_far.standing in
+        let P : List Entry → Type 0 =
+        λ h. Talk (setting f.may f.Selects f.guard f.is_filter h is.stop is.teller)
+        (opened_at (basis start.entries)) so_far.exchanges so_far.standing in
         subst P (sym goes.entries)
-        (Talk-longer (over f was) goes.more is.stop is.teller counted grows goes.stop (opened_at (basis start.entries)) so_far.standing so_far.exchanges so_far.from so_far.talk)
+        (Talk-longer (over f was) goes.more is.stop is.teller counted grows goes.stop
+        (opened_at (basis start.entries)) so_far.standing so_far.exchanges so_far.from so_far.talk)
 
     module _ (form : Form) (line : List ℕ) (answered : Answered f form old new names was is so_far.standing line) where
       abbrev last : Exchange
@@ -220,7 +253,8 @@ module _ {S : Type 0} (f : Terms) (names : S → List (List ℕ)) (bytes : List 
 
       talk-one_more : Talk (over f is) (opened_at (basis start.entries)) (so_far.exchanges ++ last ∷ []) answered.after
       talk-one_more =
-          Talk-push (over f is) (opened_at (basis start.entries)) so_far.standing answered.after so_far.exchanges last talk-now answered.answered refl
+          Talk-push (over f is)
+          (opened_at (basis start.entries)) so_far.standing answered.after so_far.exchanges last talk-now answered.answered refl
 
       commits-one_more : new.commits.items ≡ commits_of (so_far.exchanges ++ last ∷ [])
       commits-one_more =
@@ -231,13 +265,16 @@ module _ {S : Type 0} (f : Terms) (names : S → List (List ℕ)) (bytes : List 
           let accepted : length new.commits.items ≡ length old.commits.items + length (option_to_list answered.commit) =
           ap length answered.keeps.commits ∙ length-append old.commits.items (option_to_list answered.commit) in
           rw (accepted, forms-push so_far.exchanges last)
-          (counted-push (forms_of so_far.exchanges) form (length old.commits.items) (length (option_to_list answered.commit)) start.tally was.tally is.tally so_far.counted answered.counted)
+          (counted-push (forms_of so_far.exchanges) form (length old.commits.items)
+          (length (option_to_list answered.commit)) start.tally was.tally is.tally so_far.counted answered.counted)
 
       sees-unfinished : SeesAll (basis is.entries) (basis start.entries) old.places.items new.commits.items
       sees-unfinished =
-          rw (so_far.places, commits-one_more) (SeesAll-unfinished (over f is) (opened_at (basis start.entries)) answered.after so_far.exchanges last from-now talk-one_more)
+          rw (so_far.places, commits-one_more)
+          (SeesAll-unfinished (over f is) (opened_at (basis start.entries)) answered.after so_far.exchanges last from-now talk-one_more)
 
-    module _ (next : ℕ) (form : Form) (ahead : at < next) (within : next ≤ length bytes) (room : length old.places.items < most_commands) (read : FormStands bytes at form next) (has : Option (List ℕ)) where
+    module _ (next : ℕ) (form : Form) (ahead : at < next) (within : next ≤ length bytes) (room : length old.places.items < most_commands)
+        (read : FormAt bytes at form next) (has : Option (List ℕ)) where
       -- the forms up to the one behind
       forms-one_more : (x : Exchange) → x.form ≡ form → FormsBetween bytes 0 (forms_of (so_far.exchanges ++ x ∷ [])) next
       forms-one_more x is =
@@ -250,7 +287,8 @@ module _ {S : Type 0} (f : Terms) (names : S → List (List ℕ)) (bytes : List 
       few-and-this = omega (arith, count-and-this, count-forms, room)
 
       enough-one_more : (x : Exchange) → new.places.items ≡ old.places.items
-          → (length new.places.items ≤ length (forms_of (so_far.exchanges ++ x ∷ []))) × (length (forms_of (so_far.exchanges ++ x ∷ [])) ≤ length new.places.items + 1)
+          → (length new.places.items ≤ length (forms_of (so_far.exchanges ++ x ∷ [])))
+          × (length (forms_of (so_far.exchanges ++ x ∷ [])) ≤ length new.places.items + 1)
       enough-one_more x places =
           let forms : length (forms_of (so_far.exchanges ++ x ∷ [])) ≡ length (forms_of so_far.exchanges) + 1 =
           ap length (forms-push so_far.exchanges x) ∙ length-append (forms_of so_far.exchanges) (x.form ∷ []) in
@@ -268,7 +306,10 @@ module _ {S : Type 0} (f : Terms) (names : S → List (List ℕ)) (bytes : List 
             talk = talk-one_more form r.line r.answered;
             places = r.places ∙ ap (λ ps. ps ++ x.place ∷ []) so_far.places ∙ sym (places-push so_far.exchanges x);
             kept = commits-one_more form r.line r.answered;
-            written = r.written ∙ ap (λ o. append_known o r.line) so_far.written ∙ append_known-append had (concat (lines_of so_far.exchanges)) r.line
+            written =
+                r.written
+                ∙ ap (λ o. append_known o r.line) so_far.written
+                ∙ append_known-append had (concat (lines_of so_far.exchanges)) r.line
                 ∙ ap (append_known had) (sym (lines-written so_far.exchanges x));
             stands = r.answered.stands;
             went_on = went_on-more start was is so_far.went_on goes;
@@ -279,14 +320,19 @@ module _ {S : Type 0} (f : Terms) (names : S → List (List ℕ)) (bytes : List 
           }
 
       -- the sink failed in the middle of the line of the form behind
-      talk-breaks_off : RepliedPart f form old new names was is so_far.standing mid has → Talks f bytes start is had has (served_by new ended.WriteFault)
+      talk-breaks_off : RepliedPart f form old new names was is so_far.standing mid has
+          → Talks f bytes start is had has (served_by new ended.WriteFault)
       talk-breaks_off r =
           let x = last form r.line r.answered in
-          let begins : Begins bytes (forms_of (so_far.exchanges ++ x ∷ [])) = record { end = next; forms = forms-one_more x refl; few = one_more x room } in
+          let begins : Begins bytes (forms_of (so_far.exchanges ++ x ∷ [])) =
+          record { end = next; forms = forms-one_more x refl; few = one_more x room } in
           let out = r.written.out in
           record {
             written = concat (lines_of so_far.exchanges) ++ out;
-            gained = r.written.taken ∙ ap (λ o. append_known o out) so_far.written ∙ append_known-append had (concat (lines_of so_far.exchanges)) out;
+            gained =
+                r.written.taken
+                ∙ ap (λ o. append_known o out) so_far.written
+                ∙ append_known-append had (concat (lines_of so_far.exchanges)) out;
             answers = record {
               exchanges = so_far.exchanges;
               last = x;
@@ -347,10 +393,18 @@ module _ {S : Type 0} (f : Terms) (names : S → List (List ℕ)) (bytes : List 
                 script = bytes;
                 taken = taken;
                 forms = forms_of so_far.exchanges ++ form ∷ [];
-                read = record { end = next; forms = FormsBetween-push bytes 0 (forms_of so_far.exchanges) at form next so_far.read read; few = few-and-this };
-                enough = (omega (arith, count-and-this, count-forms, ap length r.places), omega (arith, count-and-this, count-forms, ap length r.places));
+                read = record {
+                  end = next;
+                  forms = FormsBetween-push bytes 0 (forms_of so_far.exchanges) at form next so_far.read read;
+                  few = few-and-this;
+                };
+                enough = (
+                  omega (arith, count-and-this, count-forms, ap length r.places),
+                  omega (arith, count-and-this, count-forms, ap length r.places),
+                );
                 counted = rw same (rw (add-zero (length old.commits.items)) at
-                    (counted-push (forms_of so_far.exchanges) form (length old.commits.items) 0 start.tally was.tally is.tally so_far.counted more));
+                    (counted-push (forms_of so_far.exchanges) form
+                    (length old.commits.items) 0 start.tally was.tally is.tally so_far.counted more));
               }
             ];
             seen = λ wrong. absurd (cc);
@@ -358,12 +412,14 @@ module _ {S : Type 0} (f : Terms) (names : S → List (List ℕ)) (bytes : List 
           }
 
       -- the form behind was not answered
-      pub talk-stops : (stop : AnswerError) → StopsAt f form old new names was is so_far.standing mid has stop → Talks f bytes start is had has (served_by new (end_of stop))
+      pub talk-stops : (stop : AnswerError) → StopsAt f form old new names was is so_far.standing mid has stop
+          → Talks f bytes start is had has (served_by new (end_of stop))
       talk-stops WriteFault stopped = talk-breaks_off stopped
       talk-stops Memory stopped = talk-refused stopped
 
 -- nor did the sink fail
-pub no_command-count : (bytes : List ℕ) (at count : ℕ) (how : SessionEnd) (old new : ℕ) → NoCommand bytes at count how → new ≡ old → SinkCount how old new
+pub no_command-count : (bytes : List ℕ) (at count : ℕ) (how : SessionEnd) (old new : ℕ) → NoCommand bytes at count how → new ≡ old
+    → SinkCount how old new
 no_command-count bytes at count ended.Done old new none same = same
 no_command-count bytes at count (ended.Script why) old new none same = same
 no_command-count bytes at count ended.TooLong old new none same = absurd none

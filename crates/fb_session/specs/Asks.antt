@@ -1,6 +1,7 @@
 -- How often a session asks its desk for the forms of its script.
 -- This project's own choice.
-use Rattle.std.specs.Prelude.{◌≡◌, ℕ, ◌+◌, ◌≤◌, Bool, true, false, List, Option, Some, length, count_by}
+use Rattle.std.specs.Prelude.{◌≡◌, ℕ, ◌+◌, ◌≤◌, Bool, true, false, List, Option, Some, length}
+use Rattle.std.specs.Prelude.{count_by}
 use Rattle.std.specs.Io.KnownBytes.{prepend_known}
 use Rattle.edn_model.specs.Form.{Form}
 use Rattle.script_model.specs.Script.{Begins}
@@ -33,13 +34,16 @@ is_sync f = catches_up (command_in f)
 abbrev pub is_transact : Form → Bool
 is_transact f = transacts (command_in f)
 
--- The desk was asked for these forms, and accepted so many: each `:db` looked once at what was mailed, and each `:sync`, and each
--- transaction that was not accepted, read all that there was once.
+-- The desk was asked for these forms, and accepted so many:
+-- each `:db` looked once at what was mailed,
+-- and each `:sync`, and each transaction that was not accepted, read all that there was once.
 pub record Counted (forms : List Form) (accepted : ℕ) (old new : Tally) : Type 0 where
   pub glances : new.glances ≡ old.glances + count_by is_db forms
-  pub loads : new.loads + accepted ≡ old.loads + (count_by is_sync forms + count_by is_transact forms)
+  pub loads : new.loads + accepted
+      ≡ old.loads + (count_by is_sync forms + count_by is_transact forms)
 
--- A session asks its desk for the script's first forms: for each that has its line, and at most for the one behind these.
+-- A session asks its desk for the script's first forms:
+-- for each that has its line, and at most for the one after these.
 pub record Asks (held left : Option (List ℕ)) (served : Served) (old new : Tally) : Type 0 where
   pub script : List ℕ
   pub taken : held ≡ prepend_known script left

@@ -1,7 +1,8 @@
--- What a session promises of one script: its lines answer the script's forms, over the history that its desk has at the end,
--- and each end has its cause.
+-- What a session promises of one script: its lines answer the script's forms,
+-- over the history that its desk has at the end, and each end has its cause.
 -- This project's own choice.
-use Rattle.std.specs.Prelude.{◌≡◌, ℕ, ◌<◌, ◌↔◌, Bool, true, false, List, [], ◌∷◌, ◌++◌, Option, Some, None, IsTrue, length, nat_lt, ◌||◌}
+use Rattle.std.specs.Prelude.{◌≡◌, ℕ, ◌<◌, ◌↔◌, Bool, true, false, List, [], ◌∷◌, ◌++◌, Option}
+use Rattle.std.specs.Prelude.{Some, None, IsTrue, length, nat_lt, ◌||◌}
 use Rattle.std.specs.List.{concat}
 use Rattle.std.specs.Io.KnownBytes.{prepend_known, append_known, IsAtEnd}
 use Rattle.edn_model.specs.Faults.{Fault}
@@ -48,7 +49,8 @@ pub record AnswersSome (s : Setting) (opening : ℕ) (script : List ℕ) (trace 
   pub talk : Talk s (opened_at opening) exchanges after
   pub leaves : trace ≡ trace_of exchanges
 
--- Behind the lines that were written whole, one more form was answered, and may have committed: its t is the last commit then.
+-- After the lines that were written whole, one more form was answered, and may have committed:
+-- its t is the last commit then.
 -- Its line broke off, short of its whole.
 pub record BreaksOff (s : Setting) (opening : ℕ) (script : List ℕ) (trace : Trace) : Type 0 where
   pub exchanges : List Exchange
@@ -96,7 +98,7 @@ rests_on_whole ended.Memory = false
 
 -- ---- replies
 
--- What a session was handed and hands back, where its source and its sink tell what they hold.
+-- What a session was handed and hands back, where what its source and its sink hold is known.
 pub record SessionRun : Type 0 where
   -- what its source held, and what is left of that
   pub held : Option (List ℕ)
@@ -119,7 +121,8 @@ pub record Replies (s : Setting) (opening : ℕ) (run : SessionRun) : Type 0 whe
       (record { written = written; places = run.places; commits = run.commits }) run.end
   -- more than the longest script was taken exactly where it is too long
   pub too_long : (run.end ≡ ended.TooLong) ↔ (longest_script < length script)
-  -- where there is a line, a commit, or an end that rests on the whole script, all that the source held was taken
+  -- where there is a line, a commit,
+  -- or an end that rests on the whole script, all that the source held was taken
   pub all : IsTrue
       (rests_on_whole run.end || (nat_lt 0 (length run.places) || nat_lt 0 (length run.commits)))
       → IsAtEnd run.left
@@ -136,7 +139,7 @@ SourceCount ended.ReadFault old new = Rose old new
 SourceCount ended.WriteFault old new = new ≡ old
 SourceCount ended.Memory old new = new ≡ old
 
--- and so of the sink
+-- a fault of the sink, and no other end, raised its count
 abbrev pub SinkCount : SessionEnd → ℕ → ℕ → Type 0
 SinkCount ended.Done old new = new ≡ old
 SinkCount (ended.Script why) old new = new ≡ old

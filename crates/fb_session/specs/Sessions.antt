@@ -1,10 +1,11 @@
 -- What a session keeps while it answers forms: what its reads see, and what it answered so far.
 -- This project's own choice.
-use Rattle.std.specs.Prelude.{◌≡◌, ◌≢◌, ℕ, ℤ, ◌<◌, ◌≤◌, ◌⊎◌, Bool, true, List, [], ◌∷◌, ◌++◌, Option, Some, None, is_some, option_to_list, length, codes}
+use Rattle.std.specs.Prelude.{◌≡◌, ◌≢◌, ℕ, ℤ, ◌<◌, ◌≤◌, ◌⊎◌, Bool, true, List, [], ◌∷◌, ◌++◌}
+use Rattle.std.specs.Prelude.{Option, Some, None, is_some, option_to_list, length, codes}
 use Rattle.std.specs.List.{concat, last_or}
 use Rattle.std.specs.Io.KnownBytes.{prepend_known, append_known}
 use Rattle.edn_model.specs.Form.{Form}
-use Rattle.edn_model.specs.Grammar.{FormStands, OnlyGap}
+use Rattle.edn_model.specs.Grammar.{FormAt, OnlyGap}
 use Rattle.edn_model.specs.Faults.{FaultAt}
 use Rattle.edn_core.specs.Answers.{fault_of, MatchFault}
 use Rattle.edn_core.specs.declared.fault.EdnFault.TheVariants as edn
@@ -19,13 +20,14 @@ use Rattle.talk_model.specs.Replies.{IsLineOf}
 use Rattle.talk_model.specs.Commands.{Read}
 use Rattle.talk_model.specs.Reads.{IsReply, behind}
 use Rattle.talk_model.specs.Session.{Setting, Standing, Sight, setting, opened_at, SelectedBy}
-use Rattle.talk_model.specs.Talk.{IsAnswered, Exchange, forms_of, places_of, lines_of, commits_of, Talk}
+use Rattle.talk_model.specs.Talk.{IsAnswered, Exchange, forms_of, places_of, lines_of, commits_of}
+use Rattle.talk_model.specs.Talk.{Talk}
 use Rattle.talk_model.specs.Prefixes.{SeesAll}
 use Rattle.fb_ports.specs.Faults.{Rose}
 use Rattle.fb_preds.specs.Naming.{selected_by}
 use Rattle.fb_db.specs.Seen.{window_of}
 use Rattle.fb_db.specs.declared.db.Db.{Db}
-use Rattle.fb_reads.specs.Answers.{Says, standing_at}
+use Rattle.fb_reads.specs.Answers.{IsLineFor, standing_at}
 use Rattle.fb_desk.specs.Desks.{State, WentOn, IsReceipt, IsFault, loaded}
 use Rattle.fb_desk.specs.declared.answers.Receipt.{Receipt}
 use Rattle.fb_desk.specs.declared.answers.TxFault.{TxFault}
@@ -49,14 +51,16 @@ pub record Terms : Type 1 where
   pub is_filter : List ℕ → Bool
   pub Selects : List ℕ → Datom → Type 0
 
--- those over a table of filters: where a name finds the filter at a place, if it finds one, and this is what that filter selects
-abbrev pub terms_of : (ℤ → Type 0) → Guard → (List ℕ → Option ℕ) → (ℕ → Datom → Type 0) → Terms
-terms_of may guard place_of SelectsAt =
+-- Those at a clock, at a guard, and at a table of filters:
+-- where a name finds the filter at a place, if it finds one, and this is what that filter selects.
+abbrev pub terms_at : {K G P : Type 0} → (K → ℤ → Type 0) → (G → Guard)
+    → (P → List ℕ → Option ℕ) → (P → ℕ → Datom → Type 0) → K → G → P → Terms
+terms_at may bars place_of SelectsAt clock guard table =
     record {
-      may = may;
-      guard = guard;
-      is_filter = λ name. is_some (place_of name);
-      Selects = selected_by place_of SelectsAt;
+      may = may clock;
+      guard = bars guard;
+      is_filter = λ name. is_some (place_of table name);
+      Selects = selected_by (place_of table) (SelectsAt table);
     }
 
 -- with what its desk was answered by now
@@ -65,43 +69,44 @@ over f desk = setting f.may f.Selects f.guard f.is_filter desk.entries desk.stop
 
 -- ---- between two commands
 
--- Its reads see what the desk was answered last, and here it stands. The view's filter is made of filters with these names.
-pub record StandsAt {S : Type 0} (view : Db S) (names : S → List (List ℕ)) (desk : State)
+-- The session's reads see what the desk was answered last, and this is its standing.
+-- The view's filter is made of filters with these names.
+pub record HasStanding {S : Type 0} (view : Db S) (names : S → List (List ℕ)) (desk : State)
     (standing : Standing) : Type 0 where
   pub lawful : IsLawful desk.entries
   pub sees : view.snapshot.entries ≡ desk.entries
   pub place : standing.place ≡ basis desk.entries
   pub window : standing.window ≡ window_of view
   pub filters : standing.filters ≡ names view.filter
-  pub told : standing.told ≡ true → desk.stop ≢ None
+  pub was_notified : standing.was_notified ≡ true → desk.stop ≢ None
 
--- it has seen what there was as the desk was opened, and nothing was done
+-- the session has seen what there was as the desk was opened, and nothing was done
 pub record IsOpened {S : Type 0} (session : Session S) (names : S → List (List ℕ)) (desk : State)
     : Type 0 where
-  pub stands : StandsAt session.view names desk (opened_at (basis desk.entries))
+  pub stands : HasStanding session.view names desk (opened_at (basis desk.entries))
   pub places : session.places.items ≡ []
   pub commits : session.commits.items ≡ []
 
 -- this was committed through the desk, and the session keeps it
-pub record Keeps {S : Type 0} (old new : Session S) (was is : State) (commit : Option ℕ)
+pub record KeepsCommit {S : Type 0} (old new : Session S) (was is : State) (commit : Option ℕ)
     : Type 0 where
   pub commits : new.commits.items ≡ old.commits.items ++ option_to_list commit
   pub desk : is.commits ≡ was.commits ++ option_to_list commit
 
 -- ---- a transaction
 
--- its reads see what the desk was answered now, through the same window and filters
+-- the session's reads see what the desk was answered now, through the same window and filters
 pub record Sees {S : Type 0} (old new : Session S) (desk : State) : Type 0 where
   pub snapshot : new.view.snapshot.entries ≡ desk.entries
   pub window : window_of new.view ≡ window_of old.view
   pub filter : new.view.filter ≡ old.view.filter
 
--- it was accepted
+-- the transaction was accepted
 pub record Received {S : Type 0} (may : ℤ → Type 0) (guard : Guard) (asked : Form)
     (old new : Session S) (was is : State) (receipt : Receipt) : Type 0 where
   pub is_receipt : IsReceipt may guard asked was is receipt
   pub sees : Sees old new is
-  pub keeps : Keeps old new was is (Some receipt.t)
+  pub keeps : KeepsCommit old new was is (Some receipt.t)
 
 -- the line that says why it was not
 abbrev pub SaysFault : TxFault → ℕ → List ℕ → Type 0
@@ -117,7 +122,7 @@ pub record Denied {S : Type 0} (may : ℤ → Type 0) (guard : Guard) (asked : F
     (old new : Session S) (was is : State) (why : TxFault) : Type 0 where
   pub is_fault : IsFault may guard asked was is why
   pub sees : Sees old new is
-  pub keeps : Keeps old new was is None
+  pub keeps : KeepsCommit old new was is None
   pub says : SaysFault why (basis is.entries) new.line.bytes.items
 
 abbrev pub Transacts : {S : Type 0} → (ℤ → Type 0) → Guard → Form → Session S → Session S → State
@@ -152,33 +157,35 @@ sight view names is_filter Selects =
     }
 
 -- the read is answered of what was seen before, and the view changes as it says
-pub record Reads {S : Type 0} (old new : Db S) (names : S → List (List ℕ))
+pub record AnswersRead {S : Type 0} (old new : Db S) (names : S → List (List ℕ))
     (is_filter : List ℕ → Bool) (Selects : List ℕ → Datom → Type 0) (asked : Option Read)
     (line : List ℕ) : Type 0 where
-  pub says : Says (IsReply (sight old names is_filter Selects) asked) line
-  pub stands : (place : ℕ) (told : Bool) → standing_at place told (window_of new) (names new.filter)
+  pub says : IsLineFor (IsReply (sight old names is_filter Selects) asked) line
+  pub stands : (place : ℕ) (notified : Bool)
+      → standing_at place notified (window_of new) (names new.filter)
       ≡ behind (sight old names is_filter Selects)
-      (standing_at place told (window_of old) (names old.filter)) asked
+      (standing_at place notified (window_of old) (names old.filter)) asked
   pub snapshot : new.snapshot ≡ old.snapshot
 
 -- ---- a form
 
--- it is answered with this line, and the session stands behind it
+-- the form is answered with this line, and this is the session after it
 pub record Answered {S : Type 0} (f : Terms) (form : Form) (old new : Session S)
     (names : S → List (List ℕ)) (was is : State) (before : Standing) (line : List ℕ) : Type 0 where
   pub after : Standing
   pub commit : Option ℕ
   pub answered : IsAnswered (over f is) before form after line commit
-  pub stands : StandsAt new.view names is after
-  pub keeps : Keeps old new was is commit
+  pub stands : HasStanding new.view names is after
+  pub keeps : KeepsCommit old new was is commit
   pub counted : Counted (form ∷ []) (length (option_to_list commit)) was.tally is.tally
 
 -- memory was refused: nothing was committed, and the desk may have been asked
-pub record Unanswered {S : Type 0} (form : Form) (old new : Session S) (was is : State) : Type 0 where
-  pub keeps : Keeps old new was is None
+pub record Unanswered {S : Type 0} (form : Form) (old new : Session S)
+    (was is : State) : Type 0 where
+  pub keeps : KeepsCommit old new was is None
   pub counted : (is.tally ≡ was.tally) ⊎ Counted (form ∷ []) 0 was.tally is.tally
 
--- it was answered, and its line was written whole
+-- the form was answered, and its line was written whole
 pub record Replied {S : Type 0} (f : Terms) (form : Form) (old new : Session S)
     (names : S → List (List ℕ)) (was is : State) (before : Standing) (had has : Option (List ℕ))
     : Type 0 where
@@ -187,7 +194,7 @@ pub record Replied {S : Type 0} (f : Terms) (form : Form) (old new : Session S)
   pub places : new.places.items ≡ old.places.items ++ answered.after.place ∷ []
   pub written : has ≡ append_known had line
 
--- it was answered, and the sink failed before it had taken the whole line
+-- the form was answered, and the sink failed before it had taken the whole line
 pub record RepliedPart {S : Type 0} (f : Terms) (form : Form) (old new : Session S)
     (names : S → List (List ℕ)) (was is : State) (before : Standing) (had has : Option (List ℕ))
     : Type 0 where
@@ -196,7 +203,7 @@ pub record RepliedPart {S : Type 0} (f : Terms) (form : Form) (old new : Session
   pub places : new.places.items ≡ old.places.items
   pub written : TakesPart line had has
 
--- and where memory was refused nothing was written
+-- memory was refused, and nothing was written
 pub record RepliedNothing {S : Type 0} (form : Form) (old new : Session S) (was is : State)
     (had has : Option (List ℕ)) : Type 0 where
   pub unanswered : Unanswered form old new was is
@@ -221,7 +228,8 @@ end_of Memory = ended.Memory
 
 -- ---- a script
 
--- The bytes up to this place are forms, and this is the session's talk over them so far: its lines are what the sink gained.
+-- The bytes up to this place are forms, and this is the session's talk over them so far:
+-- its lines are what the sink gained.
 pub record TalkSoFar {S : Type 0} (f : Terms) (bytes : List ℕ) (at : ℕ) (session : Session S)
     (names : S → List (List ℕ)) (start now : State) (had has : Option (List ℕ)) : Type 0 where
   pub exchanges : List Exchange
@@ -232,28 +240,28 @@ pub record TalkSoFar {S : Type 0} (f : Terms) (bytes : List ℕ) (at : ℕ) (ses
   pub places : session.places.items ≡ places_of exchanges
   pub kept : session.commits.items ≡ commits_of exchanges
   pub written : has ≡ append_known had (concat (lines_of exchanges))
-  pub stands : StandsAt session.view names now standing
+  pub stands : HasStanding session.view names now standing
   pub went_on : WentOn start now
   pub from : basis start.entries ≤ basis now.entries
   pub commits : now.commits ≡ start.commits ++ session.commits.items
   pub counted : Counted (forms_of exchanges) (length session.commits.items) start.tally now.tally
   pub within : at ≤ length bytes
 
--- a command stands behind this place, and there is room for it behind so many
+-- a command follows this place, and the script may have one more after so many
 pub record IsCommand (bytes : List ℕ) (at count : ℕ) (f : Form) (next : ℕ) : Type 0 where
-  pub stands : FormStands bytes at f next
+  pub stands : FormAt bytes at f next
   pub ahead : at < next
   pub within : next ≤ length bytes
   pub room : count < most_commands
 
--- how a session ends where no command follows behind so many
+-- how a session ends where no command follows so many
 abbrev pub NoCommand : List ℕ → ℕ → ℕ → SessionEnd → Type 0
 NoCommand bytes at count ended.Done = OnlyGap bytes at
 NoCommand bytes at count (ended.Script why) =
     (why ≢ edn.Memory) × MatchFault (fault_of why) (FaultAt bytes at)
 NoCommand bytes at count ended.TooLong = ⊥
 NoCommand bytes at count ended.TooMany =
-    (most_commands ≤ count) × (f : Form) × (next : ℕ) × FormStands bytes at f next
+    (most_commands ≤ count) × (f : Form) × (next : ℕ) × FormAt bytes at f next
 NoCommand bytes at count ended.ReadFault = ⊥
 NoCommand bytes at count ended.WriteFault = ⊥
 NoCommand bytes at count ended.Memory = Unit {0}

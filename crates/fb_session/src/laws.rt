@@ -10,7 +10,7 @@ ghost use Rattle.fb_session.specs.Replies.{SessionRun, Replies};
 
 use talk_model::Surroundings;
 
-/// A longer lawful history keeps the replies of a session, also where the log has stopped behind it meanwhile.
+/// A longer lawful history keeps the replies of a session, also where the log has stopped after it meanwhile.
 pub fn a_longer_history_keeps_replies<S: Surroundings>()
     ensures { (s : S) (guard : Guard) (is_filter : List ℕ → Bool) (h more : List Entry)
         (stop later : Option ℕ) (teller is_teller : Bool) (opening : ℕ) (run : SessionRun)

@@ -50,11 +50,11 @@ impl Places {
 pub enum SessionEnd {
     /// Each form of the script was answered.
     Done,
-    /// Behind the forms that were answered stands a fault.
+    /// The script has a fault after the forms that were answered.
     Script(EdnFault),
     /// The script has more bytes than are read.
     TooLong,
-    /// Behind as many commands as a script may have stands one more.
+    /// The script has more than 1,000,000 commands.
     TooMany,
     ReadFault,
     WriteFault,

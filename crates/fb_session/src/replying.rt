@@ -7,9 +7,9 @@ ghost use Rattle.fb_model.specs.History.{basis};
 ghost use Rattle.talk_model.specs.Session.{Standing};
 ghost use Rattle.talk_model.specs.Replies.{basis_reply, IsLineOf};
 ghost use Rattle.fb_preds.specs.Naming.{selected_by};
-ghost use Rattle.fb_commands.specs.Asked.{read_of};
+ghost use Rattle.fb_commands.specs.View.{model_read};
 ghost use Rattle.fb_desk.specs.Desks.{GoesOn, glanced, loaded};
-ghost use Rattle.fb_session.specs.Sessions.{terms_of, StandsAt, Shows, Keeps, LoadsOnceAtMost, Reads, Answered, Unanswered};
+ghost use Rattle.fb_session.specs.Sessions.{terms_at, HasStanding, Shows, KeepsCommit, LoadsOnceAtMost, AnswersRead, Answered, Unanswered};
 
 use crate::session::Session;
 use edn_form::Edn;
@@ -58,11 +58,10 @@ impl<P: FilterTable> Session<Picks<'_, P>> {
         ensures goes_on { GoesOn (T.state desk.old) (T.state desk.new) }
         ensures ok { let table = self.old.view.filter.table.now in OnOk result
             ((before : Standing)
-            → StandsAt self.old.view (λ p. map (P.name_at p.table.now) p.places.items)
+            → HasStanding self.old.view (λ p. map (P.name_at p.table.now) p.places.items)
             (T.state desk.old) before
             → Answered
-            (terms_of (K.may_answer clock.now) (G.bars guard.now) (P.place_of table)
-            (P.selects_at table))
+            (terms_at K.may_answer G.bars P.place_of P.selects_at clock.now guard.now table)
             (form_of form.now) self.old self.new (λ p. map (P.name_at p.table.now) p.places.items)
             (T.state desk.old) (T.state desk.new) before self.new.line.bytes.items) }
         ensures err { OnErr result (Unanswered (form_of form.now) self.old self.new
@@ -85,10 +84,10 @@ impl<P: FilterTable> Session<Picks<'_, P>> {
     /// Answers of what was seen before.
     fn read(&mut self, alloc: Global, asked: Option<Read<'_>>) -> Result<(), Memory>
         ensures ok { let table = self.old.view.filter.table.now in OnOk result
-            (Reads self.old.view self.new.view (λ p. map (P.name_at p.table.now) p.places.items)
+            (AnswersRead self.old.view self.new.view (λ p. map (P.name_at p.table.now) p.places.items)
             (λ name. is_some (P.place_of table name))
             (selected_by (P.place_of table) (P.selects_at table))
-            (option_map (λ read. read_of read) asked.entry) self.new.line.bytes.items) }
+            (option_map (λ read. model_read read) asked.entry) self.new.line.bytes.items) }
         ensures table { self.new.view.filter.table ≡ self.old.view.filter.table }
         ensures rest { self.new ≡ record self.old { view = self.new.view; line = self.new.line } }
     {
@@ -102,7 +101,7 @@ impl<S: Selector> Session<S> {
         requires { 0 < (T.state desk.old).left }
         ensures goes_on { GoesOn (T.state desk.old) (T.state desk.new) }
         ensures shows { OnOk result (Shows self.old self.new (T.state desk.new)) }
-        ensures keeps { Keeps self.old self.new (T.state desk.old) (T.state desk.new) None }
+        ensures keeps { KeepsCommit self.old self.new (T.state desk.old) (T.state desk.new) None }
         ensures tally { (T.state desk.new).tally ≡ glanced (T.state desk.old).tally }
         ensures filter { self.new.view.filter ≡ self.old.view.filter }
         ensures places { self.new.places ≡ self.old.places }
@@ -122,7 +121,7 @@ impl<S: Selector> Session<S> {
         requires { 0 < (T.state desk.old).left }
         ensures goes_on { GoesOn (T.state desk.old) (T.state desk.new) }
         ensures shows { OnOk result (Shows self.old self.new (T.state desk.new)) }
-        ensures keeps { Keeps self.old self.new (T.state desk.old) (T.state desk.new) None }
+        ensures keeps { KeepsCommit self.old self.new (T.state desk.old) (T.state desk.new) None }
         ensures tally { OnOk result ((T.state desk.new).tally ≡ loaded (T.state desk.old).tally) }
         ensures loads { OnErr result (LoadsOnceAtMost (T.state desk.old) (T.state desk.new)) }
         ensures filter { self.new.view.filter ≡ self.old.view.filter }

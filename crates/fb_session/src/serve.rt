@@ -1,16 +1,16 @@
 //! The loop over the forms of a script.
 ghost use denote.Param.Send.{IsSync};
-ghost use Rattle.std.specs.Prelude.{◌≡◌, ◌≤◌, ◌<◌, ◌+◌, ◌++◌, Some, IfOk, IfErr, OnOk, length, is_some, map};
+ghost use Rattle.std.specs.Prelude.{◌≡◌, ◌≤◌, ◌<◌, ◌+◌, ◌++◌, Some, IfOk, IfErr, OnOk, length, map};
 ghost use Rattle.std.specs.List.{last_or};
 ghost use Rattle.edn_form.specs.View.{form_of};
 ghost use Rattle.fb_model.specs.History.{basis};
-ghost use Rattle.fb_preds.specs.Naming.{selected_by};
+ghost use Rattle.script_model.specs.Script.{most_commands};
 ghost use Rattle.talk_model.specs.Prefixes.{Prefixes};
-ghost use Rattle.talk_model.specs.Session.{Standing, setting};
+ghost use Rattle.talk_model.specs.Session.{Standing};
 ghost use Rattle.fb_desk.specs.Desks.{GoesOn, WentOn};
 ghost use Rattle.fb_session.specs.Asks.{Asks};
 ghost use Rattle.fb_session.specs.Replies.{Replies, SourceCount, SinkCount};
-ghost use Rattle.fb_session.specs.Sessions.{terms_of, StandsAt, IsOpened, Replied, StopsAt, StopCount, end_of, IsCommand, NoCommand, served_by, Talks};
+ghost use Rattle.fb_session.specs.Sessions.{terms_at, over, HasStanding, IsOpened, Replied, StopsAt, StopCount, end_of, IsCommand, NoCommand, served_by, Talks};
 
 use crate::outcome::{Served, SessionEnd};
 use crate::reading::{ReadStop, read_script};
@@ -79,11 +79,11 @@ pub fn serve_desk<
     preds: &P,
 ) -> Served
     requires sync { IsSync R.row }
-    requires left { 1_000_000 ≤ (T.state desk.old).left }
-    ensures replies { let table = preds.now in let now = T.state desk.new in Replies
-        (setting (K.may_answer clock.now) (selected_by (P.place_of table) (P.selects_at table))
-        (G.bars guard.now) (λ name. is_some (P.place_of table name)) now.entries now.stop
-        now.teller)
+    requires left { most_commands ≤ (T.state desk.old).left }
+    ensures replies { Replies
+        (over
+        (terms_at K.may_answer G.bars P.place_of P.selects_at clock.now guard.now preds.now)
+        (T.state desk.new))
         (basis (T.state desk.old).entries)
         (record {
           held = I.left source.old;
@@ -142,10 +142,9 @@ fn serve_script<
     preds: &P,
 ) -> Served
     requires sync { IsSync R.row }
-    requires left { 1_000_000 ≤ (T.state desk.old).left }
+    requires left { most_commands ≤ (T.state desk.old).left }
     ensures answers { Talks
-        (terms_of (K.may_answer clock.now) (G.bars guard.now) (P.place_of preds.now)
-        (P.selects_at preds.now))
+        (terms_at K.may_answer G.bars P.place_of P.selects_at clock.now guard.now preds.now)
         script.now (T.state desk.old) (T.state desk.new) (O.contents sink.old)
         (O.contents sink.new) result }
     ensures count { SinkCount result.end (O.faults sink.old) (O.faults sink.new) }
@@ -172,10 +171,9 @@ impl<P: FilterTable> Session<Picks<'_, P>> {
         requires sync { IsSync R.row }
         requires opened { IsOpened self.old (λ p. map (P.name_at p.table.now) p.places.items)
             (T.state desk.old) }
-        requires left { 1_000_000 ≤ (T.state desk.old).left }
+        requires left { most_commands ≤ (T.state desk.old).left }
         ensures answers { let table = self.old.view.filter.table.now in Talks
-            (terms_of (K.may_answer clock.now) (G.bars guard.now) (P.place_of table)
-            (P.selects_at table))
+            (terms_at K.may_answer G.bars P.place_of P.selects_at clock.now guard.now table)
             script.now (T.state desk.old) (T.state desk.new) (O.contents sink.old)
             (O.contents sink.new) (served_by self.new result) }
         ensures count { SinkCount result (O.faults sink.old) (O.faults sink.new) }
@@ -196,7 +194,7 @@ impl<P: FilterTable> Session<Picks<'_, P>> {
         }
     }
 
-    /// The command that stands next behind `at`, and the place behind it; or how the session ends.
+    /// The next command after `at`, and the place after it; or how the session ends.
     fn next_command(
         &self,
         alloc: Global,
@@ -232,21 +230,19 @@ impl<P: FilterTable> Session<Picks<'_, P>> {
         ensures goes_on { GoesOn (T.state desk.old) (T.state desk.new) }
         ensures ok { let table = self.old.view.filter.table.now in OnOk result
             ((before : Standing)
-            → StandsAt self.old.view (λ p. map (P.name_at p.table.now) p.places.items)
+            → HasStanding self.old.view (λ p. map (P.name_at p.table.now) p.places.items)
             (T.state desk.old) before
             → Replied
-            (terms_of (K.may_answer clock.now) (G.bars guard.now) (P.place_of table)
-            (P.selects_at table))
+            (terms_at K.may_answer G.bars P.place_of P.selects_at clock.now guard.now table)
             (form_of form.now) self.old self.new (λ p. map (P.name_at p.table.now) p.places.items)
             (T.state desk.old) (T.state desk.new) before (O.contents sink.old)
             (O.contents sink.new)) }
         ensures err { let table = self.old.view.filter.table.now in IfErr result
             (λ stop. (before : Standing)
-            → StandsAt self.old.view (λ p. map (P.name_at p.table.now) p.places.items)
+            → HasStanding self.old.view (λ p. map (P.name_at p.table.now) p.places.items)
             (T.state desk.old) before
             → StopsAt
-            (terms_of (K.may_answer clock.now) (G.bars guard.now) (P.place_of table)
-            (P.selects_at table))
+            (terms_at K.may_answer G.bars P.place_of P.selects_at clock.now guard.now table)
             (form_of form.now) self.old self.new (λ p. map (P.name_at p.table.now) p.places.items)
             (T.state desk.old) (T.state desk.new) before (O.contents sink.old) (O.contents sink.new)
             stop) }

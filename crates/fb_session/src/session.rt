@@ -36,7 +36,7 @@ impl<'p, P: FilterTable> Session<Picks<'p, P>> {
         ensures table { IfOk result (λ session. session.view.filter.table.now ≡ preds.now) }
     {
         let snapshot = desk.snapshot().share()?;
-        // A snapshot that is asked tells that its history is lawful.
+        // This call brings into the proof that the snapshot's history is lawful.
         let _basis = snapshot.basis();
         Ok(Session {
             view: Db::of(snapshot, Picks::none(alloc, preds)),

@@ -7,7 +7,7 @@ ghost use Rattle.tx_refusals.specs.Reasons.{keyword_of};
 ghost use Rattle.talk_model.specs.Replies.{refusal_reply, fault_reply, IsLineOf};
 ghost use Rattle.fb_replies.specs.Faults.{word_of};
 ghost use Rattle.fb_desk.specs.Desks.{GoesOn};
-ghost use Rattle.fb_session.specs.Sessions.{Keeps, Transacts, LoadsOnceAtMost};
+ghost use Rattle.fb_session.specs.Sessions.{KeepsCommit, Transacts, LoadsOnceAtMost};
 
 use crate::session::Session;
 use edn_form::Edn;
@@ -38,7 +38,7 @@ impl<S: Selector> Session<S> {
         ensures ok { OnOk result (Transacts (K.may_answer clock.now) (G.bars guard.now)
             (form_of asked.now) self.old self.new (T.state desk.old) (T.state desk.new)) }
         ensures err { OnErr result
-            (Keeps self.old self.new (T.state desk.old) (T.state desk.new) None) }
+            (KeepsCommit self.old self.new (T.state desk.old) (T.state desk.new) None) }
         ensures loads { OnErr result (LoadsOnceAtMost (T.state desk.old) (T.state desk.new)) }
         ensures filter { self.new.view.filter ≡ self.old.view.filter }
         ensures places { self.new.places ≡ self.old.places }

@@ -10,11 +10,11 @@ use std::sync::ArcStr;
 /// UTF-8 text. A short one lies in the value itself; the copies of a longer one share its bytes.
 #[derive(Drop)]
 pub struct Text {
-    kept: Kept,
+    kept: Repr,
 }
 
 #[derive(Drop)]
-enum Kept {
+enum Repr {
     Here(Short),
     Shared(ArcStr),
 }
@@ -34,9 +34,9 @@ impl Text {
         ensures { IfOk result (λ t. t ≡ s.now) }
     {
         let kept = if s.len() <= SHORT {
-            Kept::Here(Short::of(s))
+            Repr::Here(Short::of(s))
         } else {
-            Kept::Shared(ArcStr::from_str(alloc, s)?)
+            Repr::Shared(ArcStr::from_str(alloc, s)?)
         };
         Ok(Text { kept })
     }
@@ -45,8 +45,8 @@ impl Text {
         ensures { result.now ≡ self.now }
     {
         match &self.kept {
-            Kept::Here(short) => short.as_str(),
-            Kept::Shared(text) => text.as_str(),
+            Repr::Here(short) => short.as_str(),
+            Repr::Shared(text) => text.as_str(),
         }
     }
 
@@ -62,8 +62,8 @@ impl Text {
         ensures { IfOk result (λ t. t ≡ self.now) }
     {
         let kept = match &self.kept {
-            Kept::Here(short) => Kept::Here(short.copy()),
-            Kept::Shared(text) => Kept::Shared(text.clone()?),
+            Repr::Here(short) => Repr::Here(short.copy()),
+            Repr::Shared(text) => Repr::Shared(text.clone()?),
         };
         Ok(Text { kept })
     }

@@ -8,14 +8,15 @@ use Rattle.fb_values.specs.declared.facts.Datom.{Datom}
 use Rattle.fb_values.specs.declared.indexes.Order.{Order}
 use Rattle.fb_values.specs.Orders.{key_cmp}
 use Rattle.fb_values.specs.OrderLaws.{key_cmp_total}
-use Rattle.fb_values.specs.Rising.{rises, StandsBefore, IsRising}
+use Rattle.fb_values.specs.Rising.{rises, IsBelowAll, IsRising}
 
 pub less_is : (o : Ordering) → is_lt o ≡ true → o ≡ Less
 less_is Less h = refl
 less_is Equal h = absurd (cc)
 less_is Greater h = absurd (cc)
 
-pub stands_later : (order : Order) (d x : Datom) (xs : List Datom) → key_cmp order d x ≡ Less → StandsBefore order x xs → StandsBefore order d xs
+pub stands_later : (order : Order) (d x : Datom) (xs : List Datom) → key_cmp order d x ≡ Less → IsBelowAll order x xs
+    → IsBelowAll order d xs
 stands_later order d x [] less before = tt
 stands_later order d x (y ∷ ys) less before = ((key_cmp_total order).trans d x y less before.0, stands_later order d x ys less before.1)
 

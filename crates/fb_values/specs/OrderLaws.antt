@@ -1,21 +1,26 @@
--- The laws of the orders: values and keys are totally ordered, and equal keys are those of the same entity, attribute, value and t.
+-- The laws of the orders: values and keys are totally ordered,
+-- and equal keys are those of the same entity, attribute, value and t.
 -- This project's own choice.
 use Rattle.std.specs.Prelude.{◌≡◌, ℕ, ℤ, List, [], length, take, slice_index_or, refl}
 use Rattle.std.proofs.Common.{sym, ◌∙◌, ap, subst, T}
 use Rattle.std.specs.Ordering.{nat_cmp, int_cmp, bool_cmp, ordering_then, on, then_cmp, is_eq}
-use Rattle.std.specs.Cmp.{IsTotalOrder, on_total, then_total, nat_cmp_total, int_cmp_total, tied_itself}
+use Rattle.std.specs.Cmp.{IsTotalOrder, on_total, then_total, nat_cmp_total, int_cmp_total}
+use Rattle.std.specs.Cmp.{tied_itself}
 use Rattle.std.specs.Cmp.Lexicographic.{slice_cmp, lists_total, nat_list_cmp_total}
-use Rattle.std.specs.FinMap.{IsAntisymmetric, nat_cmp-IsAntisymmetric, int_cmp-IsAntisymmetric, slice_cmp-IsAntisymmetric}
+use Rattle.std.specs.FinMap.{IsAntisymmetric, nat_cmp-IsAntisymmetric, int_cmp-IsAntisymmetric}
+use Rattle.std.specs.FinMap.{slice_cmp-IsAntisymmetric}
 use Rattle.std.specs.declared.cmp.Ordering.{Ordering}
 use Rattle.std.specs.declared.cmp.Ordering.TheVariants.{Less, Equal, Greater}
 use Rattle.std.specs.Prelude.{false, true, pos}
 use Rattle.fb_values.specs.declared.facts.Value.{Value}
-use Rattle.fb_values.specs.declared.facts.Value.TheVariants.{Keyword, Str, Bool, Long, Ref, Instant, Uuid, Symbol, Uri}
+use Rattle.fb_values.specs.declared.facts.Value.TheVariants.{Keyword, Str, Bool, Long, Ref, Instant}
+use Rattle.fb_values.specs.declared.facts.Value.TheVariants.{Uuid, Symbol, Uri}
 use Rattle.fb_values.specs.declared.facts.Datom.{Datom}
 use Rattle.fb_values.specs.declared.indexes.Order.{Order}
 use Rattle.fb_values.specs.declared.indexes.Order.TheVariants.{Eavt, Aevt, Avet, Vaet}
 use Rattle.fb_values.specs.declared.indexes.Probe.{Probe}
-use Rattle.fb_values.specs.Orders.{type_place, text_cmp, value_cmp, key_of, key_cmp, given, probe_cmp}
+use Rattle.fb_values.specs.Orders.{type_place, text_cmp, value_cmp, key_of, key_cmp, given}
+use Rattle.fb_values.specs.Orders.{probe_cmp}
 
 -- what values of each type hold, where other types hold the same: a text, a number, a signed number
 abbrev text_in : Value → List ℕ
@@ -69,7 +74,7 @@ value_cmp_total =
     (then_total (on_total text_in nat_list_cmp_total)
     (then_total (on_total number_in nat_cmp_total) (on_total signed_in int_cmp_total))))
 
--- equal by an order that tells any two values apart
+-- equal by an order that distinguishes any two values
 different : {A : Type 0} (r : Ordering) → T (is_eq r) ≡ ⊥ → r ≡ Equal → A
 different r e is = absurd (subst (λ a. a) e (subst (λ q. T (is_eq q)) (sym is) tt))
 

@@ -1,5 +1,7 @@
--- The four orders of the indexes: a datom's key in each, how keys compare, and how a probe compares with a datom.
--- Restates Indexes of Datomic's documentation. The order of the types, and that t ascends, are this project's own choice.
+-- The four orders of the indexes:
+-- a datom's key in each, how keys compare, and how a probe compares with a datom.
+-- Restates Indexes of Datomic's documentation.
+-- The order of the types, and that t ascends, are this project's own choice.
 use Rattle.std.specs.Prelude.{ℕ, List, [], ◌∷◌, length, take, Option, Some, None}
 use Rattle.std.specs.Option.{option_map}
 use Rattle.std.specs.Ordering.{nat_cmp, int_cmp, bool_cmp, ordering_then}
@@ -7,13 +9,14 @@ use Rattle.std.specs.Cmp.Lexicographic.{slice_cmp}
 use Rattle.std.specs.declared.cmp.Ordering.{Ordering}
 use Rattle.std.specs.declared.cmp.Ordering.TheVariants.{Equal}
 use Rattle.fb_values.specs.declared.facts.Value.{Value}
-use Rattle.fb_values.specs.declared.facts.Value.TheVariants.{Keyword, Str, Bool, Long, Ref, Instant, Uuid, Symbol, Uri}
+use Rattle.fb_values.specs.declared.facts.Value.TheVariants.{Keyword, Str, Bool, Long, Ref, Instant}
+use Rattle.fb_values.specs.declared.facts.Value.TheVariants.{Uuid, Symbol, Uri}
 use Rattle.fb_values.specs.declared.facts.Datom.{Datom}
 use Rattle.fb_values.specs.declared.indexes.Order.{Order}
 use Rattle.fb_values.specs.declared.indexes.Order.TheVariants.{Eavt, Aevt, Avet, Vaet}
 use Rattle.fb_values.specs.declared.indexes.Probe.{Probe}
 
--- where a value's type stands among the types
+-- the place of a value's type among the types
 abbrev pub type_place : Value → ℕ
 type_place (Keyword text) = 0
 type_place (Str text) = 1
@@ -46,7 +49,8 @@ content_cmp x y = Equal
 abbrev pub value_cmp : Value → Value → Ordering
 value_cmp x y = ordering_then (nat_cmp (type_place x) (type_place y)) (content_cmp x y)
 
--- A datom's key. Its components are values: an entity, an attribute and a t compare as numbers, so they stand as refs.
+-- A datom's key. Its components are values:
+-- an entity, an attribute and a t compare as numbers, so they are refs here.
 abbrev pub key_of : Order → Datom → List Value
 key_of Eavt d = Ref d.e ∷ Ref d.a ∷ d.v ∷ Ref d.t ∷ []
 key_of Aevt d = Ref d.a ∷ Ref d.e ∷ d.v ∷ Ref d.t ∷ []
@@ -64,13 +68,13 @@ components_of p Aevt = option_map Ref p.a ∷ option_map Ref p.e ∷ p.v ∷ opt
 components_of p Avet = option_map Ref p.a ∷ p.v ∷ option_map Ref p.e ∷ option_map Ref p.t ∷ []
 components_of p Vaet = p.v ∷ option_map Ref p.a ∷ option_map Ref p.e ∷ option_map Ref p.t ∷ []
 
--- those before the first that is not given
+-- the components before the first that is not given
 abbrev pub leading : List (Option Value) → List Value
 leading [] = []
 leading (None ∷ rest) = []
 leading (Some v ∷ rest) = v ∷ leading rest
 
--- the leading components that a probe gives: one behind a gap is not among them
+-- the leading components that a probe gives: one after a gap is not among them
 abbrev pub given : Probe → List Value
 given p = leading (components_of p p.order)
 

@@ -14,11 +14,11 @@ rises order (d ∷ []) = true
 rises order (d ∷ next ∷ rest) = is_lt (key_cmp order d next) && rises order (next ∷ rest)
 
 -- the datom's key is below that of each datom of the list
-abbrev pub StandsBefore : Order → Datom → List Datom → Type 0
-StandsBefore order x [] = Unit {0}
-StandsBefore order x (y ∷ ys) = (key_cmp order x y ≡ Less) × StandsBefore order x ys
+abbrev pub IsBelowAll : Order → Datom → List Datom → Type 0
+IsBelowAll order x [] = Unit {0}
+IsBelowAll order x (y ∷ ys) = (key_cmp order x y ≡ Less) × IsBelowAll order x ys
 
--- each datom's key is below those of all datoms behind it
+-- each datom's key is below those of all datoms after it
 abbrev pub IsRising : Order → List Datom → Type 0
 IsRising order [] = Unit {0}
-IsRising order (x ∷ xs) = StandsBefore order x xs × IsRising order xs
+IsRising order (x ∷ xs) = IsBelowAll order x xs × IsRising order xs

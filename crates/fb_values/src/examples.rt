@@ -49,7 +49,7 @@ pub fn first_component_that_differs()
         ≡ Less }
 {}
 
-/// Behind the attribute AEVT goes by the entity and AVET by the value.
+/// After the attribute AEVT goes by the entity and AVET by the value.
 pub fn second_component()
     ensures aevt { key_cmp Order.Aevt (datom 1 10 (Value.Long (pos 6)) 3)
         (datom 2 10 (Value.Long (pos 5)) 3)

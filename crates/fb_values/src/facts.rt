@@ -6,7 +6,7 @@ use fb_text::Text;
 use std::cmp::Ordering;
 use std::marker::Model;
 
-/// What a datom says of its entity. The types stand in the order in which values of different types compare.
+/// What a datom says of its entity. The types are in the order in which values of different types compare.
 #[derive(Drop)]
 pub enum Value {
     Keyword(Text),
@@ -89,7 +89,7 @@ impl Ord for Value {
     }
 }
 
-/// A copy of the value behind a reference, spelled out where it stands: each hand-over of a value moves its bytes once more.
+/// A copy of the value behind a reference, written out here: each hand-over of a value moves its bytes once more.
 macro_rules! copy_of {
     ($value:expr) => {
         match $value {
@@ -109,7 +109,7 @@ macro_rules! copy_of {
 impl Value {
     ghost use Rattle.fb_values.specs.Orders.{type_place};
 
-    /// Where the value's type stands among the types.
+    /// The place of the value's type among the types.
     fn type_place(&self) -> u8
         ensures { result ≡ type_place self.now }
     {

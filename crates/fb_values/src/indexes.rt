@@ -20,7 +20,7 @@ pub enum Order {
     Vaet,
 }
 
-/// A place in an index: the leading components of its order that are given. A component behind one that is not given
+/// A place in an index: the leading components of its order that are given. A component after one that is not given
 /// does not count.
 #[derive(Drop)]
 pub struct Probe {
@@ -31,7 +31,7 @@ pub struct Probe {
     pub t: Option<u32>,
 }
 
-/// How two datoms stand to each other in the order: their first component that differs decides.
+/// How two datoms compare in the order: their first component that differs decides.
 pub fn cmp_in(order: Order, x: &Datom, y: &Datom) -> Ordering
     ensures { result ≡ key_cmp order x.now y.now }
 {
@@ -47,7 +47,7 @@ pub fn cmp_in(order: Order, x: &Datom, y: &Datom) -> Ordering
     }
 }
 
-/// How a probe stands to a datom: its leading components against those of the datom's key. `Equal` where each is equal.
+/// How a probe compares with a datom: its leading components against those of the datom's key. `Equal` where each is equal.
 pub fn cmp_probe(probe: &Probe, d: &Datom) -> Ordering
     ensures { result ≡ probe_cmp probe.now d.now }
 {

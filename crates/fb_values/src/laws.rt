@@ -37,7 +37,7 @@ pub fn probe_is_equal_to_what_begins_so(probe: &Probe, d: &Datom)
         ↔ (take (length (given probe.now)) (key_of probe.now.order d.now) ≡ given probe.now) }
 {}
 
-/// Where each datom is below the next one, each is below all that are behind it, and the other way round.
+/// Where each datom is below the next one, each is below all that are after it, and the other way round.
 pub fn rising_by_neighbours_is_rising_by_all(order: Order, datoms: &[Datom])
     ensures { IsTrue (rises order datoms.now) ↔ IsRising order datoms.now }
 {}

@@ -29,11 +29,12 @@ use Rattle.fb_schema.specs.Described.{SchemaStands}
 use Rattle.fb_schema.specs.Tables.{HasCoverage}
 use Rattle.fb_view.specs.declared.growth.Older.{Older}
 use Rattle.fb_view.specs.InAvet.{IsInAvet}
-use Rattle.fb_view.specs.Kept.{AreFacts, AreWhole}
+use Rattle.fb_view.specs.SnapshotModel.{AreFacts, AreWhole}
 use Rattle.fb_view.proofs.Standing.{coverage_of}
 use Rattle.fb_values.proofs.Rising.{rises_from}
 
-pub grown_alone : (order : Order) (coverage : Coverage) (ds new : List Datom) → IsGrown order coverage [] [] ds new → (d : Datom) → Contains new d ↔ (Contains ds d × IsTrue (is_held coverage order d))
+pub grown_alone : (order : Order) (coverage : Coverage) (ds new : List Datom) → IsGrown order coverage [] [] ds new
+    → (d : Datom) → Contains new d ↔ (Contains ds d × IsTrue (is_held coverage order d))
 grown_alone order coverage ds new grown d = (
   λ there. let is = (grown.members d).0 there in (of_these is.0, is.1),
   λ is. (grown.members d).1 (inr is.0, is.1),
@@ -65,7 +66,8 @@ refilled_alone coverage ds new grown = record {
 
 -- nothing is held by any coverage, and brings no twins
 pub none_held : (coverage : Coverage) (order : Order) (old : List Datom) → old ≡ [] → All (λ d. IsTrue (is_held coverage order d)) old
-none_held coverage order old none = subst (λ (ds : List Datom). All (λ d. IsTrue (is_held coverage order d)) ds) (sym none) (λ k d within. absurd (omega (arith, within)))
+none_held coverage order old none =
+    subst (λ (ds : List Datom). All (λ d. IsTrue (is_held coverage order d)) ds) (sym none) (λ k d within. absurd (omega (arith, within)))
 
 pub single_alone : (old refill ds : List Datom) → old ≡ [] → HasNoTwins (refill ++ ds) → HasNoTwins (old ++ refill ++ ds)
 single_alone old refill ds none single = subst (λ (l : List Datom). HasNoTwins (l ++ refill ++ ds)) (sym none) single
@@ -75,7 +77,8 @@ single_alone old refill ds none single = subst (λ (l : List Datom). HasNoTwins 
 pub first_twins : HasNoTwins first_entry.datoms
 first_twins x y in_x in_y at =
     (one_for_each_key (first_entry ∷ []) IsLawful-first).same x y (as_said x in_x) (as_said y in_y)
-    (subst (λ key. slice_cmp value_cmp (key_of Eavt x) key ≡ Equal) (same_keys Eavt x y at) (tied_itself (lists_total value_cmp_total) (key_of Eavt x)))
+    (subst (λ key. slice_cmp value_cmp (key_of Eavt x) key ≡ Equal) (same_keys Eavt x y at)
+    (tied_itself (lists_total value_cmp_total) (key_of Eavt x)))
   where
     as_said : (d : Datom) → Contains first_entry.datoms d → Contains (said (first_entry ∷ [])) d
     as_said d there = subst (λ (ds : List Datom). Contains ds d) (sym (append-nil first_entry.datoms)) there
@@ -84,7 +87,9 @@ first_twins x y in_x in_y at =
         append-nil [] = refl
         append-nil (x ∷ ds) = ap (λ l. x ∷ l) (append-nil ds)
 
-pub first_roots : (roots : Roots) (coverage : Coverage) → IsCoverageOf coverage (facts (first_entry ∷ [])) → ((order : Order) → IsGrown order coverage [] [] first_entry.datoms (list_in (trees_of roots) order)) → RootStands (trees_of roots) (first_entry ∷ []) 0
+pub first_roots : (roots : Roots) (coverage : Coverage) → IsCoverageOf coverage (facts (first_entry ∷ []))
+    → ((order : Order) → IsGrown order coverage [] [] first_entry.datoms (list_in (trees_of roots) order))
+    → RootStands (trees_of roots) (first_entry ∷ []) 0
 first_roots roots coverage is grown = record { bound = omega arith; trees = trees }
   where
     append-nil : (ds : List Datom) → ds ++ [] ≡ ds
@@ -97,7 +102,10 @@ first_roots roots coverage is grown = record { bound = omega arith; trees = tree
       members = λ d. (
         λ there.
             let at = (grown_alone order coverage first_entry.datoms (list_in (trees_of roots) order) (grown order) d).0 there in
-            record { is_said = subst (λ (ds : List Datom). Contains ds d) (sym (append-nil first_entry.datoms)) at.0; is_covered = sym (is order d.a) ∙ at.1 },
+            record {
+              is_said = subst (λ (ds : List Datom). Contains ds d) (sym (append-nil first_entry.datoms)) at.0;
+              is_covered = sym (is order d.a) ∙ at.1;
+            },
         λ given.
             (grown_alone order coverage first_entry.datoms (list_in (trees_of roots) order) (grown order) d).1
             (subst (λ (ds : List Datom). Contains ds d) (append-nil first_entry.datoms) given.is_said, is order d.a ∙ given.is_covered),
@@ -107,8 +115,10 @@ first_roots roots coverage is grown = record { bound = omega arith; trees = tree
 pub first_is : (h : List Entry) (entry : Entry) → h ≡ first_entry ∷ [] → slice_get h 0 ≡ Some entry → entry ≡ first_entry
 first_is h entry is read = let same : Some first_entry ≡ Some entry = sym (ap (λ (l : List Entry). slice_get l 0) is) ∙ read in cc
 
-whole_first : (older : Older) (coverage : Coverage) → IsCoverageOf coverage (facts (first_entry ∷ [])) → older.held ≡ coverage → older.covered ≡ 0 → AreFacts older.roots older.facts
-    → ((order : Order) → IsGrown order coverage [] [] first_entry.datoms (list_in (trees_of older.roots) order)) → AreWhole (first_entry ∷ []) older
+whole_first : (older : Older) (coverage : Coverage) → IsCoverageOf coverage (facts (first_entry ∷ [])) → older.held ≡ coverage
+    → older.covered ≡ 0 → AreFacts older.roots older.facts
+    → ((order : Order) → IsGrown order coverage [] [] first_entry.datoms (list_in (trees_of older.roots) order))
+    → AreWhole (first_entry ∷ []) older
 whole_first older coverage is held covered now_is grown = record {
   lawful = IsLawful-first;
   roots_stand = subst (RootStands (trees_of older.roots) (first_entry ∷ [])) (sym covered) (first_roots older.roots coverage is grown);
@@ -118,12 +128,16 @@ whole_first older coverage is held covered now_is grown = record {
 }
 
 -- the trees of the first entry alone hold a whole history
-pub first_whole : (h : List Entry) (entry : Entry) (schema : List Datom) (older : Older) (coverage : Coverage) → h ≡ first_entry ∷ [] → slice_get h 0 ≡ Some entry → SchemaStands schema (entry ∷ []) → HasCoverage coverage schema → older.held ≡ coverage → older.covered ≡ 0 → AreFacts older.roots older.facts
-    → ((order : Order) → IsGrown order coverage [] [] entry.datoms (list_in (trees_of older.roots) order)) → SchemaStands schema h × AreWhole h older
+pub first_whole : (h : List Entry) (entry : Entry) (schema : List Datom) (older : Older) (coverage : Coverage) → h ≡ first_entry ∷ []
+    → slice_get h 0 ≡ Some entry → SchemaStands schema (entry ∷ []) → HasCoverage coverage schema → older.held ≡ coverage
+    → older.covered ≡ 0 → AreFacts older.roots older.facts
+    → ((order : Order) → IsGrown order coverage [] [] entry.datoms (list_in (trees_of older.roots) order))
+    → SchemaStands schema h × AreWhole h older
 first_whole h entry schema older coverage is read stands has held covered now_is grown =
     let one = first_is h entry is read in
     let stands_first : SchemaStands schema (first_entry ∷ []) = subst (λ (e : Entry). SchemaStands schema (e ∷ [])) one stands in (
       subst (SchemaStands schema) (sym is) stands_first,
       subst (λ (l : List Entry). AreWhole l older) (sym is)
-          (whole_first older coverage (coverage_of schema (first_entry ∷ []) coverage stands_first has) held covered now_is (subst (λ (e : Entry). (order : Order) → IsGrown order coverage [] [] e.datoms (list_in (trees_of older.roots) order)) one grown)),
+          (whole_first older coverage (coverage_of schema (first_entry ∷ []) coverage stands_first has) held covered now_is (subst
+          (λ (e : Entry). (order : Order) → IsGrown order coverage [] [] e.datoms (list_in (trees_of older.roots) order)) one grown)),
     )

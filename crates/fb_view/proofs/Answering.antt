@@ -13,7 +13,7 @@ use Rattle.fb_model.specs.History.{said}
 use Rattle.fb_model.specs.Facts.{is_of, value_eq, holds, holder, facts}
 use Rattle.fb_model.specs.Schema.{covers, is_about}
 use Rattle.fb_schema.proofs.Lookups.{covers-described}
-use Rattle.fb_facts.specs.Told.{is_of_entity, is_ref_to, is_under, values_of, facts_of, refs_to, facts_under, facts_in}
+use Rattle.fb_facts.specs.FactLists.{is_of_entity, is_ref_to, is_under, values_of, facts_of, refs_to, facts_under, facts_in}
 use Rattle.seg_tree.specs.Indexes.{tree_in}
 use Rattle.seg_tree.specs.Nodes.{tree_datoms}
 use Rattle.live_index.specs.Halves.{merged}
@@ -22,7 +22,7 @@ use Rattle.live_index.proofs.Halves.{merged_rises, from_merged, into_merged}
 use Rattle.live_index.proofs.Members.{from_filter, into_filter}
 use Rattle.live_index.proofs.Presence.{standing-filter}
 use Rattle.fb_index.specs.Ranges.{is_led, led_to}
-use Rattle.fb_view.specs.Kept.{Kept, Stands}
+use Rattle.fb_view.specs.SnapshotModel.{SnapshotModel, Stands}
 use Rattle.fb_view.specs.Facts.{IsTripleProbe, IsValueProbe, facts_led}
 use Rattle.fb_view.proofs.Probing.{led_entity, led_about, led_triple, led_under, led_indexed, led_valued, led_ref}
 use Rattle.fb_view.proofs.Lasting.{told_is}
@@ -30,11 +30,13 @@ use Rattle.fb_view.proofs.Telling.{pair_stands, was_said, in_one, whole_by, refs
 use Rattle.fb_view.proofs.Present.{present_passing}
 
 -- what a probe leads to, where it leads to what passes and the index holds that
-pub told : (k : Kept) (stands : Stands k) (p : Probe) (passes : Datom → Bool) → ((d : Datom) → is_led p d ≡ passes d) → ((d : Datom) → Contains (said k.entries) d → passes d ≡ true → IsTrue (covers (facts k.entries) p.order d.a))
+pub told : (k : SnapshotModel) (stands : Stands k) (p : Probe) (passes : Datom → Bool) → ((d : Datom) → is_led p d ≡ passes d)
+    → ((d : Datom) → Contains (said k.entries) d → passes d ≡ true → IsTrue (covers (facts k.entries) p.order d.a))
     → ((d x : Datom) → is_of d.e d.a d.v x ≡ true → passes d ≡ true → passes x ≡ true) → facts_led p k ≡ facts_in p.order passes k.entries
 told k stands p passes led covered whole =
     present_passing k stands p.order (is_led p) (λ d there at. covered d (was_said k stands p.order d there) (sym (led d) ∙ at))
-    ∙ sym (standing-filter p.order (is_led p) (merged p.order older live) (merged_rises p.order older live) (λ x y mate at. led y ∙ whole x y mate (sym (led x) ∙ at)))
+    ∙ sym (standing-filter p.order (is_led p) (merged p.order older live) (merged_rises p.order older live)
+    (λ x y mate at. led y ∙ whole x y mate (sym (led x) ∙ at)))
     ∙ told_is k.entries p.order passes (led_to p (merged p.order older live)) record {
       lawful = stands.history.lawful;
       rising = rising-filter p.order (is_led p) (merged p.order older live) (merged_rises p.order older live);
@@ -55,27 +57,37 @@ told k stands p passes led covered whole =
 
     back : (d : Datom) → Contains (said k.entries) d × (passes d ≡ true) → Contains (led_to p (merged p.order older live)) d
     back d is =
-        into_filter (is_led p) (merged p.order older live) d (into_merged p.order older live d (pair_stands k stands p.order).single (in_one k stands p.order d is.0 (covered d is.0 is.1))) (led d ∙ is.1)
+        into_filter (is_led p) (merged p.order older live) d
+        (into_merged p.order older live d (pair_stands k stands p.order).single (in_one k stands p.order d is.0 (covered d is.0 is.1)))
+        (led d ∙ is.1)
 
-module _ (k : Kept) (stands : Stands k) where
+module _ (k : SnapshotModel) (stands : Stands k) where
   abbrev pub led : Probe → List Datom
   led p = facts_led p k
 
   abbrev pub first_led : Value → Probe → Option ℕ
   first_led v p = option_map (λ d. d.e) (find (λ d. value_eq d.v v) (led p))
 
-  pub values_told : (e a : ℕ) → map (λ d. d.v) (led (record { order = Eavt; e = Some e; a = Some a; v = None; t = None })) ≡ values_of k.entries e a
+  pub values_told : (e a : ℕ)
+      → map (λ d. d.v) (led (record { order = Eavt; e = Some e; a = Some a; v = None; t = None })) ≡ values_of k.entries e a
   values_told e a =
-      ap (map (λ d. d.v)) (told k stands (record { order = Eavt; e = Some e; a = Some a; v = None; t = None }) (is_about e a) (led_about e a) (λ d there passes. refl) (whole_by (λ x b w. eqb x e && eqb b a)))
+      ap (map (λ d. d.v)) (told k stands (record { order = Eavt; e = Some e; a = Some a; v = None; t = None }) (is_about e a)
+      (led_about e a) (λ d there passes. refl) (whole_by (λ x b w. eqb x e && eqb b a)))
 
   pub entity_told : (e : ℕ) → led (record { order = Eavt; e = Some e; a = None; v = None; t = None }) ≡ facts_of k.entries e
-  entity_told e = told k stands (record { order = Eavt; e = Some e; a = None; v = None; t = None }) (is_of_entity e) (led_entity e) (λ d there passes. refl) (whole_by (λ x b w. eqb x e))
+  entity_told e =
+      told k stands (record { order = Eavt; e = Some e; a = None; v = None; t = None }) (is_of_entity e) (led_entity e)
+      (λ d there passes. refl) (whole_by (λ x b w. eqb x e))
 
   pub under_told : (a : ℕ) → led (record { order = Aevt; e = None; a = Some a; v = None; t = None }) ≡ facts_under k.entries a
-  under_told a = told k stands (record { order = Aevt; e = None; a = Some a; v = None; t = None }) (is_under a) (led_under a) (λ d there passes. refl) (whole_by (λ x b w. eqb b a))
+  under_told a =
+      told k stands (record { order = Aevt; e = None; a = Some a; v = None; t = None }) (is_under a) (led_under a) (λ d there passes. refl)
+      (whole_by (λ x b w. eqb b a))
 
   pub refs_told : (e : ℕ) → led (record { order = Vaet; e = None; a = None; v = Some (Ref e); t = None }) ≡ refs_to k.entries e
-  refs_told e = told k stands (record { order = Vaet; e = None; a = None; v = Some (Ref e); t = None }) (is_ref_to e) (led_ref e) (refs_covered k.entries e stands.history.lawful) (whole_by (λ x b w. value_eq w (Ref e)))
+  refs_told e =
+      told k stands (record { order = Vaet; e = None; a = None; v = Some (Ref e); t = None }) (is_ref_to e) (led_ref e)
+      (refs_covered k.entries e stands.history.lawful) (whole_by (λ x b w. value_eq w (Ref e)))
 
   -- ---- whether a triple holds
 
@@ -88,20 +100,26 @@ module _ (k : Kept) (stands : Stands k) where
       (eqb-true d.e e both.0, eqb-true d.a a (and_parts (eqb d.a a) (value_eq d.v v) both.1).0)
 
   and_right : (a b c : Bool) → ((a && b) && c) ≡ true → (a && (b && c)) ≡ true
-  and_right a b c is = let outer = and_parts (a && b) c is in let inner = and_parts a b outer.0 in and_from a (b && c) inner.0 (and_from b c inner.1 outer.1)
+  and_right a b c is =
+      let outer = and_parts (a && b) c is in let inner = and_parts a b outer.0 in and_from a (b && c) inner.0 (and_from b c inner.1 outer.1)
 
-  triple_led : (e a : ℕ) (v : Value) → is_some (first_led v (record { order = Eavt; e = Some e; a = Some a; v = Some v; t = None })) ≡ holds k.entries e a v
+  triple_led : (e a : ℕ) (v : Value)
+      → is_some (first_led v (record { order = Eavt; e = Some e; a = Some a; v = Some v; t = None })) ≡ holds k.entries e a v
   triple_led e a v =
       let passes : Datom → Bool = λ d. eqb d.e e && (eqb d.a a && value_eq d.v v) in
       ap (λ (l : List Datom). is_some (option_map (λ d. d.e) (find (λ d. value_eq d.v v) l)))
-      (told k stands (record { order = Eavt; e = Some e; a = Some a; v = Some v; t = None }) passes (led_triple e a v) (λ d there is. refl) (whole_by (λ x b w. eqb x e && (eqb b a && value_eq w v))))
+      (told k stands (record { order = Eavt; e = Some e; a = Some a; v = Some v; t = None }) passes (led_triple e a v) (λ d there is. refl)
+      (whole_by (λ x b w. eqb x e && (eqb b a && value_eq w v))))
       ∙ found_holds k.entries e a v passes (parts_triple e a v) (λ d is. and_right (eqb d.e e) (eqb d.a a) (value_eq d.v v) is)
 
-  about_led : (e a : ℕ) (v : Value) → is_some (first_led v (record { order = Eavt; e = Some e; a = Some a; v = None; t = None })) ≡ holds k.entries e a v
+  about_led : (e a : ℕ) (v : Value)
+      → is_some (first_led v (record { order = Eavt; e = Some e; a = Some a; v = None; t = None })) ≡ holds k.entries e a v
   about_led e a v =
       ap (λ (l : List Datom). is_some (option_map (λ d. d.e) (find (λ d. value_eq d.v v) l)))
-      (told k stands (record { order = Eavt; e = Some e; a = Some a; v = None; t = None }) (is_about e a) (led_about e a) (λ d there is. refl) (whole_by (λ x b w. eqb x e && eqb b a)))
-      ∙ found_holds k.entries e a v (is_about e a) (λ d is. parts_about e a d.e d.a is) (λ d is. (and_parts (eqb d.e e && eqb d.a a) (value_eq d.v v) is).0)
+      (told k stands (record { order = Eavt; e = Some e; a = Some a; v = None; t = None }) (is_about e a) (led_about e a)
+      (λ d there is. refl) (whole_by (λ x b w. eqb x e && eqb b a)))
+      ∙ found_holds k.entries e a v (is_about e a) (λ d is. parts_about e a d.e d.a is)
+      (λ d is. (and_parts (eqb d.e e && eqb d.a a) (value_eq d.v v) is).0)
 
   pub holds_told : (e a : ℕ) (v : Value) (p : Probe) → IsTripleProbe e a v p → is_some (first_led v p) ≡ holds k.entries e a v
   holds_told e a v p is =
@@ -113,24 +131,33 @@ module _ (k : Kept) (stands : Stands k) where
   -- ---- who has a value
 
   covered : (a : ℕ) → IsTrue (covers k.schema Avet a) → (d : Datom) → d.a ≡ a → IsTrue (covers (facts k.entries) Avet d.a)
-  covered a held d same = sym (ap (λ ds. covers ds Avet d.a) stands.schema_is ∙ covers-described (facts k.entries) Avet d.a) ∙ ap (covers k.schema Avet) same ∙ held
+  covered a held d same =
+      sym (ap (λ ds. covers ds Avet d.a) stands.schema_is ∙ covers-described (facts k.entries) Avet d.a)
+      ∙ ap (covers k.schema Avet) same
+      ∙ held
 
-  under_led : (a : ℕ) (v : Value) → first_led v (record { order = Aevt; e = None; a = Some a; v = None; t = None }) ≡ holder (facts k.entries) a v
+  under_led : (a : ℕ) (v : Value)
+      → first_led v (record { order = Aevt; e = None; a = Some a; v = None; t = None }) ≡ holder (facts k.entries) a v
   under_led a v =
       ap (λ (l : List Datom). option_map (λ d. d.e) (find (λ d. value_eq d.v v) l)) (under_told a)
       ∙ found_holder k.entries Aevt a v (is_under a) (λ d is. eqb-true d.a a is) (λ d is. (and_parts (eqb d.a a) (value_eq d.v v) is).0)
 
-  indexed_led : (a : ℕ) (v : Value) → IsTrue (covers k.schema Avet a) → first_led v (record { order = Avet; e = None; a = Some a; v = None; t = None }) ≡ holder (facts k.entries) a v
+  indexed_led : (a : ℕ) (v : Value) → IsTrue (covers k.schema Avet a)
+      → first_led v (record { order = Avet; e = None; a = Some a; v = None; t = None }) ≡ holder (facts k.entries) a v
   indexed_led a v held =
       ap (λ (l : List Datom). option_map (λ d. d.e) (find (λ d. value_eq d.v v) l))
-      (told k stands (record { order = Avet; e = None; a = Some a; v = None; t = None }) (is_under a) (led_indexed a) (λ d there is. covered a held d (eqb-true d.a a is)) (whole_by (λ x b w. eqb b a)))
+      (told k stands (record { order = Avet; e = None; a = Some a; v = None; t = None }) (is_under a) (led_indexed a)
+      (λ d there is. covered a held d (eqb-true d.a a is)) (whole_by (λ x b w. eqb b a)))
       ∙ found_holder k.entries Avet a v (is_under a) (λ d is. eqb-true d.a a is) (λ d is. (and_parts (eqb d.a a) (value_eq d.v v) is).0)
 
-  valued_led : (a : ℕ) (v : Value) → IsTrue (covers k.schema Avet a) → first_led v (record { order = Avet; e = None; a = Some a; v = Some v; t = None }) ≡ holder (facts k.entries) a v
+  valued_led : (a : ℕ) (v : Value) → IsTrue (covers k.schema Avet a)
+      → first_led v (record { order = Avet; e = None; a = Some a; v = Some v; t = None }) ≡ holder (facts k.entries) a v
   valued_led a v held =
       let passes : Datom → Bool = λ d. eqb d.a a && value_eq d.v v in
       ap (λ (l : List Datom). option_map (λ d. d.e) (find (λ d. value_eq d.v v) l))
-      (told k stands (record { order = Avet; e = None; a = Some a; v = Some v; t = None }) passes (led_valued a v) (λ d there is. covered a held d (eqb-true d.a a (and_parts (eqb d.a a) (value_eq d.v v) is).0)) (whole_by (λ x b w. eqb b a && value_eq w v)))
+      (told k stands (record { order = Avet; e = None; a = Some a; v = Some v; t = None }) passes
+      (led_valued a v) (λ d there is. covered a held d (eqb-true d.a a (and_parts (eqb d.a a) (value_eq d.v v) is).0))
+      (whole_by (λ x b w. eqb b a && value_eq w v)))
       ∙ found_holder k.entries Avet a v passes (λ d is. eqb-true d.a a (and_parts (eqb d.a a) (value_eq d.v v) is).0) (λ d is. is)
 
   pub holder_told : (a : ℕ) (v : Value) (p : Probe) → IsValueProbe k.schema a v p → first_led v p ≡ holder (facts k.entries) a v

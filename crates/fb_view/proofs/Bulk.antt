@@ -1,5 +1,6 @@
 -- What a history says behind the entries of the trees, taken in bulk, is what the live lists demand.
-use Rattle.std.proofs.Common.{◌≡◌, ◌∙◌, ℕ, ◌<◌, ◌≤◌, inl, inr, Bool, true, false, not, ◌&&◌, cond, List, [], ◌∷◌, ◌++◌, length, refl, sym, ap, subst, arith, leb, length-append, flat_map}
+use Rattle.std.proofs.Common.{◌≡◌, ◌∙◌, ℕ, ◌<◌, ◌≤◌, inl, inr, Bool, true, false, not, ◌&&◌, cond, List, [], ◌∷◌, ◌++◌, length, refl, sym}
+use Rattle.std.proofs.Common.{ap, subst, arith, leb, length-append, flat_map}
 use Rattle.std.specs.Prelude.{Contains, IsTrue, IsFalse, filter}
 use Rattle.std.proofs.lemmas.Bool.{true≢false, cases_Bool, cases_lt, and_parts, and_from, eqb-true, eq-eqb, le-leb}
 use Rattle.std.proofs.lemmas.List.Elements.{filter-append, Contains-append_left, Contains-append_right, Contains-append_cases}
@@ -10,7 +11,7 @@ use Rattle.fb_values.specs.declared.indexes.Order.TheVariants.{Eavt, Aevt, Avet,
 use Rattle.fb_values.specs.Lists.{Lists, list_in}
 use Rattle.fb_values.proofs.Rising.{rises_from}
 use Rattle.fb_covers.specs.Coverage.{Coverage, covers as held}
-use Rattle.fb_facts.specs.Told.{is_under}
+use Rattle.fb_facts.specs.FactLists.{is_under}
 use Rattle.fb_model.specs.Rising.{IsRisingListOf}
 use Rattle.fb_model.specs.History.{basis, said, upto}
 use Rattle.fb_model.specs.Facts.{facts}
@@ -29,7 +30,7 @@ use Rattle.seg_tree.specs.Nodes.{tree_datoms}
 use Rattle.view_model.specs.Stands.{IsIndexed, IsLive}
 use Rattle.fb_view.specs.declared.growth.Older.{Older}
 use Rattle.fb_view.specs.declared.growth.Recent.{Recent}
-use Rattle.fb_view.specs.Kept.{kept, Stands}
+use Rattle.fb_view.specs.SnapshotModel.{model_snapshot, Stands}
 use Rattle.fb_view.specs.Refills.{HasGained, gained_of}
 use Rattle.fb_view.proofs.Beginnings.{upto-upto}
 use Rattle.fb_view.proofs.Indexes.{stays_held}
@@ -48,7 +49,7 @@ gained_on before mid after attributes more first then a is =
     ]
 
 module _ (h : List Entry) (recent : Recent) (older : Older) (lawful : IsLawful h) (within : older.covered < length h)
-    (was : Stands (kept (upto h older.covered) recent older)) where
+    (was : Stands (model_snapshot (upto h older.covered) recent older)) where
   abbrev c : ℕ
   c = older.covered
 
@@ -230,7 +231,7 @@ module _ (h : List Entry) (recent : Recent) (older : Older) (lawful : IsLawful h
                     let was_held = stays_held h past d lawful was.history.lawful at (early_said h c d lawful at.is_said early) in
                     absurd (true≢false (sym was_held ∙ bare))
 
-        pub replay_stands : Stands (kept h (record { schema = schema; live = live }) older)
+        pub replay_stands : Stands (model_snapshot h (record { schema = schema; live = live }) older)
         replay_stands = record {
           history = record {
             entries_are = refl;

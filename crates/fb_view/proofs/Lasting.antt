@@ -20,7 +20,7 @@ use Rattle.fb_values.proofs.Rising.{rises_from}
 use Rattle.fb_model.specs.History.{said}
 use Rattle.fb_model.specs.Facts.{is_of, standing, facts}
 use Rattle.fb_model.specs.Lawful.{IsLawful}
-use Rattle.fb_facts.specs.Told.{facts_in}
+use Rattle.fb_facts.specs.FactLists.{facts_in}
 use Rattle.fb_facts.proofs.Lists.{facts_in-rising}
 use Rattle.view_model.proofs.Scans.{IsRisingListOf-one}
 use Rattle.live_index.proofs.Together.{standing_last, last_stands, rising_by_time, said_by_time, rising-standing}
@@ -34,7 +34,8 @@ pub record IsOfHistory (h : List Entry) (order : Order) (passes : Datom → Bool
   pub members : (d : Datom) → Contains ds d ↔ (Contains (said h) d × (passes d ≡ true))
   pub whole : (d x : Datom) → is_of d.e d.a d.v x ≡ true → passes d ≡ true → passes x ≡ true
 
-pub told_is : (h : List Entry) (order : Order) (passes : Datom → Bool) (ds : List Datom) → IsOfHistory h order passes ds → standing ds ≡ facts_in order passes h
+pub told_is : (h : List Entry) (order : Order) (passes : Datom → Bool) (ds : List Datom) → IsOfHistory h order passes ds
+    → standing ds ≡ facts_in order passes h
 told_is h order passes ds is =
     IsRisingListOf-one order (λ d. Contains (facts h) d × (passes d ≡ true)) (standing ds) (facts_in order passes h)
     (record { rising = rises_from order (standing ds) (rising-standing order ds is.rising); members = λ d. (forth d, back d) })

@@ -8,7 +8,8 @@ use Rattle.std.specs.List.{slice_get}
 pub take-next : {X : Type 0} (xs : List X) (i : ℕ) (x : X) → slice_get xs i ≡ Some x → take (i + 1) xs ≡ take i xs ++ x ∷ []
 take-next [] i x read = absurd (cc)
 take-next (y ∷ xs) zero x read = let same : y ≡ x = cc in ap (λ z. z ∷ []) same
-take-next (y ∷ xs) (suc i) x read = let one : suc i + 1 ≡ suc (i + 1) = omega arith in rw one (ap (λ rest. y ∷ rest) (take-next xs i x read))
+take-next (y ∷ xs) (suc i) x read =
+    let one : suc i + 1 ≡ suc (i + 1) = omega arith in rw one (ap (λ rest. y ∷ rest) (take-next xs i x read))
 
 -- a list has something at each place before its end
 pub there_is : {X : Type 0} (xs : List X) (i : ℕ) → i < length xs → slice_get xs i ≡ None → ⊥
@@ -19,7 +20,8 @@ there_is (x ∷ xs) (suc i) within none = there_is xs i (omega (arith, within)) 
 behind_first : {X : Type 0} (x y : X) (xs : List X) (n : ℕ) → slice_get (x ∷ y ∷ xs) (suc (suc n) - 1) ≡ slice_get (y ∷ xs) (suc n - 1)
 behind_first x y xs n = let one : suc (suc n) - 1 ≡ suc n = omega arith in let less : suc n - 1 ≡ n = omega arith in rw (one, less) refl
 
-fold_last : (start : ℤ) (h : List Entry) (entry : Entry) → slice_get h (length h - 1) ≡ Some entry → fold (λ _ e. e.instant) start h ≡ entry.instant
+fold_last : (start : ℤ) (h : List Entry) (entry : Entry) → slice_get h (length h - 1) ≡ Some entry
+    → fold (λ _ e. e.instant) start h ≡ entry.instant
 fold_last start [] entry read = absurd (cc)
 fold_last start (x ∷ []) entry read = let same : x ≡ entry = cc in ap (λ (e : Entry). e.instant) same
 fold_last start (x ∷ y ∷ h) entry read = fold_last x.instant (y ∷ h) entry (sym (behind_first x y h (length h)) ∙ read)

@@ -28,7 +28,7 @@ use Rattle.live_index.proofs.Presence as presence
 use Rattle.live_index.proofs.Together.{last_stands, rising-standing, rising_by_time, said_by_time, standing_last}
 use Rattle.fb_index.specs.Sides.{AreBeside, whole}
 use Rattle.fb_index.specs.declared.sides.Extent.TheVariants.{Said, Held}
-use Rattle.fb_view.specs.Kept.{Kept, Stands}
+use Rattle.fb_view.specs.SnapshotModel.{SnapshotModel, Stands}
 use Rattle.fb_view.proofs.Beginnings.{upto_lawful}
 use Rattle.fb_view.proofs.Ended.{ended}
 use Rattle.fb_view.proofs.Indexes.{only_held}
@@ -44,7 +44,7 @@ filter_true : (ds : List Datom) → filter (λ d. true) ds ≡ ds
 filter_true [] = refl
 filter_true (d ∷ ds) = ap (λ rest. d ∷ rest) (filter_true ds)
 
-module _ (k : Kept) (stands : Stands k) (order : Order) where
+module _ (k : SnapshotModel) (stands : Stands k) (order : Order) where
   abbrev older : List Datom
   older = tree_datoms (tree_in k.roots order)
 
@@ -225,7 +225,7 @@ module _ (k : Kept) (stands : Stands k) (order : Order) where
   said_beside_order = record { rises = pair.older_rises; pair = pair; later = later_eavt }
 
 -- in each order but AVET that is all that stands
-pub present_is : (k : Kept) (order : Order) → Stands k → (order ≡ Avet → ⊥)
+pub present_is : (k : SnapshotModel) (order : Order) → Stands k → (order ≡ Avet → ⊥)
     → whole Held order (tree_datoms (tree_in k.now order)) k.live
     ≡ standing (merged order (tree_datoms (tree_in k.roots order)) (list_in k.live order))
 present_is k order stands other =
@@ -235,8 +235,8 @@ present_is k order stands other =
 
 -- ---- what it takes to read the two lists as one
 
-pub held_beside : (k : Kept) → Stands k → (order : Order) → AreBeside Held order (tree_datoms (tree_in k.now order)) k.live
+pub held_beside : (k : SnapshotModel) → Stands k → (order : Order) → AreBeside Held order (tree_datoms (tree_in k.now order)) k.live
 held_beside k stands order = held_beside_order k stands order
 
-pub said_beside : (k : Kept) → Stands k → (order : Order) → AreBeside Said order (tree_datoms (tree_in k.roots order)) k.live
+pub said_beside : (k : SnapshotModel) → Stands k → (order : Order) → AreBeside Said order (tree_datoms (tree_in k.roots order)) k.live
 said_beside k stands order = said_beside_order k stands order

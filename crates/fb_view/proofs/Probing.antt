@@ -44,8 +44,11 @@ one k d = is_eq-last (value_cmp k d)
 two : (k l d f : Value) → is_eq (slice_cmp value_cmp (k ∷ l ∷ []) (d ∷ f ∷ [])) ≡ (is_eq (value_cmp k d) && is_eq (value_cmp l f))
 two k l d f = is_eq-then (value_cmp k d) (slice_cmp value_cmp (l ∷ []) (f ∷ [])) ∙ ap (λ b. is_eq (value_cmp k d) && b) (one l f)
 
-three : (k l m d f g : Value) → is_eq (slice_cmp value_cmp (k ∷ l ∷ m ∷ []) (d ∷ f ∷ g ∷ [])) ≡ (is_eq (value_cmp k d) && (is_eq (value_cmp l f) && is_eq (value_cmp m g)))
-three k l m d f g = is_eq-then (value_cmp k d) (slice_cmp value_cmp (l ∷ m ∷ []) (f ∷ g ∷ [])) ∙ ap (λ b. is_eq (value_cmp k d) && b) (two l m f g)
+three : (k l m d f g : Value)
+    → is_eq (slice_cmp value_cmp (k ∷ l ∷ m ∷ []) (d ∷ f ∷ g ∷ []))
+    ≡ (is_eq (value_cmp k d) && (is_eq (value_cmp l f) && is_eq (value_cmp m g)))
+three k l m d f g =
+    is_eq-then (value_cmp k d) (slice_cmp value_cmp (l ∷ m ∷ []) (f ∷ g ∷ [])) ∙ ap (λ b. is_eq (value_cmp k d) && b) (two l m f g)
 
 number : (m n : ℕ) → is_eq (value_cmp (Ref m) (Ref n)) ≡ eqb n m
 number m n = is_eq-nat_cmp m n
@@ -53,10 +56,15 @@ number m n = is_eq-nat_cmp m n
 pub led_entity : (e : ℕ) (d : Datom) → is_led (record { order = Eavt; e = Some e; a = None; v = None; t = None }) d ≡ eqb d.e e
 led_entity e d = one (Ref e) (Ref d.e) ∙ number e d.e
 
-pub led_about : (e a : ℕ) (d : Datom) → is_led (record { order = Eavt; e = Some e; a = Some a; v = None; t = None }) d ≡ (eqb d.e e && eqb d.a a)
-led_about e a d = two (Ref e) (Ref a) (Ref d.e) (Ref d.a) ∙ ap (λ b. b && is_eq (value_cmp (Ref a) (Ref d.a))) (number e d.e) ∙ ap (λ b. eqb d.e e && b) (number a d.a)
+pub led_about : (e a : ℕ) (d : Datom)
+    → is_led (record { order = Eavt; e = Some e; a = Some a; v = None; t = None }) d ≡ (eqb d.e e && eqb d.a a)
+led_about e a d =
+    two (Ref e) (Ref a) (Ref d.e) (Ref d.a)
+    ∙ ap (λ b. b && is_eq (value_cmp (Ref a) (Ref d.a))) (number e d.e)
+    ∙ ap (λ b. eqb d.e e && b) (number a d.a)
 
-pub led_triple : (e a : ℕ) (v : Value) (d : Datom) → is_led (record { order = Eavt; e = Some e; a = Some a; v = Some v; t = None }) d ≡ (eqb d.e e && (eqb d.a a && value_eq d.v v))
+pub led_triple : (e a : ℕ) (v : Value) (d : Datom)
+    → is_led (record { order = Eavt; e = Some e; a = Some a; v = Some v; t = None }) d ≡ (eqb d.e e && (eqb d.a a && value_eq d.v v))
 led_triple e a v d =
     three (Ref e) (Ref a) v (Ref d.e) (Ref d.a) d.v
     ∙ ap (λ b. b && (is_eq (value_cmp (Ref a) (Ref d.a)) && is_eq (value_cmp v d.v))) (number e d.e)
@@ -69,18 +77,25 @@ led_under a d = one (Ref a) (Ref d.a) ∙ number a d.a
 pub led_indexed : (a : ℕ) (d : Datom) → is_led (record { order = Avet; e = None; a = Some a; v = None; t = None }) d ≡ eqb d.a a
 led_indexed a d = one (Ref a) (Ref d.a) ∙ number a d.a
 
-pub led_valued : (a : ℕ) (v : Value) (d : Datom) → is_led (record { order = Avet; e = None; a = Some a; v = Some v; t = None }) d ≡ (eqb d.a a && value_eq d.v v)
-led_valued a v d = two (Ref a) v (Ref d.a) d.v ∙ ap (λ b. b && is_eq (value_cmp v d.v)) (number a d.a) ∙ ap (λ b. eqb d.a a && b) (value_eq-sym v d.v)
+pub led_valued : (a : ℕ) (v : Value) (d : Datom)
+    → is_led (record { order = Avet; e = None; a = Some a; v = Some v; t = None }) d ≡ (eqb d.a a && value_eq d.v v)
+led_valued a v d =
+    two (Ref a) v (Ref d.a) d.v ∙ ap (λ b. b && is_eq (value_cmp v d.v)) (number a d.a) ∙ ap (λ b. eqb d.a a && b) (value_eq-sym v d.v)
 
-pub led_ref : (e : ℕ) (d : Datom) → is_led (record { order = Vaet; e = None; a = None; v = Some (Ref e); t = None }) d ≡ value_eq d.v (Ref e)
+pub led_ref : (e : ℕ) (d : Datom)
+    → is_led (record { order = Vaet; e = None; a = None; v = Some (Ref e); t = None }) d ≡ value_eq d.v (Ref e)
 led_ref e d = one (Ref e) d.v ∙ value_eq-sym (Ref e) d.v
 
 -- ---- the probes by which a value is looked for
 
-pub triple_probe_is : (e a : ℕ) (v : Value) (given : Option Value) → IfSome given (λ copy. copy ≡ v) → IsTripleProbe e a v (record { order = Eavt; e = Some e; a = Some a; v = given; t = None })
+pub triple_probe_is : (e a : ℕ) (v : Value) (given : Option Value) → IfSome given (λ copy. copy ≡ v)
+    → IsTripleProbe e a v (record { order = Eavt; e = Some e; a = Some a; v = given; t = None })
 triple_probe_is e a v None is = inr refl
-triple_probe_is e a v (Some copy) is = inl (ap (λ (w : Value). let p : Probe = record { order = Eavt; e = Some e; a = Some a; v = Some w; t = None } in p) is)
+triple_probe_is e a v (Some copy) is =
+    inl (ap (λ (w : Value). let p : Probe = record { order = Eavt; e = Some e; a = Some a; v = Some w; t = None } in p) is)
 
-pub value_probe_is : (facts : List Datom) (a : ℕ) (v : Value) (given : Option Value) → covers facts Avet a ≡ true → IfSome given (λ copy. copy ≡ v) → IsValueProbe facts a v (record { order = Avet; e = None; a = Some a; v = given; t = None })
+pub value_probe_is : (facts : List Datom) (a : ℕ) (v : Value) (given : Option Value) → covers facts Avet a ≡ true
+    → IfSome given (λ copy. copy ≡ v) → IsValueProbe facts a v (record { order = Avet; e = None; a = Some a; v = given; t = None })
 value_probe_is facts a v None held is = inr (held, inr refl)
-value_probe_is facts a v (Some copy) held is = inr (held, inl (ap (λ (w : Value). let p : Probe = record { order = Avet; e = None; a = Some a; v = Some w; t = None } in p) is))
+value_probe_is facts a v (Some copy) held is =
+    inr (held, inl (ap (λ (w : Value). let p : Probe = record { order = Avet; e = None; a = Some a; v = Some w; t = None } in p) is))

@@ -1,5 +1,6 @@
 -- What AVET is refilled with is what an entry's lists demand.
-use Rattle.std.proofs.Common.{◌≡◌, ◌∙◌, ℕ, ◌+◌, ◌<◌, ◌≤◌, ◌⊎◌, inl, inr, Bool, true, false, not, ◌&&◌, cond, List, [], ◌∷◌, ◌++◌, refl, sym, ap, subst, arith, eqb, flat_map, get_or}
+use Rattle.std.proofs.Common.{◌≡◌, ◌∙◌, ℕ, ◌+◌, ◌<◌, ◌≤◌, ◌⊎◌, inl, inr, Bool, true, false, not, ◌&&◌, cond, List, [], ◌∷◌, ◌++◌, refl, sym}
+use Rattle.std.proofs.Common.{ap, subst, arith, flat_map, get_or}
 use Rattle.std.specs.Prelude.{◌↔◌, Contains, IsTrue, IsFalse, filter}
 use Rattle.std.specs.Cmp.{tied_itself}
 use Rattle.std.specs.Cmp.Lexicographic.{slice_cmp, lists_total}
@@ -13,37 +14,32 @@ use Rattle.fb_values.specs.declared.indexes.Order.TheVariants.{Eavt, Aevt, Avet}
 use Rattle.fb_values.specs.Orders.{key_of, value_cmp}
 use Rattle.fb_values.specs.OrderLaws.{value_cmp_total}
 use Rattle.fb_covers.specs.Coverage.{Coverage, covers as held}
-use Rattle.fb_values.specs.Lists.{Lists, list_in}
-use Rattle.fb_model.specs.History.{basis, said, upto}
-use Rattle.fb_model.specs.Facts.{facts, holds, is_of, standing}
+use Rattle.fb_values.specs.Lists.{list_in}
+use Rattle.fb_model.specs.History.{said}
+use Rattle.fb_model.specs.Facts.{facts}
 use Rattle.fb_model.specs.Schema.{covers}
 use Rattle.fb_model.specs.Lawful.{IsLawful}
-use Rattle.fb_model.proofs.Members.{any_member, member_passes}
 use Rattle.fb_model.proofs.OneMoreEntry.{said-push}
-use Rattle.fb_model.proofs.Times.{own_t, same_keys, one_for_each_key}
-use Rattle.fb_model.proofs.Triples.{holds-facts, is_of-true}
+use Rattle.fb_model.proofs.Times.{same_keys, one_for_each_key}
 use Rattle.view_model.specs.Stands.{IsLive}
 use Rattle.seg_tree.specs.Nodes.{tree_datoms}
-use Rattle.fb_facts.specs.Told.{is_under}
+use Rattle.fb_facts.specs.FactLists.{is_under}
 use Rattle.std.specs.List.{All, list_any}
 use Rattle.std.proofs.lemmas.List.{get_or_default}
 use Rattle.fb_schema.specs.Described.{SchemaStands, describes}
 use Rattle.fb_schema.proofs.Described.{described-same}
 use Rattle.fb_schema.specs.Tables.{HasCoverage}
 use Rattle.fb_schema.proofs.Lookups.{covers-described}
-use Rattle.live_index.specs.Growth.{HasNoTwins, IsGrown, is_held}
-use Rattle.live_index.specs.Halves.{MayFollow}
+use Rattle.live_index.specs.Growth.{HasNoTwins, is_held}
 use Rattle.live_index.specs.Standing.{IsCoverageOf, IsDemanded, IsNext}
-use Rattle.live_index.proofs.Growing.{single_part}
-use Rattle.live_index.proofs.Together.{last_stands, rising_by_time, said_by_time, standing_last}
 use Rattle.live_index.proofs.Members.{from_filter, into_filter, contains-cons, contains_head, contains_tail, contains_none}
 use Rattle.fb_view.specs.declared.growth.Older.{Older}
 use Rattle.fb_view.specs.declared.growth.Recent.{Recent}
-use Rattle.fb_view.specs.Kept.{Follows}
+use Rattle.fb_view.specs.SnapshotModel.{Follows}
 use Rattle.fb_view.specs.Refills.{missed, all_missed, AreGained}
 use Rattle.fb_values.specs.Rising.{IsRising}
 use Rattle.fb_values.proofs.Rising.{rises_from}
-use Rattle.fb_view.proofs.Standing.{said_early, early_said, coverage_of, same_past, not_later}
+use Rattle.fb_view.proofs.Standing.{said_early, early_said, coverage_of, same_past}
 
 -- ---- members of many lists
 
@@ -71,7 +67,8 @@ and_false true e = absurd (true≢false (sym e))
 pub no_twins_of : (h : List Entry) → IsLawful h → (ds : List Datom) → ((d : Datom) → Contains ds d → Contains (said h) d) → HasNoTwins ds
 no_twins_of h lawful ds each x y in_x in_y at =
     (one_for_each_key h lawful).same x y (each x in_x) (each y in_y)
-    (subst (λ key. slice_cmp value_cmp (key_of Eavt x) key ≡ Equal) (same_keys Eavt x y at) (tied_itself (lists_total value_cmp_total) (key_of Eavt x)))
+    (subst (λ key. slice_cmp value_cmp (key_of Eavt x) key ≡ Equal) (same_keys Eavt x y at)
+    (tied_itself (lists_total value_cmp_total) (key_of Eavt x)))
 
 -- ---- what the lists in AEVT have
 
@@ -82,25 +79,34 @@ module _ (h : List Entry) (recent : Recent) (older : Older) (entry : Entry) (fol
       (is.0.is_said, elim is.1 [ inl later ↦ later | inr bare ↦ absurd (true≢false bare) ])
 
   said_live : (d : Datom) → Contains (said h) d → older.covered < d.t → Contains recent.live.aevt d
-  said_live d there later = ((follows.stands.history.live_stands Aevt).members d).1 (record { is_said = there; is_covered = refl }, inl later)
+  said_live d there later =
+      ((follows.stands.history.live_stands Aevt).members d).1 (record { is_said = there; is_covered = refl }, inl later)
 
   tree_said : (d : Datom) → Contains (tree_datoms older.roots.aevt) d → Contains (said h) d × (d.t ≤ older.covered)
-  tree_said d there = said_early h older.covered d follows.stands.history.lawful (((follows.stands.history.roots_stand.trees Aevt).members d).0 there).is_said
+  tree_said d there =
+      said_early h older.covered d follows.stands.history.lawful
+      (((follows.stands.history.roots_stand.trees Aevt).members d).0 there).is_said
 
   said_tree : (d : Datom) → Contains (said h) d → d.t ≤ older.covered → Contains (tree_datoms older.roots.aevt) d
-  said_tree d there early = ((follows.stands.history.roots_stand.trees Aevt).members d).1 (record { is_said = early_said h older.covered d follows.stands.history.lawful there early; is_covered = refl })
+  said_tree d there early =
+      ((follows.stands.history.roots_stand.trees Aevt).members d).1
+      (record { is_said = early_said h older.covered d follows.stands.history.lawful there early; is_covered = refl })
 
   -- a missed datom is one of the history, of the attribute, and later than the trees or of an attribute that they do not hold
-  missed_parts : (a : ℕ) (d : Datom) → Contains (missed recent older a) d → Contains (said h) d × (d.a ≡ a) × ((older.covered < d.t) ⊎ (held older.held Avet d.a ≡ false))
+  missed_parts : (a : ℕ) (d : Datom) → Contains (missed recent older a) d
+      → Contains (said h) d × (d.a ≡ a) × ((older.covered < d.t) ⊎ (held older.held Avet d.a ≡ false))
   missed_parts a d there =
-      elim (Contains-append_cases (filter (is_under a) recent.live.aevt) (cond (held older.held Avet a) [] (filter (is_under a) (tree_datoms older.roots.aevt))) d there) [
+      elim (Contains-append_cases (filter (is_under a) recent.live.aevt)
+      (cond (held older.held Avet a) [] (filter (is_under a) (tree_datoms older.roots.aevt))) d there) [
         | inl live ↦
             let at = from_filter (is_under a) recent.live.aevt d live in
             let is = live_said d at.0 in
             (is.0, eqb-true d.a a at.1, inl is.1)
         | inr tree ↦
             elim (cases_Bool (held older.held Avet a)) [
-              | inl has ↦ let P : Bool → Type 0 = λ b. Contains (cond b [] (filter (is_under a) (tree_datoms older.roots.aevt))) d in absurd (contains_none d (subst P has tree))
+              | inl has ↦
+                  let P : Bool → Type 0 = λ b. Contains (cond b [] (filter (is_under a) (tree_datoms older.roots.aevt))) d in
+                  absurd (contains_none d (subst P has tree))
               | inr bare ↦
                   let P : Bool → Type 0 = λ b. Contains (cond b [] (filter (is_under a) (tree_datoms older.roots.aevt))) d in
                   let at = from_filter (is_under a) (tree_datoms older.roots.aevt) d (subst P bare tree) in
@@ -109,19 +115,23 @@ module _ (h : List Entry) (recent : Recent) (older : Older) (entry : Entry) (fol
             ]
       ]
 
-  is_missed : (d : Datom) → Contains (said h) d → (older.covered < d.t) ⊎ (held older.held Avet d.a ≡ false) → Contains (missed recent older d.a) d
+  is_missed : (d : Datom) → Contains (said h) d → (older.covered < d.t) ⊎ (held older.held Avet d.a ≡ false)
+      → Contains (missed recent older d.a) d
   is_missed d there why =
       elim (cases_lt older.covered d.t) [
         | inl later ↦
-            Contains-append_left (filter (is_under d.a) recent.live.aevt) (cond (held older.held Avet d.a) [] (filter (is_under d.a) (tree_datoms older.roots.aevt))) d
+            Contains-append_left (filter (is_under d.a) recent.live.aevt)
+            (cond (held older.held Avet d.a) [] (filter (is_under d.a) (tree_datoms older.roots.aevt))) d
             (into_filter (is_under d.a) recent.live.aevt d (said_live d there later) (eq-eqb d.a d.a refl))
         | inr early ↦
             elim why [
               | inl later ↦ absurd (omega (arith, later, early))
               | inr bare ↦
                   let P : Bool → Type 0 = λ b. Contains (cond b [] (filter (is_under d.a) (tree_datoms older.roots.aevt))) d in
-                  Contains-append_right (filter (is_under d.a) recent.live.aevt) (cond (held older.held Avet d.a) [] (filter (is_under d.a) (tree_datoms older.roots.aevt))) d
-                  (subst P (sym bare) (into_filter (is_under d.a) (tree_datoms older.roots.aevt) d (said_tree d there early) (eq-eqb d.a d.a refl)))
+                  Contains-append_right (filter (is_under d.a) recent.live.aevt)
+                  (cond (held older.held Avet d.a) [] (filter (is_under d.a) (tree_datoms older.roots.aevt))) d
+                  (subst P (sym bare)
+                  (into_filter (is_under d.a) (tree_datoms older.roots.aevt) d (said_tree d there early) (eq-eqb d.a d.a refl)))
             ]
       ]
 
@@ -131,7 +141,8 @@ module _ (h : List Entry) (recent : Recent) (older : Older) (entry : Entry) (fol
       was_said : (d : Datom) → Contains (all_missed recent older attributes) d → Contains (said h) d
       was_said d there = let at = from_many (missed recent older) attributes d there in (missed_parts at.0 d at.1.1).0
 
-  module _ (after_schema : List Datom) (schema_after : SchemaStands after_schema (h ++ entry ∷ [])) (attributes : List ℕ) (gained : AreGained recent.schema after_schema attributes) where
+  module _ (after_schema : List Datom) (schema_after : SchemaStands after_schema (h ++ entry ∷ [])) (attributes : List ℕ)
+      (gained : AreGained recent.schema after_schema attributes) where
     abbrev after : List Entry
     after = h ++ entry ∷ []
 
@@ -156,14 +167,18 @@ module _ (h : List Entry) (recent : Recent) (older : Older) (entry : Entry) (fol
     why_after d live =
         elim live [
           | inl later ↦ inl later
-          | inr bare ↦ inr (follows.stands.held_is Avet d.a ∙ ap (λ (past : List Entry). covers (facts past) Avet d.a) (sym (same_past h recent older entry follows)) ∙ bare)
+          | inr bare ↦
+              inr (follows.stands.held_is Avet d.a
+              ∙ ap (λ (past : List Entry). covers (facts past) Avet d.a) (sym (same_past h recent older entry follows)) ∙ bare)
         ]
 
     live_after : (d : Datom) → (older.covered < d.t) ⊎ (held older.held Avet d.a ≡ false) → IsLive after older.covered Avet d
     live_after d why =
         elim why [
           | inl later ↦ inl later
-          | inr bare ↦ inr (ap (λ (past : List Entry). covers (facts past) Avet d.a) (same_past h recent older entry follows) ∙ sym (follows.stands.held_is Avet d.a) ∙ bare)
+          | inr bare ↦
+              inr (ap (λ (past : List Entry). covers (facts past) Avet d.a) (same_past h recent older entry follows)
+              ∙ sym (follows.stands.held_is Avet d.a) ∙ bare)
         ]
 
     live_before : (d : Datom) → (older.covered < d.t) ⊎ (held older.held Avet d.a ≡ false) → IsLive h older.covered Avet d
@@ -174,25 +189,33 @@ module _ (h : List Entry) (recent : Recent) (older : Older) (entry : Entry) (fol
         ]
 
     said_on : (d : Datom) → Contains (said h) d → Contains (said after) d
-    said_on d there = subst (λ (ds : List Datom). Contains ds d) (sym (said-push h entry)) (Contains-append_left (said h) entry.datoms d there)
+    said_on d there =
+        subst (λ (ds : List Datom). Contains ds d) (sym (said-push h entry)) (Contains-append_left (said h) entry.datoms d there)
 
-    forth : (d : Datom) → Contains (all_missed recent older attributes) d → Contains (said h) d × IsDemanded after older.covered Avet d × (IsDemanded h older.covered Avet d → ⊥)
+    forth : (d : Datom) → Contains (all_missed recent older attributes) d
+        → Contains (said h) d × IsDemanded after older.covered Avet d × (IsDemanded h older.covered Avet d → ⊥)
     forth d there =
         let at = from_many (missed recent older) attributes d there in
         let is = missed_parts at.0 d at.1.1 in
-        let turned = gained_parts d.a (subst (Contains attributes) (sym is.1) at.1.0) in
-        (is.0, (record { is_said = said_on d is.0; is_covered = turned.0 }, live_after d is.2), λ demanded. true≢false (sym demanded.0.is_covered ∙ turned.1))
+        let turned = gained_parts d.a (subst (Contains attributes) (sym is.1) at.1.0) in (
+          is.0,
+          (record { is_said = said_on d is.0; is_covered = turned.0 }, live_after d is.2),
+          λ demanded. true≢false (sym demanded.0.is_covered ∙ turned.1),
+        )
 
-    back : (d : Datom) → Contains (said h) d → IsDemanded after older.covered Avet d → (IsDemanded h older.covered Avet d → ⊥) → Contains (all_missed recent older attributes) d
+    back : (d : Datom) → Contains (said h) d → IsDemanded after older.covered Avet d → (IsDemanded h older.covered Avet d → ⊥)
+        → Contains (all_missed recent older attributes) d
     back d there now before =
         let why = why_after d now.1 in
         elim (cases_Bool (covers (facts h) Avet d.a)) [
           | inl was ↦ absurd (before (record { is_said = there; is_covered = was }, live_before d why))
-          | inr was_not ↦ into_many (missed recent older) attributes d.a d (is_gained_now d.a now.0.is_covered was_not) (is_missed d there why)
+          | inr was_not ↦
+              into_many (missed recent older) attributes d.a d (is_gained_now d.a now.0.is_covered was_not) (is_missed d there why)
         ]
 
     pub refills : (coverage : Coverage) (refill : List Datom) → HasCoverage coverage after_schema → IsRising Avet refill
-        → ((d : Datom) → Contains refill d ↔ (Contains (all_missed recent older attributes) d × IsTrue (is_held coverage Avet d))) → IsNext h older.covered entry coverage refill
+        → ((d : Datom) → Contains refill d ↔ (Contains (all_missed recent older attributes) d × IsTrue (is_held coverage Avet d)))
+        → IsNext h older.covered entry coverage refill
     refills coverage refill has rising members = record {
       lawful = follows.stands.history.lawful;
       bound = follows.stands.history.roots_stand.bound;
@@ -212,14 +235,18 @@ module _ (h : List Entry) (recent : Recent) (older : Older) (entry : Entry) (fol
 
 -- ---- an entry that says nothing of the schema
 
-same_schema : (h : List Entry) (entry : Entry) (before now : List Datom) → list_any describes entry.datoms ≡ false → SchemaStands before h → SchemaStands now (h ++ entry ∷ []) → now ≡ before
+same_schema : (h : List Entry) (entry : Entry) (before now : List Datom) → list_any describes entry.datoms ≡ false → SchemaStands before h
+    → SchemaStands now (h ++ entry ∷ []) → now ≡ before
 same_schema h entry before now none stands stands_after = stands_after ∙ described-same h entry none ∙ sym stands
 
-module _ (h : List Entry) (recent : Recent) (older : Older) (entry : Entry) (follows : Follows h recent older entry) (after : List Datom) (schema_after : SchemaStands after (h ++ entry ∷ [])) (none : list_any describes entry.datoms ≡ false)
+module _ (h : List Entry) (recent : Recent) (older : Older) (entry : Entry) (follows : Follows h recent older entry) (after : List Datom)
+    (schema_after : SchemaStands after (h ++ entry ∷ [])) (none : list_any describes entry.datoms ≡ false)
     (coverage : Coverage) (has : HasCoverage coverage after) where
   none_gained : AreGained recent.schema after []
   none_gained a = (
-    λ is. absurd (never (covers recent.schema Avet a) (subst (λ (ds : List Datom). (covers ds Avet a && not (covers recent.schema Avet a)) ≡ true) (same_schema h entry recent.schema after none follows.stands.schema_is schema_after) is)),
+    λ is. absurd
+        (never (covers recent.schema Avet a) (subst (λ (ds : List Datom). (covers ds Avet a && not (covers recent.schema Avet a)) ≡ true)
+        (same_schema h entry recent.schema after none follows.stands.schema_is schema_after) is)),
     λ there. absurd (contains_none a there),
   )
     where
@@ -229,121 +256,23 @@ module _ (h : List Entry) (recent : Recent) (older : Older) (entry : Entry) (fol
 
   -- lets AVET gain nothing
   pub nothing_refills : IsNext h older.covered entry coverage []
-  nothing_refills = refills h recent older entry follows after schema_after [] none_gained coverage [] has tt (λ d. (λ there. absurd (contains_none d there), λ is. is.0))
+  nothing_refills =
+      refills h recent older entry follows after schema_after [] none_gained coverage [] has tt
+      (λ d. (λ there. absurd (contains_none d there), λ is. is.0))
 
   -- and the indexes hold what they held
   pub coverage_stays : IsCoverageOf coverage (facts h)
-  coverage_stays = coverage_of recent.schema h coverage follows.stands.schema_is (subst (HasCoverage coverage) (same_schema h entry recent.schema after none follows.stands.schema_is schema_after) has)
+  coverage_stays =
+      coverage_of recent.schema h coverage follows.stands.schema_is
+      (subst (HasCoverage coverage) (same_schema h entry recent.schema after none follows.stands.schema_is schema_after) has)
 
 -- ---- live lists and what refills them
 
 -- the lists have only what the indexes hold
-pub lists_held : (h : List Entry) (recent : Recent) (older : Older) (entry : Entry) → Follows h recent older entry → (coverage : Coverage) → IsCoverageOf coverage (facts h) → (order : Order) → All (λ d. IsTrue (is_held coverage order d)) (list_in recent.live order)
+pub lists_held : (h : List Entry) (recent : Recent) (older : Older) (entry : Entry) → Follows h recent older entry → (coverage : Coverage)
+    → IsCoverageOf coverage (facts h) → (order : Order) → All (λ d. IsTrue (is_held coverage order d)) (list_in recent.live order)
 lists_held h recent older entry follows coverage covered order k d within =
     let list = list_in recent.live order in
     covered order (get_or list k d).a
-    ∙ (((follows.stands.history.live_stands order).members (get_or list k d)).0 (k, within, get_or_default list k (get_or list k d) d within)).0.is_covered
-
-module _ (h : List Entry) (recent : Recent) (older : Older) (entry : Entry) (follows : Follows h recent older entry) (coverage : Coverage) (refill : List Datom) (is : IsNext h older.covered entry coverage refill)
-    (single : (order : Order) → HasNoTwins (list_in recent.live order ++ refill ++ entry.datoms)) (may : (order : Order) → MayFollow (list_in recent.live order) entry.datoms)
-    (filled : Lists) (grown : (order : Order) → IsGrown order coverage (list_in recent.live order) refill [] (list_in filled order)) where
-  abbrev IsFilled : Order → Datom → Type 0
-  IsFilled order d = Contains (list_in recent.live order) d ⊎ ((order ≡ Avet) × Contains refill d)
-
-  from_filled : (order : Order) (d : Datom) → Contains (list_in filled order) d → IsFilled order d × IsTrue (is_held coverage order d)
-  from_filled order d there =
-      let m = ((grown order).members d).0 there in (
-        elim m.0 [
-          | inl before ↦ before
-          | inr none ↦ absurd (contains_none d none)
-        ],
-        m.1,
-      )
-
-  filled_said : (order : Order) (d : Datom) → IsFilled order d → Contains (said h) d
-  filled_said order d there = elim there [
-    | inl before ↦ (((follows.stands.history.live_stands order).members d).0 before).0.is_said
-    | inr filler ↦ ((is.refill_is.members d).0 filler.1).0
-  ]
-
-  -- with a datom the later ones of its triple are there
-  module _ (x y : Datom) (y_in : Contains (said h) y) (mate : is_of x.e x.a x.v y ≡ true) (later : x.t < y.t) where
-    same_a : x.a ≡ y.a
-    same_a = sym (is_of-true x.e x.a x.v y mate).a_is
-
-    live_too : (g : List Entry) (order : Order) → IsLive g older.covered order x → IsLive g older.covered order y
-    live_too g order live = elim live [
-      | inl late ↦ inl (omega (arith, late, later))
-      | inr bare ↦ inr (subst (λ (a : ℕ). IsFalse (covers (facts (upto g older.covered)) order a)) same_a bare)
-    ]
-
-    covered_too : (g : List Entry) (order : Order) → IsTrue (covers (facts g) order x.a) → IsTrue (covers (facts g) order y.a)
-    covered_too g order = subst (λ (a : ℕ). IsTrue (covers (facts g) order a)) same_a
-
-    was_live : IsLive (h ++ entry ∷ []) older.covered Avet x → IsLive h older.covered Avet x
-    was_live = subst (λ (past : List Entry). (older.covered < x.t) ⊎ IsFalse (covers (facts past) Avet x.a)) (same_past h recent older entry follows)
-
-    refill_too : Contains refill x → Contains refill y
-    refill_too there =
-        let m = (is.refill_is.members x).0 there in
-        let said_now = subst (λ (ds : List Datom). Contains ds y) (sym (said-push h entry)) (Contains-append_left (said h) entry.datoms y y_in) in
-        (is.refill_is.members y).1 (
-          y_in,
-          (record { is_said = said_now; is_covered = covered_too (h ++ entry ∷ []) Avet m.1.0.is_covered }, live_too (h ++ entry ∷ []) Avet m.1.1),
-          λ demanded. m.2 (
-            record { is_said = m.0; is_covered = subst (λ (a : ℕ). IsTrue (covers (facts h) Avet a)) (sym same_a) demanded.0.is_covered },
-            was_live m.1.1,
-          ),
-        )
-
-    later_filled : (order : Order) → IsFilled order x → IsFilled order y
-    later_filled order there = elim there [
-      | inl before ↦
-          let demanded = ((follows.stands.history.live_stands order).members x).0 before in
-          inl (((follows.stands.history.live_stands order).members y).1 (record { is_said = y_in; is_covered = covered_too h order demanded.0.is_covered }, live_too h order demanded.1))
-      | inr filler ↦ inr (filler.0, refill_too filler.1)
-    ]
-
-    also_filled : (order : Order) → Contains (list_in filled order) x → Contains (list_in filled order) y
-    also_filled order there =
-        let at = from_filled order x there in
-        ((grown order).members y).1 (inl (later_filled order at.0), subst (λ (a : ℕ). IsTrue (held coverage order a)) same_a at.1)
-
-  -- so what stands there stands in the history
-  filled_facts : (order : Order) (x : Datom) → Contains (standing (list_in filled order)) x → Contains (facts h) x
-  filled_facts order x there =
-      let last = standing_last (list_in filled order) x (rising_by_time order (list_in filled order) (grown order).rising) there in
-      last_stands (said h) x (said_by_time h follows.stands.history.lawful) (record {
-        there = filled_said order x (from_filled order x last.there).0;
-        added = last.added;
-        latest = λ y y_in mate. elim (cases_lt x.t y.t) [
-          | inl later ↦ last.latest y (also_filled x y y_in mate later order last.there) mate
-          | inr within ↦ within
-        ];
-      })
-
-  retracts : (x d : Datom) → (d.added ≡ true) ⊎ (d.added ≡ false) → Contains (facts h) x → Contains entry.datoms d → is_of d.e d.a d.v x ≡ true → d.added ≡ false
-  retracts x d (inr not_so) holds_now there mate = not_so
-  retracts x d (inl adds) holds_now there mate =
-      let allowed : cond d.added (not (holds h d.e d.a d.v)) (holds h d.e d.a d.v) ≡ true =
-      member_passes (λ z. cond z.added (not (holds h z.e z.a z.v)) (holds h z.e z.a z.v)) entry.datoms d follows.next.changes_alone there in
-      let none : not (holds h d.e d.a d.v) ≡ true = rw adds at allowed in
-      absurd (true≢false (sym none ∙ ap not (holds-facts h d.e d.a d.v ∙ any_member (is_of d.e d.a d.v) (facts h) x holds_now mate)))
-
-  -- and the entry may follow what is refilled
-  pub refill_follows : (order : Order) → MayFollow (list_in filled order) entry.datoms
-  refill_follows order = record {
-    single = single_part (list_in filled order ++ entry.datoms) (list_in recent.live order ++ refill ++ entry.datoms) (λ d there. elim (Contains-append_cases (list_in filled order) entry.datoms d there) [
-      | inl before ↦ Contains-append_left (list_in recent.live order ++ refill) entry.datoms d (elim (from_filled order d before).0 [
-        | inl older_one ↦ Contains-append_left (list_in recent.live order) refill d older_one
-        | inr filler ↦ Contains-append_right (list_in recent.live order) refill d filler.1
-      ])
-      | inr now ↦ Contains-append_right (list_in recent.live order ++ refill) entry.datoms d now
-    ]) (single order);
-    later = λ x d x_in d_in mate.
-        let early = not_later h x follows.stands.history.lawful (filled_said order x (from_filled order x x_in).0) in
-        let own = eqb-true d.t (basis h + 1) (member_passes (λ y. eqb y.t (basis h + 1)) entry.datoms d (own_t h entry follows.next) d_in) in
-        omega (arith, early, own);
-    one = (may order).one;
-    fresh = λ x d x_in d_in mate. retracts x d (cases_Bool d.added) (filled_facts order x x_in) d_in mate;
-  }
+    ∙ (((follows.stands.history.live_stands order).members (get_or list k d)).0
+    (k, within, get_or_default list k (get_or list k d) d within)).0.is_covered

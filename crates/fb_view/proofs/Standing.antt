@@ -25,7 +25,7 @@ use Rattle.live_index.specs.Standing.{IsCoverageOf}
 use Rattle.fb_view.specs.declared.growth.Older.{Older}
 use Rattle.fb_view.specs.declared.growth.Recent.{Recent}
 use Rattle.seg_tree.specs.Indexes.{trees_of}
-use Rattle.fb_view.specs.Kept.{kept, Stands, AreWhole, Follows}
+use Rattle.fb_view.specs.SnapshotModel.{model_snapshot, Stands, AreWhole, Follows}
 
 -- no datom is later than the last entry
 pub not_later : (h : List Entry) (d : Datom) → IsLawful h → Contains (said h) d → d.t ≤ basis h
@@ -39,15 +39,18 @@ said_early h c d lawful there =
 
 pub early_said : (h : List Entry) (c : ℕ) (d : Datom) → IsLawful h → Contains (said h) d → d.t ≤ c → Contains (said (upto h c)) d
 early_said h c d lawful there early =
-    subst (λ (ds : List Datom). Contains ds d) (sym (said-upto h lawful c)) (into_filter (λ (x : Datom). leb x.t c) (said h) d there (le-leb d.t c early))
+    subst (λ (ds : List Datom). Contains ds d) (sym (said-upto h lawful c))
+    (into_filter (λ (x : Datom). leb x.t c) (said h) d there (le-leb d.t c early))
 
 -- the schema's coverage is that of the facts
-pub coverage_of : (schema : List Datom) (h : List Entry) (coverage : Coverage) → SchemaStands schema h → HasCoverage coverage schema → IsCoverageOf coverage (facts h)
+pub coverage_of : (schema : List Datom) (h : List Entry) (coverage : Coverage) → SchemaStands schema h → HasCoverage coverage schema
+    → IsCoverageOf coverage (facts h)
 coverage_of schema h coverage stands has = λ order a. has order a ∙ ap (λ ds. covers ds order a) stands ∙ covers-described (facts h) order a
 
 -- ---- where the trees hold the whole history
 
-module _ (h : List Entry) (recent : Recent) (older : Older) (schema_is : SchemaStands recent.schema h) (whole : AreWhole h older) (none : (order : Order) → list_in recent.live order ≡ []) where
+module _ (h : List Entry) (recent : Recent) (older : Older) (schema_is : SchemaStands recent.schema h) (whole : AreWhole h older)
+    (none : (order : Order) → list_in recent.live order ≡ []) where
   whole_past : upto h older.covered ≡ h
   whole_past = ap (upto h) whole.covered_is ∙ upto-basis h whole.lawful
 
@@ -60,12 +63,13 @@ module _ (h : List Entry) (recent : Recent) (older : Older) (schema_is : SchemaS
 
   none_stands : LiveStands recent.live h older.covered
   none_stands order =
-      subst (λ (ds : List Datom). IsRisingListOf order ds (λ d. IsIndexed h order d × IsLive h older.covered order d)) (sym (none order)) record {
+      subst (λ (ds : List Datom). IsRisingListOf order ds (λ d. IsIndexed h order d × IsLive h older.covered order d))
+      (sym (none order)) record {
         rising = refl;
         members = λ d. (λ there. absurd (none_of d there), λ is. absurd (nothing_live order d is.0 is.1));
       }
 
-  pub fresh_stands : Stands (kept h recent older)
+  pub fresh_stands : Stands (model_snapshot h recent older)
   fresh_stands = record {
     history = record {
       entries_are = refl;
@@ -92,15 +96,20 @@ module _ (h : List Entry) (recent : Recent) (older : Older) (entry : Entry) (fol
   lawful_after = IsLawful-push h entry lawful_before follows.next
 
   pub same_past : upto after older.covered ≡ upto h older.covered
-  same_past = upto-append h (entry ∷ []) older.covered (let counted = IsLawful-length h lawful_before in let bound = follows.stands.history.roots_stand.bound in omega (arith, counted, bound))
+  same_past =
+      upto-append h (entry ∷ []) older.covered (let counted = IsLawful-length h lawful_before in
+      let bound = follows.stands.history.roots_stand.bound in omega (arith, counted, bound))
 
   roots_on : RootStands (trees_of older.roots) after older.covered
   roots_on = record {
     bound = let bound = follows.stands.history.roots_stand.bound in omega (arith, basis-push h entry, next_t h entry follows.next, bound);
-    trees = λ order. subst (λ (past : List Entry). IsRisingListOf order (list_in (trees_of older.roots) order) (IsIndexed past order)) (sym same_past) (follows.stands.history.roots_stand.trees order);
+    trees =
+        λ order. subst (λ (past : List Entry). IsRisingListOf order (list_in (trees_of older.roots) order) (IsIndexed past order))
+        (sym same_past) (follows.stands.history.roots_stand.trees order);
   }
 
-  pub grown_stands : (new : Recent) → SchemaStands new.schema after → LiveStands new.live after older.covered → Stands (kept after new older)
+  pub grown_stands : (new : Recent) → SchemaStands new.schema after → LiveStands new.live after older.covered
+      → Stands (model_snapshot after new older)
   grown_stands new schema_is live_stands = record {
     history = record {
       entries_are = refl;

@@ -1,5 +1,6 @@
 -- The greatest user number of a history stands at the ends of the three lists of EAVT.
-use Rattle.std.proofs.Common.{◌≡◌, ◌∙◌, ℕ, zero, suc, ◌-◌, ◌<◌, ◌≤◌, inl, inr, List, [], ◌∷◌, ◌++◌, length, refl, sym, ap, subst, arith, Option, Some, None, max}
+use Rattle.std.proofs.Common.{◌≡◌, ◌∙◌, ℕ, zero, suc, ◌-◌, ◌<◌, ◌≤◌, inl, inr, List, [], ◌∷◌, ◌++◌, length, refl, sym, ap, subst, arith}
+use Rattle.std.proofs.Common.{Option, Some, None, max}
 use Rattle.std.specs.Prelude.{Contains, map}
 use Rattle.std.specs.List.{slice_get}
 use Rattle.std.specs.Option.{option_map_or}
@@ -16,7 +17,7 @@ use Rattle.live_index.proofs.Together.{rising-standing}
 use Rattle.live_index.proofs.Members.{contains-cons, contains_head, contains_tail, contains_none}
 use Rattle.seg_tree.specs.Chunks.{joined}
 use Rattle.seg_tree.specs.Nodes.{LeafNode, DirectoryNode, leaf_datoms, tree_datoms}
-use Rattle.fb_view.specs.Kept.{Kept, Stands}
+use Rattle.fb_view.specs.SnapshotModel.{SnapshotModel, Stands}
 use Rattle.fb_view.proofs.Lists.{there_is}
 use Rattle.fb_view.proofs.Lasting.{e_upto}
 use Rattle.fb_view.proofs.Telling.{pair_stands, was_said, in_one}
@@ -57,14 +58,21 @@ users_last (d ∷ y ∷ ds) rising =
     last_behind : (n : ℕ) → slice_get (d ∷ y ∷ ds) (suc (suc n) - 1) ≡ slice_get (y ∷ ds) (suc n - 1)
     last_behind n = let one : suc (suc n) - 1 ≡ suc n = omega arith in let less : suc n - 1 ≡ n = omega arith in rw (one, less) refl
 
-pub users_stand : (k : Kept) (stands : Stands k) → users_issued k.entries ≡ max (users_in (tree_datoms k.roots.eavt)) (users_in k.live.eavt)
+pub users_stand : (k : SnapshotModel) (stands : Stands k)
+    → users_issued k.entries ≡ max (users_in (tree_datoms k.roots.eavt)) (users_in k.live.eavt)
 users_stand k stands =
-    let low = users_bound (said k.entries) (max (users_in (tree_datoms k.roots.eavt)) (users_in k.live.eavt)) (λ d there. elim (in_one k stands Eavt d there refl) [
+    let low =
+    users_bound (said k.entries) (max (users_in (tree_datoms k.roots.eavt)) (users_in k.live.eavt))
+    (λ d there. elim (in_one k stands Eavt d there refl) [
       | inl older ↦ let at = user_member (tree_datoms k.roots.eavt) d older in omega (arith, at)
       | inr live ↦ let at = user_member k.live.eavt d live in omega (arith, at)
     ]) in
-    let older = users_bound (tree_datoms k.roots.eavt) (users_in (said k.entries)) (λ d there. user_member (said k.entries) d (was_said k stands Eavt d (inl there))) in
-    let live = users_bound k.live.eavt (users_in (said k.entries)) (λ d there. user_member (said k.entries) d (was_said k stands Eavt d (inr there))) in
+    let older =
+    users_bound (tree_datoms k.roots.eavt) (users_in (said k.entries))
+    (λ d there. user_member (said k.entries) d (was_said k stands Eavt d (inl there))) in
+    let live =
+    users_bound k.live.eavt (users_in (said k.entries))
+    (λ d there. user_member (said k.entries) d (was_said k stands Eavt d (inr there))) in
     omega (arith, low, older, live)
 
 -- ---- the last datom of pieces end to end is that of the last piece
@@ -84,7 +92,8 @@ last_append (x ∷ xs) ys some =
     step (suc n) some = let one : suc (suc n) - 1 ≡ suc n = omega arith in let less : suc n - 1 ≡ n = omega arith in rw (one, less) refl
 
 -- where the last one has a datom
-pub joined_last : (cs : List (List Datom)) (c : List Datom) → slice_get cs (length cs - 1) ≡ Some c → 0 < length c → slice_get (joined cs) (length (joined cs) - 1) ≡ slice_get c (length c - 1)
+pub joined_last : (cs : List (List Datom)) (c : List Datom) → slice_get cs (length cs - 1) ≡ Some c → 0 < length c
+    → slice_get (joined cs) (length (joined cs) - 1) ≡ slice_get c (length c - 1)
 joined_last [] c read some = absurd (cc)
 joined_last (b ∷ []) c read some =
     let same : b ≡ c = cc in
@@ -114,7 +123,8 @@ map_length : {X Y : Type 0} (f : X → Y) (xs : List X) → length (map f xs) �
 map_length f [] = refl
 map_length f (x ∷ xs) = ap suc (map_length f xs)
 
-get_last_map : {X Y : Type 0} (f : X → Y) (xs : List X) (x : X) → slice_get xs (length xs - 1) ≡ Some x → slice_get (map f xs) (length (map f xs) - 1) ≡ Some (f x)
+get_last_map : {X Y : Type 0} (f : X → Y) (xs : List X) (x : X) → slice_get xs (length xs - 1) ≡ Some x
+    → slice_get (map f xs) (length (map f xs) - 1) ≡ Some (f x)
 get_last_map f xs x read = rw (map_length f xs) (get_map f xs (length xs - 1) x read)
 
 has_some : (xs ys : List Datom) → 0 < length ys → slice_get xs (length xs - 1) ≡ slice_get ys (length ys - 1) → 0 < length xs
@@ -122,19 +132,28 @@ has_some [] ys some none = absurd (there_is ys (length ys - 1) (omega (arith, so
 has_some (x ∷ xs) ys some found = omega arith
 
 -- the last datom of a tree is that of the last leaf of the last directory
-pub last_in_tree : (tree : List DirectoryNode) (directory : DirectoryNode) (leaf : LeafNode) → slice_get tree (length tree - 1) ≡ Some directory → slice_get directory.leaves (length directory.leaves - 1) ≡ Some leaf → 0 < length leaf.datoms
+pub last_in_tree : (tree : List DirectoryNode) (directory : DirectoryNode) (leaf : LeafNode)
+    → slice_get tree (length tree - 1) ≡ Some directory → slice_get directory.leaves (length directory.leaves - 1) ≡ Some leaf
+    → 0 < length leaf.datoms
     → slice_get (tree_datoms tree) (length (tree_datoms tree) - 1) ≡ slice_get leaf.datoms (length leaf.datoms - 1)
 last_in_tree tree directory leaf at_directory at_leaf some =
-    let in_directory = joined_last (map (λ l. l.datoms) directory.leaves) leaf.datoms (get_last_map (λ (l : LeafNode). l.datoms) directory.leaves leaf at_leaf) some in
-    joined_last (map (λ d. leaf_datoms d.leaves) tree) (leaf_datoms directory.leaves) (get_last_map (λ (d : DirectoryNode). leaf_datoms d.leaves) tree directory at_directory) (has_some (leaf_datoms directory.leaves) leaf.datoms some in_directory)
+    let in_directory =
+    joined_last (map (λ l. l.datoms) directory.leaves) leaf.datoms
+    (get_last_map (λ (l : LeafNode). l.datoms) directory.leaves leaf at_leaf) some in
+    joined_last (map (λ d. leaf_datoms d.leaves) tree)
+    (leaf_datoms directory.leaves) (get_last_map (λ (d : DirectoryNode). leaf_datoms d.leaves) tree directory at_directory)
+    (has_some (leaf_datoms directory.leaves) leaf.datoms some in_directory)
     ∙ in_directory
 
-pub none_in_tree : (tree : List DirectoryNode) → slice_get tree (length tree - 1) ≡ None → slice_get (tree_datoms tree) (length (tree_datoms tree) - 1) ≡ None
+pub none_in_tree : (tree : List DirectoryNode) → slice_get tree (length tree - 1) ≡ None
+    → slice_get (tree_datoms tree) (length (tree_datoms tree) - 1) ≡ None
 none_in_tree [] none = refl
 none_in_tree (d ∷ tree) none = absurd (there_is (d ∷ tree) (length (d ∷ tree) - 1) (omega arith) none)
 
-pub at_last : {X Y : Type 0} (f : X → Y) (xs : List X) (ys : List Y) (x : X) (y : Y) → map f xs ≡ ys → Some x ≡ slice_get xs (length xs - 1) → y ≡ f x → slice_get ys (length ys - 1) ≡ Some y
-at_last {X} {Y} f xs ys x y same read is = subst (λ (l : List Y). slice_get l (length l - 1) ≡ Some y) same (get_last_map f xs x (sym read) ∙ ap Some (sym is))
+pub at_last : {X Y : Type 0} (f : X → Y) (xs : List X) (ys : List Y) (x : X) (y : Y) → map f xs ≡ ys → Some x ≡ slice_get xs (length xs - 1)
+    → y ≡ f x → slice_get ys (length ys - 1) ≡ Some y
+at_last {X} {Y} f xs ys x y same read is =
+    subst (λ (l : List Y). slice_get l (length l - 1) ≡ Some y) same (get_last_map f xs x (sym read) ∙ ap Some (sym is))
 
 -- ---- the two halves of a live list
 
@@ -148,8 +167,10 @@ users_halves ds =
     let past = users_bound (withdrawn ds) (users_in ds) (λ d there. user_member ds d (withdrawn_member ds d there)) in
     omega (arith, low, holding, past)
 
-pub users_answer : (k : Kept) (stands : Stands k) (x y z : ℕ) → x ≡ user_at (slice_get (tree_datoms k.roots.eavt) (length (tree_datoms k.roots.eavt) - 1))
-    → y ≡ user_at (slice_get (standing k.live.eavt) (length (standing k.live.eavt) - 1)) → z ≡ user_at (slice_get (withdrawn k.live.eavt) (length (withdrawn k.live.eavt) - 1)) → max (max x y) z ≡ users_issued k.entries
+pub users_answer : (k : SnapshotModel) (stands : Stands k) (x y z : ℕ)
+    → x ≡ user_at (slice_get (tree_datoms k.roots.eavt) (length (tree_datoms k.roots.eavt) - 1))
+    → y ≡ user_at (slice_get (standing k.live.eavt) (length (standing k.live.eavt) - 1))
+    → z ≡ user_at (slice_get (withdrawn k.live.eavt) (length (withdrawn k.live.eavt) - 1)) → max (max x y) z ≡ users_issued k.entries
 users_answer k stands x y z is_x is_y is_z =
     let rises = (pair_stands k stands Eavt).live_rises in
     let older = users_last (tree_datoms k.roots.eavt) (pair_stands k stands Eavt).older_rises in

@@ -11,10 +11,10 @@ use Rattle.seg_tree.specs.Nodes.{tree_datoms}
 use Rattle.fb_index.specs.Ranges.{led_to}
 use Rattle.fb_index.specs.Sides.{whole}
 use Rattle.fb_index.specs.declared.sides.Extent.TheVariants.{Held}
-use Rattle.fb_view.specs.Kept.{Kept}
+use Rattle.fb_view.specs.SnapshotModel.{SnapshotModel}
 
 -- what the probe leads to, of what holds
-abbrev pub facts_led : Probe → Kept → List Datom
+abbrev pub facts_led : Probe → SnapshotModel → List Datom
 facts_led probe k =
     led_to probe (whole Held probe.order (tree_datoms (tree_in k.now probe.order)) k.live)
 
@@ -24,7 +24,8 @@ IsTripleProbe e a v probe =
     (probe ≡ record { order = Eavt; e = Some e; a = Some a; v = Some v; t = None })
     ⊎ (probe ≡ record { order = Eavt; e = Some e; a = Some a; v = None; t = None })
 
--- the probe gives the attribute in AEVT; or where the facts say that AVET holds the attribute, in AVET, maybe with the value
+-- the probe gives the attribute in AEVT;
+-- or where the facts say that AVET holds the attribute, in AVET, maybe with the value
 abbrev pub IsValueProbe : List Datom → ℕ → Value → Probe → Type 0
 IsValueProbe facts a v probe =
     (probe ≡ record { order = Aevt; e = None; a = Some a; v = None; t = None })

@@ -1,4 +1,4 @@
-pub mod Kept
+pub mod SnapshotModel
 pub mod Refills
 pub mod InAvet
 pub mod Facts

@@ -1,16 +1,19 @@
 -- What AVET is refilled with where attributes get an index.
--- Restates Schema (altering :db/index) of Datomic's documentation; that AVET is refilled from AEVT is this project's own choice.
-use Rattle.std.specs.Prelude.{◌↔◌, ◌&&◌, not, ℕ, List, [], ◌++◌, Contains, IsTrue, filter, flat_map, if◌then◌else◌}
+-- Restates Schema (altering :db/index) of Datomic's documentation;
+-- that AVET is refilled from AEVT is this project's own choice.
+use Rattle.std.specs.Prelude.{◌↔◌, ◌&&◌, not, ℕ, List, [], ◌++◌, Contains, IsTrue, filter, flat_map}
+use Rattle.std.specs.Prelude.{if◌then◌else◌}
 use Rattle.fb_values.specs.declared.facts.Datom.{Datom}
 use Rattle.fb_values.specs.declared.indexes.Order.TheVariants.{Avet}
 use Rattle.fb_covers.specs.Coverage.{Coverage, covers}
-use Rattle.fb_facts.specs.Told.{is_under}
+use Rattle.fb_facts.specs.FactLists.{is_under}
 use Rattle.fb_schema.specs.Change.{is_gained}
 use Rattle.seg_tree.specs.Nodes.{tree_datoms}
 use Rattle.fb_view.specs.declared.growth.Older.{Older}
 use Rattle.fb_view.specs.declared.growth.Recent.{Recent}
 
--- the attribute's datoms that no tree of AVET has: the later ones, and where the trees do not hold it the older ones too
+-- the attribute's datoms that no tree of AVET has:
+-- the later ones, and where the trees do not hold it the older ones too
 abbrev pub missed : Recent → Older → ℕ → List Datom
 missed recent older a =
     filter (is_under a) recent.live.aevt

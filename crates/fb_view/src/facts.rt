@@ -1,4 +1,4 @@
-//! What a snapshot tells of its history's facts. Each answer is found by two searches, one in the tree of what holds and
+//! What a snapshot answers of its history's facts. Each answer is found by two searches, one in the tree of what holds and
 //! one in the live list of what holds, and takes a step more for each datom that it is made of.
 ghost use Rattle.std.specs.Prelude.{◌≡◌, map, find, IfOk, IfSome};
 ghost use Rattle.std.specs.Option.{option_map};
@@ -6,7 +6,7 @@ ghost use Rattle.fb_model.specs.Facts.{value_eq};
 ghost use Rattle.seg_tree.specs.Indexes.{tree_in};
 ghost use Rattle.seg_tree.specs.Nodes.{tree_datoms};
 ghost use Rattle.fb_index.specs.Sides.{AreBeside};
-ghost use Rattle.fb_view.specs.Kept.{Stands, roots_read};
+ghost use Rattle.fb_view.specs.SnapshotModel.{Stands, roots_read};
 ghost use Rattle.fb_view.specs.Facts.{IsTripleProbe};
 
 use crate::snapshot::Snapshot;
@@ -96,7 +96,7 @@ impl Facts for Snapshot {
 impl Snapshot {
     ghost use Rattle.fb_view.specs.Facts.{IsValueProbe, facts_led};
 
-    /// The lists of an order, read as one for all that was said or for what holds.
+    /// The lists of an order, read as one for all datoms or for those that hold.
     pub fn sides(&self, order: Order, extent: Extent) -> Sides<'_>
         ensures extent { result.extent ≡ extent }
         ensures order { result.order ≡ order }

@@ -22,7 +22,9 @@ use fb_index::{push_live, push_older};
 use fb_memory::Memory;
 use fb_schema::{Schema, changes_schema};
 use fb_values::{Datom, Entry, Order, Probe};
-use live_index::{Live, next_entries_bring_no_twins, next_entries_may_follow};
+use live_index::{
+    Live, next_entries_bring_no_twins, next_entries_may_follow, next_entries_may_follow_a_refill,
+};
 use seg_tree::Roots;
 use std::alloc::Global;
 
@@ -46,7 +48,7 @@ pub struct Recent {
 }
 
 impl Older {
-    ghost use Rattle.fb_view.specs.Kept.{AreFacts};
+    ghost use Rattle.fb_view.specs.SnapshotModel.{AreFacts};
 
     /// With the trees of what holds.
     pub fn of(alloc: Global, roots: Roots, held: Covers, covered: u32) -> Result<Older, Memory>
@@ -82,14 +84,14 @@ impl Recent {
     ghost use Rattle.fb_covers.specs.Coverage.{Coverage};
     ghost use Rattle.fb_schema.specs.Tables.{HasCoverage};
     ghost use Rattle.fb_view.specs.declared.growth.Older.{Older};
-    ghost use Rattle.fb_view.specs.Kept.{kept, Stands, AreWhole, Follows};
+    ghost use Rattle.fb_view.specs.SnapshotModel.{model_snapshot, Stands, AreWhole, Follows};
     ghost use Rattle.fb_view.specs.Refills.{missed, all_missed};
 
     /// Nothing is live where the trees hold the whole history.
     pub fn fresh(alloc: Global, schema: Schema) -> Recent
         ensures empty { (order : Order) → list_in result.live order ≡ [] }
         ensures stands { (h : List Entry) (older : Older) → SchemaStands schema h → AreWhole h older
-            → Stands (kept h result older) }
+            → Stands (model_snapshot h result older) }
     {
         Recent {
             schema,
@@ -101,7 +103,7 @@ impl Recent {
     pub fn with(&self, alloc: Global, older: &Older, entry: &Entry) -> Result<Recent, Memory>
         requires { (h : List Entry) × Follows h self.now older.now entry.now }
         ensures { IfOk result (λ new. (h : List Entry) → Follows h self.now older.now entry.now
-            → Stands (kept (h ++ entry.now ∷ []) new older.now)) }
+            → Stands (model_snapshot (h ++ entry.now ∷ []) new older.now)) }
     {
         let schema = self.schema.of_entry(entry)?;
         let live = self.grown(alloc, older, entry, &schema)?;
@@ -118,8 +120,8 @@ impl Recent {
     ) -> Result<Recent, Memory>
         requires lawful { IsLawful entries.now }
         requires within { older.now.covered < length entries.now }
-        requires stands { Stands (kept (upto entries.now older.now.covered) self older.now) }
-        ensures { IfOk result (λ new. Stands (kept entries.now new older.now)) }
+        requires stands { Stands (model_snapshot (upto entries.now older.now.covered) self older.now) }
+        ensures { IfOk result (λ new. Stands (model_snapshot entries.now new older.now)) }
     {
         let replay = Replay::behind(alloc, &self.schema, entries, older.covered)?;
         let (before, after) = (self.schema.covers(), replay.schema.covers());
@@ -148,6 +150,7 @@ impl Recent {
             return self.live.with_entry(entry, after.covers());
         }
         next_entries_bring_no_twins();
+        next_entries_may_follow_a_refill();
         let refill = self.refill(alloc, older, entry, after)?;
         let before = self.schema.covers();
         self.live

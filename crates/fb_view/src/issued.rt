@@ -1,11 +1,11 @@
-//! The greatest user number that a history has issued. Entities ascend in EAVT, so the last datom tells it.
+//! The greatest user number that a history has issued. Entities ascend in EAVT, so the last datom has it.
 ghost use Rattle.std.specs.Prelude.{◌≡◌, ◌-◌, length};
 ghost use Rattle.std.specs.List.{slice_get};
 ghost use Rattle.std.specs.Option.{option_map_or, option_copied};
 ghost use Rattle.fb_model.specs.History.{users_issued};
 ghost use Rattle.fb_numbers.specs.Numbers.{user_number as model_user_number};
 ghost use Rattle.seg_tree.specs.Nodes.{tree_datoms};
-ghost use Rattle.fb_view.specs.Kept.{Stands};
+ghost use Rattle.fb_view.specs.SnapshotModel.{Stands};
 
 use crate::snapshot::Snapshot;
 use fb_numbers::user_number;

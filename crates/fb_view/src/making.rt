@@ -9,7 +9,7 @@ ghost use Rattle.fb_model.specs.Lawful.{IsLawful, IsLawfulAfter};
 ghost use Rattle.view_model.specs.Stands.{RootStands};
 ghost use Rattle.fb_schema.specs.Described.{SchemaStands};
 ghost use Rattle.seg_tree.specs.Indexes.{root_ids, trees_of};
-ghost use Rattle.fb_view.specs.Kept.{Stands};
+ghost use Rattle.fb_view.specs.SnapshotModel.{Stands};
 
 use crate::growth::{Older, Recent};
 use crate::snapshot::{Parts, Snapshot};

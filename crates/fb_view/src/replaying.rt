@@ -1,4 +1,4 @@
-//! What a history says behind some of its entries, taken at once.
+//! What a history says after some of its entries, taken at once.
 ghost use Rattle.std.specs.Prelude.{◌≡◌, ◌↔◌, ℕ, ◌++◌, ◌∷◌, ◌<◌, [], List, Contains, IfOk, flat_map, length};
 ghost use Rattle.fb_values.specs.declared.facts.Datom.{Datom};
 ghost use Rattle.fb_values.specs.declared.facts.Entry.{Entry};
@@ -18,7 +18,7 @@ use fb_schema::Schema;
 use fb_values::{Datom, Entry, Order, Probe};
 use std::alloc::Global;
 
-/// What was said behind an entry, and what became of its schema.
+/// What was said after an entry, and what became of its schema.
 #[derive(Drop)]
 pub struct Replay {
     pub said: Vec<Datom>,
@@ -28,7 +28,7 @@ pub struct Replay {
 }
 
 impl Replay {
-    /// That of the entries behind entry `c`, where the schema is that after entry `c`. An attribute that AVET gained
+    /// That of the entries after entry `c`, where the schema is that after entry `c`. An attribute that AVET gained
     /// several times is named once.
     pub fn behind(
         alloc: Global,

@@ -2,7 +2,7 @@
 ghost use Rattle.std.specs.Prelude.{◌≡◌, ◌+◌, length, min, IfOk};
 ghost use Rattle.fb_values.specs.Lists.{list_in};
 ghost use Rattle.fb_model.specs.History.{basis};
-ghost use Rattle.fb_view.specs.Kept.{Stands};
+ghost use Rattle.fb_view.specs.SnapshotModel.{Stands};
 
 use crate::growth::{Older, Recent};
 use fb_covers::Covers;
@@ -25,13 +25,13 @@ pub struct Parts {
 }
 
 impl Model for Parts {
-    ghost use Rattle.fb_view.specs.Kept.{Kept, kept, Stands};
+    ghost use Rattle.fb_view.specs.SnapshotModel.{SnapshotModel, model_snapshot, Stands};
 
-    ghost Value = { Kept };
+    ghost Value = { SnapshotModel };
 
-    ghost view = { λ p. kept p.entries p.recent p.older };
+    ghost view = { λ p. model_snapshot p.entries p.recent p.older };
 
-    ghost invariant = { λ p. Stands (kept p.entries p.recent p.older) };
+    ghost invariant = { λ p. Stands (model_snapshot p.entries p.recent p.older) };
 }
 
 /// A database value at a point. All of it is shared: a copy is one reference count.
@@ -43,9 +43,9 @@ pub struct Snapshot {
 
 impl Model for Snapshot {
     ghost use Rattle.std.specs.Arc.{arc_value};
-    ghost use Rattle.fb_view.specs.Kept.{Kept};
+    ghost use Rattle.fb_view.specs.SnapshotModel.{SnapshotModel};
 
-    ghost Value = { Kept };
+    ghost Value = { SnapshotModel };
 
     ghost view = { λ s. arc_value s.parts };
 }

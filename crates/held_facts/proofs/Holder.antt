@@ -11,7 +11,7 @@ use Rattle.fb_model.specs.Facts.{value_eq, holder, least}
 use Rattle.fb_values.specs.declared.indexes.Order.TheVariants.{Vaet}
 use Rattle.fb_values.specs.Orders.{value_cmp, key_cmp}
 use Rattle.fb_values.specs.OrderLaws.{value_cmp_total}
-use Rattle.fb_values.specs.Rising.{StandsBefore, IsRising}
+use Rattle.fb_values.specs.Rising.{IsBelowAll, IsRising}
 use Rattle.std.specs.Ordering.{nat_cmp, ordering_then}
 use Rattle.std.specs.Cmp.{nat_cmp_total, tied_itself}
 use Rattle.std.specs.declared.cmp.Ordering.{Ordering}
@@ -21,8 +21,8 @@ use Rattle.fb_values.specs.declared.facts.Entry.{Entry}
 use Rattle.fb_model.specs.History.{said}
 use Rattle.fb_model.specs.Facts.{facts}
 use Rattle.fb_model.proofs.Triples.{value_eq-true}
-use Rattle.held_facts.specs.declared.kept.Kept.{Kept}
-use Rattle.held_facts.specs.Kept.{is_with, HasFacts, facts_by_value}
+use Rattle.held_facts.specs.declared.fact_maps.FactMaps.{FactMaps}
+use Rattle.held_facts.specs.FactMaps.{is_with, HasFacts, facts_by_value}
 use Rattle.held_facts.proofs.Maps.{by_value_members, by_value_rises, contains-cons, contains_head, contains_tail, contains_none}
 
 -- ---- the least holder
@@ -139,7 +139,7 @@ content_upto a v x y of_x of_y less =
     let same_v : value_cmp x.v y.v ≡ Equal = ap (λ w. value_cmp w y.v) one_v ∙ tied_itself value_cmp_total y.v in
     upto (value_cmp x.v y.v) (nat_cmp x.a y.a) x.e y.e (ordering_then (nat_cmp x.t y.t) Equal) same_v same_a less
 
-before_member : (x : Datom) (ds : List Datom) (d : Datom) → StandsBefore Vaet x ds → Contains ds d → key_cmp Vaet x d ≡ Less
+before_member : (x : Datom) (ds : List Datom) (d : Datom) → IsBelowAll Vaet x ds → Contains ds d → key_cmp Vaet x d ≡ Less
 before_member x [] d before there = absurd (contains_none d there)
 before_member x (y ∷ ds) d before there =
     elim (contains-cons y ds d there) [
@@ -163,7 +163,7 @@ first_is (d ∷ ds) a v rising =
       | inr other ↦ rw other (holder_later d ds a v (option_map (λ x. x.e) (find (is_with a v) ds)) other (first_is ds a v rising.1))
     ]
 
-pub told_holder : (h : List Entry) (kept : Kept) → HasFacts (said h) kept → (a : ℕ) (v : Value)
+pub told_holder : (h : List Entry) (kept : FactMaps) → HasFacts (said h) kept → (a : ℕ) (v : Value)
     → option_map (λ d. d.e) (find (is_with a v) (facts_by_value kept)) ≡ holder (facts h) a v
 told_holder h kept has a v =
     let same = by_value_members (said h) kept has in

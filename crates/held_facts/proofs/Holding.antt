@@ -6,10 +6,10 @@ use Rattle.std.specs.List.{list_any}
 use Rattle.std.proofs.lemmas.Bool.{true≢false, and_parts, and_from, or_parts, or_from, eq-eqb}
 use Rattle.fb_values.specs.declared.facts.Datom.{Datom}
 use Rattle.fb_values.specs.declared.facts.Value.{Value}
-use Rattle.fb_model.specs.Facts.{value_eq, is_of, stands_before, standing}
+use Rattle.fb_model.specs.Facts.{value_eq, is_of, is_last_assertion, standing}
 use Rattle.fb_model.proofs.Members.{here, there, cases_of, none_of}
 use Rattle.fb_model.proofs.Triples.{is_of-true, list_any-same, value_eq-refl}
-use Rattle.held_facts.specs.Kept.{left_by, t_after}
+use Rattle.held_facts.specs.FactMaps.{left_by, t_after}
 
 abbrev pub fact : ℕ → ℕ → Value → ℕ → Bool → Datom
 fact e a v t added = record { e = e; a = a; v = v; t = t; added = added }
@@ -35,16 +35,16 @@ is_of-itself d =
 
 pub stands : (ds : List Datom) (before : Option ℕ) (d : Datom) → Contains (standing ds) d → t_after before ds d.e d.a d.v ≡ Some d.t
 stands [] before d member = absurd (none_of d member)
-stands (x ∷ ds) before d member = go (stands_before x ds) refl (stands ds (cond (is_of d.e d.a d.v x) (left_by x) before) d) member
+stands (x ∷ ds) before d member = go (is_last_assertion x ds) refl (stands ds (cond (is_of d.e d.a d.v x) (left_by x) before) d) member
   where
-    first : stands_before x ds ≡ true → t_after before (x ∷ ds) x.e x.a x.v ≡ Some x.t
+    first : is_last_assertion x ds ≡ true → t_after before (x ∷ ds) x.e x.a x.v ≡ Some x.t
     first is =
         let parts = and_parts x.added (not (list_any (is_of x.e x.a x.v) ds)) is in
         ap (λ b. t_after (cond b (left_by x) before) ds x.e x.a x.v) (is_of-itself x)
         ∙ untouched (left_by x) ds x.e x.a x.v (is_not (list_any (is_of x.e x.a x.v) ds) parts.1)
         ∙ ap (λ b. cond b (Some x.t) None) parts.0
 
-    go : (b : Bool) → stands_before x ds ≡ b → (Contains (standing ds) d → t_after before (x ∷ ds) d.e d.a d.v ≡ Some d.t)
+    go : (b : Bool) → is_last_assertion x ds ≡ b → (Contains (standing ds) d → t_after before (x ∷ ds) d.e d.a d.v ≡ Some d.t)
         → Contains (cond b (x ∷ standing ds) (standing ds)) d → t_after before (x ∷ ds) d.e d.a d.v ≡ Some d.t
     go false is next later = next later
     go true is next which =
@@ -54,7 +54,7 @@ stands (x ∷ ds) before d member = go (stands_before x ds) refl (stands ds (con
         ]
 
 stays : (x : Datom) (ds : List Datom) (d : Datom) → Contains (standing ds) d → Contains (standing (x ∷ ds)) d
-stays x ds d member = go (stands_before x ds)
+stays x ds d member = go (is_last_assertion x ds)
   where
     go : (b : Bool) → Contains (cond b (x ∷ standing ds) (standing ds)) d
     go false = member
@@ -86,7 +86,7 @@ told (x ∷ ds) before e a v t is =
         let adds = leaves x t left in
         let parts = is_of-true e a v x of in
         let last = ap not (list_any-same e a v x ds of ∙ none) in
-        let stands : stands_before x ds ≡ true = and_from x.added (not (list_any (is_of x.e x.a x.v) ds)) adds.added last in
+        let stands : is_last_assertion x ds ≡ true = and_from x.added (not (list_any (is_of x.e x.a x.v) ds)) adds.added last in
         let same : x ≡ fact e a v t true =
         same_parts x.e e x.a a x.v v x.t t x.added true parts.e_is parts.a_is parts.v_is adds.is_t adds.added
         in

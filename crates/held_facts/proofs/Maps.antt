@@ -20,26 +20,26 @@ use Rattle.std.specs.Map.{keys_of}
 use Rattle.fb_values.specs.Orders.{value_cmp, key_cmp}
 use Rattle.fb_values.specs.OrderLaws.{value_cmp_total, value_cmp-IsAntisymmetric}
 use Rattle.std.specs.FinMap.{nat_cmp-IsAntisymmetric}
-use Rattle.fb_values.specs.Rising.{StandsBefore, IsRising}
+use Rattle.fb_values.specs.Rising.{IsBelowAll, IsRising}
 use Rattle.fb_values.proofs.Rising.{rises_from}
 use Rattle.fb_model.specs.Facts.{standing, facts}
 use Rattle.fb_model.proofs.InOrder.{one_rising_list}
 use Rattle.fb_model.proofs.Members.{standing_added}
-use Rattle.fb_facts.specs.Told.{facts_in}
+use Rattle.fb_facts.specs.FactLists.{facts_in}
 use Rattle.fb_facts.proofs.Lists.{facts_in-rising}
-use Rattle.held_facts.specs.declared.kept.Kept.{Kept}
-use Rattle.held_facts.specs.Kept.{place_cmp, content_cmp, t_after, HasFacts, fact_of_entity, fact_of_attribute, fact_of_value}
-use Rattle.held_facts.specs.Kept.{facts_by_entity, facts_by_attribute, facts_by_value}
+use Rattle.held_facts.specs.declared.fact_maps.FactMaps.{FactMaps}
+use Rattle.held_facts.specs.FactMaps.{place_cmp, content_cmp, t_after, HasFacts, fact_of_entity, fact_of_attribute, fact_of_value}
+use Rattle.held_facts.specs.FactMaps.{facts_by_entity, facts_by_attribute, facts_by_value}
 use Rattle.held_facts.proofs.Holding.{fact, stands, told_stands}
 
 -- ---- a list that rises from a list that rises
 
-stands_filtered : (order : Order) (p : Datom → Bool) (x : Datom) (ds : List Datom) → StandsBefore order x ds
-    → StandsBefore order x (filter p ds)
+stands_filtered : (order : Order) (p : Datom → Bool) (x : Datom) (ds : List Datom) → IsBelowAll order x ds
+    → IsBelowAll order x (filter p ds)
 stands_filtered order p x [] before = tt
 stands_filtered order p x (y ∷ ds) before = go (p y) (stands_filtered order p x ds before.1)
   where
-    go : (b : Bool) → StandsBefore order x (filter p ds) → StandsBefore order x (cond b (y ∷ filter p ds) (filter p ds))
+    go : (b : Bool) → IsBelowAll order x (filter p ds) → IsBelowAll order x (cond b (y ∷ filter p ds) (filter p ds))
     go false rest = rest
     go true rest = (before.0, rest)
 
@@ -162,19 +162,19 @@ module _ {K : Type 0} (cmp : K → K → Ordering) (total : IsTotalOrder cmp) (e
         (shows shows_as m.entries (key d.e d.a d.v, d.t) there),
   )
 
-pub by_entity_members : (ds : List Datom) (kept : Kept) → HasFacts ds kept → (d : Datom)
+pub by_entity_members : (ds : List Datom) (kept : FactMaps) → HasFacts ds kept → (d : Datom)
     → Contains (facts_by_entity kept) d ↔ Contains (standing ds) d
 by_entity_members ds kept has =
     has_standing place_cmp place_total place_exact fact_of_entity (λ e a v. (e, a, v)) (λ p. refl) (λ p. refl)
     (λ e a v t. refl) ds kept.by_entity has.entities_ordered has.by_entity
 
-pub by_attribute_members : (ds : List Datom) (kept : Kept) → HasFacts ds kept → (d : Datom)
+pub by_attribute_members : (ds : List Datom) (kept : FactMaps) → HasFacts ds kept → (d : Datom)
     → Contains (facts_by_attribute kept) d ↔ Contains (standing ds) d
 by_attribute_members ds kept has =
     has_standing place_cmp place_total place_exact fact_of_attribute (λ e a v. (a, e, v)) (λ p. refl) (λ p. refl)
     (λ e a v t. refl) ds kept.by_attribute has.attributes_ordered has.by_attribute
 
-pub by_value_members : (ds : List Datom) (kept : Kept) → HasFacts ds kept → (d : Datom)
+pub by_value_members : (ds : List Datom) (kept : FactMaps) → HasFacts ds kept → (d : Datom)
     → Contains (facts_by_value kept) d ↔ Contains (standing ds) d
 by_value_members ds kept has =
     has_standing content_cmp content_total content_exact fact_of_value (λ e a v. (v, a, e)) (λ p. refl) (λ p. refl)
@@ -206,7 +206,7 @@ value_below p q is =
 
 module _ {K : Type 0} (cmp : K → K → Ordering) (order : Order) (f : K × ℕ → Datom)
     (below : (p q : K × ℕ) → cmp p.0 q.0 ≡ Less → key_cmp order (f p) (f q) ≡ Less) where
-  before_all : (p : K × ℕ) (es : List (K × ℕ)) → ByRecursion (λ y. cmp p.0 y ≡ Less) (keys_of es) → StandsBefore order (f p) (map f es)
+  before_all : (p : K × ℕ) (es : List (K × ℕ)) → ByRecursion (λ y. cmp p.0 y ≡ Less) (keys_of es) → IsBelowAll order (f p) (map f es)
   before_all p [] is = tt
   before_all p (q ∷ es) is = (below p q is.0, before_all p es is.1)
 
@@ -215,11 +215,11 @@ module _ {K : Type 0} (cmp : K → K → Ordering) (order : Order) (f : K × ℕ
   sorted_rises [] is = tt
   sorted_rises (p ∷ es) is = (before_all p es is.0, sorted_rises es is.1)
 
-pub by_entity_rises : (kept : Kept) → IsOrdered place_cmp kept.by_entity → IsRising Eavt (facts_by_entity kept)
+pub by_entity_rises : (kept : FactMaps) → IsOrdered place_cmp kept.by_entity → IsRising Eavt (facts_by_entity kept)
 by_entity_rises kept ordered = sorted_rises place_cmp Eavt fact_of_entity entity_below kept.by_entity.entries ordered
 
-pub by_attribute_rises : (kept : Kept) → IsOrdered place_cmp kept.by_attribute → IsRising Aevt (facts_by_attribute kept)
+pub by_attribute_rises : (kept : FactMaps) → IsOrdered place_cmp kept.by_attribute → IsRising Aevt (facts_by_attribute kept)
 by_attribute_rises kept ordered = sorted_rises place_cmp Aevt fact_of_attribute attribute_below kept.by_attribute.entries ordered
 
-pub by_value_rises : (kept : Kept) → IsOrdered content_cmp kept.by_value → IsRising Vaet (facts_by_value kept)
+pub by_value_rises : (kept : FactMaps) → IsOrdered content_cmp kept.by_value → IsRising Vaet (facts_by_value kept)
 by_value_rises kept ordered = sorted_rises content_cmp Vaet fact_of_value value_below kept.by_value.entries ordered

@@ -13,7 +13,7 @@ use Rattle.fb_model.specs.Facts.{holds, facts}
 use Rattle.fb_model.specs.Rising.{IsRisingListOf}
 use Rattle.fb_model.specs.Schema.{is_about}
 use Rattle.fb_model.proofs.Members.{standing_member, any_member}
-use Rattle.fb_facts.specs.Told.{facts_in, values_of}
+use Rattle.fb_facts.specs.FactLists.{facts_in, values_of}
 use Rattle.held_facts.proofs.Maps.{contains_head}
 
 is_user : (h : List Entry) (e : ℕ) → nat_lt (users_issued h) (user_number e) ≡ true → e ≡ user_entity (user_number e)

@@ -14,8 +14,8 @@ use Rattle.fb_values.specs.declared.facts.Value.{Value}
 use Rattle.fb_values.specs.declared.facts.Value.TheVariants.{Keyword, Str, Bool as Boolean, Long, Ref, Instant, Uuid, Symbol, Uri}
 use Rattle.fb_model.specs.Facts.{value_eq}
 use Rattle.fb_model.specs.Schema.{is_about}
-use Rattle.fb_facts.specs.Told.{is_of_entity, is_ref_to, is_under}
-use Rattle.held_facts.specs.Kept.{place_cmp, content_cmp, fact_of_entity, fact_of_attribute, fact_of_value, is_with}
+use Rattle.fb_facts.specs.FactLists.{is_of_entity, is_ref_to, is_under}
+use Rattle.held_facts.specs.FactMaps.{place_cmp, content_cmp, fact_of_entity, fact_of_attribute, fact_of_value, is_with}
 use Rattle.held_facts.proofs.Steps.{eq_then, same_number}
 use Rattle.held_facts.proofs.Ranges.{Opens, opens}
 

@@ -10,7 +10,7 @@ use Rattle.std.specs.Cmp.{eq_by_cmp_equiv}
 use Rattle.std.proofs.lemmas.Map.Made.{is_some-lookup}
 use Rattle.fb_values.specs.declared.facts.Value.{Value}
 use Rattle.fb_model.specs.Facts.{is_of}
-use Rattle.held_facts.specs.Kept.{place_cmp, fact_of_entity}
+use Rattle.held_facts.specs.FactMaps.{place_cmp, fact_of_entity}
 use Rattle.held_facts.proofs.Steps.{of_entity}
 use Rattle.held_facts.proofs.Maps.{place_total}
 

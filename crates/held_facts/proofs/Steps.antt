@@ -9,8 +9,8 @@ use Rattle.fb_values.specs.Orders.{value_cmp}
 use Rattle.fb_values.specs.declared.facts.Datom.{Datom}
 use Rattle.fb_values.specs.declared.facts.Value.{Value}
 use Rattle.fb_model.specs.Facts.{value_eq, is_of}
-use Rattle.held_facts.specs.declared.kept.Kept.{Kept}
-use Rattle.held_facts.specs.Kept.{place_cmp, content_cmp, left_by, t_after, HasFacts}
+use Rattle.held_facts.specs.declared.fact_maps.FactMaps.{FactMaps}
+use Rattle.held_facts.specs.FactMaps.{place_cmp, content_cmp, left_by, t_after, HasFacts}
 
 -- ---- as the datoms tell it
 
@@ -86,7 +86,7 @@ module _ {K : Type 0} (cmp : K → K → Ordering) (key : ℕ → ℕ → Value 
       ∙ sym (t_after-push None before d e a x)
 
 -- what one datom does to the maps: each is updated at the datom's triple, whose value is a copy of the datom's
-pub record Follows (d : Datom) (old new : Kept) (left : Option ℕ) (u v w : Value) : Type 0 where
+pub record Follows (d : Datom) (old new : FactMaps) (left : Option ℕ) (u v w : Value) : Type 0 where
   pub leaves : left_by d ≡ left
   pub is_u : u ≡ d.v
   pub is_v : v ≡ d.v
@@ -98,7 +98,7 @@ pub record Follows (d : Datom) (old new : Kept) (left : Option ℕ) (u v w : Val
   pub attributes_ordered : IsOrdered place_cmp new.by_attribute
   pub values_ordered : IsOrdered content_cmp new.by_value
 
-pub followed : (before : List Datom) (d : Datom) (old new : Kept) (left : Option ℕ) (u v w : Value) → Follows d old new left u v w
+pub followed : (before : List Datom) (d : Datom) (old new : FactMaps) (left : Option ℕ) (u v w : Value) → Follows d old new left u v w
     → HasFacts before old → HasFacts (before ++ d ∷ []) new
 followed before d old new left u v w is has =
     record {

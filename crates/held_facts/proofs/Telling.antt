@@ -14,9 +14,9 @@ use Rattle.fb_model.specs.Facts.{is_of, holds, facts}
 use Rattle.fb_model.specs.Schema.{is_about}
 use Rattle.fb_model.proofs.Members.{any_member, some_member, kept as passed, keep}
 use Rattle.fb_model.proofs.Triples.{holds-facts}
-use Rattle.fb_facts.specs.Told.{facts_in, values_of, facts_of, refs_to, facts_under, is_of_entity, is_ref_to, is_under}
-use Rattle.held_facts.specs.declared.kept.Kept.{Kept}
-use Rattle.held_facts.specs.Kept.{HasFacts, facts_by_entity, facts_by_attribute, facts_by_value}
+use Rattle.fb_facts.specs.FactLists.{facts_in, values_of, facts_of, refs_to, facts_under, is_of_entity, is_ref_to, is_under}
+use Rattle.held_facts.specs.declared.fact_maps.FactMaps.{FactMaps}
+use Rattle.held_facts.specs.FactMaps.{HasFacts, facts_by_entity, facts_by_attribute, facts_by_value}
 use Rattle.held_facts.proofs.Maps.{is_told, rising_filtered, by_entity_members, by_attribute_members, by_value_members, by_entity_rises}
 use Rattle.held_facts.proofs.Maps.{by_attribute_rises, by_value_rises}
 
@@ -33,7 +33,7 @@ told : (h : List Entry) (order : Order) (p : Datom → Bool) (ds : List Datom) �
     → ((d : Datom) → Contains ds d ↔ Contains (facts h) d) → filter p ds ≡ facts_in order p h
 told h order p ds rising same = is_told h order p (filter p ds) (rising_filtered order p ds rising) (members_filtered p ds (facts h) same)
 
-module _ (h : List Entry) (kept : Kept) (has : HasFacts (said h) kept) where
+module _ (h : List Entry) (kept : FactMaps) (has : HasFacts (said h) kept) where
   told_by_entity : (p : Datom → Bool) → filter p (facts_by_entity kept) ≡ facts_in Eavt p h
   told_by_entity p = told h Eavt p (facts_by_entity kept) (by_entity_rises kept has.entities_ordered) (by_entity_members (said h) kept has)
 
@@ -65,7 +65,7 @@ any_same p ds es same = go (list_any p ds) refl (list_any p es) refl
     go false is true also =
         let one = some_member p es also in absurd (true≢false (sym (any_member p ds one.0 ((same one.0).1 one.1) one.2) ∙ is))
 
-pub told_holds : (h : List Entry) (kept : Kept) → HasFacts (said h) kept → (e a : ℕ) (v : Value)
+pub told_holds : (h : List Entry) (kept : FactMaps) → HasFacts (said h) kept → (e a : ℕ) (v : Value)
     → list_any (is_of e a v) (facts_by_entity kept) ≡ holds h e a v
 told_holds h kept has e a v =
     any_same (is_of e a v) (facts_by_entity kept) (facts h) (by_entity_members (said h) kept has) ∙ sym (holds-facts h e a v)

@@ -1,22 +1,22 @@
 //! What is asked of the facts that hold. Each answer is a range of one of the maps: it begins at the first place where its
-//! facts may stand, and ends before the first that is not one of them.
+//! facts may be, and ends before the first that is not one of them.
 ghost use Rattle.std.specs.Prelude.{◌≡◌, [], map, filter, IfOk};
 ghost use Rattle.std.specs.List.{list_any, find};
 ghost use Rattle.std.specs.Option.{option_map};
 ghost use Rattle.fb_values.specs.declared.facts.Value.TheVariants.{Keyword};
 ghost use Rattle.fb_model.specs.Facts.{is_of};
 ghost use Rattle.fb_model.specs.Schema.{is_about};
-ghost use Rattle.fb_facts.specs.Told.{is_of_entity, is_ref_to, is_under};
-ghost use Rattle.held_facts.specs.Kept.{is_with, fact_of_entity, fact_of_attribute, fact_of_value};
-ghost use Rattle.held_facts.specs.Kept.{facts_by_entity, facts_by_attribute, facts_by_value};
+ghost use Rattle.fb_facts.specs.FactLists.{is_of_entity, is_ref_to, is_under};
+ghost use Rattle.held_facts.specs.FactMaps.{is_with, fact_of_entity, fact_of_attribute, fact_of_value};
+ghost use Rattle.held_facts.specs.FactMaps.{facts_by_entity, facts_by_attribute, facts_by_value};
 
-use crate::kept::Kept;
+use crate::fact_maps::FactMaps;
 use fb_memory::Memory;
 use fb_text::Text;
 use fb_values::{Datom, Value};
 use std::alloc::Global;
 
-impl Kept {
+impl FactMaps {
     /// Where memory does not allow one reference more to the value's text, everything is walked: a search has to have the
     /// value as a part of a key.
     pub fn holds(&self, e: u64, a: u64, v: &Value) -> bool
@@ -150,7 +150,7 @@ fn fact_of_value(content: &(Value, u64, u64), t: u32) -> Result<Datom, Memory>
     })
 }
 
-/// The value that stands before every other one.
+/// The value that is below every other one.
 fn least_value(alloc: Global) -> Result<Value, Memory>
     ensures { IfOk result (λ v. v ≡ Keyword []) }
 {

@@ -1,10 +1,10 @@
-//! What a held history tells of its facts. Of a user entity behind the last one nothing is sought.
+//! What a held history answers of its facts. Of a user entity after the last one nothing is sought.
 ghost use Rattle.std.specs.Prelude.{◌≡◌, nat_lt};
 ghost use Rattle.fb_numbers.specs.Numbers.{user_number as model_user_number};
 ghost use Rattle.fb_model.specs.History.{users_issued};
 
 use crate::held::Held;
-use fb_facts::{Facts, told_lists_are_the_rising_ones};
+use fb_facts::{Facts, the_lists_are_the_rising_ones};
 use fb_memory::Memory;
 use fb_model::new_users_have_no_facts;
 use fb_numbers::user_number;
@@ -38,7 +38,7 @@ impl Facts for Held {
     }
 
     fn values_of(&self, e: u64, a: u64) -> Result<Vec<Value>, Memory> {
-        told_lists_are_the_rising_ones();
+        the_lists_are_the_rising_ones();
         new_users_have_no_facts();
         if self.is_new(e) {
             return Ok(Vec::new(self.alloc));

@@ -3,7 +3,7 @@ ghost use Rattle.std.specs.Prelude.{◌≡◌, ◌<◌, ◌^◌, ◌-◌, ◌++�
 ghost use Rattle.fb_model.specs.FirstEntry.{first_entry};
 ghost use Rattle.fb_model.specs.History as model;
 
-use crate::kept::{Kept, follow_all};
+use crate::fact_maps::{FactMaps, follow_all};
 use fb_history::EntryList;
 use fb_memory::Memory;
 use fb_numbers::user_number;
@@ -19,14 +19,14 @@ pub struct Held {
     pub(crate) basis: u32,
     pub(crate) instant: i64,
     pub(crate) users: u64,
-    pub(crate) kept: Kept,
+    pub(crate) kept: FactMaps,
 }
 
 impl Model for Held {
     ghost use Rattle.std.specs.Prelude.{◌≡◌, List};
     ghost use Rattle.fb_values.specs.declared.facts.Entry.{Entry};
     ghost use Rattle.fb_model.specs.History as model;
-    ghost use Rattle.held_facts.specs.Kept.{HasFacts};
+    ghost use Rattle.held_facts.specs.FactMaps.{HasFacts};
 
     ghost Value = { List Entry };
 
@@ -48,7 +48,7 @@ impl Held {
         let (basis, instant) = (first.t, first.instant);
         let datoms = first.datoms.as_slice();
         let users = greatest_user(0, datoms);
-        let mut kept = Kept::new(alloc);
+        let mut kept = FactMaps::new(alloc);
         follow_all(&mut kept, datoms)?;
         Ok(Held {
             alloc,

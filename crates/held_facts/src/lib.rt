@@ -3,8 +3,8 @@
 #![tactic(auto)]
 
 mod asked;
+mod fact_maps;
 mod facts;
 mod held;
-mod kept;
 
 pub use held::Held;

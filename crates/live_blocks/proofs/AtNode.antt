@@ -19,7 +19,8 @@ pub record AtFork (d l : List Datom × ℕ) (m : Datom) (r : List Datom × ℕ) 
   pub fits : length d.0 < 2 ^ 64
   pub low : least_len d.1 ≤ length d.0 + 1
 
-pub at_fork : {n : Node} {d : List Datom × ℕ} {l r : Arc Tree Global} {m : Datom} {before len height : ℕ} → datoms_and_height n ≡ d → IsTree n → n ≡ Fork l m r before len height → AtFork d (arc_value l) m (arc_value r) before len height
+pub at_fork : {n : Node} {d : List Datom × ℕ} {l r : Arc Tree Global} {m : Datom} {before len height : ℕ} → datoms_and_height n ≡ d
+    → IsTree n → n ≡ Fork l m r before len height → AtFork d (arc_value l) m (arc_value r) before len height
 at_fork {l = l} {r = r} {m = m} {before = before} {len = len} {height = height} view good is =
     let e = sym view ∙ ap datoms_and_height is in
     let datoms = ap (λ (p : List Datom × ℕ). p.0) e in
@@ -34,7 +35,8 @@ at_fork {l = l} {r = r} {m = m} {before = before} {len = len} {height = height} 
       long = rw datoms (omega (arith, length-append (arc_value l).0 (m ∷ (arc_value r).0)));
     }
 
-pub leaf_low : {n : Node} {d : List Datom × ℕ} {datoms : Vec Datom Global} → datoms_and_height n ≡ d → IsTree n → n ≡ Leaf datoms → least_len d.1 ≤ length d.0 + 1
+pub leaf_low : {n : Node} {d : List Datom × ℕ} {datoms : Vec Datom Global} → datoms_and_height n ≡ d → IsTree n → n ≡ Leaf datoms
+    → least_len d.1 ≤ length d.0 + 1
 leaf_low {d = d} {datoms = datoms} view good is =
     let e = sym view ∙ ap datoms_and_height is in
     let some = subst IsTree is good in

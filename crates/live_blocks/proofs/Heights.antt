@@ -74,7 +74,8 @@ least_len-digits (suc (suc k)) =
     let f : 2 * suc k + 9 ≡ suc (2 * suc k + 8) = omega arith in
     let g : 10 + 2 * k ≡ 2 * suc k + 8 = omega arith in
     let some : least_len 10 ≤ least_len (2 * suc k + 8) = rw (← g) (least_len-monotone 10 (2 * k)) in
-    let next : least_len (suc (2 * suc k + 9)) ≡ least_len (2 * suc k + 9) + least_len (2 * suc k + 8) = rw f (least_len-two (2 * suc k + 8)) in
+    let next : least_len (suc (2 * suc k + 9)) ≡ least_len (2 * suc k + 9) + least_len (2 * suc k + 8) =
+    rw f (least_len-two (2 * suc k + 8)) in
     rw (e, least_len-two (2 * suc k + 9), next, pow-suc 2 (suc k)) (omega (arith, least_len-digits (suc k), some, least_len-10))
 
 -- a tree of few datoms is low
@@ -82,7 +83,8 @@ pub height_within : (h len digits : ℕ) → least_len h ≤ len + 1 → blocks_
 height_within h len digits low few =
     elim (cases_lt (2 * digits + 8) h) [
       | inl high ↦
-          let more : least_len (2 * digits + 9) ≤ least_len (2 * digits + 9 + (h - (2 * digits + 9))) = least_len-monotone (2 * digits + 9) (h - (2 * digits + 9)) in
+          let more : least_len (2 * digits + 9) ≤ least_len (2 * digits + 9 + (h - (2 * digits + 9))) =
+          least_len-monotone (2 * digits + 9) (h - (2 * digits + 9)) in
           let is : 2 * digits + 9 + (h - (2 * digits + 9)) ≡ h = omega arith in
           let reached : least_len (2 * digits + 9) ≤ least_len h = rw is at more in
           absurd (omega (arith, reached, least_len-digits digits))

@@ -11,7 +11,8 @@ between_run ls m rs place at =
     }
 
 -- behind the element that stands between
-pub right_run : {X : Type 0} (ls : List X) (m : X) (rs : List X) (place j : ℕ) (run : List X) → place ≡ length ls + suc j → IsRunAt rs j run → IsRunAt (ls ++ m ∷ rs) place run
+pub right_run : {X : Type 0} (ls : List X) (m : X) (rs : List X) (place j : ℕ) (run : List X) → place ≡ length ls + suc j → IsRunAt rs j run
+    → IsRunAt (ls ++ m ∷ rs) place run
 right_run ls m rs place j run at is =
     let next : place + length run ≡ length ls + suc (j + length run) = omega (arith, at) in
     record {

@@ -1,4 +1,4 @@
--- What a tree, or none, stands for.
+-- The datoms of a tree, or of none.
 -- This project's own choice.
 use Rattle.std.specs.Prelude.{List, [], Option, Some, None}
 use Rattle.std.specs.Arc.{arc_value}

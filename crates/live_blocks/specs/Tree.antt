@@ -1,4 +1,4 @@
--- What a node of the balanced tree stands for, and what holds of it.
+-- The datoms that a node of the balanced tree has, and what holds of it.
 -- This project's own choice.
 use Rattle.std.specs.Prelude.{◌≡◌, ℕ, ◌+◌, ◌^◌, ◌<◌, ◌≤◌, max, List, ◌∷◌, ◌++◌, length}
 use Rattle.std.specs.Arc.{arc_value}

@@ -6,7 +6,8 @@ use Rattle.std.specs.Prelude.{◌≡◌, ℕ, zero, suc, ◌+◌, ◌/◌, ◌�
 abbrev pub DifferByAtMost : ℕ → ℕ → ℕ → Type 0
 DifferByAtMost by l r = (l ≤ r + by) × (r ≤ l + by)
 
--- one more than the datoms that a balanced tree of this height has at the least: its sides are one fork and two forks lower
+-- one more than the datoms that a balanced tree of this height has at the least:
+-- its sides are one fork and two forks lower
 unfoldable pub least_len : ℕ → ℕ
 least_len zero = 2
 least_len (suc zero) = 4

@@ -1,10 +1,11 @@
 -- Walks along a list, from its front.
 -- This project's own choice.
 use denote.Ref.{Bor}
-use Rattle.std.specs.Prelude.{◌≡◌, ℕ, ◌+◌, ◌<◌, List, [], ◌∷◌, ◌++◌, length, drop, Option, Some, None}
+use Rattle.std.specs.Prelude.{◌≡◌, ℕ, ◌+◌, ◌<◌, List, [], ◌∷◌, ◌++◌, length, drop, Option, Some}
+use Rattle.std.specs.Prelude.{None}
 use Rattle.fb_values.specs.declared.facts.Datom.{Datom}
 
--- the first of what was left, behind which the rest is left; or nothing was left
+-- the first of what was left, after which the rest is left; or nothing was left
 abbrev pub IsFirstOf : List Datom → List Datom → Option (Bor Datom) → Type 0
 IsFirstOf old new None = (old ≡ []) × (new ≡ [])
 IsFirstOf old new (Some d) = old ≡ d.now ∷ new

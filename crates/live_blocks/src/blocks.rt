@@ -6,7 +6,7 @@ ghost use Rattle.std.specs.Option.{option_copied};
 ghost use Rattle.fb_values.specs.Rising.{IsRising};
 ghost use Rattle.fb_search.specs.Places.{place_of, probe_of};
 ghost use Rattle.live_blocks.specs.Trees.{blocks_at_least};
-ghost use Rattle.live_blocks.specs.Woven.{StandWithin, woven};
+ghost use Rattle.live_blocks.specs.Woven.{RiseWithin, woven};
 ghost use Rattle.live_blocks.specs.Blocks.{datoms_of};
 ghost use Rattle.live_blocks.specs.Walks.{IsRunAt};
 
@@ -115,11 +115,11 @@ impl Blocks {
         })
     }
 
-    /// The list with newer datoms woven in, each behind as many of its own as `below` says. What another list shares is
+    /// The list with newer datoms woven in, each after as many of its own as `below` says. What another list shares is
     /// copied as far as it changes; the rest stays shared.
     pub fn with_datoms(self, below: &[usize], new: &[Shared<Datom>]) -> Result<Blocks, Memory>
         requires same { length below.now ≡ length new.now }
-        requires stand { StandWithin 0 (length self) below.now }
+        requires stand { RiseWithin 0 (length self) below.now }
         requires fits { length self + length new.now < 2 ^ 64 }
         ensures { IfOk result (λ blocks. blocks ≡ woven 0 self below.now new.now) }
     {
@@ -179,7 +179,7 @@ fn grown(
 ) -> Result<Arc<Tree>, Memory>
     requires some { 0 < length new.now }
     requires same { length below.now ≡ length new.now }
-    requires stand { StandWithin 0 (length (datoms_of root)) below.now }
+    requires stand { RiseWithin 0 (length (datoms_of root)) below.now }
     requires fits { length (datoms_of root) + length new.now < 2 ^ 64 }
     ensures { IfOk result
         (λ tree. (arc_value tree).0 ≡ woven 0 (datoms_of root) below.now new.now) }

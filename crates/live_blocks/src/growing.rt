@@ -1,7 +1,7 @@
 //! Newer datoms woven into a tree, and a tree made of datoms.
 ghost use Rattle.std.specs.Prelude.{◌≡◌, ◌+◌, ◌^◌, ◌<◌, ◌≤◌, length, take, drop, ◌-◌, IfOk, OnOk};
 ghost use Rattle.std.specs.Arc.{arc_value};
-ghost use Rattle.live_blocks.specs.Woven.{StandWithin, newer_upto, woven};
+ghost use Rattle.live_blocks.specs.Woven.{RiseWithin, newer_upto, woven};
 
 use crate::joining::join;
 use crate::tree::{BLOCK, Node, Tree, take};
@@ -11,7 +11,7 @@ use fb_values::Datom;
 use std::alloc::Global;
 use std::sync::Arc;
 
-/// A tree with newer datoms woven in, each behind as many of its datoms as `below` says, counted from `from`.
+/// A tree with newer datoms woven in, each after as many of its datoms as `below` says, counted from `from`.
 pub fn with_datoms(
     alloc: Global,
     tree: Arc<Tree>,
@@ -20,7 +20,7 @@ pub fn with_datoms(
     new: &[Shared<Datom>],
 ) -> Result<Arc<Tree>, Memory>
     requires same { length below.now ≡ length new.now }
-    requires stand { StandWithin from (from + length (arc_value tree).0) below.now }
+    requires stand { RiseWithin from (from + length (arc_value tree).0) below.now }
     requires fits { from + length (arc_value tree).0 + length new.now < 2 ^ 64 }
     ensures { IfOk result
         (λ grown. (arc_value grown).0 ≡ woven from (arc_value tree).0 below.now new.now) }
@@ -50,7 +50,7 @@ pub fn with_datoms(
     }
 }
 
-/// How many of the newer datoms stand before the datom at a place of the tree.
+/// How many of the newer datoms come before the datom at a place of the tree.
 fn newer_upto(below: &[usize], place: usize) -> usize
     ensures { result ≡ newer_upto place below.now }
 {
@@ -67,7 +67,7 @@ pub fn block_with(
 ) -> Result<Tree, Memory>
     requires some { 0 < length datoms.items + length new.now }
     requires same { length below.now ≡ length new.now }
-    requires stand { StandWithin from (from + length datoms.items) below.now }
+    requires stand { RiseWithin from (from + length datoms.items) below.now }
     ensures { IfOk result (λ tree. tree.0 ≡ woven from datoms.items below.now new.now) }
 {
     let mut all = datoms;

@@ -41,7 +41,7 @@ pub enum Node {
         before: usize,
         /// How many datoms the whole has.
         len: usize,
-        /// How many forks stand on the longest way down.
+        /// How many forks are on the longest way down.
         height: usize,
     },
 }

@@ -14,7 +14,7 @@ pub struct Walk<'a> {
     list: &'a Blocks,
     /// What is left of the datoms at hand.
     run: &'a [Shared<Datom>],
-    /// The place behind them.
+    /// The place after them.
     behind: usize,
 }
 

@@ -1,12 +1,14 @@
 -- What the list of the live index is after each step of an entry.
-use Rattle.std.proofs.Common.{◌≡◌, ℕ, zero, suc, ◌+◌, ◌<◌, ◌≤◌, ◌⊎◌, Bool, true, false, cond, List, [], ◌∷◌, ◌++◌, length, take, get_or, refl, sym, ap, ◌∙◌, subst, inl, inr, arith, Option, Some, None}
+use Rattle.std.proofs.Common.{◌≡◌, ℕ, zero, suc, ◌+◌, ◌<◌, ◌≤◌, ◌⊎◌, Bool, true, false, cond, List, [], ◌∷◌, ◌++◌, length, take, get_or}
+use Rattle.std.proofs.Common.{refl, sym, ap, ◌∙◌, subst, inl, inr, arith, Option, Some, None}
 use Rattle.std.specs.Prelude.{◌↔◌, Contains, filter, IsTrue, IsSomeAnd, IfOk, Result, Ok, Err}
 use Rattle.std.specs.List.{All, insert, slice_get}
 use Rattle.std.specs.Ordering.{is_eq}
 use Rattle.std.specs.declared.cmp.Ordering.{Ordering}
 use Rattle.std.specs.declared.cmp.Ordering.TheVariants.{Less, Equal, Greater}
 use Rattle.std.proofs.lemmas.List.{take_more, take_all, get_or_default}
-use Rattle.std.proofs.lemmas.List.Elements.{Contains-append_left, Contains-append_right, Contains-append_cases, Contains-push, Contains-push_cases}
+use Rattle.std.proofs.lemmas.List.Elements.{Contains-append_left, Contains-append_right, Contains-append_cases, Contains-push}
+use Rattle.std.proofs.lemmas.List.Elements.{Contains-push_cases}
 use Rattle.std.proofs.lemmas.Option.{slice_get_cases, get_or_from_slice_get}
 use Rattle.fb_values.specs.declared.facts.Datom.{Datom}
 use Rattle.fb_values.specs.declared.indexes.Order.{Order}
@@ -14,7 +16,7 @@ use Rattle.fb_values.specs.declared.indexes.Order.TheVariants.{Avet}
 use Rattle.fb_values.specs.Orders.{key_cmp}
 use Rattle.fb_values.specs.OrderLaws.{key_cmp-Equal}
 use Rattle.fb_covers.specs.Coverage.{Coverage, StaysIn}
-use Rattle.fb_values.specs.Rising.{StandsBefore, IsRising}
+use Rattle.fb_values.specs.Rising.{IsBelowAll, IsRising}
 use Rattle.live_index.specs.Growth.{HasNoTwins, is_held, IsGrown, IsSound, is_twin}
 use Rattle.live_index.proofs.Members.{contains-cons, contains_none, from_filter, into_filter, filter_all, contains-insert}
 
@@ -31,7 +33,8 @@ equal_from_test Less h = absurd (cc)
 equal_from_test Equal h = refl
 equal_from_test Greater h = absurd (cc)
 
-found_is : (order : Order) (list : List Datom) (datom : Datom) (place : ℕ) (x : Datom) → HasNoTwins (list ++ datom ∷ []) → slice_get list place ≡ Some x → place < length list → is_twin order datom (Some x) ≡ true → Contains list datom
+found_is : (order : Order) (list : List Datom) (datom : Datom) (place : ℕ) (x : Datom) → HasNoTwins (list ++ datom ∷ [])
+    → slice_get list place ≡ Some x → place < length list → is_twin order datom (Some x) ≡ true → Contains list datom
 found_is order list datom place x single read within twin =
     let at : get_or list place x ≡ x = get_or_from_slice_get list place x x read in
     let there : Contains list x = (place, within, at) in
@@ -40,11 +43,13 @@ found_is order list datom place x single read within twin =
     subst (Contains list) is there
 
 -- a datom whose key is there is there itself
-pub twin_there : (order : Order) (list : List Datom) (datom : Datom) (place : ℕ) → HasNoTwins (list ++ datom ∷ []) → is_twin order datom (slice_get list place) ≡ true → Contains list datom
+pub twin_there : (order : Order) (list : List Datom) (datom : Datom) (place : ℕ) → HasNoTwins (list ++ datom ∷ [])
+    → is_twin order datom (slice_get list place) ≡ true → Contains list datom
 twin_there order list datom place single twin =
     elim (slice_get_cases list place).1 [
       | inl found ↦ found_is order list datom place found.0 single found.2 found.1 (rw found.2 at twin)
-      | inr past ↦ let T : Option Datom → Type 0 = λ o. is_twin order datom o ≡ true in let none : false ≡ true = subst T past.1 twin in absurd (cc)
+      | inr past ↦
+          let T : Option Datom → Type 0 = λ o. is_twin order datom o ≡ true in let none : false ≡ true = subst T past.1 twin in absurd (cc)
     ]
 
 pub gains_there : (list : List Datom) (datom : Datom) (P : Datom → Type 0) → Contains list datom → Gains list (λ d. (datom ≡ d) × P d) list
@@ -56,7 +61,8 @@ gains_there list datom P there d = (
   ],
 )
 
-pub gains_inserted : (list : List Datom) (place : ℕ) (datom : Datom) (new : List Datom) (P : Datom → Type 0) → P datom → new ≡ insert list place datom → Gains list (λ d. (datom ≡ d) × P d) new
+pub gains_inserted : (list : List Datom) (place : ℕ) (datom : Datom) (new : List Datom) (P : Datom → Type 0) → P datom
+    → new ≡ insert list place datom → Gains list (λ d. (datom ≡ d) × P d) new
 gains_inserted list place datom new P holds is d = (
   λ there. elim ((contains-insert list place datom d).0 (subst (λ (ds : List Datom). Contains ds d) is there)) [
     | inl before ↦ inl before
@@ -78,7 +84,9 @@ from_take (suc n) (y ∷ xs) x there =
     ]
 
 -- the list so far and the next datom are of the list before and the datoms
-pub single_next : (old list datoms : List Datom) (i : ℕ) (item : Datom) (P : Datom → Type 0) → HasNoTwins (old ++ datoms) → Gains old (λ d. Contains (take i datoms) d × P d) list → i < length datoms → item ≡ get_or datoms i item → HasNoTwins (list ++ item ∷ [])
+pub single_next : (old list datoms : List Datom) (i : ℕ) (item : Datom) (P : Datom → Type 0)
+    → HasNoTwins (old ++ datoms) → Gains old (λ d. Contains (take i datoms) d × P d) list → i < length datoms → item ≡ get_or datoms i item
+    → HasNoTwins (list ++ item ∷ [])
 single_next old list datoms i item P single gains within is =
     single_part (list ++ item ∷ []) (old ++ datoms) (λ d there.
     elim (Contains-push_cases list item d there) [
@@ -89,9 +97,12 @@ single_next old list datoms i item P single gains within is =
       | inr same ↦ Contains-append_right old datoms d (i, within, get_or_default datoms i d item within ∙ sym is ∙ same)
     ]) single
 
-pub gains_more : (old list datoms new : List Datom) (i : ℕ) (item : Datom) (P : Datom → Type 0) → Gains old (λ d. Contains (take i datoms) d × P d) list → i < length datoms → item ≡ get_or datoms i item → Gains list (λ d. (item ≡ d) × P d) new → Gains old (λ d. Contains (take (i + 1) datoms) d × P d) new
+pub gains_more : (old list datoms new : List Datom) (i : ℕ) (item : Datom) (P : Datom → Type 0)
+    → Gains old (λ d. Contains (take i datoms) d × P d) list → i < length datoms → item ≡ get_or datoms i item
+    → Gains list (λ d. (item ≡ d) × P d) new → Gains old (λ d. Contains (take (i + 1) datoms) d × P d) new
 gains_more old list datoms new i item P gains within is one d =
-    let split : take (i + 1) datoms ≡ take i datoms ++ item ∷ [] = take_more datoms i item within ∙ ap (λ (z : Datom). take i datoms ++ z ∷ []) (sym is) in (
+    let split : take (i + 1) datoms ≡ take i datoms ++ item ∷ [] =
+    take_more datoms i item within ∙ ap (λ (z : Datom). take i datoms ++ z ∷ []) (sym is) in (
       λ there. elim ((one d).0 there) [
         | inl inside ↦ elim ((gains d).0 inside) [
           | inl before ↦ inl before
@@ -108,20 +119,22 @@ gains_more old list datoms new i item P gains within is one d =
       ]),
     )
 
-pub gains_all : (old list datoms : List Datom) (i : ℕ) (P : Datom → Type 0) → length datoms ≤ i → Gains old (λ d. Contains (take i datoms) d × P d) list → Gains old (λ d. Contains datoms d × P d) list
+pub gains_all : (old list datoms : List Datom) (i : ℕ) (P : Datom → Type 0) → length datoms ≤ i
+    → Gains old (λ d. Contains (take i datoms) d × P d) list → Gains old (λ d. Contains datoms d × P d) list
 gains_all old list datoms i P over gains = rw (take_all i datoms over) at gains
 
 -- only held datoms are left where the coverage stays
 -- where no attribute leaves the order's index, all datoms are held as before
-pub sound_filter : (order : Order) (old : Option Coverage) (new : Coverage) (ds : List Datom) → IsSomeAnd old (λ c. StaysIn order c new) → IsSound order old ds → filter (is_held new order) ds ≡ ds
+pub sound_filter : (order : Order) (old : Option Coverage) (new : Coverage) (ds : List Datom) → IsSomeAnd old (λ c. StaysIn order c new)
+    → IsSound order old ds → filter (is_held new order) ds ≡ ds
 sound_filter order None new ds stays sound = absurd stays
 sound_filter order (Some old) new ds stays sound =
     filter_all (is_held new order) ds (λ k d within. stays (get_or ds k d).a (sound.1 k d within))
 
-before-filter : (order : Order) (x : Datom) (p : Datom → Bool) (xs : List Datom) → StandsBefore order x xs → StandsBefore order x (filter p xs)
+before-filter : (order : Order) (x : Datom) (p : Datom → Bool) (xs : List Datom) → IsBelowAll order x xs → IsBelowAll order x (filter p xs)
 before-filter order x p [] before = tt
 before-filter order x p (y ∷ ys) before =
-    elim (p y) as (λ b. StandsBefore order x (cond b (y ∷ filter p ys) (filter p ys))) [
+    elim (p y) as (λ b. IsBelowAll order x (cond b (y ∷ filter p ys) (filter p ys))) [
       | true ↦ (before.0, before-filter order x p ys before.1)
       | false ↦ before-filter order x p ys before.1
     ]
@@ -135,7 +148,11 @@ rising-filter order p (x ∷ xs) rising =
     ]
 
 -- after the three steps the list has grown by the entry
-pub grown : (order : Order) (coverage : Coverage) (old refill datoms kept refilled new : List Datom) → kept ≡ filter (is_held coverage order) old → Gains kept (λ d. (order ≡ Avet) × Contains refill d × IsTrue (is_held coverage order d)) refilled → Gains refilled (λ d. Contains datoms d × IsTrue (is_held coverage order d)) new → IsRising order new → IsGrown order coverage old refill datoms new
+pub grown : (order : Order) (coverage : Coverage) (old refill datoms kept refilled new : List Datom)
+    → kept ≡ filter (is_held coverage order) old
+    → Gains kept (λ d. (order ≡ Avet) × Contains refill d × IsTrue (is_held coverage order d)) refilled
+    → Gains refilled (λ d. Contains datoms d × IsTrue (is_held coverage order d)) new → IsRising order new
+    → IsGrown order coverage old refill datoms new
 grown order coverage old refill datoms kept refilled new kept_is refills adds rising =
     record {
       rising = rising;
@@ -158,20 +175,28 @@ grown order coverage old refill datoms kept refilled new kept_is refills adds ri
     }
 
 -- what is kept and what refills it have no twins
-pub single_kept : (order : Order) (coverage : Coverage) (old refill datoms kept : List Datom) → kept ≡ filter (is_held coverage order) old → HasNoTwins (old ++ refill ++ datoms) → HasNoTwins (kept ++ refill)
+pub single_kept : (order : Order) (coverage : Coverage) (old refill datoms kept : List Datom) → kept ≡ filter (is_held coverage order) old
+    → HasNoTwins (old ++ refill ++ datoms) → HasNoTwins (kept ++ refill)
 single_kept order coverage old refill datoms kept kept_is single =
     single_part (kept ++ refill) (old ++ refill ++ datoms) (λ d there.
     elim (Contains-append_cases kept refill d there) [
-      | inl before ↦ Contains-append_left (old ++ refill) datoms d (Contains-append_left old refill d (from_filter (is_held coverage order) old d (rw kept_is at before)).0)
+      | inl before ↦
+          Contains-append_left (old ++ refill) datoms d
+          (Contains-append_left old refill d (from_filter (is_held coverage order) old d (rw kept_is at before)).0)
       | inr filled ↦ Contains-append_left (old ++ refill) datoms d (Contains-append_right old refill d filled)
     ]) single
 
-pub single_refilled : (order : Order) (coverage : Coverage) (old refill datoms kept refilled : List Datom) → kept ≡ filter (is_held coverage order) old → Gains kept (λ d. (order ≡ Avet) × Contains refill d × IsTrue (is_held coverage order d)) refilled → HasNoTwins (old ++ refill ++ datoms) → HasNoTwins (refilled ++ datoms)
+pub single_refilled : (order : Order) (coverage : Coverage) (old refill datoms kept refilled : List Datom)
+    → kept ≡ filter (is_held coverage order) old
+    → Gains kept (λ d. (order ≡ Avet) × Contains refill d × IsTrue (is_held coverage order d)) refilled
+    → HasNoTwins (old ++ refill ++ datoms) → HasNoTwins (refilled ++ datoms)
 single_refilled order coverage old refill datoms kept refilled kept_is gains single =
     single_part (refilled ++ datoms) (old ++ refill ++ datoms) (λ d there.
     elim (Contains-append_cases refilled datoms d there) [
       | inl before ↦ elim ((gains d).0 before) [
-        | inl was ↦ Contains-append_left (old ++ refill) datoms d (Contains-append_left old refill d (from_filter (is_held coverage order) old d (rw kept_is at was)).0)
+        | inl was ↦
+            Contains-append_left (old ++ refill) datoms d
+            (Contains-append_left old refill d (from_filter (is_held coverage order) old d (rw kept_is at was)).0)
         | inr filled ↦ Contains-append_left (old ++ refill) datoms d (Contains-append_right old refill d filled.1)
       ]
       | inr added ↦ Contains-append_right (old ++ refill) datoms d added
@@ -183,7 +208,9 @@ both_ok (Ok x) P Q R give p q = give x p q
 both_ok (Err e) P Q R give p q = p
 
 -- what is refilled first and then grown has grown by both
-pub grown_twice : (order : Order) (coverage : Coverage) (old refill filled datoms new : List Datom) → IsGrown order coverage old refill [] filled → IsGrown order coverage filled [] datoms new → IsGrown order coverage old refill datoms new
+pub grown_twice : (order : Order) (coverage : Coverage) (old refill filled datoms new : List Datom)
+    → IsGrown order coverage old refill [] filled → IsGrown order coverage filled [] datoms new
+    → IsGrown order coverage old refill datoms new
 grown_twice order coverage old refill filled datoms new first second =
     record {
       rising = second.rising;
@@ -213,6 +240,7 @@ grown_twice order coverage old refill filled datoms new first second =
     }
 
 -- all of a list that has grown are held
-pub grown_held : (order : Order) (coverage : Coverage) (old refill datoms new : List Datom) → IsGrown order coverage old refill datoms new → All (λ d. IsTrue (is_held coverage order d)) new
+pub grown_held : (order : Order) (coverage : Coverage) (old refill datoms new : List Datom) → IsGrown order coverage old refill datoms new
+    → All (λ d. IsTrue (is_held coverage order d)) new
 grown_held order coverage old refill datoms new is k d within =
     ((is.members (get_or new k d)).0 (k, within, get_or_default new k (get_or new k d) d within)).1

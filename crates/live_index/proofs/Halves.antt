@@ -1,5 +1,6 @@
 -- The two halves of a live list, and how they grow by an entry.
-use Rattle.std.proofs.Common.{◌≡◌, ◌∙◌, ◌≤◌, ◌⊎◌, inl, inr, Bool, true, false, not, ◌&&◌, cond, List, [], ◌∷◌, ◌++◌, refl, sym, ap, subst, arith}
+use Rattle.std.proofs.Common.{◌≡◌, ◌∙◌, ◌≤◌, ◌⊎◌, inl, inr, Bool, true, false, not, ◌&&◌, cond, List, [], ◌∷◌, ◌++◌, refl, sym, ap, subst}
+use Rattle.std.proofs.Common.{arith}
 use Rattle.std.specs.Prelude.{Contains}
 use Rattle.std.specs.List.{All}
 use Rattle.std.specs.Cmp.{tied_itself}
@@ -13,10 +14,10 @@ use Rattle.fb_values.specs.declared.indexes.Order.TheVariants.{Eavt, Aevt, Avet,
 use Rattle.fb_values.specs.Lists.{Lists, list_in}
 use Rattle.fb_values.specs.Orders.{key_cmp, key_of, value_cmp}
 use Rattle.fb_values.specs.OrderLaws.{IsAtOnePlace, key_cmp-Equal, key_cmp_total, value_cmp_total}
-use Rattle.fb_values.specs.Rising.{StandsBefore, IsRising}
+use Rattle.fb_values.specs.Rising.{IsBelowAll, IsRising}
 use Rattle.fb_values.proofs.Rising.{rises_from, rising_from}
 use Rattle.fb_covers.specs.Coverage.{Coverage}
-use Rattle.fb_model.specs.Facts.{standing, stands_before}
+use Rattle.fb_model.specs.Facts.{standing, is_last_assertion}
 use Rattle.fb_model.proofs.Members.{in_order-rises, in_order_member, some_member, any_member, standing_member}
 use Rattle.fb_model.proofs.Times.{same_keys}
 use Rattle.fb_model.proofs.Triples.{is_of-true}
@@ -26,7 +27,8 @@ use Rattle.live_index.specs.Ending.{is_mate, MayEnd, ends, are_ending, withdraws
 use Rattle.live_index.specs.Halves.{IsPair, both_lists, merged, withdrawn, AreHalves, MayFollow}
 use Rattle.live_index.proofs.Members.{contains-cons, contains_head, contains_tail, contains_none}
 use Rattle.live_index.proofs.Growing.{Gains, single_part}
-use Rattle.live_index.proofs.Together.{IsByTime, of_itself, before_all, before_member, IsLast, standing_last, last_stands, rising_by_time, rising-standing, of_back, of_through}
+use Rattle.live_index.proofs.Together.{IsByTime, of_itself, before_all, before_member, IsLast, standing_last, last_stands, rising_by_time}
+use Rattle.live_index.proofs.Together.{rising-standing, of_back, of_through}
 
 -- ---- both lists read as one
 
@@ -36,17 +38,21 @@ one_each order older live single = record { same = λ x y x_in y_in equal. singl
 pub merged_rises : (order : Order) (older live : List Datom) → IsRising order (merged order older live)
 merged_rises order older live = rising_from order (merged order older live) (in_order-rises order (older ++ live))
 
-pub from_merged : (order : Order) (older live : List Datom) (d : Datom) → Contains (merged order older live) d → Contains older d ⊎ Contains live d
+pub from_merged : (order : Order) (older live : List Datom) (d : Datom) → Contains (merged order older live) d
+    → Contains older d ⊎ Contains live d
 from_merged order older live d there = Contains-append_cases older live d (in_order_member order (older ++ live) d there)
 
-pub into_merged : (order : Order) (older live : List Datom) (d : Datom) → HasNoTwins (older ++ live) → Contains older d ⊎ Contains live d → Contains (merged order older live) d
+pub into_merged : (order : Order) (older live : List Datom) (d : Datom) → HasNoTwins (older ++ live) → Contains older d ⊎ Contains live d
+    → Contains (merged order older live) d
 into_merged order older live d single given =
     in_order_has order (older ++ live) (one_each order older live single) d
     (elim given [ inl a ↦ Contains-append_left older live d a | inr b ↦ Contains-append_right older live d b ])
 
 -- two rising lists of the same members are one
-pub same_list : (order : Order) (ds es : List Datom) → IsRising order ds → IsRising order es → ((d : Datom) → Contains ds d → Contains es d) → ((d : Datom) → Contains es d → Contains ds d) → ds ≡ es
-same_list order ds es rising also forth back = one_rising_list order ds es (rises_from order ds rising) (rises_from order es also) forth back
+pub same_list : (order : Order) (ds es : List Datom) → IsRising order ds → IsRising order es
+    → ((d : Datom) → Contains ds d → Contains es d) → ((d : Datom) → Contains es d → Contains ds d) → ds ≡ es
+same_list order ds es rising also forth back =
+    one_rising_list order ds es (rises_from order ds rising) (rises_from order es also) forth back
 
 -- ---- what does not stand
 
@@ -54,7 +60,7 @@ pub withdrawn_member : (ds : List Datom) (x : Datom) → Contains (withdrawn ds)
 withdrawn_member [] x there = there
 withdrawn_member (d ∷ ds) x there =
     let P : Bool → Type 0 = λ b. Contains (cond b (withdrawn ds) (d ∷ withdrawn ds)) x in
-    elim (cases_Bool (stands_before d ds)) [
+    elim (cases_Bool (is_last_assertion d ds)) [
       | inl stands ↦ contains_tail d ds x (withdrawn_member ds x (subst P stands there))
       | inr not_so ↦ elim (contains-cons d (withdrawn ds) x (subst P not_so there)) [
         | inl same ↦ contains_head d ds x same
@@ -65,17 +71,22 @@ withdrawn_member (d ∷ ds) x there =
 pub rising-withdrawn : (order : Order) (ds : List Datom) → IsRising order ds → IsRising order (withdrawn ds)
 rising-withdrawn order [] rising = tt
 rising-withdrawn order (d ∷ ds) rising =
-    elim (stands_before d ds) as (λ b. IsRising order (cond b (withdrawn ds) (d ∷ withdrawn ds))) [
+    elim (is_last_assertion d ds) as (λ b. IsRising order (cond b (withdrawn ds) (d ∷ withdrawn ds))) [
       | true ↦ rising-withdrawn order ds rising.1
-      | false ↦ (before_all order d (withdrawn ds) (λ x there. before_member order d ds x rising.0 (withdrawn_member ds x there)), rising-withdrawn order ds rising.1)
+      | false ↦ (
+        before_all order d (withdrawn ds) (λ x there. before_member order d ds x rising.0 (withdrawn_member ds x there)),
+        rising-withdrawn order ds rising.1,
+      )
     ]
 
 -- each datom stands or is withdrawn
 pub one_of_both : (ds : List Datom) (x : Datom) → Contains ds x → Contains (standing ds) x ⊎ Contains (withdrawn ds) x
 one_of_both [] x there = absurd (contains_none x there)
-one_of_both (d ∷ ds) x there = go (stands_before d ds) refl (contains-cons d ds x there) (λ behind. one_of_both ds x behind)
+one_of_both (d ∷ ds) x there = go (is_last_assertion d ds) refl (contains-cons d ds x there) (λ behind. one_of_both ds x behind)
   where
-    go : (b : Bool) → stands_before d ds ≡ b → (d ≡ x) ⊎ Contains ds x → (Contains ds x → Contains (standing ds) x ⊎ Contains (withdrawn ds) x) → Contains (standing (d ∷ ds)) x ⊎ Contains (withdrawn (d ∷ ds)) x
+    go : (b : Bool)
+        → is_last_assertion d ds ≡ b → (d ≡ x) ⊎ Contains ds x → (Contains ds x → Contains (standing ds) x ⊎ Contains (withdrawn ds) x)
+        → Contains (standing (d ∷ ds)) x ⊎ Contains (withdrawn (d ∷ ds)) x
     go true is (inl same) rest = inl (rw is (contains_head d (standing ds) x same))
     go true is (inr behind) rest = elim (rest behind) [
       | inl stands ↦ inl (rw is (contains_tail d (standing ds) x stands))
@@ -88,7 +99,7 @@ one_of_both (d ∷ ds) x there = go (stands_before d ds) refl (contains-cons d d
     ]
 
 -- no datom stands behind itself
-behind_itself : (order : Order) (d : Datom) (ds : List Datom) → StandsBefore order d ds → Contains ds d → ⊥
+behind_itself : (order : Order) (d : Datom) (ds : List Datom) → IsBelowAll order d ds → Contains ds d → ⊥
 behind_itself order d ds before there =
     let less : key_cmp order d d ≡ Less = before_member order d ds d before there in
     let tied : key_cmp order d d ≡ Equal = tied_itself (key_cmp_total order) d in
@@ -97,9 +108,9 @@ behind_itself order d ds before there =
 -- and none does both
 not_both : (order : Order) (ds : List Datom) (x : Datom) → IsRising order ds → Contains (standing ds) x → Contains (withdrawn ds) x → ⊥
 not_both order [] x rising stands gone = contains_none x stands
-not_both order (d ∷ ds) x rising stands gone = go (stands_before d ds) refl (λ a b. not_both order ds x rising.1 a b)
+not_both order (d ∷ ds) x rising stands gone = go (is_last_assertion d ds) refl (λ a b. not_both order ds x rising.1 a b)
   where
-    go : (b : Bool) → stands_before d ds ≡ b → (Contains (standing ds) x → Contains (withdrawn ds) x → ⊥) → ⊥
+    go : (b : Bool) → is_last_assertion d ds ≡ b → (Contains (standing ds) x → Contains (withdrawn ds) x → ⊥) → ⊥
     go true is rest =
         let after : Contains (withdrawn ds) x = rw is at gone in
         let before : Contains (d ∷ standing ds) x = rw is at stands in
@@ -136,14 +147,16 @@ past_is order holding past are =
     back : (x : Datom) → Contains (withdrawn (merged order holding past)) x → Contains past x
     back x gone =
         elim (from_merged order holding past x (withdrawn_member (merged order holding past) x gone)) [
-          | inl holds ↦ absurd (not_both order (merged order holding past) x rises (subst (λ (l : List Datom). Contains l x) are.stands holds) gone)
+          | inl holds ↦
+              absurd (not_both order (merged order holding past) x rises (subst (λ (l : List Datom). Contains l x) are.stands holds) gone)
           | inr there ↦ there
         ]
 
 -- ---- with an entry
 
 -- a datom among some ends the other one
-ending_one : (c : Coverage) (order : Order) (ds : List Datom) (x : Datom) → are_ending c order ds x ≡ true → (d : Datom) × Contains ds d × (d.added ≡ false) × (is_held c order d ≡ true) × (is_mate d x ≡ true)
+ending_one : (c : Coverage) (order : Order) (ds : List Datom) (x : Datom) → are_ending c order ds x ≡ true
+    → (d : Datom) × Contains ds d × (d.added ≡ false) × (is_held c order d ≡ true) × (is_mate d x ≡ true)
 ending_one c order ds x some =
     let found = some_member (λ d. ends c order d x) ds some in
     let parts = and_parts (not found.0.added) (is_held c order found.0 && is_mate found.0 x) found.2 in
@@ -154,7 +167,10 @@ ending_one c order ds x some =
     not_true true is = absurd (true≢false (sym is))
     not_true false is = refl
 
-module _ (order : Order) (c : Coverage) (holding past ds h p new : List Datom) (halves : AreHalves order holding past) (follow : MayFollow (merged order holding past) ds) (held : All (λ d. is_held c order d ≡ true) (merged order holding past)) (retracted : IsRetracted order c holding past ds h p) (gains : Gains h (λ d. Contains ds d × (takes c order d ≡ true)) new) (rises : IsRising order new) where
+module _ (order : Order) (c : Coverage) (holding past ds h p new : List Datom) (halves : AreHalves order holding past)
+    (follow : MayFollow (merged order holding past) ds) (held : All (λ d. is_held c order d ≡ true) (merged order holding past))
+    (retracted : IsRetracted order c holding past ds h p) (gains : Gains h (λ d. Contains ds d × (takes c order d ≡ true)) new)
+    (rises : IsRising order new) where
   old : List Datom
   old = merged order holding past
 
@@ -169,7 +185,9 @@ module _ (order : Order) (c : Coverage) (holding past ds h p new : List Datom) (
   stands_old x there = subst (λ (l : List Datom). Contains l x) halves.stands there
 
   last_old : (x : Datom) → Contains holding x → IsLast (merged order holding past) x
-  last_old x there = standing_last (merged order holding past) x (rising_by_time order (merged order holding past) (merged_rises order holding past)) (stands_old x there)
+  last_old x there =
+      standing_last (merged order holding past) x (rising_by_time order (merged order holding past) (merged_rises order holding past))
+      (stands_old x there)
 
   taken_asserts : (d : Datom) → Contains ds d → takes c order d ≡ true → IsTaken d
   taken_asserts d there is = (there, (and_parts d.added (is_held c order d) is).1)
@@ -209,10 +227,11 @@ module _ (order : Order) (c : Coverage) (holding past ds h p new : List Datom) (
 
   -- all of them are of the list before and of the entry
   single_new : HasNoTwins (new ++ p)
-  single_new = single_part (new ++ p) (merged order holding past ++ ds) (λ x there. elim (from_new x (Contains-append_cases new p x there)) [
-    | inl before ↦ Contains-append_left (merged order holding past) ds x before
-    | inr taken ↦ Contains-append_right (merged order holding past) ds x taken.0
-  ]) follow.single
+  single_new =
+      single_part (new ++ p) (merged order holding past ++ ds) (λ x there. elim (from_new x (Contains-append_cases new p x there)) [
+        | inl before ↦ Contains-append_left (merged order holding past) ds x before
+        | inr taken ↦ Contains-append_right (merged order holding past) ds x taken.0
+      ]) follow.single
 
   -- a datom of the entry is not among the older ones
   not_older : (d : Datom) → Contains ds d → Contains (merged order holding past) d → ⊥
@@ -311,13 +330,15 @@ module _ (order : Order) (c : Coverage) (holding past ds h p new : List Datom) (
       stood : (x : Datom) → IsLast (merged order new p) x → Contains past x → Contains holding x
       stood x last was =
           subst (λ (l : List Datom). Contains l x) (sym halves.stands)
-          (last_stands (merged order holding past) x (rising_by_time order (merged order holding past) (merged_rises order holding past)) (record {
+          (last_stands (merged order holding past) x (rising_by_time order (merged order holding past) (merged_rises order holding past))
+          (record {
             there = in_old x (inr was);
             added = last.added;
             latest = λ y older mate. last.latest y (new_member y (inl older)) mate;
           }))
 
-      followed : Contains holding x → (d : Datom) × Contains ds d × (d.added ≡ false) × (is_held c order d ≡ true) × (is_mate d x ≡ true) → ⊥
+      followed : Contains holding x → (d : Datom) × Contains ds d × (d.added ≡ false) × (is_held c order d ≡ true) × (is_mate d x ≡ true)
+          → ⊥
       followed holds found =
           let late = follow.later x found.0 (in_old x (inl holds)) found.1 found.4 in
           let bound = last.latest found.0 (new_member found.0 (inr (found.1, found.3))) (of_back found.0 x found.4) in
@@ -326,7 +347,8 @@ module _ (order : Order) (c : Coverage) (holding past ds h p new : List Datom) (
   pub halves_new : AreHalves order new p
   halves_new = record {
     pair = pair_new;
-    stands = same_list order new (standing (merged order new p)) rises (rising-standing order (merged order new p) (merged_rises order new p))
+    stands =
+        same_list order new (standing (merged order new p)) rises (rising-standing order (merged order new p) (merged_rises order new p))
         (λ x there. last_stands (merged order new p) x by_time (last_new x there))
         (λ x there. stands_new x (standing_last (merged order new p) x by_time there));
   }
@@ -354,22 +376,28 @@ module _ (order : Order) (c : Coverage) (holding past ds h p new : List Datom) (
 
 -- ---- in all orders
 
-pub both_at : (holding past : Lists) (order : Order) → list_in (both_lists holding past) order ≡ merged order (list_in holding order) (list_in past order)
+pub both_at : (holding past : Lists) (order : Order)
+    → list_in (both_lists holding past) order ≡ merged order (list_in holding order) (list_in past order)
 both_at holding past Eavt = refl
 both_at holding past Aevt = refl
 both_at holding past Avet = refl
 both_at holding past Vaet = refl
 
 -- the halves and the datoms of an entry are of the list and of the entry
-pub single_of : (order : Order) (holding past ds : List Datom) → AreHalves order holding past → MayFollow (merged order holding past) ds → HasNoTwins (holding ++ past ++ ds)
+pub single_of : (order : Order) (holding past ds : List Datom) → AreHalves order holding past → MayFollow (merged order holding past) ds
+    → HasNoTwins (holding ++ past ++ ds)
 single_of order holding past ds halves follow =
-    single_part (holding ++ past ++ ds) (merged order holding past ++ ds) (λ x there. elim (Contains-append_cases (holding ++ past) ds x there) [
-      | inl older ↦ Contains-append_left (merged order holding past) ds x (into_merged order holding past x halves.pair.single (Contains-append_cases holding past x older))
+    single_part (holding ++ past ++ ds) (merged order holding past ++ ds)
+    (λ x there. elim (Contains-append_cases (holding ++ past) ds x there) [
+      | inl older ↦
+          Contains-append_left (merged order holding past) ds x
+          (into_merged order holding past x halves.pair.single (Contains-append_cases holding past x older))
       | inr now ↦ Contains-append_right (merged order holding past) ds x now
     ]) follow.single
 
 -- a datom of the entry ends at most one fact, which is earlier
-pub may_end : (order : Order) (holding past ds : List Datom) → AreHalves order holding past → MayFollow (merged order holding past) ds → (d : Datom) → Contains ds d → MayEnd holding d
+pub may_end : (order : Order) (holding past ds : List Datom) → AreHalves order holding past → MayFollow (merged order holding past) ds
+    → (d : Datom) → Contains ds d → MayEnd holding d
 may_end order holding past ds halves follow d there =
     record {
       earlier = λ x holds mate. follow.later x d (in_all x holds) there mate;
@@ -386,7 +414,9 @@ may_end order holding past ds halves follow d there =
     in_all x holds = into_merged order holding past x halves.pair.single (inl holds)
 
     last_of : (x : Datom) → Contains holding x → IsLast (merged order holding past) x
-    last_of x holds = standing_last (merged order holding past) x (rising_by_time order (merged order holding past) (merged_rises order holding past)) (subst (λ (l : List Datom). Contains l x) halves.stands holds)
+    last_of x holds =
+        standing_last (merged order holding past) x (rising_by_time order (merged order holding past) (merged_rises order holding past))
+        (subst (λ (l : List Datom). Contains l x) halves.stands holds)
 
 pub halves_none : (order : Order) (holding past : List Datom) → holding ≡ [] → past ≡ [] → AreHalves order holding past
 halves_none order holding past none none_past =
@@ -395,12 +425,20 @@ halves_none order holding past none none_past =
         older_rises = rw none tt;
         live_rises = rw none_past tt;
         apart = λ d there also. contains_none d (subst (λ (l : List Datom). Contains l d) none there);
-        single = λ x y x_in y_in at. absurd (contains_none x (subst (λ (l : List Datom). Contains l x) (ap (λ (l : List Datom). l ++ past) none ∙ none_past) x_in));
+        single =
+            λ x y x_in y_in at.
+            absurd (contains_none x (subst (λ (l : List Datom). Contains l x) (ap (λ (l : List Datom). l ++ past) none ∙ none_past) x_in));
       };
       stands = rw (none, none_past) refl;
     }
 
-module _ (c : Coverage) (holding past : Lists) (ds : List Datom) (h p new : Lists) (halves : (order : Order) → AreHalves order (list_in holding order) (list_in past order)) (follow : (order : Order) → MayFollow (list_in (both_lists holding past) order) ds) (held : (order : Order) → All (λ d. is_held c order d ≡ true) (list_in (both_lists holding past) order)) (retracted : (order : Order) → IsRetracted order c (list_in holding order) (list_in past order) ds (list_in h order) (list_in p order)) (gains : (order : Order) → Gains (list_in h order) (λ d. Contains ds d × (takes c order d ≡ true)) (list_in new order)) (rises : (order : Order) → IsRising order (list_in new order)) where
+module _ (c : Coverage) (holding past : Lists)
+    (ds : List Datom) (h p new : Lists) (halves : (order : Order) → AreHalves order (list_in holding order) (list_in past order))
+    (follow : (order : Order) → MayFollow (list_in (both_lists holding past) order) ds)
+    (held : (order : Order) → All (λ d. is_held c order d ≡ true) (list_in (both_lists holding past) order))
+    (retracted : (order : Order) → IsRetracted order c (list_in holding order) (list_in past order) ds (list_in h order) (list_in p order))
+    (gains : (order : Order) → Gains (list_in h order) (λ d. Contains ds d × (takes c order d ≡ true)) (list_in new order))
+    (rises : (order : Order) → IsRising order (list_in new order)) where
   follow_at : (order : Order) → MayFollow (merged order (list_in holding order) (list_in past order)) ds
   follow_at order = subst (λ (l : List Datom). MayFollow l ds) (both_at holding past order) (follow order)
 
@@ -408,13 +446,17 @@ module _ (c : Coverage) (holding past : Lists) (ds : List Datom) (h p new : List
   held_at order = subst (λ (l : List Datom). All (λ d. is_held c order d ≡ true) l) (both_at holding past order) (held order)
 
   pub halves_all : (order : Order) → AreHalves order (list_in new order) (list_in p order)
-  halves_all order = halves_new order c (list_in holding order) (list_in past order) ds (list_in h order) (list_in p order) (list_in new order) (halves order) (follow_at order) (held_at order) (retracted order) (gains order) (rises order)
+  halves_all order =
+      halves_new order c (list_in holding order) (list_in past order) ds (list_in h order) (list_in p order) (list_in new order)
+      (halves order) (follow_at order) (held_at order) (retracted order) (gains order) (rises order)
 
   pub grown_all : (order : Order) → IsGrown order c (list_in (both_lists holding past) order) [] ds (list_in (both_lists new p) order)
   grown_all order =
       subst (λ (l : List Datom). IsGrown order c l [] ds (list_in (both_lists new p) order)) (sym (both_at holding past order))
-      (subst (λ (l : List Datom). IsGrown order c (merged order (list_in holding order) (list_in past order)) [] ds l) (sym (both_at new p order))
-      (grown_new order c (list_in holding order) (list_in past order) ds (list_in h order) (list_in p order) (list_in new order) (halves order) (follow_at order) (held_at order) (retracted order) (gains order) (rises order)))
+      (subst (λ (l : List Datom). IsGrown order c (merged order (list_in holding order) (list_in past order)) [] ds l)
+      (sym (both_at new p order))
+      (grown_new order c (list_in holding order) (list_in past order) ds (list_in h order) (list_in p order) (list_in new order)
+      (halves order) (follow_at order) (held_at order) (retracted order) (gains order) (rises order)))
 
 -- the halves of a live index, copies of them, what the retractions make of these, and what the additions make of that
 pub record GrowsByEntry (c : Coverage) (holding past now : Lists) (ds : List Datom) (copy past_copy h p new made : Lists) : Type 0 where
@@ -424,12 +466,14 @@ pub record GrowsByEntry (c : Coverage) (holding past now : Lists) (ds : List Dat
   pub held : (order : Order) → All (λ d. is_held c order d ≡ true) (list_in now order)
   pub copy_is : copy ≡ holding
   pub past_copy_is : past_copy ≡ past
-  pub retracted : (order : Order) → IsRetracted order c (list_in copy order) (list_in past_copy order) ds (list_in h order) (list_in p order)
+  pub retracted : (order : Order)
+      → IsRetracted order c (list_in copy order) (list_in past_copy order) ds (list_in h order) (list_in p order)
   pub gains : (order : Order) → Gains (list_in h order) (λ d. Contains ds d × (takes c order d ≡ true)) (list_in new order)
   pub rises : (order : Order) → IsRising order (list_in new order)
   pub made_is : made ≡ new
 
-module _ (c : Coverage) (holding past now : Lists) (ds : List Datom) (copy past_copy h p new made : Lists) (grows : GrowsByEntry c holding past now ds copy past_copy h p new made) where
+module _ (c : Coverage) (holding past now : Lists) (ds : List Datom) (copy past_copy h p new made : Lists)
+    (grows : GrowsByEntry c holding past now ds copy past_copy h p new made) where
   follow_both : (order : Order) → MayFollow (list_in (both_lists holding past) order) ds
   follow_both order = subst (λ (ls : Lists). MayFollow (list_in ls order) ds) (sym grows.is) (grows.follow order)
 
@@ -438,8 +482,10 @@ module _ (c : Coverage) (holding past now : Lists) (ds : List Datom) (copy past_
 
   retracted_both : (order : Order) → IsRetracted order c (list_in holding order) (list_in past order) ds (list_in h order) (list_in p order)
   retracted_both order =
-      subst (λ (ls : Lists). IsRetracted order c (list_in holding order) (list_in ls order) ds (list_in h order) (list_in p order)) grows.past_copy_is
-      (subst (λ (ls : Lists). IsRetracted order c (list_in ls order) (list_in past_copy order) ds (list_in h order) (list_in p order)) grows.copy_is (grows.retracted order))
+      subst (λ (ls : Lists). IsRetracted order c (list_in holding order) (list_in ls order) ds (list_in h order) (list_in p order))
+      grows.past_copy_is
+      (subst (λ (ls : Lists). IsRetracted order c (list_in ls order) (list_in past_copy order) ds (list_in h order) (list_in p order))
+      grows.copy_is (grows.retracted order))
 
   pub made_halves : (order : Order) → AreHalves order (list_in made order) (list_in p order)
   made_halves order =
@@ -453,7 +499,10 @@ module _ (c : Coverage) (holding past now : Lists) (ds : List Datom) (copy past_
       (grown_all c holding past ds h p new grows.halves follow_both held_both retracted_both grows.gains grows.rises order))
 
 -- what the copies owe before the entry
-module _ (holding past now : Lists) (ds : List Datom) (copy past_copy : Lists) (is : both_lists holding past ≡ now) (halves : (order : Order) → AreHalves order (list_in holding order) (list_in past order)) (follow : (order : Order) → MayFollow (list_in now order) ds) (copy_is : copy ≡ holding) (past_copy_is : past_copy ≡ past) (order : Order) where
+module _ (holding past now : Lists) (ds : List Datom) (copy past_copy : Lists)
+    (is : both_lists holding past ≡ now) (halves : (order : Order) → AreHalves order (list_in holding order) (list_in past order))
+    (follow : (order : Order) → MayFollow (list_in now order) ds) (copy_is : copy ≡ holding) (past_copy_is : past_copy ≡ past)
+    (order : Order) where
   follow_merged : MayFollow (merged order (list_in holding order) (list_in past order)) ds
   follow_merged =
       subst (λ (l : List Datom). MayFollow l ds) (both_at holding past order)
@@ -474,7 +523,9 @@ module _ (holding past now : Lists) (ds : List Datom) (copy past_copy : Lists) (
 
 clash : (order : Order) (x y : Datom) → key_cmp order x y ≡ Less → IsAtOnePlace x y → ⊥
 clash order x y less at =
-    let same : key_cmp order x y ≡ Equal = subst (λ key. slice_cmp value_cmp (key_of order x) key ≡ Equal) (same_keys order x y at) (tied_itself (lists_total value_cmp_total) (key_of order x)) in
+    let same : key_cmp order x y ≡ Equal =
+    subst (λ key. slice_cmp value_cmp (key_of order x) key ≡ Equal) (same_keys order x y at)
+    (tied_itself (lists_total value_cmp_total) (key_of order x)) in
     absurd (cc)
 
 pub no_twins-rising : (order : Order) (ds : List Datom) → IsRising order ds → HasNoTwins ds
@@ -483,10 +534,13 @@ no_twins-rising order (d ∷ ds) rising x y x_in y_in at =
     elim (contains-cons d ds x x_in) [
       | inl first ↦ elim (contains-cons d ds y y_in) [
         | inl second ↦ sym first ∙ second
-        | inr behind ↦ absurd (clash order d y (before_member order d ds y rising.0 behind) (subst (λ (z : Datom). IsAtOnePlace z y) (sym first) at))
+        | inr behind ↦
+            absurd (clash order d y (before_member order d ds y rising.0 behind) (subst (λ (z : Datom). IsAtOnePlace z y) (sym first) at))
       ]
       | inr behind_x ↦ elim (contains-cons d ds y y_in) [
-        | inl second ↦ absurd (clash order d x (before_member order d ds x rising.0 behind_x) (subst (λ (z : Datom). IsAtOnePlace z x) (sym second) (record { e = sym at.e; a = sym at.a; v = sym at.v; t = sym at.t })))
+        | inl second ↦
+            absurd (clash order d x (before_member order d ds x rising.0 behind_x)
+            (subst (λ (z : Datom). IsAtOnePlace z x) (sym second) (record { e = sym at.e; a = sym at.a; v = sym at.v; t = sym at.t })))
         | inr behind_y ↦ no_twins-rising order ds rising.1 x y behind_x behind_y at
       ]
     ]

@@ -1,5 +1,6 @@
 -- The list of an order where the pool has one datom more, the list one slot more, or all of it lies in the tree.
-use Rattle.std.proofs.Common.{◌≡◌, ℕ, zero, suc, ◌+◌, ◌-◌, ◌^◌, ◌<◌, ◌≤◌, List, [], ◌∷◌, ◌++◌, length, get_or, refl, sym, ap, subst, ◌∙◌, arith, length-append}
+use Rattle.std.proofs.Common.{◌≡◌, ℕ, zero, suc, ◌+◌, ◌-◌, ◌^◌, ◌<◌, ◌≤◌, List, [], ◌∷◌, ◌++◌, length, get_or, refl, sym, ap, subst, ◌∙◌}
+use Rattle.std.proofs.Common.{arith, length-append}
 use Rattle.std.specs.List.{All, insert, remove}
 use Rattle.std.proofs.lemmas.List.Elements.{All-nil, All-cons, All-head, All-tail}
 use Rattle.fb_values.specs.declared.facts.Datom.{Datom}
@@ -10,7 +11,8 @@ use Rattle.live_index.specs.Newest.{AreNewest, IsStandAt, lowered, newer_before}
 use Rattle.live_index.specs.Listed.{IsListed, at_slots, datoms_of, nothing}
 use Rattle.live_index.specs.declared.listed.Listed.{Listed}
 use Rattle.live_index.proofs.Apart.{newest-insert, newest-none, woven-insert}
-use Rattle.live_index.proofs.Removing.{length-remove, map-remove, newest-without_newest, newest-without_old, old_within, woven-without_newest, woven-without_old}
+use Rattle.live_index.proofs.Removing.{length-remove, map-remove, newest-without_newest, newest-without_old, old_within}
+use Rattle.live_index.proofs.Removing.{woven-without_newest, woven-without_old}
 use Rattle.live_index.proofs.Slots.{at_slots-insert, at_slots-longer, length-at_slots, within-insert, within-longer}
 
 pub length-datoms : (pool : List Datom) (l : Listed) → IsListed pool l → length (datoms_of pool l) ≡ length l.older + length l.slots.items
@@ -32,7 +34,9 @@ listed-longer pool d l is =
     record {
       within = within-longer (length pool) (length (pool ++ d ∷ [])) l.slots.items (omega (arith, long)) is.within;
       few = omega (arith, long, is.few);
-      newest = subst (λ (newest : List Datom). AreNewest l.older l.below.items newest) (sym (at_slots-longer pool (d ∷ []) l.slots.items is.within)) is.newest;
+      newest =
+          subst (λ (newest : List Datom). AreNewest l.older l.below.items newest)
+          (sym (at_slots-longer pool (d ∷ []) l.slots.items is.within)) is.newest;
     }
 
 -- ---- one slot more
@@ -42,21 +46,27 @@ pub record IsInserted (l : Listed) (place slot : ℕ) (new : Listed) : Type 0 wh
   pub below : new.below.items ≡ insert l.below.items (newer_before place l.below.items) (place - newer_before place l.below.items)
   pub slots : new.slots.items ≡ insert l.slots.items (newer_before place l.below.items) slot
 
-pub datoms-inserted : (pool : List Datom) (l new : Listed) (place slot : ℕ) → IsListed pool l → IsInserted l place slot new → datoms_of pool new ≡ insert (datoms_of pool l) place (get_or pool slot nothing)
+pub datoms-inserted : (pool : List Datom) (l new : Listed) (place slot : ℕ) → IsListed pool l → IsInserted l place slot new
+    → datoms_of pool new ≡ insert (datoms_of pool l) place (get_or pool slot nothing)
 datoms-inserted pool l new place slot is in_ =
     rw (in_.older, in_.below, in_.slots, at_slots-insert pool l.slots.items (newer_before place l.below.items) slot)
     (woven-insert l.older l.below.items (at_slots pool l.slots.items) place (get_or pool slot nothing) is.newest.same is.newest.stand)
 
-pub listed-inserted : (pool : List Datom) (l new : Listed) (place slot : ℕ) → IsListed pool l → IsInserted l place slot new → slot < length pool → length l.slots.items < length pool → place ≤ length (datoms_of pool l) → length (datoms_of pool l) + 1 < 2 ^ 64 → IsListed pool new
+pub listed-inserted : (pool : List Datom) (l new : Listed) (place slot : ℕ) → IsListed pool l → IsInserted l place slot new
+    → slot < length pool → length l.slots.items < length pool → place ≤ length (datoms_of pool l) → length (datoms_of pool l) + 1 < 2 ^ 64
+    → IsListed pool new
 listed-inserted pool l new place slot is in_ there room within fits =
     let count = newer_before place l.below.items in
     let long = length-datoms pool l is in
     let newer = length-at_slots pool l.slots.items in
     record {
-      within = subst (λ (slots : List ℕ). All (λ s. s < length pool) slots) (sym in_.slots) (within-insert (length pool) l.slots.items count slot there is.within);
+      within =
+          subst (λ (slots : List ℕ). All (λ s. s < length pool) slots) (sym in_.slots)
+          (within-insert (length pool) l.slots.items count slot there is.within);
       few = rw in_.slots (omega (arith, length-insert l.slots.items count slot, room));
       newest = rw (in_.older, in_.below, in_.slots, at_slots-insert pool l.slots.items count slot)
-          (newest-insert l.older l.below.items (at_slots pool l.slots.items) place (get_or pool slot nothing) is.newest (omega (arith, within, long, newer)) (omega (arith, fits, long, newer)));
+          (newest-insert l.older l.below.items (at_slots pool l.slots.items) place (get_or pool slot nothing) is.newest
+          (omega (arith, within, long, newer)) (omega (arith, fits, long, newer)));
     }
 
 -- ---- all of it in the tree
@@ -96,7 +106,8 @@ within-remove n [] zero within = within
 within-remove n [] (suc i) within = within
 within-remove n (s ∷ slots) zero within = All-tail (λ (s : ℕ). s < n) s slots within
 within-remove n (s ∷ slots) (suc i) within =
-    All-cons (λ (s : ℕ). s < n) s (remove slots i) (All-head (λ (s : ℕ). s < n) s slots within) (within-remove n slots i (All-tail (λ (s : ℕ). s < n) s slots within))
+    All-cons (λ (s : ℕ). s < n) s (remove slots i) (All-head (λ (s : ℕ). s < n) s slots within)
+    (within-remove n slots i (All-tail (λ (s : ℕ). s < n) s slots within))
 
 -- a list without one of the newest
 pub record IsWithoutNewest (l : Listed) (n : ℕ) (new : Listed) : Type 0 where
@@ -104,7 +115,8 @@ pub record IsWithoutNewest (l : Listed) (n : ℕ) (new : Listed) : Type 0 where
   pub below : new.below.items ≡ remove l.below.items n
   pub slots : new.slots.items ≡ remove l.slots.items n
 
-module _ (pool : List Datom) (l new : Listed) (n place : ℕ) (is : IsListed pool l) (at : IsStandAt l.below.items place (Newest n)) (without : IsWithoutNewest l n new) where
+module _ (pool : List Datom) (l new : Listed) (n place : ℕ) (is : IsListed pool l) (at : IsStandAt l.below.items place (Newest n))
+    (without : IsWithoutNewest l n new) where
   newer_len : length (at_slots pool l.slots.items) ≡ length l.slots.items
   newer_len = length-at_slots pool l.slots.items
 
@@ -114,7 +126,9 @@ module _ (pool : List Datom) (l new : Listed) (n place : ℕ) (is : IsListed poo
   pub listed-without_newest : IsListed pool new
   listed-without_newest =
       record {
-        within = subst (λ (slots : List ℕ). All (λ s. s < length pool) slots) (sym without.slots) (within-remove (length pool) l.slots.items n is.within);
+        within =
+            subst (λ (slots : List ℕ). All (λ s. s < length pool) slots) (sym without.slots)
+            (within-remove (length pool) l.slots.items n is.within);
         few = rw without.slots (omega (arith, length-remove l.slots.items n slot_there, is.few));
         newest = rw (without.older, without.below, without.slots, map-remove (λ s. get_or pool s nothing) l.slots.items n slot_there)
             (newest-without_newest l.older l.below.items (at_slots pool l.slots.items) n at.0 is.newest);
@@ -132,12 +146,15 @@ pub record IsWithoutOlder (l : Listed) (p : ℕ) (new : Listed) : Type 0 where
   pub below : new.below.items ≡ lowered p l.below.items
   pub slots : new.slots.items ≡ l.slots.items
 
-module _ (pool : List Datom) (l : Listed) (p place : ℕ) (is : IsListed pool l) (at : IsStandAt l.below.items place (Tree p)) (within : place < length (datoms_of pool l)) where
+module _ (pool : List Datom) (l : Listed) (p place : ℕ) (is : IsListed pool l) (at : IsStandAt l.below.items place (Tree p))
+    (within : place < length (datoms_of pool l)) where
   whole_len : place < length l.older + length (at_slots pool l.slots.items)
   whole_len = omega (arith, within, length-woven 0 l.older l.below.items (at_slots pool l.slots.items) is.newest.same)
 
   pub older_there : p < length l.older
-  older_there = rw at.0 (old_within (length l.older) place (length (at_slots pool l.slots.items)) l.below.items is.newest.same is.newest.stand whole_len at.1)
+  older_there =
+      rw at.0
+      (old_within (length l.older) place (length (at_slots pool l.slots.items)) l.below.items is.newest.same is.newest.stand whole_len at.1)
 
   module _ (new : Listed) (without : IsWithoutOlder l p new) where
     pub listed-without_older : IsListed pool new

@@ -1,5 +1,6 @@
 -- What is a member of a list after a filter, an insertion or a push.
-use Rattle.std.proofs.Common.{◌≡◌, ℕ, zero, suc, ◌⊎◌, Bool, true, false, cond, List, [], ◌∷◌, take, drop, refl, sym, ap, subst, inl, inr, arith}
+use Rattle.std.proofs.Common.{◌≡◌, ℕ, zero, suc, ◌⊎◌, Bool, true, false, cond, List, [], ◌∷◌, take, drop, refl, sym, ap, subst, inl, inr}
+use Rattle.std.proofs.Common.{arith}
 use Rattle.std.specs.Prelude.{◌↔◌, Contains, filter}
 use Rattle.std.specs.List.{insert, All}
 use Rattle.std.proofs.lemmas.Bool.{cases_Bool}
@@ -19,7 +20,8 @@ contains_tail x xs y (k, within, is) = (suc k, omega arith, is)
 pub contains_none : {X : Type 0} (y : X) → Contains [] y → ⊥
 contains_none y (k, within, is) = omega arith
 
-filtered_cons : {X : Type 0} (p : X → Bool) (x : X) (xs : List X) (y : X) → (Contains (filter p xs) y → Contains xs y × (p y ≡ true)) → Contains (filter p (x ∷ xs)) y → Contains (x ∷ xs) y × (p y ≡ true)
+filtered_cons : {X : Type 0} (p : X → Bool) (x : X) (xs : List X) (y : X) → (Contains (filter p xs) y → Contains xs y × (p y ≡ true))
+    → Contains (filter p (x ∷ xs)) y → Contains (x ∷ xs) y × (p y ≡ true)
 filtered_cons {X} p x xs y rest there =
     elim (cases_Bool (p x)) [
       | inl passes ↦
@@ -39,7 +41,8 @@ pub from_filter : {X : Type 0} (p : X → Bool) (xs : List X) (y : X) → Contai
 from_filter p [] y there = absurd (contains_none y there)
 from_filter p (x ∷ xs) y there = filtered_cons p x xs y (from_filter p xs y) there
 
-into_cons : {X : Type 0} (p : X → Bool) (x : X) (xs : List X) (y : X) → (Contains xs y → Contains (filter p xs) y) → p y ≡ true → Contains (x ∷ xs) y → Contains (filter p (x ∷ xs)) y
+into_cons : {X : Type 0} (p : X → Bool) (x : X) (xs : List X) (y : X) → (Contains xs y → Contains (filter p xs) y) → p y ≡ true
+    → Contains (x ∷ xs) y → Contains (filter p (x ∷ xs)) y
 into_cons {X} p x xs y rest passes there =
     elim (contains-cons x xs y there) [
       | inl same ↦ rw (subst (λ (z : X). p z ≡ true) (sym same) passes) (contains_head x (filter p xs) y same)

@@ -19,9 +19,11 @@ use Rattle.live_index.proofs.Halves.{from_merged, into_merged, merged_rises, one
 use Rattle.live_index.proofs.Together.{IsLast, standing_last, last_stands, rising_by_time, rising-standing, of_back}
 
 -- a test that passes with a datom all of its triple may come before or after
-pub standing-filter : (order : Order) (p : Datom → Bool) (ds : List Datom) → IsRising order ds → ((x y : Datom) → is_mate x y ≡ true → p x ≡ true → p y ≡ true) → standing (filter p ds) ≡ filter p (standing ds)
+pub standing-filter : (order : Order) (p : Datom → Bool) (ds : List Datom) → IsRising order ds
+    → ((x y : Datom) → is_mate x y ≡ true → p x ≡ true → p y ≡ true) → standing (filter p ds) ≡ filter p (standing ds)
 standing-filter order p ds rising whole =
-    same_list order (standing (filter p ds)) (filter p (standing ds)) (rising-standing order (filter p ds) part) (rising-filter order p (standing ds) (rising-standing order ds rising)) forth back
+    same_list order (standing (filter p ds)) (filter p (standing ds)) (rising-standing order (filter p ds) part)
+    (rising-filter order p (standing ds) (rising-standing order ds rising)) forth back
   where
     part : IsRising order (filter p ds)
     part = rising-filter order p ds rising
@@ -48,7 +50,8 @@ standing-filter order p ds rising whole =
 
 module _ (order : Order) (older live : List Datom) (pair : IsPair order older live) (later : IsLater older live) where
   last_of : (x : Datom) → Contains (standing (merged order older live)) x → IsLast (merged order older live) x
-  last_of x there = standing_last (merged order older live) x (rising_by_time order (merged order older live) (merged_rises order older live)) there
+  last_of x there =
+      standing_last (merged order older live) x (rising_by_time order (merged order older live) (merged_rises order older live)) there
 
   in_all : (x : Datom) → Contains older x ⊎ Contains live x → Contains (merged order older live) x
   in_all x given = into_merged order older live x pair.single given
@@ -57,10 +60,12 @@ module _ (order : Order) (older live : List Datom) (pair : IsPair order older li
   left = filter (outlives live) (standing older)
 
   single_left : HasNoTwins (filter (outlives live) (standing older) ++ standing live)
-  single_left = single_part (filter (outlives live) (standing older) ++ standing live) (older ++ live) (λ x there. elim (Contains-append_cases (filter (outlives live) (standing older)) (standing live) x there) [
-    | inl first ↦ Contains-append_left older live x (standing_member older x (from_filter (outlives live) (standing older) x first).0)
-    | inr second ↦ Contains-append_right older live x (standing_member live x second)
-  ]) pair.single
+  single_left =
+      single_part (filter (outlives live) (standing older) ++ standing live) (older ++ live)
+      (λ x there. elim (Contains-append_cases (filter (outlives live) (standing older)) (standing live) x there) [
+        | inl first ↦ Contains-append_left older live x (standing_member older x (from_filter (outlives live) (standing older) x first).0)
+        | inr second ↦ Contains-append_right older live x (standing_member live x second)
+      ]) pair.single
 
   none_after : (x : Datom) → Contains older x → IsLast (merged order older live) x → outlives live x ≡ true
   none_after x there last =
@@ -73,15 +78,18 @@ module _ (order : Order) (older live : List Datom) (pair : IsPair order older li
         | inr none ↦ ap not none
       ]
 
-  forth : (x : Datom) → Contains (standing (merged order older live)) x → Contains (merged order (filter (outlives live) (standing older)) (standing live)) x
+  forth : (x : Datom) → Contains (standing (merged order older live)) x
+      → Contains (merged order (filter (outlives live) (standing older)) (standing live)) x
   forth x there =
       let last = last_of x there in
-      into_merged order (filter (outlives live) (standing older)) (standing live) x single_left (elim (from_merged order older live x last.there) [
-        | inl first ↦ inl (into_filter (outlives live) (standing older) x (last_stands older x (rising_by_time order older pair.older_rises) (record {
-          there = first;
-          added = last.added;
-          latest = λ y in_it mate. last.latest y (in_all y (inl in_it)) mate;
-        })) (none_after x first last))
+      into_merged order (filter (outlives live) (standing older)) (standing live) x single_left
+      (elim (from_merged order older live x last.there) [
+        | inl first ↦
+            inl (into_filter (outlives live) (standing older) x (last_stands older x (rising_by_time order older pair.older_rises) (record {
+              there = first;
+              added = last.added;
+              latest = λ y in_it mate. last.latest y (in_all y (inl in_it)) mate;
+            })) (none_after x first last))
         | inr second ↦ inr (last_stands live x (rising_by_time order live pair.live_rises) (record {
           there = second;
           added = last.added;
@@ -93,9 +101,11 @@ module _ (order : Order) (older live : List Datom) (pair : IsPair order older li
   not_true true is = absurd (true≢false (sym is))
   not_true false is = refl
 
-  back : (x : Datom) → Contains (merged order (filter (outlives live) (standing older)) (standing live)) x → Contains (standing (merged order older live)) x
+  back : (x : Datom) → Contains (merged order (filter (outlives live) (standing older)) (standing live)) x
+      → Contains (standing (merged order older live)) x
   back x there =
-      last_stands (merged order older live) x (rising_by_time order (merged order older live) (merged_rises order older live)) (elim (from_merged order (filter (outlives live) (standing older)) (standing live) x there) [
+      last_stands (merged order older live) x (rising_by_time order (merged order older live) (merged_rises order older live))
+      (elim (from_merged order (filter (outlives live) (standing older)) (standing live) x there) [
         | inl first ↦
             let at = from_filter (outlives live) (standing older) x first in
             let last = standing_last older x (rising_by_time order older pair.older_rises) at.0 in
@@ -122,12 +132,14 @@ module _ (order : Order) (older live : List Datom) (pair : IsPair order older li
   pub present_is : standing (merged order older live) ≡ merged order (filter (outlives live) (standing older)) (standing live)
   present_is =
       same_list order (standing (merged order older live)) (merged order (filter (outlives live) (standing older)) (standing live))
-      (rising-standing order (merged order older live) (merged_rises order older live)) (merged_rises order (filter (outlives live) (standing older)) (standing live)) forth back
+      (rising-standing order (merged order older live) (merged_rises order older live))
+      (merged_rises order (filter (outlives live) (standing older)) (standing live)) forth back
 
 -- ---- what outlives a list
 
 -- a retraction does not stand
-withdrawn-any : (order : Order) (ds : List Datom) (x z : Datom) → IsRising order ds → Contains ds z → is_mate x z ≡ true → z.added ≡ false → list_any (is_mate x) (withdrawn ds) ≡ true
+withdrawn-any : (order : Order) (ds : List Datom) (x z : Datom) → IsRising order ds → Contains ds z → is_mate x z ≡ true → z.added ≡ false
+    → list_any (is_mate x) (withdrawn ds) ≡ true
 withdrawn-any order ds x z rising there mate gone =
     elim (one_of_both ds z there) [
       | inl stands ↦ absurd (true≢false (sym (standing_last ds z (rising_by_time order ds rising) stands).added ∙ gone))
@@ -140,7 +152,8 @@ pub outlives-withdrawn : (order : Order) (ds : List Datom) (x : Datom) → IsRis
     → outlives (withdrawn ds) x ≡ outlives ds x
 outlives-withdrawn order ds x rising ended = ap not (go (cases_Bool (list_any (is_mate x) ds)))
   where
-    go : (list_any (is_mate x) ds ≡ true) ⊎ (list_any (is_mate x) ds ≡ false) → list_any (is_mate x) (withdrawn ds) ≡ list_any (is_mate x) ds
+    go : (list_any (is_mate x) ds ≡ true) ⊎ (list_any (is_mate x) ds ≡ false)
+        → list_any (is_mate x) (withdrawn ds) ≡ list_any (is_mate x) ds
     go (inl some) =
         let y = some_member (is_mate x) ds some in
         let z = ended y.0 y.1 y.2 in

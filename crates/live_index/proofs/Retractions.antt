@@ -1,5 +1,6 @@
 -- What an order's two lists are after one retraction, and after some.
-use Rattle.std.proofs.Common.{◌≡◌, ◌∙◌, ℕ, ◌+◌, ◌<◌, length, take, get_or, ◌⊎◌, inl, inr, Bool, true, false, not, ◌&&◌, ◌||◌, List, [], ◌∷◌, ◌++◌, refl, sym, ap, subst, Option, Some, None}
+use Rattle.std.proofs.Common.{◌≡◌, ◌∙◌, ℕ, ◌+◌, ◌<◌, length, take, get_or, ◌⊎◌, inl, inr, Bool, true, false, not, ◌&&◌, ◌||◌, List, [], ◌∷◌}
+use Rattle.std.proofs.Common.{◌++◌, refl, sym, ap, subst, Option, Some, None}
 use Rattle.std.specs.Prelude.{Contains, ◌↔◌}
 use Rattle.std.proofs.lemmas.Bool.{true≢false}
 use Rattle.std.proofs.lemmas.List.{take_more, get_or_default}
@@ -17,7 +18,8 @@ use Rattle.live_index.proofs.Taking.{one-rising, one-gains}
 
 -- ---- none
 
-pub retracted-none : (order : Order) (c : Coverage) (holding past : List Datom) → IsRising order holding → IsRising order past → IsRetracted order c holding past [] holding past
+pub retracted-none : (order : Order) (c : Coverage) (holding past : List Datom) → IsRising order holding → IsRising order past
+    → IsRetracted order c holding past [] holding past
 retracted-none order c holding past rising past_rises =
     record {
       new_rises = rising;
@@ -42,7 +44,8 @@ nothing_ends false h m none = refl
 nothing_ends true false m none = refl
 nothing_ends true true m none = absurd (true≢false none)
 
-pub retracted-kept : (order : Order) (c : Coverage) (holding past : List Datom) (d : Datom) → IsRising order holding → IsRising order past → withdraws c order d ≡ false → IsRetracted order c holding past (d ∷ []) holding past
+pub retracted-kept : (order : Order) (c : Coverage) (holding past : List Datom) (d : Datom) → IsRising order holding → IsRising order past
+    → withdraws c order d ≡ false → IsRetracted order c holding past (d ∷ []) holding past
 retracted-kept order c holding past d rising past_rises stays =
     record {
       new_rises = rising;
@@ -72,7 +75,8 @@ pub some-rising : (order : Order) (ds : List Datom) (o : Option Datom) → IsRis
 some-rising order ds None rising = rising
 some-rising order ds (Some d) rising = one-rising order ds d rising
 
-module _ (order : Order) (c : Coverage) (holding past new : List Datom) (d : Datom) (fact : Option Datom) (retracts : d.added ≡ false) (held : is_held c order d ≡ true) (ended : IsEnded d holding new fact) (single : HasNoTwins (holding ++ past ++ d ∷ [])) where
+module _ (order : Order) (c : Coverage) (holding past new : List Datom) (d : Datom) (fact : Option Datom) (retracts : d.added ≡ false)
+    (held : is_held c order d ≡ true) (ended : IsEnded d holding new fact) (single : HasNoTwins (holding ++ past ++ d ∷ [])) where
   ending_is : (x : Datom) → are_ending c order (d ∷ []) x ≡ is_mate d x
   ending_is x = rw (retracts, held) (same (is_mate d x))
     where
@@ -84,14 +88,17 @@ module _ (order : Order) (c : Coverage) (holding past new : List Datom) (d : Dat
   with_fact : List Datom
   with_fact = with_some order past fact
 
-  gains_fact : (o : Option Datom) → ((x : Datom) → (o ≡ Some x) ↔ (Contains holding x × (is_mate d x ≡ true))) → Gains past (λ x. o ≡ Some x) (with_some order past o)
+  gains_fact : (o : Option Datom)
+      → ((x : Datom) → (o ≡ Some x) ↔ (Contains holding x × (is_mate d x ≡ true))) → Gains past (λ x. o ≡ Some x) (with_some order past o)
   gains_fact None is x = (inl, λ given. elim given [ inl there ↦ there | inr one ↦ absurd (cc) ])
   gains_fact (Some f) is x =
       let in_it = ((is f).0 refl).0 in
-      let apart : HasNoTwins (past ++ f ∷ []) = single_part (past ++ f ∷ []) (holding ++ past ++ d ∷ []) (λ y there. elim (Contains-append_cases past (f ∷ []) y there) [
+      let apart : HasNoTwins (past ++ f ∷ []) =
+      single_part (past ++ f ∷ []) (holding ++ past ++ d ∷ []) (λ y there. elim (Contains-append_cases past (f ∷ []) y there) [
         | inl before ↦ Contains-append_left (holding ++ past) (d ∷ []) y (Contains-append_right holding past y before)
         | inr last ↦ elim (contains-cons f [] y last) [
-          | inl same ↦ Contains-append_left (holding ++ past) (d ∷ []) y (Contains-append_left holding past y (subst (Contains holding) same in_it))
+          | inl same ↦
+              Contains-append_left (holding ++ past) (d ∷ []) y (Contains-append_left holding past y (subst (Contains holding) same in_it))
           | inr behind ↦ absurd (contains_none y behind)
         ]
       ]) single in
@@ -109,7 +116,9 @@ module _ (order : Order) (c : Coverage) (holding past new : List Datom) (d : Dat
   gains_both : Gains past (λ x. (Contains holding x × (is_mate d x ≡ true)) ⊎ (d ≡ x)) (with_one order (with_some order past fact) d)
   gains_both x =
       let facts = gains_fact fact ended.fact_is in
-      let apart : HasNoTwins (with_some order past fact ++ d ∷ []) = single_part (with_some order past fact ++ d ∷ []) (holding ++ past ++ d ∷ []) (λ y there. elim (Contains-append_cases (with_some order past fact) (d ∷ []) y there) [
+      let apart : HasNoTwins (with_some order past fact ++ d ∷ []) =
+      single_part (with_some order past fact ++ d ∷ []) (holding ++ past ++ d ∷ [])
+      (λ y there. elim (Contains-append_cases (with_some order past fact) (d ∷ []) y there) [
         | inl before ↦ elim ((facts y).0 before) [
           | inl was ↦ Contains-append_left (holding ++ past) (d ∷ []) y (Contains-append_right holding past y was)
           | inr one ↦ Contains-append_left (holding ++ past) (d ∷ []) y (Contains-append_left holding past y ((ended.fact_is y).0 one).0)
@@ -136,7 +145,8 @@ module _ (order : Order) (c : Coverage) (holding past new : List Datom) (d : Dat
   withdrawn_now : withdraws c order d ≡ true
   withdrawn_now = rw (retracts, held) refl
 
-  pub retracted-one : IsRising order new → IsRising order past → IsRetracted order c holding past (d ∷ []) new (with_one order (with_some order past fact) d)
+  pub retracted-one : IsRising order new → IsRising order past
+      → IsRetracted order c holding past (d ∷ []) new (with_one order (with_some order past fact) d)
   retracted-one rising past_rises =
       record {
         new_rises = rising;
@@ -186,7 +196,9 @@ either : (a b : Bool) → (a || b) ≡ true → (a ≡ true) ⊎ ((a ≡ false) 
 either true b is = inl refl
 either false b is = inr (refl, is)
 
-pub retracted-more : (order : Order) (c : Coverage) (holding past ds h p : List Datom) (d : Datom) (new gone : List Datom) → IsRetracted order c holding past ds h p → IsRetracted order c h p (d ∷ []) new gone → IsRetracted order c holding past (ds ++ d ∷ []) new gone
+pub retracted-more : (order : Order) (c : Coverage) (holding past ds h p : List Datom) (d : Datom) (new gone : List Datom)
+    → IsRetracted order c holding past ds h p → IsRetracted order c h p (d ∷ []) new gone
+    → IsRetracted order c holding past (ds ++ d ∷ []) new gone
 retracted-more order c holding past ds h p d new gone before next =
     record {
       new_rises = next.new_rises;
@@ -242,7 +254,8 @@ may-less all part d within may =
       one = λ x y x_in y_in mate_x mate_y. may.one x y (within x x_in) (within y y_in) mate_x mate_y;
     }
 
-module _ (order : Order) (c : Coverage) (holding past ds h p : List Datom) (i : ℕ) (item : Datom) (before : IsRetracted order c holding past (take i ds) h p) where
+module _ (order : Order) (c : Coverage) (holding past ds h p : List Datom) (i : ℕ) (item : Datom)
+    (before : IsRetracted order c holding past (take i ds) h p) where
   pub held_before : (x : Datom) → Contains h x → Contains holding x
   held_before x there = ((before.new_is x).0 there).0
 
@@ -265,7 +278,10 @@ module _ (order : Order) (c : Coverage) (holding past ds h p : List Datom) (i : 
         ]
       ]) single
 
-  pub retracted-next : (new gone : List Datom) → i < length ds → item ≡ get_or ds i item → IsRetracted order c h p (item ∷ []) new gone → IsRetracted order c holding past (take (i + 1) ds) new gone
+  pub retracted-next : (new gone : List Datom) → i < length ds → item ≡ get_or ds i item → IsRetracted order c h p (item ∷ []) new gone
+      → IsRetracted order c holding past (take (i + 1) ds) new gone
   retracted-next new gone within is next =
-      let split : take (i + 1) ds ≡ take i ds ++ item ∷ [] = take_more ds i item within ∙ ap (λ (z : Datom). take i ds ++ z ∷ []) (sym is) in
-      subst (λ (l : List Datom). IsRetracted order c holding past l new gone) (sym split) (retracted-more order c holding past (take i ds) h p item new gone before next)
+      let split : take (i + 1) ds ≡ take i ds ++ item ∷ [] =
+      take_more ds i item within ∙ ap (λ (z : Datom). take i ds ++ z ∷ []) (sym is) in
+      subst (λ (l : List Datom). IsRetracted order c holding past l new gone) (sym split)
+      (retracted-more order c holding past (take i ds) h p item new gone before next)

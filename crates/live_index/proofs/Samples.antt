@@ -20,13 +20,17 @@ pub none : AreSamples []
 none d there = absurd (contains_none d there)
 
 pub one : (x : Datom) → x.added ≡ adds x.t → AreSamples (x ∷ [])
-one x is d there = elim (contains-cons x [] d there) [ inl same ↦ subst (λ (z : Datom). z.added ≡ adds z.t) same is | inr more ↦ absurd (contains_none d more) ]
+one x is d there = elim (contains-cons x [] d there) [
+  | inl same ↦ subst (λ (z : Datom). z.added ≡ adds z.t) same is
+  | inr more ↦ absurd (contains_none d more)
+]
 
 pub pushed : (ds : List Datom) (x : Datom) → AreSamples ds → x.added ≡ adds x.t → AreSamples (ds ++ x ∷ [])
 pushed ds x all is = both ds (x ∷ []) all (one x is)
 
 -- what grew by samples has samples alone
-pub grown : (order : Order) (c : Coverage) (old refill datoms new : List Datom) → AreSamples old → AreSamples refill → AreSamples datoms → IsGrown order c old refill datoms new → AreSamples new
+pub grown : (order : Order) (c : Coverage) (old refill datoms new : List Datom) → AreSamples old → AreSamples refill → AreSamples datoms
+    → IsGrown order c old refill datoms new → AreSamples new
 grown order c old refill datoms new all_old all_refill all_new g d there =
     elim ((g.members d).0 there).0 [
       | inl was ↦ elim was [ inl o ↦ all_old d o | inr r ↦ all_refill d r.1 ]

@@ -1,5 +1,6 @@
 -- Live lists that stand for a history and grow by its next entry stand for the history with it.
-use Rattle.std.proofs.Common.{◌≡◌, ◌∙◌, ℕ, ◌+◌, ◌<◌, ◌⊎◌, inl, inr, Bool, true, false, not, cond, leb, List, [], ◌∷◌, ◌++◌, refl, sym, ap, subst, arith, eqb, Option, Some, None}
+use Rattle.std.proofs.Common.{◌≡◌, ◌∙◌, ℕ, ◌+◌, ◌<◌, ◌⊎◌, inl, inr, Bool, true, false, not, cond, leb, List, [], ◌∷◌, ◌++◌, refl, sym, ap}
+use Rattle.std.proofs.Common.{subst, arith, eqb, Option, Some, None}
 use Rattle.std.specs.Prelude.{Contains, IsTrue, IsFalse, is_some, option_and_then}
 use Rattle.std.specs.Option.{option_map_or}
 use Rattle.std.specs.declared.cmp.Ordering.TheVariants.{Equal}
@@ -41,18 +42,23 @@ use Rattle.live_index.specs.Standing.{IsDemanded, IsNext}
 
 -- ---- VAET holds an attribute from its beginning
 
-held_from : (e : ℕ) (name : Option (List ℕ)) (kind count uniqueness : Option ℕ) (component indexed : Bool) → is_some (attribute_from e name kind count uniqueness component indexed) ≡ true
-    → option_map_or (is_held Vaet) (attribute_from e name kind count uniqueness component indexed) false ≡ option_map_or (λ k. eqb k type_ref) kind false
+held_from : (e : ℕ) (name : Option (List ℕ)) (kind count uniqueness : Option ℕ) (component indexed : Bool)
+    → is_some (attribute_from e name kind count uniqueness component indexed) ≡ true
+    → option_map_or (is_held Vaet) (attribute_from e name kind count uniqueness component indexed) false
+    ≡ option_map_or (λ k. eqb k type_ref) kind false
 held_from e None kind count uniqueness component indexed there = absurd (true≢false (sym there))
 held_from e (Some n) None count uniqueness component indexed there = absurd (true≢false (sym there))
 held_from e (Some n) (Some k) None uniqueness component indexed there = absurd (true≢false (sym there))
 held_from e (Some n) (Some k) (Some c) uniqueness component indexed there = refl
 
-covers-kind : (facts : List Datom) (a : ℕ) → is_attribute facts a ≡ true → covers facts Vaet a ≡ option_map_or (λ k. eqb k type_ref) (entity_of facts a value_type) false
+covers-kind : (facts : List Datom) (a : ℕ) → is_attribute facts a ≡ true
+    → covers facts Vaet a ≡ option_map_or (λ k. eqb k type_ref) (entity_of facts a value_type) false
 covers-kind facts a there =
-    held_from a (keyword_of facts a ident) (entity_of facts a value_type) (entity_of facts a cardinality) (entity_of facts a unique) (truth_of facts a is_component) (truth_of facts a index) there
+    held_from a (keyword_of facts a ident) (entity_of facts a value_type) (entity_of facts a cardinality) (entity_of facts a unique)
+    (truth_of facts a is_component) (truth_of facts a index) there
 
-covers-stays : (h : List Entry) (entry : Entry) (a : ℕ) → IsLawfulAfter h entry → is_attribute (facts h) a ≡ true → covers (facts_with h entry) Vaet a ≡ covers (facts h) Vaet a
+covers-stays : (h : List Entry) (entry : Entry) (a : ℕ) → IsLawfulAfter h entry → is_attribute (facts h) a ≡ true
+    → covers (facts_with h entry) Vaet a ≡ covers (facts h) Vaet a
 covers-stays h entry a next installed =
     covers-kind (facts_with h entry) a (attribute_stays h entry a next installed)
     ∙ ap (λ (o : Option ℕ). option_map_or (λ k. eqb k type_ref) o false)
@@ -76,31 +82,40 @@ module _ (h : List Entry) (c : ℕ) (entry : Entry) (coverage : Coverage) (refil
   live_back order d = subst (λ (before : List Entry). (c < d.t) ⊎ IsFalse (covers (facts before) order d.a)) same_past
 
   said_before : (d : Datom) → Contains (said h) d → Contains (said after) d
-  said_before d there = subst (λ (ds : List Datom). Contains ds d) (sym (said-push h entry)) (Contains-append_left (said h) entry.datoms d there)
+  said_before d there =
+      subst (λ (ds : List Datom). Contains ds d) (sym (said-push h entry)) (Contains-append_left (said h) entry.datoms d there)
 
   said_now : (d : Datom) → Contains entry.datoms d → Contains (said after) d
-  said_now d there = subst (λ (ds : List Datom). Contains ds d) (sym (said-push h entry)) (Contains-append_right (said h) entry.datoms d there)
+  said_now d there =
+      subst (λ (ds : List Datom). Contains ds d) (sym (said-push h entry)) (Contains-append_right (said h) entry.datoms d there)
 
   later : (d : Datom) → Contains entry.datoms d → c < d.t
-  later d there = let own = eqb-true d.t (basis h + 1) (member_passes (λ x. eqb x.t (basis h + 1)) entry.datoms d (own_t h entry is.next) there) in let bound = is.bound in omega arith
+  later d there =
+      let own = eqb-true d.t (basis h + 1) (member_passes (λ x. eqb x.t (basis h + 1)) entry.datoms d (own_t h entry is.next) there) in
+      let bound = is.bound in
+      omega arith
 
   -- an older datom that a list other than AVET demands now was demanded before
-  covered_before : (order : Order) (d : Datom) → (order ≡ Avet → ⊥) → Contains (said h) d → IsTrue (covers (facts after) order d.a) → IsTrue (covers (facts h) order d.a)
+  covered_before : (order : Order) (d : Datom) → (order ≡ Avet → ⊥) → Contains (said h) d → IsTrue (covers (facts after) order d.a)
+      → IsTrue (covers (facts h) order d.a)
   covered_before Eavt d other there covered = covered
   covered_before Aevt d other there covered = covered
   covered_before Avet d other there covered = absurd (other refl)
   covered_before Vaet d other there covered =
-      let installed : is_attribute (facts h) d.a ≡ true = member_passes (λ x. is_attribute (facts h) x.a) (said h) d (said_installed h is.lawful) there in
+      let installed : is_attribute (facts h) d.a ≡ true =
+      member_passes (λ x. is_attribute (facts h) x.a) (said h) d (said_installed h is.lawful) there in
       sym (covers-stays h entry d.a is.next installed) ∙ (ap (λ (ds : List Datom). covers ds Vaet d.a) (sym (facts-push h entry)) ∙ covered)
 
   -- what the history with the entry said has no twins
   no_twins_said : (ds : List Datom) → ((d : Datom) → Contains ds d → Contains (said after) d) → HasNoTwins ds
   no_twins_said ds each x y in_x in_y at =
       (one_for_each_key after (IsLawful-push h entry is.lawful is.next)).same x y (each x in_x) (each y in_y)
-      (subst (λ key. slice_cmp value_cmp (key_of Eavt x) key ≡ Equal) (same_keys Eavt x y at) (tied_itself (lists_total value_cmp_total) (key_of Eavt x)))
+      (subst (λ key. slice_cmp value_cmp (key_of Eavt x) key ≡ Equal) (same_keys Eavt x y at)
+      (tied_itself (lists_total value_cmp_total) (key_of Eavt x)))
 
   -- with a datom the later ones of its triple are demanded
-  demanded_later : (g : List Entry) (order : Order) (x y : Datom) → IsDemanded g c order x → Contains (said g) y → is_of x.e x.a x.v y ≡ true → x.t < y.t → IsDemanded g c order y
+  demanded_later : (g : List Entry) (order : Order) (x y : Datom) → IsDemanded g c order x → Contains (said g) y
+      → is_of x.e x.a x.v y ≡ true → x.t < y.t → IsDemanded g c order y
   demanded_later g order x y demanded y_in mate later_one =
       let same_a : x.a ≡ y.a = sym (is_of-true x.e x.a x.v y mate).a_is in (
         record { is_said = y_in; is_covered = subst (λ (a : ℕ). IsTrue (covers (facts g) order a)) same_a demanded.0.is_covered },
@@ -147,10 +162,13 @@ module _ (h : List Entry) (c : ℕ) (entry : Entry) (coverage : Coverage) (refil
           (holds-facts h d.e d.a d.v ∙ any_member (is_of d.e d.a d.v) (facts h) x (stands_in_history x x_in) mate);
     }
       where
-        retracts : (d : Datom) → (d.added ≡ true) ⊎ (d.added ≡ false) → Contains entry.datoms d → holds h d.e d.a d.v ≡ true → d.added ≡ false
+        retracts : (d : Datom) → (d.added ≡ true) ⊎ (d.added ≡ false) → Contains entry.datoms d → holds h d.e d.a d.v ≡ true
+            → d.added ≡ false
         retracts d (inr not_so) there held = not_so
         retracts d (inl adds) there held =
-            let allowed : cond d.added (not (holds h d.e d.a d.v)) (holds h d.e d.a d.v) ≡ true = member_passes (λ y. cond y.added (not (holds h y.e y.a y.v)) (holds h y.e y.a y.v)) entry.datoms d is.next.changes_alone there in
+            let allowed : cond d.added (not (holds h d.e d.a d.v)) (holds h d.e d.a d.v) ≡ true =
+            member_passes (λ y. cond y.added (not (holds h y.e y.a y.v)) (holds h y.e y.a y.v)) entry.datoms d is.next.changes_alone
+            there in
             let none : not (holds h d.e d.a d.v) ≡ true = rw adds at allowed in
             absurd (true≢false (sym none ∙ ap not held))
 
@@ -182,25 +200,29 @@ module _ (h : List Entry) (c : ℕ) (entry : Entry) (coverage : Coverage) (refil
         (λ x y x_in y_in mate later_one. in_old order y (demanded_later h order x y (of_old order x x_in) y_in mate later_one))
 
     -- what is offered and held is demanded with the entry
-    demanded_with : (datoms : List Datom) → ((d : Datom) → Contains datoms d → Contains entry.datoms d) → (order : Order) (d : Datom) → IsOffered order (list_in old order) refill datoms d × IsTrue (held_of coverage order d) → IsDemanded after c order d
+    demanded_with : (datoms : List Datom) → ((d : Datom) → Contains datoms d → Contains entry.datoms d) → (order : Order) (d : Datom)
+        → IsOffered order (list_in old order) refill datoms d × IsTrue (held_of coverage order d) → IsDemanded after c order d
     demanded_with datoms of_entry order d m =
         let covered : IsTrue (covers (facts after) order d.a) = sym (is.coverage_is order d.a) ∙ m.1 in
         elim m.0 [
           | inl older ↦ elim older [
-            | inl before ↦ let q = of_old order d before in (record { is_said = said_before d q.0.is_said; is_covered = covered }, live_on order d q.1)
+            | inl before ↦
+                let q = of_old order d before in (record { is_said = said_before d q.0.is_said; is_covered = covered }, live_on order d q.1)
             | inr filled ↦ subst (λ (o : Order). IsDemanded after c o d) (sym filled.0) ((is.refill_is.members d).0 filled.1).1
           ]
           | inr now ↦ (record { is_said = said_now d (of_entry d now); is_covered = covered }, inl (later d (of_entry d now)))
         ]
 
-    offered : (order : Order) (d : Datom) → Contains (said h) d → IsDemanded after c order d → (Contains (list_in old order) d) ⊎ ((order ≡ Avet) × Contains refill d)
+    offered : (order : Order) (d : Datom) → Contains (said h) d → IsDemanded after c order d
+        → (Contains (list_in old order) d) ⊎ ((order ≡ Avet) × Contains refill d)
     offered order d there demanded =
         elim (cases_Bool (covers (facts h) order d.a)) [
           | inl covered ↦ inl (in_old order d (record { is_said = there; is_covered = covered }, live_back order d demanded.1))
           | inr bare ↦ refilled order bare demanded
         ]
       where
-        refilled : (o : Order) → covers (facts h) o d.a ≡ false → IsDemanded after c o d → (Contains (list_in old o) d) ⊎ ((o ≡ Avet) × Contains refill d)
+        refilled : (o : Order) → covers (facts h) o d.a ≡ false → IsDemanded after c o d
+            → (Contains (list_in old o) d) ⊎ ((o ≡ Avet) × Contains refill d)
         refilled Eavt bare now = absurd (true≢false bare)
         refilled Aevt bare now = absurd (true≢false bare)
         refilled Avet bare now = inr (refl, (is.refill_is.members d).1 (there, now, λ before. true≢false (sym before.0.is_covered ∙ bare)))
@@ -219,7 +241,8 @@ module _ (h : List Entry) (c : ℕ) (entry : Entry) (coverage : Coverage) (refil
             | inr none ↦ absurd (contains_none d none)
           ]
 
-      later_in_filled : (order : Order) (x y : Datom) → Contains (list_in filled order) x → Contains (said h) y → is_of x.e x.a x.v y ≡ true → x.t < y.t → Contains (list_in filled order) y
+      later_in_filled : (order : Order) (x y : Datom) → Contains (list_in filled order) x → Contains (said h) y → is_of x.e x.a x.v y ≡ true
+          → x.t < y.t → Contains (list_in filled order) y
       later_in_filled order x y x_in y_in mate later_one =
           let demanded_x = demanded_with [] (λ d none. absurd (contains_none d none)) order x (((grown order).members x).0 x_in) in
           let demanded_y = demanded_later after order x y demanded_x (said_before y y_in) mate later_one in
@@ -228,17 +251,19 @@ module _ (h : List Entry) (c : ℕ) (entry : Entry) (coverage : Coverage) (refil
       pub may_follow_refill : (order : Order) → MayFollow (list_in filled order) entry.datoms
       may_follow_refill order = follows order (list_in filled order) (grown order).rising (said_of_filled order) (later_in_filled order)
 
-    module _ (new : Lists) (grown : (order : Order) → IsGrown order coverage (list_in old order) refill entry.datoms (list_in new order)) where
+    module _ (new : Lists)
+        (grown : (order : Order) → IsGrown order coverage (list_in old order) refill entry.datoms (list_in new order)) where
       demanded_now : (order : Order) (d : Datom) → Contains (list_in new order) d → IsDemanded after c order d
       demanded_now order d there = demanded_with entry.datoms (λ x now. now) order d (((grown order).members d).0 there)
 
       listed : (order : Order) (d : Datom) → IsDemanded after c order d → Contains (list_in new order) d
       listed order d demanded =
           ((grown order).members d).1 (
-            elim (Contains-append_cases (said h) entry.datoms d (subst (λ (ds : List Datom). Contains ds d) (said-push h entry) demanded.0.is_said)) [
-              | inl before ↦ inl (offered order d before demanded)
-              | inr now ↦ inr now
-            ],
+            elim (Contains-append_cases (said h) entry.datoms d
+                (subst (λ (ds : List Datom). Contains ds d) (said-push h entry) demanded.0.is_said)) [
+                  | inl before ↦ inl (offered order d before demanded)
+                  | inr now ↦ inr now
+                ],
             is.coverage_is order d.a ∙ demanded.0.is_covered,
           )
 

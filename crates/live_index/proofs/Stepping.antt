@@ -1,6 +1,7 @@
 -- A step of a walk over the two halves of an order's list.
 use denote.Ref.{Bor}
-use Rattle.std.proofs.Common.{◌≡◌, ◌∙◌, ℕ, inl, inr, true, false, List, [], ◌∷◌, ◌++◌, length, drop, refl, sym, ap, subst, Option, Some, None}
+use Rattle.std.proofs.Common.{◌≡◌, ◌∙◌, ℕ, inl, inr, true, false, List, [], ◌∷◌, ◌++◌, length, drop, refl, sym, ap, subst, Option, Some}
+use Rattle.std.proofs.Common.{None}
 use Rattle.std.specs.Prelude.{Contains}
 use Rattle.std.specs.List.{slice_get}
 use Rattle.std.proofs.lemmas.List.{append-nil}
@@ -39,7 +40,8 @@ pub record IsStep (order : Order) (h p h' p' : List Datom) (r : Option (Bor Dato
   pub first : IsFirstOf (merged order h p) (merged order h' p') r
   pub pair : IsPair order h' p'
 
-pub step_holding : (order : Order) (h p h' : List Datom) (r : Option (Bor Datom)) → IsPair order h p → comes_first order (slice_get h 0) (slice_get p 0) ≡ true → IsFirstOf h h' r → IsStep order h p h' p r
+pub step_holding : (order : Order) (h p h' : List Datom) (r : Option (Bor Datom)) → IsPair order h p
+    → comes_first order (slice_get h 0) (slice_get p 0) ≡ true → IsFirstOf h h' r → IsStep order h p h' p r
 step_holding order [] p h' r pair first is = absurd (cc)
 step_holding order (x ∷ xs) p h' None pair first is = let none : x ∷ xs ≡ [] = is.0 in absurd (cc)
 step_holding order (x ∷ xs) [] h' (Some d) pair first is =
@@ -59,7 +61,8 @@ step_holding order (x ∷ xs) (y ∷ ys) h' (Some d) pair first is =
       pair = subst (λ (l : List Datom). IsPair order l (y ∷ ys)) tail (pair-drop order (x ∷ xs) (y ∷ ys) 1 0 pair);
     }
 
-pub step_past : (order : Order) (h p p' : List Datom) (r : Option (Bor Datom)) → IsPair order h p → comes_first order (slice_get h 0) (slice_get p 0) ≡ false → IsFirstOf p p' r → IsStep order h p h p' r
+pub step_past : (order : Order) (h p p' : List Datom) (r : Option (Bor Datom)) → IsPair order h p
+    → comes_first order (slice_get h 0) (slice_get p 0) ≡ false → IsFirstOf p p' r → IsStep order h p h p' r
 step_past order [] [] p' None pair first is =
     let none : p' ≡ [] = is.1 in
     record { first = (refl, rw none refl); pair = rw none pair }
@@ -93,9 +96,11 @@ in_order_rising order (d ∷ ds) rising = ap (put_in_order order d) (in_order_ri
 pub merged_alone : (order : Order) (ds : List Datom) → IsRising order ds → merged order ds [] ≡ ds
 merged_alone order ds rising = rw (append-nil ds) (in_order_rising order ds rising)
 
-pub pair_ahead : (order : Order) (ds : List Datom) (i j : ℕ) → IsRising order ds → IsPair order (drop i (standing ds)) (drop j (withdrawn ds))
+pub pair_ahead : (order : Order) (ds : List Datom) (i j : ℕ) → IsRising order ds
+    → IsPair order (drop i (standing ds)) (drop j (withdrawn ds))
 pair_ahead order ds i j rising = pair-drop order (standing ds) (withdrawn ds) i j (pair_of order ds rising)
 
 pub pair_alone : (order : Order) (ds : List Datom) (i : ℕ) → IsRising order ds → IsPair order (drop i (standing ds)) []
 pair_alone order ds i rising =
-    subst (λ (l : List Datom). IsPair order (drop i (standing ds)) l) (drop-length (withdrawn ds)) (pair_ahead order ds i (length (withdrawn ds)) rising)
+    subst (λ (l : List Datom). IsPair order (drop i (standing ds)) l) (drop-length (withdrawn ds))
+    (pair_ahead order ds i (length (withdrawn ds)) rising)

@@ -21,7 +21,8 @@ one-rising order ds d rising =
       | inr apart ↦ rw apart (rising_with order d ds rising (place_of-le-length (probe_of order d) ds) apart)
     ]
 
-pub one-gains : (order : Order) (ds : List Datom) (d : Datom) (P : Datom → Type 0) → HasNoTwins (ds ++ d ∷ []) → P d → Gains ds (λ x. (d ≡ x) × P x) (with_one order ds d)
+pub one-gains : (order : Order) (ds : List Datom) (d : Datom) (P : Datom → Type 0) → HasNoTwins (ds ++ d ∷ []) → P d
+    → Gains ds (λ x. (d ≡ x) × P x) (with_one order ds d)
 one-gains order ds d P single holds =
     let place = place_of (probe_of order d) ds in
     elim (cases_Bool (is_twin order d (slice_get ds place))) [
@@ -29,14 +30,16 @@ one-gains order ds d P single holds =
       | inr apart ↦ rw apart (gains_inserted ds place d _ P holds refl)
     ]
 
-pub taken-rising : (c : Coverage) (order : Order) (ds : List Datom) (d : Datom) → IsRising order ds → IsRising order (with_taken c order ds d)
+pub taken-rising : (c : Coverage) (order : Order) (ds : List Datom) (d : Datom) → IsRising order ds
+    → IsRising order (with_taken c order ds d)
 taken-rising c order ds d rising =
     elim (cases_Bool (takes c order d)) [
       | inl goes ↦ rw goes (one-rising order ds d rising)
       | inr stays ↦ rw stays rising
     ]
 
-pub taken-gains : (c : Coverage) (order : Order) (ds : List Datom) (d : Datom) → HasNoTwins (ds ++ d ∷ []) → Gains ds (λ x. (d ≡ x) × IsTrue (takes c order x)) (with_taken c order ds d)
+pub taken-gains : (c : Coverage) (order : Order) (ds : List Datom) (d : Datom) → HasNoTwins (ds ++ d ∷ [])
+    → Gains ds (λ x. (d ≡ x) × IsTrue (takes c order x)) (with_taken c order ds d)
 taken-gains c order ds d single =
     elim (cases_Bool (takes c order d)) [
       | inl goes ↦ rw goes (one-gains order ds d (λ x. IsTrue (takes c order x)) single goes)

@@ -1,5 +1,6 @@
 -- An order keeps the datoms of a triple together, in time. Which datoms stand: the last ones of their triples.
-use Rattle.std.proofs.Common.{◌≡◌, ◌∙◌, ℕ, ◌+◌, ◌<◌, ◌≤◌, ◌⊎◌, inl, inr, Bool, true, false, not, cond, List, [], ◌∷◌, ◌++◌, length, take, drop, get_or, refl, sym, ap, subst, arith, eqb, leb, Some, None}
+use Rattle.std.proofs.Common.{◌≡◌, ◌∙◌, ℕ, ◌+◌, ◌<◌, ◌≤◌, ◌⊎◌, inl, inr, Bool, true, false, not, cond, List, [], ◌∷◌, ◌++◌, length, take}
+use Rattle.std.proofs.Common.{drop, get_or, refl, sym, ap, subst, arith, eqb, leb, Some, None}
 use Rattle.std.specs.Prelude.{Contains}
 use Rattle.std.specs.List.{list_any}
 use Rattle.std.specs.Ordering.{is_gt, nat_cmp, ordering_then}
@@ -17,7 +18,7 @@ use Rattle.fb_values.specs.declared.indexes.Order.TheVariants.{Eavt, Aevt, Avet,
 use Rattle.fb_values.specs.declared.indexes.Probe.{Probe}
 use Rattle.fb_values.specs.Orders.{key_cmp, key_of, value_cmp, given, probe_cmp}
 use Rattle.fb_values.specs.OrderLaws.{value_cmp_total, probe_cmp-Equal, Equal-probe_cmp}
-use Rattle.fb_values.specs.Rising.{StandsBefore, IsRising}
+use Rattle.fb_values.specs.Rising.{IsBelowAll, IsRising}
 use Rattle.fb_search.proofs.Below.{below_earlier}
 use Rattle.fb_values.specs.declared.facts.Entry.{Entry}
 use Rattle.fb_values.proofs.Rising.{rising_from}
@@ -27,12 +28,13 @@ use Rattle.fb_model.specs.Lawful.{IsLawful}
 use Rattle.fb_model.proofs.OneMoreEntry.{said-push}
 use Rattle.fb_model.proofs.Times.{own_t, said_t}
 use Rattle.fb_model.proofs.Invariants.{of_lawful}
-use Rattle.fb_model.specs.Facts.{is_of, standing, stands_before}
+use Rattle.fb_model.specs.Facts.{is_of, standing, is_last_assertion}
 use Rattle.fb_model.proofs.Members.{some_member, any_member, standing_member, member_passes}
 use Rattle.fb_model.proofs.Triples.{is_of-true, IsOf, is_of-same, value_eq-refl}
 use Rattle.live_index.proofs.Members.{contains-cons, contains_head, contains_tail, contains_none}
 
-heads : {K : Type 0} {R : K → K → Ordering} (o : IsTotalOrder R) (v a b : K) (va ab x y xy : Ordering) → R v a ≡ va → R a b ≡ ab → (xy ≡ Less → x ≡ Less → y ≡ Less) → ordering_then ab xy ≡ Less → ordering_then va x ≡ Less → ordering_then (R v b) y ≡ Less
+heads : {K : Type 0} {R : K → K → Ordering} (o : IsTotalOrder R) (v a b : K) (va ab x y xy : Ordering) → R v a ≡ va → R a b ≡ ab
+    → (xy ≡ Less → x ≡ Less → y ≡ Less) → ordering_then ab xy ≡ Less → ordering_then va x ≡ Less → ordering_then (R v b) y ≡ Less
 heads {R = R} o v a b Less Less x y xy p q rest less above = let far : R v b ≡ Less = o.trans v a b p q in rw far refl
 heads {R = R} o v a b Less Equal x y xy p q rest less above =
     let far : R v b ≡ Less = cc (o.antisymm v a, o.antisymm v b, o.congr a b v q) in
@@ -44,7 +46,8 @@ heads {R = R} o v a b Equal Greater x y xy p q rest less above = absurd (cc)
 heads {R = R} o v a b Greater ab x y xy p q rest less above = absurd (cc)
 
 -- what leads a smaller list from below leads a greater one from below too
-later : {K : Type 0} {R : K → K → Ordering} (o : IsTotalOrder R) (g x y : List K) → slice_cmp R x y ≡ Less → slice_cmp R g (take (length g) x) ≡ Less → slice_cmp R g (take (length g) y) ≡ Less
+later : {K : Type 0} {R : K → K → Ordering} (o : IsTotalOrder R) (g x y : List K) → slice_cmp R x y ≡ Less
+    → slice_cmp R g (take (length g) x) ≡ Less → slice_cmp R g (take (length g) y) ≡ Less
 later o [] x y less above = absurd (cc)
 later o (v ∷ g) [] y less above = absurd (cc)
 later o (v ∷ g) (a ∷ x) [] less above = absurd (cc)
@@ -53,7 +56,8 @@ later {R = R} o (v ∷ g) (a ∷ x) (b ∷ y) less above = heads o v a b (R v a)
 pub above_later : (p : Probe) (x y : Datom) → key_cmp p.order x y ≡ Less → probe_cmp p x ≡ Less → probe_cmp p y ≡ Less
 above_later p x y less above = later value_cmp_total (given p) (key_of p.order x) (key_of p.order y) less above
 
-pub before_member : (order : Order) (x : Datom) (ds : List Datom) (d : Datom) → StandsBefore order x ds → Contains ds d → key_cmp order x d ≡ Less
+pub before_member : (order : Order) (x : Datom) (ds : List Datom) (d : Datom) → IsBelowAll order x ds → Contains ds d
+    → key_cmp order x d ≡ Less
 before_member order x [] d before there = absurd (contains_none d there)
 before_member order x (y ∷ ds) d before there =
     elim (contains-cons y ds d there) [
@@ -61,9 +65,11 @@ before_member order x (y ∷ ds) d before there =
       | inr behind ↦ before_member order x ds d before.1 behind
     ]
 
-pub before_all : (order : Order) (x : Datom) (ds : List Datom) → ((d : Datom) → Contains ds d → key_cmp order x d ≡ Less) → StandsBefore order x ds
+pub before_all : (order : Order) (x : Datom) (ds : List Datom)
+    → ((d : Datom) → Contains ds d → key_cmp order x d ≡ Less) → IsBelowAll order x ds
 before_all order x [] each = tt
-before_all order x (y ∷ ds) each = (each y (contains_head y ds y refl), before_all order x ds (λ d there. each d (contains_tail y ds d there)))
+before_all order x (y ∷ ds) each =
+    (each y (contains_head y ds y refl), before_all order x ds (λ d there. each d (contains_tail y ds d there)))
 
 -- later in the list is later in time, among the datoms of one triple
 abbrev pub IsByTime : List Datom → Type 0
@@ -94,7 +100,7 @@ is_false true e = absurd (true≢false (sym e))
 
 pub standing_last : (ds : List Datom) (d : Datom) → IsByTime ds → Contains (standing ds) d → IsLast ds d
 standing_last [] d by_time there = absurd (contains_none d there)
-standing_last (x ∷ xs) d by_time there = go (cases_Bool (stands_before x xs)) (λ behind. standing_last xs d by_time.1 behind)
+standing_last (x ∷ xs) d by_time there = go (cases_Bool (is_last_assertion x xs)) (λ behind. standing_last xs d by_time.1 behind)
   where
     later : IsLast xs d → IsLast (x ∷ xs) d
     later is = record {
@@ -108,7 +114,7 @@ standing_last (x ∷ xs) d by_time there = go (cases_Bool (stands_before x xs)) 
       ];
     }
 
-    go : (stands_before x xs ≡ true) ⊎ (stands_before x xs ≡ false) → (Contains (standing xs) d → IsLast xs d) → IsLast (x ∷ xs) d
+    go : (is_last_assertion x xs ≡ true) ⊎ (is_last_assertion x xs ≡ false) → (Contains (standing xs) d → IsLast xs d) → IsLast (x ∷ xs) d
     go (inl stands) next =
         let P : Bool → Type 0 = λ b. Contains (cond b (x ∷ standing xs) (standing xs)) d in
         elim (contains-cons x (standing xs) d (subst P stands there)) [
@@ -134,29 +140,34 @@ last_stands (x ∷ xs) d by_time is = go (contains-cons x xs d is.there) (λ res
   where
     behind_too : Contains (standing xs) d → Contains (standing (x ∷ xs)) d
     behind_too there =
-        elim (stands_before x xs) as (λ b. Contains (cond b (x ∷ standing xs) (standing xs)) d) [
+        elim (is_last_assertion x xs) as (λ b. Contains (cond b (x ∷ standing xs) (standing xs)) d) [
           | true ↦ contains_tail x (standing xs) d there
           | false ↦ there
         ]
 
     go : (x ≡ d) ⊎ Contains xs d → (IsLast xs d → Contains (standing xs) d) → Contains (standing (x ∷ xs)) d
-    go (inr behind) next = behind_too (next record { there = behind; added = is.added; latest = λ y member same. is.latest y (contains_tail x xs y member) same })
+    go (inr behind) next =
+        behind_too
+        (next record { there = behind; added = is.added; latest = λ y member same. is.latest y (contains_tail x xs y member) same })
     go (inl same) next =
         let P : Bool → Type 0 = λ b. Contains (cond b (x ∷ standing xs) (standing xs)) d in
         elim (cases_Bool (list_any (is_of x.e x.a x.v) xs)) [
           | inl some ↦
               let found = some_member (is_of x.e x.a x.v) xs some in
               let late = by_time.0 found.0 found.1 found.2 in
-              let bound = is.latest found.0 (contains_tail x xs found.0 found.1) (subst (λ (z : Datom). is_of z.e z.a z.v found.0 ≡ true) same found.2) in
+              let bound =
+              is.latest found.0 (contains_tail x xs found.0 found.1)
+              (subst (λ (z : Datom). is_of z.e z.a z.v found.0 ≡ true) same found.2) in
               let same_t : x.t ≡ d.t = ap (λ (z : Datom). z.t) same in
               absurd (omega (arith, late, bound, same_t))
           | inr none ↦
               let x_added : x.added ≡ true = subst (λ (z : Datom). z.added ≡ true) (sym same) is.added in
-              let now : stands_before x xs ≡ true = and_from _ _ x_added (ap not none) in
+              let now : is_last_assertion x xs ≡ true = and_from _ _ x_added (ap not none) in
               subst P (sym now) (contains_head x (standing xs) d same)
         ]
 
-by_time-append : (ds more : List Datom) → IsByTime ds → IsByTime more → ((x y : Datom) → Contains ds x → Contains more y → x.t < y.t) → IsByTime (ds ++ more)
+by_time-append : (ds more : List Datom) → IsByTime ds → IsByTime more
+    → ((x y : Datom) → Contains ds x → Contains more y → x.t < y.t) → IsByTime (ds ++ more)
 by_time-append [] more first rest apart = rest
 by_time-append (x ∷ ds) more first rest apart = (
   λ y there same. elim (Contains-append_cases ds more y there) [
@@ -197,10 +208,12 @@ same_triple_key Aevt x y is = let e = is.e_is in let a = is.a_is in let v = is.v
 same_triple_key Avet x y is = let e = is.e_is in let a = is.a_is in let v = is.v_is in cc
 same_triple_key Vaet x y is = let e = is.e_is in let a = is.a_is in let v = is.v_is in cc
 
-pub triple_by_t : (order : Order) (x y : Datom) → is_of x.e x.a x.v y ≡ true → key_cmp order x y ≡ slice_cmp value_cmp (Ref x.t ∷ []) (Ref y.t ∷ [])
+pub triple_by_t : (order : Order) (x y : Datom) → is_of x.e x.a x.v y ≡ true
+    → key_cmp order x y ≡ slice_cmp value_cmp (Ref x.t ∷ []) (Ref y.t ∷ [])
 triple_by_t order x y is =
     ap (λ k. slice_cmp value_cmp k (key_of order y)) (key-parts order x)
-    ∙ ap (slice_cmp value_cmp (triple_key order x ++ Ref x.t ∷ [])) (key-parts order y ∙ ap (λ k. k ++ Ref y.t ∷ []) (same_triple_key order x y (is_of-true x.e x.a x.v y is)))
+    ∙ ap (slice_cmp value_cmp (triple_key order x ++ Ref x.t ∷ []))
+    (key-parts order y ∙ ap (λ k. k ++ Ref y.t ∷ []) (same_triple_key order x y (is_of-true x.e x.a x.v y is)))
     ∙ lead_all (triple_key order x) (Ref x.t ∷ []) (Ref y.t ∷ [])
 
 nat_less : (t u : ℕ) → nat_cmp t u ≡ Less → t < u
@@ -220,7 +233,8 @@ later_in_time order x y less is = t_less x.t y.t (sym (triple_by_t order x y is)
 
 pub rising_by_time : (order : Order) (ds : List Datom) → IsRising order ds → IsByTime ds
 rising_by_time order [] rising = tt
-rising_by_time order (x ∷ ds) rising = (λ y there is. later_in_time order x y (before_member order x ds y rising.0 there) is, rising_by_time order ds rising.1)
+rising_by_time order (x ∷ ds) rising =
+    (λ y there is. later_in_time order x y (before_member order x ds y rising.0 there) is, rising_by_time order ds rising.1)
 
 pub said_by_time : (h : List Entry) → IsLawful h → IsByTime (said h)
 said_by_time =
@@ -253,12 +267,18 @@ same_triple order x y same = parts order same
     number m n is = cc
 
     parts : (order : Order) → triple_key order y ≡ triple_key order x → is_of x.e x.a x.v y ≡ true
-    parts Eavt is = made (number _ _ (first _ _ _ _ is)) (number _ _ (first _ _ _ _ (rest _ _ _ _ is))) (first _ _ _ _ (rest _ _ _ _ (rest _ _ _ _ is)))
-    parts Aevt is = made (number _ _ (first _ _ _ _ (rest _ _ _ _ is))) (number _ _ (first _ _ _ _ is)) (first _ _ _ _ (rest _ _ _ _ (rest _ _ _ _ is)))
-    parts Avet is = made (number _ _ (first _ _ _ _ (rest _ _ _ _ (rest _ _ _ _ is)))) (number _ _ (first _ _ _ _ is)) (first _ _ _ _ (rest _ _ _ _ is))
-    parts Vaet is = made (number _ _ (first _ _ _ _ (rest _ _ _ _ (rest _ _ _ _ is)))) (number _ _ (first _ _ _ _ (rest _ _ _ _ is))) (first _ _ _ _ is)
+    parts Eavt is =
+        made (number _ _ (first _ _ _ _ is)) (number _ _ (first _ _ _ _ (rest _ _ _ _ is))) (first _ _ _ _ (rest _ _ _ _ (rest _ _ _ _ is)))
+    parts Aevt is =
+        made (number _ _ (first _ _ _ _ (rest _ _ _ _ is))) (number _ _ (first _ _ _ _ is)) (first _ _ _ _ (rest _ _ _ _ (rest _ _ _ _ is)))
+    parts Avet is =
+        made (number _ _ (first _ _ _ _ (rest _ _ _ _ (rest _ _ _ _ is)))) (number _ _ (first _ _ _ _ is)) (first _ _ _ _ (rest _ _ _ _ is))
+    parts Vaet is =
+        made (number _ _ (first _ _ _ _ (rest _ _ _ _ (rest _ _ _ _ is)))) (number _ _ (first _ _ _ _ (rest _ _ _ _ is))) (first _ _ _ _ is)
 
-probe-triple : (order : Order) (x y : Datom) → (take (length (given (triple_probe order x))) (key_of order y) ≡ triple_key order y) × (given (triple_probe order x) ≡ triple_key order x)
+probe-triple : (order : Order) (x y : Datom)
+    → (take (length (given (triple_probe order x))) (key_of order y) ≡ triple_key order y)
+    × (given (triple_probe order x) ≡ triple_key order x)
 probe-triple Eavt x y = (refl, refl)
 probe-triple Aevt x y = (refl, refl)
 probe-triple Avet x y = (refl, refl)
@@ -266,13 +286,16 @@ probe-triple Vaet x y = (refl, refl)
 
 probe_equal : (order : Order) (x y : Datom) → is_of x.e x.a x.v y ≡ true → probe_cmp (triple_probe order x) y ≡ Equal
 probe_equal order x y is =
-    Equal-probe_cmp (triple_probe order x) y ((probe-triple order x y).0 ∙ same_triple_key order x y (is_of-true x.e x.a x.v y is) ∙ sym (probe-triple order x y).1)
+    Equal-probe_cmp (triple_probe order x) y
+    ((probe-triple order x y).0 ∙ same_triple_key order x y (is_of-true x.e x.a x.v y is) ∙ sym (probe-triple order x y).1)
 
 probe_of_triple : (order : Order) (x y : Datom) → probe_cmp (triple_probe order x) y ≡ Equal → is_of x.e x.a x.v y ≡ true
-probe_of_triple order x y is = same_triple order x y (sym (probe-triple order x y).0 ∙ probe_cmp-Equal (triple_probe order x) y is ∙ (probe-triple order x y).1)
+probe_of_triple order x y is =
+    same_triple order x y (sym (probe-triple order x y).0 ∙ probe_cmp-Equal (triple_probe order x) y is ∙ (probe-triple order x y).1)
 
 -- what lies between two datoms of a triple is of that triple
-pub together : (order : Order) (x y z : Datom) → key_cmp order x y ≡ Less → key_cmp order y z ≡ Less → is_of x.e x.a x.v z ≡ true → is_of x.e x.a x.v y ≡ true
+pub together : (order : Order) (x y z : Datom) → key_cmp order x y ≡ Less → key_cmp order y z ≡ Less → is_of x.e x.a x.v z ≡ true
+    → is_of x.e x.a x.v y ≡ true
 together order x y z less more is = go (probe_cmp p y) refl
   where
     p : Probe
@@ -290,8 +313,11 @@ together order x y z less more is = go (probe_cmp p y) refl
 pub rising-standing : (order : Order) (ds : List Datom) → IsRising order ds → IsRising order (standing ds)
 rising-standing order [] rising = tt
 rising-standing order (d ∷ ds) rising =
-    elim (stands_before d ds) as (λ b. IsRising order (cond b (d ∷ standing ds) (standing ds))) [
-      | true ↦ (before_all order d (standing ds) (λ x there. before_member order d ds x rising.0 (standing_member ds x there)), rising-standing order ds rising.1)
+    elim (is_last_assertion d ds) as (λ b. IsRising order (cond b (d ∷ standing ds) (standing ds))) [
+      | true ↦ (
+        before_all order d (standing ds) (λ x there. before_member order d ds x rising.0 (standing_member ds x there)),
+        rising-standing order ds rising.1,
+      )
       | false ↦ rising-standing order ds rising.1
     ]
 

@@ -30,7 +30,8 @@ in_each P e a v r Avet = v
 in_each P e a v r Vaet = r
 
 -- three facts of one answer
-pub three_ok : {T E : Type 0} (r : Result T E) (P Q R S : T → Type 0) → ((x : T) → P x → Q x → R x → S x) → IfOk r P → IfOk r Q → IfOk r R → IfOk r S
+pub three_ok : {T E : Type 0} (r : Result T E) (P Q R S : T → Type 0) → ((x : T) → P x → Q x → R x → S x) → IfOk r P → IfOk r Q → IfOk r R
+    → IfOk r S
 three_ok (Ok x) P Q R S give p q s = give x p q s
 three_ok (Err e) P Q R S give p q s = p
 

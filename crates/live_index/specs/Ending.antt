@@ -1,6 +1,8 @@
--- What a retraction ends: the fact of its triple, which stands no longer.
--- Restates Transaction Data of Datomic's documentation (a retracted datom ends the fact of its triple).
-use Rattle.std.specs.Prelude.{◌≡◌, ◌↔◌, ◌⊎◌, ◌<◌, ◌&&◌, Bool, true, false, not, ℕ, List, length, Contains, IsTrue, Option, Some, None, slice_index_or}
+-- What a retraction ends: the fact of its triple, which holds no longer.
+-- Restates Transaction Data
+-- of Datomic's documentation (a retracted datom ends the fact of its triple).
+use Rattle.std.specs.Prelude.{◌≡◌, ◌↔◌, ◌⊎◌, ◌<◌, ◌&&◌, Bool, true, false, not, ℕ, List, length}
+use Rattle.std.specs.Prelude.{Contains, IsTrue, Option, Some, None, slice_index_or}
 use Rattle.std.specs.List.{list_any}
 use Rattle.fb_values.specs.declared.facts.Datom.{Datom}
 use Rattle.fb_values.specs.declared.indexes.Order.{Order}

@@ -1,6 +1,8 @@
 -- What an entry adds to the lists of the live index.
--- Restates Indexes of Datomic's documentation. That AVET is refilled where an attribute gets an index is this project's own choice.
-use Rattle.std.specs.Prelude.{◌≡◌, ◌↔◌, ◌⊎◌, ◌&&◌, Bool, false, List, Contains, IsTrue, Option, IfSome, if◌then◌else◌}
+-- Restates Indexes of Datomic's documentation.
+-- That AVET is refilled where an attribute gets an index is this project's own choice.
+use Rattle.std.specs.Prelude.{◌≡◌, ◌↔◌, ◌⊎◌, ◌&&◌, Bool, false, List, Contains, IsTrue, Option}
+use Rattle.std.specs.Prelude.{IfSome, if◌then◌else◌}
 use Rattle.std.specs.List.{All, insert, slice_get}
 use Rattle.std.specs.Option.{option_map_or}
 use Rattle.std.specs.Ordering.{is_eq}

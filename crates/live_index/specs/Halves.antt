@@ -1,6 +1,8 @@
--- The two lists of an order whose datoms together are the live list: what stands, and what does not.
--- Restates Indexes of Datomic's documentation (the merging of recent datoms); that there are two lists is this project's own choice.
-use Rattle.std.specs.Prelude.{◌≡◌, ◌<◌, Bool, true, false, not, List, [], ◌∷◌, ◌++◌, Contains, if◌then◌else◌}
+-- The two lists of an order whose datoms together are the live list: what holds, and what does not.
+-- Restates Indexes of Datomic's documentation (the merging of recent datoms);
+-- that there are two lists is this project's own choice.
+use Rattle.std.specs.Prelude.{◌≡◌, ◌<◌, Bool, true, false, not, List, [], ◌∷◌, ◌++◌, Contains}
+use Rattle.std.specs.Prelude.{if◌then◌else◌}
 use Rattle.std.specs.List.{list_any}
 use Rattle.fb_values.specs.declared.facts.Datom.{Datom}
 use Rattle.fb_values.specs.declared.indexes.Order.{Order}
@@ -8,7 +10,7 @@ use Rattle.fb_values.specs.declared.indexes.Order.TheVariants.{Eavt, Aevt, Avet,
 use Rattle.fb_values.specs.Lists.{Lists}
 use Rattle.fb_values.specs.Rising.{IsRising}
 use Rattle.fb_model.specs.Rising.{in_order}
-use Rattle.fb_model.specs.Facts.{standing, stands_before}
+use Rattle.fb_model.specs.Facts.{standing, is_last_assertion}
 use Rattle.fb_covers.specs.Coverage.{Coverage}
 use Rattle.live_index.specs.Growth.{HasNoTwins, IsGrown}
 use Rattle.live_index.specs.Ending.{is_mate}
@@ -24,12 +26,12 @@ pub record IsPair (order : Order) (older live : List Datom) : Type 0 where
 abbrev pub merged : Order → List Datom → List Datom → List Datom
 merged order older live = in_order order (older ++ live)
 
--- the datoms that do not stand: retractions, and those that others of their triple follow
+-- the datoms that do not hold: retractions, and those that others of their triple follow
 abbrev pub withdrawn : List Datom → List Datom
 withdrawn [] = []
-withdrawn (d ∷ ds) = if stands_before d ds then withdrawn ds else d ∷ withdrawn ds
+withdrawn (d ∷ ds) = if is_last_assertion d ds then withdrawn ds else d ∷ withdrawn ds
 
--- the first list is what stands of both
+-- the first list is what holds of both
 pub record AreHalves (order : Order) (holding past : List Datom) : Type 0 where
   pub pair : IsPair order holding past
   pub stands : holding ≡ standing (merged order holding past)
@@ -43,7 +45,8 @@ both_lists holding past = record {
   vaet = merged Vaet holding.vaet past.vaet;
 }
 
--- the datoms may come next: each is later than the older ones of its triple and the only new one, and adds what does not stand
+-- the datoms may come next:
+-- each is later than the older ones of its triple and the only new one, and adds what does not hold
 pub record MayFollow (old datoms : List Datom) : Type 0 where
   pub single : HasNoTwins (old ++ datoms)
   pub later : (x d : Datom) → Contains old x → Contains datoms d → is_mate d x ≡ true → x.t < d.t
@@ -60,7 +63,8 @@ abbrev pub IsLater : List Datom → List Datom → Type 0
 IsLater older live =
     (x y : Datom) → Contains older x → Contains live y → is_mate x y ≡ true → x.t < y.t
 
--- the two lists of an order by a coverage, with more datoms: they are halves of the old list with these
+-- the two lists of an order by a coverage, with more datoms:
+-- they are halves of the old list with these
 pub record AreMade (order : Order) (coverage : Coverage) (old more holding past : List Datom)
     : Type 0 where
   pub halves : AreHalves order holding past

@@ -1,6 +1,7 @@
--- What the four lists over one pool of newest datoms stand for.
+-- The datoms of the four lists over one pool of newest datoms.
 -- This project's own choice.
-use Rattle.std.specs.Prelude.{◌<◌, ◌≤◌, false, ℕ, List, [], length, map, slice_index_or, Option, Some, None}
+use Rattle.std.specs.Prelude.{◌<◌, ◌≤◌, false, ℕ, List, [], length, map, slice_index_or, Option}
+use Rattle.std.specs.Prelude.{Some, None}
 use Rattle.std.specs.Arc.{arc_value}
 use Rattle.std.specs.List.{All}
 use Rattle.std.specs.declared.sync.Arc.{Arc}
@@ -15,7 +16,7 @@ use Rattle.live_index.specs.Newest.{AreNewest}
 use Rattle.live_index.specs.declared.listed.Listed.{Listed}
 use Rattle.live_index.specs.declared.indexes.Indexes.{Indexes}
 
--- what a slot that no pool has stands for
+-- the datom of a slot that no pool has
 abbrev pub nothing : Datom
 nothing = record { e = 0; a = 0; v = Flag false; t = 0; added = false }
 
@@ -27,7 +28,7 @@ at_slots pool slots = map (λ slot. slice_index_or pool slot nothing) slots
 abbrev pub datoms_of : List Datom → Listed → List Datom
 datoms_of pool list = woven 0 list.older list.below.items (at_slots pool list.slots.items)
 
--- the newest are of the pool, and stand among the tree's
+-- the newest are of the pool, and lie among the tree's
 pub record IsListed (pool : List Datom) (list : Listed) : Type 0 where
   pub within : All (λ slot. slot < length pool) list.slots.items
   pub few : length list.slots.items ≤ length pool
@@ -49,7 +50,7 @@ lists_of indexes = record {
   vaet = datoms_of indexes.pool indexes.vaet;
 }
 
--- each order's list stands over the pool
+-- each order's list is over the pool
 abbrev pub AreIndexes : Indexes → Type 0
 AreIndexes indexes = (order : Order) → IsListed indexes.pool (listed_in indexes order)
 
@@ -58,7 +59,7 @@ abbrev pub live_lists : Option (Arc Indexes Global) → Lists
 live_lists None = record { eavt = []; aevt = []; avet = []; vaet = [] }
 live_lists (Some indexes) = lists_of (arc_value indexes)
 
--- each order's list stands over the pool, where there is one
+-- each order's list is over the pool, where there is one
 abbrev pub AreLive : Option (Arc Indexes Global) → Type 0
 AreLive None = Unit {0}
 AreLive (Some indexes) = AreIndexes (arc_value indexes)

@@ -6,12 +6,12 @@ use Rattle.std.specs.declared.alloc.Global.{Global}
 use Rattle.fb_values.specs.declared.facts.Datom.{Datom}
 use Rattle.live_index.specs.declared.pool.TheConstants.{NEWEST, TOGETHER}
 
--- the datoms of some blocks, one block behind the other
+-- the datoms of some blocks, one block after the other
 abbrev pub joined : List (Vec Datom Global) → List Datom
 joined [] = []
 joined (block ∷ blocks) = block.items ++ joined blocks
 
--- blocks of equal length, a shorter one behind them, and no more datoms than may stand apart
+-- blocks of equal length, a shorter one after them, and no more datoms than may be apart
 pub record ArePooled (full : List (Vec Datom Global)) (last : List Datom) : Type 0 where
   pub each : All (λ block. length block.items ≡ TOGETHER) full
   pub part : length last < TOGETHER

@@ -1,4 +1,4 @@
--- What stands of datoms that are brought into an order, told by neighbours.
+-- What holds of datoms that are brought into an order, seen from each datom and its neighbour.
 -- This project's own choice.
 use Rattle.std.specs.Prelude.{Bool, false, not, ◌&&◌, List, [], ◌∷◌, Option, if◌then◌else◌}
 use Rattle.std.specs.List.{slice_get}

@@ -1,5 +1,6 @@
 -- What an entry makes of live lists that stand for a history.
--- Restates Indexes of Datomic's documentation. That AVET is refilled where an attribute gets an index is this project's own choice.
+-- Restates Indexes of Datomic's documentation.
+-- That AVET is refilled where an attribute gets an index is this project's own choice.
 use Rattle.std.specs.Prelude.{◌≡◌, ◌≤◌, ℕ, List, [], ◌∷◌, ◌++◌, Contains}
 use Rattle.fb_values.specs.declared.facts.Datom.{Datom}
 use Rattle.fb_values.specs.declared.facts.Entry.{Entry}
@@ -21,7 +22,8 @@ IsDemanded h c order d = IsIndexed h order d × IsLive h c order d
 abbrev pub IsCoverageOf : Coverage → List Datom → Type 0
 IsCoverageOf coverage facts = (order : Order) (a : ℕ) → held coverage order a ≡ covers facts order a
 
--- The entry comes next in the history, with the coverage after it, and with the older datoms that AVET demands with it and did not demand before
+-- The entry comes next in the history, with the coverage after it,
+-- and with the older datoms that AVET demands with it and did not demand before
 pub record IsNext (h : List Entry) (c : ℕ) (entry : Entry) (coverage : Coverage)
     (refill : List Datom) : Type 0 where
   pub lawful : IsLawful h

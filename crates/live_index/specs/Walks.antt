@@ -1,14 +1,15 @@
 -- Walks over the two halves of an order's list.
 -- This project's own choice.
 use denote.Ref.{Bor}
-use Rattle.std.specs.Prelude.{◌≡◌, ◌+◌, ◌^◌, ◌<◌, Bool, true, false, ℕ, List, [], ◌∷◌, drop, length, Option, Some, None}
+use Rattle.std.specs.Prelude.{◌≡◌, ◌+◌, ◌^◌, ◌<◌, Bool, true, false, ℕ, List, [], ◌∷◌, drop, length}
+use Rattle.std.specs.Prelude.{Option, Some, None}
 use Rattle.std.specs.List.{All}
 use Rattle.std.specs.Ordering.{is_lt}
 use Rattle.fb_values.specs.declared.facts.Datom.{Datom}
 use Rattle.fb_values.specs.declared.indexes.Order.{Order}
 use Rattle.fb_values.specs.Orders.{key_cmp}
 use Rattle.fb_model.specs.Facts.{standing}
-use Rattle.live_blocks.specs.Woven.{StandWithin, woven}
+use Rattle.live_blocks.specs.Woven.{RiseWithin, woven}
 use Rattle.live_index.specs.Listed.{at_slots}
 use Rattle.live_index.specs.Halves.{merged, withdrawn}
 use Rattle.live_index.specs.declared.half.Rest.{Rest}
@@ -20,7 +21,7 @@ use Rattle.live_index.specs.declared.walk.Cursor.{Cursor}
 abbrev pub ahead : Order → List Datom → Cursor → List Datom
 ahead order ds at = merged order (drop at.holding (standing ds)) (drop at.past (withdrawn ds))
 
--- the datom at hand and those behind it
+-- the datom at hand and those after it
 abbrev pub at_hand : Order → List Datom → Option (Bor Datom × Cursor) → List Datom
 at_hand order ds None = []
 at_hand order ds (Some next) = next.0.now ∷ ahead order ds next.1
@@ -33,10 +34,10 @@ left_of w = woven w.place w.older w.below.now (at_slots w.pool.now w.slots.now)
 pub record IsLeft (w : ListedWalk) : Type 0 where
   pub within : All (λ slot. slot < length w.pool.now) w.slots.now
   pub same : length w.below.now ≡ length w.slots.now
-  pub stand : StandWithin w.place (w.place + length w.older) w.below.now
+  pub stand : RiseWithin w.place (w.place + length w.older) w.below.now
   pub fits : w.place + length w.older < 2 ^ 64
 
--- the first of the newest stands behind the tree's datom of the place
+-- the first of the newest stands after the tree's datom of the place
 abbrev pub StandBehind : ℕ → List ℕ → Type 0
 StandBehind place [] = Unit {0}
 StandBehind place (b ∷ below) = place < b

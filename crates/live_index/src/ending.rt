@@ -42,7 +42,7 @@ pub fn without_mate(list: Listed, pool: &Pool, order: Order, d: &Datom) -> Resul
     })
 }
 
-/// The place of the datom of another one's triple. All of a triple stand together, so it is right before the other's place.
+/// The place of the datom of another one's triple. All of a triple are together, so it is right before the other's place.
 fn place_of_mate(list: &Listed, pool: &Pool, order: Order, d: &Datom) -> Option<usize>
     requires listed { IsListed pool.now list.now }
     requires rising { IsRising order (datoms_of pool.now list.now) }

@@ -23,7 +23,7 @@ use std::sync::ledger::Ledger;
 #[derive(Drop)]
 pub struct Listed {
     pub older: Blocks,
-    /// Beside each of the newest, how many of the tree's datoms stand before it.
+    /// Beside each of the newest, how many of the tree's datoms come before it.
     pub below: Vec<usize>,
     /// The slots of the newest, in the order.
     pub slots: Vec<usize>,

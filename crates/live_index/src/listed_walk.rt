@@ -16,7 +16,7 @@ pub struct ListedWalk<'a> {
     older: live_blocks::Walk<'a>,
     /// The place of the tree's next datom.
     place: usize,
-    /// Beside each of the newest that are left, how many of the tree's datoms stand before it.
+    /// Beside each of the newest that are left, how many of the tree's datoms come before it.
     below: &'a [usize],
     /// The slots of the newest that are left.
     slots: &'a [usize],
@@ -62,7 +62,7 @@ impl<'a> ListedWalk<'a> {
         }
     }
 
-    /// The tree's next datom, where all of the newest that are left stand behind it.
+    /// The tree's next datom, where all of the newest that are left stand after it.
     fn next_older(&mut self) -> Option<&'a Datom>
         requires left { IsLeft self.old }
         requires behind { StandBehind self.old.place self.old.below.now }

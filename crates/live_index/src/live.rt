@@ -28,7 +28,7 @@ use std::marker::Model;
 /// From so many datoms on an entry may be taken for a large one.
 const MANY: u64 = 256;
 
-/// What was said since the trees were made, in four lists that strictly rise: of each what holds, and beside it what does
+/// The datoms since the trees were made, in four lists that strictly rise: of each what holds, and beside it what does
 /// not. AVET and VAET have the datoms of some attributes only.
 #[derive(Drop)]
 pub struct Live {
@@ -137,8 +137,8 @@ impl Live {
         filled.grown(entry.datoms.as_slice(), after)
     }
 
-    /// With the datoms of an entry that comes next. Where they are at least as many as hold already, all lists are made anew:
-    /// that costs less than one way down a tree for each.
+    /// With the datoms of an entry that comes next. Where they are at least half as many as hold already, all lists are made
+    /// anew: that costs less than one way down a tree for each.
     fn grown(&self, datoms: &[Datom], covers: &Covers) -> Result<Live, Memory>
         requires held { (order : Order)
             → All (λ d. IsTrue (is_held covers.now order d)) (list_in self.now order) }
@@ -146,7 +146,7 @@ impl Live {
         ensures { IfOk result (λ live. (order : Order)
             → IsGrown order covers.now (list_in self.now order) [] datoms.now (list_in live order)) }
     {
-        if datoms.len() as u64 >= self.holding.len(Order::Eavt).max(MANY) {
+        if datoms.len() as u64 >= (self.holding.len(Order::Eavt) / 2).max(MANY) {
             return self.made_anew(datoms, covers, covers, &[]);
         }
         self.with_each(datoms, covers)

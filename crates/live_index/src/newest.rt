@@ -1,11 +1,11 @@
 //! The places that the newest datoms of an order take among those of its tree. The newest are numbers alone here: slots
-//! of the pool in order, and beside each how many of the tree's datoms stand before it.
+//! of the pool in order, and beside each how many of the tree's datoms come before it.
 ghost use Rattle.std.specs.Prelude.{◌≡◌, ℕ, ◌+◌, ◌^◌, ◌<◌, ◌≤◌, List, length};
 ghost use Rattle.std.specs.List.{All, slice_get};
 ghost use Rattle.fb_values.specs.declared.facts.Datom.{Datom};
 ghost use Rattle.fb_values.specs.Rising.{IsRising};
 ghost use Rattle.fb_search.specs.Places.{place_of, probe_of};
-ghost use Rattle.live_blocks.specs.Woven.{StandWithin, woven};
+ghost use Rattle.live_blocks.specs.Woven.{RiseWithin, woven};
 ghost use Rattle.live_index.specs.Newest.{IsNotFalling, IsStandAt, newer_before, read_at};
 ghost use Rattle.live_index.specs.Listed.{at_slots};
 
@@ -14,7 +14,7 @@ use fb_search::{Steps, is_below, stands_after};
 use fb_values::{Datom, Order, Probe};
 use std::sync::ledger::Ledger;
 
-/// Where a datom of the whole list stands.
+/// The place of a datom of the whole list.
 pub enum Stand {
     /// At this place of the newest datoms.
     Newest(usize),
@@ -22,11 +22,11 @@ pub enum Stand {
     Tree(usize),
 }
 
-/// Where the datom at a place of the whole list stands.
+/// What the datom at a place of the whole list is: one of the newest, or one of the tree.
 pub fn stand_of(below: &[usize], place: usize) -> Stand
     requires { IsNotFalling below.now }
     ensures read { (old new : List Datom) → length below.now ≡ length new
-        → StandWithin 0 (length old) below.now
+        → RiseWithin 0 (length old) below.now
         → slice_get (woven 0 old below.now new) place ≡ read_at result old new }
     ensures stands { IsStandAt below.now place result }
 {
@@ -39,7 +39,7 @@ pub fn stand_of(below: &[usize], place: usize) -> Stand
     }
 }
 
-/// How many of the newest datoms stand before a place of the whole list.
+/// How many of the newest datoms come before a place of the whole list.
 pub fn newer_before(below: &[usize], place: usize) -> usize
     requires { IsNotFalling below.now }
     ensures count { result ≡ newer_before place below.now }

@@ -1,4 +1,4 @@
-//! What was said and holds no longer, in the four orders.
+//! The live datoms that hold no longer, in the four orders.
 ghost use Rattle.std.specs.Prelude.{◌≡◌, ℕ, ◌+◌, ◌*◌, ◌^◌, ◌<◌, ◌≤◌, true, drop, length, [], Contains, IfOk};
 ghost use Rattle.std.specs.List.{list_any, slice_get};
 ghost use Rattle.std.specs.Option.{option_copied};

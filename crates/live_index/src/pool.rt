@@ -10,7 +10,7 @@ use fb_values::Datom;
 use std::alloc::Global;
 use std::marker::Model;
 
-/// The greatest number of datoms that stand apart from the trees. Chosen by measuring, as is the next.
+/// The greatest number of datoms that are apart from the trees. Chosen by measuring, as is the next.
 pub const NEWEST: usize = 63;
 
 /// The datoms of a shared block.
@@ -67,7 +67,7 @@ impl Pool {
         }
     }
 
-    /// One datom more, in the slot behind the last.
+    /// One datom more, in the slot after the last.
     pub fn with(self, datom: Shared<Datom>) -> Result<Pool, Memory>
         requires { length self < NEWEST }
         ensures { IfOk result (λ pool. pool ≡ self ++ datom ∷ []) }

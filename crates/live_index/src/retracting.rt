@@ -22,7 +22,7 @@ use fb_values::{Datom, Order};
 use live_blocks::Blocks;
 use std::alloc::Global;
 
-/// What holds, and what was said besides.
+/// What holds, and the other live datoms.
 #[derive(Drop)]
 pub struct Halves {
     pub holding: Indexes,

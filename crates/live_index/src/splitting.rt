@@ -21,7 +21,7 @@ use live_blocks::Blocks;
 use std::alloc::Global;
 use std::cmp::Ordering;
 
-/// What stands of a list, and what does not.
+/// What holds of a list, and what does not.
 #[derive(Drop)]
 pub struct Split {
     pub holding: Blocks,
@@ -116,7 +116,7 @@ fn with_one_if(
     Ok(all)
 }
 
-/// The datoms that stand, and those that do not.
+/// The datoms that hold, and those that do not.
 #[derive(Drop)]
 struct Parted {
     holding: Vec<Shared<Datom>>,

@@ -1,4 +1,4 @@
-//! What was said since the trees were made, datom by datom: what holds and what does not side by side.
+//! The datoms since the trees were made, one by one: what holds and what does not side by side.
 ghost use Rattle.std.specs.Prelude.{◌≡◌, ◌+◌, ◌<◌, drop, length};
 ghost use Rattle.std.specs.Option.{option_copied};
 ghost use Rattle.std.specs.Ordering.{is_lt};
@@ -23,7 +23,7 @@ pub struct Cursor {
 }
 
 impl Live {
-    /// The first datom in the order, and the cursor behind it.
+    /// The first datom in the order, and the cursor after it.
     pub fn first(&self, order: Order) -> Option<(&Datom, Cursor)>
         ensures { at_hand order (list_in self.now order) result ≡ list_in self.now order }
     {
@@ -38,7 +38,7 @@ impl Live {
         )
     }
 
-    /// The next datom in the order, and the cursor behind it.
+    /// The next datom in the order, and the cursor after it.
     pub fn next(&self, order: Order, at: Cursor) -> Option<(&Datom, Cursor)>
         ensures { at_hand order (list_in self.now order) result
             ≡ ahead order (list_in self.now order) at }
@@ -58,7 +58,7 @@ impl Live {
             }
         }
     }
-    /// Behind the datom that holds.
+    /// After the datom that holds.
     fn behind_holding(&self, order: Order, at: Cursor) -> Cursor
         requires { at.holding < length (standing (list_in self.now order)) }
         ensures { result ≡ record { holding = at.holding + 1; past = at.past } }
@@ -70,7 +70,7 @@ impl Live {
         }
     }
 
-    /// Behind the datom that does not hold.
+    /// After the datom that does not hold.
     fn behind_past(&self, order: Order, at: Cursor) -> Cursor
         requires { at.past < length (withdrawn (list_in self.now order)) }
         ensures { result ≡ record { holding = at.holding; past = at.past + 1 } }
@@ -83,7 +83,7 @@ impl Live {
     }
 }
 
-/// Whether the first datom stands before the second in the order.
+/// Whether the first datom is below the second in the order.
 fn is_before(order: Order, x: &Datom, y: &Datom) -> bool
     ensures { result ≡ is_lt (key_cmp order x.now y.now) }
 {

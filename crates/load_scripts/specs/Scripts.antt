@@ -1,8 +1,11 @@
--- What each session of the generator asks for: one installs the attributes, and each other one records numbers under keys of its own.
+-- What each session of the generator asks for:
+-- one installs the attributes, and each other one records numbers under keys of its own.
 -- This project's own choice.
-use Rattle.std.specs.Prelude.{ℕ, zero, suc, ◌+◌, ◌*◌, ◌%◌, ◌==◌, if◌then◌else◌, List, [], ◌++◌, codes, decimal}
+use Rattle.std.specs.Prelude.{ℕ, zero, suc, ◌+◌, ◌*◌, ◌%◌, ◌==◌, if◌then◌else◌, List, [], ◌++◌}
+use Rattle.std.specs.Prelude.{codes, decimal}
 
--- the sessions that record numbers have the numbers below it, and the one that installs the attributes has it
+-- the sessions that record numbers have the numbers below it,
+-- and the one that installs the attributes has it
 abbrev pub sessions : ℕ
 sessions = 4
 
@@ -18,7 +21,7 @@ installing =
 abbrev pub number : ℕ → ℕ → ℕ
 number k i = (1000003 * k + 7919 * i) % 1000
 
--- and its key
+-- the key of the i-th number of session k
 abbrev pub key : ℕ → ℕ → List ℕ
 key k i = decimal k ++ (codes "-" ++ decimal i)
 

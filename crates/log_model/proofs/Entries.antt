@@ -1,5 +1,6 @@
 -- Entries that are read where they were written, and the other way round.
-use Rattle.std.proofs.Common.{◌≡◌, ◌-◌, ◌≤◌, ℕ, ℤ, true, List, [], ◌∷◌, ◌++◌, length, get_or, refl, sym, ◌∙◌, ap, subst, arith, append_assoc}
+use Rattle.std.proofs.Common.{◌≡◌, ◌-◌, ◌≤◌, ℕ, ℤ, true, List, [], ◌∷◌, ◌++◌, length, get_or, refl, sym, ◌∙◌, ap, subst, arith}
+use Rattle.std.proofs.Common.{append_assoc}
 use Rattle.std.specs.Prelude.{◌&&◌, nat_eq, nat_le, flat_map}
 use Rattle.std.specs.List.{list_all}
 use Rattle.std.proofs.lemmas.Bool.{and_parts, and_from, le-leb, leb-true, eqb-true, eq-eqb}
@@ -7,12 +8,17 @@ use Rattle.std.proofs.lemmas.List.{append-nil}
 use Rattle.fb_values.specs.declared.facts.Datom.{Datom}
 use Rattle.fb_values.specs.declared.facts.Entry.{Entry}
 use Rattle.fb_values.specs.declared.facts.Value.{Value}
-use Rattle.log_model.specs.Fields.{Reading, found, misfit, and_then, that_fits, several, at_end, read_u8, read_u32, u32_bytes, read_u64, u64_bytes, read_i64, i64_bytes, read_truth, truth_bytes}
+use Rattle.log_model.specs.Fields.{Reading, found, misfit, and_then, that_fits, several, at_end, read_u8, read_u32, u32_bytes, read_u64}
+use Rattle.log_model.specs.Fields.{u64_bytes, read_i64, i64_bytes, read_truth, truth_bytes}
 use Rattle.log_model.specs.Values.{value_bytes, is_format, read_value, tag_of, last_tag, is_tag}
-use Rattle.log_model.specs.Payload.{datom_bytes, entry_bytes_in, written_format, entry_bytes, read_datom, read_fields, read_entry, Says, holds, breaks_at, said_by, payload_says}
-use Rattle.log_model.specs.Storable.{is_u32, is_u64, is_i64, is_storable_content, is_storable_value, is_storable_datom, is_storable_in, IsPayloadOf}
+use Rattle.log_model.specs.Payload.{datom_bytes, entry_bytes_in, written_format, entry_bytes, read_datom, read_fields, read_entry}
+use Rattle.log_model.specs.Payload.{PayloadSays, holds, breaks_at, said_by, payload_says}
+use Rattle.log_model.specs.Storable.{is_u32, is_u64, is_i64, is_storable_content, is_storable_value, is_storable_datom, is_storable_in}
+use Rattle.log_model.specs.Storable.{IsPayloadOf}
 use Rattle.log_model.proofs.Numbers.{AreBytes}
-use Rattle.log_model.proofs.Fields.{AreBytes-behind, Reads, Reads-then, Reads-that_fits, Reads-u8, Reads-u32, Reads-u64, Reads-i64, Reads-truth, Reads-several, IsFound, Wrote, then-found, fits-found, Wrote-u8, Wrote-u32, Wrote-u64, Wrote-i64, Wrote-truth, several-found}
+use Rattle.log_model.proofs.Fields.{AreBytes-behind, Reads, Reads-then, Reads-that_fits, Reads-u8, Reads-u32, Reads-u64, Reads-i64}
+use Rattle.log_model.proofs.Fields.{Reads-truth, Reads-several, IsFound, Wrote, then-found, fits-found, Wrote-u8, Wrote-u32, Wrote-u64}
+use Rattle.log_model.proofs.Fields.{Wrote-i64, Wrote-truth, several-found}
 use Rattle.log_model.proofs.Values.{Reads-value, Wrote-value, last_tag_is}
 
 -- four fields, one behind another
@@ -21,7 +27,8 @@ in_a_row a b c d = append_assoc (a ++ b) c d ∙ append_assoc a b (c ++ d)
 
 pub four_and_rest : (a b c d rest : List ℕ) → a ++ (b ++ (c ++ (d ++ rest))) ≡ (a ++ b ++ c ++ d) ++ rest
 four_and_rest a b c d rest =
-    sym (ap (λ l. l ++ rest) (in_a_row a b c d) ∙ append_assoc a (b ++ (c ++ d)) rest ∙ ap (λ l. a ++ l) (append_assoc b (c ++ d) rest) ∙ ap (λ l. a ++ (b ++ l)) (append_assoc c d rest))
+    sym (ap (λ l. l ++ rest) (in_a_row a b c d) ∙ append_assoc a (b ++ (c ++ d)) rest ∙ ap (λ l. a ++ l) (append_assoc b (c ++ d) rest)
+    ∙ ap (λ l. a ++ (b ++ l)) (append_assoc c d rest))
 
 -- ---- datoms
 
@@ -46,11 +53,15 @@ Reads-datom format t d fits =
     let from_1 = and_parts (is_u64 d.e) (is_u64 d.a) from_2.0 in
     let made : Datom = record { e = d.e; a = d.a; v = d.v; t = t; added = d.added } in
     let last : Reads (after_value t d.e d.a d.v) made (truth_bytes d.added) =
-    λ rest. ap (λ r. and_then r (λ added behind. found (record { e = d.e; a = d.a; v = d.v; t = t; added = added }) behind)) (Reads-truth d.added rest) in
+    λ rest. ap (λ r. and_then r (λ added behind. found (record { e = d.e; a = d.a; v = d.v; t = t; added = added }) behind))
+    (Reads-truth d.added rest) in
     let whole : Reads (read_datom format t) made (u64_bytes d.e ++ (u64_bytes d.a ++ (value_bytes d.v ++ truth_bytes d.added))) =
-    Reads-then read_u64 (after_entity format t) d.e made (u64_bytes d.e) (u64_bytes d.a ++ (value_bytes d.v ++ truth_bytes d.added)) (Reads-u64 d.e from_1.0)
-    (Reads-then read_u64 (after_attribute format t d.e) d.a made (u64_bytes d.a) (value_bytes d.v ++ truth_bytes d.added) (Reads-u64 d.a from_1.1)
-    (Reads-then (read_value format) (after_value t d.e d.a) d.v made (value_bytes d.v) (truth_bytes d.added) (Reads-value format d.v from_2.1) last)) in
+    Reads-then read_u64 (after_entity format t) d.e made (u64_bytes d.e) (u64_bytes d.a ++ (value_bytes d.v ++ truth_bytes d.added))
+    (Reads-u64 d.e from_1.0)
+    (Reads-then read_u64 (after_attribute format t d.e) d.a made (u64_bytes d.a) (value_bytes d.v ++ truth_bytes d.added)
+    (Reads-u64 d.a from_1.1)
+    (Reads-then (read_value format) (after_value t d.e d.a) d.v made (value_bytes d.v) (truth_bytes d.added)
+    (Reads-value format d.v from_2.1) last)) in
     λ rest.
     ap (λ l. read_datom format t (l ++ rest)) (in_a_row (u64_bytes d.e) (u64_bytes d.a) (value_bytes d.v) (truth_bytes d.added))
     ∙ whole rest
@@ -75,7 +86,8 @@ Wrote-datom format t bytes d rest are is =
     wrote_e.0
     ∙ ap (λ l. u64_bytes at_e.0 ++ l) wrote_a.0
     ∙ ap (λ l. u64_bytes at_e.0 ++ (u64_bytes at_a.0 ++ l)) wrote_v.0
-    ∙ ap (λ l. u64_bytes at_e.0 ++ (u64_bytes at_a.0 ++ (value_bytes at_v.0 ++ l))) (wrote_added ∙ ap (λ l. truth_bytes at_added.0 ++ l) at_added.3.1)
+    ∙ ap (λ l. u64_bytes at_e.0 ++ (u64_bytes at_a.0 ++ (value_bytes at_v.0 ++ l)))
+    (wrote_added ∙ ap (λ l. truth_bytes at_added.0 ++ l) at_added.3.1)
     ∙ four_and_rest (u64_bytes at_e.0) (u64_bytes at_a.0) (value_bytes at_v.0) (truth_bytes at_added.0) rest in
     let fits : is_storable_datom format t made ≡ true =
     and_from _ _ (and_from _ _ (and_from _ _ wrote_e.1 wrote_a.1) wrote_v.1) (eq-eqb t t refl) in
@@ -84,7 +96,8 @@ Wrote-datom format t bytes d rest are is =
 -- ---- entries
 
 abbrev after_count : ℕ → ℕ → ℤ → ℕ → List ℕ → Reading Entry
-after_count format t instant count bytes = and_then (several (read_datom format t) count bytes) (λ datoms rest. found (record { t = t; instant = instant; datoms = datoms }) rest)
+after_count format t instant count bytes =
+    and_then (several (read_datom format t) count bytes) (λ datoms rest. found (record { t = t; instant = instant; datoms = datoms }) rest)
 
 abbrev after_instant : ℕ → ℕ → ℤ → List ℕ → Reading Entry
 after_instant format t instant bytes = and_then (read_u32 bytes) (after_count format t instant)
@@ -98,22 +111,31 @@ fields_of entry = u32_bytes entry.t ++ i64_bytes entry.instant ++ u32_bytes (len
 
 Reads-fields : (format : ℕ) (entry : Entry) → is_storable_in format entry ≡ true → Reads (read_fields format) entry (fields_of entry)
 Reads-fields format entry fits =
-    let from_3 = and_parts (is_u32 entry.t && is_i64 entry.instant && is_u32 (length entry.datoms)) (list_all (is_storable_datom format entry.t) entry.datoms) fits in
+    let from_3 =
+    and_parts (is_u32 entry.t && is_i64 entry.instant && is_u32 (length entry.datoms))
+    (list_all (is_storable_datom format entry.t) entry.datoms) fits in
     let from_2 = and_parts (is_u32 entry.t && is_i64 entry.instant) (is_u32 (length entry.datoms)) from_3.0 in
     let from_1 = and_parts (is_u32 entry.t) (is_i64 entry.instant) from_2.0 in
     let datoms = flat_map datom_bytes entry.datoms in
     let last : Reads (after_count format entry.t entry.instant (length entry.datoms)) entry datoms =
     λ rest. ap (λ r. and_then r (λ ds behind. found (record { t = entry.t; instant = entry.instant; datoms = ds }) behind))
-    (Reads-several (read_datom format entry.t) datom_bytes (is_storable_datom format entry.t) (Reads-datom format entry.t) entry.datoms from_3.1 rest) in
-    let whole : Reads (read_fields format) entry (u32_bytes entry.t ++ (i64_bytes entry.instant ++ (u32_bytes (length entry.datoms) ++ datoms))) =
-    Reads-then read_u32 (after_t format) entry.t entry (u32_bytes entry.t) (i64_bytes entry.instant ++ (u32_bytes (length entry.datoms) ++ datoms)) (Reads-u32 entry.t from_1.0)
-    (Reads-then read_i64 (after_instant format entry.t) entry.instant entry (i64_bytes entry.instant) (u32_bytes (length entry.datoms) ++ datoms) (Reads-i64 entry.instant from_1.1)
-    (Reads-then read_u32 (after_count format entry.t entry.instant) (length entry.datoms) entry (u32_bytes (length entry.datoms)) datoms (Reads-u32 (length entry.datoms) from_2.1) last)) in
+    (Reads-several (read_datom format entry.t) datom_bytes (is_storable_datom format entry.t)
+    (Reads-datom format entry.t) entry.datoms from_3.1 rest) in
+    let whole : Reads (read_fields format) entry
+    (u32_bytes entry.t ++ (i64_bytes entry.instant ++ (u32_bytes (length entry.datoms) ++ datoms))) =
+    Reads-then read_u32 (after_t format) entry.t entry (u32_bytes entry.t)
+    (i64_bytes entry.instant ++ (u32_bytes (length entry.datoms) ++ datoms)) (Reads-u32 entry.t from_1.0)
+    (Reads-then read_i64 (after_instant format entry.t) entry.instant entry (i64_bytes entry.instant)
+    (u32_bytes (length entry.datoms) ++ datoms) (Reads-i64 entry.instant from_1.1)
+    (Reads-then read_u32 (after_count format entry.t entry.instant) (length entry.datoms) entry (u32_bytes (length entry.datoms)) datoms
+    (Reads-u32 (length entry.datoms) from_2.1) last)) in
     λ rest.
-    ap (λ l. read_fields format (l ++ rest)) (in_a_row (u32_bytes entry.t) (i64_bytes entry.instant) (u32_bytes (length entry.datoms)) datoms)
+    ap (λ l. read_fields format (l ++ rest))
+    (in_a_row (u32_bytes entry.t) (i64_bytes entry.instant) (u32_bytes (length entry.datoms)) datoms)
     ∙ whole rest
 
-pub read_entry-entry_bytes : (format : ℕ) (entry : Entry) → is_format format ≡ true → is_storable_in format entry ≡ true → read_entry (entry_bytes_in format entry) ≡ found entry []
+pub read_entry-entry_bytes : (format : ℕ) (entry : Entry) → is_format format ≡ true → is_storable_in format entry ≡ true
+    → read_entry (entry_bytes_in format entry) ≡ found entry []
 read_entry-entry_bytes format entry known fits =
     let fields = fields_of entry in
     ap read_entry (sym (append-nil (format ∷ fields)))
@@ -123,7 +145,8 @@ read_entry-entry_bytes format entry known fits =
 
 pub says-entry_bytes : (entry : Entry) (payload : List ℕ) → IsPayloadOf entry payload → payload_says payload ≡ holds entry
 says-entry_bytes entry payload is =
-    ap payload_says is.bytes ∙ ap (said_by (entry_bytes_in is.format entry)) (read_entry-entry_bytes is.format entry is.format_is is.storable)
+    ap payload_says is.bytes
+    ∙ ap (said_by (entry_bytes_in is.format entry)) (read_entry-entry_bytes is.format entry is.format_is is.storable)
 
 Wrote-fields : (format : ℕ) → Wrote (read_fields format) fields_of (is_storable_in format)
 Wrote-fields format bytes entry rest are is =
@@ -132,12 +155,15 @@ Wrote-fields format bytes entry rest are is =
     let are_t : AreBytes at_t.1 = AreBytes-behind (u32_bytes at_t.0) at_t.1 (subst AreBytes wrote_t.0 are) in
     let at_instant = then-found (read_i64 at_t.1) _ entry rest at_t.3 in
     let wrote_instant = Wrote-i64 at_t.1 at_instant.0 at_instant.1 are_t at_instant.2 in
-    let are_instant : AreBytes at_instant.1 = AreBytes-behind (i64_bytes at_instant.0) at_instant.1 (subst AreBytes wrote_instant.0 are_t) in
+    let are_instant : AreBytes at_instant.1 =
+    AreBytes-behind (i64_bytes at_instant.0) at_instant.1 (subst AreBytes wrote_instant.0 are_t) in
     let at_count = then-found (read_u32 at_instant.1) _ entry rest at_instant.3 in
     let wrote_count = Wrote-u32 at_instant.1 at_count.0 at_count.1 are_instant at_count.2 in
     let are_count : AreBytes at_count.1 = AreBytes-behind (u32_bytes at_count.0) at_count.1 (subst AreBytes wrote_count.0 are_instant) in
     let at_datoms = then-found (several (read_datom format at_t.0) at_count.0 at_count.1) _ entry rest at_count.3 in
-    let wrote_datoms = several-found (read_datom format at_t.0) datom_bytes (is_storable_datom format at_t.0) (Wrote-datom format at_t.0) at_count.0 at_count.1 at_datoms.0 at_datoms.1 are_count at_datoms.2 in
+    let wrote_datoms =
+    several-found (read_datom format at_t.0) datom_bytes (is_storable_datom format at_t.0)
+    (Wrote-datom format at_t.0) at_count.0 at_count.1 at_datoms.0 at_datoms.1 are_count at_datoms.2 in
     let made : Entry = record { t = at_t.0; instant = at_instant.0; datoms = at_datoms.0 } in
     let made_is : made ≡ entry = at_datoms.3.0 in
     let long : length at_datoms.0 ≡ at_count.0 = wrote_datoms.1 in
@@ -146,7 +172,8 @@ Wrote-fields format bytes entry rest are is =
     ∙ ap (λ l. u32_bytes at_t.0 ++ l) wrote_instant.0
     ∙ ap (λ l. u32_bytes at_t.0 ++ (i64_bytes at_instant.0 ++ l)) wrote_count.0
     ∙ ap (λ n. u32_bytes at_t.0 ++ (i64_bytes at_instant.0 ++ (u32_bytes n ++ at_count.1))) (sym long)
-    ∙ ap (λ l. u32_bytes at_t.0 ++ (i64_bytes at_instant.0 ++ (u32_bytes (length at_datoms.0) ++ l))) (wrote_datoms.0 ∙ ap (λ l. flat_map datom_bytes at_datoms.0 ++ l) at_datoms.3.1)
+    ∙ ap (λ l. u32_bytes at_t.0 ++ (i64_bytes at_instant.0 ++ (u32_bytes (length at_datoms.0) ++ l)))
+    (wrote_datoms.0 ∙ ap (λ l. flat_map datom_bytes at_datoms.0 ++ l) at_datoms.3.1)
     ∙ four_and_rest (u32_bytes at_t.0) (i64_bytes at_instant.0) (u32_bytes (length at_datoms.0)) (flat_map datom_bytes at_datoms.0) rest in
     let fits : is_storable_in format made ≡ true =
     and_from _ _ (and_from _ _ (and_from _ _ wrote_t.1 wrote_instant.1) (ap is_u32 long ∙ wrote_count.1)) wrote_datoms.2 in (
@@ -159,7 +186,8 @@ at_end-found (found x []) a rest is = ((is.0, refl), sym is.1)
 at_end-found (found x (b ∷ more)) a rest is = absurd is
 at_end-found (misfit l) a rest is = absurd is
 
-pub read_entry-IsPayloadOf : (payload : List ℕ) (entry : Entry) (rest : List ℕ) → AreBytes payload → IsFound (read_entry payload) entry rest → IsPayloadOf entry payload
+pub read_entry-IsPayloadOf : (payload : List ℕ) (entry : Entry) (rest : List ℕ) → AreBytes payload → IsFound (read_entry payload) entry rest
+    → IsPayloadOf entry payload
 read_entry-IsPayloadOf payload entry rest are is =
     let ended = at_end-found (and_then (that_fits is_format read_u8 payload) read_fields) entry rest is in
     let split = then-found (that_fits is_format read_u8 payload) read_fields entry [] ended.0 in
@@ -175,25 +203,27 @@ read_entry-IsPayloadOf payload entry rest are is =
       bytes = first.0 ∙ ap (λ l. format ∷ l) (fields.0 ∙ append-nil (fields_of entry));
     }
 
-abbrev entry_in : Entry → Says → Entry
+abbrev entry_in : Entry → PayloadSays → Entry
 entry_in other (holds entry) = entry
 entry_in other (breaks_at byte) = other
 
 pub holds-injective : (first second : Entry) → holds first ≡ holds second → first ≡ second
 holds-injective first second same = ap (entry_in first) same
 
-abbrev IsBreak : Says → Type 0
+abbrev IsBreak : PayloadSays → Type 0
 IsBreak (holds entry) = ⊥
 IsBreak (breaks_at byte) = Unit {0}
 
 pub holds-breaks : (entry : Entry) (byte : ℕ) → holds entry ≡ breaks_at byte → ⊥
 holds-breaks entry byte same = subst IsBreak (sym same) tt
 
-said_by-holds : (payload : List ℕ) (r : Reading Entry) (entry : Entry) → said_by payload r ≡ holds entry → (rest : List ℕ) × IsFound r entry rest
+said_by-holds : (payload : List ℕ) (r : Reading Entry) (entry : Entry) → said_by payload r ≡ holds entry
+    → (rest : List ℕ) × IsFound r entry rest
 said_by-holds payload (found x rest) entry is = (rest, (holds-injective x entry is, refl))
 said_by-holds payload (misfit rest) entry is = absurd (holds-breaks entry (length payload - length rest) (sym is))
 
-pub says-IsPayloadOf : (payload : List ℕ) (entry : Entry) → AreBytes payload → payload_says payload ≡ holds entry → IsPayloadOf entry payload
+pub says-IsPayloadOf : (payload : List ℕ) (entry : Entry) → AreBytes payload → payload_says payload ≡ holds entry
+    → IsPayloadOf entry payload
 says-IsPayloadOf payload entry are is =
     let back = said_by-holds payload (read_entry payload) entry is in
     read_entry-IsPayloadOf payload entry back.0 are back.1
@@ -206,7 +236,7 @@ one_entry first second payload one other =
 
 -- ---- a fault lies within the payload
 
-abbrev byte_in : Says → ℕ
+abbrev byte_in : PayloadSays → ℕ
 byte_in (holds entry) = 0
 byte_in (breaks_at byte) = byte
 
@@ -219,7 +249,8 @@ fault-within payload byte is = go (read_entry payload) is
 
 -- ---- the written format
 
-pub written-entry_bytes : (entry : Entry) (fields : List ℕ) → IsPayloadOf entry (written_format ∷ fields) → written_format ∷ fields ≡ entry_bytes entry
+pub written-entry_bytes : (entry : Entry) (fields : List ℕ) → IsPayloadOf entry (written_format ∷ fields)
+    → written_format ∷ fields ≡ entry_bytes entry
 written-entry_bytes entry fields is =
     let written : written_format ≡ is.format = ap (λ l. get_or l 0 0) is.bytes in
     is.bytes ∙ ap (λ format. entry_bytes_in format entry) (sym written)
@@ -239,7 +270,8 @@ written_datom format t d fits =
     let from_1 = and_parts (is_u64 d.e && is_u64 d.a) (is_storable_value format d.v) from_2.0 in
     and_from _ _ (and_from _ _ from_1.0 (written_value format d.v from_1.1)) from_2.1
 
-written_datoms : (format t : ℕ) (ds : List Datom) → list_all (is_storable_datom format t) ds ≡ true → list_all (is_storable_datom written_format t) ds ≡ true
+written_datoms : (format t : ℕ) (ds : List Datom) → list_all (is_storable_datom format t) ds ≡ true
+    → list_all (is_storable_datom written_format t) ds ≡ true
 written_datoms format t [] every = refl
 written_datoms format t (d ∷ ds) every =
     let parts = and_parts (is_storable_datom format t d) (list_all (is_storable_datom format t) ds) every in
@@ -247,5 +279,7 @@ written_datoms format t (d ∷ ds) every =
 
 pub written-storable : (format : ℕ) (entry : Entry) → is_storable_in format entry ≡ true → is_storable_in written_format entry ≡ true
 written-storable format entry fits =
-    let parts = and_parts (is_u32 entry.t && is_i64 entry.instant && is_u32 (length entry.datoms)) (list_all (is_storable_datom format entry.t) entry.datoms) fits in
+    let parts =
+    and_parts (is_u32 entry.t && is_i64 entry.instant && is_u32 (length entry.datoms))
+    (list_all (is_storable_datom format entry.t) entry.datoms) fits in
     and_from _ _ parts.0 (written_datoms format entry.t entry.datoms parts.1)

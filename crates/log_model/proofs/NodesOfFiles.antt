@@ -1,16 +1,21 @@
 -- The nodes of a file: one more record, ids that stand once, and trees that later nodes leave alone.
-use Rattle.std.proofs.Common.{◌≡◌, ◌<◌, ℕ, zero, suc, Bool, true, false, cond, not, List, [], ◌∷◌, ◌++◌, length, map, refl, sym, ◌∙◌, ap, subst, arith, inl, inr, ◌⊎◌, append_assoc, length-append}
+use Rattle.std.proofs.Common.{◌≡◌, ◌<◌, ℕ, zero, suc, Bool, true, false, cond, not, List, [], ◌∷◌, ◌++◌, length, map, refl, sym, ◌∙◌, ap}
+use Rattle.std.proofs.Common.{subst, arith, inl, inr, ◌⊎◌, append_assoc, length-append}
 use Rattle.std.specs.Prelude.{filter, flat_map, fold, nat_eq, slice_index_or, Contains}
 use Rattle.std.specs.List.{IsDistinct, AllByRecursion}
-use Rattle.std.proofs.lemmas.Bool.{true≢false, and_parts, and_from, eqb-true, eq-eqb, eqb-false, ne_eqb, or_parts, or_left, or_right, or_cases}
+use Rattle.std.proofs.lemmas.Bool.{true≢false, and_parts, and_from, eqb-true, eq-eqb, eqb-false, ne_eqb, or_parts, or_left, or_right}
+use Rattle.std.proofs.lemmas.Bool.{or_cases}
 use Rattle.std.proofs.lemmas.List.{append-nil, map-append}
 use Rattle.std.proofs.lemmas.List.Elements.{All-contains, Contains-append_left, Contains-append_right, filter-append}
 use Rattle.log_model.specs.Fields.{Reading, found, and_then, mapped, that_fits, read_u8, read_u32, read_u64}
 use Rattle.log_model.specs.Values.{is_format}
 use Rattle.log_model.specs.Storable.{is_u32}
-use Rattle.log_model.specs.Nodes.{Leaf, Directory, Nodes, no_nodes, MergeRecord, ids_in, is_among, is_new_id, with_leaf, with_directory, ids_below, is_node_length, is_leaf_id}
-use Rattle.log_model.specs.Merges.{several_over, read_list, read_dated, read_leaf, read_directory, read_roots, read_record_fields, read_record, MergeSays, merges, bad_from, record_says, all_over}
-use Rattle.log_model.specs.Kept.{with_nodes, leaf_datoms, directory_datoms, tree_datoms, kept_root, kept_by, kept_behind, kept_roots, nodes_by, nodes_behind, nodes_of, are_good, HasTree}
+use Rattle.log_model.specs.Nodes.{Leaf, Directory, Nodes, no_nodes, MergeRecord, ids_in, is_among, is_new_id, with_leaf, with_directory}
+use Rattle.log_model.specs.Nodes.{ids_below, is_node_length, is_leaf_id}
+use Rattle.log_model.specs.Merges.{several_over, read_list, read_dated, read_leaf, read_directory, read_roots, read_record_fields}
+use Rattle.log_model.specs.Merges.{read_record, MergeSays, merges, bad_from, record_says, all_over}
+use Rattle.log_model.specs.Kept.{with_nodes, leaf_datoms, directory_datoms, tree_datoms, kept_root, kept_by, kept_behind, kept_roots}
+use Rattle.log_model.specs.Kept.{nodes_by, nodes_behind, nodes_of, are_good, HasTree}
 use Rattle.log_model.proofs.Fields.{IsFound, then-found, mapped-found, fits-found}
 use Rattle.log_model.proofs.Entries.{at_end-found}
 use Rattle.log_model.proofs.MergeRecords.{merge_said_by-merges}

@@ -1,5 +1,6 @@
 -- Numbers and their bytes, highest first.
-use Rattle.std.proofs.Common.{◌≡◌, inl, inr, ◌+◌, ◌-◌, ◌*◌, ◌/◌, ◌%◌, ◌^◌, ◌<◌, ℕ, zero, suc, ℤ, pos, negsuc, List, [], ◌∷◌, length, true, refl, sym, ◌∙◌, ap, subst, arith}
+use Rattle.std.proofs.Common.{◌≡◌, inl, inr, ◌+◌, ◌-◌, ◌*◌, ◌/◌, ◌%◌, ◌^◌, ◌<◌, ℕ, zero, suc, ℤ, pos, negsuc, List, [], ◌∷◌, length, true}
+use Rattle.std.proofs.Common.{refl, sym, ◌∙◌, ap, subst, arith}
 use Rattle.std.proofs.lemmas.Nat.{div-mul-add, mod-mul-add, div-add-mod', mul-le, mod_below}
 use Rattle.std.proofs.lemmas.Int.{to_z-of_z, of_z-to_z}
 use Rattle.std.proofs.lemmas.Bool.{ltb-true, lt-ltb, le-ltb, cases_lt}
@@ -54,7 +55,8 @@ mod-two n p some =
     let small : d < 256 = mod_below (n / p) 256 (omega arith) in
     let low : r < p = mod_below n p some in
     let fits : d * p + r < 256 * p = omega (arith, mul-le d p 255 p (omega (arith, small)) (omega arith), low) in
-    let whole : n ≡ q * (256 * p) + (d * p + r) = omega (arith, div-add-mod' n p, div-add-mod' (n / p) 256, ap (λ x. x * p) (div-add-mod' (n / p) 256)) in
+    let whole : n ≡ q * (256 * p) + (d * p + r) =
+    omega (arith, div-add-mod' n p, div-add-mod' (n / p) 256, ap (λ x. x * p) (div-add-mod' (n / p) 256)) in
     ap (λ x. x % (256 * p)) whole ∙ mod-mul-add q (256 * p) (d * p + r) fits
 
 number_in-high_first_mod : (k n : ℕ) → number_in (bytes_high_first k n) ≡ n % 256 ^ k
@@ -73,7 +75,13 @@ number_in-high_first k n fits = number_in-high_first_mod k n ∙ nat.mod-eq_of_l
 pub number_in-Below : (bytes : List ℕ) → AreBytes bytes → number_in bytes < 256 ^ length bytes
 number_in-Below [] are = omega arith
 number_in-Below (b ∷ bytes) are =
-    omega (arith, number_in-cons b bytes, number_in-Below bytes are.1, nat.pow-suc 256 (length bytes), mul-le b (256 ^ length bytes) 255 (256 ^ length bytes) (omega (arith, are.0)) (omega arith))
+    omega (
+      arith,
+      number_in-cons b bytes,
+      number_in-Below bytes are.1,
+      nat.pow-suc 256 (length bytes),
+      mul-le b (256 ^ length bytes) 255 (256 ^ length bytes) (omega (arith, are.0)) (omega arith),
+    )
 
 pub high_first-AreBytes : (k n : ℕ) → AreBytes (bytes_high_first k n)
 high_first-AreBytes zero n = tt
@@ -92,7 +100,8 @@ same_bytes (x ∷ xs) (y ∷ ys) bx by long is =
     let both : x * p + number_in xs ≡ y * p + number_in ys =
     sym (number_in-cons x xs) ∙ is ∙ number_in-cons y ys ∙ ap (λ n. y * 256 ^ n + number_in ys) (sym as_long) in
     let heads : x ≡ y = sym (div-mul-add x p (number_in xs) small_x) ∙ ap (λ n. n / p) both ∙ div-mul-add y p (number_in ys) small_y in
-    let tails : number_in xs ≡ number_in ys = sym (mod-mul-add x p (number_in xs) small_x) ∙ ap (λ n. n % p) both ∙ mod-mul-add y p (number_in ys) small_y in
+    let tails : number_in xs ≡ number_in ys =
+    sym (mod-mul-add x p (number_in xs) small_x) ∙ ap (λ n. n % p) both ∙ mod-mul-add y p (number_in ys) small_y in
     let rest : xs ≡ ys = same_bytes xs ys bx.1 by.1 as_long tails in
     λ i. heads i ∷ rest i
 

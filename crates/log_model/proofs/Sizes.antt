@@ -27,7 +27,12 @@ length-value_bytes (Uri text) = length-text_bytes text
 
 length-datom_bytes : (d : Datom) → length (datom_bytes d) ≡ 17 + value_size d.v
 length-datom_bytes d =
-    omega (arith, length-append (u64_bytes d.e ++ u64_bytes d.a ++ value_bytes d.v) (truth_bytes d.added), length-append (u64_bytes d.e ++ u64_bytes d.a) (value_bytes d.v), length-value_bytes d.v)
+    omega (
+      arith,
+      length-append (u64_bytes d.e ++ u64_bytes d.a ++ value_bytes d.v) (truth_bytes d.added),
+      length-append (u64_bytes d.e ++ u64_bytes d.a) (value_bytes d.v),
+      length-value_bytes d.v,
+    )
 
 pub length-entry_bytes : (format : ℕ) (entry : Entry) → length (entry_bytes_in format entry) ≡ entry_size entry.datoms
 length-entry_bytes format entry =

@@ -1,5 +1,6 @@
 -- The entries of lawful histories are storable.
-use Rattle.std.proofs.Common.{◌≡◌, ℕ, zero, suc, ◌^◌, ◌<◌, ◌≤◌, ℤ, pos, negsuc, Bool, true, false, ◌&&◌, List, [], ◌∷◌, length, refl, ap, sym, ◌∙◌, subst, arith, eqb, leb, Option, Some, None}
+use Rattle.std.proofs.Common.{◌≡◌, ℕ, zero, suc, ◌^◌, ◌<◌, ◌≤◌, ℤ, pos, negsuc, Bool, true, false, ◌&&◌, List, [], ◌∷◌, length, refl, ap}
+use Rattle.std.proofs.Common.{sym, ◌∙◌, subst, arith, eqb, leb, Option, Some, None}
 use Rattle.std.specs.Prelude.{All, Contains, IsUtf8, is_some, option_and_then}
 use Rattle.std.specs.List.{list_any, list_all}
 use Rattle.std.specs.Option.{option_map_or}
@@ -11,7 +12,8 @@ use Rattle.fb_values.specs.declared.facts.Datom.{Datom}
 use Rattle.fb_values.specs.declared.facts.Entry.{Entry}
 use Rattle.fb_values.specs.declared.facts.Value.{Value}
 use Rattle.fb_values.specs.declared.facts.Value.TheVariants.{Keyword, Str, Bool as Boolean, Long, Ref, Instant, Uuid, Symbol, Uri}
-use Rattle.fb_numbers.specs.Numbers.{ident, value_type, cardinality, unique, is_component, index, is_instant, is_long, greatest_t, most_datoms}
+use Rattle.fb_numbers.specs.Numbers.{ident, value_type, cardinality, unique, is_component, index, is_instant, is_long, greatest_t}
+use Rattle.fb_numbers.specs.Numbers.{most_datoms}
 use Rattle.fb_model.specs.FirstEntry.{first_entry}
 use Rattle.fb_model.specs.Words.{is_keyword_text, is_symbol_text}
 use Rattle.fb_model.specs.Utf8.{is_utf8_text}
@@ -33,7 +35,8 @@ use Rattle.log_model.specs.Storable.{is_u64, is_i64, is_storable_text, is_storab
 
 -- ---- values
 
-short_text : (test : List ℕ → Bool) (text : List ℕ) (n : ℕ) → n < 2 ^ 32 → IsUtf8 text → test text ≡ true → leb (length text) n ≡ true → is_storable_text test text ≡ true
+short_text : (test : List ℕ → Bool) (text : List ℕ) (n : ℕ) → n < 2 ^ 32 → IsUtf8 text → test text ≡ true → leb (length text) n ≡ true
+    → is_storable_text test text ≡ true
 short_text test text n small utf8 passes short =
     let within : length text ≤ n = leb-true (length text) n short in
     and_from _ _ (lt-ltb (length text) (2 ^ 32) (omega arith)) (and_from _ _ (is_utf8-from_IsUtf8 text utf8) passes)
@@ -44,7 +47,8 @@ visible-IsAscii (b ∷ rest) visible zero =
     let first = and_parts (leb 33 b && leb b 126) (list_all (λ b. leb 33 b && leb b 126) rest) visible in
     let low : b ≤ 126 = leb-true b 126 (and_parts (leb 33 b) (leb b 126) first.0).1 in
     omega arith
-visible-IsAscii (b ∷ rest) visible (suc i) = visible-IsAscii rest (and_parts (leb 33 b && leb b 126) (list_all (λ b. leb 33 b && leb b 126) rest) visible).1 i
+visible-IsAscii (b ∷ rest) visible (suc i) =
+    visible-IsAscii rest (and_parts (leb 33 b && leb b 126) (list_all (λ b. leb 33 b && leb b 126) rest) visible).1 i
 
 long_fits : (z : ℤ) → is_long z ≡ true → is_i64 z ≡ true
 long_fits (pos n) within =
@@ -79,7 +83,8 @@ storable_value (Uri text) formed short =
     let visible = (and_parts (leb 1 (length text)) (list_all (λ b. leb 33 b && leb b 126) text) formed).1 in
     short_text is_any text 65535 (omega arith) (IsUtf8-from_ascii text (visible-IsAscii text visible)) refl short
 
-typed_value : (attribute : Option Attribute) (v : Value) → option_map_or (λ (a : Attribute). is_of_type a.kind v) attribute false ≡ true → is_storable_value written_format v ≡ true
+typed_value : (attribute : Option Attribute) (v : Value) → option_map_or (λ (a : Attribute). is_of_type a.kind v) attribute false ≡ true
+    → is_storable_value written_format v ≡ true
 typed_value None v typed = absurd (true≢false (sym typed))
 typed_value (Some a) v typed =
     let parts = and_parts (eqb (type_of v) a.kind && is_well_formed v) (is_short_enough v) typed in
@@ -105,7 +110,8 @@ in_some_fact facts e attribute = go (list_any (λ d. eqb d.e e) facts) refl
     go true is = refl
     go false is =
         let named : is_some (keyword_of facts e ident) ≡ true =
-        has_name e (keyword_of facts e ident) (entity_of facts e value_type) (entity_of facts e cardinality) (entity_of facts e unique) (truth_of facts e is_component) (truth_of facts e index) attribute in
+        has_name e (keyword_of facts e ident) (entity_of facts e value_type) (entity_of facts e cardinality) (entity_of facts e unique)
+        (truth_of facts e is_component) (truth_of facts e index) attribute in
         absurd (true≢false (sym named ∙ ap (λ v. is_some (option_and_then keyword_in v)) (no_value facts e ident is)))
 
 attribute_issued : (h : List Entry) (a : ℕ) → IsLawful h → is_attribute (facts h) a ≡ true → is_issued h a ≡ true
@@ -133,7 +139,8 @@ module _ (h : List Entry) (entry : Entry) (lawful : IsLawful h) (next : IsLawful
       let own = member_passes (λ d. eqb d.t entry.t) entry.datoms d (and_parts _ _ (and_parts _ _ next.datoms_in_order).0).0 member in
       and_from _ _
       (and_from _ _
-      (and_from _ _ (known_fits d.e (and_parts _ _ known).0) (known_fits d.a (or_left _ _ (or_left _ _ (attribute_issued h d.a lawful installed)))))
+      (and_from _ _ (known_fits d.e (and_parts _ _ known).0)
+      (known_fits d.a (or_left _ _ (or_left _ _ (attribute_issued h d.a lawful installed)))))
       (typed_value (attribute_of (facts h) d.a) d.v typed))
       own
 

@@ -5,21 +5,26 @@ use Rattle.std.proofs.lemmas.Bool.{and_parts, and_from, cond_both, leb-true}
 use Rattle.fb_values.specs.declared.facts.Value.{Value}
 use Rattle.fb_values.specs.declared.facts.Value.TheVariants.{Keyword, Str, Bool as Boolean, Long, Ref, Instant, Uuid, Symbol, Uri}
 use Rattle.fb_model.specs.Words.{is_keyword_text, is_symbol_text}
-use Rattle.log_model.specs.Fields.{mapped, that_fits, read_u8, read_u64, u64_bytes, read_u128, u128_bytes, read_i64, i64_bytes, read_truth, truth_bytes, read_text, text_bytes}
+use Rattle.log_model.specs.Fields.{mapped, that_fits, read_u8, read_u64, u64_bytes, read_u128, u128_bytes, read_i64, i64_bytes, read_truth}
+use Rattle.log_model.specs.Fields.{truth_bytes, read_text, text_bytes}
 use Rattle.log_model.specs.Values.{tag_of, content_bytes, value_bytes, is_any, last_tag, is_tag, read_content, read_value}
 use Rattle.log_model.specs.Storable.{is_storable_text, is_storable_content, is_storable_value}
 use Rattle.log_model.proofs.Numbers.{AreBytes}
-use Rattle.log_model.proofs.Fields.{Reads, Reads-then, Reads-mapped, Reads-that_fits, Reads-u8, Reads-u64, Reads-u128, Reads-i64, Reads-truth, Reads-text, IsFound, Wrote, then-found, mapped-found, fits-found, Wrote-u8, Wrote-u64, Wrote-u128, Wrote-i64, Wrote-truth, Wrote-text}
+use Rattle.log_model.proofs.Fields.{Reads, Reads-then, Reads-mapped, Reads-that_fits, Reads-u8, Reads-u64, Reads-u128, Reads-i64}
+use Rattle.log_model.proofs.Fields.{Reads-truth, Reads-text, IsFound, Wrote, then-found, mapped-found, fits-found, Wrote-u8, Wrote-u64}
+use Rattle.log_model.proofs.Fields.{Wrote-u128, Wrote-i64, Wrote-truth, Wrote-text}
 
 Reads-content : (v : Value) → is_storable_content v ≡ true → Reads (read_content (tag_of v)) v (content_bytes v)
-Reads-content (Keyword text) fits = Reads-mapped Keyword (read_text is_keyword_text) text (text_bytes text) (Reads-text is_keyword_text text fits)
+Reads-content (Keyword text) fits =
+    Reads-mapped Keyword (read_text is_keyword_text) text (text_bytes text) (Reads-text is_keyword_text text fits)
 Reads-content (Str text) fits = Reads-mapped Str (read_text is_any) text (text_bytes text) (Reads-text is_any text fits)
 Reads-content (Boolean b) fits = Reads-mapped Boolean read_truth b (truth_bytes b) (Reads-truth b)
 Reads-content (Long n) fits = Reads-mapped Long read_i64 n (i64_bytes n) (Reads-i64 n fits)
 Reads-content (Ref e) fits = Reads-mapped Ref read_u64 e (u64_bytes e) (Reads-u64 e fits)
 Reads-content (Instant n) fits = Reads-mapped Instant read_i64 n (i64_bytes n) (Reads-i64 n fits)
 Reads-content (Uuid n) fits = Reads-mapped Uuid read_u128 n (u128_bytes n) (Reads-u128 n fits)
-Reads-content (Symbol text) fits = Reads-mapped Symbol (read_text is_symbol_text) text (text_bytes text) (Reads-text is_symbol_text text fits)
+Reads-content (Symbol text) fits =
+    Reads-mapped Symbol (read_text is_symbol_text) text (text_bytes text) (Reads-text is_symbol_text text fits)
 Reads-content (Uri text) fits = Reads-mapped Uri (read_text is_any) text (text_bytes text) (Reads-text is_any text fits)
 
 pub Reads-value : (format : ℕ) (v : Value) → is_storable_value format v ≡ true → Reads (read_value format) v (value_bytes v)
@@ -37,8 +42,10 @@ record IsContent (tag : ℕ) (bytes : List ℕ) (v : Value) (rest : List ℕ) : 
 
 module _ (bytes : List ℕ) (v : Value) (rest : List ℕ) (are : AreBytes bytes) where
   -- behind each tag
-  text_content : (tag : ℕ) (of : List ℕ → Value) (test : List ℕ → Bool) → ((text : List ℕ) → tag_of (of text) ≡ tag) → ((text : List ℕ) → content_bytes (of text) ≡ text_bytes text)
-      → ((text : List ℕ) → is_storable_content (of text) ≡ is_storable_text test text) → IsFound (mapped of (read_text test bytes)) v rest → IsContent tag bytes v rest
+  text_content : (tag : ℕ) (of : List ℕ → Value) (test : List ℕ → Bool)
+      → ((text : List ℕ) → tag_of (of text) ≡ tag) → ((text : List ℕ) → content_bytes (of text) ≡ text_bytes text)
+      → ((text : List ℕ) → is_storable_content (of text) ≡ is_storable_text test text) → IsFound (mapped of (read_text test bytes)) v rest
+      → IsContent tag bytes v rest
   text_content tag of test tags contents tests is =
       let back = mapped-found of (read_text test bytes) v rest is in
       let text = back.0 in
@@ -58,7 +65,8 @@ module _ (bytes : List ℕ) (v : Value) (rest : List ℕ) (are : AreBytes bytes)
   content_3 : IsFound (read_content 3 bytes) v rest → IsContent 3 bytes v rest
   content_3 is =
       let back = mapped-found Boolean (read_truth bytes) v rest is in
-      subst (λ w. IsContent 3 bytes w rest) back.2 (record { tag_is = refl; bytes_are = Wrote-truth bytes back.0 rest are back.1; storable = refl })
+      subst (λ w. IsContent 3 bytes w rest) back.2
+      (record { tag_is = refl; bytes_are = Wrote-truth bytes back.0 rest are back.1; storable = refl })
 
   content_4 : IsFound (read_content 4 bytes) v rest → IsContent 4 bytes v rest
   content_4 is =

@@ -1,7 +1,8 @@
 -- Fields: numbers, truths and texts as bytes, and what is read where one is due: a value, or the
 -- first field that does not fit.
 -- This project's own choice.
-use Rattle.std.specs.Prelude.{ℕ, ◌<◌, All, zero, suc, ◌+◌, ◌*◌, ℤ, Bool, ◌&&◌, List, [], ◌∷◌, ◌++◌, length, take, drop, fold, nat_eq, nat_le, if◌then◌else◌}
+use Rattle.std.specs.Prelude.{ℕ, ◌<◌, All, zero, suc, ◌+◌, ◌*◌, ℤ, Bool, ◌&&◌, List, [], ◌∷◌, ◌++◌}
+use Rattle.std.specs.Prelude.{length, take, drop, fold, nat_eq, nat_le, if◌then◌else◌}
 use Rattle.std.specs.Int.{w32, w64, w128, to_be_bytes, cast_signed, cast_unsigned, from_bool}
 use Rattle.std.specs.Str.{is_utf8}
 
@@ -10,12 +11,12 @@ abbrev pub AreAllBytes : List ℕ → Type 0
 AreAllBytes bytes = All (λ byte. byte < 256) bytes
 
 pub data Reading (A : Type 0) : Type 0 where
-  -- a value, and the bytes behind it
+  -- a value, and the bytes after it
   found : A → List ℕ → Reading A
   -- the bytes from the first field on that does not fit
   misfit : List ℕ → Reading A
 
--- what stands behind, where a value was found
+-- what follows, where a value was found
 abbrev pub and_then : {A B : Type 0} → Reading A → (A → List ℕ → Reading B) → Reading B
 and_then (found a rest) next = next a rest
 and_then (misfit rest) next = misfit rest
@@ -34,19 +35,19 @@ abbrev pub piece : ℕ → List ℕ → Reading (List ℕ)
 piece n bytes =
     if nat_le n (length bytes) then found (take n bytes) (drop n bytes) else misfit bytes
 
--- so many of a kind, one behind another
+-- so many of a kind, one after another
 abbrev pub several : {A : Type 0} → (List ℕ → Reading A) → ℕ → List ℕ → Reading (List A)
 several read zero bytes = found [] bytes
 several read (suc n) bytes =
     and_then (read bytes) (λ a rest. mapped (λ more. a ∷ more) (several read n rest))
 
--- nothing stands behind
+-- nothing follows
 abbrev pub at_end : {A : Type 0} → Reading A → Reading A
 at_end (found a []) = found a []
 at_end (found a (byte ∷ rest)) = misfit (byte ∷ rest)
 at_end (misfit rest) = misfit rest
 
--- ---- numbers, of which the highest byte stands first
+-- ---- numbers, of which the highest byte comes first
 
 abbrev pub number_in : List ℕ → ℕ
 number_in bytes = fold (λ n byte. n * 256 + byte) 0 bytes

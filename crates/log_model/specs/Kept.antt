@@ -1,7 +1,8 @@
 -- Kept roots: the trees of a file of segments after each of its merges, and the newest of them that
 -- a history agrees with.
--- This project's own choice; Datomic, Indexes, tells of the merging.
-use Rattle.std.specs.Prelude.{◌≡◌, ◌⊎◌, ℕ, ◌^◌, Bool, List, [], ◌∷◌, ◌++◌, length, filter, fold, flat_map, nat_eq, nat_le, All, Contains}
+-- This project's own choice; Datomic, Indexes, describes the merging.
+use Rattle.std.specs.Prelude.{◌≡◌, ◌⊎◌, ℕ, ◌^◌, Bool, List, [], ◌∷◌, ◌++◌, length, filter, fold}
+use Rattle.std.specs.Prelude.{flat_map, nat_eq, nat_le, All, Contains}
 use Rattle.std.specs.List.{list_any}
 use Rattle.fb_values.specs.declared.facts.Datom.{Datom}
 use Rattle.fb_values.specs.declared.facts.Entry.{Entry}
@@ -12,7 +13,8 @@ use Rattle.fb_model.specs.Facts.{facts}
 use Rattle.fb_model.specs.Schema.{covers}
 use Rattle.disk_model.specs.Journal.{segments_mark, JournalStands, JournalBreaks}
 use Rattle.view_model.specs.Stands.{RootStands}
-use Rattle.log_model.specs.Nodes.{Nodes, no_nodes, with_leaf, with_directory, ids_in, ids_below, MergeRecord}
+use Rattle.log_model.specs.Nodes.{Nodes, no_nodes, with_leaf, with_directory, ids_in, ids_below}
+use Rattle.log_model.specs.Nodes.{MergeRecord}
 use Rattle.log_model.specs.Merges.{MergeSays, merges, bad_from, record_says}
 
 -- four trees, read from left to right, and how far they go
@@ -49,7 +51,7 @@ kept_root nodes merge =
       c = merge.c;
     }
 
--- a bad record keeps no root, and nothing behind it counts
+-- a bad record keeps no root, and nothing after it counts
 abbrev pub kept_by : Nodes → MergeSays → (Nodes → List KeptRoot) → List KeptRoot
 kept_by nodes (bad_from byte) behind = []
 kept_by nodes (merges merge) behind =
@@ -66,7 +68,7 @@ kept_roots records = kept_behind no_nodes records
 
 -- ---- the nodes of a file
 
--- those of the records before the first bad one
+-- the nodes of the records before the first bad one
 abbrev pub nodes_by : Nodes → MergeSays → (Nodes → Nodes) → Nodes
 nodes_by nodes (bad_from byte) behind = nodes
 nodes_by nodes (merges merge) behind = behind (with_nodes nodes merge)
@@ -83,7 +85,7 @@ nodes_of records = nodes_behind no_nodes records
 abbrev pub are_good : List (List ℕ) → Bool
 are_good records = nat_eq (length (kept_roots records)) (length records)
 
--- behind such an id no merge may number nodes
+-- after such an id no merge may number nodes
 abbrev pub has_great_id : Nodes → Bool
 has_great_id nodes = list_any (nat_le (2 ^ 61)) (ids_in nodes)
 

@@ -1,14 +1,15 @@
 -- Logs: when the records of a log stand for a history, and what is wrong with them first where they
 -- stand for none.
--- Datomic, Log API (the log is the transactions in the order of t). What is told of a bad log is
--- this project's own choice.
-use Rattle.std.specs.Prelude.{◌≡◌, ◌⊎◌, ℕ, ◌+◌, List, [], ◌∷◌, ◌++◌, length, drop, ⊤, Option, Some, None}
+-- Datomic, Log API (the log is the transactions in the order of t).
+-- What is reported of a bad log is this project's own choice.
+use Rattle.std.specs.Prelude.{◌≡◌, ◌⊎◌, ℕ, ◌+◌, List, [], ◌∷◌, ◌++◌, length, drop, ⊤, Option, Some}
+use Rattle.std.specs.Prelude.{None}
 use Rattle.std.specs.Option.{option_map_or}
 use Rattle.fb_values.specs.declared.facts.Entry.{Entry}
 use Rattle.fb_model.specs.FirstEntry.{first_entry}
 use Rattle.fb_model.specs.Lawful.{IsLawful, least_law}
 use Rattle.disk_model.specs.Journal.{log_mark, opened, JournalStands, JournalBreaks}
-use Rattle.log_model.specs.Payload.{Says, holds, breaks_at, payload_says}
+use Rattle.log_model.specs.Payload.{PayloadSays, holds, breaks_at, payload_says}
 use Rattle.log_model.specs.Storable.{IsPayloadOf}
 
 -- each record is the payload of its entry
@@ -27,8 +28,8 @@ pub record LogStands (records : List (List ℕ)) (h : List Entry) : Type 0 where
 
 -- ---- what is wrong first
 
--- the byte of the log at which a payload behind these records has its byte: mark, records, gate and
--- length stand before it
+-- the byte of the log at which a payload after these records has its byte: mark, records, gate and
+-- length come before it
 abbrev pub byte_in_log : List (List ℕ) → ℕ → ℕ
 byte_in_log before byte = length log_mark + length (opened before) + 1 + 8 + byte
 
@@ -42,11 +43,11 @@ abbrev pub with_entry : Entry → RecordsSay → RecordsSay
 with_entry entry (hold entries) = hold (entry ∷ entries)
 with_entry entry (bad_at nth byte) = bad_at nth byte
 
-abbrev pub with_record : List (List ℕ) → Says → RecordsSay → RecordsSay
+abbrev pub with_record : List (List ℕ) → PayloadSays → RecordsSay → RecordsSay
 with_record before (holds entry) behind = with_entry entry behind
 with_record before (breaks_at byte) behind = bad_at (length before) (byte_in_log before byte)
 
--- the entries of the records, where these stand before them
+-- the entries of the records, where these come before them
 abbrev pub entries_behind : List (List ℕ) → List (List ℕ) → RecordsSay
 entries_behind before [] = hold []
 entries_behind before (payload ∷ records) =
@@ -70,13 +71,13 @@ abbrev pub judged : List Entry → Option (ℕ × ℕ) → LogSays
 judged entries None = stands_for (first_entry ∷ entries)
 judged entries (Some wrong) = unlawful wrong.0 wrong.1
 
-abbrev pub told : RecordsSay → LogSays
-told (bad_at nth byte) = bad_record nth byte
-told (hold entries) = judged entries (first_unlawful (first_entry ∷ []) entries)
+abbrev pub log_reading : RecordsSay → LogSays
+log_reading (bad_at nth byte) = bad_record nth byte
+log_reading (hold entries) = judged entries (first_unlawful (first_entry ∷ []) entries)
 
 -- all records are judged as payloads before any entry is judged by the laws
 abbrev pub log_says : List (List ℕ) → LogSays
-log_says records = told (entries_behind [] records)
+log_says records = log_reading (entries_behind [] records)
 
 -- ---- a file
 

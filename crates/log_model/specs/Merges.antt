@@ -1,16 +1,20 @@
 -- Merge records: what a record of the file of segments says over the nodes that the file has before
--- it, and which records may stand over these nodes. This project's own choice.
-use Rattle.std.specs.Prelude.{◌≡◌, ℕ, zero, suc, ◌-◌, IsTrue, Bool, true, ◌&&◌, List, [], ◌∷◌, ◌++◌, length, fold}
+-- it, and which records may be written over these nodes. This project's own choice.
+use Rattle.std.specs.Prelude.{◌≡◌, ℕ, zero, suc, ◌-◌, IsTrue, Bool, true, ◌&&◌, List, [], ◌∷◌, ◌++◌}
+use Rattle.std.specs.Prelude.{length, fold}
 use Rattle.fb_values.specs.declared.facts.Datom.{Datom}
-use Rattle.log_model.specs.Fields.{Reading, found, misfit, and_then, mapped, that_fits, at_end, read_u8, read_u32, read_u64}
+use Rattle.log_model.specs.Fields.{Reading, found, misfit, and_then, mapped, that_fits, at_end}
+use Rattle.log_model.specs.Fields.{read_u8, read_u32, read_u64}
 use Rattle.log_model.specs.Values.{is_format}
 use Rattle.log_model.specs.Payload.{read_datom}
 use Rattle.log_model.specs.Storable.{is_u32, is_u64, is_storable_datom}
-use Rattle.log_model.specs.Nodes.{Leaf, Directory, Nodes, Roots, MergeRecord, in_order_of_indexes, record_bytes_in, is_new_id, with_leaf, with_directory, is_leaf_id, is_directory_id, reaching, is_node_length}
+use Rattle.log_model.specs.Nodes.{Leaf, Directory, Nodes, Roots, MergeRecord, in_order_of_indexes}
+use Rattle.log_model.specs.Nodes.{record_bytes_in, is_new_id, with_leaf, with_directory, is_leaf_id}
+use Rattle.log_model.specs.Nodes.{is_directory_id, reaching, is_node_length}
 
 -- ---- what a record says
 
--- so many of a kind, where what fits depends on what stands before
+-- so many of a kind, where what fits depends on what comes before
 abbrev pub several_over : {S A : Type 0}
     → (S → List ℕ → Reading A) → (S → A → S) → S → ℕ → List ℕ → Reading (List A)
 several_over read after s zero bytes = found [] bytes
@@ -85,9 +89,9 @@ merge_said_by payload (misfit rest) = bad_from (length payload - length rest)
 abbrev pub record_says : Nodes → List ℕ → MergeSays
 record_says nodes payload = merge_said_by payload (read_record nodes payload)
 
--- ---- which records may stand over these nodes
+-- ---- which records may be written over these nodes
 
--- each passes, where the test depends on what stands before
+-- each passes, where the test depends on what comes before
 abbrev pub all_over : {S A : Type 0} → (S → A → Bool) → (S → A → S) → S → List A → Bool
 all_over test after s [] = true
 all_over test after s (a ∷ items) = test s a && all_over test after (after s a) items

@@ -1,7 +1,8 @@
 -- Nodes of trees: leaves, directories, roots, and merge records of them, as bytes; and which ids
--- may stand where.
+-- may be where.
 -- This project's own choice.
-use Rattle.std.specs.Prelude.{ℕ, ◌^◌, Bool, not, ◌&&◌, List, [], ◌∷◌, ◌++◌, length, map, filter, flat_map, nat_eq, nat_lt, nat_le}
+use Rattle.std.specs.Prelude.{ℕ, ◌^◌, Bool, not, ◌&&◌, List, [], ◌∷◌, ◌++◌, length, map, filter}
+use Rattle.std.specs.Prelude.{flat_map, nat_eq, nat_lt, nat_le}
 use Rattle.std.specs.List.{list_all, list_any}
 use Rattle.fb_values.specs.declared.facts.Datom.{Datom}
 use Rattle.log_model.specs.Fields.{u32_bytes, u64_bytes}
@@ -40,11 +41,11 @@ pub record MergeRecord : Type 0 where
 
 -- ---- as bytes
 
--- their number, and one behind another
+-- their number, and one after another
 abbrev pub list_bytes : {A : Type 0} → (A → List ℕ) → List A → List ℕ
 list_bytes write items = u32_bytes (length items) ++ flat_map write items
 
--- a datom with its t behind it
+-- a datom with its t after it
 abbrev pub dated_bytes : Datom → List ℕ
 dated_bytes d = datom_bytes d ++ u32_bytes d.t
 

@@ -4,7 +4,9 @@
 use Rattle.std.specs.Prelude.{ℕ, ◌-◌, List, ◌∷◌, ◌++◌, length, flat_map}
 use Rattle.fb_values.specs.declared.facts.Datom.{Datom}
 use Rattle.fb_values.specs.declared.facts.Entry.{Entry}
-use Rattle.log_model.specs.Fields.{Reading, found, misfit, and_then, that_fits, several, at_end, read_u8, u32_bytes, read_u32, u64_bytes, read_u64, i64_bytes, read_i64, truth_bytes, read_truth}
+use Rattle.log_model.specs.Fields.{Reading, found, misfit, and_then, that_fits, several, at_end}
+use Rattle.log_model.specs.Fields.{read_u8, u32_bytes, read_u32, u64_bytes, read_u64, i64_bytes}
+use Rattle.log_model.specs.Fields.{read_i64, truth_bytes, read_truth}
 use Rattle.log_model.specs.Values.{value_bytes, is_format, read_value}
 
 -- a datom without its t, which is that of its entry
@@ -49,14 +51,14 @@ read_fields format bytes =
 abbrev pub read_entry : List ℕ → Reading Entry
 read_entry bytes = at_end (and_then (that_fits is_format read_u8 bytes) read_fields)
 
-pub data Says : Type 0 where
-  holds : Entry → Says
+pub data PayloadSays : Type 0 where
+  holds : Entry → PayloadSays
   -- the first field that does not fit begins at this byte, counted from 0
-  breaks_at : ℕ → Says
+  breaks_at : ℕ → PayloadSays
 
-abbrev pub said_by : List ℕ → Reading Entry → Says
+abbrev pub said_by : List ℕ → Reading Entry → PayloadSays
 said_by payload (found entry rest) = holds entry
 said_by payload (misfit rest) = breaks_at (length payload - length rest)
 
-abbrev pub payload_says : List ℕ → Says
+abbrev pub payload_says : List ℕ → PayloadSays
 payload_says payload = said_by payload (read_entry payload)

@@ -128,7 +128,7 @@ leaf_merge =
       roots = record { eavt = 2 ∷ []; aevt = []; avet = []; vaet = [] };
     }
 
--- the record behind it: the same tree, for c = 2, without a new node
+-- the record after it: the same tree, for c = 2, without a new node
 abbrev pub next_merge : MergeRecord
 next_merge = record { c = 2; leaves = []; directories = []; roots = leaf_merge.roots }
 

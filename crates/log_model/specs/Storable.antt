@@ -1,12 +1,14 @@
 -- Storable entries: numbers within the ranges of their types, and texts in UTF-8 that are not too
 -- long for their lengths.
 -- This project's own choice; EDN, edn-format, says which texts are keywords and symbols.
-use Rattle.std.specs.Prelude.{◌≡◌, ℕ, ◌^◌, ℤ, pos, negsuc, Bool, true, ◌&&◌, List, length, nat_eq, nat_lt, IsTrue}
+use Rattle.std.specs.Prelude.{◌≡◌, ℕ, ◌^◌, ℤ, pos, negsuc, Bool, true, ◌&&◌, List, length, nat_eq}
+use Rattle.std.specs.Prelude.{nat_lt, IsTrue}
 use Rattle.std.specs.List.{list_all}
 use Rattle.fb_values.specs.declared.facts.Datom.{Datom}
 use Rattle.fb_values.specs.declared.facts.Entry.{Entry}
 use Rattle.fb_values.specs.declared.facts.Value.{Value}
-use Rattle.fb_values.specs.declared.facts.Value.TheVariants.{Keyword, Str, Bool as Boolean, Long, Ref, Instant, Uuid, Symbol, Uri}
+use Rattle.fb_values.specs.declared.facts.Value.TheVariants.{Keyword, Str, Bool as Boolean, Long}
+use Rattle.fb_values.specs.declared.facts.Value.TheVariants.{Ref, Instant, Uuid, Symbol, Uri}
 use Rattle.fb_model.specs.Words.{is_keyword_text, is_symbol_text}
 use Rattle.log_model.specs.Fields.{is_text}
 use Rattle.log_model.specs.Values.{tag_of, is_any, is_format, is_tag}

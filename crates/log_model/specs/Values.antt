@@ -1,10 +1,13 @@
--- Values as bytes: a tag, and what stands behind it.
+-- Values as bytes: a tag, and what follows it.
 -- This project's own choice.
 use Rattle.std.specs.Prelude.{ℕ, Bool, true, ◌&&◌, List, ◌∷◌, ◌==◌, nat_le, if◌then◌else◌}
 use Rattle.fb_values.specs.declared.facts.Value.{Value}
-use Rattle.fb_values.specs.declared.facts.Value.TheVariants.{Keyword, Str, Bool as Boolean, Long, Ref, Instant, Uuid, Symbol, Uri}
+use Rattle.fb_values.specs.declared.facts.Value.TheVariants.{Keyword, Str, Bool as Boolean, Long}
+use Rattle.fb_values.specs.declared.facts.Value.TheVariants.{Ref, Instant, Uuid, Symbol, Uri}
 use Rattle.fb_model.specs.Words.{is_keyword_text, is_symbol_text}
-use Rattle.log_model.specs.Fields.{Reading, and_then, mapped, that_fits, read_u8, u64_bytes, read_u64, u128_bytes, read_u128, i64_bytes, read_i64, truth_bytes, read_truth, text_bytes, read_text}
+use Rattle.log_model.specs.Fields.{Reading, and_then, mapped, that_fits, read_u8, u64_bytes}
+use Rattle.log_model.specs.Fields.{read_u64, u128_bytes, read_u128, i64_bytes, read_i64}
+use Rattle.log_model.specs.Fields.{truth_bytes, read_truth, text_bytes, read_text}
 
 abbrev pub tag_of : Value → ℕ
 tag_of (Keyword text) = 1
@@ -45,7 +48,7 @@ is_tag format tag = nat_le 1 tag && nat_le tag (last_tag format)
 abbrev pub is_any : List ℕ → Bool
 is_any text = true
 
--- behind a tag: texts of keywords and symbols are those of EDN
+-- after a tag: texts of keywords and symbols are those of EDN
 abbrev pub read_content : ℕ → List ℕ → Reading Value
 read_content tag bytes =
     if tag == 1 then mapped Keyword (read_text is_keyword_text bytes)

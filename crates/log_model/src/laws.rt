@@ -20,7 +20,7 @@ pub fn numbers_are_big_endian()
         → length bytes ≡ 16 → number_in bytes ≡ from_be_bytes w128 bytes }
 {}
 
-/// Fields are read back where they were written, whatever stands behind them.
+/// Fields are read back where they were written, whatever follows them.
 pub fn a_field_is_read_back()
     ensures u32 { (n : ℕ) (rest : List ℕ)
         → n < 2 ^ 32 → read_u32 (u32_bytes n ++ rest) ≡ found n rest }
@@ -54,7 +54,7 @@ pub fn a_field_is_its_bytes()
 {}
 
 /// A storable entry's bytes say that entry, and so does a payload in the older format, whose entry
-/// is storable in the written one too; a value's bytes say the value, whatever stands behind them.
+/// is storable in the written one too; a value's bytes say the value, whatever follows them.
 pub fn an_entry_is_read_back()
     ensures written { (entry : Entry)
         → IsStorable entry → payload_says (entry_bytes entry) ≡ holds entry }

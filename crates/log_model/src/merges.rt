@@ -8,7 +8,7 @@ ghost use Rattle.log_model.specs.Merges.{record_says, merges, bad_from, IsRecord
 ghost use Rattle.log_model.specs.Kept.{KeptRoot, with_nodes, kept_roots, Agrees, IsNewestAgreeing, IsCoverage, FileKeeps};
 ghost use Rattle.log_model.specs.Samples.{hi_payload, with_byte, leaf_record, leaf_merge, next_record, next_merge, hi};
 
-/// A merge record is read back where it stands over the nodes that it was written over, and what is
+/// A merge record is read back over the nodes that it was written over, and what is
 /// read is its bytes.
 pub fn a_merge_record_is_read_back()
     ensures read { (nodes : Nodes) (merge : MergeRecord) (payload : List ℕ)

@@ -13,8 +13,8 @@ ghost use Rattle.log_model.specs.Nodes.{Nodes, ids_in, MergeRecord};
 ghost use Rattle.log_model.specs.Merges.{record_says, merges, bad_from};
 ghost use Rattle.log_model.specs.Kept.{with_nodes, tree_datoms, kept_root, kept_roots, nodes_of, are_good, HasTree, index_len};
 
-/// Behind good records, a record that merges keeps one more root and adds its nodes. A bad one adds
-/// nothing, and neither does what stands behind it.
+/// After good records, a record that merges keeps one more root and adds its nodes. A bad one adds
+/// nothing, and neither does what follows it.
 pub fn one_more_record_keeps_one_more_root()
     ensures root { (records : List (List ℕ)) (payload : List ℕ) (merge : MergeRecord)
         → IsTrue (are_good records) → record_says (nodes_of records) payload ≡ merges merge

@@ -15,12 +15,14 @@ abs_fits (negsuc n) fits = omega (arith, fits.sfits)
 
 -- nothing is lost on the way
 pub whole : (first step : ℤ) (call : ℕ) → FitsSigned w64 first → FitsSigned w64 step → call < 2 ^ 64
-    → to_z w128 (of_z w128 (to_z w64 (of_z w64 first))) +ℤ to_z w128 (of_z w128 (to_z w128 call *ℤ to_z w128 (of_z w128 (to_z w64 (of_z w64 step))))) ≡ first +ℤ pos call *ℤ step
+    → to_z w128 (of_z w128 (to_z w64 (of_z w64 first))) +ℤ to_z w128
+    (of_z w128 (to_z w128 call *ℤ to_z w128 (of_z w128 (to_z w64 (of_z w64 step))))) ≡ first +ℤ pos call *ℤ step
 whole first step call f s c =
     let from : to_z w128 (of_z w128 (to_z w64 (of_z w64 first))) ≡ first = omega (arith, ints) in
     let by : to_z w128 (of_z w128 (to_z w64 (of_z w64 step))) ≡ step = omega (arith, ints) in
     let times : to_z w128 call ≡ pos call = omega (arith, ints) in
-    let fits : FitsSigned w128 (pos call *ℤ step) = fits_signed_mul w128 (pos call) step (2 ^ 64 - 1) (2 ^ 63) (omega arith) (abs_fits step s) (omega arith) in
+    let fits : FitsSigned w128 (pos call *ℤ step) =
+    fits_signed_mul w128 (pos call) step (2 ^ 64 - 1) (2 ^ 63) (omega arith) (abs_fits step s) (omega arith) in
     let way : to_z w128 (of_z w128 (pos call *ℤ step)) ≡ pos call *ℤ step = to_z-of_z w128 (pos call *ℤ step) fits in
     ap (λ (z : ℤ). z +ℤ to_z w128 (of_z w128 (to_z w128 call *ℤ to_z w128 (of_z w128 (to_z w64 (of_z w64 step)))))) from
     ∙ ap (λ (z : ℤ). first +ℤ to_z w128 (of_z w128 (z *ℤ to_z w128 (of_z w128 (to_z w64 (of_z w64 step)))))) times

@@ -8,7 +8,8 @@ pub record Steps : Type 0 where
   pub first : ℤ
   pub step : ℤ
 
--- what the call with this number, from 0, reads: no more than the greatest i64, and no less than the least
+-- what the call with this number, from 0, reads:
+-- no more than the greatest i64, and no less than the least
 abbrev pub reading_at : Steps → ℕ → ℤ
 reading_at steps n = saturate_signed w64 (steps.first +ℤ pos n *ℤ steps.step)
 

@@ -1,7 +1,7 @@
 -- Worked examples of the objects in memory, each closed by computation.
 -- This project's own choice.
 use Rattle.std.specs.Prelude.{◌≡◌, [], ◌∷◌, ℕ, List, true, false, refl}
-use Rattle.fb_calls.specs.Calls.{no_calls}
+use Rattle.io_faults.specs.Calls.{no_calls}
 use Rattle.mem_ports.specs.InMemory.{Store, fails_write}
 
 -- a sink with room for two bytes

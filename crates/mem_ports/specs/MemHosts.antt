@@ -3,9 +3,9 @@
 use Rattle.std.specs.Prelude.{ℕ, List, [], Option, Some, option_map}
 use Rattle.std.specs.Option.{option_map_or, unwrap_or}
 use Rattle.std.specs.BTreeMap.{get_by_text}
-use Rattle.fb_calls.specs.Calls.{no_calls}
-use Rattle.fb_disk.specs.MemDisks.{Past, told_by, images_of, moment_of}
-use Rattle.fb_ports.specs.Told.{Told}
+use Rattle.io_faults.specs.Calls.{no_calls}
+use Rattle.fb_disk.specs.MemDisks.{Past, known_bytes, images_of, moment_of}
+use Rattle.fb_ports.specs.HostSpec.{HostSpec}
 use Rattle.fb_ports.specs.declared.hosts.Part.{Part}
 use Rattle.fb_ports.specs.declared.hosts.Part.TheVariants.{Log, Segments}
 use Rattle.mem_ports.specs.InMemory.{Supply}
@@ -44,7 +44,7 @@ handed_at h dir part = handed_of (disk_at h dir part)
 
 -- its bytes, its count of faults, its images and its moment
 abbrev pub held_at : MemHost → List ℕ → Part → Option (List ℕ)
-held_at h dir part = told_by (handed_at h dir part)
+held_at h dir part = known_bytes (handed_at h dir part)
 
 abbrev pub disk_faults_at : MemHost → List ℕ → Part → ℕ
 disk_faults_at h dir part = (handed_at h dir part).calls.faults
@@ -55,9 +55,9 @@ images_at h dir part = images_of (handed_at h dir part)
 abbrev pub moment_at : MemHost → List ℕ → Part → ℕ
 moment_at h dir part = moment_of (handed_at h dir part)
 
--- what it tells: a sink of any name is handed out empty
-abbrev pub told_of : MemHost → Told
-told_of h =
+-- the host's record: a sink of any name is handed out empty
+abbrev pub spec_of : MemHost → HostSpec
+spec_of h =
     record {
       sources = left_at h;
       source_faults = faults_at h;

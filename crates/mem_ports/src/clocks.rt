@@ -6,7 +6,7 @@ use fb_ports::Clock;
 use std::marker::Model;
 use std::sync::atomic::{AtomicU64, Ordering};
 
-/// A clock that stands still.
+/// A clock that always reads the same.
 #[derive(Clone, Copy, Debug, PartialEq, Eq)]
 pub struct FixedClock {
     pub at: i64,
@@ -28,7 +28,7 @@ impl Clock for FixedClock {
     }
 }
 
-/// A clock that goes on by one step with each reading, whichever thread reads it, and stands still at the ends of `i64`.
+/// A clock that goes on by one step with each reading, whichever thread reads it, and stays at the ends of `i64`.
 #[derive(Drop)]
 pub struct StepClock {
     first: i64,

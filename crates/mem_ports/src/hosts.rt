@@ -1,18 +1,18 @@
 //! A host in memory: sources, sinks and disks under the names that its maker gave them.
 ghost use Rattle.std.specs.Prelude.{◌≡◌, ℕ, List, [], None, Some, IfOk, IfErr, OnOk, OnErr};
 ghost use Rattle.std.specs.Result.{result_ok};
-ghost use Rattle.fb_disk.specs.MemDisks.{told_by, images_of, moment_of};
-ghost use Rattle.fb_calls.specs.Calls.{no_calls};
+ghost use Rattle.fb_disk.specs.MemDisks.{known_bytes, images_of, moment_of};
+ghost use Rattle.io_faults.specs.Calls.{no_calls};
 ghost use Rattle.mem_ports.specs.MemHosts.{handed_of};
 ghost use Rattle.fb_ports.specs.Faults.{CountsOpening, raised};
-ghost use Rattle.fb_ports.specs.Telling.{Same, SameBut, SameParts, SameButPart, Alike, StaysButSource, StaysButDisk};
+ghost use Rattle.fb_ports.specs.HostCalls.{Same, SameBut, SameParts, SameButPart, Alike, StaysButSource, StaysButDisk};
 ghost use Rattle.fb_ports.specs.declared.hosts.Part.{Part};
 
 use crate::{MemSink, MemSource};
-use fb_calls::raise;
 use fb_disk::MemDisk;
 use fb_memory::Memory;
 use fb_ports::{Host, OpenFail, Part};
+use io_faults::raise;
 use std::alloc::Global;
 use std::collections::BTreeMap;
 
@@ -102,9 +102,9 @@ impl Host for MemHost {
 
     type Disk = MemDisk;
 
-    ghost use Rattle.mem_ports.specs.MemHosts.{source_at, left_at, faults_at, disk_at, handed_at, held_at, disk_faults_at, images_at, moment_at, host_faults, told_of};
+    ghost use Rattle.mem_ports.specs.MemHosts.{source_at, left_at, faults_at, disk_at, handed_at, held_at, disk_faults_at, images_at, moment_at, host_faults, spec_of};
 
-    ghost told = { told_of };
+    ghost spec = { spec_of };
 
     fn faults(&self) -> u64 {
         self.faults
@@ -113,7 +113,7 @@ impl Host for MemHost {
     fn source(&mut self, _alloc: Global, name: &str) -> Result<MemSource, OpenFail>
         ensures bytes { IfOk result (λ s. Some s.left ≡ left_at self.old name.now) }
         ensures count { IfOk result (λ s. s.calls.faults ≡ faults_at self.old name.now) }
-        ensures others { StaysButSource name.now (told_of self.old) (told_of self.new) }
+        ensures others { StaysButSource name.now (spec_of self.old) (spec_of self.new) }
         ensures parts { SameParts (disk_at self.old) (disk_at self.new) }
         ensures counted { CountsOpening result (host_faults self.old) (host_faults self.new) }
 
@@ -144,11 +144,11 @@ impl Host for MemHost {
     }
 
     fn disk(&mut self, alloc: Global, dir: &str, part: Part) -> Result<MemDisk, OpenFail>
-        ensures bytes { IfOk result (λ d. told_by d ≡ held_at self.old dir.now part) }
+        ensures bytes { IfOk result (λ d. known_bytes d ≡ held_at self.old dir.now part) }
         ensures count { IfOk result (λ d. d.calls.faults ≡ disk_faults_at self.old dir.now part) }
         ensures images { IfOk result (λ d. Alike (images_at self.old dir.now part) (images_of d)) }
         ensures moment { IfOk result (λ d. moment_of d ≡ moment_at self.old dir.now part) }
-        ensures others { StaysButDisk dir.now part (told_of self.old) (told_of self.new) }
+        ensures others { StaysButDisk dir.now part (spec_of self.old) (spec_of self.new) }
         ensures counted { CountsOpening result (host_faults self.old) (host_faults self.new) }
 
         // The disk that was added is handed out once, and else an empty one is made.

@@ -1,5 +1,5 @@
-//! The ports in memory, for tests and for sessions that no file stands behind. They tell all that they hold, and fail
-//! exactly at the calls that their maker numbered. The disk in memory stands in `fb_disk`.
+//! The ports in memory, for tests and for sessions without a file. Their contracts say all that they hold, and they fail
+//! exactly at the calls that their maker numbered. The disk in memory is in `fb_disk`.
 #![tactic(auto)]
 
 mod clocks;

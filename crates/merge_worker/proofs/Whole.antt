@@ -12,7 +12,7 @@ use Rattle.fb_model.specs.Facts.{facts}
 use Rattle.fb_model.specs.Schema.{covers}
 use Rattle.fb_model.proofs.Members.{here}
 use Rattle.fb_model.proofs.Times.{upto-basis}
-use Rattle.fb_view.specs.Kept.{Kept, Stands}
+use Rattle.fb_view.specs.SnapshotModel.{SnapshotModel, Stands}
 use Rattle.fb_view.proofs.Standing.{not_later}
 use Rattle.fb_core.specs.Cores.{live_datoms}
 
@@ -20,7 +20,7 @@ without_members : (ds : List Datom) → ((d : Datom) → Contains ds d → ⊥) 
 without_members [] none = refl
 without_members (d ∷ ds) none = absurd (none d (here d ds))
 
-module _ (k : Kept) (stands : Stands k) (whole : k.covered ≡ basis k.entries) where
+module _ (k : SnapshotModel) (stands : Stands k) (whole : k.covered ≡ basis k.entries) where
   past : upto k.entries k.covered ≡ k.entries
   past = ap (upto k.entries) whole ∙ upto-basis k.entries stands.history.lawful
 

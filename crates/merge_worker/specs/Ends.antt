@@ -15,8 +15,8 @@ abbrev pub end_at_keep : KeepFault → WorkEnd
 end_at_keep NoRoom = Memory
 end_at_keep Failed = StoreFault
 
--- The end has its cause: of a failing store, or of what is used up. Want of memory needs none, and no single round ends as if no
--- session were left.
+-- The end has its cause: of a failing store, or of what is used up.
+-- Running out of memory needs none, and no single round ends as if no session were left.
 abbrev pub HasCause : (failed spent : Type 0) → WorkEnd → Type 0
 HasCause failed spent Shut = ⊥
 HasCause failed spent StoreFault = failed

@@ -1,10 +1,11 @@
 -- The trees that the worker makes and starts from, and when it has to merge, or cannot.
 -- This project's own choice.
-use Rattle.std.specs.Prelude.{◌≡◌, ◌⊎◌, ◌<◌, ◌+◌, ◌^◌, ℕ, Bool, List, Option, None, Some, IfSome, IsTrue, max, nat_le}
+use Rattle.std.specs.Prelude.{◌≡◌, ◌⊎◌, ◌<◌, ◌+◌, ◌^◌, ℕ, Bool, List, Option, None, Some, IfSome}
+use Rattle.std.specs.Prelude.{IsTrue, max, nat_le}
 use Rattle.fb_values.specs.declared.facts.Entry.{Entry}
 use Rattle.seg_tree.specs.Ids.{next_above}
 use Rattle.seg_tree.specs.Indexes.{root_ids}
-use Rattle.fb_view.specs.Kept.{Kept}
+use Rattle.fb_view.specs.SnapshotModel.{SnapshotModel}
 use Rattle.fb_core.specs.Cores.{live_datoms}
 use Rattle.board_rule.specs.declared.view.Code.{Code}
 use Rattle.board_rule.specs.declared.view.View.{View}
@@ -25,7 +26,7 @@ IsOldOrKept keeps old store new = (new ≡ old) ⊎ keeps new store
 abbrev pub AreAhead : Option Base → List Entry → Type 0
 AreAhead ahead h = IfSome ahead (λ trees. IsBaseOf trees h trees.c)
 
--- they are those from before, or the store has them
+-- the trees are those from before, or the store has them
 abbrev pub AreOldOrKept : {S : Type 0} → (Base → S → Type 0) → Option Base → S → Option Base
     → Type 0
 AreOldOrKept keeps old store new = (new ≡ old) ⊎ IfSome new (λ trees. keeps trees store)
@@ -42,7 +43,7 @@ abbrev pub first_id : ℕ → Base → ℕ
 first_id next start = max next (next_above (root_ids start.roots))
 
 -- so many of its datoms are live that they are to be merged
-abbrev pub is_due : ℕ → Kept → Bool
+abbrev pub is_due : ℕ → SnapshotModel → Bool
 is_due merge_at snapshot = nat_le merge_at (live_datoms snapshot.live)
 
 -- the first new node of a merge would have too great a number
@@ -54,7 +55,7 @@ abbrev pub IsOutOfTurns : View Code → Type 0
 IsOutOfTurns v = 4294967296 < v.draws + 2
 
 -- there are no turns for a round, or no numbers for the merge that is due
-abbrev pub IsSpent : ℕ → View Code → Kept → ℕ → Base → Type 0
+abbrev pub IsSpent : ℕ → View Code → SnapshotModel → ℕ → Base → Type 0
 IsSpent merge_at v last next start =
     IsOutOfTurns v ⊎ (IsTrue (is_due merge_at last) × IsOutOfIds next start)
 

@@ -36,7 +36,7 @@ pub(crate) fn take_latest<L: Log, R: Wait>(
     ensures latest { IfOk result (λ latest. (latest ≡ seat.new.last)
         × StartsWith latest.entries seat.old.last.entries) }
 {
-    // A snapshot that is asked tells that it stands for its history.
+    // This call brings into the proof that the snapshot represents its history.
     let last = seat.last();
     let _basis = last.basis();
     let latest = conn.begin(rt, seat)?;
@@ -93,7 +93,7 @@ fn catches_up<L: Log, R: Wait>(
         return Ok(false);
     }
     let latest = take_latest(rt, conn, seat)?;
-    // A snapshot that is asked tells that it stands for its history.
+    // This call brings into the proof that the snapshot represents its history.
     let _basis = ahead.basis();
     if is_near(ahead, &latest) {
         return Ok(false);
@@ -102,7 +102,7 @@ fn catches_up<L: Log, R: Wait>(
     Ok(true)
 }
 
-/// Whether only a few datoms came since. Entries are of very different lengths, so datoms tell how long it takes to add them.
+/// Whether only a few datoms came since. Entries are of very different lengths, so the number of datoms says how long it takes to add them.
 fn is_near(ahead: &Snapshot, latest: &Snapshot) -> bool {
     let entries = latest.entries();
     let mut missing: usize = 0;

@@ -1,6 +1,6 @@
 //! The merge that is left at the end.
 ghost use Rattle.std.specs.Prelude.{◌≡◌, ◌↔◌, ◌<◌, OnOk, OnErr, IsErrOf, IsTrue, IsFalse};
-ghost use Rattle.fb_calls.specs.Faults.{Rose};
+ghost use Rattle.io_faults.specs.Faults.{Rose};
 ghost use Rattle.fb_model.specs.History.{basis};
 ghost use Rattle.fb_core.specs.Cores.{live_datoms};
 ghost use Rattle.seg_tree.specs.declared.roots.Roots.{Roots};

@@ -1,6 +1,6 @@
 //! Merging beside the sessions, in rounds.
 ghost use Rattle.std.specs.Prelude.{◌≡◌, ◌↔◌, ℕ, ◌<◌, None, Some, IfOk, IfErr, OnOk, OnErr, IsErrOf, IsTrue, IsFalse};
-ghost use Rattle.fb_calls.specs.Faults.{Rose};
+ghost use Rattle.io_faults.specs.Faults.{Rose};
 ghost use Rattle.fb_model.specs.History.{basis};
 ghost use Rattle.board_rule.specs.Calls.{view_of};
 ghost use Rattle.fb_conn.specs.Seats.{IsWorkerOf};
@@ -194,7 +194,7 @@ fn merge_last<L: Log, T: RootStore, R: Threads + Wait + Sync, G: Gate>(
         × (T.faults store.new ≡ T.faults store.old) }
 {
     let begin = seat.last();
-    // A snapshot that is asked tells that it stands for its history.
+    // This call brings into the proof that the snapshot represents its history.
     let _basis = begin.basis();
     gate.pass(Point::BeforeMerge);
     let next = merged_base(rt, alloc, store, start(base, ahead), begin)?;
@@ -258,7 +258,7 @@ fn publish<L: Log, R: Wait>(
 {
     let roots = next.roots.share()?;
     let last = seat.last();
-    // A snapshot that is asked tells that it stands for its history.
+    // This call brings into the proof that the snapshot represents its history.
     let _basis = last.basis();
     let fresh = last.rebased(last, roots)?;
     let ahead = catch_up(rt, conn, seat, fresh)?;

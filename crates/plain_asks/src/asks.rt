@@ -17,7 +17,7 @@ pub enum Name {
     Nameless(Vec<usize>),
 }
 
-/// What stands in the place of a value.
+/// What is given in the place of a value.
 #[derive(Drop)]
 pub enum Operand {
     /// A value, to be read by the attribute's type.
@@ -35,7 +35,7 @@ pub enum Ask {
     /// The old value and the new one.
     Compares(Name, Text, Operand, Operand),
     RetractsEntity(Name),
-    /// A map stands for this entity.
+    /// There is a map of this entity.
     Meets(Name),
     /// An attribute is a key of a map.
     Mentions(Text),

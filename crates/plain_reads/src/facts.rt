@@ -1,4 +1,4 @@
-//! What is said, what holds, and which datoms stand.
+//! All datoms, what holds, and which datoms hold.
 use fb_memory::Memory;
 use fb_values::{Datom, Entry, Value};
 use std::alloc::Global;

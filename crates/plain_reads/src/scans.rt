@@ -77,7 +77,7 @@ pub fn transactions(
     Ok(list)
 }
 
-/// The t behind the transaction of a t, or of a transaction's entity.
+/// The t after the transaction of a t, or of a transaction's entity.
 pub fn end_of_number(n: u64) -> Option<u64> {
     let greatest = u64::from(GREATEST_T);
     if n <= greatest {

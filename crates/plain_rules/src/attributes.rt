@@ -26,7 +26,7 @@ pub fn is_identity(facts: &[Datom], a: u64) -> bool {
     attribute_of(facts, a).is_some_and(|attribute| attribute.uniqueness == UNIQUE_IDENTITY)
 }
 
-/// Whether its values are parts of their entities.
+/// Whether the attribute's values are parts of their entities.
 pub fn is_part(facts: &[Datom], a: u64) -> bool {
     attribute_of(facts, a).is_some_and(|attribute| attribute.component)
 }

@@ -26,7 +26,7 @@ pub fn compares_many(tx: &Transaction<'_>, ask: &Ask) -> bool {
 
 // ---- cas failed
 
-/// Whether the present value differs from the old one of a cas; nil stands for none.
+/// Whether the present value differs from the old one of a cas; nil means that there is none.
 pub fn compares_another(tx: &Transaction<'_>, ask: &Ask) -> Result<bool, Memory> {
     let Ask::Compares(name, k, old, _) = ask else {
         return Ok(false);

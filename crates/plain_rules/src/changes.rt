@@ -129,7 +129,7 @@ fn sweep_values(
     Ok(())
 }
 
-/// All that is said of an entity and its parts, and the references to them.
+/// All facts of an entity and its parts, and the references to them.
 fn sweep_entity(
     alloc: Global,
     list: &mut Vec<Datom>,

@@ -1,5 +1,5 @@
 //! What the asks of a transaction come to, over plain lists and slowly: the entities of its tempids, its changes, and the rules
-//! that it breaks. Nothing of the product stands on it.
+//! that it breaks. Nothing of the product depends on it.
 //!
 //! It is written plainly, to be read beside `Tempids`, `Changes`, `Transaction`, `NameRules` and `ChangeRules` of `tx_model`. It
 //! promises nothing but safety, so that a comparison says something that the proofs do not.

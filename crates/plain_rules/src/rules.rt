@@ -40,7 +40,7 @@ pub fn least_refusal(alloc: Global, tx: &Transaction<'_>) -> Result<Option<Refus
     Ok(None)
 }
 
-/// The first form that breaks the rule. What is said of a transaction as a whole is said at its first form.
+/// The first form that breaks the rule. What is wrong with a transaction as a whole is reported at its first form.
 fn first_form(
     alloc: Global,
     rule: Reason,

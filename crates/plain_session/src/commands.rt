@@ -3,7 +3,7 @@ use edn_form::Edn;
 use fb_text::Text;
 use fb_values::Order;
 
-/// A command, with the forms that stand behind its word.
+/// A command, with the forms that follow its word.
 #[derive(Clone, Copy)]
 pub(crate) enum Command<'a> {
     Transact(&'a Edn),

@@ -1,5 +1,5 @@
 //! What a session replies to the forms of its script, over a plain list of entries and slowly: what a faster session is compared
-//! with. Nothing of the product stands on it.
+//! with. Nothing of the product depends on it.
 //!
 //! It is written plainly, to be read beside the definitions of commands, reads and replies. It promises nothing but safety, so
 //! that a comparison says something that the proofs do not.

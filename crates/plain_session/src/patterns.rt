@@ -14,14 +14,14 @@ pub(crate) struct Item {
     pub(crate) name: Option<Text>,
     /// The key in place of the name.
     pub(crate) renamed: Option<Edn>,
-    /// What stands there where the attribute is absent.
+    /// What is given where the attribute is absent.
     pub(crate) default: Option<Edn>,
-    /// How many values are told at most, where that is said.
+    /// How many values are given at most, where there is a limit.
     pub(crate) limit: Option<usize>,
     pub(crate) below: Below,
 }
 
-/// What is told of each entity that is found under an attribute.
+/// What is given of each entity that is found under an attribute.
 #[derive(Drop)]
 pub(crate) enum Below {
     /// Its number, or the whole of it where it is a part.
@@ -120,7 +120,7 @@ fn add_item(alloc: Global, form: &Edn, list: &mut Vec<Item>) -> Result<bool, Mem
     Ok(true)
 }
 
-/// A pair of a map: a name other than `:db/id`, and what is told below it.
+/// A pair of a map: a name other than `:db/id`, and what is given below it.
 fn add_specification(
     key: &Edn,
     below: Option<Below>,

@@ -7,7 +7,7 @@ use plain_reads::{basis, end_of_instant, end_of_number};
 
 const BAD_POINT: &str = "read/bad-point";
 
-/// The t behind the last transaction up to the point.
+/// The t after the last transaction up to the point.
 pub(crate) fn end_of(entries: &[Entry], point: &Edn) -> Result<u64, ReadStop> {
     let end = match point {
         Edn::Int(n) => u64::try_from(*n).ok().and_then(|n| end_of_number(n)),

@@ -14,12 +14,12 @@ use std::alloc::Global;
 /// The most maps of a pull.
 const MOST_MAPS: u64 = 65_536;
 
-/// The most maps that may stand around one.
+/// The most maps that may be around one.
 const MOST_AROUND: u64 = 256;
 
 const TOO_LARGE: ReadStop = ReadStop::Refused("read/too-large", 0);
 
-/// How many values are told where no limit is given.
+/// How many values a pull gives without a limit.
 const USUAL_LIMIT: usize = 1000;
 
 /// Where a pull stands.
@@ -305,7 +305,7 @@ fn told(
     }
 }
 
-/// Of an entity that is met again its number alone is told.
+/// Of an entity that is met again its number alone is given.
 #[cycle(tree)]
 fn unless_met(
     alloc: Global,

@@ -1,5 +1,5 @@
 //! What a transaction does at a history, over plain lists and slowly. It is what a faster step is compared with; nothing of the
-//! product stands on it.
+//! product depends on it.
 //!
 //! It is written plainly, to be read beside `Step` of `tx_model`. It promises nothing but safety, so that a comparison says
 //! something that the proofs do not.

@@ -46,7 +46,7 @@ pub fn lookup_in(items: &Items) -> Option<(&Text, &Edn)> {
     }
 }
 
-/// The entity that a form names, in a place where a tempid may stand.
+/// The entity that a form names, in a place where a tempid may be.
 pub fn name_in(f: &Edn) -> Result<Option<Name>, Memory> {
     Ok(match f {
         Edn::Int(n) => Some(Name::Number(*n)),

@@ -20,7 +20,7 @@ pub fn has_many(facts: &[Datom], name: &str) -> bool {
     attribute_named(facts, name).is_some_and(|attribute| attribute.many)
 }
 
-/// Whether its values are parts of their entities.
+/// Whether the attribute's values are parts of their entities.
 pub fn has_parts(facts: &[Datom], name: &str) -> bool {
     attribute_named(facts, name).is_some_and(|attribute| attribute.component)
 }

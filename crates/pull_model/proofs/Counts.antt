@@ -3,7 +3,7 @@ use Rattle.std.proofs.Common.{◌≡◌, ℕ, zero, suc, ◌+◌, ◌≤◌, max
 use Rattle.pull_model.specs.Patterns.{Pattern, Item, Below, usual, under, times, unlimited, everything, one_less}
 use Rattle.pull_model.specs.Found.{Db}
 use Rattle.pull_model.specs.Made.{Made, Inside, maps_made, depth_made}
-use Rattle.pull_model.specs.Tree.{tree, told, unless_met, is_on, has_key, key_of_item, unless_there, with_item}
+use Rattle.pull_model.specs.Tree.{tree, pull_below, unless_met, is_on, has_key, key_of_item, unless_there, with_item}
 
 abbrev Grows : Inside → Inside → Type 0
 Grows before after = (before.maps ≤ after.maps) × (before.depth ≤ after.depth)
@@ -48,7 +48,7 @@ module _ (room : ℕ) (db : Db) where
       go false = tree_counts room db pattern path n
 
   pub told_counts : (pattern : Pattern) (place : ℕ) (path : List ℕ) (parts : Bool) (below : Below) (n : ℕ)
-      → Counts (told (tree room db) pattern place path parts below n)
+      → Counts (pull_below (tree room db) pattern place path parts below n)
   told_counts pattern place path true usual n = unless_met_counts everything path n
   told_counts pattern place path false usual n = (omega arith, omega arith)
   told_counts pattern place path parts (under inner) n = tree_counts room db inner [] n

@@ -1,5 +1,6 @@
 -- The keys of a tree stand in the order of the items, and none twice.
-use Rattle.std.proofs.Common.{◌≡◌, ℕ, Bool, true, false, not, List, [], ◌∷◌, ◌++◌, map, fold, refl, ap, sym, ◌∙◌, subst, inl, inr, Option, Some, None, append_assoc, append-nil}
+use Rattle.std.proofs.Common.{◌≡◌, ℕ, Bool, true, false, not, List, [], ◌∷◌, ◌++◌, map, fold, refl, ap, sym, ◌∙◌, subst, inl, inr, Option}
+use Rattle.std.proofs.Common.{Some, None, append_assoc, append-nil}
 use Rattle.std.proofs.lemmas.Bool.{and_from, and_parts, or_from, or_parts}
 use Rattle.edn_model.specs.Form.{Form, Forms, no_forms, form, pairs}
 use Rattle.edn_model.specs.Likeness.{alike, any, distinct, distinct_from, keys}
@@ -29,7 +30,8 @@ one_added made old p = go (has_key old.pairs (key_of_item p.1))
     go true = record { value = None; is = sym (append-nil old.pairs) }
     go false = record { value = (made p.0 p.1).form; is = refl }
 
-more_in_order : (value : Option Form) (key : Form) (ps : List (Form × Form)) (others : List Form) → AreInOrder (keys_in ps) others → AreInOrder (keys_in (pair_of key value ++ ps)) (key ∷ others)
+more_in_order : (value : Option Form) (key : Form) (ps : List (Form × Form)) (others : List Form) → AreInOrder (keys_in ps) others
+    → AreInOrder (keys_in (pair_of key value ++ ps)) (key ∷ others)
 more_in_order None key [] others order = tt
 more_in_order None key (p ∷ ps) others order = inr order
 more_in_order (Some v) key ps others order = inl (refl, order)
@@ -39,7 +41,8 @@ pub record AddedInOrder (old new : Inside) (items : List (ℕ × Item)) : Type 0
   pub is : new.pairs ≡ old.pairs ++ added
   pub order : AreInOrder (keys_in added) (item_keys items)
 
-pub folded_in_order : (made : ℕ → Item → Made) (old : Inside) (items : List (ℕ × Item)) → AddedInOrder old (fold (with_item made) old items) items
+pub folded_in_order : (made : ℕ → Item → Made) (old : Inside) (items : List (ℕ × Item))
+    → AddedInOrder old (fold (with_item made) old items) items
 folded_in_order made old [] = record { added = []; is = sym (append-nil old.pairs); order = tt }
 folded_in_order made old (p ∷ items) =
     let now = one_added made old p in
@@ -57,21 +60,25 @@ any-with_last test no_forms f none isnt = or_from (test f) false isnt refl
 any-with_last test (form g fs) f none isnt =
     let parts = or_parts (test g) (any test fs) none in or_from (test g) _ parts.0 (any-with_last test fs f parts.1 isnt)
 
-distinct_with : (seen : Forms) (ps : List (Form × Form)) (k v : Form) → distinct_from seen (keys (pairs ps)) ≡ true → any (alike k) seen ≡ false → has_key ps k ≡ false
+distinct_with : (seen : Forms) (ps : List (Form × Form)) (k v : Form) → distinct_from seen (keys (pairs ps)) ≡ true
+    → any (alike k) seen ≡ false → has_key ps k ≡ false
     → distinct_from seen (keys (pairs (ps ++ (k, v) ∷ []))) ≡ true
 distinct_with seen [] k v is none new = and_from (not (any (alike k) seen)) true (ap not none) refl
 distinct_with seen (p ∷ ps) k v is none new =
     let parts = and_parts (not (any (alike p.0) seen)) (distinct_from (with_last seen p.0) (keys (pairs ps))) is in
     let other = or_parts (alike k p.0) (has_key ps k) new in
-    and_from (not (any (alike p.0) seen)) _ parts.0 (distinct_with (with_last seen p.0) ps k v parts.1 (any-with_last (alike k) seen p.0 none other.0) other.1)
+    and_from (not (any (alike p.0) seen)) _ parts.0
+    (distinct_with (with_last seen p.0) ps k v parts.1 (any-with_last (alike k) seen p.0 none other.0) other.1)
 
 abbrev pub has_distinct_keys : List (Form × Form) → Bool
 has_distinct_keys ps = distinct (keys (pairs ps))
 
-distinct_after : (made : ℕ → Item → Made) (old : Inside) (p : ℕ × Item) → has_distinct_keys old.pairs ≡ true → has_distinct_keys (with_item made old p).pairs ≡ true
+distinct_after : (made : ℕ → Item → Made) (old : Inside) (p : ℕ × Item) → has_distinct_keys old.pairs ≡ true
+    → has_distinct_keys (with_item made old p).pairs ≡ true
 distinct_after made old p is = go (has_key old.pairs (key_of_item p.1)) refl
   where
-    put : (value : Option Form) → has_key old.pairs (key_of_item p.1) ≡ false → has_distinct_keys (old.pairs ++ pair_of (key_of_item p.1) value) ≡ true
+    put : (value : Option Form) → has_key old.pairs (key_of_item p.1) ≡ false
+        → has_distinct_keys (old.pairs ++ pair_of (key_of_item p.1) value) ≡ true
     put None new = subst (λ ps. has_distinct_keys ps ≡ true) (sym (append-nil old.pairs)) is
     put (Some v) new = distinct_with no_forms old.pairs (key_of_item p.1) v is refl new
 
@@ -79,6 +86,7 @@ distinct_after made old p is = go (has_key old.pairs (key_of_item p.1)) refl
     go true there = is
     go false new = put (made p.0 p.1).form new
 
-pub folded_distinct : (made : ℕ → Item → Made) (old : Inside) (items : List (ℕ × Item)) → has_distinct_keys old.pairs ≡ true → has_distinct_keys (fold (with_item made) old items).pairs ≡ true
+pub folded_distinct : (made : ℕ → Item → Made) (old : Inside) (items : List (ℕ × Item)) → has_distinct_keys old.pairs ≡ true
+    → has_distinct_keys (fold (with_item made) old items).pairs ≡ true
 folded_distinct made old [] is = is
 folded_distinct made old (p ∷ items) is = folded_distinct made (with_item made old p) items (distinct_after made old p is)

@@ -20,16 +20,24 @@ add_both (Some n) all ns on = (on-here n all, on-more all (n ∷ all) ns (λ m. 
 objects_on : (facts : List Datom) (e a : ℕ) → AreOn (filter_map (λ d. entity_in d.v) facts) (filter_map entity_in (values_of facts e a))
 objects_on [] e a = tt
 objects_on (d ∷ facts) e a =
-    elim (nat_eq d.e e && nat_eq d.a a) as (λ b. AreOn (filter_map (λ d. entity_in d.v) (d ∷ facts)) (filter_map entity_in (map (λ d. d.v) (cond b (d ∷ filter (λ d. nat_eq d.e e && nat_eq d.a a) facts) (filter (λ d. nat_eq d.e e && nat_eq d.a a) facts))))) [
-      | true ↦ add_both (entity_in d.v) (filter_map (λ d. entity_in d.v) facts) (filter_map entity_in (values_of facts e a)) (objects_on facts e a)
-      | false ↦ add_option (entity_in d.v) (filter_map (λ d. entity_in d.v) facts) (filter_map entity_in (values_of facts e a)) (objects_on facts e a)
+    elim (nat_eq d.e e && nat_eq d.a a) as (λ b. AreOn (filter_map (λ d. entity_in d.v) (d ∷ facts)) (filter_map entity_in
+    (map (λ d. d.v) (cond b (d ∷ filter (λ d. nat_eq d.e e && nat_eq d.a a) facts) (filter (λ d. nat_eq d.e e && nat_eq d.a a) facts))))) [
+      | true ↦
+          add_both (entity_in d.v) (filter_map (λ d. entity_in d.v) facts) (filter_map entity_in (values_of facts e a))
+          (objects_on facts e a)
+      | false ↦
+          add_option (entity_in d.v) (filter_map (λ d. entity_in d.v) facts) (filter_map entity_in (values_of facts e a))
+          (objects_on facts e a)
     ]
 
 subjects_on : (facts : List Datom) (e a : ℕ) → AreOn (map (λ d. d.e) facts) (referring facts e a)
 subjects_on [] e a = tt
 subjects_on (d ∷ facts) e a =
-    let later : AreOn (d.e ∷ map (λ d. d.e) facts) (referring facts e a) = on-more (map (λ d. d.e) facts) (d.e ∷ map (λ d. d.e) facts) (referring facts e a) (λ m. on-there d.e m (map (λ d. d.e) facts)) (subjects_on facts e a) in
-    elim (nat_eq d.a a && value_eq d.v (Ref e)) as (λ b. AreOn (d.e ∷ map (λ d. d.e) facts) (map (λ d. d.e) (cond b (d ∷ filter (λ d. nat_eq d.a a && value_eq d.v (Ref e)) facts) (filter (λ d. nat_eq d.a a && value_eq d.v (Ref e)) facts)))) [
+    let later : AreOn (d.e ∷ map (λ d. d.e) facts) (referring facts e a) =
+    on-more (map (λ d. d.e) facts) (d.e ∷ map (λ d. d.e) facts) (referring facts e a) (λ m. on-there d.e m (map (λ d. d.e) facts))
+    (subjects_on facts e a) in
+    elim (nat_eq d.a a && value_eq d.v (Ref e)) as (λ b. AreOn (d.e ∷ map (λ d. d.e) facts) (map (λ d. d.e)
+    (cond b (d ∷ filter (λ d. nat_eq d.a a && value_eq d.v (Ref e)) facts) (filter (λ d. nat_eq d.a a && value_eq d.v (Ref e)) facts)))) [
       | true ↦ (on-here d.e (map (λ d. d.e) facts), later)
       | false ↦ later
     ]
@@ -39,4 +47,5 @@ forward_on facts e a =
     on-more (filter_map (λ d. entity_in d.v) facts) (entities_of facts) _ (λ n. on-right (map (λ d. d.e) facts) _ n) (objects_on facts e a)
 
 pub backward_on : (facts : List Datom) (e a : ℕ) → AreOn (entities_of facts) (referring facts e a)
-backward_on facts e a = on-more (map (λ d. d.e) facts) (entities_of facts) _ (λ n. on-left (map (λ d. d.e) facts) _ n) (subjects_on facts e a)
+backward_on facts e a =
+    on-more (map (λ d. d.e) facts) (entities_of facts) _ (λ n. on-left (map (λ d. d.e) facts) _ n) (subjects_on facts e a)

@@ -1,7 +1,9 @@
 -- A tree is finite: no entity is met twice on a path, and a pattern inside another begins a path of its own.
-use Rattle.std.proofs.Common.{◌≡◌, ℕ, zero, suc, ◌+◌, ◌-◌, ◌*◌, max, ◌<◌, ◌≤◌, Bool, true, false, cond, not, ◌||◌, List, [], ◌∷◌, length, nat_eq, nat_le, refl, ap, sym, subst, arith, inl, inr, suc-add, mul-le-mul_left, mul-suc}
+use Rattle.std.proofs.Common.{◌≡◌, ℕ, zero, suc, ◌+◌, ◌-◌, ◌*◌, max, ◌<◌, ◌≤◌, Bool, true, false, cond, not, ◌||◌, List, [], ◌∷◌, length}
+use Rattle.std.proofs.Common.{nat_eq, nat_le, refl, ap, sym, subst, arith, inl, inr, suc-add, mul-le-mul_left, mul-suc}
 use Rattle.std.proofs.lemmas.Bool.{true≢false, and_from, or_cases, eqb-true, eq-eqb}
-use Rattle.pull_model.specs.Patterns.{Pattern, no_items, item, wildcard, own, attribute, usual, under, times, unlimited, everything, one_less}
+use Rattle.pull_model.specs.Patterns.{Pattern, no_items, item, wildcard, own, attribute, usual, under, times, unlimited, everything}
+use Rattle.pull_model.specs.Patterns.{one_less}
 use Rattle.pull_model.specs.Found.{Db}
 use Rattle.pull_model.specs.Made.{Made, Inside, enclosed}
 use Rattle.pull_model.specs.Tree.{tree, inside, is_on}
@@ -17,11 +19,13 @@ equal_of x y (inr high) = absurd (omega (arith, high.0))
 -- the trees that are asked for are the same
 pub record Equal (trees others : Pattern → List ℕ → ℕ → Made) (db : Db) (pattern : Pattern) (path : List ℕ) : Type 0 where
   pub part : (n : ℕ) → is_on path n ≡ false → is_on (entities_of db.seen) n ≡ true → others everything path n ≡ trees everything path n
-  pub less : (place n : ℕ) → is_on path n ≡ false → is_on (entities_of db.seen) n ≡ true → others (one_less place pattern) path n ≡ trees (one_less place pattern) path n
+  pub less : (place n : ℕ) → is_on path n ≡ false → is_on (entities_of db.seen) n ≡ true
+      → others (one_less place pattern) path n ≡ trees (one_less place pattern) path n
   pub again : (n : ℕ) → is_on path n ≡ false → is_on (entities_of db.seen) n ≡ true → others pattern path n ≡ trees pattern path n
   pub inner : (below : Pattern) (n : ℕ) → nesting below < nesting pattern → others below [] n ≡ trees below [] n
 
-agrees : (room : ℕ) (trees others : Pattern → List ℕ → ℕ → Made) (db : Db) (pattern : Pattern) (path : List ℕ) → Equal trees others db pattern path → Agree room trees others db pattern path
+agrees : (room : ℕ) (trees others : Pattern → List ℕ → ℕ → Made) (db : Db) (pattern : Pattern) (path : List ℕ)
+    → Equal trees others db pattern path → Agree room trees others db pattern path
 agrees room trees others db pattern path equal =
     record {
       part = λ n off on. same_equal room _ _ (equal.part n off on);
@@ -30,11 +34,13 @@ agrees room trees others db pattern path equal =
       inner = λ below n low. same_equal room _ _ (equal.inner below n low);
     }
 
-equal_inside : (trees others : Pattern → List ℕ → ℕ → Made) (db : Db) (pattern : Pattern) (above : List ℕ) (e : ℕ) → Equal trees others db pattern (e ∷ above)
+equal_inside : (trees others : Pattern → List ℕ → ℕ → Made) (db : Db) (pattern : Pattern) (above : List ℕ) (e : ℕ)
+    → Equal trees others db pattern (e ∷ above)
     → inside others db pattern above e ≡ inside trees db pattern above e
 equal_inside trees others db pattern above e equal =
     equal_of (inside trees db pattern above e) (inside others db pattern above e)
-    (same_inside (inside trees db pattern above e).depth trees others db pattern above e (agrees (inside trees db pattern above e).depth trees others db pattern (e ∷ above) equal))
+    (same_inside (inside trees db pattern above e).depth trees others db pattern above e
+    (agrees (inside trees db pattern above e).depth trees others db pattern (e ∷ above) equal))
 
 -- ---- paths
 
@@ -42,7 +48,8 @@ longer : (path : List ℕ) (n : ℕ) → is_on path n ≡ false → is_path path
 longer path n off is = and_from (not (is_on path n)) (is_path path) (ap not off) is
 
 pub paths_alone : (trees others : Pattern → List ℕ → ℕ → Made) (db : Db) (pattern : Pattern) (above : List ℕ) (e : ℕ)
-    → ((inner : Pattern) (path : List ℕ) (n : ℕ) → is_path (n ∷ path) ≡ true → others inner path n ≡ trees inner path n) → is_path (e ∷ above) ≡ true
+    → ((inner : Pattern) (path : List ℕ) (n : ℕ) → is_path (n ∷ path) ≡ true → others inner path n ≡ trees inner path n)
+    → is_path (e ∷ above) ≡ true
     → inside others db pattern above e ≡ inside trees db pattern above e
 paths_alone trees others db pattern above e same is =
     equal_inside trees others db pattern above e
@@ -62,14 +69,23 @@ left (n ∷ ns) path = cond (is_on path n) (left ns path) (suc (left ns path))
 left-length : (ns path : List ℕ) → left ns path ≤ length ns
 left-length [] path = omega arith
 left-length (n ∷ ns) path =
-    elim (is_on path n) as (λ b. cond b (left ns path) (suc (left ns path)) ≤ suc (length ns)) [ true ↦ omega (arith, left-length ns path) | false ↦ omega (arith, left-length ns path) ]
+    elim (is_on path n) as (λ b. cond b (left ns path) (suc (left ns path)) ≤ suc (length ns)) [
+      | true ↦ omega (arith, left-length ns path)
+      | false ↦ omega (arith, left-length ns path)
+    ]
 
 left-longer : (ns path : List ℕ) (m : ℕ) → left ns (m ∷ path) ≤ left ns path
 left-longer [] path m = omega arith
 left-longer (n ∷ ns) path m =
-    elim (nat_eq n m) as (λ c. cond (c || is_on path n) (left ns (m ∷ path)) (suc (left ns (m ∷ path))) ≤ cond (is_on path n) (left ns path) (suc (left ns path))) [
-      | true ↦ elim (is_on path n) as (λ b. left ns (m ∷ path) ≤ cond b (left ns path) (suc (left ns path))) [ true ↦ left-longer ns path m | false ↦ omega (arith, left-longer ns path m) ]
-      | false ↦ elim (is_on path n) as (λ b. cond b (left ns (m ∷ path)) (suc (left ns (m ∷ path))) ≤ cond b (left ns path) (suc (left ns path))) [ true ↦ left-longer ns path m | false ↦ omega (arith, left-longer ns path m) ]
+    elim (nat_eq n m) as (λ c.
+    cond (c || is_on path n) (left ns (m ∷ path)) (suc (left ns (m ∷ path))) ≤ cond (is_on path n) (left ns path) (suc (left ns path))) [
+      | true ↦ elim (is_on path n) as (λ b. left ns (m ∷ path) ≤ cond b (left ns path) (suc (left ns path))) [
+        | true ↦ left-longer ns path m
+        | false ↦ omega (arith, left-longer ns path m)
+      ]
+      | false ↦
+          elim (is_on path n) as (λ b. cond b (left ns (m ∷ path)) (suc (left ns (m ∷ path)))
+          ≤ cond b (left ns path) (suc (left ns path))) [ true ↦ left-longer ns path m | false ↦ omega (arith, left-longer ns path m) ]
     ]
 
 one_fewer_here : (ns path : List ℕ) (m n : ℕ) → nat_eq m n ≡ true → is_on path m ≡ false → left (n ∷ ns) (m ∷ path) < left (n ∷ ns) path
@@ -77,7 +93,8 @@ one_fewer_here ns path m n same off =
     subst (λ k. left (k ∷ ns) (m ∷ path) < left (k ∷ ns) path) (eqb-true m n same)
     (at (nat_eq m m) (is_on path m) (eq-eqb m m refl) off)
   where
-    at : (c b : Bool) → c ≡ true → b ≡ false → cond (c || b) (left ns (m ∷ path)) (suc (left ns (m ∷ path))) < cond b (left ns path) (suc (left ns path))
+    at : (c b : Bool) → c ≡ true → b ≡ false
+        → cond (c || b) (left ns (m ∷ path)) (suc (left ns (m ∷ path))) < cond b (left ns path) (suc (left ns path))
     at true false is isnt = omega (arith, left-longer ns path m)
     at true true is isnt = absurd (true≢false isnt)
     at false b is isnt = absurd (true≢false (sym is))
@@ -90,7 +107,8 @@ one_fewer (n ∷ ns) path m on off =
       | inr later ↦ further (nat_eq n m) (is_on path n) (one_fewer ns path m later off)
     ]
   where
-    further : (c b : Bool) → left ns (m ∷ path) < left ns path → cond (c || b) (left ns (m ∷ path)) (suc (left ns (m ∷ path))) < cond b (left ns path) (suc (left ns path))
+    further : (c b : Bool) → left ns (m ∷ path) < left ns path
+        → cond (c || b) (left ns (m ∷ path)) (suc (left ns (m ∷ path))) < cond b (left ns path) (suc (left ns path))
     further true true low = low
     further true false low = omega (arith, low)
     further false true low = low
@@ -106,7 +124,10 @@ lessened-nesting zero (item (attribute name options usual) rest) = omega arith
 lessened-nesting zero (item (attribute name options (under inner)) rest) = omega arith
 lessened-nesting zero (item (attribute name options unlimited) rest) = omega arith
 lessened-nesting zero (item (attribute name options (times k)) rest) =
-    elim (nat_le k 1) as (λ b. nesting (cond b rest (item (attribute name options (times (k - 1))) rest)) ≤ max 0 (nesting rest)) [ true ↦ omega arith | false ↦ omega arith ]
+    elim (nat_le k 1) as (λ b. nesting (cond b rest (item (attribute name options (times (k - 1))) rest)) ≤ max 0 (nesting rest)) [
+      | true ↦ omega arith
+      | false ↦ omega arith
+    ]
 lessened-nesting (suc place) (item i rest) = omega (arith, lessened-nesting place rest)
 
 abbrev width : Db → ℕ
@@ -123,18 +144,23 @@ enough (suc room) more db pattern above e low =
     (ap enclosed (equal_inside (tree room db) (tree (room + more) db) db pattern above e
     (record {
       part = λ n off on. enough room more db everything (e ∷ above) n (fits everything n (omega arith) on off);
-      less = λ place n off on. enough room more db (one_less place pattern) (e ∷ above) n (fits (one_less place pattern) n (lessened-nesting place pattern) on off);
+      less =
+          λ place n off on. enough room more db (one_less place pattern) (e ∷ above) n
+          (fits (one_less place pattern) n (lessened-nesting place pattern) on off);
       again = λ n off on. enough room more db pattern (e ∷ above) n (fits pattern n (omega arith) on off);
       inner = λ below n less. enough room more db below [] n (fits_below below n less);
     })))
   where
-    fits : (inner : Pattern) (n : ℕ) → nesting inner ≤ nesting pattern → is_on (entities_of db.seen) n ≡ true → is_on (e ∷ above) n ≡ false → room_for db inner (n ∷ e ∷ above) ≤ room
+    fits : (inner : Pattern) (n : ℕ) → nesting inner ≤ nesting pattern → is_on (entities_of db.seen) n ≡ true → is_on (e ∷ above) n ≡ false
+        → room_for db inner (n ∷ e ∷ above) ≤ room
     fits inner n less on off = omega (arith, low, one_fewer (entities_of db.seen) (e ∷ above) n on off, mul-le-mul_left (width db) less)
 
     fits_below : (below : Pattern) (n : ℕ) → nesting below < nesting pattern → room_for db below (n ∷ []) ≤ room
-    fits_below below n less = omega (arith, low, left-length (entities_of db.seen) (n ∷ []), mul-le-mul_left (width db) less, mul-suc (width db) (nesting below))
+    fits_below below n less =
+        omega (arith, low, left-length (entities_of db.seen) (n ∷ []), mul-le-mul_left (width db) less, mul-suc (width db) (nesting below))
 
-pub levels_are_enough : (db : Db) (pattern : Pattern) (e more : ℕ) → tree (most_levels db pattern + more) db pattern [] e ≡ tree (most_levels db pattern) db pattern [] e
+pub levels_are_enough : (db : Db) (pattern : Pattern) (e more : ℕ)
+    → tree (most_levels db pattern + more) db pattern [] e ≡ tree (most_levels db pattern) db pattern [] e
 levels_are_enough db pattern e more = enough (most_levels db pattern) more db pattern [] e fits
   where
     fits : room_for db pattern (e ∷ []) ≤ most_levels db pattern

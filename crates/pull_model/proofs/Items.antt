@@ -1,10 +1,12 @@
 -- A form is a pattern exactly where it has no bad item.
-use Rattle.std.proofs.Common.{◌≡◌, ℕ, ◌+◌, true, false, cond, is_some, is_none, refl, ap, sym, ◌∙◌, option_map, bytes_eq, codes, Option, Some, None}
+use Rattle.std.proofs.Common.{◌≡◌, ℕ, ◌+◌, true, false, cond, is_some, is_none, refl, ap, sym, ◌∙◌, option_map, bytes_eq, codes, Option}
+use Rattle.std.proofs.Common.{Some, None}
 use Rattle.std.proofs.lemmas.Bool.{true≢false}
 use Rattle.edn_model.specs.Form as edn
 use Rattle.edn_model.specs.Form.{Form, Forms, no_forms, form, Pairs, pair}
 use Rattle.pull_model.specs.Patterns.{Pattern, no_items, item, Item, wildcard, one}
-use Rattle.pull_model.specs.Reading.{both, if_any, item_with_options, specified, specification, below_of, pattern_of, items_of, item_of, specifications_of, first_bad_from, first_bad_item}
+use Rattle.pull_model.specs.Reading.{both, if_any, item_with_options, specified, specification, below_of, pattern_of, items_of, item_of}
+use Rattle.pull_model.specs.Reading.{specifications_of, first_bad_from, first_bad_item}
 
 if_any-twice : (p : Option Pattern) → if_any (if_any p) ≡ if_any p
 if_any-twice None = refl
@@ -22,7 +24,10 @@ if_any-item (edn.boolean b) = refl
 if_any-item (edn.integer z) = refl
 if_any-item (edn.string s) = refl
 if_any-item (edn.symbol s) =
-    elim (bytes_eq s (codes "*")) as (λ b. if_any (cond b (Some (one wildcard)) None) ≡ cond b (Some (one wildcard)) None) [ true ↦ refl | false ↦ refl ]
+    elim (bytes_eq s (codes "*")) as (λ b. if_any (cond b (Some (one wildcard)) None) ≡ cond b (Some (one wildcard)) None) [
+      | true ↦ refl
+      | false ↦ refl
+    ]
 if_any-item (edn.keyword k) = refl
 if_any-item (edn.list fs) = refl
 if_any-item (edn.vector fs) = if_any-one (item_with_options (edn.items fs))
@@ -31,7 +36,8 @@ if_any-item (edn.set fs) = refl
 if_any-item (edn.instant z) = refl
 if_any-item (edn.uuid n) = refl
 
-is_some-both : (a b : Option Pattern) (c : Option ℕ) (place : ℕ) → is_some b ≡ is_none c → is_some (both a b) ≡ is_none (cond (is_some a) c (Some place))
+is_some-both : (a b : Option Pattern) (c : Option ℕ) (place : ℕ) → is_some b ≡ is_none c
+    → is_some (both a b) ≡ is_none (cond (is_some a) c (Some place))
 is_some-both None b c place same = refl
 is_some-both (Some p) None c place same = same
 is_some-both (Some p) (Some q) c place same = same

@@ -1,7 +1,9 @@
 -- What a view has of an entity: the values of its attributes, the entities that refer to it, and
 -- its attributes' names.
 -- Datomic, Pull and Indexes. The order of values and of names is this project's own choice.
-use Rattle.std.specs.Prelude.{◌≡◌, ℕ, Bool, false, not, ◌&&◌, List, [], ◌∷◌, map, filter, filter_map, ◌==◌, nat_eq, if◌then◌else◌, option_map, Option, Some, None}
+use Rattle.std.specs.Prelude.{◌≡◌, ℕ, Bool, false, not, ◌&&◌, List, [], ◌∷◌, map, filter}
+use Rattle.std.specs.Prelude.{filter_map, ◌==◌, nat_eq, if◌then◌else◌, option_map, Option, Some}
+use Rattle.std.specs.Prelude.{None}
 use Rattle.std.specs.Ordering.{is_lt}
 use Rattle.fb_values.specs.Orders.{text_cmp}
 use Rattle.fb_values.specs.declared.facts.Datom.{Datom}
@@ -20,7 +22,7 @@ use Rattle.pull_model.specs.Patterns.{is_reversed}
 
 -- a database value, as a pull reads it
 pub record Db : Type 0 where
-  -- the facts of the whole history without any filter, which tell what an attribute is
+  -- the facts of the whole history without any filter, which say what an attribute is
   pub schema : List Datom
   -- the facts of the view without history, in the order of the index by entity
   pub seen : List Datom

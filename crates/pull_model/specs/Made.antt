@@ -1,6 +1,7 @@
--- What a pull makes: a form or nothing, how many maps were made for it, and how deep they stand.
+-- What a pull makes: a form or nothing, how many maps were made for it, and how deep they are.
 -- This project's own choice; Datomic, Pull, has no such limits.
-use Rattle.std.specs.Prelude.{ℕ, ◌+◌, Bool, true, false, List, [], ◌∷◌, ◌++◌, max, take, filter_map, Option, Some, None}
+use Rattle.std.specs.Prelude.{ℕ, ◌+◌, Bool, true, false, List, [], ◌∷◌, ◌++◌, max, take, filter_map}
+use Rattle.std.specs.Prelude.{Option, Some, None}
 use Rattle.std.specs.Option.{option_or}
 use Rattle.edn_model.specs.Form as edn
 use Rattle.edn_model.specs.Form.{Form, forms, pairs}
@@ -9,11 +10,11 @@ use Rattle.fb_values.specs.declared.facts.Value.TheVariants.{Ref}
 use Rattle.pull_model.specs.Patterns.{own_name, Limit, first, all}
 
 pub record Made : Type 0 where
-  -- nothing where there is nothing to tell
+  -- nothing where there is nothing to give
   pub form : Option Form
   -- the maps made, also those that were left out in the end
   pub maps : ℕ
-  -- how many of them stand one inside another at most
+  -- how many of them are one inside another at most
   pub depth : ℕ
 
 abbrev pub nothing : Made

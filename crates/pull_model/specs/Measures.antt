@@ -1,6 +1,7 @@
--- Words that the laws of pulls are said in: keys in order, paths, and how far a tree can go.
+-- Words that the laws of pulls use: keys in order, paths, and how far a tree can go.
 -- This project's own choice.
-use Rattle.std.specs.Prelude.{◌≡◌, ℕ, ◌+◌, ◌*◌, Bool, true, not, ◌&&◌, List, [], ◌∷◌, ◌++◌, map, filter, filter_map, length, max, nat_eq, ◌⊎◌, ⊤}
+use Rattle.std.specs.Prelude.{◌≡◌, ℕ, ◌+◌, ◌*◌, Bool, true, not, ◌&&◌, List, [], ◌∷◌, ◌++◌, map}
+use Rattle.std.specs.Prelude.{filter, filter_map, length, max, nat_eq, ◌⊎◌, ⊤}
 use Rattle.edn_model.specs.Form.{Form}
 use Rattle.fb_values.specs.declared.facts.Datom.{Datom}
 use Rattle.fb_model.specs.Schema.{entity_in}
@@ -15,7 +16,7 @@ AreInOrder (k ∷ ks) [] = ⊥
 AreInOrder (k ∷ ks) (other ∷ others) =
     ((k ≡ other) × AreInOrder ks others) ⊎ AreInOrder (k ∷ ks) others
 
--- no entity stands on the path twice
+-- no entity is on the path twice
 abbrev pub is_path : List ℕ → Bool
 is_path [] = true
 is_path (n ∷ path) = not (is_on path n) && is_path path
@@ -27,7 +28,7 @@ without_attribute a db =
 
 -- ---- how far a tree can go
 
--- how many patterns stand one inside another
+-- how many patterns are one inside another
 abbrev mutual
   pub nesting : Pattern → ℕ
   nesting no_items = 0

@@ -1,8 +1,9 @@
--- Patterns of a pull as data: items, each with its options, and what is told of the entities under
+-- Patterns of a pull as data: items, each with its options, and what is given of the entities under
 -- an attribute.
 -- Datomic, Pull (attribute specifications, wildcard, attribute with options, map specifications,
 -- recursion).
-use Rattle.std.specs.Prelude.{ℕ, zero, suc, ◌-◌, Bool, List, [], ◌∷◌, bytes_eq, codes, if◌then◌else◌, nat_le, Option, None, unwrap_or}
+use Rattle.std.specs.Prelude.{ℕ, zero, suc, ◌-◌, Bool, List, [], ◌∷◌, bytes_eq, codes}
+use Rattle.std.specs.Prelude.{if◌then◌else◌, nat_le, Option, None, unwrap_or}
 use Rattle.edn_model.specs.Form.{Form, keyword}
 use Rattle.fb_model.specs.Words.{underscore, local_name, begins_with_one_of}
 
@@ -20,7 +21,7 @@ is_reversed name = begins_with_one_of (underscore ∷ []) (local_name name)
 
 -- ---- options
 
--- how many values are told at most
+-- how many values are given at most
 pub data Limit : Type 0 where
   first : ℕ → Limit
   all : Limit
@@ -28,7 +29,7 @@ pub data Limit : Type 0 where
 pub record Options : Type 0 where
   -- the key in place of the name: a keyword or a string
   pub renamed : Option Form
-  -- what stands there where the attribute is absent
+  -- what is given where the attribute is absent
   pub default : Option Form
   pub limit : Option Limit
 
@@ -60,7 +61,7 @@ mutual
     -- the name of an attribute, forward or reversed
     attribute : List ℕ → Options → Below → Item
 
-  -- what is told of each entity that is found under an attribute
+  -- what is given of each entity that is found under an attribute
   pub data Below : Type 0 where
     -- its number, or the whole of it where it is a part
     usual : Below

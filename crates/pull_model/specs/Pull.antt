@@ -1,6 +1,7 @@
 -- A pull: what it gives of an entity in a view by a pattern, and when it is refused.
 -- Datomic, Pull. The refusals are this project's own choice.
-use Rattle.std.specs.Prelude.{◌≡◌, ℕ, Bool, true, false, ◌||◌, List, [], nat_lt, if◌then◌else◌, unwrap_or, Result, Ok, Err}
+use Rattle.std.specs.Prelude.{◌≡◌, ℕ, Bool, true, false, ◌||◌, List, [], nat_lt, if◌then◌else◌}
+use Rattle.std.specs.Prelude.{unwrap_or, Result, Ok, Err}
 use Rattle.edn_model.specs.Form.{Form, nil}
 use Rattle.fb_values.specs.declared.facts.Datom.{Datom}
 use Rattle.fb_values.specs.declared.facts.Entry.{Entry}
@@ -12,7 +13,7 @@ use Rattle.pull_model.specs.Found.{Db, db_of, IsDb}
 use Rattle.pull_model.specs.Made.{Made}
 use Rattle.pull_model.specs.Tree.{tree}
 
--- the most maps of a pull, and the most that may stand around one
+-- the most maps of a pull, and the most that may be around one
 abbrev pub most_maps : ℕ
 most_maps = 65536
 
@@ -27,7 +28,7 @@ is_too_large made = nat_lt most_maps made.maps || nat_lt most_around made.depth
 abbrev pub made_by : Db → Pattern → ℕ → Made
 made_by db pattern e = tree most_around db pattern [] e
 
--- nil where there is nothing to tell
+-- nil where there is nothing to give
 abbrev pub answered : Made → Result Form Reason
 answered made = if is_too_large made then Err TooLarge else Ok (unwrap_or made.form nil)
 

@@ -1,8 +1,13 @@
 -- Which form is which pattern, and the first item that has no such form.
 -- Datomic, Pull (pattern grammar), without its list forms of limit and default and without :xform.
-use Rattle.std.specs.Prelude.{ℕ, ◌+◌, pos, Bool, false, ◌&&◌, List, [], ◌∷◌, bytes_eq, codes, if◌then◌else◌, nat_le, is_some, is_none, option_map, option_and_then, ok_or, unwrap_or, Option, Some, None, Result}
-use Rattle.edn_model.specs.Form.{Form, nil, integer, string, symbol, keyword, vector, map, Forms, no_forms, form, Pairs, no_pairs, pair, items}
-use Rattle.pull_model.specs.Patterns.{Limit, first, all, Options, no_options, Pattern, no_items, item, Item, wildcard, own, attribute, Below, usual, under, times, unlimited, is_own, one, joined}
+use Rattle.std.specs.Prelude.{ℕ, ◌+◌, pos, Bool, false, ◌&&◌, List, [], ◌∷◌, bytes_eq, codes}
+use Rattle.std.specs.Prelude.{if◌then◌else◌, nat_le, is_some, is_none, option_map, option_and_then}
+use Rattle.std.specs.Prelude.{ok_or, unwrap_or, Option, Some, None, Result}
+use Rattle.edn_model.specs.Form.{Form, nil, integer, string, symbol, keyword, vector, map, Forms}
+use Rattle.edn_model.specs.Form.{no_forms, form, Pairs, no_pairs, pair, items}
+use Rattle.pull_model.specs.Patterns.{Limit, first, all, Options, no_options, Pattern, no_items}
+use Rattle.pull_model.specs.Patterns.{item, Item, wildcard, own, attribute, Below, usual, under}
+use Rattle.pull_model.specs.Patterns.{times, unlimited, is_own, one, joined}
 
 -- ---- numbers and names
 

@@ -1,11 +1,15 @@
 -- Histories and forms for the examples. This project's own choice.
-use Rattle.std.specs.Prelude.{ℕ, zero, suc, ◌+◌, ℤ, pos, negsuc, Bool, true, false, List, [], ◌∷◌, ◌++◌, map, codes, Some, None, Result, Ok, Err}
+use Rattle.std.specs.Prelude.{ℕ, zero, suc, ◌+◌, ℤ, pos, negsuc, Bool, true, false, List, [], ◌∷◌}
+use Rattle.std.specs.Prelude.{◌++◌, map, codes, Some, None, Result, Ok, Err}
 use Rattle.edn_model.specs.Form as edn
 use Rattle.edn_model.specs.Form.{Form, forms, pairs}
 use Rattle.fb_values.specs.declared.facts.Datom.{Datom}
 use Rattle.fb_values.specs.declared.facts.Entry.{Entry}
-use Rattle.fb_values.specs.declared.facts.Value.TheVariants.{Keyword, Str, Bool as Boolean, Long, Ref, Uri}
-use Rattle.fb_numbers.specs.Numbers.{user_entity, ident, value_type, cardinality, is_component, type_long, type_string, type_ref, type_uri, cardinality_one, cardinality_many}
+use Rattle.fb_values.specs.declared.facts.Value.TheVariants.{Keyword, Str, Bool as Boolean, Long}
+use Rattle.fb_values.specs.declared.facts.Value.TheVariants.{Ref, Uri}
+use Rattle.fb_numbers.specs.Numbers.{user_entity, ident, value_type, cardinality, is_component}
+use Rattle.fb_numbers.specs.Numbers.{type_long, type_string, type_ref, type_uri, cardinality_one}
+use Rattle.fb_numbers.specs.Numbers.{cardinality_many}
 use Rattle.fb_model.specs.FirstEntry.{first_entry}
 use Rattle.fb_model.specs.Facts.{facts}
 use Rattle.read_refusals.specs.declared.reasons.Reason.{Reason}
@@ -15,7 +19,8 @@ use Rattle.view_model.specs.Samples.{datom, entry_at, texts}
 use Rattle.pull_model.specs.Found.{Db, db_of}
 use Rattle.pull_model.specs.Pull.{pull, pulled, made_by}
 use Rattle.pull_model.specs.Reading.{pattern_in}
-use Rattle.pull_model.specs.Patterns.{Options, no_options, Limit, Pattern, no_items, item, Item, own, attribute, Below, usual, unlimited}
+use Rattle.pull_model.specs.Patterns.{Options, no_options, Limit, Pattern, no_items, item, Item}
+use Rattle.pull_model.specs.Patterns.{own, attribute, Below, usual, unlimited}
 use Rattle.pull_model.specs.Made.{Made}
 
 -- ---- forms
@@ -182,15 +187,15 @@ nameless_friend =
     ∷ [])
     ∷ []
 
--- the pair that tells a name
+-- the pair that gives a name
 abbrev pub name_is : List ℕ → Form × Form
 name_is s = (name, text s)
 
--- the pair that tells the one friend
+-- the pair that gives the one friend
 abbrev pub friend_is : Form → Form × Form
 friend_is f = (friend, only f)
 
--- the pair that tells the one whose friend it is
+-- the pair that gives the one whose friend it is
 abbrev pub friend_of_is : Form → Form × Form
 friend_of_is f = (friend_of, only f)
 
@@ -244,7 +249,7 @@ order_facts =
 abbrev pub line_form : ℕ → List ℕ → Form
 line_form n s = map_of ((id, int n) ∷ (sku, text s) ∷ [])
 
--- both lines as they are told whole
+-- both lines as they are given whole
 abbrev pub both_lines : Form
 both_lines = vector (line_form first_line (codes "A") ∷ line_form second_line (codes "B") ∷ [])
 
@@ -311,7 +316,7 @@ circle =
     ++ entry_at 2 2000 (has_part left right ∷ is_next_to left right ∷ has_part right left ∷ [])
     ∷ []
 
--- the right, which is told inside the left, with the left in it again
+-- the right, which is given inside the left, with the left in it again
 abbrev pub right_in_left : Form
 right_in_left = map_of ((id, int right) ∷ (part, only (entity left)) ∷ [])
 
@@ -410,7 +415,7 @@ numbers_hidden_below_0 n =
 abbrev pub number_forms : List ℤ → List Form
 number_forms zs = map (λ z. edn.integer z) zs
 
--- the user entities from the third on, each next to the one behind it, so many
+-- the user entities from the third on, each next to the one after it, so many
 abbrev pub chain : ℕ → Db
 chain n =
     record {

@@ -1,15 +1,19 @@
 -- The tree that a pattern gives of an entity.
--- Datomic, Pull. What `*` stands for beside other items, skipped keys, and what is told at a cycle
+-- Datomic, Pull. What `*` stands for beside other items, skipped keys, and what is given at a cycle
 -- and at the end of a recursion are this project's own choice.
-use Rattle.std.specs.Prelude.{ℕ, ◌+◌, zero, suc, Bool, true, false, not, ◌||◌, List, [], ◌∷◌, ◌++◌, map, filter, fold, nat_eq, bytes_eq, None}
+use Rattle.std.specs.Prelude.{ℕ, ◌+◌, zero, suc, Bool, true, false, not, ◌||◌, List, [], ◌∷◌, ◌++◌}
+use Rattle.std.specs.Prelude.{map, filter, fold, nat_eq, bytes_eq, None}
 use Rattle.std.specs.List.{list_any}
 use Rattle.edn_model.specs.Form.{Form, keyword}
 use Rattle.edn_model.specs.Likeness.{alike}
 use Rattle.edn_values.specs.Values.{form_of_value}
 use Rattle.fb_values.specs.declared.facts.Value.TheVariants.{Ref}
-use Rattle.pull_model.specs.Patterns.{own_name, Options, no_options, limit_of, key_of, Limit, first, Pattern, no_items, item, Item, wildcard, own, attribute, Below, usual, under, times, unlimited, everything, one_less}
+use Rattle.pull_model.specs.Patterns.{own_name, Options, no_options, limit_of, key_of, Limit, first}
+use Rattle.pull_model.specs.Patterns.{Pattern, no_items, item, Item, wildcard, own, attribute}
+use Rattle.pull_model.specs.Patterns.{Below, usual, under, times, unlimited, everything, one_less}
 use Rattle.pull_model.specs.Found.{Db, Found, absent, values, entities, found, names_of_entity}
-use Rattle.pull_model.specs.Made.{Made, nothing, plain, stub, limited, gathered, or_default, Inside, no_pairs_yet, with_pair, enclosed}
+use Rattle.pull_model.specs.Made.{Made, nothing, plain, stub, limited, gathered, or_default, Inside}
+use Rattle.pull_model.specs.Made.{no_pairs_yet, with_pair, enclosed}
 
 -- ---- the items, in order
 
@@ -40,20 +44,22 @@ items_from db e pattern place (item i rest) = (place, i) ∷ items_from db e pat
 abbrev pub is_on : List ℕ → ℕ → Bool
 is_on path n = list_any (nat_eq n) path
 
--- of an entity that is met again its number alone is told; `trees` makes the trees inside this one,
--- of a pattern and an entity with the path to it
+-- of an entity that is met again its number alone is given;
+-- `trees` makes the trees inside this one, of a pattern and an entity with the path to it
 abbrev pub unless_met : Bool → (Pattern → List ℕ → ℕ → Made) → Pattern → List ℕ → ℕ → Made
 unless_met true trees pattern path n = stub n
 unless_met false trees pattern path n = trees pattern path n
 
 -- an entity under the item at the place; a pattern under an attribute has a path of its own
-abbrev pub told : (Pattern → List ℕ → ℕ → Made) → Pattern → ℕ → List ℕ → Bool → Below → ℕ → Made
-told trees pattern place path true usual n = unless_met (is_on path n) trees everything path n
-told trees pattern place path false usual n = stub n
-told trees pattern place path parts (under inner) n = trees inner [] n
-told trees pattern place path parts (times k) n =
+abbrev pub pull_below : (Pattern → List ℕ → ℕ → Made) → Pattern → ℕ → List ℕ → Bool → Below → ℕ
+    → Made
+pull_below trees pattern place path true usual n = unless_met (is_on path n) trees everything path n
+pull_below trees pattern place path false usual n = stub n
+pull_below trees pattern place path parts (under inner) n = trees inner [] n
+pull_below trees pattern place path parts (times k) n =
     unless_met (is_on path n) trees (one_less place pattern) path n
-told trees pattern place path parts unlimited n = unless_met (is_on path n) trees pattern path n
+pull_below trees pattern place path parts unlimited n =
+    unless_met (is_on path n) trees pattern path n
 
 -- ---- the value of an item
 
@@ -61,7 +67,7 @@ abbrev pub limit_for : Bool → Options → Limit
 limit_for true options = limit_of options
 limit_for false options = first 1
 
--- plain values stand as they are; the limit comes before what is left out
+-- plain values are as they are; the limit comes before what is left out
 abbrev pub value_of : (Pattern → List ℕ → ℕ → Made) → Pattern → ℕ → List ℕ → Options → Below → Found
     → Made
 value_of trees pattern place path options below absent = nothing
@@ -69,7 +75,7 @@ value_of trees pattern place path options below (values several vs) =
     gathered several (map (λ v. plain (form_of_value v)) (limited (limit_for several options) vs))
 value_of trees pattern place path options below (entities several parts ns) =
     gathered several
-    (map (told trees pattern place path parts below) (limited (limit_for several options) ns))
+    (map (pull_below trees pattern place path parts below) (limited (limit_for several options) ns))
 
 -- of the item at the place, for the last entity of the path
 abbrev pub made_of : (Pattern → List ℕ → ℕ → Made) → Db → Pattern → List ℕ → ℕ → ℕ → Item → Made
@@ -89,7 +95,7 @@ key_of_item (attribute name options below) = key_of name options
 abbrev pub has_key : List (Form × Form) → Form → Bool
 has_key pairs key = list_any (λ p. alike key p.0) pairs
 
--- an item whose key stands already is skipped
+-- an item whose key is there already is skipped
 abbrev pub unless_there : Bool → (ℕ → Item → Made) → Inside → ℕ → Item → Inside
 unless_there true made inside place i = inside
 unless_there false made inside place i = with_pair inside (key_of_item i) (made place i)
@@ -104,11 +110,11 @@ inside trees db pattern above e =
 
 -- ---- the tree
 
--- a map that stands too deep, of which nothing more is looked at
+-- a map that is too deep, of which nothing more is looked at
 abbrev pub too_deep : Made
 too_deep = record { form = None; maps = 1; depth = 1 }
 
--- the tree of the entity e, which was come to by the path `above`, where maps may stand inside one
+-- the tree of the entity e, which was come to by the path `above`, where maps may be inside one
 -- another so many times
 abbrev pub tree : ℕ → Db → Pattern → List ℕ → ℕ → Made
 tree zero db pattern above e = too_deep

@@ -1,4 +1,4 @@
-//! Examples, by computation: recursion and its path, and parts that are told whole.
+//! Examples, by computation: recursion and its path, and parts that are given whole.
 ghost use Rattle.std.specs.Prelude.{◌≡◌, [], ◌∷◌, codes, Ok};
 ghost use Rattle.fb_model.specs.Lawful.{IsLawful};
 ghost use Rattle.pull_model.specs.Samples.{text, int, vector, map_of, star, dots, id, below, entity, tree_of, name, friend, friend_of, friends, nameless_friend, lines, order_of, sku, orders, part, next, circle, with_default, only, ann, ben, cleo, name_is, friend_is, friend_of_is, named, the_order, first_line, both_lines, left, right_in_left};
@@ -48,7 +48,7 @@ pub fn paths()
         ∷ [])))) }
 {}
 
-/// Parts are told whole, unless they stand on the path; a pattern from a part to its whole and back
+/// Parts are given whole, unless they are on the path; a pattern from a part to its whole and back
 /// begins anew.
 pub fn parts()
     ensures lawful { IsLawful circle }

@@ -82,7 +82,7 @@ pub fn defaults()
         ≡ Ok (below (key (codes "f/_name")) (vector [])) }
 {}
 
-/// An item is skipped where its key stands; a limit counts before what is left out; a pattern below
+/// An item is skipped where its key is there already; a limit counts before what is left out; a pattern below
 /// values is ignored.
 pub fn skipped_items()
     ensures lawful { IsLawful nameless_friend }

@@ -19,7 +19,7 @@ ghost use Rattle.pull_model.specs.Patterns.{Options, Pattern, Item, attribute, B
 ghost use Rattle.pull_model.specs.Reading.{pattern_of, first_bad_item};
 ghost use Rattle.pull_model.specs.Found.{Db, IsDb, meant, put_name};
 ghost use Rattle.pull_model.specs.Made.{Made, Inside, nothing, limited, collected, or_default, maps_made, depth_made, enclosed};
-ghost use Rattle.pull_model.specs.Tree.{items_from, told, with_item, key_of_item, made_of, inside, tree};
+ghost use Rattle.pull_model.specs.Tree.{items_from, pull_below, with_item, key_of_item, made_of, inside, tree};
 ghost use Rattle.pull_model.specs.Measures.{AreInOrder, is_path, without_attribute, most_levels};
 ghost use Rattle.pull_model.specs.Pull.{most_around, answered, pulled, pull, IsPulled};
 
@@ -30,7 +30,7 @@ pub fn a_pattern_has_no_bad_item()
     ensures { (form : Form) → is_some (pattern_of form) ≡ is_none (first_bad_item form) }
 {}
 
-/// The keys of a tree stand in the order of the items, and no two are alike.
+/// The keys of a tree are in the order of the items, and no two are alike.
 pub fn keys_stand_once_and_in_the_order_of_items()
     ensures once { (trees : Pattern → List ℕ → ℕ → Made) (db : Db) (pattern : Pattern)
         (above : List ℕ) (e : ℕ)
@@ -41,7 +41,7 @@ pub fn keys_stand_once_and_in_the_order_of_items()
         (map (λ p. key_of_item p.1) (items_from db e pattern 0 pattern)) }
 {}
 
-/// An attribute whose facts a filter hides is told as the name of no attribute is: by its default
+/// An attribute whose facts a filter hides is given as the name of no attribute is: by its default
 /// or not at all.
 pub fn a_hidden_attribute_is_absent()
     ensures hidden { (trees : Pattern → List ℕ → ℕ → Made) (db : Db) (pattern : Pattern)
@@ -70,7 +70,7 @@ pub fn a_limit_counts_after_the_filters()
         options.default }
 {}
 
-/// No entity stands twice on a path: how trees are made where one does tells in nothing.
+/// No entity is on a path twice, so it makes no difference how trees would be made there.
 pub fn no_entity_is_twice_on_a_path()
     ensures { (trees others : Pattern → List ℕ → ℕ → Made) (db : Db) (pattern : Pattern)
         (above : List ℕ) (e : ℕ)
@@ -88,7 +88,7 @@ pub fn a_tree_is_finite()
         ≡ tree (most_levels db pattern) db pattern [] e }
 {}
 
-/// What a map inside 256 others holds tells in nothing: with more room the answer is the same.
+/// What a map inside 256 others holds makes no difference: with more room the answer is the same.
 pub fn the_room_is_enough()
     ensures { (db : Db) (pattern : Pattern) (e more : ℕ)
         → answered (tree (most_around + more) db pattern [] e)
@@ -132,8 +132,8 @@ pub fn counts_only_grow()
         × (depth_made (before ++ more) ≡ max (depth_made before) (depth_made more)) }
     ensures each { (room : ℕ) (db : Db) (pattern : Pattern) (place : ℕ) (path : List ℕ)
         (parts : Bool) (below : Below) (n : ℕ)
-        → (1 ≤ (told (tree room db) pattern place path parts below n).maps)
-        × (1 ≤ (told (tree room db) pattern place path parts below n).depth) }
+        → (1 ≤ (pull_below (tree room db) pattern place path parts below n).maps)
+        × (1 ≤ (pull_below (tree room db) pattern place path parts below n).depth) }
 {}
 
 /// A name that is put in order twice is there once: of several datoms of one attribute one is

@@ -39,7 +39,7 @@ pub fn hidden_idents()
     ensures number_of_no_entity { tree_of friends (name ∷ []) 99 ≡ Ok nil }
 {}
 
-/// A chain of entities, each told inside the one before: 256 are told, and one more stands too
+/// A chain of entities, each given inside the one before: 256 are given, and one more is too
 /// deep.
 pub fn a_long_chain()
     ensures as_long_as_may_be { is_too_large (made_by (chain 255) all_behind (user_entity 3))

@@ -23,7 +23,7 @@ pub fn under_filters()
         ≡ Ok nil }
 {}
 
-/// A uri is told as a string.
+/// A uri is given as a string.
 pub fn a_home_page()
     ensures lawful { IsLawful homes }
     ensures told { tree_of homes (star ∷ []) (user_entity 1)
@@ -34,7 +34,7 @@ pub fn a_home_page()
         ∷ [])) }
 {}
 
-/// A key in place of a name, and what stands for an attribute that the entity has not.
+/// A key in place of a name, and what is given for an attribute that the entity has not.
 pub fn names_and_defaults()
     ensures { tree_of texts
         (renamed doc_word (text (codes "d")) ∷ with_default unknown (int 0) ∷ []) (user_entity 1)
@@ -48,7 +48,7 @@ pub fn one_by_its_email()
     ensures told { tree_of emails (id ∷ []) (user_entity 3) ≡ Ok (entity (user_entity 3)) }
 {}
 
-/// Of an entity that was retracted nothing is told.
+/// Of an entity that was retracted nothing is given.
 pub fn a_retracted_entity()
     ensures lawful { IsLawful orders_retracted }
     ensures before { tree_of orders (sku ∷ []) first_line ≡ Ok (below sku (text (codes "A"))) }

@@ -1,5 +1,6 @@
 -- Patterns that are put together from the forms of a vector, or from the pairs of a map.
-use Rattle.std.proofs.Common.{◌≡◌, ◌≢◌, ℕ, ◌+◌, ◌<◌, ◌≤◌, List, [], ◌∷◌, ◌++◌, length, drop, get_or, refl, ap, sym, subst, ◌∙◌, true, false, cond, ◌==◌, is_some, option_map, ok_or, ap₂, Option, Some, None, Ok, Err}
+use Rattle.std.proofs.Common.{◌≡◌, ◌≢◌, ℕ, ◌+◌, ◌<◌, ◌≤◌, List, [], ◌∷◌, ◌++◌, length, drop, get_or, refl, ap, sym, subst, ◌∙◌, true, false}
+use Rattle.std.proofs.Common.{cond, ◌==◌, is_some, option_map, ok_or, ap₂, Option, Some, None, Ok, Err}
 use Rattle.std.specs.Prelude.{unwrap_or}
 use Rattle.std.proofs.lemmas.List.{drop_more, drop_all}
 use Rattle.std.proofs.lemmas.Bool.{true≢false}
@@ -9,10 +10,11 @@ use Rattle.edn_form.specs.declared.form.Items.{Items}
 use Rattle.edn_form.specs.View.{form_of, forms_of, pairs_of, members}
 use Rattle.edn_form.proofs.Views.{form_of-Vector, items-forms}
 use Rattle.pull_model.specs.Patterns.{Pattern, no_items, item, one, joined}
-use Rattle.pull_model.specs.Reading.{both, if_any, item_with_options, items_of, item_of, specification, specified, specifications_of, below_of, first_bad_from, pattern_in}
+use Rattle.pull_model.specs.Reading.{both, if_any, item_with_options, items_of, item_of, specification, specified, specifications_of}
+use Rattle.pull_model.specs.Reading.{below_of, first_bad_from, pattern_in}
 use Rattle.pull_model.proofs.Items.{if_any-items, if_any-specifications}
 use Rattle.pull_pattern.specs.declared.patterns.Item.{Item}
-use Rattle.pull_pattern.specs.View.{item_in, pattern_of}
+use Rattle.pull_pattern.specs.View.{model_item, pattern_of}
 
 joined-nil : (p : Pattern) → joined p no_items ≡ p
 joined-nil no_items = refl
@@ -24,7 +26,7 @@ joined-assoc (item i rest) q r = ap (item i) (joined-assoc rest q r)
 
 pub of_append : (xs ys : List Item) → pattern_of (xs ++ ys) ≡ joined (pattern_of xs) (pattern_of ys)
 of_append [] ys = refl
-of_append (x ∷ xs) ys = ap (item (item_in x)) (of_append xs ys)
+of_append (x ∷ xs) ys = ap (item (model_item x)) (of_append xs ys)
 
 both-assoc : (p q r : Option Pattern) → both (both p q) r ≡ both p (both q r)
 both-assoc None q r = refl

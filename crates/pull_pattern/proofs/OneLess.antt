@@ -1,11 +1,12 @@
 -- A pattern with one less for the number of one of its items, put together from three parts.
-use Rattle.std.proofs.Common.{◌≡◌, ℕ, zero, suc, ◌+◌, ◌-◌, ◌<◌, ◌≤◌, true, false, cond, nat_le, List, [], ◌∷◌, ◌++◌, length, take, drop, get_or, refl, ap, sym, ◌∙◌, arith, option_to_list, Some, None}
+use Rattle.std.proofs.Common.{◌≡◌, ℕ, zero, suc, ◌+◌, ◌-◌, ◌<◌, ◌≤◌, true, false, cond, nat_le, List, [], ◌∷◌, ◌++◌, length, take, drop}
+use Rattle.std.proofs.Common.{get_or, refl, ap, sym, ◌∙◌, arith, option_to_list, Some, None}
 use Rattle.std.proofs.lemmas.List.{append_assoc}
 use Rattle.pull_model.specs.Patterns as model
 use Rattle.pull_model.specs.Patterns.{wildcard, own, attribute, usual, under, times, unlimited, one_less}
 use Rattle.pull_pattern.specs.declared.patterns.Item.{Item}
 use Rattle.pull_pattern.specs.Items.{lessened}
-use Rattle.pull_pattern.specs.View.{item_in, items_in, pattern_from, pattern_of}
+use Rattle.pull_pattern.specs.View.{model_item, model_items, pattern_from, pattern_of}
 
 abbrev left : model.Item → List model.Item
 left i = option_to_list (lessened i)
@@ -22,31 +23,31 @@ less_first (attribute name options (times n)) is =
     [ true ↦ refl | false ↦ refl ]
 
 less_at : (items : List Item) (place : ℕ) (i : Item) → place < length items → i ≡ get_or items place i
-    → pattern_from (items_in (take place items) ++ (left (item_in i) ++ items_in (drop (place + 1) items)))
+    → pattern_from (model_items (take place items) ++ (left (model_item i) ++ model_items (drop (place + 1) items)))
     ≡ one_less place (pattern_of items)
 less_at [] place i below is = absurd (omega (arith, below))
 less_at (j ∷ items) zero i below is =
-    sym (less_first (item_in i) (items_in items)) ∙ ap (λ k. one_less 0 (pattern_from (item_in k ∷ items_in items))) is
+    sym (less_first (model_item i) (model_items items)) ∙ ap (λ k. one_less 0 (pattern_from (model_item k ∷ model_items items))) is
 less_at (j ∷ items) (suc place) i below is =
     let next : suc place + 1 ≡ suc (place + 1) = omega arith in
-    ap (λ n. pattern_from (items_in (take (suc place) (j ∷ items)) ++ (left (item_in i) ++ items_in (drop n (j ∷ items))))) next
-    ∙ ap (model.item (item_in j)) (less_at items place i (omega arith) is)
+    ap (λ n. pattern_from (model_items (take (suc place) (j ∷ items)) ++ (left (model_item i) ++ model_items (drop n (j ∷ items))))) next
+    ∙ ap (model.item (model_item j)) (less_at items place i (omega arith) is)
 
 pub less_past : (items : List Item) (place : ℕ) → length items ≤ place → pattern_of items ≡ one_less place (pattern_of items)
 less_past [] place past = refl
 less_past (j ∷ items) zero past = absurd (omega (arith, past))
-less_past (j ∷ items) (suc place) past = ap (model.item (item_in j)) (less_past items place (omega arith))
+less_past (j ∷ items) (suc place) past = ap (model.item (model_item j)) (less_past items place (omega arith))
 
 -- the three parts one after another
 pub less_made : (items none front middle list : List Item) (place : ℕ) (i : Item)
     → place < length items → i ≡ get_or items place i → none ≡ []
-    → items_in front ≡ items_in none ++ items_in (take place items) → items_in middle ≡ items_in front ++ left (item_in i)
-    → items_in list ≡ items_in middle ++ items_in (drop (place + 1) items)
+    → model_items front ≡ model_items none ++ model_items (take place items) → model_items middle ≡ model_items front ++ left (model_item i)
+    → model_items list ≡ model_items middle ++ model_items (drop (place + 1) items)
     → pattern_of list ≡ one_less place (pattern_of items)
 less_made items none front middle list place i below is empty fronts middles lists =
     ap pattern_from
     (lists
-    ∙ ap (λ l. l ++ items_in (drop (place + 1) items))
-    (middles ∙ ap (λ l. l ++ left (item_in i)) (fronts ∙ ap (λ l. items_in l ++ items_in (take place items)) empty))
-    ∙ append_assoc (items_in (take place items)) (left (item_in i)) (items_in (drop (place + 1) items)))
+    ∙ ap (λ l. l ++ model_items (drop (place + 1) items))
+    (middles ∙ ap (λ l. l ++ left (model_item i)) (fronts ∙ ap (λ l. model_items l ++ model_items (take place items)) empty))
+    ∙ append_assoc (model_items (take place items)) (left (model_item i)) (model_items (drop (place + 1) items)))
     ∙ less_at items place i below is

@@ -5,7 +5,7 @@ use Rattle.std.specs.Result.{IsErrAnd}
 use Rattle.pull_model.specs.Patterns.{Pattern}
 use Rattle.pull_pattern.specs.declared.stops.Stop.{Stop}
 use Rattle.pull_pattern.specs.declared.stops.Stop.TheVariants.{OtherForm, Memory}
-use Rattle.pull_pattern.specs.Answers.{Refuses, Reads, placed}
+use Rattle.pull_pattern.specs.Answers.{Refuses, ReadsPattern, placed}
 
 refuses : {M N : Type 0} (stop : Stop) (o : Option M) (answer : Option N)
     → (o ≡ None → answer ≡ None) → Refuses stop o → Refuses stop answer
@@ -21,6 +21,6 @@ refused_again (Err e) stop o answer is refused none = refuses e o answer none (s
 -- the item at the place is none
 pub refused_at : {M : Type 0} (place : ℕ) (stop : Stop) (o : Option M) (answer : Result Pattern ℕ)
     → Refuses stop o → (o ≡ None → answer ≡ Err place)
-    → Reads answer (Err (placed place stop))
+    → ReadsPattern answer (Err (placed place stop))
 refused_at place OtherForm o answer refused none = none refused
 refused_at place Memory o answer refused none = tt

@@ -4,17 +4,18 @@
 use Rattle.std.specs.Prelude.{◌≡◌, ℕ, Option, Some, None, Result, Ok, Err}
 use Rattle.pull_model.specs.Patterns as model
 use Rattle.pull_pattern.specs.declared.patterns.Pattern.{Pattern}
-use Rattle.pull_pattern.specs.View.{pattern_in}
+use Rattle.pull_pattern.specs.View.{model_pattern}
 use Rattle.pull_pattern.specs.declared.stops.PatternStop.{PatternStop}
-use Rattle.pull_pattern.specs.declared.stops.PatternStop.TheVariants.{BadPattern, Memory as NoMemory}
+use Rattle.pull_pattern.specs.declared.stops.PatternStop.TheVariants.{BadPattern}
+use Rattle.pull_pattern.specs.declared.stops.PatternStop.TheVariants.{Memory as NoMemory}
 use Rattle.pull_pattern.specs.declared.stops.Stop.{Stop}
 use Rattle.pull_pattern.specs.declared.stops.Stop.TheVariants.{OtherForm, Memory}
 
 -- the pattern, or the place of the first item of another form
-abbrev pub Reads : Result model.Pattern ℕ → Result Pattern PatternStop → Type 0
-Reads answer (Ok pattern) = answer ≡ Ok (pattern_in pattern)
-Reads answer (Err (BadPattern item)) = answer ≡ Err item
-Reads answer (Err NoMemory) = Unit {0}
+abbrev pub ReadsPattern : Result model.Pattern ℕ → Result Pattern PatternStop → Type 0
+ReadsPattern answer (Ok pattern) = answer ≡ Ok (model_pattern pattern)
+ReadsPattern answer (Err (BadPattern item)) = answer ≡ Err item
+ReadsPattern answer (Err NoMemory) = Unit {0}
 
 -- a part was refused since the definition gives none, or memory ran out
 abbrev pub Refuses : {M : Type 0} → Stop → Option M → Type 0
@@ -26,7 +27,7 @@ abbrev pub Gives : {T M : Type 0} → (T → M) → Option M → Result T Stop �
 Gives seen answer (Ok part) = answer ≡ Some (seen part)
 Gives seen answer (Err stop) = Refuses stop answer
 
--- the same of the whole pattern, whose item at the place it was
+-- why the whole pattern was not read, whose item at the place it was
 abbrev pub placed : ℕ → Stop → PatternStop
 placed item OtherForm = BadPattern item
 placed item Memory = NoMemory

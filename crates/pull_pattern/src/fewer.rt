@@ -2,7 +2,7 @@
 ghost use Rattle.std.specs.Prelude.{◌≡◌, ◌++◌, option_map, option_to_list, IfOk};
 ghost use Rattle.pull_model.specs.Patterns as model;
 ghost use Rattle.pull_pattern.specs.Items.{lessened};
-ghost use Rattle.pull_pattern.specs.View.{item_in, items_in, pattern_in};
+ghost use Rattle.pull_pattern.specs.View.{model_item, model_items, model_pattern};
 
 use crate::patterns::{Below, Item, Pattern};
 use fb_memory::Memory;
@@ -12,7 +12,7 @@ impl Pattern {
     /// The pattern with one less for the number of the item at the place, and without that item where it is used up.
     /// What is below the items is shared.
     pub fn one_less(&self, alloc: Global, place: usize) -> Result<Pattern, Memory>
-        ensures { IfOk result (λ p. pattern_in p ≡ model.one_less place (pattern_in self.now)) }
+        ensures { IfOk result (λ p. model_pattern p ≡ model.one_less place (model_pattern self.now)) }
     {
         let items = self.items();
         let Some(item) = items.get(place) else {
@@ -28,7 +28,7 @@ impl Pattern {
 
 fn add_copies(list: &mut Vec<Item>, items: &[Item]) -> Result<(), Memory>
     ensures { IfOk result
-        (λ _. items_in list.new.items ≡ items_in list.old.items ++ items_in items.now) }
+        (λ _. model_items list.new.items ≡ model_items list.old.items ++ model_items items.now) }
 {
     for item in items {
         list.push(item.copy()?)?;
@@ -38,8 +38,8 @@ fn add_copies(list: &mut Vec<Item>, items: &[Item]) -> Result<(), Memory>
 
 /// Adds the item with one less for its number, and nothing where that is used up.
 fn add_lessened(list: &mut Vec<Item>, item: &Item) -> Result<(), Memory>
-    ensures { IfOk result (λ _. items_in list.new.items
-        ≡ items_in list.old.items ++ option_to_list (lessened (item_in item.now))) }
+    ensures { IfOk result (λ _. model_items list.new.items
+        ≡ model_items list.old.items ++ option_to_list (lessened (model_item item.now))) }
 {
     if let Some(fewer) = with_one_less(item)? {
         list.push(fewer)?;
@@ -48,7 +48,7 @@ fn add_lessened(list: &mut Vec<Item>, item: &Item) -> Result<(), Memory>
 }
 
 fn with_one_less(item: &Item) -> Result<Option<Item>, Memory>
-    ensures { IfOk result (λ fewer. option_map item_in fewer ≡ lessened (item_in item.now)) }
+    ensures { IfOk result (λ fewer. option_map model_item fewer ≡ lessened (model_item item.now)) }
 {
     Ok(match item {
         Item::Attribute {

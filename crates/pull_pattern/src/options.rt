@@ -4,7 +4,7 @@ ghost use Rattle.std.specs.Option.{option_map};
 ghost use Rattle.edn_form.specs.View.{form_of, forms_of};
 ghost use Rattle.pull_model.specs.Reading as reading;
 ghost use Rattle.pull_pattern.specs.Answers.{Gives, Refuses};
-ghost use Rattle.pull_pattern.specs.View.{label_in, limit_in, options_in, option_in};
+ghost use Rattle.pull_pattern.specs.View.{model_label, model_limit, model_options, model_option};
 
 use crate::patterns::{Label, Limit, Options};
 use crate::stops::Stop;
@@ -34,10 +34,10 @@ pub fn count_in(f: &Edn) -> Option<u32>
 
 /// Adds the options that the forms give to those that are given so far.
 pub fn add_options(alloc: Global, options: &mut Options, forms: &[Edn]) -> Result<(), Stop>
-    ensures given { IfOk result (λ _. Some (options_in options.new)
-        ≡ reading.options_from (options_in options.old) (forms_of forms.now)) }
+    ensures given { IfOk result (λ _. Some (model_options options.new)
+        ≡ reading.options_from (model_options options.old) (forms_of forms.now)) }
     ensures refused { IfErr result (λ stop. Refuses stop
-        (reading.options_from (options_in options.old) (forms_of forms.now))) }
+        (reading.options_from (model_options options.old) (forms_of forms.now))) }
 {
     match forms {
         [] => Ok(()),
@@ -50,11 +50,11 @@ pub fn add_options(alloc: Global, options: &mut Options, forms: &[Edn]) -> Resul
 }
 
 fn add_option(alloc: Global, options: &mut Options, name: &Edn, value: &Edn) -> Result<(), Stop>
-    ensures given { IfOk result (λ _. Some (options_in options.new)
-        ≡ reading.with_option (options_in options.old) (reading.option_name_in (form_of name.now))
+    ensures given { IfOk result (λ _. Some (model_options options.new)
+        ≡ reading.with_option (model_options options.old) (reading.option_name_in (form_of name.now))
         (form_of value.now)) }
     ensures refused { IfErr result (λ stop. Refuses stop
-        (reading.with_option (options_in options.old) (reading.option_name_in (form_of name.now))
+        (reading.with_option (model_options options.old) (reading.option_name_in (form_of name.now))
         (form_of value.now))) }
 {
     match option_name_in(name) {
@@ -66,7 +66,7 @@ fn add_option(alloc: Global, options: &mut Options, name: &Edn, value: &Edn) -> 
 }
 
 fn option_name_in(f: &Edn) -> Option<OptionName>
-    ensures { option_map option_in result ≡ reading.option_name_in (form_of f.now) }
+    ensures { option_map model_option result ≡ reading.option_name_in (form_of f.now) }
 {
     match f {
         Edn::Key(k) => option_named(k.as_str()),
@@ -75,7 +75,7 @@ fn option_name_in(f: &Edn) -> Option<OptionName>
 }
 
 fn option_named(k: &str) -> Option<OptionName>
-    ensures { option_map option_in result ≡ reading.option_name_of k.now }
+    ensures { option_map model_option result ≡ reading.option_name_of k.now }
 {
     if k == "as" {
         Some(OptionName::As)
@@ -89,10 +89,10 @@ fn option_named(k: &str) -> Option<OptionName>
 }
 
 fn rename(options: &mut Options, value: &Edn) -> Result<(), Stop>
-    ensures given { IfOk result (λ _. Some (options_in options.new)
-        ≡ reading.with_option (options_in options.old) (Some reading.as_name) (form_of value.now)) }
+    ensures given { IfOk result (λ _. Some (model_options options.new)
+        ≡ reading.with_option (model_options options.old) (Some reading.as_name) (form_of value.now)) }
     ensures refused { IfErr result (λ stop. Refuses stop
-        (reading.with_option (options_in options.old) (Some reading.as_name) (form_of value.now))) }
+        (reading.with_option (model_options options.old) (Some reading.as_name) (form_of value.now))) }
 {
     if options.renamed.is_some() {
         return Err(Stop::OtherForm);
@@ -102,7 +102,7 @@ fn rename(options: &mut Options, value: &Edn) -> Result<(), Stop>
 }
 
 fn label_of(f: &Edn) -> Result<Label, Stop>
-    ensures { Gives label_in (reading.key_in (form_of f.now)) result }
+    ensures { Gives model_label (reading.key_in (form_of f.now)) result }
 {
     match f {
         Edn::Key(k) => Ok(Label::Key(k.copy()?)),
@@ -112,11 +112,11 @@ fn label_of(f: &Edn) -> Result<Label, Stop>
 }
 
 fn add_default(alloc: Global, options: &mut Options, value: &Edn) -> Result<(), Stop>
-    ensures given { IfOk result (λ _. Some (options_in options.new)
-        ≡ reading.with_option (options_in options.old) (Some reading.default_name)
+    ensures given { IfOk result (λ _. Some (model_options options.new)
+        ≡ reading.with_option (model_options options.old) (Some reading.default_name)
         (form_of value.now)) }
     ensures refused { IfErr result (λ stop. Refuses stop
-        (reading.with_option (options_in options.old) (Some reading.default_name)
+        (reading.with_option (model_options options.old) (Some reading.default_name)
         (form_of value.now))) }
 {
     if options.default.is_some() {
@@ -127,11 +127,11 @@ fn add_default(alloc: Global, options: &mut Options, value: &Edn) -> Result<(), 
 }
 
 fn add_limit(options: &mut Options, value: &Edn) -> Result<(), Stop>
-    ensures given { IfOk result (λ _. Some (options_in options.new)
-        ≡ reading.with_option (options_in options.old) (Some reading.limit_name)
+    ensures given { IfOk result (λ _. Some (model_options options.new)
+        ≡ reading.with_option (model_options options.old) (Some reading.limit_name)
         (form_of value.now)) }
     ensures refused { IfErr result (λ stop. Refuses stop
-        (reading.with_option (options_in options.old) (Some reading.limit_name)
+        (reading.with_option (model_options options.old) (Some reading.limit_name)
         (form_of value.now))) }
 {
     if options.limit.is_some() {
@@ -142,7 +142,7 @@ fn add_limit(options: &mut Options, value: &Edn) -> Result<(), Stop>
 }
 
 fn limit_of(f: &Edn) -> Option<Limit>
-    ensures { option_map limit_in result ≡ reading.limit_in (form_of f.now) }
+    ensures { option_map model_limit result ≡ reading.limit_in (form_of f.now) }
 {
     match f {
         Edn::Nil => Some(Limit::All),

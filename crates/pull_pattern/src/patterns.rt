@@ -1,10 +1,10 @@
-//! Patterns as data: items, each with its options, and what is told of the entities under an attribute.
+//! Patterns as data: items, each with its options, and what is given of the entities under an attribute.
 ghost use Rattle.std.specs.Prelude.{◌≡◌, IfOk};
 ghost use Rattle.std.specs.Option.{option_map};
 ghost use Rattle.std.specs.Arc.{arc_value};
 ghost use Rattle.edn_form.specs.View.{form_of};
 ghost use Rattle.pull_model.specs.Patterns.{no_options, everything};
-ghost use Rattle.pull_pattern.specs.View.{label_in};
+ghost use Rattle.pull_pattern.specs.View.{model_label};
 
 use crate::names::Name;
 use edn_form::Edn;
@@ -13,7 +13,7 @@ use fb_text::Text;
 use std::alloc::Global;
 use std::sync::Arc;
 
-/// How many values are told at most.
+/// How many values are given at most.
 #[derive(Clone, Copy)]
 pub enum Limit {
     First(u32),
@@ -31,7 +31,7 @@ pub enum Label {
 #[derive(Drop)]
 pub struct Options {
     pub renamed: Option<Label>,
-    /// What stands there where the attribute is absent.
+    /// What is given where the attribute is absent.
     pub default: Option<Arc<Edn>>,
     pub limit: Option<Limit>,
 }
@@ -50,7 +50,7 @@ pub enum Item {
     },
 }
 
-/// What is told of each entity that is found under an attribute.
+/// What is given of each entity that is found under an attribute.
 #[cycle(pattern)]
 #[derive(Drop)]
 pub enum Below {
@@ -70,10 +70,10 @@ pub struct Pattern {
 }
 
 impl Pattern {
-    ghost use Rattle.pull_pattern.specs.View.{pattern_in, pattern_of};
+    ghost use Rattle.pull_pattern.specs.View.{model_pattern, pattern_of};
 
     pub(crate) fn of(alloc: Global, items: Vec<Item>) -> Result<Pattern, Memory>
-        ensures { IfOk result (λ p. pattern_in p ≡ pattern_of items.items) }
+        ensures { IfOk result (λ p. model_pattern p ≡ pattern_of items.items) }
     {
         Ok(Pattern {
             items: Arc::new(alloc, items)?,
@@ -82,7 +82,7 @@ impl Pattern {
 
     /// `[*]`.
     pub fn everything(alloc: Global) -> Result<Pattern, Memory>
-        ensures { IfOk result (λ p. pattern_in p ≡ everything) }
+        ensures { IfOk result (λ p. model_pattern p ≡ everything) }
     {
         let mut items = Vec::new(alloc);
         items.push(Item::Wildcard)?;
@@ -90,7 +90,7 @@ impl Pattern {
     }
 
     pub fn items(&self) -> &[Item]
-        ensures { pattern_of result.now ≡ pattern_in self.now }
+        ensures { pattern_of result.now ≡ model_pattern self.now }
     {
         let items: &Vec<Item> = &self.items;
         items.as_slice()
@@ -98,7 +98,7 @@ impl Pattern {
 
     /// The same pattern, at the cost of a reference count.
     pub fn share(&self) -> Result<Pattern, Memory>
-        ensures { IfOk result (λ p. pattern_in p ≡ pattern_in self.now) }
+        ensures { IfOk result (λ p. model_pattern p ≡ model_pattern self.now) }
     {
         Ok(Pattern {
             items: self.items.clone()?,
@@ -107,11 +107,11 @@ impl Pattern {
 }
 
 impl Item {
-    ghost use Rattle.pull_pattern.specs.View.{item_in};
+    ghost use Rattle.pull_pattern.specs.View.{model_item};
 
     /// The same item, which shares what is below it and its default.
     pub(crate) fn copy(&self) -> Result<Item, Memory>
-        ensures { IfOk result (λ i. item_in i ≡ item_in self.now) }
+        ensures { IfOk result (λ i. model_item i ≡ model_item self.now) }
     {
         Ok(match self {
             Item::Wildcard => Item::Wildcard,
@@ -130,10 +130,10 @@ impl Item {
 }
 
 impl Below {
-    ghost use Rattle.pull_pattern.specs.View.{below_in};
+    ghost use Rattle.pull_pattern.specs.View.{model_below};
 
     fn copy(&self) -> Result<Below, Memory>
-        ensures { IfOk result (λ b. below_in b ≡ below_in self.now) }
+        ensures { IfOk result (λ b. model_below b ≡ model_below self.now) }
     {
         Ok(match self {
             Below::Usual => Below::Usual,
@@ -145,11 +145,11 @@ impl Below {
 }
 
 impl Options {
-    ghost use Rattle.pull_pattern.specs.View.{options_in};
+    ghost use Rattle.pull_pattern.specs.View.{model_options};
 
     /// No option is given.
     pub fn none() -> Options
-        ensures { options_in result ≡ no_options }
+        ensures { model_options result ≡ no_options }
     {
         Options {
             renamed: None,
@@ -159,7 +159,7 @@ impl Options {
     }
 
     pub(crate) fn copy(&self) -> Result<Options, Memory>
-        ensures { IfOk result (λ o. options_in o ≡ options_in self.now) }
+        ensures { IfOk result (λ o. model_options o ≡ model_options self.now) }
     {
         Ok(Options {
             renamed: copy_label(&self.renamed)?,
@@ -170,10 +170,10 @@ impl Options {
 }
 
 impl Label {
-    ghost use Rattle.pull_pattern.specs.View.{label_in};
+    ghost use Rattle.pull_pattern.specs.View.{model_label};
 
     fn copy(&self) -> Result<Label, Memory>
-        ensures { IfOk result (λ l. label_in l ≡ label_in self.now) }
+        ensures { IfOk result (λ l. model_label l ≡ model_label self.now) }
     {
         Ok(match self {
             Label::Key(text) => Label::Key(text.copy()?),
@@ -183,7 +183,7 @@ impl Label {
 }
 
 fn copy_label(label: &Option<Label>) -> Result<Option<Label>, Memory>
-    ensures { IfOk result (λ l. option_map label_in l ≡ option_map label_in label.now) }
+    ensures { IfOk result (λ l. option_map model_label l ≡ option_map model_label label.now) }
 {
     match label {
         Some(label) => Ok(Some(label.copy()?)),

@@ -1,12 +1,12 @@
-//! Which form is which pattern, in one pass. It recurses as deep as forms stand inside one another.
+//! Which form is which pattern, in one pass. It recurses as deep as forms are inside one another.
 ghost use Rattle.std.specs.Prelude.{◌≡◌, Some, IfOk, IfErr};
 ghost use Rattle.std.specs.Option.{option_map};
 ghost use Rattle.edn_model.specs.Form as edn;
 ghost use Rattle.edn_form.specs.View.{form_of, forms_of, pairs_of, members, entries};
 ghost use Rattle.pull_model.specs.Patterns as model;
 ghost use Rattle.pull_model.specs.Reading as reading;
-ghost use Rattle.pull_pattern.specs.Answers.{Gives, Refuses, Reads};
-ghost use Rattle.pull_pattern.specs.View.{options_in, item_in, below_in, pattern_in, pattern_of};
+ghost use Rattle.pull_pattern.specs.Answers.{Gives, Refuses, ReadsPattern};
+ghost use Rattle.pull_pattern.specs.View.{model_options, model_item, model_below, model_pattern, pattern_of};
 
 use crate::names::Name;
 use crate::options::{add_options, count_in};
@@ -19,7 +19,7 @@ use std::alloc::Global;
 
 /// The pattern that the form is.
 pub fn read_pattern(alloc: Global, form: &Edn) -> Result<Pattern, PatternStop>
-    ensures { Reads (reading.pattern_in (form_of form.now)) result }
+    ensures { ReadsPattern (reading.pattern_in (form_of form.now)) result }
 {
     match form {
         Edn::Vector(items) => read_outermost(alloc, items),
@@ -29,7 +29,7 @@ pub fn read_pattern(alloc: Global, form: &Edn) -> Result<Pattern, PatternStop>
 
 /// The pattern that a vector of these members is.
 fn read_outermost(alloc: Global, items: &Items) -> Result<Pattern, PatternStop>
-    ensures { Reads (reading.pattern_in (edn.vector (edn.forms (forms_of (members items.now)))))
+    ensures { ReadsPattern (reading.pattern_in (edn.vector (edn.forms (forms_of (members items.now)))))
         result }
 {
     if items.is_empty() {
@@ -79,7 +79,7 @@ fn add_item(alloc: Global, f: &Edn, list: &mut Vec<Item>) -> Result<(), Stop>
 #[tactic(auto, using(crate::proofs::Joined::of_append))]
 fn add(item: Item, list: &mut Vec<Item>) -> Result<(), Memory>
     ensures { IfOk result (λ _. pattern_of list.new.items
-        ≡ model.joined (pattern_of list.old.items) (model.one (item_in item))) }
+        ≡ model.joined (pattern_of list.old.items) (model.one (model_item item))) }
 {
     list.push(item)?;
     Ok(())
@@ -105,7 +105,7 @@ fn add_specifications(alloc: Global, pairs: &Pairs, list: &mut Vec<Item>) -> Res
 
 #[cycle(read)]
 fn specification(alloc: Global, value: &Edn, key: &Edn) -> Result<Item, Stop>
-    ensures { Gives item_in
+    ensures { Gives model_item
         (reading.specification (reading.specified (form_of key.now))
         (reading.below_of (form_of value.now))) result }
 {
@@ -116,7 +116,7 @@ fn specification(alloc: Global, value: &Edn, key: &Edn) -> Result<Item, Stop>
 
 #[cycle(read)]
 fn below_of(alloc: Global, f: &Edn) -> Result<Below, Stop>
-    ensures { Gives below_in (reading.below_of (form_of f.now)) result }
+    ensures { Gives model_below (reading.below_of (form_of f.now)) result }
 {
     match f {
         Edn::Vector(items) => Ok(Below::Under(pattern_below(alloc, items)?)),
@@ -127,7 +127,7 @@ fn below_of(alloc: Global, f: &Edn) -> Result<Below, Stop>
 /// The pattern of at least one item that a vector is.
 #[cycle(read)]
 fn pattern_below(alloc: Global, items: &Items) -> Result<Pattern, Stop>
-    ensures { Gives pattern_in
+    ensures { Gives model_pattern
         (reading.if_any (reading.items_of (edn.forms (forms_of (members items.now))))) result }
 {
     if items.is_empty() {
@@ -139,7 +139,7 @@ fn pattern_below(alloc: Global, items: &Items) -> Result<Pattern, Stop>
 }
 
 fn recursion_in(f: &Edn) -> Option<Below>
-    ensures { option_map below_in result ≡ reading.recursion_in (form_of f.now) }
+    ensures { option_map model_below result ≡ reading.recursion_in (form_of f.now) }
 {
     match f {
         Edn::Sym(s) if s.as_str() == "..." => Some(Below::Unlimited),
@@ -149,7 +149,7 @@ fn recursion_in(f: &Edn) -> Option<Below>
 
 /// The key of a map specification: a name, or one with options.
 fn specified(alloc: Global, f: &Edn) -> Result<Item, Stop>
-    ensures { Gives item_in (reading.specified (form_of f.now)) result }
+    ensures { Gives model_item (reading.specified (form_of f.now)) result }
 {
     match f {
         Edn::Key(name) => Ok(plain_item(alloc, name, Options::none())?),
@@ -158,9 +158,9 @@ fn specified(alloc: Global, f: &Edn) -> Result<Item, Stop>
     }
 }
 
-/// The item with what is told below it; `:db/id` has nothing below.
+/// The item with what is given below it; `:db/id` has nothing below.
 fn with_below(below: Below, item: Item) -> Result<Item, Stop>
-    ensures { Gives item_in (reading.with_below (below_in below) (item_in item)) result }
+    ensures { Gives model_item (reading.with_below (model_below below) (model_item item)) result }
 {
     match item {
         Item::Attribute {
@@ -178,7 +178,7 @@ fn with_below(below: Below, item: Item) -> Result<Item, Stop>
 
 /// A name with one option or more.
 fn item_with_options(alloc: Global, forms: &[Edn]) -> Result<Item, Stop>
-    ensures { Gives item_in (reading.item_with_options (forms_of forms.now)) result }
+    ensures { Gives model_item (reading.item_with_options (forms_of forms.now)) result }
 {
     let [Edn::Key(name), _, ..] = forms else {
         return Err(Stop::OtherForm);
@@ -189,7 +189,7 @@ fn item_with_options(alloc: Global, forms: &[Edn]) -> Result<Item, Stop>
 }
 
 fn plain_item(alloc: Global, name: &Text, options: Options) -> Result<Item, Memory>
-    ensures { IfOk result (λ i. item_in i ≡ reading.plain_item name.now (options_in options)) }
+    ensures { IfOk result (λ i. model_item i ≡ reading.plain_item name.now (model_options options)) }
 {
     if name.as_str() == "db/id" {
         return Ok(Item::Own(options));

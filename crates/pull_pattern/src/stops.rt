@@ -7,7 +7,7 @@ use std::alloc::AllocFailed;
 
 #[derive(Clone, Copy, Debug, PartialEq, Eq)]
 pub enum PatternStop {
-    /// The form is no pattern. `item` is the place of its first item that has no such form, and 0 where it has no item.
+    /// The form is not a pattern. `item` is the place of its first item that has no such form, and 0 where it has no item.
     BadPattern { item: usize },
     Memory,
 }
@@ -55,7 +55,7 @@ impl<T: Drop> From<AllocFailed<T>> for Stop {
 }
 
 impl Stop {
-    /// The same of the whole pattern, whose item at the place this was.
+    /// Why the whole pattern was not read, whose item at the place this was.
     pub fn at(self, item: usize) -> PatternStop
         ensures { result ≡ placed item self }
     {

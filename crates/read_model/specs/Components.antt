@@ -1,7 +1,9 @@
 -- Components of an index and ranges of values as a command gives them, read from left to right.
 -- Datomic, Indexes (datoms, seek-datoms, index-range). Places are counted from the command's word,
 -- which is at 0.
-use Rattle.std.specs.Prelude.{◌≡◌, ℕ, ◌+◌, pos, Bool, List, [], ◌∷◌, length, ◌==◌, nat_le, if◌then◌else◌, Option, Some, None, option_and_then, Result, Ok, Err, MatchBool}
+use Rattle.std.specs.Prelude.{◌≡◌, ℕ, ◌+◌, pos, Bool, List, [], ◌∷◌, length, ◌==◌, nat_le}
+use Rattle.std.specs.Prelude.{if◌then◌else◌, Option, Some, None, option_and_then, Result, Ok, Err}
+use Rattle.std.specs.Prelude.{MatchBool}
 use Rattle.std.specs.List.{zip}
 use Rattle.std.specs.Option.{option_map_or}
 use Rattle.edn_model.specs.Form as edn
@@ -23,8 +25,9 @@ use Rattle.view_model.specs.Names.{Id, entity_named}
 use Rattle.view_model.specs.Scan.{Range, between}
 use Rattle.read_model.specs.Points.{t_of}
 use Rattle.read_model.specs.Names.{id_in}
-use Rattle.read_model.specs.Given.{Given, is, by_name, wrong, refusal, Reads, reads}
-use Rattle.read_refusals.specs.declared.reasons.Reason.TheVariants.{NotACommand, BadComponent, NotInIndex}
+use Rattle.read_model.specs.Given.{Given, is, by_name, wrong, refusal, ReadsGiven, reads}
+use Rattle.read_refusals.specs.declared.reasons.Reason.TheVariants.{NotACommand, BadComponent}
+use Rattle.read_refusals.specs.declared.reasons.Reason.TheVariants.{NotInIndex}
 use Rattle.read_refusals.specs.declared.reasons.Refusal.{Refusal}
 
 -- ---- one component
@@ -99,14 +102,14 @@ abbrev pub AreRead : List Entry → Window → (Datom → Type 0) → Probe → 
     → Result Probe Refusal → Type 0
 AreRead h w Selects probe at [] answer = answer ≡ Ok probe
 AreRead h w Selects probe at (next ∷ rest) answer =
-    Reads h w Selects at (with_next (facts h) probe next.0 next.1)
+    ReadsGiven h w Selects at (with_next (facts h) probe next.0 next.1)
     (λ more. AreRead h w Selects more (at + 1) rest) answer
 
 abbrev pub no_command : Refusal
 no_command = refusal NotACommand 0
 
 -- `[:datoms index c ..]` and `[:seek index c ..]`: the probe that the components give, or the first
--- place that fails. An index has four components, and a form with more is no command
+-- place that fails. An index has four components, and a form with more is not a command
 abbrev pub AreComponents : List Entry → Window → (Datom → Type 0) → Order → List Form
     → Result Probe Refusal → Type 0
 AreComponents h w Selects order fs answer =
@@ -125,9 +128,10 @@ end_given facts kind f = value_given facts Some kind f
 abbrev pub IsIndexRange : List Entry → Window → (Datom → Type 0) → Form → Form → Form
     → Result Range Refusal → Type 0
 IsIndexRange h w Selects a start end answer =
-    Reads h w Selects 1 (attribute_given (λ attribute. attribute) Avet (attribute_in (facts h) a))
-    (λ attribute. Reads h w Selects 2 (end_given (facts h) attribute.kind start)
-    (λ from. Reads h w Selects 3 (end_given (facts h) attribute.kind end)
+    ReadsGiven h w Selects 1
+    (attribute_given (λ attribute. attribute) Avet (attribute_in (facts h) a))
+    (λ attribute. ReadsGiven h w Selects 2 (end_given (facts h) attribute.kind start)
+    (λ from. ReadsGiven h w Selects 3 (end_given (facts h) attribute.kind end)
     (λ to done. done ≡ Ok (between attribute.id from to)))) answer
 
 -- ---- the same, computed, where filters are tests

@@ -1,5 +1,5 @@
--- Which entity a name finds in a view, where filters are predicates: a filter may not tell by any
--- test what it selects.
+-- Which entity a name finds in a view, where filters are predicates:
+-- a filter need not decide by any test what it selects.
 -- Datomic, Schema (entity identifiers) and Database Filters.
 use Rattle.std.specs.Prelude.{◌≡◌, ◌≤◌, ℕ, List, IsTrue, Option, Some, None}
 use Rattle.fb_values.specs.declared.facts.Datom.{Datom}

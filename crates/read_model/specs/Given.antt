@@ -1,5 +1,5 @@
--- What a form gives at a place of a command, where an entity may stand by its name: what comes of
--- it once names are looked up.
+-- What a form gives at a place of a command, where an entity may be given by its name:
+-- what comes of it once names are looked up.
 -- This project's own choice.
 use Rattle.std.specs.Prelude.{◌≡◌, ℕ, List, Option, Some, None, Result, Err}
 use Rattle.std.specs.Option.{option_map_or}
@@ -13,7 +13,7 @@ use Rattle.read_refusals.specs.declared.reasons.Reason.TheVariants.{BadComponent
 use Rattle.read_refusals.specs.declared.reasons.Refusal.{Refusal}
 
 pub data Given (X : Type 0) : Type 0 where
-  -- this, as it stands
+  -- this, as it is
   is : X → Given X
   -- what is made of the entity that the name finds
   by_name : Id → (ℕ → X) → Given X
@@ -31,13 +31,13 @@ Follows at make Next (Some e) answer = Next (make e) answer
 
 -- what is given at a place comes to the answer, where `Next` says what comes of it; if it is wrong,
 -- that is the answer
-abbrev pub Reads : {X Y : Type 0}
+abbrev pub ReadsGiven : {X Y : Type 0}
     → List Entry → Window → (Datom → Type 0) → ℕ → Given X → (X → Result Y Refusal → Type 0)
     → Result Y Refusal → Type 0
-Reads h w Selects at (is x) Next answer = Next x answer
-Reads h w Selects at (by_name id make) Next answer =
+ReadsGiven h w Selects at (is x) Next answer = Next x answer
+ReadsGiven h w Selects at (by_name id make) Next answer =
     (found : Option ℕ) × IsNamed h w Selects id found × Follows at make Next found answer
-Reads h w Selects at (wrong reason) Next answer = answer ≡ Err (refusal reason at)
+ReadsGiven h w Selects at (wrong reason) Next answer = answer ≡ Err (refusal reason at)
 
 -- the same, computed, where `find` says which entity a name finds
 abbrev pub reads : {X Y : Type 0}

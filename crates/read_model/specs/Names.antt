@@ -1,6 +1,7 @@
 -- The name of an entity that a form is in a read.
 -- Datomic, Schema (entity identifiers: entity ids, idents and lookup refs), and EDN, edn-format.
-use Rattle.std.specs.Prelude.{◌≡◌, ℕ, pos, List, ◌==◌, nat_le, if◌then◌else◌, Option, Some, None, option_map, option_and_then}
+use Rattle.std.specs.Prelude.{◌≡◌, ℕ, pos, List, ◌==◌, nat_le, if◌then◌else◌, Option, Some, None}
+use Rattle.std.specs.Prelude.{option_map, option_and_then}
 use Rattle.edn_model.specs.Form as edn
 use Rattle.edn_model.specs.Form.{Form}
 use Rattle.fb_values.specs.declared.facts.Datom.{Datom}
@@ -35,7 +36,7 @@ id_in facts (edn.keyword k) = Some (ident k)
 id_in facts (edn.vector fs) = lookup_of facts (lookup_in fs)
 id_in facts f = None
 
--- the entity that the form names in the view; none where it is no name, or finds no entity
+-- the entity that the form names in the view; none where it is not a name, or finds no entity
 abbrev pub IsFound : List Entry → Window → (Datom → Type 0) → Option Id → Option ℕ → Type 0
 IsFound h w Selects None answer = answer ≡ None
 IsFound h w Selects (Some id) answer = IsNamed h w Selects id answer

@@ -2,7 +2,9 @@
 -- range of the log.
 -- Datomic, Database Filters (a t, a transaction or an instant) and Log API (tx-range: from the
 -- start on, before the end).
-use Rattle.std.specs.Prelude.{ℕ, ◌+◌, ◌-◌, ℤ, pos, not, ◌&&◌, List, filter, length, max, nat_le, int_le, if◌then◌else◌, Option, Some, None, option_map, Result, Ok, Err}
+use Rattle.std.specs.Prelude.{ℕ, ◌+◌, ◌-◌, ℤ, pos, not, ◌&&◌, List, filter, length, max, nat_le}
+use Rattle.std.specs.Prelude.{int_le, if◌then◌else◌, Option, Some, None, option_map, Result, Ok}
+use Rattle.std.specs.Prelude.{Err}
 use Rattle.std.specs.Option.{ok_or}
 use Rattle.edn_model.specs.Form as edn
 use Rattle.edn_model.specs.Form.{Form}
@@ -25,7 +27,7 @@ end_of h (edn.integer (pos n)) = end_of_number n
 end_of h (edn.instant z) = Some (end_of_instant h z)
 end_of h f = None
 
--- the same, of the form that stands behind the command's word
+-- the same, of the form that follows the command's word
 abbrev pub point_in : List Entry → Form → Result ℕ Refusal
 point_in h f = ok_or (end_of h f) (bad_point 1)
 
@@ -43,7 +45,7 @@ t_of n =
 abbrev pub count_before : List Entry → ℤ → ℕ
 count_before h instant = length (filter (λ entry. not (int_le instant entry.instant)) h)
 
--- an integer is a t or the entity of a transaction; an instant stands for the first t that is not
+-- an integer is a t or the entity of a transaction; an instant is the first t that is not
 -- before it
 abbrev pub bound_of : List Entry → Form → Option ℕ
 bound_of h (edn.integer (pos n)) = t_of n
@@ -65,6 +67,6 @@ range_from None stop = Err (bad_point 1)
 range_from (Some start) None = Err (bad_point 2)
 range_from (Some start) (Some stop) = Ok (start, stop)
 
--- the t to begin with and the t to stop before, of the two forms behind the command's word
+-- the t to begin with and the t to stop before, of the two forms after the command's word
 abbrev pub log_range : List Entry → Form → Form → Result (ℕ × ℕ) Refusal
 log_range h start stop = range_from (start_of h start) (stop_of h stop)

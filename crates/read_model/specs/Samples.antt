@@ -8,7 +8,8 @@ use Rattle.fb_values.specs.declared.facts.Value.{Value}
 use Rattle.fb_values.specs.declared.facts.Value.TheVariants.{Keyword, Str, Ref}
 use Rattle.fb_values.specs.declared.indexes.Order.{Order}
 use Rattle.fb_values.specs.declared.indexes.Probe.{Probe}
-use Rattle.fb_numbers.specs.Numbers.{user_entity, ident, value_type, cardinality, doc, type_ref, cardinality_one}
+use Rattle.fb_numbers.specs.Numbers.{user_entity, ident, value_type, cardinality, doc, type_ref}
+use Rattle.fb_numbers.specs.Numbers.{cardinality_one}
 use Rattle.fb_model.specs.FirstEntry.{first_entry}
 use Rattle.view_model.specs.Samples.{datom, entry_at, minus_one, hides_attribute}
 

@@ -66,7 +66,7 @@ pub fn components_of_each_index()
 {}
 
 /// Components that cannot be read, or that the index does not hold: the first place that fails is
-/// told.
+/// reported.
 pub fn components_that_are_none()
     ensures negative { components ages whole [] Eavt (minus_one_form ∷ [])
         ≡ Err (refusal BadComponent 2) }

@@ -19,7 +19,7 @@ pub trait Selection {
     ghost selects: { Datom → Type 0 };
 }
 
-/// The end of a point is behind the t that the log's range takes it for: behind a t, and behind the
+/// The end of a point is after the t that the log's range takes it for: after a t, and after the
 /// last instant up to one.
 pub fn points_agree()
     ensures numbers { (n : ℕ) → end_of_number n ≡ option_map (λ t. t + 1) (t_of n) }
@@ -51,7 +51,7 @@ pub fn components_are_read_in_one_way<S: Selection>()
         (components h w filters order fs) }
 {}
 
-/// The same of a range of values.
+/// The forms of a range of values come to one range or one refusal, and where filters are tests to the computed one.
 pub fn ranges_are_read_in_one_way<S: Selection>()
     ensures one { (h : List Entry) (w : Window) (a start end : Form) (x y : Result Range Refusal)
         → IsIndexRange h w S.selects a start end x → IsIndexRange h w S.selects a start end y
@@ -62,7 +62,7 @@ pub fn ranges_are_read_in_one_way<S: Selection>()
         (index_range h w filters a start end) }
 {}
 
-/// Components are read from left to right: what follows a place that fails does not tell.
+/// Components are read from left to right: what follows a place that fails makes no difference.
 pub fn what_follows_a_refusal_does_not_tell<S: Selection>()
     ensures { (h : List Entry) (w : Window) (order : Order) (fs more : List Form) (r : Refusal)
         → length (fs ++ more) ≤ 4 → AreComponents h w S.selects order fs (Err r)

@@ -8,7 +8,7 @@ ghost use Rattle.read_model.specs.Points.{point_in, log_range, bad_point};
 ghost use Rattle.read_model.specs.Samples.{number, minus_one_form};
 
 /// What as-of and since take: a t, a transaction's entity, or an instant, of which those between
-/// two entries end behind the first.
+/// two entries end after the first.
 pub fn points_in_commands()
     ensures a_t { point_in ages (number 2) ≡ Ok 3 }
     ensures before_the_first { point_in ages (number 0) ≡ Ok 1 }

@@ -2,7 +2,8 @@
 use Rattle.std.proofs.Common.{◌≡◌, ℕ, List, [], ◌∷◌, cond, refl, sym, ap, ◌∙◌}
 use Rattle.std.specs.Prelude.{bytes_eq}
 use Rattle.read_refusals.specs.declared.reasons.Reason.{Reason}
-use Rattle.read_refusals.specs.declared.reasons.Reason.TheVariants.{NotACommand, BadPattern, NoFilter, BadPoint, BadComponent, NotInIndex, NotAnEntity, History, TooLarge}
+use Rattle.read_refusals.specs.declared.reasons.Reason.TheVariants.{NotACommand, BadPattern, NoFilter, BadPoint, BadComponent, NotInIndex}
+use Rattle.read_refusals.specs.declared.reasons.Reason.TheVariants.{NotAnEntity, History, TooLarge}
 use Rattle.read_refusals.specs.Reasons.{keyword_of}
 
 abbrev all : List Reason

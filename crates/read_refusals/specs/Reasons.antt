@@ -1,8 +1,12 @@
 -- The keyword of each reason for which a command that changes nothing is refused.
--- This project's own choice; what is at fault is that of Datomic, Database Filters, Indexes, Log API and Pull.
+-- This project's own choice;
+-- what is at fault is that of Datomic, Database Filters, Indexes, Log API and Pull.
 use Rattle.std.specs.Prelude.{ℕ, List, codes}
 use Rattle.read_refusals.specs.declared.reasons.Reason.{Reason}
-use Rattle.read_refusals.specs.declared.reasons.Reason.TheVariants.{NotACommand, BadPattern, NoFilter, BadPoint, BadComponent, NotInIndex, NotAnEntity, History, TooLarge}
+use Rattle.read_refusals.specs.declared.reasons.Reason.TheVariants.{NotACommand, BadPattern}
+use Rattle.read_refusals.specs.declared.reasons.Reason.TheVariants.{NoFilter, BadPoint}
+use Rattle.read_refusals.specs.declared.reasons.Reason.TheVariants.{BadComponent, NotInIndex}
+use Rattle.read_refusals.specs.declared.reasons.Reason.TheVariants.{NotAnEntity, History, TooLarge}
 
 -- without its colon
 abbrev pub keyword_of : Reason → List ℕ

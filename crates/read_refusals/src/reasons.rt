@@ -2,11 +2,11 @@
 ghost use Rattle.std.specs.Prelude.{◌≡◌};
 ghost use Rattle.read_refusals.specs.Reasons.{keyword_of};
 
-/// Why a command is refused. Of several reasons the one that stands first here is told, but for a range's and a list of
-/// components' two, `BadComponent` and `NotInIndex`, of which the one at the earlier place is told.
+/// Why a command is refused. Of several reasons the first one here is reported, but for a range's and a list of
+/// components' two, `BadComponent` and `NotInIndex`, of which the one at the earlier place is reported.
 #[derive(Clone, Copy, Debug, PartialEq, Eq)]
 pub enum Reason {
-    /// The form is no command.
+    /// The form is not a command.
     NotACommand,
     /// The pattern of a Pull is none.
     BadPattern,

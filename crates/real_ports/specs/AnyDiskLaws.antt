@@ -1,15 +1,15 @@
 -- The laws of disks, proved for a file or a disk in memory in its place: they define nothing.
 -- This project's own choice.
 use Rattle.std.specs.Prelude.{◌≤◌, ℕ, List}
-use Rattle.disk_model.specs.Disk.{WhereTold}
+use Rattle.disk_model.specs.Disk.{IfKnown}
 use Rattle.disk_model.proofs.Records.{left_since-now, left_now, leaves_told}
-use Rattle.real_ports.specs.AnyDisks.{told_of, may_leave, moment_at, may_have_left}
+use Rattle.real_ports.specs.AnyDisks.{bytes_of, may_leave, moment_at, may_have_left}
 use Rattle.real_ports.specs.declared.disks.AnyDisk.{AnyDisk}
 use Rattle.real_ports.specs.declared.disks.AnyDisk.TheVariants.{File, InMemory}
 
-pub told_is_left : (d : AnyDisk) → WhereTold (told_of d) (may_leave d)
-told_is_left (File faults) = λ file told. tt
-told_is_left (InMemory d) = leaves_told d.changes d.first
+pub known_is_left : (d : AnyDisk) → IfKnown (bytes_of d) (may_leave d)
+known_is_left (File faults) = λ file told. tt
+known_is_left (InMemory d) = leaves_told d.changes d.first
 
 pub left_at_moment : (d : AnyDisk) (t : ℕ) (image : List ℕ) → t ≤ moment_at d → may_leave d image
     → may_have_left d t image

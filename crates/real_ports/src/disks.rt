@@ -1,11 +1,11 @@
 //! Files as disks. Each call is a few calls of the system at an offset, and a sync reaches the disk itself.
 ghost use Rattle.std.specs.Prelude.{◌≡◌, ◌<◌, ℕ, [], None, Some, is_ok, IfOk, IfErr, IsTrue};
-ghost use Rattle.real_ports.specs.AnyDisks.{faults_of, told_of, is_memory, held_in, opened_in};
+ghost use Rattle.real_ports.specs.AnyDisks.{faults_of, bytes_of, is_memory, held_in, opened_in};
 ghost use Rattle.fb_ports.specs.Faults.{Counts};
 
-use fb_calls::raise;
 use fb_disk::MemDisk;
 use fb_ports::{Disk, Failed, OpenFail, Part};
+use io_faults::raise;
 use std::alloc::Global;
 use std::fs::{File, OpenOptions, TryLockError};
 use std::io;
@@ -13,7 +13,7 @@ use std::io::ErrorKind;
 use std::marker::Model;
 use std::os::unix::fs::FileExt;
 
-/// The directory that stands for a disk in memory.
+/// The name of a directory that is a disk in memory.
 const IN_MEMORY: &str = ":memory:";
 
 /// The room of a disk in memory: 128 MiB.
@@ -133,7 +133,7 @@ impl Disk for FileDisk {
     }
 }
 
-/// A file, or for the directory `:memory:` a disk in memory, which alone tells what it holds.
+/// A file, or for the directory `:memory:` a disk in memory, whose bytes alone are known.
 #[derive(Drop)]
 pub enum AnyDisk {
     File(FileDisk),
@@ -149,7 +149,7 @@ impl AnyDisk {
         part: Part,
     ) -> Result<AnyDisk, OpenFail>
         ensures opened { IfOk result (λ d. d ≡ opened_in dir.now) }
-        ensures told { IfOk result (λ d. told_of d ≡ held_in dir.now part) }
+        ensures known { IfOk result (λ d. bytes_of d ≡ held_in dir.now part) }
         ensures count { IfOk result (λ d. faults_of d ≡ 0) }
 
         // In memory only memory can be wanting.
@@ -174,12 +174,12 @@ impl AnyDisk {
 }
 
 impl Disk for AnyDisk {
-    ghost use Rattle.real_ports.specs.AnyDisks.{faults_of, told_of, may_leave, moment_at, may_have_left};
-    ghost use Rattle.real_ports.specs.AnyDiskLaws.{told_is_left, left_at_moment, left_no_later};
+    ghost use Rattle.real_ports.specs.AnyDisks.{faults_of, bytes_of, may_leave, moment_at, may_have_left};
+    ghost use Rattle.real_ports.specs.AnyDiskLaws.{known_is_left, left_at_moment, left_no_later};
 
     ghost faults = { faults_of };
 
-    ghost bytes = { told_of };
+    ghost bytes = { bytes_of };
 
     ghost images = { may_leave };
 
@@ -187,7 +187,7 @@ impl Disk for AnyDisk {
 
     ghost images_since = { may_have_left };
 
-    ghost reads_an_image = { told_is_left };
+    ghost reads_an_image = { known_is_left };
 
     ghost counts_now = { left_at_moment };
 

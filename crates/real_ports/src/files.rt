@@ -2,14 +2,14 @@
 //! a write took has left the program.
 ghost use Rattle.std.specs.Prelude.{◌≡◌, None, IfOk};
 
-use fb_calls::raise;
 use fb_ports::{Failed, Sink, Source};
+use io_faults::raise;
 use std::fs::File;
 use std::io;
 use std::io::{Read, Stdin, Stdout, Write};
 use std::marker::Model;
 
-/// The name that stands for standard input and standard output.
+/// The name of standard input and standard output.
 const STANDARD: &str = "-";
 
 #[derive(Drop)]

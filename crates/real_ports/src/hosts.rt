@@ -1,12 +1,12 @@
 //! The host that opens real files, standard input and standard output.
 ghost use Rattle.std.specs.Prelude.{◌≡◌, None, IfOk, IfErr, IsTrue};
 ghost use Rattle.fb_ports.specs.Faults.{CountsOpening};
-ghost use Rattle.fb_ports.specs.Telling.{Alike};
-ghost use Rattle.real_ports.specs.AnyDisks.{faults_of, told_of, may_leave, moment_at, is_memory, held_in, may_leave_in, opened_in};
+ghost use Rattle.fb_ports.specs.HostCalls.{Alike};
+ghost use Rattle.real_ports.specs.AnyDisks.{faults_of, bytes_of, may_leave, moment_at, is_memory, held_in, may_leave_in, opened_in};
 
 use crate::{AnyDisk, FileSink, FileSource};
-use fb_calls::raise;
 use fb_ports::{Host, OpenFail, Part};
+use io_faults::raise;
 use std::alloc::Global;
 use std::marker::Model;
 
@@ -42,7 +42,7 @@ impl Host for RealHost {
 
     type Disk = AnyDisk;
 
-    ghost told = { λ faults. record {
+    ghost spec = { λ faults. record {
       sources = λ _. None;
       source_faults = λ _. 0;
       sinks = λ _. None;
@@ -91,7 +91,7 @@ impl Host for RealHost {
     }
 
     fn disk(&mut self, alloc: Global, dir: &str, part: Part) -> Result<AnyDisk, OpenFail>
-        ensures bytes { IfOk result (λ d. told_of d ≡ held_in dir.now part) }
+        ensures bytes { IfOk result (λ d. bytes_of d ≡ held_in dir.now part) }
         ensures count { IfOk result (λ d. faults_of d ≡ 0) }
         ensures images { IfOk result (λ d. Alike (may_leave_in dir.now part) (may_leave d)) }
         ensures moment { IfOk result (λ d. moment_at d ≡ 0) }

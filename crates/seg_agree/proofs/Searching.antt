@@ -14,7 +14,7 @@ use Rattle.fb_values.specs.declared.indexes.Order.{Order}
 use Rattle.fb_values.specs.declared.indexes.Order.TheVariants.{Eavt}
 use Rattle.fb_values.specs.Orders.{key_cmp}
 use Rattle.fb_values.specs.OrderLaws.{key_cmp_total, key_cmp-Equal}
-use Rattle.fb_values.specs.Rising.{StandsBefore, IsRising}
+use Rattle.fb_values.specs.Rising.{IsBelowAll, IsRising}
 use Rattle.fb_search.specs.Places.{is_below, place_of, probe_of}
 use Rattle.fb_search.proofs.Own.{is_below-probe_of}
 use Rattle.fb_model.proofs.Members.{cases_of, none_of}
@@ -41,7 +41,7 @@ tied order x y same = ap (key_cmp order x) (sym same) ∙ tied_itself (key_cmp_t
 
 -- ---- where it stands
 
-before : (order : Order) (x d : Datom) (ds : List Datom) → StandsBefore order x ds → Contains ds d → key_cmp order x d ≡ Less
+before : (order : Order) (x d : Datom) (ds : List Datom) → IsBelowAll order x ds → Contains ds d → key_cmp order x d ≡ Less
 before order x d [] stands member = absurd (none_of d member)
 before order x d (y ∷ ds) stands member =
     elim (cases_of y d ds member) [

@@ -1,6 +1,7 @@
 -- Lists of datoms beside an index of the first entries of a history.
 -- This project's own choice.
-use Rattle.std.specs.Prelude.{◌≡◌, ◌<◌, ℕ, Bool, true, List, length, slice_index, All, IsTrue, Option, Some, None}
+use Rattle.std.specs.Prelude.{◌≡◌, ◌<◌, ℕ, Bool, true, List, length, slice_index, All, IsTrue}
+use Rattle.std.specs.Prelude.{Option, Some, None}
 use Rattle.std.specs.Ordering.{is_lt}
 use Rattle.fb_values.specs.declared.facts.Datom.{Datom}
 use Rattle.fb_values.specs.declared.facts.Entry.{Entry}
@@ -36,7 +37,8 @@ past index = upto index.entries.now index.c
 abbrev pub HoldsAsOf : Coverage → List Entry → Order → Type 0
 HoldsAsOf coverage h order = (a : ℕ) → held coverage order a ≡ covers (facts h) order a
 
--- it is an index of a lawful history, up to one of its entries, with the coverage after that one
+-- the list is an index of a lawful history,
+-- up to one of its entries, with the coverage after that one
 pub record IsOfHistory (index : Index) : Type 0 where
   pub lawful : IsLawful index.entries.now
   pub within : index.c < length index.entries.now

@@ -20,8 +20,8 @@ use std::alloc::Global;
 
 /// Whether the trees are the indexes of the history's entries up to entry `c`. The totals are those of the history.
 ///
-/// Most trees that are not are told apart by their number of datoms alone, and others at the first datom that the log says
-/// otherwise. The schema after entry `c` is made only where the trees by entity stand: it costs less than their walk. A walk
+/// Most trees that are not are recognized by their number of datoms alone, and others at the first datom that the log says
+/// otherwise. The schema after entry `c` is made only where the trees by entity agree: it costs less than their walk. A walk
 /// compares each datom with the next one, and searches it in its entry. It takes no memory.
 pub fn agrees(
     alloc: Global,

@@ -82,7 +82,7 @@ impl Index<'_> {
         true
     }
 
-    /// Whether it has the datom, and the next one, if there is a next one, stands behind it.
+    /// Whether it has the datom, and the next one, if there is a next one, follows it.
     fn goes_on(&self, d: &Datom, next: Option<&Datom>) -> bool
         requires { IsOfHistory self.now }
         ensures { IsTrue result ↔ (IsIndexed (past self.now) self.now.order d.now
@@ -108,7 +108,7 @@ impl Index<'_> {
     }
 }
 
-/// Whether the datom stands before the next one, if there is a next one.
+/// Whether the datom is below the next one, if there is a next one.
 fn is_before(order: Order, d: &Datom, next: Option<&Datom>) -> bool
     ensures { result ≡ is_below_next order d.now (option_copied next.entry) }
 {

@@ -10,7 +10,7 @@ use fb_memory::Memory;
 use seg_store::KeptTrees;
 use std::alloc::Global;
 
-/// The newest of the kept trees that the history agrees with, if there are such. The newest stand last.
+/// The newest of the kept trees that the history agrees with, if there are such. The newest come last.
 ///
 /// The entries are counted once. Trees that agree with another log, or with more of this one, mostly cost the sum of their
 /// leaves' lengths or less, and those that agree cost their walk.

@@ -5,7 +5,7 @@ use Rattle.std.proofs.lemmas.List.Elements.{All-nil, All-push}
 use Rattle.log_model.specs.Nodes.{Nodes}
 use Rattle.seg_tree.specs.Nodes.{DirectoryNode}
 use Rattle.seg_codec.specs.InFile.{IsDirectoryOf}
-use Rattle.seg_codec.specs.Told.{AreFound}
+use Rattle.seg_codec.specs.Answers.{AreFound}
 
 pub found_none : (nodes : Nodes) (ds : List DirectoryNode) → ds ≡ [] → AreFound nodes [] ds
 found_none nodes ds none = subst (AreFound nodes []) (sym none)

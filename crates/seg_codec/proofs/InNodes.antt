@@ -1,5 +1,6 @@
 -- The nodes of a file as they are held.
-use Rattle.std.proofs.Common.{◌≡◌, ◌<◌, ◌^◌, ℕ, zero, suc, Bool, true, false, not, ◌||◌, List, [], ◌∷◌, ◌++◌, length, map, take, drop, get_or, refl, sym, ◌∙◌, ap, subst, arith, inl, inr}
+use Rattle.std.proofs.Common.{◌≡◌, ◌<◌, ◌^◌, ℕ, zero, suc, Bool, true, false, not, ◌||◌, List, [], ◌∷◌, ◌++◌, length, map, take, drop}
+use Rattle.std.proofs.Common.{get_or, refl, sym, ◌∙◌, ap, subst, arith, inl, inr}
 use Rattle.std.specs.Prelude.{nat_eq, Contains, All, IsTrue}
 use Rattle.std.proofs.lemmas.Bool.{true≢false, and_parts, or_parts, or_from, or_cases, false_from_ne_true, ne_eqb, eqb-true}
 use Rattle.std.proofs.lemmas.List.{map-append, length-map, take-map, take-append-drop}
@@ -9,7 +10,8 @@ use Rattle.seg_tree.specs.Nodes.{LeafNode, DirectoryNode}
 use Rattle.seg_tree.specs.Ids.{leaf_ids}
 use Rattle.seg_codec.specs.Trees.{file_leaf, file_directory, directory_ids}
 use Rattle.seg_codec.specs.InFile.{nodes_in, AreNodes, AreWhole, IsDirectoryOf}
-use Rattle.seg_codec.proofs.Among.{mapped_member, mapped_among, among_mapped, among-append, All-made, AreOnce, once_cons, once_join, one_of_id}
+use Rattle.seg_codec.proofs.Among.{mapped_member, mapped_among, among_mapped, among-append, All-made, AreOnce, once_cons, once_join}
+use Rattle.seg_codec.proofs.Among.{one_of_id}
 use Rattle.seg_codec.proofs.Kept.{below_is}
 
 -- ---- ids as a file has them

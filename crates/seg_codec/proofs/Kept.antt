@@ -1,19 +1,24 @@
 -- Trees that stand in the nodes of a file.
-use Rattle.std.proofs.Common.{◌≡◌, ℕ, Bool, true, false, cond, not, List, [], ◌∷◌, ◌++◌, length, map, refl, sym, ◌∙◌, ap, subst, arith, inl, inr, ◌⊎◌, append_assoc}
+use Rattle.std.proofs.Common.{◌≡◌, ℕ, Bool, true, false, cond, not, List, [], ◌∷◌, ◌++◌, length, map, refl, sym, ◌∙◌, ap, subst, arith, inl}
+use Rattle.std.proofs.Common.{inr, ◌⊎◌, append_assoc}
 use Rattle.std.specs.Prelude.{filter, flat_map, fold, Contains, All}
 use Rattle.std.proofs.lemmas.Bool.{true≢false}
 use Rattle.std.proofs.lemmas.List.{append-nil}
-use Rattle.std.proofs.lemmas.List.Elements.{All-contains, All-weaker, All-head, All-tail, filter_agree, Contains-append_left, Contains-append_right}
+use Rattle.std.proofs.lemmas.List.Elements.{All-contains, All-weaker, All-head, All-tail, filter_agree, Contains-append_left}
+use Rattle.std.proofs.lemmas.List.Elements.{Contains-append_right}
 use Rattle.fb_values.specs.declared.indexes.Order.{Order}
 use Rattle.fb_values.specs.declared.indexes.Order.TheVariants.{Eavt, Aevt, Avet, Vaet}
 use Rattle.log_model.specs.Nodes.{Leaf, Directory, Nodes, Roots, MergeRecord, ids_in, is_among, with_leaf, with_directory, ids_below}
-use Rattle.log_model.specs.Kept.{with_nodes, kept_root, leaf_datoms as file_leaf_datoms, directory_datoms as file_directory_datoms, tree_datoms as file_tree_datoms}
+use Rattle.log_model.specs.Kept.{with_nodes, kept_root, leaf_datoms as file_leaf_datoms, directory_datoms as file_directory_datoms}
+use Rattle.log_model.specs.Kept.{tree_datoms as file_tree_datoms}
 use Rattle.seg_tree.specs.Nodes.{LeafNode, DirectoryNode, leaf_datoms, tree_datoms, tree_leaves}
 use Rattle.seg_tree.specs.Ids.{leaf_ids}
 use Rattle.seg_tree.specs.Indexes.{tree_in, trees_of}
 use Rattle.seg_tree.specs.declared.roots.Roots.{Roots as SegRoots}
-use Rattle.seg_codec.specs.Trees.{file_leaf, file_directory, Has, root_in, directory_ids, AreTreesOf, leaves_of_four, directories_of_four, roots_of, Fits, merge_over, merge_of, AreIdsOf}
-use Rattle.seg_codec.proofs.Among.{member_here, member_there, member_cases, no_member, All-made, first_of_four, second_of_four, third_of_four, fourth_of_four, among_member, AreOnce, once_front, once_back, one_of_id, found_by_id}
+use Rattle.seg_codec.specs.Trees.{file_leaf, file_directory, Has, root_in, directory_ids, AreTreesOf, leaves_of_four, directories_of_four}
+use Rattle.seg_codec.specs.Trees.{roots_of, Fits, merge_over, merge_of, AreIdsOf}
+use Rattle.seg_codec.proofs.Among.{member_here, member_there, member_cases, no_member, All-made, first_of_four, second_of_four}
+use Rattle.seg_codec.proofs.Among.{third_of_four, fourth_of_four, among_member, AreOnce, once_front, once_back, one_of_id, found_by_id}
 
 -- ---- the nodes behind a record
 

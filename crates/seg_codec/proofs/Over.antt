@@ -1,23 +1,30 @@
 -- Records of what a file lacks stand over its nodes.
-use Rattle.std.proofs.Common.{◌≡◌, ◌≤◌, ◌<◌, ◌+◌, ◌^◌, ℕ, Bool, true, false, cond, not, ◌&&◌, ◌||◌, List, [], ◌∷◌, ◌++◌, length, map, refl, sym, ◌∙◌, ap, subst, arith, inl, inr, append_assoc, length-append}
+use Rattle.std.proofs.Common.{◌≡◌, ◌≤◌, ◌<◌, ◌+◌, ◌^◌, ℕ, Bool, true, false, cond, not, ◌&&◌, ◌||◌, List, [], ◌∷◌, ◌++◌, length, map, refl}
+use Rattle.std.proofs.Common.{sym, ◌∙◌, ap, subst, arith, inl, inr, append_assoc, length-append}
 use Rattle.std.specs.Prelude.{filter, fold, nat_eq, Contains, All, IsTrue}
 use Rattle.std.specs.List.{list_all}
-use Rattle.std.proofs.lemmas.Bool.{true≢false, and_from, or_parts, or_from, ne_eqb, lt-ltb, le-leb, not_from_false, false_from_ne_true, or_cases}
+use Rattle.std.proofs.lemmas.Bool.{true≢false, and_from, or_parts, or_from, ne_eqb, lt-ltb, le-leb, not_from_false, false_from_ne_true}
+use Rattle.std.proofs.lemmas.Bool.{or_cases}
 use Rattle.std.proofs.lemmas.List.{append-nil, map-append, length-map}
 use Rattle.std.proofs.lemmas.List.Elements.{All-contains, All-head, All-tail, All-filter, Contains-append_left, Contains-append_right}
 use Rattle.fb_values.specs.declared.facts.Datom.{Datom}
 use Rattle.log_model.specs.Payload.{written_format}
 use Rattle.log_model.specs.Storable.{is_u32, is_u64}
-use Rattle.log_model.specs.Nodes.{Leaf, Directory, Nodes, ids_in, is_among, is_new_id, with_leaf, with_directory, is_leaf_id, is_directory_id, reaching, is_node_length, in_order_of_indexes, record_bytes_in}
+use Rattle.log_model.specs.Nodes.{Leaf, Directory, Nodes, ids_in, is_among, is_new_id, with_leaf, with_directory, is_leaf_id}
+use Rattle.log_model.specs.Nodes.{is_directory_id, reaching, is_node_length, in_order_of_indexes, record_bytes_in}
 use Rattle.log_model.specs.Merges.{all_over, is_storable_dated, is_leaf_over, is_directory_over, is_root_over, IsRecordOf}
 use Rattle.log_model.specs.Kept.{with_nodes}
 use Rattle.seg_tree.specs.Nodes.{LeafNode, DirectoryNode, tree_leaves}
 use Rattle.seg_tree.specs.Ids.{leaf_ids, node_ids, count_of, AreDistinct}
 use Rattle.seg_tree.specs.Indexes.{root_ids}
 use Rattle.seg_tree.specs.declared.roots.Roots.{Roots as SegRoots}
-use Rattle.seg_codec.specs.Trees.{file_leaf, file_directory, directory_ids, leaves_of_four, directories_of_four, roots_of, Fits, merge_of, AreWritable}
-use Rattle.seg_codec.proofs.Among.{member_here, member_there, member_cases, no_member, All-made, among, among-append, among_mapped, first_of_four, second_of_four, third_of_four, fourth_of_four, mapped_among, AreOnce, once_cons, once_head, once_tail, once_join, once_front, once_back, once_apart}
-use Rattle.seg_codec.proofs.Counted.{among_counted, uncounted_among, once_counted, ids_below_all, below-append, node_ids-append, tree_leaves-append, count_below, count_both, count_listed}
+use Rattle.seg_codec.specs.Trees.{file_leaf, file_directory, directory_ids, leaves_of_four, directories_of_four, roots_of, Fits, merge_of}
+use Rattle.seg_codec.specs.Trees.{AreWritable}
+use Rattle.seg_codec.proofs.Among.{member_here, member_there, member_cases, no_member, All-made, among, among-append, among_mapped}
+use Rattle.seg_codec.proofs.Among.{first_of_four, second_of_four, third_of_four, fourth_of_four, mapped_among, AreOnce, once_cons}
+use Rattle.seg_codec.proofs.Among.{once_head, once_tail, once_join, once_front, once_back, once_apart}
+use Rattle.seg_codec.proofs.Counted.{among_counted, uncounted_among, once_counted, ids_below_all, below-append, node_ids-append}
+use Rattle.seg_codec.proofs.Counted.{tree_leaves-append, count_below, count_both, count_listed}
 use Rattle.seg_codec.proofs.Kept.{leaves_with, directories_with, with_leaves, leaf_there, directory_there, below_is}
 
 -- ---- an id that the nodes have not

@@ -1,5 +1,6 @@
 -- Roots that are read: what passes their tests, and the trees of them.
-use Rattle.std.proofs.Common.{◌≡◌, ◌≤◌, ◌<◌, ◌+◌, ℕ, zero, suc, Bool, true, false, not, List, [], ◌∷◌, ◌++◌, length, map, drop, get_or, refl, sym, ◌∙◌, ap, subst, arith, append_assoc, length-drop}
+use Rattle.std.proofs.Common.{◌≡◌, ◌≤◌, ◌<◌, ◌+◌, ℕ, zero, suc, Bool, true, false, not, List, [], ◌∷◌, ◌++◌, length, map, drop, get_or}
+use Rattle.std.proofs.Common.{refl, sym, ◌∙◌, ap, subst, arith, append_assoc, length-drop}
 use Rattle.std.specs.Prelude.{fold, All, IsTrue}
 use Rattle.std.proofs.lemmas.Bool.{true≢false, and_parts, and_from}
 use Rattle.std.proofs.lemmas.List.{append-nil, drop_more}
@@ -17,7 +18,7 @@ use Rattle.fb_values.specs.declared.indexes.Order.TheVariants.{Eavt, Aevt, Avet,
 use Rattle.seg_tree.specs.declared.roots.Roots.{Roots as SegRoots}
 use Rattle.seg_codec.specs.Trees.{Has, directory_ids, root_in, AreTreesOf}
 use Rattle.seg_codec.specs.InFile.{IsDirectoryOf}
-use Rattle.seg_codec.specs.Told.{HasRoots, AreFound}
+use Rattle.seg_codec.specs.Answers.{HasRoots, AreFound}
 use Rattle.seg_codec.proofs.Among.{AreOnce, once_none}
 use Rattle.seg_codec.proofs.Counted.{count-append, counted_once, ids_below_all, count_below}
 use Rattle.seg_codec.proofs.Reaching.{may_reach, reach_fits, reach_is}

@@ -1,5 +1,6 @@
 -- Ids that are reached one after another.
-use Rattle.std.proofs.Common.{◌≡◌, ◌≤◌, ◌<◌, ◌+◌, ℕ, Bool, true, false, not, ◌&&◌, ◌||◌, List, [], ◌∷◌, ◌++◌, length, map, take, drop, get_or, max, refl, sym, ◌∙◌, ap, subst, arith, inl, inr, append_assoc}
+use Rattle.std.proofs.Common.{◌≡◌, ◌≤◌, ◌<◌, ◌+◌, ℕ, Bool, true, false, not, ◌&&◌, ◌||◌, List, [], ◌∷◌, ◌++◌, length, map, take, drop}
+use Rattle.std.proofs.Common.{get_or, max, refl, sym, ◌∙◌, ap, subst, arith, inl, inr, append_assoc}
 use Rattle.std.specs.Prelude.{nat_eq, Contains}
 use Rattle.std.specs.List.{list_any, list_all}
 use Rattle.std.proofs.lemmas.Bool.{true≢false, or_parts, or_from, or_left, or_right, or_cases, false_from_ne_true, eqb-true, eq-eqb}
@@ -11,7 +12,8 @@ use Rattle.seg_tree.specs.Ids.{leaf_ids, next_above}
 use Rattle.seg_tree.proofs.Making.{seen_more, next_above_append}
 use Rattle.seg_codec.specs.Trees.{file_directory}
 use Rattle.seg_codec.specs.InFile.{IsDirectoryOf}
-use Rattle.seg_codec.proofs.Among.{member_cases, no_member, mapped_member, mapped_among, among-append, AreOnce, once_front, once_head, once_tail, once_push, once_join}
+use Rattle.seg_codec.proofs.Among.{member_cases, no_member, mapped_member, mapped_among, among-append, AreOnce, once_front, once_head}
+use Rattle.seg_codec.proofs.Among.{once_tail, once_push, once_join}
 use Rattle.seg_codec.proofs.InNodes.{at_place}
 use Rattle.seg_codec.proofs.Over.{apart_from_front}
 

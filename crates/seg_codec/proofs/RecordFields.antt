@@ -7,13 +7,14 @@ use Rattle.log_model.specs.Fields.{Reading, found, misfit, and_then, mapped, tha
 use Rattle.log_model.specs.Values.{is_format}
 use Rattle.log_model.specs.Storable.{is_u32}
 use Rattle.log_model.specs.Nodes.{Leaf, Directory, Nodes, Roots, MergeRecord, with_leaf, with_directory, reaching}
-use Rattle.log_model.specs.Merges.{several_over, read_list, read_leaf, read_directory, read_root, four, read_roots, read_record_fields, read_record, bad_from, merge_said_by, record_says}
+use Rattle.log_model.specs.Merges.{several_over, read_list, read_leaf, read_directory, read_root, four, read_roots, read_record_fields}
+use Rattle.log_model.specs.Merges.{read_record, bad_from, merge_said_by, record_says}
 use Rattle.fb_codec.specs.Answers.{Misses}
 use Rattle.fb_codec.specs.declared.faults.BytesFault.{BytesFault}
 use Rattle.fb_codec.specs.declared.faults.BytesFault.TheVariants.{At, Memory}
 use Rattle.seg_tree.specs.declared.roots.Roots.{Roots as SegRoots}
 use Rattle.seg_codec.specs.Trees.{AreTreesOf}
-use Rattle.seg_codec.specs.Told.{IsGrown, IsMerged, TellsBad}
+use Rattle.seg_codec.specs.Answers.{IsGrown, IsMerged, MatchesBad}
 use Rattle.seg_codec.proofs.Kept.{with_leaves, with_directories}
 use Rattle.seg_codec.proofs.SeveralOver.{with_front, with_none, one_more, then_misses, same_misses, end_misses, mapped_misses}
 
@@ -26,7 +27,7 @@ end_of_mapped f (found a (byte ∷ rest)) = refl
 end_of_mapped f (misfit rest) = refl
 
 tells_bad : (payload : List ℕ) (fault : BytesFault) (reading : Reading MergeRecord) → Misses payload fault reading
-    → TellsBad fault (merge_said_by payload reading)
+    → MatchesBad fault (merge_said_by payload reading)
 tells_bad payload (At byte) reading misses =
     let left : length payload - length (drop byte payload) ≡ byte = omega (arith, misses.0, length-drop byte payload) in
     ap (merge_said_by payload) misses.1 ∙ ap bad_from left
@@ -53,7 +54,7 @@ module _ (nodes : Nodes) (payload : List ℕ) where
   c_field format bytes = and_then (read_u32 bytes) (leaves_field format)
 
   pub bad_format : (fault : BytesFault) → Misses payload fault (that_fits is_format read_u8 payload)
-      → TellsBad fault (record_says nodes payload)
+      → MatchesBad fault (record_says nodes payload)
   bad_format fault misses = tells_bad payload fault (read_record nodes payload)
       (end_misses payload fault _ (then_misses payload fault _ (read_record_fields nodes) misses))
 
@@ -61,7 +62,7 @@ module _ (nodes : Nodes) (payload : List ℕ) where
     behind_format : read_record nodes payload ≡ at_end (c_field format (drop b1 payload))
     behind_format = ap (λ r. at_end (and_then r (read_record_fields nodes))) format_is
 
-    pub bad_c : (fault : BytesFault) → Misses payload fault (read_u32 (drop b1 payload)) → TellsBad fault (record_says nodes payload)
+    pub bad_c : (fault : BytesFault) → Misses payload fault (read_u32 (drop b1 payload)) → MatchesBad fault (record_says nodes payload)
     bad_c fault misses = tells_bad payload fault (read_record nodes payload)
         (same_misses payload fault _ _ behind_format
         (end_misses payload fault _ (then_misses payload fault _ (leaves_field format) misses)))
@@ -71,7 +72,7 @@ module _ (nodes : Nodes) (payload : List ℕ) where
       behind_c = behind_format ∙ ap (λ r. at_end (and_then r (leaves_field format))) c_is
 
       pub bad_leaves : (fault : BytesFault) → Misses payload fault (read_list is_u32 (read_leaf format) with_leaf nodes (drop b2 payload))
-          → TellsBad fault (record_says nodes payload)
+          → MatchesBad fault (record_says nodes payload)
       bad_leaves fault misses = tells_bad payload fault (read_record nodes payload)
           (same_misses payload fault _ _ behind_c (end_misses payload fault _ (then_misses payload fault _ (directories_field c) misses)))
 
@@ -83,7 +84,7 @@ module _ (nodes : Nodes) (payload : List ℕ) where
 
         pub bad_directories : (fault : BytesFault)
             → Misses payload fault (read_list is_u32 read_directory with_directory mid (drop b3 payload))
-            → TellsBad fault (record_says nodes payload)
+            → MatchesBad fault (record_says nodes payload)
         bad_directories fault misses =
             tells_bad payload fault (read_record nodes payload)
             (same_misses payload fault _ _ behind_leaves (end_misses payload fault _ (then_misses payload fault _ (roots_field c leaves)
@@ -107,7 +108,7 @@ module _ (nodes : Nodes) (payload : List ℕ) where
               ∙ ap (λ n. mapped (with_roots c leaves directories) (at_end (read_roots n (drop b4 payload)))) (sym whole)
 
           pub bad_roots : (fault : BytesFault) → Misses payload fault (at_end (read_roots new (drop b4 payload)))
-              → TellsBad fault (record_says nodes payload)
+              → MatchesBad fault (record_says nodes payload)
           bad_roots fault misses = tells_bad payload fault (read_record nodes payload)
               (same_misses payload fault _ _ behind_directories (mapped_misses (with_roots c leaves directories) payload fault _ misses))
 

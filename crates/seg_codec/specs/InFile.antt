@@ -1,6 +1,7 @@
 -- The nodes that a file has, as they are held.
 -- This project's own choice.
-use Rattle.std.specs.Prelude.{◌≡◌, ℕ, ◌<◌, ◌^◌, List, ◌∷◌, map, nat_eq, true, false, Contains, All, IsTrue}
+use Rattle.std.specs.Prelude.{◌≡◌, ℕ, ◌<◌, ◌^◌, List, ◌∷◌, map, nat_eq, true, false, Contains, All}
+use Rattle.std.specs.Prelude.{IsTrue}
 use Rattle.std.specs.List.{IsDistinct}
 use Rattle.log_model.specs.Nodes.{Nodes, ids_below, is_among}
 use Rattle.seg_tree.specs.Nodes.{LeafNode, DirectoryNode}

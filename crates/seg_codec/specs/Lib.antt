@@ -1,4 +1,4 @@
 pub mod Trees
 pub mod IdPlaces
 pub mod InFile
-pub mod Told
+pub mod Answers

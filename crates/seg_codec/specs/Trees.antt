@@ -1,6 +1,7 @@
 -- Trees and the nodes of a file: which nodes a tree has there, which trees the ids of a root name,
 -- and what a record adds of trees. This project's own choice.
-use Rattle.std.specs.Prelude.{◌≡◌, ℕ, ◌<◌, ◌^◌, List, ◌++◌, length, map, filter, not, Contains, All, IsTrue}
+use Rattle.std.specs.Prelude.{◌≡◌, ℕ, ◌<◌, ◌^◌, List, ◌++◌, length, map, filter, not, Contains, All}
+use Rattle.std.specs.Prelude.{IsTrue}
 use Rattle.fb_values.specs.declared.indexes.Order.{Order}
 use Rattle.fb_values.specs.declared.indexes.Order.TheVariants.{Eavt, Aevt, Avet, Vaet}
 use Rattle.log_model.specs.Payload.{written_format}

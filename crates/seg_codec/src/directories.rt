@@ -10,7 +10,7 @@ ghost use Rattle.log_model.specs.Merges.{several_over, read_list, read_directory
 ghost use Rattle.seg_tree.specs.Nodes.{LeafNode};
 ghost use Rattle.seg_tree.specs.Ids.{leaf_ids};
 ghost use Rattle.seg_codec.specs.Trees.{file_leaf, file_directory};
-ghost use Rattle.seg_codec.specs.Told.{AddsOne, Adds};
+ghost use Rattle.seg_codec.specs.Answers.{AddsOne, Adds};
 
 use crate::leaves::{get_count, get_new_id, get_node_len};
 use crate::nodes::Nodes;

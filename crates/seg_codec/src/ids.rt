@@ -13,7 +13,7 @@ use std::marker::Model;
 #[derive(Drop)]
 pub struct Ids {
     ids: Vec<u64>,
-    /// Where each id stands.
+    /// The place of each id.
     places: BTreeMap<u64, usize>,
 }
 
@@ -60,7 +60,7 @@ impl Ids {
         self.place(id).is_some()
     }
 
-    /// Where the id stands.
+    /// The place of the id.
     pub fn place(&self, id: u64) -> Option<usize>
         ensures none { IfNone result (is_among self.now id ≡ false) }
         ensures some { IfSome result

@@ -11,8 +11,8 @@ ghost use Rattle.seg_tree.specs.Indexes.{tree_in, trees_of, root_ids};
 ghost use Rattle.seg_tree.specs.declared.roots.Roots.{Roots as SegRoots};
 ghost use Rattle.seg_codec.specs.Trees.{AreTreesOf, Fits, merge_over, merge_of, ids_lacking, AreIdsOf, AreWritable};
 
-/// What a record writes of fitting trees may stand over the nodes of the file, and behind it the file has the trees. The ids of
-/// the file alone decide what is written, and behind the record it has those that it lacked.
+/// What a record writes of fitting trees may follow the nodes of the file, and after it the file has the trees. The ids of
+/// the file alone decide what is written, and after the record it has those that it lacked.
 pub fn a_record_has_what_the_file_lacks()
     ensures record_of { (nodes : FileNodes) (trees : SegRoots) (c : ℕ)
         → IsDistinct nat_eq (ids_in nodes) → AreDistinct (root_ids trees)
@@ -30,7 +30,7 @@ pub fn a_record_has_what_the_file_lacks()
         → AreIdsOf (ids ++ ids_lacking ids trees) (with_nodes nodes (merge_of nodes trees c)) }
 {}
 
-/// Trees that stand in the nodes of a file stand there behind each later record.
+/// Trees that are in the nodes of a file are there after each later record.
 pub fn trees_stand_over_later_nodes()
     ensures { (nodes : FileNodes) (merge : MergeRecord) (ids : FileRoots) (trees : SegRoots)
         → AreTreesOf nodes ids trees → AreTreesOf (with_nodes nodes merge) ids trees }

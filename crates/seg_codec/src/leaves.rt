@@ -7,7 +7,7 @@ ghost use Rattle.log_model.specs.Storable.{is_u32};
 ghost use Rattle.log_model.specs.Nodes.{Nodes as FileNodes, is_new_id, with_leaf, is_node_length};
 ghost use Rattle.log_model.specs.Merges.{several_over, read_list, read_dated, read_leaf};
 ghost use Rattle.seg_codec.specs.Trees.{file_leaf};
-ghost use Rattle.seg_codec.specs.Told.{AddsOne, Adds};
+ghost use Rattle.seg_codec.specs.Answers.{AddsOne, Adds};
 
 use crate::nodes::Nodes;
 use fb_codec::{BytesFault, get_datom, get_u32, get_u64, misfit};
@@ -131,7 +131,7 @@ fn get_leaf(
     Ok((Leaf::of(id, datoms), end))
 }
 
-/// So many datoms, each with its t behind it. The bytes that are there bound the room that is taken for them.
+/// So many datoms, each with its t after it. The bytes that are there bound the room that is taken for them.
 fn get_datoms(
     alloc: Global,
     bytes: &[u8],

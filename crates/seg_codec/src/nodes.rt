@@ -17,7 +17,7 @@ use std::sync::Arc;
 /// All ids are below this number.
 const IDS: u64 = 1 << 62;
 
-/// The leaves and directories that a file has, in the order in which they stand there.
+/// The leaves and directories that a file has, in the order in which they are there.
 #[derive(Drop)]
 pub struct Nodes {
     leaves: Vec<Arc<Leaf>>,

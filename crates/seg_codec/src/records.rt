@@ -2,7 +2,7 @@
 ghost use Rattle.std.specs.Prelude.{◌≤◌, length, drop};
 ghost use Rattle.log_model.specs.Fields.{at_end};
 ghost use Rattle.log_model.specs.Merges.{record_says, read_roots};
-ghost use Rattle.seg_codec.specs.Told.{Tells, Reads, TellsRoots};
+ghost use Rattle.seg_codec.specs.Answers.{Matches, ReadsRecord, MatchesRoots};
 
 use crate::directories::get_directories;
 use crate::leaves::get_leaves;
@@ -19,7 +19,7 @@ pub fn record_of(
     payload: &[u8],
     nodes: &mut Nodes,
 ) -> Result<(Roots, u32), BytesFault>
-    ensures { Tells nodes.old nodes.new result (record_says nodes.old payload.now) }
+    ensures { Matches nodes.old nodes.new result (record_says nodes.old payload.now) }
 {
     let known = nodes.counts();
     match read_record(alloc, payload, nodes) {
@@ -32,7 +32,7 @@ pub fn record_of(
 }
 
 fn read_record(alloc: Global, payload: &[u8], nodes: &mut Nodes) -> Result<(Roots, u32), BytesFault>
-    ensures { Reads nodes.old nodes.new result (record_says nodes.old payload.now) }
+    ensures { ReadsRecord nodes.old nodes.new result (record_says nodes.old payload.now) }
 {
     let (format, behind_format) = get_format(payload, 0)?;
     let (c, behind_c) = get_u32(payload, behind_format)?;
@@ -42,7 +42,7 @@ fn read_record(alloc: Global, payload: &[u8], nodes: &mut Nodes) -> Result<(Root
     Ok((roots, c))
 }
 
-/// The trees of the roots, behind which the payload ends.
+/// The trees of the roots, after which the payload ends.
 fn get_last_roots(
     alloc: Global,
     payload: &[u8],
@@ -50,7 +50,7 @@ fn get_last_roots(
     nodes: &Nodes,
 ) -> Result<Roots, BytesFault>
     requires { at ≤ length payload.now }
-    ensures { TellsRoots nodes.now payload.now result
+    ensures { MatchesRoots nodes.now payload.now result
         (at_end (read_roots nodes.now (drop at payload.now))) }
 {
     let (ids, end) = get_roots(alloc, payload, at, nodes)?;

@@ -8,7 +8,7 @@ ghost use Rattle.log_model.specs.Merges.{several_over, read_root, read_roots};
 ghost use Rattle.seg_tree.specs.Nodes.{DirectoryNode};
 ghost use Rattle.seg_codec.specs.Trees.{AreTreesOf};
 ghost use Rattle.seg_codec.specs.InFile.{IsDirectoryOf};
-ghost use Rattle.seg_codec.specs.Told.{ids_of, HasRoots, AreFound};
+ghost use Rattle.seg_codec.specs.Answers.{ids_of, HasRoots, AreFound};
 
 use crate::ids::Ids;
 use crate::leaves::get_count;

@@ -17,10 +17,10 @@ use seg_tree::{Directory, Leaf, Roots, Tree};
 use std::alloc::Global;
 use std::sync::Arc;
 
-/// The bytes that stand free in front of a record, for the length that a journal writes there.
+/// The bytes that are free in front of a record, for the length that a journal writes there.
 const FREE: usize = 8;
 
-/// The record of four trees that go as far as c, behind 8 free bytes: it has those of their nodes that the file has not.
+/// The record of four trees that go as far as c, after 8 free bytes: it has those of their nodes that the file has not.
 pub fn record_bytes(alloc: Global, roots: &Roots, c: u32, in_file: &Ids) -> Result<Vec<u8>, Memory>
     requires { AreStorable roots.now }
     ensures room { IfOk result (λ b. 8 ≤ length b.items) }
@@ -131,7 +131,7 @@ fn add_new_directory(
     Ok(())
 }
 
-// ---- lists, behind their numbers
+// ---- lists, after their numbers
 
 /// A number of members. A list that is too long for it has no room in memory either.
 fn put_count(count: usize, out: &mut Vec<u8>) -> Result<(), Memory>
@@ -175,7 +175,7 @@ fn put_datoms(datoms: &[Datom], out: &mut Vec<u8>) -> Result<(), Memory>
     Ok(())
 }
 
-/// A datom with its t behind it.
+/// A datom with its t after it.
 fn put_dated(datom: &Datom, out: &mut Vec<u8>) -> Result<(), Memory>
     requires { IsTrue (is_storable_value written_format datom.now.v) }
     ensures { OnOk result (out.new.items ≡ out.old.items ++ dated_bytes datom.now) }

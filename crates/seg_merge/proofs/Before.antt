@@ -1,5 +1,6 @@
 -- Lists whose datoms stand before those of another list.
-use Rattle.std.proofs.Common.{◌≡◌, ℕ, suc, ◌+◌, Bool, true, false, cond, List, [], ◌∷◌, ◌++◌, take, drop, refl, sym, ◌∙◌, subst, inl, inr, arith}
+use Rattle.std.proofs.Common.{◌≡◌, ℕ, suc, ◌+◌, Bool, true, false, cond, List, [], ◌∷◌, ◌++◌, take, drop, refl, sym, ◌∙◌, subst, inl, inr}
+use Rattle.std.proofs.Common.{arith}
 use Rattle.std.specs.Prelude.{Contains, filter}
 use Rattle.std.specs.Ordering.{is_gt}
 use Rattle.std.specs.declared.cmp.Ordering.{Ordering}
@@ -11,7 +12,7 @@ use Rattle.fb_values.specs.declared.indexes.Order.{Order}
 use Rattle.fb_values.specs.declared.indexes.Probe.{Probe}
 use Rattle.fb_values.specs.Orders.{key_cmp}
 use Rattle.fb_values.specs.OrderLaws.{key_cmp_total}
-use Rattle.fb_values.specs.Rising.{StandsBefore, IsRising}
+use Rattle.fb_values.specs.Rising.{IsBelowAll, IsRising}
 use Rattle.fb_search.specs.Places.{is_below, place_of, probe_of}
 use Rattle.fb_search.proofs.Below.{below_earlier}
 use Rattle.fb_search.proofs.Own.{is_below-probe_of}
@@ -21,7 +22,8 @@ use Rattle.live_index.proofs.Members.{contains-cons, contains_head, contains_tai
 abbrev pub Before : Order → List Datom → List Datom → Type 0
 Before order xs ys = (x y : Datom) → Contains xs x → Contains ys y → key_cmp order x y ≡ Less
 
-pub stands_at : (order : Order) (d : Datom) (xs : List Datom) → StandsBefore order d xs → (y : Datom) → Contains xs y → key_cmp order d y ≡ Less
+pub stands_at : (order : Order) (d : Datom) (xs : List Datom) → IsBelowAll order d xs → (y : Datom) → Contains xs y
+    → key_cmp order d y ≡ Less
 stands_at order d [] h y there = absurd (contains_none y there)
 stands_at order d (x ∷ xs) h y there =
     elim (contains-cons x xs y there) [
@@ -29,11 +31,13 @@ stands_at order d (x ∷ xs) h y there =
       | inr behind ↦ stands_at order d xs h.1 y behind
     ]
 
-stands_from : (order : Order) (d : Datom) (xs : List Datom) → ((y : Datom) → Contains xs y → key_cmp order d y ≡ Less) → StandsBefore order d xs
+stands_from : (order : Order) (d : Datom) (xs : List Datom)
+    → ((y : Datom) → Contains xs y → key_cmp order d y ≡ Less) → IsBelowAll order d xs
 stands_from order d [] h = tt
 stands_from order d (x ∷ xs) h = (h x (contains_head x xs x refl), stands_from order d xs (λ y there. h y (contains_tail x xs y there)))
 
-pub rising_join : (order : Order) (xs ys : List Datom) → IsRising order xs → IsRising order ys → Before order xs ys → IsRising order (xs ++ ys)
+pub rising_join : (order : Order) (xs ys : List Datom) → IsRising order xs → IsRising order ys → Before order xs ys
+    → IsRising order (xs ++ ys)
 rising_join order [] ys front back before = back
 rising_join order (x ∷ xs) ys front back before = (
   stands_from order x (xs ++ ys) (λ y there. elim (Contains-append_cases xs ys y there) [
@@ -47,7 +51,8 @@ pub rising_before : (order : Order) (xs ys : List Datom) → IsRising order (xs 
 rising_before order [] ys rising a y there at = absurd (contains_none a there)
 rising_before order (x ∷ xs) ys rising a y there at =
     elim (contains-cons x xs a there) [
-      | inl same ↦ subst (λ (z : Datom). key_cmp order z y ≡ Less) same (stands_at order x (xs ++ ys) rising.0 y (Contains-append_right xs ys y at))
+      | inl same ↦
+          subst (λ (z : Datom). key_cmp order z y ≡ Less) same (stands_at order x (xs ++ ys) rising.0 y (Contains-append_right xs ys y at))
       | inr behind ↦ rising_before order xs ys rising.1 a y behind at
     ]
 
@@ -83,7 +88,8 @@ take_below p (d ∷ ds) x there =
     ]
 
 -- and behind it the others
-pub drop_above : (p : Probe) (ds : List Datom) (x : Datom) → IsRising p.order ds → Contains (drop (place_of p ds) ds) x → is_below p x ≡ false
+pub drop_above : (p : Probe) (ds : List Datom) (x : Datom) → IsRising p.order ds → Contains (drop (place_of p ds) ds) x
+    → is_below p x ≡ false
 drop_above p [] x rising there = absurd (contains_none x there)
 drop_above p (d ∷ ds) x rising there =
     elim (cases_Bool (is_below p d)) [
@@ -109,10 +115,12 @@ greater_is_less order d x Equal e h = absurd (cc)
 greater_is_less order d x Greater e h = let t = key_cmp_total order in t.antisymm x d ∙ cc
 
 -- before a datom's own place stand lesser ones
-pub own_before : (order : Order) (d : Datom) (ds : List Datom) (x : Datom) → Contains (take (place_of (probe_of order d) ds) ds) x → key_cmp order x d ≡ Less
+pub own_before : (order : Order) (d : Datom) (ds : List Datom) (x : Datom) → Contains (take (place_of (probe_of order d) ds) ds) x
+    → key_cmp order x d ≡ Less
 own_before order d ds x there =
     greater_is_less order d x (key_cmp order d x) refl (sym (is_below-probe_of order d x) ∙ take_below (probe_of order d) ds x there)
 
 -- and behind it none
-pub own_behind : (order : Order) (d : Datom) (ds : List Datom) (x : Datom) → IsRising order ds → Contains (drop (place_of (probe_of order d) ds) ds) x → is_gt (key_cmp order d x) ≡ false
+pub own_behind : (order : Order) (d : Datom) (ds : List Datom) (x : Datom) → IsRising order ds
+    → Contains (drop (place_of (probe_of order d) ds) ds) x → is_gt (key_cmp order d x) ≡ false
 own_behind order d ds x rising there = sym (is_below-probe_of order d x) ∙ drop_above (probe_of order d) ds x rising there

@@ -12,7 +12,8 @@ use Rattle.seg_merge.specs.Merges.{HasNewDirectories}
 abbrev old_directories : ℕ → List DirectoryNode → List DirectoryNode
 old_directories first tree = filter (λ (d : DirectoryNode). is_old first d.id) tree
 
-old_ids_of_leaves : (first : ℕ) (leaves : List LeafNode) → length (filter (is_old first) (leaf_ids leaves)) ≡ length (old_leaves first leaves)
+old_ids_of_leaves : (first : ℕ) (leaves : List LeafNode)
+    → length (filter (is_old first) (leaf_ids leaves)) ≡ length (old_leaves first leaves)
 old_ids_of_leaves first [] = refl
 old_ids_of_leaves first (leaf ∷ leaves) =
     elim (cases_lt leaf.id first) [
@@ -30,7 +31,8 @@ with_one first d tree =
 
 count-append : (first : ℕ) (xs ys : List ℕ)
     → length (filter (is_old first) (xs ++ ys)) ≡ length (filter (is_old first) xs) + length (filter (is_old first) ys)
-count-append first xs ys = ap length (filter-append (is_old first) xs ys) ∙ length-append (filter (is_old first) xs) (filter (is_old first) ys)
+count-append first xs ys =
+    ap length (filter-append (is_old first) xs ys) ∙ length-append (filter (is_old first) xs) (filter (is_old first) ys)
 
 -- an older id is one of a leaf or of a directory
 old_ids_of_nodes : (first : ℕ) (tree : List DirectoryNode)
@@ -56,12 +58,14 @@ none_old first (d ∷ tree) none =
           All-cons (λ (x : DirectoryNode). first ≤ x.id) d tree up (none_old first tree (omega (arith, none, counted, one)))
     ]
 
-pub built_directories : (build : Build) (tree : List DirectoryNode) (next : ℕ) → IsBuilt build tree next → HasNewDirectories build.first tree
+pub built_directories : (build : Build) (tree : List DirectoryNode) (next : ℕ) → IsBuilt build tree next
+    → HasNewDirectories build.first tree
 built_directories build tree next built =
     let ids = ap length built.old ∙ length-map build.kept (λ (l : LeafNode). l.id) in
     let leaves = ap length built.kept in
     none_old build.first tree (omega (arith, ids, leaves, old_ids_of_nodes build.first tree))
 
-pub later_directories : (first later : ℕ) (tree : List DirectoryNode) → first ≤ later → HasNewDirectories later tree → HasNewDirectories first tree
+pub later_directories : (first later : ℕ) (tree : List DirectoryNode) → first ≤ later → HasNewDirectories later tree
+    → HasNewDirectories first tree
 later_directories first later tree le all =
     All-weaker (λ (d : DirectoryNode). later ≤ d.id) (λ (d : DirectoryNode). first ≤ d.id) (λ d above. omega (arith, above)) tree all

@@ -37,21 +37,25 @@ pub record IsNext (order : Order) (P : Datom → Type 0) (old rest added left pi
   pub before_rest : Before order piece rest
   pub before_left : Before order piece left
 
-piece_behind : (order : Order) (P : Datom → Type 0) (seen old rest taken added left out piece : List Datom) → Merges order P seen (old ++ rest) taken (added ++ left) out → IsNext order P old rest added left piece → Before order out piece
+piece_behind : (order : Order) (P : Datom → Type 0) (seen old rest taken added left out piece : List Datom)
+    → Merges order P seen (old ++ rest) taken (added ++ left) out → IsNext order P old rest added left piece → Before order out piece
 piece_behind order P seen old rest taken added left out piece m next x y there at =
     elim ((next.members y).0 at) [
       | inl of_old ↦ m.before_rest x y there (Contains-append_left old rest y of_old.0)
       | inr of_added ↦ m.before_left x y there (Contains-append_left added left y of_added)
     ]
 
-join_before : (order : Order) (out piece later : List Datom) → Before order out later → Before order piece later → Before order (out ++ piece) later
+join_before : (order : Order) (out piece later : List Datom) → Before order out later → Before order piece later
+    → Before order (out ++ piece) later
 join_before order out piece later front back x y there at =
     elim (Contains-append_cases out piece x there) [
       | inl l ↦ front x y l at
       | inr r ↦ back x y r at
     ]
 
-pub merges_more : (order : Order) (P : Datom → Type 0) (seen old rest taken added left out piece : List Datom) → Merges order P seen (old ++ rest) taken (added ++ left) out → IsNext order P old rest added left piece → Merges order P (seen ++ old) rest (taken ++ added) left (out ++ piece)
+pub merges_more : (order : Order) (P : Datom → Type 0) (seen old rest taken added left out piece : List Datom)
+    → Merges order P seen (old ++ rest) taken (added ++ left) out → IsNext order P old rest added left piece
+    → Merges order P (seen ++ old) rest (taken ++ added) left (out ++ piece)
 merges_more order P seen old rest taken added left out piece m next = record {
   rising = rising_join order out piece m.rising next.rising (piece_behind order P seen old rest taken added left out piece m next);
   members = λ d. (
@@ -76,6 +80,8 @@ merges_more order P seen old rest taken added left out piece m next = record {
       ]
     ],
   );
-  before_rest = join_before order out piece rest (λ x y there at. m.before_rest x y there (Contains-append_right old rest y at)) next.before_rest;
-  before_left = join_before order out piece left (λ x y there at. m.before_left x y there (Contains-append_right added left y at)) next.before_left;
+  before_rest =
+      join_before order out piece rest (λ x y there at. m.before_rest x y there (Contains-append_right old rest y at)) next.before_rest;
+  before_left =
+      join_before order out piece left (λ x y there at. m.before_left x y there (Contains-append_right added left y at)) next.before_left;
 }

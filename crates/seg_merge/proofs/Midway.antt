@@ -1,5 +1,6 @@
 -- One added datom, and the older ones before it.
-use Rattle.std.proofs.Common.{◌≡◌, ℕ, Bool, true, false, cond, List, [], ◌∷◌, ◌++◌, take, drop, refl, sym, ap, ◌∙◌, subst, inl, inr, append_assoc, append-nil}
+use Rattle.std.proofs.Common.{◌≡◌, ℕ, Bool, true, false, cond, List, [], ◌∷◌, ◌++◌, take, drop, refl, sym, ap, ◌∙◌, subst, inl, inr}
+use Rattle.std.proofs.Common.{append_assoc, append-nil}
 use Rattle.std.specs.Prelude.{Contains, filter, IsTrue}
 use Rattle.std.specs.Ordering.{is_gt, is_eq}
 use Rattle.std.specs.declared.cmp.Ordering.{Ordering}
@@ -27,12 +28,14 @@ pub record IsApart (order : Order) (d : Datom) (ds rest : List Datom) : Type 0 w
   pub same : (y : Datom) → Contains twin y → y ≡ d
   pub later : (y : Datom) → Contains rest y → key_cmp order d y ≡ Less
 
-less_after : (order : Order) (d x y : Datom) (o : Ordering) → key_cmp order d x ≡ o → is_gt o ≡ false → key_cmp order x y ≡ Less → key_cmp order d y ≡ Less
+less_after : (order : Order) (d x y : Datom) (o : Ordering) → key_cmp order d x ≡ o → is_gt o ≡ false → key_cmp order x y ≡ Less
+    → key_cmp order d y ≡ Less
 less_after order d x y Less e h less = (key_cmp_total order).trans d x y e less
 less_after order d x y Equal e h less = (key_cmp_total order).congr d x y e ∙ less
 less_after order d x y Greater e h less = absurd (cc)
 
-is_less : (order : Order) (d x : Datom) (o : Ordering) → key_cmp order d x ≡ o → is_gt o ≡ false → is_eq (key_cmp order x d) ≡ false → key_cmp order d x ≡ Less
+is_less : (order : Order) (d x : Datom) (o : Ordering) → key_cmp order d x ≡ o → is_gt o ≡ false → is_eq (key_cmp order x d) ≡ false
+    → key_cmp order d x ≡ Less
 is_less order d x Less e h apart = e
 is_less order d x Equal e h apart = let t = key_cmp_total order in absurd (cc (t.antisymm x d, t.antisymm d x))
 is_less order d x Greater e h apart = absurd (cc)
@@ -42,7 +45,9 @@ is_equal order d x Less e h = absurd (cc)
 is_equal order d x Equal e h = e
 is_equal order d x Greater e h = absurd (cc)
 
-pub is_apart : (order : Order) (d : Datom) (ds : List Datom) → IsRising order ds → ((x : Datom) → Contains ds x → is_gt (key_cmp order d x) ≡ false) → ((x : Datom) → Contains ds x → key_cmp order x d ≡ Equal → x ≡ d) → IsApart order d ds (without_twin order d ds)
+pub is_apart : (order : Order) (d : Datom) (ds : List Datom) → IsRising order ds
+    → ((x : Datom) → Contains ds x → is_gt (key_cmp order d x) ≡ false) → ((x : Datom) → Contains ds x → key_cmp order x d ≡ Equal → x ≡ d)
+    → IsApart order d ds (without_twin order d ds)
 is_apart order d [] rising above single = record {
   twin = [];
   parts = refl;
@@ -63,7 +68,9 @@ is_apart order d (x ∷ xs) rising above single =
         | inl here ↦ sym here ∙ single x (contains_head x xs x refl) (is_equal order d x (key_cmp order x d) refl twin)
         | inr behind ↦ absurd (contains_none y behind)
       ];
-      later = λ y there. less_after order d x y (key_cmp order d x) refl (above x (contains_head x xs x refl)) (stands_at order x xs rising.0 y there);
+      later =
+          λ y there.
+          less_after order d x y (key_cmp order d x) refl (above x (contains_head x xs x refl)) (stands_at order x xs rising.0 y there);
     }
 
     with_none : is_eq (key_cmp order x d) ≡ false → IsApart order d (x ∷ xs) (x ∷ xs)
@@ -72,18 +79,26 @@ is_apart order d (x ∷ xs) rising above single =
       parts = refl;
       same = λ y there. absurd (contains_none y there);
       later = λ y there. elim (contains-cons x xs y there) [
-        | inl here ↦ subst (λ (z : Datom). key_cmp order d z ≡ Less) here (is_less order d x (key_cmp order d x) refl (above x (contains_head x xs x refl)) none)
-        | inr behind ↦ less_after order d x y (key_cmp order d x) refl (above x (contains_head x xs x refl)) (stands_at order x xs rising.0 y behind)
+        | inl here ↦
+            subst (λ (z : Datom). key_cmp order d z ≡ Less) here
+            (is_less order d x (key_cmp order d x) refl (above x (contains_head x xs x refl)) none)
+        | inr behind ↦
+            less_after order d x y (key_cmp order d x) refl (above x (contains_head x xs x refl)) (stands_at order x xs rising.0 y behind)
       ];
     }
 
 -- the held ones of the older datoms before the datom, and the datom
-next_datom : (order : Order) (p : Datom → Bool) (front rest left : List Datom) (d : Datom) (twin : List Datom) → IsRising order (front ++ (twin ++ rest)) → ((x : Datom) → Contains front x → key_cmp order x d ≡ Less) → ((y : Datom) → Contains twin y → y ≡ d) → ((y : Datom) → Contains rest y → key_cmp order d y ≡ Less) → IsRising order (d ∷ left) → IsNext order (λ x. IsTrue (p x)) (front ++ twin) rest (d ∷ []) left (filter p front ++ d ∷ [])
+next_datom : (order : Order) (p : Datom → Bool) (front rest left : List Datom) (d : Datom) (twin : List Datom)
+    → IsRising order (front ++ (twin ++ rest)) → ((x : Datom) → Contains front x → key_cmp order x d ≡ Less)
+    → ((y : Datom) → Contains twin y → y ≡ d) → ((y : Datom) → Contains rest y → key_cmp order d y ≡ Less) → IsRising order (d ∷ left)
+    → IsNext order (λ x. IsTrue (p x)) (front ++ twin) rest (d ∷ []) left (filter p front ++ d ∷ [])
 next_datom order p front rest left d twin rising lesser same later rises = record {
-  rising = rising_join order (filter p front) (d ∷ []) (rising-filter order p front (rising-append_left order front (twin ++ rest) rising)) (tt, tt) (λ x y there at. elim (contains-cons d [] y at) [
-    | inl here ↦ subst (λ (z : Datom). key_cmp order x z ≡ Less) here (lesser x (from_filter p front x there).0)
-    | inr behind ↦ absurd (contains_none y behind)
-  ]);
+  rising =
+      rising_join order (filter p front) (d ∷ []) (rising-filter order p front (rising-append_left order front (twin ++ rest) rising))
+      (tt, tt) (λ x y there at. elim (contains-cons d [] y at) [
+        | inl here ↦ subst (λ (z : Datom). key_cmp order x z ≡ Less) here (lesser x (from_filter p front x there).0)
+        | inr behind ↦ absurd (contains_none y behind)
+      ]);
   members = λ x. (
     λ there. elim (Contains-append_cases (filter p front) (d ∷ []) x there) [
       | inl l ↦ inl (Contains-append_left front twin x (from_filter p front x l).0, (from_filter p front x l).1)
@@ -120,14 +135,16 @@ pub record IsMidway (order : Order) (P : Datom → Type 0) (old rest taken left 
   pub merges : Merges order P seen rest taken left out
 
 -- two datoms with one key are one
-no_twin : (order : Order) (all : List Datom) (x d : Datom) → HasNoTwins all → Contains all x → Contains all d → key_cmp order x d ≡ Equal → x ≡ d
+no_twin : (order : Order) (all : List Datom) (x d : Datom) → HasNoTwins all → Contains all x → Contains all d → key_cmp order x d ≡ Equal
+    → x ≡ d
 no_twin order all x d single there at e = single x d there at (key_cmp-Equal order x d e)
 
 pub midway_more : (order : Order) (p : Datom → Bool) (old rest taken left out : List Datom) (d : Datom) (added : List Datom) (place : ℕ)
     → IsRising order old → IsRising order added → HasNoTwins (old ++ added) → taken ++ d ∷ left ≡ added
     → place ≡ place_of (probe_of order d) rest
     → IsMidway order (λ x. IsTrue (p x)) old rest taken (d ∷ left) out
-    → IsMidway order (λ x. IsTrue (p x)) old (without_twin order d (drop place rest)) (taken ++ d ∷ []) left ((out ++ filter p (take place rest)) ++ d ∷ [])
+    → IsMidway order (λ x. IsTrue (p x)) old (without_twin order d (drop place rest)) (taken ++ d ∷ []) left
+    ((out ++ filter p (take place rest)) ++ d ∷ [])
 midway_more order p old rest taken left out d added place rises added_rises single whole is m =
     let n = place_of (probe_of order d) rest in
     let front = take n rest in
@@ -135,26 +152,42 @@ midway_more order p old rest taken left out d added place rises added_rises sing
     let cut : front ++ behind ≡ rest = take-append-drop n rest in
     let rest_rises : IsRising order rest = rising-append_right order m.seen rest (subst (IsRising order) (sym m.parts) rises) in
     let behind_rises : IsRising order behind = rising-append_right order front behind (subst (IsRising order) (sym cut) rest_rises) in
-    let of_old = λ (x : Datom) (there : Contains behind x). Contains-append_left old added x (subst (λ (ds : List Datom). Contains ds x) m.parts (Contains-append_right m.seen rest x (subst (λ (ds : List Datom). Contains ds x) cut (Contains-append_right front behind x there)))) in
-    let of_added : Contains (old ++ added) d = Contains-append_right old added d (subst (λ (ds : List Datom). Contains ds d) whole (Contains-append_right taken (d ∷ left) d (contains_head d left d refl))) in
-    let apart = is_apart order d behind behind_rises (λ x there. own_behind order d rest x rest_rises there) (λ x there e. no_twin order (old ++ added) x d single (of_old x there) of_added e) in
+    let of_old =
+    λ (x : Datom) (there : Contains behind x). Contains-append_left old added x (subst (λ (ds : List Datom). Contains ds x) m.parts
+    (Contains-append_right m.seen rest x (subst (λ (ds : List Datom). Contains ds x) cut (Contains-append_right front behind x there)))) in
+    let of_added : Contains (old ++ added) d =
+    Contains-append_right old added d
+    (subst (λ (ds : List Datom). Contains ds d) whole (Contains-append_right taken (d ∷ left) d (contains_head d left d refl))) in
+    let apart =
+    is_apart order d behind behind_rises (λ x there. own_behind order d rest x rest_rises there)
+    (λ x there e. no_twin order (old ++ added) x d single (of_old x there) of_added e) in
     let later = without_twin order d behind in
     let split : (front ++ apart.twin) ++ later ≡ rest = append_assoc front apart.twin later ∙ ap (λ ds. front ++ ds) apart.parts ∙ cut in
-    let rises_there : IsRising order (front ++ (apart.twin ++ later)) = subst (IsRising order) (sym (ap (λ ds. front ++ ds) apart.parts ∙ cut)) rest_rises in
+    let rises_there : IsRising order (front ++ (apart.twin ++ later)) =
+    subst (IsRising order) (sym (ap (λ ds. front ++ ds) apart.parts ∙ cut)) rest_rises in
     let d_rises : IsRising order (d ∷ left) = rising-append_right order taken (d ∷ left) (subst (IsRising order) (sym whole) added_rises) in
-    let next = next_datom order p front later left d apart.twin rises_there (λ x there. own_before order d rest x there) apart.same apart.later d_rises in
+    let next =
+    next_datom order p front later left d apart.twin rises_there
+    (λ x there. own_before order d rest x there) apart.same apart.later d_rises in
     let before = subst (λ (ds : List Datom). Merges order (λ x. IsTrue (p x)) m.seen ds taken (d ∷ left) out) (sym split) m.merges in
-    let more = merges_more order (λ x. IsTrue (p x)) m.seen (front ++ apart.twin) later taken (d ∷ []) left out (filter p front ++ d ∷ []) before next in
-    let same_out : out ++ (filter p front ++ d ∷ []) ≡ (out ++ filter p front) ++ d ∷ [] = sym (append_assoc out (filter p front) (d ∷ [])) in
-    subst (λ (k : ℕ). IsMidway order (λ x. IsTrue (p x)) old (without_twin order d (drop k rest)) (taken ++ d ∷ []) left ((out ++ filter p (take k rest)) ++ d ∷ [])) (sym is)
+    let more =
+    merges_more order (λ x. IsTrue (p x)) m.seen (front ++ apart.twin) later taken (d ∷ []) left out
+    (filter p front ++ d ∷ []) before next in
+    let same_out : out ++ (filter p front ++ d ∷ []) ≡ (out ++ filter p front) ++ d ∷ [] =
+    sym (append_assoc out (filter p front) (d ∷ [])) in
+    subst (λ (k : ℕ). IsMidway order (λ x. IsTrue (p x)) old (without_twin order d (drop k rest)) (taken ++ d ∷ []) left
+    ((out ++ filter p (take k rest)) ++ d ∷ [])) (sym is)
     (record {
       seen = m.seen ++ (front ++ apart.twin);
       parts = append_assoc m.seen (front ++ apart.twin) later ∙ ap (λ ds. m.seen ++ ds) split ∙ m.parts;
-      merges = subst (λ (ds : List Datom). Merges order (λ x. IsTrue (p x)) (m.seen ++ (front ++ apart.twin)) later (taken ++ d ∷ []) left ds) same_out more;
+      merges =
+          subst (λ (ds : List Datom). Merges order (λ x. IsTrue (p x)) (m.seen ++ (front ++ apart.twin)) later (taken ++ d ∷ []) left ds)
+          same_out more;
     })
 
 -- the older datoms behind the last one
-pub midway_all : (order : Order) (p : Datom → Bool) (old rest taken out : List Datom) → IsRising order old → IsMidway order (λ x. IsTrue (p x)) old rest taken [] out → Merges order (λ x. IsTrue (p x)) old [] taken [] (out ++ filter p rest)
+pub midway_all : (order : Order) (p : Datom → Bool) (old rest taken out : List Datom) → IsRising order old
+    → IsMidway order (λ x. IsTrue (p x)) old rest taken [] out → Merges order (λ x. IsTrue (p x)) old [] taken [] (out ++ filter p rest)
 midway_all order p old rest taken out rises m =
     let rest_rises : IsRising order rest = rising-append_right order m.seen rest (subst (IsRising order) (sym m.parts) rises) in
     let next : IsNext order (λ x. IsTrue (p x)) rest [] [] [] (filter p rest) = record {

@@ -12,7 +12,8 @@ use Rattle.seg_tree.proofs.Making.{next_above_append}
 use Rattle.seg_tree.proofs.Rows.{ranges_join}
 
 -- what is below a later number is below the first one already
-pub old_leaves-later : (first later : ℕ) (leaves : List LeafNode) → first ≤ later → All (λ (leaf : LeafNode). leaf.id < first) (old_leaves later leaves) → old_leaves first leaves ≡ old_leaves later leaves
+pub old_leaves-later : (first later : ℕ) (leaves : List LeafNode) → first ≤ later
+    → All (λ (leaf : LeafNode). leaf.id < first) (old_leaves later leaves) → old_leaves first leaves ≡ old_leaves later leaves
 old_leaves-later first later [] le all = refl
 old_leaves-later first later (leaf ∷ leaves) le all =
     elim (cases_lt leaf.id later) [
@@ -20,7 +21,8 @@ old_leaves-later first later (leaf ∷ leaves) le all =
           let e = lt-ltb leaf.id later below in
           let here : All (λ (l : LeafNode). l.id < first) (leaf ∷ old_leaves later leaves) = rw e at all in
           let less = All-head (λ (l : LeafNode). l.id < first) leaf (old_leaves later leaves) here in
-          let rest = old_leaves-later first later leaves le (All-tail (λ (l : LeafNode). l.id < first) leaf (old_leaves later leaves) here) in
+          let rest =
+          old_leaves-later first later leaves le (All-tail (λ (l : LeafNode). l.id < first) leaf (old_leaves later leaves) here) in
           rw (e, lt-ltb leaf.id first less) (ap (λ ls. leaf ∷ ls) rest)
       | inr up ↦
           let e = le-ltb leaf.id later up in
@@ -28,7 +30,8 @@ old_leaves-later first later (leaf ∷ leaves) le all =
           rw (e, le-ltb leaf.id first up_first) (old_leaves-later first later leaves le (rw e at all))
     ]
 
-new_ids-later : (first later : ℕ) (ids : List ℕ) → first ≤ later → All (λ (id : ℕ). id < first) (filter (is_old later) ids) → filter (is_new first) ids ≡ filter (is_new later) ids
+new_ids-later : (first later : ℕ) (ids : List ℕ) → first ≤ later → All (λ (id : ℕ). id < first) (filter (is_old later) ids)
+    → filter (is_new first) ids ≡ filter (is_new later) ids
 new_ids-later first later [] le all = refl
 new_ids-later first later (id ∷ ids) le all =
     elim (cases_lt id later) [
@@ -45,16 +48,22 @@ new_ids-later first later (id ∷ ids) le all =
           rw (le-leb first id up_first, le-leb later id up) (ap (λ ns. id ∷ ns) rest)
     ]
 
-all_ids : (first : ℕ) (leaves : List LeafNode) → All (λ (leaf : LeafNode). leaf.id < first) leaves → All (λ (id : ℕ). id < first) (leaf_ids leaves)
+all_ids : (first : ℕ) (leaves : List LeafNode) → All (λ (leaf : LeafNode). leaf.id < first) leaves
+    → All (λ (id : ℕ). id < first) (leaf_ids leaves)
 all_ids first [] all = λ k d within. absurd (omega arith)
-all_ids first (leaf ∷ leaves) all = ids_cons first leaf leaves (All-head (λ (l : LeafNode). l.id < first) leaf leaves all) (all_ids first leaves (All-tail (λ (l : LeafNode). l.id < first) leaf leaves all))
+all_ids first (leaf ∷ leaves) all =
+    ids_cons first leaf leaves (All-head (λ (l : LeafNode). l.id < first) leaf leaves all)
+    (all_ids first leaves (All-tail (λ (l : LeafNode). l.id < first) leaf leaves all))
   where
-    ids_cons : (first : ℕ) (leaf : LeafNode) (leaves : List LeafNode) → leaf.id < first → All (λ (id : ℕ). id < first) (leaf_ids leaves) → All (λ (id : ℕ). id < first) (leaf.id ∷ leaf_ids leaves)
+    ids_cons : (first : ℕ) (leaf : LeafNode) (leaves : List LeafNode) → leaf.id < first → All (λ (id : ℕ). id < first) (leaf_ids leaves)
+        → All (λ (id : ℕ). id < first) (leaf.id ∷ leaf_ids leaves)
     ids_cons first leaf leaves less all zero d within = less
     ids_cons first leaf leaves less all (suc k) d within = all k d (omega arith)
 
 -- the new ids of a tree that is numbered from a later number on
-pub numbered_later : (first later next : ℕ) (ids : List ℕ) (kept : List LeafNode) → first ≤ later → filter (is_old later) ids ≡ leaf_ids kept → All (λ (leaf : LeafNode). leaf.id < first) kept → AreNumbered later next ids → filter (is_new first) ids ≡ range_with_len later (next - later)
+pub numbered_later : (first later next : ℕ) (ids : List ℕ) (kept : List LeafNode) → first ≤ later
+    → filter (is_old later) ids ≡ leaf_ids kept → All (λ (leaf : LeafNode). leaf.id < first) kept → AreNumbered later next ids
+    → filter (is_new first) ids ≡ range_with_len later (next - later)
 numbered_later first later next ids kept le old all numbered =
     new_ids-later first later ids le (subst (All (λ (id : ℕ). id < first)) (sym old) (all_ids first kept all)) ∙ numbered
 
@@ -62,14 +71,18 @@ pub in_row_of : (first next : ℕ) (ids : List ℕ) → filter (is_new first) id
 in_row_of first next ids is = is ∙ ap (range_with_len first) (sym (ap length is ∙ length-range_with_len first (next - first)))
 
 -- four lists of ids, each numbered from where the one before ends
-pub four_in_row : (first second third fourth next : ℕ) (es bs vs rs : List ℕ) → first ≤ second → second ≤ third → third ≤ fourth → fourth ≤ next
+pub four_in_row : (first second third fourth next : ℕ) (es bs vs rs : List ℕ) → first ≤ second → second ≤ third → third ≤ fourth
+    → fourth ≤ next
     → filter (is_new first) es ≡ range_with_len first (second - first) → filter (is_new first) bs ≡ range_with_len second (third - second)
     → filter (is_new first) vs ≡ range_with_len third (fourth - third) → filter (is_new first) rs ≡ range_with_len fourth (next - fourth)
     → IsInRow first (((es ++ bs) ++ vs) ++ rs)
 four_in_row first second third fourth next es bs vs rs a b c d ees eas evs ers =
     in_row_of first next (((es ++ bs) ++ vs) ++ rs)
     (filter-append (is_new first) ((es ++ bs) ++ vs) rs
-    ∙ ap (λ ns. ns ++ filter (is_new first) rs) (filter-append (is_new first) (es ++ bs) vs ∙ ap (λ ns. ns ++ filter (is_new first) vs) (filter-append (is_new first) es bs ∙ ap (λ ns. ns ++ filter (is_new first) bs) ees ∙ ap (λ ns. range_with_len first (second - first) ++ ns) eas ∙ ranges_join first second third a b) ∙ ap (λ ns. range_with_len first (third - first) ++ ns) evs ∙ ranges_join first third fourth (omega arith) c)
+    ∙ ap (λ ns. ns ++ filter (is_new first) rs) (filter-append (is_new first) (es ++ bs) vs
+    ∙ ap (λ ns. ns ++ filter (is_new first) vs) (filter-append (is_new first) es bs ∙ ap (λ ns. ns ++ filter (is_new first) bs) ees
+    ∙ ap (λ ns. range_with_len first (second - first) ++ ns) eas ∙ ranges_join first second third a b)
+    ∙ ap (λ ns. range_with_len first (third - first) ++ ns) evs ∙ ranges_join first third fourth (omega arith) c)
     ∙ ap (λ ns. range_with_len first (fourth - first) ++ ns) ers
     ∙ ranges_join first fourth next (omega arith) d)
 
@@ -83,7 +96,8 @@ below_next (n ∷ ids) id there =
       | inr behind ↦ omega (arith, below_next ids id behind)
     ]
 
-leaf_below : (leaves : List LeafNode) (leaf : LeafNode) (more : List ℕ) → Contains leaves leaf → leaf.id < next_above (leaf_ids leaves ++ more)
+leaf_below : (leaves : List LeafNode) (leaf : LeafNode) (more : List ℕ) → Contains leaves leaf
+    → leaf.id < next_above (leaf_ids leaves ++ more)
 leaf_below [] leaf more there = absurd (contains_none leaf there)
 leaf_below (l ∷ leaves) leaf more there =
     elim (contains-cons l leaves leaf there) [
@@ -91,7 +105,8 @@ leaf_below (l ∷ leaves) leaf more there =
       | inr behind ↦ omega (arith, leaf_below leaves leaf more behind)
     ]
 
-pub tree_leaf_below : (tree : List DirectoryNode) (leaf : LeafNode) → Contains (tree_leaves tree) leaf → leaf.id < next_above (node_ids tree)
+pub tree_leaf_below : (tree : List DirectoryNode) (leaf : LeafNode) → Contains (tree_leaves tree) leaf
+    → leaf.id < next_above (node_ids tree)
 tree_leaf_below [] leaf there = absurd (contains_none leaf there)
 tree_leaf_below (d ∷ tree) leaf there =
     let e = next_above_append (directory_ids d) (node_ids tree) in

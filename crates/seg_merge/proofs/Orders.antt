@@ -26,8 +26,10 @@ use Rattle.seg_merge.proofs.Distinct.{four_distinct}
 
 -- ---- one order
 
-pub leaves_rise : (order : Order) (tree : List DirectoryNode) (ls : List LeafNode) → ls ≡ tree_leaves tree → IsRising order (tree_datoms tree) → IsRising order (leaf_datoms ls)
-leaves_rise order tree ls is rising = subst (λ (xs : List LeafNode). IsRising order (leaf_datoms xs)) (sym is) (subst (IsRising order) (tree_datoms-leaves tree) rising)
+pub leaves_rise : (order : Order) (tree : List DirectoryNode) (ls : List LeafNode) → ls ≡ tree_leaves tree
+    → IsRising order (tree_datoms tree) → IsRising order (leaf_datoms ls)
+leaves_rise order tree ls is rising =
+    subst (λ (xs : List LeafNode). IsRising order (leaf_datoms xs)) (sym is) (subst (IsRising order) (tree_datoms-leaves tree) rising)
 
 -- where the index still holds what it held, all of the leaves' datoms are held
 pub leaves_held : (order : Order) (held coverage : Coverage) (tree : List DirectoryNode) (ls : List LeafNode) → ls ≡ tree_leaves tree
@@ -36,19 +38,29 @@ leaves_held order held coverage tree ls is stays all =
     subst (AreHeld coverage order) (tree_datoms-leaves tree ∙ ap leaf_datoms (sym is))
     (All-weaker (λ d. IsTrue (is_held held order d)) (λ d. IsTrue (is_held coverage order d)) (λ d. stays d.a) (tree_datoms tree) all)
 
-pub due_rises : (order : Order) (coverage : Coverage) (c : ℕ) (live due : List Datom) → due ≡ due_of coverage c order live → IsRising order live → IsRising order due
+pub due_rises : (order : Order) (coverage : Coverage) (c : ℕ) (live due : List Datom) → due ≡ due_of coverage c order live
+    → IsRising order live → IsRising order due
 due_rises order coverage c live due is rising = subst (IsRising order) (sym is) (rising-filter order (is_due coverage c order) live rising)
 
-pub due_single : (order : Order) (coverage : Coverage) (c : ℕ) (tree : List DirectoryNode) (ls : List LeafNode) (live due : List Datom) → ls ≡ tree_leaves tree → due ≡ due_of coverage c order live → HasNoTwins (tree_datoms tree ++ live) → HasNoTwins (leaf_datoms ls ++ due)
+pub due_single : (order : Order) (coverage : Coverage) (c : ℕ) (tree : List DirectoryNode) (ls : List LeafNode) (live due : List Datom)
+    → ls ≡ tree_leaves tree → due ≡ due_of coverage c order live → HasNoTwins (tree_datoms tree ++ live)
+    → HasNoTwins (leaf_datoms ls ++ due)
 due_single order coverage c tree ls live due ls_is due_is single =
     single_part (tree_datoms tree ++ live) (leaf_datoms ls ++ due) single
     (λ x there. elim (Contains-append_cases (leaf_datoms ls) due x there) [
-      | inl a ↦ Contains-append_left (tree_datoms tree) live x (subst (λ (ds : List Datom). Contains ds x) (ap leaf_datoms ls_is ∙ sym (tree_datoms-leaves tree)) a)
-      | inr b ↦ Contains-append_right (tree_datoms tree) live x (from_filter (is_due coverage c order) live x (subst (λ (ds : List Datom). Contains ds x) due_is b)).0
+      | inl a ↦
+          Contains-append_left (tree_datoms tree) live x
+          (subst (λ (ds : List Datom). Contains ds x) (ap leaf_datoms ls_is ∙ sym (tree_datoms-leaves tree)) a)
+      | inr b ↦
+          Contains-append_right (tree_datoms tree) live x
+          (from_filter (is_due coverage c order) live x (subst (λ (ds : List Datom). Contains ds x) due_is b)).0
     ])
 
-pub plan_is : (order : Order) (coverage : Coverage) (c : ℕ) (tree : List DirectoryNode) (ls : List LeafNode) (live due : List Datom) (plan : Planned) → ls ≡ tree_leaves tree → due ≡ due_of coverage c order live
-    → IsUnion order coverage (leaf_datoms ls) due plan.datoms → All (Contains ls) plan.kept → RepeatsNone ls plan.kept → KeepsLeaves order coverage ls due plan.kept → IsPlan order coverage c tree live plan
+pub plan_is : (order : Order) (coverage : Coverage) (c : ℕ) (tree : List DirectoryNode) (ls : List LeafNode) (live due : List Datom)
+    (plan : Planned)
+    → ls ≡ tree_leaves tree → due ≡ due_of coverage c order live
+    → IsUnion order coverage (leaf_datoms ls) due plan.datoms → All (Contains ls) plan.kept → RepeatsNone ls plan.kept
+    → KeepsLeaves order coverage ls due plan.kept → IsPlan order coverage c tree live plan
 plan_is order coverage c tree ls live due plan ls_is due_is union older once stays =
     let e : leaf_datoms ls ≡ tree_datoms tree = ap leaf_datoms ls_is ∙ sym (tree_datoms-leaves tree) in
     record {
@@ -61,25 +73,37 @@ plan_is order coverage c tree ls live due plan ls_is due_is union older once sta
           ],
           λ given. elim given [
             | inl a ↦ (union.members d).1 (inl (subst (λ (ds : List Datom). Contains ds d) (sym e) a.0, a.1))
-            | inr b ↦ (union.members d).1 (inr (subst (λ (ds : List Datom). Contains ds d) (sym due_is) (into_filter (is_due coverage c order) live d b.0 b.1)))
+            | inr b ↦
+                (union.members d).1
+                (inr (subst (λ (ds : List Datom). Contains ds d) (sym due_is) (into_filter (is_due coverage c order) live d b.0 b.1)))
           ],
         );
       };
       older = subst (λ (xs : List LeafNode). All (Contains xs) plan.kept) ls_is older;
       once = subst (λ (xs : List LeafNode). RepeatsNone xs plan.kept) ls_is once;
-      stays = subst (λ (ds : List Datom). KeepsLeaves order coverage (tree_leaves tree) ds plan.kept) due_is (subst (λ (xs : List LeafNode). KeepsLeaves order coverage xs due plan.kept) ls_is stays);
+      stays =
+          subst (λ (ds : List Datom). KeepsLeaves order coverage (tree_leaves tree) ds plan.kept) due_is
+          (subst (λ (xs : List LeafNode). KeepsLeaves order coverage xs due plan.kept) ls_is stays);
     }
 
 -- the tree of a plan whose ids begin at a later number
-pub kept_first : (first later next : ℕ) (plan : Planned) (tree : List DirectoryNode) → first ≤ later → All (λ (leaf : LeafNode). leaf.id < first) plan.kept → IsBuilt (record { first = later; datoms = plan.datoms; kept = plan.kept }) tree next → old_leaves first (tree_leaves tree) ≡ plan.kept
+pub kept_first : (first later next : ℕ) (plan : Planned) (tree : List DirectoryNode)
+    → first ≤ later → All (λ (leaf : LeafNode). leaf.id < first) plan.kept
+    → IsBuilt (record { first = later; datoms = plan.datoms; kept = plan.kept }) tree next → old_leaves first (tree_leaves tree) ≡ plan.kept
 kept_first first later next plan tree le all built =
-    old_leaves-later first later (tree_leaves tree) le (subst (All (λ (leaf : LeafNode). leaf.id < first)) (sym built.kept) all) ∙ built.kept
+    old_leaves-later first later (tree_leaves tree) le (subst (All (λ (leaf : LeafNode). leaf.id < first)) (sym built.kept) all)
+    ∙ built.kept
 
-pub ids_first : (first later next : ℕ) (plan : Planned) (tree : List DirectoryNode) → first ≤ later → All (λ (leaf : LeafNode). leaf.id < first) plan.kept → IsBuilt (record { first = later; datoms = plan.datoms; kept = plan.kept }) tree next → filter (is_new first) (node_ids tree) ≡ range_with_len later (next - later)
+pub ids_first : (first later next : ℕ) (plan : Planned) (tree : List DirectoryNode)
+    → first ≤ later → All (λ (leaf : LeafNode). leaf.id < first) plan.kept
+    → IsBuilt (record { first = later; datoms = plan.datoms; kept = plan.kept }) tree next
+    → filter (is_new first) (node_ids tree) ≡ range_with_len later (next - later)
 ids_first first later next plan tree le all built = numbered_later first later next (node_ids tree) plan.kept le built.old all built.new
 
-pub older_than : (first later : ℕ) (leaves : List LeafNode) → first ≤ later → All (λ (leaf : LeafNode). leaf.id < first) leaves → All (λ (leaf : LeafNode). leaf.id < later) leaves
-older_than first later leaves le all = All-weaker (λ (leaf : LeafNode). leaf.id < first) (λ (leaf : LeafNode). leaf.id < later) (λ leaf less. omega (arith, less)) leaves all
+pub older_than : (first later : ℕ) (leaves : List LeafNode) → first ≤ later → All (λ (leaf : LeafNode). leaf.id < first) leaves
+    → All (λ (leaf : LeafNode). leaf.id < later) leaves
+older_than first later leaves le all =
+    All-weaker (λ (leaf : LeafNode). leaf.id < first) (λ (leaf : LeafNode). leaf.id < later) (λ leaf less. omega (arith, less)) leaves all
 
 -- ---- all four
 
@@ -102,18 +126,23 @@ pub record FourBuilt (first second third fourth next : ℕ) (e b v r : Planned) 
   pub v_older : All (λ (leaf : LeafNode). leaf.id < first) v.kept
   pub r_older : All (λ (leaf : LeafNode). leaf.id < first) r.kept
 
-pub built_in_row : (first second third fourth next : ℕ) (e b v r : Planned) (es bs vs rs : List DirectoryNode) → FourBuilt first second third fourth next e b v r es bs vs rs → IsInRow first (ids_of_four es bs vs rs)
+pub built_in_row : (first second third fourth next : ℕ) (e b v r : Planned) (es bs vs rs : List DirectoryNode)
+    → FourBuilt first second third fourth next e b v r es bs vs rs → IsInRow first (ids_of_four es bs vs rs)
 built_in_row first second third fourth next e b v r es bs vs rs f =
     let two : first ≤ third = omega (arith, f.eavt.behind, f.aevt.behind) in
     let three : first ≤ fourth = omega (arith, two, f.avet.behind) in
-    four_in_row first second third fourth next (node_ids es) (node_ids bs) (node_ids vs) (node_ids rs) f.eavt.behind f.aevt.behind f.avet.behind f.vaet.behind f.eavt.new
+    four_in_row first second third fourth next (node_ids es) (node_ids bs) (node_ids vs)
+    (node_ids rs) f.eavt.behind f.aevt.behind f.avet.behind f.vaet.behind f.eavt.new
     (ids_first first second third b bs f.eavt.behind f.b_older f.aevt)
     (ids_first first third fourth v vs two f.v_older f.avet)
     (ids_first first fourth next r rs three f.r_older f.vaet)
 
-pub built_distinct : (first second third fourth next : ℕ) (e b v r : Planned) (es bs vs rs : List DirectoryNode) → FourBuilt first second third fourth next e b v r es bs vs rs → AreDistinct (((leaf_ids e.kept ++ leaf_ids b.kept) ++ leaf_ids v.kept) ++ leaf_ids r.kept) → AreDistinct (ids_of_four es bs vs rs)
+pub built_distinct : (first second third fourth next : ℕ) (e b v r : Planned) (es bs vs rs : List DirectoryNode)
+    → FourBuilt first second third fourth next e b v r es bs vs rs
+    → AreDistinct (((leaf_ids e.kept ++ leaf_ids b.kept) ++ leaf_ids v.kept) ++ leaf_ids r.kept) → AreDistinct (ids_of_four es bs vs rs)
 built_distinct first second third fourth next e b v r es bs vs rs f once =
-    four_distinct first second third fourth es bs vs rs e.kept b.kept v.kept r.kept f.eavt.behind f.aevt.behind f.avet.behind f.eavt.old f.aevt.old f.avet.old f.vaet.old
+    four_distinct first second third fourth es bs vs rs e.kept b.kept v.kept r.kept f.eavt.behind f.aevt.behind f.avet.behind f.eavt.old
+    f.aevt.old f.avet.old f.vaet.old
     (built_in_row first second third fourth next e b v r es bs vs rs f) once
 
 next_in_order : (roots : Roots) (order : Order) → next_above (node_ids (tree_in roots order)) ≤ next_above (root_ids roots)
@@ -127,16 +156,21 @@ next_in_order roots order =
     let three = next_above_append ((es ++ bs) ++ vs) rs in
     at order one two three
   where
-    at : (order : Order) → next_above (node_ids roots.eavt ++ node_ids roots.aevt) ≡ max (next_above (node_ids roots.eavt)) (next_above (node_ids roots.aevt))
-        → next_above ((node_ids roots.eavt ++ node_ids roots.aevt) ++ node_ids roots.avet) ≡ max (next_above (node_ids roots.eavt ++ node_ids roots.aevt)) (next_above (node_ids roots.avet))
-        → next_above (root_ids roots) ≡ max (next_above ((node_ids roots.eavt ++ node_ids roots.aevt) ++ node_ids roots.avet)) (next_above (node_ids roots.vaet))
+    at : (order : Order)
+        → next_above (node_ids roots.eavt ++ node_ids roots.aevt)
+        ≡ max (next_above (node_ids roots.eavt)) (next_above (node_ids roots.aevt))
+        → next_above ((node_ids roots.eavt ++ node_ids roots.aevt) ++ node_ids roots.avet)
+        ≡ max (next_above (node_ids roots.eavt ++ node_ids roots.aevt)) (next_above (node_ids roots.avet))
+        → next_above (root_ids roots)
+        ≡ max (next_above ((node_ids roots.eavt ++ node_ids roots.aevt) ++ node_ids roots.avet)) (next_above (node_ids roots.vaet))
         → next_above (node_ids (tree_in roots order)) ≤ next_above (root_ids roots)
     at Eavt one two three = omega (arith, one, two, three)
     at Aevt one two three = omega (arith, one, two, three)
     at Avet one two three = omega (arith, one, two, three)
     at Vaet one two three = omega (arith, one, two, three)
 
-pub kept_are_older : (roots : Roots) (first : ℕ) (order : Order) (kept : List LeafNode) → next_above (root_ids roots) ≤ first → All (Contains (tree_leaves (tree_in roots order))) kept → All (λ (leaf : LeafNode). leaf.id < first) kept
+pub kept_are_older : (roots : Roots) (first : ℕ) (order : Order) (kept : List LeafNode) → next_above (root_ids roots) ≤ first
+    → All (Contains (tree_leaves (tree_in roots order))) kept → All (λ (leaf : LeafNode). leaf.id < first) kept
 kept_are_older roots first order kept fresh older =
     All-weaker (Contains (tree_leaves (tree_in roots order))) (λ (leaf : LeafNode). leaf.id < first)
     (λ leaf there. omega (arith, tree_leaf_below (tree_in roots order) leaf there, next_in_order roots order, fresh)) kept older

@@ -1,5 +1,6 @@
 -- The plan of a tree, one leaf after another.
-use Rattle.std.proofs.Common.{◌≡◌, ℕ, zero, suc, get_or, ◌+◌, ◌<◌, ◌≤◌, ◌⊎◌, true, false, List, [], ◌∷◌, ◌++◌, length, take, drop, refl, sym, ap, ◌∙◌, subst, inl, inr, arith, append_assoc, append-nil, Option, Some}
+use Rattle.std.proofs.Common.{◌≡◌, ℕ, zero, suc, get_or, ◌+◌, ◌<◌, ◌≤◌, ◌⊎◌, true, false, List, [], ◌∷◌, ◌++◌, length, take, drop, refl}
+use Rattle.std.proofs.Common.{sym, ap, ◌∙◌, subst, inl, inr, arith, append_assoc, append-nil, Option, Some}
 use Rattle.std.specs.Prelude.{◌↔◌, Contains, IsTrue}
 use Rattle.std.specs.List.{All, slice_get}
 use Rattle.std.specs.Ordering.{is_lt}
@@ -7,7 +8,8 @@ use Rattle.std.specs.declared.cmp.Ordering.{Ordering}
 use Rattle.std.specs.declared.cmp.Ordering.TheVariants.{Less, Equal, Greater}
 use Rattle.std.proofs.lemmas.Bool.{cases_lt}
 use Rattle.std.proofs.lemmas.List.{take-append-drop, take_all}
-use Rattle.std.proofs.lemmas.List.Elements.{All-contains, Contains-get_or, Contains-append_left, Contains-append_right, Contains-append_cases}
+use Rattle.std.proofs.lemmas.List.Elements.{All-contains, Contains-get_or, Contains-append_left, Contains-append_right}
+use Rattle.std.proofs.lemmas.List.Elements.{Contains-append_cases}
 use Rattle.std.proofs.lemmas.Option.{slice_get_within}
 use Rattle.fb_values.specs.declared.facts.Datom.{Datom}
 use Rattle.fb_values.specs.declared.indexes.Order.{Order}
@@ -30,16 +32,19 @@ abbrev pub held : Coverage → Order → Datom → Type 0
 held coverage order d = IsTrue (is_held coverage order d)
 
 -- the leaves before the number k, and what falls into their ranges
-pub record IsPlanning (order : Order) (coverage : Coverage) (ls : List LeafNode) (added : List Datom) (k : ℕ) (left : List Datom) (plan : Planned) : Type 0 where
+pub record IsPlanning (order : Order) (coverage : Coverage) (ls : List LeafNode) (added : List Datom) (k : ℕ) (left : List Datom)
+    (plan : Planned) : Type 0 where
   pub taken : List Datom
   pub parts : taken ++ left ≡ added
   pub merges : Merges order (held coverage order) (leaf_datoms (take k ls)) (leaf_datoms (drop k ls)) taken left plan.datoms
   pub older : (leaf : LeafNode) → Contains plan.kept leaf → Contains ls leaf
   pub once : RepeatsNone (take k ls) plan.kept
-  pub stays : (n : ℕ) (leaf : LeafNode) → n < k → slice_get ls n ≡ Some leaf → ((d : Datom) → Contains added d → FallsInto order ls n d → ⊥) → All (held coverage order) leaf.datoms → Contains plan.kept leaf
+  pub stays : (n : ℕ) (leaf : LeafNode) → n < k → slice_get ls n ≡ Some leaf
+      → ((d : Datom) → Contains added d → FallsInto order ls n d → ⊥) → All (held coverage order) leaf.datoms → Contains plan.kept leaf
   pub from : (m : ℕ) → k ≡ suc m → (d : Datom) → Contains left d → goes_before order ls k d ≡ false
 
-pub planning_none : (order : Order) (coverage : Coverage) (ls : List LeafNode) (added : List Datom) → IsPlanning order coverage ls added 0 added (record { datoms = []; kept = [] })
+pub planning_none : (order : Order) (coverage : Coverage) (ls : List LeafNode) (added : List Datom)
+    → IsPlanning order coverage ls added 0 added (record { datoms = []; kept = [] })
 planning_none order coverage ls added = record {
   taken = [];
   parts = refl;
@@ -67,16 +72,19 @@ get-drop (l ∷ ls) zero = refl
 get-drop (l ∷ ls) (suc k) = get-drop ls k
 
 -- the leaves in three parts
-pub parts_at : (ls : List LeafNode) (k : ℕ) (leaf : LeafNode) → slice_get ls k ≡ Some leaf → leaf_datoms (take k ls) ++ (leaf.datoms ++ leaf_datoms (drop (suc k) ls)) ≡ leaf_datoms ls
+pub parts_at : (ls : List LeafNode) (k : ℕ) (leaf : LeafNode) → slice_get ls k ≡ Some leaf
+    → leaf_datoms (take k ls) ++ (leaf.datoms ++ leaf_datoms (drop (suc k) ls)) ≡ leaf_datoms ls
 parts_at ls k leaf read =
     ap (λ (more : List LeafNode). leaf_datoms (take k ls) ++ leaf_datoms more) (sym (drop_at ls k leaf read))
     ∙ sym (leaf_datoms-append (take k ls) (drop k ls))
     ∙ ap leaf_datoms (take-append-drop k ls)
 
-pub leaf_within : (ls : List LeafNode) (k : ℕ) (leaf : LeafNode) (d : Datom) → slice_get ls k ≡ Some leaf → Contains leaf.datoms d → Contains (leaf_datoms ls) d
+pub leaf_within : (ls : List LeafNode) (k : ℕ) (leaf : LeafNode) (d : Datom) → slice_get ls k ≡ Some leaf → Contains leaf.datoms d
+    → Contains (leaf_datoms ls) d
 leaf_within ls k leaf d read there =
     subst (λ (ds : List Datom). Contains ds d) (parts_at ls k leaf read)
-    (Contains-append_right (leaf_datoms (take k ls)) (leaf.datoms ++ leaf_datoms (drop (suc k) ls)) d (Contains-append_left leaf.datoms (leaf_datoms (drop (suc k) ls)) d there))
+    (Contains-append_right (leaf_datoms (take k ls)) (leaf.datoms ++ leaf_datoms (drop (suc k) ls)) d
+    (Contains-append_left leaf.datoms (leaf_datoms (drop (suc k) ls)) d there))
 
 pub leaf_held : (order : Order) (coverage : Coverage) (ls : List LeafNode) (k : ℕ) (leaf : LeafNode) → slice_get ls k ≡ Some leaf
     → AreHeld coverage order (leaf_datoms ls) → AreHeld coverage order leaf.datoms
@@ -84,9 +92,11 @@ leaf_held order coverage ls k leaf read all = λ i d within.
     All-contains (held coverage order) (leaf_datoms ls) (get_or leaf.datoms i d) all
     (leaf_within ls k leaf (get_or leaf.datoms i d) read (Contains-get_or leaf.datoms i d within))
 
-pub leaf_and_rest_rise : (order : Order) (ls : List LeafNode) (k : ℕ) (leaf : LeafNode) → slice_get ls k ≡ Some leaf → IsRising order (leaf_datoms ls) → IsRising order (leaf.datoms ++ leaf_datoms (drop (suc k) ls))
+pub leaf_and_rest_rise : (order : Order) (ls : List LeafNode) (k : ℕ) (leaf : LeafNode) → slice_get ls k ≡ Some leaf
+    → IsRising order (leaf_datoms ls) → IsRising order (leaf.datoms ++ leaf_datoms (drop (suc k) ls))
 leaf_and_rest_rise order ls k leaf read rising =
-    rising-append_right order (leaf_datoms (take k ls)) (leaf.datoms ++ leaf_datoms (drop (suc k) ls)) (subst (IsRising order) (sym (parts_at ls k leaf read)) rising)
+    rising-append_right order (leaf_datoms (take k ls)) (leaf.datoms ++ leaf_datoms (drop (suc k) ls))
+    (subst (IsRising order) (sym (parts_at ls k leaf read)) rising)
 
 pub single_part : (all part : List Datom) → HasNoTwins all → ((x : Datom) → Contains part x → Contains all x) → HasNoTwins part
 single_part all part single within x y a b e = single x y (within x a) (within y b) e
@@ -96,7 +106,8 @@ less_is Less h = refl
 less_is Equal h = absurd (cc)
 less_is Greater h = absurd (cc)
 
-not_less : (order : Order) (x y f : Datom) (o : Ordering) → key_cmp order y f ≡ o → is_lt o ≡ false → key_cmp order x f ≡ Less → key_cmp order x y ≡ Less
+not_less : (order : Order) (x y f : Datom) (o : Ordering) → key_cmp order y f ≡ o → is_lt o ≡ false → key_cmp order x f ≡ Less
+    → key_cmp order x y ≡ Less
 not_less order x y f Less e h less = absurd (cc)
 not_less order x y f Equal e h less =
     let t = key_cmp_total order in
@@ -110,11 +121,14 @@ not_less order x y f Greater e h less =
     t.trans x f y less back
 
 -- what goes before a leaf stands before it and those behind it
-before_head : (order : Order) (ls : List LeafNode) (x : Datom) → IsRising order (leaf_datoms ls) → goes_before_leaf order (slice_get ls 0) x ≡ true → (y : Datom) → Contains (leaf_datoms ls) y → key_cmp order x y ≡ Less
+before_head : (order : Order) (ls : List LeafNode) (x : Datom) → IsRising order (leaf_datoms ls)
+    → goes_before_leaf order (slice_get ls 0) x ≡ true → (y : Datom) → Contains (leaf_datoms ls) y → key_cmp order x y ≡ Less
 before_head order [] x rising goes y there = absurd (contains_none y there)
 before_head order (l ∷ ls) x rising goes y there = at_first order l.datoms (leaf_datoms ls) x rising goes y there
   where
-    at_first : (order : Order) (ds more : List Datom) (x : Datom) → IsRising order (ds ++ more) → goes_before_leaf order (Some (record { id = 0; datoms = ds })) x ≡ true → (y : Datom) → Contains (ds ++ more) y → key_cmp order x y ≡ Less
+    at_first : (order : Order) (ds more : List Datom) (x : Datom) → IsRising order (ds ++ more)
+        → goes_before_leaf order (Some (record { id = 0; datoms = ds })) x ≡ true → (y : Datom) → Contains (ds ++ more) y
+        → key_cmp order x y ≡ Less
     at_first order [] more x rising goes y there = absurd (cc)
     at_first order (f ∷ ds) more x rising goes y there =
         let less : key_cmp order x f ≡ Less = less_is (key_cmp order x f) goes in
@@ -124,14 +138,18 @@ before_head order (l ∷ ls) x rising goes y there = at_first order l.datoms (le
         ]
 
 -- what does not go before a leaf stands behind those before it
-behind_head : (order : Order) (ds : List Datom) (ls : List LeafNode) (y : Datom) → IsRising order (ds ++ leaf_datoms ls) → ((l : LeafNode) → slice_get ls 0 ≡ Some l → 0 < length l.datoms) → goes_before_leaf order (slice_get ls 0) y ≡ false → (x : Datom) → Contains ds x → key_cmp order x y ≡ Less
+behind_head : (order : Order) (ds : List Datom) (ls : List LeafNode) (y : Datom) → IsRising order (ds ++ leaf_datoms ls)
+    → ((l : LeafNode) → slice_get ls 0 ≡ Some l → 0 < length l.datoms) → goes_before_leaf order (slice_get ls 0) y ≡ false
+    → (x : Datom) → Contains ds x → key_cmp order x y ≡ Less
 behind_head order ds [] y rising some goes x there = absurd (cc)
 behind_head order ds (l ∷ ls) y rising some goes x there = at_first order ds l.datoms (leaf_datoms ls) y rising (some l refl) goes x there
   where
-    at_first : (order : Order) (ds es more : List Datom) (y : Datom) → IsRising order (ds ++ (es ++ more)) → 0 < length es → goes_before_leaf order (Some (record { id = 0; datoms = es })) y ≡ false → (x : Datom) → Contains ds x → key_cmp order x y ≡ Less
+    at_first : (order : Order) (ds es more : List Datom) (y : Datom) → IsRising order (ds ++ (es ++ more)) → 0 < length es
+        → goes_before_leaf order (Some (record { id = 0; datoms = es })) y ≡ false → (x : Datom) → Contains ds x → key_cmp order x y ≡ Less
     at_first order ds [] more y rising some goes x there = absurd (omega arith)
     at_first order ds (f ∷ es) more y rising some goes x there =
-        not_less order x y f (key_cmp order y f) refl goes (rising_before order ds (f ∷ (es ++ more)) rising x f there (contains_head f (es ++ more) f refl))
+        not_less order x y f (key_cmp order y f) refl goes
+        (rising_before order ds (f ∷ (es ++ more)) rising x f there (contains_head f (es ++ more) f refl))
 
 -- a leaf, and what falls into its range
 next_leaf : (order : Order) (coverage : Coverage) (leaf : LeafNode) (rest : List LeafNode) (now behind piece : List Datom)
@@ -155,9 +173,14 @@ next_leaf order coverage leaf rest now behind piece rising added_rises some fron
 }
 
 -- none of the datoms falls into the leaf's range where none of those left goes before the next leaf
-none_now : (order : Order) (ls : List LeafNode) (added : List Datom) (k : ℕ) (now : List Datom) → ((d : Datom) → Contains now d → Contains added d) → ((m : ℕ) → k ≡ suc m → (d : Datom) → Contains now d → goes_before order ls k d ≡ false) → ((d : Datom) → Contains now d → goes_before order ls (suc k) d ≡ true) → ((d : Datom) → Contains added d → FallsInto order ls k d → ⊥) → now ≡ []
+none_now : (order : Order) (ls : List LeafNode) (added : List Datom) (k : ℕ) (now : List Datom)
+    → ((d : Datom) → Contains now d → Contains added d)
+    → ((m : ℕ) → k ≡ suc m → (d : Datom) → Contains now d → goes_before order ls k d ≡ false)
+    → ((d : Datom) → Contains now d → goes_before order ls (suc k) d ≡ true) → ((d : Datom) → Contains added d → FallsInto order ls k d → ⊥)
+    → now ≡ []
 none_now order ls added k [] within from front none = refl
-none_now order ls added zero (d ∷ now) within from front none = absurd (none d (within d (contains_head d now d refl)) (front d (contains_head d now d refl)))
+none_now order ls added zero (d ∷ now) within from front none =
+    absurd (none d (within d (contains_head d now d refl)) (front d (contains_head d now d refl)))
 none_now order ls added (suc k) (d ∷ now) within from front none =
     let here = contains_head d now d refl in
     let e : k + 2 ≡ suc (suc k) = omega arith in
@@ -170,7 +193,8 @@ still_kept old new leaf x same there =
       | inr e ↦ subst (λ (ls : List LeafNode). Contains ls x) (sym e) (Contains-append_left old (leaf ∷ []) x there)
     ]
 
-from_kept : (old new : List LeafNode) (leaf x : LeafNode) → (new ≡ old) ⊎ (new ≡ old ++ leaf ∷ []) → Contains new x → Contains old x ⊎ (leaf ≡ x)
+from_kept : (old new : List LeafNode) (leaf x : LeafNode) → (new ≡ old) ⊎ (new ≡ old ++ leaf ∷ []) → Contains new x
+    → Contains old x ⊎ (leaf ≡ x)
 from_kept old new leaf x same there =
     elim same [
       | inl e ↦ inl (subst (λ (ls : List LeafNode). Contains ls x) e there)
@@ -184,7 +208,12 @@ from_kept old new leaf x same there =
     ]
 
 -- one leaf more
-module _ (order : Order) (coverage : Coverage) (ls : List LeafNode) (added : List Datom) (k : ℕ) (left : List Datom) (plan new : Planned) (n : ℕ) (leaf : LeafNode) (rising : IsRising order (leaf_datoms ls)) (added_rises : IsRising order added) (read : slice_get ls k ≡ Some leaf) (some : (l : LeafNode) → slice_get ls (suc k) ≡ Some l → 0 < length l.datoms) (front : (d : Datom) → Contains (take n left) d → goes_before order ls (suc k) d ≡ true) (back : (d : Datom) → Contains (drop n left) d → goes_before order ls (suc k) d ≡ false) (adds : AddsLeaf order coverage leaf (take n left) plan new) (p : IsPlanning order coverage ls added k left plan) where
+module _ (order : Order) (coverage : Coverage) (ls : List LeafNode) (added : List Datom) (k : ℕ) (left : List Datom)
+    (plan new : Planned) (n : ℕ) (leaf : LeafNode) (rising : IsRising order (leaf_datoms ls)) (added_rises : IsRising order added)
+    (read : slice_get ls k ≡ Some leaf) (some : (l : LeafNode) → slice_get ls (suc k) ≡ Some l → 0 < length l.datoms)
+    (front : (d : Datom) → Contains (take n left) d → goes_before order ls (suc k) d ≡ true)
+    (back : (d : Datom) → Contains (drop n left) d → goes_before order ls (suc k) d ≡ false)
+    (adds : AddsLeaf order coverage leaf (take n left) plan new) (p : IsPlanning order coverage ls added k left plan) where
   cut : take n left ++ drop n left ≡ left
   cut = take-append-drop n left
 
@@ -200,33 +229,49 @@ module _ (order : Order) (coverage : Coverage) (ls : List LeafNode) (added : Lis
   next : IsNext order (held coverage order) leaf.datoms (leaf_datoms (drop (suc k) ls)) (take n left) (drop n left) adds.piece
   next =
       let here = get-drop ls (suc k) in
-      next_leaf order coverage leaf (drop (suc k) ls) (take n left) (drop n left) adds.piece (leaf_and_rest_rise order ls k leaf read rising) left_rises
+      next_leaf order coverage leaf (drop (suc k) ls) (take n left) (drop n left) adds.piece
+      (leaf_and_rest_rise order ls k leaf read rising) left_rises
       (λ l at. some l (here ∙ at))
       (λ d there. subst (λ (o : Option LeafNode). goes_before_leaf order o d ≡ true) here (front d there))
       (λ d there. subst (λ (o : Option LeafNode). goes_before_leaf order o d ≡ false) here (back d there))
       adds.union
 
-  merges : Merges order (held coverage order) (leaf_datoms (take (suc k) ls)) (leaf_datoms (drop (suc k) ls)) (p.taken ++ take n left) (drop n left) new.datoms
+  merges : Merges order (held coverage order) (leaf_datoms (take (suc k) ls)) (leaf_datoms (drop (suc k) ls)) (p.taken ++ take n left)
+      (drop n left) new.datoms
   merges =
       let rest : leaf_datoms (drop k ls) ≡ leaf.datoms ++ leaf_datoms (drop (suc k) ls) = ap leaf_datoms (drop_at ls k leaf read) in
-      let before = subst (λ (ds : List Datom). Merges order (held coverage order) (leaf_datoms (take k ls)) ds p.taken (take n left ++ drop n left) plan.datoms) rest
-      (subst (λ (ds : List Datom). Merges order (held coverage order) (leaf_datoms (take k ls)) (leaf_datoms (drop k ls)) p.taken ds plan.datoms) (sym cut) p.merges) in
-      let more = merges_more order (held coverage order) (leaf_datoms (take k ls)) leaf.datoms (leaf_datoms (drop (suc k) ls)) p.taken (take n left) (drop n left) plan.datoms adds.piece before next in
+      let before =
+      subst (λ (ds : List Datom).
+      Merges order (held coverage order) (leaf_datoms (take k ls)) ds p.taken (take n left ++ drop n left) plan.datoms) rest
+      (subst (λ (ds : List Datom).
+      Merges order (held coverage order) (leaf_datoms (take k ls)) (leaf_datoms (drop k ls)) p.taken ds plan.datoms) (sym cut) p.merges) in
+      let more =
+      merges_more order (held coverage order) (leaf_datoms (take k ls)) leaf.datoms (leaf_datoms (drop (suc k) ls)) p.taken (take n left)
+      (drop n left) plan.datoms adds.piece before next in
       let seen : leaf_datoms (take k ls) ++ leaf.datoms ≡ leaf_datoms (take (suc k) ls) =
-      ap (λ ds. leaf_datoms (take k ls) ++ ds) (sym (append-nil leaf.datoms)) ∙ sym (leaf_datoms-append (take k ls) (leaf ∷ [])) ∙ ap leaf_datoms (sym (take_at ls k leaf read)) in
-      subst (λ (ds : List Datom). Merges order (held coverage order) (leaf_datoms (take (suc k) ls)) (leaf_datoms (drop (suc k) ls)) (p.taken ++ take n left) (drop n left) ds) (sym adds.datoms)
-      (subst (λ (ds : List Datom). Merges order (held coverage order) ds (leaf_datoms (drop (suc k) ls)) (p.taken ++ take n left) (drop n left) (plan.datoms ++ adds.piece)) seen more)
+      ap (λ ds. leaf_datoms (take k ls) ++ ds) (sym (append-nil leaf.datoms))
+      ∙ sym (leaf_datoms-append (take k ls) (leaf ∷ []))
+      ∙ ap leaf_datoms (sym (take_at ls k leaf read)) in
+      subst (λ (ds : List Datom). Merges order (held coverage order) (leaf_datoms (take (suc k) ls)) (leaf_datoms (drop (suc k) ls))
+      (p.taken ++ take n left) (drop n left) ds) (sym adds.datoms)
+      (subst (λ (ds : List Datom). Merges order (held coverage order) ds (leaf_datoms (drop (suc k) ls)) (p.taken ++ take n left)
+      (drop n left) (plan.datoms ++ adds.piece)) seen more)
 
-  stays : (m : ℕ) (l : LeafNode) → m < suc k → slice_get ls m ≡ Some l → ((d : Datom) → Contains added d → FallsInto order ls m d → ⊥) → All (held coverage order) l.datoms → Contains new.kept l
+  stays : (m : ℕ) (l : LeafNode) → m < suc k → slice_get ls m ≡ Some l
+      → ((d : Datom) → Contains added d → FallsInto order ls m d → ⊥) → All (held coverage order) l.datoms → Contains new.kept l
   stays m l before at none all =
       elim (cases_lt m k) [
         | inl less ↦ still_kept plan.kept new.kept leaf l adds.kept (p.stays m l less at none all)
         | inr up ↦
             let same : m ≡ k = omega arith in
             let here : l ≡ leaf = some_same l leaf (sym at ∙ ap (slice_get ls) same ∙ read) in
-            let empty = none_now order ls added k (take n left) (λ d there. of_added d (of_left d there)) (λ j is d there. p.from j is d (of_left d there)) front (subst (λ (j : ℕ). (d : Datom) → Contains added d → FallsInto order ls j d → ⊥) same none) in
+            let empty =
+            none_now order ls added k
+            (take n left) (λ d there. of_added d (of_left d there)) (λ j is d there. p.from j is d (of_left d there)) front
+            (subst (λ (j : ℕ). (d : Datom) → Contains added d → FallsInto order ls j d → ⊥) same none) in
             let is = adds.stays empty (subst (λ (x : LeafNode). All (held coverage order) x.datoms) here all) in
-            subst (λ (xs : List LeafNode). Contains xs l) (sym is) (Contains-append_right plan.kept (leaf ∷ []) l (contains_head leaf [] l (sym here)))
+            subst (λ (xs : List LeafNode). Contains xs l) (sym is)
+            (Contains-append_right plan.kept (leaf ∷ []) l (contains_head leaf [] l (sym here)))
       ]
     where
       some_same : (a b : LeafNode) → Some a ≡ Some b → a ≡ b
@@ -250,12 +295,15 @@ module _ (order : Order) (coverage : Coverage) (ls : List LeafNode) (added : Lis
     parts = append_assoc p.taken (take n left) (drop n left) ∙ ap (λ ds. p.taken ++ ds) cut ∙ p.parts;
     merges = merges;
     older = older;
-    once = subst (λ (xs : List LeafNode). RepeatsNone xs new.kept) (sym (take_at ls k leaf read)) (repeats_more (take k ls) plan.kept new.kept leaf adds.kept p.once);
+    once =
+        subst (λ (xs : List LeafNode). RepeatsNone xs new.kept) (sym (take_at ls k leaf read))
+        (repeats_more (take k ls) plan.kept new.kept leaf adds.kept p.once);
     stays = stays;
     from = λ m is d there. back d there;
   }
 
-pub planning_next : (order : Order) (coverage : Coverage) (ls : List LeafNode) (added : List Datom) (k : ℕ) (left : List Datom) (plan new : Planned) (n : ℕ) (leaf : LeafNode) (now behind : List Datom)
+pub planning_next : (order : Order) (coverage : Coverage) (ls : List LeafNode) (added : List Datom) (k : ℕ) (left : List Datom)
+    (plan new : Planned) (n : ℕ) (leaf : LeafNode) (now behind : List Datom)
     → now ≡ take n left → behind ≡ drop n left
     → IsRising order (leaf_datoms ls) → IsRising order added → slice_get ls k ≡ Some leaf
     → ((l : LeafNode) → slice_get ls (k + 1) ≡ Some l → 0 < length l.datoms)
@@ -275,7 +323,10 @@ planning_next order coverage ls added k left plan new n leaf now behind now_is b
     (subst (λ (ds : List Datom). IsPlanning order coverage ls added (suc k) ds new) (sym behind_is) next)
 
 -- what an inner leaf may take
-pub single_leaf : (order : Order) (coverage : Coverage) (ls : List LeafNode) (added : List Datom) (k : ℕ) (left : List Datom) (plan : Planned) (n : ℕ) (leaf : LeafNode) → HasNoTwins (leaf_datoms ls ++ added) → slice_get ls k ≡ Some leaf → IsPlanning order coverage ls added k left plan → HasNoTwins (leaf.datoms ++ take n left)
+pub single_leaf : (order : Order) (coverage : Coverage) (ls : List LeafNode) (added : List Datom) (k : ℕ) (left : List Datom)
+    (plan : Planned) (n : ℕ) (leaf : LeafNode)
+    → HasNoTwins (leaf_datoms ls ++ added) → slice_get ls k ≡ Some leaf → IsPlanning order coverage ls added k left plan
+    → HasNoTwins (leaf.datoms ++ take n left)
 single_leaf order coverage ls added k left plan n leaf single read p =
     single_part (leaf_datoms ls ++ added) (leaf.datoms ++ take n left) single
     (λ x there. elim (Contains-append_cases leaf.datoms (take n left) x there) [
@@ -284,16 +335,25 @@ single_leaf order coverage ls added k left plan n leaf single read p =
     ])
   where
     of_taken : (x : Datom) → Contains (take n left) x → Contains added x
-    of_taken x there = subst (λ (ds : List Datom). Contains ds x) p.parts (Contains-append_right p.taken left x (subst (λ (ds : List Datom). Contains ds x) (take-append-drop n left) (Contains-append_left (take n left) (drop n left) x there)))
+    of_taken x there =
+        subst (λ (ds : List Datom). Contains ds x) p.parts (Contains-append_right p.taken left x
+        (subst (λ (ds : List Datom). Contains ds x) (take-append-drop n left) (Contains-append_left (take n left) (drop n left) x there)))
 
-pub left_rises_at : (order : Order) (coverage : Coverage) (ls : List LeafNode) (added : List Datom) (k : ℕ) (left : List Datom) (plan : Planned) → IsRising order added → IsPlanning order coverage ls added k left plan → IsRising order left
-left_rises_at order coverage ls added k left plan rises p = rising-append_right order p.taken left (subst (IsRising order) (sym p.parts) rises)
+pub left_rises_at : (order : Order) (coverage : Coverage) (ls : List LeafNode) (added : List Datom) (k : ℕ) (left : List Datom)
+    (plan : Planned)
+    → IsRising order added → IsPlanning order coverage ls added k left plan → IsRising order left
+left_rises_at order coverage ls added k left plan rises p =
+    rising-append_right order p.taken left (subst (IsRising order) (sym p.parts) rises)
 
 pub taken_rises : (order : Order) (n : ℕ) (left : List Datom) → IsRising order left → IsRising order (take n left)
-taken_rises order n left rises = rising-append_left order (take n left) (drop n left) (subst (IsRising order) (sym (take-append-drop n left)) rises)
+taken_rises order n left rises =
+    rising-append_left order (take n left) (drop n left) (subst (IsRising order) (sym (take-append-drop n left)) rises)
 
 -- behind the last leaf
-pub union_all : (order : Order) (coverage : Coverage) (ls : List LeafNode) (added : List Datom) (k : ℕ) (left : List Datom) (plan : Planned) (piece : List Datom) → length ls ≤ k → IsPlanning order coverage ls added k left plan → IsUnion order coverage [] left piece → IsUnion order coverage (leaf_datoms ls) added (plan.datoms ++ piece)
+pub union_all : (order : Order) (coverage : Coverage) (ls : List LeafNode) (added : List Datom) (k : ℕ) (left : List Datom) (plan : Planned)
+    (piece : List Datom)
+    → length ls ≤ k → IsPlanning order coverage ls added k left plan → IsUnion order coverage [] left piece
+    → IsUnion order coverage (leaf_datoms ls) added (plan.datoms ++ piece)
 union_all order coverage ls added k left plan piece past p union =
     let P = held coverage order in
     let whole : take k ls ≡ ls = take_all k ls past in
@@ -310,8 +370,11 @@ union_all order coverage ls added k left plan piece past p union =
     let more = merges_more order P (leaf_datoms ls) [] [] p.taken left [] plan.datoms piece before next in
     record {
       rising = more.rising;
-      members = λ d. subst (λ (ds : List Datom). Contains (plan.datoms ++ piece) d ↔ ((Contains (leaf_datoms ls) d × P d) ⊎ Contains ds d)) p.parts
-          (subst (λ (ds : List Datom). Contains (plan.datoms ++ piece) d ↔ ((Contains ds d × P d) ⊎ Contains (p.taken ++ left) d)) (append-nil (leaf_datoms ls)) (more.members d));
+      members =
+          λ d.
+          subst (λ (ds : List Datom). Contains (plan.datoms ++ piece) d ↔ ((Contains (leaf_datoms ls) d × P d) ⊎ Contains ds d)) p.parts
+          (subst (λ (ds : List Datom). Contains (plan.datoms ++ piece) d ↔ ((Contains ds d × P d) ⊎ Contains (p.taken ++ left) d))
+          (append-nil (leaf_datoms ls)) (more.members d));
     }
   where
     drop_all : (xs : List LeafNode) (j : ℕ) → length xs ≤ j → drop j xs ≡ []
@@ -323,7 +386,8 @@ union_all order coverage ls added k left plan piece past p union =
     drop_all (x ∷ xs) zero h = absurd (omega arith)
     drop_all (x ∷ xs) (suc j) h = drop_all xs j (omega arith)
 
-pub keeps_all : (order : Order) (coverage : Coverage) (ls : List LeafNode) (added : List Datom) (k : ℕ) (left : List Datom) (plan : Planned) → length ls ≤ k → IsPlanning order coverage ls added k left plan → KeepsLeaves order coverage ls added plan.kept
+pub keeps_all : (order : Order) (coverage : Coverage) (ls : List LeafNode) (added : List Datom) (k : ℕ) (left : List Datom) (plan : Planned)
+    → length ls ≤ k → IsPlanning order coverage ls added k left plan → KeepsLeaves order coverage ls added plan.kept
 keeps_all order coverage ls added k left plan past p n leaf read none all =
     let within = slice_get_within ls n leaf read in
     p.stays n leaf (omega (arith, within)) read none all

@@ -26,24 +26,32 @@ pub begins_some : (ds : List Datom) (first : Datom) → BeginsWith ds first → 
 begins_some [] first begins = absurd begins
 begins_some (d ∷ ds) first begins = omega arith
 
-first_of : (order : Order) (ds : List Datom) (first d : Datom) (b : Bool) → BeginsWith ds first → is_lt (key_cmp order d first) ≡ b → option_map_or (λ f. is_lt (key_cmp order d f)) (slice_get ds 0) false ≡ b
+first_of : (order : Order) (ds : List Datom) (first d : Datom) (b : Bool) → BeginsWith ds first → is_lt (key_cmp order d first) ≡ b
+    → option_map_or (λ f. is_lt (key_cmp order d f)) (slice_get ds 0) false ≡ b
 first_of order [] first d b begins is = absurd begins
 first_of order (x ∷ ds) first d b begins is = ap (λ (f : Datom). is_lt (key_cmp order d f)) begins ∙ is
 
-pub goes_front : (order : Order) (leaf : LeafNode) (first : Datom) (ds : List Datom) (d : Datom) → BeginsWith leaf.datoms first → Contains (take (place_of (probe_of order first) ds) ds) d → goes_before_leaf order (Some leaf) d ≡ true
-goes_front order leaf first ds d begins there = first_of order leaf.datoms first d true begins (ap is_lt (own_before order first ds d there))
+pub goes_front : (order : Order) (leaf : LeafNode) (first : Datom) (ds : List Datom) (d : Datom) → BeginsWith leaf.datoms first
+    → Contains (take (place_of (probe_of order first) ds) ds) d → goes_before_leaf order (Some leaf) d ≡ true
+goes_front order leaf first ds d begins there =
+    first_of order leaf.datoms first d true begins (ap is_lt (own_before order first ds d there))
 
-not_lesser : (order : Order) (d first : Datom) (o : Ordering) → key_cmp order first d ≡ o → is_gt o ≡ false → is_lt (key_cmp order d first) ≡ false
+not_lesser : (order : Order) (d first : Datom) (o : Ordering) → key_cmp order first d ≡ o → is_gt o ≡ false
+    → is_lt (key_cmp order d first) ≡ false
 not_lesser order d first Less e h = let up : key_cmp order d first ≡ Greater = (key_cmp_total order).antisymm d first ∙ cc in ap is_lt up
 not_lesser order d first Equal e h = let same : key_cmp order d first ≡ Equal = (key_cmp_total order).antisymm d first ∙ cc in ap is_lt same
 not_lesser order d first Greater e h = absurd (cc)
 
-pub goes_behind : (order : Order) (leaf : LeafNode) (first : Datom) (ds : List Datom) (d : Datom) → BeginsWith leaf.datoms first → IsRising order ds → Contains (drop (place_of (probe_of order first) ds) ds) d → goes_before_leaf order (Some leaf) d ≡ false
+pub goes_behind : (order : Order) (leaf : LeafNode) (first : Datom) (ds : List Datom) (d : Datom) → BeginsWith leaf.datoms first
+    → IsRising order ds → Contains (drop (place_of (probe_of order first) ds) ds) d → goes_before_leaf order (Some leaf) d ≡ false
 goes_behind order leaf first ds d begins rising there =
-    first_of order leaf.datoms first d false begins (not_lesser order d first (key_cmp order first d) refl (own_behind order first ds d rising there))
+    first_of order leaf.datoms first d false begins
+    (not_lesser order d first (key_cmp order first d) refl (own_behind order first ds d rising there))
 
 -- a leaf that stays
-pub adds_kept : (order : Order) (coverage : Coverage) (leaf : LeafNode) (plan : Planned) → IsRising order leaf.datoms → All (λ d. IsTrue (is_held coverage order d)) leaf.datoms → AddsLeaf order coverage leaf [] plan (record { datoms = plan.datoms ++ leaf.datoms; kept = plan.kept ++ leaf ∷ [] })
+pub adds_kept : (order : Order) (coverage : Coverage) (leaf : LeafNode) (plan : Planned)
+    → IsRising order leaf.datoms → All (λ d. IsTrue (is_held coverage order d)) leaf.datoms
+    → AddsLeaf order coverage leaf [] plan (record { datoms = plan.datoms ++ leaf.datoms; kept = plan.kept ++ leaf ∷ [] })
 adds_kept order coverage leaf plan rising all = record {
   piece = leaf.datoms;
   datoms = refl;

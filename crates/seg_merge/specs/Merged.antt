@@ -1,6 +1,9 @@
--- What new segment trees hold: the datoms of the older trees and of the live index up to a transaction, and which leaves stay.
--- Restates Indexes of Datomic's documentation (the merging of recent datoms); that leaves stay is this project's own choice.
-use Rattle.std.specs.Prelude.{◌≡◌, ◌↔◌, ◌⊎◌, ◌+◌, ◌&&◌, ℕ, zero, suc, Bool, true, false, List, ◌++◌, Contains, IsTrue, IsFalse, Option, Some, nat_le, filter}
+-- What new segment trees hold:
+-- the datoms of the older trees and of the live index up to a transaction, and which leaves stay.
+-- Restates Indexes of Datomic's documentation (the merging of recent datoms);
+-- that leaves stay is this project's own choice.
+use Rattle.std.specs.Prelude.{◌≡◌, ◌↔◌, ◌⊎◌, ◌+◌, ◌&&◌, ℕ, zero, suc, Bool, true, false, List, ◌++◌}
+use Rattle.std.specs.Prelude.{Contains, IsTrue, IsFalse, Option, Some, nat_le, filter}
 use Rattle.std.specs.List.{All, slice_get}
 use Rattle.std.specs.Option.{option_map_or}
 use Rattle.std.specs.Ordering.{is_lt}
@@ -12,7 +15,8 @@ use Rattle.fb_values.specs.Rising.{IsRising}
 use Rattle.live_index.specs.Growth.{HasNoTwins, is_held}
 use Rattle.seg_tree.specs.Nodes.{LeafNode}
 
--- a live datom that goes to the trees: up to the transaction, and of an attribute that the order's index holds
+-- a live datom that goes to the trees:
+-- up to the transaction, and of an attribute that the order's index holds
 abbrev pub is_due : Coverage → ℕ → Order → Datom → Bool
 is_due coverage c order d = nat_le d.t c && is_held coverage order d
 
@@ -52,7 +56,8 @@ FallsInto order leaves zero d = IsTrue (goes_before order leaves 1 d)
 FallsInto order leaves (suc n) d =
     IsFalse (goes_before order leaves (suc n) d) × IsTrue (goes_before order leaves (n + 2) d)
 
--- the leaves into whose range none of the datoms falls, and whose own datoms are of held attributes, stay under their ids
+-- the leaves into whose range none of the datoms falls,
+-- and whose own datoms are of held attributes, stay under their ids
 abbrev pub KeepsLeaves : Order → Coverage → List LeafNode → List Datom → List LeafNode → Type 0
 KeepsLeaves order coverage old added new =
     (n : ℕ) (leaf : LeafNode) → slice_get old n ≡ Some leaf

@@ -1,5 +1,6 @@
 -- What the merge of the four trees is to give.
--- Restates Indexes of Datomic's documentation (the merging of recent datoms); ids and kept leaves are this project's own choice.
+-- Restates Indexes of Datomic's documentation (the merging of recent datoms);
+-- ids and kept leaves are this project's own choice.
 use Rattle.std.specs.Prelude.{◌<◌, ◌≤◌, ℕ, List, Contains}
 use Rattle.std.specs.List.{All}
 use Rattle.fb_values.specs.declared.facts.Datom.{Datom}
@@ -9,7 +10,8 @@ use Rattle.seg_tree.specs.Nodes.{LeafNode, DirectoryNode, tree_datoms, tree_leav
 use Rattle.seg_merge.specs.Merged.{IsMerged, KeepsLeaves, due_of}
 use Rattle.seg_merge.specs.Plans.{Planned, RepeatsNone}
 
--- the plan of one order's tree: its datoms are merged, and it keeps older leaves, each once, all that no datom falls into among them
+-- the plan of one order's tree: its datoms are merged,
+-- and it keeps older leaves, each once, all that no datom falls into among them
 pub record IsPlan (order : Order) (coverage : Coverage) (c : ℕ) (tree : List DirectoryNode)
     (live : List Datom) (plan : Planned) : Type 0 where
   pub merged : IsMerged order coverage c (tree_datoms tree) live plan.datoms

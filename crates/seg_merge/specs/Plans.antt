@@ -1,6 +1,7 @@
 -- What a tree is to be made of, from left to right: leaves that stay, and datoms for new leaves.
 -- This project's own choice.
-use Rattle.std.specs.Prelude.{◌≡◌, ◌≤◌, ◌↔◌, ◌⊎◌, ℕ, List, [], ◌∷◌, ◌++◌, Contains, IsTrue, if◌then◌else◌}
+use Rattle.std.specs.Prelude.{◌≡◌, ◌≤◌, ◌↔◌, ◌⊎◌, ℕ, List, [], ◌∷◌, ◌++◌, Contains, IsTrue}
+use Rattle.std.specs.Prelude.{if◌then◌else◌}
 use Rattle.std.specs.List.{All}
 use Rattle.std.specs.Ordering.{is_eq}
 use Rattle.fb_values.specs.declared.facts.Datom.{Datom}
@@ -17,7 +18,7 @@ pub record Planned : Type 0 where
   pub datoms : List Datom
   pub kept : List LeafNode
 
--- no id stands more often among the kept leaves than among the older ones
+-- no id is more often among the kept leaves than among the older ones
 abbrev pub RepeatsNone : List LeafNode → List LeafNode → Type 0
 RepeatsNone old kept = (id : ℕ) → count_of id (leaf_ids kept) ≤ count_of id (leaf_ids old)
 
@@ -27,7 +28,8 @@ pub record IsUnion (order : Order) (coverage : Coverage) (old added new : List D
   pub members : (d : Datom)
       → Contains new d ↔ ((Contains old d × IsTrue (is_held coverage order d)) ⊎ Contains added d)
 
--- the plan goes on with an older leaf and what falls into its range; the leaf stays where nothing does and it is held whole
+-- the plan goes on with an older leaf and what falls into its range;
+-- the leaf stays where nothing does and it is held whole
 pub record AddsLeaf (order : Order) (coverage : Coverage) (leaf : LeafNode) (added : List Datom)
     (old new : Planned) : Type 0 where
   pub piece : List Datom
@@ -37,7 +39,7 @@ pub record AddsLeaf (order : Order) (coverage : Coverage) (leaf : LeafNode) (add
   pub stays : added ≡ [] → All (λ d. IsTrue (is_held coverage order d)) leaf.datoms
       → new.kept ≡ old.kept ++ leaf ∷ []
 
--- the datoms behind one that has this key
+-- the datoms after one that has this key
 abbrev pub without_twin : Order → Datom → List Datom → List Datom
 without_twin order d [] = []
 without_twin order d (first ∷ rest) = if is_eq (key_cmp order first d) then rest else first ∷ rest

@@ -1,5 +1,6 @@
 -- When merged trees stand for the first entries of a history.
--- Restates Indexes of Datomic's documentation (the merging of recent datoms). That coverage may change is this project's own choice.
+-- Restates Indexes of Datomic's documentation (the merging of recent datoms).
+-- That coverage may change is this project's own choice.
 use Rattle.std.specs.Prelude.{◌≡◌, ◌≤◌, ℕ, List, Contains}
 use Rattle.fb_values.specs.declared.facts.Datom.{Datom}
 use Rattle.fb_values.specs.declared.facts.Entry.{Entry}
@@ -17,13 +18,15 @@ abbrev pub IsCoverageAfter : Coverage → List Entry → ℕ → Type 0
 IsCoverageAfter coverage h c =
     (order : Order) (a : ℕ) → holds coverage order a ≡ covers (facts (upto h c)) order a
 
--- no attribute of a datom up to c is held by one alone of the schemas after the entry c and at the end
+-- no attribute of a datom up to c is held
+-- by one alone of the schemas after the entry c and at the end
 abbrev pub IsStillCovered : List Entry → ℕ → Type 0
 IsStillCovered h c =
     (order : Order) (d : Datom) → Contains (said h) d → d.t ≤ c
     → covers (facts (upto h c)) order d.a ≡ covers (facts h) order d.a
 
--- trees for the entries up to the first number, and live lists, may be merged to trees for the entries up to the second
+-- trees for the entries up to the first number,
+-- and live lists, may be merged to trees for the entries up to the second
 pub record CanMerge (h : List Entry) (old c : ℕ) (coverage : Coverage) (roots live : Lists)
     : Type 0 where
   pub lawful : IsLawful h

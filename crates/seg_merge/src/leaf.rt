@@ -81,7 +81,7 @@ fn with_held(
     Ok(list)
 }
 
-/// The datoms behind one that has this key.
+/// The datoms after one that has this key.
 fn without_twin<'a>(order: Order, datoms: &'a [Datom], datom: &Datom) -> &'a [Datom]
     ensures { result.now ≡ without_twin order datom.now datoms.now }
 {

@@ -157,7 +157,7 @@ impl Plans {
         })
     }
 
-    /// The trees. Their new nodes are numbered from `first` on, one order behind the other.
+    /// The trees. Their new nodes are numbered from `first` on, one order after the other.
     fn build(self, alloc: Global, first: u64) -> Result<Roots, Memory>
         requires small { first ≤ 2 ^ 61 }
         requires older { (order : Order) → All (λ leaf. leaf.id < first) (plan_in self order).kept }

@@ -52,7 +52,8 @@ module _ (trees : Roots) (eavt aevt avet vaet : Counts) (e : IsCounted trees.eav
           small.0,
           small.1,
           small.2,
-          All-contains (λ (l : LeafNode). All (λ d. IsTrue (is_storable_dated written_format d)) l.datoms) (leaves_of_four trees) leaf storable
+          All-contains (λ (l : LeafNode). All (λ d. IsTrue (is_storable_dated written_format d)) l.datoms)
+              (leaves_of_four trees) leaf storable
               member,
         ));
     directories = All-made (λ d. (d.id < 2 ^ 62) × (0 < length d.leaves) × (length d.leaves < 513)) (directories_of_four trees)

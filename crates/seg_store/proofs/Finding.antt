@@ -1,17 +1,17 @@
 -- What is found with one record more.
 use Rattle.std.proofs.Common.{◌≡◌, inl, inr, ℕ, true, false, List, [], ◌∷◌, ◌++◌, Option, sym, ◌∙◌, ap, subst}
 use Rattle.std.proofs.lemmas.Bool.{true≢false}
-use Rattle.disk_model.specs.Disk.{WhereTold}
+use Rattle.disk_model.specs.Disk.{IfKnown}
 use Rattle.disk_model.specs.Journal.{segments_mark, JournalBreaks}
 use Rattle.log_model.specs.Nodes.{Nodes, MergeRecord}
 use Rattle.log_model.specs.Merges.{merges, bad_from, record_says}
 use Rattle.log_model.specs.Kept.{with_nodes, nodes_of, are_good}
 use Rattle.log_model.proofs.NodesOfFiles.{one_more_nodes, one_more_good, bad_record_stops}
-use Rattle.fb_journal.specs.Journals.{StaysTold}
-use Rattle.fb_journal.specs.Readings.{disk_from, HasRead, IsRead}
+use Rattle.fb_journal.specs.Journals.{StaysKnown}
+use Rattle.fb_journal.specs.Readings.{disk_from, HasRead, HasReadAll}
 use Rattle.fb_journal.specs.declared.readings.Reading.{Reading}
 use Rattle.seg_codec.specs.Trees.{AreTreesOf}
-use Rattle.seg_codec.specs.Told.{IsMerged}
+use Rattle.seg_codec.specs.Answers.{IsMerged}
 use Rattle.seg_tree.specs.declared.roots.Roots.{Roots}
 use Rattle.seg_store.specs.declared.found.Found.{Found}
 use Rattle.seg_store.specs.Loads.{AreKept}
@@ -67,12 +67,13 @@ module _ (records : List (List ℕ)) (payload : List ℕ) (old new : Found) (was
 -- ---- the end
 
 module _ {D : Type 0} {g : _} (bytes : D → Option (List ℕ)) (images : D → List ℕ → Type 0) (moment : D → ℕ)
-    (since : D → ℕ → List ℕ → Type 0) (disk : D) (records : List (List ℕ)) (file : Reading D g) (found : Found) (has : HasFound records found) where
+    (since : D → ℕ → List ℕ → Type 0) (disk : D) (records : List (List ℕ)) (file : Reading D g) (found : Found)
+    (has : HasFound records found) where
   -- the disk that it reads from tells its bytes still
-  still_told : HasRead bytes images moment since segments_mark disk records file → StaysTold (bytes disk) (bytes (disk_from file))
+  still_told : HasRead bytes images moment since segments_mark disk records file → StaysKnown (bytes disk) (bytes (disk_from file))
   still_told read = λ f told. let begun = read.begun f told in (begun.0, begun.1)
 
-  pub found_all : IsRead bytes images moment since segments_mark disk records file
+  pub found_all : HasReadAll bytes images moment since segments_mark disk records file
       → HasAllFound bytes images moment since disk records file found
   found_all read = record {
     nodes = has.nodes;
@@ -80,10 +81,10 @@ module _ {D : Type 0} {g : _} (bytes : D → Option (List ℕ)) (images : D → 
     records_are = λ f told. inl (read.stands f told);
     good = λ is. (sym has.good ∙ is, read);
     faulty = λ is. λ f told. inl (sym has.good ∙ is);
-    told = still_told read.read;
+    known = still_told read.read;
   }
 
-  pub found_broken : (nth at : ℕ) → WhereTold (bytes disk) (λ f. JournalBreaks segments_mark records f nth at)
+  pub found_broken : (nth at : ℕ) → IfKnown (bytes disk) (λ f. JournalBreaks segments_mark records f nth at)
       → HasRead bytes images moment since segments_mark disk records file
       → HasAllFound bytes images moment since disk records file (record found { good = false })
   found_broken nth at breaks read = record {
@@ -92,7 +93,7 @@ module _ {D : Type 0} {g : _} (bytes : D → Option (List ℕ)) (images : D → 
     records_are = λ f told. inr (nth, at, breaks f told);
     good = λ is. absurd (true≢false (sym is));
     faulty = λ is. λ f told. inr (nth, at, breaks f told);
-    told = still_told read;
+    known = still_told read;
   }
 
 -- what was found so far, and where the file is that was opened

@@ -14,7 +14,8 @@ use Rattle.seg_codec.proofs.Among.{All-made, no_member, among, first_of_four, se
 use Rattle.seg_store.proofs.Next.{among_below}
 
 -- four lists end to end
-pub all_four : {A : Type 0} (P : A → Type 0) (xs ys zs ws : List A) → All P xs → All P ys → All P zs → All P ws → All P (xs ++ ys ++ zs ++ ws)
+pub all_four : {A : Type 0} (P : A → Type 0) (xs ys zs ws : List A) → All P xs → All P ys → All P zs → All P ws
+    → All P (xs ++ ys ++ zs ++ ws)
 all_four P xs ys zs ws x y z w = All-append P (xs ++ ys ++ zs) ws (All-append P (xs ++ ys) zs (All-append P xs ys x y) z) w
 
 abbrev Is_there : Nodes → LeafNode → Type 0
@@ -30,14 +31,17 @@ leaves_there nodes (d ∷ tree) has =
 -- trees of the file
 pub fits_there : (nodes : Nodes) (ids : FileRoots) (trees : Roots) → AreTreesOf nodes ids trees → Fits nodes trees
 fits_there nodes ids trees are = record {
-  leaves = All-weaker (Is_there nodes) (λ leaf. Contains (ids_in nodes) leaf.id → Contains nodes.leaves (file_leaf leaf)) (λ leaf there known. there)
+  leaves =
+      All-weaker (Is_there nodes) (λ leaf. Contains (ids_in nodes) leaf.id → Contains nodes.leaves (file_leaf leaf))
+      (λ leaf there known. there)
       (leaves_of_four trees)
       (all_four (Is_there nodes) (tree_leaves trees.eavt) (tree_leaves trees.aevt) (tree_leaves trees.avet) (tree_leaves trees.vaet)
       (leaves_there nodes trees.eavt (are.there Eavt)) (leaves_there nodes trees.aevt (are.there Aevt))
       (leaves_there nodes trees.avet (are.there Avet)) (leaves_there nodes trees.vaet (are.there Vaet)));
   directories = All-weaker (Has nodes) (λ d. Contains (ids_in nodes) d.id → Contains nodes.directories (file_directory d))
       (λ d has known. has.itself) (directories_of_four trees)
-      (all_four (Has nodes) trees.eavt trees.aevt trees.avet trees.vaet (are.there Eavt) (are.there Aevt) (are.there Avet) (are.there Vaet));
+      (all_four (Has nodes) trees.eavt trees.aevt trees.avet trees.vaet (are.there Eavt) (are.there Aevt) (are.there Avet)
+      (are.there Vaet));
 }
 
 -- a file without nodes

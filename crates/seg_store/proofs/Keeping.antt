@@ -1,6 +1,6 @@
 -- What a store keeps behind a record more.
 use Rattle.std.proofs.Common.{◌≡◌, ◌<◌, ◌^◌, inl, inr, ⊎_elim, ℕ, true, List, [], ◌∷◌, ◌++◌, length, Option, refl, sym, ◌∙◌, ap, subst}
-use Rattle.disk_model.specs.Disk.{WhereTold, LeavesOnly}
+use Rattle.disk_model.specs.Disk.{IfKnown, LeavesOnly}
 use Rattle.disk_model.specs.Journal.{segments_mark, JournalStands}
 use Rattle.disk_model.proofs.Journals.{stands-holds}
 use Rattle.disk_model.proofs.Moments.{started}
@@ -70,7 +70,7 @@ module _ {D : Type 0} {g : _} (bytes : D → Option (List ℕ)) (images : D → 
   -- a store that nothing was done to
   pub nothing_done : ((disk : D) (image : List ℕ) → since disk (moment disk) image → images disk image)
       → (records : List (List ℕ)) (store : SegStore D g) (root : KeptRoot) → StoreKeeps bytes images records store
-      → WhereTold (bytes (disk_in store))
+      → IfKnown (bytes (disk_in store))
       (λ _. LeavesOnly moment since (disk_in store) (disk_in store) (KeepsOneMore (kept_roots records) root))
   nothing_done only_now records store root keeps = λ file told.
       let kept = keeps.journal.file file told in
@@ -79,7 +79,8 @@ module _ {D : Type 0} {g : _} (bytes : D → Option (List ℕ)) (images : D → 
       (stands-holds (mark_of store.journal) records file (ap length store.marked) kept.0) in
       started moment since (disk_in store) (KeepsOneMore (kept_roots records) root) (λ image left. inl (
         records,
-        inl (subst (λ (f : List ℕ). JournalStands segments_mark records f) (sym (kept.1 image (only_now (disk_in store) image left))) stands),
+        inl (subst (λ (f : List ℕ). JournalStands segments_mark records f)
+            (sym (kept.1 image (only_now (disk_in store) image left))) stands),
         refl,
       ))
 

@@ -1,7 +1,7 @@
 -- What is loaded where the store goes on behind the records that were read, and where its file starts anew.
 use Rattle.std.proofs.Common.{inl, inr, ℕ, List, [], Option, refl}
 use Rattle.std.proofs.lemmas.List.Elements.{All-weaker}
-use Rattle.disk_model.specs.Disk.{WhereTold}
+use Rattle.disk_model.specs.Disk.{IfKnown}
 use Rattle.log_model.specs.Nodes.{Roots as FileRoots}
 use Rattle.log_model.specs.Kept.{nodes_of}
 use Rattle.seg_codec.specs.Trees.{AreTreesOf, Fits}
@@ -13,7 +13,7 @@ use Rattle.seg_store.specs.Loads.{AreKept, AreRecordsOf, IsFaulty, IsLoaded}
 use Rattle.seg_store.proofs.Fitting.{fits_there, fits_none}
 
 module _ {D : Type 0} {g : _} (bytes : D → Option (List ℕ)) (images : D → List ℕ → Type 0) (told : Option (List ℕ))
-    (read : List (List ℕ)) (loaded : Loaded D g) (file : WhereTold told (AreRecordsOf read)) (kept : AreKept read loaded.kept.items) where
+    (read : List (List ℕ)) (loaded : Loaded D g) (file : IfKnown told (AreRecordsOf read)) (kept : AreKept read loaded.kept.items) where
   pub loaded_on : StoreKeeps bytes images read loaded.store → IsLoaded bytes images told loaded
   loaded_on store = record {
     read = read;
@@ -23,10 +23,11 @@ module _ {D : Type 0} {g : _} (bytes : D → Option (List ℕ)) (images : D → 
     goes_on = inl refl;
     store = store;
     fits = All-weaker (λ (k : KeptTrees). (ids : FileRoots) × AreTreesOf (nodes_of read) ids k.roots)
-        (λ (k : KeptTrees). Fits (nodes_of read) k.roots) (λ k is. fits_there (nodes_of read) is.0 k.roots is.1) loaded.kept.items kept.there;
+        (λ (k : KeptTrees). Fits (nodes_of read) k.roots) (λ k is. fits_there (nodes_of read) is.0 k.roots is.1) loaded.kept.items
+        kept.there;
   }
 
-  pub loaded_anew : WhereTold told (IsFaulty read) → StoreKeeps bytes images [] loaded.store → IsLoaded bytes images told loaded
+  pub loaded_anew : IfKnown told (IsFaulty read) → StoreKeeps bytes images [] loaded.store → IsLoaded bytes images told loaded
   loaded_anew faulty store = record {
     read = read;
     file = file;

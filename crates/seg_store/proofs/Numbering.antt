@@ -1,5 +1,6 @@
 -- Numbers for new nodes, which are above those of a store's ids.
-use Rattle.std.proofs.Common.{◌≡◌, ◌⊎◌, ◌≤◌, ◌<◌, ◌^◌, ℕ, Bool, true, false, not, ◌||◌, List, [], ◌∷◌, ◌++◌, map, refl, sym, ◌∙◌, ap, arith, inl, inr}
+use Rattle.std.proofs.Common.{◌≡◌, ◌⊎◌, ◌≤◌, ◌<◌, ◌^◌, ℕ, Bool, true, false, not, ◌||◌, List, [], ◌∷◌, ◌++◌, map, refl, sym, ◌∙◌, ap, arith}
+use Rattle.std.proofs.Common.{inl, inr}
 use Rattle.std.specs.Prelude.{filter, nat_eq, nat_le, cond}
 use Rattle.std.specs.List.{list_any}
 use Rattle.std.proofs.lemmas.Bool.{true≢false, or_left, or_right, or_cases, eqb-true, eq-eqb, leb-true, leb-false, le-leb}
@@ -46,7 +47,8 @@ module _ (ids : List ℕ) (trees : Roots) where
       leaves : count_of id (leaf_ids (leaves_of_four trees)) ≡ count_of id (leaf_ids (tree_leaves (directories_of_four trees)))
       leaves = ap (λ l. count_of id (leaf_ids l)) (four_leaves trees)
 
-      go : (l : Bool) → is_among (leaf_ids (leaves_of_four trees)) id ≡ l → (d : Bool) → is_among (directory_ids (directories_of_four trees)) id ≡ d
+      go : (l : Bool) → is_among (leaf_ids (leaves_of_four trees)) id ≡ l
+          → (d : Bool) → is_among (directory_ids (directories_of_four trees)) id ≡ d
           → (is_among (leaf_ids (leaves_of_four trees)) id ≡ true) ⊎ (is_among (directory_ids (directories_of_four trees)) id ≡ true)
       go true leaf d directory = inl leaf
       go false leaf true directory = inr directory
@@ -74,10 +76,12 @@ module _ (ids : List ℕ) (trees : Roots) where
           ⊎ (is_among (directory_ids (directories_of_four trees)) id ≡ true) → is_among (ids_lacking ids trees) id ≡ true
       lacking out (inl leaf) =
           among-append lacking_leaves lacking_directories id
-          ∙ or_left (is_among lacking_leaves id) (is_among lacking_directories id) (stays_among ids (λ (l : LeafNode). l.id) (leaves_of_four trees) id out leaf)
+          ∙ or_left (is_among lacking_leaves id) (is_among lacking_directories id)
+          (stays_among ids (λ (l : LeafNode). l.id) (leaves_of_four trees) id out leaf)
       lacking out (inr directory) =
           among-append lacking_leaves lacking_directories id
-          ∙ or_right (is_among lacking_leaves id) (is_among lacking_directories id) (stays_among ids (λ (d : DirectoryNode). d.id) (directories_of_four trees) id out directory)
+          ∙ or_right (is_among lacking_leaves id) (is_among lacking_directories id)
+          (stays_among ids (λ (d : DirectoryNode). d.id) (directories_of_four trees) id out directory)
 
       go : (b : Bool) → is_among ids id ≡ b → (is_among ids id || is_among (ids_lacking ids trees) id) ≡ true
       go true within = or_left (is_among ids id) (is_among (ids_lacking ids trees) id) within

@@ -1,5 +1,6 @@
 -- One record more behind those that were read: what it keeps, or that it is bad.
-use Rattle.std.proofs.Common.{◌≡◌, ◌≤◌, ◌<◌, ℕ, suc, Bool, true, false, List, [], ◌∷◌, ◌++◌, length, refl, sym, ◌∙◌, ap, subst, arith, length-append}
+use Rattle.std.proofs.Common.{◌≡◌, ◌≤◌, ◌<◌, ℕ, suc, Bool, true, false, List, [], ◌∷◌, ◌++◌, length, refl, sym, ◌∙◌, ap, subst, arith}
+use Rattle.std.proofs.Common.{length-append}
 use Rattle.std.specs.Prelude.{nat_eq, All}
 use Rattle.std.proofs.lemmas.Bool.{true≢false, eqb-true, eq-eqb, eqb-false, ne_eqb}
 use Rattle.std.proofs.lemmas.List.{map-append}
@@ -37,7 +38,8 @@ stays_behind nodes [] more bad = absurd (true≢false (sym (eq-eqb 0 0 refl) ∙
 stays_behind nodes (payload ∷ records) more bad = go (record_says nodes payload) (λ next. stays_behind next records more) bad
   where
     go : (said : MergeSays) → ((next : Nodes) → are_good_behind next records ≡ false
-        → (kept_behind next (records ++ more) ≡ kept_behind next records) × (nodes_behind next (records ++ more) ≡ nodes_behind next records))
+        → (kept_behind next (records ++ more) ≡ kept_behind next records)
+        × (nodes_behind next (records ++ more) ≡ nodes_behind next records))
         → nat_eq (length (kept_by nodes said (λ next. kept_behind next records))) (length (payload ∷ records)) ≡ false
         → (kept_by nodes said (λ next. kept_behind next (records ++ more)) ≡ kept_by nodes said (λ next. kept_behind next records))
         × (nodes_by nodes said (λ next. nodes_behind next (records ++ more)) ≡ nodes_by nodes said (λ next. nodes_behind next records))
@@ -82,7 +84,8 @@ pub no_roots : AreKept [] []
 no_roots = record { roots = refl; there = λ k d lt. absurd (omega (arith, lt)) }
 
 -- the same roots where neither they nor the nodes change
-pub same_kept : (records more : List (List ℕ)) (kept : List KeptTrees) → kept_roots more ≡ kept_roots records → nodes_of more ≡ nodes_of records
+pub same_kept : (records more : List (List ℕ)) (kept : List KeptTrees) → kept_roots more ≡ kept_roots records
+    → nodes_of more ≡ nodes_of records
     → AreKept records kept → AreKept more kept
 same_kept records more kept roots nodes are = record {
   roots = are.roots ∙ sym roots;
@@ -108,7 +111,9 @@ module _ (records : List (List ℕ)) (payload : List ℕ) (merge : MergeRecord) 
     roots = map-append kept_of kept (record { roots = trees; c = c } ∷ [])
         ∙ (λ i. before.roots i ++ sym (root_is trees c are same) i ∷ [])
         ∙ sym (one_more_root records payload merge good says);
-    there = subst (λ (n : Nodes). All (λ (k : KeptTrees). (ids : FileRoots) × AreTreesOf n ids k.roots) (kept ++ record { roots = trees; c = c } ∷ []))
+    there =
+        subst (λ (n : Nodes).
+        All (λ (k : KeptTrees). (ids : FileRoots) × AreTreesOf n ids k.roots) (kept ++ record { roots = trees; c = c } ∷ []))
         (sym (one_more_nodes records payload merge good says))
         (All-push (λ (k : KeptTrees). (ids : FileRoots) × AreTreesOf next ids k.roots) kept (record { roots = trees; c = c })
         (All-weaker (λ (k : KeptTrees). (ids : FileRoots) × AreTreesOf (nodes_of records) ids k.roots)

@@ -1,8 +1,8 @@
 -- What is loaded of a file of segments.
 -- This project's own choice.
 use Rattle.std.specs.Prelude.{◌≡◌, ◌⊎◌, ℕ, List, [], Option, All, false, map}
-use Rattle.fb_calls.specs.Faults.{Rose}
-use Rattle.disk_model.specs.Disk.{WhereTold}
+use Rattle.io_faults.specs.Faults.{Rose}
+use Rattle.disk_model.specs.Disk.{IfKnown}
 use Rattle.disk_model.specs.Journal.{segments_mark, JournalStands, JournalBreaks}
 use Rattle.log_model.specs.Nodes.{Roots}
 use Rattle.log_model.specs.Kept.{KeptRoot, kept_roots, nodes_of, are_good}
@@ -29,25 +29,25 @@ AreRecordsOf records file =
     JournalStands segments_mark records file
     ⊎ ((nth : ℕ) × (at : ℕ) × JournalBreaks segments_mark records file nth at)
 
--- one of the records is bad, or the journal has a fault behind them
+-- one of the records is bad, or the journal has a fault after them
 abbrev pub IsFaulty : List (List ℕ) → List ℕ → Type 0
 IsFaulty records file =
     (are_good records ≡ false)
     ⊎ ((nth : ℕ) × (at : ℕ) × JournalBreaks segments_mark records file nth at)
 
--- The roots that the file keeps were loaded, and a store that they fit: it goes on behind the file's records, or with a file
--- that was started anew, where that one was faulty.
+-- The roots that the file keeps were loaded, and a store that they fit: it goes
+-- on after the file's records, or with a file that was started anew, where that one was faulty.
 pub record IsLoaded {D : Type 0} {g : _} (bytes : D → Option (List ℕ))
-    (images : D → List ℕ → Type 0) (told : Option (List ℕ)) (loaded : Loaded D g) : Type 0 where
+    (images : D → List ℕ → Type 0) (known : Option (List ℕ)) (loaded : Loaded D g) : Type 0 where
   pub read : List (List ℕ)
-  pub file : WhereTold told (AreRecordsOf read)
+  pub file : IfKnown known (AreRecordsOf read)
   pub kept : AreKept read loaded.kept.items
   pub records : List (List ℕ)
-  pub goes_on : (records ≡ read) ⊎ ((records ≡ []) × WhereTold told (IsFaulty read))
+  pub goes_on : (records ≡ read) ⊎ ((records ≡ []) × IfKnown known (IsFaulty read))
   pub store : StoreKeeps bytes images records loaded.store
   pub fits : All (λ trees. Fits (nodes_of records) trees.roots) loaded.kept.items
 
--- a fault of the disk raised its count, and want of memory did not
+-- a fault of the disk raised its count, and running out of memory did not
 abbrev pub CountsLoad : LoadFault → ℕ → ℕ → Type 0
 CountsLoad Disk old new = Rose old new
 CountsLoad Memory old new = new ≡ old

@@ -18,14 +18,16 @@ HaveStorableDatoms trees =
     All (λ leaf. All (λ d. IsTrue (is_storable_dated written_format d)) leaf.datoms)
     (leaves_of_four trees)
 
--- Behind these records, one with this payload keeps the trees as one root more. The file then has their nodes.
+-- After these records, one with this payload keeps the trees as one root more.
+-- The file then has their nodes.
 pub record KeepsRoot (records : List (List ℕ)) (payload : List ℕ) (trees : Roots) (c : ℕ)
     : Type 0 where
   pub roots : kept_roots (records ++ payload ∷ []) ≡ kept_roots records ++ root_of trees c ∷ []
   pub there : AreTreesOf (nodes_of (records ++ payload ∷ [])) (roots_of trees) trees
   pub fits : Fits (nodes_of (records ++ payload ∷ [])) trees
 
--- Good records go on with this payload, which keeps the trees. Of the nodes before it these were the ids.
+-- Good records go on with this payload, which keeps the trees.
+-- Of the nodes before it these were the ids.
 pub record IsNextRecord (ids : List ℕ) (records : List (List ℕ)) (payload : List ℕ) (trees : Roots)
     (c : ℕ) : Type 0 where
   pub good : IsTrue (are_good (records ++ payload ∷ []))

@@ -10,7 +10,7 @@ use seg_tree::{Directory, Leaf, Roots, Tree};
 use std::alloc::Global;
 use std::sync::Arc;
 
-/// The greatest number of nodes of one kind that a record tells.
+/// The greatest number of nodes of one kind that a record may have.
 const MOST: u64 = u32::MAX as u64;
 
 /// How many nodes of each kind there are.
@@ -83,7 +83,7 @@ fn know_leaves(leaves: &[Arc<Leaf>])
     }
 }
 
-/// The same of directories.
+/// Each directory has few leaves. It does nothing: what holds of a directory is known once it is asked.
 fn know_directories(directories: &[Arc<Directory>])
     ensures { All HasFewLeaves (map arc_value directories.now) }
 {

@@ -30,7 +30,7 @@ impl Found {
         }
     }
 
-    /// The next record. Behind a bad one nothing counts.
+    /// The next record. After a bad one nothing counts.
     pub(crate) fn add(&mut self, alloc: Global, payload: &[u8]) -> Result<(), Memory>
         ensures { OnOk result ((records : List (List ℕ)) → HasFound records self.old
             → HasFound (records ++ payload.now ∷ []) self.new) }

@@ -18,7 +18,7 @@ pub fn trees_of_a_lawful_history_are_storable()
         → IsLawful h → RootStands (trees_of trees) h c → HaveStorableDatoms trees }
 {}
 
-/// Trees fit a file that were made of ones that fit it: their other nodes are numbered behind those of the file.
+/// Trees fit a file that were made of ones that fit it: their other nodes are numbered after those of the file.
 pub fn trees_made_of_fitting_ones_fit()
     ensures { (nodes : Nodes) (first : ℕ) (old new : Roots)
         → next_above (ids_in nodes) ≤ first → Fits nodes old

@@ -1,9 +1,9 @@
 //! Loading a file of segments.
 ghost use Rattle.std.specs.Prelude.{◌≡◌, ◌<◌, ◌++◌, [], ◌∷◌, ℕ, List, Option, false, map, IfOk, MatchResult, IsTrue};
-ghost use Rattle.disk_model.specs.Disk.{WhereTold};
+ghost use Rattle.disk_model.specs.Disk.{IfKnown};
 ghost use Rattle.disk_model.specs.Journal.{segments_mark};
 ghost use Rattle.log_model.specs.Kept.{FileKeeps};
-ghost use Rattle.fb_journal.specs.Journals.{StaysTold};
+ghost use Rattle.fb_journal.specs.Journals.{StaysKnown};
 ghost use Rattle.fb_journal.specs.Readings.{disk_from, left_in, HasRead};
 ghost use Rattle.fb_journal.specs.Starts.{CountsStart, IsWhyNot};
 ghost use Rattle.fb_journal.specs.declared.starts.StartFault.{StartFault};
@@ -35,7 +35,7 @@ pub struct Loaded<D: Disk> {
     pub kept: Vec<KeptTrees>,
 }
 
-/// Why a file was not loaded. That its bytes are no good is no reason.
+/// Why a file was not loaded. Bad bytes are not a reason.
 #[derive(Clone, Copy, Debug, PartialEq, Eq, Error)]
 pub enum LoadFault {
     /// A call of the disk failed in this call.
@@ -67,11 +67,11 @@ impl<D: Disk> SegStore<D> {
     /// Loads the roots that a file keeps, which are those before its first bad record, or before the first fault of its
     /// journal. A file that has either starts anew, and so does one of at most 16 bytes.
     pub fn load(alloc: Global, disk: D) -> Result<Loaded<D>, LoadStop<D>>
-        ensures kept { IfOk result (λ loaded. WhereTold (D.bytes disk)
+        ensures kept { IfOk result (λ loaded. IfKnown (D.bytes disk)
             (λ file. FileKeeps file (map kept_of loaded.kept.items))) }
         ensures loaded { IfOk result (IsLoaded D.bytes D.images (D.bytes disk)) }
-        ensures told { IfOk result
-            (λ loaded. StaysTold (D.bytes disk) (D.bytes (disk_in loaded.store))) }
+        ensures known { IfOk result
+            (λ loaded. StaysKnown (D.bytes disk) (D.bytes (disk_in loaded.store))) }
 
         // A fault of the disk is counted.
         ensures counted { MatchResult result
@@ -92,7 +92,7 @@ impl<D: Disk> SegStore<D> {
     }
 }
 
-/// What was found, and a store that goes on behind the records, or with a file that starts anew where something was bad.
+/// What was found, and a store that goes on after the records, or with a file that starts anew where something was bad.
 fn loaded_behind<D: Disk>(
     alloc: Global,
     found: Found,
@@ -103,8 +103,8 @@ fn loaded_behind<D: Disk>(
     ensures loaded { IfOk result (λ loaded. (disk : D) (records : List (List ℕ))
         → HasAllFound D.bytes D.images D.moment D.images_since disk records file found
         → IsLoaded D.bytes D.images (D.bytes disk) loaded) }
-    ensures told { IfOk result
-        (λ loaded. StaysTold (D.bytes (disk_from file)) (D.bytes (disk_in loaded.store))) }
+    ensures known { IfOk result
+        (λ loaded. StaysKnown (D.bytes (disk_from file)) (D.bytes (disk_in loaded.store))) }
     ensures counted { MatchResult result
         (λ loaded. D.faults (disk_in loaded.store) ≡ D.faults (disk_from file))
         (λ stop. CountsLoad stop.fault (D.faults (disk_from file)) (D.faults stop.disk)) }
@@ -126,14 +126,14 @@ fn loaded_behind<D: Disk>(
     }
 }
 
-/// What a journal tells that did not start.
+/// What a journal says that did not start.
 fn loaded_before<D: Disk>(alloc: Global, stop: StartStop<D>) -> Result<Loaded<D>, LoadStop<D>>
     ensures loaded { IfOk result (λ loaded. (told : Option (List ℕ))
         → IsWhyNot segments_mark told stop.fault stop.before
         → IsLoaded D.bytes D.images told loaded) }
-    ensures told { IfOk result (λ loaded. (told : Option (List ℕ))
+    ensures known { IfOk result (λ loaded. (told : Option (List ℕ))
         → ((nth at : ℕ) → stop.fault ≡ StartFault.BadLog nth at → D.bytes stop.disk ≡ told)
-        → StaysTold told (D.bytes (disk_in loaded.store))) }
+        → StaysKnown told (D.bytes (disk_in loaded.store))) }
     ensures counted { (old : ℕ) → CountsStart stop.fault old (D.faults stop.disk)
         → MatchResult result (λ loaded. D.faults (disk_in loaded.store) ≡ old)
         (λ stopped. CountsLoad stopped.fault old (D.faults stopped.disk)) }
@@ -158,8 +158,8 @@ fn loaded_before<D: Disk>(alloc: Global, stop: StartStop<D>) -> Result<Loaded<D>
 fn anew<D: Disk>(alloc: Global, disk: D, kept: Vec<KeptTrees>) -> Result<Loaded<D>, LoadStop<D>>
     ensures anew { IfOk result
         (λ loaded. StoreKeeps D.bytes D.images [] loaded.store × (loaded.kept ≡ kept)) }
-    ensures told { IfOk result
-        (λ loaded. StaysTold (D.bytes disk) (D.bytes (disk_in loaded.store))) }
+    ensures known { IfOk result
+        (λ loaded. StaysKnown (D.bytes disk) (D.bytes (disk_in loaded.store))) }
     ensures counted { MatchResult result
         (λ loaded. D.faults (disk_in loaded.store) ≡ D.faults disk)
         (λ stop. CountsLoad stop.fault (D.faults disk) (D.faults stop.disk)) }

@@ -1,7 +1,7 @@
 //! Room in a file most of whose nodes are dead: they are nodes of none of the trees that are kept on with.
 ghost use Rattle.std.specs.Prelude.{◌≡◌, ◌⊎◌, ◌*◌, ◌-◌, ◌++◌, [], ◌∷◌, ℕ, List, length, nat_lt, None, Some, OnOk, IsErrOf};
-ghost use Rattle.fb_calls.specs.Faults.{Rose};
-ghost use Rattle.fb_journal.specs.Journals.{Keeps, StaysTold};
+ghost use Rattle.io_faults.specs.Faults.{Rose};
+ghost use Rattle.fb_journal.specs.Journals.{Keeps, StaysKnown};
 ghost use Rattle.seg_tree.specs.Ids.{node_ids};
 ghost use Rattle.seg_tree.specs.Indexes.{root_ids};
 ghost use Rattle.seg_codec.specs.Trees.{ids_lacking};
@@ -39,8 +39,8 @@ impl<D: Disk> SegStore<D> {
             × KeepsRoot [] payload roots.now c) }
         ensures ids { OnOk result (self.new.ids ≡ ids_lacking [] roots.now) }
         ensures alive { OnOk result (node_count self.new ≡ length (root_ids roots.now)) }
-        ensures told { OnOk result
-            (StaysTold (D.bytes (disk_in self.old)) (D.bytes (disk_in self.new))) }
+        ensures known { OnOk result
+            (StaysKnown (D.bytes (disk_in self.old)) (D.bytes (disk_in self.new))) }
 
         // It fails only where the disk did, and then stops at record 0.
         ensures counted { OnOk result (D.faults (disk_in self.new) ≡ D.faults (disk_in self.old)) }
@@ -68,8 +68,8 @@ impl<D: Disk> SegStore<D> {
         ensures started { OnOk result
             (Keeps D.bytes D.images (framed.now ∷ []) self.new.journal) }
         ensures ids { OnOk result (self.new.ids ≡ ids) }
-        ensures told { OnOk result
-            (StaysTold (D.bytes (disk_in self.old)) (D.bytes (disk_in self.new))) }
+        ensures known { OnOk result
+            (StaysKnown (D.bytes (disk_in self.old)) (D.bytes (disk_in self.new))) }
         ensures counted { OnOk result (D.faults (disk_in self.new) ≡ D.faults (disk_in self.old)) }
         ensures cause { IsErrOf result KeepFault.Disk
             → Rose (D.faults (disk_in self.old)) (D.faults (disk_in self.new)) }

@@ -1,11 +1,11 @@
 //! A store of roots on a disk.
 ghost use Rattle.std.specs.Prelude.{◌≡◌, ◌⊎◌, ◌≤◌, ◌^◌, ◌++◌, [], ◌∷◌, ℕ, List, take, None, Some, IfOk, OnOk, OnErr, IsErrOf, IsTrue, MatchResult};
-ghost use Rattle.fb_calls.specs.Faults.{Rose};
-ghost use Rattle.disk_model.specs.Disk.{WhereTold, LeavesOnly};
+ghost use Rattle.io_faults.specs.Faults.{Rose};
+ghost use Rattle.disk_model.specs.Disk.{IfKnown, LeavesOnly};
 ghost use Rattle.disk_model.specs.Journal.{segments_mark};
 ghost use Rattle.log_model.specs.Nodes.{ids_in};
 ghost use Rattle.log_model.specs.Kept.{kept_roots, nodes_of, are_good};
-ghost use Rattle.fb_journal.specs.Journals.{mark_of, Keeps, StaysTold, IsBeforeOrAfter};
+ghost use Rattle.fb_journal.specs.Journals.{mark_of, Keeps, StaysKnown, IsBeforeOrAfter};
 ghost use Rattle.seg_tree.specs.Ids.{next_above};
 ghost use Rattle.seg_codec.specs.Trees.{Fits, AreIdsOf, ids_lacking};
 ghost use Rattle.seg_store.specs.Trees.{root_of, HaveStorableDatoms, KeepsRoot, IsNextRecord};
@@ -85,11 +85,11 @@ impl<D: Disk> SegStore<D> {
         // A crash at any moment of the call leaves a file that keeps the roots from before it, or this one besides.
         ensures any_moment { (records : List (List ℕ))
             → StoreKeeps D.bytes D.images records self.old → Fits (nodes_of records) roots.now
-            → WhereTold (D.bytes (disk_in self.old)) (λ _. LeavesOnly D.moment D.images_since
+            → IfKnown (D.bytes (disk_in self.old)) (λ _. LeavesOnly D.moment D.images_since
             (disk_in self.old) (disk_in self.new)
             (KeepsOneMore (kept_roots records) (root_of roots.now c))) }
-        ensures told { OnOk result
-            (StaysTold (D.bytes (disk_in self.old)) (D.bytes (disk_in self.new))) }
+        ensures known { OnOk result
+            (StaysKnown (D.bytes (disk_in self.old)) (D.bytes (disk_in self.new))) }
 
         // The ids are those that were there and, at Ok, those of all nodes of the trees.
         ensures ids { MatchResult result
@@ -127,11 +127,11 @@ impl<D: Disk> SegStore<D> {
             (λ _. self.new.ids ≡ take known self.old.ids) }
         ensures any_moment { (records : List (List ℕ))
             → Keeps D.bytes D.images records self.old.journal
-            → WhereTold (D.bytes (disk_in self.old)) (λ _. LeavesOnly D.moment D.images_since
+            → IfKnown (D.bytes (disk_in self.old)) (λ _. LeavesOnly D.moment D.images_since
             (disk_in self.old) (disk_in self.new)
             (IsBeforeOrAfter (mark_of self.old.journal) records framed.now)) }
-        ensures told { OnOk result
-            (StaysTold (D.bytes (disk_in self.old)) (D.bytes (disk_in self.new))) }
+        ensures known { OnOk result
+            (StaysKnown (D.bytes (disk_in self.old)) (D.bytes (disk_in self.new))) }
         ensures counted { OnOk result (D.faults (disk_in self.new) ≡ D.faults (disk_in self.old)) }
         ensures cause { IsErrOf result KeepFault.Disk
             → Rose (D.faults (disk_in self.old)) (D.faults (disk_in self.new)) }
@@ -158,8 +158,8 @@ impl<D: Disk> SegStore<D> {
     /// memory.
     pub fn reset(&mut self) -> Result<(), KeepFault>
         ensures emptied { OnOk result (StoreKeeps D.bytes D.images [] self.new) }
-        ensures told { OnOk result
-            (StaysTold (D.bytes (disk_in self.old)) (D.bytes (disk_in self.new))) }
+        ensures known { OnOk result
+            (StaysKnown (D.bytes (disk_in self.old)) (D.bytes (disk_in self.new))) }
 
         // It fails only where the disk did, and then stops at record 0.
         ensures counted { OnOk result (D.faults (disk_in self.new) ≡ D.faults (disk_in self.old)) }
@@ -199,7 +199,7 @@ impl<D: Disk> SegStore<D> {
     }
 }
 
-/// The record that keeps trees behind nodes with these ids, and the ids behind it. All memory that it needs is taken here.
+/// The record that keeps trees after nodes with these ids, and the ids after it. All memory that it needs is taken here.
 pub(crate) fn prepared(
     alloc: Global,
     roots: &Roots,
@@ -219,7 +219,7 @@ pub(crate) fn prepared(
     Ok(framed)
 }
 
-/// The record that keeps trees behind nodes with these ids.
+/// The record that keeps trees after nodes with these ids.
 fn record(alloc: Global, roots: &Roots, c: u32, ids: &Ids) -> Result<Framed, Memory>
     requires { HaveStorableDatoms roots.now }
     ensures { IfOk result (λ payload. (records : List (List ℕ))

@@ -1,5 +1,6 @@
 -- A tree in the making, after one leaf or one directory more.
-use Rattle.std.proofs.Common.{◌≡◌, ℕ, zero, suc, ◌+◌, ◌-◌, ◌<◌, ◌≤◌, ◌^◌, Bool, true, false, cond, List, [], ◌∷◌, ◌++◌, length, refl, sym, ap, ◌∙◌, arith, append_assoc, append-nil, inl, inr}
+use Rattle.std.proofs.Common.{◌≡◌, ℕ, zero, suc, ◌+◌, ◌-◌, ◌<◌, ◌≤◌, ◌^◌, Bool, true, false, cond, List, [], ◌∷◌, ◌++◌, length, refl, sym}
+use Rattle.std.proofs.Common.{ap, ◌∙◌, arith, append_assoc, append-nil, inl, inr}
 use Rattle.std.specs.Prelude.{filter}
 use Rattle.std.specs.List.{range_with_len}
 use Rattle.std.proofs.lemmas.List.FromFn.{length-range_with_len}
@@ -22,20 +23,25 @@ ids_leaf ds ls leaf =
     ap (λ ids. node_ids ds ++ ids) (map-append (λ (l : LeafNode). l.id) ls (leaf ∷ []))
     ∙ sym (append_assoc (node_ids ds) (leaf_ids ls) (leaf.id ∷ []))
 
-leaves_leaf : (ds : List DirectoryNode) (ls : List LeafNode) (leaf : LeafNode) → leaves_in ds (ls ++ leaf ∷ []) ≡ leaves_in ds ls ++ leaf ∷ []
+leaves_leaf : (ds : List DirectoryNode) (ls : List LeafNode) (leaf : LeafNode)
+    → leaves_in ds (ls ++ leaf ∷ []) ≡ leaves_in ds ls ++ leaf ∷ []
 leaves_leaf ds ls leaf = sym (append_assoc (tree_leaves ds) ls (leaf ∷ []))
 
-ids_directory : (ds : List DirectoryNode) (ls : List LeafNode) (id : ℕ) → ids_in (ds ++ record { id = id; leaves = ls } ∷ []) [] ≡ ids_in ds ls ++ id ∷ []
+ids_directory : (ds : List DirectoryNode) (ls : List LeafNode) (id : ℕ)
+    → ids_in (ds ++ record { id = id; leaves = ls } ∷ []) [] ≡ ids_in ds ls ++ id ∷ []
 ids_directory ds ls id =
     append-nil (node_ids (ds ++ record { id = id; leaves = ls } ∷ []))
     ∙ node_ids-push ds (record { id = id; leaves = ls })
     ∙ sym (append_assoc (node_ids ds) (leaf_ids ls) (id ∷ []))
 
-leaves_directory : (ds : List DirectoryNode) (ls : List LeafNode) (id : ℕ) → leaves_in (ds ++ record { id = id; leaves = ls } ∷ []) [] ≡ leaves_in ds ls
-leaves_directory ds ls id = append-nil (tree_leaves (ds ++ record { id = id; leaves = ls } ∷ [])) ∙ tree_leaves-push ds (record { id = id; leaves = ls })
+leaves_directory : (ds : List DirectoryNode) (ls : List LeafNode) (id : ℕ)
+    → leaves_in (ds ++ record { id = id; leaves = ls } ∷ []) [] ≡ leaves_in ds ls
+leaves_directory ds ls id =
+    append-nil (tree_leaves (ds ++ record { id = id; leaves = ls } ∷ [])) ∙ tree_leaves-push ds (record { id = id; leaves = ls })
 
 -- one element more
-filter-push : {X : Type 0} (p : X → Bool) (xs : List X) (x : X) (b : Bool) → p x ≡ b → filter p (xs ++ x ∷ []) ≡ filter p xs ++ cond b (x ∷ []) []
+filter-push : {X : Type 0} (p : X → Bool) (xs : List X) (x : X) (b : Bool) → p x ≡ b
+    → filter p (xs ++ x ∷ []) ≡ filter p xs ++ cond b (x ∷ []) []
 filter-push p xs x b is = filter-append p xs (x ∷ []) ∙ ap (λ q. filter p xs ++ cond q (x ∷ []) []) is
 
 old_id : (first id : ℕ) → id < first → is_old first id ≡ true
@@ -50,7 +56,8 @@ new_id first id up = le-leb first id up
 not_new : (first id : ℕ) → id < first → is_new first id ≡ false
 not_new first id below = lt-leb first id below
 
-numbered_more : (first next : ℕ) (ids : List ℕ) → first ≤ next → AreNumbered first next ids → AreNumbered first (next + 1) (ids ++ next ∷ [])
+numbered_more : (first next : ℕ) (ids : List ℕ) → first ≤ next → AreNumbered first next ids
+    → AreNumbered first (next + 1) (ids ++ next ∷ [])
 numbered_more first next ids behind numbered =
     let e : next + 1 - first ≡ suc (next - first) = omega arith in
     let at : first + (next - first) ≡ next = omega arith in
@@ -60,12 +67,14 @@ numbered_more first next ids behind numbered =
     ∙ range-push first (next - first)
     ∙ ap (range_with_len first) (sym e)
 
-old_more : (first next : ℕ) (ids olds : List ℕ) → first ≤ next → filter (is_old first) ids ≡ olds → filter (is_old first) (ids ++ next ∷ []) ≡ olds
+old_more : (first next : ℕ) (ids olds : List ℕ) → first ≤ next → filter (is_old first) ids ≡ olds
+    → filter (is_old first) (ids ++ next ∷ []) ≡ olds
 old_more first next ids olds behind old =
     filter-push (is_old first) ids next false (not_old first next behind) ∙ append-nil (filter (is_old first) ids) ∙ old
 
 -- an older leaf
-pub growing_kept : (first next : ℕ) (ds : List DirectoryNode) (ls : List LeafNode) (leaf : LeafNode) → leaf.id < first → IsGrowing first next ds ls → IsGrowing first next ds (ls ++ leaf ∷ [])
+pub growing_kept : (first next : ℕ) (ds : List DirectoryNode) (ls : List LeafNode) (leaf : LeafNode) → leaf.id < first
+    → IsGrowing first next ds ls → IsGrowing first next ds (ls ++ leaf ∷ [])
 growing_kept first next ds ls leaf below g = record {
   behind = g.behind;
   small = g.small;
@@ -82,18 +91,25 @@ growing_kept first next ds ls leaf below g = record {
       ∙ ap leaf_ids (sym (old_kept first ds ls leaf below));
 }
   where
-    old_kept : (first : ℕ) (ds : List DirectoryNode) (ls : List LeafNode) (leaf : LeafNode) → leaf.id < first → old_leaves first (leaves_in ds (ls ++ leaf ∷ [])) ≡ old_leaves first (leaves_in ds ls) ++ leaf ∷ []
+    old_kept : (first : ℕ) (ds : List DirectoryNode) (ls : List LeafNode) (leaf : LeafNode) → leaf.id < first
+        → old_leaves first (leaves_in ds (ls ++ leaf ∷ [])) ≡ old_leaves first (leaves_in ds ls) ++ leaf ∷ []
     old_kept first ds ls leaf below =
         ap (old_leaves first) (leaves_leaf ds ls leaf)
         ∙ filter-push (λ (l : LeafNode). is_old first l.id) (leaves_in ds ls) leaf true (old_id first leaf.id below)
 
-datoms_leaf : (ds : List DirectoryNode) (ls : List LeafNode) (leaf : LeafNode) → leaf_datoms (leaves_in ds (ls ++ leaf ∷ [])) ≡ leaf_datoms (leaves_in ds ls) ++ leaf.datoms
+datoms_leaf : (ds : List DirectoryNode) (ls : List LeafNode) (leaf : LeafNode)
+    → leaf_datoms (leaves_in ds (ls ++ leaf ∷ [])) ≡ leaf_datoms (leaves_in ds ls) ++ leaf.datoms
 datoms_leaf ds ls leaf =
     ap leaf_datoms (leaves_leaf ds ls leaf)
     ∙ leaf_datoms-append (leaves_in ds ls) (leaf ∷ [])
     ∙ ap (λ more. leaf_datoms (leaves_in ds ls) ++ more) (append-nil leaf.datoms)
 
-pub build_kept : (first : ℕ) (ds : List DirectoryNode) (ls : List LeafNode) (leaf : LeafNode) → leaf.id < first → build_of first ds (ls ++ leaf ∷ []) ≡ record (build_of first ds ls) { datoms = leaf_datoms (leaves_in ds ls) ++ leaf.datoms; kept = old_leaves first (leaves_in ds ls) ++ leaf ∷ [] }
+pub build_kept : (first : ℕ) (ds : List DirectoryNode) (ls : List LeafNode) (leaf : LeafNode) → leaf.id < first
+    → build_of first ds (ls ++ leaf ∷ [])
+    ≡ record (build_of first ds ls) {
+      datoms = leaf_datoms (leaves_in ds ls) ++ leaf.datoms;
+      kept = old_leaves first (leaves_in ds ls) ++ leaf ∷ [];
+    }
 build_kept first ds ls leaf below = λ i. record {
   first = first;
   datoms = datoms_leaf ds ls leaf i;
@@ -106,13 +122,16 @@ build_kept first ds ls leaf below = λ i. record {
         ∙ filter-push (λ (l : LeafNode). is_old first l.id) (leaves_in ds ls) leaf true (old_id first leaf.id below)
 
 -- a new leaf
-old_same : (first next : ℕ) (ds : List DirectoryNode) (ls : List LeafNode) (datoms : List Datom) → first ≤ next → old_leaves first (leaves_in ds (ls ++ record { id = next; datoms = datoms } ∷ [])) ≡ old_leaves first (leaves_in ds ls)
+old_same : (first next : ℕ) (ds : List DirectoryNode) (ls : List LeafNode) (datoms : List Datom) → first ≤ next
+    → old_leaves first (leaves_in ds (ls ++ record { id = next; datoms = datoms } ∷ [])) ≡ old_leaves first (leaves_in ds ls)
 old_same first next ds ls datoms behind =
     ap (old_leaves first) (leaves_leaf ds ls (record { id = next; datoms = datoms }))
-    ∙ filter-push (λ (l : LeafNode). is_old first l.id) (leaves_in ds ls) (record { id = next; datoms = datoms }) false (not_old first next behind)
+    ∙ filter-push (λ (l : LeafNode). is_old first l.id) (leaves_in ds ls) (record { id = next; datoms = datoms }) false
+    (not_old first next behind)
     ∙ append-nil (old_leaves first (leaves_in ds ls))
 
-pub growing_new : (first next : ℕ) (ds : List DirectoryNode) (ls : List LeafNode) (datoms : List Datom) → next < 2 ^ 62 → IsGrowing first next ds ls → IsGrowing first (next + 1) ds (ls ++ record { id = next; datoms = datoms } ∷ [])
+pub growing_new : (first next : ℕ) (ds : List DirectoryNode) (ls : List LeafNode) (datoms : List Datom) → next < 2 ^ 62
+    → IsGrowing first next ds ls → IsGrowing first (next + 1) ds (ls ++ record { id = next; datoms = datoms } ∷ [])
 growing_new first next ds ls datoms small g =
     let leaf : LeafNode = record { id = next; datoms = datoms } in
     record {
@@ -125,7 +144,9 @@ growing_new first next ds ls datoms small g =
           ∙ ap leaf_ids (sym (old_same first next ds ls datoms g.behind));
     }
 
-pub build_new : (first next : ℕ) (ds : List DirectoryNode) (ls : List LeafNode) (datoms : List Datom) → first ≤ next → build_of first ds (ls ++ record { id = next; datoms = datoms } ∷ []) ≡ record (build_of first ds ls) { datoms = leaf_datoms (leaves_in ds ls) ++ datoms }
+pub build_new : (first next : ℕ) (ds : List DirectoryNode) (ls : List LeafNode) (datoms : List Datom) → first ≤ next
+    → build_of first ds (ls ++ record { id = next; datoms = datoms } ∷ [])
+    ≡ record (build_of first ds ls) { datoms = leaf_datoms (leaves_in ds ls) ++ datoms }
 build_new first next ds ls datoms behind = λ i. record {
   first = first;
   datoms = datoms_leaf ds ls (record { id = next; datoms = datoms }) i;
@@ -133,7 +154,8 @@ build_new first next ds ls datoms behind = λ i. record {
 }
 
 -- a directory
-pub growing_closed : (first next : ℕ) (ds : List DirectoryNode) (ls : List LeafNode) → next < 2 ^ 62 → IsGrowing first next ds ls → IsGrowing first (next + 1) (ds ++ record { id = next; leaves = ls } ∷ []) []
+pub growing_closed : (first next : ℕ) (ds : List DirectoryNode) (ls : List LeafNode) → next < 2 ^ 62 → IsGrowing first next ds ls
+    → IsGrowing first (next + 1) (ds ++ record { id = next; leaves = ls } ∷ []) []
 growing_closed first next ds ls small g = record {
   behind = omega (arith, g.behind);
   small = omega arith;
@@ -144,7 +166,8 @@ growing_closed first next ds ls small g = record {
       ∙ ap (λ leaves. leaf_ids (old_leaves first leaves)) (sym (leaves_directory ds ls next));
 }
 
-pub build_closed : (first next : ℕ) (ds : List DirectoryNode) (ls : List LeafNode) → build_of first (ds ++ record { id = next; leaves = ls } ∷ []) [] ≡ build_of first ds ls
+pub build_closed : (first next : ℕ) (ds : List DirectoryNode) (ls : List LeafNode)
+    → build_of first (ds ++ record { id = next; leaves = ls } ∷ []) [] ≡ build_of first ds ls
 build_closed first next ds ls = λ i. record {
   first = first;
   datoms = leaf_datoms (leaves_directory ds ls next i);
@@ -173,7 +196,9 @@ all_new first (id ∷ ids) none =
     ]
 
 -- without an older leaf all ids are new
-pub in_row : (first next : ℕ) (datoms : List Datom) (tree : List DirectoryNode) → IsBuilt (record { first = first; datoms = datoms; kept = [] }) tree next → node_ids tree ≡ range_with_len first (length (node_ids tree))
+pub in_row : (first next : ℕ) (datoms : List Datom) (tree : List DirectoryNode)
+    → IsBuilt (record { first = first; datoms = datoms; kept = [] }) tree next
+    → node_ids tree ≡ range_with_len first (length (node_ids tree))
 in_row first next datoms tree built =
     let is = sym (all_new first (node_ids tree) built.old) ∙ built.new in
     is ∙ ap (range_with_len first) (sym (ap length is ∙ length-range_with_len first (next - first)))

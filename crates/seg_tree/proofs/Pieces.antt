@@ -1,5 +1,6 @@
 -- Places in a list that is cut into pieces.
-use Rattle.std.proofs.Common.{◌≡◌, ℕ, zero, suc, ◌+◌, ◌<◌, ◌≤◌, List, [], ◌∷◌, ◌++◌, length, take, refl, ◌∙◌, arith, length-append, Option, Some, None, inl, inr}
+use Rattle.std.proofs.Common.{◌≡◌, ℕ, zero, suc, ◌+◌, ◌<◌, ◌≤◌, List, [], ◌∷◌, ◌++◌, length, take, refl, ◌∙◌, arith, length-append, Option}
+use Rattle.std.proofs.Common.{Some, None, inl, inr}
 use Rattle.std.specs.List.{slice_get}
 use Rattle.std.proofs.lemmas.Bool.{lt-ltb, le-ltb, cases_lt}
 use Rattle.std.proofs.lemmas.Option.{slice_get_past}
@@ -35,20 +36,26 @@ get-chunk_rank [] k n = refl
 get-chunk_rank (c ∷ cs) zero n =
     elim (cases_lt n (length c)) [
       | inl within ↦ rw (lt-ltb n (length c) within) (get-append_left c (joined cs) n within)
-      | inr past ↦ rw (le-ltb n (length c) past, slice_get_past c n past) (slice_get_past (c ++ joined cs) (length c + length (joined cs)) (omega (arith, length-append c (joined cs))))
+      | inr past ↦ rw (
+        le-ltb n (length c) past,
+        slice_get_past c n past,
+      ) (slice_get_past (c ++ joined cs) (length c + length (joined cs)) (omega (arith, length-append c (joined cs))))
     ]
 get-chunk_rank (c ∷ cs) (suc k) n = get-append_right c (joined cs) (chunk_rank cs k n) ∙ get-chunk_rank cs k n
 
 -- a place in a piece
-pub chunk_rank-inside : (cs : List (List Datom)) (k n : ℕ) (c : List Datom) → slice_get cs k ≡ Some c → n < length c → chunk_rank cs k n ≡ length (joined (take k cs)) + n
+pub chunk_rank-inside : (cs : List (List Datom)) (k n : ℕ) (c : List Datom) → slice_get cs k ≡ Some c → n < length c
+    → chunk_rank cs k n ≡ length (joined (take k cs)) + n
 chunk_rank-inside [] k n c read within = absurd (cc)
 chunk_rank-inside (b ∷ cs) zero n c read within =
     let same : b ≡ c = cc in
     rw (lt-ltb n (length b) (rw same within)) (omega arith)
-chunk_rank-inside (b ∷ cs) (suc k) n c read within = rw (chunk_rank-inside cs k n c read within) (omega (arith, length-append b (joined (take k cs))))
+chunk_rank-inside (b ∷ cs) (suc k) n c read within =
+    rw (chunk_rank-inside cs k n c read within) (omega (arith, length-append b (joined (take k cs))))
 
 -- behind the piece
-pub chunk_rank-past : (cs : List (List Datom)) (k n : ℕ) (c : List Datom) → slice_get cs k ≡ Some c → length c ≤ n → chunk_rank cs k n ≡ length (joined cs)
+pub chunk_rank-past : (cs : List (List Datom)) (k n : ℕ) (c : List Datom) → slice_get cs k ≡ Some c → length c ≤ n
+    → chunk_rank cs k n ≡ length (joined cs)
 chunk_rank-past [] k n c read past = absurd (cc)
 chunk_rank-past (b ∷ cs) zero n c read past =
     let same : b ≡ c = cc in
@@ -77,25 +84,31 @@ chunk_rank-first (f ∷ hs) [] h = absurd h
 chunk_rank-first (f ∷ hs) (c ∷ cs) h = rw (lt-ltb 0 (length c) (begins_some c f h.0)) refl
 
 -- the first place of the next piece
-pub chunk_rank-next : (hs : List Datom) (cs : List (List Datom)) (k : ℕ) (c : List Datom) → AreFirsts hs cs → slice_get cs k ≡ Some c → chunk_rank cs (suc k) 0 ≡ length (joined (take k cs)) + length c
+pub chunk_rank-next : (hs : List Datom) (cs : List (List Datom)) (k : ℕ) (c : List Datom) → AreFirsts hs cs → slice_get cs k ≡ Some c
+    → chunk_rank cs (suc k) 0 ≡ length (joined (take k cs)) + length c
 chunk_rank-next [] [] k c h read = absurd (cc)
 chunk_rank-next [] (b ∷ cs) k c h read = absurd h
 chunk_rank-next (f ∷ hs) [] k c h read = absurd h
 chunk_rank-next (f ∷ hs) (b ∷ cs) zero c h read =
     let same : b ≡ c = cc in
     rw (chunk_rank-first hs cs h.1, same) (omega arith)
-chunk_rank-next (f ∷ hs) (b ∷ cs) (suc k) c h read = rw (chunk_rank-next hs cs k c h.1 read) (omega (arith, length-append b (joined (take k cs))))
+chunk_rank-next (f ∷ hs) (b ∷ cs) (suc k) c h read =
+    rw (chunk_rank-next hs cs k c h.1 read) (omega (arith, length-append b (joined (take k cs))))
 
 -- a piece and those before it are part of the whole
-pub joined-take : (cs : List (List Datom)) (k : ℕ) (c : List Datom) → slice_get cs k ≡ Some c → length (joined (take k cs)) + length c ≤ length (joined cs)
+pub joined-take : (cs : List (List Datom)) (k : ℕ) (c : List Datom) → slice_get cs k ≡ Some c
+    → length (joined (take k cs)) + length c ≤ length (joined cs)
 joined-take [] k c read = absurd (cc)
 joined-take (b ∷ cs) zero c read = let same : b ≡ c = cc in rw same (omega (arith, length-append c (joined cs)))
-joined-take (b ∷ cs) (suc k) c read = omega (arith, joined-take cs k c read, length-append b (joined (take k cs)), length-append b (joined cs))
+joined-take (b ∷ cs) (suc k) c read =
+    omega (arith, joined-take cs k c read, length-append b (joined (take k cs)), length-append b (joined cs))
 
 -- each piece has a first place
-pub chunk_rank-start : (hs : List Datom) (cs : List (List Datom)) (k : ℕ) → AreFirsts hs cs → k < length cs → chunk_rank cs k 0 < length (joined cs)
+pub chunk_rank-start : (hs : List Datom) (cs : List (List Datom)) (k : ℕ) → AreFirsts hs cs → k < length cs
+    → chunk_rank cs k 0 < length (joined cs)
 chunk_rank-start [] [] k h within = absurd (omega arith)
 chunk_rank-start [] (c ∷ cs) k h within = absurd h
 chunk_rank-start (f ∷ hs) [] k h within = absurd h
-chunk_rank-start (f ∷ hs) (c ∷ cs) zero h within = rw (lt-ltb 0 (length c) (begins_some c f h.0)) (omega (arith, begins_some c f h.0, length-append c (joined cs)))
+chunk_rank-start (f ∷ hs) (c ∷ cs) zero h within =
+    rw (lt-ltb 0 (length c) (begins_some c f h.0)) (omega (arith, begins_some c f h.0, length-append c (joined cs)))
 chunk_rank-start (f ∷ hs) (c ∷ cs) (suc k) h within = omega (arith, chunk_rank-start hs cs k h.1 (omega arith), length-append c (joined cs))

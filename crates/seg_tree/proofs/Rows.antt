@@ -1,5 +1,6 @@
 -- Numbers in a row: none stands among them twice, and rows that follow one another are one row.
-use Rattle.std.proofs.Common.{◌≡◌, ℕ, zero, suc, ◌+◌, ◌-◌, ◌<◌, ◌≤◌, List, [], ◌∷◌, ◌++◌, length, refl, sym, ap, ◌∙◌, subst, inl, inr, arith}
+use Rattle.std.proofs.Common.{◌≡◌, ℕ, zero, suc, ◌+◌, ◌-◌, ◌<◌, ◌≤◌, List, [], ◌∷◌, ◌++◌, length, refl, sym, ap, ◌∙◌, subst, inl, inr}
+use Rattle.std.proofs.Common.{arith}
 use Rattle.std.specs.List.{range_with_len}
 use Rattle.std.proofs.lemmas.Bool.{cases_eq, eq-eqb, ne_eqb}
 use Rattle.std.proofs.lemmas.List.FromFn.{length-range_with_len}
@@ -44,7 +45,8 @@ next_of_row a [] row some = absurd (omega arith)
 next_of_row a (id ∷ ids) row some = ap next_above row ∙ next_above-range a (length ids)
 
 -- the ids of a tree of new leaves alone
-row_of : (first next : ℕ) (datoms : List Datom) (tree : List DirectoryNode) → IsBuilt (record { first = first; datoms = datoms; kept = [] }) tree next → node_ids tree ≡ range_with_len first (next - first)
+row_of : (first next : ℕ) (datoms : List Datom) (tree : List DirectoryNode)
+    → IsBuilt (record { first = first; datoms = datoms; kept = [] }) tree next → node_ids tree ≡ range_with_len first (next - first)
 row_of first next datoms tree built = sym (all_new first (node_ids tree) built.old) ∙ built.new
 
 module _ (first second third fourth next : ℕ) (es bs vs rs : List Datom) (eavt aevt avet vaet : List DirectoryNode)

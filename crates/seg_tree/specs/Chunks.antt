@@ -1,6 +1,7 @@
 -- A list of datoms cut into pieces, and places in it.
 -- This project's own choice.
-use Rattle.std.specs.Prelude.{◌≡◌, ℕ, zero, suc, ◌+◌, List, [], ◌∷◌, ◌++◌, length, nat_lt, if◌then◌else◌}
+use Rattle.std.specs.Prelude.{◌≡◌, ℕ, zero, suc, ◌+◌, List, [], ◌∷◌, ◌++◌, length, nat_lt}
+use Rattle.std.specs.Prelude.{if◌then◌else◌}
 use Rattle.fb_values.specs.declared.facts.Datom.{Datom}
 
 -- the pieces end to end
@@ -20,7 +21,8 @@ AreFirsts [] (chunk ∷ chunks) = ⊥
 AreFirsts (first ∷ firsts) [] = ⊥
 AreFirsts (first ∷ firsts) (chunk ∷ chunks) = BeginsWith chunk first × AreFirsts firsts chunks
 
--- how many datoms stand before a place: the number of a piece and of a datom in it. Before a place that there is not stand all.
+-- how many datoms come before a place: the number of a piece and of a datom in it.
+-- All of them come before a place that does not exist.
 abbrev pub chunk_rank : List (List Datom) → ℕ → ℕ → ℕ
 chunk_rank [] k n = 0
 chunk_rank (chunk ∷ chunks) zero n =

@@ -1,13 +1,14 @@
 -- The ids of a segment tree's nodes, and the ids that new nodes get.
 -- This project's own choice.
-use Rattle.std.specs.Prelude.{◌≡◌, ◌≤◌, ◌+◌, ◌-◌, ◌==◌, ℕ, Bool, List, [], ◌∷◌, ◌++◌, length, map, filter, max, nat_lt, nat_le}
+use Rattle.std.specs.Prelude.{◌≡◌, ◌≤◌, ◌+◌, ◌-◌, ◌==◌, ℕ, Bool, List, [], ◌∷◌, ◌++◌, length, map}
+use Rattle.std.specs.Prelude.{filter, max, nat_lt, nat_le}
 use Rattle.std.specs.List.{range_with_len}
 use Rattle.seg_tree.specs.Nodes.{LeafNode, DirectoryNode}
 
 abbrev pub leaf_ids : List LeafNode → List ℕ
 leaf_ids leaves = map (λ leaf. leaf.id) leaves
 
--- those of its leaves, and its own behind them
+-- the ids of a directory's leaves, and its own after them
 abbrev pub directory_ids : DirectoryNode → List ℕ
 directory_ids directory = leaf_ids directory.leaves ++ directory.id ∷ []
 
@@ -20,17 +21,17 @@ abbrev pub next_above : List ℕ → ℕ
 next_above [] = 1
 next_above (id ∷ ids) = max (id + 1) (next_above ids)
 
--- those of four trees
+-- the ids of four trees
 abbrev pub ids_of_four : List DirectoryNode → List DirectoryNode → List DirectoryNode
     → List DirectoryNode → List ℕ
 ids_of_four eavt aevt avet vaet =
     ((node_ids eavt ++ node_ids aevt) ++ node_ids avet) ++ node_ids vaet
 
--- how often an id stands among them
+-- how often an id is among them
 abbrev pub count_of : ℕ → List ℕ → ℕ
 count_of id ids = length (filter (λ x. x == id) ids)
 
--- no id stands there twice
+-- no id is there twice
 abbrev pub AreDistinct : List ℕ → Type 0
 AreDistinct ids = (id : ℕ) → count_of id ids ≤ 1
 

@@ -1,5 +1,6 @@
 -- Segment trees as contracts see them: directories of leaves of datoms, each node with its id.
--- Restates Indexes of Datomic's documentation (segments); the two levels and the ids are this project's own choice.
+-- Restates Indexes of Datomic's documentation (segments);
+-- the two levels and the ids are this project's own choice.
 use Rattle.std.specs.Prelude.{◌≡◌, ◌<◌, ◌≤◌, ◌^◌, ℕ, List, [], ◌∷◌, ◌++◌, length, map}
 use Rattle.std.specs.List.{All}
 use Rattle.fb_values.specs.declared.facts.Datom.{Datom}

@@ -18,7 +18,7 @@ use std::sync::Arc;
 const IDS: u64 = 1 << 62;
 
 /// A tree in the making. Its leaves come from left to right: older ones under their ids, and new ones, which are
-/// numbered as they come. A directory is numbered behind its leaves.
+/// numbered as they come. A directory is numbered after its leaves.
 #[derive(Drop)]
 pub struct Builder {
     alloc: Global,
@@ -59,7 +59,7 @@ impl Builder {
         }
     }
 
-    /// The tree with an older leaf behind it.
+    /// The tree with an older leaf after it.
     pub fn keep(self, leaf: Arc<Leaf>) -> Result<Builder, Memory>
         requires { (arc_value leaf).id < self.first }
         ensures { IfOk result (λ build. build
@@ -79,7 +79,7 @@ impl Builder {
         settled(alloc, first, next, directories, leaves)
     }
 
-    /// The tree with datoms behind it, in new leaves that are between half full and full where there is more than one.
+    /// The tree with datoms after it, in new leaves that are between half full and full where there is more than one.
     pub fn add(self, datoms: Vec<Datom>) -> Result<Builder, Memory>
         ensures { IfOk result
             (λ build. build ≡ record self { datoms = self.datoms ++ datoms.items }) }
@@ -220,7 +220,7 @@ impl Tree {
     }
 }
 
-/// The tree of a list, whose ids are `first` and the numbers that follow it, and the number behind them.
+/// The tree of a list, whose ids are `first` and the numbers that follow it, and the number after them.
 pub fn numbered(alloc: Global, datoms: Vec<Datom>, first: u64) -> Result<(Tree, u64), Memory>
     requires { first ≤ 2 ^ 62 }
     ensures { IfOk result (λ built. IsBuilt

@@ -159,7 +159,7 @@ impl Directory {
         }
     }
 
-    /// The leaf and the datom behind a place, which may be the end of the directory, or none where it has no such place.
+    /// The leaf and the datom after a place, which may be the end of the directory, or none where it has no such place.
     pub(crate) fn next(&self, leaf: usize, datom: usize) -> Option<(usize, usize)>
         ensures next { IfSome result (λ next. leaf_rank self.now.leaves next.0 next.1
             ≡ leaf_rank self.now.leaves leaf datom + 1) }

@@ -36,7 +36,7 @@ impl Roots {
         })
     }
 
-    /// The trees of four lists. Their ids are `first_id` and the numbers that follow it, one tree behind the other.
+    /// The trees of four lists. Their ids are `first_id` and the numbers that follow it, one tree after the other.
     pub fn of(
         alloc: Global,
         eavt: Vec<Datom>,

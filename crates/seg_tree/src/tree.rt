@@ -234,7 +234,7 @@ impl Tree {
         root.at(place)
     }
 
-    /// The place behind a place. Behind the end is the end.
+    /// The place after a place. After the end comes the end.
     pub fn next(&self, place: Place) -> Place
         ensures { rank self.now result
             ≡ min (rank self.now place + 1) (length (tree_datoms self.now)) }
@@ -301,7 +301,7 @@ fn next_id_of(directories: &Vec<Arc<Directory>>) -> u64
     next
 }
 
-/// The leaves, and those of a directory behind them.
+/// The leaves, and those of a directory after them.
 fn with_leaves(leaves: Vec<Arc<Leaf>>, directory: &Directory) -> Result<Vec<Arc<Leaf>>, Memory>
     ensures { IfOk result
         (λ all. map arc_value all.items ≡ map arc_value leaves.items ++ directory.now.leaves) }

@@ -4,16 +4,16 @@ use Rattle.std.specs.Ordering.{match_ordering, is_eq}
 use Rattle.std.specs.Cmp.{IsTotalOrder}
 use Rattle.std.specs.declared.cmp.Ordering.{Ordering}
 use Rattle.std.specs.declared.cmp.Ordering.TheVariants.{Less, Equal, Greater}
-use Rattle.shared_map.specs.Entries.{put, removed, StandsBefore, IsRising}
+use Rattle.shared_map.specs.Entries.{put, removed, IsBelowAll, IsRising}
 use Rattle.shared_map.proofs.Sides.{turned_back, before-all}
 
 module _ {K V : Type 0} {cmp : K → K → Ordering} (o : IsTotalOrder cmp) where
-  before-put : (k : K) (x : K × V) (es : List (K × V)) → cmp k x.0 ≡ Less → StandsBefore cmp k es → StandsBefore cmp k (put cmp x es)
+  before-put : (k : K) (x : K × V) (es : List (K × V)) → cmp k x.0 ≡ Less → IsBelowAll cmp k es → IsBelowAll cmp k (put cmp x es)
   before-put k x [] less h = (less, tt)
   before-put k x (e ∷ es) less h = go (cmp x.0 e.0) (before-put k x es less h.1)
     where
-      go : (c : Ordering) → StandsBefore cmp k (put cmp x es)
-          → StandsBefore cmp k (match_ordering c (x ∷ e ∷ es) (x ∷ es) (e ∷ put cmp x es))
+      go : (c : Ordering) → IsBelowAll cmp k (put cmp x es)
+          → IsBelowAll cmp k (match_ordering c (x ∷ e ∷ es) (x ∷ es) (e ∷ put cmp x es))
       go Less rest = (less, h)
       go Equal rest = (less, h.1)
       go Greater rest = (h.0, rest)
@@ -28,11 +28,11 @@ module _ {K V : Type 0} {cmp : K → K → Ordering} (o : IsTotalOrder cmp) wher
       go Equal is rest = (before-all o x.0 e.0 (λ y less. o.congr x.0 e.0 y is ∙ less) es h.0, h.1)
       go Greater is rest = (before-put e.0 x es (turned_back o x.0 e.0 is) h.0, rest)
 
-  before-removed : (j k : K) (es : List (K × V)) → StandsBefore cmp j es → StandsBefore cmp j (removed cmp k es)
+  before-removed : (j k : K) (es : List (K × V)) → IsBelowAll cmp j es → IsBelowAll cmp j (removed cmp k es)
   before-removed j k [] h = tt
   before-removed j k (e ∷ es) h = go (is_eq (cmp k e.0)) (before-removed j k es h.1)
     where
-      go : (b : Bool) → StandsBefore cmp j (removed cmp k es) → StandsBefore cmp j (cond b es (e ∷ removed cmp k es))
+      go : (b : Bool) → IsBelowAll cmp j (removed cmp k es) → IsBelowAll cmp j (cond b es (e ∷ removed cmp k es))
       go true rest = h.1
       go false rest = (h.0, rest)
 

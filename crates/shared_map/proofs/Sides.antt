@@ -8,7 +8,7 @@ use Rattle.std.specs.declared.cmp.Ordering.{Ordering}
 use Rattle.std.specs.declared.cmp.Ordering.TheVariants.{Less, Equal, Greater}
 use Rattle.std.proofs.lemmas.Bool.{true≢false}
 use Rattle.std.proofs.lemmas.Cmp.{alike_right}
-use Rattle.shared_map.specs.Entries.{get, put, removed, first_from, StandsBefore, IsRising}
+use Rattle.shared_map.specs.Entries.{get, put, removed, first_from, IsBelowAll, IsRising}
 
 module _ {K : Type 0} {cmp : K → K → Ordering} (o : IsTotalOrder cmp) where
   turned : (x y : K) → cmp x y ≡ Less → cmp y x ≡ Greater
@@ -25,11 +25,11 @@ module _ {K V : Type 0} {cmp : K → K → Ordering} (o : IsTotalOrder cmp) wher
 
   -- ---- rising parts
 
-  before-left : (k : K) (l : List (K × V)) (ys : List (K × V)) → StandsBefore cmp k (l ++ ys) → StandsBefore cmp k l
+  before-left : (k : K) (l : List (K × V)) (ys : List (K × V)) → IsBelowAll cmp k (l ++ ys) → IsBelowAll cmp k l
   before-left k [] ys h = tt
   before-left k (e ∷ es) ys h = (h.0, before-left k es ys h.1)
 
-  before-right : (k : K) (l : List (K × V)) (ys : List (K × V)) → StandsBefore cmp k (l ++ ys) → StandsBefore cmp k ys
+  before-right : (k : K) (l : List (K × V)) (ys : List (K × V)) → IsBelowAll cmp k (l ++ ys) → IsBelowAll cmp k ys
   before-right k [] ys h = h
   before-right k (e ∷ es) ys h = before-right k es ys h.1
 
@@ -57,17 +57,17 @@ module _ {K V : Type 0} {cmp : K → K → Ordering} (o : IsTotalOrder cmp) wher
   behind-greater k x l r greater h = behind k x l r (λ y less. o.trans y x.0 k less (turned_back o k x.0 greater)) h
 
   -- a key that is not above another stands before all that the other stands before
-  pub before-all : (k j : K) → ((y : K) → cmp j y ≡ Less → cmp k y ≡ Less) → (r : List (K × V)) → StandsBefore cmp j r
-      → StandsBefore cmp k r
+  pub before-all : (k j : K) → ((y : K) → cmp j y ≡ Less → cmp k y ≡ Less) → (r : List (K × V)) → IsBelowAll cmp j r
+      → IsBelowAll cmp k r
   before-all k j lower [] h = tt
   before-all k j lower (e ∷ es) h = (lower e.0 h.0, before-all k j lower es h.1)
 
-  before-less : (k : K) (x : K × V) (l r : List (K × V)) → cmp k x.0 ≡ Less → IsRising cmp (l ++ x ∷ r) → StandsBefore cmp k r
+  before-less : (k : K) (x : K × V) (l r : List (K × V)) → cmp k x.0 ≡ Less → IsRising cmp (l ++ x ∷ r) → IsBelowAll cmp k r
   before-less k x l r less h = before-all k x.0 (λ y. o.trans k x.0 y less) r (rising-behind l (x ∷ r) h).0
 
   -- ---- the value at a key
 
-  pub get-before : (k : K) (es : List (K × V)) → StandsBefore cmp k es → get cmp es k ≡ None
+  pub get-before : (k : K) (es : List (K × V)) → IsBelowAll cmp k es → get cmp es k ≡ None
   get-before k [] h = refl
   get-before k (e ∷ es) h = ap (λ c. cond (is_eq c) (Some e.1) (get cmp es k)) h.0 ∙ get-before k es h.1
 
@@ -148,7 +148,7 @@ module _ {K V : Type 0} {cmp : K → K → Ordering} (o : IsTotalOrder cmp) wher
 
   -- ---- an entry less
 
-  removed-before : (k : K) (es : List (K × V)) → StandsBefore cmp k es → removed cmp k es ≡ es
+  removed-before : (k : K) (es : List (K × V)) → IsBelowAll cmp k es → removed cmp k es ≡ es
   removed-before k [] h = refl
   removed-before k (e ∷ es) h = ap (λ c. cond (is_eq c) es (e ∷ removed cmp k es)) h.0 ∙ ap (λ zs. e ∷ zs) (removed-before k es h.1)
 

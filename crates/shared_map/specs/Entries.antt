@@ -27,11 +27,11 @@ module _ {K V : Type 0} (cmp : K → K → Ordering) where
   first_from k entries = find (λ e. is_le (cmp k e.0)) entries
 
   -- the key is below those of the entries
-  abbrev pub StandsBefore : K → List (K × V) → Type 0
-  StandsBefore k [] = Unit {0}
-  StandsBefore k (e ∷ es) = (cmp k e.0 ≡ Less) × StandsBefore k es
+  abbrev pub IsBelowAll : K → List (K × V) → Type 0
+  IsBelowAll k [] = Unit {0}
+  IsBelowAll k (e ∷ es) = (cmp k e.0 ≡ Less) × IsBelowAll k es
 
-  -- each key is below those behind it
+  -- each key is below those after it
   abbrev pub IsRising : List (K × V) → Type 0
   IsRising [] = Unit {0}
-  IsRising (e ∷ es) = StandsBefore e.0 es × IsRising es
+  IsRising (e ∷ es) = IsBelowAll e.0 es × IsRising es

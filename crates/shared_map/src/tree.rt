@@ -1,4 +1,4 @@
-//! The balanced tree below a map. Each fork has an item, which stands between those of its two sides.
+//! The balanced tree below a map. Each fork has an item, which is between those of its two sides.
 ghost use Rattle.std.specs.Prelude.{◌≡◌, ◌+◌, ◌<◌, ◌≤◌, max, ◌∷◌, ◌++◌, [], IfOk};
 ghost use Rattle.std.specs.Arc.{arc_value};
 ghost use Rattle.shared_map.specs.Trees.{DifferByAtMost, IsHeightAfterBalance};
@@ -27,7 +27,7 @@ pub enum Node<X> {
         left: Arc<Tree<X>>,
         item: Shared<X>,
         right: Arc<Tree<X>>,
-        /// How many forks stand on the longest way down.
+        /// How many forks are on the longest way down.
         height: u8,
     },
 }
@@ -215,7 +215,7 @@ fn lean_right<X: Drop>(
     fork(alloc, left, middle, right)
 }
 
-/// The first item of a tree, and the tree of those behind it.
+/// The first item of a tree, and the tree of those after it.
 #[derive(Drop)]
 struct First<X> {
     item: Shared<X>,

@@ -32,7 +32,8 @@ shows : {X : Type 0} (basis : ℕ) (IsReplyTo : X → Form → Type 0) (reply_to
 shows basis IsReplyTo reply_to each (Ok x) = each x
 shows basis IsReplyTo reply_to each (Err r) = refl
 
-module _ (h : List Entry) (w : Window) (names : List (List ℕ)) (filters : List (Datom → Bool)) (is_filter : List ℕ → Bool) (lawful : IsLawful h) where
+module _ (h : List Entry) (w : Window) (names : List (List ℕ)) (filters : List (Datom → Bool)) (is_filter : List ℕ → Bool)
+    (lawful : IsLawful h) where
   abbrev s : Sight
   s = tested h w names filters is_filter
 
@@ -49,7 +50,8 @@ module _ (h : List Entry) (w : Window) (names : List (List ℕ)) (filters : List
 
   pull_is : (pattern : Result Pattern ℕ) (entity : Form) → HasPull h w s.Selects pattern entity (pull_of h w filters pattern entity)
   pull_is (Err place) entity = refl
-  pull_is (Ok pattern) entity = (entity_of h w filters entity, found_is (id_in (facts h) entity), tree_is pattern (entity_of h w filters entity))
+  pull_is (Ok pattern) entity =
+      (entity_of h w filters entity, found_is (id_in (facts h) entity), tree_is pattern (entity_of h w filters entity))
 
   look_is : (l : Look) → IsLook s l (look_reply h w filters l)
   look_is (datoms order fs) = (
@@ -67,7 +69,8 @@ module _ (h : List Entry) (w : Window) (names : List (List ℕ)) (filters : List
   look_is (index_range a start end) = (
     range_of_index h w filters a start end,
     range_is h w filters a start end,
-    shows (basis h) (HasDatoms h w s.Selects Avet) (datoms_shown h w filters Avet) (has_datoms Avet) (range_of_index h w filters a start end),
+    shows (basis h) (HasDatoms h w s.Selects Avet) (datoms_shown h w filters Avet) (has_datoms Avet)
+        (range_of_index h w filters a start end),
   )
   look_is (tx_range start end) = shows (basis h) (HasTransactions h) _ (λ range. refl) (log_range h start end)
   look_is (pull pattern entity) = pull_is (pattern_in pattern) entity

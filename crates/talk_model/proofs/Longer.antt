@@ -1,5 +1,6 @@
 -- A longer history, at the end of which the log may have stopped, keeps a talk.
-use Rattle.std.proofs.Common.{ℕ, ◌≡◌, ◌+◌, ◌-◌, ◌≤◌, Bool, true, List, [], ◌∷◌, ◌++◌, Option, Some, None, length, zero, suc, ap, sym, ◌∙◌, subst, inl, inr, arith}
+use Rattle.std.proofs.Common.{ℕ, ◌≡◌, ◌+◌, ◌-◌, ◌≤◌, Bool, true, List, [], ◌∷◌, ◌++◌, Option, Some, None, length, zero, suc, ap, sym, ◌∙◌}
+use Rattle.std.proofs.Common.{subst, inl, inr, arith}
 use Rattle.std.specs.List.{slice_get}
 use Rattle.edn_model.specs.Form.{Form}
 use Rattle.fb_values.specs.declared.facts.Entry.{Entry}
@@ -9,7 +10,8 @@ use Rattle.tx_model.specs.Step.{step}
 use Rattle.talk_model.specs.Commands.{Read, Command, transact, db, sync, read, command_in}
 use Rattle.talk_model.specs.Session.{Setting, Standing, Sight, sight_of, grown, Stays}
 use Rattle.talk_model.specs.Reads.{IsReply, behind}
-use Rattle.talk_model.specs.Talk.{IsAccepted, IsRefused, IsNotTaken, IsStopped, IsShown, IsRead, AnswersCommand, IsAnswered, Exchange, Talk}
+use Rattle.talk_model.specs.Talk.{IsAccepted, IsRefused, IsNotTaken, IsStopped, IsShown, IsReadAnswer, AnswersCommand, IsAnswered, Exchange}
+use Rattle.talk_model.specs.Talk.{Talk}
 use Rattle.talk_model.proofs.Steps.{answer_goes}
 
 slice_get-append : (h more : List Entry) (t : ℕ) (entry : Entry) → slice_get h t ≡ Some entry → slice_get (h ++ more) t ≡ Some entry
@@ -75,7 +77,7 @@ module _ (s : Setting) (more : List Entry) (stop : Option ℕ) (teller : Bool) (
           within = omega (arith, r.within, grows);
           stops = still_stopped (r.place + 1) r.stops;
           is_teller = still_teller (r.place + 1) r.stops r.is_teller;
-          not_told = r.not_told;
+          not_notified = r.not_notified;
           reading = r.reading;
           may_be = r.may_be;
           entry = r.entry;
@@ -100,9 +102,16 @@ module _ (s : Setting) (more : List Entry) (stop : Option ℕ) (teller : Bool) (
 
     shown_longer : IsShown s before after line commit → IsShown t before after line commit
     shown_longer r =
-        record { place = r.place; from = r.from; within = omega (arith, r.within, grows); says = r.says; commits = r.commits; stands = r.stands }
+        record {
+          place = r.place;
+          from = r.from;
+          within = omega (arith, r.within, grows);
+          says = r.says;
+          commits = r.commits;
+          stands = r.stands;
+        }
 
-    read_longer : (asked : Option Read) → IsRead s before asked after line commit → IsRead t before asked after line commit
+    read_longer : (asked : Option Read) → IsReadAnswer s before asked after line commit → IsReadAnswer t before asked after line commit
     read_longer asked r =
         let Over : List Entry → Sight = λ past. record (sight_of s before) { history = past } in
         let past : upto s.history before.place ≡ upto (s.history ++ more) before.place = sym (same_past before.place seen) in
@@ -114,7 +123,8 @@ module _ (s : Setting) (more : List Entry) (stop : Option ℕ) (teller : Bool) (
           stands = r.stands ∙ ap (λ h. behind (Over h) before asked) past;
         }
 
-    command_longer : (command : Option Command) → AnswersCommand s before command after line commit → AnswersCommand t before command after line commit
+    command_longer : (command : Option Command) → AnswersCommand s before command after line commit
+        → AnswersCommand t before command after line commit
     command_longer (Some (transact asked)) a =
         elim a [
           | inl a ↦ inl (accepted_longer asked a)
@@ -131,7 +141,8 @@ module _ (s : Setting) (more : List Entry) (stop : Option ℕ) (teller : Bool) (
     pub answer_longer : (f : Form) → IsAnswered s before f after line commit → IsAnswered t before f after line commit
     answer_longer f a = command_longer (command_in f) a
 
-  pub Talk-longer : (before after : Standing) (talk : List Exchange) → before.place ≤ basis s.history → Talk s before talk after → Talk t before talk after
+  pub Talk-longer : (before after : Standing) (talk : List Exchange) → before.place ≤ basis s.history → Talk s before talk after
+      → Talk t before talk after
   Talk-longer before after [] seen same = same
   Talk-longer before after (x ∷ talk) seen told = (
     told.0,

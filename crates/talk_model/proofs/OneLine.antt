@@ -29,14 +29,18 @@ tempids_one h asked one other entry next tempids names first second =
 refusal_one : (x y : Refusal) → refused x ≡ refused y → x ≡ y
 refusal_one x y same = cc
 
-module _ (s : Setting) (before after other : Standing) (line that : List ℕ) (commit last : Option ℕ) (place : after.place ≡ other.place) where
+module _ (s : Setting) (before after other : Standing) (line that : List ℕ) (commit last : Option ℕ)
+    (place : after.place ≡ other.place) where
   pub accepted_one : (asked : Form) → IsAccepted s before asked after line commit → IsAccepted s before asked other that last → line ≡ that
   accepted_one asked first second =
       let same : first.place ≡ second.place = sym (place_of first.stands) ∙ place ∙ place_of second.stands in
       let Steps : ℕ → Type 0 = λ p. step (upto s.history (p - 1)) asked first.reading s.guard ≡ accepted first.entry first.tempids in
-      let one = accepted_at (upto s.history (second.place - 1)) asked s.guard first.reading first.entry first.tempids (subst Steps same first.step_is) in
+      let one =
+      accepted_at (upto s.history (second.place - 1)) asked s.guard first.reading first.entry first.tempids
+      (subst Steps same first.step_is) in
       let two = accepted_at (upto s.history (second.place - 1)) asked s.guard second.reading second.entry second.tempids second.step_is in
-      let tempids = tempids_one (upto s.history (second.place - 1)) asked _ _ first.entry second.entry first.tempids second.tempids one two in
+      let tempids =
+      tempids_one (upto s.history (second.place - 1)) asked _ _ first.entry second.entry first.tempids second.tempids one two in
       let Line : Form → Type 0 = λ reply. IsLineOf reply line in
       one_line (receipt second.place second.tempids) line that
       (subst Line (ap (λ p. receipt p first.tempids) same ∙ ap (receipt second.place) tempids) first.says) second.says
@@ -48,7 +52,8 @@ module _ (s : Setting) (before after other : Standing) (line that : List ℕ) (c
       let refusals = refusal_one first.refusal second.refusal (sym (subst Steps same (first.step_is (pos 0))) ∙ second.step_is (pos 0)) in
       let Line : Form → Type 0 = λ reply. IsLineOf reply line in
       one_line (refusal_reply (keyword_of second.refusal.reason) second.refusal.at second.place) line that
-      (subst Line (ap (λ p. refusal_reply (keyword_of first.refusal.reason) first.refusal.at p) same ∙ ap (λ (r : Refusal). refusal_reply (keyword_of r.reason) r.at second.place) refusals) first.says) second.says
+      (subst Line (ap (λ p. refusal_reply (keyword_of first.refusal.reason) first.refusal.at p) same
+      ∙ ap (λ (r : Refusal). refusal_reply (keyword_of r.reason) r.at second.place) refusals) first.says) second.says
 
   pub shown_one : IsShown s before after line commit → IsShown s before other that last → line ≡ that
   shown_one first second =

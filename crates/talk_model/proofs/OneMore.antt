@@ -15,7 +15,8 @@ commits-one x = one x.commit
 
 -- one form more commits what that commits
 pub commits-push : (talk : List Exchange) (x : Exchange) → commits_of (talk ++ x ∷ []) ≡ commits_of talk ++ option_to_list x.commit
-commits-push talk x = filter_map-append (λ (y : Exchange). y.commit) talk (x ∷ []) ∙ ap (λ (c : List ℕ). commits_of talk ++ c) (commits-one x)
+commits-push talk x =
+    filter_map-append (λ (y : Exchange). y.commit) talk (x ∷ []) ∙ ap (λ (c : List ℕ). commits_of talk ++ c) (commits-one x)
 
 pub forms-push : (talk : List Exchange) (x : Exchange) → forms_of (talk ++ x ∷ []) ≡ forms_of talk ++ x.form ∷ []
 forms-push talk x = map-append (λ (y : Exchange). y.form) talk (x ∷ [])
@@ -27,7 +28,8 @@ pub lines-push : (talk : List Exchange) (x : Exchange) → lines_of (talk ++ x �
 lines-push talk x = map-append (λ (y : Exchange). y.line) talk (x ∷ [])
 
 pub Talk-push : (s : Setting) (before middle after : Standing) (talk : List Exchange) (x : Exchange)
-    → Talk s before talk middle → IsAnswered s middle x.form after x.line x.commit → after.place ≡ x.place → Talk s before (talk ++ x ∷ []) after
+    → Talk s before talk middle → IsAnswered s middle x.form after x.line x.commit → after.place ≡ x.place
+    → Talk s before (talk ++ x ∷ []) after
 Talk-push s before middle after [] x same answered place =
     let Answered : Standing → Type 0 = λ b. IsAnswered s b x.form after x.line x.commit in
     (after, subst Answered same answered, place, refl)
@@ -41,7 +43,8 @@ pub record Last (s : Setting) (before after : Standing) (talk : List Exchange) (
   pub answered : IsAnswered s middle x.form after x.line x.commit
   pub place : after.place ≡ x.place
 
-pub Talk-last : (s : Setting) (before after : Standing) (talk : List Exchange) (x : Exchange) → Talk s before (talk ++ x ∷ []) after → Last s before after talk x
+pub Talk-last : (s : Setting) (before after : Standing) (talk : List Exchange) (x : Exchange) → Talk s before (talk ++ x ∷ []) after
+    → Last s before after talk x
 Talk-last s before after [] x told =
     let Answered : Standing → Type 0 = λ b. IsAnswered s before x.form b x.line x.commit in
     record {

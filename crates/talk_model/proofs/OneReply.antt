@@ -1,5 +1,6 @@
 -- A read has one answer, and leaves its session where it was.
-use Rattle.std.proofs.Common.{ℕ, ◌≡◌, ◌+◌, Bool, true, false, zero, suc, List, [], ◌∷◌, ◌++◌, Option, Some, None, Result, Ok, Err, take, refl, ap, sym, ◌∙◌, subst, arith}
+use Rattle.std.proofs.Common.{ℕ, ◌≡◌, ◌+◌, Bool, true, false, zero, suc, List, [], ◌∷◌, ◌++◌, Option, Some, None, Result, Ok, Err, take}
+use Rattle.std.proofs.Common.{refl, ap, sym, ◌∙◌, subst, arith}
 use Rattle.std.specs.Bool.{Decides}
 use Rattle.std.specs.Str.{bytes_eq}
 use Rattle.std.specs.Option.{option_map}
@@ -27,11 +28,12 @@ use Rattle.pull_model.specs.Patterns.{Pattern}
 use Rattle.pull_model.specs.Reading.{pattern_in}
 use Rattle.pull_model.proofs.Views.{not_without_a_list}
 use Rattle.talk_model.proofs.Reading.{components_one, range_one}
-use Rattle.talk_model.specs.Commands.{Look, datoms, seek, index_range, tx_range, pull, Read, look, turn, request_index, Command, read, command_in}
+use Rattle.talk_model.specs.Commands.{Look, datoms, seek, index_range, tx_range, pull, Read, look, turn, request_index, Command, read}
+use Rattle.talk_model.specs.Commands.{command_in}
 use Rattle.talk_model.specs.Replies.{datoms_reply, line_feed, IsLineOf}
 use Rattle.talk_model.specs.Session.{Setting, Standing, Sight, sight_of}
 use Rattle.talk_model.specs.Reads.{Shows, HasDatoms, HasDatomsAt, HasDatomsBetween, HasTransactions, HasTree, HasPull, IsLook, IsReply}
-use Rattle.talk_model.specs.Talk.{IsRead, AnswersCommand, IsAnswered}
+use Rattle.talk_model.specs.Talk.{IsReadAnswer, AnswersCommand, IsAnswered}
 use Rattle.talk_model.proofs.Steps.{behind-place}
 
 pub one_line : (reply : Form) (line other : List ℕ) → IsLineOf reply line → IsLineOf reply other → line ≡ other
@@ -45,7 +47,8 @@ from_beginning before (e ∷ rest) (suc n) lawful = (lawful.0, from_beginning (b
 
 upto_lawful : (h : List Entry) (c : ℕ) → IsLawful h → IsLawful (upto h c)
 upto_lawful [] c lawful = absurd lawful
-upto_lawful (first ∷ rest) c lawful = let one : c + 1 ≡ suc c = omega arith in rw one (lawful.0, from_beginning (first ∷ []) rest c lawful.1)
+upto_lawful (first ∷ rest) c lawful =
+    let one : c + 1 ≡ suc c = omega arith in rw one (lawful.0, from_beginning (first ∷ []) rest c lawful.1)
 
 -- two lines that are not unequal are equal
 stable : (line other : List ℕ) → ((line ≡ other → ⊥) → ⊥) → line ≡ other
@@ -61,7 +64,8 @@ shows_one basis IsReplyTo each (Ok x) p q first second = each x p q first second
 shows_one basis IsReplyTo each (Err r) p q first second = first ∙ sym second
 
 module _ (h : List Entry) (w : Window) (Selects : Datom → Type 0) where
-  datoms_one : (order : Order) (range : Range) (p q : Form) → HasDatoms h w Selects order range p → HasDatoms h w Selects order range q → p ≡ q
+  datoms_one : (order : Order) (range : Range) (p q : Form) → HasDatoms h w Selects order range p → HasDatoms h w Selects order range q
+      → p ≡ q
   datoms_one order range p q first second =
       let same = IsRisingListOf-one order _ first.0 second.0 first.1 second.1 in
       first.2 ∙ ap (datoms_reply (basis h) (facts h)) same ∙ sym second.2
@@ -71,7 +75,8 @@ module _ (h : List Entry) (w : Window) (Selects : Datom → Type 0) where
   at_one order range components p q first second =
       let same = components_one h w Selects order components first.0 second.0 first.1 second.1 in
       let Shown : Result Probe Refusal → Type 0 = λ answer. Shows (basis h) (λ probe. HasDatoms h w Selects order (range probe)) answer p in
-      shows_one (basis h) (λ probe. HasDatoms h w Selects order (range probe)) (λ probe. datoms_one order (range probe)) second.0 p q (subst Shown same first.2) second.2
+      shows_one (basis h) (λ probe. HasDatoms h w Selects order (range probe)) (λ probe. datoms_one order (range probe)) second.0 p q
+      (subst Shown same first.2) second.2
 
   between_one : (a start end p q : Form) → HasDatomsBetween h w Selects a start end p → HasDatomsBetween h w Selects a start end q → p ≡ q
   between_one a start end p q first second =
@@ -85,11 +90,13 @@ module _ (h : List Entry) (w : Window) (Selects : Datom → Type 0) where
     found_one None x y is other = is ∙ sym other
     found_one (Some id) x y is other = named_one h w Selects id x y is other
 
-    tree_one : (pattern : Pattern) (e : Option ℕ) (p q : Form) → HasTree h w Selects pattern e p → HasTree h w Selects pattern e q → (p ≡ q → ⊥) → ⊥
+    tree_one : (pattern : Pattern) (e : Option ℕ) (p q : Form) → HasTree h w Selects pattern e p → HasTree h w Selects pattern e q
+        → (p ≡ q → ⊥) → ⊥
     tree_one pattern None p q x y differ = differ (x ∙ sym y)
     tree_one pattern (Some e) p q x y differ = not_without_a_list h w Selects lawful (λ db is. differ (x db is ∙ sym (y db is)))
 
-    pull_one : (pattern : Result Pattern ℕ) (entity p q : Form) → HasPull h w Selects pattern entity p → HasPull h w Selects pattern entity q → (p ≡ q → ⊥) → ⊥
+    pull_one : (pattern : Result Pattern ℕ) (entity p q : Form) → HasPull h w Selects pattern entity p
+        → HasPull h w Selects pattern entity q → (p ≡ q → ⊥) → ⊥
     pull_one (Err place) entity p q x y differ = differ (x ∙ sym y)
     pull_one (Ok pattern) entity p q x y differ =
         let same = found_one (id_in (facts h) entity) x.0 y.0 x.1 y.1 in
@@ -116,13 +123,18 @@ pub record Same (after other : Standing) (line line' : List ℕ) (commit commit'
   pub lines : line ≡ line'
   pub commits : commit ≡ commit'
 
-read_one : (s : Setting) (before : Standing) (asked : Option Read) (after other : Standing) (line line' : List ℕ) (commit commit' : Option ℕ)
-    → IsLawful s.history → IsRead s before asked after line commit → IsRead s before asked other line' commit' → Same after other line line' commit commit'
+read_one : (s : Setting) (before : Standing) (asked : Option Read) (after other : Standing) (line line' : List ℕ)
+    (commit commit' : Option ℕ)
+    → IsLawful s.history → IsReadAnswer s before asked after line commit → IsReadAnswer s before asked other line' commit'
+    → Same after other line line' commit commit'
 read_one s before asked after other line line' commit commit' lawful first second =
-    let same = reply_one (sight_of s before) (upto_lawful s.history before.place lawful) asked first.reply second.reply first.answers second.answers in
+    let same =
+    reply_one (sight_of s before) (upto_lawful s.history before.place lawful) asked first.reply second.reply first.answers second.answers in
     record {
       standings = first.stands ∙ sym second.stands;
-      lines = stable line line' (λ differ. same (λ one. differ (one_line second.reply line line' (subst (λ reply. IsLineOf reply line) one first.says) second.says)));
+      lines =
+          stable line line' (λ differ.
+          same (λ one. differ (one_line second.reply line line' (subst (λ reply. IsLineOf reply line) one first.says) second.says)));
       commits = first.commits ∙ sym second.commits;
     }
 
@@ -130,7 +142,7 @@ read_one s before asked after other line line' commit commit' lawful first secon
 
 module _ (s : Setting) (before : Standing) where
   reads : (asked : Option Read) (command : Option Command) (after : Standing) (line : List ℕ) (commit : Option ℕ)
-      → command ≡ option_map read asked → AnswersCommand s before command after line commit → IsRead s before asked after line commit
+      → command ≡ option_map read asked → AnswersCommand s before command after line commit → IsReadAnswer s before asked after line commit
   reads None command after line commit is a = subst (λ c. AnswersCommand s before c after line commit) is a
   reads (Some r) command after line commit is a = subst (λ c. AnswersCommand s before c after line commit) is a
 
@@ -138,18 +150,23 @@ module _ (s : Setting) (before : Standing) where
       → IsLawful s.history → command_in f ≡ option_map read asked
       → IsAnswered s before f after line commit → IsAnswered s before f other line' commit' → Same after other line line' commit commit'
   answer_one f asked after other line line' commit commit' lawful is first second =
-      read_one s before asked after other line line' commit commit' lawful (reads asked (command_in f) after line commit is first) (reads asked (command_in f) other line' commit' is second)
+      read_one s before asked after other line line' commit commit' lawful (reads asked (command_in f) after line commit is first)
+      (reads asked (command_in f) other line' commit' is second)
 
   pub read_place : (f : Form) (asked : Option Read) (after : Standing) (line : List ℕ) (commit : Option ℕ)
       → command_in f ≡ option_map read asked → IsAnswered s before f after line commit → after.place ≡ before.place
   read_place f asked after line commit is a =
-      ap (λ (x : Standing). x.place) (reads asked (command_in f) after line commit is a).stands ∙ behind-place (sight_of s before) before asked
+      ap (λ (x : Standing). x.place) (reads asked (command_in f) after line commit is a).stands
+      ∙ behind-place (sight_of s before) before asked
 
-  pub answer_look : (f : Form) (l : Look) (after : Standing) (line : List ℕ) (commit : Option ℕ) → command_in f ≡ Some (read (look l)) → IsAnswered s before f after line commit → after ≡ before
+  pub answer_look : (f : Form) (l : Look) (after : Standing) (line : List ℕ) (commit : Option ℕ) → command_in f ≡ Some (read (look l))
+      → IsAnswered s before f after line commit → after ≡ before
   answer_look f l after line commit is a = (reads (Some (look l)) (command_in f) after line commit is a).stands
 
-  pub answer_request : (f : Form) (after : Standing) (line : List ℕ) (commit : Option ℕ) → command_in f ≡ Some (read request_index) → IsAnswered s before f after line commit → after ≡ before
+  pub answer_request : (f : Form) (after : Standing) (line : List ℕ) (commit : Option ℕ) → command_in f ≡ Some (read request_index)
+      → IsAnswered s before f after line commit → after ≡ before
   answer_request f after line commit is a = (reads (Some request_index) (command_in f) after line commit is a).stands
 
-  pub answer_none : (f : Form) (after : Standing) (line : List ℕ) (commit : Option ℕ) → command_in f ≡ None → IsAnswered s before f after line commit → after ≡ before
+  pub answer_none : (f : Form) (after : Standing) (line : List ℕ) (commit : Option ℕ) → command_in f ≡ None
+      → IsAnswered s before f after line commit → after ≡ before
   answer_none f after line commit is a = (reads None (command_in f) after line commit is a).stands

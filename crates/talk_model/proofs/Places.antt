@@ -1,5 +1,6 @@
 -- Places and commits: what a talk says of them, whatever its forms are.
-use Rattle.std.proofs.Common.{ℕ, ◌≡◌, ◌+◌, ◌<◌, ◌≤◌, ◌⊎◌, Option, Some, None, List, [], ◌∷◌, ◌++◌, length, get_or, zero, suc, add-one, refl, ap, sym, ◌∙◌, subst, inl, inr, arith, append_assoc, append-nil}
+use Rattle.std.proofs.Common.{ℕ, ◌≡◌, ◌+◌, ◌<◌, ◌≤◌, ◌⊎◌, Option, Some, None, List, [], ◌∷◌, ◌++◌, length, get_or, zero, suc, add-one, refl}
+use Rattle.std.proofs.Common.{ap, sym, ◌∙◌, subst, inl, inr, arith, append_assoc, append-nil}
 use Rattle.std.specs.Prelude.{option_to_list}
 use Rattle.std.specs.List.{AllByRecursion}
 use Rattle.std.proofs.lemmas.List.Elements.{filter_map-append}
@@ -12,7 +13,8 @@ use Rattle.talk_model.proofs.Steps.{Goes, answer_goes}
 use Rattle.talk_model.proofs.OneMore.{commits-one, commits-push, Talk-last}
 
 -- one line more in front, with the commit of its form
-line_first : (b seen p : ℕ) (ps cs rest : List ℕ) (commit : Option ℕ) → seen ≤ p → p ≤ b → (commit ≡ None) ⊎ ((commit ≡ Some p) × (seen < p))
+line_first : (b seen p : ℕ) (ps cs rest : List ℕ) (commit : Option ℕ) → seen ≤ p → p ≤ b
+    → (commit ≡ None) ⊎ ((commit ≡ Some p) × (seen < p))
     → cs ≡ option_to_list commit ++ rest → SeesAll b p ps rest → SeesAll b seen (p ∷ ps) cs
 line_first b seen p ps cs rest commit from within (inl none) is sees =
     let Sees : List ℕ → Type 0 = SeesAll b p ps in
@@ -28,7 +30,8 @@ at_place s before next commit p is goes =
 
 -- what the first exchange of a talk commits stands before what the others commit
 commits_first : (x : Exchange) (talk : List Exchange) → commits_of (x ∷ talk) ≡ option_to_list x.commit ++ commits_of talk
-commits_first x talk = filter_map-append (λ (y : Exchange). y.commit) (x ∷ []) talk ∙ ap (λ (c : List ℕ). c ++ commits_of talk) (commits-one x)
+commits_first x talk =
+    filter_map-append (λ (y : Exchange). y.commit) (x ∷ []) talk ∙ ap (λ (c : List ℕ). c ++ commits_of talk) (commits-one x)
 
 -- a talk's session sees all that it saw and committed before
 pub SeesAll-Talk : (s : Setting) (before after : Standing) (talk : List Exchange)
@@ -38,12 +41,14 @@ SeesAll-Talk s before after (x ∷ talk) seen told =
     let goes = answer_goes s before told.0 x.line x.commit seen x.form told.1 in
     let at = at_place s before told.0 x.commit x.place told.2 goes in
     let From : ℕ → Type 0 = λ n. SeesAll (basis s.history) n (places_of talk) (commits_of talk) in
-    line_first (basis s.history) before.place x.place (places_of talk) (commits_of (x ∷ talk)) (commits_of talk) x.commit at.0 at.1 at.2 (commits_first x talk)
+    line_first (basis s.history) before.place x.place (places_of talk) (commits_of (x ∷ talk)) (commits_of talk) x.commit at.0 at.1 at.2
+    (commits_first x talk)
     (subst From told.2 (SeesAll-Talk s told.0 after talk goes.within told.3))
 
 -- and so where it goes on to commit, without a line
 pub SeesAll-behind : (s : Setting) (before after : Standing) (talk : List Exchange) (t : ℕ)
-    → before.place ≤ basis s.history → Talk s before talk after → after.place < t → t ≤ basis s.history → SeesAll (basis s.history) before.place (places_of talk) (commits_of talk ++ t ∷ [])
+    → before.place ≤ basis s.history → Talk s before talk after → after.place < t → t ≤ basis s.history
+    → SeesAll (basis s.history) before.place (places_of talk) (commits_of talk ++ t ∷ [])
 SeesAll-behind s before after [] t seen same above below =
     let at : after.place ≡ before.place = ap (λ (x : Standing). x.place) same in
     inr (t, refl, omega (arith, at, above), below)
@@ -51,18 +56,23 @@ SeesAll-behind s before after (x ∷ talk) t seen told above below =
     let goes = answer_goes s before told.0 x.line x.commit seen x.form told.1 in
     let at = at_place s before told.0 x.commit x.place told.2 goes in
     let From : ℕ → Type 0 = λ n. SeesAll (basis s.history) n (places_of talk) (commits_of talk ++ t ∷ []) in
-    line_first (basis s.history) before.place x.place (places_of talk) (commits_of (x ∷ talk) ++ t ∷ []) (commits_of talk ++ t ∷ []) x.commit at.0 at.1 at.2
+    line_first (basis s.history) before.place x.place (places_of talk) (commits_of (x ∷ talk) ++ t ∷ [])
+    (commits_of talk ++ t ∷ []) x.commit at.0 at.1 at.2
     (ap (λ (c : List ℕ). c ++ t ∷ []) (commits_first x talk) ∙ append_assoc (option_to_list x.commit) (commits_of talk) (t ∷ []))
     (subst From told.2 (SeesAll-behind s told.0 after talk t goes.within told.3 above below))
 
 -- the place behind a talk lies in the history
-pub Talk-within : (s : Setting) (before after : Standing) (talk : List Exchange) → before.place ≤ basis s.history → Talk s before talk after → after.place ≤ basis s.history
-Talk-within s before after [] seen same = let at : after.place ≡ before.place = ap (λ (x : Standing). x.place) same in omega (arith, at, seen)
-Talk-within s before after (x ∷ talk) seen told = Talk-within s told.0 after talk (answer_goes s before told.0 x.line x.commit seen x.form told.1).within told.3
+pub Talk-within : (s : Setting) (before after : Standing) (talk : List Exchange) → before.place ≤ basis s.history → Talk s before talk after
+    → after.place ≤ basis s.history
+Talk-within s before after [] seen same =
+    let at : after.place ≡ before.place = ap (λ (x : Standing). x.place) same in omega (arith, at, seen)
+Talk-within s before after (x ∷ talk) seen told =
+    Talk-within s told.0 after talk (answer_goes s before told.0 x.line x.commit seen x.form told.1).within told.3
 
 -- where the form behind the lines was answered too, and its line did not come out
 pub SeesAll-unfinished : (s : Setting) (before after : Standing) (talk : List Exchange) (x : Exchange)
-    → before.place ≤ basis s.history → Talk s before (talk ++ x ∷ []) after → SeesAll (basis s.history) before.place (places_of talk) (commits_of (talk ++ x ∷ []))
+    → before.place ≤ basis s.history → Talk s before (talk ++ x ∷ []) after
+    → SeesAll (basis s.history) before.place (places_of talk) (commits_of (talk ++ x ∷ []))
 SeesAll-unfinished s before after talk x seen told =
     let last = Talk-last s before after talk x told in
     let within = Talk-within s before last.middle talk seen last.talk_is in
@@ -70,7 +80,8 @@ SeesAll-unfinished s before after talk x seen told =
     let Sees : List ℕ → Type 0 = SeesAll (basis s.history) before.place (places_of talk) in
     elim goes.commits [
       | inl none ↦ (
-          subst Sees (sym (commits-push talk x ∙ ap (λ (c : Option ℕ). commits_of talk ++ option_to_list c) none ∙ append-nil (commits_of talk)))
+          subst Sees
+          (sym (commits-push talk x ∙ ap (λ (c : Option ℕ). commits_of talk ++ option_to_list c) none ∙ append-nil (commits_of talk)))
           (SeesAll-Talk s before last.middle talk seen last.talk_is)
           )
       | inr some ↦ (
@@ -109,11 +120,14 @@ SeesAll-from basis seen (p ∷ ps) cs sees = (
 SeesAll-rises : (basis seen : ℕ) (ps cs : List ℕ) → SeesAll basis seen ps cs → IsNonDecreasing ps
 SeesAll-rises basis seen [] cs sees = λ i j d order within. absurd (omega arith)
 SeesAll-rises basis seen (p ∷ ps) cs sees =
-    let later : AllFrom p basis ps = elim sees.2 [ inl rest ↦ SeesAll-from basis p ps cs rest | inr rest ↦ SeesAll-from basis p ps rest.1 rest.3 ] in
-    let rest : IsNonDecreasing ps = elim sees.2 [ inl rest ↦ SeesAll-rises basis p ps cs rest | inr rest ↦ SeesAll-rises basis p ps rest.1 rest.3 ] in
+    let later : AllFrom p basis ps =
+    elim sees.2 [ inl rest ↦ SeesAll-from basis p ps cs rest | inr rest ↦ SeesAll-from basis p ps rest.1 rest.3 ] in
+    let rest : IsNonDecreasing ps =
+    elim sees.2 [ inl rest ↦ SeesAll-rises basis p ps cs rest | inr rest ↦ SeesAll-rises basis p ps rest.1 rest.3 ] in
     λ i j d order within. pairs p ps basis i j d order within later rest
   where
-    pairs : (p : ℕ) (ps : List ℕ) (basis i j d : ℕ) → i ≤ j → j < length (p ∷ ps) → AllFrom p basis ps → IsNonDecreasing ps → get_or (p ∷ ps) i d ≤ get_or (p ∷ ps) j d
+    pairs : (p : ℕ) (ps : List ℕ) (basis i j d : ℕ) → i ≤ j → j < length (p ∷ ps) → AllFrom p basis ps → IsNonDecreasing ps
+        → get_or (p ∷ ps) i d ≤ get_or (p ∷ ps) j d
     pairs p ps basis zero zero d order within later rest = omega arith
     pairs p ps basis zero (suc j) d order within later rest = AllFrom-get p basis ps j d later (omega arith)
     pairs p ps basis (suc i) zero d order within later rest = absurd (omega arith)
@@ -159,7 +173,8 @@ pushed_in_front p cs above rises = λ k within. at k within
   where
     at : (k : ℕ) → k + 1 < length (p ∷ cs) → get_or (p ∷ cs) k 0 < get_or (p ∷ cs) (k + 1) 0
     at zero within = AllAbove-get p cs 0 above (omega arith)
-    at (suc k) within = rw (add-one (suc k)) (let step : get_or cs k 0 < get_or cs (k + 1) 0 = rises k (omega arith) in rw (add-one k) at step)
+    at (suc k) within =
+        rw (add-one (suc k)) (let step : get_or cs k 0 < get_or cs (k + 1) 0 = rises k (omega arith) in rw (add-one k) at step)
 
 pub commits_rise : (basis seen : ℕ) (ps cs : List ℕ) → SeesAll basis seen ps cs → IsStrictlyIncreasing cs
 commits_rise basis seen [] cs sees =

@@ -76,11 +76,13 @@ mutual
 
   all-Canon : (fs : form.Forms) → are_plain fs ≡ true → CanonAll fs (text_all fs)
   all-Canon form.no_forms p = refl
-  all-Canon (form.form f fs) p = let parts = and_parts (is_plain f) (are_plain fs) p in (text f, text_rest fs, text-Canon f parts.0, rest-Canon fs parts.1, refl)
+  all-Canon (form.form f fs) p =
+      let parts = and_parts (is_plain f) (are_plain fs) p in (text f, text_rest fs, text-Canon f parts.0, rest-Canon fs parts.1, refl)
 
   rest-Canon : (fs : form.Forms) → are_plain fs ≡ true → CanonRest fs (text_rest fs)
   rest-Canon form.no_forms p = refl
-  rest-Canon (form.form f fs) p = let parts = and_parts (is_plain f) (are_plain fs) p in (text f, text_rest fs, text-Canon f parts.0, rest-Canon fs parts.1, refl)
+  rest-Canon (form.form f fs) p =
+      let parts = and_parts (is_plain f) (are_plain fs) p in (text f, text_rest fs, text-Canon f parts.0, rest-Canon fs parts.1, refl)
 
   pairs-Canon : (ps : form.Pairs) → are_plain_pairs ps ≡ true → CanonPairs ps (text_pairs ps)
   pairs-Canon form.no_pairs p = refl

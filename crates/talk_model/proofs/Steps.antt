@@ -1,31 +1,37 @@
 -- What one form does to a standing, whatever its command is.
-use Rattle.std.proofs.Common.{◌≡◌, ℕ, ◌<◌, ◌≤◌, ◌⊎◌, Bool, true, false, cond, List, refl, ap, sym, ◌∙◌, inl, inr, arith, Option, Some, None, Result, Ok, Err}
+use Rattle.std.proofs.Common.{◌≡◌, ℕ, ◌<◌, ◌≤◌, ◌⊎◌, Bool, true, false, cond, List, refl, ap, sym, ◌∙◌, inl, inr, arith, Option, Some, None}
+use Rattle.std.proofs.Common.{Result, Ok, Err}
 use Rattle.edn_model.specs.Form.{Form}
 use Rattle.fb_model.specs.History.{basis}
 use Rattle.view_model.specs.Window.{Window}
 use Rattle.view_model.specs.Window as window
 use Rattle.read_refusals.specs.declared.reasons.Refusal.{Refusal}
 use Rattle.read_model.specs.Points.{point_in}
-use Rattle.talk_model.specs.Commands.{Turn, as_of, since, history, filter, unfilter, Read, look, turn, request_index, Command, transact, db, sync, read, command_in}
+use Rattle.talk_model.specs.Commands.{Turn, as_of, since, history, filter, unfilter, Read, look, turn, request_index, Command, transact, db}
+use Rattle.talk_model.specs.Commands.{sync, read, command_in}
 use Rattle.talk_model.specs.Session.{Setting, Standing, Sight, sight_of, with_name}
 use Rattle.talk_model.specs.Reads.{windowed, turned, behind}
-use Rattle.talk_model.specs.Talk.{IsAccepted, IsRefused, IsNotTaken, IsStopped, IsShown, IsRead, AnswersCommand, IsAnswered}
+use Rattle.talk_model.specs.Talk.{IsAccepted, IsRefused, IsNotTaken, IsStopped, IsShown, IsReadAnswer, AnswersCommand, IsAnswered}
 
 -- ---- reads
 
-windowed-place : (standing : Standing) (change : ℕ → Window → Window) (point : Result ℕ Refusal) → (windowed standing change point).place ≡ standing.place
+windowed-place : (standing : Standing) (change : ℕ → Window → Window) (point : Result ℕ Refusal)
+    → (windowed standing change point).place ≡ standing.place
 windowed-place standing change (Ok end) = refl
 windowed-place standing change (Err r) = refl
 
-windowed-told : (standing : Standing) (change : ℕ → Window → Window) (point : Result ℕ Refusal) → (windowed standing change point).told ≡ standing.told
+windowed-told : (standing : Standing) (change : ℕ → Window → Window) (point : Result ℕ Refusal)
+    → (windowed standing change point).was_notified ≡ standing.was_notified
 windowed-told standing change (Ok end) = refl
 windowed-told standing change (Err r) = refl
 
-filtered-place : (b : Bool) (standing : Standing) (names : List (List ℕ)) → (cond b (record standing { filters = names }) standing).place ≡ standing.place
+filtered-place : (b : Bool) (standing : Standing) (names : List (List ℕ))
+    → (cond b (record standing { filters = names }) standing).place ≡ standing.place
 filtered-place true standing names = refl
 filtered-place false standing names = refl
 
-filtered-told : (b : Bool) (standing : Standing) (names : List (List ℕ)) → (cond b (record standing { filters = names }) standing).told ≡ standing.told
+filtered-told : (b : Bool) (standing : Standing) (names : List (List ℕ))
+    → (cond b (record standing { filters = names }) standing).was_notified ≡ standing.was_notified
 filtered-told true standing names = refl
 filtered-told false standing names = refl
 
@@ -36,7 +42,7 @@ turned-place s standing history = refl
 turned-place s standing (filter name) = filtered-place (s.is_filter name) standing (with_name standing.filters name)
 turned-place s standing unfilter = refl
 
-turned-told : (s : Sight) (standing : Standing) (t : Turn) → (turned s standing t).told ≡ standing.told
+turned-told : (s : Sight) (standing : Standing) (t : Turn) → (turned s standing t).was_notified ≡ standing.was_notified
 turned-told s standing (as_of point) = windowed-told standing window.as_of (point_in s.history point)
 turned-told s standing (since point) = windowed-told standing window.since (point_in s.history point)
 turned-told s standing history = refl
@@ -49,7 +55,7 @@ behind-place s standing (Some (look l)) = refl
 behind-place s standing (Some request_index) = refl
 behind-place s standing None = refl
 
-pub behind-told : (s : Sight) (standing : Standing) (asked : Option Read) → (behind s standing asked).told ≡ standing.told
+pub behind-told : (s : Sight) (standing : Standing) (asked : Option Read) → (behind s standing asked).was_notified ≡ standing.was_notified
 behind-told s standing (Some (turn t)) = turned-told s standing t
 behind-told s standing (Some (look l)) = refl
 behind-told s standing (Some request_index) = refl
@@ -62,7 +68,8 @@ pub record Goes (s : Setting) (before after : Standing) (commit : Option ℕ) : 
   pub within : after.place ≤ basis s.history
   pub commits : (commit ≡ None) ⊎ ((commit ≡ Some after.place) × (before.place < after.place))
 
-moved_to : (s : Setting) (before after : Standing) (commit : Option ℕ) (place : ℕ) → before.place ≤ place → place ≤ basis s.history → commit ≡ None → after.place ≡ place → Goes s before after commit
+moved_to : (s : Setting) (before after : Standing) (commit : Option ℕ) (place : ℕ) → before.place ≤ place → place ≤ basis s.history
+    → commit ≡ None → after.place ≡ place → Goes s before after commit
 moved_to s before after commit place from within commits stands =
     record { from = omega (arith, from, stands); within = omega (arith, within, stands); commits = inl commits }
 
@@ -88,7 +95,7 @@ module _ (s : Setting) (before after : Standing) (line : List ℕ) (commit : Opt
   shown_goes : IsShown s before after line commit → Goes s before after commit
   shown_goes r = moved_to s before after commit r.place r.from r.within r.commits (ap (λ (x : Standing). x.place) r.stands)
 
-  read_goes : (asked : Option Read) → IsRead s before asked after line commit → Goes s before after commit
+  read_goes : (asked : Option Read) → IsReadAnswer s before asked after line commit → Goes s before after commit
   read_goes asked r =
       moved_to s before after commit before.place (omega arith) seen r.commits
       (ap (λ (x : Standing). x.place) r.stands ∙ behind-place (sight_of s before) before asked)

@@ -1,7 +1,8 @@
 -- The commands of a session: a vector whose first member is a keyword, the command's word.
 -- Datomic, Transactions, Database Filters, Indexes, Log API and Pull. The words are this project's
 -- own choice.
-use Rattle.std.specs.Prelude.{ℕ, List, [], ◌∷◌, if◌then◌else◌, bytes_eq, codes, Option, Some, None, option_map, option_and_then}
+use Rattle.std.specs.Prelude.{ℕ, List, [], ◌∷◌, if◌then◌else◌, bytes_eq, codes, Option, Some, None}
+use Rattle.std.specs.Prelude.{option_map, option_and_then}
 use Rattle.edn_model.specs.Form as edn
 use Rattle.edn_model.specs.Form.{Form, items}
 use Rattle.fb_values.specs.declared.indexes.Order.{Order}
@@ -19,7 +20,7 @@ pub data Look : Type 0 where
   -- [:pull pattern entity]
   pull : Form → Form → Look
 
--- what changes in the view of the looks behind it
+-- what changes in the view of later looks
 pub data Turn : Type 0 where
   -- [:as-of point], [:since point] and [:history] narrow or widen the window
   as_of : Form → Turn
@@ -44,7 +45,7 @@ pub data Command : Type 0 where
   sync : Command
   read : Read → Command
 
--- what stands beside the word in a list
+-- what is beside the word in a list
 abbrev pub beside : {X : Type 0} → List ℕ → List (List ℕ × X) → Option X
 beside word [] = None
 beside word (one ∷ rest) = if bytes_eq one.0 word then Some one.1 else beside word rest
@@ -61,7 +62,7 @@ order_of word =
 abbrev pub order_in : Form → Option Order
 order_in f = option_and_then order_of (name_in f)
 
--- the commands whose word stands before these forms: those that begin with an index, and all of
+-- the commands whose word precedes these forms: those that begin with an index, and all of
 -- them
 abbrev pub looks : Look → Command
 looks l = read (look l)

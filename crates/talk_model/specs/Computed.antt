@@ -1,6 +1,7 @@
 -- The reply to a read, computed where filters are tests.
 -- This project's own choice.
-use Rattle.std.specs.Prelude.{ℕ, Bool, IsTrue, List, Option, Some, None, option_and_then, Result, Ok, Err}
+use Rattle.std.specs.Prelude.{ℕ, Bool, IsTrue, List, Option, Some, None, option_and_then, Result}
+use Rattle.std.specs.Prelude.{Ok, Err}
 use Rattle.edn_model.specs.Form.{Form}
 use Rattle.fb_values.specs.declared.facts.Datom.{Datom}
 use Rattle.fb_values.specs.declared.facts.Entry.{Entry}
@@ -16,11 +17,13 @@ use Rattle.read_refusals.specs.declared.reasons.Refusal.{Refusal}
 use Rattle.read_model.specs.Points.{log_range}
 use Rattle.read_model.specs.Given.{refusal}
 use Rattle.read_model.specs.Names.{id_in}
-use Rattle.read_model.specs.Components.{no_command, finds, components, index_range as range_of_index}
+use Rattle.read_model.specs.Components.{no_command, finds, components}
+use Rattle.read_model.specs.Components.{index_range as range_of_index}
 use Rattle.pull_model.specs.Patterns.{Pattern}
 use Rattle.pull_model.specs.Reading.{pattern_in}
 use Rattle.pull_model.specs.Pull as pulls
-use Rattle.talk_model.specs.Commands.{Look, datoms, seek, index_range, tx_range, pull, Read, look, turn, request_index}
+use Rattle.talk_model.specs.Commands.{Look, datoms, seek, index_range, tx_range, pull, Read, look}
+use Rattle.talk_model.specs.Commands.{turn, request_index}
 use Rattle.talk_model.specs.Replies.{done_reply, datoms_reply, transactions_reply}
 use Rattle.talk_model.specs.Session.{Sight}
 use Rattle.talk_model.specs.Reads.{refused, pull_shown, turn_reply}

@@ -6,7 +6,7 @@ use Rattle.std.specs.List.Sorted.{IsNonDecreasing}
 
 -- The lines and the commits of a session in the order in which they came. Each line rests on a
 -- place at least what had been seen, and that of a commit on the t committed, above it. Its place
--- is seen from then on. Behind the last line the session may have committed once more, without a
+-- is seen from then on. After the last line the session may have committed once more, without a
 -- line.
 abbrev pub SeesAll : ℕ → ℕ → List ℕ → List ℕ → Type 0
 SeesAll basis seen [] commits =

@@ -1,5 +1,5 @@
 -- What a command that records nothing answers, of what its session has seen, and where the session
--- stands behind it.
+-- follows it.
 -- Datomic, Database Filters, Indexes, Log API and Pull.
 use Rattle.std.specs.Prelude.{◌≡◌, ℕ, List, [], if◌then◌else◌, Option, Some, None, Result, Ok, Err}
 use Rattle.edn_model.specs.Form.{Form}
@@ -14,7 +14,8 @@ use Rattle.view_model.specs.Window as window
 use Rattle.view_model.specs.Window.{Window, whole, with_history}
 use Rattle.view_model.specs.Scan.{Range, leading, not_below, IsScan, transactions}
 use Rattle.read_refusals.specs.declared.reasons.Reason.{Reason}
-use Rattle.read_refusals.specs.declared.reasons.Reason.TheVariants.{BadPattern, NoFilter, NotAnEntity}
+use Rattle.read_refusals.specs.declared.reasons.Reason.TheVariants.{BadPattern, NoFilter}
+use Rattle.read_refusals.specs.declared.reasons.Reason.TheVariants.{NotAnEntity}
 use Rattle.read_refusals.specs.declared.reasons.Refusal.{Refusal}
 use Rattle.read_refusals.specs.Reasons.{keyword_of}
 use Rattle.read_model.specs.Points.{point_in, log_range}
@@ -25,8 +26,11 @@ use Rattle.pull_model.specs.Patterns.{Pattern}
 use Rattle.pull_model.specs.Reading.{pattern_in}
 use Rattle.pull_model.specs.Found.{Db, IsDb}
 use Rattle.pull_model.specs.Pull.{pulled}
-use Rattle.talk_model.specs.Commands.{Look, datoms, seek, index_range, tx_range, pull, Turn, as_of, since, history, filter, unfilter, Read, look, turn, request_index}
-use Rattle.talk_model.specs.Replies.{done_reply, datoms_reply, transactions_reply, pull_reply, refusal_reply}
+use Rattle.talk_model.specs.Commands.{Look, datoms, seek, index_range, tx_range, pull, Turn, as_of}
+use Rattle.talk_model.specs.Commands.{since, history, filter, unfilter, Read, look, turn}
+use Rattle.talk_model.specs.Commands.{request_index}
+use Rattle.talk_model.specs.Replies.{done_reply, datoms_reply, transactions_reply, pull_reply}
+use Rattle.talk_model.specs.Replies.{refusal_reply}
 use Rattle.talk_model.specs.Session.{Sight, Standing, with_name}
 
 -- ---- replies
@@ -48,7 +52,7 @@ HasDatoms h w Selects order range reply =
     × IsScan h w Selects order range ds
     × (reply ≡ datoms_reply (basis h) (facts h) ds)
 
--- those of a range that components tell
+-- the datoms of a range that components give
 abbrev pub HasDatomsAt : List Entry → Window → (Datom → Type 0) → Order → (Probe → Range)
     → List Form → Form → Type 0
 HasDatomsAt h w Selects order range fs reply =
@@ -113,7 +117,7 @@ turn_reply s (filter name) =
     else refused (basis s.history) (refusal NoFilter 1)
 turn_reply s unfilter = done_reply (basis s.history)
 
--- the reply to a read, or to what is no command
+-- the reply to a read, or to what is not a command
 abbrev pub IsReply : Sight → Option Read → Form → Type 0
 IsReply s None reply = reply ≡ refused (basis s.history) no_command
 IsReply s (Some (look l)) reply = IsLook s l reply
@@ -136,7 +140,7 @@ turned s standing (filter name) =
     else standing
 turned s standing unfilter = record standing { window = whole; filters = [] }
 
--- where the session stands behind a read, or behind what is no command
+-- what the session is after a read, or after what is not a command
 abbrev pub behind : Sight → Standing → Option Read → Standing
 behind s standing (Some (turn t)) = turned s standing t
 behind s standing asked = standing

@@ -90,8 +90,8 @@ transactions_reply basis facts entries =
     ∷ (codes "txs", vector (map (transaction_form facts) entries))
     ∷ [])
 
--- {:basis 3 :pull tree}; an instant that has no text, which no script and no history has, stands as the
--- nearest that has one
+-- {:basis 3 :pull tree}; an instant that has no text,
+-- which no script and no history has, is printed as the nearest that has one
 abbrev pub pull_reply : ℕ → Form → Form
 pull_reply basis tree =
     map_of ((codes "basis", number basis) ∷ (codes "pull", printable tree) ∷ [])

@@ -1,5 +1,6 @@
 -- Commands for the examples. This project's own choice.
-use Rattle.std.specs.Prelude.{◌≡◌, ◌⊎◌, ℕ, pos, Bool, true, false, List, [], ◌∷◌, codes, bytes_eq, Option, Some, None}
+use Rattle.std.specs.Prelude.{◌≡◌, ◌⊎◌, ℕ, pos, Bool, true, false, List, [], ◌∷◌, codes, bytes_eq}
+use Rattle.std.specs.Prelude.{Option, Some, None}
 use Rattle.edn_model.specs.Form as edn
 use Rattle.edn_model.specs.Form.{Form, forms, pairs}
 use Rattle.fb_values.specs.declared.facts.Datom.{Datom}
@@ -15,7 +16,7 @@ use Rattle.talk_model.specs.Reads.{IsReply, behind}
 use Rattle.talk_model.specs.Computed.{tested, reply}
 use Rattle.talk_model.specs.Talk.{Exchange}
 
--- a vector of a word and what stands behind it
+-- a vector of a word and what follows it
 abbrev pub said : List ℕ → List Form → Form
 said word behind = edn.vector (forms (edn.keyword word ∷ behind))
 
@@ -73,7 +74,7 @@ over_ages =
 abbrev pub IsReplyOverAges : Form → Form → Type 0
 IsReplyOverAges form reply = IsReply over_ages (read_in form) reply
 
--- where a session that stood there at t 4 of the ages stands behind a read
+-- the session after a read, if it was at t 4 of the ages before
 abbrev pub behind_read : Standing → Form → Standing
 behind_read standing form = behind over_ages standing (read_in form)
 
@@ -82,7 +83,7 @@ standing_behind form = behind_read (opened_at 4) form
 
 -- at t 4, with a window and the names of filters
 abbrev pub standing_with : Window → List (List ℕ) → Standing
-standing_with w filters = record { place = 4; window = w; filters = filters; told = false }
+standing_with w filters = record { place = 4; window = w; filters = filters; was_notified = false }
 
 -- the reply to a read at t 1 of the texts, under a window and filters
 abbrev pub reply_over_texts : Window → List (Datom → Bool) → Form → Form

@@ -1,8 +1,9 @@
--- What a session is answered by: what it shares with others, and where it stands itself between two
+-- What a session is answered by: what it shares with others, and its own state between two
 -- commands.
 -- This project's own choice. Of two filters with one name the later one counts: what is selected by
--- a name is told here.
-use Rattle.std.specs.Prelude.{◌≡◌, ◌⊎◌, ℕ, ℤ, Bool, false, List, [], ◌∷◌, ◌++◌, bytes_eq, if◌then◌else◌, Option, None}
+-- a name is defined here.
+use Rattle.std.specs.Prelude.{◌≡◌, ◌⊎◌, ℕ, ℤ, Bool, false, List, [], ◌∷◌, ◌++◌, bytes_eq}
+use Rattle.std.specs.Prelude.{if◌then◌else◌, Option, None}
 use Rattle.std.specs.List.{list_any}
 use Rattle.fb_values.specs.declared.facts.Datom.{Datom}
 use Rattle.fb_values.specs.declared.facts.Entry.{Entry}
@@ -30,10 +31,10 @@ pub record Standing : Type 0 where
   pub window : Window
   -- the names of its filters, in the order in which they were added
   pub filters : List (List ℕ)
-  -- whether it was told that the log has stopped
-  pub told : Bool
+  -- whether it was notified that the log has stopped
+  pub was_notified : Bool
 
--- what a read has, and what its reply is said of
+-- what a read has, and what its reply depends on
 pub record Sight : Type 1 where
   -- what its session has seen of the history
   pub history : List Entry
@@ -46,7 +47,7 @@ pub record Sight : Type 1 where
 
 -- of a session that is opened at this t
 abbrev pub opened_at : ℕ → Standing
-opened_at t = record { place = t; window = whole; filters = []; told = false }
+opened_at t = record { place = t; window = whole; filters = []; was_notified = false }
 
 -- the names with one more, where it is not there yet
 abbrev pub with_name : List (List ℕ) → List ℕ → List (List ℕ)
@@ -61,7 +62,7 @@ abbrev pub SelectedBy : (List ℕ → Datom → Type 0) → List (List ℕ) → 
 SelectedBy Selects [] d = Unit {0}
 SelectedBy Selects (name ∷ names) d = Selects name d × SelectedBy Selects names d
 
--- of a session that stands there
+-- of a session with this standing
 abbrev pub sight_of : Setting → Standing → Sight
 sight_of s standing =
     record {

@@ -1,7 +1,8 @@
 -- The talk of a session: how each form of its script is answered, over a history that it may share
 -- with other sessions.
 -- This project's own choice.
-use Rattle.std.specs.Prelude.{◌≡◌, ℕ, ◌+◌, ◌-◌, ◌<◌, ◌≤◌, ◌⊎◌, ℤ, true, false, List, [], ◌∷◌, map, filter_map, codes, slice_get, Option, Some, None}
+use Rattle.std.specs.Prelude.{◌≡◌, ℕ, ◌+◌, ◌-◌, ◌<◌, ◌≤◌, ◌⊎◌, ℤ, true, false, List, [], ◌∷◌, map}
+use Rattle.std.specs.Prelude.{filter_map, codes, slice_get, Option, Some, None}
 use Rattle.edn_model.specs.Form.{Form}
 use Rattle.fb_values.specs.declared.facts.Entry.{Entry}
 use Rattle.fb_model.specs.History.{basis, upto}
@@ -15,12 +16,12 @@ use Rattle.talk_model.specs.Reads.{IsReply, behind}
 
 -- ---- transactions
 
--- The session was told of no stop of the log, and its transaction is accepted at a place above what
--- it had seen: the entry there is what the step gives after the entries before it, at a number that
--- the clock may read, and the line is that of its receipt.
+-- The session was notified of no stop of the log, and its transaction is accepted at a
+-- place above what it had seen: the entry there is what the step gives after the entries before it,
+-- at a number that the clock may read, and the line is that of its receipt.
 pub record IsAccepted (s : Setting) (before : Standing) (asked : Form) (after : Standing)
     (line : List ℕ) (commit : Option ℕ) : Type 0 where
-  pub going : before.told ≡ false
+  pub going : before.was_notified ≡ false
   pub place : ℕ
   pub above : before.place < place
   pub within : place ≤ basis s.history
@@ -34,11 +35,11 @@ pub record IsAccepted (s : Setting) (before : Standing) (asked : Form) (after : 
   pub commits : commit ≡ Some place
   pub stands : after ≡ moved before place
 
--- It was told of none, and it is refused at a place that the session sees from then on, whatever
--- the clock reads.
+-- The session was notified of no stop, and the transaction is refused at a place
+-- that the session sees from then on, whatever the clock reads.
 pub record IsRefused (s : Setting) (before : Standing) (asked : Form) (after : Standing)
     (line : List ℕ) (commit : Option ℕ) : Type 0 where
-  pub going : before.told ≡ false
+  pub going : before.was_notified ≡ false
   pub place : ℕ
   pub from : before.place ≤ place
   pub within : place ≤ basis s.history
@@ -49,7 +50,7 @@ pub record IsRefused (s : Setting) (before : Standing) (asked : Form) (after : S
   pub stands : after ≡ moved before place
 
 -- The log did not take the entry that the step gives at the end of the history: this session's,
--- which is told so once.
+-- which is notified of it once.
 pub record IsNotTaken (s : Setting) (before : Standing) (asked : Form) (after : Standing)
     (line : List ℕ) (commit : Option ℕ) : Type 0 where
   pub place : ℕ
@@ -57,7 +58,7 @@ pub record IsNotTaken (s : Setting) (before : Standing) (asked : Form) (after : 
   pub within : place ≤ basis s.history
   pub stops : s.stop ≡ Some (place + 1)
   pub is_teller : s.teller ≡ true
-  pub not_told : before.told ≡ false
+  pub not_notified : before.was_notified ≡ false
   pub reading : ℤ
   pub may_be : s.may reading
   pub entry : Entry
@@ -65,7 +66,7 @@ pub record IsNotTaken (s : Setting) (before : Standing) (asked : Form) (after : 
   pub step_is : step (upto s.history place) asked reading s.guard ≡ accepted entry tempids
   pub says : IsLineOf (fault_reply (codes "log") (place + 1) place) line
   pub commits : commit ≡ None
-  pub stands : after ≡ record before { place = place; told = true }
+  pub stands : after ≡ record before { place = place; was_notified = true }
 
 -- The log has stopped at the end of the history, and no transaction is looked at from then on.
 pub record IsStopped (s : Setting) (before : Standing) (after : Standing) (line : List ℕ)
@@ -76,7 +77,7 @@ pub record IsStopped (s : Setting) (before : Standing) (after : Standing) (line 
   pub stops : s.stop ≡ Some (place + 1)
   pub says : IsLineOf (fault_reply (codes "log-stopped") (place + 1) place) line
   pub commits : commit ≡ None
-  pub stands : after ≡ record before { place = place; told = true }
+  pub stands : after ≡ record before { place = place; was_notified = true }
 
 -- ---- other commands
 
@@ -90,8 +91,8 @@ pub record IsShown (s : Setting) (before : Standing) (after : Standing) (line : 
   pub commits : commit ≡ None
   pub stands : after ≡ moved before place
 
--- The read, or what is no command, is answered of what its session has seen.
-pub record IsRead (s : Setting) (before : Standing) (asked : Option Read) (after : Standing)
+-- The read, or what is not a command, is answered of what its session has seen.
+pub record IsReadAnswer (s : Setting) (before : Standing) (asked : Option Read) (after : Standing)
     (line : List ℕ) (commit : Option ℕ) : Type 0 where
   pub reply : Form
   pub answers : IsReply (sight_of s before) asked reply
@@ -109,8 +110,8 @@ AnswersCommand s before (Some (transact asked)) after line commit =
 AnswersCommand s before (Some db) after line commit = IsShown s before after line commit
 AnswersCommand s before (Some sync) after line commit = IsShown s before after line commit
 AnswersCommand s before (Some (read r)) after line commit =
-    IsRead s before (Some r) after line commit
-AnswersCommand s before None after line commit = IsRead s before None after line commit
+    IsReadAnswer s before (Some r) after line commit
+AnswersCommand s before None after line commit = IsReadAnswer s before None after line commit
 
 -- In the setting the form takes the session from one standing to another, with this line, and
 -- commits a t or none.

@@ -38,7 +38,7 @@ pub fn refusals_of_reads()
         (refusal_reply (codes "read/not-an-entity") 2 4) }
 {}
 
-/// What changes behind a command.
+/// What changes after a command.
 pub fn views_of_a_session()
     ensures as_of { standing_behind (said (codes "as-of") (number 2 ∷ []))
         ≡ standing_with (as_of 3 whole) [] }
@@ -59,10 +59,10 @@ pub fn views_of_a_session()
           place = 4;
           window = since 3 (with_history whole);
           filters = codes "users" ∷ [];
-          told = true;
+          was_notified = true;
         })
         (said (codes "unfilter") [])
-        ≡ record { place = 4; window = whole; filters = []; told = true } }
+        ≡ record { place = 4; window = whole; filters = []; was_notified = true } }
     ensures done { IsReplyOverAges (said (codes "as-of") (number 2 ∷ [])) (done_reply 4) }
     ensures known { IsReplyOverAges (said (codes "filter") (key (codes "users") ∷ []))
         (done_reply 4) }

@@ -8,7 +8,7 @@ ghost use Rattle.talk_model.specs.Session.{opened_at};
 ghost use Rattle.talk_model.specs.Talk.{Talk};
 ghost use Rattle.talk_model.specs.Samples.{said, key, number, text, alone, exchange, reply_over_texts, datoms_of_first};
 
-/// A transaction, a point, what is no command, and what there is to see.
+/// A transaction, a point, what is not a command, and what there is to see.
 pub fn a_talk()
     ensures { Talk (alone texts None false) (opened_at 0)
         (
@@ -20,10 +20,10 @@ pub fn a_talk()
         (codes "{:refused :read/not-a-command :at 0 :basis 1}\n") None
         ∷ exchange (said (codes "sync") []) 1 (codes "{:basis 1}\n") None
         ∷ [])
-        (record { place = 1; window = since 1 whole; filters = []; told = false }) }
+        (record { place = 1; window = since 1 whole; filters = []; was_notified = false }) }
 {}
 
-/// The log does not take the second transaction: its session is told that this one was lost, and
+/// The log does not take the second transaction: its session is notified that this one was lost, and
 /// from then on that the log has stopped, also of what would break a rule. What was recorded is
 /// still read.
 pub fn a_talk_over_a_stopped_log()
@@ -37,7 +37,7 @@ pub fn a_talk_over_a_stopped_log()
         (codes "{:fault :log-stopped :at 2 :basis 1}\n") None
         ∷ exchange (said (codes "db") []) 1 (codes "{:basis 1}\n") None
         ∷ [])
-        (record { place = 1; window = whole; filters = []; told = true }) }
+        (record { place = 1; window = whole; filters = []; was_notified = true }) }
 {}
 
 /// What reads see, under a window and a filter.

@@ -20,7 +20,7 @@ pub use reads::{
 };
 pub use replies::{datoms_as_forms, lines_of_replies, transactions_as_forms};
 pub use talks::{
-    Surroundings, a_longer_history_keeps_a_talk, a_session_is_told_once,
+    Surroundings, a_longer_history_keeps_a_talk, a_session_is_notified_once,
     a_talk_ends_with_its_last_form, a_talk_goes_on, a_talk_rests_on_what_was_seen,
     commits_strictly_rise, one_line_at_a_place,
 };

@@ -1,4 +1,4 @@
-//! Reads: all commands but `:transact`, `:db` and `:sync`, and what is no command.
+//! Reads: all commands but `:transact`, `:db` and `:sync`, and what is not a command.
 ghost use Rattle.std.specs.Prelude.{◌≡◌, ℕ, Bool, Option, Some, None, List};
 ghost use Rattle.std.specs.Option.{option_map};
 ghost use Rattle.edn_model.specs.Form.{Form};
@@ -15,7 +15,7 @@ ghost use Rattle.talk_model.specs.Talk.{IsAnswered};
 
 use crate::talks::Surroundings;
 
-/// A read has one answer: one line, and one standing of its session behind it.
+/// A read has one answer: one line, and one standing of its session after it.
 pub fn a_read_has_one_answer<S: Surroundings>()
     ensures { (s : S) (guard : Guard) (is_filter : List ℕ → Bool) (h : List Entry) (stop : Option ℕ)
         (teller : Bool) (before after other : Standing) (f : Form) (asked : Option Read)
@@ -26,7 +26,7 @@ pub fn a_read_has_one_answer<S: Surroundings>()
         → (after ≡ other) × (line ≡ that) × (commit ≡ last) }
 {}
 
-/// What only looks leaves its session as it was, and so do a request for an index and what is no command.
+/// What only looks leaves its session as it was, and so do a request for an index and what is not a command.
 pub fn looks_change_nothing<S: Surroundings>()
     ensures look { (s : S) (guard : Guard) (is_filter : List ℕ → Bool) (h : List Entry)
         (stop : Option ℕ) (teller : Bool) (before after : Standing) (f : Form) (l : Look)

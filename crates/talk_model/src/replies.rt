@@ -10,7 +10,7 @@ ghost use Rattle.view_model.specs.Samples.{datom, ages, texts, hi};
 ghost use Rattle.talk_model.specs.Replies.{datom_form, receipt, basis_reply, done_reply, datoms_reply, transactions_reply, refusal_reply, fault_reply, IsLineOf};
 ghost use Rattle.talk_model.specs.Samples.{key, number, datom_vector, text_transaction};
 
-/// A datom as a form: an attribute by its keyword, and an entity by its number wherever it stands.
+/// A datom as a form: an attribute by its keyword, and an entity by its number wherever it is.
 pub fn datoms_as_forms()
     ensures a_text { datom_form (facts texts) hi
         ≡ datom_vector (user_entity 1) (codes "db/doc") (edn.string (codes "hi")) (transaction_of 1)

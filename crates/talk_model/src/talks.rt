@@ -20,7 +20,7 @@ pub trait Surroundings {
     ghost selects: { Self → List ℕ → Datom → Type 0 };
 }
 
-/// A longer lawful history keeps a talk, also where the log has stopped behind it meanwhile.
+/// A longer lawful history keeps a talk, also where the log has stopped after it meanwhile.
 pub fn a_longer_history_keeps_a_talk<S: Surroundings>()
     ensures { (s : S) (guard : Guard) (is_filter : List ℕ → Bool) (h more : List Entry)
         (stop later : Option ℕ) (teller is_teller : Bool) (before after : Standing)
@@ -55,7 +55,7 @@ pub fn a_talk_ends_with_its_last_form<S: Surroundings>()
 {}
 
 /// The places of a talk never fall, lie between the opening's t and the basis, and each is at least
-/// every t that was committed before. So it is where the form behind the lines was answered too,
+/// every t that was committed before. So it is where the form after the lines was answered too,
 /// and its line did not come out.
 pub fn a_talk_rests_on_what_was_seen<S: Surroundings>()
     ensures whole { (s : S) (guard : Guard) (is_filter : List ℕ → Bool) (h : List Entry)
@@ -77,9 +77,9 @@ pub fn commits_strictly_rise()
         → SeesAll basis opening ps cs → IsStrictlyIncreasing cs }
 {}
 
-/// A session is told once at most that the log did not take its transaction, and as the first that it
-/// is told of a stop: from then on each of its transactions is answered with that the log has stopped.
-pub fn a_session_is_told_once<S: Surroundings>()
+/// A session is notified once at most that the log did not take its transaction, and as the first that it
+/// hears of a stop: from then on each of its transactions is answered with that the log has stopped.
+pub fn a_session_is_notified_once<S: Surroundings>()
     ensures once { (s : S) (guard : Guard) (is_filter : List ℕ → Bool) (h : List Entry) (stop : Option ℕ)
         (teller : Bool) (one two three four : Standing) (talk : List Exchange) (f g : Form)
         (line other : List ℕ) (commit last : Option ℕ)

@@ -1,4 +1,4 @@
--- What a book of numbers stands for, and what a seat knows while it has one.
+-- The history that a book of numbers is, and what a seat knows while it has one.
 -- This project's own choice.
 use Rattle.std.specs.Prelude.{◌≡◌, ℕ, ◌<◌, List, length, Option, Some, None}
 use base.Stored.{coded_ℕ}

@@ -98,7 +98,7 @@ const VALUES: [&[u8]; 10] = [
     b"\x09\0\0\0\x03a:b",
 ];
 
-/// The value at the front of the bytes, as bytes, and the place behind it.
+/// The value at the front of the bytes, as bytes, and the place after it.
 fn value_again(alloc: Global, bytes: &[u8]) -> Result<(Vec<u8>, usize), BytesFault> {
     let (value, end) = get_value(alloc, bytes, 0, 2)?;
     let mut out = Vec::new(alloc);

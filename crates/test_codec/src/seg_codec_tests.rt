@@ -1,4 +1,4 @@
-//! The documented merge record, written and read, and one behind it that adds no node.
+//! The documented merge record, written and read, and one after it that adds no node.
 use crate::trees::hi_trees;
 use fb_codec::BytesFault;
 use seg_codec::{Ids, Nodes, record_bytes, record_of};
@@ -13,7 +13,7 @@ const RECORD: [u8; 97] = [
     0, 0, 0, 0,
 ];
 
-/// The trees again, behind the record that has their nodes.
+/// The trees again, after the record that has their nodes.
 const SAME_TREES: [u8; 37] = [
     2, 0, 0, 0, 2, 0, 0, 0, 0, 0, 0, 0, 0, 0, 0, 0, 1, 0, 0, 0, 0, 0, 0, 0, 2, 0, 0, 0, 0, 0, 0, 0,
     0, 0, 0, 0, 0,

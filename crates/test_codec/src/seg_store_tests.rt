@@ -75,7 +75,7 @@ fn what_was_kept_is_loaded(rt: HostRuntime) -> Result<(), Fail> {
     Ok(())
 }
 
-/// A place in the file of two roots, its new byte, and what is loaded then. Behind a bad record and behind a fault of the journal the
+/// A place in the file of two roots, its new byte, and what is loaded then. After a bad record and after a fault of the journal the
 /// file starts anew.
 const ROWS: [(usize, u8, Told); 7] = [
     (0, 0, (0, None, 1, true)),

@@ -63,7 +63,7 @@ pub(crate) fn halt_of(stop: Option<Stop>) -> Option<Halt> {
 
 #[derive(Drop)]
 pub(crate) struct Model {
-    /// Which session made each entry behind the first.
+    /// Which session made each entry after the first.
     pub(crate) authors: Vec<usize>,
     pub(crate) halt: Option<Halt>,
     /// The t of the entry that the log does not take.

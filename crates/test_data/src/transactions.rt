@@ -143,7 +143,7 @@ fn compare(dice: &mut Dice, out: &mut String) -> Result<()> {
     Ok(())
 }
 
-/// A user entity, a tempid where one may stand, or a name.
+/// A user entity, a tempid where one may be, or a name.
 fn entity(dice: &mut Dice, new: bool, out: &mut String) -> Result<()> {
     match dice.roll(12) {
         0..=4 if new => out.push_str(dice.pick(&TEMPIDS))?,

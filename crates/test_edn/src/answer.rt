@@ -4,7 +4,7 @@ use edn_core::{EdnFault, What, read_form};
 use edn_print::print;
 use std::alloc::Global;
 
-/// The canonical texts of the forms with ` | ` between them, and the fault behind them where there is one; `end` where there
+/// The canonical texts of the forms with ` | ` between them, and the fault after them where there is one; `end` where there
 /// is nothing.
 pub(crate) fn answer(alloc: Global, text: &[u8]) -> Result<Vec<u8>> {
     let mut said = Vec::new(alloc);

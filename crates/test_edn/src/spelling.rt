@@ -1,9 +1,9 @@
-//! How the table spells bytes that can't stand in one of its lines, and texts that are long.
+//! How the table spells bytes that can't be in one of its lines, and texts that are long.
 use anyhow::{Result, bail};
 use std::alloc::Global;
 
-/// The bytes that a text of the table stands for: two hexadecimal digits behind a pilcrow for that byte, a star, a number
-/// and something in angle quotes behind one for so many of it, and all else for itself.
+/// The bytes that a text of the table stands for: two hexadecimal digits after a pilcrow for that byte, a star, a number
+/// and something in angle quotes after one for so many of it, and all else for itself.
 pub(crate) fn bytes_of(alloc: Global, text: &str) -> Result<Vec<u8>> {
     let mut bytes = Vec::new(alloc);
     let mut pieces = text.split('¶');

@@ -1,5 +1,6 @@
 -- A guard to try: it bars a text that is added and has nothing in it. This project's own choice.
-use Rattle.std.specs.Prelude.{Bool, false, ◌&&◌, List, length, nat_eq, if◌then◌else◌, Option, Some, None}
+use Rattle.std.specs.Prelude.{Bool, false, ◌&&◌, List, length, nat_eq, if◌then◌else◌, Option, Some}
+use Rattle.std.specs.Prelude.{None}
 use Rattle.std.specs.List.{list_any}
 use Rattle.fb_values.specs.declared.facts.Datom.{Datom}
 use Rattle.fb_values.specs.declared.facts.Value.{Value}

@@ -65,7 +65,7 @@ fn decide_round(
     Ok(())
 }
 
-/// The keyword behind `{:refused `, if the reply begins with it.
+/// The keyword after `{:refused `, if the reply begins with it.
 fn reason_in(reply: &[u8]) -> Option<&[u8]> {
     let rest = reply.strip_prefix(b"{:refused ")?;
     rest.split(|byte| *byte == b' ').next()

@@ -2,7 +2,7 @@
 use anyhow::{Result, bail};
 use std::alloc::Global;
 
-/// The bytes that a text of the table stands for: a number and something in angle quotes behind a pilcrow for so many of it, and
+/// The bytes that a text of the table stands for: a number and something in angle quotes after a pilcrow for so many of it, and
 /// all else for itself.
 pub(crate) fn bytes_of(alloc: Global, text: &str) -> Result<Vec<u8>> {
     let mut bytes = Vec::new(alloc);

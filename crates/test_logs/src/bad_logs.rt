@@ -17,7 +17,7 @@ pub(crate) const LOG: [u8; 92] = [
 
 const WHOLE: &str = "[:tx-range 1 nil]";
 
-/// What tells the history of a new log, and that of this one around the text.
+/// The reply of a new log, and the reply of this one around the text.
 const EMPTY: &str = "{:basis 0 :txs []}\n";
 
 const BEFORE: &str = concat!(

@@ -17,7 +17,7 @@ const MOST_CUTS: u64 = 10_000;
 const CALLS_A_RECORD: u32 = 4;
 
 /// How many calls failed while the log was opened and while records were added, and how many images the latter left: one in front of each
-/// write of a record, behind its first one for each byte up to the last that is not 0 and one more, and two behind that of its gate.
+/// write of a record, after its first one for each byte up to the last that is not 0 and one more, and two after that of its gate.
 #[derive(Clone, Copy)]
 pub(crate) struct Tally {
     pub(crate) opening: u32,

@@ -21,7 +21,7 @@ pub(crate) struct Case<'a> {
     pub(crate) scripts: &'a [&'a str],
 }
 
-/// What is asked of a log behind a crash, the whole history and then more, and what has to be answered.
+/// What is asked of a log after a crash, the whole history and then more, and what has to be answered.
 #[derive(Drop)]
 pub(crate) struct Sequel {
     pub(crate) script: String,

@@ -1,4 +1,4 @@
-//! What a directory keeps, through whole runs of the program: when calls of its log's disk fail, behind a crash at any moment, from one
+//! What a directory keeps, through whole runs of the program: when calls of its log's disk fail, after a crash at any moment, from one
 //! run to the next, and when bytes of the log were changed.
 #![tactic(auto)]
 

@@ -1,4 +1,4 @@
-//! Worked examples as a text has them: in front of each run its clock, then each command with its answer behind an arrow.
+//! Worked examples as a text has them: in front of each run its clock, then each command with its answer after an arrow.
 use crate::bad_logs::{LOG, replaced};
 use crate::runs::{Job, Parts, disk, ends_so, run_job, run_over};
 use anyhow::{Result, bail};

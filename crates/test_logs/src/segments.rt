@@ -108,7 +108,7 @@ impl Kept {
     }
 }
 
-/// What a script is answered behind others.
+/// What a script is answered after others.
 fn answers(alloc: Global, before: &[&str], script: &str) -> Result<Vec<u8>> {
     let mut plain = plain_session(alloc)?;
     let mut lines = Vec::new(alloc);
@@ -212,7 +212,7 @@ impl Histories {
         Ok(())
     }
 
-    /// From the gate of the second record on, a change leaves the first root alone. The last byte is behind both.
+    /// From the gate of the second record on, a change leaves the first root alone. The last byte is after both.
     fn open_changed<R: Threads + Wait + Sync>(
         &self,
         rt: &R,

@@ -20,7 +20,7 @@ const LOG: [u8; 92] = [
     0x00, 0x00, 0x07, 0x02, 0x00, 0x00, 0x00, 0x02, 0x68, 0x69, 0x01, 0x00,
 ];
 
-/// The places that are changed, each with its new byte, and what opening then tells: the t of the last entry, or the fault.
+/// The places that are changed, each with its new byte, and what opening then answers: the t of the last entry, or the fault.
 type Row = (&'static [(usize, u8)], Result<u32, OpenFault>);
 
 const ROWS: [Row; 17] = [
@@ -62,7 +62,7 @@ fn changed(changes: &[(usize, u8)]) -> [u8; 92] {
     log
 }
 
-/// What opening a disk with these bytes tells.
+/// What opening a disk with these bytes answers.
 fn told(alloc: Global, bytes: &[u8]) -> Result<Result<u32, OpenFault>, Memory> {
     let mut log = MemDisk::new(alloc, 1_000, Vec::new(alloc))?;
     let segments = MemDisk::new(alloc, 1_000, Vec::new(alloc))?;
@@ -92,7 +92,7 @@ const ROOM: usize = 100_000;
 /// A file of segments without a record.
 const NO_ROOTS: &[u8] = b"FACTBASE SEG 1\n\0";
 
-/// What an opening tells: how far the history goes and how far its trees, the least number that a new node may have, and the
+/// What an opening answers: how far the history goes and how far its trees, the least number that a new node may have, and the
 /// bytes that the file of segments then has.
 #[derive(Drop)]
 struct Opening {
@@ -117,7 +117,7 @@ fn bytes_of(alloc: Global, disk: &MemDisk) -> Result<Vec<u8>, Memory> {
     Ok(bytes)
 }
 
-/// What opening the log beside these segments tells, if it is no fault.
+/// What opening the log beside these segments answers, if it is no fault.
 fn opened(alloc: Global, log: &[u8], segments: &[u8]) -> Result<Option<Opening>, Memory> {
     match reopen(alloc, disk_of(alloc, log)?, disk_of(alloc, segments)?) {
         Ok(opened) => Ok(Some(Opening {
@@ -169,7 +169,7 @@ fn file_of<R: Threads + Sync>(rt: &R, alloc: Global, times: usize) -> Result<Vec
     }
 }
 
-/// Whether an opening tells this, and leaves these bytes.
+/// Whether an opening answers this, and leaves these bytes.
 fn is(
     opening: &Option<Opening>,
     recovered: u32,

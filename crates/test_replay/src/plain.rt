@@ -24,7 +24,7 @@ pub fn answer_all(
     Ok(())
 }
 
-/// The form that comes next from the place on, and the place behind it.
+/// The form that comes next from the place on, and the place after it.
 pub(crate) fn next_form(alloc: Global, script: &str, at: usize) -> Result<Option<(Edn, usize)>> {
     match read_form(alloc, script.as_bytes(), at) {
         Ok(read) => Ok(read),

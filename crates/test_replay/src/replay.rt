@@ -19,7 +19,7 @@ pub struct Replay<'a> {
     pub torn: Option<Torn<'a>>,
 }
 
-/// A script from a transaction on, that transaction, and what stands behind it.
+/// A script from a transaction on, that transaction, and what follows it.
 #[derive(Clone, Copy)]
 pub struct Torn<'a> {
     pub script: &'a str,
@@ -139,7 +139,7 @@ impl<'a> Replay<'a> {
         Ok(())
     }
 
-    /// Whether the next line, that of a transaction, tells of the stop. One transaction meets it.
+    /// Whether the next line, that of a transaction, reports the stop. One transaction meets it.
     fn is_stopped(&mut self, track: &mut Track<'a>, behind: usize) -> bool {
         let Some(stop) = &self.stop else {
             return false;

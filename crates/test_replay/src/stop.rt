@@ -1,4 +1,4 @@
-//! The lines that tell of a log that stops.
+//! The lines that report a log that stops.
 use anyhow::Result;
 use std::alloc::Global;
 
@@ -6,7 +6,7 @@ use std::alloc::Global;
 pub(crate) struct Stop {
     /// Of the transaction that meets the stop.
     pub(crate) met: String,
-    /// Of each one behind it.
+    /// Of each one after it.
     pub(crate) behind: String,
 }
 

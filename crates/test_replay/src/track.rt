@@ -23,7 +23,7 @@ pub(crate) struct Track<'a> {
     commits: &'a [u32],
     /// The commands that say what the session sees.
     pub(crate) turns: Vec<Edn>,
-    /// Whether it was told that the log has stopped.
+    /// Whether it was notified that the log has stopped.
     pub(crate) is_told: bool,
 }
 
@@ -78,7 +78,7 @@ impl<'a> Track<'a> {
         true
     }
 
-    /// Goes on behind a form, and keeps it if it says what the session sees.
+    /// Goes on after a form, and keeps it if it says what the session sees.
     pub(crate) fn pass(&mut self, form: Edn, behind: usize) -> Result<()> {
         self.at = behind;
         match word_of(&form) {

@@ -1,6 +1,6 @@
-//! A play, as a text has it: who asks what, and behind an arrow the line that answers it, in the order in which the lines are taken. A
+//! A play, as a text has it: who asks what, and after an arrow the line that answers it, in the order in which the lines are taken. A
 //! session that speaks after the other one begins with `[:unfilter]`, which looks at nothing. So the lines are these, whatever the
-//! threads do. Two notes say when the worker stands at its point, and when it has gone on.
+//! threads do. Two notes say when the worker is at its point, and when it has gone on.
 use anyhow::{Result, bail};
 use std::alloc::Global;
 
@@ -17,7 +17,7 @@ pub(crate) struct Line<'a> {
 #[derive(Drop)]
 pub(crate) struct Play<'a> {
     lines: Vec<Line<'a>>,
-    /// The number of the line from which on the worker stands at its point, and of that from which on it has gone on.
+    /// The number of the line from which on the worker is at its point, and of that from which on it has gone on.
     pub(crate) stands: usize,
     pub(crate) goes_on: usize,
 }

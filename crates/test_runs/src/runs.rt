@@ -11,7 +11,7 @@ use std::alloc::Global;
 use std::sync::Wait;
 use std::thread::Threads;
 
-/// The clock of every run stands at the first of January 2024.
+/// The clock of every run reads the first of January 2024.
 pub(crate) const CLOCK: i64 = 1_704_067_200_000;
 
 /// What a run of scripts hands back.

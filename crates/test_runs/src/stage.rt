@@ -116,7 +116,7 @@ pub(crate) struct StageHost<'a> {
 }
 
 impl<'a> Host for StageHost<'a> {
-    ghost use Rattle.mem_ports.specs.MemHosts.{told_of};
+    ghost use Rattle.mem_ports.specs.MemHosts.{spec_of};
 
     type In = MemSource;
 
@@ -124,7 +124,7 @@ impl<'a> Host for StageHost<'a> {
 
     type Disk = MemDisk;
 
-    ghost told = { λ h. told_of h.host };
+    ghost spec = { λ h. spec_of h.host };
 
     fn faults(&self) -> u64 {
         self.host.faults()

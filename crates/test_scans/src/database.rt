@@ -72,7 +72,7 @@ fn schema(alloc: Global) -> Result<Edn> {
     }
 }
 
-/// `[{:x/n [0 1 2 ..]}]` for the first entity, with the numbers behind these for the second, and so on.
+/// `[{:x/n [0 1 2 ..]}]` for the first entity, with the numbers after these for the second, and so on.
 fn new_entity(alloc: Global, nth: u32) -> Result<Edn> {
     let first = i64::from(nth) * i64::from(NUMBERS_EACH);
     let mut numbers = Vec::with_capacity(alloc, NUMBERS_EACH as usize)?;

@@ -4,7 +4,7 @@ use edn_core::read_form;
 use edn_form::Edn;
 use std::alloc::Global;
 
-/// The next form of the script from the place on, if there is one, and the place behind it.
+/// The next form of the script from the place on, if there is one, and the place after it.
 pub(crate) fn next_form(alloc: Global, script: &[u8], at: usize) -> Result<Option<(Edn, usize)>> {
     match read_form(alloc, script, at) {
         Ok(read) => Ok(read),

@@ -1,6 +1,6 @@
 //! Runs whole scripts through a session over a core in memory, and compares every line. The scripts of a table have the lines that they
 //! should have beside them; those that are drawn from a seed are answered by a plain session too, which is slow and obvious. Each
-//! script runs once more with a request for a merge behind each command, which may change no other line.
+//! script runs once more with a request for a merge after each command, which may change no other line.
 #![tactic(auto)]
 
 mod compared;

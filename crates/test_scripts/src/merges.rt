@@ -1,4 +1,4 @@
-//! The same script with a request for a merge behind each command.
+//! The same script with a request for a merge after each command.
 use crate::forms::next_form;
 use anyhow::{Result, bail};
 use std::alloc::Global;

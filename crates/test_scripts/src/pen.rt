@@ -1,4 +1,4 @@
-//! What stands in drawn commands: points, names, values and components, most of which can be read.
+//! What drawn commands have: points, names, values and components, most of which can be read.
 ghost use Rattle.std.specs.Prelude.{◌<◌, length};
 
 use crate::fields::{Field, OTHERS, OWN};

@@ -72,7 +72,7 @@ impl Pen<'_> {
         self.write("]")
     }
 
-    /// Patterns inside one another, with items before and behind the one inside.
+    /// Patterns inside one another, with items before and after the one inside.
     fn pattern(&mut self) -> Result<()> {
         let around = self.dice.roll(3);
         for _ in 0..around {

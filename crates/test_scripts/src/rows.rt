@@ -1,4 +1,4 @@
-//! Scripts with the lines that should answer them, as a table has them: a line `# name`, the script, and behind each command its
+//! Scripts with the lines that should answer them, as a table has them: a line `# name`, the script, and after each command its
 //! reply, a line that begins with an arrow. A line `clock` gives the clock's first reading and its step. A number in angle quotes
 //! stands for so many numbers, from 0 on.
 use anyhow::{Result, bail};
@@ -11,7 +11,7 @@ pub(crate) struct Readings {
     pub(crate) step: i64,
 }
 
-/// A clock that stands still at the first of January 2024.
+/// A clock that always reads the first of January 2024.
 pub(crate) const CLOCK: Readings = Readings {
     first: 1_704_067_200_000,
     step: 0,

@@ -16,10 +16,10 @@ const LUCKY: u64 = 100;
 const FRIEND: u64 = 101;
 
 /// An entity, a lucky number of it, and whether that is added.
-type Said = (u64, i64, bool);
+type FormCodes = (u64, i64, bool);
 
 /// The entries from t 1 on. Bob is also Ann's friend from t 1 on, and no longer from t 2 on.
-const ENTRIES: [&[Said]; 3] = [
+const ENTRIES: [&[FormCodes]; 3] = [
     &[(ANN, 7, true), (ANN, 5, true), (BOB, 5, true)],
     &[(ANN, 5, false), (ANN, 7, true)],
     &[(ANN, 5, true), (ANN, 7, false), (BOB, 6, false)],
@@ -49,7 +49,7 @@ const ROWS: [Row; 3] = [
     (3, &[5], Some(ANN), &[(ANN, 3), (BOB, 1)], &[LUCKY], &[]),
 ];
 
-fn entry(alloc: Global, t: u32, said: &[Said]) -> Result<Entry, Memory> {
+fn entry(alloc: Global, t: u32, said: &[FormCodes]) -> Result<Entry, Memory> {
     let mut datoms = vec![in alloc; datom(ANN, FRIEND, Value::Ref(BOB), t, t == 1)]?;
     for (e, n, added) in said {
         datoms.push(datom(*e, LUCKY, Value::Long(*n), t, *added))?;
@@ -78,7 +78,7 @@ fn after(alloc: Global, count: usize) -> Result<Held, Memory> {
     two.add(entry(alloc, 3, ENTRIES[2])?)
 }
 
-/// What is told of the facts, by the columns of a row.
+/// What is answered of the facts, by the columns of a row.
 #[derive(Drop)]
 struct Columns {
     values: Vec<i64>,

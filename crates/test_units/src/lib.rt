@@ -4,7 +4,7 @@
 #![tactic(auto)]
 
 #[cfg(test)]
-mod edn_alike_tests;
+mod edn_duplicates_tests;
 #[cfg(test)]
 mod edn_form_tests;
 #[cfg(test)]

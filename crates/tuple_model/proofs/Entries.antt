@@ -23,12 +23,16 @@ about_none e a (d ∷ ds) none =
     let parts = or_parts (nat_eq d.e e) (list_any (λ x. nat_eq x.e e) ds) none in
     or_from (is_about e a d) (list_any (is_about e a) ds) (and_left (nat_eq d.e e) (nat_eq d.a a) parts.0) (about_none e a ds parts.1)
 
-values_of-untouched : (ds more : List Datom) (e a : ℕ) → list_any (λ d. nat_eq d.e e) more ≡ false → values_of (standing (ds ++ more)) e a ≡ values_of (standing ds) e a
-values_of-untouched ds more e a none = ap (map (λ (d : Datom). d.v)) (standing-untouched (is_about e a) (is_about-IsOnTriples e a) ds more (about_none e a more none))
+values_of-untouched : (ds more : List Datom) (e a : ℕ) → list_any (λ d. nat_eq d.e e) more ≡ false
+    → values_of (standing (ds ++ more)) e a ≡ values_of (standing ds) e a
+values_of-untouched ds more e a none =
+    ap (map (λ (d : Datom). d.v)) (standing-untouched (is_about e a) (is_about-IsOnTriples e a) ds more (about_none e a more none))
 
-pub tuple_of-untouched : (h : List Entry) (entry : Entry) (attrs : List ℕ) (e : ℕ) → list_any (λ d. nat_eq d.e e) entry.datoms ≡ false → tuple_of (facts (h ++ entry ∷ [])) attrs e ≡ tuple_of (facts h) attrs e
+pub tuple_of-untouched : (h : List Entry) (entry : Entry) (attrs : List ℕ) (e : ℕ) → list_any (λ d. nat_eq d.e e) entry.datoms ≡ false
+    → tuple_of (facts (h ++ entry ∷ [])) attrs e ≡ tuple_of (facts h) attrs e
 tuple_of-untouched h entry [] e none = refl
 tuple_of-untouched h entry (a ∷ attrs) e none =
-    let first = ap least_value (ap (λ ds. values_of (standing ds) e a) (said-push h entry) ∙ values_of-untouched (said h) entry.datoms e a none) in
+    let first =
+    ap least_value (ap (λ ds. values_of (standing ds) e a) (said-push h entry) ∙ values_of-untouched (said h) entry.datoms e a none) in
     let rest = tuple_of-untouched h entry attrs e none in
     λ i. first i ∷ rest i

@@ -1,5 +1,6 @@
 -- Rows are totally ordered, and a rising list of them is told by its members.
-use Rattle.std.proofs.Common.{inl, inr, ◌⊎◌, ◌≡◌, zero, suc, Bool, true, false, cond, ◌&&◌, List, [], ◌∷◌, refl, sym, ◌∙◌, ap, subst, arith, T, Option, Some, None}
+use Rattle.std.proofs.Common.{inl, inr, ◌⊎◌, ◌≡◌, zero, suc, Bool, true, false, cond, ◌&&◌, List, [], ◌∷◌, refl, sym, ◌∙◌, ap, subst, arith}
+use Rattle.std.proofs.Common.{T, Option, Some, None}
 use Rattle.std.specs.Prelude.{Contains}
 use Rattle.std.specs.Ordering.{is_lt, is_eq, nat_cmp, ordering_then, ordering_reverse}
 use Rattle.std.specs.Cmp.{IsTotalOrder, on_total, then_total, nat_cmp_total, tied_itself}
@@ -34,7 +35,8 @@ member_cmp_total : IsTotalOrder member_cmp
 member_cmp_total = subst IsTotalOrder (λ i x y. sym (member_cmp-as_list x y) i) (on_total as_list (lists_total value_cmp_total))
 
 row_cmp_total : IsTotalOrder row_cmp
-row_cmp_total = then_total (on_total (λ (row : Row). row.tuple) (lists_total member_cmp_total)) (on_total (λ (row : Row). row.e) nat_cmp_total)
+row_cmp_total =
+    then_total (on_total (λ (row : Row). row.tuple) (lists_total member_cmp_total)) (on_total (λ (row : Row). row.e) nat_cmp_total)
 
 different : {A : Type 0} (r : Ordering) → T (is_eq r) ≡ ⊥ → r ≡ Equal → A
 different r e is = absurd (subst (λ a. a) e (subst (λ q. T (is_eq q)) (sym is) tt))
@@ -108,7 +110,8 @@ put-rises d (y ∷ rows) rising =
     let parts = and_parts (is_below y rows) (rows_rise rows) (sym (rows_rise-cons y rows) ∙ rising) in
     go (is_lt (row_cmp d y)) refl (is_lt (row_cmp y d)) refl parts.0 (put-rises d rows parts.1)
   where
-    go : (b : Bool) → is_lt (row_cmp d y) ≡ b → (c : Bool) → is_lt (row_cmp y d) ≡ c → is_below y rows ≡ true → rows_rise (put_row d rows) ≡ true
+    go : (b : Bool) → is_lt (row_cmp d y) ≡ b → (c : Bool) → is_lt (row_cmp y d) ≡ c → is_below y rows ≡ true
+        → rows_rise (put_row d rows) ≡ true
         → rows_rise (cond b (d ∷ y ∷ rows) (cond c (y ∷ put_row d rows) (y ∷ rows))) ≡ true
     go true is c also below rest = and_from _ _ is rising
     go false is true also below rest = rows_rise-cons y (put_row d rows) ∙ and_from _ _ (put-below y d rows also below) rest
@@ -122,7 +125,8 @@ put_member : (x : Row) (rows : List Row) (d : Row) → Contains (put_row x rows)
 put_member x [] d member = cases_of x d [] member
 put_member x (y ∷ rows) d member = go (is_lt (row_cmp x y)) (is_lt (row_cmp y x)) (put_member x rows d) member
   where
-    go : (b c : Bool) → (Contains (put_row x rows) d → (x ≡ d) ⊎ Contains rows d) → Contains (cond b (x ∷ y ∷ rows) (cond c (y ∷ put_row x rows) (y ∷ rows))) d → (x ≡ d) ⊎ Contains (y ∷ rows) d
+    go : (b c : Bool) → (Contains (put_row x rows) d → (x ≡ d) ⊎ Contains rows d)
+        → Contains (cond b (x ∷ y ∷ rows) (cond c (y ∷ put_row x rows) (y ∷ rows))) d → (x ≡ d) ⊎ Contains (y ∷ rows) d
     go true c next rest = cases_of x d (y ∷ rows) rest
     go false true next rest =
         elim (cases_of y d (put_row x rows) rest) [
@@ -143,7 +147,8 @@ put_has_new : (x : Row) (rows : List Row) → Contains (put_row x rows) x
 put_has_new x [] = here x []
 put_has_new x (y ∷ rows) = go (is_lt (row_cmp x y)) refl (is_lt (row_cmp y x)) refl (put_has_new x rows)
   where
-    go : (b : Bool) → is_lt (row_cmp x y) ≡ b → (c : Bool) → is_lt (row_cmp y x) ≡ c → Contains (put_row x rows) x → Contains (cond b (x ∷ y ∷ rows) (cond c (y ∷ put_row x rows) (y ∷ rows))) x
+    go : (b : Bool) → is_lt (row_cmp x y) ≡ b → (c : Bool) → is_lt (row_cmp y x) ≡ c → Contains (put_row x rows) x
+        → Contains (cond b (x ∷ y ∷ rows) (cond c (y ∷ put_row x rows) (y ∷ rows))) x
     go true is c also rest = here x (y ∷ rows)
     go false is true also rest = there y x (put_row x rows) rest
     go false is false also rest = subst (λ z. Contains (y ∷ rows) z) (sym (equal_rows x y is also)) (here y rows)
@@ -152,7 +157,8 @@ put_has_old : (x : Row) (rows : List Row) (d : Row) → Contains rows d → Cont
 put_has_old x [] d member = absurd (none_of d member)
 put_has_old x (y ∷ rows) d member = go (is_lt (row_cmp x y)) (is_lt (row_cmp y x)) (put_has_old x rows d) (cases_of y d rows member)
   where
-    go : (b c : Bool) → (Contains rows d → Contains (put_row x rows) d) → (y ≡ d) ⊎ Contains rows d → Contains (cond b (x ∷ y ∷ rows) (cond c (y ∷ put_row x rows) (y ∷ rows))) d
+    go : (b c : Bool) → (Contains rows d → Contains (put_row x rows) d) → (y ≡ d) ⊎ Contains rows d
+        → Contains (cond b (x ∷ y ∷ rows) (cond c (y ∷ put_row x rows) (y ∷ rows))) d
     go true c next which = there x d (y ∷ rows) member
     go false true next (inl same) = subst (λ z. Contains (y ∷ put_row x rows) z) same (here y (put_row x rows))
     go false true next (inr later) = there y d (put_row x rows) (next later)
@@ -195,7 +201,8 @@ first_is_least x (y ∷ rows) d rising member =
       | inr later ↦ lt_chain x y d parts.0 (first_is_least y rows d parts.1 later)
     ]
 
-pub one_rising_list : (xs ys : List Row) → rows_rise xs ≡ true → rows_rise ys ≡ true → ((d : Row) → Contains xs d → Contains ys d) → ((d : Row) → Contains ys d → Contains xs d) → xs ≡ ys
+pub one_rising_list : (xs ys : List Row) → rows_rise xs ≡ true → rows_rise ys ≡ true
+    → ((d : Row) → Contains xs d → Contains ys d) → ((d : Row) → Contains ys d → Contains xs d) → xs ≡ ys
 one_rising_list [] [] p q there_too back = refl
 one_rising_list [] (y ∷ ys) p q there_too back = absurd (none_of y (back y (here y ys)))
 one_rising_list (x ∷ xs) [] p q there_too back = absurd (none_of x (there_too x (here x xs)))

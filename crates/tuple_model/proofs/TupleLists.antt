@@ -45,7 +45,8 @@ module _ (facts : List Datom) (attrs : List ℕ) where
       let same : d.e ≡ row.e = eqb-true d.e row.e parts.0 in
       let tuples_same = ap (tuple_of facts attrs) same ∙ sym is.tuple_is in
       let row_is : row_of facts attrs d ≡ row = λ i. record { tuple = tuples_same i; e = same i } in
-      subst (λ z. Contains rows z) row_is (map_has (row_of facts attrs) (filter (λ x. is_among attrs x.a) facts) d (keep (λ x. is_among attrs x.a) facts d found.1 parts.1))
+      subst (λ z. Contains rows z) row_is
+      (map_has (row_of facts attrs) (filter (λ x. is_among attrs x.a) facts) d (keep (λ x. is_among attrs x.a) facts d found.1 parts.1))
 
   pub tuples-AreTuples : AreTuples facts attrs (tuples facts attrs)
   tuples-AreTuples = record {

@@ -1,7 +1,9 @@
--- Composites: lists of attributes whose values together are told as tuples.
+-- Composites: lists of attributes whose values together are given as tuples.
 -- Datomic, Schema (Composite tuples). That a composite is named by whoever asks, and is no
 -- attribute, is this project's own choice.
-use Rattle.std.specs.Prelude.{ℕ, Bool, true, false, not, ◌&&◌, List, [], ◌∷◌, ◌++◌, length, nat_eq, nat_le, if◌then◌else◌, Option, Some, None, option_and_then, option_map}
+use Rattle.std.specs.Prelude.{ℕ, Bool, true, false, not, ◌&&◌, List, [], ◌∷◌, ◌++◌, length, nat_eq}
+use Rattle.std.specs.Prelude.{nat_le, if◌then◌else◌, Option, Some, None, option_and_then}
+use Rattle.std.specs.Prelude.{option_map}
 use Rattle.std.specs.List.{list_any}
 use Rattle.std.specs.Option.{option_map_or}
 use Rattle.fb_values.specs.declared.facts.Datom.{Datom}
@@ -10,7 +12,7 @@ use Rattle.fb_model.specs.Schema.{is_one, attribute_named}
 abbrev pub is_among : List ℕ → ℕ → Bool
 is_among attrs a = list_any (nat_eq a) attrs
 
--- the place of the first attribute that is not installed, has several values, or stands before
+-- the place of the first attribute that is not installed, has several values, or was named
 -- already
 abbrev pub first_unfit : List Datom → List ℕ → List ℕ → Option ℕ
 first_unfit facts before [] = None

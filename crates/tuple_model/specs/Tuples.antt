@@ -1,7 +1,8 @@
 -- Tuples: what a composite is of each entity, and the list of them in order.
 -- Datomic, Schema (Composite tuples) and Indexes. They are derived from facts and never recorded,
 -- which is this project's own choice.
-use Rattle.std.specs.Prelude.{◌≡◌, ◌↔◌, ℕ, Bool, true, false, not, ◌&&◌, List, [], ◌∷◌, map, filter, nat_eq, if◌then◌else◌, Option, Some, None, IsTrue, Contains}
+use Rattle.std.specs.Prelude.{◌≡◌, ◌↔◌, ℕ, Bool, true, false, not, ◌&&◌, List, [], ◌∷◌, map, filter}
+use Rattle.std.specs.Prelude.{nat_eq, if◌then◌else◌, Option, Some, None, IsTrue, Contains}
 use Rattle.std.specs.List.{list_any}
 use Rattle.std.specs.Option.{option_map_or}
 use Rattle.std.specs.Ordering.{is_lt, nat_cmp, ordering_then}

@@ -27,7 +27,7 @@ pub fn composites()
     ensures no_name { attributes_named (facts numbered) (codes "n/b" ∷ codes "n/c" ∷ []) ≡ None }
 {}
 
-/// The tuples of three entities: nil stands below every value.
+/// The tuples of three entities: nil is below every value.
 pub fn tuples_of_a_view()
     ensures all { tuples_now
         ≡ row (long 0 ∷ long 9 ∷ []) (user_entity 5)

@@ -16,7 +16,7 @@ pub fn tuples_are_one_list()
         → first ≡ second }
 {}
 
-/// An entity stands in the list once.
+/// An entity is in the list once.
 pub fn an_entity_has_one_row()
     ensures { (facts : List Datom) (attrs : List ℕ) (rows : List Row) (x y : Row)
         → AreTuples facts attrs rows

@@ -1,5 +1,6 @@
 -- What describes an entity after the changes: the values before that stay, and then the additions.
-use Rattle.std.proofs.Common.{◌≡◌, ℕ, suc, ◌≤◌, Bool, true, false, cond, not, ◌&&◌, ◌||◌, List, [], ◌∷◌, ◌++◌, length, map, refl, ap, sym, ◌∙◌, subst, arith, eqb, leb, Option}
+use Rattle.std.proofs.Common.{◌≡◌, ℕ, suc, ◌≤◌, Bool, true, false, cond, not, ◌&&◌, ◌||◌, List, [], ◌∷◌, ◌++◌, length, map, refl, ap, sym}
+use Rattle.std.proofs.Common.{◌∙◌, subst, arith, eqb, leb, Option}
 use Rattle.std.specs.Prelude.{filter, is_some}
 use Rattle.std.specs.List.{list_any, find}
 use Rattle.std.specs.Option.{option_map_or, option_or}
@@ -19,10 +20,10 @@ use Rattle.fb_model.proofs.Members.{are_of_other_triples, filter_twice}
 use Rattle.fb_model.proofs.Triples.{standing-append}
 use Rattle.fb_model.proofs.Invariants.{lawful-one_value, both_pass, or_true}
 use Rattle.fb_model.proofs.SchemaHistories.{builtin_stays}
-use Rattle.fb_facts.specs.Told as told
+use Rattle.fb_facts.specs.FactLists as fact_lists
 use Rattle.tx_after.specs.After.{after}
 use Rattle.tx_after.specs.Said.{said_of, says_attribute as said_says_attribute}
-use Rattle.tx_after.specs.Triples.{is_untold, is_added}
+use Rattle.tx_after.specs.Triples.{is_unmentioned, is_added}
 
 -- ---- the changes that stand
 
@@ -51,22 +52,31 @@ swap_filters p q ds = filter_twice p q ds ∙ agree ds ∙ sym (filter_twice q p
 
     agree : (ds : List Datom) → filter (λ d. p d && q d) ds ≡ filter (λ d. q d && p d) ds
     agree [] = refl
-    agree (d ∷ ds) = ap (λ b. cond b (d ∷ filter (λ d. p d && q d) ds) (filter (λ d. p d && q d) ds)) (and_swap (p d) (q d)) ∙ ap (λ l. cond (q d && p d) (d ∷ l) l) (agree ds)
+    agree (d ∷ ds) =
+        ap (λ b. cond b (d ∷ filter (λ d. p d && q d) ds) (filter (λ d. p d && q d) ds)) (and_swap (p d) (q d))
+        ∙ ap (λ l. cond (q d && p d) (d ∷ l) l) (agree ds)
 
-about_of : (e a : ℕ) (ds : List Datom) → filter (is_about e a) (filter (told.is_of_entity e) ds) ≡ filter (is_about e a) ds
+about_of : (e a : ℕ) (ds : List Datom) → filter (is_about e a) (filter (fact_lists.is_of_entity e) ds) ≡ filter (is_about e a) ds
 about_of e a [] = refl
 about_of e a (d ∷ ds) = go (eqb d.e e) refl (about_of e a ds)
   where
-    go : (b : Bool) → eqb d.e e ≡ b → filter (is_about e a) (filter (told.is_of_entity e) ds) ≡ filter (is_about e a) ds
-        → filter (is_about e a) (cond b (d ∷ filter (told.is_of_entity e) ds) (filter (told.is_of_entity e) ds)) ≡ cond (b && eqb d.a a) (d ∷ filter (is_about e a) ds) (filter (is_about e a) ds)
+    go : (b : Bool) → eqb d.e e ≡ b → filter (is_about e a) (filter (fact_lists.is_of_entity e) ds) ≡ filter (is_about e a) ds
+        → filter (is_about e a) (cond b (d ∷ filter (fact_lists.is_of_entity e) ds) (filter (fact_lists.is_of_entity e) ds))
+        ≡ cond (b && eqb d.a a) (d ∷ filter (is_about e a) ds) (filter (is_about e a) ds)
     go false is rest = rest
-    go true is rest = ap (λ b. cond (b && eqb d.a a) (d ∷ filter (is_about e a) (filter (told.is_of_entity e) ds)) (filter (is_about e a) (filter (told.is_of_entity e) ds))) is ∙ ap (λ l. cond (eqb d.a a) (d ∷ l) l) rest
+    go true is rest =
+        ap (λ b. cond (b && eqb d.a a) (d ∷ filter (is_about e a) (filter (fact_lists.is_of_entity e) ds))
+        (filter (is_about e a) (filter (fact_lists.is_of_entity e) ds))) is
+        ∙ ap (λ l. cond (eqb d.a a) (d ∷ l) l) rest
 
 -- ---- one fact at most
 
 pub filter-length : (p : Datom → Bool) (ds : List Datom) → length (filter p ds) ≤ length ds
 filter-length p [] = omega arith
-filter-length p (d ∷ ds) = elim (p d) as (λ b. length (cond b (d ∷ filter p ds) (filter p ds)) ≤ suc (length ds)) [ true ↦ omega (arith, filter-length p ds) | false ↦ omega (arith, filter-length p ds) ]
+filter-length p (d ∷ ds) = elim (p d) as (λ b. length (cond b (d ∷ filter p ds) (filter p ds)) ≤ suc (length ds)) [
+  | true ↦ omega (arith, filter-length p ds)
+  | false ↦ omega (arith, filter-length p ds)
+]
 
 pub length-values : (ds : List Datom) → length (map (λ (d : Datom). d.v) ds) ≡ length ds
 length-values [] = refl
@@ -74,7 +84,9 @@ length-values (d ∷ ds) = ap suc (length-values ds)
 
 none_about : (e a : ℕ) (ds : List Datom) → list_any (is_about e a) ds ≡ false → filter (is_about e a) ds ≡ []
 none_about e a [] none = refl
-none_about e a (d ∷ ds) none = let parts = or_parts _ _ none in ap (λ b. cond b (d ∷ filter (is_about e a) ds) (filter (is_about e a) ds)) parts.0 ∙ none_about e a ds parts.1
+none_about e a (d ∷ ds) none =
+    let parts = or_parts _ _ none in
+    ap (λ b. cond b (d ∷ filter (is_about e a) ds) (filter (is_about e a) ds)) parts.0 ∙ none_about e a ds parts.1
 
 -- facts that keep one value have one of each entity
 pub one_about : (ds : List Datom) (e a : ℕ) → keeps_one_value ds ≡ true → is_one ds a ≡ true → length (filter (is_about e a) ds) ≤ 1
@@ -87,8 +99,11 @@ one_about ds e a keeps one = go (list_any (is_about e a) ds) refl
         let about = and_parts _ _ found.passes_q in
         let e_is = eqb-true found.element.e e about.0 in
         let a_is = eqb-true found.element.a a about.1 in
-        let short : leb (length (values_of ds found.element.e found.element.a)) 1 ≡ true = or_true _ _ (ap (is_one ds) a_is ∙ one) found.passes_p in
-        let here : length (values_of ds e a) ≤ 1 = leb-true _ _ (subst (λ x. leb (length (values_of ds e x)) 1 ≡ true) a_is (subst (λ x. leb (length (values_of ds x found.element.a)) 1 ≡ true) e_is short)) in
+        let short : leb (length (values_of ds found.element.e found.element.a)) 1 ≡ true =
+        or_true _ _ (ap (is_one ds) a_is ∙ one) found.passes_p in
+        let here : length (values_of ds e a) ≤ 1 =
+        leb-true _ _ (subst (λ x. leb (length (values_of ds e x)) 1 ≡ true) a_is
+        (subst (λ x. leb (length (values_of ds x found.element.a)) 1 ≡ true) e_is short)) in
         subst (λ n. n ≤ 1) (length-values (filter (is_about e a) ds)) here
 
 short_in_order : (ds : List Datom) → length ds ≤ 1 → in_order Eavt ds ≡ ds
@@ -107,7 +122,7 @@ abbrev values_about : ℕ → ℕ → List Datom → List Value
 values_about e a ds = map (λ (d : Datom). d.v) (filter (is_about e a) ds)
 
 abbrev additions : List Datom → ℕ → List Datom
-additions changes e = filter is_added (filter (told.is_of_entity e) changes)
+additions changes e = filter is_added (filter (fact_lists.is_of_entity e) changes)
 
 module _ (e a : ℕ) where
   value-append : (xs ys : List Datom) → value_of (xs ++ ys) e a ≡ option_or (value_of xs e a) (value_of ys e a)
@@ -121,29 +136,29 @@ module _ (e a : ℕ) where
 
   -- the first value of those that stay is the first of which no change tells
   value-untold : (changes ds : List Datom)
-      → value_of (filter (is_untold changes) ds) e a ≡ find (stays changes e a) (values_about e a ds)
+      → value_of (filter (is_unmentioned changes) ds) e a ≡ find (stays changes e a) (values_about e a ds)
   value-untold changes [] = refl
-  value-untold changes (d ∷ ds) = go (is_about e a d) refl (is_untold changes d) refl (value-untold changes ds)
+  value-untold changes (d ∷ ds) = go (is_about e a d) refl (is_unmentioned changes d) refl (value-untold changes ds)
     where
-      same : is_about e a d ≡ true → is_untold changes d ≡ stays changes e a d.v
+      same : is_about e a d ≡ true → is_unmentioned changes d ≡ stays changes e a d.v
       same is =
           let about = and_parts (eqb d.e e) (eqb d.a a) is in
           ap (λ n. stays changes n d.a d.v) (eqb-true d.e e about.0)
           ∙ ap (λ n. stays changes e n d.v) (eqb-true d.a a about.1)
 
-      go : (b : Bool) → is_about e a d ≡ b → (c : Bool) → is_untold changes d ≡ c
-          → value_of (filter (is_untold changes) ds) e a ≡ find (stays changes e a) (values_about e a ds)
-          → value_of (filter (is_untold changes) (d ∷ ds)) e a ≡ find (stays changes e a) (values_about e a (d ∷ ds))
-      go true is true untold rest = rw (untold, is, sym (same is) ∙ untold) refl
-      go true is false untold rest = rw (untold, is, sym (same is) ∙ untold) rest
-      go false is true untold rest = rw (untold, is) rest
-      go false is false untold rest = rw (untold, is) rest
+      go : (b : Bool) → is_about e a d ≡ b → (c : Bool) → is_unmentioned changes d ≡ c
+          → value_of (filter (is_unmentioned changes) ds) e a ≡ find (stays changes e a) (values_about e a ds)
+          → value_of (filter (is_unmentioned changes) (d ∷ ds)) e a ≡ find (stays changes e a) (values_about e a (d ∷ ds))
+      go true is true unmentioned rest = rw (unmentioned, is, sym (same is) ∙ unmentioned) refl
+      go true is false unmentioned rest = rw (unmentioned, is, sym (same is) ∙ unmentioned) rest
+      go false is true unmentioned rest = rw (unmentioned, is) rest
+      go false is false unmentioned rest = rw (unmentioned, is) rest
 
 module _ (h : List Entry) (changes : List Datom) (e : ℕ) (lawful : IsLawful h)
     (apart : are_of_other_triples changes ≡ true) where
   comes : (a : ℕ) → filter (is_about e a) (additions changes e) ≡ filter (is_about e a) (standing changes)
   comes a =
-      swap_filters (is_about e a) is_added (filter (told.is_of_entity e) changes)
+      swap_filters (is_about e a) is_added (filter (fact_lists.is_of_entity e) changes)
       ∙ ap (filter is_added) (about_of e a changes)
       ∙ swap_filters is_added (is_about e a) changes
       ∙ ap (filter (is_about e a)) (sym (standing-changes changes apart))
@@ -156,7 +171,7 @@ module _ (h : List Entry) (changes : List Datom) (e : ℕ) (lawful : IsLawful h)
 
   -- the first of the values before that stays, or else the first that is added
   pub value_after : (a : ℕ) → is_one (facts h) a ≡ true → (old new : Option Value)
-      → old ≡ find (stays changes e a) (told.values_of h e a) → new ≡ value_of (additions changes e) e a
+      → old ≡ find (stays changes e a) (fact_lists.values_of h e a) → new ≡ value_of (additions changes e) e a
       → option_or old new ≡ value_of (after h changes) e a
   value_after a one old new old_is new_is =
       ap (λ o. option_or o new)
@@ -164,8 +179,8 @@ module _ (h : List Entry) (changes : List Datom) (e : ℕ) (lawful : IsLawful h)
       ∙ ap (λ ds. find (stays changes e a) (map (λ (d : Datom). d.v) ds))
       (short_in_order (filter (is_about e a) (facts h)) (one_before a one))
       ∙ sym (value-untold e a changes (facts h)))
-      ∙ ap (option_or (value_of (filter (is_untold changes) (facts h)) e a)) (new_is ∙ value-added a)
-      ∙ sym (value-append e a (filter (is_untold changes) (facts h)) (standing changes))
+      ∙ ap (option_or (value_of (filter (is_unmentioned changes) (facts h)) e a)) (new_is ∙ value-added a)
+      ∙ sym (value-append e a (filter (is_unmentioned changes) (facts h)) (standing changes))
       ∙ ap (λ ds. value_of ds e a) (sym (standing-append (said h) changes))
 
 -- the attributes that describe have one value of each entity
@@ -267,15 +282,22 @@ says-said e ds =
 
 -- ---- what is said of an entity is said by its own facts
 
-pub values-own : (ds : List Datom) (e a : ℕ) → values_of (filter (told.is_of_entity e) ds) e a ≡ values_of ds e a
+pub values-own : (ds : List Datom) (e a : ℕ) → values_of (filter (fact_lists.is_of_entity e) ds) e a ≡ values_of ds e a
 values-own ds e a = ap (map (λ (d : Datom). d.v)) (about_of e a ds)
 
-value-own : (ds : List Datom) (e a : ℕ) → value_of (filter (told.is_of_entity e) ds) e a ≡ value_of ds e a
+value-own : (ds : List Datom) (e a : ℕ) → value_of (filter (fact_lists.is_of_entity e) ds) e a ≡ value_of ds e a
 value-own ds e a = rw (about_of e a ds) refl
 
-pub attribute-own : (ds : List Datom) (e : ℕ) → attribute_of (filter (told.is_of_entity e) ds) e ≡ attribute_of ds e
+pub attribute-own : (ds : List Datom) (e : ℕ) → attribute_of (filter (fact_lists.is_of_entity e) ds) e ≡ attribute_of ds e
 attribute-own ds e =
-    rw (value-own ds e ident, value-own ds e value_type, value-own ds e cardinality, value-own ds e unique, value-own ds e is_component, value-own ds e index) refl
+    rw (
+      value-own ds e ident,
+      value-own ds e value_type,
+      value-own ds e cardinality,
+      value-own ds e unique,
+      value-own ds e is_component,
+      value-own ds e index,
+    ) refl
 
-pub whole-own : (ds : List Datom) (e : ℕ) → is_whole (filter (told.is_of_entity e) ds) e ≡ is_whole ds e
+pub whole-own : (ds : List Datom) (e : ℕ) → is_whole (filter (fact_lists.is_of_entity e) ds) e ≡ is_whole ds e
 whole-own ds e = rw (attribute-own ds e, value-own ds e cardinality) refl

@@ -18,12 +18,14 @@ use Rattle.fb_model.specs.Facts.{is_of}
 use Rattle.fb_model.proofs.Members.{here, there, member_passes, all_members, kept}
 use Rattle.fb_model.proofs.InOrder.{first_is_least}
 use Rattle.fb_model.proofs.Triples.{is_of-true, value_eq-refl}
-use Rattle.fb_facts.specs.Told.{is_under}
+use Rattle.fb_facts.specs.FactLists.{is_under}
 use Rattle.tx_after.specs.Triples.{without_t, triple_cmp, triples_rise}
 
 -- ---- t decides last
 
-last : (p q r s : Ordering) → ordering_then p (ordering_then q (ordering_then r (ordering_then s Equal))) ≡ ordering_then (ordering_then p (ordering_then q (ordering_then r Equal))) s
+last : (p q r s : Ordering)
+    → ordering_then p (ordering_then q (ordering_then r (ordering_then s Equal)))
+    ≡ ordering_then (ordering_then p (ordering_then q (ordering_then r Equal))) s
 last Less q r s = refl
 last Greater q r s = refl
 last Equal Less r s = refl
@@ -89,17 +91,22 @@ other_triple order x y less = go (is_of x.e x.a x.v y) refl
   where
     go : (b : Bool) → is_of x.e x.a x.v y ≡ b → b ≡ false
     go false is = refl
-    go true is = let of = is_of-true x.e x.a x.v y is in absurd (true≢false (sym less ∙ ap is_lt (at_one_place order x y (sym of.e_is) (sym of.a_is) (sym of.v_is))))
+    go true is =
+        let of = is_of-true x.e x.a x.v y is in
+        absurd (true≢false (sym less ∙ ap is_lt (at_one_place order x y (sym of.e_is) (sym of.a_is) (sym of.v_is))))
 
 pub other_triple_back : (order : Order) (x y : Datom) → is_lt (triple_cmp order y x) ≡ true → is_of x.e x.a x.v y ≡ false
 other_triple_back order x y less = go (is_of x.e x.a x.v y) refl
   where
     go : (b : Bool) → is_of x.e x.a x.v y ≡ b → b ≡ false
     go false is = refl
-    go true is = let of = is_of-true x.e x.a x.v y is in absurd (true≢false (sym less ∙ ap is_lt (at_one_place order y x of.e_is of.a_is of.v_is)))
+    go true is =
+        let of = is_of-true x.e x.a x.v y is in absurd (true≢false (sym less ∙ ap is_lt (at_one_place order y x of.e_is of.a_is of.v_is)))
 
-pub lt_chain : (order : Order) (x y z : Datom) → is_lt (triple_cmp order x y) ≡ true → is_lt (triple_cmp order y z) ≡ true → is_lt (triple_cmp order x z) ≡ true
-lt_chain order x y z p q = ap is_lt ((triple_cmp_total order).trans x y z (is_less (triple_cmp order x y) p) (is_less (triple_cmp order y z) q))
+pub lt_chain : (order : Order) (x y z : Datom) → is_lt (triple_cmp order x y) ≡ true → is_lt (triple_cmp order y z) ≡ true
+    → is_lt (triple_cmp order x z) ≡ true
+lt_chain order x y z p q =
+    ap is_lt ((triple_cmp_total order).trans x y z (is_less (triple_cmp order x y) p) (is_less (triple_cmp order y z) q))
 
 -- ---- lists
 
@@ -126,12 +133,15 @@ triples-from_keys order (x ∷ ds) rising apart =
     below : (y : Datom) → Contains ds y → (r : Ordering) → triple_cmp order x y ≡ r → is_lt r ≡ true
     below y member Less is = refl
     below y member Equal is =
-        absurd (not_itself order x (subst (λ z. is_lt (key_cmp order x z) ≡ true) (sym (apart.same x y (here x ds) (there x y ds member) (same_triple order x y is))) (first_is_least order x ds y rising member)))
+        absurd (not_itself order x (subst (λ z. is_lt (key_cmp order x z) ≡ true)
+        (sym (apart.same x y (here x ds) (there x y ds member) (same_triple order x y is))) (first_is_least order x ds y rising member)))
     below y member Greater is =
-        absurd (true≢false (sym (first_is_least order x ds y rising member) ∙ ap is_lt (key_cmp-parts order x y ∙ ap (λ r. ordering_then r (nat_cmp x.t y.t)) is)))
+        absurd (true≢false (sym (first_is_least order x ds y rising member)
+        ∙ ap is_lt (key_cmp-parts order x y ∙ ap (λ r. ordering_then r (nat_cmp x.t y.t)) is)))
 
 -- so they do where all datoms are of one t
-pub apart_at_t : (order : Order) (t : ℕ) (ds : List Datom) → rises order ds ≡ true → list_all (λ d. eqb d.t t) ds ≡ true → triples_rise order ds ≡ true
+pub apart_at_t : (order : Order) (t : ℕ) (ds : List Datom) → rises order ds ≡ true → list_all (λ d. eqb d.t t) ds ≡ true
+    → triples_rise order ds ≡ true
 apart_at_t order t [] rising own = refl
 apart_at_t order t (x ∷ ds) rising own =
     let parts = and_parts (eqb x.t t) (list_all (λ d. eqb d.t t) ds) own in
@@ -142,39 +152,48 @@ apart_at_t order t (x ∷ ds) rising own =
     below : (y : Datom) → is_lt (key_cmp order x y) ≡ true → x.t ≡ y.t → (r : Ordering) → triple_cmp order x y ≡ r → is_lt r ≡ true
     below y less same Less is = refl
     below y less same Equal is =
-        absurd (true≢false (sym less ∙ ap is_lt (key_cmp-parts order x y ∙ ap (λ r. ordering_then r (nat_cmp x.t y.t)) is ∙ ap (λ n. nat_cmp n y.t) same ∙ tied_itself nat_cmp_total y.t)))
+        absurd (true≢false (sym less ∙ ap is_lt (key_cmp-parts order x y ∙ ap (λ r. ordering_then r (nat_cmp x.t y.t)) is
+        ∙ ap (λ n. nat_cmp n y.t) same ∙ tied_itself nat_cmp_total y.t)))
     below y less same Greater is =
         absurd (true≢false (sym less ∙ ap is_lt (key_cmp-parts order x y ∙ ap (λ r. ordering_then r (nat_cmp x.t y.t)) is)))
 
 all_kept : (p q : Datom → Bool) (ds : List Datom) → list_all p ds ≡ true → list_all p (filter q ds) ≡ true
 all_kept p q ds every = all_members p (filter q ds) (λ d member. member_passes p ds d every (kept q ds d member).member)
 
-pub triples_rise-filter : (order : Order) (q : Datom → Bool) (ds : List Datom) → triples_rise order ds ≡ true → triples_rise order (filter q ds) ≡ true
+pub triples_rise-filter : (order : Order) (q : Datom → Bool) (ds : List Datom) → triples_rise order ds ≡ true
+    → triples_rise order (filter q ds) ≡ true
 triples_rise-filter order q [] rising = refl
 triples_rise-filter order q (x ∷ ds) rising =
     let parts = and_parts (list_all (λ y. is_lt (triple_cmp order x y)) ds) (triples_rise order ds) rising in
     go (q x) (all_kept (λ y. is_lt (triple_cmp order x y)) q ds parts.0) (triples_rise-filter order q ds parts.1)
   where
-    go : (b : Bool) → list_all (λ y. is_lt (triple_cmp order x y)) (filter q ds) ≡ true → triples_rise order (filter q ds) ≡ true → triples_rise order (cond b (x ∷ filter q ds) (filter q ds)) ≡ true
+    go : (b : Bool) → list_all (λ y. is_lt (triple_cmp order x y)) (filter q ds) ≡ true → triples_rise order (filter q ds) ≡ true
+        → triples_rise order (cond b (x ∷ filter q ds) (filter q ds)) ≡ true
     go true first rest = and_from _ _ first rest
     go false first rest = rest
 
 -- under one attribute the entity decides first in both orders
 pub under_one : (a : ℕ) (ds : List Datom) → triples_rise Eavt ds ≡ true → triples_rise Aevt (filter (is_under a) ds) ≡ true
-under_one a ds rising = go (filter (is_under a) ds) (triples_rise-filter Eavt (is_under a) ds rising) (λ d member. eqb-true d.a a (kept (is_under a) ds d member).passes)
+under_one a ds rising =
+    go (filter (is_under a) ds) (triples_rise-filter Eavt (is_under a) ds rising)
+    (λ d member. eqb-true d.a a (kept (is_under a) ds d member).passes)
   where
     swapped : (p q r : Ordering) → q ≡ Equal → ordering_then p (ordering_then q r) ≡ ordering_then q (ordering_then p r)
     swapped p q r is = ap (λ z. ordering_then p (ordering_then z r)) is ∙ sym (ap (λ z. ordering_then z (ordering_then p r)) is)
 
     turned : (x y : Datom) → x.a ≡ y.a → triple_cmp Eavt x y ≡ triple_cmp Aevt x y
-    turned x y same = swapped (nat_cmp x.e y.e) (nat_cmp x.a y.a) (ordering_then (value_cmp x.v y.v) Equal) (ap (λ n. nat_cmp n y.a) same ∙ tied_itself nat_cmp_total y.a)
+    turned x y same =
+        swapped (nat_cmp x.e y.e) (nat_cmp x.a y.a) (ordering_then (value_cmp x.v y.v) Equal)
+        (ap (λ n. nat_cmp n y.a) same ∙ tied_itself nat_cmp_total y.a)
 
     go : (ds : List Datom) → triples_rise Eavt ds ≡ true → ((d : Datom) → Contains ds d → d.a ≡ a) → triples_rise Aevt ds ≡ true
     go [] rising under = refl
     go (x ∷ ds) rising under =
         let parts = and_parts (list_all (λ y. is_lt (triple_cmp Eavt x y)) ds) (triples_rise Eavt ds) rising in
         and_from _ _
-        (all_members (λ y. is_lt (triple_cmp Aevt x y)) ds (λ y member. ap is_lt (sym (turned x y (under x (here x ds) ∙ sym (under y (there x y ds member))))) ∙ member_passes (λ y. is_lt (triple_cmp Eavt x y)) ds y parts.0 member))
+        (all_members (λ y. is_lt (triple_cmp Aevt x y)) ds
+        (λ y member. ap is_lt (sym (turned x y (under x (here x ds) ∙ sym (under y (there x y ds member)))))
+        ∙ member_passes (λ y. is_lt (triple_cmp Eavt x y)) ds y parts.0 member))
         (go ds parts.1 (λ d member. under d (there x d ds member)))
 
 -- lists whose triples rise have rising keys, and no two datoms of one triple

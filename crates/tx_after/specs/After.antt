@@ -1,5 +1,6 @@
--- What holds behind a history with changes that are not recorded yet, and the lists that are told of it.
--- Datomic, Transaction Data (a database with a transaction applied) and Indexes (EAVT for an entity, AEVT for an attribute).
+-- What holds after a history with changes that are not recorded yet, and the lists of its facts.
+-- Datomic, Transaction Data (a database with a transaction applied)
+-- and Indexes (EAVT for an entity, AEVT for an attribute).
 use Rattle.std.specs.Prelude.{ℕ, List, ◌++◌, map, filter, nat_eq, IsTrue}
 use Rattle.std.specs.List.{list_all}
 use Rattle.fb_values.specs.declared.facts.Datom.{Datom}
@@ -11,7 +12,7 @@ use Rattle.fb_model.specs.Rising.{in_order}
 use Rattle.fb_model.specs.History.{said}
 use Rattle.fb_model.specs.Facts.{standing}
 use Rattle.fb_model.specs.Schema.{is_about}
-use Rattle.fb_facts.specs.Told.{is_of_entity, is_under}
+use Rattle.fb_facts.specs.FactLists.{is_of_entity, is_under}
 
 -- changes as the entry of a transaction has them: they rise, and all are of one t
 pub record AreChanges (changes : List Datom) : Type 0 where

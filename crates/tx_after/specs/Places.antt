@@ -1,6 +1,7 @@
 -- Where the datoms of an entity and those of a triple lie in a list that rises.
 -- This project's own choice.
-use Rattle.std.specs.Prelude.{ℕ, ◌+◌, Bool, true, ◌&&◌, List, [], ◌∷◌, ◌==◌, nat_lt, nat_le, if◌then◌else◌}
+use Rattle.std.specs.Prelude.{ℕ, ◌+◌, Bool, true, ◌&&◌, List, [], ◌∷◌, ◌==◌, nat_lt, nat_le}
+use Rattle.std.specs.Prelude.{if◌then◌else◌}
 use Rattle.std.specs.List.{list_all}
 use Rattle.std.specs.Ordering.{is_lt}
 use Rattle.fb_values.specs.declared.facts.Datom.{Datom}
@@ -23,7 +24,7 @@ abbrev pub front_of : ℕ → List Datom → ℕ
 front_of e [] = 0
 front_of e (d ∷ ds) = if d.e == e then 1 + front_of e ds else 0
 
--- the triple's datom stands before the triple
+-- the datom is below the triple
 abbrev pub is_lower : ℕ → ℕ → Value → Datom → Bool
 is_lower e a v d = is_lt (triple_cmp Eavt d (record { e = e; a = a; v = v; t = 0; added = true }))
 

@@ -1,6 +1,7 @@
 -- What an attribute of cardinality one and a unique attribute promise of facts.
 -- Datomic, Schema (:db/cardinality, :db/unique).
-use Rattle.std.specs.Prelude.{◌≡◌, ℕ, Bool, true, not, ◌&&◌, ◌||◌, List, [], ◌∷◌, nat_eq, nat_le, length}
+use Rattle.std.specs.Prelude.{◌≡◌, ℕ, Bool, true, not, ◌&&◌, ◌||◌, List, [], ◌∷◌, nat_eq, nat_le}
+use Rattle.std.specs.Prelude.{length}
 use Rattle.std.specs.List.{list_all, list_any}
 use Rattle.std.specs.BTreeSet.{BTreeSet, contains}
 use Rattle.fb_values.specs.Orders.{value_cmp}

@@ -1,11 +1,14 @@
 -- What describes an entity: its first value under each attribute that does.
 -- Datomic, Schema (the attributes of attributes).
-use Rattle.std.specs.Prelude.{ℕ, Bool, false, ◌&&◌, ◌||◌, List, nat_eq, is_some, Option, option_and_then}
+use Rattle.std.specs.Prelude.{ℕ, Bool, false, ◌&&◌, ◌||◌, List, nat_eq, is_some, Option}
+use Rattle.std.specs.Prelude.{option_and_then}
 use Rattle.std.specs.Option.{option_map_or}
 use Rattle.fb_values.specs.declared.facts.Datom.{Datom}
-use Rattle.fb_numbers.specs.Numbers.{ident, value_type, cardinality, unique, is_component, index, cardinality_one, cardinality_many}
+use Rattle.fb_numbers.specs.Numbers.{ident, value_type, cardinality, unique, is_component, index}
+use Rattle.fb_numbers.specs.Numbers.{cardinality_one, cardinality_many}
 use Rattle.fb_model.specs.Facts.{value_of}
-use Rattle.fb_model.specs.Schema.{Attribute, attribute_from, keyword_in, entity_in, truth_in, is_whole_attribute}
+use Rattle.fb_model.specs.Schema.{Attribute, attribute_from, keyword_in, entity_in, truth_in}
+use Rattle.fb_model.specs.Schema.{is_whole_attribute}
 use Rattle.tx_after.specs.declared.said.Said.{Said}
 
 abbrev pub said_of : List Datom → ℕ → Said

@@ -17,20 +17,20 @@ without_t d = record d { t = 0 }
 abbrev pub triple_cmp : Order → Datom → Datom → Ordering
 triple_cmp order x y = key_cmp order (without_t x) (without_t y)
 
--- each triple is below all triples behind it
+-- each triple is below all triples after it
 abbrev pub triples_rise : Order → List Datom → Bool
 triples_rise order [] = true
 triples_rise order (d ∷ ds) =
     list_all (λ other. is_lt (triple_cmp order d other)) ds && triples_rise order ds
 
 -- none of the datoms is of the triple of the one
-abbrev pub is_untold : List Datom → Datom → Bool
-is_untold changes d = not (list_any (is_of d.e d.a d.v) changes)
+abbrev pub is_unmentioned : List Datom → Datom → Bool
+is_unmentioned changes d = not (list_any (is_of d.e d.a d.v) changes)
 
 abbrev pub is_added : Datom → Bool
 is_added d = d.added
 
--- the facts before of which no change tells, and the additions
+-- the facts from before whose triples no change concerns, and the additions
 abbrev pub with_changes : Order → List Datom → List Datom → List Datom
 with_changes order before changes =
-    in_order order (filter (is_untold changes) before ++ filter is_added changes)
+    in_order order (filter (is_unmentioned changes) before ++ filter is_added changes)

@@ -3,7 +3,7 @@ ghost use Rattle.std.specs.Prelude.{◌≡◌, ◌||◌, ℕ, nat_eq, IfOk, opti
 ghost use Rattle.std.specs.Option.{option_map, option_map_or};
 ghost use Rattle.fb_numbers.specs.Numbers.{cardinality_one, cardinality_many};
 ghost use Rattle.fb_model.specs.Schema as schema;
-ghost use Rattle.fb_schema.specs.Parts.{attribute_in};
+ghost use Rattle.fb_schema.specs.Parts.{model_attribute};
 ghost use Rattle.tx_after.specs.Said as model;
 
 use crate::said::Said;
@@ -19,7 +19,7 @@ use fb_values::Value;
 
 /// The entity as an attribute, if it has an ident, a type and a cardinality.
 pub fn attribute_of(said: &Said, e: u64) -> Result<Option<Attribute>, Memory>
-    ensures { IfOk result (λ found. option_map attribute_in found ≡ model.attribute_of said.now e) }
+    ensures { IfOk result (λ found. option_map model_attribute found ≡ model.attribute_of said.now e) }
 {
     let (Some(name), Some(kind), Some(count)) = (
         keyword_in(&said.ident),
@@ -41,7 +41,7 @@ pub fn attribute_of(said: &Said, e: u64) -> Result<Option<Attribute>, Memory>
 
 /// Whether the attribute, as which this is said of it, has all that it needs.
 pub fn is_whole(said: &Said, attribute: &Option<Attribute>) -> bool
-    ensures { (e : ℕ) → option_map attribute_in attribute.now ≡ model.attribute_of said.now e
+    ensures { (e : ℕ) → option_map model_attribute attribute.now ≡ model.attribute_of said.now e
         → result ≡ model.is_whole said.now e }
 {
     let (Some(attribute), Some(count)) = (attribute, entity_in(&said.cardinality)) else {
@@ -62,7 +62,7 @@ pub fn says_attribute(said: &Said) -> bool
 }
 
 fn is_whole_attribute(attribute: &Attribute) -> bool
-    ensures { result ≡ schema.is_whole_attribute (attribute_in attribute.now) }
+    ensures { result ≡ schema.is_whole_attribute (model_attribute attribute.now) }
 {
     let is_plain_name = !begins_with_one_of(b"_", local_name(attribute.ident.as_str()).as_bytes());
     let is_of_a_type = TYPE_KEYWORD <= attribute.kind && attribute.kind <= TYPE_URI;

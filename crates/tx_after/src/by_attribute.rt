@@ -36,7 +36,7 @@ impl ByAttribute {
     }
 }
 
-/// Puts the change behind those of its attribute.
+/// Puts the change after those of its attribute.
 fn put(alloc: Global, parts: &mut BTreeMap<u64, Vec<Datom>>, d: Datom) -> Result<(), Memory>
     ensures { OnOk result
         ((a : ℕ) → part_at parts.new a ≡ part_at parts.old a ++ (if d.a == a then d ∷ [] else [])) }

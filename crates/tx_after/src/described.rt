@@ -5,7 +5,7 @@ ghost use Rattle.std.specs.Option.{option_map};
 ghost use Rattle.fb_model.specs.Lawful.{IsLawful};
 ghost use Rattle.fb_model.specs.Laws as laws;
 ghost use Rattle.fb_model.specs.Schema as schema;
-ghost use Rattle.fb_schema.specs.Parts.{attribute_in};
+ghost use Rattle.fb_schema.specs.Parts.{model_attribute};
 ghost use Rattle.tx_after.specs.After as model;
 
 use crate::attributes::{attribute_of, is_whole, says_attribute};
@@ -35,7 +35,7 @@ pub fn description_after<F: Facts>(
 ) -> Result<Description, Memory>
     requires lawful { IsLawful (F.history facts.now) }
     requires changes { model.AreChanges changes.now }
-    ensures attribute { IfOk result (λ found. option_map attribute_in found.attribute
+    ensures attribute { IfOk result (λ found. option_map model_attribute found.attribute
         ≡ schema.attribute_of (model.after (F.history facts.now) changes.now) e) }
     ensures whole { IfOk result (λ found. found.whole
         ≡ schema.is_whole (model.after (F.history facts.now) changes.now) e) }
@@ -60,7 +60,7 @@ pub fn attribute_after<F: Facts>(
 ) -> Result<Option<Attribute>, Memory>
     requires lawful { IsLawful (F.history facts.now) }
     requires changes { model.AreChanges changes.now }
-    ensures { IfOk result (λ found. option_map attribute_in found
+    ensures { IfOk result (λ found. option_map model_attribute found
         ≡ schema.attribute_of (model.after (F.history facts.now) changes.now) e) }
 {
     let said = said_after(facts, changes, e)?;

@@ -1,7 +1,7 @@
-//! What is told of the history with the changes.
+//! The facts of the history with the changes.
 ghost use Rattle.std.specs.Prelude.{◌≡◌, map, filter, IfOk};
 ghost use Rattle.fb_values.specs.declared.indexes.Order.TheVariants.{Eavt, Aevt};
-ghost use Rattle.fb_facts.specs.Told.{is_under};
+ghost use Rattle.fb_facts.specs.FactLists.{is_under};
 ghost use Rattle.tx_after.specs.After as model;
 ghost use Rattle.tx_after.specs.Parts.{AreByAttribute};
 

@@ -1,6 +1,6 @@
-//! The facts of a history with changes behind it that are not recorded yet: those of an entity and those of an attribute,
+//! The facts of a history with further changes that are not recorded yet: those of an entity and those of an attribute,
 //! what an entity is as an attribute, and whether an attribute's facts keep what it promises. Each costs what the history
-//! tells of the entity or the attribute, and the changes that concern it.
+//! says of the entity or the attribute, and the changes that concern it.
 #![tactic(auto)]
 
 mod attributes;
@@ -12,7 +12,7 @@ mod merge;
 mod parts;
 mod promises;
 mod said;
-mod told;
+mod triples;
 
 pub use by_attribute::ByAttribute;
 pub use described::{Description, attribute_after, description_after};
@@ -22,4 +22,4 @@ pub use laws::{
     what_is_said_of_an_entity_is_in_its_facts,
 };
 pub use promises::{gives_one_holder, gives_one_value};
-pub use told::tells_of;
+pub use triples::mentions;

@@ -1,4 +1,4 @@
-//! Two rising lists as one: facts, and changes that tell anew of some of them.
+//! Two rising lists as one: facts, and changes that concern some of their triples.
 ghost use Rattle.std.specs.Prelude.{◌≡◌, [], ◌∷◌, ◌++◌, IfOk, IsTrue, filter, if◌then◌else◌};
 ghost use Rattle.tx_after.specs.Triples.{triple_cmp as model_triple_cmp, triples_rise, is_added, with_changes};
 
@@ -7,7 +7,7 @@ use fb_values::{Datom, Order};
 use std::alloc::Global;
 use std::cmp::Ordering;
 
-/// The facts of whose triples no change tells, and the additions, in the order.
+/// The facts whose triples no change concerns, and the additions, in the order.
 pub fn merged(
     alloc: Global,
     order: Order,
@@ -41,7 +41,7 @@ pub fn merged(
     Ok(after)
 }
 
-/// How two datoms stand to each other, whatever their t.
+/// How two datoms compare, whatever their t.
 fn cmp_triples(order: Order, x: &Datom, y: &Datom) -> Ordering
     ensures { result ≡ model_triple_cmp order x.now y.now }
 {

@@ -2,7 +2,7 @@
 ghost use Rattle.std.specs.Prelude.{◌≡◌, ◌≤◌, length, filter, IsTrue};
 ghost use Rattle.fb_values.specs.declared.indexes.Order.TheVariants.{Eavt};
 ghost use Rattle.fb_values.specs.Rising.{rises};
-ghost use Rattle.fb_facts.specs.Told.{is_of_entity};
+ghost use Rattle.fb_facts.specs.FactLists.{is_of_entity};
 ghost use Rattle.tx_after.specs.Places as places;
 
 use fb_values::Datom;

@@ -50,7 +50,7 @@ pub fn gives_one_holder<F: Facts>(
     are_of_other_values(alloc, &under)
 }
 
-/// Whether no two of the facts are of one entity. Two that are stand side by side.
+/// Whether no two of the facts are of one entity. Two that are lie side by side.
 fn are_of_other_entities(facts: &[Datom]) -> bool
     requires { IsTrue (entities_rise facts.now) }
     ensures { result ≡ promises.are_of_other_entities facts.now }

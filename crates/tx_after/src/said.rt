@@ -10,7 +10,7 @@ ghost use Rattle.tx_after.specs.Said.{said_of};
 ghost use Rattle.tx_after.specs.Triples.{is_added};
 
 use crate::parts::part_of;
-use crate::told::tells_of;
+use crate::triples::mentions;
 use fb_facts::Facts;
 use fb_memory::Memory;
 use fb_numbers::{CARDINALITY, IDENT, INDEX, IS_COMPONENT, UNIQUE, VALUE_TYPE};
@@ -69,7 +69,7 @@ fn first_untold<'a>(values: &'a [Value], changes: &[Datom], e: u64, a: u64) -> O
         ≡ find (λ v. not (list_any (is_of e a v) changes.now)) values.now }
 {
     for v in values {
-        if !tells_of(changes, e, a, v) {
+        if !mentions(changes, e, a, v) {
             return Some(v);
         }
     }

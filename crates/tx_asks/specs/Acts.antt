@@ -1,13 +1,15 @@
--- What is asked of entities by their numbers, and what resolving the names of a transaction promises.
+-- What is asked of entities by their numbers,
+-- and what resolving the names of a transaction promises.
 -- Datomic, Transaction Data.
-use Rattle.std.specs.Prelude.{◌≡◌, ℕ, Bool, true, false, not, List, [], ◌∷◌, map, filter_map, is_some, IsTrue, Option, None, option_and_then, option_map, ⊤}
+use Rattle.std.specs.Prelude.{◌≡◌, ℕ, Bool, true, false, not, List, [], ◌∷◌, map, filter_map}
+use Rattle.std.specs.Prelude.{is_some, IsTrue, Option, None, option_and_then, option_map, ⊤}
 use Rattle.std.specs.List.{All}
 use Rattle.edn_model.specs.Form as edn
 use Rattle.fb_values.specs.declared.facts.Datom.{Datom}
 use Rattle.fb_values.specs.declared.facts.Value.{Value}
 use Rattle.fb_model.specs.Facts.{value_of}
 use Rattle.fb_model.specs.Schema.{Attribute, attribute_named}
-use Rattle.fb_schema.specs.Parts.{attribute_in}
+use Rattle.fb_schema.specs.Parts.{model_attribute}
 use Rattle.tx_model.specs.Asks as asks
 use Rattle.tx_model.specs.Asks.{Name, Operand, Ask, plain}
 use Rattle.tx_model.specs.Tempids.{Db, entity_of}
@@ -15,7 +17,8 @@ use Rattle.tx_model.specs.Changes.{value_of_part, change, values_withdrawn, set_
 use Rattle.tx_model.specs.Transaction.{Transaction, with_names}
 use Rattle.tx_model.specs.ChangeRules.{is_value}
 use Rattle.tx_asks.specs.declared.acts.Act as program
-use Rattle.tx_asks.specs.declared.acts.Act.TheVariants.{Adds, Retracts, RetractsAll, Compares, RetractsEntity}
+use Rattle.tx_asks.specs.declared.acts.Act.TheVariants.{Adds, Retracts, RetractsAll, Compares}
+use Rattle.tx_asks.specs.declared.acts.Act.TheVariants.{RetractsEntity}
 
 pub data Act : Type 0 where
   adds : ℕ → Attribute → Value → Act
@@ -27,12 +30,12 @@ pub data Act : Type 0 where
   retracts_entity : ℕ → Act
 
 -- the act of the program
-abbrev pub seen : program.Act → Act
-seen (Adds e attribute v) = adds e (attribute_in attribute.now) v
-seen (Retracts e attribute v) = retracts e (attribute_in attribute.now) v
-seen (RetractsAll e attribute) = retracts_all e (attribute_in attribute.now)
-seen (Compares e attribute old new) = compares e (attribute_in attribute.now) old new
-seen (RetractsEntity e) = retracts_entity e
+abbrev pub model_act : program.Act → Act
+model_act (Adds e attribute v) = adds e (model_attribute attribute.now) v
+model_act (Retracts e attribute v) = retracts e (model_attribute attribute.now) v
+model_act (RetractsAll e attribute) = retracts_all e (model_attribute attribute.now)
+model_act (Compares e attribute old new) = compares e (model_attribute attribute.now) old new
+model_act (RetractsEntity e) = retracts_entity e
 
 -- ---- the act of an ask, where its names and its attribute are known and its value is read
 
@@ -106,4 +109,4 @@ pub record AreActs (acts : List (List Act)) (tx : Transaction) : Type 0 where
 
 -- the forms' acts, as the program has them
 abbrev pub acts_in : List (List program.Act) → List (List Act)
-acts_in forms = map (map seen) forms
+acts_in forms = map (map model_act) forms

@@ -1,13 +1,15 @@
--- What the definitions see in the asks of the program, and what expanding a transaction promises of them.
+-- What the definitions see in the asks of the program,
+-- and what expanding a transaction promises of them.
 -- Datomic, Transaction Data.
-use Rattle.std.specs.Prelude.{◌≡◌, ◌<◌, ℕ, negsuc, Bool, true, false, List, [], map, filter, length, slice_index_or, Option, Some, None, ⊤}
+use Rattle.std.specs.Prelude.{◌≡◌, ◌<◌, ℕ, negsuc, Bool, true, false, List, [], map, filter, length}
+use Rattle.std.specs.Prelude.{slice_index_or, Option, Some, None, ⊤}
 use Rattle.std.specs.List.{All}
 use Rattle.edn_model.specs.Form as edn
 use Rattle.edn_form.specs.View.{form_of}
 use Rattle.fb_values.specs.declared.facts.Datom.{Datom}
 use Rattle.fb_model.specs.Schema.{attribute_named}
 use Rattle.fb_schema.specs.declared.attribute.Attribute.{Attribute}
-use Rattle.fb_schema.specs.Parts.{attribute_in}
+use Rattle.fb_schema.specs.Parts.{model_attribute}
 use Rattle.tx_model.specs.Asks as model
 use Rattle.tx_model.specs.Values.{value_in}
 use Rattle.tx_model.specs.Step.{first_yes}
@@ -19,10 +21,11 @@ use Rattle.tx_asks.specs.declared.asks.Name.TheVariants.{Number, Ident, Lookup, 
 use Rattle.tx_asks.specs.declared.asks.Operand.{Operand}
 use Rattle.tx_asks.specs.declared.asks.Operand.TheVariants.{Plain, Entity}
 use Rattle.tx_asks.specs.declared.asks.Ask.{Ask}
-use Rattle.tx_asks.specs.declared.asks.Ask.TheVariants.{Adds, Retracts, RetractsAll, Compares, RetractsEntity, Meets}
+use Rattle.tx_asks.specs.declared.asks.Ask.TheVariants.{Adds, Retracts, RetractsAll, Compares}
+use Rattle.tx_asks.specs.declared.asks.Ask.TheVariants.{RetractsEntity, Meets}
 use Rattle.tx_asks.specs.declared.asks.Flat.{Flat}
 
--- ---- what the numbers in names stand for
+-- ---- what the numbers in names mean
 
 -- the lookup refs, and the places of the maps without `:db/id`
 pub record Legend : Type 0 where
@@ -75,29 +78,31 @@ matters ask = true
 
 -- ---- values that are read, and maps that are counted
 
-abbrev pub IsReadPart : Attribute → Operand → Type 0
-IsReadPart attribute (Plain f v) = value_in attribute.kind (form_of f.now) ≡ Some v
-IsReadPart attribute (Entity name) = ⊤
+abbrev pub IsTypedPart : Attribute → Operand → Type 0
+IsTypedPart attribute (Plain f v) = value_in attribute.kind (form_of f.now) ≡ Some v
+IsTypedPart attribute (Entity name) = ⊤
 
-abbrev pub IsReadOldPart : Attribute → Option Operand → Type 0
-IsReadOldPart attribute None = ⊤
-IsReadOldPart attribute (Some part) = IsReadPart attribute part
+abbrev pub IsTypedOldPart : Attribute → Option Operand → Type 0
+IsTypedOldPart attribute None = ⊤
+IsTypedOldPart attribute (Some part) = IsTypedPart attribute part
 
 -- the attribute is installed
 abbrev pub IsInstalled : List Datom → Attribute → Type 0
-IsInstalled facts attribute = attribute_named facts attribute.ident ≡ Some (attribute_in attribute)
+IsInstalled facts attribute =
+    attribute_named facts attribute.ident ≡ Some (model_attribute attribute)
 
 -- attributes are installed, and plain values are those of their forms under the attribute's type
-abbrev pub IsRead : List Datom → Ask → Type 0
-IsRead facts (Adds on attribute part) =
-    IsInstalled facts attribute.now × IsReadPart attribute.now part
-IsRead facts (Retracts on attribute part) =
-    IsInstalled facts attribute.now × IsReadPart attribute.now part
-IsRead facts (RetractsAll on attribute) = IsInstalled facts attribute.now
-IsRead facts (Compares on attribute old new) =
-    IsInstalled facts attribute.now × IsReadOldPart attribute.now old × IsReadPart attribute.now new
-IsRead facts (RetractsEntity on) = ⊤
-IsRead facts (Meets on) = ⊤
+abbrev pub IsTyped : List Datom → Ask → Type 0
+IsTyped facts (Adds on attribute part) =
+    IsInstalled facts attribute.now × IsTypedPart attribute.now part
+IsTyped facts (Retracts on attribute part) =
+    IsInstalled facts attribute.now × IsTypedPart attribute.now part
+IsTyped facts (RetractsAll on attribute) = IsInstalled facts attribute.now
+IsTyped facts (Compares on attribute old new) =
+    IsInstalled facts attribute.now × IsTypedOldPart attribute.now old
+    × IsTypedPart attribute.now new
+IsTyped facts (RetractsEntity on) = ⊤
+IsTyped facts (Meets on) = ⊤
 
 -- a map without `:db/id` is one of the first n
 abbrev pub IsCounted : ℕ → Name → Type 0
@@ -129,19 +134,19 @@ AreApart places =
 
 -- ---- what expanding promises
 
--- its lookup refs, where the maps without `:db/id` stand at these places
+-- its lookup refs, where the maps without `:db/id` are at these places
 abbrev pub legend_of : Flat → List (List ℕ) → Legend
 legend_of flat places = record { lookups = flat.lookups.items; places = places }
 
--- these are the asks of the forms, but for those that do not matter any more: by these facts the attributes are installed and
--- the values of their types
+-- these are the asks of the forms, but for those that do not matter any more:
+-- by these facts the attributes are installed and the values of their types
 pub record AreAsks (flat : Flat) (facts : List Datom) (asks : List (List model.Ask)) : Type 0 where
-  -- where the maps without `:db/id` stand
+  -- where the maps without `:db/id` are
   pub places : List (List ℕ)
   pub apart : AreApart places
   pub counted : length places ≡ flat.nameless
   pub same : map (λ form. map (ask_of (legend_of flat places)) form.items) flat.forms.items
       ≡ map (filter matters) asks
-  pub read : All (λ form. All (IsRead facts) form.items) flat.forms.items
+  pub read : All (λ form. All (IsTyped facts) form.items) flat.forms.items
   pub names_counted : All (λ form. All (AreCounted flat.nameless) form.items) flat.forms.items
   pub lacking : flat.lacking ≡ first_yes 0 (map (list_any is_lacking) asks)

@@ -1,5 +1,7 @@
--- Which forms ask a triple, and which one is the first. This project's own choice; the order of forms tells in refusals alone.
-use Rattle.std.specs.Prelude.{◌≡◌, ℕ, Bool, true, false, ◌&&◌, ◌||◌, List, [], ◌∷◌, map, nat_eq, nat_le, Contains, IsTrue, Option}
+-- Which forms ask a triple, and which one is the first.
+-- This project's own choice; the order of forms matters in refusals alone.
+use Rattle.std.specs.Prelude.{◌≡◌, ℕ, Bool, true, false, ◌&&◌, ◌||◌, List, [], ◌∷◌, map, nat_eq}
+use Rattle.std.specs.Prelude.{nat_le, Contains, IsTrue, Option}
 use Rattle.std.specs.List.{All, list_any}
 use Rattle.std.specs.Ordering.{nat_cmp, ordering_then, is_lt}
 use Rattle.fb_values.specs.declared.facts.Datom.{Datom}
@@ -23,7 +25,8 @@ is_asking_of d asking = is_of asking.e asking.a asking.v d
 abbrev pub IsAsked : List (List Datom) → Asking → Type 0
 IsAsked lists asking = IsTrue (list_any (is_of asking.e asking.a asking.v) (at lists asking.place))
 
--- each is asked by its form, and of each triple that a form asks one is there of this form or of an earlier one
+-- each is asked by its form,
+-- and of each triple that a form asks one is there of this form or of an earlier one
 pub record AreAskings (lists : List (List Datom)) (askings : List Asking) : Type 0 where
   pub asked : All (IsAsked lists) askings
   pub whole : (place : ℕ) (d : Datom) → Contains (at lists place) d
@@ -48,8 +51,8 @@ rise [] = true
 rise (x ∷ []) = true
 rise (x ∷ y ∷ rest) = is_below x y && rise (y ∷ rest)
 
--- what is told of a triple is so
-pub record IsTold (tx : Transaction) (triple : Triple) : Type 0 where
+-- what the triple says of itself is so
+pub record IsExact (tx : Transaction) (triple : Triple) : Type 0 where
   pub added : triple.added ≡ first_asking tx.added triple.e triple.a triple.v
   pub retracted : triple.retracted ≡ first_asking tx.retracted triple.e triple.a triple.v
   pub swept : triple.swept ≡ first_asking tx.swept triple.e triple.a triple.v
@@ -65,6 +68,6 @@ is_asked tx e a v =
 -- all that the transaction asks, triple by triple in their order
 pub record AreTriples (tx : Transaction) (triples : List Triple) : Type 0 where
   pub rising : IsTrue (rise triples)
-  pub told : All (IsTold tx) triples
+  pub exact : All (IsExact tx) triples
   pub whole : (e a : ℕ) (v : Value) → IsTrue (is_asked tx e a v)
       → IsTrue (list_any (is_triple e a v) triples)

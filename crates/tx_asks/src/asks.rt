@@ -25,7 +25,7 @@ pub enum Name<'a> {
     Nameless(usize),
 }
 
-/// What stands in the place of a value.
+/// What is given in the place of a value.
 #[derive(Drop)]
 pub enum Operand<'a> {
     /// A value, with the form that it was read from.
@@ -62,7 +62,7 @@ pub enum Ask<'a> {
     RetractsEntity {
         on: Name<'a>,
     },
-    /// A map stands for this entity.
+    /// There is a map of this entity.
     Meets {
         on: Name<'a>,
     },

@@ -1,6 +1,6 @@
 //! What a transaction asks, between the steps that decide it: first of entities by their names, then of entities by their
 //! numbers, and last triple by triple. This crate has the types, and says what the definitions see in them, so that no step
-//! stands on another's body.
+//! depends on another's body.
 #![tactic(auto)]
 
 mod acts;

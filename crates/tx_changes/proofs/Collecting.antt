@@ -15,8 +15,8 @@ use Rattle.tx_asks.specs.Triples.{IsAsked, AreAskings}
 use Rattle.tx_sweep.specs.Sweep.{asking_at}
 use Rattle.tx_sweep.proofs.Members.{any_of}
 use Rattle.tx_sweep.proofs.Sweeping.{all_members, told-by, is_of-itself}
-use Rattle.tx_changes.specs.declared.marks.Way.{Way}
-use Rattle.tx_changes.specs.declared.marks.Way.TheVariants.{Added, Retracted}
+use Rattle.tx_changes.specs.declared.marks.AskedAs.{AskedAs}
+use Rattle.tx_changes.specs.declared.marks.AskedAs.TheVariants.{Added, Retracted}
 use Rattle.tx_changes.specs.Asked.{asked_by, asked_from}
 
 -- the datoms of lists as askings, where the first list is that of the form at the place
@@ -24,11 +24,13 @@ abbrev pub listed_from : ℕ → List (List Datom) → List Asking
 listed_from place [] = []
 listed_from place (ds ∷ lists) = map (asking_at place) ds ++ listed_from (place + 1) lists
 
-asked_is_listed : (way : Way) (finds : Act → List Datom) → ((place : ℕ) (act : Act) → asked_by way place act ≡ map (asking_at place) (finds act)) → (place : ℕ) (forms : List (List Act))
+asked_is_listed : (way : AskedAs) (finds : Act → List Datom)
+    → ((place : ℕ) (act : Act) → asked_by way place act ≡ map (asking_at place) (finds act)) → (place : ℕ) (forms : List (List Act))
     → asked_from way place forms ≡ listed_from place (map (flat_map finds) forms)
 asked_is_listed way finds same place [] = refl
 asked_is_listed way finds same place (acts ∷ forms) =
-    ap (λ xs. xs ++ asked_from way (place + 1) forms) (one acts) ∙ ap (λ xs. map (asking_at place) (flat_map finds acts) ++ xs) (asked_is_listed way finds same (place + 1) forms)
+    ap (λ xs. xs ++ asked_from way (place + 1) forms) (one acts)
+    ∙ ap (λ xs. map (asking_at place) (flat_map finds acts) ++ xs) (asked_is_listed way finds same (place + 1) forms)
   where
     one : (acts : List Act) → flat_map (asked_by way place) acts ≡ map (asking_at place) (flat_map finds acts)
     one [] = refl
@@ -55,12 +57,23 @@ listed_of first (ds ∷ lists) x member =
     use_place p q same d is = sym (ap (λ n. asking_at n d) same) ∙ is
 
     here : IsImage (asking_at first) ds x → IsListed first (ds ∷ lists) x
-    here image = record { place = 0; source = image.original; among = image.among; is = use_place first (first + 0) (omega arith) image.original image.image_is }
+    here image = record {
+      place = 0;
+      source = image.original;
+      among = image.among;
+      is = use_place first (first + 0) (omega arith) image.original image.image_is;
+    }
 
     behind : IsListed (first + 1) lists x → IsListed first (ds ∷ lists) x
-    behind listed = record { place = suc listed.place; source = listed.source; among = listed.among; is = use_place (first + 1 + listed.place) (first + suc listed.place) (omega arith) listed.source listed.is }
+    behind listed = record {
+      place = suc listed.place;
+      source = listed.source;
+      among = listed.among;
+      is = use_place (first + 1 + listed.place) (first + suc listed.place) (omega arith) listed.source listed.is;
+    }
 
-is_listed : (first : ℕ) (lists : List (List Datom)) (place : ℕ) (d : Datom) → Contains (at lists place) d → Contains (listed_from first lists) (asking_at (first + place) d)
+is_listed : (first : ℕ) (lists : List (List Datom)) (place : ℕ) (d : Datom) → Contains (at lists place) d
+    → Contains (listed_from first lists) (asking_at (first + place) d)
 is_listed first [] zero d member = absurd (not_in_none d member)
 is_listed first [] (suc place) d member = absurd (not_in_none d member)
 is_listed first (ds ∷ lists) zero d member =
@@ -76,7 +89,9 @@ are_listed : (lists : List (List Datom)) → AreAskings lists (listed_from 0 lis
 are_listed lists =
     record {
       asked = all_members (IsAsked lists) (listed_from 0 lists) asked;
-      whole = λ place d member. told-by place (listed_from 0 lists) d (asking_at (0 + place) d) (is_listed 0 lists place d member) (omega arith) (is_of-itself d);
+      whole =
+          λ place d member.
+          told-by place (listed_from 0 lists) d (asking_at (0 + place) d) (is_listed 0 lists place d member) (omega arith) (is_of-itself d);
     }
   where
     asked : (x : Asking) → Contains (listed_from 0 lists) x → IsAsked lists x
@@ -84,7 +99,8 @@ are_listed lists =
         let listed = listed_of 0 lists x member in
         let d = listed.source in
         let same : listed.place ≡ 0 + listed.place = omega arith in
-        let one : list_any (is_of d.e d.a d.v) (at lists listed.place) ≡ true = any_of (is_of d.e d.a d.v) (at lists listed.place) d listed.among (is_of-itself d) in
+        let one : list_any (is_of d.e d.a d.v) (at lists listed.place) ≡ true =
+        any_of (is_of d.e d.a d.v) (at lists listed.place) d listed.among (is_of-itself d) in
         subst (IsAsked lists) listed.is (subst (λ n. IsAsked lists (asking_at n d)) same one)
 
 -- ---- additions and retractions
@@ -104,7 +120,13 @@ retracted_same db place (compares e a old new) = refl
 retracted_same db place (retracts_entity e) = refl
 
 pub added_are : (db : Db) (forms : List (List Act)) → AreAskings (map (flat_map (additions_of db)) forms) (asked_from Added 0 forms)
-added_are db forms = subst (AreAskings (map (flat_map (additions_of db)) forms)) (sym (asked_is_listed Added (additions_of db) (added_same db) 0 forms)) (are_listed (map (flat_map (additions_of db)) forms))
+added_are db forms =
+    subst (AreAskings (map (flat_map (additions_of db)) forms)) (sym (asked_is_listed Added (additions_of db) (added_same db) 0 forms))
+    (are_listed (map (flat_map (additions_of db)) forms))
 
-pub retracted_are : (db : Db) (forms : List (List Act)) → AreAskings (map (flat_map (retractions_of db)) forms) (asked_from Retracted 0 forms)
-retracted_are db forms = subst (AreAskings (map (flat_map (retractions_of db)) forms)) (sym (asked_is_listed Retracted (retractions_of db) (retracted_same db) 0 forms)) (are_listed (map (flat_map (retractions_of db)) forms))
+pub retracted_are : (db : Db) (forms : List (List Act))
+    → AreAskings (map (flat_map (retractions_of db)) forms) (asked_from Retracted 0 forms)
+retracted_are db forms =
+    subst (AreAskings (map (flat_map (retractions_of db)) forms))
+    (sym (asked_is_listed Retracted (retractions_of db) (retracted_same db) 0 forms))
+    (are_listed (map (flat_map (retractions_of db)) forms))

@@ -12,7 +12,7 @@ use Rattle.fb_model.specs.History.{said, users_issued}
 use Rattle.fb_model.specs.Facts.{holds}
 use Rattle.fb_model.specs.Schema.{is_about, is_one}
 use Rattle.fb_model.proofs.Members.{standing_member}
-use Rattle.fb_facts.specs.Told.{facts_in, values_of}
+use Rattle.fb_facts.specs.FactLists.{facts_in, values_of}
 use Rattle.tx_model.proofs.Lists.{first_of}
 use Rattle.tx_sweep.proofs.Members.{any_of}
 use Rattle.tx_sweep.proofs.Sweeping.{AreTold}
@@ -25,15 +25,18 @@ is_user h e new =
     let above : users_issued h < e - 17592186044416 = ltb-true (users_issued h) (user_number e) new in
     omega (arith, above)
 
-pub new_holds_nothing : (h : List Entry) (e a : ℕ) (v : Value) → ((h : List Entry) (n a : ℕ) (v : Value) → users_issued h < n → holds h (user_entity n) a v ≡ false)
+pub new_holds_nothing : (h : List Entry) (e a : ℕ) (v : Value)
+    → ((h : List Entry) (n a : ℕ) (v : Value) → users_issued h < n → holds h (user_entity n) a v ≡ false)
     → nat_lt (users_issued h) (user_number e) ≡ true → holds h e a v ≡ false
-new_holds_nothing h e a v law new = ap (λ x. holds h x a v) (is_user h e new) ∙ law h (user_number e) a v (ltb-true (users_issued h) (user_number e) new)
+new_holds_nothing h e a v law new =
+    ap (λ x. holds h x a v) (is_user h e new) ∙ law h (user_number e) a v (ltb-true (users_issued h) (user_number e) new)
 
 no_list : (ds : List Datom) → ((d : Datom) → Contains ds d → ⊥) → ds ≡ []
 no_list [] none = refl
 no_list (d ∷ ds) none = absurd (none d (first_of d ds))
 
-pub new_has_no_values : AreTold → (h : List Entry) (e a : ℕ) → ((h : List Entry) (n : ℕ) → users_issued h < n → list_any (λ d. nat_eq d.e (user_entity n)) (said h) ≡ false)
+pub new_has_no_values : AreTold → (h : List Entry) (e a : ℕ)
+    → ((h : List Entry) (n : ℕ) → users_issued h < n → list_any (λ d. nat_eq d.e (user_entity n)) (said h) ≡ false)
     → nat_lt (users_issued h) (user_number e) ≡ true → values_of h e a ≡ []
 new_has_no_values told h e a law new = ap (map (λ (d : Datom). d.v)) (no_list (facts_in Eavt (is_about e a) h) none)
   where
@@ -42,9 +45,11 @@ new_has_no_values told h e a law new = ap (map (λ (d : Datom). d.v)) (no_list (
         let is = ((told h Eavt (is_about e a)).members d).0 among in
         let e_is = and_parts (nat_eq d.e e) (nat_eq d.a a) is.1 in
         let user : nat_eq d.e (user_entity (user_number e)) ≡ true = ap (nat_eq d.e) (sym (is_user h e new)) ∙ e_is.0 in
-        true≢false (sym (any_of (λ d. nat_eq d.e (user_entity (user_number e))) (said h) d (standing_member (said h) d is.0) user) ∙ law h (user_number e) (ltb-true (users_issued h) (user_number e) new))
+        true≢false (sym (any_of (λ d. nat_eq d.e (user_entity (user_number e))) (said h) d (standing_member (said h) d is.0) user)
+        ∙ law h (user_number e) (ltb-true (users_issued h) (user_number e) new))
 
-pub new_replaces_nothing : AreTold → (h : List Entry) (schema : List Datom) (addition : Asking) → ((h : List Entry) (n : ℕ) → users_issued h < n → list_any (λ d. nat_eq d.e (user_entity n)) (said h) ≡ false)
+pub new_replaces_nothing : AreTold → (h : List Entry) (schema : List Datom) (addition : Asking)
+    → ((h : List Entry) (n : ℕ) → users_issued h < n → list_any (λ d. nat_eq d.e (user_entity n)) (said h) ≡ false)
     → nat_lt (users_issued h) (user_number addition.e) ≡ true → (xs : List Asking) → xs ≡ xs ++ replaced_of h schema addition
 new_replaces_nothing told h schema addition law new xs = sym (ap (λ ys. xs ++ ys) (nothing (is_one schema addition.a)) ∙ append-nil xs)
   where

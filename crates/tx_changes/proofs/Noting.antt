@@ -1,5 +1,6 @@
 -- What marks tell, after some askings.
-use Rattle.std.proofs.Common.{◌≡◌, ℕ, zero, suc, ◌+◌, ◌≤◌, Bool, true, false, cond, ◌&&◌, List, [], ◌∷◌, ◌++◌, map, refl, ap, sym, ◌∙◌, subst, arith, inl, inr, ◌⊎◌}
+use Rattle.std.proofs.Common.{◌≡◌, ℕ, zero, suc, ◌+◌, ◌≤◌, Bool, true, false, cond, ◌&&◌, List, [], ◌∷◌, ◌++◌, map, refl, ap, sym, ◌∙◌}
+use Rattle.std.proofs.Common.{subst, arith, inl, inr, ◌⊎◌}
 use Rattle.std.specs.Prelude.{nat_eq, nat_le, min, Contains, unwrap_or, Option, None, Some}
 use Rattle.std.specs.List.{list_any}
 use Rattle.std.specs.Ordering.{is_eq, nat_cmp, ordering_then}
@@ -20,11 +21,12 @@ use Rattle.tx_asks.specs.Triples.{is_asking_of, IsAsked, AreAskings, first_askin
 use Rattle.tx_sweep.proofs.Members.{some_of}
 use Rattle.tx_sweep.proofs.Sweeping.{is_eq-then, is_eq-nat_cmp}
 use Rattle.tx_changes.specs.declared.marks.Marks.{Marks}
-use Rattle.tx_changes.specs.declared.marks.Way.{Way}
-use Rattle.tx_changes.specs.declared.marks.Way.TheVariants.{Added, Retracted, Swept, Replaced}
+use Rattle.tx_changes.specs.declared.marks.AskedAs.{AskedAs}
+use Rattle.tx_changes.specs.declared.marks.AskedAs.TheVariants.{Added, Retracted, Swept, Replaced}
 use Rattle.tx_changes.specs.Marks.{no_marks, marked, asks, noted_one, noted, marks_at}
 
-pub noted_next : (way : Way) (e a : ℕ) (v : Value) (marks : Marks) (xs : List Asking) (x : Asking) → noted_one way e a v (noted way e a v marks xs) x ≡ noted way e a v marks (xs ++ x ∷ [])
+pub noted_next : (way : AskedAs) (e a : ℕ) (v : Value) (marks : Marks) (xs : List Asking) (x : Asking)
+    → noted_one way e a v (noted way e a v marks xs) x ≡ noted way e a v marks (xs ++ x ∷ [])
 noted_next way e a v marks [] x = refl
 noted_next way e a v marks (y ∷ xs) x = noted_next way e a v (noted_one way e a v marks y) xs x
 
@@ -42,9 +44,11 @@ asks-true e a v asking is =
     record { e_is = eqb-true asking.e e numbers.0; a_is = eqb-true asking.a a numbers.1; v_is = value_eq-true asking.v v parts.1 }
 
 pub true-asks : (e a : ℕ) (v : Value) (asking : Asking) → IsOne e a v asking → asks e a v asking ≡ true
-true-asks e a v asking is = and_from _ _ (and_from _ _ (eq-eqb asking.e e is.e_is) (eq-eqb asking.a a is.a_is)) (ap (λ w. value_eq w v) is.v_is ∙ value_eq-refl v)
+true-asks e a v asking is =
+    and_from _ _ (and_from _ _ (eq-eqb asking.e e is.e_is) (eq-eqb asking.a a is.a_is)) (ap (λ w. value_eq w v) is.v_is ∙ value_eq-refl v)
 
-pub at_triple : (x : ℕ × ℕ × Value) (e a : ℕ) (v : Value) → is_at (triple_cmp x) (e, a, v) ≡ (nat_eq x.0 e && nat_eq x.1 a && value_eq x.2 v)
+pub at_triple : (x : ℕ × ℕ × Value) (e a : ℕ) (v : Value)
+    → is_at (triple_cmp x) (e, a, v) ≡ (nat_eq x.0 e && nat_eq x.1 a && value_eq x.2 v)
 at_triple x e a v =
     is_eq-then (ordering_then (nat_cmp x.0 e) (nat_cmp x.1 a)) (value_cmp x.2 v)
     ∙ ap (λ b. b && value_eq x.2 v) (is_eq-then (nat_cmp x.0 e) (nat_cmp x.1 a))
@@ -52,16 +56,22 @@ at_triple x e a v =
     ∙ ap (λ b. (nat_eq x.0 e && b) && value_eq x.2 v) (is_eq-nat_cmp x.1 a)
 
 -- one asking is marked
-pub mark_is : (old new : BTreeMap (ℕ × ℕ × Value) Marks) (way : Way) (asking : Asking) (made : Marks) → Updates triple_cmp old new (asking.e, asking.a, asking.v) (Some made)
-    → made ≡ marked way (marks_at old asking.e asking.a asking.v) asking.place → (e a : ℕ) (v : Value) → marks_at new e a v ≡ noted_one way e a v (marks_at old e a v) asking
+pub mark_is : (old new : BTreeMap (ℕ × ℕ × Value) Marks) (way : AskedAs) (asking : Asking) (made : Marks)
+    → Updates triple_cmp old new (asking.e, asking.a, asking.v) (Some made)
+    → made ≡ marked way (marks_at old asking.e asking.a asking.v) asking.place → (e a : ℕ) (v : Value)
+    → marks_at new e a v ≡ noted_one way e a v (marks_at old e a v) asking
 mark_is old new way asking made updates made_is e a v =
-    ap (λ o. unwrap_or o no_marks) (updates.0 (e, a, v) ∙ ap (λ b. cond b (Some made) (get triple_cmp old (e, a, v))) (at_triple (asking.e, asking.a, asking.v) e a v))
+    ap (λ o. unwrap_or o no_marks)
+    (updates.0 (e, a, v) ∙ ap (λ b. cond b (Some made) (get triple_cmp old (e, a, v))) (at_triple (asking.e, asking.a, asking.v) e a v))
     ∙ go (asks e a v asking) refl
   where
     same_at : IsOne e a v asking → marks_at old asking.e asking.a asking.v ≡ marks_at old e a v
-    same_at is = ap (λ x. marks_at old x asking.a asking.v) is.e_is ∙ ap (λ x. marks_at old e x asking.v) is.a_is ∙ ap (marks_at old e a) is.v_is
+    same_at is =
+        ap (λ x. marks_at old x asking.a asking.v) is.e_is ∙ ap (λ x. marks_at old e x asking.v) is.a_is ∙ ap (marks_at old e a) is.v_is
 
-    go : (b : Bool) → asks e a v asking ≡ b → unwrap_or (cond b (Some made) (get triple_cmp old (e, a, v))) no_marks ≡ cond b (marked way (marks_at old e a v) asking.place) (marks_at old e a v)
+    go : (b : Bool) → asks e a v asking ≡ b
+        → unwrap_or (cond b (Some made) (get triple_cmp old (e, a, v))) no_marks
+        ≡ cond b (marked way (marks_at old e a v) asking.place) (marks_at old e a v)
     go true is = made_is ∙ ap (λ m. marked way m asking.place) (same_at (asks-true e a v asking is))
     go false is = refl
 
@@ -71,39 +81,53 @@ abbrev pub placed : ℕ → ℕ → Value → Option ℕ → List Asking → Opt
 placed e a v found [] = found
 placed e a v found (x ∷ xs) = placed e a v (cond (asks e a v x) (least x.place found) found) xs
 
-pub noted-Added : (e a : ℕ) (v : Value) (m : Marks) (xs : List Asking) → noted Added e a v m xs ≡ record m { added = placed e a v m.added xs }
+pub noted-Added : (e a : ℕ) (v : Value) (m : Marks) (xs : List Asking)
+    → noted Added e a v m xs ≡ record m { added = placed e a v m.added xs }
 noted-Added e a v m [] = refl
 noted-Added e a v m (x ∷ xs) = go (asks e a v x) (noted-Added e a v (marked Added m x.place) xs) (noted-Added e a v m xs)
   where
-    go : (b : Bool) → noted Added e a v (marked Added m x.place) xs ≡ record m { added = placed e a v (least x.place m.added) xs } → noted Added e a v m xs ≡ record m { added = placed e a v m.added xs }
-        → noted Added e a v (cond b (marked Added m x.place) m) xs ≡ record m { added = placed e a v (cond b (least x.place m.added) m.added) xs }
+    go : (b : Bool) → noted Added e a v (marked Added m x.place) xs ≡ record m { added = placed e a v (least x.place m.added) xs }
+        → noted Added e a v m xs ≡ record m { added = placed e a v m.added xs }
+        → noted Added e a v (cond b (marked Added m x.place) m) xs
+        ≡ record m { added = placed e a v (cond b (least x.place m.added) m.added) xs }
     go true holding no_one = holding
     go false holding no_one = no_one
 
-pub noted-Retracted : (e a : ℕ) (v : Value) (m : Marks) (xs : List Asking) → noted Retracted e a v m xs ≡ record m { retracted = placed e a v m.retracted xs }
+pub noted-Retracted : (e a : ℕ) (v : Value) (m : Marks) (xs : List Asking)
+    → noted Retracted e a v m xs ≡ record m { retracted = placed e a v m.retracted xs }
 noted-Retracted e a v m [] = refl
 noted-Retracted e a v m (x ∷ xs) = go (asks e a v x) (noted-Retracted e a v (marked Retracted m x.place) xs) (noted-Retracted e a v m xs)
   where
-    go : (b : Bool) → noted Retracted e a v (marked Retracted m x.place) xs ≡ record m { retracted = placed e a v (least x.place m.retracted) xs } → noted Retracted e a v m xs ≡ record m { retracted = placed e a v m.retracted xs }
-        → noted Retracted e a v (cond b (marked Retracted m x.place) m) xs ≡ record m { retracted = placed e a v (cond b (least x.place m.retracted) m.retracted) xs }
+    go : (b : Bool)
+        → noted Retracted e a v (marked Retracted m x.place) xs ≡ record m { retracted = placed e a v (least x.place m.retracted) xs }
+        → noted Retracted e a v m xs ≡ record m { retracted = placed e a v m.retracted xs }
+        → noted Retracted e a v (cond b (marked Retracted m x.place) m) xs
+        ≡ record m { retracted = placed e a v (cond b (least x.place m.retracted) m.retracted) xs }
     go true holding no_one = holding
     go false holding no_one = no_one
 
-pub noted-Swept : (e a : ℕ) (v : Value) (m : Marks) (xs : List Asking) → noted Swept e a v m xs ≡ record m { swept = placed e a v m.swept xs }
+pub noted-Swept : (e a : ℕ) (v : Value) (m : Marks) (xs : List Asking)
+    → noted Swept e a v m xs ≡ record m { swept = placed e a v m.swept xs }
 noted-Swept e a v m [] = refl
 noted-Swept e a v m (x ∷ xs) = go (asks e a v x) (noted-Swept e a v (marked Swept m x.place) xs) (noted-Swept e a v m xs)
   where
-    go : (b : Bool) → noted Swept e a v (marked Swept m x.place) xs ≡ record m { swept = placed e a v (least x.place m.swept) xs } → noted Swept e a v m xs ≡ record m { swept = placed e a v m.swept xs }
-        → noted Swept e a v (cond b (marked Swept m x.place) m) xs ≡ record m { swept = placed e a v (cond b (least x.place m.swept) m.swept) xs }
+    go : (b : Bool) → noted Swept e a v (marked Swept m x.place) xs ≡ record m { swept = placed e a v (least x.place m.swept) xs }
+        → noted Swept e a v m xs ≡ record m { swept = placed e a v m.swept xs }
+        → noted Swept e a v (cond b (marked Swept m x.place) m) xs
+        ≡ record m { swept = placed e a v (cond b (least x.place m.swept) m.swept) xs }
     go true holding no_one = holding
     go false holding no_one = no_one
 
-pub noted-Replaced : (e a : ℕ) (v : Value) (m : Marks) (xs : List Asking) → noted Replaced e a v m xs ≡ record m { replaced = placed e a v m.replaced xs }
+pub noted-Replaced : (e a : ℕ) (v : Value) (m : Marks) (xs : List Asking)
+    → noted Replaced e a v m xs ≡ record m { replaced = placed e a v m.replaced xs }
 noted-Replaced e a v m [] = refl
 noted-Replaced e a v m (x ∷ xs) = go (asks e a v x) (noted-Replaced e a v (marked Replaced m x.place) xs) (noted-Replaced e a v m xs)
   where
-    go : (b : Bool) → noted Replaced e a v (marked Replaced m x.place) xs ≡ record m { replaced = placed e a v (least x.place m.replaced) xs } → noted Replaced e a v m xs ≡ record m { replaced = placed e a v m.replaced xs }
-        → noted Replaced e a v (cond b (marked Replaced m x.place) m) xs ≡ record m { replaced = placed e a v (cond b (least x.place m.replaced) m.replaced) xs }
+    go : (b : Bool)
+        → noted Replaced e a v (marked Replaced m x.place) xs ≡ record m { replaced = placed e a v (least x.place m.replaced) xs }
+        → noted Replaced e a v m xs ≡ record m { replaced = placed e a v m.replaced xs }
+        → noted Replaced e a v (cond b (marked Replaced m x.place) m) xs
+        ≡ record m { replaced = placed e a v (cond b (least x.place m.replaced) m.replaced) xs }
     go true holding no_one = holding
     go false holding no_one = no_one
 
@@ -134,14 +158,16 @@ least_keeps : (p : ℕ) (found : Option ℕ) (r : ℕ) → AtMost found r → At
 least_keeps p None r is = absurd (cc (is.1))
 least_keeps p (Some s) r is = let same : s ≡ is.0 = cc (is.1) in (min p s, refl, omega (arith, same, is.2))
 
-pub placed_from : (e a : ℕ) (v : Value) (found : Option ℕ) (xs : List Asking) (p : ℕ) → placed e a v found xs ≡ Some p → (found ≡ Some p) ⊎ Placed e a v xs p
+pub placed_from : (e a : ℕ) (v : Value) (found : Option ℕ) (xs : List Asking) (p : ℕ) → placed e a v found xs ≡ Some p
+    → (found ≡ Some p) ⊎ Placed e a v xs p
 placed_from e a v found [] p is = inl is
 placed_from e a v found (x ∷ xs) p is = go (asks e a v x) refl (placed_from e a v (cond (asks e a v x) (least x.place found) found) xs p is)
   where
     later : Placed e a v xs p → Placed e a v (x ∷ xs) p
     later at_it = (at_it.0, later_of x at_it.0 xs at_it.1, at_it.2, at_it.3)
 
-    go : (b : Bool) → asks e a v x ≡ b → (cond (asks e a v x) (least x.place found) found ≡ Some p) ⊎ Placed e a v xs p → (found ≡ Some p) ⊎ Placed e a v (x ∷ xs) p
+    go : (b : Bool) → asks e a v x ≡ b → (cond (asks e a v x) (least x.place found) found ≡ Some p) ⊎ Placed e a v xs p
+        → (found ≡ Some p) ⊎ Placed e a v (x ∷ xs) p
     go b at_x (inr more) = inr (later more)
     go true at_x (inl now) = elim (least_which x.place found p (sym (ap (λ c. cond c (least x.place found) found) at_x) ∙ now)) [
       | inl here ↦ inr (x, first_of x xs, at_x, here)
@@ -157,27 +183,33 @@ placed_keeps e a v found (x ∷ xs) r is = placed_keeps e a v (cond (asks e a v 
     go true = least_keeps x.place found r is
     go false = is
 
-placed_most : (e a : ℕ) (v : Value) (found : Option ℕ) (xs : List Asking) (x : Asking) → Contains xs x → asks e a v x ≡ true → AtMost (placed e a v found xs) x.place
+placed_most : (e a : ℕ) (v : Value) (found : Option ℕ) (xs : List Asking) (x : Asking) → Contains xs x → asks e a v x ≡ true
+    → AtMost (placed e a v found xs) x.place
 placed_most e a v found [] x among is = absurd (not_in_none x among)
 placed_most e a v found (y ∷ xs) x among is =
     elim (which y x xs among) [
       | inl same ↦ placed_keeps e a v (cond (asks e a v y) (least y.place found) found) xs x.place
-          (subst (λ z. AtMost (cond (asks e a v y) (least y.place found) found) z.place) same (subst (λ b. AtMost (cond b (least y.place found) found) y.place) (sym (subst (λ z. asks e a v z ≡ true) (sym same) is)) (least_most y.place found)))
+          (subst (λ z. AtMost (cond (asks e a v y) (least y.place found) found) z.place) same
+          (subst (λ b. AtMost (cond b (least y.place found) found) y.place) (sym (subst (λ z. asks e a v z ≡ true) (sym same) is))
+          (least_most y.place found)))
       | inr later ↦ placed_most e a v (cond (asks e a v y) (least y.place found) found) xs x later is
     ]
 
 -- ---- the first form
 
-first_at : (test : List Datom → Bool) (n : ℕ) (lists : List (List Datom)) (p : ℕ) → first_yes n (map test lists) ≡ Some p → (i : ℕ) × (p ≡ n + i) × (test (at lists i) ≡ true)
+first_at : (test : List Datom → Bool) (n : ℕ) (lists : List (List Datom)) (p : ℕ) → first_yes n (map test lists) ≡ Some p
+    → (i : ℕ) × (p ≡ n + i) × (test (at lists i) ≡ true)
 first_at test n [] p is = absurd (cc)
 first_at test n (list ∷ lists) p is = go (test list) refl is (first_at test (n + 1) lists p)
   where
-    go : (b : Bool) → test list ≡ b → cond b (Some n) (first_yes (n + 1) (map test lists)) ≡ Some p → (first_yes (n + 1) (map test lists) ≡ Some p → (i : ℕ) × (p ≡ n + 1 + i) × (test (at lists i) ≡ true))
+    go : (b : Bool) → test list ≡ b → cond b (Some n) (first_yes (n + 1) (map test lists)) ≡ Some p
+        → (first_yes (n + 1) (map test lists) ≡ Some p → (i : ℕ) × (p ≡ n + 1 + i) × (test (at lists i) ≡ true))
         → (i : ℕ) × (p ≡ n + i) × (test (at (list ∷ lists) i) ≡ true)
     go true holding now next = let same : n ≡ p = cc in (0, omega (arith, same), holding)
     go false no_one now next = let later = next now in (suc later.0, omega (arith, later.1), later.2)
 
-first_most : (test : List Datom → Bool) → test [] ≡ false → (n : ℕ) (lists : List (List Datom)) (i : ℕ) → test (at lists i) ≡ true → AtMost (first_yes n (map test lists)) (n + i)
+first_most : (test : List Datom → Bool) → test [] ≡ false → (n : ℕ) (lists : List (List Datom)) (i : ℕ) → test (at lists i) ≡ true
+    → AtMost (first_yes n (map test lists)) (n + i)
 first_most test none n [] i holding = absurd (true≢false (sym holding ∙ past i))
   where
     past : (i : ℕ) → test (at {A = Datom} [] i) ≡ false
@@ -190,7 +222,8 @@ first_most test none n (list ∷ lists) zero holding = go (test list) holding
     go false is = absurd (true≢false (sym is))
 first_most test none n (list ∷ lists) (suc i) holding = go (test list) (first_most test none (n + 1) lists i holding)
   where
-    go : (b : Bool) → AtMost (first_yes (n + 1) (map test lists)) (n + 1 + i) → AtMost (cond b (Some n) (first_yes (n + 1) (map test lists))) (n + suc i)
+    go : (b : Bool) → AtMost (first_yes (n + 1) (map test lists)) (n + 1 + i)
+        → AtMost (cond b (Some n) (first_yes (n + 1) (map test lists))) (n + suc i)
     go true next = (n, refl, omega arith)
     go false next = (next.0, next.1, omega (arith, next.2))
 
@@ -208,7 +241,8 @@ same_triple e a v d x of asked =
     })
 
 -- the least place of an asking is the first form that asks
-pub placed_is_first : (lists : List (List Datom)) (xs : List Asking) → AreAskings lists xs → (e a : ℕ) (v : Value) → placed e a v None xs ≡ first_asking lists e a v
+pub placed_is_first : (lists : List (List Datom)) (xs : List Asking) → AreAskings lists xs → (e a : ℕ) (v : Value)
+    → placed e a v None xs ≡ first_asking lists e a v
 placed_is_first lists xs are e a v = go (placed e a v None xs) refl (first_asking lists e a v) refl
   where
     test : List Datom → Bool
@@ -219,7 +253,10 @@ placed_is_first lists xs are e a v = go (placed e a v None xs) refl (first_askin
     at_place x among is =
         let one = asks-true e a v x is in
         let asked = All-contains (IsAsked lists) xs x are.asked among in
-        let holding : list_any (is_of e a v) (at lists x.place) ≡ true = subst (λ u. list_any (is_of u a v) (at lists x.place) ≡ true) one.e_is (subst (λ u. list_any (is_of x.e u v) (at lists x.place) ≡ true) one.a_is (subst (λ u. list_any (is_of x.e x.a u) (at lists x.place) ≡ true) one.v_is asked)) in
+        let holding : list_any (is_of e a v) (at lists x.place) ≡ true =
+        subst (λ u. list_any (is_of u a v) (at lists x.place) ≡ true) one.e_is
+        (subst (λ u. list_any (is_of x.e u v) (at lists x.place) ≡ true) one.a_is
+        (subst (λ u. list_any (is_of x.e x.a u) (at lists x.place) ≡ true) one.v_is asked)) in
         let most = first_most (list_any (is_of e a v)) refl 0 lists x.place holding in
         (most.0, most.1, omega (arith, most.2))
 
@@ -246,7 +283,8 @@ placed_is_first lists xs are e a v = go (placed e a v None xs) refl (first_askin
           | inr at_it ↦ fit p o_is f f_is (subst (λ q. AtMost (first_asking lists e a v) q) at_it.3 (at_place at_it.0 at_it.1 at_it.2))
         ]
       where
-        fit : (p : ℕ) → placed e a v None xs ≡ Some p → (f : Option ℕ) → first_asking lists e a v ≡ f → AtMost (first_asking lists e a v) p → Some p ≡ f
+        fit : (p : ℕ) → placed e a v None xs ≡ Some p → (f : Option ℕ) → first_asking lists e a v ≡ f → AtMost (first_asking lists e a v) p
+            → Some p ≡ f
         fit p o_is None f_is most = absurd (cc (most.1, f_is))
         fit p o_is (Some q) f_is most =
             let q_is : q ≡ most.0 = cc (most.1, f_is) in

@@ -2,9 +2,11 @@
 use Rattle.std.proofs.Common.{◌≡◌, ℕ, ◌+◌, ◌<◌, ◌≤◌, ◌++◌, List, [], ◌∷◌, length, drop, get_or, ap, sym, ◌∙◌, append_assoc}
 use Rattle.std.proofs.lemmas.List.{append-nil, at_drop_more, at_drop_all}
 
-module _ {A B : Type 0} (pieces : List A → List B) (piece : A → List B) (xs : List A) (i : ℕ) (old whole : List B) (so_far : old ++ pieces (drop i xs) ≡ whole) where
+module _ {A B : Type 0} (pieces : List A → List B) (piece : A → List B) (xs : List A) (i : ℕ) (old whole : List B)
+    (so_far : old ++ pieces (drop i xs) ≡ whole) where
   -- where what a list gives is what its first gives before what the others give
-  pub piece_more : ((x : A) (ys : List A) → pieces (x ∷ ys) ≡ piece x ++ pieces ys) → (x : A) → i < length xs → x ≡ get_or xs i x → (new : List B) → new ≡ old ++ piece x → new ++ pieces (drop (i + 1) xs) ≡ whole
+  pub piece_more : ((x : A) (ys : List A) → pieces (x ∷ ys) ≡ piece x ++ pieces ys) → (x : A) → i < length xs → x ≡ get_or xs i x
+      → (new : List B) → new ≡ old ++ piece x → new ++ pieces (drop (i + 1) xs) ≡ whole
   piece_more first x inside is new more =
       let later = drop (i + 1) xs in
       let here : pieces (drop i xs) ≡ piece x ++ pieces later =

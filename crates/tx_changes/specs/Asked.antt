@@ -9,22 +9,22 @@ use Rattle.fb_values.specs.declared.facts.Entry.{Entry}
 use Rattle.fb_values.specs.declared.facts.Value.{Value}
 use Rattle.fb_model.specs.Facts.{value_eq}
 use Rattle.fb_model.specs.Schema.{is_one}
-use Rattle.fb_facts.specs.Told.{values_of}
+use Rattle.fb_facts.specs.FactLists.{values_of}
 use Rattle.tx_asks.specs.declared.triples.Asking.{Asking}
 use Rattle.tx_asks.specs.Acts.{Act, adds, retracts, compares}
 use Rattle.tx_sweep.specs.Sweep.{value_at, pair_cmp}
-use Rattle.tx_changes.specs.declared.marks.Way.{Way}
-use Rattle.tx_changes.specs.declared.marks.Way.TheVariants.{Added, Retracted}
+use Rattle.tx_changes.specs.declared.marks.AskedAs.{AskedAs}
+use Rattle.tx_changes.specs.declared.marks.AskedAs.TheVariants.{Added, Retracted}
 
 -- by the act of a form at the place
-abbrev pub asked_by : Way → ℕ → Act → List Asking
+abbrev pub asked_by : AskedAs → ℕ → Act → List Asking
 asked_by Added place (adds e a v) = value_at place e a.id v ∷ []
 asked_by Added place (compares e a old new) = value_at place e a.id new ∷ []
 asked_by Retracted place (retracts e a v) = value_at place e a.id v ∷ []
 asked_by way place act = []
 
 -- by forms, of which the first is at the place
-abbrev pub asked_from : Way → ℕ → List (List Act) → List Asking
+abbrev pub asked_from : AskedAs → ℕ → List (List Act) → List Asking
 asked_from way place [] = []
 asked_from way place (acts ∷ forms) =
     flat_map (asked_by way place) acts ++ asked_from way (place + 1) forms

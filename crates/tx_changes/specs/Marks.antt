@@ -1,6 +1,7 @@
 -- The first form that asks a triple in each way.
 -- This project's own choice.
-use Rattle.std.specs.Prelude.{◌≡◌, ℕ, Bool, ◌&&◌, ◌||◌, List, nat_eq, if◌then◌else◌, fold, is_some, unwrap_or, IsTrue, None}
+use Rattle.std.specs.Prelude.{◌≡◌, ℕ, Bool, ◌&&◌, ◌||◌, List, nat_eq, if◌then◌else◌, fold, is_some}
+use Rattle.std.specs.Prelude.{unwrap_or, IsTrue, None}
 use Rattle.std.specs.BTreeMap.{BTreeMap, get}
 use Rattle.fb_values.specs.declared.facts.Entry.{Entry}
 use Rattle.fb_values.specs.declared.facts.Value.{Value}
@@ -11,14 +12,14 @@ use Rattle.tx_asks.specs.declared.triples.Asking.{Asking}
 use Rattle.tx_asks.specs.declared.triples.Triple.{Triple}
 use Rattle.tx_asks.specs.Triples.{first_asking}
 use Rattle.tx_changes.specs.declared.marks.Marks.{Marks}
-use Rattle.tx_changes.specs.declared.marks.Way.{Way}
-use Rattle.tx_changes.specs.declared.marks.Way.TheVariants.{Added, Retracted, Swept, Replaced}
+use Rattle.tx_changes.specs.declared.marks.AskedAs.{AskedAs}
+use Rattle.tx_changes.specs.declared.marks.AskedAs.TheVariants.{Added, Retracted, Swept, Replaced}
 
 abbrev pub no_marks : Marks
 no_marks = record { added = None; retracted = None; swept = None; replaced = None }
 
 -- the form at the place asks the triple too
-abbrev pub marked : Way → Marks → ℕ → Marks
+abbrev pub marked : AskedAs → Marks → ℕ → Marks
 marked Added marks place = record marks { added = least place marks.added }
 marked Retracted marks place = record marks { retracted = least place marks.retracted }
 marked Swept marks place = record marks { swept = least place marks.swept }
@@ -28,11 +29,11 @@ abbrev pub asks : ℕ → ℕ → Value → Asking → Bool
 asks e a v asking = nat_eq asking.e e && nat_eq asking.a a && value_eq asking.v v
 
 -- the marks of a triple after one asking, and after many
-abbrev pub noted_one : Way → ℕ → ℕ → Value → Marks → Asking → Marks
+abbrev pub noted_one : AskedAs → ℕ → ℕ → Value → Marks → Asking → Marks
 noted_one way e a v marks asking =
     if asks e a v asking then marked way marks asking.place else marks
 
-abbrev pub noted : Way → ℕ → ℕ → Value → Marks → List Asking → Marks
+abbrev pub noted : AskedAs → ℕ → ℕ → Value → Marks → List Asking → Marks
 noted way e a v marks askings = fold (noted_one way e a v) marks askings
 
 abbrev pub marks_at : BTreeMap (ℕ × ℕ × Value) Marks → ℕ → ℕ → Value → Marks

@@ -2,14 +2,13 @@
 ghost use Rattle.std.specs.Prelude.{◌≡◌, ◌++◌, IfOk, OnOk, flat_map, map, nat_lt};
 ghost use Rattle.fb_numbers.specs.Numbers.{user_number as model_user_number};
 ghost use Rattle.fb_model.specs.History.{users_issued};
-ghost use Rattle.fb_model.specs.Schema.{is_one};
-ghost use Rattle.fb_facts.specs.Told.{values_of};
-ghost use Rattle.tx_asks.specs.Acts.{seen};
+ghost use Rattle.fb_facts.specs.FactLists.{values_of};
+ghost use Rattle.tx_asks.specs.Acts.{model_act};
 ghost use Rattle.tx_sweep.specs.Sweep.{acts_of};
 ghost use Rattle.tx_changes.specs.Asked.{asked_by, asked_from, known_values, other_of, others_of, replaced_of, KnowsValues};
 
-use crate::marks::Way;
-use fb_facts::{Facts, told_lists_are_the_rising_ones};
+use crate::marks::AskedAs;
+use fb_facts::{Facts, the_lists_are_the_rising_ones};
 use fb_memory::Memory;
 use fb_model::new_users_have_no_facts;
 use fb_numbers::user_number;
@@ -20,7 +19,7 @@ use std::collections::BTreeMap;
 use tx_asks::{Act, Asking};
 
 /// What the acts ask as triples in this way: to add, or to retract.
-pub fn asked(alloc: Global, way: Way, forms: &[Vec<Act<'_>>]) -> Result<Vec<Asking>, Memory>
+pub fn asked(alloc: Global, way: AskedAs, forms: &[Vec<Act<'_>>]) -> Result<Vec<Asking>, Memory>
     ensures { IfOk result (λ askings. askings.items ≡ asked_from way 0 (acts_of forms.now)) }
 {
     let mut askings = Vec::new(alloc);
@@ -32,12 +31,12 @@ pub fn asked(alloc: Global, way: Way, forms: &[Vec<Act<'_>>]) -> Result<Vec<Aski
 
 fn push_form(
     askings: &mut Vec<Asking>,
-    way: Way,
+    way: AskedAs,
     place: usize,
     acts: &[Act<'_>],
 ) -> Result<(), Memory>
     ensures { OnOk result (askings.new.items
-        ≡ askings.old.items ++ flat_map (asked_by way place) (map seen acts.now)) }
+        ≡ askings.old.items ++ flat_map (asked_by way place) (map model_act acts.now)) }
 {
     for act in acts {
         push_act(askings, way, place, act)?;
@@ -45,14 +44,19 @@ fn push_form(
     Ok(())
 }
 
-fn push_act(askings: &mut Vec<Asking>, way: Way, place: usize, act: &Act<'_>) -> Result<(), Memory>
+fn push_act(
+    askings: &mut Vec<Asking>,
+    way: AskedAs,
+    place: usize,
+    act: &Act<'_>,
+) -> Result<(), Memory>
     ensures { OnOk result
-        (askings.new.items ≡ askings.old.items ++ asked_by way place (seen act.now)) }
+        (askings.new.items ≡ askings.old.items ++ asked_by way place (model_act act.now)) }
 {
     let (e, a, v) = match (way, act) {
-        (Way::Added, Act::Adds { e, attribute, v }) => (*e, attribute.id, v.copy()?),
+        (AskedAs::Added, Act::Adds { e, attribute, v }) => (*e, attribute.id, v.copy()?),
         (
-            Way::Added,
+            AskedAs::Added,
             Act::Compares {
                 e,
                 attribute,
@@ -60,7 +64,7 @@ fn push_act(askings: &mut Vec<Asking>, way: Way, place: usize, act: &Act<'_>) ->
                 ..
             },
         ) => (*e, attribute.id, new.copy()?),
-        (Way::Retracted, Act::Retracts { e, attribute, v }) => (*e, attribute.id, v.copy()?),
+        (AskedAs::Retracted, Act::Retracts { e, attribute, v }) => (*e, attribute.id, v.copy()?),
         _ => return Ok(()),
     };
     askings.push(Asking { e, a, v, place })?;
@@ -102,9 +106,9 @@ fn push_replaced<F: Facts>(
         → OnOk result (askings.new.items
         ≡ askings.old.items ++ replaced_of (F.history facts.now) schema.now addition.now) }
 {
-    told_lists_are_the_rising_ones();
+    the_lists_are_the_rising_ones();
     new_users_have_no_facts();
-    if !has_one_value(schema, addition.a) {
+    if !schema.is_one(addition.a) {
         return Ok(());
     }
     if is_new(issued, addition.e) {
@@ -176,17 +180,7 @@ fn push_other(askings: &mut Vec<Asking>, addition: &Asking, v: &Value) -> Result
     Ok(())
 }
 
-/// Whether an entity may have one value of it at most.
-fn has_one_value(schema: &Schema, a: u64) -> bool
-    ensures { result ≡ is_one schema.now a }
-{
-    match schema.attribute(a) {
-        Some(attribute) => !attribute.many,
-        None => false,
-    }
-}
-
-/// Whether it is a user entity behind those that are issued, of which nothing holds.
+/// Whether it is a user entity after those that are issued, of which nothing holds.
 pub fn is_new(issued: u64, e: u64) -> bool
     ensures { result ≡ nat_lt issued (model_user_number e) }
 {

@@ -1,4 +1,4 @@
-//! The triples in their order, each with what is told of it.
+//! The triples in their order, each with the forms that ask it.
 ghost use Rattle.std.specs.Prelude.{◌≡◌, IfOk};
 ghost use Rattle.fb_model.specs.Facts.{holds as model_holds};
 ghost use Rattle.fb_model.specs.History.{users_issued};
@@ -11,8 +11,8 @@ ghost use Rattle.tx_sweep.specs.Sweep.{acts_of};
 ghost use Rattle.tx_changes.specs.Marks.{is_found as model_is_found, triple_from, AreMarks, HoldsFound, IsHeld};
 
 use crate::collect::{asked, is_new, replaced};
-use crate::marks::{Marks, Way, mark};
-use fb_facts::{Facts, told_lists_are_the_rising_ones};
+use crate::marks::{AskedAs, Marks, mark};
+use fb_facts::{Facts, the_lists_are_the_rising_ones};
 use fb_memory::Memory;
 use fb_model::{facts_are_what_holds, new_users_have_no_facts};
 use fb_schema::{Schema, schemas_tell_of_attributes};
@@ -51,17 +51,17 @@ fn marks_of<F: Facts>(
 {
     acts_ask_what_asks_do();
     facts_are_what_holds();
-    told_lists_are_the_rising_ones();
+    the_lists_are_the_rising_ones();
     schemas_tell_of_attributes();
-    let added = asked(alloc, Way::Added, forms)?;
-    let retracted = asked(alloc, Way::Retracted, forms)?;
+    let added = asked(alloc, AskedAs::Added, forms)?;
+    let retracted = asked(alloc, AskedAs::Retracted, forms)?;
     let swept = swept(alloc, forms, facts, schema)?;
     let replaced = replaced(alloc, &added, facts, schema)?;
     let mut marks = BTreeMap::new(alloc);
-    mark(&mut marks, Way::Added, added)?;
-    mark(&mut marks, Way::Retracted, retracted)?;
-    mark(&mut marks, Way::Swept, swept)?;
-    mark(&mut marks, Way::Replaced, replaced)?;
+    mark(&mut marks, AskedAs::Added, added)?;
+    mark(&mut marks, AskedAs::Retracted, retracted)?;
+    mark(&mut marks, AskedAs::Swept, swept)?;
+    mark(&mut marks, AskedAs::Replaced, replaced)?;
     Ok(marks)
 }
 

@@ -11,7 +11,7 @@ use tx_asks::Asking;
 
 /// How a form asks for a triple.
 #[derive(Clone, Copy)]
-pub enum Way {
+pub enum AskedAs {
     /// To be added.
     Added,
     /// To be retracted, as a triple.
@@ -44,15 +44,15 @@ impl Marks {
     }
 
     /// The marks, where the form at the place asks the triple too.
-    fn with(self, way: Way, place: usize) -> Marks
+    fn with(self, way: AskedAs, place: usize) -> Marks
         ensures { result ≡ marked way self place }
     {
         let mut marks = self;
         match way {
-            Way::Added => marks.added = Some(least(place, marks.added)),
-            Way::Retracted => marks.retracted = Some(least(place, marks.retracted)),
-            Way::Swept => marks.swept = Some(least(place, marks.swept)),
-            Way::Replaced => marks.replaced = Some(least(place, marks.replaced)),
+            AskedAs::Added => marks.added = Some(least(place, marks.added)),
+            AskedAs::Retracted => marks.retracted = Some(least(place, marks.retracted)),
+            AskedAs::Swept => marks.swept = Some(least(place, marks.swept)),
+            AskedAs::Replaced => marks.replaced = Some(least(place, marks.replaced)),
         }
         marks
     }
@@ -70,7 +70,7 @@ fn least(place: usize, other: Option<usize>) -> usize
 /// Marks the triples of the askings, which ask in this way.
 pub fn mark(
     marks: &mut BTreeMap<(u64, u64, Value), Marks>,
-    way: Way,
+    way: AskedAs,
     askings: Vec<Asking>,
 ) -> Result<(), Memory>
     ensures { OnOk result ((e a : ℕ) (v : AnyValue)
@@ -84,7 +84,7 @@ pub fn mark(
 
 fn mark_one(
     marks: &mut BTreeMap<(u64, u64, Value), Marks>,
-    way: Way,
+    way: AskedAs,
     asking: Asking,
 ) -> Result<(), Memory>
     ensures { OnOk result ((e a : ℕ) (v : AnyValue)

@@ -1,9 +1,11 @@
 -- The numbers in asks are below the number of places, where no place behind them tells.
-use Rattle.std.proofs.Common.{◌≡◌, ℕ, zero, suc, ◌+◌, ◌<◌, ◌≤◌, Bool, true, false, List, [], ◌∷◌, ◌++◌, ◌⊎◌, inl, inr, length, map, cond, refl, ap, sym, ◌∙◌, arith}
+use Rattle.std.proofs.Common.{◌≡◌, ℕ, zero, suc, ◌+◌, ◌<◌, ◌≤◌, Bool, true, false, List, [], ◌∷◌, ◌++◌, ◌⊎◌, inl, inr, length, map, cond}
+use Rattle.std.proofs.Common.{refl, ap, sym, ◌∙◌, arith}
 use Rattle.std.specs.Prelude.{slice_index_or, filter, Option, Some, None, ⊤}
 use Rattle.std.specs.List.{All}
 use Rattle.std.proofs.lemmas.Bool.{cases_lt, false≢true}
-use Rattle.tx_model.specs.Asks.{Name, number, ident, lookup, tempid, nameless, Operand, plain, entity, Ask, adds, retracts, retracts_all, compares, retracts_entity, meets, mentions, lacks_id}
+use Rattle.tx_model.specs.Asks.{Name, number, ident, lookup, tempid, nameless, Operand, plain, entity, Ask, adds, retracts, retracts_all}
+use Rattle.tx_model.specs.Asks.{compares, retracts_entity, meets, mentions, lacks_id}
 use Rattle.tx_asks.specs.declared.asks.LookupRef.{LookupRef}
 use Rattle.tx_asks.specs.declared.asks.Name as program
 use Rattle.tx_asks.specs.Asks.{AreCounted, IsCounted, IsCountedPart, IsCountedOldPart}
@@ -12,7 +14,7 @@ use Rattle.tx_asks.specs.declared.asks.Ask.TheVariants.{Adds, Retracts, Retracts
 use Rattle.tx_asks.specs.declared.asks.Operand as parts
 use Rattle.tx_asks.specs.declared.asks.Operand.TheVariants.{Plain, Entity}
 use Rattle.tx_asks.specs.declared.asks.Name.TheVariants.{Number, Ident, Lookup, Tempid, Nameless}
-use Rattle.tx_expand.specs.Seen.{name_seen}
+use Rattle.tx_expand.specs.View.{model_name}
 use Rattle.tx_expand.specs.Faults.{part_read, old_part_read, ask_read}
 use Rattle.tx_expand.specs.Placed.{placed, part_placed, ask_placed}
 
@@ -69,7 +71,8 @@ path_in : Name → List ℕ
 path_in (nameless path) = path
 path_in name = []
 
-name_below : (ps : List (List ℕ)) (name : Name) → ((more : List (List ℕ)) → placed (ps ++ more) name ≡ placed ps name) → IsBelow (length ps) name
+name_below : (ps : List (List ℕ)) (name : Name)
+    → ((more : List (List ℕ)) → placed (ps ++ more) name ≡ placed ps name) → IsBelow (length ps) name
 unfolding path_in
 name_below ps (number z) same = tt
 name_below ps (ident k) same = tt
@@ -87,7 +90,8 @@ abbrev name_in_part : Operand → Name
 name_in_part (plain f) = nameless []
 name_in_part (entity name) = name
 
-part_below : (ps : List (List ℕ)) (part : Operand) → ((more : List (List ℕ)) → part_placed (ps ++ more) part ≡ part_placed ps part) → IsPartBelow (length ps) part
+part_below : (ps : List (List ℕ)) (part : Operand)
+    → ((more : List (List ℕ)) → part_placed (ps ++ more) part ≡ part_placed ps part) → IsPartBelow (length ps) part
 part_below ps (plain f) same = tt
 part_below ps (entity name) same = name_below ps name (λ more. ap name_in_part (same more))
 
@@ -110,12 +114,18 @@ abbrev second_part : Ask → Operand
 second_part (compares name k old new) = new
 second_part ask = entity (nameless [])
 
-ask_below : (ps : List (List ℕ)) (ask : Ask) → ((more : List (List ℕ)) → ask_placed (ps ++ more) ask ≡ ask_placed ps ask) → IsAskBelow (length ps) ask
-ask_below ps (adds name k part) same = (name_below ps name (λ more. ap name_in_ask (same more)), part_below ps part (λ more. ap first_part (same more)))
-ask_below ps (retracts name k part) same = (name_below ps name (λ more. ap name_in_ask (same more)), part_below ps part (λ more. ap first_part (same more)))
+ask_below : (ps : List (List ℕ)) (ask : Ask)
+    → ((more : List (List ℕ)) → ask_placed (ps ++ more) ask ≡ ask_placed ps ask) → IsAskBelow (length ps) ask
+ask_below ps (adds name k part) same =
+    (name_below ps name (λ more. ap name_in_ask (same more)), part_below ps part (λ more. ap first_part (same more)))
+ask_below ps (retracts name k part) same =
+    (name_below ps name (λ more. ap name_in_ask (same more)), part_below ps part (λ more. ap first_part (same more)))
 ask_below ps (retracts_all name k) same = name_below ps name (λ more. ap name_in_ask (same more))
-ask_below ps (compares name k old new) same =
-    (name_below ps name (λ more. ap name_in_ask (same more)), part_below ps old (λ more. ap first_part (same more)), part_below ps new (λ more. ap second_part (same more)))
+ask_below ps (compares name k old new) same = (
+  name_below ps name (λ more. ap name_in_ask (same more)),
+  part_below ps old (λ more. ap first_part (same more)),
+  part_below ps new (λ more. ap second_part (same more)),
+)
 ask_below ps (retracts_entity name) same = name_below ps name (λ more. ap name_in_ask (same more))
 ask_below ps (meets name) same = name_below ps name (λ more. ap name_in_ask (same more))
 ask_below ps (mentions k) same = tt
@@ -148,20 +158,24 @@ tail_of : {A : Type 0} → List A → List A
 tail_of [] = []
 tail_of (x ∷ xs) = xs
 
-asks_below : (ps : List (List ℕ)) (asks : List Ask) → ((more : List (List ℕ)) → map (ask_placed (ps ++ more)) asks ≡ map (ask_placed ps) asks) → Each (IsAskBelow (length ps)) asks
+asks_below : (ps : List (List ℕ)) (asks : List Ask)
+    → ((more : List (List ℕ)) → map (ask_placed (ps ++ more)) asks ≡ map (ask_placed ps) asks) → Each (IsAskBelow (length ps)) asks
 unfolding head_of tail_of
 asks_below ps [] same = tt
-asks_below ps (ask ∷ asks) same = (ask_below ps ask (λ more. ap (head_of lacks_id) (same more)), asks_below ps asks (λ more. ap tail_of (same more)))
+asks_below ps (ask ∷ asks) same =
+    (ask_below ps ask (λ more. ap (head_of lacks_id) (same more)), asks_below ps asks (λ more. ap tail_of (same more)))
 
-pub lists_below : (ps : List (List ℕ)) (lists : List (List Ask)) → ((more : List (List ℕ)) → map (map (ask_placed (ps ++ more))) lists ≡ map (map (ask_placed ps)) lists)
+pub lists_below : (ps : List (List ℕ)) (lists : List (List Ask))
+    → ((more : List (List ℕ)) → map (map (ask_placed (ps ++ more))) lists ≡ map (map (ask_placed ps)) lists)
     → Each (Each (IsAskBelow (length ps))) lists
 unfolding head_of tail_of
 lists_below ps [] same = tt
-lists_below ps (asks ∷ lists) same = (asks_below ps asks (λ more. ap (head_of []) (same more)), lists_below ps lists (λ more. ap tail_of (same more)))
+lists_below ps (asks ∷ lists) same =
+    (asks_below ps asks (λ more. ap (head_of []) (same more)), lists_below ps lists (λ more. ap tail_of (same more)))
 
 -- ---- the asks of the program
 
-counted_name : (n : ℕ) (all : List LookupRef) (name : program.Name) → IsBelow n (name_seen all name) → IsCounted n name
+counted_name : (n : ℕ) (all : List LookupRef) (name : program.Name) → IsBelow n (model_name all name) → IsCounted n name
 counted_name n all (Number z) below = tt
 counted_name n all (Ident k) below = tt
 counted_name n all (Lookup k) below = tt
@@ -172,7 +186,8 @@ counted_part : (n : ℕ) (all : List LookupRef) (part : parts.Operand) → IsPar
 counted_part n all (Plain f v) below = tt
 counted_part n all (Entity name) below = counted_name n all name below
 
-counted_old : (n : ℕ) (all : List LookupRef) (part : Option parts.Operand) → IsPartBelow n (old_part_read all part) → IsCountedOldPart n part
+counted_old : (n : ℕ) (all : List LookupRef) (part : Option parts.Operand) → IsPartBelow n (old_part_read all part)
+    → IsCountedOldPart n part
 counted_old n all None below = tt
 counted_old n all (Some part) below = counted_part n all part below
 
@@ -180,14 +195,17 @@ counted_ask : (n : ℕ) (all : List LookupRef) (ask : asks.Ask) → IsAskBelow n
 counted_ask n all (Adds on attribute part) below = (counted_name n all on below.0, counted_part n all part below.1)
 counted_ask n all (Retracts on attribute part) below = (counted_name n all on below.0, counted_part n all part below.1)
 counted_ask n all (RetractsAll on attribute) below = counted_name n all on below
-counted_ask n all (Compares on attribute old new) below = (counted_name n all on below.0, counted_old n all old below.1, counted_part n all new below.2)
+counted_ask n all (Compares on attribute old new) below =
+    (counted_name n all on below.0, counted_old n all old below.1, counted_part n all new below.2)
 counted_ask n all (RetractsEntity on) below = counted_name n all on below
 counted_ask n all (Meets on) below = counted_name n all on below
 
-pub counted_asks : (n : ℕ) (all : List LookupRef) (xs : List asks.Ask) → Each (IsAskBelow n) (map (ask_read all) xs) → Each (AreCounted n) xs
+pub counted_asks : (n : ℕ) (all : List LookupRef) (xs : List asks.Ask) → Each (IsAskBelow n) (map (ask_read all) xs)
+    → Each (AreCounted n) xs
 counted_asks n all [] below = tt
 counted_asks n all (ask ∷ xs) below = (counted_ask n all ask below.0, counted_asks n all xs below.1)
 
-pub kept_below : (n : ℕ) (test : Ask → Bool) (lists : List (List Ask)) → Each (Each (IsAskBelow n)) lists → Each (Each (IsAskBelow n)) (map (filter test) lists)
+pub kept_below : (n : ℕ) (test : Ask → Bool) (lists : List (List Ask)) → Each (Each (IsAskBelow n)) lists
+    → Each (Each (IsAskBelow n)) (map (filter test) lists)
 kept_below n test [] below = tt
 kept_below n test (asks ∷ lists) below = (each_filter (IsAskBelow n) test asks below.0, kept_below n test lists below.1)

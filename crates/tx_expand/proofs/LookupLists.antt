@@ -1,5 +1,6 @@
 -- Lists of lookup refs that grow, and the lookup ref with a number.
-use Rattle.std.proofs.Common.{◌≡◌, ℕ, zero, suc, ◌+◌, List, [], ◌∷◌, ◌++◌, length, map, drop, refl, ap, sym, ◌∙◌, subst, append_assoc, arith, length-append, ◌≤◌}
+use Rattle.std.proofs.Common.{◌≡◌, ℕ, zero, suc, ◌+◌, List, [], ◌∷◌, ◌++◌, length, map, drop, refl, ap, sym, ◌∙◌, subst, append_assoc}
+use Rattle.std.proofs.Common.{arith, length-append, ◌≤◌}
 use Rattle.std.specs.Prelude.{slice_index_or, Vec}
 use Rattle.std.specs.declared.alloc.Global.{Global}
 use Rattle.std.proofs.lemmas.List.{length-map}
@@ -9,7 +10,7 @@ use Rattle.tx_model.specs.Asks.{Name, number}
 use Rattle.tx_model.specs.NameRules.{lookups_in}
 use Rattle.tx_asks.specs.declared.asks.LookupRef.{LookupRef}
 use Rattle.tx_asks.specs.Asks.{lookup_of, lookup_at}
-use Rattle.tx_expand.specs.Seen.{BeginWith}
+use Rattle.tx_expand.specs.View.{BeginWith}
 use Rattle.tx_expand.specs.Numbered.{behind}
 use Rattle.tx_expand.specs.Placed.{placed}
 use Rattle.tx_expand.specs.declared.faults.NameFaults.{NameFaults}
@@ -35,7 +36,8 @@ at_length : (xs : List LookupRef) (x : LookupRef) (rest : List LookupRef) → lo
 at_length [] x rest = refl
 at_length (y ∷ xs) x rest = at_length xs x rest
 
-pub last_lookup : (xs : List LookupRef) (x : LookupRef) (ys all : List LookupRef) (n : ℕ) → ys ≡ xs ++ x ∷ [] → n ≡ length xs → BeginWith ys all → lookup_at all n ≡ lookup_of x
+pub last_lookup : (xs : List LookupRef) (x : LookupRef) (ys all : List LookupRef) (n : ℕ) → ys ≡ xs ++ x ∷ [] → n ≡ length xs
+    → BeginWith ys all → lookup_at all n ≡ lookup_of x
 unfolding begin_before
 last_lookup xs x ys all n more is begin =
     let before = begin_before xs x ys all more begin in
@@ -70,15 +72,18 @@ within : {A B : Type 0} (f : A → B) (xs rest : List A) → map f xs ++ map f (
 within f [] rest = refl
 within f (x ∷ xs) rest = ap (λ ys. f x ∷ ys) (within f xs rest)
 
-pub judged_behind : (facts : List Datom) (old new : List LookupRef) (judged : List NameFaults) → judged ≡ map (ref_faults facts) old → BeginWith old new
+pub judged_behind : (facts : List Datom) (old new : List LookupRef) (judged : List NameFaults) → judged ≡ map (ref_faults facts) old
+    → BeginWith old new
     → judged ++ map (ref_faults facts) (drop (length judged) new) ≡ map (ref_faults facts) new
 judged_behind facts old new judged are begin =
     ap (λ (js : List NameFaults). js ++ map (ref_faults facts) (drop (length js) new)) are
-    ∙ ap (λ (refs : List LookupRef). map (ref_faults facts) old ++ map (ref_faults facts) (drop (length (map (ref_faults facts) old)) refs)) begin.are
+    ∙ ap (λ (refs : List LookupRef). map (ref_faults facts) old ++ map (ref_faults facts) (drop (length (map (ref_faults facts) old)) refs))
+    begin.are
     ∙ within (ref_faults facts) old begin.rest
     ∙ ap (map (ref_faults facts)) (sym begin.are)
 
-pub no_more_judged : (facts : List Datom) (old new : List LookupRef) (judged : List NameFaults) → judged ≡ map (ref_faults facts) old → BeginWith old new
+pub no_more_judged : (facts : List Datom) (old new : List LookupRef) (judged : List NameFaults) → judged ≡ map (ref_faults facts) old
+    → BeginWith old new
     → length judged ≤ length new
 no_more_judged facts old new judged are begin =
     omega (arith, ap length are, length-map old (ref_faults facts), ap length begin.are, length-append old begin.rest)

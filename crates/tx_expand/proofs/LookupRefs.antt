@@ -52,16 +52,20 @@ lookups_of_vector facts k fs = by_shape fs
     nothing true f = refl
     nothing false f = refl
 
-    by_shape : (fs : Forms) → lookups_from facts k (edn.vector fs) ≡ (k, edn.vector fs) ∷ cond (has_ref facts k) (lookups_inside facts (lookup_in fs)) []
+    by_shape : (fs : Forms)
+        → lookups_from facts k (edn.vector fs) ≡ (k, edn.vector fs) ∷ cond (has_ref facts k) (lookups_inside facts (lookup_in fs)) []
     by_shape no_forms = nothing (has_ref facts k) (edn.vector no_forms)
     by_shape (form (edn.keyword inner) (form value no_forms)) = refl
     by_shape (form (edn.keyword inner) no_forms) = nothing (has_ref facts k) (edn.vector (form (edn.keyword inner) no_forms))
-    by_shape (form (edn.keyword inner) (form value (form more rest))) = nothing (has_ref facts k) (edn.vector (form (edn.keyword inner) (form value (form more rest))))
+    by_shape (form (edn.keyword inner) (form value (form more rest))) =
+        nothing (has_ref facts k) (edn.vector (form (edn.keyword inner) (form value (form more rest))))
     by_shape (form f rest) = nothing (has_ref facts k) (edn.vector (form f rest))
 
 -- a vector under an attribute whose values are entities is wrong where it is no lookup ref
-pub wrong_vector : (attribute : Attribute) (fs : Forms) → attribute.kind ≡ type_ref → is_wrong_lookup (edn.vector fs) attribute ≡ not (is_some (lookup_in fs))
-wrong_vector attribute fs is = ap (λ kind. is_wrong_part attribute (old_value_part (nat_eq kind type_ref) (edn.vector fs))) is ∙ by_lookup (lookup_in fs)
+pub wrong_vector : (attribute : Attribute) (fs : Forms) → attribute.kind ≡ type_ref
+    → is_wrong_lookup (edn.vector fs) attribute ≡ not (is_some (lookup_in fs))
+wrong_vector attribute fs is =
+    ap (λ kind. is_wrong_part attribute (old_value_part (nat_eq kind type_ref) (edn.vector fs))) is ∙ by_lookup (lookup_in fs)
   where
     by_lookup : (found : Option (List ℕ × Form)) → is_wrong_part attribute (lookup_or found (plain (edn.vector fs))) ≡ not (is_some found)
     by_lookup None = refl
@@ -84,7 +88,8 @@ either_none x = three x.unknown x.wrong x.not_unique (or_false x.unknown) (or_fa
 
 -- what is wrong with a vector under an attribute whose values are entities
 pub faults_of_vector : (facts : List Datom) (k : List ℕ) (fs : Forms) → has_ref facts k ≡ true
-    → lookups_faults facts (lookups_from facts k (edn.vector fs)) ≡ either_name (lookup_faults facts (k, edn.vector fs)) (lookups_faults facts (lookups_inside facts (lookup_in fs)))
+    → lookups_faults facts (lookups_from facts k (edn.vector fs))
+    ≡ either_name (lookup_faults facts (k, edn.vector fs)) (lookups_faults facts (lookups_inside facts (lookup_in fs)))
 faults_of_vector facts k fs refers =
     ap (lookups_faults facts) (lookups_of_vector facts k fs)
     ∙ ap (λ b. lookups_faults facts ((k, edn.vector fs) ∷ cond b (lookups_inside facts (lookup_in fs)) [])) refers

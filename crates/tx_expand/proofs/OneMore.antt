@@ -30,13 +30,15 @@ pub unknown_here : (facts : List Datom) (n : ℕ) (asks : List Ask) (more : List
     → first_unknown facts n (asks ∷ more) ≡ Some n
 unknown_here facts n asks more known = ap (λ b. cond b (Some n) (first_unknown facts (n + 1) more)) known
 
-one_earlier : (first : Option ℕ) (b : Bool) (n : ℕ) (rest : Option ℕ) → earlier (earlier first (place_if b n)) rest ≡ earlier first (cond b (Some n) rest)
+one_earlier : (first : Option ℕ) (b : Bool) (n : ℕ) (rest : Option ℕ)
+    → earlier (earlier first (place_if b n)) rest ≡ earlier first (cond b (Some n) rest)
 one_earlier None true n rest = refl
 one_earlier None false n rest = refl
 one_earlier (Some m) b n rest = refl
 
 all_four : {a b c d : Option ℕ} (w x y z : Option ℕ) → a ≡ w → b ≡ x → c ≡ y → d ≡ z
-    → ◌≡◌ {A = Firsts} (record { protected = a; wrong = b; not_unique = c; lacking = d }) (record { protected = w; wrong = x; not_unique = y; lacking = z })
+    → ◌≡◌ {A = Firsts} (record { protected = a; wrong = b; not_unique = c; lacking = d })
+    (record { protected = w; wrong = x; not_unique = y; lacking = z })
 all_four {a} {b} {c} {d} w x y z p q r s =
     ap (λ i. record { protected = i; wrong = b; not_unique = c; lacking = d }) p
     ∙ ap (λ i. record { protected = w; wrong = i; not_unique = c; lacking = d }) q
@@ -44,12 +46,15 @@ all_four {a} {b} {c} {d} w x y z p q r s =
     ∙ ap (λ i. record { protected = w; wrong = x; not_unique = y; lacking = i }) s
 
 pub firsts_behind : (facts : List Datom) (firsts : Firsts) (n : ℕ) (asks : List Ask) (more : List (List Ask))
-    → earlier_ones (earlier_ones firsts (firsts_of (form_faults facts asks) n)) (firsts_from facts (n + 1) more) ≡ earlier_ones firsts (firsts_from facts n (asks ∷ more))
+    → earlier_ones (earlier_ones firsts (firsts_of (form_faults facts asks) n)) (firsts_from facts (n + 1) more)
+    ≡ earlier_ones firsts (firsts_from facts n (asks ∷ more))
 firsts_behind facts firsts n asks more =
     let found = form_faults facts asks in
     let rest = firsts_from facts (n + 1) more in
-    all_four (earlier firsts.protected (cond found.protected (Some n) rest.protected)) (earlier firsts.wrong (cond found.wrong (Some n) rest.wrong))
-    (earlier firsts.not_unique (cond found.not_unique (Some n) rest.not_unique)) (earlier firsts.lacking (cond found.lacking (Some n) rest.lacking))
+    all_four (earlier firsts.protected (cond found.protected (Some n) rest.protected))
+    (earlier firsts.wrong (cond found.wrong (Some n) rest.wrong))
+    (earlier firsts.not_unique (cond found.not_unique (Some n) rest.not_unique))
+    (earlier firsts.lacking (cond found.lacking (Some n) rest.lacking))
     (one_earlier firsts.protected found.protected n rest.protected) (one_earlier firsts.wrong found.wrong n rest.wrong)
     (one_earlier firsts.not_unique found.not_unique n rest.not_unique) (one_earlier firsts.lacking found.lacking n rest.lacking)
 

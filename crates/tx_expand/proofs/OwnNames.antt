@@ -49,7 +49,8 @@ first_value (v ∷ vs) = Some v
 first_is_one : (vs : List Value) (v : Value) → first_value vs ≡ Some v → list_any (λ x. value_eq x v) vs ≡ true
 first_is_one [] v is = no_some (sym is)
 first_is_one (w ∷ vs) v is =
-    ap (λ x. value_eq x v || list_any (λ y. value_eq y v) vs) (some_same w v is) ∙ ap (λ b. b || list_any (λ y. value_eq y v) vs) (value_eq-refl v)
+    ap (λ x. value_eq x v || list_any (λ y. value_eq y v) vs) (some_same w v is)
+    ∙ ap (λ b. b || list_any (λ y. value_eq y v) vs) (value_eq-refl v)
 
 text_in : Value → List ℕ → List ℕ
 text_in (Keyword text) other = text
@@ -63,15 +64,17 @@ nat_eq-refl : (n : ℕ) → nat_eq n n ≡ true
 nat_eq-refl n = grind (arith, nat_tests)
 
 module _ (h : List Entry) (ds : List Datom)
-    (told : (e : ℕ) (v : Value) → list_any (is_of e ident v) ds ≡ true → IsTrue (holds h e ident v))
+    (visited : (e : ℕ) (v : Value) → list_any (is_of e ident v) ds ≡ true → IsTrue (holds h e ident v))
     (one_value : (e : ℕ) (v w : Value) → IsTrue (holds h e ident v) → IsTrue (holds h e ident w) → v ≡ w)
   where
-    by_holder : (k : List ℕ) (attribute : Attribute) (found : Option ℕ) → named ds k ≡ found → option_and_then (attribute_of ds) found ≡ Some attribute → attribute.name ≡ k
+    by_holder : (k : List ℕ) (attribute : Attribute) (found : Option ℕ) → named ds k ≡ found
+        → option_and_then (attribute_of ds) found ≡ Some attribute → attribute.name ≡ k
     by_holder k attribute None is none = no_some (sym none)
     by_holder k attribute (Some e) is described =
         let has = holder-HasFact ds e ident (Keyword k) is in
         let by_name : keyword_of ds e ident ≡ Some attribute.name =
-        name_from e (keyword_of ds e ident) (entity_of ds e value_type) (entity_of ds e cardinality) (entity_of ds e unique) (truth_of ds e is_component) (truth_of ds e index) attribute described in
+        name_from e (keyword_of ds e ident) (entity_of ds e value_type) (entity_of ds e cardinality) (entity_of ds e unique)
+        (truth_of ds e is_component) (truth_of ds e index) attribute described in
         let valued : value_of ds e ident ≡ Some (Keyword attribute.name) = keyword_is (value_of ds e ident) attribute.name by_name in
         let of_name : list_any (is_of e ident (Keyword attribute.name)) ds ≡ true =
         sym (values_of-is_of ds e ident (Keyword attribute.name)) ∙ first_is_one (values_of ds e ident) (Keyword attribute.name) valued in
@@ -81,7 +84,8 @@ module _ (h : List Entry) (ds : List Datom)
         ∙ ap (λ b. (b && nat_eq has.datom.a ident) && value_eq has.datom.v (Keyword k)) (nat_eq-refl e)
         ∙ ap (λ b. (true && b) && value_eq has.datom.v (Keyword k)) has.a_is
         ∙ has.v_is) in
-        keywords_same attribute.name k (one_value e (Keyword attribute.name) (Keyword k) (told e (Keyword attribute.name) of_name) (told e (Keyword k) of_k))
+        keywords_same attribute.name k
+        (one_value e (Keyword attribute.name) (Keyword k) (visited e (Keyword attribute.name) of_name) (visited e (Keyword k) of_k))
 
     pub own_names : HaveOwnNames ds
     own_names k attribute is = by_holder k attribute (named ds k) refl is

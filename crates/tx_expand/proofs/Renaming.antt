@@ -9,9 +9,14 @@ use Rattle.edn_model.specs.Form.{Form, Forms, Pairs}
 use Rattle.fb_values.specs.declared.facts.Datom.{Datom}
 use Rattle.fb_model.specs.Schema.{Attribute, attribute_named}
 use Rattle.tx_model.specs.Shapes.{Verb, add, retract, cas, retract_entity, verb_in}
-use Rattle.tx_model.specs.Asks.{Name, number, ident, lookup, tempid, nameless, lookup_in, name_of_pair, attribute_of_ask, Operand, plain, entity, Ask, adds, retracts, retracts_all, compares, retracts_entity, meets, mentions, lacks_id, Key, own, forward, backward, names_of}
-use Rattle.tx_model.specs.Walk.{has_ref, has_many, has_uniqueness, scalar, lookup_or, value_part, old_value_part, keyword_in, entity_in, list_asks, verb_asks, links, need, nested_asks, scalar_asks, vector_asks, sequence_asks, pair_asks}
-use Rattle.tx_model.specs.NameRules.{lookups_in, is_unknown, names_no_attribute, is_protected, is_ident, is_reserved_part, adds_reserved_ident, is_wrong_part, is_wrong_old_part, has_wrong_part, attribute_in, is_wrong_lookup, has_wrong_lookup, has_other_lookup, is_lacking}
+use Rattle.tx_model.specs.Asks.{Name, number, ident, lookup, tempid, nameless, lookup_in, name_of_pair, attribute_of_ask, Operand, plain}
+use Rattle.tx_model.specs.Asks.{entity, Ask, adds, retracts, retracts_all, compares, retracts_entity, meets, mentions, lacks_id, Key, own}
+use Rattle.tx_model.specs.Asks.{forward, backward, names_of}
+use Rattle.tx_model.specs.Walk.{has_ref, has_many, has_uniqueness, scalar, lookup_or, value_part, old_value_part, keyword_in, entity_in}
+use Rattle.tx_model.specs.Walk.{list_asks, verb_asks, links, need, nested_asks, scalar_asks, vector_asks, sequence_asks, pair_asks}
+use Rattle.tx_model.specs.NameRules.{lookups_in, is_unknown, names_no_attribute, is_protected, is_ident, is_reserved_part}
+use Rattle.tx_model.specs.NameRules.{adds_reserved_ident, is_wrong_part, is_wrong_old_part, has_wrong_part, attribute_in, is_wrong_lookup}
+use Rattle.tx_model.specs.NameRules.{has_wrong_lookup, has_other_lookup, is_lacking}
 use Rattle.tx_asks.specs.Asks.{matters}
 use Rattle.tx_expand.specs.Faults.{form_faults, is_of_unknown, is_of_protected, has_wrong_value, is_kept}
 use Rattle.tx_expand.specs.Placed.{placed, part_placed, ask_placed}
@@ -20,7 +25,8 @@ use Rattle.tx_expand.proofs.Together.{all_five}
 -- ---- the walk's steps
 
 module _ (places : List (List ℕ)) where
-  map_cond : (b : Bool) (xs ys : List Ask) → map (ask_placed places) (cond b xs ys) ≡ cond b (map (ask_placed places) xs) (map (ask_placed places) ys)
+  map_cond : (b : Bool) (xs ys : List Ask)
+      → map (ask_placed places) (cond b xs ys) ≡ cond b (map (ask_placed places) xs) (map (ask_placed places) ys)
   map_cond true xs ys = refl
   map_cond false xs ys = refl
 
@@ -28,7 +34,8 @@ module _ (places : List (List ℕ)) where
   map_append [] ys = refl
   map_append (x ∷ xs) ys = ap (λ rest. ask_placed places x ∷ rest) (map_append xs ys)
 
-  pub links_placed : (self : Name) (key : Key) (part : Operand) → map (ask_placed places) (links self key part) ≡ links (placed places self) key (part_placed places part)
+  pub links_placed : (self : Name) (key : Key) (part : Operand)
+      → map (ask_placed places) (links self key part) ≡ links (placed places self) key (part_placed places part)
   links_placed self own part = refl
   links_placed self (forward k) part = refl
   links_placed self (backward k) (entity other) = refl
@@ -57,44 +64,53 @@ module _ (places : List (List ℕ)) where
   need_placed true = refl
   need_placed false = refl
 
-  need_then : (lacks : Bool) (inner : List Ask) → map (ask_placed places) (need lacks ++ inner) ≡ need lacks ++ map (ask_placed places) inner
+  need_then : (lacks : Bool) (inner : List Ask)
+      → map (ask_placed places) (need lacks ++ inner) ≡ need lacks ++ map (ask_placed places) inner
   need_then lacks inner = map_append (need lacks) inner ∙ ap (λ asks. asks ++ map (ask_placed places) inner) (need_placed lacks)
 
   pub nested_asks_placed : (facts : List Datom) (self : Name) (key : Key) (name : Name) (ps : Pairs) (inner : List Ask)
-      → map (ask_placed places) (nested_asks facts self key name ps inner) ≡ nested_asks facts (placed places self) key (placed places name) ps (map (ask_placed places) inner)
+      → map (ask_placed places) (nested_asks facts self key name ps inner)
+      ≡ nested_asks facts (placed places self) key (placed places name) ps (map (ask_placed places) inner)
   nested_asks_placed facts self own name ps inner = refl
   nested_asks_placed facts self (forward k) name ps inner =
       map_cond (has_ref facts k) _ _
-      ∙ ap (λ asks. cond (has_ref facts k) (adds (placed places self) k (entity (placed places name)) ∷ asks) (adds (placed places self) k (plain (edn.map ps)) ∷ []))
+      ∙ ap (λ asks. cond (has_ref facts k) (adds (placed places self) k (entity (placed places name)) ∷ asks)
+      (adds (placed places self) k (plain (edn.map ps)) ∷ []))
       (need_then _ inner)
   nested_asks_placed facts self (backward k) name ps inner =
       ap (λ asks. adds (placed places name) k (entity (placed places self)) ∷ asks) (need_then _ inner)
 
   pub vector_asks_placed : (facts : List Datom) (self : Name) (key : Key) (fs : Forms) (found : Option (List ℕ × Form)) (members : List Ask)
-      → map (ask_placed places) (vector_asks facts self key fs found members) ≡ vector_asks facts (placed places self) key fs found (map (ask_placed places) members)
+      → map (ask_placed places) (vector_asks facts self key fs found members)
+      ≡ vector_asks facts (placed places self) key fs found (map (ask_placed places) members)
   vector_asks_placed facts self own fs found members = refl
   vector_asks_placed facts self (forward k) fs None members = map_cond (has_many facts k) _ _
   vector_asks_placed facts self (forward k) fs (Some found) members =
       map_cond (has_ref facts k && has_uniqueness facts found.0) _ _
-      ∙ ap (λ asks. cond (has_ref facts k && has_uniqueness facts found.0) (adds (placed places self) k (entity (lookup found.0 found.1)) ∷ []) asks)
+      ∙ ap (λ asks.
+      cond (has_ref facts k && has_uniqueness facts found.0) (adds (placed places self) k (entity (lookup found.0 found.1)) ∷ []) asks)
       (map_cond (has_many facts k) _ _
       ∙ ap (λ part. cond (has_many facts k) (map (ask_placed places) members) (adds (placed places self) k part ∷ []))
       (of_part (has_ref facts k)))
     where
-      of_part : (b : Bool) → part_placed places (cond b (entity (lookup found.0 found.1)) (plain (edn.vector fs))) ≡ cond b (entity (lookup found.0 found.1)) (plain (edn.vector fs))
+      of_part : (b : Bool)
+          → part_placed places (cond b (entity (lookup found.0 found.1)) (plain (edn.vector fs)))
+          ≡ cond b (entity (lookup found.0 found.1)) (plain (edn.vector fs))
       of_part true = refl
       of_part false = refl
   vector_asks_placed facts self (backward k) fs None members = refl
   vector_asks_placed facts self (backward k) fs (Some found) members = map_cond (has_uniqueness facts found.0) _ _
 
   pub sequence_asks_placed : (facts : List Datom) (self : Name) (key : Key) (f : Form) (members : List Ask)
-      → map (ask_placed places) (sequence_asks facts self key f members) ≡ sequence_asks facts (placed places self) key f (map (ask_placed places) members)
+      → map (ask_placed places) (sequence_asks facts self key f members)
+      ≡ sequence_asks facts (placed places self) key f (map (ask_placed places) members)
   sequence_asks_placed facts self own f members = refl
   sequence_asks_placed facts self (forward k) f members = map_cond (has_many facts k) _ _
   sequence_asks_placed facts self (backward k) f members = refl
 
   pub pair_asks_placed : (facts : List Datom) (self : Name) (key : Key) (values : List Ask)
-      → map (ask_placed places) (pair_asks facts self key values) ≡ pair_asks facts (placed places self) key (map (ask_placed places) values)
+      → map (ask_placed places) (pair_asks facts self key values)
+      ≡ pair_asks facts (placed places self) key (map (ask_placed places) values)
   pair_asks_placed facts self own values = refl
   pair_asks_placed facts self (forward k) values = refl
   pair_asks_placed facts self (backward k) values = ap (λ asks. mentions k ∷ asks) (map_cond (has_ref facts k) _ _)
@@ -114,7 +130,8 @@ module _ (places : List (List ℕ)) where
   old_value_stays is_ref (edn.string s) = refl
   old_value_stays is_ref f = value_stays is_ref f
 
-  found_stays : (found : Option (List ℕ × Form)) → placed places (unwrap_or (name_of_pair found) (nameless [])) ≡ unwrap_or (name_of_pair found) (nameless [])
+  found_stays : (found : Option (List ℕ × Form))
+      → placed places (unwrap_or (name_of_pair found) (nameless [])) ≡ unwrap_or (name_of_pair found) (nameless [])
   found_stays None = refl
   found_stays (Some p) = refl
 
@@ -125,7 +142,8 @@ module _ (places : List (List ℕ)) where
   entity_stays (edn.vector fs) = found_stays (lookup_in fs)
   entity_stays f = refl
 
-  list_stays : (facts : List Datom) (verb : Option Verb) (fs : List Form) → map (ask_placed places) (list_asks facts verb fs) ≡ list_asks facts verb fs
+  list_stays : (facts : List Datom) (verb : Option Verb) (fs : List Form)
+      → map (ask_placed places) (list_asks facts verb fs) ≡ list_asks facts verb fs
   list_stays facts (Some add) (e ∷ a ∷ v ∷ []) =
       ap (λ name. adds name (keyword_in a) (part_placed places (value_part (has_ref facts (keyword_in a)) v)) ∷ []) (entity_stays e)
       ∙ ap (λ part. adds (entity_in e) (keyword_in a) part ∷ []) (value_stays (has_ref facts (keyword_in a)) v)
@@ -134,9 +152,13 @@ module _ (places : List (List ℕ)) where
       ∙ ap (λ part. retracts (entity_in e) (keyword_in a) part ∷ []) (old_value_stays (has_ref facts (keyword_in a)) v)
   list_stays facts (Some retract) (e ∷ a ∷ []) = ap (λ name. retracts_all name (keyword_in a) ∷ []) (entity_stays e)
   list_stays facts (Some cas) (e ∷ a ∷ old ∷ new ∷ []) =
-      ap (λ name. compares name (keyword_in a) (part_placed places (old_value_part (has_ref facts (keyword_in a)) old)) (part_placed places (old_value_part (has_ref facts (keyword_in a)) new)) ∷ []) (entity_stays e)
-      ∙ ap (λ part. compares (entity_in e) (keyword_in a) part (part_placed places (old_value_part (has_ref facts (keyword_in a)) new)) ∷ []) (old_value_stays (has_ref facts (keyword_in a)) old)
-      ∙ ap (λ part. compares (entity_in e) (keyword_in a) (old_value_part (has_ref facts (keyword_in a)) old) part ∷ []) (old_value_stays (has_ref facts (keyword_in a)) new)
+      ap (λ name. compares name (keyword_in a) (part_placed places (old_value_part (has_ref facts (keyword_in a)) old))
+      (part_placed places (old_value_part (has_ref facts (keyword_in a)) new)) ∷ []) (entity_stays e)
+      ∙ ap
+      (λ part. compares (entity_in e) (keyword_in a) part (part_placed places (old_value_part (has_ref facts (keyword_in a)) new)) ∷ [])
+      (old_value_stays (has_ref facts (keyword_in a)) old)
+      ∙ ap (λ part. compares (entity_in e) (keyword_in a) (old_value_part (has_ref facts (keyword_in a)) old) part ∷ [])
+      (old_value_stays (has_ref facts (keyword_in a)) new)
   list_stays facts (Some retract_entity) (e ∷ []) = ap (λ name. retracts_entity name ∷ []) (entity_stays e)
   list_stays facts verb fs = refl
 
@@ -170,15 +192,19 @@ module _ (places : List (List ℕ)) where
 
   -- a test of the lookup refs in names
   any_placed : (facts : List Datom) (test : List ℕ × Form → Bool) (names : List Name)
-      → list_any (λ name. list_any test (lookups_in facts name)) (map (placed places) names) ≡ list_any (λ name. list_any test (lookups_in facts name)) names
+      → list_any (λ name. list_any test (lookups_in facts name)) (map (placed places) names)
+      ≡ list_any (λ name. list_any test (lookups_in facts name)) names
   any_placed facts test [] = refl
   any_placed facts test (name ∷ names) =
-      ap (λ refs. list_any test refs || list_any (λ other. list_any test (lookups_in facts other)) (map (placed places) names)) (lookups_placed facts name)
+      ap (λ refs. list_any test refs || list_any (λ other. list_any test (lookups_in facts other)) (map (placed places) names))
+      (lookups_placed facts name)
       ∙ ap (λ b. list_any test (lookups_in facts name) || b) (any_placed facts test names)
 
   names_tested : (facts : List Datom) (test : List ℕ × Form → Bool) (ask : Ask)
-      → list_any (λ name. list_any test (lookups_in facts name)) (names_of (ask_placed places ask)) ≡ list_any (λ name. list_any test (lookups_in facts name)) (names_of ask)
-  names_tested facts test ask = ap (list_any (λ name. list_any test (lookups_in facts name))) (names_placed ask) ∙ any_placed facts test (names_of ask)
+      → list_any (λ name. list_any test (lookups_in facts name)) (names_of (ask_placed places ask))
+      ≡ list_any (λ name. list_any test (lookups_in facts name)) (names_of ask)
+  names_tested facts test ask =
+      ap (list_any (λ name. list_any test (lookups_in facts name))) (names_placed ask) ∙ any_placed facts test (names_of ask)
 
   attribute_placed : (ask : Ask) → attribute_of_ask (ask_placed places ask) ≡ attribute_of_ask ask
   attribute_placed (adds name k part) = refl
@@ -194,7 +220,8 @@ module _ (places : List (List ℕ)) where
   wrong_placed attribute (plain f) = refl
   wrong_placed attribute (entity name) = refl
 
-  wrong_old_placed : (attribute : Attribute) (part : Operand) → is_wrong_old_part attribute (part_placed places part) ≡ is_wrong_old_part attribute part
+  wrong_old_placed : (attribute : Attribute) (part : Operand)
+      → is_wrong_old_part attribute (part_placed places part) ≡ is_wrong_old_part attribute part
   wrong_old_placed attribute (plain f) = refl
   wrong_old_placed attribute (entity name) = refl
 
@@ -210,7 +237,8 @@ module _ (places : List (List ℕ)) where
   has_wrong_placed (mentions k) attribute = refl
   has_wrong_placed lacks_id attribute = refl
 
-  by_attribute : (ask : Ask) (found : Option Attribute) → option_map_or (has_wrong_part (ask_placed places ask)) found false ≡ option_map_or (has_wrong_part ask) found false
+  by_attribute : (ask : Ask) (found : Option Attribute)
+      → option_map_or (has_wrong_part (ask_placed places ask)) found false ≡ option_map_or (has_wrong_part ask) found false
   by_attribute ask None = refl
   by_attribute ask (Some attribute) = has_wrong_placed ask attribute
 
@@ -219,7 +247,8 @@ module _ (places : List (List ℕ)) where
 
   pub wrong_value_placed : (facts : List Datom) (ask : Ask) → has_wrong_value facts (ask_placed places ask) ≡ has_wrong_value facts ask
   wrong_value_placed facts ask =
-      ap (λ k. option_map_or (has_wrong_part (ask_placed places ask)) (option_map_or (attribute_named facts) k None) false) (attribute_placed ask)
+      ap (λ k. option_map_or (has_wrong_part (ask_placed places ask)) (option_map_or (attribute_named facts) k None) false)
+      (attribute_placed ask)
       ∙ by_attribute ask (attribute_in facts ask)
 
   reserved_part_placed : (part : Operand) → is_reserved_part (part_placed places part) ≡ is_reserved_part part
@@ -267,7 +296,8 @@ module _ (places : List (List ℕ)) where
       ∙ ap (λ b. matters ask && not (b || has_wrong_value facts (ask_placed places ask))) (unknown_placed facts ask)
       ∙ ap (λ b. matters ask && not (is_of_unknown facts ask || b)) (wrong_value_placed facts ask)
 
-  any_mapped : (f : Ask → Ask) (test : Ask → Bool) → ((ask : Ask) → test (f ask) ≡ test ask) → (asks : List Ask) → list_any test (map f asks) ≡ list_any test asks
+  any_mapped : (f : Ask → Ask) (test : Ask → Bool)
+      → ((ask : Ask) → test (f ask) ≡ test ask) → (asks : List Ask) → list_any test (map f asks) ≡ list_any test asks
   any_mapped f test same [] = refl
   any_mapped f test same (ask ∷ asks) =
       ap (λ b. b || list_any test (map f asks)) (same ask) ∙ ap (λ b. test ask || b) (any_mapped f test same asks)
@@ -281,11 +311,13 @@ module _ (places : List (List ℕ)) where
       let found = form_faults facts asks in
       all_five found.unknown found.protected found.wrong found.not_unique found.lacking
       (any_mapped (ask_placed places) (names_no_attribute facts)
-      (λ ask. or_same (is_of_unknown facts (ask_placed places ask)) (is_of_unknown facts ask) _ _ (unknown_placed facts ask) (names_tested facts (λ (ref : List ℕ × Form). is_unknown facts ref.0) ask)) asks)
+      (λ ask. or_same (is_of_unknown facts (ask_placed places ask)) (is_of_unknown facts ask) _ _ (unknown_placed facts ask)
+      (names_tested facts (λ (ref : List ℕ × Form). is_unknown facts ref.0) ask)) asks)
       (any_mapped (ask_placed places) (is_of_protected facts) (protected_placed facts) asks)
       (any_mapped (ask_placed places) (λ ask. has_wrong_value facts ask || list_any (has_wrong_lookup facts) (names_of ask))
       (λ ask. or_same (has_wrong_value facts (ask_placed places ask)) (has_wrong_value facts ask) _ _ (wrong_value_placed facts ask)
       (names_tested facts (λ (ref : List ℕ × Form). option_map_or (is_wrong_lookup ref.1) (attribute_named facts ref.0) false) ask)) asks)
       (any_mapped (ask_placed places) (λ ask. list_any (has_other_lookup facts) (names_of ask))
-      (λ ask. names_tested facts (λ (ref : List ℕ × Form). option_map_or (λ attribute. nat_eq attribute.uniqueness 0) (attribute_named facts ref.0) false) ask) asks)
+      (λ ask. names_tested facts
+      (λ (ref : List ℕ × Form). option_map_or (λ attribute. nat_eq attribute.uniqueness 0) (attribute_named facts ref.0) false) ask) asks)
       (any_mapped (ask_placed places) is_lacking lacking_placed asks)

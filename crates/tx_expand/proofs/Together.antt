@@ -14,7 +14,8 @@ or_assoc true b c = refl
 or_assoc false b c = refl
 
 pub all_five : {a b c d e : Bool} (v w x y z : Bool) → a ≡ v → b ≡ w → c ≡ x → d ≡ y → e ≡ z
-    → ◌≡◌ {A = Faults} (record { unknown = a; protected = b; wrong = c; not_unique = d; lacking = e }) (record { unknown = v; protected = w; wrong = x; not_unique = y; lacking = z })
+    → ◌≡◌ {A = Faults} (record { unknown = a; protected = b; wrong = c; not_unique = d; lacking = e })
+    (record { unknown = v; protected = w; wrong = x; not_unique = y; lacking = z })
 all_five {a} {b} {c} {d} {e} v w x y z p q r s t =
     ap (λ i. record { unknown = i; protected = b; wrong = c; not_unique = d; lacking = e }) p
     ∙ ap (λ i. record { unknown = v; protected = i; wrong = c; not_unique = d; lacking = e }) q
@@ -40,4 +41,7 @@ pub faults_then : (facts : List Datom) (so_far : Faults) (ask : Ask) (rest : Lis
 faults_then facts so_far ask rest = either_assoc so_far (ask_faults facts ask) (form_faults facts rest)
 
 pub one_kept : {A : Type 0} (test : A → Bool) (x : A) (xs : List A) → filter test (x ∷ []) ++ filter test xs ≡ filter test (x ∷ xs)
-one_kept test x xs = elim (test x) as (λ b. cond b (x ∷ []) [] ++ filter test xs ≡ cond b (x ∷ filter test xs) (filter test xs)) [ true ↦ refl | false ↦ refl ]
+one_kept test x xs = elim (test x) as (λ b. cond b (x ∷ []) [] ++ filter test xs ≡ cond b (x ∷ filter test xs) (filter test xs)) [
+  | true ↦ refl
+  | false ↦ refl
+]

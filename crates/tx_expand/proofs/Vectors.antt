@@ -7,9 +7,10 @@ use Rattle.edn_model.specs.Form.{Form, Forms}
 use Rattle.fb_values.specs.declared.facts.Datom.{Datom}
 use Rattle.tx_model.specs.Asks.{Name, plain, Ask, Key, own, forward, backward, lookup_in}
 use Rattle.tx_model.specs.Walk.{has_ref, has_many, has_uniqueness, links, vector_asks, sequence_asks}
-use Rattle.tx_expand.specs.Numbered.{Told, told, is_collection, vector_told, list_told}
+use Rattle.tx_expand.specs.Numbered.{Visited, visited, is_collection, walk_vector, walk_list}
 
-where_many : {A : Type 0} (refers unique many : Bool) (x y z : A) → (many && not (refers && unique)) ≡ true → cond (refers && unique) x (cond many z y) ≡ z
+where_many : {A : Type 0} (refers unique many : Bool) (x y z : A) → (many && not (refers && unique)) ≡ true
+    → cond (refers && unique) x (cond many z y) ≡ z
 where_many true true true x y z is = absurd (false≢true is)
 where_many true true false x y z is = absurd (false≢true is)
 where_many true false true x y z is = refl
@@ -58,22 +59,22 @@ alone facts self (backward k) fs (Some found) members is = where_yes (has_unique
 
 -- ---- what is told
 
-pub vector_collected : (facts : List Datom) (self : Name) (key : Key) (n : ℕ) (fs : Forms) (members : Told)
-    → is_collection facts key (lookup_in fs) ≡ true → members ≡ vector_told facts self key n fs members
+pub vector_collected : (facts : List Datom) (self : Name) (key : Key) (n : ℕ) (fs : Forms) (members : Visited)
+    → is_collection facts key (lookup_in fs) ≡ true → members ≡ walk_vector facts self key n fs members
 vector_collected facts self key n fs members is = rw is refl
 
-pub vector_alone : (facts : List Datom) (self : Name) (key : Key) (n : ℕ) (fs : Forms) (members : Told)
+pub vector_alone : (facts : List Datom) (self : Name) (key : Key) (n : ℕ) (fs : Forms) (members : Visited)
     → is_collection facts key (lookup_in fs) ≡ false
-    → told (vector_asks facts self key fs (lookup_in fs) []) n ≡ vector_told facts self key n fs members
+    → visited (vector_asks facts self key fs (lookup_in fs) []) n ≡ walk_vector facts self key n fs members
 vector_alone facts self key n fs members is = rw is refl
 
-pub list_collected : (facts : List Datom) (self : Name) (key : Key) (n : ℕ) (fs : Forms) (members : Told)
-    → is_collection facts key None ≡ true → members ≡ list_told facts self key n fs members
+pub list_collected : (facts : List Datom) (self : Name) (key : Key) (n : ℕ) (fs : Forms) (members : Visited)
+    → is_collection facts key None ≡ true → members ≡ walk_list facts self key n fs members
 list_collected facts self key n fs members is = rw is refl
 
-pub list_alone : (facts : List Datom) (self : Name) (key : Key) (n : ℕ) (fs : Forms) (members : Told)
+pub list_alone : (facts : List Datom) (self : Name) (key : Key) (n : ℕ) (fs : Forms) (members : Visited)
     → is_collection facts key None ≡ false
-    → told (links self key (plain (edn.list fs))) n ≡ list_told facts self key n fs members
+    → visited (links self key (plain (edn.list fs))) n ≡ walk_list facts self key n fs members
 list_alone facts self own n fs members is = refl
 list_alone facts self (forward k) n fs members is = rw is refl
 list_alone facts self (backward k) n fs members is = absurd (false≢true (sym is))

@@ -1,7 +1,8 @@
--- What may be wrong with an ask where the schema alone is looked at, and which asks are kept: those of which every attribute is
--- installed and every value of its type.
+-- What may be wrong with an ask where the schema alone is looked at, and which asks are kept:
+-- those of which every attribute is installed and every value of its type.
 -- Datomic, Transaction Data and Schema (lookup refs, unique identities).
-use Rattle.std.specs.Prelude.{◌≡◌, ℕ, Bool, true, false, not, ◌&&◌, ◌||◌, List, [], nat_eq, Option, Some, None}
+use Rattle.std.specs.Prelude.{◌≡◌, ℕ, Bool, true, false, not, ◌&&◌, ◌||◌, List, [], nat_eq, Option}
+use Rattle.std.specs.Prelude.{Some, None}
 use Rattle.std.specs.List.{list_any}
 use Rattle.std.specs.Option.{option_map_or}
 use Rattle.edn_model.specs.Form as edn
@@ -11,18 +12,22 @@ use Rattle.fb_values.specs.declared.facts.Datom.{Datom}
 use Rattle.fb_model.specs.Schema.{attribute_named}
 use Rattle.tx_model.specs.Asks as model
 use Rattle.tx_model.specs.Asks.{names_of, attribute_of_ask}
-use Rattle.tx_model.specs.NameRules.{lookups_from, is_unknown, has_unknown_lookup, names_no_attribute, is_protected, adds_reserved_ident, has_wrong_part, is_wrong_lookup, has_wrong_lookup, has_other_lookup, attribute_in, is_lacking}
+use Rattle.tx_model.specs.NameRules.{lookups_from, is_unknown, has_unknown_lookup}
+use Rattle.tx_model.specs.NameRules.{names_no_attribute, is_protected, adds_reserved_ident}
+use Rattle.tx_model.specs.NameRules.{has_wrong_part, is_wrong_lookup, has_wrong_lookup}
+use Rattle.tx_model.specs.NameRules.{has_other_lookup, attribute_in, is_lacking}
 use Rattle.tx_asks.specs.declared.asks.LookupRef.{LookupRef}
 use Rattle.tx_asks.specs.declared.asks.Operand.{Operand}
 use Rattle.tx_asks.specs.declared.asks.Operand.TheVariants.{Plain, Entity}
 use Rattle.tx_asks.specs.declared.asks.Ask.{Ask}
-use Rattle.tx_asks.specs.declared.asks.Ask.TheVariants.{Adds, Retracts, RetractsAll, Compares, RetractsEntity, Meets}
-use Rattle.tx_asks.specs.Asks.{matters, IsRead}
+use Rattle.tx_asks.specs.declared.asks.Ask.TheVariants.{Adds, Retracts, RetractsAll, Compares}
+use Rattle.tx_asks.specs.declared.asks.Ask.TheVariants.{RetractsEntity, Meets}
+use Rattle.tx_asks.specs.Asks.{matters, IsTyped}
 use Rattle.tx_expand.specs.declared.faults.NameFaults.{NameFaults}
 use Rattle.tx_expand.specs.declared.faults.Faults.{Faults}
 use Rattle.tx_expand.specs.declared.settle.Settled.{Settled}
 use Rattle.tx_expand.specs.declared.settle.Settled.TheVariants.{Stands, Wrong, Unknown, Mere}
-use Rattle.tx_expand.specs.Seen.{name_seen}
+use Rattle.tx_expand.specs.View.{model_name}
 
 -- ---- lookup refs
 
@@ -62,7 +67,7 @@ lookups_faults facts refs =
           refs;
     }
 
--- those of a lookup ref that stands as a value, if there is one
+-- the faults of a lookup ref that is given as a value, if there is one
 abbrev pub lookups_inside : List Datom → Option (List ℕ × Form) → List (List ℕ × Form)
 lookups_inside facts None = []
 lookups_inside facts (Some ref) = lookups_from facts ref.0 ref.1
@@ -142,7 +147,7 @@ is_kept facts ask = matters ask && not (is_of_unknown facts ask || has_wrong_val
 
 abbrev pub part_read : List LookupRef → Operand → model.Operand
 part_read all (Plain f v) = model.plain (form_of f.now)
-part_read all (Entity name) = model.entity (name_seen all name)
+part_read all (Entity name) = model.entity (model_name all name)
 
 -- nil as the old value of a cas
 abbrev pub old_part_read : List LookupRef → Option Operand → model.Operand
@@ -151,15 +156,15 @@ old_part_read all (Some part) = part_read all part
 
 abbrev pub ask_read : List LookupRef → Ask → model.Ask
 ask_read all (Adds on attribute part) =
-    model.adds (name_seen all on) attribute.now.ident (part_read all part)
+    model.adds (model_name all on) attribute.now.ident (part_read all part)
 ask_read all (Retracts on attribute part) =
-    model.retracts (name_seen all on) attribute.now.ident (part_read all part)
-ask_read all (RetractsAll on attribute) = model.retracts_all (name_seen all on) attribute.now.ident
+    model.retracts (model_name all on) attribute.now.ident (part_read all part)
+ask_read all (RetractsAll on attribute) = model.retracts_all (model_name all on) attribute.now.ident
 ask_read all (Compares on attribute old new) =
-    model.compares (name_seen all on) attribute.now.ident (old_part_read all old)
+    model.compares (model_name all on) attribute.now.ident (old_part_read all old)
     (part_read all new)
-ask_read all (RetractsEntity on) = model.retracts_entity (name_seen all on)
-ask_read all (Meets on) = model.meets (name_seen all on)
+ask_read all (RetractsEntity on) = model.retracts_entity (model_name all on)
+ask_read all (Meets on) = model.meets (model_name all on)
 
 -- what became of an ask, where these are the lookup refs of the transaction
 abbrev pub Settles : List Datom → List LookupRef → model.Ask → Settled → Type 0
@@ -168,7 +173,7 @@ Settles facts all m (Stands ask) =
     × (is_of_unknown facts m ≡ false)
     × (has_wrong_value facts m ≡ false)
     × (ask_read all ask ≡ m)
-    × IsRead facts ask
+    × IsTyped facts ask
 Settles facts all m Wrong = (is_of_unknown facts m ≡ false) × (has_wrong_value facts m ≡ true)
 Settles facts all m Unknown = (is_of_unknown facts m ≡ true) × (has_wrong_value facts m ≡ false)
 Settles facts all m Mere =

@@ -6,13 +6,15 @@ use Rattle.fb_values.specs.declared.facts.Entry.{Entry}
 use Rattle.fb_model.specs.Lawful.{IsLawful}
 use Rattle.fb_model.specs.Schema.{Attribute, attribute_named}
 use Rattle.fb_schema.specs.Described.{SchemaStands}
-use Rattle.fb_schema.specs.Parts.{attribute_in}
+use Rattle.fb_schema.specs.Parts.{model_attribute}
 use Rattle.tx_expand.specs.declared.raw.Attr.{Attr}
 use Rattle.tx_expand.specs.declared.raw.Attr.TheVariants.{Known, Unknown}
 use Rattle.tx_expand.specs.declared.raw.Link.{Link}
 use Rattle.tx_expand.specs.declared.raw.Link.TheVariants.{Forward, Backward}
 use Rattle.tx_expand.specs.declared.raw.RawAsk.{RawAsk}
-use Rattle.tx_expand.specs.declared.raw.RawAsk.TheVariants.{Adds, Retracts, RetractsAll, Compares, RetractsEntity, Meets, Mentions, LacksId}
+use Rattle.tx_expand.specs.declared.raw.RawAsk.TheVariants.{Adds, Retracts, RetractsAll, Compares}
+use Rattle.tx_expand.specs.declared.raw.RawAsk.TheVariants.{RetractsEntity, Meets, Mentions}
+use Rattle.tx_expand.specs.declared.raw.RawAsk.TheVariants.{LacksId}
 use Rattle.tx_expand.specs.declared.raw.Out.{Out}
 
 -- the schema is that of some lawful history
@@ -28,7 +30,7 @@ HaveOwnNames facts =
 -- an attribute is known where it is installed
 abbrev pub IsLookedUp : List Datom → Attr → Type 0
 IsLookedUp facts (Known attribute) =
-    attribute_named facts attribute.now.ident ≡ Some (attribute_in attribute.now)
+    attribute_named facts attribute.now.ident ≡ Some (model_attribute attribute.now)
 IsLookedUp facts (Unknown k) = attribute_named facts k ≡ None
 
 abbrev pub IsLinkLookedUp : List Datom → Link → Type 0

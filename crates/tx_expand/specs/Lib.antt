@@ -1,7 +1,7 @@
-pub mod Seen
+pub mod View
 pub mod Known
 pub mod Numbered
-pub mod Tells
+pub mod Walks
 pub mod Texts
 pub mod Faults
 pub mod Rules

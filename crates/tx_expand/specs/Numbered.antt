@@ -1,26 +1,33 @@
--- The walk over a transaction where maps without `:db/id` go by their numbers, in the order in which a reader meets them: what
--- is asked, and the number of the next such map. But for these names it is the walk of the definitions.
--- Datomic, Transaction Data (map forms, nested maps, cardinality-many values, reverse attribute names).
-use Rattle.std.specs.Prelude.{ℕ, ◌+◌, Bool, true, false, not, ◌&&◌, ◌||◌, List, [], ◌∷◌, ◌++◌, if◌then◌else◌, Option, Some, None}
+-- The walk over a transaction where maps without `:db/id` go by their numbers,
+-- in the order in which a reader meets them: what is asked, and the number of the next such map.
+-- But for these names it is the walk of the definitions.
+-- Datomic, Transaction Data (map forms,
+-- nested maps, cardinality-many values, reverse attribute names).
+use Rattle.std.specs.Prelude.{ℕ, ◌+◌, Bool, true, false, not, ◌&&◌, ◌||◌, List, [], ◌∷◌, ◌++◌}
+use Rattle.std.specs.Prelude.{if◌then◌else◌, Option, Some, None}
 use Rattle.edn_model.specs.Form as edn
 use Rattle.edn_model.specs.Form.{Form, Forms, no_forms, form, Pairs, no_pairs, pair, items}
 use Rattle.fb_values.specs.declared.facts.Datom.{Datom}
-use Rattle.tx_model.specs.Asks.{Name, nameless, plain, entity, Ask, meets, lookup_in, Key, own, forward, backward, key_in}
-use Rattle.tx_model.specs.Walk.{has_ref, has_many, has_uniqueness, has_parts, has_identity, need, name_of_map, links, nested_asks, scalar_asks, vector_asks, sequence_asks, pair_asks, verb_asks}
+use Rattle.tx_model.specs.Asks.{Name, nameless, plain, entity, Ask, meets, lookup_in, Key, own}
+use Rattle.tx_model.specs.Asks.{forward, backward, key_in}
+use Rattle.tx_model.specs.Walk.{has_ref, has_many, has_uniqueness, has_parts, has_identity, need}
+use Rattle.tx_model.specs.Walk.{name_of_map, links, nested_asks, scalar_asks, vector_asks}
+use Rattle.tx_model.specs.Walk.{sequence_asks, pair_asks, verb_asks}
 
-pub record Told : Type 0 where
+pub record Visited : Type 0 where
   pub asks : List Ask
   pub next : ℕ
 
-abbrev pub told : List Ask → ℕ → Told
-told asks next = record { asks = asks; next = next }
+abbrev pub visited : List Ask → ℕ → Visited
+visited asks next = record { asks = asks; next = next }
 
 -- one after the other
-abbrev pub then_told : Told → (ℕ → Told) → Told
-then_told first rest =
+abbrev pub then_walk : Visited → (ℕ → Visited) → Visited
+then_walk first rest =
     record { asks = first.asks ++ (rest first.next).asks; next = (rest first.next).next }
 
--- the map's entity, where the next map without `:db/id` has the number n, and the number of the next one behind it
+-- the map's entity, where the next map without `:db/id` has the number n,
+-- and the number of the next one after it
 abbrev pub name_at : ℕ → Pairs → Name
 name_at n ps = name_of_map (n ∷ []) ps
 
@@ -63,72 +70,73 @@ entry_asks facts self key n ps = links self key (entity (name_at n ps)) ++ need 
 
 -- ---- the walk
 
-abbrev pub nested_told : List Datom → Name → Key → ℕ → Pairs → Told → Told
-nested_told facts self key n ps inner =
+abbrev pub walk_nested : List Datom → Name → Key → ℕ → Pairs → Visited → Visited
+walk_nested facts self key n ps inner =
     if takes_maps facts key
-    then told (nested_asks facts self key (name_at n ps) ps inner.asks) inner.next
-    else told (nested_asks facts self key (name_at n ps) ps []) n
+    then visited (nested_asks facts self key (name_at n ps) ps inner.asks) inner.next
+    else visited (nested_asks facts self key (name_at n ps) ps []) n
 
-abbrev pub vector_told : List Datom → Name → Key → ℕ → Forms → Told → Told
-vector_told facts self key n fs members =
+abbrev pub walk_vector : List Datom → Name → Key → ℕ → Forms → Visited → Visited
+walk_vector facts self key n fs members =
     if is_collection facts key (lookup_in fs) then members
-    else told (vector_asks facts self key fs (lookup_in fs) []) n
+    else visited (vector_asks facts self key fs (lookup_in fs) []) n
 
-abbrev pub list_told : List Datom → Name → Key → ℕ → Forms → Told → Told
-list_told facts self key n fs members =
+abbrev pub walk_list : List Datom → Name → Key → ℕ → Forms → Visited → Visited
+walk_list facts self key n fs members =
     if is_collection facts key None then members
-    else told (sequence_asks facts self key (edn.list fs) []) n
+    else visited (sequence_asks facts self key (edn.list fs) []) n
 
-abbrev pub pair_told : List Datom → Name → Key → ℕ → Told → Told
-pair_told facts self key n values =
-    if takes_values facts key then told (pair_asks facts self key values.asks) values.next
-    else told (pair_asks facts self key []) n
+abbrev pub walk_pair : List Datom → Name → Key → ℕ → Visited → Visited
+walk_pair facts self key n values =
+    if takes_values facts key then visited (pair_asks facts self key values.asks) values.next
+    else visited (pair_asks facts self key []) n
 
 abbrev mutual
-  pub map_told : List Datom → Name → ℕ → Pairs → Told
-  map_told facts self n no_pairs = told [] n
-  map_told facts self n (pair key value rest) =
-      then_told (pair_told facts self (key_in key) n (value_told facts self (key_in key) n value))
-      (λ m. map_told facts self m rest)
+  pub walk_map : List Datom → Name → ℕ → Pairs → Visited
+  walk_map facts self n no_pairs = visited [] n
+  walk_map facts self n (pair key value rest) =
+      then_walk (walk_pair facts self (key_in key) n (walk_value facts self (key_in key) n value))
+      (λ m. walk_map facts self m rest)
 
-  pub value_told : List Datom → Name → Key → ℕ → Form → Told
-  value_told facts self key n (edn.map ps) =
-      nested_told facts self key n ps (map_told facts (name_at n ps) (behind (name_at n ps) n) ps)
-  value_told facts self key n (edn.set fs) = members_told facts self key n fs
-  value_told facts self key n (edn.vector fs) =
-      vector_told facts self key n fs (members_told facts self key n fs)
-  value_told facts self key n (edn.list fs) =
-      list_told facts self key n fs (members_told facts self key n fs)
-  value_told facts self key n f = told (scalar_asks facts self key f) n
+  pub walk_value : List Datom → Name → Key → ℕ → Form → Visited
+  walk_value facts self key n (edn.map ps) =
+      walk_nested facts self key n ps (walk_map facts (name_at n ps) (behind (name_at n ps) n) ps)
+  walk_value facts self key n (edn.set fs) = walk_members facts self key n fs
+  walk_value facts self key n (edn.vector fs) =
+      walk_vector facts self key n fs (walk_members facts self key n fs)
+  walk_value facts self key n (edn.list fs) =
+      walk_list facts self key n fs (walk_members facts self key n fs)
+  walk_value facts self key n f = visited (scalar_asks facts self key f) n
 
-  pub members_told : List Datom → Name → Key → ℕ → Forms → Told
-  members_told facts self key n no_forms = told [] n
-  members_told facts self key n (form f fs) =
-      then_told (member_told facts self key n f) (λ m. members_told facts self key m fs)
+  pub walk_members : List Datom → Name → Key → ℕ → Forms → Visited
+  walk_members facts self key n no_forms = visited [] n
+  walk_members facts self key n (form f fs) =
+      then_walk (walk_member facts self key n f) (λ m. walk_members facts self key m fs)
 
-  pub member_told : List Datom → Name → Key → ℕ → Form → Told
-  member_told facts self key n (edn.map ps) =
-      nested_told facts self key n ps (map_told facts (name_at n ps) (behind (name_at n ps) n) ps)
-  member_told facts self key n (edn.vector fs) =
-      told (vector_asks facts self key fs (lookup_in fs) (links self key (plain (edn.vector fs)))) n
-  member_told facts self key n f = told (scalar_asks facts self key f) n
+  pub walk_member : List Datom → Name → Key → ℕ → Form → Visited
+  walk_member facts self key n (edn.map ps) =
+      walk_nested facts self key n ps (walk_map facts (name_at n ps) (behind (name_at n ps) n) ps)
+  walk_member facts self key n (edn.vector fs) =
+      visited
+      (vector_asks facts self key fs (lookup_in fs) (links self key (plain (edn.vector fs)))) n
+  walk_member facts self key n f = visited (scalar_asks facts self key f) n
 
 -- ---- forms
 
-abbrev pub form_told : List Datom → ℕ → Form → Told
-form_told facts n (edn.vector fs) = told (verb_asks facts (items fs)) n
-form_told facts n (edn.list fs) = told (verb_asks facts (items fs)) n
-form_told facts n (edn.map ps) =
-    then_told (told (meets (name_at n ps) ∷ []) (behind (name_at n ps) n))
-    (λ m. map_told facts (name_at n ps) m ps)
-form_told facts n f = told [] n
+abbrev pub walk_form : List Datom → ℕ → Form → Visited
+walk_form facts n (edn.vector fs) = visited (verb_asks facts (items fs)) n
+walk_form facts n (edn.list fs) = visited (verb_asks facts (items fs)) n
+walk_form facts n (edn.map ps) =
+    then_walk (visited (meets (name_at n ps) ∷ []) (behind (name_at n ps) n))
+    (λ m. walk_map facts (name_at n ps) m ps)
+walk_form facts n f = visited [] n
 
--- what each form asks, and the number behind them all
-abbrev pub forms_told : List Datom → ℕ → List Form → List (List Ask)
-forms_told facts n [] = []
-forms_told facts n (f ∷ fs) =
-    (form_told facts n f).asks ∷ forms_told facts (form_told facts n f).next fs
+-- what each form asks, and the number after them all
+abbrev pub walk_forms : List Datom → ℕ → List Form → List (List Ask)
+walk_forms facts n [] = []
+walk_forms facts n (f ∷ fs) =
+    (walk_form facts n f).asks ∷ walk_forms facts (walk_form facts n f).next fs
 
 abbrev pub next_behind : List Datom → ℕ → List Form → ℕ
 next_behind facts n [] = n
-next_behind facts n (f ∷ fs) = next_behind facts (form_told facts n f).next fs
+next_behind facts n (f ∷ fs) = next_behind facts (walk_form facts n f).next fs

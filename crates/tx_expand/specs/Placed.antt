@@ -1,8 +1,9 @@
 -- Maps without `:db/id` by their places in place of their numbers. This project's own choice.
 use Rattle.std.specs.Prelude.{ℕ, List, [], ◌∷◌, slice_index_or}
-use Rattle.tx_model.specs.Asks.{Name, nameless, Operand, plain, entity, Ask, adds, retracts, retracts_all, compares, retracts_entity, meets, mentions, lacks_id}
+use Rattle.tx_model.specs.Asks.{Name, nameless, Operand, plain, entity, Ask, adds, retracts}
+use Rattle.tx_model.specs.Asks.{retracts_all, compares, retracts_entity, meets, mentions, lacks_id}
 
--- where the map with the number stands, which is alone in the path
+-- the place of the map with the number, which is alone in the path
 abbrev pub place_of : List (List ℕ) → List ℕ → List ℕ
 place_of places [] = []
 place_of places (n ∷ rest) = slice_index_or places n []

@@ -1,14 +1,19 @@
--- The rules that need the schema alone, each with the first form that breaks it: the least rule first.
--- Datomic, Transaction Data and Schema. That of several faults the least rule is told is this project's own choice.
+-- The rules that need the schema alone,
+-- each with the first form that breaks it: the least rule first.
+-- Datomic, Transaction Data and Schema.
+-- That of several faults the least rule is reported is this project's own choice.
 use Rattle.std.specs.Prelude.{ℕ, Bool, List, [], ◌∷◌, map, if◌then◌else◌, Option, Some, None, ⊤}
 use Rattle.fb_values.specs.declared.facts.Datom.{Datom}
 use Rattle.tx_refusals.specs.declared.reasons.Reason.{Reason}
-use Rattle.tx_refusals.specs.declared.reasons.Reason.TheVariants.{NotAnAttribute, ProtectedAttribute, WrongType, NotUniqueLookup}
+use Rattle.tx_refusals.specs.declared.reasons.Reason.TheVariants.{NotAnAttribute}
+use Rattle.tx_refusals.specs.declared.reasons.Reason.TheVariants.{ProtectedAttribute, WrongType}
+use Rattle.tx_refusals.specs.declared.reasons.Reason.TheVariants.{NotUniqueLookup}
 use Rattle.tx_refusals.specs.declared.reasons.Refusal.{Refusal}
 use Rattle.tx_forms.specs.declared.read.TxStop.{TxStop}
 use Rattle.tx_forms.specs.declared.read.TxStop.TheVariants.{Refused, Memory}
 use Rattle.tx_model.specs.Asks.{Ask}
-use Rattle.tx_model.specs.NameRules.{breaks_not_an_attribute, breaks_protected_attribute, breaks_wrong_type, breaks_not_unique_lookup}
+use Rattle.tx_model.specs.NameRules.{breaks_not_an_attribute, breaks_protected_attribute}
+use Rattle.tx_model.specs.NameRules.{breaks_wrong_type, breaks_not_unique_lookup}
 use Rattle.tx_model.specs.Step.{first_yes}
 use Rattle.tx_model.specs.Tempids.{Db}
 use Rattle.tx_expand.specs.declared.faults.Faults.{Faults}
@@ -23,7 +28,7 @@ schema_rules db asks =
     ∷ (NotUniqueLookup, first_yes 0 (map (breaks_not_unique_lookup db) asks))
     ∷ []
 
--- why a transaction was refused, if it was not for want of memory
+-- why a transaction was refused, if memory did not run out
 abbrev pub IfRefused : TxStop → (Refusal → Type 0) → Type 0
 IfRefused (Refused refusal) P = P refusal
 IfRefused Memory P = ⊤

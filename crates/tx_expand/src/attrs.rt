@@ -2,7 +2,7 @@
 ghost use Rattle.std.specs.Prelude.{◌≡◌, ◌++◌, ◌∷◌, [], List, IfOk};
 ghost use Rattle.tx_model.specs.Walk as model;
 ghost use Rattle.tx_asks.specs.declared.asks.LookupRef.{LookupRef as model_LookupRef};
-ghost use Rattle.tx_expand.specs.Seen.{word_of, out_seen, raw_seen};
+ghost use Rattle.tx_expand.specs.View.{word_of, model_asks, model_ask};
 ghost use Rattle.tx_expand.specs.Known.{HaveOwnNames, IsLookedUp, IsAskLookedUp, AreLookedUp};
 
 use crate::raw::{Attr, Out, RawAsk};
@@ -66,7 +66,7 @@ pub fn is_unique(schema: &Schema, attr: &Attr<'_>) -> bool
     }
 }
 
-/// The same of the attribute that the keyword names.
+/// Whether a value of the attribute that the keyword names has one entity at most.
 pub fn has_uniqueness(schema: &Schema, k: &Text) -> bool
     ensures { result ≡ model.has_uniqueness schema.now k.now }
 {
@@ -81,7 +81,7 @@ pub fn push<'a>(schema: &Schema, out: &mut Out<'a>, raw: RawAsk<'a>) -> Result<(
     requires known { AreLookedUp schema.now out.old }
     requires raw_known { IsAskLookedUp schema.now raw }
     ensures asks { (all : List model_LookupRef) → IfOk result
-        (λ _. out_seen all out.new ≡ out_seen all out.old ++ raw_seen all raw.entry ∷ []) }
+        (λ _. model_asks all out.new ≡ model_asks all out.old ++ model_ask all raw.entry ∷ []) }
     ensures lookups { IfOk result (λ _. out.new.lookups ≡ out.old.lookups) }
     ensures next { IfOk result (λ _. out.new.next ≡ out.old.next) }
     ensures known { IfOk result (λ _. AreLookedUp schema.now out.new) }

@@ -31,7 +31,7 @@ fn noted(first: Option<usize>, has_fault: bool, place: usize) -> Option<usize>
     }
 }
 
-/// With what is wrong with the form at the place, behind those before it.
+/// With what is wrong with the form at the place, after those before it.
 pub fn with_faults(firsts: Firsts, faults: Faults, place: usize) -> Firsts
     ensures { result ≡ earlier_ones firsts (firsts_of faults place) }
 {

@@ -5,10 +5,10 @@ ghost use Rattle.edn_form.specs.View.{form_of, forms_of};
 ghost use Rattle.tx_model.specs.Shapes.{has_shape};
 ghost use Rattle.tx_model.specs.Step.{first_without_shape};
 ghost use Rattle.tx_asks.specs.declared.asks.LookupRef.{LookupRef as model_LookupRef};
-ghost use Rattle.tx_asks.specs.Asks.{IsRead};
+ghost use Rattle.tx_asks.specs.Asks.{IsTyped};
 ghost use Rattle.tx_expand.specs.Known.{HaveOwnNames};
-ghost use Rattle.tx_expand.specs.Numbered.{form_told};
-ghost use Rattle.tx_expand.specs.Seen.{BeginWith};
+ghost use Rattle.tx_expand.specs.Numbered.{walk_form};
+ghost use Rattle.tx_expand.specs.View.{BeginWith};
 ghost use Rattle.tx_expand.specs.Faults.{form_faults, ref_faults, ask_read, is_kept};
 ghost use Rattle.tx_expand.specs.Walked.{IsWalked};
 
@@ -53,17 +53,17 @@ fn expand_form<'a>(
     requires shape { has_shape (form_of f.now) ≡ true }
     requires judged { judged.old.items ≡ map (ref_faults schema.now) out.old.lookups.items }
     ensures faults { IfOk result (λ form. form.faults
-        ≡ form_faults schema.now (form_told schema.now out.old.next (form_of f.now)).asks) }
+        ≡ form_faults schema.now (walk_form schema.now out.old.next (form_of f.now)).asks) }
     ensures asks { (all : List model_LookupRef) → BeginWith out.new.lookups.items all
         → IfOk result (λ form. map (ask_read all) form.asks.items
-        ≡ filter (is_kept schema.now) (form_told schema.now out.old.next (form_of f.now)).asks) }
-    ensures read { IfOk result (λ form. All (IsRead schema.now) form.asks.items) }
+        ≡ filter (is_kept schema.now) (walk_form schema.now out.old.next (form_of f.now)).asks) }
+    ensures read { IfOk result (λ form. All (IsTyped schema.now) form.asks.items) }
     ensures judged { IfOk result
         (λ _. judged.new.items ≡ map (ref_faults schema.now) out.new.lookups.items) }
     ensures kept { (all : List model_LookupRef) → BeginWith out.new.lookups.items all
         → IfOk result (λ _. BeginWith out.old.lookups.items all) }
     ensures next { IfOk result
-        (λ _. out.new.next ≡ (form_told schema.now out.old.next (form_of f.now)).next) }
+        (λ _. out.new.next ≡ (walk_form schema.now out.old.next (form_of f.now)).next) }
 {
     out.raws.clear();
     form_asks(alloc, schema, out, f)?;

@@ -1,4 +1,4 @@
-//! The asks of a form, judged: those that stand, and what is wrong with any.
+//! The asks of a form, judged: those with which nothing is wrong, and what is wrong with the others.
 ghost use Rattle.std.specs.Prelude.{◌≡◌, ◌++◌, ◌∷◌, [], List, map, filter, IfOk};
 ghost use Rattle.std.specs.List.{All};
 ghost use Rattle.edn_form.specs.View.{form_of};
@@ -7,8 +7,8 @@ ghost use Rattle.tx_model.specs.Asks as asks;
 ghost use Rattle.tx_model.specs.Asks.{Ask as model_Ask};
 ghost use Rattle.tx_model.specs.NameRules as model;
 ghost use Rattle.tx_asks.specs.declared.asks.LookupRef.{LookupRef as model_LookupRef};
-ghost use Rattle.tx_asks.specs.Asks.{IsRead};
-ghost use Rattle.tx_expand.specs.Seen.{word_of, part_seen, raw_seen};
+ghost use Rattle.tx_asks.specs.Asks.{IsTyped};
+ghost use Rattle.tx_expand.specs.View.{word_of, model_part, model_ask};
 ghost use Rattle.tx_expand.specs.Known.{IsLookedUp, IsAskLookedUp};
 ghost use Rattle.tx_expand.specs.Faults as faults;
 ghost use Rattle.tx_expand.specs.Faults.{ask_read, is_kept, Settles};
@@ -25,7 +25,7 @@ use fb_schema::Schema;
 use std::alloc::Global;
 use tx_asks::Ask;
 
-/// The asks of a form that stand, and what is wrong with any of its asks.
+/// The asks of a form with which nothing is wrong, and what is wrong with any of its asks.
 #[derive(Drop)]
 pub struct Judged<'a> {
     pub asks: Vec<Ask<'a>>,
@@ -38,7 +38,7 @@ pub struct Judged<'a> {
 fn part_faults(judged: &[NameFaults], part: RawPart<'_>) -> NameFaults
     ensures { (facts : List Datom) (all : List model_LookupRef)
         → judged.now ≡ map (faults.ref_faults facts) all
-        → result ≡ faults.names_faults facts (asks.name_of_part (part_seen all part.entry)) }
+        → result ≡ faults.names_faults facts (asks.name_of_part (model_part all part.entry)) }
 {
     match part {
         RawPart::Plain(_) => NameFaults::NONE,
@@ -51,7 +51,7 @@ fn part_faults(judged: &[NameFaults], part: RawPart<'_>) -> NameFaults
 fn names_faults(judged: &[NameFaults], raw: &RawAsk<'_>) -> NameFaults
     ensures { (facts : List Datom) (all : List model_LookupRef)
         → judged.now ≡ map (faults.ref_faults facts) all
-        → result ≡ faults.names_faults facts (asks.names_of (raw_seen all raw.now)) }
+        → result ≡ faults.names_faults facts (asks.names_of (model_ask all raw.now)) }
 {
     match raw {
         RawAsk::Adds(on, _, part) => name_faults(judged, *on).or(part_faults(judged, *part)),
@@ -101,7 +101,7 @@ fn is_reserved_form(f: &Edn) -> bool
 
 fn is_reserved_part(part: RawPart<'_>) -> bool
     ensures { (all : List model_LookupRef)
-        → result ≡ model.is_reserved_part (part_seen all part.entry) }
+        → result ≡ model.is_reserved_part (model_part all part.entry) }
 {
     match part {
         RawPart::Plain(f) => is_reserved_form(f),
@@ -113,7 +113,7 @@ fn is_reserved_part(part: RawPart<'_>) -> bool
 fn is_of_protected(schema: &Schema, raw: &RawAsk<'_>) -> bool
     requires { IsAskLookedUp schema.now raw.now }
     ensures { (all : List model_LookupRef)
-        → result ≡ faults.is_of_protected schema.now (raw_seen all raw.now) }
+        → result ≡ faults.is_of_protected schema.now (model_ask all raw.now) }
 {
     match raw {
         RawAsk::Adds(_, attr, part) => {
@@ -156,7 +156,7 @@ fn is_wrong(settled: &Settled<'_>) -> bool
 }
 
 fn is_lacking(raw: &RawAsk<'_>) -> bool
-    ensures { (all : List model_LookupRef) → result ≡ model.is_lacking (raw_seen all raw.now) }
+    ensures { (all : List model_LookupRef) → result ≡ model.is_lacking (model_ask all raw.now) }
 {
     match raw {
         RawAsk::LacksId => true,
@@ -164,7 +164,7 @@ fn is_lacking(raw: &RawAsk<'_>) -> bool
     }
 }
 
-/// Keeps an ask that stands.
+/// Keeps an ask with which nothing is wrong.
 fn keep<'a>(settled: Settled<'a>, asks: &mut Vec<Ask<'a>>) -> Result<(), Memory>
     ensures asks { (facts : List Datom) (all : List model_LookupRef) (ask : model_Ask)
         → Settles facts all ask settled.entry
@@ -172,8 +172,8 @@ fn keep<'a>(settled: Settled<'a>, asks: &mut Vec<Ask<'a>>) -> Result<(), Memory>
         ≡ map (ask_read all) asks.old.items ++ filter (is_kept facts) (ask ∷ [])) }
     ensures read { (facts : List Datom) (all : List model_LookupRef) (ask : model_Ask)
         → Settles facts all ask settled.entry
-        → All (IsRead facts) asks.old.items
-        → IfOk result (λ _. All (IsRead facts) asks.new.items) }
+        → All (IsTyped facts) asks.old.items
+        → IfOk result (λ _. All (IsTyped facts) asks.new.items) }
 {
     match settled {
         Settled::Stands(ask) => {
@@ -193,15 +193,15 @@ fn judge<'a>(
     asks: &mut Vec<Ask<'a>>,
 ) -> Result<Faults, Memory>
     requires known { IsAskLookedUp schema.now raw.now }
-    requires read { All (IsRead schema.now) asks.old.items }
+    requires read { All (IsTyped schema.now) asks.old.items }
     ensures faults { (all : List model_LookupRef)
         → judged.now ≡ map (faults.ref_faults schema.now) all
-        → IfOk result (λ found. found ≡ faults.ask_faults schema.now (raw_seen all raw.now)) }
+        → IfOk result (λ found. found ≡ faults.ask_faults schema.now (model_ask all raw.now)) }
     ensures asks { (all : List model_LookupRef) → IfOk result
         (λ _. map (ask_read all) asks.new.items
         ≡ map (ask_read all) asks.old.items
-        ++ filter (is_kept schema.now) (raw_seen all raw.now ∷ [])) }
-    ensures read { IfOk result (λ _. All (IsRead schema.now) asks.new.items) }
+        ++ filter (is_kept schema.now) (model_ask all raw.now ∷ [])) }
+    ensures read { IfOk result (λ _. All (IsTyped schema.now) asks.new.items) }
 {
     let names = names_faults(judged, raw);
     let settled = settle(schema, raw)?;
@@ -229,11 +229,11 @@ pub fn judge_all<'a>(
     ensures faults { (all : List model_LookupRef)
         → judged.now ≡ map (faults.ref_faults schema.now) all
         → IfOk result
-        (λ form. form.faults ≡ faults.form_faults schema.now (map (raw_seen all) raws.now)) }
+        (λ form. form.faults ≡ faults.form_faults schema.now (map (model_ask all) raws.now)) }
     ensures asks { (all : List model_LookupRef) → IfOk result
         (λ form. map (ask_read all) form.asks.items
-        ≡ filter (is_kept schema.now) (map (raw_seen all) raws.now)) }
-    ensures read { IfOk result (λ form. All (IsRead schema.now) form.asks.items) }
+        ≡ filter (is_kept schema.now) (map (model_ask all) raws.now)) }
+    ensures read { IfOk result (λ form. All (IsTyped schema.now) form.asks.items) }
 {
     let mut asks = Vec::with_capacity(alloc, raws.len())?;
     let mut faults = Faults::NONE;

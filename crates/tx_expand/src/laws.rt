@@ -11,14 +11,14 @@ ghost use Rattle.tx_model.specs.Tempids.{Db};
 ghost use Rattle.tx_model.specs.Walk.{flat};
 ghost use Rattle.tx_asks.specs.Asks.{AreApart};
 ghost use Rattle.tx_expand.specs.Known.{HaveOwnNames, IsLawfulSchema};
-ghost use Rattle.tx_expand.specs.Numbered.{forms_told, next_behind};
+ghost use Rattle.tx_expand.specs.Numbered.{walk_forms, next_behind};
 ghost use Rattle.tx_expand.specs.Placed.{ask_placed};
 ghost use Rattle.tx_expand.specs.Rules.{schema_rules};
 
 use fb_model::{attributes_stay_attributes, facts_are_what_holds, one_value_and_one_holder};
 use fb_schema::schemas_tell_of_attributes;
 
-/// What a transaction asks, and which of the rules it breaks that need the schema alone, is told by the attributes that
+/// What a transaction asks, and which of the rules it breaks that need the schema alone, depends on the attributes that
 /// keywords name.
 pub fn attributes_decide_what_is_asked()
     ensures asks { (one other : List Datom) (fs : List Form)
@@ -40,12 +40,12 @@ pub fn attributes_have_their_names()
     schemas_tell_of_attributes();
 }
 
-/// No two maps of a transaction stand at one place: where they are numbered in the order in which a reader meets them,
+/// No two maps of a transaction are at one place: where they are numbered in the order in which a reader meets them,
 /// each number has a place of its own.
 pub fn maps_have_places_of_their_own()
     ensures { (facts : List Datom) (fs : List Form)
         → (places : List (List ℕ))
         × (AreApart places
         × (length places ≡ next_behind facts 0 fs)
-        × (map (map (ask_placed places)) (forms_told facts 0 fs) ≡ flat facts fs)) }
+        × (map (map (ask_placed places)) (walk_forms facts 0 fs) ≡ flat facts fs)) }
 {}

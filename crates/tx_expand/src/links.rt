@@ -6,10 +6,10 @@ ghost use Rattle.fb_values.specs.declared.facts.Datom.{Datom};
 ghost use Rattle.tx_model.specs.Asks as asks;
 ghost use Rattle.tx_model.specs.Walk as model;
 ghost use Rattle.tx_asks.specs.declared.asks.LookupRef.{LookupRef as model_LookupRef};
-ghost use Rattle.tx_expand.specs.Seen.{BeginWith, name_seen, link_seen, part_seen, raw_seen, out_seen};
+ghost use Rattle.tx_expand.specs.View.{BeginWith, model_name, model_link, model_part, model_ask, model_asks};
 ghost use Rattle.tx_expand.specs.Known.{HaveOwnNames, IsLinkLookedUp, IsAskLookedUp, AreLookedUp};
-ghost use Rattle.tx_expand.specs.Tells.{Tells};
-ghost use Rattle.tx_expand.specs.Numbered.{told, name_at, behind, is_collection as is_model_collection, takes_maps as takes_model_maps, lacks, entry_asks};
+ghost use Rattle.tx_expand.specs.Walks.{Walks};
+ghost use Rattle.tx_expand.specs.Numbered.{visited, name_at, behind, is_collection as is_model_collection, takes_maps as takes_model_maps, lacks, entry_asks};
 
 use crate::attrs::{has_many, has_parts, has_ref, has_uniqueness, is_unique, push};
 use crate::lists::scalar;
@@ -24,8 +24,8 @@ use tx_forms::lookup_in;
 
 /// What one value under a key asks.
 fn linked<'a>(this: Name<'a>, link: &Link<'a>, part: RawPart<'a>) -> Result<RawAsk<'a>, Memory>
-    ensures ask { (all : List model_LookupRef) → IfOk result (λ raw. raw_seen all raw ∷ []
-        ≡ model.links (name_seen all this.entry) (link_seen link.now) (part_seen all part.entry)) }
+    ensures ask { (all : List model_LookupRef) → IfOk result (λ raw. model_ask all raw ∷ []
+        ≡ model.links (model_name all this.entry) (model_link link.now) (model_part all part.entry)) }
     ensures known { (facts : List Datom) → IsLinkLookedUp facts link.now
         → IfOk result (λ raw. IsAskLookedUp facts raw) }
 {
@@ -48,9 +48,9 @@ pub fn link<'a>(
 ) -> Result<(), Memory>
     requires link_known { IsLinkLookedUp schema.now link.now }
     requires known { AreLookedUp schema.now out.old }
-    ensures asks { (all : List model_LookupRef) → IfOk result (λ _. out_seen all out.new
-        ≡ out_seen all out.old
-        ++ model.links (name_seen all this.entry) (link_seen link.now) (part_seen all part.entry)) }
+    ensures asks { (all : List model_LookupRef) → IfOk result (λ _. model_asks all out.new
+        ≡ model_asks all out.old
+        ++ model.links (model_name all this.entry) (model_link link.now) (model_part all part.entry)) }
     ensures lookups { IfOk result (λ _. out.new.lookups ≡ out.old.lookups) }
     ensures next { IfOk result (λ _. out.new.next ≡ out.old.next) }
     ensures known { IfOk result (λ _. AreLookedUp schema.now out.new) }
@@ -63,8 +63,8 @@ pub fn link<'a>(
 fn scalar_part<'a>(schema: &Schema, key: &Link<'a>, f: &'a Edn) -> RawPart<'a>
     requires { IsLinkLookedUp schema.now key.now }
     ensures { (all : List model_LookupRef) (name : asks.Name)
-        → model.links name (link_seen key.now) (part_seen all result)
-        ≡ model.scalar_asks schema.now name (link_seen key.now) (form_of f.now) }
+        → model.links name (model_link key.now) (model_part all result)
+        ≡ model.scalar_asks schema.now name (model_link key.now) (form_of f.now) }
 {
     match key {
         Link::Forward(attr) => scalar(has_ref(schema, attr), f),
@@ -85,9 +85,9 @@ pub fn scalar_link<'a>(
 ) -> Result<(), Memory>
     requires link_known { IsLinkLookedUp schema.now key.now }
     requires known { AreLookedUp schema.now out.old }
-    ensures asks { (all : List model_LookupRef) → IfOk result (λ _. out_seen all out.new
-        ≡ out_seen all out.old
-        ++ model.scalar_asks schema.now (name_seen all this.entry) (link_seen key.now)
+    ensures asks { (all : List model_LookupRef) → IfOk result (λ _. model_asks all out.new
+        ≡ model_asks all out.old
+        ++ model.scalar_asks schema.now (model_name all this.entry) (model_link key.now)
         (form_of f.now)) }
     ensures lookups { IfOk result (λ _. out.new.lookups ≡ out.old.lookups) }
     ensures next { IfOk result (λ _. out.new.next ≡ out.old.next) }
@@ -103,7 +103,7 @@ pub fn scalar_link<'a>(
 pub fn is_collection<'a>(schema: &Schema, key: &Link<'a>, items: &Items) -> bool
     requires { IsLinkLookedUp schema.now key.now }
     ensures { result
-        ≡ is_model_collection schema.now (link_seen key.now)
+        ≡ is_model_collection schema.now (model_link key.now)
         (asks.lookup_in (edn.forms (forms_of (members items.now)))) }
 {
     match lookup_in(items) {
@@ -120,7 +120,7 @@ pub fn is_collection<'a>(schema: &Schema, key: &Link<'a>, items: &Items) -> bool
 /// Whether a list under the key is a collection.
 pub fn takes_several<'a>(schema: &Schema, key: &Link<'a>) -> bool
     requires { IsLinkLookedUp schema.now key.now }
-    ensures { result ≡ is_model_collection schema.now (link_seen key.now) None }
+    ensures { result ≡ is_model_collection schema.now (model_link key.now) None }
 {
     match key {
         Link::Forward(attr) => has_many(schema, attr),
@@ -137,14 +137,14 @@ fn vector_part<'a>(
     items: &'a Items,
 ) -> Result<RawPart<'a>, Memory>
     requires vector { form_of f.now ≡ edn.vector (edn.forms (forms_of (members items.now))) }
-    requires alone { is_model_collection schema.now (link_seen key.now)
+    requires alone { is_model_collection schema.now (model_link key.now)
         (asks.lookup_in (edn.forms (forms_of (members items.now))))
         ≡ false }
     requires link_known { IsLinkLookedUp schema.now key.now }
     ensures part { (all : List model_LookupRef) → BeginWith lookups.new.items all
         → IfOk result (λ part. (name : asks.Name)
-        → model.links name (link_seen key.now) (part_seen all part)
-        ≡ model.vector_asks schema.now name (link_seen key.now)
+        → model.links name (model_link key.now) (model_part all part)
+        ≡ model.vector_asks schema.now name (model_link key.now)
         (edn.forms (forms_of (members items.now)))
         (asks.lookup_in (edn.forms (forms_of (members items.now)))) []) }
     ensures kept { (all : List model_LookupRef) → BeginWith lookups.new.items all
@@ -169,13 +169,13 @@ pub fn vector_link<'a>(
     items: &'a Items,
 ) -> Result<(), Memory>
     requires vector { form_of f.now ≡ edn.vector (edn.forms (forms_of (members items.now))) }
-    requires alone { is_model_collection schema.now (link_seen key.now)
+    requires alone { is_model_collection schema.now (model_link key.now)
         (asks.lookup_in (edn.forms (forms_of (members items.now))))
         ≡ false }
     requires link_known { IsLinkLookedUp schema.now key.now }
     requires known { AreLookedUp schema.now out.old }
-    ensures told { IfOk result (λ _. Tells out.old out.new (λ all.
-        told (model.vector_asks schema.now (name_seen all this.entry) (link_seen key.now)
+    ensures walks { IfOk result (λ _. Walks out.old out.new (λ all.
+        visited (model.vector_asks schema.now (model_name all this.entry) (model_link key.now)
         (edn.forms (forms_of (members items.now)))
         (asks.lookup_in (edn.forms (forms_of (members items.now)))) []) out.old.next)) }
     ensures known { IfOk result (λ _. AreLookedUp schema.now out.new) }
@@ -196,11 +196,11 @@ pub fn member_link<'a>(
     requires vector { form_of f.now ≡ edn.vector (edn.forms (forms_of (members items.now))) }
     requires link_known { IsLinkLookedUp schema.now key.now }
     requires known { AreLookedUp schema.now out.old }
-    ensures told { IfOk result (λ _. Tells out.old out.new (λ all.
-        told (model.vector_asks schema.now (name_seen all this.entry) (link_seen key.now)
+    ensures walks { IfOk result (λ _. Walks out.old out.new (λ all.
+        visited (model.vector_asks schema.now (model_name all this.entry) (model_link key.now)
         (edn.forms (forms_of (members items.now)))
         (asks.lookup_in (edn.forms (forms_of (members items.now))))
-        (model.links (name_seen all this.entry) (link_seen key.now)
+        (model.links (model_name all this.entry) (model_link key.now)
         (asks.plain (edn.vector (edn.forms (forms_of (members items.now))))))) out.old.next)) }
     ensures known { IfOk result (λ _. AreLookedUp schema.now out.new) }
 {
@@ -248,7 +248,7 @@ pub fn lacks_id<'a>(
     requires own { HaveOwnNames schema.now }
     requires link_known { IsLinkLookedUp schema.now key.now }
     ensures { IfOk result
-        (λ b. b ≡ lacks schema.now (link_seen key.now) (edn.pairs (pairs_of (entries pairs.now)))) }
+        (λ b. b ≡ lacks schema.now (model_link key.now) (edn.pairs (pairs_of (entries pairs.now)))) }
 {
     if let Link::Forward(attr) = key {
         if has_parts(schema, attr) {
@@ -258,11 +258,11 @@ pub fn lacks_id<'a>(
     Ok(!has_identity(alloc, schema, pairs)?)
 }
 
-/// The number of the next map without `:db/id`, behind one whose entity has this name.
+/// The number of the next map without `:db/id`, after one whose entity has this name.
 #[tactic(auto, using(crate::proofs::LookupLists::behind_lookup))]
 fn number_behind(name: Name<'_>, next: usize) -> Result<usize, Memory>
     ensures { (all : List model_LookupRef)
-        → IfOk result (λ n. n ≡ behind (name_seen all name.entry) next) }
+        → IfOk result (λ n. n ≡ behind (model_name all name.entry) next) }
 {
     match name {
         // No memory has room for as many maps as there are numbers.
@@ -275,7 +275,7 @@ fn number_behind(name: Name<'_>, next: usize) -> Result<usize, Memory>
 pub fn enter<'a>(out: &mut Out<'a>, pairs: &'a Pairs) -> Result<Name<'a>, Memory>
     ensures name { (all : List model_LookupRef) → BeginWith out.new.lookups.items all
         → IfOk result
-        (λ name. name_seen all name ≡ name_at out.old.next (edn.pairs (pairs_of (entries pairs.now)))) }
+        (λ name. model_name all name ≡ name_at out.old.next (edn.pairs (pairs_of (entries pairs.now)))) }
     ensures kept { (all : List model_LookupRef) → BeginWith out.new.lookups.items all
         → IfOk result (λ _. BeginWith out.old.lookups.items all) }
     ensures next { IfOk result (λ _. out.new.next
@@ -290,7 +290,7 @@ pub fn enter<'a>(out: &mut Out<'a>, pairs: &'a Pairs) -> Result<Name<'a>, Memory
 /// Whether a map under the key is asked about: one under an attribute whose values are no entities is no value.
 pub fn takes_maps<'a>(schema: &Schema, key: &Link<'a>) -> bool
     requires { IsLinkLookedUp schema.now key.now }
-    ensures { result ≡ takes_model_maps schema.now (link_seen key.now) }
+    ensures { result ≡ takes_model_maps schema.now (model_link key.now) }
 {
     match key {
         Link::Forward(attr) => has_ref(schema, attr),
@@ -302,7 +302,7 @@ pub fn takes_maps<'a>(schema: &Schema, key: &Link<'a>) -> bool
 fn push_lack(schema: &Schema, out: &mut Out<'_>, lacks: bool) -> Result<(), Memory>
     requires known { AreLookedUp schema.now out.old }
     ensures asks { (all : List model_LookupRef) → IfOk result
-        (λ _. out_seen all out.new ≡ out_seen all out.old ++ model.need lacks) }
+        (λ _. model_asks all out.new ≡ model_asks all out.old ++ model.need lacks) }
     ensures lookups { IfOk result (λ _. out.new.lookups ≡ out.old.lookups) }
     ensures next { IfOk result (λ _. out.new.next ≡ out.old.next) }
     ensures known { IfOk result (λ _. AreLookedUp schema.now out.new) }
@@ -313,7 +313,7 @@ fn push_lack(schema: &Schema, out: &mut Out<'_>, lacks: bool) -> Result<(), Memo
     Ok(())
 }
 
-/// Enters a map that stands under a key: the link to it, and what it lacks.
+/// Enters a map under a key: the link to it, and what it lacks.
 pub fn enter_nested<'a>(
     alloc: Global,
     schema: &'a Schema,
@@ -327,9 +327,9 @@ pub fn enter_nested<'a>(
     requires known { AreLookedUp schema.now out.old }
     ensures name { (all : List model_LookupRef) → BeginWith out.new.lookups.items all
         → IfOk result
-        (λ name. name_seen all name ≡ name_at out.old.next (edn.pairs (pairs_of (entries pairs.now)))) }
-    ensures told { IfOk result (λ _. Tells out.old out.new (λ all.
-        told (entry_asks schema.now (name_seen all this.entry) (link_seen key.now) out.old.next
+        (λ name. model_name all name ≡ name_at out.old.next (edn.pairs (pairs_of (entries pairs.now)))) }
+    ensures walks { IfOk result (λ _. Walks out.old out.new (λ all.
+        visited (entry_asks schema.now (model_name all this.entry) (model_link key.now) out.old.next
         (edn.pairs (pairs_of (entries pairs.now))))
         (behind (name_at out.old.next (edn.pairs (pairs_of (entries pairs.now)))) out.old.next))) }
     ensures known { IfOk result (λ _. AreLookedUp schema.now out.new) }

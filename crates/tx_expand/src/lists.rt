@@ -6,7 +6,7 @@ ghost use Rattle.tx_model.specs.Shapes as shapes;
 ghost use Rattle.tx_model.specs.Walk as model;
 ghost use Rattle.tx_forms.specs.Words.{verb_of};
 ghost use Rattle.tx_asks.specs.declared.asks.LookupRef.{LookupRef as model_LookupRef};
-ghost use Rattle.tx_expand.specs.Seen.{BeginWith, part_seen, raw_seen};
+ghost use Rattle.tx_expand.specs.View.{BeginWith, model_part, model_ask};
 ghost use Rattle.tx_expand.specs.Known.{HaveOwnNames, IsAskLookedUp};
 
 use crate::attrs::has_ref;
@@ -22,7 +22,7 @@ use tx_forms::{Verb, lookup_in, verb_in};
 
 /// An entity that a number, an ident or a tempid names, or a plain value.
 fn entity_or_plain<'a>(f: &'a Edn) -> RawPart<'a>
-    ensures { (all : List model_LookupRef) → part_seen all result ≡ model.scalar true (form_of f.now) }
+    ensures { (all : List model_LookupRef) → model_part all result ≡ model.scalar true (form_of f.now) }
 {
     match f {
         Edn::Int(n) if *n >= 0 => RawPart::Entity(Name::Number(*n)),
@@ -34,7 +34,7 @@ fn entity_or_plain<'a>(f: &'a Edn) -> RawPart<'a>
 
 /// A number, an ident or a tempid under an attribute whose values are entities, and else a plain value.
 pub fn scalar<'a>(is_ref: bool, f: &'a Edn) -> RawPart<'a>
-    ensures { (all : List model_LookupRef) → part_seen all result ≡ model.scalar is_ref (form_of f.now) }
+    ensures { (all : List model_LookupRef) → model_part all result ≡ model.scalar is_ref (form_of f.now) }
 {
     if is_ref {
         entity_or_plain(f)
@@ -50,7 +50,7 @@ fn value_part<'a>(
     f: &'a Edn,
 ) -> Result<RawPart<'a>, Memory>
     ensures part { (all : List model_LookupRef) → BeginWith lookups.new.items all
-        → IfOk result (λ part. part_seen all part ≡ model.value_part is_ref (form_of f.now)) }
+        → IfOk result (λ part. model_part all part ≡ model.value_part is_ref (form_of f.now)) }
     ensures kept { (all : List model_LookupRef) → BeginWith lookups.new.items all
         → IfOk result (λ _. BeginWith lookups.old.items all) }
 {
@@ -73,7 +73,7 @@ fn old_value_part<'a>(
     f: &'a Edn,
 ) -> Result<RawPart<'a>, Memory>
     ensures part { (all : List model_LookupRef) → BeginWith lookups.new.items all
-        → IfOk result (λ part. part_seen all part ≡ model.old_value_part is_ref (form_of f.now)) }
+        → IfOk result (λ part. model_part all part ≡ model.old_value_part is_ref (form_of f.now)) }
     ensures kept { (all : List model_LookupRef) → BeginWith lookups.new.items all
         → IfOk result (λ _. BeginWith lookups.old.items all) }
 {
@@ -96,7 +96,7 @@ fn add<'a>(
     requires entity { shapes.names_an_entity (form_of e.now) ≡ true }
     requires keyword { shapes.is_keyword (form_of a.now) ≡ true }
     ensures ask { (all : List model_LookupRef) → BeginWith lookups.new.items all
-        → IfOk result (λ raw. raw_seen all raw ∷ []
+        → IfOk result (λ raw. model_ask all raw ∷ []
         ≡ model.list_asks schema.now (Some shapes.add)
         (form_of e.now ∷ form_of a.now ∷ form_of v.now ∷ [])) }
     ensures kept { (all : List model_LookupRef) → BeginWith lookups.new.items all
@@ -120,7 +120,7 @@ fn retract<'a>(
     requires entity { shapes.names_an_entity (form_of e.now) ≡ true }
     requires keyword { shapes.is_keyword (form_of a.now) ≡ true }
     ensures ask { (all : List model_LookupRef) → BeginWith lookups.new.items all
-        → IfOk result (λ raw. raw_seen all raw ∷ []
+        → IfOk result (λ raw. model_ask all raw ∷ []
         ≡ model.list_asks schema.now (Some shapes.retract)
         (form_of e.now ∷ form_of a.now ∷ form_of v.now ∷ [])) }
     ensures kept { (all : List model_LookupRef) → BeginWith lookups.new.items all
@@ -143,7 +143,7 @@ fn retract_all<'a>(
     requires entity { shapes.names_an_entity (form_of e.now) ≡ true }
     requires keyword { shapes.is_keyword (form_of a.now) ≡ true }
     ensures ask { (all : List model_LookupRef) → BeginWith lookups.new.items all
-        → IfOk result (λ raw. raw_seen all raw ∷ []
+        → IfOk result (λ raw. model_ask all raw ∷ []
         ≡ model.list_asks schema.now (Some shapes.retract) (form_of e.now ∷ form_of a.now ∷ [])) }
     ensures kept { (all : List model_LookupRef) → BeginWith lookups.new.items all
         → IfOk result (λ _. BeginWith lookups.old.items all) }
@@ -165,7 +165,7 @@ fn compare<'a>(
     requires entity { shapes.names_an_entity (form_of e.now) ≡ true }
     requires keyword { shapes.is_keyword (form_of a.now) ≡ true }
     ensures ask { (all : List model_LookupRef) → BeginWith lookups.new.items all
-        → IfOk result (λ raw. raw_seen all raw ∷ []
+        → IfOk result (λ raw. model_ask all raw ∷ []
         ≡ model.list_asks schema.now (Some shapes.cas)
         (form_of e.now ∷ form_of a.now ∷ form_of old.now ∷ form_of new.now ∷ [])) }
     ensures kept { (all : List model_LookupRef) → BeginWith lookups.new.items all
@@ -183,7 +183,7 @@ fn compare<'a>(
 fn retract_entity<'a>(lookups: &mut Vec<LookupRef<'a>>, e: &'a Edn) -> Result<RawAsk<'a>, Memory>
     requires { shapes.names_an_entity (form_of e.now) ≡ true }
     ensures ask { (all : List model_LookupRef) → BeginWith lookups.new.items all
-        → IfOk result (λ raw. raw_seen all raw ∷ []
+        → IfOk result (λ raw. model_ask all raw ∷ []
         ≡ model.list_asks [] (Some shapes.retract_entity) (form_of e.now ∷ [])) }
     ensures kept { (all : List model_LookupRef) → BeginWith lookups.new.items all
         → IfOk result (λ _. BeginWith lookups.old.items all) }
@@ -202,7 +202,7 @@ fn ask_of<'a>(
     requires own { HaveOwnNames schema.now }
     requires shape { shapes.has_arguments (Some (verb_of verb)) (forms_of arguments.now) ≡ true }
     ensures ask { (all : List model_LookupRef) → BeginWith lookups.new.items all
-        → IfOk result (λ raw. raw_seen all raw ∷ []
+        → IfOk result (λ raw. model_ask all raw ∷ []
         ≡ model.list_asks schema.now (Some (verb_of verb)) (forms_of arguments.now)) }
     ensures kept { (all : List model_LookupRef) → BeginWith lookups.new.items all
         → IfOk result (λ _. BeginWith lookups.old.items all) }
@@ -239,7 +239,7 @@ pub fn list_ask<'a>(
     requires shape { shapes.has_list_shape (forms_of members.now) ≡ true }
     ensures ask { (all : List model_LookupRef) → BeginWith lookups.new.items all
         → IfOk result
-        (λ raw. raw_seen all raw ∷ [] ≡ model.verb_asks schema.now (forms_of members.now)) }
+        (λ raw. model_ask all raw ∷ [] ≡ model.verb_asks schema.now (forms_of members.now)) }
     ensures kept { (all : List model_LookupRef) → BeginWith lookups.new.items all
         → IfOk result (λ _. BeginWith lookups.old.items all) }
     ensures known { IfOk result (λ raw. IsAskLookedUp schema.now raw) }

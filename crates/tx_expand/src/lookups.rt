@@ -4,13 +4,13 @@ ghost use Rattle.edn_model.specs.Form as edn;
 ghost use Rattle.edn_form.specs.View.{form_of, forms_of, members};
 ghost use Rattle.fb_numbers.specs.Numbers.{type_ref};
 ghost use Rattle.fb_model.specs.Schema.{attribute_named};
-ghost use Rattle.fb_schema.specs.Parts.{attribute_in};
+ghost use Rattle.fb_schema.specs.Parts.{model_attribute};
 ghost use Rattle.tx_model.specs.Asks as asks;
 ghost use Rattle.tx_model.specs.NameRules as model;
 ghost use Rattle.tx_model.specs.Values.{value_in};
 ghost use Rattle.tx_asks.specs.declared.asks.LookupRef.{LookupRef as model_LookupRef};
 ghost use Rattle.fb_values.specs.declared.facts.Datom.{Datom};
-ghost use Rattle.tx_expand.specs.Seen.{name_seen};
+ghost use Rattle.tx_expand.specs.View.{model_name};
 ghost use Rattle.tx_expand.specs.Faults.{no_name_faults, lookup_faults, lookups_faults, lookups_inside, ref_faults};
 
 use crate::faults::NameFaults;
@@ -39,7 +39,7 @@ pub fn plain_value(attribute: &Attribute, f: &Edn) -> Result<Option<Value>, Memo
 #[tactic(auto, using(crate::proofs::LookupRefs::wrong_vector))]
 fn is_no_old_entity(attribute: &Attribute, value: &Edn) -> bool
     requires { attribute.now.kind ≡ type_ref }
-    ensures { result ≡ model.is_wrong_lookup (form_of value.now) (attribute_in attribute.now) }
+    ensures { result ≡ model.is_wrong_lookup (form_of value.now) (model_attribute attribute.now) }
 {
     match value {
         Edn::Int(n) => *n < 0,
@@ -52,7 +52,7 @@ fn is_no_old_entity(attribute: &Attribute, value: &Edn) -> bool
 /// Whether the value is none that the attribute may have already.
 fn is_wrong_lookup(attribute: &Attribute, value: &Edn) -> Result<bool, Memory>
     ensures { IfOk result
-        (λ b. b ≡ model.is_wrong_lookup (form_of value.now) (attribute_in attribute.now)) }
+        (λ b. b ≡ model.is_wrong_lookup (form_of value.now) (model_attribute attribute.now)) }
 {
     if attribute.is_ref() {
         return Ok(is_no_old_entity(attribute, value));
@@ -67,7 +67,7 @@ fn lookup_faults(
     attribute: &Attribute,
     value: &Edn,
 ) -> Result<NameFaults, Memory>
-    requires { attribute_named _schema.now _k.now ≡ Some (attribute_in attribute.now) }
+    requires { attribute_named _schema.now _k.now ≡ Some (model_attribute attribute.now) }
     ensures { IfOk result
         (λ faults. faults ≡ lookup_faults _schema.now (_k.now, form_of value.now)) }
 {
@@ -118,7 +118,7 @@ fn faults_of_pair(schema: &Schema, items: &Items) -> Result<NameFaults, Memory>
     }
 }
 
-/// Judges the lookup refs behind those that are judged.
+/// Judges the lookup refs after those that are judged.
 pub fn judge_lookups(
     schema: &Schema,
     lookups: &[LookupRef<'_>],
@@ -150,7 +150,7 @@ fn faults_at(judged: &[NameFaults], n: usize) -> NameFaults
 pub fn name_faults(judged: &[NameFaults], name: Name<'_>) -> NameFaults
     ensures { (facts : List Datom) (all : List model_LookupRef)
         → judged.now ≡ map (ref_faults facts) all
-        → result ≡ lookups_faults facts (model.lookups_in facts (name_seen all name.entry)) }
+        → result ≡ lookups_faults facts (model.lookups_in facts (model_name all name.entry)) }
 {
     match name {
         Name::Lookup(n) => faults_at(judged, n),

@@ -8,7 +8,7 @@ ghost use Rattle.tx_model.specs.Asks as asks;
 ghost use Rattle.tx_model.specs.Shapes as shapes;
 ghost use Rattle.tx_model.specs.Walk as walk;
 ghost use Rattle.tx_asks.specs.declared.asks.LookupRef.{LookupRef as model_LookupRef};
-ghost use Rattle.tx_expand.specs.Seen.{BeginWith, name_seen, word_of, link_seen, key_seen};
+ghost use Rattle.tx_expand.specs.View.{BeginWith, model_name, word_of, model_link, model_key};
 ghost use Rattle.tx_expand.specs.Known.{HaveOwnNames, IsLookedUp, IsLinkLookedUp, IsKeyLookedUp};
 ghost use Rattle.tx_expand.specs.Numbered.{name_at};
 ghost use Rattle.tx_expand.specs.Texts.{cut_at_slash, other_key};
@@ -31,7 +31,7 @@ pub fn looked_up<'a>(
     value: &'a Edn,
 ) -> Result<Name<'a>, Memory>
     ensures name { (all : List model_LookupRef) → BeginWith lookups.new.items all
-        → IfOk result (λ name. name_seen all name ≡ asks.lookup attribute.now (form_of value.now)) }
+        → IfOk result (λ name. model_name all name ≡ asks.lookup attribute.now (form_of value.now)) }
     ensures kept { (all : List model_LookupRef) → BeginWith lookups.new.items all
         → IfOk result (λ _. BeginWith lookups.old.items all) }
 {
@@ -40,11 +40,11 @@ pub fn looked_up<'a>(
     Ok(name)
 }
 
-/// The entity that a form names, in a place where a tempid may stand.
+/// The entity that a form names, in a place where a tempid may be.
 pub fn name_in<'a>(lookups: &mut Vec<LookupRef<'a>>, f: &'a Edn) -> Result<Option<Name<'a>>, Memory>
     ensures name { (all : List model_LookupRef) → BeginWith lookups.new.items all
         → IfOk result
-        (λ name. option_map (name_seen all) name ≡ asks.name_in (form_of f.now)) }
+        (λ name. option_map (model_name all) name ≡ asks.name_in (form_of f.now)) }
     ensures kept { (all : List model_LookupRef) → BeginWith lookups.new.items all
         → IfOk result (λ _. BeginWith lookups.old.items all) }
 {
@@ -64,7 +64,7 @@ pub fn name_in<'a>(lookups: &mut Vec<LookupRef<'a>>, f: &'a Edn) -> Result<Optio
 pub fn entity_in<'a>(lookups: &mut Vec<LookupRef<'a>>, f: &'a Edn) -> Result<Name<'a>, Memory>
     requires { shapes.names_an_entity (form_of f.now) ≡ true }
     ensures name { (all : List model_LookupRef) → BeginWith lookups.new.items all
-        → IfOk result (λ name. name_seen all name ≡ walk.entity_in (form_of f.now)) }
+        → IfOk result (λ name. model_name all name ≡ walk.entity_in (form_of f.now)) }
     ensures kept { (all : List model_LookupRef) → BeginWith lookups.new.items all
         → IfOk result (λ _. BeginWith lookups.old.items all) }
 {
@@ -97,7 +97,7 @@ fn named_by<'a>(
 ) -> Result<Option<Name<'a>>, Memory>
     ensures name { (all : List model_LookupRef) → BeginWith lookups.new.items all
         → IfOk result (λ name. (other : asks.Name)
-        → unwrap_or (option_map (name_seen all) name) other
+        → unwrap_or (option_map (model_name all) name) other
         ≡ walk.named_by (asks.key_in (form_of key.now)) (form_of value.now) other) }
     ensures kept { (all : List model_LookupRef) → BeginWith lookups.new.items all
         → IfOk result (λ _. BeginWith lookups.old.items all) }
@@ -117,7 +117,7 @@ pub fn name_of_map<'a>(
 ) -> Result<Name<'a>, Memory>
     ensures name { (all : List model_LookupRef) → BeginWith lookups.new.items all
         → IfOk result
-        (λ name. name_seen all name ≡ name_at next (edn.pairs (pairs_of (entries pairs.now)))) }
+        (λ name. model_name all name ≡ name_at next (edn.pairs (pairs_of (entries pairs.now)))) }
     ensures kept { (all : List model_LookupRef) → BeginWith lookups.new.items all
         → IfOk result (λ _. BeginWith lookups.old.items all) }
 {
@@ -131,7 +131,7 @@ pub fn name_of_map<'a>(
 
 // ---- the keys of maps
 
-/// The parts before and behind the first slash, where there is one.
+/// The parts before and after the first slash, where there is one.
 fn split(text: &str) -> Option<(&str, &str)>
     ensures { option_map {U = List ℕ × List ℕ} (λ parts. (parts.0.now, parts.1.now)) result
         ≡ cut_at_slash text.now }
@@ -166,7 +166,7 @@ fn without_underscore(alloc: Global, k: &str) -> Result<Text, Memory>
 
 fn link_named<'a>(alloc: Global, schema: &'a Schema, k: &Text) -> Result<Link<'a>, Memory>
     requires own { HaveOwnNames schema.now }
-    ensures key { IfOk result (λ link. link_seen link ≡ other_key k.now) }
+    ensures key { IfOk result (λ link. model_link link ≡ other_key k.now) }
     ensures known { IfOk result (λ link. IsLinkLookedUp schema.now link) }
 {
     if begins_with_one_of(b"_", local_name(k.as_str()).as_bytes()) {
@@ -179,7 +179,7 @@ fn link_named<'a>(alloc: Global, schema: &'a Schema, k: &Text) -> Result<Link<'a
 /// The attribute that the key names, and the way in which it leads. `None` is `:db/id`.
 pub fn link_in<'a>(alloc: Global, schema: &'a Schema, key: &Edn) -> Result<Option<Link<'a>>, Memory>
     requires own { HaveOwnNames schema.now }
-    ensures key { IfOk result (λ link. key_seen link ≡ asks.key_in (form_of key.now)) }
+    ensures key { IfOk result (λ link. model_key link ≡ asks.key_in (form_of key.now)) }
     ensures known { IfOk result (λ link. IsKeyLookedUp schema.now link) }
 {
     if is_id(key) {

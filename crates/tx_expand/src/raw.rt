@@ -1,4 +1,4 @@
-//! What a form asks, before it is judged: names and forms as they stand, with the attributes that were looked up.
+//! What a form asks, before it is judged: names and forms as they are, with the attributes that were looked up.
 ghost use Rattle.std.specs.Prelude.{◌≡◌, [], IfOk};
 
 use edn_form::Edn;
@@ -24,7 +24,7 @@ pub enum Link<'a> {
     Backward(Attr<'a>),
 }
 
-/// What stands in the place of a value.
+/// What is given in the place of a value.
 #[derive(Clone, Copy)]
 pub enum RawPart<'a> {
     /// A value, to be read by the attribute's type.
@@ -42,7 +42,7 @@ pub enum RawAsk<'a> {
     /// The old value and the new one.
     Compares(Name<'a>, Attr<'a>, RawPart<'a>, RawPart<'a>),
     RetractsEntity(Name<'a>),
-    /// A map stands for this entity.
+    /// There is a map of this entity.
     Meets(Name<'a>),
     /// An attribute is a key of a map.
     Mentions(Attr<'a>),

@@ -1,12 +1,12 @@
-//! What becomes of an ask: it stands, with its values read, or something is wrong with it.
+//! What becomes of an ask: its values are read, or something is wrong with it.
 ghost use Rattle.std.specs.Prelude.{◌≡◌, List, true, false, Some, option_map, MatchOption, IfOk};
 ghost use Rattle.edn_form.specs.View.{form_of};
-ghost use Rattle.fb_schema.specs.Parts.{attribute_in};
+ghost use Rattle.fb_schema.specs.Parts.{model_attribute};
 ghost use Rattle.tx_model.specs.Asks as asks;
 ghost use Rattle.tx_model.specs.NameRules as model;
 ghost use Rattle.tx_asks.specs.declared.asks.LookupRef.{LookupRef as model_LookupRef};
-ghost use Rattle.tx_asks.specs.Asks.{IsReadPart, IsReadOldPart};
-ghost use Rattle.tx_expand.specs.Seen.{name_seen, word_of, part_seen, raw_seen};
+ghost use Rattle.tx_asks.specs.Asks.{IsTypedPart, IsTypedOldPart};
+ghost use Rattle.tx_expand.specs.View.{model_name, word_of, model_part, model_ask};
 ghost use Rattle.tx_expand.specs.Known.{IsLookedUp, IsAskLookedUp};
 ghost use Rattle.tx_expand.specs.Faults.{part_read, old_part_read, Settles};
 
@@ -32,10 +32,10 @@ pub enum Settled<'a> {
 /// The part with its value read, if it is one of the attribute.
 fn read_part<'a>(attribute: &Attribute, part: RawPart<'a>) -> Result<Option<Operand<'a>>, Memory>
     ensures { (all : List model_LookupRef) → IfOk result (λ read. MatchOption read
-        (model.is_wrong_part (attribute_in attribute.now) (part_seen all part.entry) ≡ true)
-        (λ r. (model.is_wrong_part (attribute_in attribute.now) (part_seen all part.entry) ≡ false)
-        × (part_read all r ≡ part_seen all part.entry)
-        × IsReadPart attribute.now r)) }
+        (model.is_wrong_part (model_attribute attribute.now) (model_part all part.entry) ≡ true)
+        (λ r. (model.is_wrong_part (model_attribute attribute.now) (model_part all part.entry) ≡ false)
+        × (part_read all r ≡ model_part all part.entry)
+        × IsTypedPart attribute.now r)) }
 {
     match part {
         RawPart::Plain(f) => match plain_value(attribute, f)? {
@@ -57,10 +57,10 @@ fn read_old<'a>(
     part: RawPart<'a>,
 ) -> Result<Option<Option<Operand<'a>>>, Memory>
     ensures { (all : List model_LookupRef) → IfOk result (λ read. MatchOption read
-        (model.is_wrong_old_part (attribute_in attribute.now) (part_seen all part.entry) ≡ true)
-        (λ r. (model.is_wrong_old_part (attribute_in attribute.now) (part_seen all part.entry) ≡ false)
-        × (old_part_read all r ≡ part_seen all part.entry)
-        × IsReadOldPart attribute.now r)) }
+        (model.is_wrong_old_part (model_attribute attribute.now) (model_part all part.entry) ≡ true)
+        (λ r. (model.is_wrong_old_part (model_attribute attribute.now) (model_part all part.entry) ≡ false)
+        × (old_part_read all r ≡ model_part all part.entry)
+        × IsTypedOldPart attribute.now r)) }
 {
     match part {
         RawPart::Plain(f) => read_old_form(attribute, f),
@@ -83,11 +83,11 @@ fn read_old_form<'a>(
     f: &'a Edn,
 ) -> Result<Option<Option<Operand<'a>>>, Memory>
     ensures { (all : List model_LookupRef) → IfOk result (λ read. MatchOption read
-        (model.is_wrong_old_part (attribute_in attribute.now) (asks.plain (form_of f.now)) ≡ true)
-        (λ r. (model.is_wrong_old_part (attribute_in attribute.now) (asks.plain (form_of f.now))
+        (model.is_wrong_old_part (model_attribute attribute.now) (asks.plain (form_of f.now)) ≡ true)
+        (λ r. (model.is_wrong_old_part (model_attribute attribute.now) (asks.plain (form_of f.now))
         ≡ false)
         × (old_part_read all r ≡ asks.plain (form_of f.now))
-        × IsReadOldPart attribute.now r)) }
+        × IsTypedOldPart attribute.now r)) }
 {
     match f {
         Edn::Nil => Ok(Some(None)),
@@ -106,7 +106,7 @@ fn settle_addition<'a>(
 ) -> Result<Settled<'a>, Memory>
     requires { IsLookedUp _schema.now attr.now }
     ensures { (all : List model_LookupRef) → IfOk result (λ settled. Settles _schema.now all
-        (asks.adds (name_seen all on.entry) (word_of attr.now) (part_seen all part.entry)) settled) }
+        (asks.adds (model_name all on.entry) (word_of attr.now) (model_part all part.entry)) settled) }
 {
     let Attr::Known(attribute) = attr else {
         return Ok(Settled::Unknown);
@@ -129,7 +129,7 @@ fn settle_retraction<'a>(
 ) -> Result<Settled<'a>, Memory>
     requires { IsLookedUp _schema.now attr.now }
     ensures { (all : List model_LookupRef) → IfOk result (λ settled. Settles _schema.now all
-        (asks.retracts (name_seen all on.entry) (word_of attr.now) (part_seen all part.entry)) settled) }
+        (asks.retracts (model_name all on.entry) (word_of attr.now) (model_part all part.entry)) settled) }
 {
     let Attr::Known(attribute) = attr else {
         return Ok(Settled::Unknown);
@@ -153,8 +153,8 @@ fn settle_comparison<'a>(
 ) -> Result<Settled<'a>, Memory>
     requires { IsLookedUp _schema.now attr.now }
     ensures { (all : List model_LookupRef) → IfOk result (λ settled. Settles _schema.now all
-        (asks.compares (name_seen all on.entry) (word_of attr.now) (part_seen all old.entry)
-        (part_seen all new.entry))
+        (asks.compares (model_name all on.entry) (word_of attr.now) (model_part all old.entry)
+        (model_part all new.entry))
         settled) }
 {
     let Attr::Known(attribute) = attr else {
@@ -178,7 +178,7 @@ fn settle_comparison<'a>(
 pub fn settle<'a>(schema: &Schema, raw: &RawAsk<'a>) -> Result<Settled<'a>, Memory>
     requires { IsAskLookedUp schema.now raw.now }
     ensures { (all : List model_LookupRef)
-        → IfOk result (λ settled. Settles schema.now all (raw_seen all raw.now) settled) }
+        → IfOk result (λ settled. Settles schema.now all (model_ask all raw.now) settled) }
 {
     match raw {
         RawAsk::Adds(on, attr, part) => settle_addition(schema, *on, attr, *part),

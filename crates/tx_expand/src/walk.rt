@@ -4,10 +4,10 @@ ghost use Rattle.edn_model.specs.Form as edn;
 ghost use Rattle.edn_form.specs.View.{form_of, forms_of, pairs_of, members, entries};
 ghost use Rattle.tx_model.specs.Shapes as shapes;
 ghost use Rattle.tx_model.specs.Walk as model;
-ghost use Rattle.tx_expand.specs.Seen.{name_seen, link_seen};
+ghost use Rattle.tx_expand.specs.View.{model_name, model_link};
 ghost use Rattle.tx_expand.specs.Known.{HaveOwnNames, IsLinkLookedUp, AreLookedUp};
-ghost use Rattle.tx_expand.specs.Numbered.{told, map_told, pair_told, value_told, members_told, member_told, form_told};
-ghost use Rattle.tx_expand.specs.Tells.{Tells};
+ghost use Rattle.tx_expand.specs.Numbered.{visited, walk_map, walk_pair, walk_value, walk_members, walk_member, walk_form};
+ghost use Rattle.tx_expand.specs.Walks.{Walks};
 
 use crate::attrs::{has_ref, push};
 use crate::links::{
@@ -34,8 +34,8 @@ fn map_asks<'a>(
 ) -> Result<(), Memory>
     requires own { HaveOwnNames schema.now }
     requires known { AreLookedUp schema.now out.old }
-    ensures told { IfOk result (λ _. Tells out.old out.new (λ all.
-        map_told schema.now (name_seen all this.entry) out.old.next
+    ensures walks { IfOk result (λ _. Walks out.old out.new (λ all.
+        walk_map schema.now (model_name all this.entry) out.old.next
         (edn.pairs (pairs_of (entries pairs.now))))) }
     ensures known { IfOk result (λ _. AreLookedUp schema.now out.new) }
 {
@@ -61,9 +61,9 @@ fn pair_asks<'a>(
     requires own { HaveOwnNames schema.now }
     requires link_known { IsLinkLookedUp schema.now key.now }
     requires known { AreLookedUp schema.now out.old }
-    ensures told { IfOk result (λ _. Tells out.old out.new (λ all.
-        pair_told schema.now (name_seen all this.entry) (link_seen key.now) out.old.next
-        (value_told schema.now (name_seen all this.entry) (link_seen key.now) out.old.next
+    ensures walks { IfOk result (λ _. Walks out.old out.new (λ all.
+        walk_pair schema.now (model_name all this.entry) (model_link key.now) out.old.next
+        (walk_value schema.now (model_name all this.entry) (model_link key.now) out.old.next
         (form_of value.now)))) }
     ensures known { IfOk result (λ _. AreLookedUp schema.now out.new) }
 {
@@ -83,7 +83,7 @@ fn pair_asks<'a>(
     }
 }
 
-/// What a value asks that stands under a key.
+/// What a value under a key asks.
 #[cycle(walk)]
 fn value_asks<'a>(
     alloc: Global,
@@ -96,8 +96,8 @@ fn value_asks<'a>(
     requires own { HaveOwnNames schema.now }
     requires link_known { IsLinkLookedUp schema.now key.now }
     requires known { AreLookedUp schema.now out.old }
-    ensures told { IfOk result (λ _. Tells out.old out.new (λ all.
-        value_told schema.now (name_seen all this.entry) (link_seen key.now) out.old.next
+    ensures walks { IfOk result (λ _. Walks out.old out.new (λ all.
+        walk_value schema.now (model_name all this.entry) (model_link key.now) out.old.next
         (form_of f.now))) }
     ensures known { IfOk result (λ _. AreLookedUp schema.now out.new) }
 {
@@ -139,8 +139,8 @@ fn members_asks<'a>(
     requires own { HaveOwnNames schema.now }
     requires link_known { IsLinkLookedUp schema.now key.now }
     requires known { AreLookedUp schema.now out.old }
-    ensures told { IfOk result (λ _. Tells out.old out.new (λ all.
-        members_told schema.now (name_seen all this.entry) (link_seen key.now) out.old.next
+    ensures walks { IfOk result (λ _. Walks out.old out.new (λ all.
+        walk_members schema.now (model_name all this.entry) (model_link key.now) out.old.next
         (edn.forms (forms_of (members items.now))))) }
     ensures known { IfOk result (λ _. AreLookedUp schema.now out.new) }
 {
@@ -163,8 +163,8 @@ fn member_asks<'a>(
     requires own { HaveOwnNames schema.now }
     requires link_known { IsLinkLookedUp schema.now key.now }
     requires known { AreLookedUp schema.now out.old }
-    ensures told { IfOk result (λ _. Tells out.old out.new (λ all.
-        member_told schema.now (name_seen all this.entry) (link_seen key.now) out.old.next
+    ensures walks { IfOk result (λ _. Walks out.old out.new (λ all.
+        walk_member schema.now (model_name all this.entry) (model_link key.now) out.old.next
         (form_of f.now))) }
     ensures known { IfOk result (λ _. AreLookedUp schema.now out.new) }
 {
@@ -188,8 +188,8 @@ fn list_asks<'a>(schema: &'a Schema, out: &mut Out<'a>, items: &'a Items) -> Res
     requires shape { shapes.has_list_shape (edn.items (edn.forms (forms_of (members items.now))))
         ≡ true }
     requires known { AreLookedUp schema.now out.old }
-    ensures told { IfOk result (λ _. Tells out.old out.new (λ _.
-        told (model.verb_asks schema.now (edn.items (edn.forms (forms_of (members items.now)))))
+    ensures walks { IfOk result (λ _. Walks out.old out.new (λ _.
+        visited (model.verb_asks schema.now (edn.items (edn.forms (forms_of (members items.now)))))
         out.old.next)) }
     ensures known { IfOk result (λ _. AreLookedUp schema.now out.new) }
 {
@@ -207,8 +207,8 @@ pub fn form_asks<'a>(
     requires own { HaveOwnNames schema.now }
     requires shape { shapes.has_shape (form_of f.now) ≡ true }
     requires known { AreLookedUp schema.now out.old }
-    ensures told { IfOk result (λ _. Tells out.old out.new (λ _.
-        form_told schema.now out.old.next (form_of f.now))) }
+    ensures walks { IfOk result (λ _. Walks out.old out.new (λ _.
+        walk_form schema.now out.old.next (form_of f.now))) }
     ensures known { IfOk result (λ _. AreLookedUp schema.now out.new) }
 {
     match f {

@@ -67,8 +67,10 @@ and_false : (a : Bool) → (a && false) ≡ false
 and_false true = refl
 and_false false = refl
 
-module _ (es : List (Edn × Edn)) (i : ℕ) (p : Edn × Edn) (rest : have_pair_shapes (pairs_of (drop i es)) ≡ have_pair_shapes (pairs_of es)) (below : i < length es) (is : p ≡ get_or es i p) where
-  from_here : have_pair_shapes (pairs_of es) ≡ ((has_pair_shape (form_of p.0) (form_of p.1) && has_value_shape (form_of p.1)) && have_pair_shapes (pairs_of (drop (i + 1) es)))
+module _ (es : List (Edn × Edn)) (i : ℕ) (p : Edn × Edn) (rest : have_pair_shapes (pairs_of (drop i es)) ≡ have_pair_shapes (pairs_of es))
+    (below : i < length es) (is : p ≡ get_or es i p) where
+  from_here : have_pair_shapes (pairs_of es)
+      ≡ ((has_pair_shape (form_of p.0) (form_of p.1) && has_value_shape (form_of p.1)) && have_pair_shapes (pairs_of (drop (i + 1) es)))
   from_here =
       sym rest
       ∙ ap (λ xs. have_pair_shapes (pairs_of xs)) (drop_more es i p below)
@@ -85,7 +87,8 @@ module _ (es : List (Edn × Edn)) (i : ℕ) (p : Edn × Edn) (rest : have_pair_s
       ∙ ap (λ b. (has_pair_shape (form_of p.0) (form_of p.1) && b) && have_pair_shapes (pairs_of (drop (i + 1) es))) bad
       ∙ ap (λ b. b && have_pair_shapes (pairs_of (drop (i + 1) es))) (and_false (has_pair_shape (form_of p.0) (form_of p.1))))
 
-pub all_whole : (es : List (Edn × Edn)) (i : ℕ) → have_pair_shapes (pairs_of (drop i es)) ≡ have_pair_shapes (pairs_of es) → length es ≤ i → 0 < length es
+pub all_whole : (es : List (Edn × Edn)) (i : ℕ) → have_pair_shapes (pairs_of (drop i es)) ≡ have_pair_shapes (pairs_of es) → length es ≤ i
+    → 0 < length es
     → true ≡ has_map_shape (pairs (pairs_of es))
 all_whole es i rest past some =
     sym (map_shape_of es some ∙ sym rest ∙ ap (λ xs. have_pair_shapes (pairs_of xs)) (drop_all i es past))

@@ -32,7 +32,7 @@ pub fn lookup_in(items: &Items) -> Option<(&Text, &Edn)>
     }
 }
 
-/// Whether the form names an entity in a place where a tempid may stand.
+/// Whether the form names an entity in a place where a tempid may be.
 pub fn names_an_entity(f: &Edn) -> bool
     ensures { result ≡ model.names_an_entity (form_of f.now) }
 {

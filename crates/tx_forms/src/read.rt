@@ -11,6 +11,7 @@ ghost use Rattle.tx_forms.specs.declared.read.TxStop.TheVariants.{Refused};
 use crate::shapes::has_shape;
 use edn_form::Edn;
 use fb_memory::Memory;
+use std::alloc::AllocFailed;
 use tx_refusals::{Reason, Refusal};
 
 /// Why a transaction gave no entry.
@@ -22,7 +23,23 @@ pub enum TxStop {
 }
 
 impl From<Memory> for TxStop {
+    ghost use Rattle.std.specs.Prelude.{◌≡◌};
+    ghost use Rattle.tx_forms.specs.declared.read.TxStop.TheVariants.{Memory};
+
+    ghost from_gives = { λ _ stop. stop ≡ Memory };
+
     fn from(_: Memory) -> TxStop {
+        TxStop::Memory
+    }
+}
+
+impl<T: Drop> From<AllocFailed<T>> for TxStop {
+    ghost use Rattle.std.specs.Prelude.{◌≡◌};
+    ghost use Rattle.tx_forms.specs.declared.read.TxStop.TheVariants.{Memory};
+
+    ghost from_gives = { λ _ stop. stop ≡ Memory };
+
+    fn from(_: AllocFailed<T>) -> TxStop {
         TxStop::Memory
     }
 }
@@ -69,7 +86,7 @@ fn not_a_form(at: usize) -> TxStop
     })
 }
 
-/// Reads which forms a transaction is made of. What is no vector and no list is refused at place 0. It takes no memory.
+/// Reads which forms a transaction is made of. What is neither a vector nor a list is refused at place 0. It takes no memory.
 pub fn read_forms(asked: &Edn) -> Result<Forms<'_>, TxStop>
     ensures ok { IfOk result
         (λ read. model.forms_of (form_of asked.now) ≡ Some (forms_of read.forms.now)) }

@@ -11,5 +11,6 @@ one_rises order [] short = refl
 one_rises order (d ∷ []) short = refl
 one_rises order (d ∷ x ∷ ds) short = absurd (omega arith)
 
-pub next_rises : (order : Order) (x y : Datom) (ds : List Datom) → is_lt (key_cmp order x y) ≡ true → rises order (x ∷ y ∷ ds) ≡ rises order (y ∷ ds)
+pub next_rises : (order : Order) (x y : Datom) (ds : List Datom) → is_lt (key_cmp order x y) ≡ true
+    → rises order (x ∷ y ∷ ds) ≡ rises order (y ∷ ds)
 next_rises order x y ds below = ap (λ b. b && rises order (y ∷ ds)) below

@@ -22,19 +22,23 @@ or-cond : (b c : Bool) → cond b true c ≡ (b || c)
 or-cond true c = refl
 or-cond false c = refl
 
-pub HasPlaces-cons : (met new : BTreeSet (ℕ × ℕ)) (test : Datom → Bool) (d : Datom) (ds : List Datom) → test d ≡ true → Updates place_cmp met new (d.e, d.a) true → HasPlaces met test ds → HasPlaces new test (d ∷ ds)
+pub HasPlaces-cons : (met new : BTreeSet (ℕ × ℕ)) (test : Datom → Bool) (d : Datom) (ds : List Datom) → test d ≡ true
+    → Updates place_cmp met new (d.e, d.a) true → HasPlaces met test ds → HasPlaces new test (d ∷ ds)
 HasPlaces-cons met new test d ds counts updates has = λ e a.
     updates.0 (e, a)
     ∙ or-cond (is_eq (place_cmp (d.e, d.a) (e, a))) (contains place_cmp met (e, a))
-    ∙ ap (λ b. b || contains place_cmp met (e, a)) (is_eq-then (nat_cmp d.e e) (nat_cmp d.a a) ∙ ap (λ b. b && is_eq (nat_cmp d.a a)) (is_eq-nat_cmp d.e e) ∙ ap (λ b. nat_eq d.e e && b) (is_eq-nat_cmp d.a a))
+    ∙ ap (λ b. b || contains place_cmp met (e, a)) (is_eq-then (nat_cmp d.e e) (nat_cmp d.a a)
+    ∙ ap (λ b. b && is_eq (nat_cmp d.a a)) (is_eq-nat_cmp d.e e) ∙ ap (λ b. nat_eq d.e e && b) (is_eq-nat_cmp d.a a))
     ∙ ap (λ b. (b && (nat_eq d.e e && nat_eq d.a a)) || contains place_cmp met (e, a)) (sym counts)
     ∙ ap (λ b. (test d && (nat_eq d.e e && nat_eq d.a a)) || b) (has e a)
 
-pub HasContents-cons : (met new : BTreeSet (ℕ × Value)) (test : Datom → Bool) (d : Datom) (ds : List Datom) → test d ≡ true → Updates content_cmp met new (d.a, d.v) true → HasContents met test ds → HasContents new test (d ∷ ds)
+pub HasContents-cons : (met new : BTreeSet (ℕ × Value)) (test : Datom → Bool) (d : Datom) (ds : List Datom) → test d ≡ true
+    → Updates content_cmp met new (d.a, d.v) true → HasContents met test ds → HasContents new test (d ∷ ds)
 HasContents-cons met new test d ds counts updates has = λ a v.
     updates.0 (a, v)
     ∙ or-cond (is_eq (content_cmp (d.a, d.v) (a, v))) (contains content_cmp met (a, v))
-    ∙ ap (λ b. b || contains content_cmp met (a, v)) (is_eq-then (nat_cmp d.a a) (value_cmp d.v v) ∙ ap (λ b. b && value_eq d.v v) (is_eq-nat_cmp d.a a))
+    ∙ ap (λ b. b || contains content_cmp met (a, v))
+    (is_eq-then (nat_cmp d.a a) (value_cmp d.v v) ∙ ap (λ b. b && value_eq d.v v) (is_eq-nat_cmp d.a a))
     ∙ ap (λ b. (b && (nat_eq d.a a && value_eq d.v v)) || contains content_cmp met (a, v)) (sym counts)
     ∙ ap (λ b. (test d && (nat_eq d.a a && value_eq d.v v)) || b) (has a v)
 

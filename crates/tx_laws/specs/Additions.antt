@@ -1,4 +1,4 @@
--- Which additions of an entry are to be told apart, and what they meet.
+-- Which additions of an entry have to differ, and in what.
 -- Datomic, Schema (:db/cardinality, :db/unique).
 use Rattle.std.specs.Prelude.{◌≡◌, ℕ, Bool, true, false, not, ◌&&◌, List, [], ◌∷◌, nat_eq}
 use Rattle.std.specs.List.{list_any}
@@ -13,7 +13,7 @@ use Rattle.fb_values.specs.declared.facts.Entry.{Entry}
 use Rattle.fb_values.specs.declared.facts.Value.{Value}
 use Rattle.fb_model.specs.Facts.{is_of, value_eq, facts, holder}
 use Rattle.fb_model.specs.Schema.{is_one, is_unique}
-use Rattle.fb_facts.specs.Told.{values_of}
+use Rattle.fb_facts.specs.FactLists.{values_of}
 use Rattle.tx_laws.specs.declared.altered.Altered.{Altered}
 
 -- an addition under an attribute of which an entity has one value before, and still has one
@@ -43,7 +43,7 @@ are_alone counts (d ∷ ds) =
     && list_any (λ other. counts other && (nat_eq other.a d.a && value_eq other.v d.v)) ds)
     && are_alone counts ds
 
--- a value from before stays beside the addition, since no datom of the entry tells of it
+-- a value from before stays beside the addition, since no datom of the entry is of its triple
 abbrev pub meets_value : List Entry → List Datom → Datom → Bool
 meets_value h ds d = list_any (λ v. not (list_any (is_of d.e d.a v) ds)) (values_of h d.e d.a)
 

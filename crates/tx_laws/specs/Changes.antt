@@ -7,7 +7,8 @@ use Rattle.std.specs.Ordering.{nat_cmp}
 use Rattle.std.specs.BTreeMap.{BTreeMap, get}
 use Rattle.fb_values.specs.declared.facts.Datom.{Datom}
 use Rattle.fb_values.specs.declared.facts.Entry.{Entry}
-use Rattle.fb_model.specs.Laws.{says_attribute, is_alteration, has_reserved_name, are_allowed, is_own_instant}
+use Rattle.fb_model.specs.Laws.{says_attribute, is_alteration, has_reserved_name, are_allowed}
+use Rattle.fb_model.specs.Laws.{is_own_instant}
 use Rattle.fb_numbers.specs.Numbers.{tx_instant}
 use Rattle.fb_model.specs.Schema.{is_attribute}
 use Rattle.tx_laws.specs.declared.altered.Altered.{Altered}
@@ -40,7 +41,8 @@ own_instant_alone entry ds =
 abbrev pub keeps_names_and_instants : Entry → List Datom → Bool
 keeps_names_and_instants entry ds = add_no_reserved_names ds && own_instant_alone entry ds
 
--- what law 9 asks of the entry's datoms, under the schema before and what becomes of the entities that they describe
+-- what law 9 asks of the entry's datoms,
+-- under the schema before and what becomes of the entities that they describe
 abbrev pub keeps_attributes : List Datom → BTreeMap ℕ Altered → Entry → Bool
 keeps_attributes schema altered entry =
     keeps_schema schema altered entry.datoms && keeps_names_and_instants entry entry.datoms

@@ -5,9 +5,8 @@ ghost use Rattle.std.specs.Option.{option_map, option_map_or};
 ghost use Rattle.fb_values.specs.declared.facts.Datom.{Datom};
 ghost use Rattle.fb_model.specs.Facts.{facts as facts_in};
 ghost use Rattle.fb_model.specs.Lawful.{IsLawful};
-ghost use Rattle.fb_model.specs.Schema as model;
 ghost use Rattle.fb_schema.specs.Described.{SchemaStands, describes as model_describes};
-ghost use Rattle.fb_schema.specs.Parts.{attribute_in};
+ghost use Rattle.fb_schema.specs.Parts.{model_attribute};
 ghost use Rattle.tx_after.specs.After.{AreChanges, after};
 ghost use Rattle.tx_after.specs.Parts.{AreByAttribute};
 ghost use Rattle.tx_after.specs.Promises as promises;
@@ -151,22 +150,14 @@ fn look_at<F: Facts>(
     let found = description_after(facts, datoms, e)?;
     let one = is_one_value(&found.attribute);
     let unique = has_one_holder(&found.attribute);
-    let keeps_values = keeps_values(
-        alloc,
-        facts,
-        datoms,
-        by_attribute,
-        e,
-        is_one(schema, e),
-        one,
-    )?;
+    let keeps_values = keeps_values(alloc, facts, datoms, by_attribute, e, schema.is_one(e), one)?;
     let keeps_holders = keeps_holders(
         alloc,
         facts,
         datoms,
         by_attribute,
         e,
-        is_unique(schema, e),
+        schema.is_unique(e),
         unique,
     )?;
     Ok(Altered {
@@ -180,7 +171,7 @@ fn look_at<F: Facts>(
 
 fn is_one_value(attribute: &Option<Attribute>) -> bool
     ensures { result
-        ≡ option_map_or (λ attribute. not attribute.many) (option_map attribute_in attribute.now)
+        ≡ option_map_or (λ attribute. not attribute.many) (option_map model_attribute attribute.now)
         false }
 {
     match attribute {
@@ -192,29 +183,9 @@ fn is_one_value(attribute: &Option<Attribute>) -> bool
 fn has_one_holder(attribute: &Option<Attribute>) -> bool
     ensures { result
         ≡ option_map_or (λ attribute. not (nat_eq attribute.uniqueness 0))
-        (option_map attribute_in attribute.now) false }
+        (option_map model_attribute attribute.now) false }
 {
     match attribute {
-        Some(attribute) => attribute.is_unique(),
-        None => false,
-    }
-}
-
-/// Whether an entity has one value of it before the entry.
-pub fn is_one(schema: &Schema, a: u64) -> bool
-    ensures { result ≡ model.is_one schema.now a }
-{
-    match schema.attribute(a) {
-        Some(attribute) => !attribute.many,
-        None => false,
-    }
-}
-
-/// Whether a value has one holder before the entry.
-pub fn is_unique(schema: &Schema, a: u64) -> bool
-    ensures { result ≡ model.is_unique schema.now a }
-{
-    match schema.attribute(a) {
         Some(attribute) => attribute.is_unique(),
         None => false,
     }

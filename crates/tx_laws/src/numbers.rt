@@ -13,7 +13,7 @@ use std::alloc::Global;
 /// The numbers that an entry may speak of: besides the built-in ones those of the transactions up to the basis, of its own
 /// transaction, and of the user entities up to the last one.
 #[derive(Drop)]
-struct Known {
+struct KnownNumbers {
     basis: u32,
     t: u32,
     users: u64,
@@ -25,7 +25,7 @@ pub fn has_known_numbers<F: Facts>(alloc: Global, entry: &Entry, facts: &F) -> R
 {
     let datoms = entry.datoms.as_slice();
     let users = users_after(alloc, datoms, facts.issued())?;
-    let known = Known {
+    let known = KnownNumbers {
         basis: facts.basis(),
         t: entry.t,
         users,
@@ -54,7 +54,7 @@ fn added_users(alloc: Global, datoms: &[Datom]) -> Result<Vec<u64>, Memory>
     Ok(numbers)
 }
 
-/// How far the numbers go on behind the last one.
+/// How far the numbers go on after the last one.
 fn counted_on(numbers: &[u64], issued: u64) -> u64
     ensures { result ≡ counted_on numbers.now issued }
 {
@@ -67,7 +67,7 @@ fn counted_on(numbers: &[u64], issued: u64) -> u64
     last
 }
 
-fn are_known(known: &Known, datoms: &[Datom]) -> bool
+fn are_known(known: &KnownNumbers, datoms: &[Datom]) -> bool
     ensures { result ≡ list_all (model_is_known_datom known.now) datoms.now }
 {
     for d in datoms {
@@ -78,13 +78,13 @@ fn are_known(known: &Known, datoms: &[Datom]) -> bool
     true
 }
 
-fn is_known_datom(known: &Known, d: &Datom) -> bool
+fn is_known_datom(known: &KnownNumbers, d: &Datom) -> bool
     ensures { result ≡ model_is_known_datom known.now d.now }
 {
     is_known(known, d.e) && is_known_value(known, &d.v)
 }
 
-fn is_known_value(known: &Known, v: &Value) -> bool
+fn is_known_value(known: &KnownNumbers, v: &Value) -> bool
     ensures { result ≡ model_is_known_value known.now v.now }
 {
     match v {
@@ -93,7 +93,7 @@ fn is_known_value(known: &Known, v: &Value) -> bool
     }
 }
 
-fn is_known(known: &Known, n: u64) -> bool
+fn is_known(known: &KnownNumbers, n: u64) -> bool
     ensures { result ≡ model_is_known known.now n }
 {
     let user = user_number(n);

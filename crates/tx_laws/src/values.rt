@@ -15,14 +15,14 @@ ghost use Rattle.tx_after.specs.After.{AreChanges, after};
 ghost use Rattle.tx_laws.specs.Alterations.{HasAltered};
 ghost use Rattle.tx_laws.specs.Additions as additions;
 
-use crate::altered::{Altered, is_one, is_unique};
+use crate::altered::Altered;
 use fb_facts::Facts;
 use fb_memory::Memory;
 use fb_schema::Schema;
 use fb_values::{Datom, Value};
 use std::alloc::Global;
 use std::collections::{BTreeMap, BTreeSet};
-use tx_after::tells_of;
+use tx_after::mentions;
 
 /// Law 7: whether each entity has one value at most of each attribute of cardinality one.
 pub fn has_one_value_each<F: Facts>(
@@ -167,7 +167,7 @@ fn singles_meet_none<F: Facts>(
 fn is_single(schema: &Schema, altered: &BTreeMap<u64, Altered>, d: &Datom) -> bool
     ensures { result ≡ additions.is_single schema.now altered.now d.now }
 {
-    d.added && is_one(schema, d.a) && stays_one(altered, d.a)
+    d.added && schema.is_one(d.a) && stays_one(altered, d.a)
 }
 
 fn stays_one(altered: &BTreeMap<u64, Altered>, a: u64) -> bool
@@ -188,14 +188,14 @@ fn meets_value<F: Facts>(facts: &F, datoms: &[Datom], d: &Datom) -> Result<bool,
     Ok(one_stays(&values, datoms, d))
 }
 
-/// Whether one of the values from before is not told of.
+/// Whether one of the values from before stays as it was.
 fn one_stays(values: &[Value], datoms: &[Datom], d: &Datom) -> bool
     requires { AreChanges datoms.now }
     ensures { result
         ≡ list_any (λ v. not (list_any (is_of d.now.e d.now.a v) datoms.now)) values.now }
 {
     for v in values {
-        if !tells_of(datoms, d.e, d.a, v) {
+        if !mentions(datoms, d.e, d.a, v) {
             return true;
         }
     }
@@ -292,7 +292,7 @@ fn soles_meet_none<F: Facts>(
 fn is_sole(schema: &Schema, altered: &BTreeMap<u64, Altered>, d: &Datom) -> bool
     ensures { result ≡ additions.is_sole schema.now altered.now d.now }
 {
-    d.added && is_unique(schema, d.a) && stays_unique(altered, d.a)
+    d.added && schema.is_unique(d.a) && stays_unique(altered, d.a)
 }
 
 fn stays_unique(altered: &BTreeMap<u64, Altered>, a: u64) -> bool
@@ -309,7 +309,7 @@ fn meets_holder<F: Facts>(facts: &F, datoms: &[Datom], d: &Datom) -> bool
     ensures { result ≡ additions.meets_holder (F.history facts.now) datoms.now d.now }
 {
     match facts.holder(d.a, &d.v) {
-        Some(e) => !tells_of(datoms, e, d.a, &d.v),
+        Some(e) => !mentions(datoms, e, d.a, &d.v),
         None => false,
     }
 }

@@ -1,5 +1,6 @@
 -- The texts of keywords and symbols, as the database judges them, are those of the grammar of EDN.
-use Rattle.std.proofs.Common.{◌≡◌, ℕ, zero, suc, ◌+◌, ◌<◌, Bool, true, false, cond, not, ◌&&◌, ◌||◌, List, [], ◌∷◌, ◌++◌, take, drop, refl, ap, sym, ◌∙◌, arith, inl, inr, ◌⊎◌}
+use Rattle.std.proofs.Common.{◌≡◌, ℕ, zero, suc, ◌+◌, ◌<◌, Bool, true, false, cond, not, ◌&&◌, ◌||◌, List, [], ◌∷◌, ◌++◌, take, drop, refl}
+use Rattle.std.proofs.Common.{ap, sym, ◌∙◌, arith, inl, inr, ◌⊎◌}
 use Rattle.std.specs.Prelude.{IsUtf8, nat_eq, nat_le, bytes_eq, codes, nat_lt}
 use Rattle.std.specs.List.{list_any, list_all, position_or_len, before_first, after_first}
 use Rattle.std.proofs.lemmas.Bool.{true≢false, false≢true, and_parts, and_from, eqb-true}
@@ -7,7 +8,8 @@ use Rattle.std.proofs.lemmas.Bool.Decides.{nat_tests}
 use Rattle.std.proofs.lemmas.Slice.Eq.{bytes_eq-Decides}
 use Rattle.edn_model.specs.Bytes as edn
 use Rattle.edn_model.specs.Tokens.{IsName, Joined, IsKeywordName, IsKeyword, begins_symbol, IsReserved, IsLongSymbol, IsSymbol}
-use Rattle.fb_model.specs.Words.{is_slash, is_letter, is_digit, is_name_byte, is_name, begins_with_one_of, is_keyword_name, has_namespace, namespace, local_name, is_keyword_text, is_symbol_text}
+use Rattle.fb_model.specs.Words.{is_slash, is_letter, is_digit, is_name_byte, is_name, begins_with_one_of, is_keyword_name, has_namespace}
+use Rattle.fb_model.specs.Words.{namespace, local_name, is_keyword_text, is_symbol_text}
 
 -- ---- bytes of names
 
@@ -41,7 +43,8 @@ signs false false false false false false false false false false false false fa
 name_byte : (b : ℕ) → is_name_byte b ≡ edn.is_name_byte b
 name_byte b =
     in_other_order (is_letter b || is_digit b) (nat_le 128 b) (list_any (nat_eq b) (codes ".*+!-_?$%&=<>:#")) (edn.is_sign b)
-    (signs (nat_eq b 46) (nat_eq b 42) (nat_eq b 43) (nat_eq b 33) (nat_eq b 45) (nat_eq b 95) (nat_eq b 63) (nat_eq b 36) (nat_eq b 37) (nat_eq b 38) (nat_eq b 61) (nat_eq b 60) (nat_eq b 62) (nat_eq b 58) (nat_eq b 35))
+    (signs (nat_eq b 46) (nat_eq b 42) (nat_eq b 43) (nat_eq b 33) (nat_eq b 45) (nat_eq b 95) (nat_eq b 63) (nat_eq b 36) (nat_eq b 37)
+    (nat_eq b 38) (nat_eq b 61) (nat_eq b 60) (nat_eq b 62) (nat_eq b 58) (nat_eq b 35))
 
 name_bytes : (text : List ℕ) → list_all is_name_byte text ≡ list_all edn.is_name_byte text
 name_bytes [] = refl
@@ -71,7 +74,8 @@ is_edn_keyword_name (b ∷ text) is =
 edn_keyword_name_is : (text : List ℕ) → IsKeywordName text → is_keyword_name text ≡ true
 edn_keyword_name_is [] is = absurd (omega (arith, is.0.0))
 edn_keyword_name_is (b ∷ text) is =
-    and_from (is_name (b ∷ text)) (not (begins_with_one_of (codes ":#") (b ∷ text))) (edn_name_is (b ∷ text) is.0) (neither (nat_eq b 58) (nat_eq b 35) ∙ is.1)
+    and_from (is_name (b ∷ text)) (not (begins_with_one_of (codes ":#") (b ∷ text))) (edn_name_is (b ∷ text) is.0)
+    (neither (nat_eq b 58) (nat_eq b 35) ∙ is.1)
 
 -- ---- the slash
 
@@ -116,7 +120,8 @@ cut_at : (first second : List ℕ) → list_any is_slash first ≡ false → IsC
 cut_at [] second none = record { some = refl; before = before_slash 47 second refl; behind = behind_slash 47 second refl }
 cut_at (b ∷ first) second none = later (is_slash b) refl none (cut_at first second)
   where
-    later : (s : Bool) → is_slash b ≡ s → (s || list_any is_slash first) ≡ false → (list_any is_slash first ≡ false → IsCut first second) → IsCut (b ∷ first) second
+    later : (s : Bool) → is_slash b ≡ s → (s || list_any is_slash first) ≡ false → (list_any is_slash first ≡ false → IsCut first second)
+        → IsCut (b ∷ first) second
     later true is none rest = absurd (true≢false none)
     later false is none rest =
         let cut = rest none in
@@ -130,18 +135,21 @@ joined_again : (text : List ℕ) → list_any is_slash text ≡ true → text �
 joined_again [] some = absurd (false≢true some)
 joined_again (b ∷ text) some = first (is_slash b) refl some (joined_again text)
   where
-    first : (s : Bool) → is_slash b ≡ s → (s || list_any is_slash text) ≡ true → (list_any is_slash text ≡ true → text ≡ before_first is_slash text ++ 47 ∷ after_first is_slash text)
+    first : (s : Bool) → is_slash b ≡ s → (s || list_any is_slash text) ≡ true
+        → (list_any is_slash text ≡ true → text ≡ before_first is_slash text ++ 47 ∷ after_first is_slash text)
         → b ∷ text ≡ before_first is_slash (b ∷ text) ++ 47 ∷ after_first is_slash (b ∷ text)
     first true is some rest =
         ap (λ x. x ∷ text) (eqb-true b 47 is)
         ∙ sym (ap (λ xs. xs ++ 47 ∷ after_first is_slash (b ∷ text)) (before_slash b text is) ∙ ap (λ xs. 47 ∷ xs) (behind_slash b text is))
     first false is some rest =
         ap (λ xs. b ∷ xs) (rest some)
-        ∙ sym (ap (λ xs. xs ++ 47 ∷ after_first is_slash (b ∷ text)) (before_later b text is) ∙ ap (λ xs. b ∷ before_first is_slash text ++ 47 ∷ xs) (behind_later b text is))
+        ∙ sym (ap (λ xs. xs ++ 47 ∷ after_first is_slash (b ∷ text)) (before_later b text is)
+        ∙ ap (λ xs. b ∷ before_first is_slash text ++ 47 ∷ xs) (behind_later b text is))
 
 -- ---- one name, or two that a slash joins
 
-module _ (test : List ℕ → Bool) (Is : List ℕ → Type 0) (forth : (text : List ℕ) → test text ≡ true → Is text) (back : (text : List ℕ) → Is text → test text ≡ true)
+module _ (test : List ℕ → Bool) (Is : List ℕ → Type 0) (forth : (text : List ℕ) → test text ≡ true → Is text)
+    (back : (text : List ℕ) → Is text → test text ≡ true)
     (plain : (text : List ℕ) → test text ≡ true → list_any is_slash text ≡ false) where
   abbrev passes : List ℕ → Bool
   passes text = test (local_name text) && (not (has_namespace text) || test (namespace text))
@@ -149,14 +157,25 @@ module _ (test : List ℕ → Bool) (Is : List ℕ → Type 0) (forth : (text : 
   one_or_two : (text : List ℕ) → passes text ≡ true → Is text ⊎ Joined Is Is text
   one_or_two text is = by_slash (has_namespace text) refl is
     where
-      by_slash : (s : Bool) → has_namespace text ≡ s → (test (cond s (after_first is_slash text) text) && (not s || test (cond s (before_first is_slash text) []))) ≡ true → Is text ⊎ Joined Is Is text
+      by_slash : (s : Bool) → has_namespace text ≡ s
+          → (test (cond s (after_first is_slash text) text) && (not s || test (cond s (before_first is_slash text) []))) ≡ true
+          → Is text ⊎ Joined Is Is text
       by_slash true some is =
           let parts = and_parts (test (after_first is_slash text)) (test (before_first is_slash text)) is in
-          inr (before_first is_slash text, after_first is_slash text, joined_again text some, forth (before_first is_slash text) parts.1, forth (after_first is_slash text) parts.0)
+          inr (
+            before_first is_slash text,
+            after_first is_slash text,
+            joined_again text some,
+            forth (before_first is_slash text) parts.1,
+            forth (after_first is_slash text) parts.0,
+          )
       by_slash false none is = inl (forth text (and_parts (test text) true is).0)
 
   of_one : (text : List ℕ) → Is text → passes text ≡ true
-  of_one text is = ap (λ s. test (cond s (after_first is_slash text) text) && (not s || test (cond s (before_first is_slash text) []))) (plain text (back text is)) ∙ and_from (test text) true (back text is) refl
+  of_one text is =
+      ap (λ s. test (cond s (after_first is_slash text) text) && (not s || test (cond s (before_first is_slash text) [])))
+      (plain text (back text is))
+      ∙ and_from (test text) true (back text is) refl
 
   of_two : (text : List ℕ) → Joined Is Is text → passes text ≡ true
   of_two text two =
@@ -164,7 +183,8 @@ module _ (test : List ℕ → Bool) (Is : List ℕ → Type 0) (forth : (text : 
       let second = two.1 in
       let cut = cut_at first second (plain first (back first two.3)) in
       ap passes two.2
-      ∙ ap (λ s. test (cond s (after_first is_slash (first ++ 47 ∷ second)) (first ++ 47 ∷ second)) && (not s || test (cond s (before_first is_slash (first ++ 47 ∷ second)) []))) cut.some
+      ∙ ap (λ s. test (cond s (after_first is_slash (first ++ 47 ∷ second)) (first ++ 47 ∷ second))
+      && (not s || test (cond s (before_first is_slash (first ++ 47 ∷ second)) []))) cut.some
       ∙ and_from (test (after_first is_slash (first ++ 47 ∷ second))) (test (before_first is_slash (first ++ 47 ∷ second)))
       (ap test cut.behind ∙ back second two.4) (ap test cut.before ∙ back first two.3)
 
@@ -178,7 +198,8 @@ keyword_name_is_plain : (text : List ℕ) → is_keyword_name text ≡ true → 
 keyword_name_is_plain text is = name_has_no_slash text (and_parts (is_name text) (not (begins_with_one_of (codes ":#") text)) is).0
 
 pub is_edn_keyword : (text : List ℕ) → IsUtf8 text → is_keyword_text text ≡ true → IsKeyword text
-is_edn_keyword text utf8 is = (utf8, one_or_two is_keyword_name IsKeywordName is_edn_keyword_name edn_keyword_name_is keyword_name_is_plain text is)
+is_edn_keyword text utf8 is =
+    (utf8, one_or_two is_keyword_name IsKeywordName is_edn_keyword_name edn_keyword_name_is keyword_name_is_plain text is)
 
 pub edn_keyword_is : (text : List ℕ) → IsKeyword text → is_keyword_text text ≡ true
 edn_keyword_is text is = that_passes is_keyword_name IsKeywordName is_edn_keyword_name edn_keyword_name_is keyword_name_is_plain text is.1
@@ -233,10 +254,14 @@ in_groups false b c = refl
 same_starts : (text : List ℕ) → starts text ≡ begins_symbol text
 same_starts [] = refl
 same_starts (b ∷ text) =
-    in_groups (not (is_digit b)) (not (begins_with_one_of (codes ":#") (b ∷ text))) (not (list_any (nat_eq b) (codes ".+-") && begins_with_one_of (codes "0123456789") text))
-    ∙ ap (λ t. not (is_digit b) && (t && not (list_any (nat_eq b) (codes ".+-") && begins_with_one_of (codes "0123456789") text))) (neither (nat_eq b 58) (nat_eq b 35))
-    ∙ ap (λ t. not (is_digit b) && ((not (nat_eq b 58) && not (nat_eq b 35)) && not (t && begins_with_one_of (codes "0123456789") text))) (one_of_three (nat_eq b 46) (nat_eq b 43) (nat_eq b 45))
-    ∙ ap (λ t. not (is_digit b) && ((not (nat_eq b 58) && not (nat_eq b 35)) && not ((nat_eq b 46 || (nat_eq b 43 || nat_eq b 45)) && t))) (begins_with_digit text)
+    in_groups (not (is_digit b)) (not (begins_with_one_of (codes ":#") (b ∷ text)))
+    (not (list_any (nat_eq b) (codes ".+-") && begins_with_one_of (codes "0123456789") text))
+    ∙ ap (λ t. not (is_digit b) && (t && not (list_any (nat_eq b) (codes ".+-") && begins_with_one_of (codes "0123456789") text)))
+    (neither (nat_eq b 58) (nat_eq b 35))
+    ∙ ap (λ t. not (is_digit b) && ((not (nat_eq b 58) && not (nat_eq b 35)) && not (t && begins_with_one_of (codes "0123456789") text)))
+    (one_of_three (nat_eq b 46) (nat_eq b 43) (nat_eq b 45))
+    ∙ ap (λ t. not (is_digit b) && ((not (nat_eq b 58) && not (nat_eq b 35)) && not ((nat_eq b 46 || (nat_eq b 43 || nat_eq b 45)) && t)))
+    (begins_with_digit text)
 
 is_word : (text : List ℕ) → list_any (bytes_eq text) words_of_values ≡ true → IsReserved text
 is_word text is = by_first (bytes_eq text (codes "nil")) refl is
@@ -245,11 +270,13 @@ is_word text is = by_first (bytes_eq text (codes "nil")) refl is
     by_third true e is = (bytes_eq-Decides text (codes "false")).0 e
     by_third false e is = absurd (false≢true is)
 
-    by_second : (b : Bool) → bytes_eq text (codes "true") ≡ b → (b || (bytes_eq text (codes "false") || false)) ≡ true → (text ≡ codes "true") ⊎ (text ≡ codes "false")
+    by_second : (b : Bool) → bytes_eq text (codes "true") ≡ b → (b || (bytes_eq text (codes "false") || false)) ≡ true
+        → (text ≡ codes "true") ⊎ (text ≡ codes "false")
     by_second true e is = inl ((bytes_eq-Decides text (codes "true")).0 e)
     by_second false e is = inr (by_third (bytes_eq text (codes "false")) refl is)
 
-    by_first : (a : Bool) → bytes_eq text (codes "nil") ≡ a → (a || (bytes_eq text (codes "true") || (bytes_eq text (codes "false") || false))) ≡ true → IsReserved text
+    by_first : (a : Bool) → bytes_eq text (codes "nil") ≡ a
+        → (a || (bytes_eq text (codes "true") || (bytes_eq text (codes "false") || false))) ≡ true → IsReserved text
     by_first true e is = inl ((bytes_eq-Decides text (codes "nil")).0 e)
     by_first false e is = inr (by_second (bytes_eq text (codes "true")) refl is)
 
@@ -290,7 +317,8 @@ in_parts : (text : List ℕ) → is_symbol_text text ≡ (bytes_eq text (codes "
 in_parts text =
     let word = not (list_any (bytes_eq text) words_of_values) in
     ap (λ b. bytes_eq text (codes "/") || b)
-    (in_groups (starts text && word) (is_name (local_name text)) (not (has_namespace text) || is_name (namespace text)) ∙ in_groups (starts text) word (names text))
+    (in_groups (starts text && word) (is_name (local_name text)) (not (has_namespace text) || is_name (namespace text))
+    ∙ in_groups (starts text) word (names text))
 
 pub is_edn_symbol : (text : List ℕ) → IsUtf8 text → is_symbol_text text ≡ true → IsSymbol text
 is_edn_symbol text utf8 is = (utf8, by (bytes_eq text (codes "/")) refl (sym (in_parts text) ∙ is))

@@ -1,5 +1,6 @@
 -- The bytes of what is recorded.
-use Rattle.std.proofs.Common.{◌≡◌, ℕ, ℤ, ◌+◌, ◌<◌, ◌≤◌, Bool, true, false, cond, List, [], ◌∷◌, length, refl, ap, sym, ◌∙◌, subst, arith, ltb}
+use Rattle.std.proofs.Common.{◌≡◌, ℕ, ℤ, ◌+◌, ◌<◌, ◌≤◌, Bool, true, false, cond, List, [], ◌∷◌, length, refl, ap, sym, ◌∙◌, subst, arith}
+use Rattle.std.proofs.Common.{ltb}
 use Rattle.std.specs.Prelude.{sum_by}
 use Rattle.std.specs.Ordering.{is_lt}
 use Rattle.std.proofs.lemmas.List.Sums.{sum_by-cons}
@@ -39,19 +40,29 @@ put_size order d [] = omega arith
 put_size order d (first ∷ rest) = go (is_lt (key_cmp order d first)) (is_lt (key_cmp order first d)) (put_size order d rest)
   where
     go : (b c : Bool) → total (put_in_order order d rest) ≤ bytes d + total rest
-        → total (cond b (d ∷ first ∷ rest) (cond c (first ∷ put_in_order order d rest) (first ∷ rest))) ≤ bytes d + (bytes first + total rest)
+        → total (cond b (d ∷ first ∷ rest) (cond c (first ∷ put_in_order order d rest) (first ∷ rest)))
+        ≤ bytes d + (bytes first + total rest)
     go true c later = let same : bytes d + (bytes first + total rest) ≤ bytes d + (bytes first + total rest) = omega arith in same
-    go false true later = let more : bytes first + total (put_in_order order d rest) ≤ bytes d + (bytes first + total rest) = omega (arith, later) in more
+    go false true later =
+        let more : bytes first + total (put_in_order order d rest) ≤ bytes d + (bytes first + total rest) = omega (arith, later) in more
     go false false later = let fewer : bytes first + total rest ≤ bytes d + (bytes first + total rest) = omega arith in fewer
 
 in_order_size : (order : Order) (ds : List Datom) → total (in_order order ds) ≤ total ds
 in_order_size order [] = omega arith
 in_order_size order (d ∷ ds) =
-    let whole : total (put_in_order order d (in_order order ds)) ≤ bytes d + total ds = omega (arith, put_size order d (in_order order ds), in_order_size order ds) in whole
+    let whole : total (put_in_order order d (in_order order ds)) ≤ bytes d + total ds =
+    omega (arith, put_size order d (in_order order ds), in_order_size order ds) in
+    whole
 
 recorded_size : (tx : Transaction) (instant : ℤ) → entry_size (recorded tx instant) ≤ entry_size tx.changes + 26
 recorded_size tx instant =
-    let own : Datom = record { e = transaction_of (basis tx.db.history + 1); a = tx_instant; v = Instant instant; t = basis tx.db.history + 1; added = true } in
+    let own : Datom = record {
+      e = transaction_of (basis tx.db.history + 1);
+      a = tx_instant;
+      v = Instant instant;
+      t = basis tx.db.history + 1;
+      added = true;
+    } in
     let small : total (recorded tx instant) ≤ 26 + total tx.changes = in_order_size Eavt (own ∷ tx.changes) in
     omega (arith, small, total_is (recorded tx instant), total_is tx.changes)
 
@@ -64,13 +75,16 @@ above m n is = grind (arith, nat_tests)
 within : (m n : ℕ) → n ≤ m → ltb m n ≡ false
 within m n is = grind (arith, nat_tests)
 
-pub accepted_size : (h : List Entry) (asked : Form) (guard : Guard) (reading : ℤ) (entry : Entry) (tempids : List (List ℕ × ℕ)) → step h asked reading guard ≡ accepted entry tempids → entry_size entry.datoms ≤ most_bytes
+pub accepted_size : (h : List Entry) (asked : Form) (guard : Guard) (reading : ℤ) (entry : Entry) (tempids : List (List ℕ × ℕ))
+    → step h asked reading guard ≡ accepted entry tempids → entry_size entry.datoms ≤ most_bytes
 accepted_size h asked guard reading entry tempids is =
     let comes = accepted_at h asked guard reading entry tempids is in
     let none = none_broken h comes.forms comes.is_not_refused in
     let tx = transaction h comes.forms in
-    let small : entry_size tx.changes + 26 ≤ most_bytes = not_above most_bytes (entry_size tx.changes + 26) (or_parts _ _ none.too_large).1 in
-    let whole : entry_size (recorded tx (next_instant h reading)) ≤ most_bytes = omega (arith, small, recorded_size tx (next_instant h reading)) in
+    let small : entry_size tx.changes + 26 ≤ most_bytes =
+    not_above most_bytes (entry_size tx.changes + 26) (or_parts _ _ none.too_large).1 in
+    let whole : entry_size (recorded tx (next_instant h reading)) ≤ most_bytes =
+    omega (arith, small, recorded_size tx (next_instant h reading)) in
     subst (λ (e : Entry). entry_size e.datoms ≤ most_bytes) (sym comes.entry_is) whole
 
 pub fits : (tx : Transaction) → length tx.changes + 1 ≤ most_datoms → entry_size tx.changes + 26 ≤ most_bytes → breaks_too_large tx ≡ false

@@ -1,5 +1,6 @@
 -- What the order of forms does not tell: whether one of them breaks a rule that is judged form by form, and what is recorded.
-use Rattle.std.proofs.Common.{◌≡◌, ℕ, ◌+◌, Bool, true, false, cond, ◌||◌, List, [], ◌∷◌, ◌++◌, map, refl, ap, sym, ◌∙◌, subst, inl, inr, Option, Some}
+use Rattle.std.proofs.Common.{◌≡◌, ℕ, ◌+◌, Bool, true, false, cond, ◌||◌, List, [], ◌∷◌, ◌++◌, map, refl, ap, sym, ◌∙◌, subst, inl, inr}
+use Rattle.std.proofs.Common.{Option, Some}
 use Rattle.std.specs.Prelude.{flat_map, Contains, is_some}
 use Rattle.std.specs.List.{list_any}
 use Rattle.std.proofs.lemmas.Bool.{true≢false}
@@ -46,7 +47,8 @@ module _ {A : Type 0} (test : A → Bool) where
   pub any_of_fewer : (xs ys : List A) → ((x : A) → Contains xs x → Contains ys x) → list_any test xs ≡ true → list_any test ys ≡ true
   any_of_fewer [] ys fewer passes = absurd (true≢false (sym passes))
   any_of_fewer (x ∷ xs) ys fewer passes =
-      first_or_later x xs ys (test x) refl passes (fewer x (first_of x xs)) (any_of_fewer xs ys (λ z among. fewer z (later_of x z xs among)))
+      first_or_later x xs ys (test x) refl passes (fewer x (first_of x xs))
+      (any_of_fewer xs ys (λ z among. fewer z (later_of x z xs among)))
 
   pub same_truth : (a b : Bool) → (a ≡ true → b ≡ true) → (b ≡ true → a ≡ true) → a ≡ b
   same_truth true b forth back = sym (forth refl)
@@ -69,12 +71,15 @@ module _ {A B : Type 0} (g : A → B) where
       subst (λ z. Contains (map g ys) z) is.image_is (has_image g ys is.original (fewer is.original is.among))
 
 module _ {B : Type 0} where
-  pub same_joined : (xs ys : List (List B)) → ((x : List B) → Contains xs x → Contains ys x) → (y : B) → Contains (joined xs) y → Contains (joined ys) y
+  pub same_joined : (xs ys : List (List B)) → ((x : List B) → Contains xs x → Contains ys x) → (y : B) → Contains (joined xs) y
+      → Contains (joined ys) y
   same_joined xs ys fewer y member =
       let from = comes_from (λ list. list) xs y member in
       goes_into (λ list. list) ys from.source y (fewer from.source from.among) from.made
 
-  both_parts : (xs ys more rest : List B) → ((y : B) → Contains xs y → Contains ys y) → ((y : B) → Contains more y → Contains rest y) → (y : B) → Contains (xs ++ more) y → Contains (ys ++ rest) y
+  both_parts : (xs ys more rest : List B)
+      → ((y : B) → Contains xs y → Contains ys y) → ((y : B) → Contains more y → Contains rest y) → (y : B) → Contains (xs ++ more) y
+      → Contains (ys ++ rest) y
   both_parts xs ys more rest first second y member =
       elim (Contains-append_cases xs more y member) [
         | inl now ↦ Contains-append_left ys rest y (first y now)
@@ -87,7 +92,8 @@ module _ (db : Db) (names : List (Name × ℕ)) where
       joined (map (flat_map (additions db names)) asks) ++ joined (map (flat_map (retractions db names)) asks)
       ++ joined (map (flat_map (sweeps db names)) asks) ++ joined (map (implied db) (map (flat_map (additions db names)) asks))
 
-  asked_of_fewer : (asks other : List (List Ask)) → ((x : List Ask) → Contains asks x → Contains other x) → (d : Datom) → Contains (asked_of asks) d → Contains (asked_of other) d
+  asked_of_fewer : (asks other : List (List Ask))
+      → ((x : List Ask) → Contains asks x → Contains other x) → (d : Datom) → Contains (asked_of asks) d → Contains (asked_of other) d
   asked_of_fewer asks other fewer =
       let added = map (flat_map (additions db names)) in
       let retracted = map (flat_map (retractions db names)) in
@@ -99,12 +105,16 @@ module _ (db : Db) (names : List (Name × ℕ)) where
       (same_joined (added asks) (added other) more)
       (same_joined (retracted asks) (retracted other) (same_images (flat_map (retractions db names)) asks other fewer)))
       (same_joined (swept asks) (swept other) (same_images (flat_map (sweeps db names)) asks other fewer)))
-      (same_joined (map (implied db) (added asks)) (map (implied db) (added other)) (same_images (implied db) (added asks) (added other) more))
+      (same_joined (map (implied db) (added asks)) (map (implied db) (added other))
+      (same_images (implied db) (added asks) (added other) more))
 
-  pub same_changes : (asks other : List (List Ask)) → ((x : List Ask) → Contains asks x → Contains other x) → ((x : List Ask) → Contains other x → Contains asks x)
+  pub same_changes : (asks other : List (List Ask))
+      → ((x : List Ask) → Contains asks x → Contains other x) → ((x : List Ask) → Contains other x → Contains asks x)
       → (with_names db asks names).changes ≡ (with_names db other names).changes
-  same_changes asks other forth back = changes_in-same (said db.history) (asked_of asks) (asked_of other) (asked_of_fewer asks other forth) (asked_of_fewer other asks back)
+  same_changes asks other forth back =
+      changes_in-same (said db.history) (asked_of asks) (asked_of other) (asked_of_fewer asks other forth) (asked_of_fewer other asks back)
 
-  pub same_facts : (asks other : List (List Ask)) → ((x : List Ask) → Contains asks x → Contains other x) → ((x : List Ask) → Contains other x → Contains asks x)
+  pub same_facts : (asks other : List (List Ask))
+      → ((x : List Ask) → Contains asks x → Contains other x) → ((x : List Ask) → Contains other x → Contains asks x)
       → (with_names db asks names).after ≡ (with_names db other names).after
   same_facts asks other forth back = ap (λ changes. standing (said db.history ++ changes)) (same_changes asks other forth back)

@@ -1,5 +1,6 @@
 -- Members of lists of any kind.
-use Rattle.std.proofs.Common.{◌≡◌, ℕ, zero, suc, ◌<◌, Bool, false, List, [], ◌∷◌, length, map, refl, ap, sym, subst, arith, inl, inr, ◌⊎◌, Option, Some, None}
+use Rattle.std.proofs.Common.{◌≡◌, ℕ, zero, suc, ◌<◌, Bool, false, List, [], ◌∷◌, length, map, refl, ap, sym, subst, arith, inl, inr, ◌⊎◌}
+use Rattle.std.proofs.Common.{Option, Some, None}
 use Rattle.std.specs.Prelude.{flat_map, Contains, slice_index_or, option_to_list}
 use Rattle.std.specs.List.{list_any}
 use Rattle.std.proofs.lemmas.Bool.{or_parts}
@@ -46,8 +47,13 @@ module _ {A B : Type 0} where
   pub comes_from : (g : A → List B) (xs : List A) (y : B) → Contains (flat_map g xs) y → ComesFrom g xs y
   comes_from g [] y member = absurd (not_in_none y member)
   comes_from g (x ∷ xs) y member =
-      let next : Contains (flat_map g xs) y → ComesFrom g (x ∷ xs) y = λ later. let from = comes_from g xs y later in record { source = from.source; among = later_of x from.source xs from.among; made = from.made } in
-      elim (Contains-append_cases (g x) (flat_map g xs) y member) [ inl now ↦ record { source = x; among = first_of x xs; made = now } | inr later ↦ next later ]
+      let next : Contains (flat_map g xs) y → ComesFrom g (x ∷ xs) y =
+      λ later. let from = comes_from g xs y later in
+      record { source = from.source; among = later_of x from.source xs from.among; made = from.made } in
+      elim (Contains-append_cases (g x) (flat_map g xs) y member) [
+        | inl now ↦ record { source = x; among = first_of x xs; made = now }
+        | inr later ↦ next later
+      ]
 
   pub goes_into : (g : A → List B) (xs : List A) (x : A) (y : B) → Contains xs x → Contains (g x) y → Contains (flat_map g xs) y
   goes_into g [] x y among made = absurd (not_in_none x among)
@@ -65,8 +71,13 @@ module _ {A B : Type 0} where
   pub image_of : (f : A → B) (xs : List A) (y : B) → Contains (map f xs) y → IsImage f xs y
   image_of f [] y member = absurd (not_in_none y member)
   image_of f (x ∷ xs) y member =
-      let next : Contains (map f xs) y → IsImage f (x ∷ xs) y = λ later. let is = image_of f xs y later in record { original = is.original; among = later_of x is.original xs is.among; image_is = is.image_is } in
-      elim (which (f x) y (map f xs) member) [ inl now ↦ record { original = x; among = first_of x xs; image_is = now } | inr later ↦ next later ]
+      let next : Contains (map f xs) y → IsImage f (x ∷ xs) y =
+      λ later. let is = image_of f xs y later in
+      record { original = is.original; among = later_of x is.original xs is.among; image_is = is.image_is } in
+      elim (which (f x) y (map f xs) member) [
+        | inl now ↦ record { original = x; among = first_of x xs; image_is = now }
+        | inr later ↦ next later
+      ]
 
   pub has_image : (f : A → B) (xs : List A) (x : A) → Contains xs x → Contains (map f xs) (f x)
   has_image f [] x among = absurd (not_in_none x among)
@@ -92,5 +103,9 @@ module _ {A : Type 0} where
   pub at_of : (lists : List (List A)) (x : A) → Contains (joined lists) x → IsAt lists x
   at_of [] x member = absurd (not_in_none x member)
   at_of (list ∷ lists) x member =
-      let next : Contains (joined lists) x → IsAt (list ∷ lists) x = λ later. let is = at_of lists x later in record { place = suc is.place; within = omega (arith, is.within); member = is.member } in
-      elim (Contains-append_cases list (joined lists) x member) [ inl now ↦ record { place = 0; within = omega arith; member = now } | inr later ↦ next later ]
+      let next : Contains (joined lists) x → IsAt (list ∷ lists) x =
+      λ later. let is = at_of lists x later in record { place = suc is.place; within = omega (arith, is.within); member = is.member } in
+      elim (Contains-append_cases list (joined lists) x member) [
+        | inl now ↦ record { place = 0; within = omega arith; member = now }
+        | inr later ↦ next later
+      ]

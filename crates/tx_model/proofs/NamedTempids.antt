@@ -1,5 +1,6 @@
 -- The tempids that are told: in one order, and exactly those that have a name.
-use Rattle.std.proofs.Common.{◌≡◌, ℕ, ◌+◌, Bool, true, false, cond, not, ◌&&◌, List, [], ◌∷◌, refl, ap, sym, ◌∙◌, subst, inl, inr, ◌⊎◌, Option, Some, None}
+use Rattle.std.proofs.Common.{◌≡◌, ℕ, ◌+◌, Bool, true, false, cond, not, ◌&&◌, List, [], ◌∷◌, refl, ap, sym, ◌∙◌, subst, inl, inr, ◌⊎◌}
+use Rattle.std.proofs.Common.{Option, Some, None}
 use Rattle.std.specs.Prelude.{Contains, flat_map, ⊤}
 use Rattle.std.specs.List.{cons_option}
 use Rattle.std.specs.Ordering.{is_lt, ordering_reverse}
@@ -14,7 +15,8 @@ use Rattle.fb_values.specs.declared.facts.Entry.{Entry}
 use Rattle.fb_values.specs.Orders.{text_cmp}
 use Rattle.fb_model.specs.History.{users_issued}
 use Rattle.tx_model.specs.Asks.{Name, number, ident, lookup, tempid, nameless, Ask, is_tempid, is_same_tempid, names_of}
-use Rattle.tx_model.specs.Tempids.{Db, is_among, met_after, tempids_in, holders, number_next, number_from, with_text, with_texts, put_by_text, by_text, rises_by_text, named_tempids}
+use Rattle.tx_model.specs.Tempids.{Db, is_among, met_after, tempids_in, holders, number_next, number_from, with_text, with_texts}
+use Rattle.tx_model.specs.Tempids.{put_by_text, by_text, rises_by_text, named_tempids}
 use Rattle.tx_model.specs.Transaction.{joined, transaction}
 use Rattle.tx_model.proofs.Lists.{first_of, later_of, which, not_in_none}
 use Rattle.tx_model.proofs.SameHolders.{same_as_itself}
@@ -39,7 +41,8 @@ put_keeps : (x : Pair) (ps : List Pair) (y : Pair) → Contains ps y → Contain
 put_keeps x [] y member = absurd (not_in_none y member)
 put_keeps x (p ∷ ps) y member = go (below p x) (which p y ps member) (put_keeps x ps y)
   where
-    go : (b : Bool) → (p ≡ y) ⊎ Contains ps y → (Contains ps y → Contains (put_by_text x ps) y) → Contains (cond b (p ∷ put_by_text x ps) (x ∷ p ∷ ps)) y
+    go : (b : Bool) → (p ≡ y) ⊎ Contains ps y → (Contains ps y → Contains (put_by_text x ps) y)
+        → Contains (cond b (p ∷ put_by_text x ps) (x ∷ p ∷ ps)) y
     go true (inl same) rest = subst (λ z. Contains (p ∷ put_by_text x ps) z) same (first_of p (put_by_text x ps))
     go true (inr later) rest = later_of p y (put_by_text x ps) (rest later)
     go false either rest = later_of x y (p ∷ ps) member
@@ -48,7 +51,8 @@ put_member : (x : Pair) (ps : List Pair) (y : Pair) → Contains (put_by_text x 
 put_member x [] y member = which x y [] member
 put_member x (p ∷ ps) y member = go (below p x) (put_member x ps y) member
   where
-    go : (b : Bool) → (Contains (put_by_text x ps) y → (x ≡ y) ⊎ Contains ps y) → Contains (cond b (p ∷ put_by_text x ps) (x ∷ p ∷ ps)) y → (x ≡ y) ⊎ Contains (p ∷ ps) y
+    go : (b : Bool) → (Contains (put_by_text x ps) y → (x ≡ y) ⊎ Contains ps y) → Contains (cond b (p ∷ put_by_text x ps) (x ∷ p ∷ ps)) y
+        → (x ≡ y) ⊎ Contains (p ∷ ps) y
     go false next is = which x y (p ∷ ps) is
     go true next is =
         elim (which p y (put_by_text x ps) is) [
@@ -103,7 +107,9 @@ texts_have : (pairs : List (Name × ℕ)) (text : List ℕ) (e : ℕ) → Contai
 texts_have [] text e member = absurd (not_in_none (tempid text, e) member)
 texts_have (pair ∷ pairs) text e member =
     elim (which pair (tempid text, e) pairs member) [
-      | inl same ↦ subst (λ (p : Name × ℕ). Contains (cons_option (with_text p.0 p.1) (with_texts pairs)) (text, e)) (sym same) (first_of (text, e) (with_texts pairs))
+      | inl same ↦
+          subst (λ (p : Name × ℕ). Contains (cons_option (with_text p.0 p.1) (with_texts pairs)) (text, e)) (sym same)
+          (first_of (text, e) (with_texts pairs))
       | inr later ↦ behind (with_text pair.0 pair.1) (texts_have pairs text e later)
     ]
   where
@@ -111,10 +117,12 @@ texts_have (pair ∷ pairs) text e member =
     behind None later = later
     behind (Some p) later = later_of p (text, e) (with_texts pairs) later
 
-pub named_member : (pairs : List (Name × ℕ)) (text : List ℕ) (e : ℕ) → Contains (named_tempids pairs) (text, e) → Contains pairs (tempid text, e)
+pub named_member : (pairs : List (Name × ℕ)) (text : List ℕ) (e : ℕ) → Contains (named_tempids pairs) (text, e)
+    → Contains pairs (tempid text, e)
 named_member pairs text e member = texts_member pairs text e (by_text_member (with_texts pairs) (text, e) member)
 
-pub named_has : (pairs : List (Name × ℕ)) (text : List ℕ) (e : ℕ) → Contains pairs (tempid text, e) → Contains (named_tempids pairs) (text, e)
+pub named_has : (pairs : List (Name × ℕ)) (text : List ℕ) (e : ℕ) → Contains pairs (tempid text, e)
+    → Contains (named_tempids pairs) (text, e)
 named_has pairs text e member = by_text_has (with_texts pairs) (text, e) (texts_have pairs text e member)
 
 -- ---- no name twice
@@ -125,7 +133,8 @@ NoneTwice (name ∷ names) = (Contains names name → ⊥) × NoneTwice names
 
 met_unmet : (before names : List Name) (m : Name) → Contains (met_after before names) m → is_among before m ≡ false
 met_unmet before [] m member = absurd (not_in_none m member)
-met_unmet before (name ∷ names) m member = go (is_tempid name && not (is_among before name)) refl member (met_unmet (name ∷ before) names m) (met_unmet before names m)
+met_unmet before (name ∷ names) m member =
+    go (is_tempid name && not (is_among before name)) refl member (met_unmet (name ∷ before) names m) (met_unmet before names m)
   where
     unmet : is_tempid name && not (is_among before name) ≡ true → is_among before name ≡ false
     unmet is = negated (is_among before name) (and_parts (is_tempid name) (not (is_among before name)) is).1
@@ -134,8 +143,10 @@ met_unmet before (name ∷ names) m member = go (is_tempid name && not (is_among
         negated true e = sym e
         negated false e = refl
 
-    go : (b : Bool) → (is_tempid name && not (is_among before name)) ≡ b → Contains (cond b (name ∷ met_after (name ∷ before) names) (met_after before names)) m
-        → (Contains (met_after (name ∷ before) names) m → is_among (name ∷ before) m ≡ false) → (Contains (met_after before names) m → is_among before m ≡ false) → is_among before m ≡ false
+    go : (b : Bool) → (is_tempid name && not (is_among before name)) ≡ b
+        → Contains (cond b (name ∷ met_after (name ∷ before) names) (met_after before names)) m
+        → (Contains (met_after (name ∷ before) names) m → is_among (name ∷ before) m ≡ false)
+        → (Contains (met_after before names) m → is_among before m ≡ false) → is_among before m ≡ false
     go false is here met skipped = skipped here
     go true is here met skipped =
         elim (which name m (met_after (name ∷ before) names) here) [
@@ -146,9 +157,11 @@ met_unmet before (name ∷ names) m member = go (is_tempid name && not (is_among
 none_met_twice : (before names : List Name) → NoneTwice (met_after before names)
 unfolding NoneTwice
 none_met_twice before [] = tt
-none_met_twice before (name ∷ names) = go (is_tempid name && not (is_among before name)) refl (none_met_twice (name ∷ before) names) (none_met_twice before names)
+none_met_twice before (name ∷ names) =
+    go (is_tempid name && not (is_among before name)) refl (none_met_twice (name ∷ before) names) (none_met_twice before names)
   where
-    go : (b : Bool) → (is_tempid name && not (is_among before name)) ≡ b → NoneTwice (met_after (name ∷ before) names) → NoneTwice (met_after before names)
+    go : (b : Bool) → (is_tempid name && not (is_among before name)) ≡ b → NoneTwice (met_after (name ∷ before) names)
+        → NoneTwice (met_after before names)
         → NoneTwice (cond b (name ∷ met_after (name ∷ before) names) (met_after before names))
     go false is met skipped = skipped
     go true is met skipped = (
@@ -164,14 +177,17 @@ NoTextTwice : List Pair → Type 0
 NoTextTwice [] = ⊤
 NoTextTwice (p ∷ ps) = ((q : Pair) → Contains ps q → p.0 ≡ q.0 → ⊥) × NoTextTwice ps
 
-numbered_name : (db : Db) (asks : List Ask) (names : List Name) (n : ℕ) (text : List ℕ) (e : ℕ) → Contains (with_texts (number_from db asks names n)) (text, e) → Contains names (tempid text)
+numbered_name : (db : Db) (asks : List Ask) (names : List Name) (n : ℕ) (text : List ℕ) (e : ℕ)
+    → Contains (with_texts (number_from db asks names n)) (text, e) → Contains names (tempid text)
 numbered_name db asks [] n text e member = absurd (not_in_none (text, e) member)
 numbered_name db asks (name ∷ names) n text e member = by_holder (holders db asks name) member (λ m. numbered_name db asks names m text e)
   where
-    one : (given : ℕ) (rest : List (Name × ℕ)) → Contains (cons_option (with_text name given) (with_texts rest)) (text, e) → (Contains (with_texts rest) (text, e) → Contains names (tempid text)) → Contains (name ∷ names) (tempid text)
+    one : (given : ℕ) (rest : List (Name × ℕ)) → Contains (cons_option (with_text name given) (with_texts rest)) (text, e)
+        → (Contains (with_texts rest) (text, e) → Contains names (tempid text)) → Contains (name ∷ names) (tempid text)
     one given rest here next = go name refl here
       where
-        go : (x : Name) → name ≡ x → Contains (cons_option (with_text x given) (with_texts rest)) (text, e) → Contains (name ∷ names) (tempid text)
+        go : (x : Name) → name ≡ x → Contains (cons_option (with_text x given) (with_texts rest)) (text, e)
+            → Contains (name ∷ names) (tempid text)
         go (tempid s) is here =
             elim (which (s, given) (text, e) (with_texts rest) here) [
               | inl same ↦ subst (λ z. Contains (name ∷ names) z) (is ∙ ap (λ (p : Pair). tempid p.0) same) (first_of name names)
@@ -183,27 +199,34 @@ numbered_name db asks (name ∷ names) n text e member = by_holder (holders db a
         go (nameless path) is here = later_of name (tempid text) names (next here)
 
     by_holder : (held : List ℕ) → Contains (with_texts (number_next name n held (λ next. number_from db asks names next))) (text, e)
-        → ((m : ℕ) → Contains (with_texts (number_from db asks names m)) (text, e) → Contains names (tempid text)) → Contains (name ∷ names) (tempid text)
+        → ((m : ℕ) → Contains (with_texts (number_from db asks names m)) (text, e) → Contains names (tempid text))
+        → Contains (name ∷ names) (tempid text)
     by_holder [] here next = one _ (number_from db asks names (n + 1)) here (next (n + 1))
     by_holder (held ∷ more) here next = one held (number_from db asks names n) here (next n)
 
-no_text_twice : (db : Db) (asks : List Ask) (names : List Name) (n : ℕ) → NoneTwice names → NoTextTwice (with_texts (number_from db asks names n))
+no_text_twice : (db : Db) (asks : List Ask) (names : List Name) (n : ℕ) → NoneTwice names
+    → NoTextTwice (with_texts (number_from db asks names n))
 unfolding NoneTwice NoTextTwice
 no_text_twice db asks [] n apart = tt
 no_text_twice db asks (name ∷ names) n apart = by_holder (holders db asks name) (λ m. no_text_twice db asks names m apart.1)
   where
-    one : (given m : ℕ) → NoTextTwice (with_texts (number_from db asks names m)) → NoTextTwice (cons_option (with_text name given) (with_texts (number_from db asks names m)))
+    one : (given m : ℕ) → NoTextTwice (with_texts (number_from db asks names m))
+        → NoTextTwice (cons_option (with_text name given) (with_texts (number_from db asks names m)))
     one given m rest = go name refl
       where
         go : (x : Name) → name ≡ x → NoTextTwice (cons_option (with_text x given) (with_texts (number_from db asks names m)))
-        go (tempid s) is =
-            (λ q member same. apart.0 (subst (λ z. Contains names z) (ap tempid (sym same) ∙ sym is) (numbered_name db asks names m q.0 q.1 member)), rest)
+        go (tempid s) is = (
+          λ q member same.
+              apart.0 (subst (λ z. Contains names z) (ap tempid (sym same) ∙ sym is) (numbered_name db asks names m q.0 q.1 member)),
+          rest,
+        )
         go (number z) is = rest
         go (ident k) is = rest
         go (lookup k f) is = rest
         go (nameless path) is = rest
 
-    by_holder : (held : List ℕ) → ((m : ℕ) → NoTextTwice (with_texts (number_from db asks names m))) → NoTextTwice (with_texts (number_next name n held (λ next. number_from db asks names next)))
+    by_holder : (held : List ℕ) → ((m : ℕ) → NoTextTwice (with_texts (number_from db asks names m)))
+        → NoTextTwice (with_texts (number_next name n held (λ next. number_from db asks names next)))
     by_holder [] rest = one _ (n + 1) (rest (n + 1))
     by_holder (held ∷ more) rest = one held n (rest n)
 
@@ -233,13 +256,15 @@ other_way x y is apart = go (text_cmp x.0 y.0) refl is
     go Equal cmp e = absurd (apart (sym (exact_bytes x.0 y.0 cmp)))
     go Greater cmp e = ap is_lt (nat_list_cmp_total.antisymm y.0 x.0 ∙ ap ordering_reverse cmp)
 
-put-rises : (p : Pair) (ps : List Pair) → ((q : Pair) → Contains ps q → p.0 ≡ q.0 → ⊥) → rises_by_text ps ≡ true → rises_by_text (put_by_text p ps) ≡ true
+put-rises : (p : Pair) (ps : List Pair) → ((q : Pair) → Contains ps q → p.0 ≡ q.0 → ⊥) → rises_by_text ps ≡ true
+    → rises_by_text (put_by_text p ps) ≡ true
 put-rises p [] apart rising = refl
 put-rises p (q ∷ ps) apart rising =
     let parts = and_parts (starts_above q ps) (rises_by_text ps) (sym (rises-cons q ps) ∙ rising) in
     go (below q p) refl parts.0 (put-rises p ps (λ r member. apart r (later_of q r ps member)) parts.1)
   where
-    go : (b : Bool) → below q p ≡ b → starts_above q ps ≡ true → rises_by_text (put_by_text p ps) ≡ true → rises_by_text (cond b (q ∷ put_by_text p ps) (p ∷ q ∷ ps)) ≡ true
+    go : (b : Bool) → below q p ≡ b → starts_above q ps ≡ true → rises_by_text (put_by_text p ps) ≡ true
+        → rises_by_text (cond b (q ∷ put_by_text p ps) (p ∷ q ∷ ps)) ≡ true
     go true is above rest = rises-cons q (put_by_text p ps) ∙ and_from _ _ (put-above q p ps is above) rest
     go false is above rest = and_from _ _ (other_way q p is (apart q (first_of q ps))) rising
 
@@ -252,7 +277,8 @@ pub named-rise : (h : List Entry) (fs : List Form) → rises_by_text (named_temp
 named-rise h fs =
     let tx = transaction h fs in
     let asks = joined tx.asks in
-    by_text-rises (with_texts tx.names) (no_text_twice tx.db asks (tempids_in asks) (users_issued h) (none_met_twice [] (flat_map names_of asks)))
+    by_text-rises (with_texts tx.names)
+    (no_text_twice tx.db asks (tempids_in asks) (users_issued h) (none_met_twice [] (flat_map names_of asks)))
 
 -- ---- there is one list
 
@@ -280,7 +306,8 @@ first_is_least x (p ∷ ps) y rising member =
       | inr later ↦ chain x p y parts.0 (first_is_least p ps y parts.1 later)
     ]
 
-one_rising_list : (ps qs : List Pair) → rises_by_text ps ≡ true → rises_by_text qs ≡ true → ((x : Pair) → Contains ps x → Contains qs x) → ((x : Pair) → Contains qs x → Contains ps x) → ps ≡ qs
+one_rising_list : (ps qs : List Pair) → rises_by_text ps ≡ true → rises_by_text qs ≡ true
+    → ((x : Pair) → Contains ps x → Contains qs x) → ((x : Pair) → Contains qs x → Contains ps x) → ps ≡ qs
 one_rising_list [] [] p q there back = refl
 one_rising_list [] (y ∷ qs) p q there back = absurd (not_in_none y (back y (first_of y qs)))
 one_rising_list (x ∷ ps) [] p q there back = absurd (not_in_none x (there x (first_of x ps)))
@@ -310,7 +337,8 @@ one_rising_list (x ∷ ps) (y ∷ qs) p q there back = cons x y first_same ps qs
 
 pub one-list : (h : List Entry) (fs : List Form) (list : List Pair) → rises_by_text list ≡ true
     → ((text : List ℕ) (e : ℕ) → Contains list (text, e) → Contains (transaction h fs).names (tempid text, e))
-    → ((text : List ℕ) (e : ℕ) → Contains (transaction h fs).names (tempid text, e) → Contains list (text, e)) → list ≡ named_tempids (transaction h fs).names
+    → ((text : List ℕ) (e : ℕ) → Contains (transaction h fs).names (tempid text, e) → Contains list (text, e))
+    → list ≡ named_tempids (transaction h fs).names
 one-list h fs list rising there back =
     let pairs = (transaction h fs).names in
     one_rising_list list (named_tempids pairs) rising (named-rise h fs)

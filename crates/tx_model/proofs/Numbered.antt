@@ -1,5 +1,6 @@
 -- The numbers, attributes and values of what a transaction records, where it breaks no rule.
-use Rattle.std.proofs.Common.{◌≡◌, ℕ, ◌+◌, Bool, true, false, cond, List, [], ◌∷◌, refl, ap, sym, ◌∙◌, subst, inl, inr, ◌⊎◌, Option, Some, None}
+use Rattle.std.proofs.Common.{◌≡◌, ℕ, ◌+◌, Bool, true, false, cond, List, [], ◌∷◌, refl, ap, sym, ◌∙◌, subst, inl, inr, ◌⊎◌, Option, Some}
+use Rattle.std.proofs.Common.{None}
 use Rattle.std.specs.Prelude.{Contains, flat_map, is_none}
 use Rattle.std.specs.List.{list_any}
 use Rattle.std.specs.Cmp.Lexicographic.{bytes_decides}
@@ -24,8 +25,13 @@ pub record PassesSome {A : Type 0} (q : A → Bool) (xs : List A) : Type 0 where
 pub some_passes : {A : Type 0} (q : A → Bool) (xs : List A) → list_any q xs ≡ true → PassesSome q xs
 some_passes q [] some = absurd (true≢false (sym some))
 some_passes q (x ∷ xs) some =
-    let next : list_any q xs ≡ true → PassesSome q (x ∷ xs) = λ more. let rest = some_passes q xs more in record { element = rest.element; among = later_of x rest.element xs rest.among; passes = rest.passes } in
-    elim (or_cases (q x) (list_any q xs) some) [ inl here ↦ record { element = x; among = first_of x xs; passes = here } | inr more ↦ next more ]
+    let next : list_any q xs ≡ true → PassesSome q (x ∷ xs) =
+    λ more. let rest = some_passes q xs more in
+    record { element = rest.element; among = later_of x rest.element xs rest.among; passes = rest.passes } in
+    elim (or_cases (q x) (list_any q xs) some) [
+      | inl here ↦ record { element = x; among = first_of x xs; passes = here }
+      | inr more ↦ next more
+    ]
 
 pub record IsThere {A : Type 0} (o : Option A) : Type 0 where
   pub value : A
@@ -42,7 +48,9 @@ data IsMetBefore (before names : List Name) (name : Name) : Type 0 where
   is_met : (other : Name) → Contains (met_after before names) other → is_same_tempid other name ≡ true → IsMetBefore before names name
 
 same_sym : (a b : Name) → is_same_tempid a b ≡ true → is_same_tempid b a ≡ true
-same_sym a b same = subst (λ x. is_same_tempid b x ≡ true) (sym (is_same_tempid-true a b same)) (subst (λ x. is_same_tempid x b ≡ true) (is_same_tempid-true a b same) same)
+same_sym a b same =
+    subst (λ x. is_same_tempid b x ≡ true) (sym (is_same_tempid-true a b same))
+    (subst (λ x. is_same_tempid x b ≡ true) (is_same_tempid-true a b same) same)
 
 itself : (name : Name) → is_tempid name ≡ true → is_same_tempid name name ≡ true
 itself (tempid s) is = (bytes_decides s s).1 refl
@@ -54,11 +62,15 @@ itself (lookup k v) is = absurd (true≢false (sym is))
 met : (before names : List Name) (name : Name) → is_tempid name ≡ true → Contains names name → IsMetBefore before names name
 met before [] name is member = absurd (not_in_none name member)
 met before (first ∷ names) name is member =
-    go (is_tempid first) (is_among before first) refl refl (which first name names member) (met (first ∷ before) names name is) (met before names name is)
+    go (is_tempid first) (is_among before first) refl refl (which first name names member) (met (first ∷ before) names name is)
+    (met before names name is)
   where
-    keep_new : IsMetBefore (first ∷ before) names name → (is_same_tempid name first ≡ true → IsMetBefore before (first ∷ names) name) → Contains (met_after before (first ∷ names)) first ⊎ Unit {0}
-        → ((other : Name) → Contains (met_after (first ∷ before) names) other → Contains (met_after before (first ∷ names)) other) → IsMetBefore before (first ∷ names) name
-    keep_new (was_before among) now unused widen = elim (or_cases (is_same_tempid name first) (is_among before name) among) [ inl same ↦ now same | inr earlier ↦ was_before earlier ]
+    keep_new : IsMetBefore (first ∷ before) names name → (is_same_tempid name first ≡ true → IsMetBefore before (first ∷ names) name)
+        → Contains (met_after before (first ∷ names)) first ⊎ Unit {0}
+        → ((other : Name) → Contains (met_after (first ∷ before) names) other → Contains (met_after before (first ∷ names)) other)
+        → IsMetBefore before (first ∷ names) name
+    keep_new (was_before among) now unused widen =
+        elim (or_cases (is_same_tempid name first) (is_among before name) among) [ inl same ↦ now same | inr earlier ↦ was_before earlier ]
     keep_new (is_met other has same) now unused widen = is_met other (widen other has) same
 
     go : (t b : Bool) → is_tempid first ≡ t → is_among before first ≡ b → (first ≡ name) ⊎ Contains names name
@@ -102,23 +114,28 @@ met before (first ∷ names) name is member =
             widen (was_before among) = was_before among
             widen (is_met other has alike) = is_met other (subst (λ l. Contains l other) (sym here_met) has) alike
 
-number_some : (db : Db) (asks : List Ask) (names : List Name) (n : ℕ) (other name : Name) → Contains names other → is_same_tempid other name ≡ true → IsThere (assigned_to (number_from db asks names n) name)
+number_some : (db : Db) (asks : List Ask) (names : List Name) (n : ℕ) (other name : Name) → Contains names other
+    → is_same_tempid other name ≡ true → IsThere (assigned_to (number_from db asks names n) name)
 number_some db asks [] n other name member same = absurd (not_in_none other member)
 number_some db asks (first ∷ names) n other name member same =
-    go (holders db asks first) (is_same_tempid first name) refl (which first other names member) (λ later. number_some db asks names (n + 1) other name later same) (λ later. number_some db asks names n other name later same)
+    go (holders db asks first) (is_same_tempid first name) refl (which first other names member)
+    (λ later. number_some db asks names (n + 1) other name later same) (λ later. number_some db asks names n other name later same)
   where
-    pick : (b : Bool) (e : ℕ) (rest : Option ℕ) → is_same_tempid first name ≡ b → (first ≡ other) ⊎ Contains names other → (Contains names other → IsThere rest) → IsThere (cond b (Some e) rest)
+    pick : (b : Bool) (e : ℕ) (rest : Option ℕ) → is_same_tempid first name ≡ b → (first ≡ other) ⊎ Contains names other
+        → (Contains names other → IsThere rest) → IsThere (cond b (Some e) rest)
     pick true e rest is which_one next = record { value = e; is = refl }
     pick false e rest is (inr later) next = next later
     pick false e rest is (inl is_other) next = absurd (true≢false (sym same ∙ ap (λ x. is_same_tempid x name) (sym is_other) ∙ is))
 
     go : (hs : List ℕ) (b : Bool) → is_same_tempid first name ≡ b → (first ≡ other) ⊎ Contains names other
-        → (Contains names other → IsThere (assigned_to (number_from db asks names (n + 1)) name)) → (Contains names other → IsThere (assigned_to (number_from db asks names n) name))
+        → (Contains names other → IsThere (assigned_to (number_from db asks names (n + 1)) name))
+        → (Contains names other → IsThere (assigned_to (number_from db asks names n) name))
         → IsThere (assigned_to (number_next first n hs (λ next. number_from db asks names next)) name)
     go [] b is which_one next also = pick (is_same_tempid first name) (user_entity (n + 1)) _ refl which_one next
     go (e ∷ es) b is which_one next also = pick (is_same_tempid first name) e _ refl which_one also
 
-pub assigned_some : (db : Db) (asks : List Ask) (name : Name) → is_tempid name ≡ true → Contains (flat_map names_of asks) name → IsThere (assigned_to (assigned db asks) name)
+pub assigned_some : (db : Db) (asks : List Ask) (name : Name) → is_tempid name ≡ true → Contains (flat_map names_of asks) name
+    → IsThere (assigned_to (assigned db asks) name)
 assigned_some db asks name is member = go (met [] (flat_map names_of asks) name is member)
   where
     go : IsMetBefore [] (flat_map names_of asks) name → IsThere (assigned_to (assigned db asks) name)

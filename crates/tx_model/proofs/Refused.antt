@@ -1,13 +1,16 @@
 -- Where a transaction is not refused, no form breaks any rule.
-use Rattle.std.proofs.Common.{◌≡◌, ℕ, zero, suc, ◌+◌, ◌<◌, Bool, true, false, cond, ◌||◌, List, [], ◌∷◌, length, map, refl, subst, arith, Option, Some, None}
+use Rattle.std.proofs.Common.{◌≡◌, ℕ, zero, suc, ◌+◌, ◌<◌, Bool, true, false, cond, ◌||◌, List, [], ◌∷◌, length, map, refl, subst, arith}
+use Rattle.std.proofs.Common.{Option, Some, None}
 use Rattle.std.specs.Prelude.{slice_index_or}
 use Rattle.std.specs.List.{list_any}
 use Rattle.std.proofs.lemmas.Bool.{or_from}
 use Rattle.edn_model.specs.Form.{Form}
 use Rattle.fb_values.specs.declared.facts.Entry.{Entry}
 use Rattle.tx_model.specs.Transaction.{Transaction, joined, transaction}
-use Rattle.tx_model.specs.NameRules.{breaks_not_an_attribute, breaks_protected_attribute, breaks_wrong_type, breaks_not_unique_lookup, breaks_not_an_entity, breaks_tempid_not_an_entity}
-use Rattle.tx_model.specs.ChangeRules.{breaks_datoms_conflict, breaks_unique_conflict, breaks_incomplete_attribute, breaks_attribute_fixed, breaks_too_large, breaks_full, breaks_alteration_conflict}
+use Rattle.tx_model.specs.NameRules.{breaks_not_an_attribute, breaks_protected_attribute, breaks_wrong_type, breaks_not_unique_lookup}
+use Rattle.tx_model.specs.NameRules.{breaks_not_an_entity, breaks_tempid_not_an_entity}
+use Rattle.tx_model.specs.ChangeRules.{breaks_datoms_conflict, breaks_unique_conflict, breaks_incomplete_attribute, breaks_attribute_fixed}
+use Rattle.tx_model.specs.ChangeRules.{breaks_too_large, breaks_full, breaks_alteration_conflict}
 use Rattle.tx_refusals.specs.declared.reasons.Reason.{Reason}
 use Rattle.tx_refusals.specs.declared.reasons.Reason.TheVariants.{NotAForm}
 use Rattle.tx_model.specs.Step.{first_yes, tests_from, by_place, by_whole, all_rules, first_refusal, refusal_of}
@@ -16,16 +19,19 @@ no_yes : {A : Type 0} (test : A → Bool) (n : ℕ) (xs : List A) → first_yes 
 no_yes test n [] none = refl
 no_yes test n (x ∷ xs) none = go (test x) refl none (no_yes test (n + 1) xs)
   where
-    go : (b : Bool) → test x ≡ b → cond b (Some n) (first_yes (n + 1) (map test xs)) ≡ None → (first_yes (n + 1) (map test xs) ≡ None → list_any test xs ≡ false) → (test x || list_any test xs) ≡ false
+    go : (b : Bool) → test x ≡ b → cond b (Some n) (first_yes (n + 1) (map test xs)) ≡ None
+        → (first_yes (n + 1) (map test xs) ≡ None → list_any test xs ≡ false) → (test x || list_any test xs) ≡ false
     go true is none next = absurd (cc)
     go false is none next = or_from _ _ is (next none)
 
-no_place : {A : Type 0} (test : ℕ → Bool) (n m : ℕ) (xs : List A) → first_yes n (tests_from test m xs) ≡ None → (i : ℕ) → i < length xs → test (m + i) ≡ false
+no_place : {A : Type 0} (test : ℕ → Bool) (n m : ℕ) (xs : List A) → first_yes n (tests_from test m xs) ≡ None → (i : ℕ) → i < length xs
+    → test (m + i) ≡ false
 no_place test n m [] none i below = absurd (omega (arith, below))
 no_place test n m (x ∷ xs) none i below = go (test m) refl none i below (λ rest. no_place test (n + 1) (m + 1) xs rest)
   where
     go : (b : Bool) → test m ≡ b → cond b (Some n) (first_yes (n + 1) (tests_from test (m + 1) xs)) ≡ None → (i : ℕ) → i < suc (length xs)
-        → (first_yes (n + 1) (tests_from test (m + 1) xs) ≡ None → (k : ℕ) → k < length xs → test (m + 1 + k) ≡ false) → test (m + i) ≡ false
+        → (first_yes (n + 1) (tests_from test (m + 1) xs) ≡ None → (k : ℕ) → k < length xs → test (m + 1 + k) ≡ false)
+        → test (m + i) ≡ false
     go true is none i below next = absurd (cc)
     go false is none zero below next = subst (λ k. test k ≡ false) (omega arith) is
     go false is none (suc i) below next = subst (λ k. test k ≡ false) (omega arith) (next none i (omega (arith, below)))
@@ -34,7 +40,8 @@ no_whole : (b : Bool) → by_whole b ≡ None → b ≡ false
 no_whole false none = refl
 no_whole true none = absurd (cc)
 
-none_at : (rules : List (Reason × Option ℕ)) → first_refusal rules ≡ None → (i : ℕ) → i < length rules → (slice_index_or rules i (NotAForm, None)).1 ≡ None
+none_at : (rules : List (Reason × Option ℕ)) → first_refusal rules ≡ None → (i : ℕ) → i < length rules
+    → (slice_index_or rules i (NotAForm, None)).1 ≡ None
 none_at [] none i below = absurd (omega (arith, below))
 none_at ((reason, None) ∷ rules) none zero below = refl
 none_at ((reason, None) ∷ rules) none (suc i) below = none_at rules none i (omega (arith, below))

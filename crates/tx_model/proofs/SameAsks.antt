@@ -8,12 +8,14 @@ use Rattle.fb_model.proofs.InOrder.{in_order_has, one_rising_list}
 use Rattle.tx_model.specs.Transaction.{is_change, changes_in}
 use Rattle.tx_model.proofs.Recorded.{one_change}
 
-fewer : (ds asked other : List Datom) → ((d : Datom) → Contains asked d → Contains other d) → (d : Datom) → Contains (changes_in ds asked) d → Contains (changes_in ds other) d
+fewer : (ds asked other : List Datom) → ((d : Datom) → Contains asked d → Contains other d) → (d : Datom) → Contains (changes_in ds asked) d
+    → Contains (changes_in ds other) d
 fewer ds asked other among d member =
     let is = kept (is_change ds) asked d (in_order_member Eavt (filter (is_change ds) asked) d member) in
     in_order_has Eavt (filter (is_change ds) other) (one_change ds other) d (keep (is_change ds) other d (among d is.member) is.passes)
 
-pub changes_in-same : (ds asked other : List Datom) → ((d : Datom) → Contains asked d → Contains other d) → ((d : Datom) → Contains other d → Contains asked d) → changes_in ds asked ≡ changes_in ds other
+pub changes_in-same : (ds asked other : List Datom) → ((d : Datom) → Contains asked d → Contains other d)
+    → ((d : Datom) → Contains other d → Contains asked d) → changes_in ds asked ≡ changes_in ds other
 changes_in-same ds asked other forth back =
     one_rising_list Eavt (changes_in ds asked) (changes_in ds other)
     (in_order-rises Eavt (filter (is_change ds) asked)) (in_order-rises Eavt (filter (is_change ds) other))

@@ -10,9 +10,11 @@ use Rattle.fb_numbers.specs.Numbers.{transaction_of}
 use Rattle.fb_model.specs.History.{basis}
 use Rattle.fb_model.specs.Facts.{value_of}
 use Rattle.fb_model.specs.Schema.{Attribute, attribute_named}
-use Rattle.tx_model.specs.Asks.{Name, number, ident, lookup, tempid, nameless, Operand, plain, entity, Ask, adds, retracts, retracts_all, compares, retracts_entity, meets, mentions, lacks_id, own_tempid}
+use Rattle.tx_model.specs.Asks.{Name, number, ident, lookup, tempid, nameless, Operand, plain, entity, Ask, adds, retracts, retracts_all}
+use Rattle.tx_model.specs.Asks.{compares, retracts_entity, meets, mentions, lacks_id, own_tempid}
 use Rattle.tx_model.specs.Tempids.{Db, assigned_to, assigned, entity_of}
-use Rattle.tx_model.specs.Changes.{value_of_part, change, changes_of, additions, retractions, sweeps, implied, values_withdrawn, set_withdrawn}
+use Rattle.tx_model.specs.Changes.{value_of_part, change, changes_of, additions, retractions, sweeps, implied, values_withdrawn}
+use Rattle.tx_model.specs.Changes.{set_withdrawn}
 use Rattle.tx_model.specs.Transaction.{Transaction, joined, with_changes, with_names, with_asks}
 use Rattle.tx_model.specs.ChangeRules.{at, compares_another, is_value, old_value}
 use Rattle.tx_refusals.specs.declared.reasons.Reason.TheVariants.{CasFailed}
@@ -24,9 +26,11 @@ flat_map_by : {A B : Type 0} (f g : A → List B) → ((x : A) → f x ≡ g x) 
 flat_map_by f g same [] = refl
 flat_map_by f g same (x ∷ xs) = ap (λ ys. ys ++ flat_map f xs) (same x) ∙ ap (λ ys. g x ++ ys) (flat_map_by f g same xs)
 
-tests_by : {A : Type 0} (test other : ℕ → Bool) → ((n : ℕ) → test n ≡ other n) → (n : ℕ) (xs : List A) → tests_from test n xs ≡ tests_from other n xs
+tests_by : {A : Type 0} (test other : ℕ → Bool) → ((n : ℕ) → test n ≡ other n) → (n : ℕ) (xs : List A)
+    → tests_from test n xs ≡ tests_from other n xs
 tests_by test other same n [] = refl
-tests_by test other same n (x ∷ xs) = then_rest (test n) (other n) (tests_from test (n + 1) xs) (tests_from other (n + 1) xs) (same n) (tests_by test other same (n + 1) xs)
+tests_by test other same n (x ∷ xs) =
+    then_rest (test n) (other n) (tests_from test (n + 1) xs) (tests_from other (n + 1) xs) (same n) (tests_by test other same (n + 1) xs)
 
 module _ (db : Db) (names others : List (Name × ℕ)) (same : (name : Name) → assigned_to names name ≡ assigned_to others name) where
   same_entity : (name : Name) → entity_of db names name ≡ entity_of db others name
@@ -37,9 +41,12 @@ module _ (db : Db) (names others : List (Name × ℕ)) (same : (name : Name) →
   same_entity (nameless path) = same (nameless path)
 
   abbrev made : Bool → List ℕ → Option ℕ → (Attribute → Option Value) → List Datom
-  made added k e value = option_to_list (option_and_then (λ e. option_and_then (λ (a : Attribute). option_map (change db added e a.id) (value a)) (attribute_named db.facts k)) e)
+  made added k e value =
+      option_to_list (option_and_then
+      (λ e. option_and_then (λ (a : Attribute). option_map (change db added e a.id) (value a)) (attribute_named db.facts k)) e)
 
-  same_made : (added : Bool) (name : Name) (k : List ℕ) (part : Operand) → changes_of db names added name k part ≡ changes_of db others added name k part
+  same_made : (added : Bool) (name : Name) (k : List ℕ) (part : Operand)
+      → changes_of db names added name k part ≡ changes_of db others added name k part
   same_made added name k (plain f) = ap (λ e. made added k e (λ a. value_of_part db names a (plain f))) (same_entity name)
   same_made added name k (entity other) =
       ap (λ e. made added k e (λ a. option_map Ref (entity_of db names other))) (same_entity name)
@@ -66,7 +73,8 @@ module _ (db : Db) (names others : List (Name × ℕ)) (same : (name : Name) →
   same_retractions lacks_id = refl
 
   same_sweeps : (ask : Ask) → sweeps db names ask ≡ sweeps db others ask
-  same_sweeps (retracts_all name k) = ap (λ e. option_map_or (λ e. option_map_or (values_withdrawn db e) (attribute_named db.facts k) []) e []) (same_entity name)
+  same_sweeps (retracts_all name k) =
+      ap (λ e. option_map_or (λ e. option_map_or (values_withdrawn db e) (attribute_named db.facts k) []) e []) (same_entity name)
   same_sweeps (retracts_entity name) = ap (λ e. option_map_or (set_withdrawn db) e []) (same_entity name)
   same_sweeps (adds name k part) = refl
   same_sweeps (retracts name k part) = refl
@@ -87,22 +95,28 @@ module _ (db : Db) (names others : List (Name × ℕ)) (same : (name : Name) →
     added = changes_by (additions db others)
 
     abbrev under : List (Name × ℕ) → Transaction
-    under pairs = with_changes db asks pairs added (changes_by (retractions db others)) (changes_by (sweeps db others)) (map (implied db) added)
+    under pairs =
+        with_changes db asks pairs added (changes_by (retractions db others)) (changes_by (sweeps db others)) (map (implied db) added)
 
     under_names : with_names db asks names ≡ under names
     under_names =
-        ap (λ ds. with_changes db asks names ds (changes_by (retractions db names)) (changes_by (sweeps db names)) (map (implied db) ds)) (same_lists (additions db names) (additions db others) same_additions)
-        ∙ ap (λ ds. with_changes db asks names added ds (changes_by (sweeps db names)) (map (implied db) added)) (same_lists (retractions db names) (retractions db others) same_retractions)
-        ∙ ap (λ ds. with_changes db asks names added (changes_by (retractions db others)) ds (map (implied db) added)) (same_lists (sweeps db names) (sweeps db others) same_sweeps)
+        ap (λ ds. with_changes db asks names ds (changes_by (retractions db names)) (changes_by (sweeps db names)) (map (implied db) ds))
+        (same_lists (additions db names) (additions db others) same_additions)
+        ∙ ap (λ ds. with_changes db asks names added ds (changes_by (sweeps db names)) (map (implied db) added))
+        (same_lists (retractions db names) (retractions db others) same_retractions)
+        ∙ ap (λ ds. with_changes db asks names added (changes_by (retractions db others)) ds (map (implied db) added))
+        (same_lists (sweeps db names) (sweeps db others) same_sweeps)
 
     abbrev differs : Attribute → ℕ → Option Value → Bool
     differs attribute e old = not (is_value (value_of db.facts e attribute.id) old)
 
     abbrev compared : List ℕ → Option ℕ → (Attribute → Option Value) → Bool
-    compared k e old = option_map_or (λ e. option_map_or (λ attribute. differs attribute e (old attribute)) (attribute_named db.facts k) false) e false
+    compared k e old =
+        option_map_or (λ e. option_map_or (λ attribute. differs attribute e (old attribute)) (attribute_named db.facts k) false) e false
 
     same_comparison : (ask : Ask) → compares_another (under names) ask ≡ compares_another (under others) ask
-    same_comparison (compares name k (plain f) new) = ap (λ e. compared k e (λ attribute. old_value (under names) attribute (plain f))) (same_entity name)
+    same_comparison (compares name k (plain f) new) =
+        ap (λ e. compared k e (λ attribute. old_value (under names) attribute (plain f))) (same_entity name)
     same_comparison (compares name k (entity other) new) =
         ap (λ e. compared k e (λ attribute. option_map Ref (entity_of db names other))) (same_entity name)
         ∙ ap (λ v. compared k (entity_of db others name) (λ attribute. option_map Ref v)) (same_entity other)
@@ -114,9 +128,11 @@ module _ (db : Db) (names others : List (Name × ℕ)) (same : (name : Name) →
     same_comparison (mentions k) = refl
     same_comparison lacks_id = refl
 
-    cas_failed : first_yes 0 (tests_from (λ n. list_any (compares_another (under names)) (at asks n)) 0 asks) ≡ first_yes 0 (tests_from (λ n. list_any (compares_another (under others)) (at asks n)) 0 asks)
+    cas_failed : first_yes 0 (tests_from (λ n. list_any (compares_another (under names)) (at asks n)) 0 asks)
+        ≡ first_yes 0 (tests_from (λ n. list_any (compares_another (under others)) (at asks n)) 0 asks)
     cas_failed =
-        ap (first_yes 0) (tests_by (λ n. list_any (compares_another (under names)) (at asks n)) (λ n. list_any (compares_another (under others)) (at asks n))
+        ap (first_yes 0)
+        (tests_by (λ n. list_any (compares_another (under names)) (at asks n)) (λ n. list_any (compares_another (under others)) (at asks n))
         (λ n. any_by (compares_another (under names)) (compares_another (under others)) same_comparison (at asks n)) 0 asks)
 
     after_ten : {A : Type 0} (a b c d e f g h i : A) (x y : A) (rest : List A) → x ≡ y
@@ -134,7 +150,8 @@ module _ (db : Db) (names others : List (Name × ℕ)) (same : (name : Name) →
 
 -- ---- a transaction in two orders
 
-module _ (db : Db) (asks other : List (List Ask)) (forth : (x : List Ask) → Contains asks x → Contains other x) (back : (x : List Ask) → Contains other x → Contains asks x)
+module _ (db : Db) (asks other : List (List Ask)) (forth : (x : List Ask) → Contains asks x → Contains other x)
+    (back : (x : List Ask) → Contains other x → Contains asks x)
     (same : (name : Name) → assigned_to (assigned db (joined asks)) name ≡ assigned_to (assigned db (joined other)) name) where
   pub changes_in_any_order : (with_asks db asks).changes ≡ (with_asks db other).changes
   changes_in_any_order =

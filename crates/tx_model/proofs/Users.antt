@@ -1,5 +1,6 @@
 -- How many user entities a lawful history has.
-use Rattle.std.proofs.Common.{◌≡◌, ℕ, suc, ◌+◌, ◌*◌, ◌^◌, ◌<◌, ◌≤◌, Bool, true, false, cond, ◌&&◌, ◌||◌, List, [], ◌∷◌, ◌++◌, length, arith, eqb, leb, ltb}
+use Rattle.std.proofs.Common.{◌≡◌, ℕ, suc, ◌+◌, ◌*◌, ◌^◌, ◌<◌, ◌≤◌, Bool, true, false, cond, ◌&&◌, ◌||◌, List, [], ◌∷◌, ◌++◌, length, arith}
+use Rattle.std.proofs.Common.{eqb, leb, ltb}
 use Rattle.std.specs.List.{list_all}
 use Rattle.std.proofs.lemmas.Bool.{and_parts, eqb-true, leb-true}
 use Rattle.std.proofs.lemmas.Bool.Decides.{nat_tests}
@@ -31,7 +32,8 @@ known_number : (b t u n e : ℕ) → t ≤ greatest_t → b ≤ t → u ≤ n
     → user_number e ≤ n
 known_number b t u n e small next fewer known = grind (arith, nat_tests, builtin_small)
 
-users_at_most : (ds : List Datom) (test : Datom → Bool) (n : ℕ) → ((d : Datom) → test d ≡ true → user_number d.e ≤ n) → list_all test ds ≡ true → users_in ds ≤ n
+users_at_most : (ds : List Datom) (test : Datom → Bool) (n : ℕ)
+    → ((d : Datom) → test d ≡ true → user_number d.e ≤ n) → list_all test ds ≡ true → users_in ds ≤ n
 users_at_most [] test n each all = omega arith
 users_at_most (d ∷ ds) test n each all =
     let parts = and_parts (test d) (list_all test ds) all in
@@ -54,7 +56,8 @@ few_more h entry next =
     let few = leb-true (length entry.datoms) most_datoms (and_parts _ _ next.datoms_in_order).1 in
     let new : users_in entry.datoms ≤ users_after h entry =
     users_at_most entry.datoms (λ d. is_known h entry d.e && is_known_value h entry d.v) (users_after h entry)
-    (λ d known. known_number (basis h) entry.t (users_issued h) (users_after h entry) d.e small (omega (arith, t_is)) (behind_at_least entry.datoms entry.datoms (users_issued h)) (and_parts _ _ known).0)
+    (λ d known. known_number (basis h) entry.t (users_issued h) (users_after h entry) d.e small (omega (arith, t_is))
+    (behind_at_least entry.datoms entry.datoms (users_issued h)) (and_parts _ _ known).0)
     next.known_numbers in
     omega (arith, new, few, behind_at_most entry.datoms entry.datoms (users_issued h), users_issued-push h entry)
 
@@ -83,7 +86,8 @@ number_small : (b t u v n : ℕ) → b ≤ greatest_t → t ≤ greatest_t → u
     → ltb n (2 ^ 64) ≡ true
 number_small b t u v n basis_is t_is users more known = grind (arith, nat_tests, builtin_small)
 
-pub known_small : (h : List Entry) (entry : Entry) (n : ℕ) → IsLawful h → entry.t ≤ greatest_t → length entry.datoms ≤ most_datoms → is_known h entry n ≡ true → is_reference n ≡ true
+pub known_small : (h : List Entry) (entry : Entry) (n : ℕ) → IsLawful h → entry.t ≤ greatest_t → length entry.datoms ≤ most_datoms
+    → is_known h entry n ≡ true → is_reference n ≡ true
 known_small h entry n lawful t_is few known =
     number_small (basis h) entry.t (users_issued h) (users_after h entry) n (basis_small h lawful) t_is (users_fit h lawful)
     (omega (arith, few, behind_at_most entry.datoms entry.datoms (users_issued h))) known

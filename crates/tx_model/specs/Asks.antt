@@ -1,9 +1,11 @@
 -- What a transaction asks, with entities still by their names.
 -- Datomic, Transaction Data (list forms, map forms, entity identifiers, temporary ids).
-use Rattle.std.specs.Prelude.{ℕ, ℤ, Bool, true, false, List, [], ◌∷◌, ◌++◌, bytes_eq, codes, if◌then◌else◌, drop, Option, Some, None}
+use Rattle.std.specs.Prelude.{ℕ, ℤ, Bool, true, false, List, [], ◌∷◌, ◌++◌, bytes_eq, codes}
+use Rattle.std.specs.Prelude.{if◌then◌else◌, drop, Option, Some, None}
 use Rattle.edn_model.specs.Form as edn
 use Rattle.edn_model.specs.Form.{Form, Forms, no_forms, form}
-use Rattle.fb_model.specs.Words.{slash, underscore, has_namespace, namespace, local_name, begins_with_one_of}
+use Rattle.fb_model.specs.Words.{slash, underscore, has_namespace, namespace, local_name}
+use Rattle.fb_model.specs.Words.{begins_with_one_of}
 
 -- how a transaction names an entity
 pub data Name : Type 0 where
@@ -16,7 +18,7 @@ pub data Name : Type 0 where
   -- a map without `:db/id`: its place among the forms, pairs and members, from the inside out
   nameless : List ℕ → Name
 
--- what stands in the place of a value
+-- what is given in the place of a value
 pub data Operand : Type 0 where
   -- a value, to be read by the attribute's type
   plain : Form → Operand
@@ -31,7 +33,7 @@ pub data Ask : Type 0 where
   -- the old value and the new one
   compares : Name → List ℕ → Operand → Operand → Ask
   retracts_entity : Name → Ask
-  -- a map stands for this entity
+  -- there is a map of this entity
   meets : Name → Ask
   -- an attribute is a key of a map
   mentions : List ℕ → Ask
@@ -47,7 +49,7 @@ abbrev pub name_of_pair : Option (List ℕ × Form) → Option Name
 name_of_pair None = None
 name_of_pair (Some pair) = Some (lookup pair.0 pair.1)
 
--- the entity that a form names, in a place where a tempid may stand
+-- the entity that a form names, in a place where a tempid may be
 abbrev pub name_in : Form → Option Name
 name_in (edn.integer z) = Some (number z)
 name_in (edn.keyword k) = Some (ident k)

@@ -2,16 +2,20 @@
 -- the test passes. A rule is read where no lower rule is broken. What a form asks includes what it
 -- finds and what its additions imply.
 -- Datomic, Transaction Data (:db/cas, cardinality, unique values) and Schema (altering attributes).
-use Rattle.std.specs.Prelude.{ℕ, ◌+◌, Bool, true, false, not, ◌&&◌, ◌||◌, List, [], ◌++◌, length, nat_eq, nat_le, nat_lt, int_lt, max, Option, Some, None, slice_index_or}
+use Rattle.std.specs.Prelude.{ℕ, ◌+◌, Bool, true, false, not, ◌&&◌, ◌||◌, List, [], ◌++◌, length}
+use Rattle.std.specs.Prelude.{nat_eq, nat_le, nat_lt, int_lt, max, Option, Some, None}
+use Rattle.std.specs.Prelude.{slice_index_or}
 use Rattle.std.specs.List.{list_any, list_all}
 use Rattle.std.specs.Option.{option_map_or}
 use Rattle.edn_model.specs.Form as edn
 use Rattle.fb_values.specs.declared.facts.Datom.{Datom}
 use Rattle.fb_values.specs.declared.facts.Value.{Value}
-use Rattle.fb_numbers.specs.Numbers.{ident, cardinality, unique, index, greatest_t, greatest_instant, most_datoms, most_users}
+use Rattle.fb_numbers.specs.Numbers.{ident, cardinality, unique, index, greatest_t}
+use Rattle.fb_numbers.specs.Numbers.{greatest_instant, most_datoms, most_users}
 use Rattle.fb_model.specs.History.{basis, last_instant, said, users_issued, users_in}
 use Rattle.fb_model.specs.Facts.{is_of, value_eq, value_of, values_of}
-use Rattle.fb_model.specs.Schema.{Attribute, attribute_named, is_attribute, is_one, is_unique, is_whole}
+use Rattle.fb_model.specs.Schema.{Attribute, attribute_named, is_attribute, is_one, is_unique}
+use Rattle.fb_model.specs.Schema.{is_whole}
 use Rattle.fb_model.specs.Laws.{has_no_other_holder, says_attribute, is_alteration, is_forbidden}
 use Rattle.tx_model.specs.Asks.{Operand, plain, Ask, compares}
 use Rattle.tx_model.specs.Tempids.{Db, entity_of}
@@ -46,7 +50,8 @@ compares_many db ask = false
 abbrev pub breaks_cas_many : Transaction → ℕ → Bool
 breaks_cas_many tx place = list_any (compares_many tx.db) (at tx.asks place)
 
--- ---- cas failed: the present value differs from the old one of a cas; nil stands for none
+-- ---- cas failed: the present value differs from the old one of a cas;
+-- nil means that there is none
 
 abbrev pub is_value : Option Value → Option Value → Bool
 is_value None None = true

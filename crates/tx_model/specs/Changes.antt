@@ -1,7 +1,9 @@
 -- What a transaction asks to add and to retract, as datoms over entity numbers.
 -- Datomic, Transaction Data (:db/add, :db/retract, :db/cas, :db/retractEntity, cardinality one) and
 -- Schema (:db/isComponent).
-use Rattle.std.specs.Prelude.{ℕ, ◌+◌, Bool, true, false, not, ◌&&◌, ◌||◌, List, [], ◌∷◌, map, filter, filter_map, nat_eq, if◌then◌else◌, Option, Some, None, option_and_then, option_map, option_to_list}
+use Rattle.std.specs.Prelude.{ℕ, ◌+◌, Bool, true, false, not, ◌&&◌, ◌||◌, List, [], ◌∷◌, map}
+use Rattle.std.specs.Prelude.{filter, filter_map, nat_eq, if◌then◌else◌, Option, Some, None}
+use Rattle.std.specs.Prelude.{option_and_then, option_map, option_to_list}
 use Rattle.std.specs.List.{list_any}
 use Rattle.std.specs.Option.{option_map_or}
 use Rattle.fb_values.specs.declared.facts.Datom.{Datom}
@@ -10,7 +12,8 @@ use Rattle.fb_values.specs.declared.facts.Value.TheVariants.{Ref}
 use Rattle.fb_model.specs.History.{basis}
 use Rattle.fb_model.specs.Facts.{value_eq}
 use Rattle.fb_model.specs.Schema.{Attribute, attribute_named, is_one, is_part}
-use Rattle.tx_model.specs.Asks.{Name, Operand, plain, entity, Ask, adds, retracts, retracts_all, compares, retracts_entity}
+use Rattle.tx_model.specs.Asks.{Name, Operand, plain, entity, Ask, adds, retracts, retracts_all}
+use Rattle.tx_model.specs.Asks.{compares, retracts_entity}
 use Rattle.tx_model.specs.Tempids.{Db, entity_of}
 use Rattle.tx_model.specs.Values.{value_in}
 
@@ -86,7 +89,7 @@ is_value_in set v = false
 abbrev pub is_about_set : List ℕ → Datom → Bool
 is_about_set set d = is_in set d.e || is_value_in set d.v
 
--- found in the database: every value of an attribute, or all that is said of a closed set
+-- found in the database: every value of an attribute, or all facts of a closed set
 abbrev pub values_withdrawn : Db → ℕ → Attribute → List Datom
 values_withdrawn db e a =
     map (withdrawn db) (filter (λ d. nat_eq d.e e && nat_eq d.a a.id) db.facts)

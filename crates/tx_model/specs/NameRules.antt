@@ -1,7 +1,8 @@
 -- The rules on what a transaction names: each as a test of one form, which breaks the rule where
 -- the test passes. A rule is read where no lower rule is broken.
 -- Datomic, Transaction Data and Schema (lookup refs, unique identities).
-use Rattle.std.specs.Prelude.{ℕ, Bool, true, false, not, ◌&&◌, ◌||◌, List, [], ◌∷◌, nat_eq, if◌then◌else◌, is_none, Option, None}
+use Rattle.std.specs.Prelude.{ℕ, Bool, true, false, not, ◌&&◌, ◌||◌, List, [], ◌∷◌, nat_eq}
+use Rattle.std.specs.Prelude.{if◌then◌else◌, is_none, Option, None}
 use Rattle.std.specs.List.{list_any}
 use Rattle.std.specs.Option.{option_map_or}
 use Rattle.edn_model.specs.Form as edn
@@ -10,7 +11,9 @@ use Rattle.fb_values.specs.declared.facts.Datom.{Datom}
 use Rattle.fb_numbers.specs.Numbers.{tx_instant, ident as ident_attribute, type_ref}
 use Rattle.fb_model.specs.Words.{is_reserved}
 use Rattle.fb_model.specs.Schema.{Attribute, attribute_named}
-use Rattle.tx_model.specs.Asks.{Name, lookup, tempid, nameless, Operand, plain, entity, Ask, adds, compares, lacks_id, is_tempid, is_same_tempid, names_of, parts_of, attribute_of_ask}
+use Rattle.tx_model.specs.Asks.{Name, lookup, tempid, nameless, Operand, plain, entity, Ask, adds}
+use Rattle.tx_model.specs.Asks.{compares, lacks_id, is_tempid, is_same_tempid, names_of, parts_of}
+use Rattle.tx_model.specs.Asks.{attribute_of_ask}
 use Rattle.tx_model.specs.Values.{value_in}
 use Rattle.tx_model.specs.Walk.{has_ref, old_value_part}
 use Rattle.tx_model.specs.Tempids.{Db, found, identified, holders}
@@ -76,7 +79,7 @@ breaks_protected_attribute db asks =
     || adds_reserved_ident db.facts ask)
     asks
 
--- ---- wrong type: a value is not of its attribute's type, or too long; an entity stands under an
+-- ---- wrong type: a value is not of its attribute's type, or too long; an entity is given for an
 -- attribute that is no ref
 
 abbrev pub is_wrong_part : Attribute → Operand → Bool

@@ -1,6 +1,7 @@
 -- Histories for the examples, but for those with people. This project's own choice.
 -- User entities are counted in the order in which they are made, attributes among them.
-use Rattle.std.specs.Prelude.{ℕ, ◌+◌, ◌-◌, ℤ, pos, ◌+ℤ◌, ◌-ℤ◌, true, List, [], ◌∷◌, ◌++◌, codes, replicate}
+use Rattle.std.specs.Prelude.{ℕ, ◌+◌, ◌-◌, ℤ, pos, ◌+ℤ◌, ◌-ℤ◌, true, List, [], ◌∷◌, ◌++◌, codes}
+use Rattle.std.specs.Prelude.{replicate}
 use Rattle.edn_model.specs.Form.{Form, boolean, integer}
 use Rattle.fb_values.specs.declared.facts.Datom.{Datom}
 use Rattle.fb_values.specs.declared.facts.Entry.{Entry}
@@ -8,7 +9,9 @@ use Rattle.fb_values.specs.declared.facts.Value.TheVariants.{Str}
 use Rattle.fb_numbers.specs.declared.limits.TheConstants.{LONGEST_NAME, MOST_USERS}
 use Rattle.fb_numbers.specs.Numbers as numbers
 use Rattle.fb_model.specs.FirstEntry.{first_entry}
-use Rattle.tx_model.specs.Samples.{keyword, string, vector, map_of, tempid, add, id, doc, is_component, type_string, type_long, type_ref, type_symbol, type_uri, cardinality_one, cardinality_many, install, after}
+use Rattle.tx_model.specs.Samples.{keyword, string, vector, map_of, tempid, add, id, doc}
+use Rattle.tx_model.specs.Samples.{is_component, type_string, type_long, type_ref, type_symbol}
+use Rattle.tx_model.specs.Samples.{type_uri, cardinality_one, cardinality_many, install, after}
 
 -- the built-in attributes, and nothing else
 abbrev pub new_database : List Entry

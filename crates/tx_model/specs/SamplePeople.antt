@@ -4,14 +4,17 @@
 use Rattle.std.specs.Prelude.{ℕ, true, List, [], ◌∷◌, codes}
 use Rattle.edn_model.specs.Form.{Form, nil, boolean}
 use Rattle.fb_values.specs.declared.facts.Entry.{Entry}
-use Rattle.tx_model.specs.Samples.{keyword, string, number, map_of, tempid, user, add, retract, cas, id, doc, ident, cardinality, unique, index, type_string, type_long, cardinality_one, cardinality_many, unique_identity, install, after, after_from}
+use Rattle.tx_model.specs.Samples.{keyword, string, number, map_of, tempid, user, add, retract, cas}
+use Rattle.tx_model.specs.Samples.{id, doc, ident, cardinality, unique, index, type_string}
+use Rattle.tx_model.specs.Samples.{type_long, cardinality_one, cardinality_many, unique_identity}
+use Rattle.tx_model.specs.Samples.{install, after, after_from}
 
 -- ---- addresses: `:person/email`, a unique string, is user entity 1
 
 abbrev pub email : List ℕ
 email = codes "person/email"
 
--- what is said of an attribute whose values identify entities
+-- the pair of an attribute whose values identify entities
 abbrev pub identifies : Form × Form
 identifies = (keyword unique, unique_identity)
 

@@ -1,5 +1,6 @@
 -- How the examples write a transaction, and what they say of it. This project's own choice.
-use Rattle.std.specs.Prelude.{ℕ, ℤ, pos, Bool, true, false, map, List, [], ◌∷◌, ◌++◌, codes, Option, Some, None}
+use Rattle.std.specs.Prelude.{ℕ, ℤ, pos, Bool, true, false, map, List, [], ◌∷◌, ◌++◌, codes, Option}
+use Rattle.std.specs.Prelude.{Some, None}
 use Rattle.edn_model.specs.Form as edn
 use Rattle.edn_model.specs.Form.{Form, forms, pairs}
 use Rattle.fb_values.specs.declared.facts.Datom.{Datom}
@@ -131,7 +132,7 @@ unique_identity = keyword (codes "db.unique/identity")
 abbrev pub unique_value : Form
 unique_value = keyword (codes "db.unique/value")
 
--- {:db/ident name :db/valueType type :db/cardinality count}, and what else is said of the attribute
+-- {:db/ident name :db/valueType type :db/cardinality count}, and more pairs of the attribute
 abbrev pub install : List ℕ → Form → Form → List (Form × Form) → Form
 install name type count more =
     map_of ((keyword ident, keyword name)
@@ -141,7 +142,7 @@ install name type count more =
 
 -- ---- what is decided
 
--- the clock stands still at the beginning of 2024
+-- the clock always reads the beginning of 2024
 abbrev pub clock : ℤ
 clock = pos 1704067200000
 
@@ -165,13 +166,13 @@ after txs = after_from (first_entry ∷ []) txs
 abbrev pub refusal_at : Reason → ℕ → Decision
 refusal_at reason place = refused (record { reason = reason; at = place })
 
--- what is told of an accepted transaction: its t, and the entities of its tempids
-abbrev told_of : Decision → Option (ℕ × List (List ℕ × ℕ))
-told_of (accepted entry tempids) = Some (entry.t, tempids)
-told_of (refused refusal) = None
+-- what an accepted transaction answers: its t, and the entities of its tempids
+abbrev summary_of : Decision → Option (ℕ × List (List ℕ × ℕ))
+summary_of (accepted entry tempids) = Some (entry.t, tempids)
+summary_of (refused refusal) = None
 
-abbrev pub told : List Entry → List Form → Option (ℕ × List (List ℕ × ℕ))
-told h fs = told_of (decision h fs)
+abbrev pub decided : List Entry → List Form → Option (ℕ × List (List ℕ × ℕ))
+decided h fs = summary_of (decision h fs)
 
 -- accepted as transaction t, with these entities for its tempids
 abbrev pub accepted_at : ℕ → List (List ℕ × ℕ) → Option (ℕ × List (List ℕ × ℕ))

@@ -1,6 +1,7 @@
 -- Shapes: which forms a transaction may be made of, before anything is looked up.
 -- Datomic, Transaction Data (transaction structure, list forms, map forms).
-use Rattle.std.specs.Prelude.{ℕ, Bool, true, false, ◌&&◌, ◌||◌, not, List, [], ◌∷◌, bytes_eq, codes, if◌then◌else◌, is_some, Option, Some, None}
+use Rattle.std.specs.Prelude.{ℕ, Bool, true, false, ◌&&◌, ◌||◌, not, List, [], ◌∷◌, bytes_eq, codes}
+use Rattle.std.specs.Prelude.{if◌then◌else◌, is_some, Option, Some, None}
 use Rattle.edn_model.specs.Form as edn
 use Rattle.edn_model.specs.Form.{Form, Forms, no_forms, form, Pairs, no_pairs, pair, items}
 use Rattle.tx_model.specs.Asks.{name_in, Key, own, key_in}
@@ -34,7 +35,7 @@ is_string (edn.string s) = true
 is_string f = false
 
 -- an integer, a keyword, a vector of two whose first member is a keyword, or, where a tempid may
--- stand, a string
+-- be, a string
 abbrev pub names_an_entity : Form → Bool
 names_an_entity f = is_some (name_in f)
 
@@ -64,7 +65,7 @@ abbrev pub has_pair_shape : Form → Form → Bool
 has_pair_shape key value = is_keyword key && is_named_by (key_in key) value
 
 abbrev mutual
-  -- an empty map is no form
+  -- an empty map is not a form
   pub has_map_shape : Pairs → Bool
   has_map_shape no_pairs = false
   has_map_shape (pair key value no_pairs) = has_pair_shape key value && has_value_shape value

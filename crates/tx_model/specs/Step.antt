@@ -1,7 +1,8 @@
 -- The step of a transaction: the entry that it adds to a history, or why it is refused.
--- Datomic, Transaction Data. Which of several faults is told is this project's own choice: that of
--- the least rule, and of the forms that break it the first.
-use Rattle.std.specs.Prelude.{◌≡◌, ℕ, ◌+◌, ℤ, Bool, not, List, [], ◌∷◌, map, if◌then◌else◌, is_some, option_map, Option, Some, None}
+-- Datomic, Transaction Data. Which of several faults is reported is this project's own choice:
+-- that of the least rule, and of the forms that break it the first.
+use Rattle.std.specs.Prelude.{◌≡◌, ℕ, ◌+◌, ℤ, Bool, not, List, [], ◌∷◌, map, if◌then◌else◌, is_some}
+use Rattle.std.specs.Prelude.{option_map, Option, Some, None}
 use Rattle.std.specs.Option.{option_map_or}
 use Rattle.edn_model.specs.Form.{Form}
 use Rattle.fb_values.specs.declared.facts.Datom.{Datom}
@@ -9,18 +10,33 @@ use Rattle.fb_values.specs.declared.facts.Entry.{Entry}
 use Rattle.fb_model.specs.History.{basis, next_instant}
 use Rattle.tx_refusals.specs.declared.reasons.Bar.{Bar}
 use Rattle.tx_refusals.specs.declared.reasons.Reason.{Reason}
-use Rattle.tx_refusals.specs.declared.reasons.Reason.TheVariants.{NotAForm, NotAnAttribute, ProtectedAttribute, WrongType, NotUniqueLookup, NotAnEntity, NestedWithoutId, TempidConflict, TempidNotAnEntity, CasMany, CasFailed, DatomsConflict, UniqueConflict, IncompleteAttribute, AttributeFixed, TooLarge, Full, AlterationConflict, Barred}
+use Rattle.tx_refusals.specs.declared.reasons.Reason.TheVariants.{NotAForm, NotAnAttribute}
+use Rattle.tx_refusals.specs.declared.reasons.Reason.TheVariants.{ProtectedAttribute, WrongType}
+use Rattle.tx_refusals.specs.declared.reasons.Reason.TheVariants.{NotUniqueLookup, NotAnEntity}
+use Rattle.tx_refusals.specs.declared.reasons.Reason.TheVariants.{NestedWithoutId, TempidConflict}
+use Rattle.tx_refusals.specs.declared.reasons.Reason.TheVariants.{TempidNotAnEntity, CasMany}
+use Rattle.tx_refusals.specs.declared.reasons.Reason.TheVariants.{CasFailed, DatomsConflict}
+use Rattle.tx_refusals.specs.declared.reasons.Reason.TheVariants.{UniqueConflict}
+use Rattle.tx_refusals.specs.declared.reasons.Reason.TheVariants.{IncompleteAttribute}
+use Rattle.tx_refusals.specs.declared.reasons.Reason.TheVariants.{AttributeFixed, TooLarge, Full}
+use Rattle.tx_refusals.specs.declared.reasons.Reason.TheVariants.{AlterationConflict, Barred}
 use Rattle.tx_refusals.specs.declared.reasons.Refusal.{Refusal}
 use Rattle.tx_model.specs.Asks.{Ask}
 use Rattle.tx_model.specs.Shapes.{has_shape, forms_of}
 use Rattle.tx_model.specs.Tempids.{named_tempids}
 use Rattle.tx_model.specs.Transaction.{Transaction, joined, transaction, recorded}
-use Rattle.tx_model.specs.NameRules.{breaks_not_an_attribute, breaks_protected_attribute, breaks_wrong_type, breaks_not_unique_lookup, breaks_not_an_entity, breaks_nested_without_id, breaks_tempid_conflict, breaks_tempid_not_an_entity}
-use Rattle.tx_model.specs.ChangeRules.{breaks_cas_many, breaks_cas_failed, breaks_datoms_conflict, breaks_unique_conflict, breaks_incomplete_attribute, breaks_attribute_fixed, breaks_too_large, breaks_full, breaks_alteration_conflict}
+use Rattle.tx_model.specs.NameRules.{breaks_not_an_attribute, breaks_protected_attribute}
+use Rattle.tx_model.specs.NameRules.{breaks_wrong_type, breaks_not_unique_lookup}
+use Rattle.tx_model.specs.NameRules.{breaks_not_an_entity, breaks_nested_without_id}
+use Rattle.tx_model.specs.NameRules.{breaks_tempid_conflict, breaks_tempid_not_an_entity}
+use Rattle.tx_model.specs.ChangeRules.{breaks_cas_many, breaks_cas_failed, breaks_datoms_conflict}
+use Rattle.tx_model.specs.ChangeRules.{breaks_unique_conflict, breaks_incomplete_attribute}
+use Rattle.tx_model.specs.ChangeRules.{breaks_attribute_fixed, breaks_too_large, breaks_full}
+use Rattle.tx_model.specs.ChangeRules.{breaks_alteration_conflict}
 
 -- ---- the first form that breaks a rule
 
--- the first place, of n and those behind, at which the answer is yes
+-- the first place, of n and those after, at which the answer is yes
 abbrev pub first_yes : ℕ → List Bool → Option ℕ
 first_yes n [] = None
 first_yes n (b ∷ bs) = if b then Some n else first_yes (n + 1) bs
@@ -88,7 +104,7 @@ least_broken tx = option_map (λ (r : Refusal). r.reason) (first_refusal (broken
 abbrev pub refusal_of : List Entry → List Form → Option Refusal
 refusal_of h fs = first_refusal (all_rules h fs)
 
--- what is no list of forms has no shape
+-- what is not a list of forms has no shape
 abbrev pub no_list : Refusal
 no_list = record { reason = NotAForm; at = 0 }
 
@@ -132,9 +148,9 @@ step h asked reading guard =
     option_map_or (λ fs. unless_refused h fs reading guard (refusal_of h fs))
     (forms_of asked) (refused no_list)
 
--- The entry and the tempids are those of the forms, which break no rule, and of the clock only the
--- instant tells: the entry records the instant beside changes that no clock has a part in. Of a
--- guard it says nothing.
+-- The entry and the tempids are those of the forms, which break no rule.
+-- Only the instant depends on the clock:
+-- the entry records it beside changes that no clock has a part in. Of a guard it says nothing.
 pub record IsAcceptedAt (h : List Entry) (asked : Form) (instant : ℤ) (entry : Entry)
     (tempids : List (List ℕ × ℕ)) : Type 0 where
   pub forms : List Form

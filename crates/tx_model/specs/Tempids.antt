@@ -1,7 +1,9 @@
 -- Names of entities in a transaction, and the entities that tempids stand for.
 -- Datomic, Transaction Data (temporary ids, unique identities). That user numbers have no gap is
 -- this project's own choice.
-use Rattle.std.specs.Prelude.{ℕ, ◌+◌, pos, Bool, true, ◌&&◌, not, List, [], ◌∷◌, flat_map, filter_map, bytes_eq, if◌then◌else◌, Option, Some, None, option_and_then}
+use Rattle.std.specs.Prelude.{ℕ, ◌+◌, pos, Bool, true, ◌&&◌, not, List, [], ◌∷◌, flat_map}
+use Rattle.std.specs.Prelude.{filter_map, bytes_eq, if◌then◌else◌, Option, Some, None}
+use Rattle.std.specs.Prelude.{option_and_then}
 use Rattle.std.specs.List.{list_any}
 use Rattle.std.specs.Ordering.{is_lt}
 use Rattle.edn_model.specs.Form.{Form}
@@ -12,7 +14,8 @@ use Rattle.fb_numbers.specs.Numbers.{transaction_of, user_entity}
 use Rattle.fb_model.specs.History.{basis, users_issued, is_issued}
 use Rattle.fb_model.specs.Facts.{holder, facts}
 use Rattle.fb_model.specs.Schema.{Attribute, attribute_named, named, is_identity}
-use Rattle.tx_model.specs.Asks.{Name, number, ident, lookup, tempid, nameless, plain, Ask, adds, own_tempid, is_tempid, is_same_tempid, names_of}
+use Rattle.tx_model.specs.Asks.{Name, number, ident, lookup, tempid, nameless, plain, Ask, adds}
+use Rattle.tx_model.specs.Asks.{own_tempid, is_tempid, is_same_tempid, names_of}
 use Rattle.tx_model.specs.Values.{value_in}
 
 -- the database before the transaction: a history with its facts
@@ -95,7 +98,7 @@ entity_of db names (tempid s) =
 entity_of db names (nameless path) = assigned_to names (nameless path)
 entity_of db names name = found db name
 
--- ---- what is told of them
+-- ---- what is answered of them
 
 abbrev pub with_text : Name → ℕ → Option (List ℕ × ℕ)
 with_text (tempid s) e = Some (s, e)

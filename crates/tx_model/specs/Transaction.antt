@@ -1,7 +1,8 @@
 -- A transaction at a history: what each of its forms asks, what would be recorded, and what would
 -- hold then.
 -- Datomic, Transaction Data.
-use Rattle.std.specs.Prelude.{◌≡◌, ◌↔◌, Contains, ℕ, ◌+◌, ℤ, Bool, true, false, not, List, ◌∷◌, ◌++◌, map, filter, flat_map, if◌then◌else◌}
+use Rattle.std.specs.Prelude.{◌≡◌, ◌↔◌, Contains, ℕ, ◌+◌, ℤ, Bool, true, false, not, List, ◌∷◌}
+use Rattle.std.specs.Prelude.{◌++◌, map, filter, flat_map, if◌then◌else◌}
 use Rattle.edn_model.specs.Form.{Form}
 use Rattle.fb_values.specs.declared.facts.Datom.{Datom}
 use Rattle.fb_values.specs.declared.facts.Entry.{Entry}

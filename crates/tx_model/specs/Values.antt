@@ -5,7 +5,8 @@ use Rattle.std.specs.Option.{option_map_or}
 use Rattle.edn_model.specs.Form as edn
 use Rattle.edn_model.specs.Form.{Form}
 use Rattle.fb_values.specs.declared.facts.Value.{Value}
-use Rattle.fb_values.specs.declared.facts.Value.TheVariants.{Keyword, Str, Bool as Boolean, Long, Instant, Uuid, Symbol, Uri}
+use Rattle.fb_values.specs.declared.facts.Value.TheVariants.{Keyword, Str, Bool as Boolean, Long}
+use Rattle.fb_values.specs.declared.facts.Value.TheVariants.{Instant, Uuid, Symbol, Uri}
 use Rattle.fb_numbers.specs.Numbers.{type_uri}
 use Rattle.fb_model.specs.Types.{is_of_type}
 

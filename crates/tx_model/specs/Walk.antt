@@ -1,14 +1,18 @@
 -- The walk over a transaction: what each form asks, in the order in which a reader meets it.
 -- Datomic, Transaction Data (list forms, map forms, nested maps, cardinality-many values, reverse
 -- attribute names).
-use Rattle.std.specs.Prelude.{ℕ, ◌+◌, pos, Bool, true, false, not, ◌&&◌, ◌||◌, List, [], ◌∷◌, ◌++◌, if◌then◌else◌, Option, Some, None, unwrap_or, nat_eq}
+use Rattle.std.specs.Prelude.{ℕ, ◌+◌, pos, Bool, true, false, not, ◌&&◌, ◌||◌, List, [], ◌∷◌, ◌++◌}
+use Rattle.std.specs.Prelude.{if◌then◌else◌, Option, Some, None, unwrap_or, nat_eq}
 use Rattle.std.specs.Option.{option_map_or}
 use Rattle.edn_model.specs.Form as edn
 use Rattle.edn_model.specs.Form.{Form, Forms, no_forms, form, Pairs, no_pairs, pair, items}
 use Rattle.fb_values.specs.declared.facts.Datom.{Datom}
 use Rattle.fb_numbers.specs.Numbers.{type_ref}
 use Rattle.fb_model.specs.Schema.{attribute_named}
-use Rattle.tx_model.specs.Asks.{Name, number, ident, lookup, tempid, nameless, Operand, plain, entity, Ask, adds, retracts, retracts_all, compares, retracts_entity, meets, mentions, lacks_id, lookup_in, name_in, Key, own, forward, backward, key_in}
+use Rattle.tx_model.specs.Asks.{Name, number, ident, lookup, tempid, nameless, Operand, plain}
+use Rattle.tx_model.specs.Asks.{entity, Ask, adds, retracts, retracts_all, compares}
+use Rattle.tx_model.specs.Asks.{retracts_entity, meets, mentions, lacks_id, lookup_in, name_in, Key}
+use Rattle.tx_model.specs.Asks.{own, forward, backward, key_in}
 use Rattle.tx_model.specs.Shapes.{Verb, add, retract, cas, retract_entity, verb_in}
 
 -- ---- what the facts before say of a keyword in an attribute's place
@@ -130,7 +134,7 @@ scalar_asks facts self (backward name) (edn.integer z) =
 scalar_asks facts self (backward name) f = links self (backward name) (scalar true f)
 
 -- a vector is a lookup ref where its first member names a unique attribute and values are entities;
--- else it is a collection, where there may be several values; else it stands for a lookup ref that
+-- else it is a collection, where there may be several values; else it is a lookup ref that
 -- finds no unique attribute, or for no value
 abbrev pub vector_asks : List Datom → Name → Key → Forms → Option (List ℕ × Form) → List Ask
     → List Ask

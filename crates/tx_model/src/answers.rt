@@ -1,4 +1,4 @@
-//! What is answered of a transaction: which of several reasons is told, and which tempids.
+//! What is answered of a transaction: which of several reasons is reported, and which tempids.
 ghost use Rattle.std.specs.Prelude.{◌≡◌, ◌≤◌, ◌↔◌, ℕ, true, List, Contains, Some};
 ghost use Rattle.edn_model.specs.Form.{Form};
 ghost use Rattle.fb_values.specs.declared.facts.Entry.{Entry};
@@ -11,7 +11,7 @@ ghost use Rattle.tx_model.specs.Tempids.{named_tempids, rises_by_text};
 ghost use Rattle.tx_model.specs.Transaction.{transaction};
 ghost use Rattle.tx_model.specs.Step.{all_rules, refusal_of};
 
-/// Of the rules that forms break the one that is told has the least number.
+/// Of the rules that forms break the one that is reported has the least number.
 pub fn the_least_rule_is_told()
     ensures { (h : List Entry) (fs : List Form) (refusal : Refusal) (reason : Reason) (at : ℕ)
         → refusal_of h fs ≡ Some refusal
@@ -19,12 +19,12 @@ pub fn the_least_rule_is_told()
         → number_of refusal.reason ≤ number_of reason }
 {}
 
-/// A reason is told by a keyword.
+/// A reason is reported by a keyword.
 pub fn reasons_have_keywords()
     ensures { (reason : Reason) → is_keyword_text (keyword_of reason) ≡ true }
 {}
 
-/// The tempids that are told rise by the bytes of their names, and are exactly those with a name.
+/// The tempids that are answered rise by the bytes of their names, and are exactly those with a name.
 pub fn named_tempids_rise_by_their_bytes()
     ensures rising { (h : List Entry) (fs : List Form)
         → rises_by_text (named_tempids (transaction h fs).names) ≡ true }

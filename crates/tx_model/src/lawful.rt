@@ -20,7 +20,7 @@ pub fn an_accepted_entry_is_lawful()
 {}
 
 /// Of what is asked the changes alone are recorded, in one order: neither the order nor the number
-/// of the asks tells.
+/// of the asks matters.
 pub fn changes_are_those_of_what_is_asked()
     ensures { (ds asked other : List Datom)
         → ((d : Datom) → Contains asked d ↔ Contains other d)

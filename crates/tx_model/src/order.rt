@@ -1,4 +1,4 @@
-//! What the order of a transaction's forms does not tell.
+//! What does not depend on the order of a transaction's forms.
 ghost use Rattle.std.specs.Prelude.{◌≡◌, ℕ, ◌<◌, Bool, true, false, List, length, map, is_some};
 ghost use Rattle.std.specs.List.{list_any};
 ghost use Rattle.tx_model.specs.Asks.{Name, Ask, is_tempid};
@@ -8,7 +8,7 @@ ghost use Rattle.tx_model.specs.Transaction.{joined, with_asks, with_names, Same
 ghost use Rattle.tx_model.specs.Step.{first_yes, broken_rules, least_broken, are_broken};
 
 /// Whether a rule that is judged form by form is broken does not depend on the order of the forms,
-/// though the place of the form that is told does.
+/// though the place of the form that is reported does.
 pub fn a_rule_is_broken_in_any_order()
     ensures { (test : List Ask → Bool) (asks other : List (List Ask))
         → SameForms asks other
@@ -16,7 +16,7 @@ pub fn a_rule_is_broken_in_any_order()
 {}
 
 /// With the same entities for its tempids a transaction records the same, and the same holds
-/// afterwards, in whatever order its forms stand.
+/// afterwards, in whatever order its forms are.
 pub fn the_same_is_recorded_in_any_order()
     ensures changes { (db : Db) (names : List (Name × ℕ)) (asks other : List (List Ask))
         → SameForms asks other
@@ -27,7 +27,7 @@ pub fn the_same_is_recorded_in_any_order()
 {}
 
 /// With the same entities for its tempids a transaction breaks the same rules in whatever order its
-/// forms stand, and so the least of them is the same; which form is told may differ.
+/// forms are, and so the least of them is the same; which form is reported may differ.
 pub fn the_same_rules_are_broken_in_any_order()
     ensures each { (db : Db) (names : List (Name × ℕ)) (asks other : List (List Ask))
         → SameForms asks other
@@ -57,7 +57,7 @@ pub fn orders_with_the_same_entities_agree()
 {}
 
 /// Where no form breaks the rule on tempids of two holders, a tempid that is given an identity
-/// value with a holder is that holder in whatever order the forms stand.
+/// value with a holder is that holder in whatever order the forms are.
 pub fn a_held_tempid_is_the_same_in_any_order()
     ensures { (db : Db) (asks other : List (List Ask))
         → SameForms asks other

@@ -4,7 +4,7 @@ ghost use Rattle.std.specs.Prelude.{◌≡◌, [], ◌∷◌, codes, true};
 ghost use Rattle.edn_model.specs.Form.{nil, boolean};
 ghost use Rattle.fb_numbers.specs.Numbers.{user_entity, greatest_t};
 ghost use Rattle.tx_refusals.specs.declared.reasons.Reason.TheVariants.{NotAForm, NotAnAttribute, ProtectedAttribute, WrongType, NotUniqueLookup, NotAnEntity, TempidNotAnEntity, CasMany, CasFailed, DatomsConflict, IncompleteAttribute, AttributeFixed, Full};
-ghost use Rattle.tx_model.specs.Samples.{keyword, string, number, vector, list_of, map_of, tempid, user, recorded_transaction, lookup_ref, add, retract, retract_all, cas, retract_entity, id, doc, ident, value_type, cardinality, unique, index, type_ref, cardinality_one, unique_value, install, decision, refusal_at, told, accepted_at};
+ghost use Rattle.tx_model.specs.Samples.{keyword, string, number, vector, list_of, map_of, tempid, user, recorded_transaction, lookup_ref, add, retract, retract_all, cas, retract_entity, id, doc, ident, value_type, cardinality, unique, index, type_ref, cardinality_one, unique_value, install, decision, refusal_at, decided, accepted_at};
 ghost use Rattle.tx_model.specs.SampleHistories.{new_database, one_text, numbers_attribute, with_numbers_installed, full, nearly_full, too_late};
 ghost use Rattle.tx_model.specs.SamplePeople.{age, with_age_installed, two_aged};
 
@@ -26,7 +26,7 @@ pub fn shapes()
     ensures nested_deeper { decision new_database
         (map_of ((keyword doc, vector (vector (map_of [] ∷ []) ∷ [])) ∷ []) ∷ [])
         ≡ refusal_at WrongType 0 }
-    ensures list_form { told new_database
+    ensures list_form { decided new_database
         (list_of (keyword (codes "db/add")
         ∷ tempid (codes "x")
         ∷ keyword doc
@@ -50,7 +50,7 @@ pub fn rules_on_names()
     ensures reserved { decision new_database
         (add (tempid (codes "x")) ident (keyword (codes "db/y")) ∷ [])
         ≡ refusal_at ProtectedAttribute 0 }
-    ensures not_reserved { told new_database
+    ensures not_reserved { decided new_database
         (add (tempid (codes "x")) ident (keyword (codes "dbx/y")) ∷ [])
         ≡ accepted_at 1 ((codes "x", user_entity 1) ∷ []) }
     ensures wrong_type { decision new_database
@@ -68,13 +68,13 @@ pub fn rules_on_names()
         ≡ refusal_at NotAnAttribute 0 }
     ensures not_issued { decision new_database (add (user 1) doc (string (codes "hi")) ∷ [])
         ≡ refusal_at NotAnEntity 0 }
-    ensures issued { told one_text (add (user 1) doc (string (codes "ho")) ∷ [])
+    ensures issued { decided one_text (add (user 1) doc (string (codes "ho")) ∷ [])
         ≡ accepted_at 2 [] }
     ensures kept_back { decision new_database (add (number 9) doc (string (codes "hi")) ∷ [])
         ≡ refusal_at NotAnEntity 0 }
     ensures map_of_id_alone { decision new_database (map_of ((id, tempid (codes "x")) ∷ []) ∷ [])
         ≡ refusal_at TempidNotAnEntity 0 }
-    ensures map_of_id_beside { told new_database
+    ensures map_of_id_beside { decided new_database
         (map_of ((id, tempid (codes "x")) ∷ [])
         ∷ add (tempid (codes "x")) doc (string (codes "hi"))
         ∷ [])
@@ -91,7 +91,7 @@ pub fn rules_on_changes()
     ensures added_and_retracted { decision two_aged
         (add (user 2) age (number 5) ∷ retract (user 2) age (number 5) ∷ [])
         ≡ refusal_at DatomsConflict 0 }
-    ensures added_and_another_retracted { told two_aged
+    ensures added_and_another_retracted { decided two_aged
         (add (user 2) age (number 6) ∷ retract (user 2) age (number 5) ∷ [])
         ≡ accepted_at 3 [] }
     ensures all_retracted { decision two_aged
@@ -109,6 +109,6 @@ pub fn rules_on_changes()
         ≡ refusal_at AttributeFixed 0 }
     ensures full { decision full [] ≡ refusal_at Full 0 }
     ensures too_late { decision too_late [] ≡ refusal_at Full 0 }
-    ensures not_full { told nearly_full [] ≡ accepted_at greatest_t [] }
-    ensures all_of_nothing { told two_aged (retract_all (user 2) doc ∷ []) ≡ accepted_at 3 [] }
+    ensures not_full { decided nearly_full [] ≡ accepted_at greatest_t [] }
+    ensures all_of_nothing { decided two_aged (retract_all (user 2) doc ∷ []) ≡ accepted_at 3 [] }
 {}

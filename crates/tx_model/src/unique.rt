@@ -3,18 +3,18 @@ ghost use Rattle.std.specs.Prelude.{◌≡◌, ◌++◌, [], ◌∷◌, codes, n
 ghost use Rattle.edn_model.specs.Form.{integer};
 ghost use Rattle.fb_numbers.specs.Numbers.{user_entity};
 ghost use Rattle.tx_refusals.specs.declared.reasons.Reason.TheVariants.{NotAnAttribute, WrongType, NotUniqueLookup, NotAnEntity, NestedWithoutId, TempidConflict, TempidNotAnEntity, UniqueConflict};
-ghost use Rattle.tx_model.specs.Samples.{keyword, string, number, map_of, tempid, this_transaction, lookup_ref, add, id, doc, ident, value_type, cardinality, type_string, decision, refusal_at, told, accepted_at, changed, addition, retraction};
+ghost use Rattle.tx_model.specs.Samples.{keyword, string, number, map_of, tempid, this_transaction, lookup_ref, add, id, doc, ident, value_type, cardinality, type_string, decision, refusal_at, decided, accepted_at, changed, addition, retraction};
 ghost use Rattle.tx_model.specs.SampleHistories.{new_database, describe, longest_keyword, too_long_keyword};
 ghost use Rattle.tx_model.specs.SamplePeople.{email, install_email, person, nameless_person, with_email_installed, one_person, two_people, move_address, one_address_for_two, after_a_refusal, two_ids, both_ids_for};
 
-/// A text of a new entity, bytes that are no text, and nothing at all.
+/// A text of a new entity, bytes that are not UTF-8, and nothing at all.
 pub fn texts()
-    ensures text { told new_database (add (tempid (codes "x")) doc (string (codes "hi")) ∷ [])
+    ensures text { decided new_database (add (tempid (codes "x")) doc (string (codes "hi")) ∷ [])
         ≡ accepted_at 1 ((codes "x", user_entity 1) ∷ []) }
     ensures no_utf_8 { decision new_database (add (tempid (codes "x")) doc (string (255 ∷ [])) ∷ [])
         ≡ refusal_at WrongType 0 }
-    ensures nothing { told new_database [] ≡ accepted_at 1 [] }
-    ensures own { told new_database (add this_transaction doc (string (codes "hi")) ∷ [])
+    ensures nothing { decided new_database [] ≡ accepted_at 1 [] }
+    ensures own { decided new_database (add this_transaction doc (string (codes "hi")) ∷ [])
         ≡ accepted_at 1 [] }
 {}
 
@@ -24,21 +24,21 @@ pub fn unique_emails()
     ensures not_yet { decision new_database
         (install_email ++ add (tempid (codes "p")) email (string (codes "a@x")) ∷ [])
         ≡ refusal_at NotAnAttribute 1 }
-    ensures installed { told new_database install_email ≡ accepted_at 1 [] }
-    ensures first { told with_email_installed (person (codes "p") (codes "a@x") ∷ [])
+    ensures installed { decided new_database install_email ≡ accepted_at 1 [] }
+    ensures first { decided with_email_installed (person (codes "p") (codes "a@x") ∷ [])
         ≡ accepted_at 2 ((codes "p", user_entity 2) ∷ []) }
-    ensures again { told one_person (person (codes "p") (codes "a@x") ∷ [])
+    ensures again { decided one_person (person (codes "p") (codes "a@x") ∷ [])
         ≡ accepted_at 3 ((codes "p", user_entity 2) ∷ []) }
     ensures nothing_new { changed one_person (person (codes "p") (codes "a@x") ∷ []) ≡ [] }
     ensures two { decision with_email_installed one_address_for_two ≡ refusal_at UniqueConflict 0 }
-    ensures no_number_is_used { told after_a_refusal
+    ensures no_number_is_used { decided after_a_refusal
         (add (tempid (codes "r")) doc (string (codes "d")) ∷ [])
         ≡ accepted_at 2 ((codes "r", user_entity 2) ∷ []) }
 {}
 
 /// A unique value moves from one entity to another in one transaction.
 pub fn moved_values()
-    ensures moved { told two_people move_address ≡ accepted_at 3 [] }
+    ensures moved { decided two_people move_address ≡ accepted_at 3 [] }
     ensures three { changed two_people move_address
         ≡ retraction (user_entity 2) (codes "b@x")
         ∷ addition (user_entity 3) (codes "b@x")
@@ -57,7 +57,7 @@ pub fn nameless_maps()
         ∷ addition (user_entity 3) (codes "b@x")
         ∷ addition (user_entity 4) (codes "c@x")
         ∷ [] }
-    ensures none_told { told with_email_installed (nameless_person (codes "a@x") ∷ [])
+    ensures none_told { decided with_email_installed (nameless_person (codes "a@x") ∷ [])
         ≡ accepted_at 2 [] }
 {}
 
@@ -79,7 +79,7 @@ pub fn lookup_refs()
         ≡ refusal_at NestedWithoutId 0 }
     ensures not_unique { decision one_person (describe (lookup_ref doc (string (codes "hi"))))
         ≡ refusal_at NotUniqueLookup 0 }
-    ensures found { told one_person
+    ensures found { decided one_person
         (add (lookup_ref email (string (codes "a@x"))) doc (string (codes "d")) ∷ [])
         ≡ accepted_at 3 [] }
     ensures not_found { decision one_person
@@ -98,7 +98,7 @@ pub fn the_transaction_is_no_tempid()
     ensures one_holder { decision one_person
         (add this_transaction email (string (codes "a@x")) ∷ [])
         ≡ refusal_at UniqueConflict 0 }
-    ensures freed { told two_ids (both_ids_for this_transaction) ≡ accepted_at 3 [] }
+    ensures freed { decided two_ids (both_ids_for this_transaction) ≡ accepted_at 3 [] }
     ensures freed_for_a_tempid { decision two_ids (both_ids_for (tempid (codes "x")))
         ≡ refusal_at TempidConflict 2 }
 {}

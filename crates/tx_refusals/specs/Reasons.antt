@@ -1,9 +1,20 @@
--- The keyword of each reason for which a transaction is refused, and its number: of several reasons the least one is told.
+-- The keyword of each reason for which a transaction is refused, and its number:
+-- of several reasons the least one is reported.
 -- This project's own choice; what is at fault is that of Datomic, Transaction Data and Schema.
 use Rattle.std.specs.Prelude.{ℕ, List, codes}
-use Rattle.tx_refusals.specs.declared.reasons.Bar.TheVariants.{AttrPred, MissingRequired, UniqueTuple}
+use Rattle.tx_refusals.specs.declared.reasons.Bar.TheVariants.{AttrPred, MissingRequired}
+use Rattle.tx_refusals.specs.declared.reasons.Bar.TheVariants.{UniqueTuple}
 use Rattle.tx_refusals.specs.declared.reasons.Reason.{Reason}
-use Rattle.tx_refusals.specs.declared.reasons.Reason.TheVariants.{NotAForm, NotAnAttribute, ProtectedAttribute, WrongType, NotUniqueLookup, NotAnEntity, NestedWithoutId, TempidConflict, TempidNotAnEntity, CasMany, CasFailed, DatomsConflict, UniqueConflict, IncompleteAttribute, AttributeFixed, TooLarge, Full, AlterationConflict, Barred}
+use Rattle.tx_refusals.specs.declared.reasons.Reason.TheVariants.{NotAForm, NotAnAttribute}
+use Rattle.tx_refusals.specs.declared.reasons.Reason.TheVariants.{ProtectedAttribute, WrongType}
+use Rattle.tx_refusals.specs.declared.reasons.Reason.TheVariants.{NotUniqueLookup, NotAnEntity}
+use Rattle.tx_refusals.specs.declared.reasons.Reason.TheVariants.{NestedWithoutId, TempidConflict}
+use Rattle.tx_refusals.specs.declared.reasons.Reason.TheVariants.{TempidNotAnEntity, CasMany}
+use Rattle.tx_refusals.specs.declared.reasons.Reason.TheVariants.{CasFailed, DatomsConflict}
+use Rattle.tx_refusals.specs.declared.reasons.Reason.TheVariants.{UniqueConflict}
+use Rattle.tx_refusals.specs.declared.reasons.Reason.TheVariants.{IncompleteAttribute}
+use Rattle.tx_refusals.specs.declared.reasons.Reason.TheVariants.{AttributeFixed, TooLarge, Full}
+use Rattle.tx_refusals.specs.declared.reasons.Reason.TheVariants.{AlterationConflict, Barred}
 
 -- without its colon
 abbrev pub keyword_of : Reason → List ℕ

@@ -1,4 +1,4 @@
-//! The reasons for which a transaction is refused, in the order in which they are told.
+//! The reasons for which a transaction is refused, in the order in which they are reported.
 ghost use Rattle.std.specs.Prelude.{◌≡◌};
 ghost use Rattle.tx_refusals.specs.Reasons.{keyword_of, number_of};
 
@@ -13,7 +13,7 @@ pub enum Bar {
     UniqueTuple,
 }
 
-/// Why a transaction is refused. Of several reasons the one that stands first here is told.
+/// Why a transaction is refused. Of several reasons the first one here is reported.
 #[derive(Clone, Copy, Debug, PartialEq, Eq)]
 pub enum Reason {
     NotAForm,
@@ -75,7 +75,7 @@ impl Reason {
         }
     }
 
-    /// Its place among the reasons, from 1 to 21: of two reasons the one with the lesser number is told.
+    /// Its place among the reasons, from 1 to 21: of two reasons the one with the lesser number is reported.
     pub fn number(self) -> u8
         ensures { result ≡ number_of self }
     {

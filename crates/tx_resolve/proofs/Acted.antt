@@ -10,7 +10,7 @@ use Rattle.fb_model.specs.History.{basis}
 use Rattle.fb_model.specs.Schema.{attribute_named}
 use Rattle.fb_model.specs.Schema as schema
 use Rattle.fb_schema.specs.declared.attribute.Attribute.{Attribute}
-use Rattle.fb_schema.specs.Parts.{attribute_in}
+use Rattle.fb_schema.specs.Parts.{model_attribute}
 use Rattle.tx_model.specs.Asks as model
 use Rattle.tx_model.specs.Tempids.{Db, entity_of, assigned_to}
 use Rattle.tx_model.specs.Values.{value_in}
@@ -24,8 +24,8 @@ use Rattle.tx_asks.specs.Acts as acts
 use Rattle.tx_asks.specs.Acts.{act_of, old_value_of, IsSettled}
 use Rattle.tx_resolve.specs.declared.whom.Tempid.{Tempid}
 use Rattle.tx_resolve.specs.declared.whom.Tempid.TheVariants.{Named, Nameless}
-use Rattle.tx_resolve.specs.declared.whom.Whom.{Whom}
-use Rattle.tx_resolve.specs.declared.whom.Whom.TheVariants.{Known, New}
+use Rattle.tx_resolve.specs.declared.whom.EntityRef.{EntityRef}
+use Rattle.tx_resolve.specs.declared.whom.EntityRef.TheVariants.{Known, New}
 use Rattle.tx_resolve.specs.declared.drafts.Operand.{Operand}
 use Rattle.tx_resolve.specs.declared.drafts.Operand.TheVariants.{Plain, Entity}
 use Rattle.tx_resolve.specs.declared.drafts.Draft.{Draft}
@@ -58,12 +58,14 @@ pub have_rest : (pairs : List (Tempid × ℕ)) (xs ys : List Tempid) → Have pa
 have_rest pairs [] ys have = have
 have_rest pairs (x ∷ xs) ys have = have_rest pairs xs ys have.1
 
-old_value_read : (db : Db) (names : List (model.Name × ℕ)) (a : schema.Attribute) (f : edn.Form) (v : Value) → value_in a.kind f ≡ Some v → old_value_of db names a (model.plain f) ≡ Some v
+old_value_read : (db : Db) (names : List (model.Name × ℕ)) (a : schema.Attribute) (f : edn.Form) (v : Value) → value_in a.kind f ≡ Some v
+    → old_value_of db names a (model.plain f) ≡ Some v
 old_value_read db names a edn.nil v is = none_not is
 old_value_read db names a f v is = is
 
 module _ (legend : Legend) (apart : AreApart legend.places) (db : Db) (pairs : List (Tempid × ℕ)) (meant : PairsAreMeant legend pairs) where
-  assigned_in : (ps : List (Tempid × ℕ)) → PairsAreMeant legend ps → (t : Tempid) → IsMeant legend t → assigned_to (names_in legend ps) (name_in legend t) ≡ entity_for ps t
+  assigned_in : (ps : List (Tempid × ℕ)) → PairsAreMeant legend ps → (t : Tempid) → IsMeant legend t
+      → assigned_to (names_in legend ps) (name_in legend t) ≡ entity_for ps t
   assigned_in [] all t is = refl
   assigned_in (p ∷ ps) all t is =
       ap (λ b. cond b (Some p.1) (assigned_to (names_in legend ps) (name_in legend t))) (is_same_tempid-name_in legend apart p.0 t all.0 is)
@@ -75,53 +77,64 @@ module _ (legend : Legend) (apart : AreApart legend.places) (db : Db) (pairs : L
       ∙ assigned_in pairs meant (Named s) is
   tempid_entity (Nameless n) is = assigned_in pairs meant (Nameless n) is
 
-  whom_entity : (n : model.Name) (w : Whom) → IsWhom legend db n w → entity_of db (names_in legend pairs) n ≡ drafts.entity_of pairs w
+  whom_entity : (n : model.Name) (w : EntityRef) → IsWhom legend db n w → entity_of db (names_in legend pairs) n ≡ drafts.entity_of pairs w
   whom_entity n (Known e) is = is.1 (names_in legend pairs)
   whom_entity n (New t) is = ap (entity_of db (names_in legend pairs)) is.0 ∙ tempid_entity t is.1
 
-  part_value : (a : Attribute) (p : asks.Operand) (q : Operand) → IsPart legend db a p q → value_of_part db (names_in legend pairs) (attribute_in a) (part_of legend p) ≡ drafts.value_of pairs q
+  part_value : (a : Attribute) (p : asks.Operand) (q : Operand) → IsPart legend db a p q
+      → value_of_part db (names_in legend pairs) (model_attribute a) (part_of legend p) ≡ drafts.value_of pairs q
   part_value a (part.Plain f v) (Plain w) is = is
   part_value a (part.Entity x) (Entity w) is = ap (option_map Ref) (whom_entity (name_of legend x) w is)
   part_value a p q is = absurd is
 
   old_part_value : (a : Attribute) (p : Option asks.Operand) (q : Option Operand) → IsOldPart legend db a p q
-      → old_value_of db (names_in legend pairs) (attribute_in a) (old_part_of legend p) ≡ drafts.old_value_of pairs q
+      → old_value_of db (names_in legend pairs) (model_attribute a) (old_part_of legend p) ≡ drafts.old_value_of pairs q
   old_part_value a None None is = refl
-  old_part_value a (Some (part.Plain f v)) (Some (Plain w)) is = old_value_read db (names_in legend pairs) (attribute_in a) (form_of f.now) w is
+  old_part_value a (Some (part.Plain f v)) (Some (Plain w)) is =
+      old_value_read db (names_in legend pairs) (model_attribute a) (form_of f.now) w is
   old_part_value a (Some (part.Entity x)) (Some (Entity w)) is = ap (option_map Ref) (whom_entity (name_of legend x) w is)
   old_part_value a p q is = absurd is
 
   -- an act with a value
-  valued : (act : ℕ → schema.Attribute → Value → acts.Act) (n : model.Name) (w : Whom) (asked : List ℕ) (a : Attribute) (p : asks.Operand) (q : Operand)
-      → IsWhom legend db n w → attribute_named db.facts asked ≡ Some (attribute_in a) → IsPart legend db a p q
-      → option_and_then (λ e. option_and_then (λ (b : schema.Attribute). option_map (act e b) (value_of_part db (names_in legend pairs) b (part_of legend p))) (attribute_named db.facts asked)) (entity_of db (names_in legend pairs) n)
-      ≡ option_and_then (λ e. option_map (act e (attribute_in a)) (drafts.value_of pairs q)) (drafts.entity_of pairs w)
+  valued : (act : ℕ → schema.Attribute → Value → acts.Act) (n : model.Name) (w : EntityRef) (asked : List ℕ) (a : Attribute)
+      (p : asks.Operand) (q : Operand)
+      → IsWhom legend db n w → attribute_named db.facts asked ≡ Some (model_attribute a) → IsPart legend db a p q
+      → option_and_then
+      (λ e. option_and_then (λ (b : schema.Attribute). option_map (act e b) (value_of_part db (names_in legend pairs) b (part_of legend p)))
+      (attribute_named db.facts asked)) (entity_of db (names_in legend pairs) n)
+      ≡ option_and_then (λ e. option_map (act e (model_attribute a)) (drafts.value_of pairs q)) (drafts.entity_of pairs w)
   valued act n w asked a p q whom named_is is =
-      ap (λ o. option_and_then (λ e. option_and_then (λ (b : schema.Attribute). option_map (act e b) (value_of_part db (names_in legend pairs) b (part_of legend p))) o) (entity_of db (names_in legend pairs) n)) named_is
-      ∙ ap (λ v. option_and_then (λ e. option_map (act e (attribute_in a)) v) (entity_of db (names_in legend pairs) n)) (part_value a p q is)
-      ∙ ap (option_and_then (λ e. option_map (act e (attribute_in a)) (drafts.value_of pairs q))) (whom_entity n w whom)
+      ap (λ o. option_and_then (λ e. option_and_then (λ (b : schema.Attribute). option_map (act e b)
+      (value_of_part db (names_in legend pairs) b (part_of legend p))) o) (entity_of db (names_in legend pairs) n)) named_is
+      ∙ ap (λ v. option_and_then (λ e. option_map (act e (model_attribute a)) v) (entity_of db (names_in legend pairs) n))
+      (part_value a p q is)
+      ∙ ap (option_and_then (λ e. option_map (act e (model_attribute a)) (drafts.value_of pairs q))) (whom_entity n w whom)
 
   pub ask_act : (x : Ask) (d : Draft) → Relates legend db x d → act_of db (names_in legend pairs) (ask_of legend x) ≡ drafts.act_of pairs d
   ask_act (ask.Adds on asked p) (draft.Adds w a q holder) r = valued acts.adds (name_of legend on) w asked.now.ident a.now p q r.0 r.1 r.2
-  ask_act (ask.Retracts on asked p) (draft.Retracts w a q) r = valued acts.retracts (name_of legend on) w asked.now.ident a.now p q r.0 r.1 r.2
+  ask_act (ask.Retracts on asked p) (draft.Retracts w a q) r =
+      valued acts.retracts (name_of legend on) w asked.now.ident a.now p q r.0 r.1 r.2
   ask_act (ask.RetractsAll on asked) (draft.RetractsAll w a) r =
       ap (λ o. option_and_then (λ e. option_map (acts.retracts_all e) o) (entity_of db (names_in legend pairs) (name_of legend on))) r.1
-      ∙ as_map acts.retracts_all (attribute_in a.now) (entity_of db (names_in legend pairs) (name_of legend on))
-      ∙ ap (option_map (λ e. acts.retracts_all e (attribute_in a.now))) (whom_entity (name_of legend on) w r.0)
+      ∙ as_map acts.retracts_all (model_attribute a.now) (entity_of db (names_in legend pairs) (name_of legend on))
+      ∙ ap (option_map (λ e. acts.retracts_all e (model_attribute a.now))) (whom_entity (name_of legend on) w r.0)
     where
-      as_map : (act : ℕ → schema.Attribute → acts.Act) (b : schema.Attribute) (o : Option ℕ) → option_and_then (λ e. Some (act e b)) o ≡ option_map (λ e. act e b) o
+      as_map : (act : ℕ → schema.Attribute → acts.Act) (b : schema.Attribute) (o : Option ℕ)
+          → option_and_then (λ e. Some (act e b)) o ≡ option_map (λ e. act e b) o
       as_map act b None = refl
       as_map act b (Some e) = refl
   ask_act (ask.Compares on asked p p') (draft.Compares w a q q') r =
-      valued (λ e b. acts.compares e b (old_value_of db (names_in legend pairs) b (old_part_of legend p))) (name_of legend on) w asked.now.ident a.now p' q' r.0 r.1 r.3
-      ∙ ap (λ old. option_and_then (λ e. option_map (acts.compares e (attribute_in a.now) old) (drafts.value_of pairs q')) (drafts.entity_of pairs w)) (old_part_value a.now p q r.2)
+      valued (λ e b. acts.compares e b (old_value_of db (names_in legend pairs) b (old_part_of legend p)))
+      (name_of legend on) w asked.now.ident a.now p' q' r.0 r.1 r.3
+      ∙ ap (λ old. option_and_then (λ e. option_map (acts.compares e (model_attribute a.now) old) (drafts.value_of pairs q'))
+      (drafts.entity_of pairs w)) (old_part_value a.now p q r.2)
   ask_act (ask.RetractsEntity on) (draft.RetractsEntity w) r = ap (option_map acts.retracts_entity) (whom_entity (name_of legend on) w r)
   ask_act (ask.Meets on) (draft.Meets w) r = refl
   ask_act x d r = absurd r
 
   -- ---- it is settled where its tempids have entities
 
-  whom_has : (w : Whom) → Have pairs (tempid_in w) → is_some (drafts.entity_of pairs w) ≡ true
+  whom_has : (w : EntityRef) → Have pairs (tempid_in w) → is_some (drafts.entity_of pairs w) ≡ true
   whom_has (Known e) have = refl
   whom_has (New t) have = have.0
 
@@ -133,28 +146,35 @@ module _ (legend : Legend) (apart : AreApart legend.places) (db : Db) (pairs : L
   part_has (Plain v) have = refl
   part_has (Entity w) have = is_some_map Ref (drafts.entity_of pairs w) (whom_has w have)
 
-  both_there : {A B C : Type 0} (f : A → B → C) (o : Option A) (v : Option B) → is_some o ≡ true → is_some v ≡ true → is_some (option_and_then (λ e. option_map (f e) v) o) ≡ true
+  both_there : {A B C : Type 0} (f : A → B → C) (o : Option A) (v : Option B) → is_some o ≡ true → is_some v ≡ true
+      → is_some (option_and_then (λ e. option_map (f e) v) o) ≡ true
   both_there f None v have has = have
   both_there f (Some e) v have has = is_some_map (f e) v has
 
-  pub ask_settled : (x : Ask) (d : Draft) → Relates legend db x d → Have pairs (tempids_of d) → IsSettled db (names_in legend pairs) (ask_of legend x)
+  pub ask_settled : (x : Ask) (d : Draft) → Relates legend db x d → Have pairs (tempids_of d)
+      → IsSettled db (names_in legend pairs) (ask_of legend x)
   ask_settled (ask.Adds on asked p) (draft.Adds w a q holder) r have =
       ap is_some (ask_act (ask.Adds on asked p) (draft.Adds w a q holder) r)
-      ∙ both_there (λ e. acts.adds e (attribute_in a.now)) (drafts.entity_of pairs w) (drafts.value_of pairs q)
-      (whom_has w (have_first pairs (tempid_in w) (tempid_in_part q) have)) (part_has q (have_rest pairs (tempid_in w) (tempid_in_part q) have))
+      ∙ both_there (λ e. acts.adds e (model_attribute a.now)) (drafts.entity_of pairs w) (drafts.value_of pairs q)
+      (whom_has w (have_first pairs (tempid_in w) (tempid_in_part q) have))
+      (part_has q (have_rest pairs (tempid_in w) (tempid_in_part q) have))
   ask_settled (ask.Retracts on asked p) (draft.Retracts w a q) r have =
       ap is_some (ask_act (ask.Retracts on asked p) (draft.Retracts w a q) r)
-      ∙ both_there (λ e. acts.retracts e (attribute_in a.now)) (drafts.entity_of pairs w) (drafts.value_of pairs q)
-      (whom_has w (have_first pairs (tempid_in w) (tempid_in_part q) have)) (part_has q (have_rest pairs (tempid_in w) (tempid_in_part q) have))
+      ∙ both_there (λ e. acts.retracts e (model_attribute a.now)) (drafts.entity_of pairs w) (drafts.value_of pairs q)
+      (whom_has w (have_first pairs (tempid_in w) (tempid_in_part q) have))
+      (part_has q (have_rest pairs (tempid_in w) (tempid_in_part q) have))
   ask_settled (ask.RetractsAll on asked) (draft.RetractsAll w a) r have =
       ap is_some (ask_act (ask.RetractsAll on asked) (draft.RetractsAll w a) r)
-      ∙ is_some_map (λ e. acts.retracts_all e (attribute_in a.now)) (drafts.entity_of pairs w) (whom_has w have)
+      ∙ is_some_map (λ e. acts.retracts_all e (model_attribute a.now)) (drafts.entity_of pairs w) (whom_has w have)
   ask_settled (ask.Compares on asked p p') (draft.Compares w a q q') r have =
       let rest = have_rest pairs (tempid_in w) (tempid_in_old_part q ++ tempid_in_part q') have in
       ap is_some (ask_act (ask.Compares on asked p p') (draft.Compares w a q q') r)
-      ∙ both_there (λ e. acts.compares e (attribute_in a.now) (drafts.old_value_of pairs q)) (drafts.entity_of pairs w) (drafts.value_of pairs q')
-      (whom_has w (have_first pairs (tempid_in w) (tempid_in_old_part q ++ tempid_in_part q') have)) (part_has q' (have_rest pairs (tempid_in_old_part q) (tempid_in_part q') rest))
+      ∙ both_there (λ e. acts.compares e (model_attribute a.now) (drafts.old_value_of pairs q)) (drafts.entity_of pairs w)
+      (drafts.value_of pairs q')
+      (whom_has w (have_first pairs (tempid_in w) (tempid_in_old_part q ++ tempid_in_part q') have))
+      (part_has q' (have_rest pairs (tempid_in_old_part q) (tempid_in_part q') rest))
   ask_settled (ask.RetractsEntity on) (draft.RetractsEntity w) r have =
-      ap is_some (ask_act (ask.RetractsEntity on) (draft.RetractsEntity w) r) ∙ is_some_map acts.retracts_entity (drafts.entity_of pairs w) (whom_has w have)
+      ap is_some (ask_act (ask.RetractsEntity on) (draft.RetractsEntity w) r)
+      ∙ is_some_map acts.retracts_entity (drafts.entity_of pairs w) (whom_has w have)
   ask_settled (ask.Meets on) (draft.Meets w) r have = tt
   ask_settled x d r have = absurd r

@@ -27,13 +27,15 @@ distinct_push (x ∷ met) t apart new =
 
 pub distinct_met : (met ts : List Tempid) → AreDistinct met → AreDistinct (met_with met ts)
 distinct_met met [] apart = apart
-distinct_met met (t ∷ ts) apart = distinct_met (cond (list_any (is_same t) met) met (met ++ t ∷ [])) ts (by_test (list_any (is_same t) met) refl)
+distinct_met met (t ∷ ts) apart =
+    distinct_met (cond (list_any (is_same t) met) met (met ++ t ∷ [])) ts (by_test (list_any (is_same t) met) refl)
   where
     by_test : (b : Bool) → list_any (is_same t) met ≡ b → AreDistinct (cond b met (met ++ t ∷ []))
     by_test true is = apart
     by_test false is = distinct_push met t apart is
 
-not_numbered : (drafts : List Draft) (ts : List Tempid) (n : ℕ) (t : Tempid) → list_any (is_same t) ts ≡ false → entity_for (numbered drafts ts n) t ≡ None
+not_numbered : (drafts : List Draft) (ts : List Tempid) (n : ℕ) (t : Tempid) → list_any (is_same t) ts ≡ false
+    → entity_for (numbered drafts ts n) t ≡ None
 not_numbered drafts [] n t new = refl
 not_numbered drafts (x ∷ ts) n t new =
     let parts = or_parts (is_same t x) (list_any (is_same t) ts) new in

@@ -14,7 +14,7 @@ use Rattle.fb_numbers.specs.Numbers.{unique_identity}
 use Rattle.fb_model.specs.Schema.{attribute_named, attribute_of, named, is_identity}
 use Rattle.fb_model.specs.Schema as schema
 use Rattle.fb_schema.specs.declared.attribute.Attribute.{Attribute}
-use Rattle.fb_schema.specs.Parts.{attribute_in}
+use Rattle.fb_schema.specs.Parts.{model_attribute}
 use Rattle.tx_model.specs.Asks as model
 use Rattle.tx_model.specs.Asks.{own_tempid, is_tempid, is_same_tempid, names_of, name_of_part}
 use Rattle.tx_model.specs.Tempids.{Db, identified, identity_holder, find_by}
@@ -27,8 +27,8 @@ use Rattle.tx_asks.specs.declared.asks.Ask.TheVariants as ask
 use Rattle.tx_asks.specs.Asks.{Legend, name_of, part_of, old_part_of, ask_of, AreApart}
 use Rattle.tx_resolve.specs.declared.whom.Tempid.{Tempid}
 use Rattle.tx_resolve.specs.declared.whom.Tempid.TheVariants.{Named, Nameless}
-use Rattle.tx_resolve.specs.declared.whom.Whom.{Whom}
-use Rattle.tx_resolve.specs.declared.whom.Whom.TheVariants.{Known, New}
+use Rattle.tx_resolve.specs.declared.whom.EntityRef.{EntityRef}
+use Rattle.tx_resolve.specs.declared.whom.EntityRef.TheVariants.{Known, New}
 use Rattle.tx_resolve.specs.declared.drafts.Operand.{Operand}
 use Rattle.tx_resolve.specs.declared.drafts.Operand.TheVariants.{Plain, Entity}
 use Rattle.tx_resolve.specs.declared.drafts.Draft.{Draft}
@@ -59,7 +59,8 @@ other_own s o meant none =
     let is = (bytes_eq-Decides s o).0 same in
     true≢false (sym (ap (λ x. cond (bytes_eq x own_tempid) false true) (sym is) ∙ ap (λ b. cond b false true) meant) ∙ none))
 
-pub same_as_none : (legend : Legend) (t : Tempid) (n : model.Name) → IsMeant legend t → is_tempid n ≡ false → is_same_tempid (name_in legend t) n ≡ false
+pub same_as_none : (legend : Legend) (t : Tempid) (n : model.Name) → IsMeant legend t → is_tempid n ≡ false
+    → is_same_tempid (name_in legend t) n ≡ false
 same_as_none legend (Named s) (model.tempid o) meant none = other_own s o meant none
 same_as_none legend (Named s) (model.nameless path) meant none = refl
 same_as_none legend (Named s) (model.number z) meant none = refl
@@ -75,31 +76,38 @@ same_as_none legend (Nameless i) (model.lookup k value) meant none = refl
 
 attribute_has_id : (e : ℕ) (name : Option (List ℕ)) (kind count uniqueness : Option ℕ) (component indexed : Bool) (a : schema.Attribute)
     → schema.attribute_from e name kind count uniqueness component indexed ≡ Some a → a.id ≡ e
-attribute_has_id e (Some name) (Some kind) (Some count) uniqueness component indexed a is = ap (λ (o : Option schema.Attribute). option_map_or (λ (b : schema.Attribute). b.id) o 0) (sym is)
+attribute_has_id e (Some name) (Some kind) (Some count) uniqueness component indexed a is =
+    ap (λ (o : Option schema.Attribute). option_map_or (λ (b : schema.Attribute). b.id) o 0) (sym is)
 attribute_has_id e None kind count uniqueness component indexed a is = none_not is
 attribute_has_id e (Some name) None count uniqueness component indexed a is = none_not is
 attribute_has_id e (Some name) (Some kind) None uniqueness component indexed a is = none_not is
 
-by_id : (db : Db) (o : Option ℕ) (a : schema.Attribute) → option_and_then (attribute_of db.facts) o ≡ Some a → attribute_of db.facts a.id ≡ Some a
+by_id : (db : Db) (o : Option ℕ) (a : schema.Attribute) → option_and_then (attribute_of db.facts) o ≡ Some a
+    → attribute_of db.facts a.id ≡ Some a
 by_id db None a is = none_not is
 by_id db (Some e) a is =
     ap (attribute_of db.facts) (attribute_has_id e (schema.keyword_of db.facts e _) _ _ _ _ _ a is) ∙ is
 
-identity_of : (db : Db) (asked : List ℕ) (a : Attribute) → attribute_named db.facts asked ≡ Some (attribute_in a) → is_identity db.facts a.id ≡ nat_eq a.unique unique_identity
-identity_of db asked a is = ap (λ o. option_map_or (λ (b : schema.Attribute). nat_eq b.uniqueness unique_identity) o false) (by_id db (named db.facts asked) (attribute_in a) is)
+identity_of : (db : Db) (asked : List ℕ) (a : Attribute) → attribute_named db.facts asked ≡ Some (model_attribute a)
+    → is_identity db.facts a.id ≡ nat_eq a.unique unique_identity
+identity_of db asked a is =
+    ap (λ o. option_map_or (λ (b : schema.Attribute). nat_eq b.uniqueness unique_identity) o false)
+    (by_id db (named db.facts asked) (model_attribute a) is)
 
 module _ (legend : Legend) (apart : AreApart legend.places) (db : Db) where
   -- ---- the tempids of a name, a part and an ask
 
-  whom_tempids : (n : model.Name) (w : Whom) → IsWhom legend db n w → filter is_tempid (n ∷ []) ≡ map (name_in legend) (tempid_in w)
+  whom_tempids : (n : model.Name) (w : EntityRef) → IsWhom legend db n w → filter is_tempid (n ∷ []) ≡ map (name_in legend) (tempid_in w)
   whom_tempids n (Known e) is = ap (λ b. cond b (n ∷ []) []) is.0
-  whom_tempids n (New t) is = ap (λ m. filter is_tempid (m ∷ [])) is.0 ∙ ap (λ b. cond b (name_in legend t ∷ []) []) (is_tempid-name_in legend t is.1)
+  whom_tempids n (New t) is =
+      ap (λ m. filter is_tempid (m ∷ [])) is.0 ∙ ap (λ b. cond b (name_in legend t ∷ []) []) (is_tempid-name_in legend t is.1)
 
-  whom_meant : (n : model.Name) (w : Whom) → IsWhom legend db n w → AreMeant legend (tempid_in w)
+  whom_meant : (n : model.Name) (w : EntityRef) → IsWhom legend db n w → AreMeant legend (tempid_in w)
   whom_meant n (Known e) is = tt
   whom_meant n (New t) is = (is.1, tt)
 
-  part_tempids : (a : Attribute) (p : asks.Operand) (q : Operand) → IsPart legend db a p q → filter is_tempid (name_of_part (part_of legend p)) ≡ map (name_in legend) (tempid_in_part q)
+  part_tempids : (a : Attribute) (p : asks.Operand) (q : Operand) → IsPart legend db a p q
+      → filter is_tempid (name_of_part (part_of legend p)) ≡ map (name_in legend) (tempid_in_part q)
   part_tempids a (part.Plain f v) (Plain w) is = refl
   part_tempids a (part.Entity x) (Entity w) is = whom_tempids (name_of legend x) w is
   part_tempids a p q is = absurd is
@@ -109,35 +117,50 @@ module _ (legend : Legend) (apart : AreApart legend.places) (db : Db) where
   part_meant a (part.Entity x) (Entity w) is = whom_meant (name_of legend x) w is
   part_meant a p q is = absurd is
 
-  old_part_tempids : (a : Attribute) (p : Option asks.Operand) (q : Option Operand) → IsOldPart legend db a p q → filter is_tempid (name_of_part (old_part_of legend p)) ≡ map (name_in legend) (tempid_in_old_part q)
+  old_part_tempids : (a : Attribute) (p : Option asks.Operand) (q : Option Operand) → IsOldPart legend db a p q
+      → filter is_tempid (name_of_part (old_part_of legend p)) ≡ map (name_in legend) (tempid_in_old_part q)
   old_part_tempids a None None is = refl
   old_part_tempids a (Some p) (Some q) is = part_tempids a p q is
   old_part_tempids a p q is = absurd is
 
-  old_part_meant : (a : Attribute) (p : Option asks.Operand) (q : Option Operand) → IsOldPart legend db a p q → AreMeant legend (tempid_in_old_part q)
+  old_part_meant : (a : Attribute) (p : Option asks.Operand) (q : Option Operand) → IsOldPart legend db a p q
+      → AreMeant legend (tempid_in_old_part q)
   old_part_meant a None None is = tt
   old_part_meant a (Some p) (Some q) is = part_meant a p q is
   old_part_meant a p q is = absurd is
 
-  both_tempids : (xs ys : List model.Name) (ts us : List Tempid) → filter is_tempid xs ≡ map (name_in legend) ts → filter is_tempid ys ≡ map (name_in legend) us
+  both_tempids : (xs ys : List model.Name) (ts us : List Tempid) → filter is_tempid xs ≡ map (name_in legend) ts
+      → filter is_tempid ys ≡ map (name_in legend) us
       → filter is_tempid (xs ++ ys) ≡ map (name_in legend) (ts ++ us)
   both_tempids xs ys ts us same more =
-      filter-append is_tempid xs ys ∙ ap (λ l. l ++ filter is_tempid ys) same ∙ ap (λ l. map (name_in legend) ts ++ l) more ∙ sym (map-append (name_in legend) ts us)
+      filter-append is_tempid xs ys
+      ∙ ap (λ l. l ++ filter is_tempid ys) same
+      ∙ ap (λ l. map (name_in legend) ts ++ l) more
+      ∙ sym (map-append (name_in legend) ts us)
 
-  pub ask_tempids : (x : Ask) (d : Draft) → Relates legend db x d → filter is_tempid (names_of (ask_of legend x)) ≡ map (name_in legend) (tempids_of d)
-  ask_tempids (ask.Adds on asked p) (draft.Adds w a q holder) r = both_tempids (name_of legend on ∷ []) (name_of_part (part_of legend p)) _ _ (whom_tempids (name_of legend on) w r.0) (part_tempids a.now p q r.2)
-  ask_tempids (ask.Retracts on asked p) (draft.Retracts w a q) r = both_tempids (name_of legend on ∷ []) (name_of_part (part_of legend p)) _ _ (whom_tempids (name_of legend on) w r.0) (part_tempids a.now p q r.2)
+  pub ask_tempids : (x : Ask) (d : Draft) → Relates legend db x d
+      → filter is_tempid (names_of (ask_of legend x)) ≡ map (name_in legend) (tempids_of d)
+  ask_tempids (ask.Adds on asked p) (draft.Adds w a q holder) r =
+      both_tempids (name_of legend on ∷ []) (name_of_part (part_of legend p)) _ _ (whom_tempids (name_of legend on) w r.0)
+      (part_tempids a.now p q r.2)
+  ask_tempids (ask.Retracts on asked p) (draft.Retracts w a q) r =
+      both_tempids (name_of legend on ∷ []) (name_of_part (part_of legend p)) _ _ (whom_tempids (name_of legend on) w r.0)
+      (part_tempids a.now p q r.2)
   ask_tempids (ask.RetractsAll on asked) (draft.RetractsAll w a) r = whom_tempids (name_of legend on) w r.0
   ask_tempids (ask.Compares on asked p p') (draft.Compares w a q q') r =
-      both_tempids (name_of legend on ∷ []) (name_of_part (old_part_of legend p) ++ name_of_part (part_of legend p')) _ _ (whom_tempids (name_of legend on) w r.0)
-      (both_tempids (name_of_part (old_part_of legend p)) (name_of_part (part_of legend p')) _ _ (old_part_tempids a.now p q r.2) (part_tempids a.now p' q' r.3))
+      both_tempids (name_of legend on ∷ []) (name_of_part (old_part_of legend p) ++ name_of_part (part_of legend p')) _ _
+      (whom_tempids (name_of legend on) w r.0)
+      (both_tempids (name_of_part (old_part_of legend p)) (name_of_part (part_of legend p')) _ _ (old_part_tempids a.now p q r.2)
+      (part_tempids a.now p' q' r.3))
   ask_tempids (ask.RetractsEntity on) (draft.RetractsEntity w) r = whom_tempids (name_of legend on) w r
   ask_tempids (ask.Meets on) (draft.Meets w) r = whom_tempids (name_of legend on) w r
   ask_tempids x d r = absurd r
 
   pub ask_meant : (x : Ask) (d : Draft) → Relates legend db x d → AreMeant legend (tempids_of d)
-  ask_meant (ask.Adds on asked p) (draft.Adds w a q holder) r = meant_both legend (tempid_in w) (tempid_in_part q) (whom_meant (name_of legend on) w r.0) (part_meant a.now p q r.2)
-  ask_meant (ask.Retracts on asked p) (draft.Retracts w a q) r = meant_both legend (tempid_in w) (tempid_in_part q) (whom_meant (name_of legend on) w r.0) (part_meant a.now p q r.2)
+  ask_meant (ask.Adds on asked p) (draft.Adds w a q holder) r =
+      meant_both legend (tempid_in w) (tempid_in_part q) (whom_meant (name_of legend on) w r.0) (part_meant a.now p q r.2)
+  ask_meant (ask.Retracts on asked p) (draft.Retracts w a q) r =
+      meant_both legend (tempid_in w) (tempid_in_part q) (whom_meant (name_of legend on) w r.0) (part_meant a.now p q r.2)
   ask_meant (ask.RetractsAll on asked) (draft.RetractsAll w a) r = whom_meant (name_of legend on) w r.0
   ask_meant (ask.Compares on asked p p') (draft.Compares w a q q') r =
       meant_both legend (tempid_in w) (tempid_in_old_part q ++ tempid_in_part q') (whom_meant (name_of legend on) w r.0)
@@ -148,9 +171,11 @@ module _ (legend : Legend) (apart : AreApart legend.places) (db : Db) where
 
   -- ---- what an ask gives to a tempid
 
-  pub ask_adds : (t : Tempid) → IsMeant legend t → (x : Ask) (d : Draft) → Relates legend db x d → adds_to (name_in legend t) (ask_of legend x) ≡ drafts.adds_to t d
+  pub ask_adds : (t : Tempid) → IsMeant legend t → (x : Ask) (d : Draft) → Relates legend db x d
+      → adds_to (name_in legend t) (ask_of legend x) ≡ drafts.adds_to t d
   ask_adds t meant (ask.Adds on asked p) (draft.Adds (Known e) a q given) r = same_as_none legend t (name_of legend on) meant r.0.0
-  ask_adds t meant (ask.Adds on asked p) (draft.Adds (New u) a q given) r = ap (is_same_tempid (name_in legend t)) r.0.0 ∙ is_same_tempid-name_in legend apart t u meant r.0.1
+  ask_adds t meant (ask.Adds on asked p) (draft.Adds (New u) a q given) r =
+      ap (is_same_tempid (name_in legend t)) r.0.0 ∙ is_same_tempid-name_in legend apart t u meant r.0.1
   ask_adds t meant (ask.Retracts on asked p) (draft.Retracts w a q) r = refl
   ask_adds t meant (ask.RetractsAll on asked) (draft.RetractsAll w a) r = refl
   ask_adds t meant (ask.Compares on asked p p') (draft.Compares w a q q') r = refl
@@ -162,17 +187,21 @@ module _ (legend : Legend) (apart : AreApart legend.places) (db : Db) where
   cond_none true o is = sym is
   cond_none false o is = refl
 
-  identity_given : (f : edn.Form) (asked : List ℕ) (a : Attribute) (v : Value) (o : Option ℕ) (u : Tempid) → attribute_named db.facts asked ≡ Some (attribute_in a)
-      → value_in a.kind f ≡ Some v → o ≡ holder_for db (New u) a (Plain v) → option_and_then (identity_holder db f) (attribute_named db.facts asked) ≡ o
+  identity_given : (f : edn.Form) (asked : List ℕ) (a : Attribute) (v : Value) (o : Option ℕ) (u : Tempid)
+      → attribute_named db.facts asked ≡ Some (model_attribute a)
+      → value_in a.kind f ≡ Some v → o ≡ holder_for db (New u) a (Plain v)
+      → option_and_then (identity_holder db f) (attribute_named db.facts asked) ≡ o
   identity_given f asked a v o u named_is read is =
       ap (option_and_then (identity_holder db f)) named_is
-      ∙ ap (λ b. cond b (find_by db f (attribute_in a)) None) (identity_of db asked a named_is)
+      ∙ ap (λ b. cond b (find_by db f (model_attribute a)) None) (identity_of db asked a named_is)
       ∙ ap (λ w. cond (nat_eq a.unique unique_identity) (option_and_then (holder db.facts a.id) w) None) read
       ∙ sym is
 
-  pub ask_identified : (t : Tempid) → IsMeant legend t → (x : Ask) (d : Draft) → Relates legend db x d → identified db (name_in legend t) (ask_of legend x) ≡ given t d
+  pub ask_identified : (t : Tempid) → IsMeant legend t → (x : Ask) (d : Draft) → Relates legend db x d
+      → identified db (name_in legend t) (ask_of legend x) ≡ given t d
   ask_identified t meant (ask.Adds on asked (part.Plain f v)) (draft.Adds (Known e) a (Plain w) o) r =
-      ap (λ b. cond b (option_and_then (identity_holder db (form_of f.now)) (attribute_named db.facts asked.now.ident)) None) (same_as_none legend t (name_of legend on) meant r.0.0)
+      ap (λ b. cond b (option_and_then (identity_holder db (form_of f.now)) (attribute_named db.facts asked.now.ident)) None)
+      (same_as_none legend t (name_of legend on) meant r.0.0)
   ask_identified t meant (ask.Adds on asked (part.Plain f v)) (draft.Adds (New u) a (Plain w) o) r =
       ap (λ b. cond b (option_and_then (identity_holder db (form_of f.now)) (attribute_named db.facts asked.now.ident)) None)
       (ap (is_same_tempid (name_in legend t)) r.0.0 ∙ is_same_tempid-name_in legend apart t u meant r.0.1)

@@ -1,11 +1,14 @@
 -- One more of a list that is looked up element by element, until one finds nothing.
-use Rattle.std.proofs.Common.{◌≡◌, ℕ, ◌+◌, ◌<◌, ◌≤◌, Bool, true, false, Option, Some, None, List, [], ◌∷◌, ◌++◌, length, map, take, drop, get_or, ap, sym, ◌∙◌}
+use Rattle.std.proofs.Common.{◌≡◌, ℕ, ◌+◌, ◌<◌, ◌≤◌, Bool, true, false, Option, Some, None, List, [], ◌∷◌, ◌++◌, length, map, take, drop}
+use Rattle.std.proofs.Common.{get_or, ap, sym, ◌∙◌}
 use Rattle.std.proofs.lemmas.List.{map_push, map_more, at_drop_more, at_drop_all}
 use Rattle.std.specs.List.{list_any}
 use Rattle.tx_model.specs.Step.{first_yes}
 
 -- what the element at i gives stands behind what those before it gave
-pub given_more : {A B C : Type 0} (shows : B → C) (gives : A → C) (xs : List A) (ys zs : List B) (i : ℕ) (x : A) (y : B) → i < length xs → x ≡ get_or xs i x → shows y ≡ gives x → zs ≡ ys ++ y ∷ [] → map shows ys ≡ map gives (take i xs) → map shows zs ≡ map gives (take (i + 1) xs)
+pub given_more : {A B C : Type 0} (shows : B → C) (gives : A → C) (xs : List A) (ys zs : List B) (i : ℕ) (x : A) (y : B)
+    → i < length xs → x ≡ get_or xs i x → shows y ≡ gives x → zs ≡ ys ++ y ∷ [] → map shows ys ≡ map gives (take i xs)
+    → map shows zs ≡ map gives (take (i + 1) xs)
 given_more shows gives xs ys zs i x y inside is given more so_far =
     ap (map shows) more
     ∙ map_push shows ys y
@@ -33,7 +36,8 @@ module _ {A : Type 0} (test : A → Bool) (xs : List A) (i : ℕ) (x : A) (insid
   pub first_here : (n : ℕ) (whole : Option ℕ) → test x ≡ true → first_yes n (map test (drop i xs)) ≡ whole → Some n ≡ whole
   first_here n whole passes so_far = sym (first_at n ∙ rw passes) ∙ so_far
 
-  pub first_later : (n : ℕ) (whole : Option ℕ) → test x ≡ false → first_yes n (map test (drop i xs)) ≡ whole → first_yes (n + 1) (map test (drop (i + 1) xs)) ≡ whole
+  pub first_later : (n : ℕ) (whole : Option ℕ) → test x ≡ false → first_yes n (map test (drop i xs)) ≡ whole
+      → first_yes (n + 1) (map test (drop (i + 1) xs)) ≡ whole
   first_later n whole fails so_far = sym (first_at n ∙ rw fails) ∙ so_far
 
 module _ {A : Type 0} (test : A → Bool) (xs : List A) (i : ℕ) (outside : length xs ≤ i) where

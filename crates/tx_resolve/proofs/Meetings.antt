@@ -20,7 +20,8 @@ or-cond false false = refl
 
 -- one more is seen
 pub seen_push : (seen new : BTreeSet Tempid) (x : Tempid) (met : List Tempid) → Updates tempid_cmp seen new x true
-    → ((t : Tempid) → contains tempid_cmp seen t ≡ list_any (is_same t) met) → (t : Tempid) → contains tempid_cmp new t ≡ list_any (is_same t) (met ++ x ∷ [])
+    → ((t : Tempid) → contains tempid_cmp seen t ≡ list_any (is_same t) met)
+    → (t : Tempid) → contains tempid_cmp new t ≡ list_any (is_same t) (met ++ x ∷ [])
 seen_push seen new x met updates are t =
     updates.0 t
     ∙ ap (cond (is_same x t) true) (are t)

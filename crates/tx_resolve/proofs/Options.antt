@@ -27,6 +27,7 @@ is_none-map f None = refl
 is_none-map f (Some x) = refl
 
 -- one of two answers is missing
-pub is_none-and_then : {A B : Type 0} (f : A → Option B) (b : Bool) → ((x : A) → is_none (f x) ≡ b) → (o : Option A) → is_none (option_and_then f o) ≡ (is_none o || b)
+pub is_none-and_then : {A B : Type 0} (f : A → Option B) (b : Bool)
+    → ((x : A) → is_none (f x) ≡ b) → (o : Option A) → is_none (option_and_then f o) ≡ (is_none o || b)
 is_none-and_then f b rest None = refl
 is_none-and_then f b rest (Some x) = rest x

@@ -37,8 +37,11 @@ same_places : (legend : Legend) → AreApart legend.places → (m n : ℕ) → m
     → bytes_eq (slice_index_or legend.places m []) (slice_index_or legend.places n []) ≡ nat_eq m n
 same_places legend apart m n m_in n_in =
     same_test _ _
-    (λ same. let is = apart m n m_in n_in ((bytes_eq-Decides (slice_index_or legend.places m []) (slice_index_or legend.places n [])).0 same) in eq-eqb m n is)
-    (λ same. (bytes_eq-Decides (slice_index_or legend.places m []) (slice_index_or legend.places n [])).1 (ap (λ i. slice_index_or legend.places i []) (eqb-true m n same)))
+    (λ same.
+    let is = apart m n m_in n_in ((bytes_eq-Decides (slice_index_or legend.places m []) (slice_index_or legend.places n [])).0 same) in
+    eq-eqb m n is)
+    (λ same. (bytes_eq-Decides (slice_index_or legend.places m []) (slice_index_or legend.places n [])).1
+    (ap (λ i. slice_index_or legend.places i []) (eqb-true m n same)))
 
 -- two of them have one name where they are the same
 pub is_same_tempid-name_in : (legend : Legend) → AreApart legend.places → (x y : Tempid) → IsMeant legend x → IsMeant legend y

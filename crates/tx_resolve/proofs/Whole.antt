@@ -1,5 +1,6 @@
 -- All asks of a transaction with all drafts.
-use Rattle.std.proofs.Common.{◌≡◌, ℕ, ◌+◌, Bool, true, false, not, ◌&&◌, ◌||◌, cond, List, [], ◌∷◌, ◌++◌, map, filter, length, Vec, Global, refl, sym, ap, ◌∙◌}
+use Rattle.std.proofs.Common.{◌≡◌, ℕ, ◌+◌, Bool, true, false, not, ◌&&◌, ◌||◌, cond, List, [], ◌∷◌, ◌++◌, map, filter, length, Vec, Global}
+use Rattle.std.proofs.Common.{refl, sym, ap, ◌∙◌}
 use Rattle.std.specs.Prelude.{Option, Some, ⊤, filter_map, flat_map}
 use Rattle.std.specs.List.{list_any, cons_option, All}
 use Rattle.std.proofs.lemmas.List.{map-append}
@@ -8,7 +9,7 @@ use Rattle.tx_model.specs.Asks as model
 use Rattle.tx_model.specs.Asks.{Name, is_tempid, names_of}
 use Rattle.tx_model.specs.Tempids.{Db, is_among, met_after}
 use Rattle.tx_asks.specs.declared.asks.Ask.{Ask}
-use Rattle.tx_asks.specs.Asks.{Legend, ask_of, AreApart, IsRead, AreCounted}
+use Rattle.tx_asks.specs.Asks.{Legend, ask_of, AreApart, IsTyped, AreCounted}
 use Rattle.tx_asks.specs.Acts.{IsSettled}
 use Rattle.tx_resolve.specs.declared.whom.Tempid.{Tempid}
 use Rattle.tx_resolve.specs.declared.drafts.Draft.{Draft}
@@ -36,7 +37,8 @@ pub met_filter : (before names : List Name) → met_after before names ≡ met_a
 met_filter before [] = refl
 met_filter before (n ∷ names) = at (λ b. met_filter b names) (is_tempid n) refl
   where
-    at : ((b : List Name) → met_after b names ≡ met_after b (filter is_tempid names)) → (b : Bool) → is_tempid n ≡ b → met_after before (n ∷ names) ≡ met_after before (filter is_tempid (n ∷ names))
+    at : ((b : List Name) → met_after b names ≡ met_after b (filter is_tempid names)) → (b : Bool) → is_tempid n ≡ b
+        → met_after before (n ∷ names) ≡ met_after before (filter is_tempid (n ∷ names))
     at rest true is =
         ap (λ l. cond (is_tempid n && not (is_among before n)) (n ∷ l) (met_after before names)) (rest (n ∷ before))
         ∙ ap (λ l. cond (is_tempid n && not (is_among before n)) (n ∷ met_after (n ∷ before) (filter is_tempid names)) l) (rest before)
@@ -57,23 +59,28 @@ module _ (legend : Legend) (db : Db) where
   RelateForms (f ∷ fs) (g ∷ gs) = RelateAll f.items g.items × RelateForms fs gs
   RelateForms fs gs = ⊥
 
-  relate_all : (xs : List Ask) (ds : List Draft) → map Some ds ≡ map (draft_of db (all_found db legend.lookups)) xs → All (IsRead db.facts) xs → All (AreCounted (length legend.places)) xs → RelateAll xs ds
+  relate_all : (xs : List Ask) (ds : List Draft) → map Some ds ≡ map (draft_of db (all_found db legend.lookups)) xs
+      → All (IsTyped db.facts) xs → All (AreCounted (length legend.places)) xs → RelateAll xs ds
   relate_all [] [] is read counted = tt
   relate_all [] (d ∷ ds) is read counted = empty_not (sym is)
   relate_all (x ∷ xs) [] is read counted = empty_not is
   relate_all (x ∷ xs) (d ∷ ds) is read counted = (
-    relates legend db x d (All-head (IsRead db.facts) x xs read) (All-head (AreCounted (length legend.places)) x xs counted) (sym (head_of is)),
-    relate_all xs ds (tail_of is) (All-tail (IsRead db.facts) x xs read) (All-tail (AreCounted (length legend.places)) x xs counted),
+    relates legend db x d (All-head (IsTyped db.facts) x xs read) (All-head (AreCounted (length legend.places)) x xs counted)
+        (sym (head_of is)),
+    relate_all xs ds (tail_of is) (All-tail (IsTyped db.facts) x xs read) (All-tail (AreCounted (length legend.places)) x xs counted),
   )
 
-  pub relate_forms : (fs : List (Vec Ask Global)) (gs : List (Vec Draft Global)) → AreFound db (all_found db legend.lookups) fs gs → All (λ (form : Vec Ask Global). All (IsRead db.facts) form.items) fs
+  pub relate_forms : (fs : List (Vec Ask Global)) (gs : List (Vec Draft Global)) → AreFound db (all_found db legend.lookups) fs gs
+      → All (λ (form : Vec Ask Global). All (IsTyped db.facts) form.items) fs
       → All (λ (form : Vec Ask Global). All (AreCounted (length legend.places)) form.items) fs → RelateForms fs gs
   relate_forms [] [] is read counted = tt
   relate_forms [] (g ∷ gs) is read counted = empty_not (sym is)
   relate_forms (f ∷ fs) [] is read counted = empty_not is
   relate_forms (f ∷ fs) (g ∷ gs) is read counted = (
-    relate_all f.items g.items (head_of is) (All-head (λ (form : Vec Ask Global). All (IsRead db.facts) form.items) f fs read) (All-head (λ (form : Vec Ask Global). All (AreCounted (length legend.places)) form.items) f fs counted),
-    relate_forms fs gs (tail_of is) (All-tail (λ (form : Vec Ask Global). All (IsRead db.facts) form.items) f fs read) (All-tail (λ (form : Vec Ask Global). All (AreCounted (length legend.places)) form.items) f fs counted),
+    relate_all f.items g.items (head_of is) (All-head (λ (form : Vec Ask Global). All (IsTyped db.facts) form.items) f fs read)
+        (All-head (λ (form : Vec Ask Global). All (AreCounted (length legend.places)) form.items) f fs counted),
+    relate_forms fs gs (tail_of is) (All-tail (λ (form : Vec Ask Global). All (IsTyped db.facts) form.items) f fs read)
+        (All-tail (λ (form : Vec Ask Global). All (AreCounted (length legend.places)) form.items) f fs counted),
   )
 
   -- ---- what each ask has in common with its draft, of all asks
@@ -83,24 +90,31 @@ module _ (legend : Legend) (db : Db) where
   relate_both (x ∷ xs) ys (d ∷ ds) es r s = (r.0, relate_both xs ys ds es r.1 s)
   relate_both xs ys ds es r s = absurd r
 
-  pub relate_joined : (fs : List (Vec Ask Global)) (gs : List (Vec Draft Global)) → RelateForms fs gs → RelateAll (flat_map (λ form. form.items) fs) (drafts_in gs)
+  pub relate_joined : (fs : List (Vec Ask Global)) (gs : List (Vec Draft Global)) → RelateForms fs gs
+      → RelateAll (flat_map (λ form. form.items) fs) (drafts_in gs)
   relate_joined [] [] r = tt
-  relate_joined (f ∷ fs) (g ∷ gs) r = relate_both f.items (flat_map (λ form. form.items) fs) g.items (drafts_in gs) r.0 (relate_joined fs gs r.1)
+  relate_joined (f ∷ fs) (g ∷ gs) r =
+      relate_both f.items (flat_map (λ form. form.items) fs) g.items (drafts_in gs) r.0 (relate_joined fs gs r.1)
   relate_joined fs gs r = absurd r
 
   pub any_related : (f : model.Ask → Bool) (g : Draft → Bool) → ((x : Ask) (d : Draft) → Relates legend db x d → f (ask_of legend x) ≡ g d)
       → (xs : List Ask) (ds : List Draft) → RelateAll xs ds → list_any f (map (ask_of legend) xs) ≡ list_any g ds
   any_related f g same [] [] r = refl
-  any_related f g same (x ∷ xs) (d ∷ ds) r = ap (λ b. b || list_any f (map (ask_of legend) xs)) (same x d r.0) ∙ ap (λ b. g d || b) (any_related f g same xs ds r.1)
+  any_related f g same (x ∷ xs) (d ∷ ds) r =
+      ap (λ b. b || list_any f (map (ask_of legend) xs)) (same x d r.0) ∙ ap (λ b. g d || b) (any_related f g same xs ds r.1)
   any_related f g same xs ds r = absurd r
 
-  pub filter_map_related : {C : Type 0} (f : model.Ask → Option C) (g : Draft → Option C) → ((x : Ask) (d : Draft) → Relates legend db x d → f (ask_of legend x) ≡ g d)
+  pub filter_map_related : {C : Type 0} (f : model.Ask → Option C) (g : Draft → Option C)
+      → ((x : Ask) (d : Draft) → Relates legend db x d → f (ask_of legend x) ≡ g d)
       → (xs : List Ask) (ds : List Draft) → RelateAll xs ds → filter_map f (map (ask_of legend) xs) ≡ filter_map g ds
   filter_map_related f g same [] [] r = refl
-  filter_map_related f g same (x ∷ xs) (d ∷ ds) r = ap (λ o. cons_option o (filter_map f (map (ask_of legend) xs))) (same x d r.0) ∙ ap (cons_option (g d)) (filter_map_related f g same xs ds r.1)
+  filter_map_related f g same (x ∷ xs) (d ∷ ds) r =
+      ap (λ o. cons_option o (filter_map f (map (ask_of legend) xs))) (same x d r.0)
+      ∙ ap (cons_option (g d)) (filter_map_related f g same xs ds r.1)
   filter_map_related f g same xs ds r = absurd r
 
-  pub map_related : {C : Type 0} (f : List model.Ask → C) (g : List Draft → C) → ((xs : List Ask) (ds : List Draft) → RelateAll xs ds → f (map (ask_of legend) xs) ≡ g ds)
+  pub map_related : {C : Type 0} (f : List model.Ask → C) (g : List Draft → C)
+      → ((xs : List Ask) (ds : List Draft) → RelateAll xs ds → f (map (ask_of legend) xs) ≡ g ds)
       → (fs : List (Vec Ask Global)) (gs : List (Vec Draft Global)) → RelateForms fs gs
       → map f (map (λ form. map (ask_of legend) form.items) fs) ≡ map (λ form. g form.items) gs
   map_related f g same [] [] r = refl
@@ -113,7 +127,8 @@ module _ (legend : Legend) (db : Db) where
   -- ---- tempids
 
   module _ (apart : AreApart legend.places) where
-    pub all_tempids : (xs : List Ask) (ds : List Draft) → RelateAll xs ds → filter is_tempid (flat_map names_of (map (ask_of legend) xs)) ≡ map (name_in legend) (flat_map tempids_of ds)
+    pub all_tempids : (xs : List Ask) (ds : List Draft) → RelateAll xs ds
+        → filter is_tempid (flat_map names_of (map (ask_of legend) xs)) ≡ map (name_in legend) (flat_map tempids_of ds)
     all_tempids [] [] r = refl
     all_tempids (x ∷ xs) (d ∷ ds) r =
         filter-append is_tempid (names_of (ask_of legend x)) (flat_map names_of (map (ask_of legend) xs))
@@ -124,13 +139,15 @@ module _ (legend : Legend) (db : Db) where
 
     pub all_meant : (xs : List Ask) (ds : List Draft) → RelateAll xs ds → AreMeant legend (flat_map tempids_of ds)
     all_meant [] [] r = tt
-    all_meant (x ∷ xs) (d ∷ ds) r = meant_both legend (tempids_of d) (flat_map tempids_of ds) (ask_meant legend apart db x d r.0) (all_meant xs ds r.1)
+    all_meant (x ∷ xs) (d ∷ ds) r =
+        meant_both legend (tempids_of d) (flat_map tempids_of ds) (ask_meant legend apart db x d r.0) (all_meant xs ds r.1)
     all_meant xs ds r = absurd r
 
     -- ---- every ask is settled
 
     module _ (pairs : List (Tempid × ℕ)) (meant : PairsAreMeant legend pairs) where
-      pub form_settled : (xs : List Ask) (ds : List Draft) → RelateAll xs ds → Have pairs (flat_map tempids_of ds) → All (IsSettled db (names_in legend pairs)) (map (ask_of legend) xs)
+      pub form_settled : (xs : List Ask) (ds : List Draft) → RelateAll xs ds → Have pairs (flat_map tempids_of ds)
+          → All (IsSettled db (names_in legend pairs)) (map (ask_of legend) xs)
       form_settled [] [] r have = All-nil (IsSettled db (names_in legend pairs))
       form_settled (x ∷ xs) (d ∷ ds) r have =
           All-cons (IsSettled db (names_in legend pairs)) (ask_of legend x) (map (ask_of legend) xs)

@@ -1,6 +1,7 @@
 -- What an ask becomes when its names are looked up: none where one of them finds no entity.
 -- Datomic, Transaction Data (entity identifiers), and Schema (unique identities).
-use Rattle.std.specs.Prelude.{◌≡◌, ℕ, Bool, List, map, ◌==◌, if◌then◌else◌, Option, Some, None, is_none, option_map, option_and_then, Vec}
+use Rattle.std.specs.Prelude.{◌≡◌, ℕ, Bool, List, map, ◌==◌, if◌then◌else◌, Option, Some, None}
+use Rattle.std.specs.Prelude.{is_none, option_map, option_and_then, Vec}
 use Rattle.std.specs.List.{list_any}
 use Rattle.std.specs.declared.alloc.Global.{Global}
 use Rattle.fb_numbers.specs.Numbers.{unique_identity}
@@ -12,8 +13,8 @@ use Rattle.tx_asks.specs.declared.asks.Operand as asks
 use Rattle.tx_asks.specs.declared.asks.Operand.TheVariants as part
 use Rattle.tx_asks.specs.declared.asks.Ask.{Ask}
 use Rattle.tx_asks.specs.declared.asks.Ask.TheVariants as ask
-use Rattle.tx_resolve.specs.declared.whom.Whom.{Whom}
-use Rattle.tx_resolve.specs.declared.whom.Whom.TheVariants.{New}
+use Rattle.tx_resolve.specs.declared.whom.EntityRef.{EntityRef}
+use Rattle.tx_resolve.specs.declared.whom.EntityRef.TheVariants.{New}
 use Rattle.tx_resolve.specs.declared.drafts.Operand.{Operand}
 use Rattle.tx_resolve.specs.declared.drafts.Operand.TheVariants.{Plain, Entity}
 use Rattle.tx_resolve.specs.declared.drafts.Draft.{Draft}
@@ -29,7 +30,7 @@ old_part_of db looked_up None = Some None
 old_part_of db looked_up (Some p) = option_map Some (part_of db looked_up p)
 
 -- the holder of the identity value that an addition gives to a tempid
-abbrev pub holder_for : Db → Whom → Attribute → Operand → Option ℕ
+abbrev pub holder_for : Db → EntityRef → Attribute → Operand → Option ℕ
 holder_for db (New tempid) attribute (Plain v) =
     if attribute.unique == unique_identity then holder db.facts attribute.id v else None
 holder_for db whom attribute p = None
@@ -38,7 +39,8 @@ abbrev pub draft_of : Db → List (Option ℕ) → Ask → Option Draft
 draft_of db looked_up (ask.Adds on attribute p) =
     option_and_then
     (λ whom. option_map
-    (λ read. draft.Adds whom attribute read (holder_for db whom attribute.now read)) (part_of db looked_up p))
+    (λ read. draft.Adds whom attribute read (holder_for db whom attribute.now read))
+    (part_of db looked_up p))
     (whom_of db looked_up on)
 draft_of db looked_up (ask.Retracts on attribute p) =
     option_and_then (λ whom. option_map (draft.Retracts whom attribute) (part_of db looked_up p))
@@ -51,7 +53,8 @@ draft_of db looked_up (ask.Compares on attribute old new) =
     (λ before. option_map (draft.Compares whom attribute before) (part_of db looked_up new))
     (old_part_of db looked_up old))
     (whom_of db looked_up on)
-draft_of db looked_up (ask.RetractsEntity on) = option_map draft.RetractsEntity (whom_of db looked_up on)
+draft_of db looked_up (ask.RetractsEntity on) =
+    option_map draft.RetractsEntity (whom_of db looked_up on)
 draft_of db looked_up (ask.Meets on) = option_map draft.Meets (whom_of db looked_up on)
 
 -- one of its names finds no entity
@@ -62,9 +65,12 @@ is_lost db looked_up asked = is_none (draft_of db looked_up asked)
 
 -- the first form with a name that finds no entity
 abbrev pub lost_at : Db → List (Option ℕ) → List (Vec Ask Global) → Option ℕ
-lost_at db looked_up forms = first_yes 0 (map (λ form. list_any (is_lost db looked_up) form.items) forms)
+lost_at db looked_up forms =
+    first_yes 0 (map (λ form. list_any (is_lost db looked_up) form.items) forms)
 
 -- the asks are these drafts, and none is lost
-abbrev pub AreFound : Db → List (Option ℕ) → List (Vec Ask Global) → List (Vec Draft Global) → Type 0
+abbrev pub AreFound : Db → List (Option ℕ) → List (Vec Ask Global) → List (Vec Draft Global)
+    → Type 0
 AreFound db looked_up forms drafts =
-    map (λ form. map Some form.items) drafts ≡ map (λ form. map (draft_of db looked_up) form.items) forms
+    map (λ form. map Some form.items) drafts
+    ≡ map (λ form. map (draft_of db looked_up) form.items) forms

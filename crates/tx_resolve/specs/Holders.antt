@@ -1,11 +1,13 @@
 -- What additions give to a tempid: the holders of identity values.
 -- Datomic, Transaction Data (temporary ids) and Schema (unique identities).
-use Rattle.std.specs.Prelude.{◌≡◌, ℕ, Bool, false, not, List, [], ◌∷◌, filter_map, nat_eq, if◌then◌else◌, is_some, unwrap_or, Option, Some, None, option_and_then}
+use Rattle.std.specs.Prelude.{◌≡◌, ℕ, Bool, false, not, List, [], ◌∷◌, filter_map, nat_eq}
+use Rattle.std.specs.Prelude.{if◌then◌else◌, is_some, unwrap_or, Option, Some, None}
+use Rattle.std.specs.Prelude.{option_and_then}
 use Rattle.std.specs.Option.{option_map_or}
 use Rattle.std.specs.List.{list_any}
 use Rattle.std.specs.BTreeMap.{BTreeMap, get}
 use Rattle.tx_resolve.specs.declared.whom.Tempid.{Tempid}
-use Rattle.tx_resolve.specs.declared.whom.Whom.TheVariants.{New}
+use Rattle.tx_resolve.specs.declared.whom.EntityRef.TheVariants.{New}
 use Rattle.tx_resolve.specs.declared.drafts.Draft.{Draft}
 use Rattle.tx_resolve.specs.declared.drafts.Draft.TheVariants as draft
 use Rattle.tx_resolve.specs.declared.holders.Held.{Held}

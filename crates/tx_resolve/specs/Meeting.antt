@@ -4,8 +4,8 @@ use Rattle.std.specs.Prelude.{List, [], ◌∷◌, ◌++◌, flat_map, if◌then
 use Rattle.std.specs.List.{list_any}
 use Rattle.std.specs.declared.alloc.Global.{Global}
 use Rattle.tx_resolve.specs.declared.whom.Tempid.{Tempid}
-use Rattle.tx_resolve.specs.declared.whom.Whom.{Whom}
-use Rattle.tx_resolve.specs.declared.whom.Whom.TheVariants.{Known, New}
+use Rattle.tx_resolve.specs.declared.whom.EntityRef.{EntityRef}
+use Rattle.tx_resolve.specs.declared.whom.EntityRef.TheVariants.{Known, New}
 use Rattle.tx_resolve.specs.declared.drafts.Operand.{Operand}
 use Rattle.tx_resolve.specs.declared.drafts.Operand.TheVariants.{Plain, Entity}
 use Rattle.tx_resolve.specs.declared.drafts.Draft.{Draft}
@@ -14,7 +14,7 @@ use Rattle.tx_resolve.specs.Tempids.{is_same}
 
 -- ---- the tempids that are named
 
-abbrev pub tempid_in : Whom → List Tempid
+abbrev pub tempid_in : EntityRef → List Tempid
 tempid_in (Known e) = []
 tempid_in (New tempid) = tempid ∷ []
 

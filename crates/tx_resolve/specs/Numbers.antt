@@ -1,17 +1,19 @@
 -- The entities of tempids.
--- Datomic, Transaction Data (temporary ids). That user numbers have no gap is this project's own choice.
-use Rattle.std.specs.Prelude.{◌≡◌, ℕ, ◌+◌, List, [], ◌∷◌, filter_map, if◌then◌else◌, Option, Some, None, option_and_then, option_map, ⊤}
+-- Datomic, Transaction Data (temporary ids).
+-- That user numbers have no gap is this project's own choice.
+use Rattle.std.specs.Prelude.{◌≡◌, ℕ, ◌+◌, List, [], ◌∷◌, filter_map, if◌then◌else◌, Option, Some}
+use Rattle.std.specs.Prelude.{None, option_and_then, option_map, ⊤}
 use Rattle.std.specs.BTreeMap.{BTreeMap, get}
 use Rattle.fb_values.specs.declared.facts.Value.{Value}
 use Rattle.fb_values.specs.declared.facts.Value.TheVariants.{Ref}
 use Rattle.fb_numbers.specs.Numbers.{user_entity}
-use Rattle.fb_schema.specs.Parts.{attribute_in}
+use Rattle.fb_schema.specs.Parts.{model_attribute}
 use Rattle.tx_model.specs.Tempids.{by_text}
 use Rattle.tx_asks.specs.Acts as acts
 use Rattle.tx_resolve.specs.declared.whom.Tempid.{Tempid}
 use Rattle.tx_resolve.specs.declared.whom.Tempid.TheVariants.{Named, Nameless}
-use Rattle.tx_resolve.specs.declared.whom.Whom.{Whom}
-use Rattle.tx_resolve.specs.declared.whom.Whom.TheVariants.{Known, New}
+use Rattle.tx_resolve.specs.declared.whom.EntityRef.{EntityRef}
+use Rattle.tx_resolve.specs.declared.whom.EntityRef.TheVariants.{Known, New}
 use Rattle.tx_resolve.specs.declared.drafts.Operand.{Operand}
 use Rattle.tx_resolve.specs.declared.drafts.Operand.TheVariants.{Plain, Entity}
 use Rattle.tx_resolve.specs.declared.drafts.Draft.{Draft}
@@ -45,8 +47,8 @@ abbrev pub with_name : Tempid × ℕ → Option (List ℕ × ℕ)
 with_name (Named text, e) = Some (text, e)
 with_name (Nameless n, e) = None
 
-abbrev pub names_told : List (Tempid × ℕ) → List (List ℕ × ℕ)
-names_told pairs = by_text (filter_map with_name pairs)
+abbrev pub sorted_names : List (Tempid × ℕ) → List (List ℕ × ℕ)
+sorted_names pairs = by_text (filter_map with_name pairs)
 
 -- the map has the entities of these tempids
 abbrev pub HasEntities : BTreeMap Tempid ℕ → List (Tempid × ℕ) → Type 0
@@ -57,13 +59,13 @@ abbrev pub AreApart : List (Tempid × ℕ) → Type 0
 AreApart [] = ⊤
 AreApart (pair ∷ pairs) = (entity_for pairs pair.0 ≡ None) × AreApart pairs
 
--- those with a name stand in the order in which they are told
-abbrev pub Tells : BTreeMap Tempid ℕ → List (Tempid × ℕ) → Type 0
-Tells entities pairs = filter_map with_name entities.entries ≡ names_told pairs
+-- those with a name are in the order in which a reply has them
+abbrev pub HasNames : BTreeMap Tempid ℕ → List (Tempid × ℕ) → Type 0
+HasNames entities pairs = filter_map with_name entities.entries ≡ sorted_names pairs
 
 -- ---- the act of a draft, where the tempids have these entities
 
-abbrev pub entity_of : List (Tempid × ℕ) → Whom → Option ℕ
+abbrev pub entity_of : List (Tempid × ℕ) → EntityRef → Option ℕ
 entity_of pairs (Known e) = Some e
 entity_of pairs (New t) = entity_for pairs t
 
@@ -78,17 +80,17 @@ old_value_of pairs (Some part) = value_of pairs part
 abbrev pub act_of : List (Tempid × ℕ) → Draft → Option acts.Act
 act_of pairs (draft.Adds on attribute part holder) =
     option_and_then
-    (λ e. option_map (acts.adds e (attribute_in attribute.now)) (value_of pairs part))
+    (λ e. option_map (acts.adds e (model_attribute attribute.now)) (value_of pairs part))
     (entity_of pairs on)
 act_of pairs (draft.Retracts on attribute part) =
     option_and_then
-    (λ e. option_map (acts.retracts e (attribute_in attribute.now)) (value_of pairs part))
+    (λ e. option_map (acts.retracts e (model_attribute attribute.now)) (value_of pairs part))
     (entity_of pairs on)
 act_of pairs (draft.RetractsAll on attribute) =
-    option_map (λ e. acts.retracts_all e (attribute_in attribute.now)) (entity_of pairs on)
+    option_map (λ e. acts.retracts_all e (model_attribute attribute.now)) (entity_of pairs on)
 act_of pairs (draft.Compares on attribute old new) =
     option_and_then
-    (λ e. option_map (acts.compares e (attribute_in attribute.now) (old_value_of pairs old))
+    (λ e. option_map (acts.compares e (model_attribute attribute.now) (old_value_of pairs old))
     (value_of pairs new))
     (entity_of pairs on)
 act_of pairs (draft.RetractsEntity on) = option_map acts.retracts_entity (entity_of pairs on)

@@ -33,4 +33,4 @@ lists_of forms = map (λ form. form.items) forms
 
 -- the acts of the answer
 abbrev pub acts_of : Resolved → List (List Act)
-acts_of answer = map (λ form. map acts.seen form.items) answer.forms.items
+acts_of answer = map (λ form. map acts.model_act form.items) answer.forms.items

@@ -1,6 +1,7 @@
--- Which entity a name stands for, while tempids have none.
+-- Which entity a name has, while tempids have none.
 -- Datomic, Transaction Data (entity identifiers, temporary ids).
-use Rattle.std.specs.Prelude.{ℕ, ◌+◌, bytes_eq, if◌then◌else◌, List, map, slice_index_or, Option, Some, None, option_map}
+use Rattle.std.specs.Prelude.{ℕ, ◌+◌, bytes_eq, if◌then◌else◌, List, map, slice_index_or, Option}
+use Rattle.std.specs.Prelude.{Some, None, option_map}
 use Rattle.fb_numbers.specs.Numbers.{transaction_of}
 use Rattle.fb_model.specs.History.{basis}
 use Rattle.tx_model.specs.Asks as model
@@ -10,8 +11,8 @@ use Rattle.tx_asks.specs.declared.asks.LookupRef.{LookupRef}
 use Rattle.tx_asks.specs.declared.asks.Name.{Name}
 use Rattle.tx_asks.specs.declared.asks.Name.TheVariants as name
 use Rattle.tx_asks.specs.Asks.{lookup_of}
-use Rattle.tx_resolve.specs.declared.whom.Whom.{Whom}
-use Rattle.tx_resolve.specs.declared.whom.Whom.TheVariants.{Known, New}
+use Rattle.tx_resolve.specs.declared.whom.EntityRef.{EntityRef}
+use Rattle.tx_resolve.specs.declared.whom.EntityRef.TheVariants.{Known, New}
 use Rattle.tx_resolve.specs.declared.whom.Tempid.TheVariants.{Named, Nameless}
 
 -- the entity that a lookup ref finds
@@ -22,7 +23,7 @@ abbrev pub all_found : Db → List LookupRef → List (Option ℕ)
 all_found db refs = map (found_by db) refs
 
 -- where the lookup refs find these: none where the database has no entity of the name
-abbrev pub whom_of : Db → List (Option ℕ) → Name → Option Whom
+abbrev pub whom_of : Db → List (Option ℕ) → Name → Option EntityRef
 whom_of db looked_up (name.Number n) = option_map Known (found db (model.number n))
 whom_of db looked_up (name.Ident k) = option_map Known (found db (model.ident k.now))
 whom_of db looked_up (name.Lookup n) = option_map Known (slice_index_or looked_up n None)

@@ -1,13 +1,13 @@
 //! What is asked of entities by their numbers.
 ghost use Rattle.std.specs.Prelude.{◌≡◌, ◌++◌, ℕ, List, IfOk, map, filter_map, option_to_list};
 ghost use Rattle.std.specs.Option.{option_map};
-ghost use Rattle.tx_asks.specs.Acts.{seen};
+ghost use Rattle.tx_asks.specs.Acts.{model_act};
 ghost use Rattle.tx_resolve.specs.declared.whom.Tempid.{Tempid as model_Tempid};
 ghost use Rattle.tx_resolve.specs.Numbers.{HasEntities, entity_of, value_of, old_value_of, act_of};
 
 use crate::drafts::{Draft, Operand};
 use crate::numbers::Entities;
-use crate::whom::Whom;
+use crate::whom::EntityRef;
 use fb_memory::Memory;
 use fb_values::Value;
 use std::alloc::Global;
@@ -20,7 +20,7 @@ pub fn acts_of_forms<'a>(
     forms: Vec<Vec<Draft<'a>>>,
 ) -> Result<Vec<Vec<Act<'a>>>, Memory>
     ensures { (pairs : List (model_Tempid × ℕ)) → HasEntities entities.now pairs
-        → IfOk result (λ list. map (λ acts. map seen acts.items) list.items
+        → IfOk result (λ list. map (λ acts. map model_act acts.items) list.items
         ≡ map (λ form. filter_map (act_of pairs) form.items) forms.entry.items) }
 {
     let mut list = Vec::with_capacity(alloc, forms.len())?;
@@ -36,7 +36,7 @@ fn acts_of<'a>(
     drafts: Vec<Draft<'a>>,
 ) -> Result<Vec<Act<'a>>, Memory>
     ensures { (pairs : List (model_Tempid × ℕ)) → HasEntities entities.now pairs
-        → IfOk result (λ acts. map seen acts.items ≡ filter_map (act_of pairs) drafts.entry.items) }
+        → IfOk result (λ acts. map model_act acts.items ≡ filter_map (act_of pairs) drafts.entry.items) }
 {
     let mut acts = Vec::new(alloc);
     for draft in drafts {
@@ -54,10 +54,10 @@ fn push_some<'a>(acts: &mut Vec<Act<'a>>, act: Option<Act<'a>>) -> Result<(), Me
     Ok(())
 }
 
-/// None where a map only stands for its entity.
+/// None where there only is a map of an entity.
 fn act<'a>(entities: &Entities, draft: Draft<'a>) -> Option<Act<'a>>
     ensures { (pairs : List (model_Tempid × ℕ)) → HasEntities entities.now pairs
-        → option_map seen result ≡ act_of pairs draft.entry }
+        → option_map model_act result ≡ act_of pairs draft.entry }
 {
     match draft {
         Draft::Adds {
@@ -107,13 +107,13 @@ fn act<'a>(entities: &Entities, draft: Draft<'a>) -> Option<Act<'a>>
     }
 }
 
-fn entity(entities: &Entities, whom: &Whom) -> Option<u64>
+fn entity(entities: &Entities, whom: &EntityRef) -> Option<u64>
     ensures { (pairs : List (model_Tempid × ℕ)) → HasEntities entities.now pairs
         → result ≡ entity_of pairs whom.now }
 {
     match whom {
-        Whom::Known(e) => Some(*e),
-        Whom::New(tempid) => entities.get(tempid).copied(),
+        EntityRef::Known(e) => Some(*e),
+        EntityRef::New(tempid) => entities.get(tempid).copied(),
     }
 }
 

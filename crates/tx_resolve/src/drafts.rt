@@ -1,88 +1,98 @@
 //! Asks whose names are found.
-ghost use Rattle.std.specs.Prelude.{◌≡◌, IfOk, IfSome, Some, map, is_none};
+ghost use Rattle.std.specs.Prelude.{◌≡◌, IfOk, IfErr, IfSome, Some, None, [], ◌∷◌, map, is_none};
 ghost use Rattle.std.specs.List.{list_any};
-ghost use Rattle.std.specs.Result.{result_err};
 ghost use Rattle.fb_model.specs.Lawful.{IsLawful};
 ghost use Rattle.fb_schema.specs.Described.{SchemaStands};
+ghost use Rattle.tx_model.specs.Step.{first_refusal};
 ghost use Rattle.tx_model.specs.Tempids.{db_of};
+ghost use Rattle.tx_refusals.specs.declared.reasons.Reason.TheVariants.{NotAnEntity};
 ghost use Rattle.tx_resolve.specs.Drafts as model;
 ghost use Rattle.tx_resolve.specs.Drafts.{is_lost, lost_at, AreFound};
+ghost use Rattle.tx_resolve.specs.Rules.{StopsBy};
 
 use crate::names::whom;
-use crate::whom::Whom;
+use crate::whom::EntityRef;
 use fb_facts::Facts;
 use fb_memory::Memory;
 use fb_schema::{Attribute, Schema};
 use fb_values::Value;
 use std::alloc::Global;
 use tx_asks::{Ask, Name, Operand as AskPart};
+use tx_forms::TxStop;
+use tx_refusals::{Reason, Refusal};
 
-/// What stands in the place of a value.
+/// What is given in the place of a value.
 #[derive(Drop)]
 pub enum Operand {
     Plain(Value),
-    Entity(Whom),
+    Entity(EntityRef),
 }
 
 /// An ask whose names are found in the database, as far as they are no tempids.
 #[derive(Drop)]
 pub enum Draft<'a> {
     Adds {
-        on: Whom,
+        on: EntityRef,
         attribute: &'a Attribute,
         part: Operand,
         /// The entity that a tempid becomes by it: that which has the identity value.
         holder: Option<u64>,
     },
     Retracts {
-        on: Whom,
+        on: EntityRef,
         attribute: &'a Attribute,
         part: Operand,
     },
     RetractsAll {
-        on: Whom,
+        on: EntityRef,
         attribute: &'a Attribute,
     },
     Compares {
-        on: Whom,
+        on: EntityRef,
         attribute: &'a Attribute,
         old: Option<Operand>,
         new: Operand,
     },
     RetractsEntity {
-        on: Whom,
+        on: EntityRef,
     },
     Meets {
-        on: Whom,
+        on: EntityRef,
     },
 }
 
-/// What the forms ask, with the names found, where the lookup refs find these entities: or else the first form with a name
-/// that finds none.
+/// What the forms ask, with the names found, where the lookup refs find these entities. A name that finds none is refused at
+/// the first form that has one.
 pub fn drafts_of_forms<'a, F: Facts>(
     alloc: Global,
     facts: &F,
     schema: &Schema,
     found: &[Option<u64>],
     forms: &[Vec<Ask<'a>>],
-) -> Result<Result<Vec<Vec<Draft<'a>>>, usize>, Memory>
+) -> Result<Vec<Vec<Draft<'a>>>, TxStop>
     requires schema { SchemaStands schema.now (F.history facts.now) }
     requires lawful { IsLawful (F.history facts.now) }
-    ensures found { IfOk result (λ r. IfOk r (λ drafts.
-        AreFound (db_of (F.history facts.now)) found.now forms.now drafts.items)) }
-    ensures lost { IfOk result
-        (λ r. result_err r ≡ lost_at (db_of (F.history facts.now)) found.now forms.now) }
+    ensures found { IfOk result (λ drafts.
+        AreFound (db_of (F.history facts.now)) found.now forms.now drafts.items) }
+    ensures unbroken { IfOk result
+        (λ _. lost_at (db_of (F.history facts.now)) found.now forms.now ≡ None) }
+    ensures refused { IfErr result (λ stop. StopsBy
+        (first_refusal ((NotAnEntity, lost_at (db_of (F.history facts.now)) found.now forms.now)
+        ∷ [])) stop) }
 {
     let mut forms_found = Vec::new(alloc);
     let mut place = 0;
     for asks in forms {
         let Some(drafts) = drafts_of(alloc, facts, schema, found, asks)? else {
-            return Ok(Err(place));
+            return Err(TxStop::Refused(Refusal {
+                reason: Reason::NotAnEntity,
+                at: place,
+            }));
         };
         forms_found.push(drafts)?;
         place += 1;
     }
-    Ok(Ok(forms_found))
+    Ok(forms_found)
 }
 
 /// None where a name finds no entity.
@@ -193,12 +203,17 @@ fn addition<'a, F: Facts>(
 }
 
 /// The holder of the identity value that an addition gives to a tempid.
-fn holder_for<F: Facts>(facts: &F, on: &Whom, attribute: &Attribute, part: &Operand) -> Option<u64>
+fn holder_for<F: Facts>(
+    facts: &F,
+    on: &EntityRef,
+    attribute: &Attribute,
+    part: &Operand,
+) -> Option<u64>
     ensures { result
         ≡ model.holder_for (db_of (F.history facts.now)) on.now attribute.now part.now }
 {
     match (on, part) {
-        (Whom::New(_), Operand::Plain(v)) if attribute.is_identity() => facts.holder(
+        (EntityRef::New(_), Operand::Plain(v)) if attribute.is_identity() => facts.holder(
             attribute.id,
             v,
         ),

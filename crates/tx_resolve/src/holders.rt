@@ -8,12 +8,12 @@ ghost use Rattle.tx_resolve.specs.Holders.{held_of, has_another as model_has_ano
 ghost use Rattle.tx_resolve.specs.Meeting.{drafts_in};
 
 use crate::drafts::Draft;
-use crate::whom::{Tempid, Whom};
+use crate::whom::{EntityRef, Tempid};
 use fb_memory::Memory;
 use std::alloc::Global;
 use std::collections::BTreeMap;
 
-/// The holders of the identity values that a tempid is given, as far as they tell.
+/// The holders of the identity values that a tempid is given, as far as they matter.
 #[derive(Clone, Copy)]
 pub struct Held {
     pub first: Option<u64>,
@@ -61,7 +61,7 @@ pub fn addition<'a>(draft: &'a Draft<'_>) -> Option<(&'a Tempid, Option<u64>)>
 {
     match draft {
         Draft::Adds {
-            on: Whom::New(tempid),
+            on: EntityRef::New(tempid),
             holder,
             ..
         } => Some((tempid, *holder)),

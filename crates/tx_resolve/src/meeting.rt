@@ -4,7 +4,7 @@ ghost use Rattle.std.specs.List.{list_any};
 ghost use Rattle.tx_resolve.specs.Meeting.{tempid_in, tempid_in_part, tempid_in_old_part, tempids_of, met_with, drafts_in};
 
 use crate::drafts::{Draft, Operand};
-use crate::whom::{Tempid, Whom};
+use crate::whom::{EntityRef, Tempid};
 use fb_memory::Memory;
 use std::alloc::Global;
 use std::collections::BTreeSet;
@@ -49,12 +49,12 @@ impl Met {
         self.tempids.as_slice()
     }
 
-    fn with(self, whom: &Whom) -> Result<Met, Memory>
+    fn with(self, whom: &EntityRef) -> Result<Met, Memory>
         ensures { IfOk result (λ met. met ≡ met_with self (tempid_in whom.now)) }
     {
         match whom {
-            Whom::Known(_) => Ok(self),
-            Whom::New(tempid) => self.with_tempid(tempid),
+            EntityRef::Known(_) => Ok(self),
+            EntityRef::New(tempid) => self.with_tempid(tempid),
         }
     }
 

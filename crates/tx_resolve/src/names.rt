@@ -9,10 +9,10 @@ ghost use Rattle.fb_schema.specs.Described.{SchemaStands};
 ghost use Rattle.tx_model.specs.Asks as asks;
 ghost use Rattle.tx_model.specs.Tempids.{db_of, found};
 ghost use Rattle.tx_model.specs.Values.{value_in};
-ghost use Rattle.tx_resolve.specs.declared.whom.Whom.TheVariants.{Known};
+ghost use Rattle.tx_resolve.specs.declared.whom.EntityRef.TheVariants.{Known};
 ghost use Rattle.tx_resolve.specs.Whoms.{found_by, all_found, whom_of};
 
-use crate::whom::{Tempid, Whom};
+use crate::whom::{EntityRef, Tempid};
 use edn_form::Edn;
 use edn_values::{as_value, forms_of_other_types};
 use fb_facts::Facts;
@@ -45,14 +45,14 @@ pub fn all_looked_up<F: Facts>(
     Ok(found)
 }
 
-/// The entity that the name stands for, where the lookup refs of the transaction find these: none where the database has none
+/// The entity that the name has, where the lookup refs of the transaction find these: none where the database has none
 /// of the name.
 pub fn whom<F: Facts>(
     facts: &F,
     schema: &Schema,
     found: &[Option<u64>],
     name: &Name<'_>,
-) -> Result<Option<Whom>, Memory>
+) -> Result<Option<EntityRef>, Memory>
     requires schema { SchemaStands schema.now (F.history facts.now) }
     requires lawful { IsLawful (F.history facts.now) }
     ensures { IfOk result
@@ -64,10 +64,10 @@ pub fn whom<F: Facts>(
         Name::Ident(k) => Ok(known(schema.entity_named(k))),
         Name::Lookup(n) => Ok(known(entity_at(found, *n))),
         Name::Tempid(text) if text.as_str() == OWN_TEMPID => {
-            Ok(Some(Whom::Known(next_transaction(facts))))
+            Ok(Some(EntityRef::Known(next_transaction(facts))))
         }
-        Name::Tempid(text) => Ok(Some(Whom::New(Tempid::Named(text.copy()?)))),
-        Name::Nameless(n) => Ok(Some(Whom::New(Tempid::Nameless(*n)))),
+        Name::Tempid(text) => Ok(Some(EntityRef::New(Tempid::Named(text.copy()?)))),
+        Name::Nameless(n) => Ok(Some(EntityRef::New(Tempid::Nameless(*n)))),
     }
 }
 
@@ -81,11 +81,11 @@ fn entity_at(found: &[Option<u64>], n: usize) -> Option<u64>
     }
 }
 
-fn known(e: Option<u64>) -> Option<Whom>
+fn known(e: Option<u64>) -> Option<EntityRef>
     ensures { result ≡ option_map Known e }
 {
     match e {
-        Some(e) => Some(Whom::Known(e)),
+        Some(e) => Some(EntityRef::Known(e)),
         None => None,
     }
 }

@@ -2,7 +2,7 @@
 ghost use Rattle.std.specs.Prelude.{◌≡◌, ◌<◌, ◌^◌, List, [], ◌∷◌, ◌++◌, IfOk, filter_map};
 ghost use Rattle.tx_resolve.specs.declared.drafts.Draft.{Draft as model_Draft};
 ghost use Rattle.tx_resolve.specs.Holders.{AreHolders};
-ghost use Rattle.tx_resolve.specs.Numbers.{entity_next, number_next, numbered as model_numbered, with_name, HasEntities, AreApart, Tells};
+ghost use Rattle.tx_resolve.specs.Numbers.{entity_next, number_next, numbered as model_numbered, with_name, HasEntities, AreApart, HasNames};
 
 use crate::holders::{Holders, held_by};
 use crate::whom::Tempid;
@@ -62,7 +62,7 @@ pub type Entities = BTreeMap<Tempid, u64>;
 /// The entities by their tempids. It goes from the last pair to the first.
 pub fn entities_of(alloc: Global, pairs: &[(Tempid, u64)]) -> Result<Entities, Memory>
     ensures entities { IfOk result (λ entities. HasEntities entities pairs.now) }
-    ensures told { AreApart pairs.now → IfOk result (λ entities. Tells entities pairs.now) }
+    ensures told { AreApart pairs.now → IfOk result (λ entities. HasNames entities pairs.now) }
 {
     let mut entities = BTreeMap::new(alloc);
     let mut i = pairs.len();

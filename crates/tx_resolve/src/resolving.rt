@@ -1,22 +1,20 @@
 //! The call that resolves names.
 ghost use Rattle.std.specs.Prelude.{◌≡◌, ◌<◌, ◌^◌, ◌∷◌, IfOk, IfErr, None};
-ghost use Rattle.std.specs.Result.{result_err};
 ghost use Rattle.fb_model.specs.Lawful.{IsLawful};
 ghost use Rattle.fb_schema.specs.Described.{SchemaStands};
 ghost use Rattle.tx_asks.specs.Acts.{AreActs, acts_in};
 ghost use Rattle.tx_model.specs.Tempids.{assigned, named_tempids};
 ghost use Rattle.tx_model.specs.Transaction.{joined, with_names};
 ghost use Rattle.tx_model.specs.Step.{first_refusal};
-ghost use Rattle.tx_resolve.specs.Rules.{resolve_rules, IsToldAs, OfAsks};
+ghost use Rattle.tx_resolve.specs.Rules.{resolve_rules, StopsBy, OfAsks};
 ghost use Rattle.tx_refusals.specs.declared.reasons.Reason.TheVariants.{NestedWithoutId};
-ghost use Rattle.tx_resolve.specs.Numbers.{names_told};
+ghost use Rattle.tx_resolve.specs.Numbers.{sorted_names};
 ghost use Rattle.tx_resolve.specs.Settled.{pairs_in, drafted_acts, tempid_rules, lists_of, acts_of};
 
 use crate::drafts::{Draft, drafts_of_forms};
 use crate::names::all_looked_up;
 use crate::settle::settled;
 use fb_facts::Facts;
-use fb_memory::Memory;
 use fb_schema::Schema;
 use std::alloc::Global;
 use tx_asks::{Flat, Resolved, asks_that_ask_for_nothing};
@@ -43,41 +41,13 @@ pub fn resolve<'a, F: Facts>(
     ensures unbroken { IfOk result (λ _. OfAsks flat.entry (F.history facts.now)
         (λ db asks. first_refusal (resolve_rules db asks) ≡ None)) }
     ensures refused { IfErr result (λ stop. OfAsks flat.entry (F.history facts.now)
-        (λ db asks. IsToldAs (first_refusal (resolve_rules db asks)) stop)) }
-{
-    match resolved(alloc, &flat, facts, schema) {
-        Ok(Ok(resolved)) => Ok(resolved),
-        Ok(Err(refusal)) => Err(TxStop::Refused(refusal)),
-        Err(_) => Err(TxStop::Memory),
-    }
-}
-
-fn resolved<'a, F: Facts>(
-    alloc: Global,
-    flat: &Flat<'a>,
-    facts: &F,
-    schema: &Schema,
-) -> Result<Result<Resolved<'a>, Refusal>, Memory>
-    requires schema { SchemaStands schema.now (F.history facts.now) }
-    requires lawful { IsLawful (F.history facts.now) }
-    ensures acts { IfOk result (λ r. IfOk r (λ answer. OfAsks flat.now (F.history facts.now)
-        (λ db asks. AreActs (acts_in (lists_of answer.forms.items))
-        (with_names db asks (assigned db (joined asks)))))) }
-    ensures tempids { IfOk result (λ r. IfOk r (λ answer. OfAsks flat.now (F.history facts.now)
-        (λ db asks. answer.tempids.items ≡ named_tempids (assigned db (joined asks))))) }
-    ensures refused { IfOk result (λ r. OfAsks flat.now (F.history facts.now)
-        (λ db asks. result_err r ≡ first_refusal (resolve_rules db asks))) }
+        (λ db asks. StopsBy (first_refusal (resolve_rules db asks)) stop)) }
 {
     asks_that_ask_for_nothing();
     lawful_histories_are_small();
     let found = all_looked_up(alloc, facts, schema, flat.lookups.as_slice())?;
-    match drafts_of_forms(alloc, facts, schema, found.as_slice(), &flat.forms)? {
-        Ok(drafts) => unless_lacking(alloc, flat.lacking, drafts, facts.issued()),
-        Err(at) => Ok(Err(Refusal {
-            reason: Reason::NotAnEntity,
-            at,
-        })),
-    }
+    let drafts = drafts_of_forms(alloc, facts, schema, found.as_slice(), &flat.forms)?;
+    unless_lacking(alloc, flat.lacking, drafts, facts.issued())
 }
 
 /// The answer to the drafts, unless a map inside another lacks what it needs.
@@ -86,17 +56,19 @@ fn unless_lacking<'a>(
     lacking: Option<usize>,
     drafts: Vec<Vec<Draft<'a>>>,
     users: u64,
-) -> Result<Result<Resolved<'a>, Refusal>, Memory>
+) -> Result<Resolved<'a>, TxStop>
     requires { users < 2 ^ 47 }
     ensures acts { IfOk result
-        (λ r. IfOk r (λ answer. acts_of answer ≡ drafted_acts drafts.entry.items users)) }
-    ensures tempids { IfOk result (λ r. IfOk r
-        (λ answer. answer.tempids.items ≡ names_told (pairs_in drafts.entry.items users))) }
-    ensures refused { IfOk result (λ r. result_err r
-        ≡ first_refusal ((NestedWithoutId, lacking) ∷ tempid_rules drafts.entry.items)) }
+        (λ answer. acts_of answer ≡ drafted_acts drafts.entry.items users) }
+    ensures tempids { IfOk result
+        (λ answer. answer.tempids.items ≡ sorted_names (pairs_in drafts.entry.items users)) }
+    ensures unbroken { IfOk result (λ _. first_refusal
+        ((NestedWithoutId, lacking) ∷ tempid_rules drafts.entry.items) ≡ None) }
+    ensures refused { IfErr result (λ stop. StopsBy
+        (first_refusal ((NestedWithoutId, lacking) ∷ tempid_rules drafts.entry.items)) stop) }
 {
     match lacking {
-        Some(at) => Ok(Err(Refusal {
+        Some(at) => Err(TxStop::Refused(Refusal {
             reason: Reason::NestedWithoutId,
             at,
         })),

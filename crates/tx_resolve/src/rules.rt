@@ -9,7 +9,7 @@ ghost use Rattle.tx_resolve.specs.Breaks.{gives_one_of_two as model_gives_one_of
 
 use crate::drafts::{Draft, Operand};
 use crate::holders::{Holders, addition, held_by};
-use crate::whom::{Tempid, Whom};
+use crate::whom::{EntityRef, Tempid};
 
 // ---- a tempid of two holders
 
@@ -107,13 +107,13 @@ fn uses_one_of_none(kept: &Holders, draft: &Draft<'_>) -> bool
     }
 }
 
-fn is_of_none(kept: &Holders, whom: &Whom) -> bool
+fn is_of_none(kept: &Holders, whom: &EntityRef) -> bool
     ensures { (all : List model_Draft) → AreHolders kept.now all
         → result ≡ list_any (is_added_to_by_none all) (tempid_in whom.now) }
 {
     match whom {
-        Whom::Known(_) => false,
-        Whom::New(tempid) => kept.get(tempid).is_none(),
+        EntityRef::Known(_) => false,
+        EntityRef::New(tempid) => kept.get(tempid).is_none(),
     }
 }
 

@@ -1,10 +1,10 @@
 //! From drafts to acts: the rules on tempids, and the tempids' entities.
-ghost use Rattle.std.specs.Prelude.{◌≡◌, ◌<◌, ◌^◌, [], IfOk};
-ghost use Rattle.std.specs.Result.{result_err};
+ghost use Rattle.std.specs.Prelude.{◌≡◌, ◌<◌, ◌^◌, [], IfOk, IfErr, None};
 ghost use Rattle.tx_model.specs.Step.{first_refusal};
 ghost use Rattle.tx_resolve.specs.Holders.{AreHolders};
 ghost use Rattle.tx_resolve.specs.Meeting.{drafts_in};
-ghost use Rattle.tx_resolve.specs.Numbers.{AreApart, names_told};
+ghost use Rattle.tx_resolve.specs.Numbers.{AreApart, sorted_names};
+ghost use Rattle.tx_resolve.specs.Rules.{StopsBy};
 ghost use Rattle.tx_resolve.specs.Settled.{pairs_in as model_pairs_in, drafted_acts, tempid_rules, acts_of};
 
 use crate::acts::acts_of_forms;
@@ -17,6 +17,7 @@ use crate::whom::Tempid;
 use fb_memory::Memory;
 use std::alloc::Global;
 use tx_asks::Resolved;
+use tx_forms::TxStop;
 use tx_refusals::{Reason, Refusal};
 
 /// The acts and the entities of the tempids, where so many user entities are issued, or the rule on tempids that is broken.
@@ -24,19 +25,21 @@ pub fn settled<'a>(
     alloc: Global,
     forms: Vec<Vec<Draft<'a>>>,
     users: u64,
-) -> Result<Result<Resolved<'a>, Refusal>, Memory>
+) -> Result<Resolved<'a>, TxStop>
     requires { users < 2 ^ 47 }
     ensures acts { IfOk result
-        (λ r. IfOk r (λ answer. acts_of answer ≡ drafted_acts forms.entry.items users)) }
-    ensures tempids { IfOk result (λ r. IfOk r
-        (λ answer. answer.tempids.items ≡ names_told (model_pairs_in forms.entry.items users))) }
-    ensures refused { IfOk result
-        (λ r. result_err r ≡ first_refusal (tempid_rules forms.entry.items)) }
+        (λ answer. acts_of answer ≡ drafted_acts forms.entry.items users) }
+    ensures tempids { IfOk result
+        (λ answer. answer.tempids.items ≡ sorted_names (model_pairs_in forms.entry.items users)) }
+    ensures unbroken { IfOk result
+        (λ _. first_refusal (tempid_rules forms.entry.items) ≡ None) }
+    ensures refused { IfErr result
+        (λ stop. StopsBy (first_refusal (tempid_rules forms.entry.items)) stop) }
 {
     let kept = holders_in(alloc, &forms)?;
     match tempid_refusal(&kept, &forms) {
-        Some(refusal) => Ok(Err(refusal)),
-        None => Ok(Ok(answer(alloc, &kept, forms, users)?)),
+        Some(refusal) => Err(TxStop::Refused(refusal)),
+        None => Ok(answer(alloc, &kept, forms, users)?),
     }
 }
 
@@ -51,7 +54,7 @@ fn answer<'a>(
         → IfOk result (λ answer. acts_of answer ≡ drafted_acts forms.entry.items users) }
     ensures tempids { AreHolders kept.now (drafts_in forms.entry.items)
         → IfOk result
-        (λ answer. answer.tempids.items ≡ names_told (model_pairs_in forms.entry.items users)) }
+        (λ answer. answer.tempids.items ≡ sorted_names (model_pairs_in forms.entry.items users)) }
 {
     let pairs = pairs_in(alloc, kept, &forms, users)?;
     let entities = entities_of(alloc, &pairs)?;

@@ -7,7 +7,7 @@ use std::cmp::Ordering;
 
 /// An entity of the database, or a tempid, which has no entity yet.
 #[derive(Drop)]
-pub enum Whom {
+pub enum EntityRef {
     Known(u64),
     New(Tempid),
 }

@@ -1,5 +1,6 @@
 -- Additions that stand beside another one of their entity and attribute.
-use Rattle.std.proofs.Common.{◌≡◌, ℕ, zero, suc, ◌<◌, ◌≤◌, Bool, true, false, cond, not, ◌&&◌, ◌||◌, eqb, List, [], ◌∷◌, length, get_or, refl, ap, sym, ◌∙◌, subst, arith, inl, inr, None}
+use Rattle.std.proofs.Common.{◌≡◌, ℕ, zero, suc, ◌<◌, ◌≤◌, Bool, true, false, cond, not, ◌&&◌, ◌||◌, eqb, List, [], ◌∷◌, length, get_or}
+use Rattle.std.proofs.Common.{refl, ap, sym, ◌∙◌, subst, arith, inl, inr, None}
 use Rattle.std.specs.Prelude.{filter}
 use Rattle.std.specs.List.{list_any, list_all}
 use Rattle.std.specs.Ordering.{is_eq}
@@ -19,7 +20,8 @@ use Rattle.tx_rules.specs.Neighbours.{behind, are_of_one_entity, is_beside}
 use Rattle.tx_rules.specs.Conflicts.{is_addition, is_withdrawn, is_another_value, conflicts, first_conflict, AreAdditions}
 use Rattle.tx_rules.proofs.Earlier.{first_where-same, first_where-filter}
 use Rattle.tx_rules.proofs.Passing.{two_kept, another_passes, PassesBeside}
-use Rattle.tx_rules.proofs.Sorted.{entity_cmp, entity_cmp_total, entity_alike, triple_alike, beside-kept, entities_sorted, apart, rise-filter}
+use Rattle.tx_rules.proofs.Sorted.{entity_cmp, entity_cmp_total, entity_alike, triple_alike, beside-kept, entities_sorted, apart}
+use Rattle.tx_rules.proofs.Sorted.{rise-filter}
 
 pub same_tests : (b c : Bool) → (b ≡ true → c ≡ true) → (c ≡ true → b ≡ true) → b ≡ c
 same_tests true c f g = sym (f refl)
@@ -35,8 +37,12 @@ pub record IsFound (p : Triple → Bool) (xs : List Triple) (d : Triple) : Type 
 pub found : (p : Triple → Bool) (xs : List Triple) (d : Triple) → list_any p xs ≡ true → IsFound p xs d
 found p [] d some = absurd (true≢false (sym some))
 found p (x ∷ xs) d some =
-    let later : IsFound p xs d → IsFound p (x ∷ xs) d = λ at. record { place = suc at.place; within = omega (arith, at.within); passes = at.passes } in
-    elim (or_cases (p x) (list_any p xs) some) [ inl now ↦ record { place = 0; within = omega arith; passes = now } | inr rest ↦ later (found p xs d rest) ]
+    let later : IsFound p xs d → IsFound p (x ∷ xs) d =
+    λ at. record { place = suc at.place; within = omega (arith, at.within); passes = at.passes } in
+    elim (or_cases (p x) (list_any p xs) some) [
+      | inl now ↦ record { place = 0; within = omega arith; passes = now }
+      | inr rest ↦ later (found p xs d rest)
+    ]
 
 pub all-at : (p : Triple → Bool) (xs : List Triple) (i : ℕ) (d : Triple) → list_all p xs ≡ true → i < length xs → p (get_or xs i d) ≡ true
 all-at p [] i d every within = absurd (omega (arith, within))
@@ -53,8 +59,11 @@ another-from xs i j d additions i_in j_in other one =
     let x = get_or xs i d in
     let y = get_or xs j d in
     let parts = and_parts (eqb x.e y.e) (eqb x.a y.a) one in
-    and_from _ _ (and_from _ _ (and_from _ _ (all-at is_addition xs j d additions.added j_in) (eqb-comm y.e x.e ∙ parts.0)) (eqb-comm y.a x.a ∙ parts.1))
-    (differs (value_eq y.v x.v) (and-false (are_of_one_entity y x) (value_eq y.v x.v) (and_from _ _ (eqb-comm y.e x.e ∙ parts.0) (eqb-comm y.a x.a ∙ parts.1)) (sym (triple_alike y x) ∙ apart xs j i d additions.rising j_in i_in other)))
+    and_from _ _
+    (and_from _ _ (and_from _ _ (all-at is_addition xs j d additions.added j_in) (eqb-comm y.e x.e ∙ parts.0)) (eqb-comm y.a x.a ∙ parts.1))
+    (differs (value_eq y.v x.v)
+    (and-false (are_of_one_entity y x) (value_eq y.v x.v) (and_from _ _ (eqb-comm y.e x.e ∙ parts.0) (eqb-comm y.a x.a ∙ parts.1))
+    (sym (triple_alike y x) ∙ apart xs j i d additions.rising j_in i_in other)))
   where
     and-false : (b c : Bool) → b ≡ true → (b && c) ≡ false → c ≡ false
     and-false true c is none = none
@@ -77,7 +86,8 @@ module _ (xs : List Triple) (additions : AreAdditions xs) (i : ℕ) (d : Triple)
   to_another two =
       let at : PassesBeside kind xs i d = another_passes kind xs i d two in
       list_any_at (is_another_value (get_or xs i d)) xs at.place d at.within
-      (another-from xs i at.place d additions within at.within at.other (sym (entity_alike (get_or xs i d) (get_or xs at.place d)) ∙ at.passes))
+      (another-from xs i at.place d additions within at.within at.other
+      (sym (entity_alike (get_or xs i d) (get_or xs at.place d)) ∙ at.passes))
 
   itself : (x : Triple) → is_another_value x x ≡ true → ⊥
   itself x is =
@@ -107,15 +117,20 @@ module _ (xs : List Triple) (additions : AreAdditions xs) (i : ℕ) (d : Triple)
   pub crowded : is_beside are_of_one_entity xs i d ≡ list_any (is_another_value (get_or xs i d)) xs
   crowded =
       alike_tests ∙ beside-kept entity_cmp entity_cmp_total xs (entities_sorted xs additions.rising) i d within
-      ∙ same_tests _ _ (λ two. to_another (leb-true 2 (length (filter kind xs)) two)) (λ some. le-leb 2 (length (filter kind xs)) (from_another some))
+      ∙ same_tests _ _ (λ two. to_another (leb-true 2 (length (filter kind xs)) two))
+      (λ some. le-leb 2 (length (filter kind xs)) (from_another some))
 
   -- by the neighbours
-  pub conflicts-beside : (facts : List Datom) → (is_withdrawn (get_or xs i d) || (is_beside are_of_one_entity xs i d && is_one facts (get_or xs i d).a)) ≡ conflicts facts xs (get_or xs i d)
+  pub conflicts-beside : (facts : List Datom)
+      → (is_withdrawn (get_or xs i d) || (is_beside are_of_one_entity xs i d && is_one facts (get_or xs i d).a))
+      ≡ conflicts facts xs (get_or xs i d)
   conflicts-beside facts =
       let x = get_or xs i d in
-      rw crowded (turned (is_addition x) (is_withdrawn x) (list_any (is_another_value x) xs) (is_one facts x.a) (all-at is_addition xs i d additions.added within))
+      rw crowded (turned (is_addition x) (is_withdrawn x) (list_any (is_another_value x) xs) (is_one facts x.a)
+      (all-at is_addition xs i d additions.added within))
     where
-      turned : (added withdrawn another one : Bool) → added ≡ true → (withdrawn || (another && one)) ≡ (added && ((one && another) || withdrawn))
+      turned : (added withdrawn another one : Bool) → added ≡ true
+          → (withdrawn || (another && one)) ≡ (added && ((one && another) || withdrawn))
       turned true true true true is = refl
       turned true true true false is = refl
       turned true true false true is = refl
@@ -148,33 +163,41 @@ module _ (refs : List (Bor Triple)) (i : ℕ) (ref : Bor Triple) (d : Triple) (w
   behind_length = subst (λ n. i < n) (sym (length-behind refs)) within
 
   module _ (facts : List Datom) (additions : AreAdditions (behind refs)) where
-    by_parts : (withdrawn beside one : Bool) → withdrawn ≡ is_withdrawn ref.now → beside ≡ is_beside are_of_one_entity (behind refs) i d → one ≡ is_one facts ref.now.a
+    by_parts : (withdrawn beside one : Bool) → withdrawn ≡ is_withdrawn ref.now → beside ≡ is_beside are_of_one_entity (behind refs) i d
+        → one ≡ is_one facts ref.now.a
         → (withdrawn || (beside && one)) ≡ conflicts facts (behind refs) (get_or (behind refs) i d)
     by_parts withdrawn beside one w b o =
-        ap (λ x. x || (beside && one)) (w ∙ ap is_withdrawn (sym behind-at)) ∙ ap (λ x. is_withdrawn (get_or (behind refs) i d) || (x && one)) b
-        ∙ ap (λ x. is_withdrawn (get_or (behind refs) i d) || (is_beside are_of_one_entity (behind refs) i d && x)) (o ∙ ap (λ (t : Triple). is_one facts t.a) (sym behind-at))
+        ap (λ x. x || (beside && one)) (w ∙ ap is_withdrawn (sym behind-at))
+        ∙ ap (λ x. is_withdrawn (get_or (behind refs) i d) || (x && one)) b
+        ∙ ap (λ x. is_withdrawn (get_or (behind refs) i d) || (is_beside are_of_one_entity (behind refs) i d && x))
+        (o ∙ ap (λ (t : Triple). is_one facts t.a) (sym behind-at))
         ∙ conflicts-beside (behind refs) additions i d behind_length facts
 
     pub withdrawn-conflicts : true ≡ is_withdrawn ref.now → true ≡ conflicts facts (behind refs) (get_or (behind refs) i d)
     withdrawn-conflicts w = by_parts true (is_beside are_of_one_entity (behind refs) i d) (is_one facts ref.now.a) w refl refl
 
-    pub crowded-conflicts : (one : Bool) → false ≡ is_withdrawn ref.now → true ≡ is_beside are_of_one_entity (behind refs) i d → one ≡ is_one facts ref.now.a → one ≡ conflicts facts (behind refs) (get_or (behind refs) i d)
+    pub crowded-conflicts : (one : Bool) → false ≡ is_withdrawn ref.now → true ≡ is_beside are_of_one_entity (behind refs) i d
+        → one ≡ is_one facts ref.now.a → one ≡ conflicts facts (behind refs) (get_or (behind refs) i d)
     crowded-conflicts one w b o = by_parts false true one w b o
 
-    pub alone-conflicts : false ≡ is_withdrawn ref.now → false ≡ is_beside are_of_one_entity (behind refs) i d → false ≡ conflicts facts (behind refs) (get_or (behind refs) i d)
+    pub alone-conflicts : false ≡ is_withdrawn ref.now → false ≡ is_beside are_of_one_entity (behind refs) i d
+        → false ≡ conflicts facts (behind refs) (get_or (behind refs) i d)
     alone-conflicts w b = by_parts false false (is_one facts ref.now.a) w b refl
 
 -- ---- of all triples the additions alone
 
-pub any-filter : (p q : Triple → Bool) → ((t : Triple) → q t ≡ false → p t ≡ false) → (ts : List Triple) → list_any p (filter q ts) ≡ list_any p ts
+pub any-filter : (p q : Triple → Bool)
+    → ((t : Triple) → q t ≡ false → p t ≡ false) → (ts : List Triple) → list_any p (filter q ts) ≡ list_any p ts
 any-filter p q fails [] = refl
 any-filter p q fails (t ∷ ts) = go (q t) refl (any-filter p q fails ts)
   where
-    go : (b : Bool) → q t ≡ b → list_any p (filter q ts) ≡ list_any p ts → list_any p (cond b (t ∷ filter q ts) (filter q ts)) ≡ (p t || list_any p ts)
+    go : (b : Bool) → q t ≡ b → list_any p (filter q ts) ≡ list_any p ts
+        → list_any p (cond b (t ∷ filter q ts) (filter q ts)) ≡ (p t || list_any p ts)
     go true is rest = ap (λ b. p t || b) rest
     go false is rest = rest ∙ ap (λ b. b || list_any p ts) (sym (fails t is))
 
-pub first_conflict-additions : (facts : List Datom) (ts : List Triple) → first_conflict facts (filter is_addition ts) ≡ first_conflict facts ts
+pub first_conflict-additions : (facts : List Datom) (ts : List Triple)
+    → first_conflict facts (filter is_addition ts) ≡ first_conflict facts ts
 first_conflict-additions facts ts =
     first_where-same (conflicts facts (filter is_addition ts)) (conflicts facts ts) asked_at same (filter is_addition ts)
     ∙ first_where-filter (conflicts facts ts) is_addition asked_at (λ t none. and_left (is_addition t) _ none) ts

@@ -6,12 +6,14 @@ use denote.Ref.{Bor}
 use Rattle.tx_asks.specs.declared.triples.Triple.{Triple}
 use Rattle.tx_rules.specs.Neighbours.{behind}
 
-module _ (test : Triple → Bool) (xs : List Triple) (i : ℕ) (x : Triple) (inside : i < length xs) (is : x ≡ get_or xs i x) (old new : List (Bor Triple)) (whole : List Triple)
+module _ (test : Triple → Bool) (xs : List Triple) (i : ℕ) (x : Triple) (inside : i < length xs) (is : x ≡ get_or xs i x)
+    (old new : List (Bor Triple)) (whole : List Triple)
     (so_far : behind old ++ filter test (drop i xs) ≡ whole) where
   here : filter test (drop i xs) ≡ filter test (x ∷ drop (i + 1) xs)
   here = at_drop_more (filter test) xs i x inside ∙ ap (λ y. filter test (y ∷ drop (i + 1) xs)) (sym is)
 
-  pub one_kept : (ref : Bor Triple) → ref.now ≡ x → test x ≡ true → new ≡ old ++ ref ∷ [] → behind new ++ filter test (drop (i + 1) xs) ≡ whole
+  pub one_kept : (ref : Bor Triple) → ref.now ≡ x → test x ≡ true → new ≡ old ++ ref ∷ []
+      → behind new ++ filter test (drop (i + 1) xs) ≡ whole
   one_kept ref to passes more =
       let rest = filter test (drop (i + 1) xs) in
       let found : filter test (drop i xs) ≡ x ∷ rest = here ∙ rw passes in

@@ -1,5 +1,6 @@
 -- Members of lists of any kind.
-use Rattle.std.proofs.Common.{◌≡◌, ℕ, zero, suc, ◌<◌, Bool, true, false, List, [], ◌∷◌, length, map, refl, ap, sym, subst, arith, inl, inr, ◌⊎◌, Option, Some, None}
+use Rattle.std.proofs.Common.{◌≡◌, ℕ, zero, suc, ◌<◌, Bool, true, false, List, [], ◌∷◌, length, map, refl, ap, sym, subst, arith, inl, inr}
+use Rattle.std.proofs.Common.{◌⊎◌, Option, Some, None}
 use Rattle.std.specs.Prelude.{flat_map, Contains, slice_index_or, option_to_list}
 use Rattle.std.specs.List.{list_any}
 use Rattle.std.proofs.lemmas.Bool.{true≢false, or_cases, or_parts, or_left, or_right}
@@ -32,7 +33,10 @@ module _ {A : Type 0} where
   pub any_member : (p : A → Bool) (xs : List A) (x : A) → Contains xs x → p x ≡ true → list_any p xs ≡ true
   any_member p [] x member pass = absurd (not_in_none x member)
   any_member p (y ∷ xs) x member pass =
-      elim (which y x xs member) [ inl is ↦ or_left _ _ (subst (λ z. p z ≡ true) (sym is) pass) | inr later ↦ or_right _ _ (any_member p xs x later pass) ]
+      elim (which y x xs member) [
+        | inl is ↦ or_left _ _ (subst (λ z. p z ≡ true) (sym is) pass)
+        | inr later ↦ or_right _ _ (any_member p xs x later pass)
+      ]
 
   pub none_passes : (p : A → Bool) (xs : List A) (x : A) → list_any p xs ≡ false → Contains xs x → p x ≡ false
   none_passes p [] x none member = absurd (not_in_none x member)
@@ -49,8 +53,13 @@ module _ {A : Type 0} where
   pub some_member : (p : A → Bool) (xs : List A) → list_any p xs ≡ true → IsSome p xs
   some_member p [] some = absurd (true≢false (sym some))
   some_member p (x ∷ xs) some =
-      let next : list_any p xs ≡ true → IsSome p (x ∷ xs) = λ more. let rest = some_member p xs more in record { member = rest.member; among = later_of x rest.member xs rest.among; passes = rest.passes } in
-      elim (or_cases (p x) (list_any p xs) some) [ inl now ↦ record { member = x; among = first_of x xs; passes = now } | inr more ↦ next more ]
+      let next : list_any p xs ≡ true → IsSome p (x ∷ xs) =
+      λ more. let rest = some_member p xs more in
+      record { member = rest.member; among = later_of x rest.member xs rest.among; passes = rest.passes } in
+      elim (or_cases (p x) (list_any p xs) some) [
+        | inl now ↦ record { member = x; among = first_of x xs; passes = now }
+        | inr more ↦ next more
+      ]
 
 module _ {A B : Type 0} where
   -- where a member of what a list makes comes from
@@ -62,8 +71,13 @@ module _ {A B : Type 0} where
   pub comes_from : (g : A → List B) (xs : List A) (y : B) → Contains (flat_map g xs) y → ComesFrom g xs y
   comes_from g [] y member = absurd (not_in_none y member)
   comes_from g (x ∷ xs) y member =
-      let next : Contains (flat_map g xs) y → ComesFrom g (x ∷ xs) y = λ later. let from = comes_from g xs y later in record { source = from.source; among = later_of x from.source xs from.among; made = from.made } in
-      elim (Contains-append_cases (g x) (flat_map g xs) y member) [ inl now ↦ record { source = x; among = first_of x xs; made = now } | inr later ↦ next later ]
+      let next : Contains (flat_map g xs) y → ComesFrom g (x ∷ xs) y =
+      λ later. let from = comes_from g xs y later in
+      record { source = from.source; among = later_of x from.source xs from.among; made = from.made } in
+      elim (Contains-append_cases (g x) (flat_map g xs) y member) [
+        | inl now ↦ record { source = x; among = first_of x xs; made = now }
+        | inr later ↦ next later
+      ]
 
   pub goes_into : (g : A → List B) (xs : List A) (x : A) (y : B) → Contains xs x → Contains (g x) y → Contains (flat_map g xs) y
   goes_into g [] x y among made = absurd (not_in_none x among)
@@ -81,8 +95,13 @@ module _ {A B : Type 0} where
   pub image_of : (f : A → B) (xs : List A) (y : B) → Contains (map f xs) y → IsImage f xs y
   image_of f [] y member = absurd (not_in_none y member)
   image_of f (x ∷ xs) y member =
-      let next : Contains (map f xs) y → IsImage f (x ∷ xs) y = λ later. let is = image_of f xs y later in record { original = is.original; among = later_of x is.original xs is.among; image_is = is.image_is } in
-      elim (which (f x) y (map f xs) member) [ inl now ↦ record { original = x; among = first_of x xs; image_is = now } | inr later ↦ next later ]
+      let next : Contains (map f xs) y → IsImage f (x ∷ xs) y =
+      λ later. let is = image_of f xs y later in
+      record { original = is.original; among = later_of x is.original xs is.among; image_is = is.image_is } in
+      elim (which (f x) y (map f xs) member) [
+        | inl now ↦ record { original = x; among = first_of x xs; image_is = now }
+        | inr later ↦ next later
+      ]
 
   pub map-length : (f : A → B) (xs : List A) → length (map f xs) ≡ length xs
   map-length f [] = refl

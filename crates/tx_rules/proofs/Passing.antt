@@ -23,7 +23,8 @@ module _ {X : Type 0} (p : X → Bool) where
       go true some = omega (arith, some)
       go false some = some
 
-  pub two_kept : (xs : List X) (i j : ℕ) (d : X) → i < j → j < length xs → p (get_or xs i d) ≡ true → p (get_or xs j d) ≡ true → 2 ≤ length (filter p xs)
+  pub two_kept : (xs : List X) (i j : ℕ) (d : X) → i < j → j < length xs → p (get_or xs i d) ≡ true → p (get_or xs j d) ≡ true
+      → 2 ≤ length (filter p xs)
   two_kept [] i j d below within first second = absurd (omega (arith, within))
   two_kept (x ∷ xs) i zero d below within first second = absurd (omega (arith, below))
   two_kept (x ∷ xs) zero (suc j) d below within first second = go (p x) first (some_kept xs j d (omega (arith, within)) second)
@@ -31,7 +32,8 @@ module _ {X : Type 0} (p : X → Bool) where
       go : (b : Bool) → b ≡ true → 1 ≤ length (filter p xs) → 2 ≤ length (cond b (x ∷ filter p xs) (filter p xs))
       go true is some = omega (arith, some)
       go false is some = absurd (true≢false (sym is))
-  two_kept (x ∷ xs) (suc i) (suc j) d below within first second = go (p x) (two_kept xs i j d (omega (arith, below)) (omega (arith, within)) first second)
+  two_kept (x ∷ xs) (suc i) (suc j) d below within first second =
+      go (p x) (two_kept xs i j d (omega (arith, below)) (omega (arith, within)) first second)
     where
       go : (b : Bool) → 2 ≤ length (filter p xs) → 2 ≤ length (cond b (x ∷ filter p xs) (filter p xs))
       go true some = omega (arith, some)
@@ -44,7 +46,8 @@ module _ {X : Type 0} (p : X → Bool) where
       later : PassesAt xs d → PassesAt (x ∷ xs) d
       later at = record { place = suc at.place; within = omega (arith, at.within); passes = at.passes }
 
-      go : (b : Bool) → p x ≡ b → (1 ≤ length (filter p xs) → PassesAt xs d) → 1 ≤ length (cond b (x ∷ filter p xs) (filter p xs)) → PassesAt (x ∷ xs) d
+      go : (b : Bool) → p x ≡ b → (1 ≤ length (filter p xs) → PassesAt xs d) → 1 ≤ length (cond b (x ∷ filter p xs) (filter p xs))
+          → PassesAt (x ∷ xs) d
       go true is next some = record { place = 0; within = omega arith; passes = is }
       go false is next some = later (next some)
 
@@ -68,8 +71,10 @@ module _ {X : Type 0} (p : X → Bool) where
   another_passes (x ∷ xs) (suc i) d two = go (p x) refl (another_passes xs i d) two
     where
       later : PassesBeside xs i d → PassesBeside (x ∷ xs) (suc i) d
-      later at = record { place = suc at.place; within = omega (arith, at.within); other = λ is. at.other (omega (arith, is)); passes = at.passes }
+      later at =
+          record { place = suc at.place; within = omega (arith, at.within); other = λ is. at.other (omega (arith, is)); passes = at.passes }
 
-      go : (b : Bool) → p x ≡ b → (2 ≤ length (filter p xs) → PassesBeside xs i d) → 2 ≤ length (cond b (x ∷ filter p xs) (filter p xs)) → PassesBeside (x ∷ xs) (suc i) d
+      go : (b : Bool) → p x ≡ b → (2 ≤ length (filter p xs) → PassesBeside xs i d) → 2 ≤ length (cond b (x ∷ filter p xs) (filter p xs))
+          → PassesBeside (x ∷ xs) (suc i) d
       go true is next two = record { place = 0; within = omega arith; other = λ same. omega (arith, same); passes = is }
       go false is next two = later (next two)

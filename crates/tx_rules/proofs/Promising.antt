@@ -1,5 +1,6 @@
 -- What an attribute promises of all its facts, part by part.
-use Rattle.std.proofs.Common.{◌≡◌, ℕ, Bool, true, false, not, ◌&&◌, ◌||◌, eqb, leb, cond, List, [], ◌∷◌, length, refl, ap, sym, ◌∙◌, Result, Ok, Err}
+use Rattle.std.proofs.Common.{◌≡◌, ℕ, Bool, true, false, not, ◌&&◌, ◌||◌, eqb, leb, cond, List, [], ◌∷◌, length, refl, ap, sym, ◌∙◌, Result}
+use Rattle.std.proofs.Common.{Ok, Err}
 use Rattle.std.specs.Prelude.{IfOk}
 use Rattle.std.specs.List.{list_all, list_any}
 use Rattle.std.specs.Ordering.{is_lt, ordering_reverse}
@@ -20,8 +21,10 @@ use Rattle.tx_after.specs.Promises.{gives_one_value, gives_one_holder}
 
 module _ (facts : List Datom) (a : ℕ) where
   parts : (one unique : Bool) (ds : List Datom) →
-      list_all (λ d. not (eqb d.a a) || ((not one || leb (length (values_of facts d.e a)) 1) && (not unique || has_no_other_holder facts d))) ds
-      ≡ ((not one || list_all (λ d. not (eqb d.a a) || leb (length (values_of facts d.e d.a)) 1) ds) && (not unique || list_all (λ d. not (eqb d.a a) || has_no_other_holder facts d) ds))
+      list_all
+      (λ d. not (eqb d.a a) || ((not one || leb (length (values_of facts d.e a)) 1) && (not unique || has_no_other_holder facts d))) ds
+      ≡ ((not one || list_all (λ d. not (eqb d.a a) || leb (length (values_of facts d.e d.a)) 1) ds)
+      && (not unique || list_all (λ d. not (eqb d.a a) || has_no_other_holder facts d) ds))
   parts one unique [] = all one unique
     where
       all : (one unique : Bool) → true ≡ ((not one || true) && (not unique || true))
@@ -31,7 +34,9 @@ module _ (facts : List Datom) (a : ℕ) where
       all false false = refl
   parts one unique (d ∷ ds) = go (eqb d.a a) refl (parts one unique ds)
     where
-      mixed : (one unique x y v h : Bool) → (((not one || x) && (not unique || y)) && ((not one || v) && (not unique || h))) ≡ ((not one || (x && v)) && (not unique || (y && h)))
+      mixed : (one unique x y v h : Bool)
+          → (((not one || x) && (not unique || y)) && ((not one || v) && (not unique || h)))
+          ≡ ((not one || (x && v)) && (not unique || (y && h)))
       mixed true true true true v h = refl
       mixed true true true false true h = refl
       mixed true true true false false h = refl
@@ -43,19 +48,29 @@ module _ (facts : List Datom) (a : ℕ) where
       mixed false false x y v h = refl
 
       go : (b : Bool) → eqb d.a a ≡ b
-          → list_all (λ d. not (eqb d.a a) || ((not one || leb (length (values_of facts d.e a)) 1) && (not unique || has_no_other_holder facts d))) ds
-          ≡ ((not one || list_all (λ d. not (eqb d.a a) || leb (length (values_of facts d.e d.a)) 1) ds) && (not unique || list_all (λ d. not (eqb d.a a) || has_no_other_holder facts d) ds))
+          → list_all
+          (λ d. not (eqb d.a a) || ((not one || leb (length (values_of facts d.e a)) 1) && (not unique || has_no_other_holder facts d))) ds
+          ≡ ((not one || list_all (λ d. not (eqb d.a a) || leb (length (values_of facts d.e d.a)) 1) ds)
+          && (not unique || list_all (λ d. not (eqb d.a a) || has_no_other_holder facts d) ds))
           → ((not b || ((not one || leb (length (values_of facts d.e a)) 1) && (not unique || has_no_other_holder facts d)))
-          && list_all (λ d. not (eqb d.a a) || ((not one || leb (length (values_of facts d.e a)) 1) && (not unique || has_no_other_holder facts d))) ds)
-          ≡ ((not one || ((not b || leb (length (values_of facts d.e d.a)) 1) && list_all (λ d. not (eqb d.a a) || leb (length (values_of facts d.e d.a)) 1) ds))
+          && list_all
+          (λ d. not (eqb d.a a) || ((not one || leb (length (values_of facts d.e a)) 1) && (not unique || has_no_other_holder facts d))) ds)
+          ≡ ((not one || ((not b || leb (length (values_of facts d.e d.a)) 1)
+          && list_all (λ d. not (eqb d.a a) || leb (length (values_of facts d.e d.a)) 1) ds))
           && (not unique || ((not b || has_no_other_holder facts d) && list_all (λ d. not (eqb d.a a) || has_no_other_holder facts d) ds)))
       go false is rest = rest
       go true is rest =
           ap (λ r. ((not one || leb (length (values_of facts d.e a)) 1) && (not unique || has_no_other_holder facts d)) && r) rest
-          ∙ mixed one unique (leb (length (values_of facts d.e a)) 1) (has_no_other_holder facts d) (list_all (λ d. not (eqb d.a a) || leb (length (values_of facts d.e d.a)) 1) ds) (list_all (λ d. not (eqb d.a a) || has_no_other_holder facts d) ds)
-          ∙ ap (λ n. (not one || (leb (length (values_of facts d.e n)) 1 && list_all (λ d. not (eqb d.a a) || leb (length (values_of facts d.e d.a)) 1) ds)) && (not unique || (has_no_other_holder facts d && list_all (λ d. not (eqb d.a a) || has_no_other_holder facts d) ds))) (sym (eqb-true d.a a is))
+          ∙ mixed one unique (leb (length (values_of facts d.e a)) 1)
+          (has_no_other_holder facts d) (list_all (λ d. not (eqb d.a a) || leb (length (values_of facts d.e d.a)) 1) ds)
+          (list_all (λ d. not (eqb d.a a) || has_no_other_holder facts d) ds)
+          ∙ ap (λ n. (not one
+          || (leb (length (values_of facts d.e n)) 1 && list_all (λ d. not (eqb d.a a) || leb (length (values_of facts d.e d.a)) 1) ds))
+          && (not unique || (has_no_other_holder facts d && list_all (λ d. not (eqb d.a a) || has_no_other_holder facts d) ds)))
+          (sym (eqb-true d.a a is))
 
-  pub promise-parts : keeps_its_promise facts a ≡ ((not (is_one facts a) || gives_one_value facts a) && (not (is_unique facts a) || gives_one_holder facts a))
+  pub promise-parts : keeps_its_promise facts a
+      ≡ ((not (is_one facts a) || gives_one_value facts a) && (not (is_unique facts a) || gives_one_holder facts a))
   promise-parts = parts (is_one facts a) (is_unique facts a) facts
 
 -- ---- a test of the facts in order
@@ -77,14 +92,19 @@ module _ (p : Datom → Bool) (blind : (x y : Datom) → x.e ≡ y.e → x.a ≡
       twice false true c is = absurd (true≢false (sym is))
       twice false false c is = refl
 
-      go : (b c : Bool) → is_lt (key_cmp Eavt d x) ≡ b → is_lt (key_cmp Eavt x d) ≡ c → list_any p (put_in_order Eavt d ds) ≡ (p d || list_any p ds)
+      go : (b c : Bool) → is_lt (key_cmp Eavt d x) ≡ b → is_lt (key_cmp Eavt x d) ≡ c
+          → list_any p (put_in_order Eavt d ds) ≡ (p d || list_any p ds)
           → list_any p (cond b (d ∷ x ∷ ds) (cond c (x ∷ put_in_order Eavt d ds) (x ∷ ds))) ≡ (p d || (p x || list_any p ds))
       go true c b_is c_is rest = refl
       go false true b_is c_is rest = ap (λ r. p x || r) rest ∙ swapped (p x) (p d) (list_any p ds)
-      go false false b_is c_is rest = twice (p x) (p d) (list_any p ds) (let at = key_cmp-Equal Eavt d x (neither d x b_is c_is) in blind x d (sym at.e) (sym at.a) (sym at.v))
+      go false false b_is c_is rest =
+          twice (p x) (p d) (list_any p ds)
+          (let at = key_cmp-Equal Eavt d x (neither d x b_is c_is) in blind x d (sym at.e) (sym at.a) (sym at.v))
         where
           neither : (d x : Datom) → is_lt (key_cmp Eavt d x) ≡ false → is_lt (key_cmp Eavt x d) ≡ false → key_cmp Eavt d x ≡ Equal
-          neither d x b_is c_is = by_answer (key_cmp Eavt d x) b_is (sym (ap is_lt ((lists_total value_cmp_total).antisymm (key_of Eavt x) (key_of Eavt d))) ∙ c_is)
+          neither d x b_is c_is =
+              by_answer (key_cmp Eavt d x) b_is
+              (sym (ap is_lt ((lists_total value_cmp_total).antisymm (key_of Eavt x) (key_of Eavt d))) ∙ c_is)
             where
               by_answer : (r : Ordering) → is_lt r ≡ false → is_lt (ordering_reverse r) ≡ false → r ≡ Equal
               by_answer Less b c = absurd (true≢false b)

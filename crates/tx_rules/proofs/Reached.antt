@@ -1,5 +1,6 @@
 -- Places by how far one has to go to reach them: two places that are reached alike are one.
-use Rattle.std.proofs.Common.{◌≡◌, ℕ, suc, ◌+◌, ◌<◌, min, Bool, true, false, cond, ◌&&◌, ◌||◌, leb, List, [], ◌∷◌, map, length, get_or, refl, ap, sym, ◌∙◌, arith, add-zero, Option, Some, None}
+use Rattle.std.proofs.Common.{◌≡◌, ℕ, suc, ◌+◌, ◌<◌, min, Bool, true, false, cond, ◌&&◌, ◌||◌, leb, List, [], ◌∷◌, map, length, get_or}
+use Rattle.std.proofs.Common.{refl, ap, sym, ◌∙◌, arith, add-zero, Option, Some, None}
 use Rattle.std.specs.Prelude.{Contains}
 use Rattle.std.specs.List.{list_any}
 use Rattle.std.proofs.lemmas.Bool.{true≢false, leb-true, le-leb, lt-leb}
@@ -58,7 +59,8 @@ reaches-first_yes n m (true ∷ bs) = go (leb m n) refl
     go false is = sym (none_above n (m + 1) bs (grind (arith, nat_tests)))
 reaches-first_yes n m (false ∷ bs) = go (leb m n) (reaches-first_yes n (m + 1) bs)
   where
-    go : (b : Bool) → reaches n (first_yes (m + 1) bs) ≡ yes_upto n (m + 1) bs → reaches n (first_yes (m + 1) bs) ≡ ((b && false) || yes_upto n (m + 1) bs)
+    go : (b : Bool) → reaches n (first_yes (m + 1) bs) ≡ yes_upto n (m + 1) bs
+        → reaches n (first_yes (m + 1) bs) ≡ ((b && false) || yes_upto n (m + 1) bs)
     go true rest = rest
     go false rest = rest
 
@@ -71,25 +73,31 @@ or_swapped true false false x y = refl
 
 module _ {A : Type 0} where
   -- of two tests the earlier place
-  pub first_yes-or : (p q : ℕ → Bool) (m : ℕ) (xs : List A) → first_yes m (tests_from (λ k. p k || q k) m xs) ≡ earlier (first_yes m (tests_from p m xs)) (first_yes m (tests_from q m xs))
+  pub first_yes-or : (p q : ℕ → Bool) (m : ℕ) (xs : List A)
+      → first_yes m (tests_from (λ k. p k || q k) m xs) ≡ earlier (first_yes m (tests_from p m xs)) (first_yes m (tests_from q m xs))
   first_yes-or p q m xs = same_places _ _ (λ n.
       reaches-first_yes n m (tests_from (λ k. p k || q k) m xs) ∙ upto n m xs
       ∙ ap (λ b. b || yes_upto n m (tests_from q m xs)) (sym (reaches-first_yes n m (tests_from p m xs)))
       ∙ ap (λ b. reaches n (first_yes m (tests_from p m xs)) || b) (sym (reaches-first_yes n m (tests_from q m xs)))
       ∙ sym (reaches-earlier n (first_yes m (tests_from p m xs)) (first_yes m (tests_from q m xs))))
     where
-      upto : (n m : ℕ) (xs : List A) → yes_upto n m (tests_from (λ k. p k || q k) m xs) ≡ (yes_upto n m (tests_from p m xs) || yes_upto n m (tests_from q m xs))
+      upto : (n m : ℕ) (xs : List A)
+          → yes_upto n m (tests_from (λ k. p k || q k) m xs) ≡ (yes_upto n m (tests_from p m xs) || yes_upto n m (tests_from q m xs))
       upto n m [] = refl
-      upto n m (x ∷ xs) = ap (λ b. (leb m n && (p m || q m)) || b) (upto n (m + 1) xs) ∙ or_swapped (leb m n) (p m) (q m) (yes_upto n (m + 1) (tests_from p (m + 1) xs)) (yes_upto n (m + 1) (tests_from q (m + 1) xs))
+      upto n m (x ∷ xs) =
+          ap (λ b. (leb m n && (p m || q m)) || b) (upto n (m + 1) xs)
+          ∙ or_swapped (leb m n) (p m) (q m) (yes_upto n (m + 1) (tests_from p (m + 1) xs)) (yes_upto n (m + 1) (tests_from q (m + 1) xs))
 
   module _ {B : Type 0} where
     -- tests of the members of another list as long
-    pub tests-map : (p : ℕ → Bool) (g : B → Bool) (d : B) (m : ℕ) (xs : List A) (ys : List B) → length xs ≡ length ys → ((k : ℕ) → k < length ys → p (m + k) ≡ g (get_or ys k d)) → tests_from p m xs ≡ map g ys
+    pub tests-map : (p : ℕ → Bool) (g : B → Bool) (d : B) (m : ℕ) (xs : List A) (ys : List B) → length xs ≡ length ys
+        → ((k : ℕ) → k < length ys → p (m + k) ≡ g (get_or ys k d)) → tests_from p m xs ≡ map g ys
     tests-map p g d m [] [] long same = refl
     tests-map p g d m [] (y ∷ ys) long same = absurd (omega (arith, long))
     tests-map p g d m (x ∷ xs) [] long same = absurd (omega (arith, long))
     tests-map p g d m (x ∷ xs) (y ∷ ys) long same =
-        let rest : tests_from p (m + 1) xs ≡ map g ys = tests-map p g d (m + 1) xs ys (omega (arith, long)) (λ k within. ap p (shifted k) ∙ same (suc k) (omega (arith, within))) in
+        let rest : tests_from p (m + 1) xs ≡ map g ys =
+        tests-map p g d (m + 1) xs ys (omega (arith, long)) (λ k within. ap p (shifted k) ∙ same (suc k) (omega (arith, within))) in
         let first : p m ≡ g y = ap p (sym (add-zero m)) ∙ same 0 (omega arith) in
         rw (first, rest) refl
       where
@@ -120,7 +128,8 @@ reaches-cond : (n : ℕ) (b : Bool) (place : Option ℕ) → reaches n (cond b p
 reaches-cond n true place = refl
 reaches-cond n false place = refl
 
-pub reaches-first_where : (n : ℕ) (p : Triple → Bool) (place : Triple → Option ℕ) (ts : List Triple) → reaches n (first_where p place ts) ≡ list_any (λ t. p t && reaches n (place t)) ts
+pub reaches-first_where : (n : ℕ) (p : Triple → Bool) (place : Triple → Option ℕ) (ts : List Triple)
+    → reaches n (first_where p place ts) ≡ list_any (λ t. p t && reaches n (place t)) ts
 reaches-first_where n p place [] = refl
 reaches-first_where n p place (t ∷ ts) =
     reaches-earlier n (cond (p t) (place t) None) (first_where p place ts)
@@ -136,9 +145,11 @@ first_where-join p q r f g h ts same = same_places _ _ (λ n. reaches-earlier n 
     ∙ ap (λ b. list_any (λ t. p t && reaches n (f t)) ts || b) (reaches-first_where n q g ts)
     ∙ members n ts same ∙ sym (reaches-first_where n r h ts))
   where
-    one : (n : ℕ) (t : Triple) → earlier (cond (p t) (f t) None) (cond (q t) (g t) None) ≡ cond (r t) (h t) None → ((p t && reaches n (f t)) || (q t && reaches n (g t))) ≡ (r t && reaches n (h t))
+    one : (n : ℕ) (t : Triple) → earlier (cond (p t) (f t) None) (cond (q t) (g t) None) ≡ cond (r t) (h t) None
+        → ((p t && reaches n (f t)) || (q t && reaches n (g t))) ≡ (r t && reaches n (h t))
     one n t is =
-        ap (λ b. b || (q t && reaches n (g t))) (sym (reaches-cond n (p t) (f t))) ∙ ap (λ b. reaches n (cond (p t) (f t) None) || b) (sym (reaches-cond n (q t) (g t)))
+        ap (λ b. b || (q t && reaches n (g t))) (sym (reaches-cond n (p t) (f t)))
+        ∙ ap (λ b. reaches n (cond (p t) (f t) None) || b) (sym (reaches-cond n (q t) (g t)))
         ∙ sym (reaches-earlier n (cond (p t) (f t) None) (cond (q t) (g t) None)) ∙ ap (reaches n) is ∙ reaches-cond n (r t) (h t)
 
     mixed : (a b x y z w : Bool) → (a || b) ≡ z → (x || y) ≡ w → ((a || x) || (b || y)) ≡ (z || w)
@@ -151,27 +162,35 @@ first_where-join p q r f g h ts same = same_places _ _ (λ n. reaches-earlier n 
         absorbed x y false is = absurd (true≢false is)
     mixed false false x y z w first rest = rest ∙ ap (λ c. c || w) first
 
-    members : (n : ℕ) (ts : List Triple) → ((t : Triple) → Contains ts t → earlier (cond (p t) (f t) None) (cond (q t) (g t) None) ≡ cond (r t) (h t) None)
-        → (list_any (λ t. p t && reaches n (f t)) ts || list_any (λ t. q t && reaches n (g t)) ts) ≡ list_any (λ t. r t && reaches n (h t)) ts
+    members : (n : ℕ) (ts : List Triple)
+        → ((t : Triple) → Contains ts t → earlier (cond (p t) (f t) None) (cond (q t) (g t) None) ≡ cond (r t) (h t) None)
+        → (list_any (λ t. p t && reaches n (f t)) ts || list_any (λ t. q t && reaches n (g t)) ts)
+        ≡ list_any (λ t. r t && reaches n (h t)) ts
     members n [] same = refl
     members n (t ∷ ts) same =
-        mixed (p t && reaches n (f t)) (q t && reaches n (g t)) (list_any (λ t. p t && reaches n (f t)) ts) (list_any (λ t. q t && reaches n (g t)) ts) _ _
+        mixed (p t && reaches n (f t)) (q t && reaches n (g t)) (list_any (λ t. p t && reaches n (f t)) ts)
+        (list_any (λ t. q t && reaches n (g t)) ts) _ _
         (one n t (same t (first_of t ts))) (members n ts (λ x member. same x (later_of t x ts member)))
 
-pub first_where-members : (p q : Triple → Bool) (f g : Triple → Option ℕ) (ts : List Triple) → ((t : Triple) → Contains ts t → cond (p t) (f t) None ≡ cond (q t) (g t) None) → first_where p f ts ≡ first_where q g ts
+pub first_where-members : (p q : Triple → Bool) (f g : Triple → Option ℕ) (ts : List Triple)
+    → ((t : Triple) → Contains ts t → cond (p t) (f t) None ≡ cond (q t) (g t) None) → first_where p f ts ≡ first_where q g ts
 first_where-members p q f g [] same = refl
-first_where-members p q f g (t ∷ ts) same = rw (same t (first_of t ts), first_where-members p q f g ts (λ x member. same x (later_of t x ts member))) refl
+first_where-members p q f g (t ∷ ts) same =
+    rw (same t (first_of t ts), first_where-members p q f g ts (λ x member. same x (later_of t x ts member))) refl
 
 -- ---- where each list of datoms answers as triples do
 
 module _ {X : Type 0} (p : X → Bool) (q : Triple → Bool) (asks : Triple → X → Bool) (ts : List Triple) where
-  distributed : (c : Bool) (a b : Triple → Bool) (ts : List Triple) → ((c && list_any (λ t. q t && a t) ts) || list_any (λ t. q t && b t) ts) ≡ list_any (λ t. q t && ((c && a t) || b t)) ts
+  distributed : (c : Bool) (a b : Triple → Bool) (ts : List Triple)
+      → ((c && list_any (λ t. q t && a t) ts) || list_any (λ t. q t && b t) ts) ≡ list_any (λ t. q t && ((c && a t) || b t)) ts
   distributed c a b [] = nothing c
     where
       nothing : (c : Bool) → ((c && false) || false) ≡ false
       nothing true = refl
       nothing false = refl
-  distributed c a b (t ∷ ts) = mixed c (q t) (a t) (b t) (list_any (λ t. q t && a t) ts) (list_any (λ t. q t && b t) ts) ∙ ap (λ r. (q t && ((c && a t) || b t)) || r) (distributed c a b ts)
+  distributed c a b (t ∷ ts) =
+      mixed c (q t) (a t) (b t) (list_any (λ t. q t && a t) ts) (list_any (λ t. q t && b t) ts)
+      ∙ ap (λ r. (q t && ((c && a t) || b t)) || r) (distributed c a b ts)
     where
       mixed : (c q a b x y : Bool) → ((c && ((q && a) || x)) || ((q && b) || y)) ≡ ((q && ((c && a) || b)) || ((c && x) || y))
       mixed false q a b x y = refl
@@ -181,19 +200,23 @@ module _ {X : Type 0} (p : X → Bool) (q : Triple → Bool) (asks : Triple → 
       mixed true true false true false y = refl
       mixed true true false false x y = refl
 
-  pub yes_upto-triples : (n m : ℕ) (ls : List X) → ((l : X) → Contains ls l → p l ≡ list_any (λ t. q t && asks t l) ts) → yes_upto n m (map p ls) ≡ list_any (λ t. q t && yes_upto n m (map (asks t) ls)) ts
+  pub yes_upto-triples : (n m : ℕ) (ls : List X) → ((l : X) → Contains ls l → p l ≡ list_any (λ t. q t && asks t l) ts)
+      → yes_upto n m (map p ls) ≡ list_any (λ t. q t && yes_upto n m (map (asks t) ls)) ts
   yes_upto-triples n m [] agrees = sym (any_none ts q)
   yes_upto-triples n m (l ∷ ls) agrees =
       ap (λ b. (leb m n && b) || yes_upto n (m + 1) (map p ls)) (agrees l (first_of l ls))
-      ∙ ap (λ b. (leb m n && list_any (λ t. q t && asks t l) ts) || b) (yes_upto-triples n (m + 1) ls (λ x member. agrees x (later_of l x ls member)))
+      ∙ ap (λ b. (leb m n && list_any (λ t. q t && asks t l) ts) || b)
+      (yes_upto-triples n (m + 1) ls (λ x member. agrees x (later_of l x ls member)))
       ∙ distributed (leb m n) (λ t. asks t l) (λ t. yes_upto n (m + 1) (map (asks t) ls)) ts
 
-  pub first_yes-triples : (ls : List X) → ((l : X) → Contains ls l → p l ≡ list_any (λ t. q t && asks t l) ts) → first_yes 0 (map p ls) ≡ first_where q (λ t. first_yes 0 (map (asks t) ls)) ts
+  pub first_yes-triples : (ls : List X) → ((l : X) → Contains ls l → p l ≡ list_any (λ t. q t && asks t l) ts)
+      → first_yes 0 (map p ls) ≡ first_where q (λ t. first_yes 0 (map (asks t) ls)) ts
   first_yes-triples ls agrees = same_places _ _ (λ n.
       reaches-first_yes n 0 (map p ls) ∙ yes_upto-triples n 0 ls agrees
       ∙ reached n ts
       ∙ sym (reaches-first_where n q (λ t. first_yes 0 (map (asks t) ls)) ts))
     where
-      reached : (n : ℕ) (ts : List Triple) → list_any (λ t. q t && yes_upto n 0 (map (asks t) ls)) ts ≡ list_any (λ t. q t && reaches n (first_yes 0 (map (asks t) ls))) ts
+      reached : (n : ℕ) (ts : List Triple)
+          → list_any (λ t. q t && yes_upto n 0 (map (asks t) ls)) ts ≡ list_any (λ t. q t && reaches n (first_yes 0 (map (asks t) ls))) ts
       reached n [] = refl
       reached n (t ∷ ts) = rw (reaches-first_yes n 0 (map (asks t) ls), reached n ts) refl

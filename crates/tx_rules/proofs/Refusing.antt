@@ -10,11 +10,14 @@ use Rattle.fb_model.specs.History.{said}
 use Rattle.fb_model.specs.Facts.{is_of, holds, Holds, facts, standing}
 use Rattle.fb_model.specs.Schema.{attribute_of, is_one, is_unique}
 use Rattle.tx_refusals.specs.declared.reasons.Reason.{Reason}
-use Rattle.tx_refusals.specs.declared.reasons.Reason.TheVariants.{CasMany, CasFailed, DatomsConflict, UniqueConflict, IncompleteAttribute, AttributeFixed, TooLarge, Full, AlterationConflict}
+use Rattle.tx_refusals.specs.declared.reasons.Reason.TheVariants.{CasMany, CasFailed, DatomsConflict, UniqueConflict, IncompleteAttribute}
+use Rattle.tx_refusals.specs.declared.reasons.Reason.TheVariants.{AttributeFixed, TooLarge, Full, AlterationConflict}
 use Rattle.tx_model.specs.Asks.{Ask}
 use Rattle.tx_model.specs.Tempids.{Db, db_of}
 use Rattle.tx_model.specs.Transaction.{Transaction}
-use Rattle.tx_model.specs.ChangeRules.{compares_many, compares_another, breaks_cas_many, breaks_cas_failed, breaks_datoms_conflict, breaks_unique_conflict, breaks_incomplete_attribute, breaks_attribute_fixed, breaks_too_large, breaks_full, breaks_alteration_conflict}
+use Rattle.tx_model.specs.ChangeRules.{compares_many, compares_another, breaks_cas_many, breaks_cas_failed, breaks_datoms_conflict}
+use Rattle.tx_model.specs.ChangeRules.{breaks_unique_conflict, breaks_incomplete_attribute, breaks_attribute_fixed, breaks_too_large}
+use Rattle.tx_model.specs.ChangeRules.{breaks_full, breaks_alteration_conflict}
 use Rattle.tx_model.specs.Step.{by_place, by_whole, first_refusal}
 use Rattle.tx_asks.specs.declared.triples.Triple.{Triple}
 use Rattle.tx_asks.specs.Acts.{Act, act_of, is_cas_of_many, is_cas_of_another, IsSettled, AreActs}
@@ -32,10 +35,12 @@ use Rattle.tx_rules.proofs.Judging.{datoms_conflict, incomplete_attribute, attri
 use Rattle.tx_rules.proofs.Holding.{HasOneHolders, after_is, unique_conflict}
 
 -- a later rule counts where an earlier one is not broken
-unless : (rule : Reason) (place other : Option ℕ) (rest more : List (Reason × Option ℕ)) → place ≡ other → (other ≡ None → first_refusal rest ≡ first_refusal more) → first_refusal ((rule, place) ∷ rest) ≡ first_refusal ((rule, other) ∷ more)
+unless : (rule : Reason) (place other : Option ℕ) (rest more : List (Reason × Option ℕ)) → place ≡ other
+    → (other ≡ None → first_refusal rest ≡ first_refusal more) → first_refusal ((rule, place) ∷ rest) ≡ first_refusal ((rule, other) ∷ more)
 unless rule place other rest more same then_same = ap (λ p. first_refusal ((rule, p) ∷ rest)) same ∙ by_place_of other then_same
   where
-    by_place_of : (other : Option ℕ) → (other ≡ None → first_refusal rest ≡ first_refusal more) → first_refusal ((rule, other) ∷ rest) ≡ first_refusal ((rule, other) ∷ more)
+    by_place_of : (other : Option ℕ) → (other ≡ None → first_refusal rest ≡ first_refusal more)
+        → first_refusal ((rule, other) ∷ rest) ≡ first_refusal ((rule, other) ∷ more)
     by_place_of None then_same = then_same refl
     by_place_of (Some at) then_same = refl
 
@@ -47,11 +52,14 @@ pub record IsKnown (h : List Entry) (schema : List Datom) : Type 0 where
   pub one_holder : (e f a : ℕ) (v : Value) → IsTrue (is_unique (facts h) a) → Holds h e a v → Holds h f a v → e ≡ f
 
 pub record Compares (tx : Transaction) : Type 0 where
-  pub many : (ask : Ask) → IsSettled tx.db tx.names ask → compares_many tx.db ask ≡ option_map_or is_cas_of_many (act_of tx.db tx.names ask) false
-  pub another : (ask : Ask) → IsSettled tx.db tx.names ask → compares_another tx ask ≡ option_map_or (is_cas_of_another tx.db) (act_of tx.db tx.names ask) false
+  pub many : (ask : Ask) → IsSettled tx.db tx.names ask
+      → compares_many tx.db ask ≡ option_map_or is_cas_of_many (act_of tx.db tx.names ask) false
+  pub another : (ask : Ask) → IsSettled tx.db tx.names ask
+      → compares_another tx ask ≡ option_map_or (is_cas_of_another tx.db) (act_of tx.db tx.names ask) false
 
 module _ (h : List Entry) (schema : List Datom) (forms : List (List Act)) (ts : List Triple) (changes : List Datom) (tx : Transaction)
-    (db_is : tx.db ≡ db_of h) (acts : AreActs forms tx) (triples : AreTriples tx ts) (changes_are : changes ≡ tx.changes) (known : IsKnown h schema) (compares : Compares tx) where
+    (db_is : tx.db ≡ db_of h) (acts : AreActs forms tx) (triples : AreTriples tx ts) (changes_are : changes ≡ tx.changes)
+    (known : IsKnown h schema) (compares : Compares tx) where
   history_is : tx.db.history ≡ h
   history_is = ap (λ (db : Db). db.history) db_is
 
@@ -71,13 +79,16 @@ module _ (h : List Entry) (schema : List Datom) (forms : List (List Act)) (ts : 
   one_holders = subst HasOneHolders (sym history_is) (record { facts_hold = known.facts_hold; one_holder = known.one_holder })
 
   all_after : tx.after ≡ after h changes
-  all_after = after_is tx acts.built ∙ ap (λ g. standing (said g ++ tx.changes)) history_is ∙ ap (λ ds. standing (said h ++ ds)) (sym changes_are)
+  all_after =
+      after_is tx acts.built ∙ ap (λ g. standing (said g ++ tx.changes)) history_is ∙ ap (λ ds. standing (said h ++ ds)) (sym changes_are)
 
   many_same : first_of_many forms ≡ by_place tx (breaks_cas_many tx)
   many_same = sym (cas_many tx forms acts compares.many compares.another)
 
   failed_same : by_place tx (breaks_cas_many tx) ≡ None → first_failed h forms ≡ by_place tx (breaks_cas_failed tx)
-  failed_same none = ap (λ g. first_failed g forms) (sym history_is) ∙ sym (cas_failed tx forms acts compares.many compares.another one_values facts_are none)
+  failed_same none =
+      ap (λ g. first_failed g forms) (sym history_is)
+      ∙ sym (cas_failed tx forms acts compares.many compares.another one_values facts_are none)
 
   conflict_same : first_conflict schema ts ≡ by_place tx (breaks_datoms_conflict tx)
   conflict_same = sym (datoms_conflict tx ts schema acts.built triples tells)
@@ -88,7 +99,8 @@ module _ (h : List Entry) (schema : List Datom) (forms : List (List Act)) (ts : 
       ∙ sym (unique_conflict tx ts schema acts.built triples tells one_holders facts_are (conflict_same ∙ none))
 
   incomplete_same : first_incomplete schema (after h changes) ts ≡ by_place tx (breaks_incomplete_attribute tx)
-  incomplete_same = ap (λ ds. first_incomplete schema ds ts) (sym all_after) ∙ sym (incomplete_attribute tx ts schema acts.built triples tells)
+  incomplete_same =
+      ap (λ ds. first_incomplete schema ds ts) (sym all_after) ∙ sym (incomplete_attribute tx ts schema acts.built triples tells)
 
   fixed_same : first_fixed schema ts ≡ by_place tx (breaks_attribute_fixed tx)
   fixed_same = sym (attribute_fixed tx ts schema acts.built triples tells)

@@ -17,7 +17,8 @@ unfolding is_below
 rises-cons order x [] = refl
 rises-cons order x (y ∷ ds) = refl
 
-put-below : (order : Order) (x d : Datom) (ds : List Datom) → is_lt (key_cmp order x d) ≡ true → is_below order x ds ≡ true → is_below order x (put_in_order order d ds) ≡ true
+put-below : (order : Order) (x d : Datom) (ds : List Datom) → is_lt (key_cmp order x d) ≡ true → is_below order x ds ≡ true
+    → is_below order x (put_in_order order d ds) ≡ true
 unfolding is_below
 put-below order x d [] lt below = lt
 put-below order x d (y ∷ ds) lt below = go (is_lt (key_cmp order d y)) (is_lt (key_cmp order y d))
@@ -33,7 +34,8 @@ put-rises order d (y ∷ ds) rising =
     let parts = and_parts (is_below order y ds) (rises order ds) (sym (rises-cons order y ds) ∙ rising) in
     go (is_lt (key_cmp order d y)) refl (is_lt (key_cmp order y d)) refl parts.0 (put-rises order d ds parts.1)
   where
-    go : (b : Bool) → is_lt (key_cmp order d y) ≡ b → (c : Bool) → is_lt (key_cmp order y d) ≡ c → is_below order y ds ≡ true → rises order (put_in_order order d ds) ≡ true
+    go : (b : Bool) → is_lt (key_cmp order d y) ≡ b → (c : Bool) → is_lt (key_cmp order y d) ≡ c → is_below order y ds ≡ true
+        → rises order (put_in_order order d ds) ≡ true
         → rises order (cond b (d ∷ y ∷ ds) (cond c (y ∷ put_in_order order d ds) (y ∷ ds))) ≡ true
     go true is c also below rest = and_from _ _ is rising
     go false is true also below rest = rises-cons order y (put_in_order order d ds) ∙ and_from _ _ (put-below order y d ds also below) rest

@@ -1,5 +1,6 @@
 -- Triples in order, and those of them that are neighbours.
-use Rattle.std.proofs.Common.{◌≡◌, ℕ, zero, suc, ◌+◌, ◌-◌, ◌<◌, ◌≤◌, Bool, true, false, cond, ◌&&◌, eqb, leb, List, [], ◌∷◌, length, get_or, refl, ap, sym, ◌∙◌, arith, inl, inr}
+use Rattle.std.proofs.Common.{◌≡◌, ℕ, zero, suc, ◌+◌, ◌-◌, ◌<◌, ◌≤◌, Bool, true, false, cond, ◌&&◌, eqb, leb, List, [], ◌∷◌, length, get_or}
+use Rattle.std.proofs.Common.{refl, ap, sym, ◌∙◌, arith, inl, inr}
 use Rattle.std.specs.Prelude.{filter}
 use Rattle.std.specs.List.{list_all}
 use Rattle.std.specs.List.Sorted.{IsSortedBy}
@@ -7,7 +8,8 @@ use Rattle.std.specs.Cmp.{IsTotalOrder, tied_then}
 use Rattle.std.specs.Ordering.{is_lt, is_eq, is_gt, nat_cmp, ordering_then, ordering_reverse, on, then_cmp}
 use Rattle.std.specs.declared.cmp.Ordering.{Ordering}
 use Rattle.std.specs.declared.cmp.Ordering.TheVariants.{Less, Equal, Greater}
-use Rattle.std.proofs.lemmas.Bool.{true≢false, and_parts, and_from, or_cases, or_left, or_right, le-leb, leb-true, lt-ltb, ltb-true, cases_order}
+use Rattle.std.proofs.lemmas.Bool.{true≢false, and_parts, and_from, or_cases, or_left, or_right, le-leb, leb-true, lt-ltb, ltb-true}
+use Rattle.std.proofs.lemmas.Bool.{cases_order}
 use Rattle.std.proofs.lemmas.Cmp.{nat_cmp_total, on_total, then_total, tied_itself, tied_back}
 use Rattle.std.proofs.lemmas.List.Sorted.{ranks_by, sorted_far}
 use Rattle.fb_values.specs.Orders.{value_cmp}
@@ -42,7 +44,10 @@ is_eq-nat_cmp : (m n : ℕ) → is_eq (nat_cmp m n) ≡ eqb m n
 is_eq-nat_cmp m n = grind arith
 
 pub entity_alike : (x y : Triple) → is_eq (entity_cmp x y) ≡ are_of_one_entity x y
-entity_alike x y = sym (tied_then (nat_cmp x.e y.e) (nat_cmp x.a y.a)) ∙ ap (λ b. b && is_eq (nat_cmp x.a y.a)) (is_eq-nat_cmp x.e y.e) ∙ ap (λ b. eqb x.e y.e && b) (is_eq-nat_cmp x.a y.a)
+entity_alike x y =
+    sym (tied_then (nat_cmp x.e y.e) (nat_cmp x.a y.a))
+    ∙ ap (λ b. b && is_eq (nat_cmp x.a y.a)) (is_eq-nat_cmp x.e y.e)
+    ∙ ap (λ b. eqb x.e y.e && b) (is_eq-nat_cmp x.a y.a)
 
 pub value_alike : (x y : Triple) → is_eq (value_order x y) ≡ are_of_one_value x y
 value_alike x y = sym (tied_then (nat_cmp x.a y.a) (value_cmp x.v y.v)) ∙ ap (λ b. b && value_eq x.v y.v) (is_eq-nat_cmp x.a y.a)
@@ -72,7 +77,8 @@ module _ (R : Triple → Triple → Ordering) (o : IsTotalOrder R) where
     where
       by_cases : (r s : Ordering) → R x y ≡ r → R y z ≡ s → is_gt r ≡ false → is_gt s ≡ false → r ≡ Equal
       by_cases Less Less p q h k = absurd (true≢false (ap is_lt (sym (o.trans x y z p q) ∙ ends)))
-      by_cases Less Equal p q h k = absurd (true≢false (ap is_lt (sym p ∙ o.antisymm x y ∙ ap ordering_reverse (tied_right x y z q) ∙ sym (o.antisymm x z) ∙ ends)))
+      by_cases Less Equal p q h k =
+          absurd (true≢false (ap is_lt (sym p ∙ o.antisymm x y ∙ ap ordering_reverse (tied_right x y z q) ∙ sym (o.antisymm x z) ∙ ends)))
         where
           tied_right : (x y z : Triple) → R y z ≡ Equal → R y x ≡ R z x
           tied_right x y z q = o.congr y z x q
@@ -82,12 +88,17 @@ module _ (R : Triple → Triple → Ordering) (o : IsTotalOrder R) where
 
   module _ (xs : List Triple) (up : IsSortedBy (λ x y. is_lt (R x y)) xs) where
     far : (i j : ℕ) (d : Triple) → i ≤ j → j < length xs → is_gt (R (get_or xs i d) (get_or xs j d)) ≡ false
-    far i j d upto within = not_greater (get_or xs i d) (get_or xs j d) (sorted_far (λ x y. is_lt (R x y)) (ranks_by o (λ (t : Triple). t)) xs up i j d upto within)
+    far i j d upto within =
+        not_greater (get_or xs i d) (get_or xs j d)
+        (sorted_far (λ x y. is_lt (R x y)) (ranks_by o (λ (t : Triple). t)) xs up i j d upto within)
 
-    tied : (i j k : ℕ) (d : Triple) → i ≤ j → j ≤ k → k < length xs → R (get_or xs i d) (get_or xs k d) ≡ Equal → R (get_or xs i d) (get_or xs j d) ≡ Equal
-    tied i j k d first second within ends = squeezed (get_or xs i d) (get_or xs j d) (get_or xs k d) (far i j d first (omega (arith, within))) (far j k d second within) ends
+    tied : (i j k : ℕ) (d : Triple) → i ≤ j → j ≤ k → k < length xs → R (get_or xs i d) (get_or xs k d) ≡ Equal
+        → R (get_or xs i d) (get_or xs j d) ≡ Equal
+    tied i j k d first second within ends =
+        squeezed (get_or xs i d) (get_or xs j d) (get_or xs k d) (far i j d first (omega (arith, within))) (far j k d second within) ends
 
-    tied_end : (i j k : ℕ) (d : Triple) → i ≤ j → j ≤ k → k < length xs → R (get_or xs i d) (get_or xs k d) ≡ Equal → R (get_or xs j d) (get_or xs k d) ≡ Equal
+    tied_end : (i j k : ℕ) (d : Triple) → i ≤ j → j ≤ k → k < length xs → R (get_or xs i d) (get_or xs k d) ≡ Equal
+        → R (get_or xs j d) (get_or xs k d) ≡ Equal
     tied_end i j k d first second within ends =
         sym (o.congr (get_or xs i d) (get_or xs j d) (get_or xs k d) (tied i j k d first second within ends)) ∙ ends
 
@@ -105,7 +116,8 @@ module _ (R : Triple → Triple → Ordering) (o : IsTotalOrder R) where
             (alike_from (get_or xs (i - 1) d) (get_or xs i d) (tied_end at.place (i - 1) i d (omega (arith, before)) (omega arith) within
             (tied_back o (get_or xs i d) (get_or xs at.place d) (is_eq-true (R (get_or xs i d) (get_or xs at.place d)) at.passes)))))
         | inr behind ↦ or_right _ _ (and_from _ _ (lt-ltb (i + 1) (length xs) (let inside = at.within in omega (arith, inside, behind)))
-            (alike_from (get_or xs i d) (get_or xs (i + 1) d) (tied i (i + 1) at.place d (omega arith) (omega (arith, behind)) at.within (is_eq-true (R (get_or xs i d) (get_or xs at.place d)) at.passes))))
+            (alike_from (get_or xs i d) (get_or xs (i + 1) d) (tied i (i + 1) at.place d (omega arith) (omega (arith, behind)) at.within
+            (is_eq-true (R (get_or xs i d) (get_or xs at.place d)) at.passes))))
       ])
     ]
 
@@ -123,7 +135,8 @@ module _ (R : Triple → Triple → Ordering) (o : IsTotalOrder R) where
     -- who has a neighbour that is alike is not the only one of its kind
     pub beside-kept : (i : ℕ) (d : Triple) → i < length xs → is_beside alike xs i d ≡ leb 2 (length (filter (alike (get_or xs i d)) xs))
     beside-kept i d within =
-        same_tests _ _ (λ beside. le-leb 2 _ (two_if i d within beside)) (λ two. beside_if i d within (another_passes (alike (get_or xs i d)) xs i d (leb-true 2 _ two)))
+        same_tests _ _ (λ beside. le-leb 2 _ (two_if i d within beside))
+        (λ two. beside_if i d within (another_passes (alike (get_or xs i d)) xs i d (leb-true 2 _ two)))
       where
         same_tests : (b c : Bool) → (b ≡ true → c ≡ true) → (c ≡ true → b ≡ true) → b ≡ c
         same_tests true c f g = sym (f refl)
@@ -151,7 +164,8 @@ below_all x (y ∷ xs) rising =
     farther [] every = refl
     farther (z ∷ zs) every =
         let parts = and_parts (is_below y z) (list_all (is_below y) zs) every in
-        and_from _ _ (ap is_lt (triple_cmp_total.trans x y z (lt-Less (triple_cmp x y) (and_parts (is_below x y) (rise (y ∷ xs)) rising).0) (lt-Less (triple_cmp y z) parts.0))) (farther zs parts.1)
+        and_from _ _ (ap is_lt (triple_cmp_total.trans x y z (lt-Less (triple_cmp x y) (and_parts (is_below x y) (rise (y ∷ xs)) rising).0)
+        (lt-Less (triple_cmp y z) parts.0))) (farther zs parts.1)
 
 -- a part of the list rises too
 pub rise-filter : (p : Triple → Bool) (xs : List Triple) → rise xs ≡ true → rise (filter p xs) ≡ true
@@ -164,7 +178,8 @@ rise-filter p (x ∷ xs) rising = go (p x) (rise-filter p xs (rest_rises x xs ri
         let parts = and_parts (is_below x y) (list_all (is_below x) ys) every in
         keep (p y) parts.0 (below_kept ys parts.1)
       where
-        keep : (b : Bool) → is_below x y ≡ true → list_all (is_below x) (filter p ys) ≡ true → list_all (is_below x) (cond b (y ∷ filter p ys) (filter p ys)) ≡ true
+        keep : (b : Bool) → is_below x y ≡ true → list_all (is_below x) (filter p ys) ≡ true
+            → list_all (is_below x) (cond b (y ∷ filter p ys) (filter p ys)) ≡ true
         keep true first rest = and_from _ _ first rest
         keep false first rest = rest
 
@@ -172,12 +187,14 @@ rise-filter p (x ∷ xs) rising = go (p x) (rise-filter p xs (rest_rises x xs ri
     front [] every up = refl
     front (y ∷ ys) every up = and_from _ _ (and_parts (is_below x y) (list_all (is_below x) ys) every).0 up
 
-    go : (b : Bool) → rise (filter p xs) ≡ true → list_all (is_below x) (filter p xs) ≡ true → rise (cond b (x ∷ filter p xs) (filter p xs)) ≡ true
+    go : (b : Bool) → rise (filter p xs) ≡ true → list_all (is_below x) (filter p xs) ≡ true
+        → rise (cond b (x ∷ filter p xs) (filter p xs)) ≡ true
     go true up every = front (filter p xs) every up
     go false up every = up
 
 -- each is below those behind it
-pub below-far : (xs : List Triple) (i j : ℕ) (d : Triple) → rise xs ≡ true → i < j → j < length xs → is_below (get_or xs i d) (get_or xs j d) ≡ true
+pub below-far : (xs : List Triple) (i j : ℕ) (d : Triple) → rise xs ≡ true → i < j → j < length xs
+    → is_below (get_or xs i d) (get_or xs j d) ≡ true
 below-far [] i j d rising before within = absurd (omega (arith, within))
 below-far (x ∷ xs) i zero d rising before within = absurd (omega (arith, before))
 below-far (x ∷ xs) zero (suc j) d rising before within = at_place xs j (below_all x xs rising) (omega (arith, within))
@@ -185,16 +202,21 @@ below-far (x ∷ xs) zero (suc j) d rising before within = at_place xs j (below_
     at_place : (ys : List Triple) (k : ℕ) → list_all (is_below x) ys ≡ true → k < length ys → is_below x (get_or ys k d) ≡ true
     at_place [] k every within = absurd (omega (arith, within))
     at_place (y ∷ ys) zero every within = (and_parts (is_below x y) (list_all (is_below x) ys) every).0
-    at_place (y ∷ ys) (suc k) every within = at_place ys k (and_parts (is_below x y) (list_all (is_below x) ys) every).1 (omega (arith, within))
-below-far (x ∷ xs) (suc i) (suc j) d rising before within = below-far xs i j d (rest_rises x xs rising) (omega (arith, before)) (omega (arith, within))
+    at_place (y ∷ ys) (suc k) every within =
+        at_place ys k (and_parts (is_below x y) (list_all (is_below x) ys) every).1 (omega (arith, within))
+below-far (x ∷ xs) (suc i) (suc j) d rising before within =
+    below-far xs i j d (rest_rises x xs rising) (omega (arith, before)) (omega (arith, within))
 
 -- triples at two places are two
-pub apart : (xs : List Triple) (i j : ℕ) (d : Triple) → rise xs ≡ true → i < length xs → j < length xs → (i ≡ j → ⊥) → is_eq (triple_cmp (get_or xs i d) (get_or xs j d)) ≡ false
+pub apart : (xs : List Triple) (i j : ℕ) (d : Triple) → rise xs ≡ true → i < length xs → j < length xs → (i ≡ j → ⊥)
+    → is_eq (triple_cmp (get_or xs i d) (get_or xs j d)) ≡ false
 apart xs i j d rising i_in j_in other = elim (cases_order i j) [
   | inl same ↦ absurd (other same)
   | inr sides ↦ (elim sides [
     | inl before ↦ ap is_eq (lt-Less (triple_cmp (get_or xs i d) (get_or xs j d)) (below-far xs i j d rising before j_in))
-    | inr behind ↦ ap is_eq (triple_cmp_total.antisymm (get_or xs i d) (get_or xs j d) ∙ ap ordering_reverse (lt-Less (triple_cmp (get_or xs j d) (get_or xs i d)) (below-far xs j i d rising behind i_in)))
+    | inr behind ↦
+        ap is_eq (triple_cmp_total.antisymm (get_or xs i d) (get_or xs j d)
+        ∙ ap ordering_reverse (lt-Less (triple_cmp (get_or xs j d) (get_or xs i d)) (below-far xs j i d rising behind i_in)))
   ])
 ]
 

@@ -1,5 +1,6 @@
 -- Additions under unique attributes, by attribute and value.
-use Rattle.std.proofs.Common.{◌≡◌, ℕ, zero, suc, ◌+◌, ◌<◌, ◌≤◌, Bool, true, false, cond, not, ◌&&◌, ◌||◌, eqb, leb, List, [], ◌∷◌, length, get_or, refl, ap, sym, ◌∙◌, subst, arith, inl, inr, Option, None}
+use Rattle.std.proofs.Common.{◌≡◌, ℕ, zero, suc, ◌+◌, ◌<◌, ◌≤◌, Bool, true, false, cond, not, ◌&&◌, ◌||◌, eqb, leb, List, [], ◌∷◌, length}
+use Rattle.std.proofs.Common.{get_or, refl, ap, sym, ◌∙◌, subst, arith, inl, inr, Option, None}
 use denote.Ref.{Bor}
 use Rattle.std.specs.Prelude.{filter, Contains, IsPermutation}
 use Rattle.std.specs.List.{list_any, list_all}
@@ -20,7 +21,8 @@ use Rattle.tx_asks.specs.Triples.{rise}
 use Rattle.tx_rules.specs.Places.{first_where}
 use Rattle.tx_rules.specs.Neighbours.{behind, are_of_one_value, is_beside}
 use Rattle.tx_rules.specs.Conflicts.{is_addition}
-use Rattle.tx_rules.specs.Holders.{is_taker, is_other_taker, is_held_by_another, is_shared, first_shared, value_order, AreByValue, is_taken_twice, first_among}
+use Rattle.tx_rules.specs.Holders.{is_taker, is_other_taker, is_held_by_another, is_shared, first_shared, value_order, AreByValue}
+use Rattle.tx_rules.specs.Holders.{is_taken_twice, first_among}
 use Rattle.tx_rules.proofs.Earlier.{first_where-same, first_where-filter}
 use Rattle.tx_rules.proofs.Passing.{two_kept, another_passes, PassesBeside}
 use Rattle.tx_rules.proofs.Sorted.{value_order_total, value_alike, beside-kept, triple_alike, apart, rise-filter}
@@ -29,16 +31,19 @@ use Rattle.tx_rules.proofs.Crowded.{same_tests, IsFound, found, all-at, any-filt
 use Rattle.tx_rules.proofs.Reached.{reaches, same_places, reaches-first_where, first_where-members}
 
 -- whoever has a neighbour of its value is not alone with it
-pub shared-twice : (h : List Entry) (changes : List Datom) (takers : List Triple) → AreByValue takers → (i : ℕ) (d : Triple) → i < length takers
+pub shared-twice : (h : List Entry) (changes : List Datom) (takers : List Triple) → AreByValue takers → (i : ℕ) (d : Triple)
+    → i < length takers
     → cond (is_beside are_of_one_value takers i d || is_held_by_another h changes (get_or takers i d)) (get_or takers i d).added None
     ≡ cond (is_taken_twice takers (get_or takers i d) || is_held_by_another h changes (get_or takers i d)) (get_or takers i d).added None
 shared-twice h changes takers sorted i d within =
-    ap (λ b. cond (b || is_held_by_another h changes (get_or takers i d)) (get_or takers i d).added None) (alike_tests ∙ beside-kept value_order value_order_total takers sorted i d within ∙ twice_tests)
+    ap (λ b. cond (b || is_held_by_another h changes (get_or takers i d)) (get_or takers i d).added None)
+    (alike_tests ∙ beside-kept value_order value_order_total takers sorted i d within ∙ twice_tests)
   where
     alike_tests : is_beside are_of_one_value takers i d ≡ is_beside (λ x y. is_eq (value_order x y)) takers i d
     alike_tests = simp value_alike
 
-    twice_tests : leb 2 (length (filter (λ y. is_eq (value_order (get_or takers i d) y)) takers)) ≡ leb 2 (length (filter (are_of_one_value (get_or takers i d)) takers))
+    twice_tests : leb 2 (length (filter (λ y. is_eq (value_order (get_or takers i d) y)) takers))
+        ≡ leb 2 (length (filter (are_of_one_value (get_or takers i d)) takers))
     twice_tests = simp value_alike
 
 -- ---- the additions of one value
@@ -49,7 +54,8 @@ value_eq-comm v w is = subst (λ x. value_eq w x ≡ true) (sym (value_eq-true v
 eqb-comm : (m n : ℕ) → eqb m n ≡ eqb n m
 eqb-comm m n = grind arith
 
-module _ (xs : List Triple) (rising : rise xs ≡ true) (added : list_all is_addition xs ≡ true) (i : ℕ) (d : Triple) (within : i < length xs) where
+module _ (xs : List Triple) (rising : rise xs ≡ true) (added : list_all is_addition xs ≡ true) (i : ℕ) (d : Triple)
+    (within : i < length xs) where
   abbrev x : Triple
   x = get_or xs i d
 
@@ -59,7 +65,8 @@ module _ (xs : List Triple) (rising : rise xs ≡ true) (added : list_all is_add
       let y = get_or xs at.place d in
       let parts = and_parts (eqb x.a y.a) (value_eq x.v y.v) at.passes in
       list_any_at (is_other_taker x) xs at.place d at.within
-      (and_from _ _ (and_from _ _ (and_from _ _ (all-at is_addition xs at.place d added at.within) (eqb-comm y.a x.a ∙ parts.0)) (value_eq-comm x.v y.v parts.1))
+      (and_from _ _ (and_from _ _ (and_from _ _ (all-at is_addition xs at.place d added at.within) (eqb-comm y.a x.a ∙ parts.0))
+      (value_eq-comm x.v y.v parts.1))
       (differs (eqb x.e y.e) (eqb y.e x.e) (eqb-comm x.e y.e) (eqb x.a y.a) (value_eq x.v y.v) parts.0 parts.1
       (sym (triple_alike x y) ∙ apart xs i at.place d rising within at.within (λ same. at.other (sym same)))))
     where
@@ -91,22 +98,29 @@ module _ (xs : List Triple) (rising : rise xs ≡ true) (added : list_all is_add
         | inl same ↦ absurd (other_itself x (subst (λ j. is_other_taker x (get_or xs j d) ≡ true) same at.passes))
         | inr sides ↦ (elim sides [
           | inl before ↦ two_kept (are_of_one_value x) xs at.place i d before within (of_value (get_or xs at.place d) at.passes) own_value
-          | inr behind ↦ two_kept (are_of_one_value x) xs i at.place d behind at.within own_value (of_value (get_or xs at.place d) at.passes)
+          | inr behind ↦
+              two_kept (are_of_one_value x) xs i at.place d behind at.within own_value (of_value (get_or xs at.place d) at.passes)
         ])
       ]
 
   pub twice-other : is_taken_twice xs x ≡ list_any (is_other_taker x) xs
-  twice-other = same_tests _ _ (λ two. to_other (leb-true 2 (length (filter (are_of_one_value x) xs)) two)) (λ some. le-leb 2 (length (filter (are_of_one_value x) xs)) (from_other some))
+  twice-other =
+      same_tests _ _ (λ two. to_other (leb-true 2 (length (filter (are_of_one_value x) xs)) two))
+      (λ some. le-leb 2 (length (filter (are_of_one_value x) xs)) (from_other some))
 
 -- ---- in whatever order
 
 twice-moved : (xs ys : List Triple) → IsPermutation xs ys → (t : Triple) → is_taken_twice ys t ≡ is_taken_twice xs t
 twice-moved xs ys moved t =
-    ap (leb 2) (length-filter (are_of_one_value t) ys ∙ sum_by-IsPermutation (λ x. cond (are_of_one_value t x) 1 0) xs ys moved ∙ sym (length-filter (are_of_one_value t) xs))
+    ap (leb 2) (length-filter (are_of_one_value t) ys ∙ sum_by-IsPermutation (λ x. cond (are_of_one_value t x) 1 0) xs ys moved
+    ∙ sym (length-filter (are_of_one_value t) xs))
 
-first_where-moved : (p : Triple → Bool) (place : Triple → Option ℕ) (xs ys : List Triple) → IsPermutation xs ys → first_where p place ys ≡ first_where p place xs
+first_where-moved : (p : Triple → Bool) (place : Triple → Option ℕ) (xs ys : List Triple) → IsPermutation xs ys
+    → first_where p place ys ≡ first_where p place xs
 first_where-moved p place xs ys moved = same_places _ _ (λ n.
-    reaches-first_where n p place ys ∙ sym (list_any-IsPermutation (λ t. p t && reaches n (place t)) xs ys moved) ∙ sym (reaches-first_where n p place xs))
+    reaches-first_where n p place ys
+    ∙ sym (list_any-IsPermutation (λ t. p t && reaches n (place t)) xs ys moved)
+    ∙ sym (reaches-first_where n p place xs))
 
 module _ (schema : List Datom) (h : List Entry) (changes : List Datom) (ts : List Triple) (rising : rise ts ≡ true) where
   abbrev among : List Triple
@@ -116,29 +130,37 @@ module _ (schema : List Datom) (h : List Entry) (changes : List Datom) (ts : Lis
   each_added [] = refl
   each_added (t ∷ ts) = go (is_taker schema t) refl (each_added ts)
     where
-      go : (b : Bool) → is_taker schema t ≡ b → list_all is_addition (filter (is_taker schema) ts) ≡ true → list_all is_addition (cond b (t ∷ filter (is_taker schema) ts) (filter (is_taker schema) ts)) ≡ true
+      go : (b : Bool) → is_taker schema t ≡ b → list_all is_addition (filter (is_taker schema) ts) ≡ true
+          → list_all is_addition (cond b (t ∷ filter (is_taker schema) ts) (filter (is_taker schema) ts)) ≡ true
       go true is rest = and_from _ _ (and_parts (is_addition t) (is_unique schema t.a) is).0 rest
       go false is rest = rest
 
   not_taker : (t : Triple) → is_taker schema t ≡ true → (other : Triple) → is_taker schema other ≡ false → is_other_taker t other ≡ false
   not_taker t taker other none = go (is_addition other) (eqb other.a t.a) refl refl
     where
-      go : (b c : Bool) → is_addition other ≡ b → eqb other.a t.a ≡ c → (((b && c) && value_eq other.v t.v) && not (eqb other.e t.e)) ≡ false
+      go : (b c : Bool) → is_addition other ≡ b → eqb other.a t.a ≡ c
+          → (((b && c) && value_eq other.v t.v) && not (eqb other.e t.e)) ≡ false
       go false c b_is c_is = refl
       go true false b_is c_is = refl
       go true true b_is c_is =
-          absurd (true≢false (sym (and_from (is_addition other) (is_unique schema other.a) b_is (ap (is_unique schema) (eqb-true other.a t.a c_is) ∙ (and_parts (is_addition t) (is_unique schema t.a) taker).1)) ∙ none))
+          absurd (true≢false (sym (and_from (is_addition other) (is_unique schema other.a) b_is
+          (ap (is_unique schema) (eqb-true other.a t.a c_is) ∙ (and_parts (is_addition t) (is_unique schema t.a) taker).1)) ∙ none))
 
   pub shared-takers : (takers : List Triple) → IsPermutation among takers → first_among h changes takers ≡ first_shared schema h changes ts
   shared-takers takers moved =
-      first_where-same (λ t. is_taken_twice takers t || is_held_by_another h changes t) (λ t. is_taken_twice among t || is_held_by_another h changes t) (λ t. t.added) (λ t. ap (λ b. b || is_held_by_another h changes t) (twice-moved among takers moved t)) takers
+      first_where-same (λ t. is_taken_twice takers t || is_held_by_another h changes t)
+      (λ t. is_taken_twice among t || is_held_by_another h changes t) (λ t. t.added)
+      (λ t. ap (λ b. b || is_held_by_another h changes t) (twice-moved among takers moved t)) takers
       ∙ first_where-moved (λ t. is_taken_twice among t || is_held_by_another h changes t) (λ t. t.added) among takers moved
-      ∙ first_where-members (λ t. is_taken_twice among t || is_held_by_another h changes t) (λ t. is_taker schema t && is_shared h changes ts t) (λ t. t.added) (λ t. t.added) among member_same
-      ∙ first_where-filter (λ t. is_taker schema t && is_shared h changes ts t) (is_taker schema) (λ t. t.added) (λ t none. and_left (is_taker schema t) (is_shared h changes ts t) none) ts
+      ∙ first_where-members (λ t. is_taken_twice among t || is_held_by_another h changes t)
+      (λ t. is_taker schema t && is_shared h changes ts t) (λ t. t.added) (λ t. t.added) among member_same
+      ∙ first_where-filter (λ t. is_taker schema t && is_shared h changes ts t) (is_taker schema) (λ t. t.added)
+      (λ t none. and_left (is_taker schema t) (is_shared h changes ts t) none) ts
     where
       other_same : (t : Triple) → Contains among t → is_taker schema t ≡ true → is_taken_twice among t ≡ list_any (is_other_taker t) ts
       other_same t member taker =
-          subst (λ x. is_taken_twice among x ≡ list_any (is_other_taker x) among) member.2 (twice-other among (rise-filter (is_taker schema) ts rising) (each_added ts) member.0 t member.1)
+          subst (λ x. is_taken_twice among x ≡ list_any (is_other_taker x) among) member.2
+          (twice-other among (rise-filter (is_taker schema) ts rising) (each_added ts) member.0 t member.1)
           ∙ any-filter (is_other_taker t) (is_taker schema) (λ other none. not_taker t taker other none) ts
 
       passed : (t : Triple) → Contains among t → is_taker schema t ≡ true
@@ -148,7 +170,9 @@ module _ (schema : List Datom) (h : List Entry) (changes : List Datom) (ts : Lis
       with_taker true is c = refl
       with_taker false is c = absurd (true≢false (sym is))
 
-      member_same : (t : Triple) → Contains among t → cond (is_taken_twice among t || is_held_by_another h changes t) t.added None ≡ cond (is_taker schema t && is_shared h changes ts t) t.added None
+      member_same : (t : Triple) → Contains among t
+          → cond (is_taken_twice among t || is_held_by_another h changes t) t.added None
+          ≡ cond (is_taker schema t && is_shared h changes ts t) t.added None
       member_same t member =
           ap (λ b. cond (b || is_held_by_another h changes t) t.added None) (other_same t member (passed t member))
           ∙ ap (λ b. cond b t.added None) (with_taker (is_taker schema t) (passed t member) (is_shared h changes ts t))
@@ -160,11 +184,13 @@ get_or-any [] k d e within = absurd (omega (arith, within))
 get_or-any (x ∷ xs) zero d e within = refl
 get_or-any (x ∷ xs) (suc k) d e within = get_or-any xs k d e (omega (arith, within))
 
-pub sorted-behind : (lt : Triple → Triple → Bool) (refs : List (Bor Triple)) → IsSortedBy (λ x y. lt x.now y.now) refs → IsSortedBy lt (behind refs)
+pub sorted-behind : (lt : Triple → Triple → Bool) (refs : List (Bor Triple)) → IsSortedBy (λ x y. lt x.now y.now) refs
+    → IsSortedBy lt (behind refs)
 sorted-behind lt [] up k d low high = absurd (omega (arith, high))
 sorted-behind lt (r ∷ rs) up k d low high =
     let inside : k + 1 < length (r ∷ rs) = omega (arith, high, length-behind (r ∷ rs)) in
     let here : k < length (r ∷ rs) = omega (arith, inside) in
     let first = behind-at (r ∷ rs) k (get_or (r ∷ rs) k r) d here (get_or-any (r ∷ rs) k r (get_or (r ∷ rs) k r) here) in
-    let second = behind-at (r ∷ rs) (k + 1) (get_or (r ∷ rs) (k + 1) r) d inside (get_or-any (r ∷ rs) (k + 1) r (get_or (r ∷ rs) (k + 1) r) inside) in
+    let second =
+    behind-at (r ∷ rs) (k + 1) (get_or (r ∷ rs) (k + 1) r) d inside (get_or-any (r ∷ rs) (k + 1) r (get_or (r ∷ rs) (k + 1) r) inside) in
     ap (λ x. lt x (get_or (behind (r ∷ rs)) k d)) second ∙ ap (lt (get_or (r ∷ rs) (k + 1) r).now) first ∙ up k r low inside

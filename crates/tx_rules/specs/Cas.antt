@@ -1,10 +1,10 @@
--- Compare and set, by what the history tells. Datomic, Transaction Data (:db/cas).
+-- Compare and set, by what holds in the history. Datomic, Transaction Data (:db/cas).
 use Rattle.std.specs.Prelude.{ℕ, Bool, false, not, List, [], ◌∷◌, Option, Some, None, map, Vec}
 use Rattle.std.specs.declared.alloc.Global.{Global}
 use Rattle.std.specs.List.{list_any}
 use Rattle.fb_values.specs.declared.facts.Entry.{Entry}
 use Rattle.fb_values.specs.declared.facts.Value.{Value}
-use Rattle.fb_facts.specs.Told.{values_of}
+use Rattle.fb_facts.specs.FactLists.{values_of}
 use Rattle.tx_model.specs.ChangeRules.{is_value}
 use Rattle.tx_model.specs.Step.{first_yes}
 use Rattle.tx_asks.specs.declared.acts.Act as program

@@ -1,5 +1,7 @@
--- Triples of one transaction that cannot be recorded together. Datomic, Transaction Data (cardinality).
-use Rattle.std.specs.Prelude.{ℕ, Bool, not, ◌&&◌, ◌||◌, List, nat_eq, is_some, if◌then◌else◌, IsTrue, Option, None}
+-- Triples of one transaction that cannot be recorded together.
+-- Datomic, Transaction Data (cardinality).
+use Rattle.std.specs.Prelude.{ℕ, Bool, not, ◌&&◌, ◌||◌, List, nat_eq, is_some, if◌then◌else◌}
+use Rattle.std.specs.Prelude.{IsTrue, Option, None}
 use Rattle.std.specs.List.{list_any, list_all}
 use Rattle.fb_values.specs.declared.facts.Datom.{Datom}
 use Rattle.fb_model.specs.Facts.{value_eq}

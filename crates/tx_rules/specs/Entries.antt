@@ -1,4 +1,5 @@
--- The entry of changes with the instant of their transaction. Datomic, Transaction Data (:db/txInstant).
+-- The entry of changes with the instant of their transaction.
+-- Datomic, Transaction Data (:db/txInstant).
 use Rattle.std.specs.Prelude.{ℕ, ℤ, true, List}
 use Rattle.fb_values.specs.declared.facts.Datom.{Datom}
 use Rattle.fb_values.specs.declared.facts.Entry.{Entry}

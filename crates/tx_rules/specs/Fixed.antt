@@ -6,7 +6,8 @@ use Rattle.fb_model.specs.Schema.{is_attribute}
 use Rattle.tx_asks.specs.declared.triples.Triple.{Triple}
 use Rattle.tx_rules.specs.Places.{recorded_at, first_where}
 
--- to record it is to change the name, the type or the part of an attribute, a built-in entity, or the instant of a transaction
+-- to record it is to change the name,
+-- the type or the part of an attribute, a built-in entity, or the instant of a transaction
 abbrev pub is_fixed : List Datom → Triple → Bool
 is_fixed facts t =
     ((nat_eq t.a ident || nat_eq t.a value_type || nat_eq t.a is_component)

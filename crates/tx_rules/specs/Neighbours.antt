@@ -1,10 +1,12 @@
--- Members of a list in order that are alike to the one before them or to the one behind. This project's own choice.
-use Rattle.std.specs.Prelude.{ℕ, ◌+◌, ◌-◌, Bool, ◌&&◌, ◌||◌, List, length, nat_lt, nat_eq, map, slice_index_or}
+-- Members of a list in order that are alike to the one before them or to the one after.
+-- This project's own choice.
+use Rattle.std.specs.Prelude.{ℕ, ◌+◌, ◌-◌, Bool, ◌&&◌, ◌||◌, List, length, nat_lt, nat_eq, map}
+use Rattle.std.specs.Prelude.{slice_index_or}
 use denote.Ref.{Bor}
 use Rattle.fb_model.specs.Facts.{value_eq}
 use Rattle.tx_asks.specs.declared.triples.Triple.{Triple}
 
--- what is behind references
+-- the values behind references
 abbrev pub behind : List (Bor Triple) → List Triple
 behind refs = map (λ ref. ref.now) refs
 

@@ -1,4 +1,5 @@
--- The first places at which forms ask triples. This project's own choice; the order of forms tells in refusals alone.
+-- The first places at which forms ask triples.
+-- This project's own choice; the order of forms matters in refusals alone.
 use Rattle.std.specs.Prelude.{ℕ, Bool, List, [], ◌∷◌, if◌then◌else◌, min, Option, Some, None}
 use Rattle.tx_asks.specs.declared.triples.Triple.{Triple}
 

@@ -1,5 +1,7 @@
--- Attributes whose facts break what is promised anew. Datomic, Schema (altering :db/cardinality and :db/unique).
-use Rattle.std.specs.Prelude.{ℕ, Bool, not, ◌&&◌, ◌||◌, List, nat_eq, is_some, if◌then◌else◌, Option, None}
+-- Attributes whose facts break what is promised anew.
+-- Datomic, Schema (altering :db/cardinality and :db/unique).
+use Rattle.std.specs.Prelude.{ℕ, Bool, not, ◌&&◌, ◌||◌, List, nat_eq, is_some, if◌then◌else◌}
+use Rattle.std.specs.Prelude.{Option, None}
 use Rattle.fb_values.specs.declared.facts.Datom.{Datom}
 use Rattle.fb_numbers.specs.Numbers.{cardinality, unique}
 use Rattle.fb_model.specs.Schema.{is_attribute}

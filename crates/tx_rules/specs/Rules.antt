@@ -1,19 +1,29 @@
 -- The rules on what a transaction changes, by name: which form is the first to break each.
 -- Datomic, Transaction Data and Schema; the order of the rules is this project's own choice.
-use Rattle.std.specs.Prelude.{ℕ, ◌+◌, Bool, not, ◌||◌, List, [], ◌∷◌, max, length, nat_lt, int_lt, Option, None}
+use Rattle.std.specs.Prelude.{ℕ, ◌+◌, Bool, not, ◌||◌, List, [], ◌∷◌, max, length, nat_lt, int_lt}
+use Rattle.std.specs.Prelude.{Option}
 use Rattle.fb_values.specs.declared.facts.Datom.{Datom}
 use Rattle.fb_values.specs.declared.facts.Entry.{Entry}
 use Rattle.fb_numbers.specs.Numbers.{greatest_t, greatest_instant, most_datoms, most_users}
 use Rattle.fb_model.specs.History.{basis, last_instant, users_issued, users_in}
 use Rattle.tx_refusals.specs.declared.reasons.Reason.{Reason}
-use Rattle.tx_refusals.specs.declared.reasons.Reason.TheVariants.{CasMany, CasFailed, DatomsConflict, UniqueConflict, IncompleteAttribute, AttributeFixed, TooLarge, Full, AlterationConflict}
+use Rattle.tx_refusals.specs.declared.reasons.Reason.TheVariants.{CasMany, CasFailed}
+use Rattle.tx_refusals.specs.declared.reasons.Reason.TheVariants.{DatomsConflict, UniqueConflict}
+use Rattle.tx_refusals.specs.declared.reasons.Reason.TheVariants.{IncompleteAttribute}
+use Rattle.tx_refusals.specs.declared.reasons.Reason.TheVariants.{AttributeFixed, TooLarge, Full}
+use Rattle.tx_refusals.specs.declared.reasons.Reason.TheVariants.{AlterationConflict}
 use Rattle.tx_model.specs.Size.{entry_size, most_bytes, instant_size}
 use Rattle.tx_model.specs.Transaction.{Transaction}
-use Rattle.tx_model.specs.ChangeRules.{breaks_cas_many, breaks_cas_failed, breaks_datoms_conflict, breaks_unique_conflict, breaks_incomplete_attribute, breaks_attribute_fixed, breaks_too_large, breaks_full, breaks_alteration_conflict}
+use Rattle.tx_model.specs.ChangeRules.{breaks_cas_many, breaks_cas_failed, breaks_datoms_conflict}
+use Rattle.tx_model.specs.ChangeRules.{breaks_unique_conflict, breaks_incomplete_attribute}
+use Rattle.tx_model.specs.ChangeRules.{breaks_attribute_fixed, breaks_too_large, breaks_full}
+use Rattle.tx_model.specs.ChangeRules.{breaks_alteration_conflict}
 use Rattle.tx_model.specs.Step.{by_place, by_whole}
 use Rattle.tx_asks.specs.declared.triples.Triple.{Triple}
 use Rattle.tx_asks.specs.Acts.{Act}
 use Rattle.tx_after.specs.After.{after}
+use Rattle.tx_rules.specs.declared.rules.ChangeRule.{ChangeRule}
+use Rattle.tx_rules.specs.declared.rules.ChangeRule.TheVariants as rule
 use Rattle.tx_rules.specs.Cas.{first_of_many, first_failed}
 use Rattle.tx_rules.specs.Conflicts.{first_conflict}
 use Rattle.tx_rules.specs.Holders.{first_shared}
@@ -56,25 +66,37 @@ pub record Asked : Type 0 where
   pub triples : List Triple
   pub changes : List Datom
 
-abbrev pub first_place : Asked → Reason → Option ℕ
-first_place asked CasMany = first_of_many asked.forms
-first_place asked CasFailed = first_failed asked.history asked.forms
-first_place asked DatomsConflict = first_conflict asked.schema asked.triples
-first_place asked UniqueConflict =
+abbrev pub first_place : Asked → ChangeRule → Option ℕ
+first_place asked rule.CasMany = first_of_many asked.forms
+first_place asked rule.CasFailed = first_failed asked.history asked.forms
+first_place asked rule.DatomsConflict = first_conflict asked.schema asked.triples
+first_place asked rule.UniqueConflict =
     first_shared asked.schema asked.history asked.changes asked.triples
-first_place asked IncompleteAttribute =
+first_place asked rule.IncompleteAttribute =
     first_incomplete asked.schema (after asked.history asked.changes) asked.triples
-first_place asked AttributeFixed = first_fixed asked.schema asked.triples
-first_place asked TooLarge = by_whole (is_too_large asked.changes)
-first_place asked Full = by_whole (is_full asked.history asked.changes)
-first_place asked AlterationConflict =
+first_place asked rule.AttributeFixed = first_fixed asked.schema asked.triples
+first_place asked rule.TooLarge = by_whole (is_too_large asked.changes)
+first_place asked rule.Full = by_whole (is_full asked.history asked.changes)
+first_place asked rule.AlterationConflict =
     first_broken asked.schema (after asked.history asked.changes) asked.triples
-first_place asked rule = None
 
-abbrev pub with_first : Asked → Reason → Reason × Option ℕ
-with_first asked rule = (rule, first_place asked rule)
+-- why a transaction that breaks the rule is refused
+abbrev pub reason_of : ChangeRule → Reason
+reason_of rule.CasMany = CasMany
+reason_of rule.CasFailed = CasFailed
+reason_of rule.DatomsConflict = DatomsConflict
+reason_of rule.UniqueConflict = UniqueConflict
+reason_of rule.IncompleteAttribute = IncompleteAttribute
+reason_of rule.AttributeFixed = AttributeFixed
+reason_of rule.TooLarge = TooLarge
+reason_of rule.Full = Full
+reason_of rule.AlterationConflict = AlterationConflict
 
-abbrev pub all_rules : List Reason
+abbrev pub with_first : Asked → ChangeRule → Reason × Option ℕ
+with_first asked broken = (reason_of broken, first_place asked broken)
+
+abbrev pub all_rules : List ChangeRule
 all_rules =
-    CasMany ∷ CasFailed ∷ DatomsConflict ∷ UniqueConflict ∷ IncompleteAttribute ∷ AttributeFixed
-    ∷ TooLarge ∷ Full ∷ AlterationConflict ∷ []
+    rule.CasMany ∷ rule.CasFailed ∷ rule.DatomsConflict ∷ rule.UniqueConflict
+    ∷ rule.IncompleteAttribute ∷ rule.AttributeFixed ∷ rule.TooLarge ∷ rule.Full
+    ∷ rule.AlterationConflict ∷ []

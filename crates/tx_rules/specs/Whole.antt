@@ -1,5 +1,7 @@
--- Attributes that lack something after the changes. Datomic, Schema (required and altered attributes).
-use Rattle.std.specs.Prelude.{ℕ, Bool, not, ◌&&◌, ◌||◌, List, nat_eq, nat_le, if◌then◌else◌, Option, None}
+-- Attributes that lack something after the changes.
+-- Datomic, Schema (required and altered attributes).
+use Rattle.std.specs.Prelude.{ℕ, Bool, not, ◌&&◌, ◌||◌, List, nat_eq, nat_le, if◌then◌else◌, Option}
+use Rattle.std.specs.Prelude.{None}
 use Rattle.std.specs.List.{list_any}
 use Rattle.fb_values.specs.declared.facts.Datom.{Datom}
 use Rattle.fb_numbers.specs.Numbers.{ident, cardinality, unique, index}

@@ -3,7 +3,7 @@ ghost use Rattle.std.specs.Prelude.{◌≡◌, map, IfOk};
 ghost use Rattle.std.specs.List.{list_any};
 ghost use Rattle.std.specs.Option.{option_copied};
 ghost use Rattle.tx_model.specs.ChangeRules as rules;
-ghost use Rattle.tx_asks.specs.Acts.{seen, is_cas_of_many as model_is_cas_of_many};
+ghost use Rattle.tx_asks.specs.Acts.{model_act, is_cas_of_many as model_is_cas_of_many};
 ghost use Rattle.tx_rules.specs.Cas as model;
 
 use fb_facts::Facts;
@@ -24,7 +24,7 @@ pub fn first_of_many(forms: &[Vec<Act<'_>>]) -> Option<usize>
 }
 
 fn has_cas_of_many(form: &[Act<'_>]) -> bool
-    ensures { result ≡ list_any model_is_cas_of_many (map seen form.now) }
+    ensures { result ≡ list_any model_is_cas_of_many (map model_act form.now) }
 {
     for act in form {
         if is_cas_of_many(act) {
@@ -35,7 +35,7 @@ fn has_cas_of_many(form: &[Act<'_>]) -> bool
 }
 
 fn is_cas_of_many(act: &Act<'_>) -> bool
-    ensures { result ≡ model_is_cas_of_many (seen act.now) }
+    ensures { result ≡ model_is_cas_of_many (model_act act.now) }
 {
     match act {
         Act::Compares { attribute, .. } => attribute.many,
@@ -58,7 +58,7 @@ pub fn first_failed<F: Facts>(forms: &[Vec<Act<'_>>], facts: &F) -> Result<Optio
 
 fn has_failed<F: Facts>(form: &[Act<'_>], facts: &F) -> Result<bool, Memory>
     ensures { IfOk result
-        (λ b. b ≡ list_any (model.finds_another (F.history facts.now)) (map seen form.now)) }
+        (λ b. b ≡ list_any (model.finds_another (F.history facts.now)) (map model_act form.now)) }
 {
     for act in form {
         if finds_another(act, facts)? {
@@ -69,7 +69,7 @@ fn has_failed<F: Facts>(form: &[Act<'_>], facts: &F) -> Result<bool, Memory>
 }
 
 fn finds_another<F: Facts>(act: &Act<'_>, facts: &F) -> Result<bool, Memory>
-    ensures { IfOk result (λ b. b ≡ model.finds_another (F.history facts.now) (seen act.now)) }
+    ensures { IfOk result (λ b. b ≡ model.finds_another (F.history facts.now) (model_act act.now)) }
 {
     let Act::Compares {
         e,

@@ -1,6 +1,5 @@
 //! Triples of one transaction that cannot be recorded together.
 ghost use Rattle.std.specs.Prelude.{◌≡◌, ◌<◌, ◌&&◌, filter, length, slice_index_or, IfOk, IsTrue};
-ghost use Rattle.fb_model.specs.Schema.{is_one as model_is_one};
 ghost use Rattle.tx_asks.specs.Triples.{rise};
 ghost use Rattle.tx_rules.specs.Neighbours.{behind, are_of_one_entity, is_beside as model_is_beside};
 ghost use Rattle.tx_rules.specs.Conflicts as model;
@@ -71,7 +70,7 @@ fn conflicts(added: &[&Triple], i: usize, schema: &Schema) -> bool
         ≡ model.conflicts schema.now (behind added.now) (slice_index_or (behind added.now) i d) }
 {
     let triple = added[i];
-    is_withdrawn(triple) || (is_crowded(added, i) && is_one(schema, triple.a))
+    is_withdrawn(triple) || (is_crowded(added, i) && schema.is_one(triple.a))
 }
 
 fn is_withdrawn(triple: &Triple) -> bool
@@ -93,10 +92,4 @@ fn is_beside(x: &Triple, y: &Triple) -> bool
     ensures { result ≡ are_of_one_entity x.now y.now }
 {
     x.e == y.e && x.a == y.a
-}
-
-fn is_one(schema: &Schema, a: u64) -> bool
-    ensures { result ≡ model_is_one schema.now a }
-{
-    schema.attribute(a).is_some_and(|attribute| !attribute.many)
 }

@@ -1,6 +1,5 @@
 //! Values of unique attributes that two entities would have.
 ghost use Rattle.std.specs.Prelude.{◌≡◌, ◌<◌, filter, length, slice_index_or, if◌then◌else◌, None, ◌||◌, IfOk, IsTrue};
-ghost use Rattle.fb_model.specs.Schema.{is_unique as model_is_unique};
 ghost use Rattle.tx_after.specs.After.{AreChanges};
 ghost use Rattle.tx_asks.specs.Triples.{rise};
 ghost use Rattle.tx_rules.specs.Neighbours.{behind, are_of_one_value, is_beside as model_is_beside};
@@ -13,7 +12,7 @@ use fb_schema::Schema;
 use fb_values::Datom;
 use std::alloc::Global;
 use std::cmp::Ordering;
-use tx_after::tells_of;
+use tx_after::mentions;
 use tx_asks::Triple;
 
 /// The first form that adds a value of a unique attribute which two entities would have.
@@ -55,15 +54,7 @@ fn takers<'a>(
 fn is_taker(schema: &Schema, triple: &Triple) -> bool
     ensures { result ≡ model.is_taker schema.now triple.now }
 {
-    triple.added.is_some() && is_unique(schema, triple.a)
-}
-
-fn is_unique(schema: &Schema, a: u64) -> bool
-    ensures { result ≡ model_is_unique schema.now a }
-{
-    schema
-        .attribute(a)
-        .is_some_and(|attribute| attribute.is_unique())
+    triple.added.is_some() && schema.is_unique(triple.a)
 }
 
 /// By attribute and value.
@@ -125,7 +116,7 @@ fn is_held_by_another<F: Facts>(triple: &Triple, changes: &[Datom], facts: &F) -
     ensures { result ≡ model.is_held_by_another (F.history facts.now) changes.now triple.now }
 {
     match facts.holder(triple.a, &triple.v) {
-        Some(e) => e != triple.e && !tells_of(changes, e, triple.a, &triple.v),
+        Some(e) => e != triple.e && !mentions(changes, e, triple.a, &triple.v),
         None => false,
     }
 }

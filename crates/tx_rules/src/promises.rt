@@ -5,7 +5,7 @@ ghost use Rattle.std.specs.Option.{option_map};
 ghost use Rattle.fb_values.specs.declared.facts.Datom.{Datom};
 ghost use Rattle.fb_model.specs.Lawful.{IsLawful};
 ghost use Rattle.fb_model.specs.Schema as schema;
-ghost use Rattle.fb_schema.specs.Parts.{attribute_in};
+ghost use Rattle.fb_schema.specs.Parts.{model_attribute};
 ghost use Rattle.tx_model.specs.ChangeRules as rules;
 ghost use Rattle.tx_after.specs.After.{AreChanges, after};
 ghost use Rattle.tx_after.specs.Parts.{AreByAttribute};
@@ -111,7 +111,7 @@ fn broken_at(verdict: &Verdict, triple: &Triple) -> Option<usize>
     }
 }
 
-/// The verdict on the entity. It is given once, since the triples of an entity stand side by side.
+/// The verdict on the entity. It is given once, since the triples of an entity are side by side.
 fn known_or_found<F: Facts>(
     alloc: Global,
     last: Option<Verdict>,
@@ -187,7 +187,7 @@ fn keeps_one_value<F: Facts>(
 ) -> Result<bool, Memory>
     requires changes { AreChanges changes.now }
     requires parts { AreByAttribute by_attribute.now.parts changes.now }
-    requires attribute { option_map attribute_in attribute.now
+    requires attribute { option_map model_attribute attribute.now
         ≡ schema.attribute_of (after (F.history facts.now) changes.now) a }
     ensures { IfOk result (λ kept. kept
         ≡ (not (schema.is_one (after (F.history facts.now) changes.now) a)
@@ -209,7 +209,7 @@ fn keeps_one_holder<F: Facts>(
 ) -> Result<bool, Memory>
     requires changes { AreChanges changes.now }
     requires parts { AreByAttribute by_attribute.now.parts changes.now }
-    requires attribute { option_map attribute_in attribute.now
+    requires attribute { option_map model_attribute attribute.now
         ≡ schema.attribute_of (after (F.history facts.now) changes.now) a }
     ensures { IfOk result (λ kept. kept
         ≡ (not (schema.is_unique (after (F.history facts.now) changes.now) a)
@@ -223,7 +223,7 @@ fn keeps_one_holder<F: Facts>(
 
 fn is_one(attribute: &Option<Attribute>) -> bool
     ensures { (facts : List Datom) (a : ℕ)
-        → option_map attribute_in attribute.now ≡ schema.attribute_of facts a
+        → option_map model_attribute attribute.now ≡ schema.attribute_of facts a
         → result ≡ schema.is_one facts a }
 {
     match attribute {
@@ -234,7 +234,7 @@ fn is_one(attribute: &Option<Attribute>) -> bool
 
 fn is_unique(attribute: &Option<Attribute>) -> bool
     ensures { (facts : List Datom) (a : ℕ)
-        → option_map attribute_in attribute.now ≡ schema.attribute_of facts a
+        → option_map model_attribute attribute.now ≡ schema.attribute_of facts a
         → result ≡ schema.is_unique facts a }
 {
     match attribute {

@@ -27,18 +27,53 @@ use std::alloc::Global;
 use tx_asks::{Act, Triple, acts_compare_what_asks_do};
 use tx_refusals::{Reason, Refusal};
 
+/// A rule on what a transaction changes.
+#[derive(Clone, Copy)]
+pub enum ChangeRule {
+    CasMany,
+    CasFailed,
+    DatomsConflict,
+    UniqueConflict,
+    IncompleteAttribute,
+    AttributeFixed,
+    TooLarge,
+    Full,
+    AlterationConflict,
+}
+
 /// The rules on changes, the least one first.
-const RULES: [Reason; 9] = [
-    Reason::CasMany,
-    Reason::CasFailed,
-    Reason::DatomsConflict,
-    Reason::UniqueConflict,
-    Reason::IncompleteAttribute,
-    Reason::AttributeFixed,
-    Reason::TooLarge,
-    Reason::Full,
-    Reason::AlterationConflict,
+const RULES: [ChangeRule; 9] = [
+    ChangeRule::CasMany,
+    ChangeRule::CasFailed,
+    ChangeRule::DatomsConflict,
+    ChangeRule::UniqueConflict,
+    ChangeRule::IncompleteAttribute,
+    ChangeRule::AttributeFixed,
+    ChangeRule::TooLarge,
+    ChangeRule::Full,
+    ChangeRule::AlterationConflict,
 ];
+
+impl ChangeRule {
+    ghost use Rattle.tx_rules.specs.Rules.{reason_of};
+
+    /// Why a transaction that breaks it is refused.
+    fn reason(self) -> Reason
+        ensures { result ≡ reason_of self }
+    {
+        match self {
+            ChangeRule::CasMany => Reason::CasMany,
+            ChangeRule::CasFailed => Reason::CasFailed,
+            ChangeRule::DatomsConflict => Reason::DatomsConflict,
+            ChangeRule::UniqueConflict => Reason::UniqueConflict,
+            ChangeRule::IncompleteAttribute => Reason::IncompleteAttribute,
+            ChangeRule::AttributeFixed => Reason::AttributeFixed,
+            ChangeRule::TooLarge => Reason::TooLarge,
+            ChangeRule::Full => Reason::Full,
+            ChangeRule::AlterationConflict => Reason::AlterationConflict,
+        }
+    }
+}
 
 /// Why a transaction that breaks no rule on names is refused, if it is: by its acts form by form, its triples, and what it
 /// changes. A rule is judged where no lower one is broken.
@@ -68,7 +103,7 @@ pub fn least_refusal<F: Facts>(
 /// The first of the rules that is broken, with the first form that breaks it.
 fn least_of<F: Facts>(
     alloc: Global,
-    rules: &[Reason],
+    rules: &[ChangeRule],
     forms: &[Vec<Act<'_>>],
     triples: &[Triple],
     changes: &[Datom],
@@ -91,16 +126,17 @@ fn least_of<F: Facts>(
 {
     for rule in rules {
         if let Some(at) = first_place(alloc, *rule, forms, triples, changes, facts, schema)? {
-            return Ok(Some(Refusal { reason: *rule, at }));
+            let reason = rule.reason();
+            return Ok(Some(Refusal { reason, at }));
         }
     }
     Ok(None)
 }
 
-/// The first form that breaks the rule. What is said of a transaction as a whole is said at its first form.
+/// The first form that breaks the rule. What is wrong with a transaction as a whole is reported at its first form.
 fn first_place<F: Facts>(
     alloc: Global,
-    rule: Reason,
+    rule: ChangeRule,
     forms: &[Vec<Act<'_>>],
     triples: &[Triple],
     changes: &[Datom],
@@ -122,19 +158,18 @@ fn first_place<F: Facts>(
         rule) }
 {
     match rule {
-        Reason::CasMany => Ok(first_of_many(forms)),
-        Reason::CasFailed => first_failed(forms, facts),
-        Reason::DatomsConflict => first_conflict(alloc, triples, schema),
-        Reason::UniqueConflict => first_shared(alloc, triples, changes, facts, schema),
-        Reason::IncompleteAttribute => first_incomplete(triples, changes, facts, schema),
-        Reason::AttributeFixed => Ok(first_fixed(triples, schema)),
-        Reason::TooLarge => Ok(if is_too_large(changes) { Some(0) } else { None }),
-        Reason::Full => Ok(if is_full(facts, changes) {
+        ChangeRule::CasMany => Ok(first_of_many(forms)),
+        ChangeRule::CasFailed => first_failed(forms, facts),
+        ChangeRule::DatomsConflict => first_conflict(alloc, triples, schema),
+        ChangeRule::UniqueConflict => first_shared(alloc, triples, changes, facts, schema),
+        ChangeRule::IncompleteAttribute => first_incomplete(triples, changes, facts, schema),
+        ChangeRule::AttributeFixed => Ok(first_fixed(triples, schema)),
+        ChangeRule::TooLarge => Ok(if is_too_large(changes) { Some(0) } else { None }),
+        ChangeRule::Full => Ok(if is_full(facts, changes) {
             Some(0)
         } else {
             None
         }),
-        Reason::AlterationConflict => first_broken(alloc, triples, changes, facts, schema),
-        _ => Ok(None),
+        ChangeRule::AlterationConflict => first_broken(alloc, triples, changes, facts, schema),
     }
 }

@@ -89,7 +89,7 @@ fn alters(triple: &Triple) -> bool
     triple.a == CARDINALITY || triple.a == UNIQUE || triple.a == INDEX
 }
 
-/// What the entity lacks. It is looked at once, since the triples of an entity stand side by side.
+/// What the entity lacks. It is looked at once, since the triples of an entity are side by side.
 fn known_or_found<F: Facts>(
     last: Option<Lack>,
     e: u64,

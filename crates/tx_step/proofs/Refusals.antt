@@ -13,7 +13,8 @@ passed ((reason, None) ∷ xs) ys none = passed xs ys none
 passed ((reason, Some place) ∷ xs) ys none = absurd (none-some (record { reason = reason; at = place }) (sym none))
 
 -- one of them is broken: it is told
-pub told : (xs ys : List (Reason × Option ℕ)) (refusal : Refusal) → first_refusal xs ≡ Some refusal → first_refusal (xs ++ ys) ≡ Some refusal
+pub told : (xs ys : List (Reason × Option ℕ)) (refusal : Refusal) → first_refusal xs ≡ Some refusal
+    → first_refusal (xs ++ ys) ≡ Some refusal
 told [] ys refusal some = absurd (none-some refusal some)
 told ((reason, None) ∷ xs) ys refusal some = told xs ys refusal some
 told ((reason, Some place) ∷ xs) ys refusal some = some

@@ -1,6 +1,7 @@
 -- The step of a transaction, by the steps of the engine.
 use Rattle.std.proofs.lemmas.Int.{ints}
-use Rattle.std.proofs.Common.{rules, arith, ◌≡◌, refl, sym, ap, ◌∙◌, ℕ, ℤ, Bool, true, false, List, [], ◌∷◌, ◌++◌, ◌<◌, zero, suc, length, get_or}
+use Rattle.std.proofs.Common.{rules, arith, ◌≡◌, refl, sym, ap, ◌∙◌, ℕ, ℤ, Bool, true, false, List, [], ◌∷◌, ◌++◌, ◌<◌, zero, suc, length}
+use Rattle.std.proofs.Common.{get_or, subst}
 use Rattle.std.specs.Prelude.{Option, Some, None, ◌<ℤ◌, not, int_lt, is_none}
 use Rattle.std.specs.List.{list_all}
 use Rattle.std.specs.Option.{option_map_or}
@@ -23,12 +24,13 @@ use Rattle.tx_model.specs.Shapes.{forms_of}
 use Rattle.tx_model.specs.Walk.{flat}
 use Rattle.tx_model.specs.Tempids.{db_of}
 use Rattle.tx_model.specs.Transaction.{Transaction, transaction}
-use Rattle.tx_model.specs.Step.{refused, Guard, step, under_guard, unless_refused, first_refusal, first_without_shape, refusal_of, broken_rules, no_list, by_whole}
+use Rattle.tx_model.specs.Step.{Decision, refused, Guard, step, under_guard, unless_refused, first_refusal, first_without_shape, refusal_of}
+use Rattle.tx_model.specs.Step.{broken_rules, no_list, by_whole}
 use Rattle.tx_forms.specs.Shaped.{place_without_shape}
 use Rattle.tx_expand.specs.Rules.{schema_rules, IfRefused}
-use Rattle.tx_resolve.specs.Rules.{resolve_rules, IsToldAs}
+use Rattle.tx_resolve.specs.Rules.{resolve_rules, StopsBy}
 use Rattle.tx_rules.specs.Rules.{change_rules}
-use Rattle.tx_step.specs.Outcomes.{Tells, shaped_step, told_or}
+use Rattle.tx_step.specs.Outcomes.{Matches, shaped_step, judged_step, refusal_or}
 use Rattle.tx_step.proofs.Refusals as refusals
 
 -- ---- shapes
@@ -45,8 +47,10 @@ unshaped_forms h fs reading guard at place =
     ap (λ (o : Option ℕ). unless_refused h fs reading guard (first_refusal ((NotAForm, o) ∷ broken_rules (transaction h fs)))) place
 
 -- what is no list, or has a form without a shape, is refused for that
-unshaped_in : (h : List Entry) (reading : ℤ) (guard : Guard) (at : ℕ) (found : Option (List Form)) → option_map_or first_without_shape found (Some 0) ≡ Some at
-    → option_map_or (λ fs. unless_refused h fs reading guard (refusal_of h fs)) found (refused no_list) ≡ refused (record { reason = NotAForm; at = at })
+unshaped_in : (h : List Entry) (reading : ℤ) (guard : Guard) (at : ℕ) (found : Option (List Form))
+    → option_map_or first_without_shape found (Some 0) ≡ Some at
+    → option_map_or (λ fs. unless_refused h fs reading guard (refusal_of h fs)) found (refused no_list)
+    ≡ refused (record { reason = NotAForm; at = at })
 unshaped_in h reading guard at None place = unshaped_list at place
 unshaped_in h reading guard at (Some fs) place = unshaped_forms h fs reading guard at place
 
@@ -55,10 +59,12 @@ pub unshaped : (h : List Entry) (asked : Form) (reading : ℤ) (guard : Guard) (
 unshaped h asked reading guard at place = unshaped_in h reading guard at (forms_of asked) place
 
 -- forms with a shape are judged by the other rules
-pub shaped : (h : List Entry) (asked : Form) (fs : List Form) (reading : ℤ) (guard : Guard) → forms_of asked ≡ Some fs → first_without_shape fs ≡ None
+pub shaped : (h : List Entry) (asked : Form) (fs : List Form) (reading : ℤ) (guard : Guard) → forms_of asked ≡ Some fs
+    → first_without_shape fs ≡ None
     → step h asked reading guard ≡ shaped_step h fs reading guard
 shaped h asked fs reading guard forms none =
-    ap (λ (found : Option (List Form)). option_map_or (λ fs. unless_refused h fs reading guard (refusal_of h fs)) found (refused no_list)) forms
+    ap (λ (found : Option (List Form)). option_map_or (λ fs. unless_refused h fs reading guard (refusal_of h fs)) found (refused no_list))
+    forms
     ∙ ap (λ (o : Option ℕ). unless_refused h fs reading guard (first_refusal ((NotAForm, o) ∷ broken_rules (transaction h fs)))) none
 
 -- ---- the steps of the engine, one after the other
@@ -67,43 +73,62 @@ pub refused_by_schema : (h : List Entry) (fs : List Form) (reading : ℤ) (guard
     → first_refusal (schema_rules (db_of h) (flat (facts h) fs)) ≡ Some refusal → shaped_step h fs reading guard ≡ refused refusal
 refused_by_schema h fs reading guard refusal told =
     ap (unless_refused h fs reading guard)
-    (refusals.told (schema_rules (db_of h) (flat (facts h) fs)) (resolve_rules (db_of h) (flat (facts h) fs) ++ change_rules (transaction h fs)) refusal told)
+    (refusals.told (schema_rules (db_of h) (flat (facts h) fs))
+    (resolve_rules (db_of h) (flat (facts h) fs) ++ change_rules (transaction h fs)) refusal told)
 
 behind_schema : (h : List Entry) (fs : List Form) → first_refusal (schema_rules (db_of h) (flat (facts h) fs)) ≡ None
-    → first_refusal (broken_rules (transaction h fs)) ≡ first_refusal (resolve_rules (db_of h) (flat (facts h) fs) ++ change_rules (transaction h fs))
+    → first_refusal (broken_rules (transaction h fs))
+    ≡ first_refusal (resolve_rules (db_of h) (flat (facts h) fs) ++ change_rules (transaction h fs))
 behind_schema h fs none =
-    refusals.passed (schema_rules (db_of h) (flat (facts h) fs)) (resolve_rules (db_of h) (flat (facts h) fs) ++ change_rules (transaction h fs)) none
+    refusals.passed (schema_rules (db_of h) (flat (facts h) fs))
+    (resolve_rules (db_of h) (flat (facts h) fs) ++ change_rules (transaction h fs)) none
 
 pub refused_by_names : (h : List Entry) (fs : List Form) (reading : ℤ) (guard : Guard) (refusal : Refusal)
-    → first_refusal (schema_rules (db_of h) (flat (facts h) fs)) ≡ None → first_refusal (resolve_rules (db_of h) (flat (facts h) fs)) ≡ Some refusal
+    → first_refusal (schema_rules (db_of h) (flat (facts h) fs)) ≡ None
+    → first_refusal (resolve_rules (db_of h) (flat (facts h) fs)) ≡ Some refusal
     → shaped_step h fs reading guard ≡ refused refusal
 refused_by_names h fs reading guard refusal none told =
     ap (unless_refused h fs reading guard)
     (behind_schema h fs none ∙ refusals.told (resolve_rules (db_of h) (flat (facts h) fs)) (change_rules (transaction h fs)) refusal told)
 
 by_changes : (h : List Entry) (fs : List Form) (reading : ℤ) (guard : Guard) (o : Option Refusal)
-    → unless_refused h fs reading guard o ≡ told_or o (under_guard h (transaction h fs) reading (guard h (transaction h fs).changes))
+    → unless_refused h fs reading guard o ≡ refusal_or o (under_guard h (transaction h fs) reading (guard h (transaction h fs).changes))
 by_changes h fs reading guard None = refl
 by_changes h fs reading guard (Some refusal) = refl
 
 pub judged_by_changes : (h : List Entry) (fs : List Form) (reading : ℤ) (guard : Guard)
     → first_refusal (schema_rules (db_of h) (flat (facts h) fs)) ≡ None → first_refusal (resolve_rules (db_of h) (flat (facts h) fs)) ≡ None
-    → shaped_step h fs reading guard ≡ told_or (first_refusal (change_rules (transaction h fs))) (under_guard h (transaction h fs) reading (guard h (transaction h fs).changes))
+    → shaped_step h fs reading guard ≡ judged_step h (transaction h fs) reading guard
 judged_by_changes h fs reading guard none no_other =
     ap (unless_refused h fs reading guard)
     (behind_schema h fs none ∙ refusals.passed (resolve_rules (db_of h) (flat (facts h) fs)) (change_rules (transaction h fs)) no_other)
     ∙ by_changes h fs reading guard (first_refusal (change_rules (transaction h fs)))
 
-pub told_by_names : (h : List Entry) (fs : List Form) (reading : ℤ) (guard : Guard) → first_refusal (schema_rules (db_of h) (flat (facts h) fs)) ≡ None
-    → (stop : TxStop) → IsToldAs (first_refusal (resolve_rules (db_of h) (flat (facts h) fs))) stop → Tells stop (shaped_step h fs reading guard)
+-- the stops of the steps
+
+pub told_by_shapes : (h : List Entry) (asked : Form) (reading : ℤ) (guard : Guard) (stop : TxStop)
+    → (at : ℕ) × (stop ≡ Refused (record { reason = NotAForm; at = at })) × (place_without_shape asked ≡ Some at)
+    → Matches stop (step h asked reading guard)
+told_by_shapes h asked reading guard stop why =
+    subst (λ s. Matches s (step h asked reading guard)) (sym why.1) (unshaped h asked reading guard why.0 why.2)
+
+pub told_by_names : (h : List Entry) (fs : List Form) (reading : ℤ) (guard : Guard)
+    → first_refusal (schema_rules (db_of h) (flat (facts h) fs)) ≡ None
+    → (stop : TxStop) → StopsBy (first_refusal (resolve_rules (db_of h) (flat (facts h) fs))) stop
+    → Matches stop (shaped_step h fs reading guard)
 told_by_names h fs reading guard none (Refused refusal) told = refused_by_names h fs reading guard refusal none told
 told_by_names h fs reading guard none Memory told = tt
 
 pub told_by_schema : (h : List Entry) (fs : List Form) (reading : ℤ) (guard : Guard) (schema : List Datom) (stop : TxStop)
-    → IfRefused stop (λ refusal. (h : List Entry) → SchemaStands schema h → first_refusal (schema_rules (db_of h) (flat (facts h) fs)) ≡ Some refusal)
-    → SchemaStands schema h → Tells stop (shaped_step h fs reading guard)
+    → IfRefused stop
+    (λ refusal. (h : List Entry) → SchemaStands schema h → first_refusal (schema_rules (db_of h) (flat (facts h) fs)) ≡ Some refusal)
+    → SchemaStands schema h → Matches stop (shaped_step h fs reading guard)
 told_by_schema h fs reading guard schema (Refused refusal) told stands = refused_by_schema h fs reading guard refusal (told h stands)
 told_by_schema h fs reading guard schema Memory told stands = tt
+
+pub told_by_changes : (o : Option Refusal) (decision : Decision) (stop : TxStop) → StopsBy o stop → Matches stop (refusal_or o decision)
+told_by_changes o decision (Refused refusal) told = ap (λ rule. refusal_or rule decision) told
+told_by_changes o decision Memory told = tt
 
 -- ---- room for an instant
 
@@ -130,10 +155,13 @@ not_whole true none = absurd (true≢false (sym none))
 not_whole false none = refl
 
 full_kept : (tx : Transaction) → first_refusal (change_rules tx) ≡ None → breaks_full tx ≡ false
-full_kept tx none = not_whole (breaks_full tx) (all_pass is_kept (change_rules tx) 7 (NotAForm, None) (all_kept (change_rules tx) none) (omega arith))
+full_kept tx none =
+    not_whole (breaks_full tx) (all_pass is_kept (change_rules tx) 7 (NotAForm, None) (all_kept (change_rules tx) none) (omega arith))
 
 below : (a b : ℤ) → int_lt a b ≡ true → a <ℤ b
 below a b same = omega (arith, ints)
 
 pub room_left : (tx : Transaction) → first_refusal (change_rules tx) ≡ None → last_instant tx.db.history <ℤ greatest_instant
-room_left tx none = below (last_instant tx.db.history) greatest_instant (is_true (int_lt (last_instant tx.db.history) greatest_instant) (or_parts _ _ (full_kept tx none)).1)
+room_left tx none =
+    below (last_instant tx.db.history) greatest_instant
+    (is_true (int_lt (last_instant tx.db.history) greatest_instant) (or_parts _ _ (full_kept tx none)).1)

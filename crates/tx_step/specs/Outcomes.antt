@@ -1,5 +1,6 @@
--- The step of forms that have a shape, and what a stop tells of it. This project's own choice; running out of memory tells nothing.
-use Rattle.std.specs.Prelude.{◌≡◌, ℤ, List, Option, Some, None, Result, Ok, Err, ⊤}
+-- The step of forms that have a shape, and what a stop says of it.
+-- This project's own choice; running out of memory says nothing.
+use Rattle.std.specs.Prelude.{◌≡◌, ℤ, List, Option, Some, None, ⊤}
 use Rattle.edn_model.specs.Form.{Form}
 use Rattle.fb_values.specs.declared.facts.Entry.{Entry}
 use Rattle.tx_refusals.specs.declared.reasons.Refusal.{Refusal}
@@ -7,27 +8,28 @@ use Rattle.tx_forms.specs.declared.read.TxStop.{TxStop}
 use Rattle.tx_forms.specs.declared.read.TxStop.TheVariants.{Refused, Memory}
 use Rattle.tx_model.specs.Tempids.{db_of}
 use Rattle.tx_model.specs.Transaction.{Transaction, transaction}
-use Rattle.tx_model.specs.Step.{Decision, refused, accepted, Guard, broken_rules, first_refusal, unless_refused}
-use Rattle.tx_step.specs.declared.deciding.Accepted.{Accepted}
+use Rattle.tx_model.specs.Step.{Decision, refused, Guard, broken_rules, first_refusal}
+use Rattle.tx_model.specs.Step.{unless_refused, under_guard}
+use Rattle.tx_rules.specs.Rules.{change_rules}
 use Rattle.tx_asks.specs.Acts.{Act, AreActs}
 
-abbrev pub Tells : TxStop → Decision → Type 0
-Tells (Refused refusal) decision = decision ≡ refused refusal
-Tells Memory decision = ⊤
-
--- an answer as a decision
-abbrev pub decision_of : Result Accepted Refusal → Decision
-decision_of (Ok done) = accepted done.entry done.tempids.items
-decision_of (Err refusal) = refused refusal
+abbrev pub Matches : TxStop → Decision → Type 0
+Matches (Refused refusal) decision = decision ≡ refused refusal
+Matches Memory decision = ⊤
 
 -- the refusal, or what there is without one
-abbrev pub told_or : Option Refusal → Decision → Decision
-told_or (Some refusal) decision = refused refusal
-told_or None decision = decision
+abbrev pub refusal_or : Option Refusal → Decision → Decision
+refusal_or (Some refusal) decision = refused refusal
+refusal_or None decision = decision
 
 abbrev pub shaped_step : List Entry → List Form → ℤ → Guard → Decision
 shaped_step h fs reading guard =
     unless_refused h fs reading guard (first_refusal (broken_rules (transaction h fs)))
+
+-- the step of a transaction that breaks no rule on forms and names
+abbrev pub judged_step : List Entry → Transaction → ℤ → Guard → Decision
+judged_step h tx reading guard =
+    refusal_or (first_refusal (change_rules tx)) (under_guard h tx reading (guard h tx.changes))
 
 -- the acts are those of a transaction at the history
 pub record IsSomeTransaction (h : List Entry) (acts : List (List Act)) : Type 0 where

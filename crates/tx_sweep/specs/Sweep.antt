@@ -1,6 +1,7 @@
 -- What retractions have found so far, and what one more finds.
 -- Datomic, Transaction Data (:db/retract without a value, :db/retractEntity).
-use Rattle.std.specs.Prelude.{◌≡◌, ℕ, Bool, false, not, ◌&&◌, ◌||◌, List, ◌++◌, map, filter_map, nat_eq, nat_le, if◌then◌else◌, IsTrue, Contains, Option, None, Vec}
+use Rattle.std.specs.Prelude.{◌≡◌, ℕ, Bool, false, not, ◌&&◌, ◌||◌, List, ◌++◌, map, filter_map}
+use Rattle.std.specs.Prelude.{nat_eq, nat_le, if◌then◌else◌, IsTrue, Contains, Option, None, Vec}
 use Rattle.std.specs.List.{All, list_any, list_all}
 use Rattle.std.specs.Ordering.{nat_cmp, ordering_then}
 use Rattle.std.specs.declared.cmp.Ordering.{Ordering}
@@ -12,13 +13,13 @@ use Rattle.fb_values.specs.declared.facts.Value.{Value}
 use Rattle.fb_values.specs.declared.facts.Value.TheVariants.{Ref}
 use Rattle.fb_model.specs.Facts.{is_of, Holds}
 use Rattle.fb_model.specs.Schema.{entity_in, is_part}
-use Rattle.fb_facts.specs.Told.{facts_of, refs_to}
+use Rattle.fb_facts.specs.FactLists.{facts_of, refs_to}
 use Rattle.tx_model.specs.Changes.{component_links}
 use Rattle.tx_asks.specs.declared.acts.Act as program
 use Rattle.tx_asks.specs.declared.triples.Asking.{Asking}
 use Rattle.tx_asks.specs.Acts.{Act, acts_in}
 use Rattle.tx_asks.specs.Triples.{is_asking_of}
-use Rattle.tx_sweep.specs.declared.found.Found.{Found}
+use Rattle.tx_sweep.specs.declared.found.Sweep.{Sweep}
 
 abbrev pub acts_of : List (Vec program.Act Global) → List (List Act)
 acts_of forms = acts_in (map (λ form. form.items) forms)
@@ -36,13 +37,13 @@ asking_at place d = value_at place d.e d.a d.v
 abbrev pub IsHeld : List Entry → Asking → Type 0
 IsHeld h asking = Holds h asking.e asking.a asking.v
 
--- all that is said of an entity
+-- all facts of an entity, and all references to it
 abbrev pub said_of : List Entry → ℕ → ℕ → List Asking
 said_of h place e = map (asking_at place) (facts_of h e) ++ map (asking_at place) (refs_to h e)
 
 -- the triple is asked by the form at the place, or by an earlier one
-abbrev pub is_told : ℕ → List Asking → Datom → Bool
-is_told place askings d =
+abbrev pub is_asked_upto : ℕ → List Asking → Datom → Bool
+is_asked_upto place askings d =
     list_any (λ asking. is_asking_of d asking && nat_le asking.place place) askings
 
 -- ---- parts
@@ -56,13 +57,13 @@ keeps has links = list_all (λ (link : ℕ × ℕ). not (has link.0) || has link
 
 -- ---- what was found
 
-abbrev pub has_visited : Found → ℕ → Bool
+abbrev pub has_visited : Sweep → ℕ → Bool
 has_visited found e = contains nat_cmp found.visited e
 
 abbrev pub pair_cmp : ℕ × ℕ → ℕ × ℕ → Ordering
 pair_cmp x y = ordering_then (nat_cmp x.0 y.0) (nat_cmp x.1 y.1)
 
-abbrev pub has_pair : Found → ℕ → ℕ → Bool
+abbrev pub has_pair : Sweep → ℕ → ℕ → Bool
 has_pair found e a = contains pair_cmp found.pairs (e, a)
 
 abbrev pub is_ref_to_one : (ℕ → Bool) → Value → Bool
@@ -73,30 +74,31 @@ is_ref_to_one has v = false
 abbrev pub is_about_one : (ℕ → Bool) → Datom → Bool
 is_about_one has d = has d.e || is_ref_to_one has d.v
 
--- the visited entities are visited with their parts, and what they and the pairs stand for was found, up to the form at the place
-pub record AreSwept (facts : List Datom) (place : ℕ) (found : Found) : Type 0 where
+-- the visited entities are visited with their parts,
+-- and all that they and the pairs retract was found, up to the form at the place
+pub record AreSwept (facts : List Datom) (place : ℕ) (found : Sweep) : Type 0 where
   pub closed : IsTrue (keeps (has_visited found) (component_links facts))
   pub about : (d : Datom) → Contains facts d → IsTrue (is_about_one (has_visited found) d)
-      → IsTrue (is_told place found.askings.items d)
+      → IsTrue (is_asked_upto place found.askings.items d)
   pub paired : (d : Datom) → Contains facts d → IsTrue (has_pair found d.e d.a)
-      → IsTrue (is_told place found.askings.items d)
+      → IsTrue (is_asked_upto place found.askings.items d)
 
 abbrev pub IsAskedOf : ℕ → List Datom → Asking → Type 0
 IsAskedOf place asked asking =
     (asking.place ≡ place) × IsTrue (list_any (is_of asking.e asking.a asking.v) asked)
 
 -- from what was found to what is found then, where the form at the place asks these triples
-pub record Sweeps (facts : List Datom) (place : ℕ) (asked : List Datom) (before after : Found)
+pub record Sweeps (facts : List Datom) (place : ℕ) (asked : List Datom) (before after : Sweep)
     : Type 0 where
   pub more : List Asking
   pub grown : after.askings.items ≡ before.askings.items ++ more
   pub asks : All (IsAskedOf place asked) more
-  pub told : (d : Datom) → Contains asked d → IsTrue (is_told place after.askings.items d)
+  pub told : (d : Datom) → Contains asked d → IsTrue (is_asked_upto place after.askings.items d)
   pub kept : AreSwept facts place after
 
 -- a visit of one entity
 pub record Visits (h : List Entry) (schema : List Datom) (place e : ℕ) (stack rest : List ℕ)
-    (before after : Found) : Type 0 where
+    (before after : Sweep) : Type 0 where
   pub visited : (x : ℕ) → has_visited after x ≡ (nat_eq e x || has_visited before x)
   pub pairs : (x a : ℕ) → has_pair after x a ≡ has_pair before x a
   pub askings : after.askings.items

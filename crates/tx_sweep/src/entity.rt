@@ -1,24 +1,24 @@
-//! What is said of an entity and its parts.
+//! The facts of an entity and its parts.
 ghost use Rattle.std.specs.Prelude.{◌≡◌, ◌++◌, filter_map, OnOk};
 ghost use Rattle.fb_model.specs.Facts.{facts as facts_in};
-ghost use Rattle.fb_facts.specs.Told.{facts_of};
+ghost use Rattle.fb_facts.specs.FactLists.{facts_of};
 ghost use Rattle.fb_schema.specs.Described.{SchemaStands};
 ghost use Rattle.tx_model.specs.Tempids.{db_of};
 ghost use Rattle.tx_model.specs.Changes.{set_withdrawn};
 ghost use Rattle.tx_sweep.specs.Sweep.{part_to, said_of, AreSwept, Sweeps, Visits};
 
-use crate::found::{Found, push_facts, push_parts};
-use fb_facts::{Facts, told_lists_are_the_rising_ones};
+use crate::found::{Sweep, push_facts, push_parts};
+use fb_facts::{Facts, the_lists_are_the_rising_ones};
 use fb_memory::Memory;
 use fb_schema::{Schema, schemas_tell_of_attributes};
 use std::alloc::Global;
 use tx_asks::Asking;
 
-/// Finds all that is said of the entity, its parts, theirs and so on, and what refers to them. An entity that was visited before
+/// Finds all facts of the entity, its parts, theirs and so on, and what refers to them. An entity that was visited before
 /// was visited with all its parts, so the visit ends there.
 pub fn sweep_entity<F: Facts>(
     alloc: Global,
-    found: &mut Found,
+    found: &mut Sweep,
     place: usize,
     e: u64,
     facts: &F,
@@ -29,7 +29,7 @@ pub fn sweep_entity<F: Facts>(
         → OnOk result (Sweeps (facts_in (F.history facts.now)) place
         (set_withdrawn (db_of (F.history facts.now)) e) found.old found.new) }
 {
-    told_lists_are_the_rising_ones();
+    the_lists_are_the_rising_ones();
     schemas_tell_of_attributes();
     let mut stack = Vec::new(alloc);
     stack.push(e)?;
@@ -39,9 +39,9 @@ pub fn sweep_entity<F: Facts>(
     Ok(())
 }
 
-/// Finds what is said of the entity, unless it was visited before, and puts its parts on the stack.
+/// Finds the facts of the entity, unless it was visited before, and puts its parts on the stack.
 fn visit<F: Facts>(
-    found: &mut Found,
+    found: &mut Sweep,
     stack: &mut Vec<u64>,
     place: usize,
     e: u64,

@@ -11,7 +11,7 @@ use tx_asks::Asking;
 
 /// What was found, and what need not be looked for again.
 #[derive(Drop)]
-pub struct Found {
+pub struct Sweep {
     /// The entities to which a retraction of an entity has come.
     pub visited: BTreeSet<u64>,
     /// The entities and attributes of which every value was found.
@@ -53,7 +53,7 @@ pub fn push_values(
     Ok(())
 }
 
-/// Adds the parts that the facts tell of.
+/// Adds the parts that the facts name.
 pub fn push_parts(stack: &mut Vec<u64>, schema: &Schema, facts: &[Datom]) -> Result<(), Memory>
     ensures { OnOk result
         (stack.new.items ≡ stack.old.items ++ filter_map (part_to schema.now) facts.now) }
@@ -66,7 +66,7 @@ pub fn push_parts(stack: &mut Vec<u64>, schema: &Schema, facts: &[Datom]) -> Res
     Ok(())
 }
 
-/// The part that the fact tells of: a value under a component attribute.
+/// The part that the fact names: a value under a component attribute.
 fn part_in(schema: &Schema, d: &Datom) -> Option<u64>
     ensures { result ≡ part_to schema.now d.now }
 {

@@ -1,4 +1,4 @@
-//! What the retractions of a transaction find in the database: every value of an attribute, and all that is said of an entity
+//! What the retractions of a transaction find in the database: every value of an attribute, and all facts of an entity
 //! and its parts. Each fact is found once, whatever how many forms ask for it.
 #![tactic(auto)]
 

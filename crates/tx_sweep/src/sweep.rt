@@ -6,13 +6,13 @@ ghost use Rattle.fb_schema.specs.Described.{SchemaStands};
 ghost use Rattle.tx_model.specs.Tempids.{db_of};
 ghost use Rattle.tx_model.specs.Changes.{withdrawn};
 ghost use Rattle.tx_model.specs.Transaction.{Transaction};
-ghost use Rattle.tx_asks.specs.Acts.{seen, sweeps_of, AreActs};
+ghost use Rattle.tx_asks.specs.Acts.{model_act, sweeps_of, AreActs};
 ghost use Rattle.tx_asks.specs.Triples.{AreAskings};
 ghost use Rattle.tx_sweep.specs.Sweep.{acts_of, IsHeld, AreSwept, Sweeps};
 
 use crate::entity::sweep_entity;
-use crate::found::{Found, push_values};
-use fb_facts::{Facts, told_lists_are_the_rising_ones};
+use crate::found::{Sweep, push_values};
+use fb_facts::{Facts, the_lists_are_the_rising_ones};
 use fb_memory::Memory;
 use fb_model::facts_are_what_holds;
 use fb_schema::Schema;
@@ -34,7 +34,7 @@ pub fn swept<F: Facts>(
 {
     acts_ask_what_asks_do();
     facts_are_what_holds();
-    let Found { askings, .. } = sweep_forms(alloc, forms, facts, schema)?;
+    let Sweep { askings, .. } = sweep_forms(alloc, forms, facts, schema)?;
     Ok(askings)
 }
 
@@ -43,13 +43,13 @@ fn sweep_forms<F: Facts>(
     forms: &[Vec<Act<'_>>],
     facts: &F,
     schema: &Schema,
-) -> Result<Found, Memory>
+) -> Result<Sweep, Memory>
     requires { SchemaStands schema.now (F.history facts.now) }
     ensures { IfOk result (λ found. AreAskings
         (map (flat_map (sweeps_of (db_of (F.history facts.now)))) (acts_of forms.now))
         found.askings.items) }
 {
-    let mut found = Found {
+    let mut found = Sweep {
         visited: BTreeSet::new(alloc),
         pairs: BTreeSet::new(alloc),
         askings: Vec::new(alloc),
@@ -62,7 +62,7 @@ fn sweep_forms<F: Facts>(
 
 fn sweep_form<F: Facts>(
     alloc: Global,
-    found: &mut Found,
+    found: &mut Sweep,
     place: usize,
     acts: &[Act<'_>],
     facts: &F,
@@ -71,7 +71,7 @@ fn sweep_form<F: Facts>(
     requires { SchemaStands schema.now (F.history facts.now) }
     ensures { AreSwept (facts_in (F.history facts.now)) place found.old
         → OnOk result (Sweeps (facts_in (F.history facts.now)) place
-        (flat_map (sweeps_of (db_of (F.history facts.now))) (map seen acts.now)) found.old
+        (flat_map (sweeps_of (db_of (F.history facts.now))) (map model_act acts.now)) found.old
         found.new) }
 {
     for act in acts {
@@ -82,7 +82,7 @@ fn sweep_form<F: Facts>(
 
 fn sweep_act<F: Facts>(
     alloc: Global,
-    found: &mut Found,
+    found: &mut Sweep,
     place: usize,
     act: &Act<'_>,
     facts: &F,
@@ -91,7 +91,7 @@ fn sweep_act<F: Facts>(
     requires { SchemaStands schema.now (F.history facts.now) }
     ensures { AreSwept (facts_in (F.history facts.now)) place found.old
         → OnOk result (Sweeps (facts_in (F.history facts.now)) place
-        (sweeps_of (db_of (F.history facts.now)) (seen act.now)) found.old found.new) }
+        (sweeps_of (db_of (F.history facts.now)) (model_act act.now)) found.old found.new) }
 {
     match act {
         Act::RetractsAll { e, attribute } => sweep_values(found, place, *e, attribute.id, facts),
@@ -102,7 +102,7 @@ fn sweep_act<F: Facts>(
 
 /// Finds every value of the entity under the attribute, unless they were found before.
 fn sweep_values<F: Facts>(
-    found: &mut Found,
+    found: &mut Sweep,
     place: usize,
     e: u64,
     a: u64,
@@ -114,7 +114,7 @@ fn sweep_values<F: Facts>(
         (filter (λ d. nat_eq d.e e && nat_eq d.a a) (facts_in (F.history facts.now))))
         found.old found.new) }
 {
-    told_lists_are_the_rising_ones();
+    the_lists_are_the_rising_ones();
     if !found.pairs.insert((e, a))? {
         return Ok(());
     }

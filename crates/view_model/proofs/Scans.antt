@@ -24,25 +24,36 @@ one_in_view h w filters order range lawful =
   where
     was_said : (x : Datom) → Contains (filter (is_scanned (facts h) order range) (view h w filters)) x → Contains (said h) x
     was_said x member =
-        (seen_is_said h w x (kept (is_selected_by filters) (seen h w) x (kept (is_scanned (facts h) order range) (view h w filters) x member).member).member).member
+        (seen_is_said h w x (kept (is_selected_by filters) (seen h w) x
+        (kept (is_scanned (facts h) order range) (view h w filters) x member).member).member).member
 
 pub scan-IsScan : (h : List Entry) (w : Window) (filters : List (Datom → Bool)) (order : Order) (range : Range) → IsLawful h
     → IsScan h w (λ d. IsTrue (is_selected_by filters d)) order range (scan h w filters order range)
 scan-IsScan h w filters order range lawful =
-    record { rising = in_order-rises order (filter (is_scanned (facts h) order range) (view h w filters)); members = λ d. (forth d, back d) }
+    record {
+      rising = in_order-rises order (filter (is_scanned (facts h) order range) (view h w filters));
+      members = λ d. (forth d, back d);
+    }
   where
-    forth : (d : Datom) → Contains (scan h w filters order range) d → InView h w (λ d. IsTrue (is_selected_by filters d)) d × IsTrue (is_scanned (facts h) order range d)
+    forth : (d : Datom) → Contains (scan h w filters order range) d
+        → InView h w (λ d. IsTrue (is_selected_by filters d)) d × IsTrue (is_scanned (facts h) order range d)
     forth d member =
-        let scanned = kept (is_scanned (facts h) order range) (view h w filters) d (in_order_member order (filter (is_scanned (facts h) order range) (view h w filters)) d member) in
+        let scanned =
+        kept (is_scanned (facts h) order range) (view h w filters) d
+        (in_order_member order (filter (is_scanned (facts h) order range) (view h w filters)) d member) in
         let selected = kept (is_selected_by filters) (seen h w) d scanned.member in
         (record { is_seen = selected.member; is_selected = selected.passes }, scanned.passes)
 
-    back : (d : Datom) → InView h w (λ d. IsTrue (is_selected_by filters d)) d × IsTrue (is_scanned (facts h) order range d) → Contains (scan h w filters order range) d
+    back : (d : Datom) → InView h w (λ d. IsTrue (is_selected_by filters d)) d × IsTrue (is_scanned (facts h) order range d)
+        → Contains (scan h w filters order range) d
     back d is =
         in_order_has order (filter (is_scanned (facts h) order range) (view h w filters)) (one_in_view h w filters order range lawful) d
-        (keep (is_scanned (facts h) order range) (view h w filters) d (keep (is_selected_by filters) (seen h w) d is.0.is_seen is.0.is_selected) is.1)
+        (keep (is_scanned (facts h) order range) (view h w filters) d
+        (keep (is_selected_by filters) (seen h w) d is.0.is_seen is.0.is_selected) is.1)
 
 -- there is one such list
-pub IsRisingListOf-one : (order : Order) (P : Datom → Type 0) (ds es : List Datom) → IsRisingListOf order ds P → IsRisingListOf order es P → ds ≡ es
+pub IsRisingListOf-one : (order : Order) (P : Datom → Type 0) (ds es : List Datom) → IsRisingListOf order ds P → IsRisingListOf order es P
+    → ds ≡ es
 IsRisingListOf-one order P ds es first second =
-    one_rising_list order ds es first.rising second.rising (λ d member. (second.members d).1 ((first.members d).0 member)) (λ d member. (first.members d).1 ((second.members d).0 member))
+    one_rising_list order ds es first.rising second.rising (λ d member. (second.members d).1 ((first.members d).0 member))
+    (λ d member. (first.members d).1 ((second.members d).0 member))

@@ -1,5 +1,6 @@
 -- Histories for the examples. This project's own choice.
-use Rattle.std.specs.Prelude.{ℕ, ℤ, pos, ◌-ℤ◌, Bool, true, false, not, nat_eq, nat_lt, List, [], ◌∷◌, ◌++◌, codes, Some, None}
+use Rattle.std.specs.Prelude.{ℕ, ℤ, pos, ◌-ℤ◌, Bool, true, false, not, nat_eq, nat_lt, List, []}
+use Rattle.std.specs.Prelude.{◌∷◌, ◌++◌, codes, Some, None}
 use Rattle.fb_values.specs.declared.facts.Datom.{Datom}
 use Rattle.fb_values.specs.declared.facts.Entry.{Entry}
 use Rattle.fb_values.specs.declared.facts.Value.{Value}
@@ -7,7 +8,9 @@ use Rattle.fb_values.specs.declared.facts.Value.TheVariants.{Keyword, Str, Ref, 
 use Rattle.fb_values.specs.declared.indexes.Order.{Order}
 use Rattle.fb_values.specs.declared.indexes.Order.TheVariants.{Eavt, Aevt}
 use Rattle.fb_values.specs.declared.indexes.Probe.{Probe}
-use Rattle.fb_numbers.specs.Numbers.{transaction_of, user_entity, ident, value_type, cardinality, unique, tx_instant, doc, type_long, type_string, cardinality_one, unique_identity}
+use Rattle.fb_numbers.specs.Numbers.{transaction_of, user_entity, ident, value_type, cardinality}
+use Rattle.fb_numbers.specs.Numbers.{unique, tx_instant, doc, type_long, type_string}
+use Rattle.fb_numbers.specs.Numbers.{cardinality_one, unique_identity}
 use Rattle.fb_model.specs.FirstEntry.{first_entry}
 use Rattle.view_model.specs.Window.{Window}
 use Rattle.view_model.specs.Names.{Id, lookup}

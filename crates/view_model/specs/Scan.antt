@@ -1,7 +1,8 @@
 -- Scans: the datoms of a view that an index holds, from a range of it, in its order; and the
 -- transactions of the log.
 -- Datomic, Indexes (datoms, seek-datoms, index-range) and Log API (tx-range).
-use Rattle.std.specs.Prelude.{ℕ, Bool, true, not, ◌&&◌, List, filter, nat_eq, nat_le, nat_lt, Option, IsTrue}
+use Rattle.std.specs.Prelude.{ℕ, Bool, true, not, ◌&&◌, List, filter, nat_eq, nat_le, nat_lt}
+use Rattle.std.specs.Prelude.{Option, IsTrue}
 use Rattle.std.specs.Option.{option_map_or}
 use Rattle.std.specs.Ordering.{is_lt, is_eq, is_gt}
 use Rattle.fb_values.specs.Orders.{value_cmp, probe_cmp}
@@ -19,9 +20,9 @@ use Rattle.view_model.specs.View.{InView, view}
 pub data Range : Type 0 where
   -- the datoms that have the probe's leading components
   leading : Probe → Range
-  -- those that are not below the probe
+  -- the datoms that are not below the probe
   not_below : Probe → Range
-  -- those of an attribute, with a value from the first one on and before the second
+  -- the datoms of an attribute, with a value from the first one on and before the second
   between : ℕ → Option Value → Option Value → Range
 
 abbrev pub is_in : Range → Datom → Bool

@@ -1,6 +1,6 @@
 -- What the lists of datoms that a database keeps stand for: trees for the entries up to a coverage,
 -- live lists for what came later, and a snapshot for a whole history. This project's own choice;
--- Datomic, Indexes, tells of the merging.
+-- Datomic, Indexes, describes the merging.
 use Rattle.std.specs.Prelude.{◌≡◌, ◌≤◌, ◌<◌, ◌⊎◌, ℕ, List, Contains, IsTrue, IsFalse}
 use Rattle.fb_values.specs.declared.facts.Datom.{Datom}
 use Rattle.fb_values.specs.declared.facts.Entry.{Entry}

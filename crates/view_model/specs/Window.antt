@@ -1,7 +1,8 @@
 -- Windows: which transactions a view sees, whether it sees their history, and how as-of and since
 -- change that.
 -- Datomic, Database Filters and Log API.
-use Rattle.std.specs.Prelude.{ℕ, ◌+◌, ◌-◌, ℤ, Bool, true, false, ◌&&◌, List, filter, length, min, max, nat_lt, nat_le, int_le, if◌then◌else◌, Option, Some, None}
+use Rattle.std.specs.Prelude.{ℕ, ◌+◌, ◌-◌, ℤ, Bool, true, false, ◌&&◌, List, filter, length, min}
+use Rattle.std.specs.Prelude.{max, nat_lt, nat_le, int_le, if◌then◌else◌, Option, Some, None}
 use Rattle.fb_values.specs.declared.facts.Datom.{Datom}
 use Rattle.fb_values.specs.declared.facts.Entry.{Entry}
 use Rattle.fb_numbers.specs.Numbers.{transaction_of, greatest_t}
@@ -31,7 +32,7 @@ with_history w = record { from = w.from; to = w.to; history = true }
 abbrev pub without_history : Window → Window
 without_history w = record { from = w.from; to = w.to; history = false }
 
--- ---- points in time: the end of a point is the t behind the last transaction up to it
+-- ---- points in time: the end of a point is the t after the last transaction up to it
 
 -- of a t, or of the entity of a transaction; another number is no point
 abbrev pub end_of_number : ℕ → Option ℕ

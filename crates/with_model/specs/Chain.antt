@@ -10,26 +10,26 @@ use Rattle.fb_model.specs.History.{basis}
 use Rattle.view_model.specs.Window.{Window, whole}
 use Rattle.tx_model.specs.Step.{Decision, refused, accepted, Guard, step}
 
--- what is told of one of the transactions: its t, and the entities of its tempids
-pub record Told : Type 0 where
+-- the report of one of the transactions: its t, and the entities of its tempids
+pub record TxReport : Type 0 where
   pub t : ℕ
   pub tempids : List (List ℕ × ℕ)
 
 pub data Chain : Type 0 where
-  -- the history with the entries of all of them, and what is told of each
-  reaches : List Entry → List Told → Chain
+  -- the history with the entries of all of them, and the report of each
+  reaches : List Entry → List TxReport → Chain
   -- the refusal of the first that is refused, and the basis at which it was judged
   refused_at : Decision → ℕ → Chain
 
-abbrev pub with_told : List Told → Chain → Chain
-with_told before (reaches h told) = reaches h (before ++ told)
-with_told before (refused_at refusal at) = refused_at refusal at
+abbrev pub with_reports : List TxReport → Chain → Chain
+with_reports before (reaches h reports) = reaches h (before ++ reports)
+with_reports before (refused_at refusal at) = refused_at refusal at
 
--- what comes of a transaction at the history, and of those behind it
+-- what comes of a transaction at the history, and of those after it
 abbrev pub chained : List Entry → Decision → (List Entry → Chain) → Chain
 chained h (refused refusal) behind = refused_at (refused refusal) (basis h)
 chained h (accepted entry tempids) behind =
-    with_told (record { t = entry.t; tempids = tempids } ∷ []) (behind (h ++ entry ∷ []))
+    with_reports (record { t = entry.t; tempids = tempids } ∷ []) (behind (h ++ entry ∷ []))
 
 -- each at the least instant that a clock may read, so that its own instant is the last one and a
 -- millisecond
@@ -38,9 +38,9 @@ chain guard h [] = reaches h []
 chain guard h (asked ∷ rest) =
     chained h (step h asked least_instant guard) (λ next. chain guard next rest)
 
--- more transactions behind a chain
+-- more transactions after a chain
 abbrev pub continued : Guard → Chain → List Form → Chain
-continued guard (reaches h told) more = with_told told (chain guard h more)
+continued guard (reaches h reports) more = with_reports reports (chain guard h more)
 continued guard (refused_at refusal at) more = refused_at refusal at
 
 -- ---- database values that transactions may be tried on

@@ -10,7 +10,7 @@ use Rattle.fb_model.specs.Facts.{facts, value_of}
 use Rattle.tx_model.specs.Samples.{string, number, vector, tempid, user, add, doc}
 use Rattle.tx_model.specs.SampleHistories.{one_text}
 use Rattle.tx_model.specs.Step.{no_guard}
-use Rattle.with_model.specs.Chain.{Told, Chain, reaches, refused_at, chain}
+use Rattle.with_model.specs.Chain.{TxReport, Chain, reaches, refused_at, chain}
 
 -- a transaction that gives an entity a text
 abbrev pub says : Form → List ℕ → Form
@@ -36,9 +36,9 @@ no_entity_text = says (number 99) (codes "2")
 abbrev pub tried : List Form → Chain
 tried asked = chain no_guard one_text asked
 
-abbrev pub told_in : Chain → List (ℕ × List (List ℕ × ℕ))
-told_in (reaches h told) = map (λ (one : Told). (one.t, one.tempids)) told
-told_in (refused_at refusal at) = []
+abbrev pub reports_in : Chain → List (ℕ × List (List ℕ × ℕ))
+reports_in (reaches h reports) = map (λ (one : TxReport). (one.t, one.tempids)) reports
+reports_in (refused_at refusal at) = []
 
 abbrev text_from : Option Value → List ℕ
 text_from (Some (Str text)) = text
@@ -46,13 +46,13 @@ text_from other = []
 
 -- the text of the first user entity in the history that the chain comes to
 abbrev pub text_in : Chain → List ℕ
-text_in (reaches h told) = text_from (value_of (facts h) (numbers.user_entity 1) numbers.doc)
+text_in (reaches h reports) = text_from (value_of (facts h) (numbers.user_entity 1) numbers.doc)
 text_in (refused_at refusal at) = []
 
 abbrev pub basis_in : Chain → ℕ
-basis_in (reaches h told) = basis h
+basis_in (reaches h reports) = basis h
 basis_in (refused_at refusal at) = at
 
 abbrev pub is_refused : Chain → Bool
-is_refused (reaches h told) = false
+is_refused (reaches h reports) = false
 is_refused (refused_at refusal at) = true

@@ -3,15 +3,15 @@ ghost use Rattle.std.specs.Prelude.{◌≡◌, [], ◌∷◌, codes, true, false
 ghost use Rattle.fb_numbers.specs.Numbers.{user_entity};
 ghost use Rattle.view_model.specs.Window.{whole, as_of, since, with_history};
 ghost use Rattle.with_model.specs.Chain.{is_unfiltered};
-ghost use Rattle.with_model.specs.Samples.{told_in, text_in, basis_in, is_refused, tried, new_text, other_text, second_text, no_entity_text};
+ghost use Rattle.with_model.specs.Samples.{reports_in, text_in, basis_in, is_refused, tried, new_text, other_text, second_text, no_entity_text};
 
-/// Another text is tried: it is told, and the history that it comes to has it, while the history
+/// Another text is tried: it has a report, and the history that it comes to has it, while the history
 /// has its own.
 pub fn tried_texts()
-    ensures told { told_in (tried (other_text ∷ [])) ≡ (2, []) ∷ [] }
+    ensures told { reports_in (tried (other_text ∷ [])) ≡ (2, []) ∷ [] }
     ensures tried { text_in (tried (other_text ∷ [])) ≡ codes "ho" }
     ensures none { text_in (tried []) ≡ codes "hi" }
-    ensures two { told_in (tried (new_text ∷ second_text ∷ []))
+    ensures two { reports_in (tried (new_text ∷ second_text ∷ []))
         ≡ (2, (codes "y", user_entity 2) ∷ []) ∷ (3, []) ∷ [] }
 {}
 

@@ -7,16 +7,16 @@ ghost use Rattle.fb_model.specs.History.{last_instant, next_instant};
 ghost use Rattle.fb_model.specs.Lawful.{IsLawful};
 ghost use Rattle.tx_model.specs.Transaction.{transaction};
 ghost use Rattle.tx_model.specs.Step.{Guard, step, accepted, entry_of};
-ghost use Rattle.with_model.specs.Chain.{Told, reaches, chain, continued};
+ghost use Rattle.with_model.specs.Chain.{TxReport, reaches, chain, continued};
 
 /// What a chain comes to begins with its history and is lawful, and it has one entry more for each
-/// transaction, of which each is told.
+/// transaction, of which each has a report.
 pub fn a_chain_keeps_its_history()
-    ensures lawful { (guard : Guard) (h reached : List Entry) (asked : List Form) (told : List Told)
+    ensures lawful { (guard : Guard) (h reached : List Entry) (asked : List Form) (told : List TxReport)
         → IsLawful h
         → chain guard h asked ≡ reaches reached told
         → IsLawful reached }
-    ensures begins { (guard : Guard) (h reached : List Entry) (asked : List Form) (told : List Told)
+    ensures begins { (guard : Guard) (h reached : List Entry) (asked : List Form) (told : List TxReport)
         → chain guard h asked ≡ reaches reached told
         → (entries : List Entry)
         × (reached ≡ h ++ entries)

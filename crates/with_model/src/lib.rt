@@ -1,5 +1,5 @@
 //! Speculative transactions, as definitions in `specs/`. The functions here are laws about them,
-//! and examples: each has an empty body, and its contract is the law. How two clocks tell in a
+//! and examples: each has an empty body, and its contract is the law. How two clocks matter in a
 //! transaction is a law of `tx_model`.
 #![tactic(auto)]
 

@@ -47,7 +47,7 @@ impl Database {
         self.entities
     }
 
-    /// Grows by so many entities. The t of the last transaction is told.
+    /// Grows by so many entities, and gives the t of the last transaction.
     pub(crate) fn accept<R: Threads + Sync>(&mut self, rt: &R, count: u32) -> Result<u32> {
         for _ in 0..count {
             let form = self.names.new_entity(self.alloc, self.entities)?;

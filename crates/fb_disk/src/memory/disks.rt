@@ -1,22 +1,22 @@
 //! The disk in memory as a disk: each call, with what it leaves and when it fails.
 ghost use Rattle.std.specs.Prelude.{◌≡◌, ◌≤◌, ◌<◌, ◌+◌, ◌-◌, ◌^◌, ◌++◌, [], ◌∷◌, IfOk, OnOk, OnErr, is_err, length, nat_le, take, drop, min, option_map};
-ghost use Rattle.fb_calls.specs.Calls.{no_calls, fails_next, after_call, after_fault};
-ghost use Rattle.fb_calls.specs.Faults.{Counts};
-ghost use Rattle.disk_model.specs.Disk.{written, Torn, TornCut, Follows, Within, Only, WhereTold, Reads, Elapses};
+ghost use Rattle.io_faults.specs.Calls.{no_calls, fails_next, after_call, after_fault};
+ghost use Rattle.io_faults.specs.Faults.{Counts};
+ghost use Rattle.disk_model.specs.Disk.{written, Torn, TornCut, Follows, Within, Only, IfKnown, Reads, Elapses};
 ghost use Rattle.disk_model.specs.Record.{wrote, cut_to, synced};
-ghost use Rattle.fb_disk.specs.MemDisks.{file_of, told_by, images_of, moment_of, images_since_of, fails_write, fails_change};
+ghost use Rattle.fb_disk.specs.MemDisks.{file_of, known_bytes, images_of, moment_of, images_since_of, fails_write, fails_change};
 ghost use Rattle.fb_disk.specs.Images.{image_from};
 
 use crate::Disk;
 use crate::memory::place::place;
 use crate::memory::record::Record;
-use fb_calls::{CallPlan, Failed};
 use fb_memory::Memory;
+use io_faults::{CallPlan, Failed};
 use std::alloc::Global;
 use std::marker::Model;
 
 /// A disk in memory. It keeps a record of its writes, cuts and syncs, so that it can give each image that a crash may
-/// leave, and tells its bytes.
+/// leave, and its bytes are known.
 #[derive(Drop)]
 pub struct MemDisk {
     file: Vec<u8>,
@@ -69,7 +69,7 @@ impl MemDisk {
     }
 
     /// An image that a crash now may leave: of the writes since the last sync, the n-th, counted from 0, holds its first
-    /// `cuts[n]` bytes, and zeros behind. One without a number, or with a number above its length, is whole.
+    /// `cuts[n]` bytes, and then zeros. One without a number, or with a number above its length, is whole.
     pub fn image(&self, alloc: Global, cuts: &[u64]) -> Result<MemDisk, Memory>
         ensures value { IfOk result (λ d. d
             ≡ record {
@@ -98,12 +98,12 @@ impl MemDisk {
 }
 
 impl Disk for MemDisk {
-    ghost use Rattle.fb_disk.specs.MemDisks.{Past, file_of, told_by, images_of, moment_of, images_since_of};
+    ghost use Rattle.fb_disk.specs.MemDisks.{Past, file_of, known_bytes, images_of, moment_of, images_since_of};
     ghost use Rattle.disk_model.proofs.Records.{left_since-now, left_now, leaves_told};
 
     ghost faults = { λ d. d.calls.faults };
 
-    ghost bytes = { told_by };
+    ghost bytes = { known_bytes };
 
     ghost images = { images_of };
 
@@ -122,8 +122,8 @@ impl Disk for MemDisk {
     }
 
     fn len(&mut self) -> Result<u64, Failed>
-        ensures length { IfOk result (λ n. WhereTold (told_by self.old) (λ file. n ≡ length file)) }
-        ensures bytes { told_by self.new ≡ told_by self.old }
+        ensures length { IfOk result (λ n. IfKnown (known_bytes self.old) (λ file. n ≡ length file)) }
+        ensures bytes { known_bytes self.new ≡ known_bytes self.old }
         ensures crash { Within (images_of self.old) (images_of self.new) }
         ensures time { Elapses (moment_of self.old) (moment_of self.new) (images_since_of self.old)
             (images_since_of self.new) (images_of self.new) }
@@ -142,9 +142,9 @@ impl Disk for MemDisk {
 
     fn read_at(&mut self, at: u64, buf: &mut [u8]) -> Result<usize, Failed>
         ensures within { IfOk result (λ n. n ≤ length buf.old) }
-        ensures read { IfOk result (λ n. WhereTold (told_by self.old)
+        ensures read { IfOk result (λ n. IfKnown (known_bytes self.old)
             (λ file. Reads file at (length buf.old) n (take n buf.new))) }
-        ensures bytes { told_by self.new ≡ told_by self.old }
+        ensures bytes { known_bytes self.new ≡ known_bytes self.old }
         ensures crash { Within (images_of self.old) (images_of self.new) }
         ensures time { Elapses (moment_of self.old) (moment_of self.new) (images_since_of self.old)
             (images_since_of self.new) (images_of self.new) }
@@ -168,7 +168,7 @@ impl Disk for MemDisk {
     fn write_at(&mut self, at: u64, piece: &[u8]) -> Result<(), Failed>
         ensures within { OnOk result (at + length piece.now < 2 ^ 64) }
         ensures written { OnOk result
-            (told_by self.new ≡ option_map (written at piece.now) (told_by self.old)) }
+            (known_bytes self.new ≡ option_map (written at piece.now) (known_bytes self.old)) }
         ensures crash { Follows (Torn at (length piece.now)) (images_of self.old)
             (images_of self.new) }
         ensures time { Elapses (moment_of self.old) (moment_of self.new) (images_since_of self.old)
@@ -195,7 +195,7 @@ impl Disk for MemDisk {
     }
 
     fn cut(&mut self, len: u64) -> Result<(), Failed>
-        ensures cut { OnOk result (told_by self.new ≡ option_map (take len) (told_by self.old)) }
+        ensures cut { OnOk result (known_bytes self.new ≡ option_map (take len) (known_bytes self.old)) }
         ensures crash { Follows (TornCut len) (images_of self.old) (images_of self.new) }
         ensures time { Elapses (moment_of self.old) (moment_of self.new) (images_since_of self.old)
             (images_since_of self.new) (images_of self.new) }
@@ -218,9 +218,9 @@ impl Disk for MemDisk {
     }
 
     fn sync(&mut self) -> Result<(), Failed>
-        ensures bytes { OnOk result (told_by self.new ≡ told_by self.old) }
+        ensures bytes { OnOk result (known_bytes self.new ≡ known_bytes self.old) }
         ensures durable { OnOk result
-            (WhereTold (told_by self.old) (λ file. Only file (images_of self.new))) }
+            (IfKnown (known_bytes self.old) (λ file. Only file (images_of self.new))) }
         ensures crash { Within (images_of self.old) (images_of self.new) }
         ensures time { Elapses (moment_of self.old) (moment_of self.new) (images_since_of self.old)
             (images_since_of self.new) (images_of self.new) }

@@ -2,7 +2,7 @@
 ghost use Rattle.std.specs.Prelude.{◌≡◌, ◌≤◌, ◌+◌, ◌-◌, ◌++◌, length, replicate, vec_len, vec_capacity};
 ghost use Rattle.disk_model.specs.Disk.{written};
 
-/// Writes over what is there and past the end. A gap behind the old end is filled with zeros.
+/// Writes over what is there and past the end. A gap after the old end is filled with zeros.
 #[tactic(auto, using(crate::proofs::Placing::placing))]
 pub(crate) fn place(file: &mut Vec<u8>, at: usize, piece: &[u8])
     requires { at + length piece.now ≤ vec_capacity file.old }

@@ -159,7 +159,7 @@ fn kept_len(cuts: &[u64], n: usize, len: usize) -> usize
     }
 }
 
-/// The front of a piece, and zeros behind.
+/// The front of a piece, and then zeros.
 fn torn_piece(alloc: Global, piece: &[u8], kept: usize) -> Result<Vec<u8>, AllocError>
     requires { kept ≤ length piece.now }
     ensures { IfOk result (λ torn. torn.items ≡ torn_to kept piece.now) }

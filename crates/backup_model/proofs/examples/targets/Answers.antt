@@ -67,7 +67,12 @@ returns-clause-other_text c = (
     behind = [];
     entries_are = refl;
     t_is = refl;
-    other = inr (hi_entry, [], refl, λ same. let byte : 111 ≡ 105 = ap (λ entry. get_or (entry_bytes entry) 65 0) same in absurd (omega (arith, byte)));
+    other = inr (
+      hi_entry,
+      [],
+      refl,
+      λ same. let byte : 111 ≡ 105 = ap (λ entry. get_or (entry_bytes entry) 65 0) same in absurd (omega (arith, byte)),
+    );
   },
 )
 

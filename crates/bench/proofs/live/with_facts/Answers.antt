@@ -20,6 +20,7 @@ pub returns : goal.returns
 unfolding LiveIsBefore
 returns c =
     IfOk-weaker c.with_entry.result _ _
-    (λ new g order. grown order c.args.covers.now c.args.n (list_in c.args.live.now order) c.entry_of-entry.result.datoms (list_in new order)
+    (λ new g order.
+    grown order c.args.covers.now c.args.n (list_in c.args.live.now order) c.entry_of-entry.result.datoms (list_in new order)
     (c.requires order).older (subst (IsEntry c.args.n) (sym c.entry_of-entry.ensures) c.in_ok-facts.ensures) (g order))
     c.with_entry.ensures.grown

@@ -10,5 +10,6 @@ store-requires g c =
     let v = ap (λ m. m.0) c.open-opened.ensures.2 in (
       search rules,
       search rules,
-      lets_mail_go_on _ _ _ _ _ c.args.session c.open-opened.result.me (subst HasTurn (sym v) c.requires.turn) (ap (λ z. z.grab) v ∙ (c.requires.whole ∙ ap (λ z. Writing c.args.session (Full (history_of z))) (sym v))),
+      lets_mail_go_on _ _ _ _ _ c.args.session c.open-opened.result.me (subst HasTurn (sym v) c.requires.turn)
+          (ap (λ z. z.grab) v ∙ (c.requires.whole ∙ ap (λ z. Writing c.args.session (Full (history_of z))) (sym v))),
     )

@@ -25,24 +25,42 @@ may_still number s (Writing r c) may = may
 
 pub load-requires : goal.load-requires
 load-requires g c =
-    let v = ap (λ m. m.0) c.open-opened.ensures.2 in let old : View Code = view_of c.args.seat.now in let there = content_there old.number c.args.session old.grab c.requires.may c.args.seat.now.rests.1 in (
+    let v = ap (λ m. m.0) c.open-opened.ensures.2 in
+    let old : View Code = view_of c.args.seat.now in
+    let there = content_there old.number c.args.session old.grab c.requires.may c.args.seat.now.rests.1 in (
       search rules,
       search rules,
-      takes_mail_on _ _ _ _ _ c.args.session c.open-opened.result.me (subst (λ z. MayMove z.number c.args.session z.grab) (sym v) c.requires.may) (ap (λ z. content_rests (content_of z.grab)) v ∙ there) (ap (λ m. m.1) c.open-opened.ensures.2),
+      takes_mail_on _ _ _ _ _ c.args.session c.open-opened.result.me
+          (subst (λ z. MayMove z.number c.args.session z.grab) (sym v) c.requires.may)
+          (ap (λ z. content_rests (content_of z.grab)) v ∙ there) (ap (λ m. m.1) c.open-opened.ensures.2),
     )
 
 pub exchange-requires : goal.exchange-requires
 exchange-requires g c =
-    let t = c.load.ensures.2 in let back : c.args.session + 3 - 2 ≡ c.args.session + 1 = omega arith in
-    (search rules, (Mail t.0, ap (λ m. m.1) t.1 ∙ (ap (λ (k : ℕ). (k, Mail t.0) ∷ []) back ∙ ap (λ z. (c.args.session + 1, Mail t.0) ∷ z) (sym (ap (λ m. rest m.1) t.1)))))
+    let t = c.load.ensures.2 in let back : c.args.session + 3 - 2 ≡ c.args.session + 1 = omega arith in (
+      search rules,
+      (
+        Mail t.0,
+        ap (λ m. m.1) t.1
+            ∙ (ap (λ (k : ℕ). (k, Mail t.0) ∷ []) back ∙ ap (λ z. (c.args.session + 1, Mail t.0) ∷ z) (sym (ap (λ m. rest m.1) t.1))),
+      ),
+    )
 
 pub load-requires-2 : goal.load-requires-2
 load-requires-2 g c =
-    let t = c.load.ensures.2 in let v = ap (λ m. m.0) c.open-opened.ensures.2 in let now = c.exchange.ensures.3 in let old : View Code = view_of c.args.seat.now in
+    let t = c.load.ensures.2 in
+    let v = ap (λ m. m.0) c.open-opened.ensures.2 in
+    let now = c.exchange.ensures.3 in
+    let old : View Code = view_of c.args.seat.now in
     let w : View Code = record old { grab = refilled old.grab InHand } in
-    let is : c.exchange.new.seat.me.0 ≡ w = ap (λ m. m.0) now ∙ (ap (λ m. m.0) t.1 ∙ ap (λ (z : View Code). let y : View Code = record z { grab = refilled z.grab InHand } in y) v) in
-    let carries : c.exchange.new.seat.me.1 ≡ (c.args.session + 1, Mail c.args.put) ∷ [] = ap (λ m. m.1) now ∙ ap (λ z. (c.args.session + 1, Mail c.args.put) ∷ z) (ap (λ m. rest m.1) t.1) in (
+    let is : c.exchange.new.seat.me.0 ≡ w =
+    ap (λ m. m.0) now
+    ∙ (ap (λ m. m.0) t.1 ∙ ap (λ (z : View Code). let y : View Code = record z { grab = refilled z.grab InHand } in y) v) in
+    let carries : c.exchange.new.seat.me.1 ≡ (c.args.session + 1, Mail c.args.put) ∷ [] =
+    ap (λ m. m.1) now ∙ ap (λ z. (c.args.session + 1, Mail c.args.put) ∷ z) (ap (λ m. rest m.1) t.1) in (
       search rules,
       search rules,
-      puts_mail_on _ _ _ _ _ c.args.session c.exchange.new.seat.me c.args.put carries (subst (λ (z : View Code). MayMove z.number c.args.session z.grab) (sym is) (may_still old.number c.args.session old.grab c.requires.may)),
+      puts_mail_on _ _ _ _ _ c.args.session c.exchange.new.seat.me c.args.put carries
+          (subst (λ (z : View Code). MayMove z.number c.args.session z.grab) (sym is)
+          (may_still old.number c.args.session old.grab c.requires.may)),
     )

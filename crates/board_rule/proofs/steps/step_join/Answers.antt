@@ -10,6 +10,8 @@ join_seat-requires g c =
       search rules,
       search rules,
       search rules,
-      joins_on _ _ _ _ c.open-opened.result.me.0 _ c.into_seat.result.me.0 (ap (λ z. z.ticket) v ∙ c.requires.tickets.0) (ap (λ z. z.ticket) u ∙ c.requires.tickets.1) (ap (λ z. z.grab) v ∙ c.requires.free.0)
-          (ap (λ z. z.grab) u ∙ c.requires.free.1) (subst (λ z. 0 < z.seats) (sym v) c.args.seat.now.live) (subst (λ z. 0 < z.seats) (sym u) c.args.other.live),
+      joins_on _ _ _ _ c.open-opened.result.me.0 _ c.into_seat.result.me.0 (ap (λ z. z.ticket) v ∙ c.requires.tickets.0)
+          (ap (λ z. z.ticket) u ∙ c.requires.tickets.1) (ap (λ z. z.grab) v ∙ c.requires.free.0)
+          (ap (λ z. z.grab) u ∙ c.requires.free.1) (subst (λ z. 0 < z.seats) (sym v) c.args.seat.now.live)
+          (subst (λ z. 0 < z.seats) (sym u) c.args.other.live),
     )

@@ -11,10 +11,12 @@ use Rattle.board_seats.proofs.seating.gather.Given as goal
 abbrev pub invariant-loop-seat : goal.invariant-loop-seat
 invariant-loop-seat g l =
     (board_of l.first ≡ board_of l.initial.first)
-    × (let v : View Code = view_of l.initial.first in let w : View Code = view_of l.first in w ≡ record v { seats = w.seats; seen = w.seen; joined = w.joined })
+    × (let v : View Code = view_of l.initial.first in let w : View Code = view_of l.first in
+    w ≡ record v { seats = w.seats; seen = w.seen; joined = w.joined })
     × ((view_of l.first).seats + length l.seats.items ≡ (view_of l.initial.first).seats + length l.initial.seats.items)
     × AreIdle l.board.table.shared.table_id (map g.T.Seated.seat l.seats.items)
-    × ((k : ℕ) (s : BoardSeat) → get_elem? (map g.T.Seated.seat l.initial.seats.items) k ≡ some s → (get_elem? (map g.T.Seated.seat l.seats.items) k ≡ some s) ⊎ IsNoted (view_of s) (view_of l.first))
+    × ((k : ℕ) (s : BoardSeat) → get_elem? (map g.T.Seated.seat l.initial.seats.items) k ≡ some s
+    → (get_elem? (map g.T.Seated.seat l.seats.items) k ≡ some s) ⊎ IsNoted (view_of s) (view_of l.first))
     × HasSeen (view_of l.initial.first).seen (view_of l.first)
 
 abbrev pub decreases-loop-seat : goal.decreases-loop-seat

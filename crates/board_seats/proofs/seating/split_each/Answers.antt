@@ -10,9 +10,13 @@ use Rattle.board_seats.proofs.seating.split_each.Goals as goal
 
 pub loop-preserved : goal.loop-preserved
 loop-preserved g c =
-    let inv = c.loop.invariant in let v : View Code = view_of c.args.first.now in let n : ℕ = c.loop.counter in let x : BoardSeat = c.step_split.result in
+    let inv = c.loop.invariant in
+    let v : View Code = view_of c.args.first.now in
+    let n : ℕ = c.loop.counter in
+    let x : BoardSeat = c.step_split.result in
     let table = c.args.board.now.table.shared.table_id in let xs : List BoardSeat = c.loop.seats.items in
-    let new : view_of x ≡ record (starting v.start v.seen 0) { number = n } = c.step_split.ensures.newcomer ∙ ap (λ (z : View Code). newcomer z) inv.1 in
+    let new : view_of x ≡ record (starting v.start v.seen 0) { number = n } =
+    c.step_split.ensures.newcomer ∙ ap (λ (z : View Code). newcomer z) inv.1 in
     let pushed : c.push.new.self.items ≡ xs ++ x ∷ [] = search rules in (
       search rules,
       search rules,

@@ -7,5 +7,6 @@ use Rattle.board_seats.proofs.seating.split_each.Given as goal
 
 abbrev pub invariant-loop : goal.invariant-loop
 invariant-loop g l =
-    (board_of l.first ≡ board_of l.initial.first) × (let v : View Code = view_of l.initial.first in view_of l.first ≡ record v { given = l.counter }) × (length l.seats.items ≡ l.counter)
+    (board_of l.first ≡ board_of l.initial.first)
+    × (let v : View Code = view_of l.initial.first in view_of l.first ≡ record v { given = l.counter }) × (length l.seats.items ≡ l.counter)
     × AreNew l.board.table.shared.table_id (view_of l.initial.first).start (view_of l.initial.first).seen l.seats.items

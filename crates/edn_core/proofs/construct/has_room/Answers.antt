@@ -24,4 +24,6 @@ loop-frame-preserved c =
     ]
 
 pub returns : goal.returns
-returns c bytes = room-is bytes c.args.frames.now c.loop-frame.depth c.loop-frame.frame-index (omega (arith, c.loop-frame-test.false)) c.loop-frame.invariant.is
+returns c bytes =
+    room-is bytes c.args.frames.now c.loop-frame.depth c.loop-frame.frame-index
+    (omega (arith, c.loop-frame-test.false)) c.loop-frame.invariant.is

@@ -10,12 +10,15 @@ returns-then-branch c pairs kept inside =
     let names = keys (model.pairs (pairs_of pairs.items)) in
     let f = form_of c.args.form in (
       refl,
-      key_lands pairs c.args.said.now c.say_form.new.self c.args.form c.in_ok-say_form.field-0 kept inside
-          (c.in_ok-say_form.ensures.fresh names kept.0 inside) c.if-branch.true (c.in_ok-say_form.ensures.said names kept.0),
+      key_lands pairs c.args.said.now c.insert_form.new.self c.args.form c.in_ok-insert_form.field-0 kept inside
+          (c.in_ok-insert_form.ensures.fresh names kept.0 inside) c.if-branch.true (c.in_ok-insert_form.ensures.said names kept.0),
     )
 
 pub returns-else-branch : goal.returns-else-branch
 returns-else-branch c pairs kept inside =
     let names = keys (model.pairs (pairs_of pairs.items)) in
-    let f = form_of c.args.form in
-    (refl, key_again pairs c.args.said.now c.args.form c.in_ok-say_form.field-0 (c.in_ok-say_form.ensures.fresh names kept.0 inside) c.if-branch.false)
+    let f = form_of c.args.form in (
+      refl,
+      key_again pairs c.args.said.now c.args.form c.in_ok-insert_form.field-0
+          (c.in_ok-insert_form.ensures.fresh names kept.0 inside) c.if-branch.false,
+    )

@@ -11,12 +11,16 @@ returns-then-branch c kept inside =
     let w = c.grow.new.items in
     let fs = model.forms (forms_of v.items) in
     let f = form_of c.args.form in
-    grown_lands (Set v c.args.said.now) (Set w c.say_form.new.self) f c.args.at c.args.next c.grow.result _ c.grow.ensures.ok c.grow.ensures.err
-    (λ grew. member_lands v w c.args.said.now c.say_form.new.self c.args.form c.in_ok-say_form.field-0 grew kept inside
-    (c.in_ok-say_form.ensures.fresh fs kept.0 inside) c.if-branch.true (c.in_ok-say_form.ensures.said fs kept.0))
+    grown_lands (Set v c.args.said.now)
+    (Set w c.insert_form.new.self) f c.args.at c.args.next c.grow.result _ c.grow.ensures.ok c.grow.ensures.err
+    (λ grew. member_lands v w c.args.said.now c.insert_form.new.self c.args.form c.in_ok-insert_form.field-0 grew kept inside
+    (c.in_ok-insert_form.ensures.fresh fs kept.0 inside) c.if-branch.true (c.in_ok-insert_form.ensures.said fs kept.0))
 
 pub returns-else-branch : goal.returns-else-branch
 returns-else-branch c kept inside =
     let fs = model.forms (forms_of c.args.items.now.items) in
-    let f = form_of c.args.form in
-    (refl, member_again c.args.items.now c.args.said.now c.args.form c.in_ok-say_form.field-0 (c.in_ok-say_form.ensures.fresh fs kept.0 inside) c.if-branch.false)
+    let f = form_of c.args.form in (
+      refl,
+      member_again c.args.items.now c.args.said.now c.args.form c.in_ok-insert_form.field-0
+          (c.in_ok-insert_form.ensures.fresh fs kept.0 inside) c.if-branch.false,
+    )

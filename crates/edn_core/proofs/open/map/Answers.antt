@@ -23,7 +23,10 @@ pub returns : goal.returns
 returns c bytes next is start after before kept =
     let at = c.args.at in
     let old = c.args.frames.now.items in
-    let may = subst (λ (xs : List Frame). Free (frames_of bytes xs) × HasRoom (frames_of bytes xs)) c.as_slice.ensures.value (c.in_ok-may_open.ensures.free bytes) in
+    let may =
+    subst (λ (xs : List Frame). Free (frames_of bytes xs) × HasRoom (frames_of bytes xs)) c.as_slice.ensures.value
+    (c.in_ok-may_open.ensures.free bytes) in
     grown_enters bytes start at c.args.next old c.grow.new.items.items (Map c.new.result None c.new-2.result) c.grow.result
-    (subst (λ n. Enters bytes old (Map c.new.result None c.new-2.result) at n) (sym next) (map_enters bytes old at c.new.result c.new-2.result c.new.ensures.items c.new-2.ensures is may.0 may.1))
+    (subst (λ n. Enters bytes old (Map c.new.result None c.new-2.result) at n) (sym next)
+    (map_enters bytes old at c.new.result c.new-2.result c.new.ensures.items c.new-2.ensures is may.0 may.1))
     c.grow.ensures.ok c.grow.ensures.err after before kept

@@ -22,7 +22,10 @@ pub returns : goal.returns
 returns c bytes next is start after before kept =
     let at = c.args.at in
     let old = c.args.frames.now.items in
-    let may = subst (λ (xs : List Frame). Free (frames_of bytes xs) × HasRoom (frames_of bytes xs)) c.as_slice.ensures.value (c.in_ok-may_open.ensures.free bytes) in
+    let may =
+    subst (λ (xs : List Frame). Free (frames_of bytes xs) × HasRoom (frames_of bytes xs)) c.as_slice.ensures.value
+    (c.in_ok-may_open.ensures.free bytes) in
     grown_enters bytes start at c.args.next old c.grow.new.items.items (Set c.new.result c.new-2.result) c.grow.result
-    (subst (λ n. Enters bytes old (Set c.new.result c.new-2.result) at n) (sym next) (set_enters bytes old at c.new.result c.new-2.result c.new.ensures.items c.new-2.ensures is may.0 may.1))
+    (subst (λ n. Enters bytes old (Set c.new.result c.new-2.result) at n) (sym next)
+    (set_enters bytes old at c.new.result c.new-2.result c.new.ensures.items c.new-2.ensures is may.0 may.1))
     c.grow.ensures.ok c.grow.ensures.err after before kept

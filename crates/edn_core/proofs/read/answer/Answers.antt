@@ -19,14 +19,17 @@ loop-frames-preserved c =
     let bytes = c.args.bytes.now in
     let h = c.loop-frames.invariant in
     let begun = going (frames_of bytes c.loop-frames.frames.items) (drop c.loop-frames.here bytes) in
-    reading_goes h (subst (λ p. Leads bytes c.args.at c.loop-frames.here begun (Ok p) c.step.new.frames.items) c.in-Further.is (c.in_ok-next.ensures c.args.at h.after h.within h.kept))
+    reading_goes h (subst (λ p. Leads bytes c.args.at c.loop-frames.here begun (Ok p) c.step.new.frames.items) c.in-Further.is
+    (c.in_ok-next.ensures c.args.at h.after h.within h.kept))
 
 pub loop-frames-smaller : goal.loop-frames-smaller
 loop-frames-smaller c =
     let bytes = c.args.bytes.now in
     let h = c.loop-frames.invariant in
     let begun = going (frames_of bytes c.loop-frames.frames.items) (drop c.loop-frames.here bytes) in
-    let on = subst (λ p. Leads bytes c.args.at c.loop-frames.here begun (Ok p) c.step.new.frames.items) c.in-Further.is (c.in_ok-next.ensures c.args.at h.after h.within h.kept) in
+    let on =
+    subst (λ p. Leads bytes c.args.at c.loop-frames.here begun (Ok p) c.step.new.frames.items) c.in-Further.is
+    (c.in_ok-next.ensures c.args.at h.after h.within h.kept) in
     omega (arith, on.ahead, on.within)
 
 pub returns-in-Read : goal.returns-in-Read
@@ -35,14 +38,17 @@ returns-in-Read c =
     let h = c.loop-frames.invariant in
     let begun = going (frames_of bytes c.loop-frames.frames.items) (drop c.loop-frames.here bytes) in
     subst (λ e. ReadsTo bytes c.args.at (form_of e) c.in-Read.next) (sym c.into_inner.ensures)
-    (reading_reads h (subst (λ p. Leads bytes c.args.at c.loop-frames.here begun (Ok p) c.step.new.frames.items) c.in-Read.is (c.in_ok-next.ensures c.args.at h.after h.within h.kept)))
+    (reading_reads h (subst (λ p. Leads bytes c.args.at c.loop-frames.here begun (Ok p) c.step.new.frames.items) c.in-Read.is
+    (c.in_ok-next.ensures c.args.at h.after h.within h.kept)))
 
 pub returns-in-End : goal.returns-in-End
 returns-in-End c =
     let bytes = c.args.bytes.now in
     let h = c.loop-frames.invariant in
     let begun = going (frames_of bytes c.loop-frames.frames.items) (drop c.loop-frames.here bytes) in
-    reading_ends bytes c.args.at c.loop-frames.here c.loop-frames.frames.items h (subst (λ p. Leads bytes c.args.at c.loop-frames.here begun (Ok p) c.step.new.frames.items) c.in-End.is (c.in_ok-next.ensures c.args.at h.after h.within h.kept))
+    reading_ends bytes c.args.at c.loop-frames.here c.loop-frames.frames.items h
+    (subst (λ p. Leads bytes c.args.at c.loop-frames.here begun (Ok p) c.step.new.frames.items) c.in-End.is
+    (c.in_ok-next.ensures c.args.at h.after h.within h.kept))
 
 pub returns-in_err-next : goal.returns-in_err-next
 returns-in_err-next c =

@@ -25,10 +25,12 @@ pub returns-in-List : goal.returns-in-List
 returns-in-List c = c.list.ensures c.args.bytes.now refl (subst (λ z. z ≡ open_paren ∷ drop 1 z) c.split_at.ensures.back c.in-List.ensures)
 
 pub returns-in-Vector : goal.returns-in-Vector
-returns-in-Vector c = c.vector.ensures c.args.bytes.now refl (subst (λ z. z ≡ open_bracket ∷ drop 1 z) c.split_at.ensures.back c.in-Vector.ensures)
+returns-in-Vector c =
+    c.vector.ensures c.args.bytes.now refl (subst (λ z. z ≡ open_bracket ∷ drop 1 z) c.split_at.ensures.back c.in-Vector.ensures)
 
 pub returns-in-Map : goal.returns-in-Map
 returns-in-Map c = c.map.ensures c.args.bytes.now refl (subst (λ z. z ≡ open_brace ∷ drop 1 z) c.split_at.ensures.back c.in-Map.ensures)
 
 pub returns-in-Set : goal.returns-in-Set
-returns-in-Set c = c.set.ensures c.args.bytes.now refl (subst (λ z. z ≡ hash ∷ open_brace ∷ drop 2 z) c.split_at.ensures.back c.in-Set.ensures)
+returns-in-Set c =
+    c.set.ensures c.args.bytes.now refl (subst (λ z. z ≡ hash ∷ open_brace ∷ drop 2 z) c.split_at.ensures.back c.in-Set.ensures)

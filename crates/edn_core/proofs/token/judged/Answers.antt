@@ -16,16 +16,20 @@ returns-in-Nil c bytes ahead within stands ends some free start after before kep
     let old = c.args.frames.now.items in
     let at = c.args.at in
     let f = model.nil in
-    leads_put bytes start at at c.args.next old c.put.new.frames.items (Nil) f (going (frames_of bytes old) (drop at bytes)) c.put.result form_of-Nil
-    (atom_leads bytes at c.args.next (frames_of bytes old) c.args.token.now f c.in-Nil.ensures stands ends free) (whole_is tt ahead within after before kept) (c.put.ensures bytes start at)
+    leads_put bytes start at at c.args.next old c.put.new.frames.items (Nil) f
+    (going (frames_of bytes old) (drop at bytes)) c.put.result form_of-Nil
+    (atom_leads bytes at c.args.next (frames_of bytes old) c.args.token.now f c.in-Nil.ensures stands ends free)
+    (whole_is tt ahead within after before kept) (c.put.ensures bytes start at)
 
 pub returns-in-Bool : goal.returns-in-Bool
 returns-in-Bool c bytes ahead within stands ends some free start after before kept =
     let old = c.args.frames.now.items in
     let at = c.args.at in
     let f = model.boolean c.in-Bool.b in
-    leads_put bytes start at at c.args.next old c.put-in-Bool.new.frames.items (Bool c.in-Bool.b) f (going (frames_of bytes old) (drop at bytes)) c.put-in-Bool.result (form_of-Bool c.in-Bool.b)
-    (atom_leads bytes at c.args.next (frames_of bytes old) c.args.token.now f c.in-Bool.ensures stands ends free) (whole_is tt ahead within after before kept) (c.put-in-Bool.ensures bytes start at)
+    leads_put bytes start at at c.args.next old c.put-in-Bool.new.frames.items (Bool c.in-Bool.b) f
+    (going (frames_of bytes old) (drop at bytes)) c.put-in-Bool.result (form_of-Bool c.in-Bool.b)
+    (atom_leads bytes at c.args.next (frames_of bytes old) c.args.token.now f c.in-Bool.ensures stands ends free)
+    (whole_is tt ahead within after before kept) (c.put-in-Bool.ensures bytes start at)
 
 pub returns-in-Int : goal.returns-in-Int
 returns-in-Int c bytes ahead within stands ends some free start after before kept =
@@ -33,8 +37,11 @@ returns-in-Int c bytes ahead within stands ends some free start after before kep
     let at = c.args.at in
     let f = model.integer c.in-Int.n in
     let fits : SFits w64 c.in-Int.n = search rules in
-    leads_put bytes start at at c.args.next old c.put-in-Int.new.frames.items (Int (to_z w64 (of_z w64 c.in-Int.n))) f (going (frames_of bytes old) (drop at bytes)) c.put-in-Int.result (form_of-Int (to_z w64 (of_z w64 c.in-Int.n)) ∙ ap model.integer (to_z-of_z w64 c.in-Int.n fits))
-    (atom_leads bytes at c.args.next (frames_of bytes old) c.args.token.now f c.in-Int.ensures stands ends free) (whole_is tt ahead within after before kept) (c.put-in-Int.ensures bytes start at)
+    leads_put bytes start at at c.args.next old c.put-in-Int.new.frames.items
+    (Int (to_z w64 (of_z w64 c.in-Int.n))) f (going (frames_of bytes old) (drop at bytes)) c.put-in-Int.result
+    (form_of-Int (to_z w64 (of_z w64 c.in-Int.n)) ∙ ap model.integer (to_z-of_z w64 c.in-Int.n fits))
+    (atom_leads bytes at c.args.next (frames_of bytes old) c.args.token.now f c.in-Int.ensures stands ends free)
+    (whole_is tt ahead within after before kept) (c.put-in-Int.ensures bytes start at)
 
 pub returns-in-Symbol : goal.returns-in-Symbol
 returns-in-Symbol c bytes ahead within stands ends some free = c.symbol.ensures bytes c.in-Symbol.ensures ahead within stands ends free
@@ -44,11 +51,15 @@ returns-in-Keyword c bytes ahead within stands ends some free = c.keyword.ensure
 
 pub returns-in-Inst : goal.returns-in-Inst
 returns-in-Inst c bytes ahead within stands ends some free start after before kept =
-    c.tag.ensures bytes (inst_enters bytes c.args.token.now c.args.frames.now.items c.args.at c.args.next ahead within c.in-Inst.ensures stands ends free) start after before kept
+    c.tag.ensures bytes
+    (inst_enters bytes c.args.token.now c.args.frames.now.items c.args.at c.args.next ahead within c.in-Inst.ensures stands ends free) start
+    after before kept
 
 pub returns-in-Uuid : goal.returns-in-Uuid
 returns-in-Uuid c bytes ahead within stands ends some free start after before kept =
-    c.tag-in-Uuid.ensures bytes (uuid_enters bytes c.args.token.now c.args.frames.now.items c.args.at c.args.next ahead within c.in-Uuid.ensures stands ends free) start after before kept
+    c.tag-in-Uuid.ensures bytes
+    (uuid_enters bytes c.args.token.now c.args.frames.now.items c.args.at c.args.next ahead within c.in-Uuid.ensures stands ends free) start
+    after before kept
 
 pub returns-in-Unsupported : goal.returns-in-Unsupported
 returns-in-Unsupported c bytes ahead within stands ends some free start after before kept =

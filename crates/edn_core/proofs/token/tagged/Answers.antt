@@ -22,7 +22,9 @@ unreachable-requires c =
 
 pub unreachable-requires-in_default-construct : goal.unreachable-requires-in_default-construct
 unreachable-requires-in_default-construct c =
-    let free = free_inside [] c.args.frames.now.items c.pop.new.self.items c.in-Some.innermost c.in-Some.ensures.items c.in_default-construct.not-Inst c.in_default-construct.not-Uuid in
+    let free =
+    free_inside [] c.args.frames.now.items c.pop.new.self.items c.in-Some.innermost c.in-Some.ensures.items c.in_default-construct.not-Inst
+    c.in_default-construct.not-Uuid in
     let wants = c.requires [] in
     cc
 
@@ -34,13 +36,17 @@ returns-in-Some-read_instant c bytes ahead within stands start after before kept
     let z = c.in-Some-read_instant.millis in
     let fits : SFits w64 z = search rules in
     let is = subst (λ s. IsInstant z s) (c.as_bytes.ensures.value ∙ c.as_str.ensures) c.in-Some-read_instant.ensures in
-    leads_put bytes start c.args.at i.at c.args.next outer c.put.new.frames.items (Inst (to_z w64 (of_z w64 z))) (model.instant z) (going (frames_of bytes old) (drop c.args.at bytes)) c.put.result (form_of-Inst (to_z w64 (of_z w64 z)) ∙ ap model.instant (to_z-of_z w64 z fits))
+    leads_put bytes start c.args.at i.at c.args.next outer c.put.new.frames.items
+    (Inst (to_z w64 (of_z w64 z))) (model.instant z) (going (frames_of bytes old) (drop c.args.at bytes)) c.put.result
+    (form_of-Inst (to_z w64 (of_z w64 z)) ∙ ap model.instant (to_z-of_z w64 z fits))
     (instant_leads bytes c.args.at c.args.next old outer i z c.args.text c.in-Some.ensures.items c.in-Inst.is stands is)
-    (closes_whole bytes start c.args.at c.args.next old outer i (model.instant z) c.in-Some.ensures.items tt ahead within kept) (c.put.ensures bytes start c.args.at)
+    (closes_whole bytes start c.args.at c.args.next old outer i (model.instant z) c.in-Some.ensures.items tt ahead within kept)
+    (c.put.ensures bytes start c.args.at)
 
 pub returns-in-Inst : goal.returns-in-Inst
 returns-in-Inst c bytes ahead within stands start after before kept =
-    no_instant_there bytes start c.args.at c.args.next c.args.frames.now.items c.pop.new.self.items c.in-Some.innermost c.args.text c.in-Some.ensures.items c.in-Inst.is stands
+    no_instant_there bytes start c.args.at c.args.next c.args.frames.now.items c.pop.new.self.items c.in-Some.innermost c.args.text
+    c.in-Some.ensures.items c.in-Inst.is stands
     (λ z h. c.in-None.ensures z (subst (λ s. IsInstant z s) (sym (c.as_bytes.ensures.value ∙ c.as_str.ensures)) h)) after before
 
 pub returns-in-Some-read_uuid : goal.returns-in-Some-read_uuid
@@ -50,11 +56,14 @@ returns-in-Some-read_uuid c bytes ahead within stands start after before kept =
     let i = c.in-Some.innermost in
     let u = c.in-Some-read_uuid.uuid in
     let is = subst (λ s. IsUuid u s) c.as_str-in-Uuid.ensures c.in-Some-read_uuid.ensures in
-    leads_put bytes start c.args.at i.at c.args.next outer c.put-in-Some-read_uuid.new.frames.items (Uuid u) (model.uuid u) (going (frames_of bytes old) (drop c.args.at bytes)) c.put-in-Some-read_uuid.result (form_of-Uuid u)
+    leads_put bytes start c.args.at i.at c.args.next outer c.put-in-Some-read_uuid.new.frames.items (Uuid u) (model.uuid u)
+    (going (frames_of bytes old) (drop c.args.at bytes)) c.put-in-Some-read_uuid.result (form_of-Uuid u)
     (identifier_leads bytes c.args.at c.args.next old outer i u c.args.text c.in-Some.ensures.items c.in-Uuid.is stands is)
-    (closes_whole bytes start c.args.at c.args.next old outer i (model.uuid u) c.in-Some.ensures.items tt ahead within kept) (c.put-in-Some-read_uuid.ensures bytes start c.args.at)
+    (closes_whole bytes start c.args.at c.args.next old outer i (model.uuid u) c.in-Some.ensures.items tt ahead within kept)
+    (c.put-in-Some-read_uuid.ensures bytes start c.args.at)
 
 pub returns-in-Uuid : goal.returns-in-Uuid
 returns-in-Uuid c bytes ahead within stands start after before kept =
-    no_identifier_there bytes start c.args.at c.args.next c.args.frames.now.items c.pop.new.self.items c.in-Some.innermost c.args.text c.in-Some.ensures.items c.in-Uuid.is stands
+    no_identifier_there bytes start c.args.at c.args.next c.args.frames.now.items c.pop.new.self.items c.in-Some.innermost c.args.text
+    c.in-Some.ensures.items c.in-Uuid.is stands
     (λ u h. c.in-None-read_uuid.ensures u (subst (λ s. IsUuid u s) (sym c.as_str-in-Uuid.ensures) h)) after before

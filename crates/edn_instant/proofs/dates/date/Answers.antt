@@ -12,22 +12,30 @@ returns-in_err-year-clause-value c = rw c.from_residual.ensures (no_year c.args.
 
 pub returns-in_err-month-clause-value : goal.returns-in_err-month-clause-value
 returns-in_err-month-clause-value c =
-    let years : Front (IsFour c.in_ok-year.year) c.args.bytes.now (minus ∷ c.in_ok-behind.field-0.now) = front_then _ _ _ _ c.in_ok-year.ensures c.in_ok-behind.ensures in
-    rw c.from_residual-in_err-month.ensures (no_month c.in_ok-year.year c.args.bytes.now c.in_ok-behind.field-0.now years c.in_err-month.ensures)
+    let years : Front (IsFour c.in_ok-year.year) c.args.bytes.now (minus ∷ c.in_ok-behind.field-0.now) =
+    front_then _ _ _ _ c.in_ok-year.ensures c.in_ok-behind.ensures in
+    rw c.from_residual-in_err-month.ensures
+    (no_month c.in_ok-year.year c.args.bytes.now c.in_ok-behind.field-0.now years c.in_err-month.ensures)
 
 pub returns-in_err-day-clause-value : goal.returns-in_err-day-clause-value
 returns-in_err-day-clause-value c =
-    let years : Front (IsFour c.in_ok-year.year) c.args.bytes.now (minus ∷ c.in_ok-behind.field-0.now) = front_then _ _ _ _ c.in_ok-year.ensures c.in_ok-behind.ensures in
-    let months : Front (IsTwo c.in_ok-month.month) c.in_ok-behind.field-0.now (minus ∷ c.in_ok-behind-2.field-0.now) = front_then _ _ _ _ c.in_ok-month.ensures c.in_ok-behind-2.ensures in
+    let years : Front (IsFour c.in_ok-year.year) c.args.bytes.now (minus ∷ c.in_ok-behind.field-0.now) =
+    front_then _ _ _ _ c.in_ok-year.ensures c.in_ok-behind.ensures in
+    let months : Front (IsTwo c.in_ok-month.month) c.in_ok-behind.field-0.now (minus ∷ c.in_ok-behind-2.field-0.now) =
+    front_then _ _ _ _ c.in_ok-month.ensures c.in_ok-behind-2.ensures in
     rw c.from_residual-in_err-day.ensures
-    (no_day c.in_ok-year.year c.in_ok-month.month c.args.bytes.now c.in_ok-behind.field-0.now c.in_ok-behind-2.field-0.now years months c.in_err-day.ensures)
+    (no_day c.in_ok-year.year c.in_ok-month.month c.args.bytes.now c.in_ok-behind.field-0.now c.in_ok-behind-2.field-0.now years months
+    c.in_err-day.ensures)
 
 pub returns-clause-value : goal.returns-clause-value
 returns-clause-value c =
-    let years : Front (IsFour c.in_ok-year.year) c.args.bytes.now (minus ∷ c.in_ok-behind.field-0.now) = front_then _ _ _ _ c.in_ok-year.ensures c.in_ok-behind.ensures in
-    let months : Front (IsTwo c.in_ok-month.month) c.in_ok-behind.field-0.now (minus ∷ c.in_ok-behind-2.field-0.now) = front_then _ _ _ _ c.in_ok-month.ensures c.in_ok-behind-2.ensures in
+    let years : Front (IsFour c.in_ok-year.year) c.args.bytes.now (minus ∷ c.in_ok-behind.field-0.now) =
+    front_then _ _ _ _ c.in_ok-year.ensures c.in_ok-behind.ensures in
+    let months : Front (IsTwo c.in_ok-month.month) c.in_ok-behind.field-0.now (minus ∷ c.in_ok-behind-2.field-0.now) =
+    front_then _ _ _ _ c.in_ok-month.ensures c.in_ok-behind-2.ensures in
     let number = c.in_ok-day_number.ensures in
     let between = number.bound in
     let fits : FitsSigned w32 c.in_ok-day_number.field-0 = omega (arith, signed_arith) in
-    rw (to_z-of_z w32 c.in_ok-day_number.field-0 fits) (is_date c.in_ok-year.year c.in_ok-month.month c.in_ok-day.day c.in_ok-day_number.field-0 c.args.bytes.now c.in_ok-behind.field-0.now c.in_ok-behind-2.field-0.now
+    rw (to_z-of_z w32 c.in_ok-day_number.field-0 fits) (is_date c.in_ok-year.year c.in_ok-month.month c.in_ok-day.day
+    c.in_ok-day_number.field-0 c.args.bytes.now c.in_ok-behind.field-0.now c.in_ok-behind-2.field-0.now
     c.in_ok-day.rest.now years months c.in_ok-day.ensures number.value.0 number.value.1)

@@ -10,11 +10,15 @@ returns-in_err-hour c = rw c.from_residual.ensures (no_hour c.args.bytes.now c.i
 
 pub returns-in_err-minute : goal.returns-in_err-minute
 returns-in_err-minute c =
-    let hours : Front (IsTwo c.in_ok-hour.hour) c.args.bytes.now (colon ∷ c.in_ok-behind.field-0.now) = front_then _ _ _ _ c.in_ok-hour.ensures c.in_ok-behind.ensures in
-    rw c.from_residual-in_err-minute.ensures (no_minute c.in_ok-hour.hour c.args.bytes.now c.in_ok-behind.field-0.now hours c.in_err-minute.ensures)
+    let hours : Front (IsTwo c.in_ok-hour.hour) c.args.bytes.now (colon ∷ c.in_ok-behind.field-0.now) =
+    front_then _ _ _ _ c.in_ok-hour.ensures c.in_ok-behind.ensures in
+    rw c.from_residual-in_err-minute.ensures
+    (no_minute c.in_ok-hour.hour c.args.bytes.now c.in_ok-behind.field-0.now hours c.in_err-minute.ensures)
 
 pub returns : goal.returns
 returns c =
-    let hours : Front (IsTwo c.in_ok-hour.hour) c.args.bytes.now (colon ∷ c.in_ok-behind.field-0.now) = front_then _ _ _ _ c.in_ok-hour.ensures c.in_ok-behind.ensures in
-    is_clock c.in_ok-hour.hour c.in_ok-minute.minute _ c.args.bytes.now c.in_ok-behind.field-0.now c.in_ok-minute.rest.now hours c.in_ok-minute.ensures
+    let hours : Front (IsTwo c.in_ok-hour.hour) c.args.bytes.now (colon ∷ c.in_ok-behind.field-0.now) =
+    front_then _ _ _ _ c.in_ok-hour.ensures c.in_ok-behind.ensures in
+    is_clock c.in_ok-hour.hour c.in_ok-minute.minute _ c.args.bytes.now c.in_ok-behind.field-0.now c.in_ok-minute.rest.now hours
+    c.in_ok-minute.ensures
     (omega (arith, c.if-hour-gt-LAST_HOUR.false), omega (arith, c.if-minute-gt-LAST_MINUTE.false)) refl

@@ -14,7 +14,8 @@ returns-in_default-clause-value c =
 
 pub returns-then-is_empty-clause-value : goal.returns-then-is_empty-clause-value
 returns-then-is_empty-clause-value c =
-    no_ending_with c.args.bytes.now c.in-Some.rest.now _ _ c.in-Some.ensures c.split_digits.ensures (λ few. absurd (elim c.then-is_empty.either [
+    no_ending_with c.args.bytes.now c.in-Some.rest.now _ _ c.in-Some.ensures c.split_digits.ensures
+    (λ few. absurd (elim c.then-is_empty.either [
       | inl none ↦ grind (arith, nat_tests, none, few)
       | inr many ↦ omega (arith, many, few)
     ]))
@@ -22,7 +23,8 @@ returns-then-is_empty-clause-value c =
 pub returns-in_err-offset-2-clause-value : goal.returns-in_err-offset-2-clause-value
 returns-in_err-offset-2-clause-value c =
     rw c.from_residual-in_err-offset-2.ensures
-    (no_ending_with c.args.bytes.now c.in-Some.rest.now _ _ c.in-Some.ensures c.split_digits.ensures (λ few. c.in_err-offset-2.ensures.value))
+    (no_ending_with c.args.bytes.now c.in-Some.rest.now _ _ c.in-Some.ensures c.split_digits.ensures
+    (λ few. c.in_err-offset-2.ensures.value))
 
 pub returns-clause-value : goal.returns-clause-value
 returns-clause-value c =

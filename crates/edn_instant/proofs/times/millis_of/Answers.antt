@@ -13,7 +13,8 @@ pub overflow_cast-result : goal.overflow_cast-result
 overflow_cast-result c =
     let below : c.in-Some.n < c.power_of_ten.result =
     omega (arith, c.in-Some.ensures, number_below c.args.digits.now c.requires.digits, c.power_of_ten.ensures) in
-    let millis = below_second c.in-Some.n c.power_of_ten.result (omega (arith, c.power_of_ten.ensures, power_some (length c.args.digits.now))) below in
+    let millis =
+    below_second c.in-Some.n c.power_of_ten.result (omega (arith, c.power_of_ten.ensures, power_some (length c.args.digits.now))) below in
     omega (arith, millis)
 
 pub unreachable-requires : goal.unreachable-requires

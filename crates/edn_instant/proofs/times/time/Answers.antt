@@ -16,4 +16,5 @@ pub returns-clause-value : goal.returns-clause-value
 returns-clause-value c =
     let between = c.in_ok-millis.ensures.bound.1 in
     let fits : FitsSigned w32 c.in_ok-millis.ahead = omega (arith, signed_arith) in
-    rw (to_z-of_z w32 c.in_ok-millis.ahead fits) (is_time c.in_ok-seconds.seconds c.in_ok-millis.millis _ c.in_ok-millis.ahead c.args.bytes.now c.in_ok-seconds.rest.now c.in_ok-seconds.ensures c.in_ok-millis.ensures.value refl)
+    rw (to_z-of_z w32 c.in_ok-millis.ahead fits) (is_time c.in_ok-seconds.seconds c.in_ok-millis.millis _ c.in_ok-millis.ahead
+    c.args.bytes.now c.in_ok-seconds.rest.now c.in_ok-seconds.ensures c.in_ok-millis.ensures.value refl)

@@ -6,8 +6,17 @@ use Rattle.edn_model.specs.Canon.{CanonInstant}
 use Rattle.edn_model.proofs.worked.printed.Goals as goal
 
 pub returns-clause-vector : goal.returns-clause-vector
-returns-clause-vector c =
-    (codes "7 0 \"aA\"", (codes "7", codes " 0 \"aA\"", sym (decimal_digit 7 (lit< tt)), (codes "0", codes " \"aA\"", sym (decimal_digit 0 (lit< tt)), (codes "\"aA\"", [], refl, refl, refl), refl), refl), refl)
+returns-clause-vector c = (
+  codes "7 0 \"aA\"",
+  (
+    codes "7",
+    codes " 0 \"aA\"",
+    sym (decimal_digit 7 (lit< tt)),
+    (codes "0", codes " \"aA\"", sym (decimal_digit 0 (lit< tt)), (codes "\"aA\"", [], refl, refl, refl), refl),
+    refl,
+  ),
+  refl,
+)
 
 evening : CanonInstant (pos 1709245799999) (codes "2024-02-29T22:29:59.999-00:00")
 unfolding days_from_civil day_count days_of_years days_of_months

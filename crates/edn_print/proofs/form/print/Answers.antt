@@ -7,4 +7,5 @@ use Rattle.edn_print.proofs.form.print.Goals as goal
 
 pub returns-clause-readable : goal.returns-clause-readable
 returns-clause-readable c = λ depth h.
-    subst (λ f. Appends (Canon f) c.args.out.now.items c.print_form.new.out.items) (printable-readable depth (form_of c.args.form.now) h) c.in_default.ensures.ok
+    subst (λ f. Appends (Canon f) c.args.out.now.items c.print_form.new.out.items)
+    (printable-readable depth (form_of c.args.form.now) h) c.in_default.ensures.ok

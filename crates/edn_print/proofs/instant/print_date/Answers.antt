@@ -11,5 +11,8 @@ returns-clause-ok c =
     let range = d.year_in in
     let fits : FitsSigned w16 d.year = omega (arith, signed_arith) in
     let year : c.unsigned_abs-year.result ≡ unsigned_abs d.year = simp to_z-of_z at c.unsigned_abs-year.ensures.value in
-    let date = date_is d c.args.days c.from.result c.from-2.result c.from-3.result c.from_days_since_min-date.ensures (c.from.ensures ∙ year) c.from-2.ensures c.from-3.ensures in
-    on_ok_weaker c.append.result (λ e. record { text = _; is = date; behind = e ∙ ap (λ z. c.args.out.now.items ++ z) c.civil.ensures }) c.append.ensures.ok
+    let date =
+    date_is d c.args.days c.from.result c.from-2.result c.from-3.result c.from_days_since_min-date.ensures
+    (c.from.ensures ∙ year) c.from-2.ensures c.from-3.ensures in
+    on_ok_weaker c.append.result
+    (λ e. record { text = _; is = date; behind = e ∙ ap (λ z. c.args.out.now.items ++ z) c.civil.ensures }) c.append.ensures.ok

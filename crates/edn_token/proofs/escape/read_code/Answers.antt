@@ -14,4 +14,5 @@ pub returns-in-Some-from_u32 : goal.returns-in-Some-from_u32
 returns-in-Some-from_u32 c =
     let long : 4 ≤ length c.args.digits.now = omega arith in
     let made = c.in-Some-from_u32.ensures in
-    code_is c.args.digits.now _ c.in-Some.code c.in-Some-from_u32.c c.split_at.ensures.front long c.in-Some.ensures made.value.0 made.value.1 made.cases
+    code_is c.args.digits.now _ c.in-Some.code c.in-Some-from_u32.c c.split_at.ensures.front long c.in-Some.ensures made.value.0
+    made.value.1 made.cases

@@ -13,8 +13,11 @@ returns-then-letter-eq117 c =
     subst (λ z. PieceIs (backslash ∷ z) c.read_code.result) (sym is) c.read_code.ensures
 
 pub returns-in-None : goal.returns-in-None
-returns-in-None c = bad_letter c.args.behind.now _ c.in-Some.letter.now c.in-Some.ensures.cases.0 (λ e. let unlike = c.if-letter-eq117.false in omega arith) c.in-None.ensures
+returns-in-None c =
+    bad_letter c.args.behind.now _ c.in-Some.letter.now c.in-Some.ensures.cases.0
+    (λ e. let unlike = c.if-letter-eq117.false in omega arith) c.in-None.ensures
 
 pub returns-in-Some-escape_of : goal.returns-in-Some-escape_of
 returns-in-Some-escape_of c =
-    letter_is c.args.behind.now _ c.in-Some.letter.now c.in-Some-escape_of.c c.from.result c.in-Some.ensures.cases.0 c.in-Some-escape_of.ensures c.from.ensures
+    letter_is c.args.behind.now _ c.in-Some.letter.now c.in-Some-escape_of.c c.from.result c.in-Some.ensures.cases.0
+    c.in-Some-escape_of.ensures c.from.ensures

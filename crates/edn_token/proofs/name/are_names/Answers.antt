@@ -10,13 +10,19 @@ returns-in_default c =
     let first = c.split_name.result.0.now in
     let run = c.split_name.ensures in
     let none = c.in_default.ensures.cases in (
-      λ e. inl (subst IsName (sym (whole_run text first _ run none)) ((let empty = c.is_empty.ensures in grind (arith, nat_tests)), run.each)),
-      λ h. let one = one_name IsName name_bytes text first _ run none h in let some : 0 < length first = one.0 in let empty = c.is_empty.ensures in grind (arith, nat_tests),
+      λ e. inl
+          (subst IsName (sym (whole_run text first _ run none)) ((let empty = c.is_empty.ensures in grind (arith, nat_tests)), run.each)),
+      λ h. let one =
+          one_name IsName name_bytes text first _ run none h in let some : 0 < length first = one.0 in let empty = c.is_empty.ensures in
+          grind (arith, nat_tests),
     )
 
 pub returns-then-b-ne47 : goal.returns-then-b-ne47
-returns-then-b-ne47 c =
-    (λ e. absurd (let wrong = e in cc), λ h. absurd (no_names IsName name_bytes c.args.text.now _ _ c.in-Some.second.now c.in-Some.b.now c.split_name.ensures c.in-Some.ensures.cases.0 (λ e. let other = c.if-b-ne47.true in omega arith) h))
+returns-then-b-ne47 c = (
+  λ e. absurd (let wrong = e in cc),
+  λ h. absurd (no_names IsName name_bytes c.args.text.now _ _ c.in-Some.second.now c.in-Some.b.now c.split_name.ensures
+      c.in-Some.ensures.cases.0 (λ e. let other = c.if-b-ne47.true in omega arith) h),
+)
 
 pub returns-then-not-is_empty : goal.returns-then-not-is_empty
 returns-then-not-is_empty c =
@@ -26,7 +32,13 @@ returns-then-not-is_empty c =
     let run = c.split_name.ensures in
     let is = c.in-Some.ensures.cases.0 in
     let some : 0 < length first = let empty = c.is_empty-2.ensures in let was = c.if-not-is_empty.true in grind (arith, nat_tests) in (
-      λ e. inr (first, second, parted text first _ second _ run is ∙ ap (λ z. first ++ z ∷ second) c.if-b-ne47.false, (some, run.each), c.is_name.ensures.0 e),
+      λ e. inr (
+        first,
+        second,
+        parted text first _ second _ run is ∙ ap (λ z. first ++ z ∷ second) c.if-b-ne47.false,
+        (some, run.each),
+        c.is_name.ensures.0 e,
+      ),
       λ h. c.is_name.ensures.1 (two_names IsName name_bytes text first _ second _ run is c.if-b-ne47.false h).1,
     )
 
@@ -35,7 +47,9 @@ returns-else-not-is_empty c =
     let first = c.split_name.result.0.now in (
       λ e. absurd (let wrong = e in cc),
       λ h. absurd (
-          let some : 0 < length first = (two_names IsName name_bytes c.args.text.now first _ c.in-Some.second.now _ c.split_name.ensures c.in-Some.ensures.cases.0 c.if-b-ne47.false h).0.0 in
+          let some : 0 < length first =
+          (two_names IsName name_bytes c.args.text.now first _ c.in-Some.second.now _ c.split_name.ensures c.in-Some.ensures.cases.0
+          c.if-b-ne47.false h).0.0 in
           let empty = c.is_empty-2.ensures in let was = c.if-not-is_empty.false in grind (arith, nat_tests)
           ),
     )

@@ -6,11 +6,13 @@ use Rattle.edn_token.proofs.number.read_numeral.Goals as goal
 
 pub returns-in-43 : goal.returns-in-43
 returns-in-43 c =
-    behind_plus c.args.token.now c.in-Some.digits.now c.positive.result (c.in-Some.ensures.cases.0 ∙ ap (λ (b : ℕ). b ∷ c.in-Some.digits.now) c.in-43.is) c.positive.ensures
+    behind_plus c.args.token.now c.in-Some.digits.now c.positive.result
+    (c.in-Some.ensures.cases.0 ∙ ap (λ (b : ℕ). b ∷ c.in-Some.digits.now) c.in-43.is) c.positive.ensures
 
 pub returns-in-45 : goal.returns-in-45
 returns-in-45 c =
-    behind_minus c.args.token.now c.in-Some.digits.now c.negative.result (c.in-Some.ensures.cases.0 ∙ ap (λ (b : ℕ). b ∷ c.in-Some.digits.now) c.in-45.is) c.negative.ensures
+    behind_minus c.args.token.now c.in-Some.digits.now c.negative.result
+    (c.in-Some.ensures.cases.0 ∙ ap (λ (b : ℕ). b ∷ c.in-Some.digits.now) c.in-45.is) c.negative.ensures
 
 pub returns-in_default-first : goal.returns-in_default-first
 returns-in_default-first c =

@@ -19,7 +19,15 @@ with_old_mail = recorded 0 (codes "a") (mailed 0 start)
 pub returns-clause-glance : goal.returns-clause-glance
 returns-clause-glance c = (
   with_session 0 at_its_mail with_b_behind,
-  (a_by 1, a_happens 1, (with_mail_of_a, refl, (with_b_behind, records 1 (codes "b") with_mail_of_a refl refl, (with_session 0 at_its_mail with_b_behind, refl, refl)))),
+  (
+    a_by 1,
+    a_happens 1,
+    (
+      with_mail_of_a,
+      refl,
+      (with_b_behind, records 1 (codes "b") with_mail_of_a refl refl, (with_session 0 at_its_mail with_b_behind, refl, refl)),
+    ),
+  ),
   refl,
 )
 
@@ -29,6 +37,10 @@ returns-clause-held c = (with_mail_of_a, (a_by 1, a_happens 1, (with_mail_of_a, 
 pub returns-clause-old_mail : goal.returns-clause-old_mail
 returns-clause-old_mail c = (
   with_session 0 at_its_mail with_old_mail,
-  (mailed 0 start, refl, (with_old_mail, records 0 (codes "a") (mailed 0 start) refl refl, (with_session 0 at_its_mail with_old_mail, refl, refl))),
+  (
+    mailed 0 start,
+    refl,
+    (with_old_mail, records 0 (codes "a") (mailed 0 start) refl refl, (with_session 0 at_its_mail with_old_mail, refl, refl)),
+  ),
   refl,
 )

@@ -69,7 +69,11 @@ returns-clause-found c = (
       (
         with_root_of_a,
         (1, refl, refl),
-        (opened (a_by 0).history 1 (1 ∷ []), crashes_to with_root_of_a (a_by 0).history 1 (inl refl) (inr (Contains-push [] 1, omega arith)), refl),
+        (
+          opened (a_by 0).history 1 (1 ∷ []),
+          crashes_to with_root_of_a (a_by 0).history 1 (inl refl) (inr (Contains-push [] 1, omega arith)),
+          refl,
+        ),
       ),
     ),
   ),

@@ -18,4 +18,5 @@ pub returns-clause-told : goal.returns-clause-told
 returns-clause-told c = (synced 2 (a_by 0), (a_by 0, a_happens 0, (synced 2 (a_by 0), refl, refl)), refl)
 
 pub returns-clause-refused : goal.returns-clause-refused
-returns-clause-refused c = (synced 1 (a_by 0), (a_by 0, a_happens 0, (synced 1 (a_by 0), refuses 1 no_attribute (a_by 0) refl refl, refl)), refl)
+returns-clause-refused c =
+    (synced 1 (a_by 0), (a_by 0, a_happens 0, (synced 1 (a_by 0), refuses 1 no_attribute (a_by 0) refl refl, refl)), refl)

@@ -11,5 +11,7 @@ returns c =
       opening = λ guard before event after of_merge happens. (merge-LeavesAlone guard before event after of_merge happens).opening;
       stop = λ guard before event after of_merge happens. (merge-LeavesAlone guard before event after of_merge happens).stop;
       sessions = λ guard before event after of_merge happens. (merge-LeavesAlone guard before event after of_merge happens).sessions;
-      views = λ guard before event after w of_merge happens. ap (λ h. seen h w) (merge-LeavesAlone guard before event after of_merge happens).history;
+      views =
+          λ guard before event after w of_merge happens.
+          ap (λ h. seen h w) (merge-LeavesAlone guard before event after of_merge happens).history;
     }

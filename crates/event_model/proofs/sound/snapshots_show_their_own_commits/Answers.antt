@@ -9,5 +9,7 @@ returns c =
     record {
       mailed = λ guard world s reached. ((reached-IsSound guard world reached).sessions s).mailed;
       snap = λ guard world s reached. ((reached-IsSound guard world reached).sessions s).snap;
-      own = λ guard world s t reached theirs. All-contains (λ t. t ≤ (world.sessions s).snap) (world.sessions s).commits t ((reached-IsSound guard world reached).sessions s).seen theirs;
+      own =
+          λ guard world s t reached theirs. All-contains (λ t. t ≤ (world.sessions s).snap) (world.sessions s).commits t
+          ((reached-IsSound guard world reached).sessions s).seen theirs;
     }

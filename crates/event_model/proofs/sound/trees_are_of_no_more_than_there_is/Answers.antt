@@ -10,6 +10,8 @@ returns c =
     record {
       opening = λ guard world reached. (reached-IsSound guard world reached).opening;
       adopted = λ guard world reached. (reached-IsSound guard world reached).adopted;
-      kept = λ guard world c reached is_kept. All-contains (λ c. c ≤ basis world.history) world.kept c (reached-IsSound guard world reached).kept is_kept;
+      kept =
+          λ guard world c reached is_kept.
+          All-contains (λ c. c ≤ basis world.history) world.kept c (reached-IsSound guard world reached).kept is_kept;
       merging = λ guard world c reached is. (reached-IsSound guard world reached).merging c is;
     }

@@ -10,7 +10,8 @@ pub returns-in_default-from_utf8 : goal.returns-in_default-from_utf8
 returns-in_default-from_utf8 c =
     let bytes : List ℕ = c.args.bytes.now in
     let rest : List ℕ = drop c.args.at bytes in
-    let front-is : c.in-Some.front.now ≡ take c.args.len rest = front-is_piece bytes c.in-Some.front.now c.args.at c.args.len c.in-Some.ensures.lookup.0.2 in
+    let front-is : c.in-Some.front.now ≡ take c.args.len rest =
+    front-is_piece bytes c.in-Some.front.now c.args.at c.args.len c.in-Some.ensures.lookup.0.2 in
     rw c.misfit-in_default-from_utf8.ensures (
       c.requires,
       no-text (test_of c.args.words) c.args.len rest (λ utf8. c.in_default-from_utf8.ensures.cases.0 (subst IsUtf8 (sym front-is) utf8)),
@@ -22,7 +23,8 @@ returns c =
     let rest : List ℕ = drop c.args.at bytes in
     let test : List ℕ → Bool = test_of c.args.words in
     let room : c.args.len ≤ length rest = subst (λ l. c.args.len ≤ length l) (take_rest bytes c.args.at) c.in-Some.ensures.lookup.0.1 in
-    let front-is : c.in-Some.front.now ≡ take c.args.len rest = front-is_piece bytes c.in-Some.front.now c.args.at c.args.len c.in-Some.ensures.lookup.0.2 in
+    let front-is : c.in-Some.front.now ≡ take c.args.len rest =
+    front-is_piece bytes c.in-Some.front.now c.args.at c.args.len c.in-Some.ensures.lookup.0.2 in
     let text-is : c.in-Ok.text.now ≡ take c.args.len rest = c.in-Ok.ensures.cases.0 ∙ front-is in
     let passes : test (take c.args.len rest) ≡ true = ap test (sym text-is) ∙ sym c.fit.ensures ∙ c.if-not-fit.false in (
       omega (arith, room, length-drop c.args.at bytes),

@@ -3,7 +3,7 @@ use Rattle.std.specs.List.{slice_get}
 use Rattle.fb_values.specs.declared.facts.Entry.{Entry}
 use Rattle.fb_model.specs.History.{upto}
 use Rattle.fb_model.specs.Lawful.{IsLawfulAfter}
-use Rattle.fb_view.specs.Kept.{Kept, Stands}
+use Rattle.fb_view.specs.SnapshotModel.{SnapshotModel, Stands}
 use Rattle.fb_view.proofs.Beginnings.{next_of}
 use Rattle.fb_view.proofs.Lists.{take-next}
 use Rattle.fb_core.proofs.Histories.{begins_within}
@@ -22,9 +22,9 @@ loop-t-init c =
     record {
       later = omega arith;
       within = omega (arith, within, from.basis);
-      entries = ap (λ (k : Kept). k.entries) same ∙ (sym c.requires.begins ∙ ap (upto h) (sym from.basis));
-      roots = ap (λ (k : Kept). k.roots) same;
-      covered = ap (λ (k : Kept). k.covered) same;
+      entries = ap (λ (k : SnapshotModel). k.entries) same ∙ (sym c.requires.begins ∙ ap (upto h) (sym from.basis));
+      roots = ap (λ (k : SnapshotModel). k.roots) same;
+      covered = ap (λ (k : SnapshotModel). k.covered) same;
       stands = subst Stands (sym same) from.stands;
     }
 

@@ -1,5 +1,5 @@
 use Rattle.std.proofs.Common.{◌≡◌, ◌<◌, ◌≤◌, length, take}
-use Rattle.fb_view.specs.Kept.{Stands}
+use Rattle.fb_view.specs.SnapshotModel.{Stands}
 use Rattle.fb_core.proofs.adopting.caught_up.Given as goal
 
 abbrev pub invariant-loop-t : goal.invariant-loop-t

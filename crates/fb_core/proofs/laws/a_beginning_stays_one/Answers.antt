@@ -11,7 +11,9 @@ returns c =
     record {
       whole = λ core stands. upto-basis core.snapshot.entries stands.snapshot.history.lawful;
       latest = λ core author draft stands is.
-          ap (λ (h : List Entry). upto h (basis core.snapshot.entries)) is.entries ∙ latest_stays core.snapshot.entries (entry_of draft) stands.snapshot.history.lawful;
+          ap (λ (h : List Entry). upto h (basis core.snapshot.entries)) is.entries
+          ∙ latest_stays core.snapshot.entries (entry_of draft) stands.snapshot.history.lawful;
       older = λ core author draft older is stands begins.
-          ap (λ (h : List Entry). upto h (basis older.entries)) is.entries ∙ beginning_stays core.snapshot.entries older.entries (entry_of draft) stands.history.lawful begins;
+          ap (λ (h : List Entry). upto h (basis older.entries)) is.entries
+          ∙ beginning_stays core.snapshot.entries older.entries (entry_of draft) stands.history.lawful begins;
     }

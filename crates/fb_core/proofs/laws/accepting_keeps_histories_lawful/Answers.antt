@@ -11,7 +11,8 @@ returns c =
       lawful = λ core author draft stands is. is.stands.history.lawful;
       basis = λ core author draft stands is. ap basis is.entries ∙ next_basis core.snapshot.entries (entry_of draft) is.next;
       stands = λ core author draft stands is.
-          let last : basis draft.after.entries ≡ basis core.snapshot.entries + 1 = ap basis is.entries ∙ next_basis core.snapshot.entries (entry_of draft) is.next in
+          let last : basis draft.after.entries ≡ basis core.snapshot.entries + 1 =
+          ap basis is.entries ∙ next_basis core.snapshot.entries (entry_of draft) is.next in
           let count : length draft.authors ≡ length core.authors + 1 = ap length is.authors ∙ length-append core.authors (author ∷ []) in
           let counted = stands.authors in
           record { snapshot = is.stands; authors = omega (arith, last, count, counted) };

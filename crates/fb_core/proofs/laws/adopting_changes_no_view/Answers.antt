@@ -11,9 +11,14 @@ pub returns : goal.returns
 returns c =
     record {
       seen = λ core rebased w is. ap (λ (h : List Entry). seen h w) is.entries;
-      scans = λ core rebased w filters order range ds is.
-          (subst (λ (h : List Entry). IsScan h w (λ d. IsTrue (is_selected_by filters d)) order range ds) is.entries, subst (λ (h : List Entry). IsScan h w (λ d. IsTrue (is_selected_by filters d)) order range ds) (sym is.entries));
+      scans = λ core rebased w filters order range ds is. (
+        subst (λ (h : List Entry). IsScan h w (λ d. IsTrue (is_selected_by filters d)) order range ds) is.entries,
+        subst (λ (h : List Entry). IsScan h w (λ d. IsTrue (is_selected_by filters d)) order range ds) (sym is.entries),
+      );
       schema = λ core rebased stands is. is.stands.schema_is ∙ ap described is.entries ∙ sym stands.snapshot.schema_is;
       stands = λ core rebased stands is.
-          record { snapshot = is.stands; authors = subst (λ (h : List Entry). length core.authors ≤ basis h) (sym is.entries) stands.authors };
+          record {
+            snapshot = is.stands;
+            authors = subst (λ (h : List Entry). length core.authors ≤ basis h) (sym is.entries) stands.authors;
+          };
     }

@@ -1,5 +1,5 @@
 use Rattle.std.proofs.Common.{length, take, drop, ◌+◌, ◌-◌, ◌≡◌, ◌≤◌}
-use Rattle.disk_model.specs.Disk.{Within, WhereTold, LeavesOnly}
+use Rattle.disk_model.specs.Disk.{Within, IfKnown, LeavesOnly}
 use Rattle.fb_journal.proofs.reads.fill.Given as goal
 
 abbrev pub invariant-loop-filled : goal.invariant-loop-filled
@@ -9,7 +9,7 @@ invariant-loop-filled g l = record {
   faults : g.D.Disk.faults l.disk ≡ g.D.Disk.faults l.initial.disk;
   crash : Within (g.D.Disk.images l.initial.disk) (g.D.Disk.images l.disk);
   any_moment : LeavesOnly g.D.Disk.moment g.D.Disk.images_since l.initial.disk l.disk (g.D.Disk.images l.initial.disk);
-  read : WhereTold (g.D.Disk.bytes l.initial.disk) (λ file. l.fn.at + length l.buf ≤ length file
+  read : IfKnown (g.D.Disk.bytes l.initial.disk) (λ file. l.fn.at + length l.buf ≤ length file
       → take l.filled l.buf ≡ take l.filled (drop l.fn.at file));
 }
 

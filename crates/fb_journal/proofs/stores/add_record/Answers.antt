@@ -10,4 +10,5 @@ returns-clause-any_moment g c = λ file told only.
     c.in_ok-store.ensures.bytes ∙ ap (λ (o : Option (List ℕ)). option_map (written (c.args.gate + 1) c.args.piece.now) o) told in
     let first = c.store.ensures.any_moment file only in
     let second = c.store-2.ensures.any_moment staged (c.in_ok-store.ensures.durable staged is_staged) in
-    joined g.D.Disk.moment g.D.Disk.images_since c.args.disk.now c.store.new.disk c.store-2.new.disk _ _ _ first second (λ image torn. inl torn) (λ image torn. inr torn)
+    joined g.D.Disk.moment g.D.Disk.images_since c.args.disk.now c.store.new.disk c.store-2.new.disk _ _ _ first second
+    (λ image torn. inl torn) (λ image torn. inr torn)

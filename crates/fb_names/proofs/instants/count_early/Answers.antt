@@ -17,7 +17,9 @@ pub loop-from-preserved-then-has : goal.loop-from-preserved-then-has
 loop-from-preserved-then-has c =
     let fits : SFits w64 c.at.result.now.instant = search rules in
     let told = simp to_z-of_z at c.has.ensures in
-    let counted = early_is_counted c.args.early c.args.entries.now (c.loop-from.from + (c.loop-from.to - c.loop-from.from) / 2) c.at.result.now c.requires c.at.ensures (sym told ∙ c.if-has.true) in
+    let counted =
+    early_is_counted c.args.early c.args.entries.now
+    (c.loop-from.from + (c.loop-from.to - c.loop-from.from) / 2) c.at.result.now c.requires c.at.ensures (sym told ∙ c.if-has.true) in
     record {
       ends = omega arith;
       within = omega arith;
@@ -29,7 +31,9 @@ pub loop-from-preserved : goal.loop-from-preserved
 loop-from-preserved c =
     let fits : SFits w64 c.at.result.now.instant = search rules in
     let told = simp to_z-of_z at c.has.ensures in
-    let counted = late_is_not_counted c.args.early c.args.entries.now (c.loop-from.from + (c.loop-from.to - c.loop-from.from) / 2) c.at.result.now c.requires c.at.ensures (sym told ∙ c.if-has.false) in
+    let counted =
+    late_is_not_counted c.args.early c.args.entries.now
+    (c.loop-from.from + (c.loop-from.to - c.loop-from.from) / 2) c.at.result.now c.requires c.at.ensures (sym told ∙ c.if-has.false) in
     record {
       ends = omega arith;
       within = omega arith;

@@ -11,7 +11,7 @@ use Rattle.fb_db.specs.Seen.{window_of}
 use Rattle.read_refusals.specs.declared.reasons.Refusal.{Refusal}
 use Rattle.read_model.specs.Components.{parts_of, with_next, AreComponents}
 use Rattle.fb_names.specs.Answers.{IsGiven}
-use Rattle.fb_names.specs.Parts.{part_in}
+use Rattle.fb_names.specs.Parts.{model_component}
 use Rattle.fb_names.proofs.Reading.{stopped, one_more, refused_here, are_components}
 use Rattle.fb_names.proofs.probes.components.Goals as goal
 
@@ -23,15 +23,19 @@ returns-in_err-probe g c =
     let forms = forms_of c.args.given.now in
     let i = c.loop-place.place in
     let f = form_of c.index-given-place.result in
-    let part = part_in c.part_at-part.result in
-    let at_form : slice_get forms i ≡ Some f = slice_get-map form_of c.args.given.now i ∙ ap (option_map form_of) (slice_get_read c.args.given.now (length c.args.given.now) i c.index-given-place.result refl (omega arith) c.index-given-place.is) in
+    let part = model_component c.part_at-part.result in
+    let at_form : slice_get forms i ≡ Some f =
+    slice_get-map form_of c.args.given.now i
+    ∙ ap (option_map form_of)
+    (slice_get_read c.args.given.now (length c.args.given.now) i c.index-given-place.result refl (omega arith) c.index-given-place.is) in
     let same : length forms ≡ length c.args.given.now = length-map c.args.given.now form_of in
     let few : length forms ≤ 4 = omega arith in
     let p = err_from_is_err_and c.from_residual.result c.from_residual.ensures.1 in
     rw (p.1, p.2) (stopped
     (λ (answer : Result Probe Refusal). IsGiven h w selects (i + 2) (with_next (facts h) c.loop-place.probe part f) answer)
     (λ (answer : Result Probe Refusal). AreComponents h w selects c.args.order forms answer)
-    (λ r refused. are_components h w selects c.args.order forms (Err r) few (c.loop-place.invariant (Err r) (refused_here h w selects c.loop-place.probe (parts_of c.args.order) forms i part f c.part_at-part.ensures at_form r refused)))
+    (λ r refused. are_components h w selects c.args.order forms (Err r) few (c.loop-place.invariant (Err r)
+    (refused_here h w selects c.loop-place.probe (parts_of c.args.order) forms i part f c.part_at-part.ensures at_form r refused)))
     c.in_err-probe.field-0.0 c.in_err-probe.ensures)
 
 pub loop-place-preserved : goal.loop-place-preserved
@@ -42,6 +46,10 @@ loop-place-preserved g c =
     let forms = forms_of c.args.given.now in
     let i = c.loop-place.place in
     let f = form_of c.index-given-place.result in
-    let part = part_in c.part_at-part.result in
-    let at_form : slice_get forms i ≡ Some f = slice_get-map form_of c.args.given.now i ∙ ap (option_map form_of) (slice_get_read c.args.given.now (length c.args.given.now) i c.index-given-place.result refl (omega arith) c.index-given-place.is) in
-    λ answer rest. c.loop-place.invariant answer (one_more h w selects c.loop-place.probe (parts_of c.args.order) forms i part f c.part_at-part.ensures at_form c.in_ok-probe.probe answer c.in_ok-probe.ensures rest)
+    let part = model_component c.part_at-part.result in
+    let at_form : slice_get forms i ≡ Some f =
+    slice_get-map form_of c.args.given.now i
+    ∙ ap (option_map form_of)
+    (slice_get_read c.args.given.now (length c.args.given.now) i c.index-given-place.result refl (omega arith) c.index-given-place.is) in
+    λ answer rest. c.loop-place.invariant answer (one_more h w selects c.loop-place.probe
+    (parts_of c.args.order) forms i part f c.part_at-part.ensures at_form c.in_ok-probe.probe answer c.in_ok-probe.ensures rest)

@@ -11,5 +11,7 @@ use Rattle.fb_names.proofs.probes.components.Given as goal
 abbrev pub invariant-loop-place : goal.invariant-loop-place
 invariant-loop-place g l =
     (answer : Result Probe Refusal)
-    → AreRead l.fn.db.snapshot.entries (window_of l.fn.db) (g.S.Selector.selects l.fn.db.filter) l.probe (l.place + 2) (drop l.place (zip (parts_of l.fn.order) (forms_of l.fn.given))) answer
-    → AreRead l.fn.db.snapshot.entries (window_of l.fn.db) (g.S.Selector.selects l.fn.db.filter) (no_component l.fn.order) 2 (zip (parts_of l.fn.order) (forms_of l.fn.given)) answer
+    → AreRead l.fn.db.snapshot.entries (window_of l.fn.db) (g.S.Selector.selects l.fn.db.filter) l.probe (l.place + 2)
+    (drop l.place (zip (parts_of l.fn.order) (forms_of l.fn.given))) answer
+    → AreRead l.fn.db.snapshot.entries (window_of l.fn.db) (g.S.Selector.selects l.fn.db.filter) (no_component l.fn.order) 2
+    (zip (parts_of l.fn.order) (forms_of l.fn.given)) answer

@@ -22,7 +22,8 @@ returns-in_err-value g c =
     rw (p.1, p.2) (stopped
     (λ (answer : Result Value Refusal). IsGiven h w selects c.args.at (value_given (facts h) (λ v. v) c.args.kind f) answer)
     (λ (answer : Result (Option Value) Refusal). IsGiven h w selects c.args.at (end_given (facts h) c.args.kind f) answer)
-    (λ r refused. subst (λ given. IsGiven h w selects c.args.at given (Err r)) (sym same) (value_refused h w selects c.args.at (λ (v : Value). Some v) c.args.kind f r refused))
+    (λ r refused. subst (λ given. IsGiven h w selects c.args.at given (Err r)) (sym same)
+    (value_refused h w selects c.args.at (λ (v : Value). Some v) c.args.kind f r refused))
     c.in_err-value.field-0.0 c.in_err-value.ensures)
 
 pub returns : goal.returns

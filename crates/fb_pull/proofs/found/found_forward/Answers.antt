@@ -3,8 +3,8 @@ use Rattle.std.specs.Prelude.{filter_map}
 use Rattle.fb_numbers.specs.Numbers.{type_ref}
 use Rattle.fb_model.specs.Facts.{values_of}
 use Rattle.fb_model.specs.Schema.{entity_in}
-use Rattle.fb_schema.specs.Parts.{attribute_in}
-use Rattle.pull_pattern.specs.View.{options_in, limit_in}
+use Rattle.fb_schema.specs.Parts.{model_attribute}
+use Rattle.pull_pattern.specs.View.{model_options, model_limit}
 use Rattle.fb_pull.proofs.Known.{finds_refs, finds_values, entities_limited, values_limited}
 use Rattle.fb_pull.proofs.found.found_forward.Goals as goal
 
@@ -12,11 +12,11 @@ pub returns-then-is_ref : goal.returns-then-is_ref
 returns-then-is_ref g c = λ facts sees.
     let attribute = c.args.attribute.now in
     let ref : eqb attribute.kind type_ref ≡ true = sym c.is_ref.ensures ∙ c.if-is_ref.true in
-    finds_refs facts c.args.e (attribute_in attribute) (options_in c.args.options.now) c.args.maps _ ref (
+    finds_refs facts c.args.e (model_attribute attribute) (model_options c.args.options.now) c.args.maps _ ref (
       refl,
       refl,
-      entities_limited facts c.args.e (attribute_in attribute) (options_in c.args.options.now) c.args.maps c.most_entities.result
-          (limit_in c.limit_for-limit.result) attribute.many
+      entities_limited facts c.args.e (model_attribute attribute) (model_options c.args.options.now) c.args.maps c.most_entities.result
+          (model_limit c.limit_for-limit.result) attribute.many
           (filter_map entity_in (values_of facts.seen c.args.e attribute.id)) c.in_ok-list.list.items c.most_entities.ensures
           c.limit_for-limit.ensures (c.in_ok-list.ensures facts sees),
     )
@@ -25,10 +25,10 @@ pub returns : goal.returns
 returns g c = λ facts sees.
     let attribute = c.args.attribute.now in
     let plain : eqb attribute.kind type_ref ≡ false = sym c.is_ref.ensures ∙ c.if-is_ref.false in
-    finds_values facts c.args.e (attribute_in attribute) (options_in c.args.options.now) c.args.maps _ plain (
+    finds_values facts c.args.e (model_attribute attribute) (model_options c.args.options.now) c.args.maps _ plain (
       refl,
       c.in_ok-forms.ensures facts sees
-          ∙ values_limited facts c.args.e (attribute_in attribute) (options_in c.args.options.now) c.args.maps c.most_values.result
-          (limit_in c.limit_for-limit.result) attribute.many
+          ∙ values_limited facts c.args.e (model_attribute attribute) (model_options c.args.options.now) c.args.maps c.most_values.result
+          (model_limit c.limit_for-limit.result) attribute.many
           (values_of facts.seen c.args.e attribute.id) c.most_values.ensures c.limit_for-limit.ensures,
     )

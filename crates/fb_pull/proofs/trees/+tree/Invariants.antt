@@ -2,12 +2,12 @@ use Rattle.std.proofs.Common.{◌+◌, ◌*◌, map, take}
 use Rattle.pull_model.specs.Found.{Db}
 use Rattle.pull_model.specs.Made as made
 use Rattle.pull_model.specs.Tree.{tree}
-use Rattle.pull_pattern.specs.View.{pattern_in}
-use Rattle.fb_pull.specs.Below.{told_by}
+use Rattle.pull_pattern.specs.View.{model_pattern}
+use Rattle.fb_pull.specs.Below.{made_by}
 use Rattle.fb_pull.specs.Stands.{made_at}
-use Rattle.fb_pull.specs.Telling.{AreTold, IsInside}
+use Rattle.fb_pull.specs.Making.{AreMadeAs, IsInside}
 use Rattle.fb_pull.specs.Views.{Sees}
-use Rattle.fb_pull.proofs.Telling.{so_far, others_so_far}
+use Rattle.fb_pull.proofs.Making.{so_far, others_so_far}
 use Rattle.fb_pull.proofs.trees.+tree.Given as goal
 
 -- each level has one less room, and within a level the functions call one another in this order
@@ -42,18 +42,18 @@ decreases-pairs g l = 9 * l.at.now.limits.depth + 8
 abbrev pub invariant-all_told-loop-n : goal.invariant-all_told-loop-n
 invariant-all_told-loop-n g l =
     (facts : Db) → Sees l.walk.db.now (g.S.Selector.selects l.walk.db.now.filter) facts
-    → AreTold (map (told_by (tree l.limits.depth facts) l.inner l.path) (take l.n-index l.entities)) l.limits l.all
+    → AreMadeAs (map (made_by (tree l.limits.depth facts) l.inner l.path) (take l.n-index l.entities)) l.limits l.all
 
 -- the pairs of the items before the next one
 abbrev pub invariant-pairs-loop-place : goal.invariant-pairs-loop-place
 invariant-pairs-loop-place g l =
     (facts : Db) → Sees l.walk.db.now (g.S.Selector.selects l.walk.db.now.filter) facts
-    → IsInside (so_far facts (pattern_in l.at.pattern.now) l.at.e (made_at l.at facts) l.items l.at.limits l.place) l.at.limits l.inside
+    → IsInside (so_far facts (model_pattern l.at.pattern.now) l.at.e (made_at l.at facts) l.items l.at.limits l.place) l.at.limits l.inside
 
 -- and of the attributes before the next one
 abbrev pub invariant-add_everything-loop-name : goal.invariant-add_everything-loop-name
 invariant-add_everything-loop-name g l =
     (facts : Db) → Sees l.walk.db.now (g.S.Selector.selects l.walk.db.now.filter) facts → (before : made.Inside)
     → IsInside before l.at.limits l.fn.inside
-    → IsInside (others_so_far facts (pattern_in l.at.pattern.now) l.at.e l.place (made_at l.at facts) l.at.limits before l.name-items
+    → IsInside (others_so_far facts (model_pattern l.at.pattern.now) l.at.e l.place (made_at l.at facts) l.at.limits before l.name-items
     l.name-index) l.at.limits l.inside

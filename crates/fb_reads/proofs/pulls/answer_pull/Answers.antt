@@ -16,6 +16,9 @@ pub returns-in-Err-BadPattern : goal.returns-in-Err-BadPattern
 returns-in-Err-BadPattern g c =
     let view = c.args.view.now in
     on_ok_weaker c.refuse_at.result
-    (by_none view.snapshot.entries (window_of view) (g.S.Selector.selects view.filter) c.refuse_at.new.line.items (model.pattern_in (form_of c.args.pattern.now)) c.in-Err-BadPattern.item
+    (by_none view.snapshot.entries (window_of view) (g.S.Selector.selects view.filter) c.refuse_at.new.line.items
+    (model.pattern_in (form_of c.args.pattern.now)) c.in-Err-BadPattern.item
     (form_of c.args.entity.now) (rw c.in-Err-BadPattern.field-0-is at c.in-Err-BadPattern.ensures))
-    (subst (λ (n : ℕ). OnOk c.refuse_at.result (IsLineOf (refused (basis view.snapshot.entries) (refusal BadPattern n)) c.refuse_at.new.line.items)) c.in-Err-BadPattern.item-is c.refuse_at.ensures)
+    (subst (λ (n : ℕ).
+    OnOk c.refuse_at.result (IsLineOf (refused (basis view.snapshot.entries) (refusal BadPattern n)) c.refuse_at.new.line.items))
+    c.in-Err-BadPattern.item-is c.refuse_at.ensures)

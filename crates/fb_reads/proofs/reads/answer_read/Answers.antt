@@ -8,7 +8,7 @@ use Rattle.read_model.specs.Components.{no_command}
 use Rattle.talk_model.specs.Commands as model
 use Rattle.talk_model.specs.Replies.{done_reply, IsLineOf}
 use Rattle.talk_model.specs.Reads.{refused}
-use Rattle.fb_commands.specs.Asked.{read_of, turned}
+use Rattle.fb_commands.specs.View.{model_read, model_turn}
 use Rattle.fb_reads.specs.Answers.{sight_in}
 use Rattle.fb_reads.proofs.Answered.{said, line_of, stands_of}
 use Rattle.fb_reads.proofs.reads.answer_read.Goals as goal
@@ -18,9 +18,12 @@ returns-in-Turn-clause-stands g c =
     let view = c.args.view.now in
     let table = view.filter.table.now in
     let name_at = g.T.FilterTable.name_at table in
-    stands_of c.turn_view.result (sight_in (g.T.FilterTable.place_of table) name_at (g.T.FilterTable.selects_at table) view.snapshot.entries (window_of view) view.filter.places.items)
-    (window_of view) (map name_at view.filter.places.items) (window_of c.turn_view.new.view) (map name_at c.turn_view.new.view.filter.places.items)
-    (option_map read_of c.args.asked) (Some (model.turn (turned c.in-Turn.turn))) (ap (option_map read_of) (c.in-Some.is ∙ ap Some c.in-Turn.is)) c.turn_view.ensures.stands
+    stands_of c.turn_view.result (sight_in (g.T.FilterTable.place_of table) name_at (g.T.FilterTable.selects_at table) view.snapshot.entries
+    (window_of view) view.filter.places.items)
+    (window_of view) (map name_at view.filter.places.items) (window_of c.turn_view.new.view)
+    (map name_at c.turn_view.new.view.filter.places.items)
+    (option_map model_read c.args.asked) (Some (model.turn (model_turn c.in-Turn.turn)))
+    (ap (option_map model_read) (c.in-Some.is ∙ ap Some c.in-Turn.is)) c.turn_view.ensures.stands
 
 pub returns-in-RequestIndex-clause-line : goal.returns-in-RequestIndex-clause-line
 returns-in-RequestIndex-clause-line g c =
@@ -28,9 +31,12 @@ returns-in-RequestIndex-clause-line g c =
     let h = view.snapshot.entries in
     let table = view.filter.table.now in
     let line = c.write_done.new.line.items in
-    line_of c.write_done.result (sight_in (g.T.FilterTable.place_of table) (g.T.FilterTable.name_at table) (g.T.FilterTable.selects_at table) h (window_of view) view.filter.places.items)
-    (option_map read_of c.args.asked) (Some model.request_index) line (ap (option_map read_of) (c.in-Some.is ∙ ap Some c.in-RequestIndex.is))
-    (on_ok_weaker c.write_done.result (said (done_reply (basis h)) line) (subst (λ (n : ℕ). OnOk c.write_done.result (IsLineOf (done_reply n) line)) c.basis-basis.ensures.basis c.write_done.ensures))
+    line_of c.write_done.result (sight_in (g.T.FilterTable.place_of table) (g.T.FilterTable.name_at table)
+    (g.T.FilterTable.selects_at table) h (window_of view) view.filter.places.items)
+    (option_map model_read c.args.asked) (Some model.request_index) line
+    (ap (option_map model_read) (c.in-Some.is ∙ ap Some c.in-RequestIndex.is))
+    (on_ok_weaker c.write_done.result (said (done_reply (basis h)) line)
+    (subst (λ (n : ℕ). OnOk c.write_done.result (IsLineOf (done_reply n) line)) c.basis-basis.ensures.basis c.write_done.ensures))
 
 pub returns-in_default-clause-line : goal.returns-in_default-clause-line
 returns-in_default-clause-line g c =
@@ -38,6 +44,8 @@ returns-in_default-clause-line g c =
     let h = view.snapshot.entries in
     let table = view.filter.table.now in
     let line = c.not_a_command.new.line.items in
-    line_of c.not_a_command.result (sight_in (g.T.FilterTable.place_of table) (g.T.FilterTable.name_at table) (g.T.FilterTable.selects_at table) h (window_of view) view.filter.places.items)
-    (option_map read_of c.args.asked) None line (ap (option_map read_of) c.in_default.is)
-    (on_ok_weaker c.not_a_command.result (said (refused (basis h) no_command) line) (subst (λ (n : ℕ). OnOk c.not_a_command.result (IsLineOf (refused n no_command) line)) c.basis-basis.ensures.basis c.not_a_command.ensures))
+    line_of c.not_a_command.result (sight_in (g.T.FilterTable.place_of table) (g.T.FilterTable.name_at table)
+    (g.T.FilterTable.selects_at table) h (window_of view) view.filter.places.items)
+    (option_map model_read c.args.asked) None line (ap (option_map model_read) c.in_default.is)
+    (on_ok_weaker c.not_a_command.result (said (refused (basis h) no_command) line) (subst
+    (λ (n : ℕ). OnOk c.not_a_command.result (IsLineOf (refused n no_command) line)) c.basis-basis.ensures.basis c.not_a_command.ensures))

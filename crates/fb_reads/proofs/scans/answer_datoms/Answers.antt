@@ -17,7 +17,8 @@ returns-in_ok-found-in-Ok g c =
     let view = c.args.view.now in
     let h = view.snapshot.entries in
     on_ok_weaker c.write_found.result
-    (found_at h (window_of view) (g.S.Selector.selects view.filter) c.args.order leading (forms_of c.args.given.now) c.in-Ok.probe _ c.write_found.new.line.items c.in-Ok.ensures c.in_ok-found-in-Ok.ensures)
+    (found_at h (window_of view) (g.S.Selector.selects view.filter) c.args.order leading
+    (forms_of c.args.given.now) c.in-Ok.probe _ c.write_found.new.line.items c.in-Ok.ensures c.in_ok-found-in-Ok.ensures)
     (subst (λ (ds : List (Bor Datom)). OnOk c.write_found.result
     (IsLineOf (datoms_reply (basis h) (facts h) (map (λ (d : Bor Datom). d.now) ds)) c.write_found.new.line.items))
     c.deref.ensures.value c.write_found.ensures)
@@ -28,5 +29,6 @@ returns-in-Err g c =
     let h = view.snapshot.entries in
     let line = c.refuse_stop.new.line.items in
     on_ok_weaker c.refuse_stop.result
-    (stopped_at h (window_of view) (g.S.Selector.selects view.filter) c.args.order leading (forms_of c.args.given.now) c.in-Err.stop line c.in-Err.ensures)
+    (stopped_at h (window_of view) (g.S.Selector.selects view.filter) c.args.order leading
+    (forms_of c.args.given.now) c.in-Err.stop line c.in-Err.ensures)
     (subst (λ (n : ℕ). OnOk c.refuse_stop.result (IsRefused n c.in-Err.stop line)) c.basis.ensures.basis c.refuse_stop.ensures)

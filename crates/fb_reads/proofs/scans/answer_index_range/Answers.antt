@@ -16,7 +16,8 @@ returns-in_ok-found-in-Ok g c =
     let view = c.args.view.now in
     let h = view.snapshot.entries in
     on_ok_weaker c.write_found.result
-    (found_between h (window_of view) (g.S.Selector.selects view.filter) (form_of c.args.a.now) (form_of c.args.start.now) (form_of c.args.end.now) c.in-Ok.range _ c.write_found.new.line.items
+    (found_between h (window_of view) (g.S.Selector.selects view.filter) (form_of c.args.a.now) (form_of c.args.start.now)
+    (form_of c.args.end.now) c.in-Ok.range _ c.write_found.new.line.items
     c.in-Ok.ensures c.in_ok-found-in-Ok.ensures)
     (subst (λ (ds : List (Bor Datom)). OnOk c.write_found.result
     (IsLineOf (datoms_reply (basis h) (facts h) (map (λ (d : Bor Datom). d.now) ds)) c.write_found.new.line.items))
@@ -28,5 +29,6 @@ returns-in-Err g c =
     let h = view.snapshot.entries in
     let line = c.refuse_stop.new.line.items in
     on_ok_weaker c.refuse_stop.result
-    (stopped_between h (window_of view) (g.S.Selector.selects view.filter) (form_of c.args.a.now) (form_of c.args.start.now) (form_of c.args.end.now) c.in-Err.stop line c.in-Err.ensures)
+    (stopped_between h (window_of view) (g.S.Selector.selects view.filter) (form_of c.args.a.now) (form_of c.args.start.now)
+    (form_of c.args.end.now) c.in-Err.stop line c.in-Err.ensures)
     (subst (λ (n : ℕ). OnOk c.refuse_stop.result (IsRefused n c.in-Err.stop line)) c.basis.ensures.basis c.refuse_stop.ensures)

@@ -13,7 +13,8 @@ pub returns-in-Ok : goal.returns-in-Ok
 returns-in-Ok c =
     let h = c.args.snapshot.now.entries in
     on_ok_weaker c.write_log.result
-    (logged h (log_range h (form_of c.args.start.now) (form_of c.args.end.now)) c.in-Ok.range.start c.in-Ok.range.stop c.write_log.new.line.items c.in-Ok.ensures)
+    (logged h (log_range h (form_of c.args.start.now) (form_of c.args.end.now)) c.in-Ok.range.start c.in-Ok.range.stop
+    c.write_log.new.line.items c.in-Ok.ensures)
     c.write_log.ensures
 
 pub returns-in-Err : goal.returns-in-Err
@@ -21,5 +22,6 @@ returns-in-Err c =
     let h = c.args.snapshot.now.entries in
     let line = c.refuse.new.line.items in
     on_ok_weaker c.refuse.result
-    (refuses (basis h) (HasTransactions h) (log_range h (form_of c.args.start.now) (form_of c.args.end.now)) c.in-Err.refusal line c.in-Err.ensures)
+    (refuses (basis h) (HasTransactions h)
+    (log_range h (form_of c.args.start.now) (form_of c.args.end.now)) c.in-Err.refusal line c.in-Err.ensures)
     (subst (λ (n : ℕ). OnOk c.refuse.result (IsLineOf (refused n c.in-Err.refusal) line)) c.basis.ensures.basis c.refuse.ensures)

@@ -28,10 +28,10 @@ returns-in-Ok-Some-clause-based g c =
     IfOk-weaker c.with_room.result _ _
     (λ b has. based_found d.bytes d.images (d.bytes c.args.segments) c.args.entries.now loaded c.in-Ok-Some.trees b load.loaded load.kept
     newest has.0 has.1.0 has.1.1.0 has.1.1.1.0
-    (told_on (d.bytes c.args.segments) (d.bytes (disk_in loaded.store)) (d.bytes (disk_in b.store)) load.told has.1.1.1.1))
+    (told_on (d.bytes c.args.segments) (d.bytes (disk_in loaded.store)) (d.bytes (disk_in b.store)) load.known has.1.1.1.1))
     (IfOk-both c.with_room.result _ _ room.trees
     (IfOk-both c.with_room.result _ _ room.fits
-    (IfOk-both c.with_room.result _ _ room.root (IfOk-both c.with_room.result _ _ room.room room.told))))
+    (IfOk-both c.with_room.result _ _ room.root (IfOk-both c.with_room.result _ _ room.room room.known))))
 
 pub returns-in-Ok-None-clause-based : goal.returns-in-Ok-None-clause-based
 returns-in-Ok-None-clause-based g c =
@@ -42,7 +42,7 @@ returns-in-Ok-None-clause-based g c =
     IfOk-weaker c.of_first.result _ _
     (λ b has. based_first d.bytes d.images (d.bytes c.args.segments) c.args.entries.now c.in-Ok.loaded b c.requires load.kept none has.0
     has.1.0 has.1.1.0 has.1.1.1.0
-    (told_on (d.bytes c.args.segments) (d.bytes (disk_in c.in-Ok.loaded.store)) (d.bytes (disk_in b.store)) load.told has.1.1.1.1))
+    (told_on (d.bytes c.args.segments) (d.bytes (disk_in c.in-Ok.loaded.store)) (d.bytes (disk_in b.store)) load.known has.1.1.1.1))
     (IfOk-both c.of_first.result _ _ first.empty
     (IfOk-both c.of_first.result _ _ first.stands
-    (IfOk-both c.of_first.result _ _ first.ids (IfOk-both c.of_first.result _ _ first.few first.told))))
+    (IfOk-both c.of_first.result _ _ first.ids (IfOk-both c.of_first.result _ _ first.few first.known))))

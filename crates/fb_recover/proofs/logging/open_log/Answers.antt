@@ -46,8 +46,8 @@ returns-in-Ok-history_of-clause-count g c =
     c.of-log.ensures.count all.0 (c.finish.ensures.keeps log_mark c.args.disk all.0 all.1).0
     ∙ stands-count all.0 c.in-Ok-history_of.entries all.2
 
-pub returns-in-Ok-history_of-clause-told : goal.returns-in-Ok-history_of-clause-told
-returns-in-Ok-history_of-clause-told g c = λ file told.
+pub returns-in-Ok-history_of-clause-known : goal.returns-in-Ok-history_of-clause-known
+returns-in-Ok-history_of-clause-known g c = λ file told.
     let all = c.in-Ok-history_of.ensures.read c.args.disk c.in-Ok.ensures.begins in
     let now = all.1.read.begun file told in
     (now.0, ap g.D.Disk.bytes (c.of-log.ensures.disk ∙ c.finish.ensures.disk) ∙ now.1)

@@ -1,6 +1,6 @@
 use Rattle.std.proofs.Common.{◌≡◌, ◌∙◌, ◌++◌, [], ◌∷◌, ℕ, List, sym, subst, arith}
 use Rattle.std.proofs.lemmas.Result.{err_from_is_err_and, IfOk-weaker, IfErr-weaker, MatchResult-from_both}
-use Rattle.disk_model.specs.Disk.{WhereTold}
+use Rattle.disk_model.specs.Disk.{IfKnown}
 use Rattle.disk_model.specs.Journal.{log_mark}
 use Rattle.log_model.specs.Log.{byte_in_log, log_says}
 use Rattle.fb_recover.specs.Faults.{IsCause}
@@ -16,7 +16,7 @@ returns-in_err-place-clause-why_not g c =
     rw (exit.1)
     (λ disk has.
     let first = c.in_err-place.ensures.why_not log_mark disk follows.records (follows.reads disk has) in
-    subst (λ fault. WhereTold (told disk) (IsCause fault)) (sym exit.2)
+    subst (λ fault. IfKnown (told disk) (IsCause fault)) (sym exit.2)
     (reading-cause (told disk) c.in_err-place.field-0.0 follows.records first.0))
 
 pub returns-in_err-place-clause-any_moment : goal.returns-in_err-place-clause-any_moment

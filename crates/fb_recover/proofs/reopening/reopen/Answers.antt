@@ -1,8 +1,8 @@
 use Rattle.std.proofs.Common.{[], ◌⊎◌, ◌∙◌, ◌<◌, ◌≤◌, ◌*◌, ◌^◌, length, sym, ap, subst}
 use Rattle.std.proofs.lemmas.Result.{IfOk-weaker, IfErr-weaker, MatchResult-from_both}
-use Rattle.disk_model.specs.Disk.{WhereTold, LeavesOnly}
+use Rattle.disk_model.specs.Disk.{IfKnown, LeavesOnly}
 use Rattle.log_model.specs.Log.{IsLogOf}
-use Rattle.fb_journal.specs.Journals.{StaysTold}
+use Rattle.fb_journal.specs.Journals.{StaysKnown}
 use Rattle.fb_journal.specs.Readings.{LeavesBegun}
 use Rattle.disk_log.specs.Logs.{disk_in, count_in, KeepsHistory}
 use Rattle.seg_tree.specs.Ids.{next_above}
@@ -84,7 +84,7 @@ pub returns-in-Ok-clause-great : goal.returns-in-Ok-clause-great
 returns-in-Ok-clause-great g c =
     let d = g.D.Disk in
     IfOk-weaker c.opened_on.result _ _
-    (λ o is. subst (λ roots. WhereTold (d.bytes c.args.segments) (λ file. 2 ^ 61 < next_above (root_ids roots) → HasGreatNode file))
+    (λ o is. subst (λ roots. IfKnown (d.bytes c.args.segments) (λ file. 2 ^ 61 < next_above (root_ids roots) → HasGreatNode file))
     (sym is.joined.roots) is.is.great)
     c.opened_on.ensures.opened
 
@@ -116,19 +116,19 @@ returns-in-Ok-clause-count g c =
     ap count_in j.log ∙ c.in-Ok.ensures.count ∙ ap basis (sym j.entries) ∙ sym j.recovered)
     c.opened_on.ensures.opened
 
-pub returns-in-Ok-clause-told : goal.returns-in-Ok-clause-told
-returns-in-Ok-clause-told g c =
+pub returns-in-Ok-clause-known : goal.returns-in-Ok-clause-known
+returns-in-Ok-clause-known g c =
     IfOk-weaker c.opened_on.result _ _
     (λ o is. λ file told.
-    let later = c.in-Ok.ensures.told file told in
+    let later = c.in-Ok.ensures.known file told in
     (later.0, ap (λ log. g.D.Disk.bytes (disk_in log)) is.joined.log ∙ later.1))
     c.opened_on.ensures.opened
 
-pub returns-in-Ok-clause-segments_told : goal.returns-in-Ok-clause-segments_told
-returns-in-Ok-clause-segments_told g c =
+pub returns-in-Ok-clause-segments_known : goal.returns-in-Ok-clause-segments_known
+returns-in-Ok-clause-segments_known g c =
     let d = g.D.Disk in
     IfOk-weaker c.opened_on.result _ _
-    (λ o is. subst (λ store. StaysTold (d.bytes c.args.segments) (d.bytes (segments_in store))) (sym is.joined.store) is.is.stays)
+    (λ o is. subst (λ store. StaysKnown (d.bytes c.args.segments) (d.bytes (segments_in store))) (sym is.joined.store) is.is.stays)
     c.opened_on.ensures.opened
 
 pub returns-in-Ok-clause-why_not : goal.returns-in-Ok-clause-why_not

@@ -35,6 +35,7 @@ returns c =
     let xs = c.args.datoms.now in
     let f = λ (d : Bor Datom). datom_form c.args.schema.now d.now in
     let whole : take c.loop-index.index xs ≡ xs = take_all c.loop-index.index xs (omega arith) in
-    let here = subst (λ ds. Appends (CanonAll (forms (map f ds))) c.args.line.now.items c.loop-index.line.items) whole c.loop-index.invariant in
+    let here =
+    subst (λ ds. Appends (CanonAll (forms (map f ds))) c.args.line.now.items c.loop-index.line.items) whole c.loop-index.invariant in
     subst (λ (fs : List Form). Appends (CanonAll (forms fs)) c.args.line.now.items c.loop-index.line.items)
     (map_twice (datom_form c.args.schema.now) (λ (d : Bor Datom). d.now) xs) here

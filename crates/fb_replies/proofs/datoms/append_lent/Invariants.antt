@@ -6,4 +6,5 @@ use Rattle.talk_model.specs.Replies.{datom_form}
 use Rattle.fb_replies.proofs.datoms.append_lent.Given as goal
 
 abbrev pub invariant-loop-index : goal.invariant-loop-index
-invariant-loop-index l = Appends (CanonAll (forms (map (λ d. datom_form l.schema d.now) (take l.index l.datoms)))) l.fn.line.items l.line.items
+invariant-loop-index l =
+    Appends (CanonAll (forms (map (λ d. datom_form l.schema d.now) (take l.index l.datoms)))) l.fn.line.items l.line.items

@@ -12,4 +12,5 @@ pub returns-clause-some : goal.returns-clause-some
 returns-clause-some c = λ h ds lawful within. each_of (λ (d : Datom). has_text d.v) (said h) ds (said_texts h lawful) within
 
 pub returns-clause-entries : goal.returns-clause-entries
-returns-clause-entries c = λ h entries lawful within. each_of (λ (entry : Entry). have_texts entry.datoms) h entries (entries_texts h lawful) within
+returns-clause-entries c =
+    λ h entries lawful within. each_of (λ (entry : Entry). have_texts entry.datoms) h entries (entries_texts h lawful) within

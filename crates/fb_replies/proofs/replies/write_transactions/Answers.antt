@@ -7,4 +7,5 @@ use Rattle.fb_replies.proofs.replies.write_transactions.Goals as goal
 pub returns : goal.returns
 returns c =
     let n = c.in_ok-append_count.ensures ∙ ap (λ n. c.begin.new.line.items ++ decimal n) c.from.ensures in
-    on_ok_weaker c.append-2.result (λ e. transactions_line c.args.basis c.args.schema.now _ _ _ _ _ _ c.in_ok-begin.ensures n c.in_ok-append.ensures c.in_ok-append_transactions.ensures e) c.append-2.ensures
+    on_ok_weaker c.append-2.result (λ e. transactions_line c.args.basis c.args.schema.now _ _ _ _ _ _ c.in_ok-begin.ensures n
+    c.in_ok-append.ensures c.in_ok-append_transactions.ensures e) c.append-2.ensures

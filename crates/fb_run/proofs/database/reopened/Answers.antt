@@ -12,13 +12,13 @@ returns-in-Ok-clause-opened g c =
       recovered = e.recovered;
       keeps = e.keeps;
       count = e.count;
-      told = e.told;
+      known = e.known;
       unfailed = e.counted;
       any_moment = e.any_moment_stands;
       unharmed = e.any_moment;
-      coverage = λ file told. subst (λ n. HasCoverage c.in-Ok.field-0.core.snapshot.entries n file) e.covered (e.coverage file told);
+      coverage = λ file spec. subst (λ n. HasCoverage c.in-Ok.field-0.core.snapshot.entries n file) e.covered (e.coverage file spec);
       fit = e.fits;
       great = e.great;
-      segments_told = e.segments_told;
+      segments_known = e.segments_known;
       segments_unfailed = e.segments_counted;
     }

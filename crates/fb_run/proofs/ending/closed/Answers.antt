@@ -3,7 +3,7 @@ use Rattle.fb_values.specs.declared.facts.Entry.{Entry}
 use Rattle.fb_model.specs.Lawful.{IsLawful}
 use Rattle.command_line.specs.Views.{names_in}
 use Rattle.disk_log.specs.Logs.{disk_in, count_in}
-use Rattle.fb_view.specs.Kept.{Kept}
+use Rattle.fb_view.specs.SnapshotModel.{SnapshotModel}
 use Rattle.fb_core.specs.declared.shared.CoreParts.{CoreParts}
 use Rattle.fb_conn.specs.Seats.{begun_of}
 use Rattle.fb_run.specs.Outside.{disks_of}
@@ -20,7 +20,7 @@ settled-end-requires-clause-stand g c κs within =
     let closed = c.close-core in
     let longer = closed.ensures.last in
     let last = c.args.worker.seat.last in
-    let lawful = subst (λ (k : Kept). IsLawful k.entries) c.last.ensures c.basis-basis.ensures.stands.history.lawful in
+    let lawful = subst (λ (k : SnapshotModel). IsLawful k.entries) c.last.ensures c.basis-basis.ensures.stands.history.lawful in
     subst (λ n. TreesStand c.args.worker.trees closed.result.core.snapshot.entries n) (sym closed.ensures.covered)
     (stand_later c.args.worker.trees last.entries closed.result.core.snapshot.entries longer.0 _ lawful
     closed.ensures.stands.snapshot.history.lawful longer.1 c.requires.can_work.1)
@@ -68,5 +68,6 @@ returns-clause-ends g c = λ begun none merged.
       segments = c.give_back.result;
       segments_is = refl;
       trees = subst (λ d. LeavesTrees disks at begun c.settled-end.result c.into_parts-snapshot.result.snapshot d) (sym c.give_back.ensures)
-          (subst (λ (p : CoreParts). LeavesTrees disks at begun c.settled-end.result p.snapshot (segments_in c.settled-end.new.trees.store)) (sym c.into_parts-snapshot.ensures) left);
+          (subst (λ (p : CoreParts). LeavesTrees disks at begun c.settled-end.result p.snapshot (segments_in c.settled-end.new.trees.store))
+          (sym c.into_parts-snapshot.ensures) left);
     }

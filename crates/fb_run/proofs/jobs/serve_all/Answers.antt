@@ -1,11 +1,12 @@
 use Rattle.std.proofs.Common.{◌≤◌, arith}
+use Rattle.script_model.specs.Script.{most_commands}
 use Rattle.fb_conn.specs.Seats.{state_of}
 use Rattle.fb_run.proofs.Talking.{at_seats, have_talked_in}
 use Rattle.fb_run.proofs.jobs.serve_all.Goals as goal
 
 pub serve_from-requires-clause-left : goal.serve_from-requires-clause-left
 serve_from-requires-clause-left g c κs within =
-    at_seats (λ seat. 1000000 ≤ (state_of seat).left) _ _ _ c.as_mut_slice.ensures.value c.in_ok-jobs.ensures.seats (λ k seat is.
+    at_seats (λ seat. most_commands ≤ (state_of seat).left) _ _ _ c.as_mut_slice.ensures.value c.in_ok-jobs.ensures.seats (λ k seat is.
     (c.requires.seats k seat is).1)
 
 pub returns-clause-talked : goal.returns-clause-talked

@@ -1,7 +1,7 @@
 use Rattle.std.proofs.Common.{◌∙◌, ◌∷◌, [], sym, subst, refl, Some}
 use Rattle.std.proofs.lemmas.Result.{IfOk-weaker}
 use Rattle.command_line.specs.Words.{load, standard}
-use Rattle.fb_run.specs.Outside.{tells_of, disks_of}
+use Rattle.fb_run.specs.Outside.{streams_of, disks_of}
 use Rattle.fb_run.specs.Database.{IsOpened}
 use Rattle.fb_run.specs.Causes.{directory_of}
 use Rattle.fb_run.proofs.Looks.{is_unready}
@@ -10,7 +10,7 @@ use Rattle.fb_run.proofs.loading.open_load.Goals as goal
 pub returns-in-Ok-clause-directory : goal.returns-in-Ok-clause-directory
 returns-in-Ok-clause-directory g c =
     let disks = disks_of g.H.Disk.Disk.bytes g.H.Disk.Disk.faults g.H.Disk.Disk.images g.H.Disk.Disk.moment g.H.Disk.Disk.images_since in
-    let old = g.H.Host.told c.args.host.now in
+    let old = g.H.Host.spec c.args.host.now in
     IfOk-weaker c.prepare_over.result _ _ (λ made is. subst (λ d. IsOpened old disks (directory_of (Some (load c.args.count))) d) (sym is)
     c.in-Ok.ensures.opened) c.prepare_over.ensures.directory
 
@@ -28,9 +28,9 @@ returns-in-Ok-clause-unfailed g c =
 
 pub returns-in-Ok-clause-stop : goal.returns-in-Ok-clause-stop
 returns-in-Ok-clause-stop g c =
-    let tells = tells_of g.H.In.Source.left g.H.In.Source.faults g.H.Out.Sink.contents g.H.Out.Sink.faults in
+    let io = streams_of g.H.In.Source.left g.H.In.Source.faults g.H.Out.Sink.contents g.H.Out.Sink.faults in
     let disks = disks_of g.H.Disk.Disk.bytes g.H.Disk.Disk.faults g.H.Disk.Disk.images g.H.Disk.Disk.moment g.H.Disk.Disk.images_since in
-    is_unready (g.H.Host.told c.args.host.now) (g.H.Host.told c.open_directory.new.host) (g.H.Host.told c.prepare_over.new.host) tells disks
+    is_unready (g.H.Host.spec c.args.host.now) (g.H.Host.spec c.open_directory.new.host) (g.H.Host.spec c.prepare_over.new.host) io disks
     (directory_of (Some (load c.args.count))) standard c.in-Ok.directory c.in-Ok.ensures.opened c.in-Ok.ensures.streams refl
     c.prepare_over.result c.prepare_over.ensures.stop
 

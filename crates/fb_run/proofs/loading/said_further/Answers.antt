@@ -7,5 +7,5 @@ returns-in-Some-clause-said g c =
       success = grind (arith, c.if-status-eq0.true);
       kept = c.in-Some.last;
       last_is = c.in-Some.is;
-      sums_up = c.told.ensures.sums_up;
+      sums_up = c.printed.ensures.sums_up;
     })

@@ -3,8 +3,8 @@ use Rattle.std.specs.Prelude.{string_bytes}
 use Rattle.fb_run.proofs.Looks.{has_told}
 use Rattle.fb_run.proofs.looking.looked.Goals as goal
 
-pub returns-clause-told : goal.returns-clause-told
-returns-clause-told g c =
+pub returns-clause-printed : goal.returns-clause-printed
+returns-clause-printed g c =
     let line = string_bytes c.args.look.answer.line in
     let same : c.as_bytes.result.now ≡ line = first_of (search rules, grind arith) in
     has_told g.O.Sink.contents g.O.Sink.faults line c.as_bytes.result.now c.args.look.answer.console c.write_line-written.new.sink _

@@ -1,20 +1,20 @@
 use Rattle.std.proofs.Common.{◌≡◌, ◌∙◌, [], ap, subst, refl, Some, map}
 use Rattle.std.specs.Prelude.{IfSome, string_bytes}
 use Rattle.std.specs.Option.{unwrap_or}
-use Rattle.fb_session.specs.Sessions.{terms_of}
+use Rattle.fb_session.specs.Sessions.{terms_at}
 use Rattle.command_line.specs.Words.{command_of, scripts_of, merge_at_of}
 use Rattle.command_line.specs.Views.{names_in, run_by}
-use Rattle.fb_run.specs.Outside.{tells_of, disks_of}
+use Rattle.fb_run.specs.Outside.{streams_of, disks_of}
 use Rattle.fb_model.specs.History.{basis, upto}
 use Rattle.talk_model.specs.Prefixes.{Prefixes}
-use Rattle.disk_model.specs.Disk.{WhereTold}
+use Rattle.disk_model.specs.Disk.{IfKnown}
 use Rattle.log_model.specs.Log.{IsLogOf}
 use Rattle.fb_ports.specs.declared.hosts.Part.TheVariants as part
 use Rattle.fb_run.specs.Causes.{directory_of}
 use Rattle.fb_run.specs.Logs.{LogHolds}
 use Rattle.fb_run.specs.Merging.{GoAsFar, IsMerged}
 use Rattle.fb_run.specs.Headline.{stop_of, EachReplies}
-use Rattle.fb_run.specs.Generated.{loads_of, told_in_memory, in_memory}
+use Rattle.fb_run.specs.Generated.{loads_of, spec_in_memory, in_memory}
 use Rattle.fb_run.specs.Complete.{Complete}
 use Rattle.fb_run.proofs.Causing.{caused_by_usage, caused_by_words, says_line, says_memory}
 use Rattle.fb_run.proofs.Completing.{complete_scripts, complete_look}
@@ -24,13 +24,13 @@ use Rattle.fb_run.proofs.top.run.Goals as goal
 
 pub returns-in-Ok-Some-Run-clause-replies : goal.returns-in-Ok-Some-Run-clause-replies
 returns-in-Ok-Some-Run-clause-replies g c =
-    let terms = terms_of (g.K.Clock.may_answer c.args.clock.now) (g.G.Guard.bars c.args.guard.now) (g.P.FilterTable.place_of
-    c.args.preds.now) (g.P.FilterTable.selects_at c.args.preds.now) in
-    let tells = tells_of g.H.In.Source.left g.H.In.Source.faults g.H.Out.Sink.contents g.H.Out.Sink.faults in
+    let terms = terms_at g.K.Clock.may_answer g.G.Guard.bars g.P.FilterTable.place_of g.P.FilterTable.selects_at
+    c.args.clock.now c.args.guard.now c.args.preds.now in
+    let io = streams_of g.H.In.Source.left g.H.In.Source.faults g.H.Out.Sink.contents g.H.Out.Sink.faults in
     let some = rw c.in-Ok-Some-Run.field-0-is at c.in-Ok-Some-Run.ensures.asks in
     let is = rw c.in-Ok-Some-Run.field-0-0-is at some in
     let r = c.run_command.result in
-    subst (λ command. IfSome r.last (λ last. EachReplies terms (g.H.Host.told c.args.host.now) tells r.recovered (stop_of r.torn)
+    subst (λ command. IfSome r.last (λ last. EachReplies terms (g.H.Host.spec c.args.host.now) io r.recovered (stop_of r.torn)
     (scripts_of command) r.sessions.items last.entries))
     (is ∙ ap (λ ws. command_of (map string_bytes ws)) c.as_slice.ensures.value) c.run_command.ensures.replies
 
@@ -39,7 +39,7 @@ returns-in-Ok-Some-Run-clause-opening g c =
     let some = rw c.in-Ok-Some-Run.field-0-is at c.in-Ok-Some-Run.ensures.asks in
     let is = rw c.in-Ok-Some-Run.field-0-0-is at some in
     let r = c.run_command.result in
-    subst (λ command. IfSome r.last (λ last. WhereTold ((g.H.Host.told c.args.host.now).disks (directory_of command) part.Log)
+    subst (λ command. IfSome r.last (λ last. IfKnown ((g.H.Host.spec c.args.host.now).disks (directory_of command) part.Log)
     (λ file. IsLogOf file (upto last.entries r.recovered))))
     (is ∙ ap (λ ws. command_of (map string_bytes ws)) c.as_slice.ensures.value) c.run_command.ensures.opening
 
@@ -49,7 +49,7 @@ returns-in-Ok-Some-Run-clause-log g c =
     let some = rw c.in-Ok-Some-Run.field-0-is at c.in-Ok-Some-Run.ensures.asks in
     let is = rw c.in-Ok-Some-Run.field-0-0-is at some in
     let r = c.run_command.result in
-    subst (λ command. IfSome r.last (λ last. IfSome r.log (LogHolds (g.H.Host.told c.args.host.now) disks (directory_of command)
+    subst (λ command. IfSome r.last (λ last. IfSome r.log (LogHolds (g.H.Host.spec c.args.host.now) disks (directory_of command)
     last.entries r.recovered r.torn)))
     (is ∙ ap (λ ws. command_of (map string_bytes ws)) c.as_slice.ensures.value) c.run_command.ensures.log
 
@@ -59,7 +59,7 @@ returns-in-Ok-Some-Run-clause-coverage g c =
     let some = rw c.in-Ok-Some-Run.field-0-is at c.in-Ok-Some-Run.ensures.asks in
     let is = rw c.in-Ok-Some-Run.field-0-0-is at some in
     let r = c.run_command.result in
-    subst (λ command. IfSome r.last (λ last. IfSome r.segments (GoAsFar (g.H.Host.told c.args.host.now) disks (directory_of command)
+    subst (λ command. IfSome r.last (λ last. IfSome r.segments (GoAsFar (g.H.Host.spec c.args.host.now) disks (directory_of command)
     (upto last.entries r.recovered) last)))
     (is ∙ ap (λ ws. command_of (map string_bytes ws)) c.as_slice.ensures.value) c.run_command.ensures.coverage
 
@@ -70,57 +70,57 @@ returns-in-Ok-Some-Run-clause-merged g c =
     let is = rw c.in-Ok-Some-Run.field-0-0-is at some in
     let r = c.run_command.result in
     subst (λ command. IfSome r.last (λ last. r.status ≡ 0 → IfSome (merge_at_of command) (λ merge_at. IfSome r.segments
-    (IsMerged (g.H.Host.told c.args.host.now) disks (directory_of command) merge_at last))))
+    (IsMerged (g.H.Host.spec c.args.host.now) disks (directory_of command) merge_at last))))
     (is ∙ ap (λ ws. command_of (map string_bytes ws)) c.as_slice.ensures.value) c.run_command.ensures.merged
 
 pub returns-in-Ok-Some-Run-clause-complete : goal.returns-in-Ok-Some-Run-clause-complete
 returns-in-Ok-Some-Run-clause-complete g c =
-    let terms = terms_of (g.K.Clock.may_answer c.args.clock.now) (g.G.Guard.bars c.args.guard.now) (g.P.FilterTable.place_of
-    c.args.preds.now) (g.P.FilterTable.selects_at c.args.preds.now) in
-    let tells = tells_of g.H.In.Source.left g.H.In.Source.faults g.H.Out.Sink.contents g.H.Out.Sink.faults in
+    let terms = terms_at g.K.Clock.may_answer g.G.Guard.bars g.P.FilterTable.place_of g.P.FilterTable.selects_at
+    c.args.clock.now c.args.guard.now c.args.preds.now in
+    let io = streams_of g.H.In.Source.left g.H.In.Source.faults g.H.Out.Sink.contents g.H.Out.Sink.faults in
     let disks = disks_of g.H.Disk.Disk.bytes g.H.Disk.Disk.faults g.H.Disk.Disk.images g.H.Disk.Disk.moment g.H.Disk.Disk.images_since in
     let some = rw c.in-Ok-Some-Run.field-0-is at c.in-Ok-Some-Run.ensures.asks in
     let is = rw c.in-Ok-Some-Run.field-0-0-is at some in
     let r = c.run_command.result in
-    let new = (g.H.Host.told c.run_command.new.host).faults in
-    subst (λ command. Complete terms (g.H.Host.told c.args.host.now) tells disks new command r) (is ∙ ap (λ ws. command_of (map string_bytes
+    let new = (g.H.Host.spec c.run_command.new.host).faults in
+    subst (λ command. Complete terms (g.H.Host.spec c.args.host.now) io disks new command r) (is ∙ ap (λ ws. command_of (map string_bytes
     ws)) c.as_slice.ensures.value)
-    (complete_scripts terms (g.H.Host.told c.args.host.now) tells disks new c.in-Ok-Some-Run.command.options
+    (complete_scripts terms (g.H.Host.spec c.args.host.now) io disks new c.in-Ok-Some-Run.command.options
     c.in-Ok-Some-Run.command.directory.now (names_in c.in-Ok-Some-Run.command.scripts.items) r _ _
     c.run_command.ensures.one_history c.run_command.ensures.replies c.run_command.ensures.log c.run_command.ensures.causes)
 
 pub returns-in-Ok-None-clause-causes : goal.returns-in-Ok-None-clause-causes
 returns-in-Ok-None-clause-causes g c =
-    let tells = tells_of g.H.In.Source.left g.H.In.Source.faults g.H.Out.Sink.contents g.H.Out.Sink.faults in
+    let io = streams_of g.H.In.Source.left g.H.In.Source.faults g.H.Out.Sink.contents g.H.Out.Sink.faults in
     let disks = disks_of g.H.Disk.Disk.bytes g.H.Disk.Disk.faults g.H.Disk.Disk.images g.H.Disk.Disk.moment g.H.Disk.Disk.images_since in
     let is = rw c.in-Ok-None.field-0-is at c.in-Ok-None.ensures.asks in
-    caused_by_usage (g.H.Host.told c.args.host.now) tells disks _ c.without_session.result _ (is ∙ ap (λ ws. command_of (map string_bytes
+    caused_by_usage (g.H.Host.spec c.args.host.now) io disks _ c.without_session.result _ (is ∙ ap (λ ws. command_of (map string_bytes
     ws)) c.as_slice.ensures.value) refl
     c.without_session.ensures.none c.without_session.ensures.no_disk c.without_session.ensures.no_console
     (says_line string_bytes c.usage.result 1 _ _ _ c.without_session.ensures.said c.without_session.ensures.unsaid c.usage.ensures)
 
 pub returns-in-Err-clause-causes : goal.returns-in-Err-clause-causes
 returns-in-Err-clause-causes g c =
-    let tells = tells_of g.H.In.Source.left g.H.In.Source.faults g.H.Out.Sink.contents g.H.Out.Sink.faults in
+    let io = streams_of g.H.In.Source.left g.H.In.Source.faults g.H.Out.Sink.contents g.H.Out.Sink.faults in
     let disks = disks_of g.H.Disk.Disk.bytes g.H.Disk.Disk.faults g.H.Disk.Disk.images g.H.Disk.Disk.moment g.H.Disk.Disk.images_since in
-    caused_by_words (g.H.Host.told c.args.host.now) tells disks _ c.without_session-in-Err.result _ refl
+    caused_by_words (g.H.Host.spec c.args.host.now) io disks _ c.without_session-in-Err.result _ refl
     c.without_session-in-Err.ensures.none c.without_session-in-Err.ensures.no_disk c.without_session-in-Err.ensures.no_console
     (says_memory _ _ (says_line string_bytes c.out_of_memory.result 9 _ _ _ c.without_session-in-Err.ensures.said
     c.without_session-in-Err.ensures.unsaid c.out_of_memory.ensures))
 
 pub returns-in-Ok-Some-Check-clause-complete : goal.returns-in-Ok-Some-Check-clause-complete
 returns-in-Ok-Some-Check-clause-complete g c =
-    let terms = terms_of (g.K.Clock.may_answer c.args.clock.now) (g.G.Guard.bars c.args.guard.now) (g.P.FilterTable.place_of
-    c.args.preds.now) (g.P.FilterTable.selects_at c.args.preds.now) in
-    let tells = tells_of g.H.In.Source.left g.H.In.Source.faults g.H.Out.Sink.contents g.H.Out.Sink.faults in
+    let terms = terms_at g.K.Clock.may_answer g.G.Guard.bars g.P.FilterTable.place_of g.P.FilterTable.selects_at
+    c.args.clock.now c.args.guard.now c.args.preds.now in
+    let io = streams_of g.H.In.Source.left g.H.In.Source.faults g.H.Out.Sink.contents g.H.Out.Sink.faults in
     let disks = disks_of g.H.Disk.Disk.bytes g.H.Disk.Disk.faults g.H.Disk.Disk.images g.H.Disk.Disk.moment g.H.Disk.Disk.images_since in
     let some = rw c.in-Ok-Some-Check.field-0-is at c.in-Ok-Some-Check.ensures.asks in
     let is = rw c.in-Ok-Some-Check.field-0-0-is at some in
     let r = c.check_directory.result in
-    let new = (g.H.Host.told c.check_directory.new.host).faults in
-    subst (λ command. Complete terms (g.H.Host.told c.args.host.now) tells disks new command r) (is ∙ ap (λ ws. command_of (map string_bytes
+    let new = (g.H.Host.spec c.check_directory.new.host).faults in
+    subst (λ command. Complete terms (g.H.Host.spec c.args.host.now) io disks new command r) (is ∙ ap (λ ws. command_of (map string_bytes
     ws)) c.as_slice.ensures.value)
-    (complete_look terms (g.H.Host.told c.args.host.now) tells disks new c.in-Ok-Some-Check.directory.now r c.check_directory.ensures.causes)
+    (complete_look terms (g.H.Host.spec c.args.host.now) io disks new c.in-Ok-Some-Check.directory.now r c.check_directory.ensures.causes)
 
 pub returns-in-Ok-Some-Run-clause-one_history : goal.returns-in-Ok-Some-Run-clause-one_history
 returns-in-Ok-Some-Run-clause-one_history g c =
@@ -130,16 +130,16 @@ returns-in-Ok-Some-Run-clause-one_history g c =
 
 pub returns-in-Ok-Some-Run-clause-loads : goal.returns-in-Ok-Some-Run-clause-loads
 returns-in-Ok-Some-Run-clause-loads g c =
-    let terms = terms_of (g.K.Clock.may_answer c.args.clock.now) (g.G.Guard.bars c.args.guard.now) (g.P.FilterTable.place_of
-    c.args.preds.now) (g.P.FilterTable.selects_at c.args.preds.now) in
-    let told = g.H.Host.told c.args.host.now in
+    let terms = terms_at g.K.Clock.may_answer g.G.Guard.bars g.P.FilterTable.place_of g.P.FilterTable.selects_at
+    c.args.clock.now c.args.guard.now c.args.preds.now in
+    let spec = g.H.Host.spec c.args.host.now in
     let some = rw c.in-Ok-Some-Run.field-0-is at c.in-Ok-Some-Run.ensures.asks in
     let is = rw c.in-Ok-Some-Run.field-0-0-is at some in
     let r = c.run_command.result in
-    subst (λ command. IfSome r.last (λ last. EachReplies terms (told_in_memory told command) in_memory r.recovered (stop_of r.torn)
+    subst (λ command. IfSome r.last (λ last. EachReplies terms (spec_in_memory spec command) in_memory r.recovered (stop_of r.torn)
     (loads_of command) r.loads.items last.entries))
     (is ∙ ap (λ ws. command_of (map string_bytes ws)) c.as_slice.ensures.value)
-    (nothing_replies terms (told_in_memory told (Some (run_by c.in-Ok-Some-Run.command))) in_memory r.recovered (stop_of r.torn)
+    (nothing_replies terms (spec_in_memory spec (Some (run_by c.in-Ok-Some-Run.command))) in_memory r.recovered (stop_of r.torn)
     r.loads.items c.run_command.ensures.no_loads r.last)
 
 pub returns-in-Ok-Some-Run-clause-load_prefixes : goal.returns-in-Ok-Some-Run-clause-load_prefixes
@@ -155,26 +155,26 @@ returns-in-Ok-Some-Load-clause-one_history g c =
 
 pub returns-in-Ok-Some-Load-clause-replies : goal.returns-in-Ok-Some-Load-clause-replies
 returns-in-Ok-Some-Load-clause-replies g c =
-    let terms = terms_of (g.K.Clock.may_answer c.args.clock.now) (g.G.Guard.bars c.args.guard.now) (g.P.FilterTable.place_of
-    c.args.preds.now) (g.P.FilterTable.selects_at c.args.preds.now) in
-    let tells = tells_of g.H.In.Source.left g.H.In.Source.faults g.H.Out.Sink.contents g.H.Out.Sink.faults in
+    let terms = terms_at g.K.Clock.may_answer g.G.Guard.bars g.P.FilterTable.place_of g.P.FilterTable.selects_at
+    c.args.clock.now c.args.guard.now c.args.preds.now in
+    let io = streams_of g.H.In.Source.left g.H.In.Source.faults g.H.Out.Sink.contents g.H.Out.Sink.faults in
     let some = rw c.in-Ok-Some-Load.field-0-is at c.in-Ok-Some-Load.ensures.asks in
     let is = rw c.in-Ok-Some-Load.field-0-0-is at some in
     let r = c.load.result in
-    subst (λ command. IfSome r.last (λ last. EachReplies terms (g.H.Host.told c.args.host.now) tells r.recovered (stop_of r.torn)
+    subst (λ command. IfSome r.last (λ last. EachReplies terms (g.H.Host.spec c.args.host.now) io r.recovered (stop_of r.torn)
     (scripts_of command) r.sessions.items last.entries))
     (is ∙ ap (λ ws. command_of (map string_bytes ws)) c.as_slice.ensures.value)
-    (nothing_replies terms (g.H.Host.told c.args.host.now) tells r.recovered (stop_of r.torn) r.sessions.items c.load.ensures.sessions
+    (nothing_replies terms (g.H.Host.spec c.args.host.now) io r.recovered (stop_of r.torn) r.sessions.items c.load.ensures.sessions
     r.last)
 
 pub returns-in-Ok-Some-Load-clause-loads : goal.returns-in-Ok-Some-Load-clause-loads
 returns-in-Ok-Some-Load-clause-loads g c =
-    let terms = terms_of (g.K.Clock.may_answer c.args.clock.now) (g.G.Guard.bars c.args.guard.now) (g.P.FilterTable.place_of
-    c.args.preds.now) (g.P.FilterTable.selects_at c.args.preds.now) in
+    let terms = terms_at g.K.Clock.may_answer g.G.Guard.bars g.P.FilterTable.place_of g.P.FilterTable.selects_at
+    c.args.clock.now c.args.guard.now c.args.preds.now in
     let some = rw c.in-Ok-Some-Load.field-0-is at c.in-Ok-Some-Load.ensures.asks in
     let is = rw c.in-Ok-Some-Load.field-0-0-is at some in
     let r = c.load.result in
-    subst (λ command. IfSome r.last (λ last. EachReplies terms (told_in_memory (g.H.Host.told c.args.host.now) command) in_memory
+    subst (λ command. IfSome r.last (λ last. EachReplies terms (spec_in_memory (g.H.Host.spec c.args.host.now) command) in_memory
     r.recovered (stop_of r.torn) (loads_of command) r.loads.items last.entries))
     (is ∙ ap (λ ws. command_of (map string_bytes ws)) c.as_slice.ensures.value) c.load.ensures.replies
 
@@ -188,7 +188,7 @@ returns-in-Ok-Some-Load-clause-opening g c =
     let some = rw c.in-Ok-Some-Load.field-0-is at c.in-Ok-Some-Load.ensures.asks in
     let is = rw c.in-Ok-Some-Load.field-0-0-is at some in
     let r = c.load.result in
-    subst (λ command. IfSome r.last (λ last. WhereTold ((g.H.Host.told c.args.host.now).disks (directory_of command) part.Log)
+    subst (λ command. IfSome r.last (λ last. IfKnown ((g.H.Host.spec c.args.host.now).disks (directory_of command) part.Log)
     (λ file. IsLogOf file (upto last.entries r.recovered))))
     (is ∙ ap (λ ws. command_of (map string_bytes ws)) c.as_slice.ensures.value) c.load.ensures.opening
 
@@ -198,23 +198,23 @@ returns-in-Ok-Some-Load-clause-log g c =
     let some = rw c.in-Ok-Some-Load.field-0-is at c.in-Ok-Some-Load.ensures.asks in
     let is = rw c.in-Ok-Some-Load.field-0-0-is at some in
     let r = c.load.result in
-    subst (λ command. IfSome r.last (λ last. IfSome r.log (LogHolds (g.H.Host.told c.args.host.now) disks (directory_of command)
+    subst (λ command. IfSome r.last (λ last. IfSome r.log (LogHolds (g.H.Host.spec c.args.host.now) disks (directory_of command)
     last.entries r.recovered r.torn)))
     (is ∙ ap (λ ws. command_of (map string_bytes ws)) c.as_slice.ensures.value) c.load.ensures.log
 
 pub returns-in-Ok-Some-Load-clause-complete : goal.returns-in-Ok-Some-Load-clause-complete
 returns-in-Ok-Some-Load-clause-complete g c =
-    let terms = terms_of (g.K.Clock.may_answer c.args.clock.now) (g.G.Guard.bars c.args.guard.now) (g.P.FilterTable.place_of
-    c.args.preds.now) (g.P.FilterTable.selects_at c.args.preds.now) in
-    let tells = tells_of g.H.In.Source.left g.H.In.Source.faults g.H.Out.Sink.contents g.H.Out.Sink.faults in
+    let terms = terms_at g.K.Clock.may_answer g.G.Guard.bars g.P.FilterTable.place_of g.P.FilterTable.selects_at
+    c.args.clock.now c.args.guard.now c.args.preds.now in
+    let io = streams_of g.H.In.Source.left g.H.In.Source.faults g.H.Out.Sink.contents g.H.Out.Sink.faults in
     let disks = disks_of g.H.Disk.Disk.bytes g.H.Disk.Disk.faults g.H.Disk.Disk.images g.H.Disk.Disk.moment g.H.Disk.Disk.images_since in
     let some = rw c.in-Ok-Some-Load.field-0-is at c.in-Ok-Some-Load.ensures.asks in
     let is = rw c.in-Ok-Some-Load.field-0-0-is at some in
     let r = c.load.result in
-    let new = (g.H.Host.told c.load.new.host).faults in
-    subst (λ command. Complete terms (g.H.Host.told c.args.host.now) tells disks new command r) (is ∙ ap (λ ws. command_of (map string_bytes
+    let new = (g.H.Host.spec c.load.new.host).faults in
+    subst (λ command. Complete terms (g.H.Host.spec c.args.host.now) io disks new command r) (is ∙ ap (λ ws. command_of (map string_bytes
     ws)) c.as_slice.ensures.value)
-    (complete_load terms (g.H.Host.told c.args.host.now) tells disks new c.in-Ok-Some-Load.count r _ _
+    (complete_load terms (g.H.Host.spec c.args.host.now) io disks new c.in-Ok-Some-Load.count r _ _
     c.load.ensures.one_history c.load.ensures.replies c.load.ensures.log c.load.ensures.causes)
 
 pub returns-in-Ok-Some-Load-clause-coverage : goal.returns-in-Ok-Some-Load-clause-coverage
@@ -223,7 +223,7 @@ returns-in-Ok-Some-Load-clause-coverage g c =
     let some = rw c.in-Ok-Some-Load.field-0-is at c.in-Ok-Some-Load.ensures.asks in
     let is = rw c.in-Ok-Some-Load.field-0-0-is at some in
     let r = c.load.result in
-    subst (λ command. IfSome r.last (λ last. IfSome r.segments (GoAsFar (g.H.Host.told c.args.host.now) disks (directory_of command)
+    subst (λ command. IfSome r.last (λ last. IfSome r.segments (GoAsFar (g.H.Host.spec c.args.host.now) disks (directory_of command)
     (upto last.entries r.recovered) last)))
     (is ∙ ap (λ ws. command_of (map string_bytes ws)) c.as_slice.ensures.value) c.load.ensures.coverage
 
@@ -234,5 +234,5 @@ returns-in-Ok-Some-Load-clause-merged g c =
     let is = rw c.in-Ok-Some-Load.field-0-0-is at some in
     let r = c.load.result in
     subst (λ command. IfSome r.last (λ last. r.status ≡ 0 → IfSome (merge_at_of command) (λ merge_at. IfSome r.segments
-    (IsMerged (g.H.Host.told c.args.host.now) disks (directory_of command) merge_at last))))
+    (IsMerged (g.H.Host.spec c.args.host.now) disks (directory_of command) merge_at last))))
     (is ∙ ap (λ ws. command_of (map string_bytes ws)) c.as_slice.ensures.value) c.load.ensures.merged

@@ -13,5 +13,6 @@ pub returns : goal.returns
 returns g c =
     IfOk-weaker c.lend.result _ _
     (λ ds is. walk_is_scan c.args.db.now.snapshot.entries (window_of c.args.db.now) (g.S.Selector.selects c.args.db.now.filter)
-    c.args.probe.now Never (not_below c.args.probe.now) (map (λ (d : Bor Datom). d.now) ds.items) (λ d. below_ends (probe_cmp c.args.probe.now d)) is)
+    c.args.probe.now Never (not_below c.args.probe.now) (map (λ (d : Bor Datom). d.now) ds.items)
+    (λ d. below_ends (probe_cmp c.args.probe.now d)) is)
     c.lend.ensures

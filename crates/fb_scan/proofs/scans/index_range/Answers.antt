@@ -10,6 +10,7 @@ pub returns : goal.returns
 returns g c =
     IfOk-weaker c.copies.result _ _
     (λ ds same.
-    subst (IsScan c.args.db.now.snapshot.entries (window_of c.args.db.now) (g.S.Selector.selects c.args.db.now.filter) Avet (between c.args.attr c.args.bounds.start c.args.bounds.end))
+    subst (IsScan c.args.db.now.snapshot.entries (window_of c.args.db.now) (g.S.Selector.selects c.args.db.now.filter) Avet
+    (between c.args.attr c.args.bounds.start c.args.bounds.end))
     (sym (same ∙ ap (map (λ (d : Bor Datom). d.now)) c.deref.ensures.value)) c.in_ok-found.ensures)
     c.copies.ensures

@@ -9,6 +9,7 @@ pub returns : goal.returns
 returns g c =
     IfOk-weaker c.copies.result _ _
     (λ ds same.
-    subst (IsScan c.args.db.now.snapshot.entries (window_of c.args.db.now) (g.S.Selector.selects c.args.db.now.filter) c.args.probe.now.order (not_below c.args.probe.now))
+    subst (IsScan c.args.db.now.snapshot.entries (window_of c.args.db.now)
+    (g.S.Selector.selects c.args.db.now.filter) c.args.probe.now.order (not_below c.args.probe.now))
     (sym (same ∙ ap (map (λ (d : Bor Datom). d.now)) c.deref.ensures.value)) c.in_ok-found.ensures)
     c.copies.ensures

@@ -32,7 +32,9 @@ loop-from-preserved-then-is_below g c =
       upto = omega arith;
       left = λ digits within.
           let before = c.loop-from.invariant.left digits within in
-          let half = half_digits _ (c.loop-from.to - (c.loop-from.from + (c.loop-from.to - c.loop-from.from) / 2 + 1)) before.0 (omega arith) before.1 (omega arith) in
+          let half =
+          half_digits _ (c.loop-from.to - (c.loop-from.from + (c.loop-from.to - c.loop-from.from) / 2 + 1)) before.0 (omega arith) before.1
+          (omega arith) in
           (half.0, half.1, omega arith);
     }
 
@@ -52,6 +54,8 @@ loop-from-preserved g c =
       upto = place_upto c.args.probe.now ds _ (held at.result) (omega (arith, long)) above;
       left = λ digits within.
           let before = c.loop-from.invariant.left digits within in
-          let half = half_digits _ (c.loop-from.from + (c.loop-from.to - c.loop-from.from) / 2 - c.loop-from.from) before.0 (omega arith) before.1 (omega arith) in
+          let half =
+          half_digits _ (c.loop-from.from + (c.loop-from.to - c.loop-from.from) / 2 - c.loop-from.from) before.0 (omega arith) before.1
+          (omega arith) in
           (half.0, half.1, omega arith);
     }

@@ -10,7 +10,8 @@ invariant-loop-from g l =
       within : l.to ≤ length l.holders;
       behind : l.from ≤ place_of l.probe (g.H.HoldsDatom.datoms l.holders);
       upto : place_of l.probe (g.H.HoldsDatom.datoms l.holders) ≤ l.to;
-      left : (digits : ℕ) → length l.holders < 2 ^ digits → (few : ℕ) × (l.to - l.from < 2 ^ few) × (l.steps + few ≤ l.initial.steps + digits);
+      left : (digits : ℕ) → length l.holders < 2 ^ digits
+          → (few : ℕ) × (l.to - l.from < 2 ^ few) × (l.steps + few ≤ l.initial.steps + digits);
     }
 
 abbrev pub decreases-loop-from : goal.decreases-loop-from

@@ -11,5 +11,8 @@ returns g c =
     let each = g.met.H.HoldsDatom.one_each c.args.holders.now in
     let probe = probe_of c.args.order c.args.datom.now in
     let rising = subst (IsRising c.args.order) each c.requires in
-    let point = IsPartitionPoint-from_clause (λ h. is_below probe (held h)) c.args.holders.now _ c.partition_point.ensures.partitioned (partitioned held probe c.args.holders.now rising) (λ a r f' called. search rules) in
-    place_at held probe c.args.holders.now c.partition_point.result c.partition_point.ensures.bound point.0 point.1 ∙ ap (place_of probe) (sym each)
+    let point =
+    IsPartitionPoint-from_clause (λ h. is_below probe (held h)) c.args.holders.now _ c.partition_point.ensures.partitioned
+    (partitioned held probe c.args.holders.now rising) (λ a r f' called. search rules) in
+    place_at held probe c.args.holders.now c.partition_point.result c.partition_point.ensures.bound point.0 point.1
+    ∙ ap (place_of probe) (sym each)

@@ -22,7 +22,9 @@ returns-in_default-clause-stop_count g c =
 pub returns-then-count-eq0-clause-whole : goal.returns-then-count-eq0-clause-whole
 returns-then-count-eq0-clause-whole g c =
     record {
-      taken = c.loop-count.invariant.taken ∙ ap (prepend_known c.loop-count.bytes.items) (c.in-Ok.ensures.taken ∙ rw c.if-count-eq0.true (sym (prepend_known-none _)));
+      taken =
+          c.loop-count.invariant.taken
+          ∙ ap (prepend_known c.loop-count.bytes.items) (c.in-Ok.ensures.taken ∙ rw c.if-count-eq0.true (sym (prepend_known-none _)));
       all = c.in-Ok.ensures.end c.if-count-eq0.true (omega (arith, c.as_mut_slice.ensures.len));
       fits = omega arith;
     }
@@ -41,7 +43,8 @@ loop-count-preserved g c =
     record {
       taken = c.loop-count.invariant.taken ∙ ap (prepend_known c.loop-count.bytes.items) c.in-Ok.ensures.taken ∙ prepend_known-append _ _ _
           ∙ ap (λ bs. prepend_known bs (g.I.Source.left c.read.new.self))
-          (ap (λ bs. c.loop-count.bytes.items ++ bs) (front_of_buffer c.in-Ok.count c.loop-count.piece.len c.read.new.buf _ (omega (arith, c.read.auto.buf, c.as_mut_slice.ensures.len))
+          (ap (λ bs. c.loop-count.bytes.items ++ bs) (front_of_buffer c.in-Ok.count c.loop-count.piece.len c.read.new.buf _
+          (omega (arith, c.read.auto.buf, c.as_mut_slice.ensures.len))
           ∙ ap (take c.in-Ok.count) (sym c.deref.ensures.value))
           ∙ sym c.in_ok-extend_from_slice.ensures.items);
       count = c.in-Ok.ensures.counted ∙ c.loop-count.invariant.count;
@@ -52,7 +55,8 @@ loop-count-preserved g c =
 pub returns-in_err-extend_from_slice-clause-stopped :
     goal.returns-in_err-extend_from_slice-clause-stopped
 returns-in_err-extend_from_slice-clause-stopped g c =
-    let p = err_from_is_err_and c.from_residual-in_err-extend_from_slice.result c.from_residual-in_err-extend_from_slice.ensures.1 in rw (p.1, p.2)
+    let p = err_from_is_err_and c.from_residual-in_err-extend_from_slice.result c.from_residual-in_err-extend_from_slice.ensures.1 in
+    rw (p.1, p.2)
     (record {
       bytes = c.loop-count.bytes.items ++ take c.in-Ok.count c.read.new.buf;
       taken = c.loop-count.invariant.taken ∙ ap (prepend_known c.loop-count.bytes.items) c.in-Ok.ensures.taken ∙ prepend_known-append _ _ _;

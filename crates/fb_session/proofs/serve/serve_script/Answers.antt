@@ -1,5 +1,5 @@
 use Rattle.std.proofs.Common.{subst}
-use Rattle.fb_session.specs.Sessions.{terms_of, served_by, Talks}
+use Rattle.fb_session.specs.Sessions.{terms_at, served_by, Talks}
 use Rattle.fb_session.proofs.Serving.{talks-unopened}
 use Rattle.fb_session.proofs.serve.serve_script.Goals as goal
 
@@ -13,7 +13,10 @@ returns-clause-answers g c =
     let contents = g.O.Sink.contents in
     let session = c.answer_all-end.new.self in
     let talks = subst
-    (λ table. Talks (terms_of (g.K.Clock.may_answer c.args.clock.now) (g.G.Guard.bars c.args.guard.now) (g.P.FilterTable.place_of table) (g.P.FilterTable.selects_at table)) c.args.script.now
-    (state c.args.desk.now) (state c.answer_all-end.new.desk) (contents c.args.sink.now) (contents c.answer_all-end.new.sink) (served_by session c.answer_all-end.result))
+    (λ table. Talks
+    (terms_at g.K.Clock.may_answer g.G.Guard.bars g.P.FilterTable.place_of g.P.FilterTable.selects_at c.args.clock.now
+    c.args.guard.now table) c.args.script.now
+    (state c.args.desk.now) (state c.answer_all-end.new.desk) (contents c.args.sink.now) (contents c.answer_all-end.new.sink)
+    (served_by session c.answer_all-end.result))
     c.in-Ok.ensures.table c.answer_all-end.ensures.answers in
     rw c.served.ensures talks

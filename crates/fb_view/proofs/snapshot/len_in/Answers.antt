@@ -11,7 +11,8 @@ returns c =
     let order = c.args.order in
     let list = list_in c.args.live.now order in
     let rises = c.holding.ensures.rising order in
-    let both : length (standing list) + length (withdrawn list) ≡ length list = sym (length-merged order (standing list) (withdrawn list) (pair_of order list rises)) ∙ ap length (both_of order list rises) in
+    let both : length (standing list) + length (withdrawn list) ≡ length list =
+    sym (length-merged order (standing list) (withdrawn list) (pair_of order list rises)) ∙ ap length (both_of order list rises) in
     let holding : c.len-holding.result ≡ length (standing list) = c.len-holding.ensures ∙ ap length (c.holding.ensures.stands order) in
     let past : c.len.result ≡ length (withdrawn list) = c.len.ensures ∙ ap length (c.past.ensures.withdrawn order) in
     let sum : c.len-holding.result + c.len.result ≡ length list = omega (arith, holding, past, both) in

@@ -13,7 +13,8 @@ made_anew-requires-clause-held c = λ order. none_held c.args.covers.now order (
 
 pub made_anew-requires-clause-single : goal.made_anew-requires-clause-single
 made_anew-requires-clause-single c = λ order.
-    single_alone (list_in c.empty.result order) c.args.datoms.now [] (c.empty.ensures order) (subst HasNoTwins (sym (append-nil c.args.datoms.now)) c.requires)
+    single_alone (list_in c.empty.result order) c.args.datoms.now [] (c.empty.ensures order)
+    (subst HasNoTwins (sym (append-nil c.args.datoms.now)) c.requires)
 
 pub returns : goal.returns
 returns c =
@@ -21,5 +22,6 @@ returns c =
     (λ list is.
     subst (IsInAvet c.args.covers.now c.args.datoms.now) (sym is)
     (refilled_alone c.args.covers.now c.args.datoms.now (list_in c.in_ok-index.index Avet)
-    (subst (λ (old : List Datom). IsGrown Avet c.args.covers.now old c.args.datoms.now [] (list_in c.in_ok-index.index Avet)) (c.empty.ensures Avet) (c.in_ok-index.ensures Avet))))
+    (subst (λ (old : List Datom). IsGrown Avet c.args.covers.now old c.args.datoms.now [] (list_in c.in_ok-index.index Avet))
+    (c.empty.ensures Avet) (c.in_ok-index.ensures Avet))))
     c.copied.ensures

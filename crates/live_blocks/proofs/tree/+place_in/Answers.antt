@@ -11,21 +11,24 @@ pub place_in-requires : goal.place_in-requires
 place_in-requires g t c κs within =
     let f = at_fork c.tree.view_is c.tree.invariant c.in-Fork.is in
     let rising = rw f.is at c.requires in
-    let right = (rising-append_right c.args.probe.now.order (arc_value c.in-Fork.left).0 (c.in-Fork.datom ∷ (arc_value c.in-Fork.right).0) rising).1 in
+    let right =
+    (rising-append_right c.args.probe.now.order (arc_value c.in-Fork.left).0 (c.in-Fork.datom ∷ (arc_value c.in-Fork.right).0) rising).1 in
     (search rules, (search rules, rw c.deref-then-is_below.ensures right))
 
 pub overflow_add-result-then-is_below : goal.overflow_add-result-then-is_below
 overflow_add-result-then-is_below g t c =
     let f = at_fork c.tree.view_is c.tree.invariant c.in-Fork.is in
     let le = place_of-le-length c.args.probe.now (arc_value c.in-Fork.right).0 in
-    let is : c.place_in.result ≡ place_of c.args.probe.now (arc_value c.in-Fork.right).0 = rw (← c.deref-then-is_below.ensures) c.place_in.ensures.place in
+    let is : c.place_in.result ≡ place_of c.args.probe.now (arc_value c.in-Fork.right).0 =
+    rw (← c.deref-then-is_below.ensures) c.place_in.ensures.place in
     omega (arith, f.fork.before_is, f.long, le, is, f.fits)
 
 pub place_in-requires-else-is_below : goal.place_in-requires-else-is_below
 place_in-requires-else-is_below g t c κs within =
     let f = at_fork c.tree.view_is c.tree.invariant c.in-Fork.is in
     let rising = rw f.is at c.requires in
-    let left = rising-append_left c.args.probe.now.order (arc_value c.in-Fork.left).0 (c.in-Fork.datom ∷ (arc_value c.in-Fork.right).0) rising in
+    let left =
+    rising-append_left c.args.probe.now.order (arc_value c.in-Fork.left).0 (c.in-Fork.datom ∷ (arc_value c.in-Fork.right).0) rising in
     (search rules, (search rules, rw c.deref-else-is_below.ensures left))
 
 pub returns-in-Leaf-clause-cost : goal.returns-in-Leaf-clause-cost
@@ -40,7 +43,8 @@ returns-then-is_below-clause-place g t c =
     let rising = rw f.is at c.requires in
     let below : is_below c.args.probe.now c.in-Fork.datom ≡ true = cc in
     let behind = place_of-behind c.args.probe.now (arc_value c.in-Fork.left).0 c.in-Fork.datom (arc_value c.in-Fork.right).0 rising below in
-    let is : c.place_in.result ≡ place_of c.args.probe.now (arc_value c.in-Fork.right).0 = rw (← c.deref-then-is_below.ensures) c.place_in.ensures.place in
+    let is : c.place_in.result ≡ place_of c.args.probe.now (arc_value c.in-Fork.right).0 =
+    rw (← c.deref-then-is_below.ensures) c.place_in.ensures.place in
     rw (f.is, behind, is, f.fork.before_is) refl
 
 pub returns-else-is_below-clause-place : goal.returns-else-is_below-clause-place
@@ -48,7 +52,8 @@ returns-else-is_below-clause-place g t c =
     let f = at_fork c.tree.view_is c.tree.invariant c.in-Fork.is in
     let above : is_below c.args.probe.now c.in-Fork.datom ≡ false = cc in
     let before = place_of-before c.args.probe.now (arc_value c.in-Fork.left).0 c.in-Fork.datom (arc_value c.in-Fork.right).0 above in
-    let is : c.place_in-else-is_below.result ≡ place_of c.args.probe.now (arc_value c.in-Fork.left).0 = rw (← c.deref-else-is_below.ensures) c.place_in-else-is_below.ensures.place in
+    let is : c.place_in-else-is_below.result ≡ place_of c.args.probe.now (arc_value c.in-Fork.left).0 =
+    rw (← c.deref-else-is_below.ensures) c.place_in-else-is_below.ensures.place in
     rw (f.is, before, is) refl
 
 pub returns-in-Leaf-clause-low : goal.returns-in-Leaf-clause-low

@@ -10,7 +10,8 @@ pub place_of_datom_in-requires : goal.place_of_datom_in-requires
 place_of_datom_in-requires t c =
     let f = at_fork c.tree.view_is c.tree.invariant c.in-Fork.is in
     let rising = rw f.is at c.requires in
-    let right = (rising-append_right c.args.order (arc_value c.in-Fork.left).0 (c.in-Fork.middle ∷ (arc_value c.in-Fork.right).0) rising).1 in
+    let right =
+    (rising-append_right c.args.order (arc_value c.in-Fork.left).0 (c.in-Fork.middle ∷ (arc_value c.in-Fork.right).0) rising).1 in
     (search rules, rw c.deref-then-stands_after.ensures right)
 
 pub overflow_add-result-then-stands_after : goal.overflow_add-result-then-stands_after
@@ -18,7 +19,8 @@ overflow_add-result-then-stands_after t c =
     let f = at_fork c.tree.view_is c.tree.invariant c.in-Fork.is in
     let probe = probe_of c.args.order c.args.datom.now in
     let le = place_of-le-length probe (arc_value c.in-Fork.right).0 in
-    let is : c.place_of_datom_in.result ≡ place_of probe (arc_value c.in-Fork.right).0 = rw (← c.deref-then-stands_after.ensures) c.place_of_datom_in.ensures in
+    let is : c.place_of_datom_in.result ≡ place_of probe (arc_value c.in-Fork.right).0 =
+    rw (← c.deref-then-stands_after.ensures) c.place_of_datom_in.ensures in
     omega (arith, f.fork.before_is, f.long, le, is, f.fits)
 
 pub place_of_datom_in-requires-else-stands_after : goal.place_of_datom_in-requires-else-stands_after
@@ -35,7 +37,8 @@ returns-then-stands_after t c =
     let rising = rw f.is at c.requires in
     let below : is_below probe c.in-Fork.middle ≡ true = cc in
     let behind = place_of-behind probe (arc_value c.in-Fork.left).0 c.in-Fork.middle (arc_value c.in-Fork.right).0 rising below in
-    let is : c.place_of_datom_in.result ≡ place_of probe (arc_value c.in-Fork.right).0 = rw (← c.deref-then-stands_after.ensures) c.place_of_datom_in.ensures in
+    let is : c.place_of_datom_in.result ≡ place_of probe (arc_value c.in-Fork.right).0 =
+    rw (← c.deref-then-stands_after.ensures) c.place_of_datom_in.ensures in
     rw (f.is, behind, is, f.fork.before_is) refl
 
 pub returns-else-stands_after : goal.returns-else-stands_after
@@ -44,5 +47,6 @@ returns-else-stands_after t c =
     let probe = probe_of c.args.order c.args.datom.now in
     let above : is_below probe c.in-Fork.middle ≡ false = cc in
     let before = place_of-before probe (arc_value c.in-Fork.left).0 c.in-Fork.middle (arc_value c.in-Fork.right).0 above in
-    let is : c.place_of_datom_in-else-stands_after.result ≡ place_of probe (arc_value c.in-Fork.left).0 = rw (← c.deref-else-stands_after.ensures) c.place_of_datom_in-else-stands_after.ensures in
+    let is : c.place_of_datom_in-else-stands_after.result ≡ place_of probe (arc_value c.in-Fork.left).0 =
+    rw (← c.deref-else-stands_after.ensures) c.place_of_datom_in-else-stands_after.ensures in
     rw (f.is, before, is) refl

@@ -9,7 +9,8 @@ use Rattle.live_index.proofs.ending.without_mate.Goals as goal
 
 pub returns-clause-rising : goal.returns-clause-rising
 returns-clause-rising c =
-    subst (IsRising c.args.order) (sym c.in_ok-list.ensures.datoms) (rising-remove c.args.order (datoms_of c.args.pool.now c.args.list) c.in-Some.place c.requires.rising)
+    subst (IsRising c.args.order) (sym c.in_ok-list.ensures.datoms)
+    (rising-remove c.args.order (datoms_of c.args.pool.now c.args.list) c.in-Some.place c.requires.rising)
 
 pub returns-clause-ended : goal.returns-clause-ended
 returns-clause-ended c =

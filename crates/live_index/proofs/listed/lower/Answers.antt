@@ -12,7 +12,8 @@ loop-i-preserved c =
     let x = get_or ys i 0 in
     let within : i < length xs = omega arith in
     let long : i < length ys = omega arith in
-    ap (set ys i) c.one_fewer.ensures ∙ map_over_more (one_fewer c.args.place) xs ys i x within c.loop-i.invariant (get_or_default ys i 0 x long)
+    ap (set ys i) c.one_fewer.ensures
+    ∙ map_over_more (one_fewer c.args.place) xs ys i x within c.loop-i.invariant (get_or_default ys i 0 x long)
 
 pub returns : goal.returns
 returns c = search (rules, take_all, drop_all)

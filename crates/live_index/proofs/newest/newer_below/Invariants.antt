@@ -11,7 +11,8 @@ invariant-loop-from g l =
       within : l.to ≤ length l.slots;
       behind : l.from ≤ place_of l.probe (at_slots l.pool l.slots);
       upto : place_of l.probe (at_slots l.pool l.slots) ≤ l.to;
-      left : (digits : ℕ) → length l.slots < 2 ^ digits → (few : ℕ) × (l.to - l.from < 2 ^ few) × (l.steps + few ≤ l.initial.steps + digits);
+      left : (digits : ℕ) → length l.slots < 2 ^ digits
+          → (few : ℕ) × (l.to - l.from < 2 ^ few) × (l.steps + few ≤ l.initial.steps + digits);
     }
 
 abbrev pub decreases-loop-from : goal.decreases-loop-from

@@ -12,7 +12,8 @@ loop-from-init c =
       ends = omega arith;
       within = omega arith;
       behind = omega arith;
-      upto = omega (arith, place_of-le-length (probe_of c.args.order c.args.datom.now) ds, length-at_slots c.args.pool.now c.args.slots.now);
+      upto =
+          omega (arith, place_of-le-length (probe_of c.args.order c.args.datom.now) ds, length-at_slots c.args.pool.now c.args.slots.now);
     }
 
 pub loop-from-preserved-then-stands_after : goal.loop-from-preserved-then-stands_after
@@ -28,7 +29,10 @@ loop-from-preserved-then-stands_after c =
     record {
       ends = omega arith;
       within = omega arith;
-      behind = omega (arith, place_behind probe ds middle x c.requires.rising (omega (arith, length-at_slots c.args.pool.now c.args.slots.now)) below);
+      behind = omega (
+        arith,
+        place_behind probe ds middle x c.requires.rising (omega (arith, length-at_slots c.args.pool.now c.args.slots.now)) below,
+      );
       upto = omega arith;
     }
 

@@ -23,4 +23,5 @@ returns c =
     let full = c.args.full.items in
     let block = c.in_ok-new.field-0 in
     let is : block ≡ c.args.last = c.in_ok-new.ensures in
-    rw (c.in_ok-push.ensures.items, c.new-2.ensures.items) (append-nil (joined (full ++ block ∷ [])) ∙ joined-push full block ∙ ap (λ (b : Vec Datom Global). joined full ++ b.items) is)
+    rw (c.in_ok-push.ensures.items, c.new-2.ensures.items)
+    (append-nil (joined (full ++ block ∷ [])) ∙ joined-push full block ∙ ap (λ (b : Vec Datom Global). joined full ++ b.items) is)

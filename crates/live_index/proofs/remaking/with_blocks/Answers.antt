@@ -10,5 +10,6 @@ loop-place-preserved c =
     let i = c.loop-place.place in
     let x = c.datom.result.now in
     let within : i < length list = omega (arith, c.loop-place-test.true, c.len-place-end.ensures) in
-    held_more (is_held c.args.covers.now c.args.order) c.args.all.items list i x c.loop-place.all.items c.in_ok-all.all.items c.loop-place.invariant within
+    held_more (is_held c.args.covers.now c.args.order) c.args.all.items list i x c.loop-place.all.items c.in_ok-all.all.items
+    c.loop-place.invariant within
     (get_or_from_slice_get list i x x c.datom.ensures) c.in_ok-all.ensures

@@ -16,11 +16,15 @@ loop-place-preserved c =
     let list = datoms_of c.args.pool.now c.args.list.now in
     let i = c.loop-place.place in
     let x = c.datom.result.now in
-    let within : i < length list = omega (arith, c.loop-place-test.true, c.len-place-end.ensures, length-datoms c.args.pool.now c.args.list.now c.requires) in
-    held_more (is_held c.args.covers.now c.args.order) c.args.all.items list i x c.loop-place.all.items c.in_ok-all.all.items c.loop-place.invariant within
+    let within : i < length list =
+    omega (arith, c.loop-place-test.true, c.len-place-end.ensures, length-datoms c.args.pool.now c.args.list.now c.requires) in
+    held_more (is_held c.args.covers.now c.args.order) c.args.all.items list i x c.loop-place.all.items c.in_ok-all.all.items
+    c.loop-place.invariant within
     (get_or_from_slice_get list i x x c.datom.ensures) c.in_ok-all.ensures
 
 pub returns : goal.returns
 returns c =
     let list = datoms_of c.args.pool.now c.args.list.now in
-    rw (take_all c.loop-place.place list (omega (arith, c.loop-place-test.false, c.len-place-end.ensures, length-datoms c.args.pool.now c.args.list.now c.requires))) at c.loop-place.invariant
+    rw (take_all c.loop-place.place list
+    (omega (arith, c.loop-place-test.false, c.len-place-end.ensures, length-datoms c.args.pool.now c.args.list.now c.requires))) at
+    c.loop-place.invariant

@@ -10,13 +10,15 @@ pub returns-then-holds-clause-retracted : goal.returns-then-holds-clause-retract
 returns-then-holds-clause-retracted c =
     let held : is_held c.args.covers.now c.args.order c.args.datom.now ≡ true =
     ap (λ (x : Datom). is_held c.args.covers.now c.args.order x) (sym c.get.ensures) ∙ sym c.holds.ensures ∙ c.if-holds.true in
-    both_ok c.retracted_where_held.result _ _ _ (λ new retracted also. retracted c.args.covers.now held) c.retracted_where_held.ensures.retracted c.retracted_where_held.ensures.retracted
+    both_ok c.retracted_where_held.result _ _ _ (λ new retracted also. retracted c.args.covers.now held)
+    c.retracted_where_held.ensures.retracted c.retracted_where_held.ensures.retracted
 
 pub returns-else-holds-clause-retracted : goal.returns-else-holds-clause-retracted
 returns-else-holds-clause-retracted c =
     let bare : is_held c.args.covers.now c.args.order c.args.datom.now ≡ false =
     ap (λ (x : Datom). is_held c.args.covers.now c.args.order x) (sym c.get.ensures) ∙ sym c.holds.ensures ∙ c.if-holds.false in
-    retracted-kept c.args.order c.args.covers.now (datoms_of c.args.pool.now c.args.holding) c.args.past c.args.datom.now c.requires.holding c.requires.past
+    retracted-kept c.args.order c.args.covers.now
+    (datoms_of c.args.pool.now c.args.holding) c.args.past c.args.datom.now c.requires.holding c.requires.past
     (ap (λ b. not c.args.datom.now.added && b) bare ∙ none (not c.args.datom.now.added))
   where
     none : (b : Bool) → (b && false) ≡ false

@@ -9,7 +9,8 @@ use Rattle.live_index.proofs.retracting.retracted_where_held.Goals as goal
 
 pub with_datom-requires : goal.with_datom-requires
 with_datom-requires c =
-    subst (IsRising c.args.order) (sym c.in_ok-past.ensures) (some-rising c.args.order c.args.past c.in_ok-list.field-0.fact c.requires.past)
+    subst (IsRising c.args.order) (sym c.in_ok-past.ensures)
+    (some-rising c.args.order c.args.past c.in_ok-list.field-0.fact c.requires.past)
 
 pub returns-clause-retracted : goal.returns-clause-retracted
 returns-clause-retracted c = λ coverage held.
@@ -23,5 +24,8 @@ returns-clause-retracted c = λ coverage held.
     ∙ ap (λ (l : List Datom). with_one order l c.in_ok-share.field-0) with_fact
     ∙ ap (λ (x : Datom). with_one order (with_some order c.args.past fact) x) shared in
     let ended = rw c.get.ensures at c.in_ok-list.ensures.ended in
-    subst (λ (l : List Datom). IsRetracted order coverage (datoms_of c.args.pool.now c.args.holding) c.args.past (d ∷ []) (datoms_of c.args.pool.now c.in_ok-list.field-0.list) l) (sym whole)
-    (retracted-one order coverage (datoms_of c.args.pool.now c.args.holding) c.args.past (datoms_of c.args.pool.now c.in_ok-list.field-0.list) d fact c.requires.retracts held ended c.requires.single c.in_ok-list.ensures.rising c.requires.past)
+    subst (λ (l : List Datom). IsRetracted order coverage (datoms_of c.args.pool.now c.args.holding) c.args.past (d ∷ [])
+    (datoms_of c.args.pool.now c.in_ok-list.field-0.list) l) (sym whole)
+    (retracted-one order coverage (datoms_of c.args.pool.now c.args.holding) c.args.past
+    (datoms_of c.args.pool.now c.in_ok-list.field-0.list) d fact c.requires.retracts held ended c.requires.single
+    c.in_ok-list.ensures.rising c.requires.past)

@@ -6,5 +6,8 @@ use Rattle.fb_model.proofs.Members.{in_order-rises}
 use Rattle.live_index.proofs.splitting.halves_of.Goals as goal
 
 pub part-requires : goal.part-requires
-part-requires c =
-    (c.args.order, subst (IsRising c.args.order) (sym (c.deref.ensures.value ∙ c.in_ok-rising.ensures)) (rising_from c.args.order (in_order c.args.order c.args.datoms.items) (in_order-rises c.args.order c.args.datoms.items)))
+part-requires c = (
+  c.args.order,
+  subst (IsRising c.args.order) (sym (c.deref.ensures.value ∙ c.in_ok-rising.ensures))
+      (rising_from c.args.order (in_order c.args.order c.args.datoms.items) (in_order-rises c.args.order c.args.datoms.items)),
+)

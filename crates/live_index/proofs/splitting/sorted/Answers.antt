@@ -9,4 +9,5 @@ use Rattle.live_index.proofs.splitting.sorted.Goals as goal
 
 pub returns-clause-sorted : goal.returns-clause-sorted
 returns-clause-sorted c =
-    c.sort_unstable_by.ensures.sorted (λ x y. is_lt (key_cmp c.args.order x y)) (ranks_by (key_cmp_total c.args.order) (λ (x : Datom). x)) (always_returns_same _ _ _ (λ a r f h. (search rules, search rules)))
+    c.sort_unstable_by.ensures.sorted (λ x y. is_lt (key_cmp c.args.order x y)) (ranks_by (key_cmp_total c.args.order) (λ (x : Datom). x))
+    (always_returns_same _ _ _ (λ a r f h. (search rules, search rules)))

@@ -11,13 +11,17 @@ pub returns-clause-u64 : goal.returns-clause-u64
 returns-clause-u64 c = λ bytes rest n all is. (Wrote-u64 bytes n rest (AreBytes-All bytes all) (found-IsFound (read_u64 bytes) n rest is)).0
 
 pub returns-clause-u128 : goal.returns-clause-u128
-returns-clause-u128 c = λ bytes rest n all is. (Wrote-u128 bytes n rest (AreBytes-All bytes all) (found-IsFound (read_u128 bytes) n rest is)).0
+returns-clause-u128 c =
+    λ bytes rest n all is. (Wrote-u128 bytes n rest (AreBytes-All bytes all) (found-IsFound (read_u128 bytes) n rest is)).0
 
 pub returns-clause-i64 : goal.returns-clause-i64
 returns-clause-i64 c = λ bytes rest z all is. (Wrote-i64 bytes z rest (AreBytes-All bytes all) (found-IsFound (read_i64 bytes) z rest is)).0
 
 pub returns-clause-truth : goal.returns-clause-truth
-returns-clause-truth c = λ bytes rest b all is. Wrote-truth bytes b rest (AreBytes-All bytes all) (found-IsFound (read_truth bytes) b rest is)
+returns-clause-truth c =
+    λ bytes rest b all is. Wrote-truth bytes b rest (AreBytes-All bytes all) (found-IsFound (read_truth bytes) b rest is)
 
 pub returns-clause-text : goal.returns-clause-text
-returns-clause-text c = λ test bytes text rest all is. Wrote-text test bytes text rest (AreBytes-All bytes all) (found-IsFound (read_text test bytes) text rest is)
+returns-clause-text c =
+    λ test bytes text rest all is.
+    Wrote-text test bytes text rest (AreBytes-All bytes all) (found-IsFound (read_text test bytes) text rest is)

@@ -10,7 +10,9 @@ pub returns-clause-bytes : goal.returns-clause-bytes
 returns-clause-bytes c = λ entry payload all is. says-IsPayloadOf payload entry (AreBytes-All payload all) is
 
 pub returns-clause-value : goal.returns-clause-value
-returns-clause-value c = λ format v bytes rest all is. Wrote-value format bytes v rest (AreBytes-All bytes all) (found-IsFound (read_value format bytes) v rest is)
+returns-clause-value c =
+    λ format v bytes rest all is.
+    Wrote-value format bytes v rest (AreBytes-All bytes all) (found-IsFound (read_value format bytes) v rest is)
 
 pub returns-clause-written : goal.returns-clause-written
 returns-clause-written c = written-entry_bytes

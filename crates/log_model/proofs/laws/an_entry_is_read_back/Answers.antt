@@ -6,7 +6,9 @@ use Rattle.log_model.proofs.Entries.{says-entry_bytes, written-storable}
 use Rattle.log_model.proofs.laws.an_entry_is_read_back.Goals as goal
 
 pub returns-clause-written : goal.returns-clause-written
-returns-clause-written c = λ entry storable. says-entry_bytes entry (entry_bytes entry) (record { format = 2; format_is = refl; storable = storable; bytes = refl })
+returns-clause-written c =
+    λ entry storable.
+    says-entry_bytes entry (entry_bytes entry) (record { format = 2; format_is = refl; storable = storable; bytes = refl })
 
 pub returns-clause-either_format : goal.returns-clause-either_format
 returns-clause-either_format c = says-entry_bytes

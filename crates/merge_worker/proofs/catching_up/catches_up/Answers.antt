@@ -1,6 +1,6 @@
 use Rattle.std.proofs.Common.{◌≡◌, ◌∙◌, ◌++◌, List, [], ap, sym, append_assoc, append-nil}
 use Rattle.fb_values.specs.declared.facts.Entry.{Entry}
-use Rattle.fb_view.specs.Kept.{Kept}
+use Rattle.fb_view.specs.SnapshotModel.{SnapshotModel}
 use Rattle.fb_conn.proofs.Histories.{begins_there}
 use Rattle.merge_worker.proofs.catching_up.catches_up.Goals as goal
 
@@ -14,5 +14,5 @@ caught_up-requires g c =
 
 pub returns-clause-ahead : goal.returns-clause-ahead
 returns-clause-ahead g c =
-    let caught = c.in_ok-ahead.ensures in let latest = ap (λ (k : Kept). k.entries) c.in_ok-latest.ensures.latest.0 in
+    let caught = c.in_ok-ahead.ensures in let latest = ap (λ (k : SnapshotModel). k.entries) c.in_ok-latest.ensures.latest.0 in
     (([], sym latest ∙ (sym caught.entries ∙ sym (append-nil c.in_ok-ahead.field-0.entries))), caught.covered)

@@ -7,7 +7,8 @@ use Rattle.pull_model.proofs.Distinct.{keys_in, item_keys, folded_distinct, fold
 use Rattle.pull_model.proofs.laws.keys_stand_once_and_in_the_order_of_items.Goals as goal
 
 pub returns-clause-once : goal.returns-clause-once
-returns-clause-once c = λ trees db pattern above e. folded_distinct (made_of trees db pattern above e) no_pairs_yet (items_from db e pattern 0 pattern) refl
+returns-clause-once c =
+    λ trees db pattern above e. folded_distinct (made_of trees db pattern above e) no_pairs_yet (items_from db e pattern 0 pattern) refl
 
 pub returns-clause-in_order : goal.returns-clause-in_order
 returns-clause-in_order c =

@@ -4,22 +4,22 @@ use Rattle.std.proofs.lemmas.List.{take_rest}
 use Rattle.edn_form.specs.View.{forms_of}
 use Rattle.pull_model.specs.Reading as reading
 use Rattle.pull_pattern.specs.Answers.{Refuses}
-use Rattle.pull_pattern.specs.View.{options_in}
+use Rattle.pull_pattern.specs.View.{model_options}
 use Rattle.pull_pattern.proofs.Optional.{options_step}
 use Rattle.pull_pattern.proofs.options.+add_options.Goals as goal
 
 pub returns-in_ok-add_option-in-len2-up-clause-given : goal.returns-in_ok-add_option-in-len2-up-clause-given
 returns-in_ok-add_option-in-len2-up-clause-given t c =
-    subst (λ m. IfOk c.add_options.result (λ _. Some (options_in c.add_options.new.options) ≡ m))
-    (ap (λ rest. reading.options_from (options_in c.add_option.new.options) (forms_of rest)) (take_rest c.args.forms.now 2)
-    ∙ options_step c.args.forms.now (options_in c.args.options.now) (options_in c.add_option.new.options)
+    subst (λ m. IfOk c.add_options.result (λ _. Some (model_options c.add_options.new.options) ≡ m))
+    (ap (λ rest. reading.options_from (model_options c.add_option.new.options) (forms_of rest)) (take_rest c.args.forms.now 2)
+    ∙ options_step c.args.forms.now (model_options c.args.options.now) (model_options c.add_option.new.options)
     c.name-item.result c.value-item.result (search rules) (search rules) (search rules) c.in_ok-add_option-in-len2-up.ensures.given)
     c.add_options.ensures.given
 
 pub returns-in_ok-add_option-in-len2-up-clause-refused : goal.returns-in_ok-add_option-in-len2-up-clause-refused
 returns-in_ok-add_option-in-len2-up-clause-refused t c =
     subst (λ m. IfErr c.add_options.result (λ stop. Refuses stop m))
-    (ap (λ rest. reading.options_from (options_in c.add_option.new.options) (forms_of rest)) (take_rest c.args.forms.now 2)
-    ∙ options_step c.args.forms.now (options_in c.args.options.now) (options_in c.add_option.new.options)
+    (ap (λ rest. reading.options_from (model_options c.add_option.new.options) (forms_of rest)) (take_rest c.args.forms.now 2)
+    ∙ options_step c.args.forms.now (model_options c.args.options.now) (model_options c.add_option.new.options)
     c.name-item.result c.value-item.result (search rules) (search rules) (search rules) c.in_ok-add_option-in-len2-up.ensures.given)
     c.add_options.ensures.refused

@@ -5,13 +5,15 @@ use Rattle.edn_form.specs.View.{form_of, forms_of, pairs_of, members, entries}
 use Rattle.pull_model.specs.Patterns as model
 use Rattle.pull_model.specs.Reading as reading
 use Rattle.pull_pattern.specs.View.{pattern_of}
-use Rattle.pull_pattern.proofs.Joined.{both-first, not_empty, read_more, read_all, read_none, any_items, specify_more, specify_all, specify_none, any_specifications, item_of_vector}
+use Rattle.pull_pattern.proofs.Joined.{both-first, not_empty, read_more, read_all, read_none, any_items, specify_more, specify_all}
+use Rattle.pull_pattern.proofs.Joined.{specify_none, any_specifications, item_of_vector}
 use Rattle.pull_pattern.proofs.Refused.{refused_again}
 use Rattle.pull_pattern.proofs.reading.+read.Goals as goal
 
 -- ---- a form as an item
 
-pub add_item-returns-in_err-item_with_options-in-Vector-clause-refused : goal.add_item-returns-in_err-item_with_options-in-Vector-clause-refused
+pub add_item-returns-in_err-item_with_options-in-Vector-clause-refused :
+    goal.add_item-returns-in_err-item_with_options-in-Vector-clause-refused
 add_item-returns-in_err-item_with_options-in-Vector-clause-refused t c =
     refused_again c.from_residual-in_err-item_with_options-in-Vector.result c.in_err-item_with_options-in-Vector.field-0.0
     (reading.item_with_options (forms_of c.as_slice.result.now)) (reading.item_of (form_of c.args.f.now))

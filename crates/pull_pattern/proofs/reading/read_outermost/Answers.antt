@@ -4,7 +4,7 @@ use Rattle.edn_model.specs.Form as edn
 use Rattle.edn_form.specs.View.{form_of, forms_of, members}
 use Rattle.pull_model.specs.Patterns.{no_items}
 use Rattle.pull_model.specs.Reading as reading
-use Rattle.pull_pattern.specs.Answers.{Reads}
+use Rattle.pull_pattern.specs.Answers.{ReadsPattern}
 use Rattle.pull_pattern.specs.View.{pattern_of}
 use Rattle.pull_pattern.proofs.Joined.{both-first, not_empty, read_more, read_all, read_none, bad_more, bad_here, no_pattern, a_pattern}
 use Rattle.pull_pattern.proofs.Refused.{refused_at}
@@ -22,7 +22,7 @@ returns-in-Err c =
     let answer = reading.pattern_in (edn.vector (edn.forms (forms_of es))) in
     let f = c.f-item.result in
     let i = c.loop-item.item in
-    subst (λ stop. Reads answer (Err stop)) (sym c.at.ensures)
+    subst (λ stop. ReadsPattern answer (Err stop)) (sym c.at.ensures)
     (refused_at i c.in-Err.stop (reading.item_of (form_of f)) answer c.in-Err.ensures.refused
     (λ none. no_pattern es i (not_empty (length es) c.if-is_empty.ensures)
     (read_none es i f (pattern_of c.loop-item.list.items) no_items all (c.loop-item.invariant.0 ∙ sym (both-first all))

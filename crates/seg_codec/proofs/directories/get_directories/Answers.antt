@@ -2,7 +2,7 @@ use Rattle.std.proofs.Common.{sym, subst, ap}
 use Rattle.log_model.specs.Fields.{and_then}
 use Rattle.log_model.specs.Nodes.{with_directory}
 use Rattle.log_model.specs.Merges.{several_over, read_directory}
-use Rattle.seg_codec.specs.Told.{Adds}
+use Rattle.seg_codec.specs.Answers.{Adds}
 use Rattle.seg_codec.proofs.directories.get_directories.Goals as goal
 
 pub returns : goal.returns

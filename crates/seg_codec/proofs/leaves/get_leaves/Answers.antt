@@ -2,7 +2,7 @@ use Rattle.std.proofs.Common.{sym, subst, ap}
 use Rattle.log_model.specs.Fields.{and_then}
 use Rattle.log_model.specs.Nodes.{with_leaf}
 use Rattle.log_model.specs.Merges.{several_over, read_leaf}
-use Rattle.seg_codec.specs.Told.{Adds}
+use Rattle.seg_codec.specs.Answers.{Adds}
 use Rattle.seg_codec.proofs.leaves.get_leaves.Goals as goal
 
 pub returns : goal.returns

@@ -1,7 +1,7 @@
 use Rattle.std.proofs.Common.{drop}
 use Rattle.std.proofs.lemmas.Result.{err_from_is_err_and}
 use Rattle.log_model.specs.Merges.{read_roots}
-use Rattle.seg_codec.specs.Told.{ids_of}
+use Rattle.seg_codec.specs.Answers.{ids_of}
 use Rattle.seg_codec.proofs.Passing.{roots_pass, more_behind, none_behind}
 use Rattle.seg_codec.proofs.SeveralOver.{end_misses}
 use Rattle.seg_codec.proofs.records.get_last_roots.Goals as goal

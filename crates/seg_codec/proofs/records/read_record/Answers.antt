@@ -1,5 +1,6 @@
 use Rattle.std.proofs.lemmas.Result.{err_from_is_err_and}
-use Rattle.seg_codec.proofs.RecordFields.{bad_format, bad_c, bad_leaves, bad_directories, bad_roots, merged, grown_none, grown_leaves, grown_both}
+use Rattle.seg_codec.proofs.RecordFields.{bad_format, bad_c, bad_leaves, bad_directories, bad_roots, merged, grown_none, grown_leaves}
+use Rattle.seg_codec.proofs.RecordFields.{grown_both}
 use Rattle.seg_codec.proofs.records.read_record.Goals as goal
 
 pub returns-in_err-format : goal.returns-in_err-format

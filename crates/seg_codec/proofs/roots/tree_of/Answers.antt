@@ -2,7 +2,7 @@ use Rattle.std.proofs.Common.{◌<◌, ◌≤◌, length, map, get_or, sym, ap, 
 use Rattle.std.specs.Prelude.{IsTrue}
 use Rattle.std.specs.Arc.{arc_value}
 use Rattle.log_model.specs.Nodes.{Directory, is_among}
-use Rattle.seg_codec.specs.Told.{AreFound}
+use Rattle.seg_codec.specs.Answers.{AreFound}
 use Rattle.seg_codec.proofs.Finding.{found_none, found_more, found_all}
 use Rattle.seg_codec.proofs.roots.tree_of.Goals as goal
 

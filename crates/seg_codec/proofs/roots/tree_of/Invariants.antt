@@ -1,6 +1,6 @@
 use Rattle.std.proofs.Common.{map, take}
 use Rattle.std.specs.Arc.{arc_value}
-use Rattle.seg_codec.specs.Told.{AreFound}
+use Rattle.seg_codec.specs.Answers.{AreFound}
 use Rattle.seg_codec.proofs.roots.tree_of.Given as goal
 
 abbrev pub invariant-loop-id : goal.invariant-loop-id

@@ -39,16 +39,21 @@ loop-datom-preserved c =
     let here : drop k added ≡ d ∷ left = drop_item added k d within c.datom-item.is in
     let whole : take k added ++ d ∷ left ≡ added = ap (λ ds. take k added ++ ds) (sym here) ∙ take-append-drop k added in
     let m = subst (λ (ds : List Datom). IsMidway order (λ x. IsTrue (p x)) old rest (take k added) ds out) here c.loop-datom.invariant in
-    let more = midway_more order p old rest (take k added) left out d added place c.requires.old_rises c.requires.added_rises c.requires.single whole c.place_of_datom.ensures m in
-    let behind : without_twin order d (drop place rest) ≡ c.without_twin-rest.result.now = ap (without_twin order d) (sym c.split_at.ensures.back) ∙ sym c.without_twin-rest.ensures in
+    let more =
+    midway_more order p old rest
+    (take k added) left out d added place c.requires.old_rises c.requires.added_rises c.requires.single whole c.place_of_datom.ensures m in
+    let behind : without_twin order d (drop place rest) ≡ c.without_twin-rest.result.now =
+    ap (without_twin order d) (sym c.split_at.ensures.back) ∙ sym c.without_twin-rest.ensures in
     let pushed : (out ++ filter p (take place rest)) ++ d ∷ [] ≡ c.push.new.self.items =
     ap (λ ds. (out ++ filter p ds) ++ d ∷ []) (sym c.split_at.ensures.front)
     ∙ ap (λ ds. ds ++ d ∷ []) (sym c.in_ok-all-2.ensures)
     ∙ ap (λ x. c.in_ok-all-2.all.items ++ x ∷ []) (sym c.in_ok-copy.ensures)
     ∙ sym c.in_ok-push.ensures.items in
     subst (λ (ds : List Datom). IsMidway order (λ x. IsTrue (p x)) old c.without_twin-rest.result.now (take (k + 1) added) left ds) pushed
-    (subst (λ (ds : List Datom). IsMidway order (λ x. IsTrue (p x)) old c.without_twin-rest.result.now ds left ((out ++ filter p (take place rest)) ++ d ∷ [])) (sym (take_item added k d within c.datom-item.is))
-    (subst (λ (ds : List Datom). IsMidway order (λ x. IsTrue (p x)) old ds (take k added ++ d ∷ []) left ((out ++ filter p (take place rest)) ++ d ∷ [])) behind more))
+    (subst (λ (ds : List Datom). IsMidway order (λ x. IsTrue (p x)) old c.without_twin-rest.result.now ds left
+    ((out ++ filter p (take place rest)) ++ d ∷ [])) (sym (take_item added k d within c.datom-item.is))
+    (subst (λ (ds : List Datom).
+    IsMidway order (λ x. IsTrue (p x)) old ds (take k added ++ d ∷ []) left ((out ++ filter p (take place rest)) ++ d ∷ [])) behind more))
 
 pub returns : goal.returns
 returns c =
@@ -61,7 +66,8 @@ returns c =
     let out = c.loop-datom.all.items in
     let past : length added ≤ k = omega (arith, c.loop-datom-test.false) in
     let m = subst (λ (ds : List Datom). IsMidway order (λ x. IsTrue (p x)) old rest ds [] out) (take_all k added past)
-    (subst (λ (ds : List Datom). IsMidway order (λ x. IsTrue (p x)) old rest (take k added) ds out) (drop_all added k past) c.loop-datom.invariant) in
+    (subst (λ (ds : List Datom). IsMidway order (λ x. IsTrue (p x)) old rest (take k added) ds out)
+    (drop_all added k past) c.loop-datom.invariant) in
     let all = midway_all order p old rest added out c.requires.old_rises m in
     let union : IsUnion order c.args.covers.now old added (out ++ filter p rest) = record { rising = all.rising; members = all.members } in
     IfOk-weaker c.with_held-2.result _ _ (λ v is. subst (IsUnion order c.args.covers.now old added) (sym is) union) c.with_held-2.ensures

@@ -20,13 +20,15 @@ planned-requires-clause-leaves_rise c =
 
 pub planned-requires-clause-added_rises : goal.planned-requires-clause-added_rises
 planned-requires-clause-added_rises c =
-    due_rises c.args.order c.args.covers.now c.args.c (list_in c.args.live.now c.args.order) c.deref-2.result.now (c.deref-2.ensures.value ∙ c.in_ok-due.ensures) c.requires.mergeable.live_rises
+    due_rises c.args.order c.args.covers.now c.args.c (list_in c.args.live.now c.args.order) c.deref-2.result.now
+    (c.deref-2.ensures.value ∙ c.in_ok-due.ensures) c.requires.mergeable.live_rises
 
 pub planned-requires-clause-single : goal.planned-requires-clause-single
 planned-requires-clause-single c =
     let ls = map arc_value c.deref.result.now in
     let ls_is = ap (map arc_value) c.deref.ensures.value ∙ c.in_ok-leaves.ensures ∙ ap tree_leaves c.tree.ensures in
-    due_single c.args.order c.args.covers.now c.args.c (tree_in c.args.roots.now c.args.order) ls (list_in c.args.live.now c.args.order) c.deref-2.result.now ls_is (c.deref-2.ensures.value ∙ c.in_ok-due.ensures) c.requires.mergeable.single
+    due_single c.args.order c.args.covers.now c.args.c (tree_in c.args.roots.now c.args.order) ls (list_in c.args.live.now c.args.order)
+    c.deref-2.result.now ls_is (c.deref-2.ensures.value ∙ c.in_ok-due.ensures) c.requires.mergeable.single
 
 pub planned-requires-clause-known : goal.planned-requires-clause-known
 planned-requires-clause-known c = λ stay.
@@ -46,7 +48,8 @@ returns c =
     let ls_is = ap (map arc_value) c.deref.ensures.value ∙ c.in_ok-leaves.ensures ∙ ap tree_leaves c.tree.ensures in
     let due_is = c.deref-2.ensures.value ∙ c.in_ok-due.ensures in
     if_ok_four c.planned.result
-    (λ (plan : Planned). IsUnion order coverage (leaf_datoms ls) due plan.datoms) (λ (plan : Planned). All (Contains ls) plan.kept) (λ (plan : Planned). RepeatsNone ls plan.kept) (λ (plan : Planned). KeepsLeaves order coverage ls due plan.kept)
+    (λ (plan : Planned). IsUnion order coverage (leaf_datoms ls) due plan.datoms) (λ (plan : Planned). All (Contains ls) plan.kept)
+    (λ (plan : Planned). RepeatsNone ls plan.kept) (λ (plan : Planned). KeepsLeaves order coverage ls due plan.kept)
     (IsPlan order coverage c.args.c tree live)
     (λ plan union older once stays. plan_is order coverage c.args.c tree ls live due plan ls_is due_is union older once stays)
     c.planned.ensures.union c.planned.ensures.older c.planned.ensures.once c.planned.ensures.stays

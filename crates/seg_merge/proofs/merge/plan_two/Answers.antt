@@ -6,4 +6,5 @@ use Rattle.seg_merge.proofs.Crossing.{Live-sync, Covers-sync}
 use Rattle.seg_merge.proofs.merge.plan_two.Goals as goal
 
 pub join-requires-send-F : goal.join-requires-send-F
-join-requires-send-F g c κs within = search (roots.the_sync, Live-sync, Covers-sync, order.the_sync, heap.crosses, sendable) depth 30 fits 10000
+join-requires-send-F g c κs within =
+    search (roots.the_sync, Live-sync, Covers-sync, order.the_sync, heap.crosses, sendable) depth 30 fits 10000

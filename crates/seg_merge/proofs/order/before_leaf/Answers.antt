@@ -26,7 +26,8 @@ returns-in-Some-clause-front c =
     let ds = c.args.datoms.now in
     let first = c.first.result.now in
     let leaf = c.in-Some.leaf.now in
-    λ d there. subst (λ (o : Option LeafNode). goes_before_leaf order o d ≡ true) c.in-Some.ensures (goes_front order leaf first ds d c.first.ensures (subst (λ (m : ℕ). Contains (take m ds) d) c.place_of_datom.ensures there))
+    λ d there. subst (λ (o : Option LeafNode). goes_before_leaf order o d ≡ true) c.in-Some.ensures
+    (goes_front order leaf first ds d c.first.ensures (subst (λ (m : ℕ). Contains (take m ds) d) c.place_of_datom.ensures there))
 
 pub returns-in-Some-clause-back : goal.returns-in-Some-clause-back
 returns-in-Some-clause-back c =
@@ -34,4 +35,5 @@ returns-in-Some-clause-back c =
     let ds = c.args.datoms.now in
     let first = c.first.result.now in
     let leaf = c.in-Some.leaf.now in
-    λ d there. subst (λ (o : Option LeafNode). goes_before_leaf order o d ≡ false) c.in-Some.ensures (goes_behind order leaf first ds d c.first.ensures c.requires (subst (λ (m : ℕ). Contains (drop m ds) d) c.place_of_datom.ensures there))
+    λ d there. subst (λ (o : Option LeafNode). goes_before_leaf order o d ≡ false) c.in-Some.ensures (goes_behind order leaf first ds d
+    c.first.ensures c.requires (subst (λ (m : ℕ). Contains (drop m ds) d) c.place_of_datom.ensures there))

@@ -30,9 +30,13 @@ returns-then-is_whole c =
     let zero : length added ≡ 0 = eqb-true (length added) 0 (sym c.is_empty.ensures ∙ c.if-is_empty.true) in
     let all = subst (λ (l : LeafNode). AreHeld coverage order l.datoms) c.deref.ensures (c.is_whole.ensures.held c.if-is_whole.true) in
     let new : Planned = record { datoms = plan.datoms ++ leaf.datoms; kept = plan.kept ++ leaf ∷ [] } in
-    let adds = subst (λ (ds : List Datom). AddsLeaf order coverage leaf ds plan new) (sym (none_of_zero added zero)) (adds_kept order coverage leaf plan c.requires.leaf_rises all) in
-    IfOk-weaker c.keep.result (λ p. p ≡ new) (AddsLeaf order coverage leaf added plan) (λ p is. subst (AddsLeaf order coverage leaf added plan) (sym is) adds) c.keep.ensures
+    let adds =
+    subst (λ (ds : List Datom). AddsLeaf order coverage leaf ds plan new) (sym (none_of_zero added zero))
+    (adds_kept order coverage leaf plan c.requires.leaf_rises all) in
+    IfOk-weaker c.keep.result (λ p. p ≡ new) (AddsLeaf order coverage leaf added plan)
+    (λ p is. subst (AddsLeaf order coverage leaf added plan) (sym is) adds) c.keep.ensures
 
 pub union-requires-clause-single : goal.union-requires-clause-single
 union-requires-clause-single c =
-    subst (λ (ds : List Datom). HasNoTwins (ds ++ c.args.added.now)) (sym (c.datoms.ensures.datoms ∙ ap (λ (l : LeafNode). l.datoms) c.deref-2.ensures)) c.requires.single
+    subst (λ (ds : List Datom). HasNoTwins (ds ++ c.args.added.now))
+    (sym (c.datoms.ensures.datoms ∙ ap (λ (l : LeafNode). l.datoms) c.deref-2.ensures)) c.requires.single

@@ -7,4 +7,5 @@ returns c =
     counted_writable c.args.roots.now c.in_ok-eavt.eavt c.in_ok-aevt.aevt c.in_ok-avet.avet c.in_ok-vaet.vaet
     c.in_ok-eavt.ensures c.in_ok-aevt.ensures c.in_ok-avet.ensures c.in_ok-vaet.ensures
     (omega (arith, c.next_id.ensures.next, c.next_id.ensures.small)) c.requires
-    (omega (arith, c.if-leaves-gt-MOST.false, c.sum-leaves.ensures)) (omega (arith, c.if-directories-gt-MOST.false, c.sum-directories.ensures))
+    (omega (arith, c.if-leaves-gt-MOST.false, c.sum-leaves.ensures))
+    (omega (arith, c.if-directories-gt-MOST.false, c.sum-directories.ensures))

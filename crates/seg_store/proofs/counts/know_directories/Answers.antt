@@ -9,7 +9,8 @@ use Rattle.seg_store.proofs.counts.know_directories.Goals as goal
 
 pub loop-directory-preserved : goal.loop-directory-preserved
 loop-directory-preserved c =
-    all_more HasFewLeaves arc_value c.args.directories.now c.loop-directory.directory-index c.directory-item.result c.loop-directory-test.true
+    all_more HasFewLeaves arc_value c.args.directories.now c.loop-directory.directory-index c.directory-item.result
+    c.loop-directory-test.true
     c.directory-item.is c.loop-directory.invariant (
       subst (λ (d : DirectoryNode). 0 < length d.leaves) c.deref.ensures c.leaves.ensures.some,
       subst (λ (d : DirectoryNode). length d.leaves < 513) c.deref.ensures (omega (arith, c.leaves.ensures.few)),

@@ -16,7 +16,8 @@ pub returns-in-Ok-None-clause-end : goal.returns-in-Ok-None-clause-end
 returns-in-Ok-None-clause-end g c = λ none disk records read has.
     let d = g.D.Disk in
     let ended = rw c.in-Ok-None.field-0-is at c.in-Ok-None.ensures.end in
-    found_all d.bytes d.images d.moment d.images_since disk records c.next.new.self c.args.found.now has (ended segments_mark disk records read)
+    found_all d.bytes d.images d.moment d.images_since disk records c.next.new.self c.args.found.now has
+    (ended segments_mark disk records read)
 
 pub returns-in-Err-BadLog-clause-end : goal.returns-in-Err-BadLog-clause-end
 returns-in-Err-BadLog-clause-end g c = λ none disk records read has.

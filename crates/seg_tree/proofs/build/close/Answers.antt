@@ -16,7 +16,8 @@ returns-clause-growing c =
     ap (map arc_value) c.in_ok-push.ensures.items
     ∙ map-append arc_value c.args.directories.items (c.in_ok-new.field-0 ∷ [])
     ∙ ap (λ (d : DirectoryNode). ds ++ d ∷ []) (c.in_ok-new.ensures.ok ∙ c.in_ok-directory.ensures) in
-    subst (λ (all : List DirectoryNode). IsGrowing c.args.first (c.args.next + 1) all []) (sym pushed) (growing_closed c.args.first c.args.next ds ls small c.requires.growing)
+    subst (λ (all : List DirectoryNode). IsGrowing c.args.first (c.args.next + 1) all []) (sym pushed)
+    (growing_closed c.args.first c.args.next ds ls small c.requires.growing)
 
 pub returns-clause-same : goal.returns-clause-same
 returns-clause-same c =

@@ -14,7 +14,11 @@ loop-leaf-preserved c =
     let there : k < length c.deref-leaf-items.result.now = omega arith in
     let within = rw c.deref-leaf-items.ensures.value at there in
     let is = rw c.deref-leaf-items.ensures.value at c.leaf-item.is in
-    let begins : BeginsWith (arc_value leaf).datoms c.first.result.now = subst (λ (l : LeafNode). BeginsWith l.datoms c.first.result.now) c.deref.ensures c.first.ensures in
-    let more = firsts_more arc_value (λ (l : LeafNode). l.datoms) items k leaf c.loop-leaf.firsts.items c.first.result.now within is c.loop-leaf.invariant begins in
-    let pushed : c.push.new.self.items ≡ c.loop-leaf.firsts.items ++ c.first.result.now ∷ [] = c.in_ok-push.ensures.items ∙ ap (λ (d : Datom). c.loop-leaf.firsts.items ++ d ∷ []) c.in_ok-copy.ensures in
+    let begins : BeginsWith (arc_value leaf).datoms c.first.result.now =
+    subst (λ (l : LeafNode). BeginsWith l.datoms c.first.result.now) c.deref.ensures c.first.ensures in
+    let more =
+    firsts_more arc_value
+    (λ (l : LeafNode). l.datoms) items k leaf c.loop-leaf.firsts.items c.first.result.now within is c.loop-leaf.invariant begins in
+    let pushed : c.push.new.self.items ≡ c.loop-leaf.firsts.items ++ c.first.result.now ∷ [] =
+    c.in_ok-push.ensures.items ∙ ap (λ (d : Datom). c.loop-leaf.firsts.items ++ d ∷ []) c.in_ok-copy.ensures in
     subst (λ (hs : List Datom). AreFirsts hs (map (λ (l : LeafNode). l.datoms) (map arc_value (take (k + 1) items)))) (sym pushed) more

@@ -14,11 +14,17 @@ loop-directory-preserved c =
     let there : k < length c.deref-directory-items.result.now = omega arith in
     let within = rw c.deref-directory-items.ensures.value at there in
     let is = rw c.deref-directory-items.ensures.value at c.directory-item.is in
-    let begins : BeginsWith (leaf_datoms (arc_value directory).leaves) c.first.result.now = subst (λ (d : DirectoryNode). BeginsWith (leaf_datoms d.leaves) c.first.result.now) c.deref.ensures c.first.ensures.begins in
+    let begins : BeginsWith (leaf_datoms (arc_value directory).leaves) c.first.result.now =
+    subst (λ (d : DirectoryNode). BeginsWith (leaf_datoms d.leaves) c.first.result.now) c.deref.ensures c.first.ensures.begins in
     let starts : StartsFull (arc_value directory) = subst StartsFull c.deref.ensures c.first.ensures.starts in
-    let more = firsts_more arc_value (λ (d : DirectoryNode). leaf_datoms d.leaves) items k directory c.loop-directory.firsts.items c.first.result.now within is c.loop-directory.invariant.firsts begins in
-    let pushed : c.push.new.self.items ≡ c.loop-directory.firsts.items ++ c.first.result.now ∷ [] = c.in_ok-push.ensures.items ∙ ap (λ (d : Datom). c.loop-directory.firsts.items ++ d ∷ []) c.in_ok-copy.ensures in
+    let more =
+    firsts_more arc_value (λ (d : DirectoryNode). leaf_datoms d.leaves) items k directory c.loop-directory.firsts.items c.first.result.now
+    within is c.loop-directory.invariant.firsts begins in
+    let pushed : c.push.new.self.items ≡ c.loop-directory.firsts.items ++ c.first.result.now ∷ [] =
+    c.in_ok-push.ensures.items ∙ ap (λ (d : Datom). c.loop-directory.firsts.items ++ d ∷ []) c.in_ok-copy.ensures in
     record {
-      firsts = subst (λ (hs : List Datom). AreFirsts hs (map (λ (d : DirectoryNode). leaf_datoms d.leaves) (map arc_value (take (k + 1) items)))) (sym pushed) more;
+      firsts =
+          subst (λ (hs : List Datom). AreFirsts hs (map (λ (d : DirectoryNode). leaf_datoms d.leaves) (map arc_value (take (k + 1) items))))
+          (sym pushed) more;
       starts = all_more StartsFull arc_value items k directory within is c.loop-directory.invariant.starts starts;
     }

@@ -11,9 +11,16 @@ use Rattle.talk_model.proofs.examples.a_talk.Goals as goal
 pub returns : goal.returns
 unfolding digits
 returns c =
-    let later : Standing = record { place = 1; window = since 1 whole; filters = []; told = false } in (
+    let later : Standing = record { place = 1; window = since 1 whole; filters = []; was_notified = false } in (
       opened_at 0,
-      record { place = 0; from = lit≤ tt; within = lit≤ tt; says = line (basis_reply 0) (codes "{:basis 0}\n") refl refl; commits = refl; stands = refl },
+      record {
+        place = 0;
+        from = lit≤ tt;
+        within = lit≤ tt;
+        says = line (basis_reply 0) (codes "{:basis 0}\n") refl refl;
+        commits = refl;
+        stands = refl;
+      },
       refl,
       (
         opened_at 1,
@@ -35,21 +42,35 @@ returns c =
         refl,
         (
           later,
-          record { reply = done_reply 1; answers = refl; says = line (done_reply 1) (codes "{:ok true :basis 1}\n") refl refl; commits = refl; stands = refl },
+          record {
+            reply = done_reply 1;
+            answers = refl;
+            says = line (done_reply 1) (codes "{:ok true :basis 1}\n") refl refl;
+            commits = refl;
+            stands = refl;
+          },
           refl,
           (
             later,
             record {
               reply = refusal_reply (codes "read/not-a-command") 0 1;
               answers = refl;
-              says = line (refusal_reply (codes "read/not-a-command") 0 1) (codes "{:refused :read/not-a-command :at 0 :basis 1}\n") refl refl;
+              says =
+                  line (refusal_reply (codes "read/not-a-command") 0 1) (codes "{:refused :read/not-a-command :at 0 :basis 1}\n") refl refl;
               commits = refl;
               stands = refl;
             },
             refl,
             (
               later,
-              record { place = 1; from = lit≤ tt; within = lit≤ tt; says = line (basis_reply 1) (codes "{:basis 1}\n") refl refl; commits = refl; stands = refl },
+              record {
+                place = 1;
+                from = lit≤ tt;
+                within = lit≤ tt;
+                says = line (basis_reply 1) (codes "{:basis 1}\n") refl refl;
+                commits = refl;
+                stands = refl;
+              },
               refl,
               refl,
             ),

@@ -11,7 +11,7 @@ use Rattle.talk_model.proofs.examples.a_talk_over_a_stopped_log.Goals as goal
 pub returns : goal.returns
 unfolding digits
 returns c =
-    let told : Standing = record { place = 1; window = whole; filters = []; told = true } in (
+    let told : Standing = record { place = 1; window = whole; filters = []; was_notified = true } in (
       told,
       inr (inr (inl (record {
         place = 1;
@@ -19,7 +19,7 @@ returns c =
         within = lit≤ tt;
         stops = refl;
         is_teller = refl;
-        not_told = refl;
+        not_notified = refl;
         reading = pos 2000;
         may_be = inr refl;
         entry = second_text;
@@ -56,7 +56,14 @@ returns c =
           refl,
           (
             told,
-            record { place = 1; from = lit≤ tt; within = lit≤ tt; says = line (basis_reply 1) (codes "{:basis 1}\n") refl refl; commits = refl; stands = refl },
+            record {
+              place = 1;
+              from = lit≤ tt;
+              within = lit≤ tt;
+              says = line (basis_reply 1) (codes "{:basis 1}\n") refl refl;
+              commits = refl;
+              stands = refl;
+            },
             refl,
             refl,
           ),

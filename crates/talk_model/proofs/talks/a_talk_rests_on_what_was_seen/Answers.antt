@@ -10,4 +10,5 @@ returns-clause-whole g c = λ s guard is_filter h stop teller before after talk 
 
 pub returns-clause-unfinished : goal.returns-clause-unfinished
 returns-clause-unfinished g c = λ s guard is_filter h stop teller before after talk x within told.
-    Prefixes-SeesAll before.place (basis h) (places_of talk) (commits_of (talk ++ x ∷ [])) (SeesAll-unfinished _ before after talk x within told)
+    Prefixes-SeesAll before.place (basis h) (places_of talk) (commits_of (talk ++ x ∷ []))
+    (SeesAll-unfinished _ before after talk x within told)

@@ -8,7 +8,8 @@ use Rattle.board_rule.specs.Calls.{view_of}
 use Rattle.test_board.specs.declared.book.Page.{Page}
 use Rattle.test_board.proofs.scenes.read.Goals as goal
 
-seen_in : (r : Result Page Memory) (l : List ℕ) (seen : List Code) → IfOk r (λ p. p.entries.items ≡ l) → seen ≡ codes coded_ℕ.code l → IfOk r (λ p. seen ≡ codes coded_ℕ.code p.entries.items)
+seen_in : (r : Result Page Memory) (l : List ℕ) (seen : List Code) → IfOk r (λ p. p.entries.items ≡ l) → seen ≡ codes coded_ℕ.code l
+    → IfOk r (λ p. seen ≡ codes coded_ℕ.code p.entries.items)
 seen_in (Ok p) l seen copy all = all ∙ ap (codes coded_ℕ.code) (sym copy)
 seen_in (Err e) l seen copy all = tt
 
@@ -16,4 +17,5 @@ pub returns-clause-seen : goal.returns-clause-seen
 returns-clause-seen g c =
     let t = c.count.ensures.counted in let has = c.begin-held.ensures.book.0 in
     seen_in c.of-page.result c.as_slice.result.now (view_of c.end.new.seat).seen c.of-page.ensures
-    (c.end.ensures.seen ∙ (ap (λ (z : View Code). z.seen) t.1 ∙ (t.4 (_, has) ∙ (ap entries_in has ∙ ap (codes coded_ℕ.code) (sym c.as_slice.ensures.value)))))
+    (c.end.ensures.seen
+    ∙ (ap (λ (z : View Code). z.seen) t.1 ∙ (t.4 (_, has) ∙ (ap entries_in has ∙ ap (codes coded_ℕ.code) (sym c.as_slice.ensures.value)))))

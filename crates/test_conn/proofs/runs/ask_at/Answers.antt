@@ -17,7 +17,8 @@ returns g c =
       length-set seats.items who new ∙ all.0,
       λ k seat at.
           elim (set_there seats.items who k new seat at) [
-            | inl here ↦ subst (λ (s : Seat). IsSession conn k s) here.1 (c.ask.ensures k (subst (λ (n : ℕ). IsSession conn n old) (sym here.0) own))
+            | inl here ↦
+                subst (λ (s : Seat). IsSession conn k s) here.1 (c.ask.ensures k (subst (λ (n : ℕ). IsSession conn n old) (sym here.0) own))
             | inr there ↦ all.1 k seat there
           ],
     )

@@ -1,6 +1,6 @@
 use Rattle.std.proofs.Common.{List, ℕ, sym, subst}
 use Rattle.fb_values.specs.declared.facts.Entry.{Entry}
-use Rattle.fb_view.specs.Kept.{Kept}
+use Rattle.fb_view.specs.SnapshotModel.{SnapshotModel}
 use Rattle.fb_roots.specs.Bases.{IsBaseOf}
 use Rattle.test_conn.proofs.runs.run.Goals as goal
 
@@ -12,7 +12,7 @@ pub merge_rest-requires-clause-base : goal.merge_rest-requires-clause-base
 merge_rest-requires-clause-base g c κs within =
     let base = c.in_ok-base.base in let made = c.in_ok-conn.ensures.worker in let core = c.in_ok-core.core in
     let own : IsBaseOf base core.snapshot.entries core.snapshot.covered =
-    subst (λ (k : Kept). IsBaseOf base k.entries k.covered) c.snapshot.ensures.snapshot c.in_ok-base.ensures.stand in
+    subst (λ (k : SnapshotModel). IsBaseOf base k.entries k.covered) c.snapshot.ensures.snapshot c.in_ok-base.ensures.stand in
     subst (λ (n : ℕ). IsBaseOf base c.in_ok-conn.field-0.worker.last.entries n) (sym made.2)
     (subst (λ (h : List Entry). IsBaseOf base h core.snapshot.covered) (sym made.4) own)
 

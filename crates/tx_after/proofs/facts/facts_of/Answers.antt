@@ -1,7 +1,7 @@
 use Rattle.std.proofs.Common.{◌≡◌, ◌∙◌, true, ap, sym, subst}
 use Rattle.fb_values.specs.declared.indexes.Order.TheVariants.{Eavt}
 use Rattle.fb_model.specs.History.{said}
-use Rattle.fb_facts.specs.Told.{is_of_entity, facts_of}
+use Rattle.fb_facts.specs.FactLists.{is_of_entity, facts_of}
 use Rattle.tx_after.specs.Triples.{triples_rise, with_changes}
 use Rattle.tx_after.proofs.Orders.{apart_at_t, triples_rise-filter}
 use Rattle.tx_after.proofs.WithChanges.{told-rises, told_with_changes, apart-from_triples, entity-IsOnTriples}
@@ -11,12 +11,14 @@ use Rattle.tx_after.proofs.facts.facts_of.Goals as goal
 pub merged-requires-clause-before : goal.merged-requires-clause-before
 merged-requires-clause-before g c =
     let h = g.F.Facts.history c.args.facts.now in
-    subst (λ l. triples_rise Eavt l ≡ true) (sym (c.as_slice.ensures ∙ c.in_ok-before.ensures)) (told-rises Eavt (is_of_entity c.args.e) (said h))
+    subst (λ l. triples_rise Eavt l ≡ true) (sym (c.as_slice.ensures ∙ c.in_ok-before.ensures))
+    (told-rises Eavt (is_of_entity c.args.e) (said h))
 
 pub merged-requires-clause-changes : goal.merged-requires-clause-changes
 merged-requires-clause-changes g c =
     subst (λ l. triples_rise Eavt l ≡ true) (sym c.part_of.ensures)
-    (triples_rise-filter Eavt (is_of_entity c.args.e) c.args.changes.now (apart_at_t Eavt c.requires.t c.args.changes.now c.requires.rising c.requires.of_t))
+    (triples_rise-filter Eavt (is_of_entity c.args.e) c.args.changes.now
+    (apart_at_t Eavt c.requires.t c.args.changes.now c.requires.rising c.requires.of_t))
 
 pub returns : goal.returns
 returns g c =

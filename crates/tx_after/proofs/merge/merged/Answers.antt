@@ -27,7 +27,10 @@ loop-old-preserved-in-Less c =
           ap (λ l. l ++ with_changes order bs (drop c.loop-old.new c.args.changes.now)) pushed
           ∙ append_assoc c.loop-old.after.items (b ∷ []) (with_changes order bs (drop c.loop-old.new c.args.changes.now))
           ∙ ap (λ l. c.loop-old.after.items ++ l)
-          (ap (λ l. b ∷ with_changes order bs l) new_is ∙ sym step ∙ ap (λ l. with_changes order l (new ∷ cs)) (sym old_is) ∙ ap (with_changes order (drop c.loop-old.old c.args.before.now)) (sym new_is))
+          (ap (λ l. b ∷ with_changes order bs l) new_is
+          ∙ sym step
+          ∙ ap (λ l. with_changes order l (new ∷ cs)) (sym old_is)
+          ∙ ap (with_changes order (drop c.loop-old.old c.args.before.now)) (sym new_is))
           ∙ c.loop-old.invariant.so_far;
       before_rises = (and_parts _ _ rise_b).1;
       changes_rise = c.loop-old.invariant.changes_rise;
@@ -49,7 +52,10 @@ loop-old-preserved-in-Equal c =
       new_in = omega arith;
       so_far =
           ap (λ l. c.loop-old.after.items ++ l)
-          (ap (with_changes order bs) new_is ∙ sym step ∙ ap (λ l. with_changes order l (new ∷ cs)) (sym old_is) ∙ ap (with_changes order (drop c.loop-old.old c.args.before.now)) (sym new_is))
+          (ap (with_changes order bs) new_is
+          ∙ sym step
+          ∙ ap (λ l. with_changes order l (new ∷ cs)) (sym old_is)
+          ∙ ap (with_changes order (drop c.loop-old.old c.args.before.now)) (sym new_is))
           ∙ c.loop-old.invariant.so_far;
       before_rises = (and_parts _ _ rise_b).1;
       changes_rise = c.loop-old.invariant.changes_rise;
@@ -76,7 +82,10 @@ loop-old-preserved c =
           ap (λ l. l ++ with_changes order (drop c.loop-old.old c.args.before.now) cs) c.in_ok-push_addition-in-Greater.ensures
           ∙ append_assoc c.loop-old.after.items one (with_changes order (drop c.loop-old.old c.args.before.now) cs)
           ∙ ap (λ l. c.loop-old.after.items ++ l)
-          (ap (λ l. one ++ with_changes order l cs) old_is ∙ sym step ∙ ap (λ l. with_changes order l (new ∷ cs)) (sym old_is) ∙ ap (with_changes order (drop c.loop-old.old c.args.before.now)) (sym new_is))
+          (ap (λ l. one ++ with_changes order l cs) old_is
+          ∙ sym step
+          ∙ ap (λ l. with_changes order l (new ∷ cs)) (sym old_is)
+          ∙ ap (with_changes order (drop c.loop-old.old c.args.before.now)) (sym new_is))
           ∙ c.loop-old.invariant.so_far;
       before_rises = c.loop-old.invariant.before_rises;
       changes_rise = (and_parts _ _ rise_c).1;
@@ -92,11 +101,14 @@ returns c =
     let bs = drop old before in
     let cs = drop new changes in
     let left : with_changes order bs cs ≡ bs ++ filter is_added cs = elim c.loop-old-test.branch [
-      | then-loop-old-test+else-new-changes w ↦ left_no_changes order bs cs (drop_end changes new (omega (arith, w.if-new-changes.false))) c.loop-old.invariant.before_rises
-      | else-loop-old-test w ↦ left_no_facts order bs cs (drop_end before old (omega (arith, w.loop-old-test.false))) c.loop-old.invariant.changes_rise
+      | then-loop-old-test+else-new-changes w ↦
+          left_no_changes order bs cs (drop_end changes new (omega (arith, w.if-new-changes.false))) c.loop-old.invariant.before_rises
+      | else-loop-old-test w ↦
+          left_no_facts order bs cs (drop_end before old (omega (arith, w.loop-old-test.false))) c.loop-old.invariant.changes_rise
     ] in
     c.in_ok-push_additions.ensures
-    ∙ ap (λ l. l ++ filter is_added (take (length changes - new) cs)) (c.in_ok-push_all.ensures ∙ ap (λ l. c.loop-old.after.items ++ l) (whole_rest before old))
+    ∙ ap (λ l. l ++ filter is_added (take (length changes - new) cs))
+    (c.in_ok-push_all.ensures ∙ ap (λ l. c.loop-old.after.items ++ l) (whole_rest before old))
     ∙ ap (λ l. (c.loop-old.after.items ++ bs) ++ filter is_added l) (whole_rest changes new)
     ∙ append_assoc c.loop-old.after.items bs (filter is_added cs)
     ∙ ap (λ l. c.loop-old.after.items ++ l) (sym left)

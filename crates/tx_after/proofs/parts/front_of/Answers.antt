@@ -17,4 +17,5 @@ returns-else-datoms-to c =
     record { within = c.loop-to.invariant.within; front = omega (arith, ended) }
 
 pub returns-after-loop-to : goal.returns-after-loop-to
-returns-after-loop-to c = record { within = c.loop-to.invariant.within; front = omega (arith, front_of-le-length c.args.e c.args.datoms.now) }
+returns-after-loop-to c =
+    record { within = c.loop-to.invariant.within; front = omega (arith, front_of-le-length c.args.e c.args.datoms.now) }

@@ -9,6 +9,7 @@ returns c =
     let changes = c.args.changes.now in
     let e = c.args.e in
     let rest = whole_rest changes c.place_of.result ∙ ap (λ n. drop n changes) c.place_of.ensures.place in
-    ap (λ n. take n (take (length changes - c.place_of.result) (drop c.place_of.result changes))) (c.front_of.ensures.front ∙ ap (front_of e) rest)
+    ap (λ n. take n (take (length changes - c.place_of.result) (drop c.place_of.result changes)))
+    (c.front_of.ensures.front ∙ ap (front_of e) rest)
     ∙ ap (take (front_of e (drop (place_of e changes) changes))) rest
     ∙ part-filter e changes c.requires

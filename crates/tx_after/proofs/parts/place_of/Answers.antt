@@ -3,7 +3,8 @@ use Rattle.tx_after.proofs.Searching.{entities-rise, place_behind, place_upto, p
 use Rattle.tx_after.proofs.parts.place_of.Goals as goal
 
 pub loop-from-init : goal.loop-from-init
-loop-from-init c = record { ends = omega arith; within = omega arith; behind = omega arith; upto = place_of-le-length c.args.e c.args.changes.now }
+loop-from-init c =
+    record { ends = omega arith; within = omega arith; behind = omega arith; upto = place_of-le-length c.args.e c.args.changes.now }
 
 pub loop-from-preserved-then-changes-middle : goal.loop-from-preserved-then-changes-middle
 loop-from-preserved-then-changes-middle c =
@@ -12,7 +13,11 @@ loop-from-preserved-then-changes-middle c =
     record {
       ends = omega arith;
       within = omega arith;
-      behind = omega (arith, place_behind c.args.e c.args.changes.now middle at.result (entities-rise c.args.changes.now c.requires) (omega arith) c.if-changes-middle.true);
+      behind = omega (
+        arith,
+        place_behind c.args.e c.args.changes.now middle at.result (entities-rise c.args.changes.now c.requires)
+            (omega arith) c.if-changes-middle.true,
+      );
       upto = omega arith;
     }
 

@@ -6,7 +6,8 @@ use Rattle.tx_after.proofs.promises.gives_one_value.Goals as goal
 
 pub are_of_other_entities-requires : goal.are_of_other_entities-requires
 are_of_other_entities-requires g c =
-    subst (λ l. entities_rise l ≡ true) (sym (c.deref.ensures.value ∙ c.in_ok-under.ensures)) (under-rises (g.F.Facts.history c.args.facts.now) c.args.changes.now c.args.a)
+    subst (λ l. entities_rise l ≡ true) (sym (c.deref.ensures.value ∙ c.in_ok-under.ensures))
+    (under-rises (g.F.Facts.history c.args.facts.now) c.args.changes.now c.args.a)
 
 pub returns : goal.returns
 returns g c =

@@ -6,5 +6,6 @@ use Rattle.tx_changes.proofs.collect.push_replaced.Goals as goal
 pub returns-then-is_new-clause-askings : goal.returns-then-is_new-clause-askings
 returns-then-is_new-clause-askings g c = λ knows.
     let new = ap (λ n. nat_lt n (user_number c.args.addition.now.e)) (sym c.requires) ∙ sym c.is_new.ensures ∙ c.if-is_new.true in
-    new_replaces_nothing c.told_lists_are_the_rising_ones.ensures (g.F.Facts.history c.args.facts.now) c.args.schema.now c.args.addition.now c.new_users_have_no_facts.ensures.no_datom
+    new_replaces_nothing c.the_lists_are_the_rising_ones.ensures
+    (g.F.Facts.history c.args.facts.now) c.args.schema.now c.args.addition.now c.new_users_have_no_facts.ensures.no_datom
     new c.args.askings.now.items

@@ -12,11 +12,15 @@ loop-addition-preserved g c =
     let known = c.loop-addition.invariant.known in
     record {
       known = ends.known known;
-      so_far = piece_more (flat_map piece) piece added c.loop-addition.addition-index c.loop-addition.askings.items (flat_map piece added) c.loop-addition.invariant.so_far (λ x xs. refl) c.addition-item.result c.loop-addition-test.true c.addition-item.is c.push_replaced.new.askings.items (ends.askings known);
+      so_far =
+          piece_more (flat_map piece) piece added c.loop-addition.addition-index c.loop-addition.askings.items
+          (flat_map piece added) c.loop-addition.invariant.so_far (λ x xs. refl) c.addition-item.result c.loop-addition-test.true
+          c.addition-item.is c.push_replaced.new.askings.items (ends.askings known);
     }
 
 pub returns : goal.returns
 returns g c =
     let piece = replaced_of (g.F.Facts.history c.args.facts.now) c.args.schema.now in
     let added = c.args.added.now in
-    pieces_all (flat_map piece) piece added c.loop-addition.addition-index c.loop-addition.askings.items (flat_map piece added) c.loop-addition.invariant.so_far refl c.loop-addition-test.false
+    pieces_all (flat_map piece) piece added c.loop-addition.addition-index c.loop-addition.askings.items
+    (flat_map piece added) c.loop-addition.invariant.so_far refl c.loop-addition-test.false

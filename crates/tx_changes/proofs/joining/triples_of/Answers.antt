@@ -17,7 +17,9 @@ loop-triple-init g c =
     record {
       so_far = ap (λ (ts : List Triple). ts ++ map (triple_from h) c.into_iter-triple-iterator.result) c.in_ok-triples.ensures.items
           ∙ ap (λ (es : List ((ℕ × ℕ × Value) × Marks)). map (triple_from h) es) start;
-      held = subst (λ (es : List ((ℕ × ℕ × Value) × Marks)). All (IsHeld h) es) (sym start) (entries_held h c.args.marks c.len.ensures.ordered c.requires);
+      held =
+          subst (λ (es : List ((ℕ × ℕ × Value) × Marks)). All (IsHeld h) es) (sym start)
+          (entries_held h c.args.marks c.len.ensures.ordered c.requires);
     }
 
 pub triple_of-requires-clause-held : goal.triple_of-requires-clause-held
@@ -30,8 +32,12 @@ pub loop-triple-preserved : goal.loop-triple-preserved
 loop-triple-preserved g c =
     let h = g.F.Facts.history c.args.facts.now in
     record {
-      so_far = next_triple h c.loop-triple.triples.items (map (triple_from h) c.args.marks.entries) (c.in-Some.triple, c.in-Some.marks) c.loop-triple.triple-iterator c.next.new.self
-          c.triple_of.result c.push.new.self.items c.in-Some.ensures.steps c.triple_of.ensures c.in_ok-push.ensures.items c.loop-triple.invariant.so_far;
+      so_far = next_triple h c.loop-triple.triples.items (map (triple_from h) c.args.marks.entries) (
+        c.in-Some.triple,
+        c.in-Some.marks,
+      ) c.loop-triple.triple-iterator c.next.new.self
+          c.triple_of.result c.push.new.self.items c.in-Some.ensures.steps c.triple_of.ensures c.in_ok-push.ensures.items
+          c.loop-triple.invariant.so_far;
       held = All-tail (IsHeld h) (c.in-Some.triple, c.in-Some.marks) c.next.new.self
           (subst (λ (es : List ((ℕ × ℕ × Value) × Marks)). All (IsHeld h) es) c.in-Some.ensures.steps c.loop-triple.invariant.held);
     }

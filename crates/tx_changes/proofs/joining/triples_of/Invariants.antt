@@ -5,6 +5,7 @@ use Rattle.tx_changes.proofs.joining.triples_of.Given as goal
 
 abbrev pub invariant-loop-triple : goal.invariant-loop-triple
 invariant-loop-triple g l = record {
-  so_far : l.triples.items ++ map (triple_from (g.F.Facts.history l.facts)) l.triple-iterator ≡ map (triple_from (g.F.Facts.history l.facts)) l.fn.marks.entries;
+  so_far : l.triples.items ++ map (triple_from (g.F.Facts.history l.facts)) l.triple-iterator
+      ≡ map (triple_from (g.F.Facts.history l.facts)) l.fn.marks.entries;
   held : All (IsHeld (g.F.Facts.history l.facts)) l.triple-iterator;
 }

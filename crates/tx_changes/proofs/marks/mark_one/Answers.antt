@@ -12,5 +12,6 @@ returns c = λ e a v.
     let known : c.or_insert-known.result.now ≡ marks_at c.args.marks.now asking.e asking.a asking.v = grind (arith, common_steps) in
     let written : c.marks-3-1.given.0 ≡ map_with_value c.in_ok-marks.field-0 c.with.result = search rules in
     ap (λ m. marks_at m e a v) written
-    ∙ mark_is c.args.marks.now (map_with_value c.in_ok-marks.field-0 c.with.result) c.args.way asking c.with.result (c.in_ok-marks.ensures.update.0 c.with.result)
+    ∙ mark_is c.args.marks.now (map_with_value c.in_ok-marks.field-0 c.with.result) c.args.way asking c.with.result
+    (c.in_ok-marks.ensures.update.0 c.with.result)
     (c.with.ensures ∙ ap (λ (m : Marks). marked c.args.way m asking.place) known) e a v

@@ -7,5 +7,6 @@ use Rattle.tx_changes.proofs.recording.changes.Goals as goal
 pub returns : goal.returns
 returns c = λ tx built are t_is.
     c.of.ensures ∙ c.in_ok-changes.ensures
-    ∙ changes_are tx.db tx.asks tx.names c.args.triples.now (subst (λ (t : Transaction). AreTriples t c.args.triples.now) built are) c.args.t t_is
+    ∙ changes_are tx.db tx.asks tx.names c.args.triples.now
+    (subst (λ (t : Transaction). AreTriples t c.args.triples.now) built are) c.args.t t_is
     ∙ sym (ap (λ (t : Transaction). t.changes) built)

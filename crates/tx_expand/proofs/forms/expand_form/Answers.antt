@@ -4,8 +4,8 @@ use Rattle.edn_form.specs.View.{form_of}
 use Rattle.tx_model.specs.Asks.{Ask}
 use Rattle.tx_asks.specs.declared.asks.LookupRef.{LookupRef}
 use Rattle.tx_expand.specs.declared.raw.RawAsk.{RawAsk}
-use Rattle.tx_expand.specs.Seen.{BeginWith, raw_seen}
-use Rattle.tx_expand.specs.Numbered.{form_told}
+use Rattle.tx_expand.specs.View.{BeginWith, model_ask}
+use Rattle.tx_expand.specs.Numbered.{walk_form}
 use Rattle.tx_expand.specs.Faults.{form_faults, ref_faults, ask_read, is_kept}
 use Rattle.tx_expand.proofs.LookupLists.{begin_with_themselves, judged_behind, no_more_judged}
 use Rattle.tx_expand.proofs.Results.{IfOk-always}
@@ -16,35 +16,37 @@ judge_lookups-requires c =
     let refs = c.form_asks.new.out.lookups.items in
     let fewer : length c.args.judged.now.items ≤ length refs =
     no_more_judged c.args.schema.now c.args.out.now.lookups.items refs c.args.judged.now.items c.requires.judged
-    (c.in_ok-form_asks.ensures.told.kept refs (begin_with_themselves refs)) in
+    (c.in_ok-form_asks.ensures.walks.kept refs (begin_with_themselves refs)) in
     omega (arith, fewer, ap length c.as_slice.ensures.value)
 
 pub returns-clause-faults : goal.returns-clause-faults
 returns-clause-faults c =
     let facts = c.args.schema.now in
     let refs = c.form_asks.new.out.lookups.items in
-    let asks = (form_told facts c.args.out.now.next (form_of c.args.f.now)).asks in
+    let asks = (walk_form facts c.args.out.now.next (form_of c.args.f.now)).asks in
     let judged = c.args.judged.now.items in
-    let asks_are : map (raw_seen refs) c.as_slice-2.result.now ≡ asks =
-    ap (map (raw_seen refs)) c.as_slice-2.ensures.value
-    ∙ c.in_ok-form_asks.ensures.told.asks refs (begin_with_themselves refs)
-    ∙ ap (λ (raws : List RawAsk). map (raw_seen refs) raws ++ asks) c.clear.ensures.items in
+    let asks_are : map (model_ask refs) c.as_slice-2.result.now ≡ asks =
+    ap (map (model_ask refs)) c.as_slice-2.ensures.value
+    ∙ c.in_ok-form_asks.ensures.walks.asks refs (begin_with_themselves refs)
+    ∙ ap (λ (raws : List RawAsk). map (model_ask refs) raws ++ asks) c.clear.ensures.items in
     let judged_are : c.judge_lookups.new.judged.items ≡ map (ref_faults facts) refs =
     c.in_ok-judge_lookups.ensures
     ∙ ap (λ (xs : List LookupRef). judged ++ map (ref_faults facts) (drop (length judged) xs)) c.as_slice.ensures.value
-    ∙ judged_behind facts c.args.out.now.lookups.items refs judged c.requires.judged (c.in_ok-form_asks.ensures.told.kept refs (begin_with_themselves refs)) in
+    ∙ judged_behind facts c.args.out.now.lookups.items refs judged c.requires.judged
+    (c.in_ok-form_asks.ensures.walks.kept refs (begin_with_themselves refs)) in
     subst (λ (found : List Ask). IfOk c.judge_all.result (λ form. form.faults ≡ form_faults facts found)) asks_are
     (c.judge_all.ensures.faults refs (c.deref.ensures.value ∙ judged_are))
 
 pub returns-clause-asks : goal.returns-clause-asks
 returns-clause-asks c = λ all begin.
     let facts = c.args.schema.now in
-    let asks = (form_told facts c.args.out.now.next (form_of c.args.f.now)).asks in
-    let asks_are : map (raw_seen all) c.as_slice-2.result.now ≡ asks =
-    ap (map (raw_seen all)) c.as_slice-2.ensures.value
-    ∙ c.in_ok-form_asks.ensures.told.asks all begin
-    ∙ ap (λ (raws : List RawAsk). map (raw_seen all) raws ++ asks) c.clear.ensures.items in
-    subst (λ (found : List Ask). IfOk c.judge_all.result (λ form. map (ask_read all) form.asks.items ≡ filter (is_kept facts) found)) asks_are
+    let asks = (walk_form facts c.args.out.now.next (form_of c.args.f.now)).asks in
+    let asks_are : map (model_ask all) c.as_slice-2.result.now ≡ asks =
+    ap (map (model_ask all)) c.as_slice-2.ensures.value
+    ∙ c.in_ok-form_asks.ensures.walks.asks all begin
+    ∙ ap (λ (raws : List RawAsk). map (model_ask all) raws ++ asks) c.clear.ensures.items in
+    subst (λ (found : List Ask). IfOk c.judge_all.result (λ form. map (ask_read all) form.asks.items ≡ filter (is_kept facts) found))
+    asks_are
     (c.judge_all.ensures.asks all)
 
 pub returns-clause-judged : goal.returns-clause-judged
@@ -55,11 +57,12 @@ returns-clause-judged c =
     IfOk-always (c.judge_lookups.new.judged.items ≡ map (ref_faults facts) refs)
     (c.in_ok-judge_lookups.ensures
     ∙ ap (λ (xs : List LookupRef). judged ++ map (ref_faults facts) (drop (length judged) xs)) c.as_slice.ensures.value
-    ∙ judged_behind facts c.args.out.now.lookups.items refs judged c.requires.judged (c.in_ok-form_asks.ensures.told.kept refs (begin_with_themselves refs)))
+    ∙ judged_behind facts c.args.out.now.lookups.items refs judged c.requires.judged
+    (c.in_ok-form_asks.ensures.walks.kept refs (begin_with_themselves refs)))
     c.judge_all.result
 
 pub returns-clause-next : goal.returns-clause-next
 returns-clause-next c =
     let refs = c.form_asks.new.out.lookups.items in
-    IfOk-always (c.form_asks.new.out.next ≡ (form_told c.args.schema.now c.args.out.now.next (form_of c.args.f.now)).next)
-    (c.in_ok-form_asks.ensures.told.next refs (begin_with_themselves refs)) c.judge_all.result
+    IfOk-always (c.form_asks.new.out.next ≡ (walk_form c.args.schema.now c.args.out.now.next (form_of c.args.f.now)).next)
+    (c.in_ok-form_asks.ensures.walks.next refs (begin_with_themselves refs)) c.judge_all.result

@@ -11,9 +11,10 @@ use Rattle.tx_expand.proofs.laws.attributes_have_their_names.Goals as goal
 pub returns-clause-history : goal.returns-clause-history
 returns-clause-history c = λ h lawful.
     let one : IsTrue (is_one (facts h) ident) =
-    subst (λ o. IsTrue (option_map_or (λ attribute. not attribute.many) o false)) (sym (c.attributes_stay_attributes.ensures.built_in ident (search rules) h lawful)) (search rules) in
+    subst (λ o. IsTrue (option_map_or (λ attribute. not attribute.many) o false))
+    (sym (c.attributes_stay_attributes.ensures.built_in ident (search rules) h lawful)) (search rules) in
     own_names h (facts h)
-    (λ e v told. subst IsTrue (sym (c.facts_are_what_holds.ensures h e ident v ∙ told)) (search rules))
+    (λ e v visited. subst IsTrue (sym (c.facts_are_what_holds.ensures h e ident v ∙ visited)) (search rules))
     (λ e v w has has_too. c.one_value_and_one_holder.ensures.one_value h e ident v w lawful one has has_too)
 
 pub returns-clause-schema : goal.returns-clause-schema

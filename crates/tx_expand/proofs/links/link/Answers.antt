@@ -1,6 +1,6 @@
 use Rattle.std.proofs.Common.{◌≡◌, ◌++◌, subst}
 use Rattle.std.specs.Prelude.{IfOk}
-use Rattle.tx_expand.specs.Seen.{out_seen}
+use Rattle.tx_expand.specs.View.{model_asks}
 use Rattle.tx_expand.proofs.links.link.Goals as goal
 
 pub push-requires-clause-raw_known : goal.push-requires-clause-raw_known
@@ -8,4 +8,5 @@ push-requires-clause-raw_known c = c.in_ok-raw.ensures.known c.args.schema.now c
 
 pub returns-clause-asks : goal.returns-clause-asks
 returns-clause-asks c = λ all.
-    subst (λ asks. IfOk c.push.result (λ _. out_seen all c.push.new.out ≡ out_seen all c.args.out.now ++ asks)) (c.in_ok-raw.ensures.ask all) (c.push.ensures.asks all)
+    subst (λ asks. IfOk c.push.result (λ _. model_asks all c.push.new.out ≡ model_asks all c.args.out.now ++ asks))
+    (c.in_ok-raw.ensures.ask all) (c.push.ensures.asks all)

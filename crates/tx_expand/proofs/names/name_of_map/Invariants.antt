@@ -2,7 +2,7 @@ use Rattle.std.proofs.Common.{◌≡◌, List, drop}
 use Rattle.edn_model.specs.Form as edn
 use Rattle.edn_form.specs.View.{pairs_of, entries}
 use Rattle.tx_asks.specs.declared.asks.LookupRef.{LookupRef}
-use Rattle.tx_expand.specs.Seen.{BeginWith}
+use Rattle.tx_expand.specs.View.{BeginWith}
 use Rattle.tx_expand.specs.Numbered.{name_at}
 use Rattle.tx_expand.proofs.names.name_of_map.Given as goal
 

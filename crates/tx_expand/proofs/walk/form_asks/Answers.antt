@@ -8,32 +8,34 @@ use Rattle.tx_model.specs.Asks.{meets}
 use Rattle.tx_model.specs.Walk.{verb_asks}
 use Rattle.tx_asks.specs.declared.asks.LookupRef.{LookupRef}
 use Rattle.tx_expand.specs.declared.raw.RawAsk.{RawAsk}
-use Rattle.tx_expand.specs.Seen.{BeginWith, name_seen, raw_seen, out_seen}
-use Rattle.tx_expand.specs.Numbered.{told, map_told, form_told, name_at, behind}
-use Rattle.tx_expand.specs.Tells.{Tells}
+use Rattle.tx_expand.specs.View.{BeginWith, model_name, model_ask, model_asks}
+use Rattle.tx_expand.specs.Numbered.{visited, walk_map, walk_form, name_at, behind}
+use Rattle.tx_expand.specs.Walks.{Walks}
 use Rattle.tx_expand.proofs.LookupLists.{begin_same}
 use Rattle.tx_expand.proofs.Results.{IfOk-map}
 use Rattle.tx_expand.proofs.Telling.{tells_then, call_same}
 use Rattle.tx_expand.proofs.walk.form_asks.Goals as goal
 
-pub returns-in-Vector-clause-told : goal.returns-in-Vector-clause-told
-returns-in-Vector-clause-told c =
+pub returns-in-Vector-clause-walks : goal.returns-in-Vector-clause-walks
+returns-in-Vector-clause-walks c =
     let facts = c.args.schema.now in
     let n = c.args.out.now.next in
     call_same c.list_asks.result c.args.out.now c.list_asks.new.out
-    (λ _. told (verb_asks facts (edn.items (edn.forms (forms_of (members c.in-Vector.items))))) n) (λ _. form_told facts n (form_of c.args.f.now))
-    (λ all. ap (form_told facts n) (sym (ap form_of c.in-Vector.is ∙ form_of-Vector c.in-Vector.items))) c.list_asks.ensures.told
+    (λ _. visited (verb_asks facts (edn.items (edn.forms (forms_of (members c.in-Vector.items))))) n)
+    (λ _. walk_form facts n (form_of c.args.f.now))
+    (λ all. ap (walk_form facts n) (sym (ap form_of c.in-Vector.is ∙ form_of-Vector c.in-Vector.items))) c.list_asks.ensures.walks
 
-pub returns-in-List-clause-told : goal.returns-in-List-clause-told
-returns-in-List-clause-told c =
+pub returns-in-List-clause-walks : goal.returns-in-List-clause-walks
+returns-in-List-clause-walks c =
     let facts = c.args.schema.now in
     let n = c.args.out.now.next in
     call_same c.list_asks-in-List.result c.args.out.now c.list_asks-in-List.new.out
-    (λ _. told (verb_asks facts (edn.items (edn.forms (forms_of (members c.in-List.items))))) n) (λ _. form_told facts n (form_of c.args.f.now))
-    (λ all. ap (form_told facts n) (sym (ap form_of c.in-List.is ∙ form_of-List c.in-List.items))) c.list_asks-in-List.ensures.told
+    (λ _. visited (verb_asks facts (edn.items (edn.forms (forms_of (members c.in-List.items))))) n)
+    (λ _. walk_form facts n (form_of c.args.f.now))
+    (λ all. ap (walk_form facts n) (sym (ap form_of c.in-List.is ∙ form_of-List c.in-List.items))) c.list_asks-in-List.ensures.walks
 
-pub returns-in_ok-push-in-Map-clause-told : goal.returns-in_ok-push-in-Map-clause-told
-returns-in_ok-push-in-Map-clause-told c =
+pub returns-in_ok-push-in-Map-clause-walks : goal.returns-in_ok-push-in-Map-clause-walks
+returns-in_ok-push-in-Map-clause-walks c =
     let facts = c.args.schema.now in
     let old = c.args.out.now in
     let n = old.next in
@@ -45,22 +47,26 @@ returns-in_ok-push-in-Map-clause-told c =
     let counted : pushed.next ≡ behind (name_at n ps) n = c.in_ok-push-in-Map.ensures.next ∙ c.in_ok-name-in-Map.ensures.next in
     let entered : (all : List LookupRef) → BeginWith pushed.lookups.items all → BeginWith c.enter.new.out.lookups.items all =
     λ all begin. begin_same c.enter.new.out.lookups pushed.lookups all c.in_ok-push-in-Map.ensures.lookups begin in
-    let first : Tells old pushed (λ _. told (meets (name_at n ps) ∷ []) (behind (name_at n ps) n)) =
+    let first : Walks old pushed (λ _. visited (meets (name_at n ps) ∷ []) (behind (name_at n ps) n)) =
     record {
       kept = λ all begin. c.in_ok-name-in-Map.ensures.kept all (entered all begin);
       asks = λ all begin.
           c.in_ok-push-in-Map.ensures.asks all
-          ∙ ap (λ (raws : Vec RawAsk Global). map (raw_seen all) raws.items ++ meets (name_seen all name) ∷ []) c.in_ok-name-in-Map.ensures.raws
-          ∙ ap (λ s. out_seen all old ++ meets s ∷ []) (c.in_ok-name-in-Map.ensures.name all (entered all begin));
+          ∙ ap (λ (raws : Vec RawAsk Global). map (model_ask all) raws.items ++ meets (model_name all name) ∷ [])
+          c.in_ok-name-in-Map.ensures.raws
+          ∙ ap (λ s. model_asks all old ++ meets s ∷ []) (c.in_ok-name-in-Map.ensures.name all (entered all begin));
       next = λ all begin. counted;
     } in
-    IfOk-map (λ _. Tells pushed new (λ all. map_told facts (name_seen all name) pushed.next ps)) (λ _. Tells old new (λ _. form_told facts n (form_of c.args.f.now)))
+    IfOk-map (λ _. Walks pushed new (λ all. walk_map facts (model_name all name) pushed.next ps))
+    (λ _. Walks old new (λ _. walk_form facts n (form_of c.args.f.now)))
     (λ _.
-    tells_then old pushed new (λ _. told (meets (name_at n ps) ∷ []) (behind (name_at n ps) n)) (λ all. map_told facts (name_seen all name) pushed.next ps)
-    (λ _. form_told facts n (form_of c.args.f.now))
+    tells_then old pushed new (λ _. visited (meets (name_at n ps) ∷ []) (behind (name_at n ps) n))
+    (λ all. walk_map facts (model_name all name) pushed.next ps)
+    (λ _. walk_form facts n (form_of c.args.f.now))
     (λ all begin.
-    ap (λ s. told (meets (name_at n ps) ∷ (map_told facts s pushed.next ps).asks) (map_told facts s pushed.next ps).next) (c.in_ok-name-in-Map.ensures.name all (entered all begin))
-    ∙ ap (λ m. told (meets (name_at n ps) ∷ (map_told facts (name_at n ps) m ps).asks) (map_told facts (name_at n ps) m ps).next) counted
-    ∙ ap (form_told facts n) (sym is))
+    ap (λ s. visited (meets (name_at n ps) ∷ (walk_map facts s pushed.next ps).asks) (walk_map facts s pushed.next ps).next)
+    (c.in_ok-name-in-Map.ensures.name all (entered all begin))
+    ∙ ap (λ m. visited (meets (name_at n ps) ∷ (walk_map facts (name_at n ps) m ps).asks) (walk_map facts (name_at n ps) m ps).next) counted
+    ∙ ap (walk_form facts n) (sym is))
     first)
-    c.map_asks.result c.map_asks.ensures.told
+    c.map_asks.result c.map_asks.ensures.walks

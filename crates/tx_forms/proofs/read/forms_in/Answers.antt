@@ -6,8 +6,10 @@ use Rattle.tx_forms.proofs.read.forms_in.Goals as goal
 
 pub returns-in-Vector : goal.returns-in-Vector
 returns-in-Vector c =
-    ap (λ fs. Some (forms_of fs)) c.as_slice.ensures ∙ sym (ap (λ f. transaction_forms (form_of f)) c.in-Vector.is ∙ forms_of_vector c.in-Vector.items)
+    ap (λ fs. Some (forms_of fs)) c.as_slice.ensures
+    ∙ sym (ap (λ f. transaction_forms (form_of f)) c.in-Vector.is ∙ forms_of_vector c.in-Vector.items)
 
 pub returns-in-List : goal.returns-in-List
 returns-in-List c =
-    ap (λ fs. Some (forms_of fs)) c.as_slice-in-List.ensures ∙ sym (ap (λ f. transaction_forms (form_of f)) c.in-List.is ∙ forms_of_list c.in-List.items)
+    ap (λ fs. Some (forms_of fs)) c.as_slice-in-List.ensures
+    ∙ sym (ap (λ f. transaction_forms (form_of f)) c.in-List.is ∙ forms_of_list c.in-List.items)

@@ -14,7 +14,9 @@ loop-i-preserved g c =
     let first = drop_before ds i c.index-datoms-i.result (omega arith) c.loop-i.invariant.in_range c.index-datoms-i.is in
     record {
       in_range = omega (arith, c.loop-i.invariant.in_range);
-      has = subst (λ (l : List Datom). HasAltered c.alter.new.map (facts h) (after h ds) l) (sym first) (c.in_ok-alter.ensures (drop i ds) c.loop-i.invariant.has);
+      has =
+          subst (λ (l : List Datom). HasAltered c.alter.new.map (facts h) (after h ds) l) (sym first)
+          (c.in_ok-alter.ensures (drop i ds) c.loop-i.invariant.has);
     }
 
 pub returns : goal.returns

@@ -13,5 +13,7 @@ returns g c =
     let one = c.is_one_value-one.ensures ∙ one_from _ now e c.in_ok-found.ensures.attribute in
     let unique = c.has_one_holder-unique.ensures ∙ unique_from _ now e c.in_ok-found.ensures.attribute in
     made-same _ _ _ _ _ _ _ _ _ _ one unique c.in_ok-found.ensures.whole
-    (c.in_ok-keeps_values.ensures ∙ keeps-same _ _ (gives_one_value now e) _ _ (c.is_one.ensures ∙ one_stands schema h e c.requires.stands) one)
-    (c.in_ok-keeps_holders.ensures ∙ keeps-same _ _ (gives_one_holder now e) _ _ (c.is_unique.ensures ∙ unique_stands schema h e c.requires.stands) unique)
+    (c.in_ok-keeps_values.ensures
+    ∙ keeps-same _ _ (gives_one_value now e) _ _ (c.is_one.ensures ∙ one_stands schema h e c.requires.stands) one)
+    (c.in_ok-keeps_holders.ensures
+    ∙ keeps-same _ _ (gives_one_holder now e) _ _ (c.is_unique.ensures ∙ unique_stands schema h e c.requires.stands) unique)

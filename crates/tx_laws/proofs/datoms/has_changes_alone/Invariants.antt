@@ -5,4 +5,10 @@ use Rattle.fb_model.specs.Facts.{holds}
 use Rattle.tx_laws.proofs.datoms.has_changes_alone.Given as goal
 
 abbrev pub invariant-loop-d : goal.invariant-loop-d
-invariant-loop-d g l = list_all (λ (d : Datom). cond d.added (not (holds (g.F.Facts.history l.facts) d.e d.a d.v)) (holds (g.F.Facts.history l.facts) d.e d.a d.v)) (drop l.d-index l.datoms) ≡ list_all (λ (d : Datom). cond d.added (not (holds (g.F.Facts.history l.facts) d.e d.a d.v)) (holds (g.F.Facts.history l.facts) d.e d.a d.v)) l.datoms
+invariant-loop-d g l =
+    list_all
+    (λ (d : Datom). cond d.added (not (holds (g.F.Facts.history l.facts) d.e d.a d.v)) (holds (g.F.Facts.history l.facts) d.e d.a d.v))
+    (drop l.d-index l.datoms)
+    ≡ list_all
+    (λ (d : Datom). cond d.added (not (holds (g.F.Facts.history l.facts) d.e d.a d.v)) (holds (g.F.Facts.history l.facts) d.e d.a d.v))
+    l.datoms

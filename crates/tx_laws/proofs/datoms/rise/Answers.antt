@@ -29,4 +29,6 @@ loop-i-preserved c =
 
 pub returns : goal.returns
 returns c =
-    sym (one_rises Eavt (drop (c.loop-i.i - 1) c.args.datoms.now) (omega (arith, length-drop (c.loop-i.i - 1) c.args.datoms.now, c.loop-i-test.false))) ∙ c.loop-i.invariant.left
+    sym (one_rises Eavt (drop (c.loop-i.i - 1) c.args.datoms.now)
+    (omega (arith, length-drop (c.loop-i.i - 1) c.args.datoms.now, c.loop-i-test.false)))
+    ∙ c.loop-i.invariant.left

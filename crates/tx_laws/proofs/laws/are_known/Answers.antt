@@ -7,5 +7,7 @@ pub returns-then-are_known : goal.returns-then-are_known
 returns-then-are_known g c =
     let h = g.F.Facts.history c.args.facts.now in
     let entry = c.args.entry.now in
-    c.are_installed.ensures ∙ ap (are_installed c.args.schema.now) c.as_slice.ensures ∙ installed-same c.args.schema.now h c.requires entry.datoms
+    c.are_installed.ensures
+    ∙ ap (are_installed c.args.schema.now) c.as_slice.ensures
+    ∙ installed-same c.args.schema.now h c.requires entry.datoms
     ∙ sym (ap (λ b. b && has_installed_attributes h entry) (sym c.in_ok-are_known.ensures ∙ c.if-are_known.true))

@@ -12,7 +12,10 @@ returns-then-not-are_typed g c =
     let one = sym c.has_next_t.ensures ∙ c.if-not-has_next_t.false in
     let two = sym c.has_later_instant.ensures ∙ c.if-not-has_later_instant.false in
     let three = sym c.in_ok-are_known.ensures ∙ c.if-not-are_known.false in
-    let four = sym (ap (are_typed c.args.schema.now) c.as_slice.ensures ∙ typed-same c.args.schema.now h c.requires.stands c.args.entry.now.datoms) ∙ sym c.are_typed.ensures ∙ c.if-not-are_typed.true in
+    let four =
+    sym (ap (are_typed c.args.schema.now) c.as_slice.ensures ∙ typed-same c.args.schema.now h c.requires.stands c.args.entry.now.datoms)
+    ∙ sym c.are_typed.ensures
+    ∙ c.if-not-are_typed.true in
     fourth h c.args.entry.now one two three four
 
 pub returns-then-not-has_datoms_in_order : goal.returns-then-not-has_datoms_in_order
@@ -21,7 +24,10 @@ returns-then-not-has_datoms_in_order g c =
     let one = sym c.has_next_t.ensures ∙ c.if-not-has_next_t.false in
     let two = sym c.has_later_instant.ensures ∙ c.if-not-has_later_instant.false in
     let three = sym c.in_ok-are_known.ensures ∙ c.if-not-are_known.false in
-    let four = sym (ap (are_typed c.args.schema.now) c.as_slice.ensures ∙ typed-same c.args.schema.now h c.requires.stands c.args.entry.now.datoms) ∙ sym c.are_typed.ensures ∙ c.if-not-are_typed.false in
+    let four =
+    sym (ap (are_typed c.args.schema.now) c.as_slice.ensures ∙ typed-same c.args.schema.now h c.requires.stands c.args.entry.now.datoms)
+    ∙ sym c.are_typed.ensures
+    ∙ c.if-not-are_typed.false in
     let five = sym (c.has_datoms_in_order.ensures h) ∙ c.if-not-has_datoms_in_order.true in
     fifth h c.args.entry.now one two three four five
 
@@ -37,6 +43,10 @@ returns g c =
     let one = sym c.has_next_t.ensures ∙ c.if-not-has_next_t.false in
     let two = sym c.has_later_instant.ensures ∙ c.if-not-has_later_instant.false in
     let three = sym c.in_ok-are_known.ensures ∙ c.if-not-are_known.false in
-    let four = sym (ap (are_typed c.args.schema.now) c.as_slice.ensures ∙ typed-same c.args.schema.now h c.requires.stands c.args.entry.now.datoms) ∙ sym c.are_typed.ensures ∙ c.if-not-are_typed.false in
+    let four =
+    sym (ap (are_typed c.args.schema.now) c.as_slice.ensures ∙ typed-same c.args.schema.now h c.requires.stands c.args.entry.now.datoms)
+    ∙ sym c.are_typed.ensures
+    ∙ c.if-not-are_typed.false in
     let five = sym (c.has_datoms_in_order.ensures h) ∙ c.if-not-has_datoms_in_order.false in
-    IfOk-map _ _ (λ law same. among_later h c.args.entry.now law one two three four five same) c.lawful_in_order.result c.lawful_in_order.ensures
+    IfOk-map _ _
+    (λ law same. among_later h c.args.entry.now law one two three four five same) c.lawful_in_order.result c.lawful_in_order.ensures

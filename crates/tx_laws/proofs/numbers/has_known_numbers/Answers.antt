@@ -11,7 +11,10 @@ returns g c =
     let h = g.F.Facts.history c.args.facts.now in
     let entry = c.args.entry.now in
     let ds = entry.datoms in
-    let users = c.in_ok-users.ensures ∙ ap (λ l. model.users_behind l l c.issued.result) c.as_slice-datoms.ensures ∙ ap (model.users_behind ds ds) c.issued.ensures in
+    let users =
+    c.in_ok-users.ensures
+    ∙ ap (λ l. model.users_behind l l c.issued.result) c.as_slice-datoms.ensures
+    ∙ ap (model.users_behind ds ds) c.issued.ensures in
     c.are_known.ensures
     ∙ ap (λ l. list_all (is_known_datom (known c.basis.result entry.t c.in_ok-users.users)) l) c.as_slice-datoms.ensures
     ∙ ap (λ b. list_all (is_known_datom (known b entry.t c.in_ok-users.users)) ds) c.basis.ensures

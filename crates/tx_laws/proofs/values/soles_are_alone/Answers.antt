@@ -21,7 +21,9 @@ returns-then-not-is_first c =
     let found = list_any (λ (other : Datom). test other && (nat_eq other.a d.a && value_eq other.v d.v)) rest in
     let met = sym (c.in_ok-is_first.ensures.first test rest counts c.loop-i.invariant.has) ∙ c.if-not-is_first.true in
     not_alone test (i - 1) ds
-    (ap (additions.are_alone test) first ∙ ap (λ b. not (b && found) && additions.are_alone test rest) counts ∙ ap (λ b. b && additions.are_alone test rest) met)
+    (ap (additions.are_alone test) first
+    ∙ ap (λ b. not (b && found) && additions.are_alone test rest) counts
+    ∙ ap (λ b. b && additions.are_alone test rest) met)
 
 pub loop-i-preserved : goal.loop-i-preserved
 loop-i-preserved c =
@@ -37,5 +39,7 @@ loop-i-preserved c =
     record {
       in_range = omega (arith, c.loop-i.invariant.in_range);
       apart = ap (additions.are_alone test) first ∙ and_from _ _ (ap (λ b. not (b && found)) counts ∙ met) c.loop-i.invariant.apart;
-      has = subst (λ (l : List Datom). additions.HasContents c.meet_content.new.met test l) (sym first) (c.in_ok-is_first.ensures.met test rest counts c.loop-i.invariant.has);
+      has =
+          subst (λ (l : List Datom). additions.HasContents c.meet_content.new.met test l) (sym first)
+          (c.in_ok-is_first.ensures.met test rest counts c.loop-i.invariant.has);
     }

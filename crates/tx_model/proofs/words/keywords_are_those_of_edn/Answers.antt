@@ -7,6 +7,7 @@ use Rattle.tx_model.proofs.words.keywords_are_those_of_edn.Goals as goal
 
 pub returns : goal.returns
 returns c = λ text. (
-  λ well. let parts = and_parts (is_utf8_text text) (is_keyword_text text) well in is_edn_keyword text (IsUtf8-from_is_utf8_text text parts.0) parts.1,
+  λ well. let parts =
+      and_parts (is_utf8_text text) (is_keyword_text text) well in is_edn_keyword text (IsUtf8-from_is_utf8_text text parts.0) parts.1,
   λ is. and_from _ _ (is_utf8_text-from_IsUtf8 text is.0) (edn_keyword_is text is),
 )

@@ -1,10 +1,11 @@
 use Rattle.std.proofs.Common.{map, ap, ◌∙◌}
-use Rattle.tx_asks.specs.Acts.{seen}
+use Rattle.tx_asks.specs.Acts.{model_act}
 use Rattle.tx_resolve.specs.Numbers.{act_of}
 use Rattle.tx_resolve.proofs.ActLists.{push_some}
 use Rattle.tx_resolve.proofs.acts.acts_of.Goals as goal
 
 pub loop-draft-preserved : goal.loop-draft-preserved
 loop-draft-preserved c = λ pairs has.
-    ap (map seen) c.in_ok-push_some.ensures
-    ∙ push_some seen (act_of pairs) c.loop-draft.acts.items c.loop-draft.yielded c.act.result c.in-Some.draft (c.act.ensures pairs has) (c.loop-draft.invariant pairs has)
+    ap (map model_act) c.in_ok-push_some.ensures
+    ∙ push_some model_act (act_of pairs) c.loop-draft.acts.items c.loop-draft.yielded c.act.result c.in-Some.draft (c.act.ensures pairs has)
+    (c.loop-draft.invariant pairs has)

@@ -11,6 +11,8 @@ invariant-loop-asks g l =
     let looked_up = l.found in
     record {
       counted : l.place ≡ l.asks-index;
-      found : map (λ form. map Some form.items) l.forms_found.items ≡ map (λ form. map (draft_of db looked_up) form.items) (take l.asks-index l.forms);
-      lost : first_yes l.place (map (λ form. list_any (is_lost db looked_up) form.items) (drop l.asks-index l.forms)) ≡ lost_at db looked_up l.forms;
+      found : map (λ form. map Some form.items) l.forms_found.items
+          ≡ map (λ form. map (draft_of db looked_up) form.items) (take l.asks-index l.forms);
+      lost : first_yes l.place (map (λ form. list_any (is_lost db looked_up) form.items) (drop l.asks-index l.forms))
+          ≡ lost_at db looked_up l.forms;
     }

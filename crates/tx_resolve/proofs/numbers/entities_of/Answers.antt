@@ -1,7 +1,7 @@
 use Rattle.std.proofs.Common.{drop, subst, sym, arith}
-use Rattle.tx_resolve.specs.Numbers.{HasEntities, AreApart, Tells}
+use Rattle.tx_resolve.specs.Numbers.{HasEntities, AreApart, HasNames}
 use Rattle.tx_resolve.proofs.Drops.{drop_before}
-use Rattle.tx_resolve.proofs.Numbering.{HasEntities-cons, Tells-cons}
+use Rattle.tx_resolve.proofs.Numbering.{HasEntities-cons, HasNames-cons}
 use Rattle.tx_resolve.proofs.numbers.entities_of.Goals as goal
 
 pub loop-i-preserved : goal.loop-i-preserved
@@ -20,5 +20,6 @@ loop-i-preserved c =
       entities = subst (HasEntities new) (sym first) (HasEntities-cons old new pair.0 pair.1 rest updates c.loop-i.invariant.entities);
       told = λ apart.
           let both = subst AreApart first apart in
-          subst (Tells new) (sym first) (Tells-cons old new pair.0 pair.1 rest entries c.loop-i.invariant.entities both.0 (c.loop-i.invariant.told both.1));
+          subst (HasNames new) (sym first)
+          (HasNames-cons old new pair.0 pair.1 rest entries c.loop-i.invariant.entities both.0 (c.loop-i.invariant.told both.1));
     }

@@ -10,5 +10,6 @@ abbrev pub invariant-loop-drafts : goal.invariant-loop-drafts
 invariant-loop-drafts l = record {
   counted : l.place ≡ l.drafts-index;
   first : (all : List Draft) → AreHolders l.kept all
-      → first_yes l.place (map (λ form. list_any (uses_one_of_none all) form.items) (drop l.drafts-index l.forms)) ≡ first_form (uses_one_of_none all) l.forms;
+      → first_yes l.place (map (λ form. list_any (uses_one_of_none all) form.items) (drop l.drafts-index l.forms))
+      ≡ first_form (uses_one_of_none all) l.forms;
 }

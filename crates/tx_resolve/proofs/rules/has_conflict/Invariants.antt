@@ -7,4 +7,5 @@ use Rattle.tx_resolve.proofs.rules.has_conflict.Given as goal
 
 abbrev pub invariant-loop-draft : goal.invariant-loop-draft
 invariant-loop-draft l =
-    (all : List Draft) → AreHolders l.kept all → list_any (gives_one_of_two all) (drop l.draft-index l.drafts) ≡ list_any (gives_one_of_two all) l.drafts
+    (all : List Draft) → AreHolders l.kept all
+    → list_any (gives_one_of_two all) (drop l.draft-index l.drafts) ≡ list_any (gives_one_of_two all) l.drafts

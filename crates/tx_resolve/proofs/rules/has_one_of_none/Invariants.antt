@@ -7,4 +7,5 @@ use Rattle.tx_resolve.proofs.rules.has_one_of_none.Given as goal
 
 abbrev pub invariant-loop-draft : goal.invariant-loop-draft
 invariant-loop-draft l =
-    (all : List Draft) → AreHolders l.kept all → list_any (uses_one_of_none all) (drop l.draft-index l.drafts) ≡ list_any (uses_one_of_none all) l.drafts
+    (all : List Draft) → AreHolders l.kept all
+    → list_any (uses_one_of_none all) (drop l.draft-index l.drafts) ≡ list_any (uses_one_of_none all) l.drafts

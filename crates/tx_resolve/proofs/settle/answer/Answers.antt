@@ -15,6 +15,7 @@ returns-clause-acts c = λ are.
     let same : c.deref.result.now ≡ forms = c.deref.ensures.value in
     let P : List (Vec Draft Global) → Type 0 = λ fs. AreHolders c.args.kept.now (drafts_in fs) → pairs ≡ pairs_in fs users in
     let pairs_are : pairs ≡ pairs_in forms users = subst P same c.in_ok-pairs.ensures.pairs are in
-    let has : HasEntities c.in_ok-entities.entities pairs = subst (HasEntities c.in_ok-entities.entities) c.deref-2.ensures.value c.in_ok-entities.ensures.entities in
+    let has : HasEntities c.in_ok-entities.entities pairs =
+    subst (HasEntities c.in_ok-entities.entities) c.deref-2.ensures.value c.in_ok-entities.ensures.entities in
     c.in_ok-forms.ensures pairs has
     ∙ ap (λ (ps : List (Tempid × ℕ)). map (λ (form : Vec Draft Global). filter_map (act_of ps) form.items) forms) pairs_are

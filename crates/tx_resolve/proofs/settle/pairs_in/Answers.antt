@@ -10,4 +10,5 @@ returns-clause-apart c = λ are.
     let drafts = drafts_in c.args.forms.now in
     let tempids_are = c.tempids.ensures ∙ c.in_ok-met.ensures in
     let distinct = subst AreDistinct (sym tempids_are) (distinct_met [] (flat_map tempids_of drafts) tt) in
-    IfOk-map _ _ (λ pairs same. subst AreApart (sym same) (apart_numbered drafts c.tempids.result.now c.args.users distinct)) c.numbered.result (c.numbered.ensures drafts are)
+    IfOk-map _ _ (λ pairs same. subst AreApart (sym same) (apart_numbered drafts c.tempids.result.now c.args.users distinct))
+    c.numbered.result (c.numbered.ensures drafts are)

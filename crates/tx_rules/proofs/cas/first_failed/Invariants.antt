@@ -5,4 +5,6 @@ use Rattle.tx_rules.specs.Cas.{finds_another, acts_of}
 use Rattle.tx_rules.proofs.cas.first_failed.Given as goal
 
 abbrev pub invariant-loop-place : goal.invariant-loop-place
-invariant-loop-place g l = first_yes l.place (map (list_any (finds_another (g.F.Facts.history l.facts))) (acts_of (drop l.place l.forms))) ≡ first_yes 0 (map (list_any (finds_another (g.F.Facts.history l.facts))) (acts_of l.forms))
+invariant-loop-place g l =
+    first_yes l.place (map (list_any (finds_another (g.F.Facts.history l.facts))) (acts_of (drop l.place l.forms)))
+    ≡ first_yes 0 (map (list_any (finds_another (g.F.Facts.history l.facts))) (acts_of l.forms))

@@ -6,4 +6,6 @@ use Rattle.tx_rules.specs.Cas.{acts_of}
 use Rattle.tx_rules.proofs.cas.first_of_many.Given as goal
 
 abbrev pub invariant-loop-place : goal.invariant-loop-place
-invariant-loop-place l = first_yes l.place (map (list_any is_cas_of_many) (acts_of (drop l.place l.forms))) ≡ first_yes 0 (map (list_any is_cas_of_many) (acts_of l.forms))
+invariant-loop-place l =
+    first_yes l.place (map (list_any is_cas_of_many) (acts_of (drop l.place l.forms)))
+    ≡ first_yes 0 (map (list_any is_cas_of_many) (acts_of l.forms))

@@ -10,6 +10,8 @@ pub loop-i-preserved : goal.loop-i-preserved
 loop-i-preserved c =
     let triples = behind c.args.added.now in
     let i = c.loop-i.i in
-    ap (λ first. earlier first (first_where (conflicts c.args.schema.now triples) asked_at (drop (i + 1) triples))) (c.earlier-first.ensures ∙ ap (earlier c.loop-i.first) (c.conflict_at.ensures blank))
-    ∙ sym (first_where-step (conflicts c.args.schema.now triples) asked_at triples i blank c.loop-i.first (omega (arith, length-behind c.args.added.now)))
+    ap (λ first. earlier first (first_where (conflicts c.args.schema.now triples) asked_at (drop (i + 1) triples)))
+    (c.earlier-first.ensures ∙ ap (earlier c.loop-i.first) (c.conflict_at.ensures blank))
+    ∙ sym (first_where-step (conflicts c.args.schema.now triples) asked_at triples i blank c.loop-i.first
+    (omega (arith, length-behind c.args.added.now)))
     ∙ c.loop-i.invariant

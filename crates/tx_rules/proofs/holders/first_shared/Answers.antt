@@ -14,11 +14,13 @@ pub first_among-requires-clause-sorted : goal.first_among-requires-clause-sorted
 first_among-requires-clause-sorted g c =
     subst AreByValue (sym (ap behind c.deref.ensures.value))
     (sorted-behind (λ x y. is_lt (value_order x y)) c.sort_unstable_by.new.self.items
-    (c.sort_unstable_by.ensures.sorted (λ x y. is_lt (value_order x.now y.now)) (ranks_by value_order_total (λ (x : Bor Triple). x.now)) (answers_always _ _ _ (λ f a r g h. search rules))))
+    (c.sort_unstable_by.ensures.sorted (λ x y. is_lt (value_order x.now y.now)) (ranks_by value_order_total (λ (x : Bor Triple). x.now))
+    (answers_always _ _ _ (λ f a r g h. search rules))))
 
 pub returns : goal.returns
 returns g c =
     let h = g.F.Facts.history c.args.facts.now in
     c.first_among.ensures ∙ ap (first_among h c.args.changes.now) (ap behind c.deref.ensures.value)
     ∙ shared-takers c.args.schema.now h c.args.changes.now c.args.triples.now c.requires.rising (behind c.sort_unstable_by.new.self.items)
-    (subst (λ l. IsPermutation l (behind c.sort_unstable_by.new.self.items)) c.in_ok-takers.ensures (IsPermutation-map (λ (x : Bor Triple). x.now) c.in_ok-takers.takers.items c.sort_unstable_by.new.self.items c.sort_unstable_by.ensures.permutation))
+    (subst (λ l. IsPermutation l (behind c.sort_unstable_by.new.self.items)) c.in_ok-takers.ensures (IsPermutation-map
+    (λ (x : Bor Triple). x.now) c.in_ok-takers.takers.items c.sort_unstable_by.new.self.items c.sort_unstable_by.ensures.permutation))

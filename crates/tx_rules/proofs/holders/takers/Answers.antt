@@ -12,6 +12,11 @@ loop-triple-preserved c =
     let old = c.loop-triple.takers.items in
     let new = c.if-is_taker.takers.items in
     elim c.if-is_taker.branch [
-      | then-is_taker+in_ok-push w ↦ one_kept test triples c.loop-triple.triple-index c.triple-item.result c.loop-triple-test.true c.triple-item.is old new (filter test triples) c.loop-triple.invariant _ refl (sym c.is_taker.ensures ∙ w.if-is_taker.true) (ap (λ v. v.items) w.takers-is ∙ w.in_ok-push.ensures.items)
-      | else-is_taker w ↦ none_kept test triples c.loop-triple.triple-index c.triple-item.result c.loop-triple-test.true c.triple-item.is old new (filter test triples) c.loop-triple.invariant (sym c.is_taker.ensures ∙ w.if-is_taker.false) (ap (λ v. v.items) w.takers-is)
+      | then-is_taker+in_ok-push w ↦
+          one_kept test triples c.loop-triple.triple-index c.triple-item.result c.loop-triple-test.true c.triple-item.is old new
+          (filter test triples) c.loop-triple.invariant _ refl (sym c.is_taker.ensures ∙ w.if-is_taker.true)
+          (ap (λ v. v.items) w.takers-is ∙ w.in_ok-push.ensures.items)
+      | else-is_taker w ↦
+          none_kept test triples c.loop-triple.triple-index c.triple-item.result c.loop-triple-test.true c.triple-item.is old new
+          (filter test triples) c.loop-triple.invariant (sym c.is_taker.ensures ∙ w.if-is_taker.false) (ap (λ v. v.items) w.takers-is)
     ]

@@ -18,15 +18,18 @@ loop-triple-preserved g c =
       | then-promises_anew+in_ok-verdict w ↦ (let is = w.in_ok-verdict.ensures in record {
         known = rw w.last-is (is ∙ ap (verdict_of c.args.schema.now all) (sym (ap (λ x. x.e) is)));
         places =
-            ap (λ first. earlier first rest) (w.first-is ∙ w.earlier-first.ensures ∙ ap (earlier c.loop-triple.first) (w.broken_at.ensures ∙ ap (λ x. broken_at x triple) is))
-            ∙ first_where-pass promises_anew place c.args.triples.now i triple c.loop-triple.first (omega arith) c.triple-item.is (sym c.promises_anew.ensures ∙ w.if-promises_anew.true)
+            ap (λ first. earlier first rest) (w.first-is ∙ w.earlier-first.ensures
+            ∙ ap (earlier c.loop-triple.first) (w.broken_at.ensures ∙ ap (λ x. broken_at x triple) is))
+            ∙ first_where-pass promises_anew place c.args.triples.now i triple c.loop-triple.first (omega arith) c.triple-item.is
+            (sym c.promises_anew.ensures ∙ w.if-promises_anew.true)
             ∙ c.loop-triple.invariant.places;
       })
       | else-promises_anew w ↦ record {
         known = rw w.last-is c.loop-triple.invariant.known;
         places =
             ap (λ first. earlier first rest) w.first-is
-            ∙ first_where-fail promises_anew place c.args.triples.now i triple c.loop-triple.first (omega arith) c.triple-item.is (sym c.promises_anew.ensures ∙ w.if-promises_anew.false)
+            ∙ first_where-fail promises_anew place c.args.triples.now i triple c.loop-triple.first (omega arith) c.triple-item.is
+            (sym c.promises_anew.ensures ∙ w.if-promises_anew.false)
             ∙ c.loop-triple.invariant.places;
       }
     ]

@@ -18,15 +18,18 @@ loop-triple-preserved g c =
       | then-describes+in_ok-lack w ↦ (let is = w.in_ok-lack.ensures in record {
         known = rw w.last-is (is ∙ ap (lack_of c.args.schema.now all) (sym (ap (λ x. x.e) is)));
         places =
-            ap (λ first. earlier first rest) (w.first-is ∙ w.earlier-first.ensures ∙ ap (earlier c.loop-triple.first) (w.lack_at.ensures ∙ ap (λ x. lack_at x triple) is))
-            ∙ first_where-pass describes place c.args.triples.now i triple c.loop-triple.first (omega arith) c.triple-item.is (sym c.describes.ensures ∙ w.if-describes.true)
+            ap (λ first. earlier first rest)
+            (w.first-is ∙ w.earlier-first.ensures ∙ ap (earlier c.loop-triple.first) (w.lack_at.ensures ∙ ap (λ x. lack_at x triple) is))
+            ∙ first_where-pass describes place c.args.triples.now i triple c.loop-triple.first (omega arith) c.triple-item.is
+            (sym c.describes.ensures ∙ w.if-describes.true)
             ∙ c.loop-triple.invariant.places;
       })
       | else-describes w ↦ record {
         known = rw w.last-is c.loop-triple.invariant.known;
         places =
             ap (λ first. earlier first rest) w.first-is
-            ∙ first_where-fail describes place c.args.triples.now i triple c.loop-triple.first (omega arith) c.triple-item.is (sym c.describes.ensures ∙ w.if-describes.false)
+            ∙ first_where-fail describes place c.args.triples.now i triple c.loop-triple.first (omega arith) c.triple-item.is
+            (sym c.describes.ensures ∙ w.if-describes.false)
             ∙ c.loop-triple.invariant.places;
       }
     ]

@@ -11,5 +11,6 @@ returns g c tx db_is changes_are tempids_are =
     let entry_is = c.in_ok-entry.ensures h tx db_is (ap (λ t. t + 1) c.basis.ensures) changes_are in
     let read = to_z-of_z w64 c.args.reading c.ranges.reading in
     let instant = to_z-of_z w64 c.next_instant-instant.result (record { sfits = c.next_instant-instant.type_inv }) in
-    ap (λ entry. model.accepted entry c.args.tempids.items) (entry_is ∙ ap (model.entry_of h tx) (instant ∙ c.next_instant-instant.ensures ∙ ap (history.next_instant h) read))
+    ap (λ entry. model.accepted entry c.args.tempids.items)
+    (entry_is ∙ ap (model.entry_of h tx) (instant ∙ c.next_instant-instant.ensures ∙ ap (history.next_instant h) read))
     ∙ ap (model.accepted (model.entry_of h tx (history.next_instant h c.args.reading))) tempids_are

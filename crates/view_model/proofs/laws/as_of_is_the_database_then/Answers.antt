@@ -14,4 +14,5 @@ pub returns-clause-then : goal.returns-clause-then
 returns-clause-then c = as_of-upto
 
 pub returns-clause-now : goal.returns-clause-now
-returns-clause-now c = λ h lawful small. sym (as_of_basis h whole lawful) ∙ as_of-upto h (basis h) lawful small ∙ ap facts (upto-basis h lawful)
+returns-clause-now c =
+    λ h lawful small. sym (as_of_basis h whole lawful) ∙ as_of-upto h (basis h) lawful small ∙ ap facts (upto-basis h lawful)

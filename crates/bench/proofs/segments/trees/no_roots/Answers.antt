@@ -12,7 +12,8 @@ use Rattle.bench.proofs.segments.trees.no_roots.Goals as goal
 
 pub returns-clause-rise : goal.returns-clause-rise
 unfolding TreesRise
-returns-clause-rise c = IfOk-weaker c.empty.result _ _ (λ roots none order. none_rising order _ (ap tree_datoms (none order))) c.empty.ensures
+returns-clause-rise c =
+    IfOk-weaker c.empty.result _ _ (λ roots none order. none_rising order _ (ap tree_datoms (none order))) c.empty.ensures
 
 pub returns-clause-held : goal.returns-clause-held
 unfolding TreesAreHeld

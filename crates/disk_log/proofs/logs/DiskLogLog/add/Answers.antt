@@ -5,7 +5,7 @@ pub returns-in-Ok-clause-kept : goal.returns-in-Ok-clause-kept
 returns-in-Ok-clause-kept g c = λ begun h entry is next keeps.
     let appended = c.append.ensures in let d = g.D.Disk in
     keeps-added d.bytes d.images d.faults d.moment d.images_since h entry c.args.made.now is next begun c.args.self.now _
-    c.in-Ok.ensures.acknowledged appended.any_moment c.in-Ok.ensures.told appended.mark c.in-Ok.ensures.counted keeps
+    c.in-Ok.ensures.acknowledged appended.any_moment c.in-Ok.ensures.known appended.mark c.in-Ok.ensures.counted keeps
 
 pub returns-in-Err-clause-broke : goal.returns-in-Err-clause-broke
 returns-in-Err-clause-broke g c = λ begun h entry is next keeps.

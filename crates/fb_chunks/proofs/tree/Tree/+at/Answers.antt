@@ -10,14 +10,22 @@ use Rattle.fb_chunks.proofs.tree.Tree.+at.Goals as goal
 pub at-requires : goal.at-requires
 at-requires g t c κs within =
     let f = at_fork c.self.view_is c.self.invariant c.in-Fork.is in
-    let is = side_read c.in-Fork.full.items (c.args.place / c.in-Fork.each) c.index-then-side-len.result.now (omega arith) c.index-then-side-len.ensures in
+    let is =
+    side_read c.in-Fork.full.items (c.args.place / c.in-Fork.each) c.index-then-side-len.result.now
+    (omega arith) c.index-then-side-len.ensures in
     let shorter = chunk_le-before_last f.list c.args.place _ is in
     (search rules, (search rules, rw c.deref.ensures (in_chunk f.list c.args.place _ is)))
 
 pub at-requires-else-side-len : goal.at-requires-else-side-len
 at-requires-else-side-len g t c κs within =
-    let f = at_fork c.self.view_is c.self.invariant c.in-Fork.is in
-    (search rules, (search rules, rw c.deref-else-side-len.ensures (in_last f.list c.args.place c.requires (omega (arith, length-map c.in-Fork.full.items arc_value)))))
+    let f = at_fork c.self.view_is c.self.invariant c.in-Fork.is in (
+      search rules,
+      (
+        search rules,
+        rw c.deref-else-side-len.ensures
+            (in_last f.list c.args.place c.requires (omega (arith, length-map c.in-Fork.full.items arc_value))),
+      ),
+    )
 
 pub returns-in-Leaf : goal.returns-in-Leaf
 returns-in-Leaf g t c =
@@ -30,7 +38,9 @@ returns-then-side-len g t c =
     let side = arc_value c.index-then-side-len.result.now in
     let place = c.args.place % c.in-Fork.each in
     let x = c.at.result.now in
-    let is = side_read c.in-Fork.full.items (c.args.place / c.in-Fork.each) c.index-then-side-len.result.now (omega arith) c.index-then-side-len.ensures in
+    let is =
+    side_read c.in-Fork.full.items (c.args.place / c.in-Fork.each) c.index-then-side-len.result.now
+    (omega arith) c.index-then-side-len.ensures in
     let found : slice_get side place ≡ Some x = rw (← c.deref.ensures) c.at.ensures in
     found_in_chunk f.list c.args.place side is x (sym (get_or_from_slice_get side place x x found))
 
@@ -41,4 +51,5 @@ returns-else-side-len g t c =
     let place = c.args.place % c.in-Fork.each in
     let x = c.at-else-side-len.result.now in
     let found : slice_get side place ≡ Some x = rw (← c.deref-else-side-len.ensures) c.at-else-side-len.ensures in
-    found_in_last f.list c.args.place c.requires (omega (arith, length-map c.in-Fork.full.items arc_value)) x (sym (get_or_from_slice_get side place x x found))
+    found_in_last f.list c.args.place c.requires (omega (arith, length-map c.in-Fork.full.items arc_value)) x
+    (sym (get_or_from_slice_get side place x x found))

@@ -19,17 +19,22 @@ use Rattle.fb_conn.proofs.conn.Conn.close.Goals as goal
 pub gather-requires-clause-seats : goal.gather-requires-clause-seats
 gather-requires-clause-seats g c = λ k s at.
     let made = made_of board_in c.args.seats.items k s at in let rest = (c.requires.seats k made.0 made.1).0 in
-    subst (λ (b : BoardSeat). (board_of b ≡ c.args.self.board.table.shared.table_id) × IsIdle (view_of b) × ((view_of b).seats ≡ 1)) (sym made.2) (rest.on, rest.idle, rest.alone)
+    subst (λ (b : BoardSeat). (board_of b ≡ c.args.self.board.table.shared.table_id) × IsIdle (view_of b) × ((view_of b).seats ≡ 1))
+    (sym made.2) (rest.on, rest.idle, rest.alone)
 
 pub returns-clause-each_t : goal.returns-clause-each_t
 returns-clause-each_t g c =
     let home = c.close-home.result in let whole = c.close-home.ensures.whole in let h = home.core.snapshot.entries in
-    let start = ap (λ (z : View Code). z.start) c.gather.ensures.gathered in let count = IsLawful-length h c.basis-basis.ensures.stands.snapshot.history.lawful in
+    let start = ap (λ (z : View Code). z.start) c.gather.ensures.gathered in
+    let count = IsLawful-length h c.basis-basis.ensures.stands.snapshot.history.lawful in
     omega (arith, start, whole.counted, length-map h (code code_of), count)
 
 pub returns-clause-by_sessions : goal.returns-clause-by_sessions
 returns-clause-by_sessions g c =
-    let whole = c.close-home.ensures.whole in let gathered = c.gather.ensures.gathered in let first : View Code = view_of c.gather.new.first in let own = c.requires.worker.0 in
+    let whole = c.close-home.ensures.whole in
+    let gathered = c.gather.ensures.gathered in
+    let first : View Code = view_of c.gather.new.first in
+    let own = c.requires.worker.0 in
     let who = c.close-home.result.core.authors in let n = length c.args.seats.items in
     let given : first.given ≡ n = ap (λ (z : View Code). z.given) gathered ∙ c.requires.worker.1 in
     let number : first.number ≡ worker = ap (λ (z : View Code). z.number) gathered ∙ own.1 in
@@ -46,17 +51,26 @@ own_seen l es who m w whole (inr h) = subst (StartsWith es) h.3 (whole.joined_se
 pub returns-clause-last : goal.returns-clause-last
 returns-clause-last g c =
     let home = c.close-home.result in let h = home.core.snapshot.entries in let last = c.args.worker.last.entries in
-    let begins = own_seen _ (codes code_of h) home.core.authors _ (view_of c.gather.new.first) c.close-home.ensures.whole c.gather.ensures.own in
+    let begins =
+    own_seen _ (codes code_of h) home.core.authors _ (view_of c.gather.new.first) c.close-home.ensures.whole c.gather.ensures.own in
     starts_inj an_entry.the_row.coded h last (subst (StartsWith (codes code_of h)) c.requires.worker.0.0.seen begins)
 
 pub returns-clause-taken : goal.returns-clause-taken
 returns-clause-taken g c = λ k seat at.
-    let whole = c.close-home.ensures.whole in let home = c.close-home.result in let h = home.core.snapshot.entries in let who = home.core.authors in
-    let first : View Code = view_of c.gather.new.first in let v : View Code = view_of c.args.worker.board in let u : View Code = view_of seat.board in
-    let rest = c.requires.seats k seat at in let noted = c.gather.ensures.noted k seat.board (made_at board_in c.args.seats.items k seat at) in
+    let whole = c.close-home.ensures.whole in
+    let home = c.close-home.result in
+    let h = home.core.snapshot.entries in
+    let who = home.core.authors in
+    let first : View Code = view_of c.gather.new.first in
+    let v : View Code = view_of c.args.worker.board in
+    let u : View Code = view_of seat.board in
+    let rest = c.requires.seats k seat at in
+    let noted = c.gather.ensures.noted k seat.board (made_at board_in c.args.seats.items k seat at) in
     let i = noted.0 in let p = noted.1 in let there = noted.2 in let is = noted.3 in
     let start : first.start ≡ v.start = ap (λ (z : View Code). z.start) c.gather.ensures.gathered in
-    let begins = starts_inj an_entry.the_row.coded h seat.last.entries (subst (StartsWith (codes code_of h)) (is.seen ∙ rest.0.seen) (whole.joined_seen i p there).0) in
+    let begins =
+    starts_inj an_entry.the_row.coded h seat.last.entries
+    (subst (StartsWith (codes code_of h)) (is.seen ∙ rest.0.seen) (whole.joined_seen i p there).0) in
     record {
       more = begins.0;
       entries = begins.1;

@@ -4,7 +4,7 @@ use mathlib.Core.Option.{some}
 use lib.ListN.{get_elem?, length-map}
 use Rattle.fb_model.specs.History.{basis}
 use Rattle.fb_model.proofs.LawfulHistories.{IsLawful-length}
-use Rattle.fb_view.specs.Kept.{Kept}
+use Rattle.fb_view.specs.SnapshotModel.{SnapshotModel}
 use Rattle.board_rule.specs.declared.seat.BoardSeat.{BoardSeat}
 use Rattle.board_rule.specs.declared.view.Code.{Code}
 use Rattle.board_rule.specs.declared.view.View.{View}
@@ -23,11 +23,17 @@ open-requires-clause-history g c = each_follows c.args.core.snapshot.entries c.s
 
 pub returns-clause-seats : goal.returns-clause-seats
 returns-clause-seats g c = λ k seat at.
-    let h = c.args.core.snapshot.entries in let opened = c.in_ok-opened.opened in let made = c.in_ok-opened.ensures in let seats = c.in_ok-seats.seats.items in
+    let h = c.args.core.snapshot.entries in
+    let opened = c.in_ok-opened.opened in
+    let made = c.in_ok-opened.ensures in
+    let seats = c.in_ok-seats.seats.items in
     let boards = c.in_ok-seats.ensures.boards in let count = IsLawful-length h c.snapshot.ensures.stands.snapshot.history.lawful in
     let first : c.in_ok-last.last ≡ c.args.core.snapshot = c.in_ok-last.ensures ∙ c.snapshot.ensures.snapshot in
-    let last : seat.last.entries ≡ h = ap (λ (s : Kept). s.entries) (all_at (λ (s : Seat). s.last ≡ c.in_ok-last.last) seats k seat c.in_ok-seats.ensures.last at ∙ first) in
-    let new = made.seats k seat.board (subst (λ (l : List BoardSeat). get_elem? l k ≡ some seat.board) boards (made_at board_in seats k seat at)) in
+    let last : seat.last.entries ≡ h =
+    ap (λ (s : SnapshotModel). s.entries)
+    (all_at (λ (s : Seat). s.last ≡ c.in_ok-last.last) seats k seat c.in_ok-seats.ensures.last at ∙ first) in
+    let new =
+    made.seats k seat.board (subst (λ (l : List BoardSeat). get_elem? l k ≡ some seat.board) boards (made_at board_in seats k seat at)) in
     let view = new.1 in let start : ℕ = opened.board.table.shared.key.start in
     let begins : start ≡ basis h = omega (arith, made.board.2, count) in
     let within : k < length seats = slice_get_within seats k seat at in
@@ -49,10 +55,15 @@ returns-clause-seats g c = λ k seat at.
 
 pub returns-clause-worker : goal.returns-clause-worker
 returns-clause-worker g c =
-    let h = c.args.core.snapshot.entries in let opened = c.in_ok-opened.opened in let made = c.in_ok-opened.ensures in let view = made.first in
-    let count = IsLawful-length h c.snapshot.ensures.stands.snapshot.history.lawful in let start : ℕ = opened.board.table.shared.key.start in
+    let h = c.args.core.snapshot.entries in
+    let opened = c.in_ok-opened.opened in
+    let made = c.in_ok-opened.ensures in
+    let view = made.first in
+    let count = IsLawful-length h c.snapshot.ensures.stands.snapshot.history.lawful in
+    let start : ℕ = opened.board.table.shared.key.start in
     let begins : start ≡ basis h = omega (arith, made.board.2, count) in
-    let last : c.in_ok-last.last.entries ≡ h = ap (λ (s : Kept). s.entries) (c.in_ok-last.ensures ∙ c.snapshot.ensures.snapshot) in (
+    let last : c.in_ok-last.last.entries ≡ h =
+    ap (λ (s : SnapshotModel). s.entries) (c.in_ok-last.ensures ∙ c.snapshot.ensures.snapshot) in (
       (
         record {
           on = made.board.0;

@@ -3,4 +3,6 @@ use Rattle.fb_model.proofs.LawfulHistories.{IsLawful-length}
 use Rattle.fb_conn.proofs.home.HomeNamed.basis.Goals as goal
 
 pub returns : goal.returns
-returns g c = ap (λ (n : ℕ). n + 1) c.basis.ensures.basis ∙ sym (IsLawful-length c.args.self.now.core.snapshot.entries c.basis.ensures.stands.snapshot.history.lawful)
+returns g c =
+    ap (λ (n : ℕ). n + 1) c.basis.ensures.basis
+    ∙ sym (IsLawful-length c.args.self.now.core.snapshot.entries c.basis.ensures.stands.snapshot.history.lawful)

@@ -9,7 +9,8 @@ pub returns-then-is_err-clause-any_moment : goal.returns-then-is_err-clause-any_
 returns-then-is_err-clause-any_moment g c = λ records keeps file told.
     let payload : List ℕ = c.args.framed.now in
     let fits : length payload < 2 ^ 64 = omega (arith, ap length c.bytes.ensures, length-record payload) in
-    run-added (mark_bytes c.args.self.now.mark) records payload c.args.self.now.gate c.bytes.result.now file (length-mark_bytes c.args.self.now.mark) c.bytes.ensures fits keeps.gate (keeps.file file told).0 g.D.Disk.moment
+    run-added (mark_bytes c.args.self.now.mark) records payload c.args.self.now.gate c.bytes.result.now file
+    (length-mark_bytes c.args.self.now.mark) c.bytes.ensures fits keeps.gate (keeps.file file told).0 g.D.Disk.moment
     g.D.Disk.images_since
     c.args.self.now.disk
     c.add_record.new.disk
@@ -23,7 +24,9 @@ returns-clause-acknowledged g c = λ records keeps.
     let ok : is_err c.add_record.result ≡ false = sym c.is_err.ensures.value ∙ c.if-is_err.false in
     let wrote = on_ok _ c.add_record.result ok c.add_record.ensures.bytes in
     let durable = on_ok _ c.add_record.result ok c.add_record.ensures.durable in
-    let all = told-added (g.D.Disk.bytes c.args.self.now.disk) (g.D.Disk.bytes c.add_record.new.disk) mark records payload c.args.self.now.gate c.bytes.result.now wrote (length-mark_bytes c.args.self.now.mark) c.bytes.ensures fits keeps.gate
+    let all =
+    told-added (g.D.Disk.bytes c.args.self.now.disk) (g.D.Disk.bytes c.add_record.new.disk) mark records payload c.args.self.now.gate
+    c.bytes.result.now wrote (length-mark_bytes c.args.self.now.mark) c.bytes.ensures fits keeps.gate
     (λ file told. (keeps.file file told).0) in record {
       goes_on = keeps.goes_on;
       count = omega (arith, keeps.count, length-append records (payload ∷ []));
@@ -35,7 +38,8 @@ pub returns-clause-any_moment : goal.returns-clause-any_moment
 returns-clause-any_moment g c = λ records keeps file told.
     let payload : List ℕ = c.args.framed.now in
     let fits : length payload < 2 ^ 64 = omega (arith, ap length c.bytes.ensures, length-record payload) in
-    run-added (mark_bytes c.args.self.now.mark) records payload c.args.self.now.gate c.bytes.result.now file (length-mark_bytes c.args.self.now.mark) c.bytes.ensures fits keeps.gate (keeps.file file told).0 g.D.Disk.moment
+    run-added (mark_bytes c.args.self.now.mark) records payload c.args.self.now.gate c.bytes.result.now file
+    (length-mark_bytes c.args.self.now.mark) c.bytes.ensures fits keeps.gate (keeps.file file told).0 g.D.Disk.moment
     g.D.Disk.images_since
     c.args.self.now.disk
     c.add_record.new.disk

@@ -1,6 +1,6 @@
 use Rattle.std.proofs.Common.{◌∙◌, ℕ, refl, sym, subst, arith}
 use Rattle.std.proofs.lemmas.Result.{err_from_is_err_and}
-use Rattle.fb_journal.specs.Gates.{StandsAt}
+use Rattle.fb_journal.specs.Gates.{IsAheadAt}
 use Rattle.fb_journal.specs.Readings.{IsFirstFault}
 use Rattle.fb_journal.proofs.GoingOn.{reads-then, still-read, read-more, read-all, first-fault, other-fault}
 use Rattle.fb_journal.proofs.readings.Reading.next.Goals as goal
@@ -41,7 +41,7 @@ returns-in-Closed-clause-end g c = λ mark disk records has.
     read-all d.bytes d.images d.moment d.images_since mark disk records _ now
     (λ file told shows.
     let before = sym leaves.same ∙ told in
-    subst (StandsAt file c.args.self.now.gate) c.in-Closed.is (c.in_ok-look_ahead.ensures.stands file before (has.file file before).1))
+    subst (IsAheadAt file c.args.self.now.gate) c.in-Closed.is (c.in_ok-look_ahead.ensures.stands file before (has.file file before).1))
 
 pub returns-in-CutShort-clause-why_not : goal.returns-in-CutShort-clause-why_not
 returns-in-CutShort-clause-why_not g c = λ mark disk records has.
@@ -52,7 +52,7 @@ returns-in-CutShort-clause-why_not g c = λ mark disk records has.
       first-fault d.bytes d.images d.moment d.images_since mark disk records _ now c.broken.result c.broken.ensures
           (λ file told shows.
           let before = sym leaves.same ∙ told in
-          subst (StandsAt file c.args.self.now.gate) c.in-CutShort.is
+          subst (IsAheadAt file c.args.self.now.gate) c.in-CutShort.is
           (c.in_ok-look_ahead.ensures.stands file before (has.file file before).1)),
       now,
     )
@@ -68,7 +68,7 @@ returns-in_ok-take-in-Record-clause-record g c = λ mark disk records has.
           (reads-then d.bytes d.images d.moment d.images_since _ _ _ _ _ _ first c.take.ensures.leaves) c.take.ensures.mark has
           c.take.new.payload.items n taken.len taken.gone_on.0 taken.gone_on.1
           (λ file told shows. (
-            subst (StandsAt file old.gate) c.in-Record.is (c.in_ok-look_ahead.ensures.stands file told shows),
+            subst (IsAheadAt file old.gate) c.in-Record.is (c.in_ok-look_ahead.ensures.stands file told shows),
             taken.read file (first.same ∙ told) (first.shows file told shows),
           )),
       taken.place.0 ∙ has.count,

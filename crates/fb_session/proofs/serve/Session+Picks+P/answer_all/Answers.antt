@@ -1,6 +1,6 @@
 use Rattle.std.proofs.Common.{refl, ◌∙◌, subst, map, arith, Bor}
 use Rattle.edn_form.specs.View.{form_of}
-use Rattle.fb_session.specs.Sessions.{terms_of, Replied, StopsAt}
+use Rattle.fb_session.specs.Sessions.{terms_at, Replied, StopsAt}
 use Rattle.fb_session.proofs.TalkingOn.{talk-opened, talk-replied, talk-no_command, talk-stops}
 use Rattle.fb_session.proofs.serve.Session+Picks+P.answer_all.Goals as goal
 
@@ -26,11 +26,15 @@ returns-in-Err-answered-clause-answers g c =
     let form = form_of c.in-Ok.form in
     let new = c.answer-answered.new.self in
     let stopped = subst
-    (λ (table : Bor g.row.P.Denot). StopsAt (terms_of (g.K.Clock.may_answer c.args.clock.now) (g.G.Guard.bars c.args.guard.now) (g.P.FilterTable.place_of table.now) (g.P.FilterTable.selects_at table.now)) form c.forms.self new
-    (λ p. map (g.P.FilterTable.name_at p.table.now) p.places.items) (state c.forms.desk) (state c.answer-answered.new.desk) so_far.standing (contents c.forms.sink) (contents c.answer-answered.new.sink) c.in-Err-answered.stop)
+    (λ (table : Bor g.row.P.Denot). StopsAt
+    (terms_at g.K.Clock.may_answer g.G.Guard.bars g.P.FilterTable.place_of g.P.FilterTable.selects_at c.args.clock.now
+    c.args.guard.now table.now) form c.forms.self new
+    (λ p. map (g.P.FilterTable.name_at p.table.now) p.places.items) (state c.forms.desk) (state c.answer-answered.new.desk) so_far.standing
+    (contents c.forms.sink) (contents c.answer-answered.new.sink) c.in-Err-answered.stop)
     c.forms.invariant.table (c.in-Err-answered.ensures.err so_far.standing so_far.stands) in
     rw c.end.ensures
-    (talk-stops _ _ c.args.script.now _ (state c.forms.desk) c.forms.self _ _ c.forms.at so_far (state c.answer-answered.new.desk) new c.answer-answered.ensures.goes_on c.in-Ok.next form
+    (talk-stops _ _ c.args.script.now _ (state c.forms.desk) c.forms.self _ _ c.forms.at so_far
+    (state c.answer-answered.new.desk) new c.answer-answered.ensures.goes_on c.in-Ok.next form
     read.ahead read.within read.room read.stands _ c.in-Err-answered.stop stopped)
 
 pub forms-preserved : goal.forms-preserved
@@ -42,13 +46,18 @@ forms-preserved g c =
     let form = form_of c.in-Ok.form in
     let new = c.answer-answered.new.self in
     let replied = subst
-    (λ (table : Bor g.row.P.Denot). Replied (terms_of (g.K.Clock.may_answer c.args.clock.now) (g.G.Guard.bars c.args.guard.now) (g.P.FilterTable.place_of table.now) (g.P.FilterTable.selects_at table.now)) form c.forms.self new
-    (λ p. map (g.P.FilterTable.name_at p.table.now) p.places.items) (state c.forms.desk) (state c.answer-answered.new.desk) so_far.standing (contents c.forms.sink) (contents c.answer-answered.new.sink))
+    (λ (table : Bor g.row.P.Denot). Replied
+    (terms_at g.K.Clock.may_answer g.G.Guard.bars g.P.FilterTable.place_of g.P.FilterTable.selects_at c.args.clock.now
+    c.args.guard.now table.now) form c.forms.self new
+    (λ p. map (g.P.FilterTable.name_at p.table.now) p.places.items) (state c.forms.desk) (state c.answer-answered.new.desk) so_far.standing
+    (contents c.forms.sink) (contents c.answer-answered.new.sink))
     c.forms.invariant.table (c.in_default.ensures.ok so_far.standing so_far.stands) in
     record {
       table = c.answer-answered.ensures.table ∙ c.forms.invariant.table;
       left = omega (arith, c.forms.invariant.left, c.answer-answered.ensures.goes_on.left, c.in_default.ensures.places);
-      talk = talk-replied _ _ c.args.script.now _ (state c.forms.desk) c.forms.self _ _ c.forms.at so_far (state c.answer-answered.new.desk) new c.answer-answered.ensures.goes_on c.in-Ok.next form
+      talk =
+          talk-replied _ _ c.args.script.now _ (state c.forms.desk) c.forms.self _ _ c.forms.at so_far
+          (state c.answer-answered.new.desk) new c.answer-answered.ensures.goes_on c.in-Ok.next form
           read.ahead read.within read.room read.stands _ replied;
       count = c.in_default.ensures.count ∙ c.forms.invariant.count;
     }

@@ -1,6 +1,6 @@
 use Rattle.std.proofs.Common.{◌≡◌, ◌+◌, ◌-◌, ◌≤◌, length, map}
 use Rattle.script_model.specs.Script.{most_commands}
-use Rattle.fb_session.specs.Sessions.{terms_of, TalkSoFar}
+use Rattle.fb_session.specs.Sessions.{terms_at, TalkSoFar}
 use Rattle.fb_session.proofs.serve.Session+Picks+P.answer_all.Given as goal
 
 -- the talk over the forms so far
@@ -12,8 +12,11 @@ invariant-forms g l =
     record {
       table : l.self.view.filter.table ≡ l.fn.self.view.filter.table;
       left : most_commands ≤ length l.self.places.items + (state l.desk).left;
-      talk : TalkSoFar (terms_of (g.K.Clock.may_answer l.clock) (g.G.Guard.bars l.guard) (g.P.FilterTable.place_of preds) (g.P.FilterTable.selects_at preds)) l.script l.at l.self
-          (λ p. map (g.P.FilterTable.name_at p.table.now) p.places.items) (state l.fn.desk) (state l.desk) (contents l.fn.sink) (contents l.sink);
+      talk : TalkSoFar
+          (terms_at g.K.Clock.may_answer g.G.Guard.bars g.P.FilterTable.place_of g.P.FilterTable.selects_at l.clock l.guard preds)
+          l.script l.at l.self
+          (λ p. map (g.P.FilterTable.name_at p.table.now) p.places.items) (state l.fn.desk) (state l.desk) (contents l.fn.sink)
+          (contents l.sink);
       count : g.O.Sink.faults l.sink ≡ g.O.Sink.faults l.fn.sink;
     }
 

@@ -10,7 +10,8 @@ pub returns-clause-shows : goal.returns-clause-shows
 returns-clause-shows g c =
     let state = g.T.Desk.state in
     on_ok_weaker c.show.result
-    (λ says. shows_from c.args.self.now c.show.new.self (state c.args.desk.now) (state c.sync.new.self) c.in_ok-snapshot.snapshot c.show.ensures.view c.in_ok-snapshot.ensures.sees says)
+    (λ says. shows_from c.args.self.now c.show.new.self (state c.args.desk.now)
+    (state c.sync.new.self) c.in_ok-snapshot.snapshot c.show.ensures.view c.in_ok-snapshot.ensures.sees says)
     c.show.ensures.line
 
 pub returns-clause-keeps : goal.returns-clause-keeps

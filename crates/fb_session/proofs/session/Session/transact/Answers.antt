@@ -11,8 +11,12 @@ returns-in-Ok-clause-ok g c =
     let old = c.args.self.now in
     let new = c.accept.new.self in
     let got = c.in-Ok.receipt in
-    let Says : Line → Type 0 = λ line. IsLineOf (receipt got.t got.tempids.items) line.bytes.items in
-    inl (got, received old new _ _ _ _ _ got c.in-Ok.ensures.receipt c.accept.ensures.view c.accept.ensures.commits, subst Says (sym c.accept.ensures.line) c.in-Ok.ensures.reply)
+    let IsLineFor : Line → Type 0 = λ line. IsLineOf (receipt got.t got.tempids.items) line.bytes.items in
+    inl (
+      got,
+      received old new _ _ _ _ _ got c.in-Ok.ensures.receipt c.accept.ensures.view c.accept.ensures.commits,
+      subst IsLineFor (sym c.accept.ensures.line) c.in-Ok.ensures.reply,
+    )
 
 pub returns-in-Err-Stopped-clause-ok : goal.returns-in-Err-Stopped-clause-ok
 returns-in-Err-Stopped-clause-ok g c =
@@ -21,5 +25,9 @@ returns-in-Err-Stopped-clause-ok g c =
     let snapshot = c.in-Err-Stopped.snapshot in
     let stopped = (rw c.in-Err-Stopped.field-0-is at c.in-Err-Stopped.ensures).fault in
     on_ok_weaker fail.result
-    (λ says. inr (Stopped at snapshot, denied_stopped c.args.self.now fail.new.self _ _ snapshot fail.ensures.view _ _ _ (ap (λ s. s.commits.items) fail.ensures.rest) at stopped says))
+    (λ says. inr (
+      Stopped at snapshot,
+      denied_stopped c.args.self.now fail.new.self _ _ snapshot fail.ensures.view _ _ _
+          (ap (λ s. s.commits.items) fail.ensures.rest) at stopped says,
+    ))
     fail.ensures.line

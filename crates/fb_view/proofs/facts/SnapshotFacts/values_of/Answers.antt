@@ -7,5 +7,6 @@ use Rattle.fb_view.proofs.facts.SnapshotFacts.values_of.Goals as goal
 pub returns : goal.returns
 returns c =
     IfOk-weaker c.values.result _ _
-    (λ values is. is ∙ ap (map (λ (d : Datom). d.v)) (c.deref.ensures.value ∙ c.in_ok-facts.ensures.facts) ∙ values_told c.args.self.now c.facts_led.ensures.stands c.args.e c.args.a)
+    (λ values is. is ∙ ap (map (λ (d : Datom). d.v)) (c.deref.ensures.value ∙ c.in_ok-facts.ensures.facts)
+    ∙ values_told c.args.self.now c.facts_led.ensures.stands c.args.e c.args.a)
     c.values.ensures

@@ -11,11 +11,13 @@ use Rattle.fb_view.proofs.Refilling.{no_twins_missed, refills}
 use Rattle.fb_view.proofs.growth.Recent.refill.Goals as goal
 
 pub missed-requires : goal.missed-requires
-missed-requires c = rising_from Aevt (tree_datoms c.args.older.now.roots.aevt) (c.requires.follows.1.stands.history.roots_stand.trees Aevt).rising
+missed-requires c =
+    rising_from Aevt (tree_datoms c.args.older.now.roots.aevt) (c.requires.follows.1.stands.history.roots_stand.trees Aevt).rising
 
 pub in_avet-requires : goal.in_avet-requires
 in_avet-requires c =
-    subst HasNoTwins (sym (c.deref-2.ensures.value ∙ c.in_ok-missed.ensures)) (no_twins_missed c.requires.follows.0 c.args.self.now c.args.older.now c.args.entry.now c.requires.follows.1 c.deref.result.now)
+    subst HasNoTwins (sym (c.deref-2.ensures.value ∙ c.in_ok-missed.ensures))
+    (no_twins_missed c.requires.follows.0 c.args.self.now c.args.older.now c.args.entry.now c.requires.follows.1 c.deref.result.now)
 
 pub returns : goal.returns
 returns c =
@@ -23,7 +25,17 @@ returns c =
     (λ refill is h coverage follows has.
     let after = c.requires.schema h follows.stands.schema_is in
     let sorted : IsInAvet c.covers.result.now (all_missed c.args.self.now c.args.older.now c.in_ok-gained.gained.items) refill.items =
-    subst (λ ds. IsInAvet c.covers.result.now ds refill.items) (c.deref-2.ensures.value ∙ c.in_ok-missed.ensures ∙ ap (all_missed c.args.self.now c.args.older.now) c.deref.ensures.value) is in
-    let next = refills h c.args.self.now c.args.older.now c.args.entry.now follows c.args.after.now after c.in_ok-gained.gained.items (c.in_ok-gained.ensures h follows.stands.schema_is after) c.covers.result.now refill.items c.covers.ensures sorted.rising sorted.members in
-    record { lawful = next.lawful; bound = next.bound; next = next.next; coverage_is = coverage_of c.args.after.now (h ++ c.args.entry.now ∷ []) coverage after has; refill_is = next.refill_is })
+    subst (λ ds. IsInAvet c.covers.result.now ds refill.items)
+    (c.deref-2.ensures.value ∙ c.in_ok-missed.ensures ∙ ap (all_missed c.args.self.now c.args.older.now) c.deref.ensures.value) is in
+    let next =
+    refills h c.args.self.now c.args.older.now c.args.entry.now follows c.args.after.now after c.in_ok-gained.gained.items
+    (c.in_ok-gained.ensures h follows.stands.schema_is after) c.covers.result.now refill.items c.covers.ensures sorted.rising
+    sorted.members in
+    record {
+      lawful = next.lawful;
+      bound = next.bound;
+      next = next.next;
+      coverage_is = coverage_of c.args.after.now (h ++ c.args.entry.now ∷ []) coverage after has;
+      refill_is = next.refill_is;
+    })
     c.in_avet.ensures

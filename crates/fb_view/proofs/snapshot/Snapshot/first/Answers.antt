@@ -13,7 +13,8 @@ use Rattle.fb_view.proofs.snapshot.Snapshot.first.Goals as goal
 pub trees-requires : goal.trees-requires
 trees-requires c =
     subst HasNoTwins (sym c.as_slice.ensures)
-    (subst (λ (e : Entry). HasNoTwins e.datoms) (sym (first_is c.in_ok-entries.entries c.at-first.result.now c.in_ok-entries.ensures c.at-first.ensures)) first_twins)
+    (subst (λ (e : Entry). HasNoTwins e.datoms)
+    (sym (first_is c.in_ok-entries.entries c.at-first.result.now c.in_ok-entries.ensures c.at-first.ensures)) first_twins)
 
 pub of-requires : goal.of-requires
 of-requires c = λ order. subst (IsRising order) (list_in-trees_of c.in_ok-roots.roots order) (c.in_ok-roots.ensures.grown order).rising
@@ -23,8 +24,11 @@ invariant_of-of c =
     let first = c.at-first.result.now in
     let older = c.in_ok-older.older in
     let covers = c.covers-covers.result.now in
-    let whole = first_whole c.in_ok-entries.entries first c.in_ok-schema.schema older covers c.in_ok-entries.ensures c.at-first.ensures c.in_ok-schema.ensures c.covers-covers.ensures
+    let whole =
+    first_whole c.in_ok-entries.entries first c.in_ok-schema.schema older covers c.in_ok-entries.ensures c.at-first.ensures
+    c.in_ok-schema.ensures c.covers-covers.ensures
     (c.in_ok-older.ensures.held ∙ c.in_ok-held.ensures) c.in_ok-older.ensures.covered c.in_ok-older.ensures.facts (λ order.
     subst (λ (r : Roots). IsGrown order covers [] [] first.datoms (list_in (trees_of r) order)) (sym c.in_ok-older.ensures.roots)
-    (subst (λ (ds : List Datom). IsGrown order covers [] [] ds (list_in (trees_of c.in_ok-roots.roots) order)) c.as_slice.ensures (c.in_ok-roots.ensures.grown order))) in
+    (subst (λ (ds : List Datom). IsGrown order covers [] [] ds (list_in (trees_of c.in_ok-roots.roots) order)) c.as_slice.ensures
+    (c.in_ok-roots.ensures.grown order))) in
     c.fresh-recent.ensures.stands c.in_ok-entries.entries older whole.0 whole.1

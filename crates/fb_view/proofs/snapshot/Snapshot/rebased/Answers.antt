@@ -9,4 +9,5 @@ replayed-requires-clause-roots c =
     let same = c.in_ok-entries.ensures ∙ c.entries.ensures.entries in
     subst (λ h. RootStands (trees_of c.args.roots) h c.basis.result) (sym same)
     (subst (λ n. RootStands (trees_of c.args.roots) c.args.self.now.entries n) (sym c.basis.ensures.basis)
-    (roots_from (trees_of c.args.roots) c.args.self.now.entries c.args.begin.now.entries c.entries.ensures.stands.history.lawful c.basis.ensures.stands.history.lawful c.requires.begins c.requires.roots))
+    (roots_from (trees_of c.args.roots) c.args.self.now.entries c.args.begin.now.entries c.entries.ensures.stands.history.lawful
+    c.basis.ensures.stands.history.lawful c.requires.begins c.requires.roots))

@@ -1,5 +1,5 @@
 use Rattle.std.proofs.Common.{◌∙◌, ap}
-use Rattle.fb_facts.specs.Told.{facts_of}
+use Rattle.fb_facts.specs.FactLists.{facts_of}
 use Rattle.held_facts.proofs.Telling.{told_facts}
 use Rattle.held_facts.proofs.facts.HeldFacts.facts_of.Goals as goal
 

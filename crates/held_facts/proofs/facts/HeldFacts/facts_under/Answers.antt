@@ -1,5 +1,5 @@
 use Rattle.std.proofs.Common.{◌∙◌, ap}
-use Rattle.fb_facts.specs.Told.{facts_under}
+use Rattle.fb_facts.specs.FactLists.{facts_under}
 use Rattle.held_facts.proofs.Telling.{told_under}
 use Rattle.held_facts.proofs.facts.HeldFacts.facts_under.Goals as goal
 

@@ -1,5 +1,5 @@
 use Rattle.std.proofs.Common.{◌∙◌, ap}
-use Rattle.fb_facts.specs.Told.{refs_to}
+use Rattle.fb_facts.specs.FactLists.{refs_to}
 use Rattle.held_facts.proofs.Telling.{told_refs}
 use Rattle.held_facts.proofs.facts.HeldFacts.refs_to.Goals as goal
 

@@ -2,14 +2,14 @@ use Rattle.std.proofs.Common.{◌∙◌, ap, sym}
 use Rattle.std.proofs.lemmas.Result.{IfOk-weaker}
 use Rattle.fb_values.specs.declared.indexes.Order.TheVariants.{Eavt}
 use Rattle.fb_model.specs.Schema.{is_about}
-use Rattle.fb_facts.specs.Told.{values_of}
+use Rattle.fb_facts.specs.FactLists.{values_of}
 use Rattle.held_facts.proofs.Telling.{told_values}
 use Rattle.held_facts.proofs.NewEntities.{new_has_no_values}
 use Rattle.held_facts.proofs.facts.HeldFacts.values_of.Goals as goal
 
 pub returns-then-is_new : goal.returns-then-is_new
 returns-then-is_new c =
-    let told = c.told_lists_are_the_rising_ones.ensures c.args.self.now Eavt (is_about c.args.e c.args.a) in
+    let told = c.the_lists_are_the_rising_ones.ensures c.args.self.now Eavt (is_about c.args.e c.args.a) in
     let new = sym c.is_new.ensures ∙ c.if-is_new.true in
     c.new.ensures.items ∙ new_has_no_values c.args.self.now c.args.e c.args.a told c.new_users_have_no_facts.ensures.no_datom new
 

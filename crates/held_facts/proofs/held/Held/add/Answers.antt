@@ -1,7 +1,7 @@
 use Rattle.std.proofs.Common.{◌≡◌, rules, sym, ap, ◌∙◌, subst, max, ◌++◌}
 use Rattle.fb_model.specs.History.{basis, said, users_issued, users_in}
 use Rattle.fb_model.proofs.OneMoreEntry.{basis-push, last_instant-push, said-push, users_issued-push}
-use Rattle.held_facts.specs.Kept.{HasFacts}
+use Rattle.held_facts.specs.FactMaps.{HasFacts}
 use Rattle.held_facts.proofs.held.Held.add.Goals as goal
 
 pub invariant_of-result : goal.invariant_of-result

@@ -26,15 +26,21 @@ loop-datom-preserved c =
       are = c.in_ok-indexes.ensures.are;
       rising = λ order.
           let list = list_in (lists_of c.loop-datom.indexes) order in
-          subst (IsRising order) (sym (c.in_ok-indexes.ensures.lists order)) (taken-rising covers order list item (c.loop-datom.invariant.rising order));
+          subst (IsRising order) (sym (c.in_ok-indexes.ensures.lists order))
+          (taken-rising covers order list item (c.loop-datom.invariant.rising order));
       members = λ order.
           let old = list_in (lists_of c.args.self) order in
           let list = list_in (lists_of c.loop-datom.indexes) order in
           let i = c.loop-datom.datom-index in
           let P : Datom → Type 0 = λ d. IsTrue (takes covers order d) in
-          let single = single_next old list c.args.datoms.now i item P (c.requires.single order) (c.loop-datom.invariant.members order) c.loop-datom-test.true c.datom-item.is in
-          let one = subst (Gains list (λ d. (item ≡ d) × P d)) (sym (c.in_ok-indexes.ensures.lists order)) (taken-gains covers order list item single) in
-          gains_more old list c.args.datoms.now (list_in (lists_of c.in_ok-indexes.indexes) order) i item P (c.loop-datom.invariant.members order) c.loop-datom-test.true c.datom-item.is one;
+          let single =
+          single_next old list c.args.datoms.now i item P (c.requires.single order)
+          (c.loop-datom.invariant.members order) c.loop-datom-test.true c.datom-item.is in
+          let one =
+          subst (Gains list (λ d. (item ≡ d) × P d)) (sym (c.in_ok-indexes.ensures.lists order))
+          (taken-gains covers order list item single) in
+          gains_more old list c.args.datoms.now (list_in (lists_of c.in_ok-indexes.indexes) order) i item P
+          (c.loop-datom.invariant.members order) c.loop-datom-test.true c.datom-item.is one;
     }
 
 pub returns : goal.returns
@@ -43,5 +49,7 @@ returns c =
       are = c.loop-datom.invariant.are;
       rising = c.loop-datom.invariant.rising;
       members = λ order.
-          gains_all (list_in (lists_of c.args.self) order) (list_in (lists_of c.loop-datom.indexes) order) c.args.datoms.now c.loop-datom.datom-index (λ d. IsTrue (takes c.args.covers.now order d)) c.loop-datom-test.false (c.loop-datom.invariant.members order);
+          gains_all (list_in (lists_of c.args.self) order)
+          (list_in (lists_of c.loop-datom.indexes) order) c.args.datoms.now c.loop-datom.datom-index
+          (λ d. IsTrue (takes c.args.covers.now order d)) c.loop-datom-test.false (c.loop-datom.invariant.members order);
     }

@@ -16,5 +16,6 @@ invariant-loop-datom l =
       rising : (order : Order) → IsRising order (list_in (lists_of l.indexes) order);
       members : (order : Order) (d : Datom)
           → Contains (list_in (lists_of l.indexes) order) d
-          ↔ (Contains (list_in (lists_of l.initial.indexes) order) d ⊎ (Contains (take l.datom-index l.datoms) d × IsTrue (takes l.covers order d)));
+          ↔ (Contains (list_in (lists_of l.initial.indexes) order) d
+          ⊎ (Contains (take l.datom-index l.datoms) d × IsTrue (takes l.covers order d)));
     }

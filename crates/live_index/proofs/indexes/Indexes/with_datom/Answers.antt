@@ -20,11 +20,14 @@ listed_next pool new d l is listed = rw is (listed-longer pool d l listed)
 room_next : (pool new : List Datom) (d : Datom) (l : Listed) → new ≡ pool ++ d ∷ [] → IsListed pool l → length l.slots.items < length new
 room_next pool new d l is listed = rw is (omega (arith, length-append pool (d ∷ []), listed.few))
 
-rising_next : (pool new : List Datom) (d : Datom) (l : Listed) (order : Order) → new ≡ pool ++ d ∷ [] → IsListed pool l → IsRising order (datoms_of pool l) → IsRising order (datoms_of new l)
+rising_next : (pool new : List Datom) (d : Datom) (l : Listed) (order : Order) → new ≡ pool ++ d ∷ [] → IsListed pool l
+    → IsRising order (datoms_of pool l) → IsRising order (datoms_of new l)
 rising_next pool new d l order is listed rising = rw is (subst (IsRising order) (sym (datoms-longer pool d l listed)) rising)
 
-taken_next : (c : Coverage) (order : Order) (pool new : List Datom) (d : Datom) (slot : ℕ) (l more : Listed) → new ≡ pool ++ d ∷ [] → slot ≡ length pool → IsListed pool l
-    → datoms_of new more ≡ with_taken c order (datoms_of new l) (get_or new slot nothing) → datoms_of new more ≡ with_taken c order (datoms_of pool l) d
+taken_next : (c : Coverage) (order : Order) (pool new : List Datom) (d : Datom) (slot : ℕ) (l more : Listed) → new ≡ pool ++ d ∷ []
+    → slot ≡ length pool → IsListed pool l
+    → datoms_of new more ≡ with_taken c order (datoms_of new l) (get_or new slot nothing)
+    → datoms_of new more ≡ with_taken c order (datoms_of pool l) d
 taken_next c order pool new d slot l more is last listed taken =
     let same : datoms_of new l ≡ datoms_of pool l = rw is (datoms-longer pool d l listed) in
     let there : get_or new slot nothing ≡ d = rw is (get_or_at pool d [] nothing slot (sym last)) in
@@ -70,10 +73,20 @@ pub returns-clause-lists : goal.returns-clause-lists
 returns-clause-lists c =
     let old = c.args.self in
     let covers = c.args.covers.now in
-    let new : Indexes = record { pool = c.in_ok-pool.pool; eavt = c.in_ok-eavt.eavt; aevt = c.in_ok-aevt.aevt; avet = c.in_ok-avet.avet; vaet = c.in_ok-vaet.vaet } in
+    let new : Indexes = record {
+      pool = c.in_ok-pool.pool;
+      eavt = c.in_ok-eavt.eavt;
+      aevt = c.in_ok-aevt.aevt;
+      avet = c.in_ok-avet.avet;
+      vaet = c.in_ok-vaet.vaet;
+    } in
     let is = c.in_ok-pool.ensures in
     in_each (λ order. list_in (lists_of new) order ≡ with_taken covers order (list_in (lists_of old) order) c.args.datom)
-    (taken_next covers Eavt old.pool new.pool c.args.datom c.len-slot.result old.eavt new.eavt is c.len-slot.ensures.len (c.requires.are Eavt) c.in_ok-eavt.ensures.datoms)
-    (taken_next covers Aevt old.pool new.pool c.args.datom c.len-slot.result old.aevt new.aevt is c.len-slot.ensures.len (c.requires.are Aevt) c.in_ok-aevt.ensures.datoms)
-    (taken_next covers Avet old.pool new.pool c.args.datom c.len-slot.result old.avet new.avet is c.len-slot.ensures.len (c.requires.are Avet) c.in_ok-avet.ensures.datoms)
-    (taken_next covers Vaet old.pool new.pool c.args.datom c.len-slot.result old.vaet new.vaet is c.len-slot.ensures.len (c.requires.are Vaet) c.in_ok-vaet.ensures.datoms)
+    (taken_next covers Eavt old.pool new.pool c.args.datom c.len-slot.result old.eavt new.eavt is c.len-slot.ensures.len
+    (c.requires.are Eavt) c.in_ok-eavt.ensures.datoms)
+    (taken_next covers Aevt old.pool new.pool c.args.datom c.len-slot.result old.aevt new.aevt is c.len-slot.ensures.len
+    (c.requires.are Aevt) c.in_ok-aevt.ensures.datoms)
+    (taken_next covers Avet old.pool new.pool c.args.datom c.len-slot.result old.avet new.avet is c.len-slot.ensures.len
+    (c.requires.are Avet) c.in_ok-avet.ensures.datoms)
+    (taken_next covers Vaet old.pool new.pool c.args.datom c.len-slot.result old.vaet new.vaet is c.len-slot.ensures.len
+    (c.requires.are Vaet) c.in_ok-vaet.ensures.datoms)

@@ -10,5 +10,6 @@ datom-requires-clause-within c =
 
 pub returns-else-place-len : goal.returns-else-place-len
 returns-else-place-len c =
-    let past : length (datoms_of c.args.pool.now c.args.self.now) ≤ c.args.place = omega (arith, c.if-place-len.false, c.len.ensures, length-datoms c.args.pool.now c.args.self.now c.requires) in
+    let past : length (datoms_of c.args.pool.now c.args.self.now) ≤ c.args.place =
+    omega (arith, c.if-place-len.false, c.len.ensures, length-datoms c.args.pool.now c.args.self.now c.requires) in
     rw (none_past (datoms_of c.args.pool.now c.args.self.now) c.args.place past) refl

@@ -7,11 +7,13 @@ use Rattle.live_index.proofs.listed.Listed.place.Goals as goal
 
 pub place-older-requires : goal.place-older-requires
 place-older-requires c =
-    (parts (probe_of c.args.order c.args.datom.now) _ _ _ c.requires.listed.newest.same c.requires.listed.newest.stand c.requires.rising).old_rises
+    (parts (probe_of c.args.order c.args.datom.now) _ _ _ c.requires.listed.newest.same c.requires.listed.newest.stand
+    c.requires.rising).old_rises
 
 pub newer_place-requires-clause-rising : goal.newer_place-requires-clause-rising
 newer_place-requires-clause-rising c =
-    rw c.deref.ensures.value (parts (probe_of c.args.order c.args.datom.now) _ _ _ c.requires.listed.newest.same c.requires.listed.newest.stand c.requires.rising).new_rises
+    rw c.deref.ensures.value (parts (probe_of c.args.order c.args.datom.now) _ _ _ c.requires.listed.newest.same
+    c.requires.listed.newest.stand c.requires.rising).new_rises
 
 pub overflow_add-result : goal.overflow_add-result
 overflow_add-result c =

@@ -14,7 +14,8 @@ seek-older-requires g c =
 
 pub newer_below-requires-clause-rising : goal.newer_below-requires-clause-rising
 newer_below-requires-clause-rising g c =
-    rw c.deref.ensures.value (parts c.args.probe.now _ _ _ c.requires.listed.newest.same c.requires.listed.newest.stand c.requires.rising).new_rises
+    rw c.deref.ensures.value
+    (parts c.args.probe.now _ _ _ c.requires.listed.newest.same c.requires.listed.newest.stand c.requires.rising).new_rises
 
 pub overflow_add-result : goal.overflow_add-result
 overflow_add-result g c =

@@ -19,11 +19,13 @@ returns-in-Tree-clause-listed c =
     let e = c.without_older.ensures in
     three_ok c.without_older.result _ _ _ _ (λ new older below slots.
     listed-without_older c.args.pool.now c.args.self c.in-Tree.place c.args.place c.requires.listed
-    (rw c.deref.ensures.value at c.in-Tree.ensures.stands) c.requires.within new (record { older = older; below = below; slots = slots })) e.older e.below e.slots
+    (rw c.deref.ensures.value at c.in-Tree.ensures.stands) c.requires.within new (record { older = older; below = below; slots = slots }))
+    e.older e.below e.slots
 
 pub returns-in-Tree-clause-datoms : goal.returns-in-Tree-clause-datoms
 returns-in-Tree-clause-datoms c =
     let e = c.without_older.ensures in
     three_ok c.without_older.result _ _ _ _ (λ new older below slots.
     datoms-without_older c.args.pool.now c.args.self c.in-Tree.place c.args.place c.requires.listed
-    (rw c.deref.ensures.value at c.in-Tree.ensures.stands) c.requires.within new (record { older = older; below = below; slots = slots })) e.older e.below e.slots
+    (rw c.deref.ensures.value at c.in-Tree.ensures.stands) c.requires.within new (record { older = older; below = below; slots = slots }))
+    e.older e.below e.slots

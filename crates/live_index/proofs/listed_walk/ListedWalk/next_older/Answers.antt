@@ -13,4 +13,5 @@ returns-clause-first c =
     let high = w.place + length w.older in
     let same : length w.below.now ≡ length new = c.requires.left.same ∙ sym (length-at_slots w.pool.now w.slots.now) in
     ap (λ (l : List Datom). woven w.place l w.below.now new) c.in_ok-datom.ensures
-    ∙ woven-old w.place high c.in_ok-datom.datom.now c.next.new.self w.below.now new same (stand-next w.place high w.below.now c.requires.behind c.requires.left.stand)
+    ∙ woven-old w.place high c.in_ok-datom.datom.now c.next.new.self w.below.now new same
+    (stand-next w.place high w.below.now c.requires.behind c.requires.left.stand)

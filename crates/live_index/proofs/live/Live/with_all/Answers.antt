@@ -10,19 +10,26 @@ use Rattle.live_index.proofs.live.Live.with_all.Goals as goal
 
 pub with_all-requires-clause-halves : goal.with_all-requires-clause-halves
 with_all-requires-clause-halves c = λ order.
-    copies_halves c.self.inside.holding c.self.inside.past (lists_of c.in_ok-holding.holding) c.in_ok-past.past c.self.invariant c.in_ok-holding.ensures.same c.in_ok-past.ensures order
+    copies_halves c.self.inside.holding c.self.inside.past
+    (lists_of c.in_ok-holding.holding) c.in_ok-past.past c.self.invariant c.in_ok-holding.ensures.same c.in_ok-past.ensures order
 
 pub with_all-requires-clause-held : goal.with_all-requires-clause-held
 with_all-requires-clause-held c = λ order.
-    subst (λ (l : List Datom). All (λ d. IsTrue (is_held c.args.before.now order d)) l) (sym (copies_are c.self.inside.holding c.self.inside.past c.args.self.now (lists_of c.in_ok-holding.holding) c.in_ok-past.past c.self.view_is c.in_ok-holding.ensures.same c.in_ok-past.ensures order)) (c.requires.held order)
+    subst (λ (l : List Datom). All (λ d. IsTrue (is_held c.args.before.now order d)) l)
+    (sym (copies_are c.self.inside.holding c.self.inside.past c.args.self.now (lists_of c.in_ok-holding.holding) c.in_ok-past.past
+    c.self.view_is c.in_ok-holding.ensures.same c.in_ok-past.ensures order)) (c.requires.held order)
 
 pub with_all-requires-clause-single : goal.with_all-requires-clause-single
 with_all-requires-clause-single c = λ order.
-    subst (λ (l : List Datom). HasNoTwins (l ++ more_in order c.args.more.now c.args.filled.now)) (sym (copies_are c.self.inside.holding c.self.inside.past c.args.self.now (lists_of c.in_ok-holding.holding) c.in_ok-past.past c.self.view_is c.in_ok-holding.ensures.same c.in_ok-past.ensures order)) (c.requires.single order)
+    subst (λ (l : List Datom). HasNoTwins (l ++ more_in order c.args.more.now c.args.filled.now))
+    (sym (copies_are c.self.inside.holding c.self.inside.past c.args.self.now (lists_of c.in_ok-holding.holding) c.in_ok-past.past
+    c.self.view_is c.in_ok-holding.ensures.same c.in_ok-past.ensures order)) (c.requires.single order)
 
 pub invariant_of-result : goal.invariant_of-result
 invariant_of-result c =
-    remade_halves c.args.before.now c.args.after.now c.self.inside.holding c.self.inside.past c.args.self.now c.args.more.now c.args.filled.now (lists_of c.in_ok-holding.holding) c.in_ok-past.past (lists_of c.in_ok-halves.halves.holding) c.in_ok-halves.halves.past c.in_ok-holding-2.holding record {
+    remade_halves c.args.before.now c.args.after.now c.self.inside.holding
+    c.self.inside.past c.args.self.now c.args.more.now c.args.filled.now (lists_of c.in_ok-holding.holding) c.in_ok-past.past
+    (lists_of c.in_ok-halves.halves.holding) c.in_ok-halves.halves.past c.in_ok-holding-2.holding record {
       is = c.self.view_is;
       halves = c.self.invariant;
       copy_is = c.in_ok-holding.ensures.same;
@@ -33,7 +40,9 @@ invariant_of-result c =
 
 pub returns : goal.returns
 returns c =
-    remade_grown c.args.before.now c.args.after.now c.self.inside.holding c.self.inside.past c.args.self.now c.args.more.now c.args.filled.now (lists_of c.in_ok-holding.holding) c.in_ok-past.past (lists_of c.in_ok-halves.halves.holding) c.in_ok-halves.halves.past c.in_ok-holding-2.holding record {
+    remade_grown c.args.before.now c.args.after.now c.self.inside.holding
+    c.self.inside.past c.args.self.now c.args.more.now c.args.filled.now (lists_of c.in_ok-holding.holding) c.in_ok-past.past
+    (lists_of c.in_ok-halves.halves.holding) c.in_ok-halves.halves.past c.in_ok-holding-2.holding record {
       is = c.self.view_is;
       halves = c.self.invariant;
       copy_is = c.in_ok-holding.ensures.same;

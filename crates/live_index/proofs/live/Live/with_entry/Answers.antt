@@ -14,10 +14,12 @@ grown-requires-clause-follow c = λ order.
 pub returns-clause-grown : goal.returns-clause-grown
 returns-clause-grown c =
     both_ok c.grown.result _ _ _ (λ live grown also order.
-    subst (λ (ds : List Datom). IsGrown order c.args.covers.now (list_in c.args.self.now order) [] ds (list_in live order)) c.as_slice.ensures (grown order)) c.grown.ensures c.grown.ensures
+    subst (λ (ds : List Datom). IsGrown order c.args.covers.now (list_in c.args.self.now order) [] ds (list_in live order))
+    c.as_slice.ensures (grown order)) c.grown.ensures c.grown.ensures
 
 pub returns-clause-stands : goal.returns-clause-stands
 returns-clause-stands c =
     both_ok c.grown.result _ _ _ (λ live grown also h at is was.
     stands h at c.args.entry.now c.args.covers.now [] is c.args.self.now was live (λ order.
-    subst (λ (ds : List Datom). IsGrown order c.args.covers.now (list_in c.args.self.now order) [] ds (list_in live order)) c.as_slice.ensures (grown order))) c.grown.ensures c.grown.ensures
+    subst (λ (ds : List Datom). IsGrown order c.args.covers.now (list_in c.args.self.now order) [] ds (list_in live order))
+    c.as_slice.ensures (grown order))) c.grown.ensures c.grown.ensures

@@ -22,17 +22,22 @@ grown-requires-clause-held c = λ order. grown_held order _ _ _ _ _ (c.in_ok-fil
 
 pub grown-requires-clause-follow : goal.grown-requires-clause-follow
 grown-requires-clause-follow c = λ order.
-    subst (λ (ds : List Datom). MayFollow (list_in c.in_ok-filled.filled order) ds) (sym c.as_slice.ensures) (c.requires.follow c.in_ok-filled.filled c.in_ok-filled.ensures order)
+    subst (λ (ds : List Datom). MayFollow (list_in c.in_ok-filled.filled order) ds) (sym c.as_slice.ensures)
+    (c.requires.follow c.in_ok-filled.filled c.in_ok-filled.ensures order)
 
 pub returns-clause-grown : goal.returns-clause-grown
 returns-clause-grown c =
     both_ok c.grown.result _ _ _ (λ live grown also order.
-    grown_twice order c.args.after.now (list_in c.args.self.now order) c.args.refill.now (list_in c.in_ok-filled.filled order) c.args.entry.now.datoms (list_in live order) (c.in_ok-filled.ensures order)
-    (subst (λ (ds : List Datom). IsGrown order c.args.after.now (list_in c.in_ok-filled.filled order) [] ds (list_in live order)) c.as_slice.ensures (grown order))) c.grown.ensures c.grown.ensures
+    grown_twice order c.args.after.now (list_in c.args.self.now order) c.args.refill.now
+    (list_in c.in_ok-filled.filled order) c.args.entry.now.datoms (list_in live order) (c.in_ok-filled.ensures order)
+    (subst (λ (ds : List Datom). IsGrown order c.args.after.now (list_in c.in_ok-filled.filled order) [] ds (list_in live order))
+    c.as_slice.ensures (grown order))) c.grown.ensures c.grown.ensures
 
 pub returns-clause-stands : goal.returns-clause-stands
 returns-clause-stands c =
     both_ok c.grown.result _ _ _ (λ live grown also h at is was.
     stands h at c.args.entry.now c.args.after.now c.args.refill.now is c.args.self.now was live (λ order.
-    grown_twice order c.args.after.now (list_in c.args.self.now order) c.args.refill.now (list_in c.in_ok-filled.filled order) c.args.entry.now.datoms (list_in live order) (c.in_ok-filled.ensures order)
-    (subst (λ (ds : List Datom). IsGrown order c.args.after.now (list_in c.in_ok-filled.filled order) [] ds (list_in live order)) c.as_slice.ensures (grown order)))) c.grown.ensures c.grown.ensures
+    grown_twice order c.args.after.now (list_in c.args.self.now order) c.args.refill.now
+    (list_in c.in_ok-filled.filled order) c.args.entry.now.datoms (list_in live order) (c.in_ok-filled.ensures order)
+    (subst (λ (ds : List Datom). IsGrown order c.args.after.now (list_in c.in_ok-filled.filled order) [] ds (list_in live order))
+    c.as_slice.ensures (grown order)))) c.grown.ensures c.grown.ensures

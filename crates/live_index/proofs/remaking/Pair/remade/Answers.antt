@@ -38,5 +38,6 @@ returns-clause-made c =
     let first : datoms_of c.args.pool.now c.of.result ≡ standing (in_order order all) =
     datoms-settled c.args.pool.now c.of.result c.of.ensures.below c.of.ensures.slots ∙ c.of.ensures.older ∙ c.in_ok-split.ensures.holding in
     subst (λ (l : List Datom). AreMade order covers (merged order holding past) more l c.in_ok-split.split.past) (sym first)
-    (subst (λ (l : List Datom). AreMade order covers (merged order holding past) more (standing (in_order order all)) l) (sym c.in_ok-split.ensures.past)
+    (subst (λ (l : List Datom). AreMade order covers (merged order holding past) more (standing (in_order order all)) l)
+    (sym c.in_ok-split.ensures.past)
     (made_anew order covers holding past more all c.requires.halves c.requires.single all_is))

@@ -11,5 +11,6 @@ invariant-loop-datom l =
     record {
       are : AreIndexes l.halves.holding;
       retracted : (order : Order)
-          → IsRetracted order l.covers (list_in (lists_of l.initial.halves.holding) order) (list_in l.initial.halves.past order) (take l.datom-index l.datoms) (list_in (lists_of l.halves.holding) order) (list_in l.halves.past order);
+          → IsRetracted order l.covers (list_in (lists_of l.initial.halves.holding) order) (list_in l.initial.halves.past order)
+          (take l.datom-index l.datoms) (list_in (lists_of l.halves.holding) order) (list_in l.halves.past order);
     }

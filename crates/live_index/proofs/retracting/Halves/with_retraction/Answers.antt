@@ -21,7 +21,8 @@ retracted_in-requires-clause-past c =
 pub retracted_in-requires-clause-single : goal.retracted_in-requires-clause-single
 retracted_in-requires-clause-single c =
     let is : c.past.inside.eavt ≡ list_in c.args.self.past Eavt = ap (λ (ls : Lists). list_in ls Eavt) c.past.view_is in
-    subst (λ (l : List Datom). HasNoTwins (datoms_of c.args.self.holding.pool c.args.self.holding.eavt ++ l ++ c.args.datom.now ∷ [])) (sym is) (c.requires.single Eavt)
+    subst (λ (l : List Datom). HasNoTwins (datoms_of c.args.self.holding.pool c.args.self.holding.eavt ++ l ++ c.args.datom.now ∷ []))
+    (sym is) (c.requires.single Eavt)
 
 pub retracted_in-requires-clause-may : goal.retracted_in-requires-clause-may
 retracted_in-requires-clause-may c = c.requires.may Eavt
@@ -40,7 +41,8 @@ retracted_in-requires-2-clause-past c =
 pub retracted_in-requires-2-clause-single : goal.retracted_in-requires-2-clause-single
 retracted_in-requires-2-clause-single c =
     let is : c.past.inside.aevt ≡ list_in c.args.self.past Aevt = ap (λ (ls : Lists). list_in ls Aevt) c.past.view_is in
-    subst (λ (l : List Datom). HasNoTwins (datoms_of c.args.self.holding.pool c.args.self.holding.aevt ++ l ++ c.args.datom.now ∷ [])) (sym is) (c.requires.single Aevt)
+    subst (λ (l : List Datom). HasNoTwins (datoms_of c.args.self.holding.pool c.args.self.holding.aevt ++ l ++ c.args.datom.now ∷ []))
+    (sym is) (c.requires.single Aevt)
 
 pub retracted_in-requires-2-clause-may : goal.retracted_in-requires-2-clause-may
 retracted_in-requires-2-clause-may c = c.requires.may Aevt
@@ -59,7 +61,8 @@ retracted_in-requires-3-clause-past c =
 pub retracted_in-requires-3-clause-single : goal.retracted_in-requires-3-clause-single
 retracted_in-requires-3-clause-single c =
     let is : c.past.inside.avet ≡ list_in c.args.self.past Avet = ap (λ (ls : Lists). list_in ls Avet) c.past.view_is in
-    subst (λ (l : List Datom). HasNoTwins (datoms_of c.args.self.holding.pool c.args.self.holding.avet ++ l ++ c.args.datom.now ∷ [])) (sym is) (c.requires.single Avet)
+    subst (λ (l : List Datom). HasNoTwins (datoms_of c.args.self.holding.pool c.args.self.holding.avet ++ l ++ c.args.datom.now ∷ []))
+    (sym is) (c.requires.single Avet)
 
 pub retracted_in-requires-3-clause-may : goal.retracted_in-requires-3-clause-may
 retracted_in-requires-3-clause-may c = c.requires.may Avet
@@ -78,7 +81,8 @@ retracted_in-requires-4-clause-past c =
 pub retracted_in-requires-4-clause-single : goal.retracted_in-requires-4-clause-single
 retracted_in-requires-4-clause-single c =
     let is : c.past.inside.vaet ≡ list_in c.args.self.past Vaet = ap (λ (ls : Lists). list_in ls Vaet) c.past.view_is in
-    subst (λ (l : List Datom). HasNoTwins (datoms_of c.args.self.holding.pool c.args.self.holding.vaet ++ l ++ c.args.datom.now ∷ [])) (sym is) (c.requires.single Vaet)
+    subst (λ (l : List Datom). HasNoTwins (datoms_of c.args.self.holding.pool c.args.self.holding.vaet ++ l ++ c.args.datom.now ∷ []))
+    (sym is) (c.requires.single Vaet)
 
 pub retracted_in-requires-4-clause-may : goal.retracted_in-requires-4-clause-may
 retracted_in-requires-4-clause-may c = c.requires.may Vaet

@@ -15,7 +15,8 @@ pub invariant_of-self-else-is_next : goal.invariant_of-self-else-is_next
 invariant_of-self-else-is_next c =
     let w = c.self.inside in
     let first = rw (c.first.ensures, c.first-2.ensures) at (sym c.is_next.ensures ∙ c.if-is_next.false) in
-    (step_past w.order w.holding w.past c.next-else-is_next.new.self c.next-else-is_next.result c.self.invariant first c.next-else-is_next.ensures).pair
+    (step_past w.order w.holding w.past c.next-else-is_next.new.self c.next-else-is_next.result c.self.invariant first
+    c.next-else-is_next.ensures).pair
 
 pub returns-then-is_next : goal.returns-then-is_next
 returns-then-is_next c =
@@ -28,5 +29,8 @@ pub returns-else-is_next : goal.returns-else-is_next
 returns-else-is_next c =
     let w = c.self.inside in
     let first = rw (c.first.ensures, c.first-2.ensures) at (sym c.is_next.ensures ∙ c.if-is_next.false) in
-    let step = step_past w.order w.holding w.past c.next-else-is_next.new.self c.next-else-is_next.result c.self.invariant first c.next-else-is_next.ensures in
-    subst (λ (l : List Datom). IsFirstOf l (merged w.order w.holding c.next-else-is_next.new.self) c.next-else-is_next.result) c.self.view_is step.first
+    let step =
+    step_past w.order w.holding w.past c.next-else-is_next.new.self c.next-else-is_next.result c.self.invariant first
+    c.next-else-is_next.ensures in
+    subst (λ (l : List Datom). IsFirstOf l (merged w.order w.holding c.next-else-is_next.new.self) c.next-else-is_next.result)
+    c.self.view_is step.first

@@ -13,7 +13,8 @@ returns c =
     let step : FitsSigned w64 c.self.inside.step = search rules in
     let sum : FitsSigned w128 c.saturating_add-reading.result = search rules in
     let back : to_z w64 (of_z w64 (to_z w128 (of_z w128 c.clamp.result))) ≡ c.clamp.result = omega (arith, ints) in
-    let exact : to_z w128 (of_z w128 c.saturating_add-reading.result) ≡ saturate_signed w128 (c.self.inside.first +ℤ pos c.args.call *ℤ c.self.inside.step) =
+    let exact : to_z w128 (of_z w128 c.saturating_add-reading.result)
+    ≡ saturate_signed w128 (c.self.inside.first +ℤ pos c.args.call *ℤ c.self.inside.step) =
     to_z-of_z w128 c.saturating_add-reading.result sum
     ∙ c.saturating_add-reading.ensures
     ∙ ap (saturate_signed w128) (whole c.self.inside.first c.self.inside.step c.args.call first step c.ranges.call.fits) in

@@ -14,6 +14,7 @@ returns-in-File-clause-crash c = λ image left.
 pub returns-in-InMemory-clause-time : goal.returns-in-InMemory-clause-time
 returns-in-InMemory-clause-time c =
     subst
-    (λ (d : AnyDisk). Elapses (moment_at d) (moment_of c.write_at-in-InMemory.new.self) (may_have_left d) (may_have_left (InMemory c.write_at-in-InMemory.new.self)) (may_leave (InMemory c.write_at-in-InMemory.new.self)))
+    (λ (d : AnyDisk). Elapses (moment_at d) (moment_of c.write_at-in-InMemory.new.self) (may_have_left d)
+    (may_have_left (InMemory c.write_at-in-InMemory.new.self)) (may_leave (InMemory c.write_at-in-InMemory.new.self)))
     (sym c.in-InMemory.is)
     c.write_at-in-InMemory.ensures.time

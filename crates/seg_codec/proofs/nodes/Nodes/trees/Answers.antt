@@ -1,4 +1,4 @@
-use Rattle.seg_codec.specs.Told.{ids_of}
+use Rattle.seg_codec.specs.Answers.{ids_of}
 use Rattle.seg_codec.proofs.Passing.{known_eavt, known_aevt, known_avet, known_vaet, four_distinct, trees_found}
 use Rattle.seg_codec.proofs.nodes.Nodes.trees.Goals as goal
 

@@ -8,7 +8,8 @@ pub build-requires-clause-older : goal.build-requires-clause-older
 build-requires-clause-older c = c.requires.older Eavt
 
 pub build-requires-2-clause-older : goal.build-requires-2-clause-older
-build-requires-2-clause-older c = older_than c.args.first c.in_ok-eavt.second c.args.self.aevt.kept c.in_ok-eavt.ensures.behind (c.requires.older Aevt)
+build-requires-2-clause-older c =
+    older_than c.args.first c.in_ok-eavt.second c.args.self.aevt.kept c.in_ok-eavt.ensures.behind (c.requires.older Aevt)
 
 pub build-requires-3-clause-older : goal.build-requires-3-clause-older
 build-requires-3-clause-older c =
@@ -17,13 +18,16 @@ build-requires-3-clause-older c =
 
 pub build-requires-4-clause-older : goal.build-requires-4-clause-older
 build-requires-4-clause-older c =
-    let le : c.args.first ≤ c.in_ok-avet.fourth = omega (arith, c.in_ok-eavt.ensures.behind, c.in_ok-aevt.ensures.behind, c.in_ok-avet.ensures.behind) in
+    let le : c.args.first ≤ c.in_ok-avet.fourth =
+    omega (arith, c.in_ok-eavt.ensures.behind, c.in_ok-aevt.ensures.behind, c.in_ok-avet.ensures.behind) in
     older_than c.args.first c.in_ok-avet.fourth c.args.self.vaet.kept le (c.requires.older Vaet)
 
 pub invariant_of-result : goal.invariant_of-result
 invariant_of-result c =
     let self = c.args.self in
-    let built : FourBuilt c.args.first c.in_ok-eavt.second c.in_ok-aevt.third c.in_ok-avet.fourth c.in_ok-vaet.field-0-1 self.eavt self.aevt self.avet self.vaet c.in_ok-eavt.eavt c.in_ok-aevt.aevt c.in_ok-avet.avet c.in_ok-vaet.vaet = record {
+    let built : FourBuilt c.args.first c.in_ok-eavt.second c.in_ok-aevt.third c.in_ok-avet.fourth c.in_ok-vaet.field-0-1 self.eavt self.aevt
+    self.avet self.vaet c.in_ok-eavt.eavt c.in_ok-aevt.aevt c.in_ok-avet.avet c.in_ok-vaet.vaet =
+    record {
       eavt = c.in_ok-eavt.ensures;
       aevt = c.in_ok-aevt.ensures;
       avet = c.in_ok-avet.ensures;
@@ -53,7 +57,8 @@ returns-clause-kept c =
 pub returns-clause-ids : goal.returns-clause-ids
 returns-clause-ids c =
     let self = c.args.self in
-    built_in_row c.args.first c.in_ok-eavt.second c.in_ok-aevt.third c.in_ok-avet.fourth c.in_ok-vaet.field-0-1 self.eavt self.aevt self.avet self.vaet c.in_ok-eavt.eavt c.in_ok-aevt.aevt c.in_ok-avet.avet c.in_ok-vaet.vaet (record {
+    built_in_row c.args.first c.in_ok-eavt.second c.in_ok-aevt.third c.in_ok-avet.fourth c.in_ok-vaet.field-0-1 self.eavt self.aevt
+    self.avet self.vaet c.in_ok-eavt.eavt c.in_ok-aevt.aevt c.in_ok-avet.avet c.in_ok-vaet.vaet (record {
       eavt = c.in_ok-eavt.ensures;
       aevt = c.in_ok-aevt.ensures;
       avet = c.in_ok-avet.ensures;

@@ -16,8 +16,12 @@ keep-requires c =
     let leaf = c.in-Kept.leaf in
     let gives = c.into_iter-piece-iterator.ensures.into_iter_gives in
     let yields = YieldsList-from_vec {s = c.into_iter-piece-iterator.result} pieces.items gives.0 (omega (arith, gives.1, pieces.ok.0)) in
-    let turn = YieldsList-turn yields c.loop-piece.yielded _ c.loop-piece.yielded_by c.next.result c.next.new.self c.in-Some.piece c.in-Some.is c.next.ensures.steps in
+    let turn =
+    YieldsList-turn yields c.loop-piece.yielded _ c.loop-piece.yielded_by c.next.result c.next.new.self c.in-Some.piece c.in-Some.is
+    c.next.ensures.steps in
     let there = kept_contains pieces.items c.in-Some.piece leaf (length c.loop-piece.yielded, turn.0, sym turn.1) c.in-Kept.is in
-    let kept : Contains c.args.self.kept (arc_value leaf) = subst (λ (p : Planned). Contains p.kept (arc_value leaf)) c.self.view_is there in
-    let less : (arc_value leaf).id < c.args.first = All-contains (λ (l : LeafNode). l.id < c.args.first) c.args.self.kept (arc_value leaf) c.requires.older kept in
+    let kept : Contains c.args.self.kept (arc_value leaf) =
+    subst (λ (p : Planned). Contains p.kept (arc_value leaf)) c.self.view_is there in
+    let less : (arc_value leaf).id < c.args.first =
+    All-contains (λ (l : LeafNode). l.id < c.args.first) c.args.self.kept (arc_value leaf) c.requires.older kept in
     subst (λ (b : Build). (arc_value leaf).id < b.first) (sym c.loop-piece.invariant) less

@@ -11,7 +11,7 @@ pub returns-in-Ok-clause-kept : goal.returns-in-Ok-clause-kept
 returns-in-Ok-clause-kept g c = λ begun.
     let d = g.D.Disk in let fits = c.requires.fits in let kept = c.in-Ok.ensures.kept fits.records fits.keeps fits.fits in
     newest_kept d.bytes d.images fits.records kept.0 c.args.base.now begun c.args.self.now c.keep.new.self kept.2 kept.1
-    c.in-Ok.ensures.told c.in-Ok.ensures.ids
+    c.in-Ok.ensures.known c.in-Ok.ensures.ids
 
 pub returns-in-Ok-clause-stays : goal.returns-in-Ok-clause-stays
 returns-in-Ok-clause-stays g c =

@@ -20,12 +20,13 @@ returns-in-Ok-found_in-clause-loaded g c =
     let all = c.in-Ok-found_in.ensures.found c.args.disk c.in-Ok.ensures.begins in
     IfOk-weaker c.loaded_behind.result _ _ (λ loaded is. is c.args.disk all.0 all.1) c.loaded_behind.ensures.loaded
 
-pub returns-in-Err-clause-told : goal.returns-in-Err-clause-told
-returns-in-Err-clause-told g c =
-    IfOk-weaker c.loaded_before.result _ _ (λ loaded is. is (g.D.Disk.bytes c.args.disk) c.in-Err.ensures.bytes) c.loaded_before.ensures.told
+pub returns-in-Err-clause-known : goal.returns-in-Err-clause-known
+returns-in-Err-clause-known g c =
+    IfOk-weaker c.loaded_before.result _ _
+    (λ loaded is. is (g.D.Disk.bytes c.args.disk) c.in-Err.ensures.bytes) c.loaded_before.ensures.known
 
-pub returns-in-Ok-found_in-clause-told : goal.returns-in-Ok-found_in-clause-told
-returns-in-Ok-found_in-clause-told g c =
+pub returns-in-Ok-found_in-clause-known : goal.returns-in-Ok-found_in-clause-known
+returns-in-Ok-found_in-clause-known g c =
     let all = c.in-Ok-found_in.ensures.found c.args.disk c.in-Ok.ensures.begins in
-    IfOk-weaker c.loaded_behind.result _ _ (λ loaded later. λ file told. let mid = all.1.told file told in later mid.0 mid.1)
-    c.loaded_behind.ensures.told
+    IfOk-weaker c.loaded_behind.result _ _ (λ loaded later. λ file told. let mid = all.1.known file told in later mid.0 mid.1)
+    c.loaded_behind.ensures.known

@@ -18,8 +18,10 @@ settled-requires-clause-growing c =
     let pushed : map arc_value c.push.new.self.items ≡ ls ++ own ∷ [] =
     ap (map arc_value) c.in_ok-push.ensures.items
     ∙ map-append arc_value b.leaves.items (c.in_ok-new.field-0 ∷ [])
-    ∙ ap (λ (l : LeafNode). ls ++ l ∷ []) (c.in_ok-new.ensures.ok ∙ c.of.ensures ∙ ap (λ (xs : List Datom). record { id = b.next; datoms = xs }) c.shrink_to_fit.ensures.items) in
-    subst (λ (all : List LeafNode). IsGrowing b.first (b.next + 1) ds all) (sym pushed) (growing_new b.first b.next ds ls c.args.datoms.items small c.self.invariant.0)
+    ∙ ap (λ (l : LeafNode). ls ++ l ∷ [])
+    (c.in_ok-new.ensures.ok ∙ c.of.ensures ∙ ap (λ (xs : List Datom). record { id = b.next; datoms = xs }) c.shrink_to_fit.ensures.items) in
+    subst (λ (all : List LeafNode). IsGrowing b.first (b.next + 1) ds all) (sym pushed)
+    (growing_new b.first b.next ds ls c.args.datoms.items small c.self.invariant.0)
 
 pub returns : goal.returns
 returns c =
@@ -30,7 +32,8 @@ returns c =
     let pushed : map arc_value c.push.new.self.items ≡ ls ++ own ∷ [] =
     ap (map arc_value) c.in_ok-push.ensures.items
     ∙ map-append arc_value b.leaves.items (c.in_ok-new.field-0 ∷ [])
-    ∙ ap (λ (l : LeafNode). ls ++ l ∷ []) (c.in_ok-new.ensures.ok ∙ c.of.ensures ∙ ap (λ (xs : List Datom). record { id = b.next; datoms = xs }) c.shrink_to_fit.ensures.items) in
+    ∙ ap (λ (l : LeafNode). ls ++ l ∷ [])
+    (c.in_ok-new.ensures.ok ∙ c.of.ensures ∙ ap (λ (xs : List Datom). record { id = b.next; datoms = xs }) c.shrink_to_fit.ensures.items) in
     let same =
     ap (λ (all : List LeafNode). build_of b.first ds all) pushed
     ∙ build_new b.first b.next ds ls c.args.datoms.items c.self.invariant.0.behind

@@ -16,7 +16,8 @@ settled-requires-clause-growing c =
     let pushed : map arc_value c.push.new.self.items ≡ ls ++ leaf ∷ [] =
     ap (map arc_value) c.in_ok-push.ensures.items ∙ map-append arc_value b.leaves.items (c.args.leaf ∷ []) in
     let below : leaf.id < b.first = subst (λ (s : Build). leaf.id < s.first) (sym c.self.view_is) c.requires in
-    subst (λ (all : List LeafNode). IsGrowing b.first b.next ds all) (sym pushed) (growing_kept b.first b.next ds ls leaf below c.self.invariant.0)
+    subst (λ (all : List LeafNode). IsGrowing b.first b.next ds all) (sym pushed)
+    (growing_kept b.first b.next ds ls leaf below c.self.invariant.0)
 
 pub returns : goal.returns
 returns c =

@@ -9,4 +9,6 @@ returns-in-None c = sym (at_no_leaf c.args.self.now.leaves c.args.leaf c.args.da
 
 pub returns-in-Some : goal.returns-in-Some
 returns-in-Some c =
-    c.nth.ensures ∙ ap (λ (xs : List Datom). slice_get xs c.args.datom) c.datoms.ensures.datoms ∙ sym (at_leaf c.args.self.now.leaves c.args.leaf c.args.datom c.in-Some.leaf.now (sym c.in-Some.ensures))
+    c.nth.ensures
+    ∙ ap (λ (xs : List Datom). slice_get xs c.args.datom) c.datoms.ensures.datoms
+    ∙ sym (at_leaf c.args.self.now.leaves c.args.leaf c.args.datom c.in-Some.leaf.now (sym c.in-Some.ensures))

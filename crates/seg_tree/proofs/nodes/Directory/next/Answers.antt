@@ -25,11 +25,13 @@ pub returns-else-datom-len-2-clause-next : goal.returns-else-datom-len-2-clause-
 returns-else-datom-len-2-clause-next c =
     let within : c.args.datom < length c.in-Some.found.now.datoms = rw (← c.datoms-len.ensures.datoms) c.if-datom-len.true in
     let last : length c.in-Some.found.now.datoms ≤ c.args.datom + 1 = rw (← c.datoms-len.ensures.datoms) c.if-datom-len-2.false in
-    rank_next_leaf c.self.inside.firsts.items c.args.self.now.leaves c.args.leaf c.args.datom c.in-Some.found.now (firsts_of c.self.inside.firsts.items c.self.view_is c.self.invariant.firsts_are) (sym c.in-Some.ensures) within last
+    rank_next_leaf c.self.inside.firsts.items c.args.self.now.leaves c.args.leaf c.args.datom c.in-Some.found.now
+    (firsts_of c.self.inside.firsts.items c.self.view_is c.self.invariant.firsts_are) (sym c.in-Some.ensures) within last
 
 pub returns-else-datom-len-2-clause-inside : goal.returns-else-datom-len-2-clause-inside
 returns-else-datom-len-2-clause-inside c =
-    inside_start c.self.inside.firsts.items c.args.self.now.leaves (c.args.leaf + 1) (firsts_of c.self.inside.firsts.items c.self.view_is c.self.invariant.firsts_are)
+    inside_start c.self.inside.firsts.items c.args.self.now.leaves (c.args.leaf + 1)
+    (firsts_of c.self.inside.firsts.items c.self.view_is c.self.invariant.firsts_are)
 
 pub overflow_add-result-else-datom-len-2 : goal.overflow_add-result-else-datom-len-2
 overflow_add-result-else-datom-len-2 c =

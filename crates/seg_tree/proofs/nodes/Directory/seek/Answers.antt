@@ -7,7 +7,8 @@ use Rattle.seg_tree.specs.Nodes.{LeafNode}
 use Rattle.seg_tree.specs.Ranks.{leaf_rank}
 use Rattle.seg_tree.proofs.Pieces.{firsts_length, chunk_rank-first}
 use Rattle.seg_tree.proofs.Seeks.{rising_firsts, place_of-none}
-use Rattle.seg_tree.proofs.InLeaves.{pieces, length-pieces, rank_inside, rank_within, rank_over, inside_start, seek_leaf, rising_leaf, firsts_of, is_there, all_read, full}
+use Rattle.seg_tree.proofs.InLeaves.{pieces, length-pieces, rank_inside, rank_within, rank_over, inside_start, seek_leaf, rising_leaf}
+use Rattle.seg_tree.proofs.InLeaves.{firsts_of, is_there, all_read, full}
 use Rattle.seg_tree.proofs.nodes.Directory.seek.Goals as goal
 
 pub lower_bound-behind-requires : goal.lower_bound-behind-requires
@@ -24,18 +25,21 @@ returns-then-behind-eq0-clause-place g c =
 
 pub returns-then-behind-eq0-clause-inside : goal.returns-then-behind-eq0-clause-inside
 returns-then-behind-eq0-clause-inside g c =
-    inside_start c.self.inside.firsts.items c.args.self.now.leaves 0 (firsts_of c.self.inside.firsts.items c.self.view_is c.self.invariant.firsts_are)
+    inside_start c.self.inside.firsts.items c.args.self.now.leaves 0
+    (firsts_of c.self.inside.firsts.items c.self.view_is c.self.invariant.firsts_are)
 
 pub returns-then-behind-eq0-clause-cost : goal.returns-then-behind-eq0-clause-cost
 returns-then-behind-eq0-clause-cost g c = λ l k few short.
     let h = firsts_of c.self.inside.firsts.items c.self.view_is c.self.invariant.firsts_are in
     let n = firsts_length c.self.inside.firsts.items (pieces c.args.self.now.leaves) h in
-    let within : length c.deref.result.now < 2 ^ l = rw c.deref.ensures.value (omega (arith, n, length-pieces c.args.self.now.leaves, few)) in
+    let within : length c.deref.result.now < 2 ^ l =
+    rw c.deref.ensures.value (omega (arith, n, length-pieces c.args.self.now.leaves, few)) in
     omega (arith, c.lower_bound-behind.ensures.cost l within)
 
 pub lower_bound-datom-requires : goal.lower_bound-datom-requires
 lower_bound-datom-requires g c =
-    rw c.datoms.ensures.datoms (rising_leaf c.args.probe.now c.args.self.now.leaves (c.lower_bound-behind.result - 1) c.in-Some.leaf.now c.requires (sym c.in-Some.ensures))
+    rw c.datoms.ensures.datoms (rising_leaf c.args.probe.now c.args.self.now.leaves
+    (c.lower_bound-behind.result - 1) c.in-Some.leaf.now c.requires (sym c.in-Some.ensures))
 
 pub returns-then-datom-datoms-clause-place : goal.returns-then-datom-datoms-clause-place
 returns-then-datom-datoms-clause-place g c =
@@ -55,15 +59,20 @@ returns-then-datom-datoms-clause-place g c =
 
 pub returns-then-datom-datoms-clause-inside : goal.returns-then-datom-datoms-clause-inside
 returns-then-datom-datoms-clause-inside g c = λ there.
-    let within : c.lower_bound-datom.result < length c.in-Some.leaf.now.datoms = rw (← c.datoms-in-Some.ensures.datoms) c.if-datom-datoms.true in
-    rank_within c.args.self.now.leaves (c.lower_bound-behind.result - 1) c.lower_bound-datom.result c.in-Some.leaf.now (sym c.in-Some.ensures) within
+    let within : c.lower_bound-datom.result < length c.in-Some.leaf.now.datoms =
+    rw (← c.datoms-in-Some.ensures.datoms) c.if-datom-datoms.true in
+    rank_within c.args.self.now.leaves (c.lower_bound-behind.result - 1) c.lower_bound-datom.result c.in-Some.leaf.now
+    (sym c.in-Some.ensures) within
 
 pub returns-then-datom-datoms-clause-cost : goal.returns-then-datom-datoms-clause-cost
 returns-then-datom-datoms-clause-cost g c = λ l k few short.
     let h = firsts_of c.self.inside.firsts.items c.self.view_is c.self.invariant.firsts_are in
     let n = firsts_length c.self.inside.firsts.items (pieces c.args.self.now.leaves) h in
-    let within : length c.deref.result.now < 2 ^ l = rw c.deref.ensures.value (omega (arith, n, length-pieces c.args.self.now.leaves, few)) in
-    let small = all_read (λ (leaf : LeafNode). length leaf.datoms < 2 ^ k) c.args.self.now.leaves (c.lower_bound-behind.result - 1) c.in-Some.leaf.now short (sym c.in-Some.ensures) in
+    let within : length c.deref.result.now < 2 ^ l =
+    rw c.deref.ensures.value (omega (arith, n, length-pieces c.args.self.now.leaves, few)) in
+    let small =
+    all_read (λ (leaf : LeafNode). length leaf.datoms < 2 ^ k) c.args.self.now.leaves
+    (c.lower_bound-behind.result - 1) c.in-Some.leaf.now short (sym c.in-Some.ensures) in
     let inside : length c.datoms.result.now < 2 ^ k = rw c.datoms.ensures.datoms small in
     omega (arith, c.lower_bound-behind.ensures.cost l within, c.lower_bound-datom.ensures.cost k inside)
 
@@ -87,14 +96,18 @@ returns-else-datom-datoms-clause-place g c =
 
 pub returns-else-datom-datoms-clause-inside : goal.returns-else-datom-datoms-clause-inside
 returns-else-datom-datoms-clause-inside g c =
-    inside_start c.self.inside.firsts.items c.args.self.now.leaves c.lower_bound-behind.result (firsts_of c.self.inside.firsts.items c.self.view_is c.self.invariant.firsts_are)
+    inside_start c.self.inside.firsts.items c.args.self.now.leaves c.lower_bound-behind.result
+    (firsts_of c.self.inside.firsts.items c.self.view_is c.self.invariant.firsts_are)
 
 pub returns-else-datom-datoms-clause-cost : goal.returns-else-datom-datoms-clause-cost
 returns-else-datom-datoms-clause-cost g c = λ l k few short.
     let h = firsts_of c.self.inside.firsts.items c.self.view_is c.self.invariant.firsts_are in
     let n = firsts_length c.self.inside.firsts.items (pieces c.args.self.now.leaves) h in
-    let within : length c.deref.result.now < 2 ^ l = rw c.deref.ensures.value (omega (arith, n, length-pieces c.args.self.now.leaves, few)) in
-    let small = all_read (λ (leaf : LeafNode). length leaf.datoms < 2 ^ k) c.args.self.now.leaves (c.lower_bound-behind.result - 1) c.in-Some.leaf.now short (sym c.in-Some.ensures) in
+    let within : length c.deref.result.now < 2 ^ l =
+    rw c.deref.ensures.value (omega (arith, n, length-pieces c.args.self.now.leaves, few)) in
+    let small =
+    all_read (λ (leaf : LeafNode). length leaf.datoms < 2 ^ k) c.args.self.now.leaves
+    (c.lower_bound-behind.result - 1) c.in-Some.leaf.now short (sym c.in-Some.ensures) in
     let inside : length c.datoms.result.now < 2 ^ k = rw c.datoms.ensures.datoms small in
     omega (arith, c.lower_bound-behind.ensures.cost l within, c.lower_bound-datom.ensures.cost k inside)
 
@@ -104,4 +117,5 @@ unreachable-requires g c =
     let n = firsts_length c.self.inside.firsts.items (pieces c.args.self.now.leaves) h in
     let le = place_of-le-length c.args.probe.now c.self.inside.firsts.items in
     let found = c.lower_bound-behind.ensures.value ∙ ap (λ (ds : List Datom). place_of c.args.probe.now ds) c.deref.ensures.value in
-    is_there c.args.self.now.leaves (c.lower_bound-behind.result - 1) (omega (arith, n, le, found, c.if-behind-eq0.false, length-pieces c.args.self.now.leaves)) c.in-None.ensures
+    is_there c.args.self.now.leaves (c.lower_bound-behind.result - 1)
+    (omega (arith, n, le, found, c.if-behind-eq0.false, length-pieces c.args.self.now.leaves)) c.in-None.ensures

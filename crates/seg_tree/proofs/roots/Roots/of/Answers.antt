@@ -8,7 +8,8 @@ invariant_of-result c = record {
 }
 
 pub returns-clause-ids : goal.returns-clause-ids
-returns-clause-ids c = four_in_row _ _ _ _ _ _ _ _ _ _ _ _ _ c.in_ok-eavt.ensures c.in_ok-aevt.ensures c.in_ok-avet.ensures c.in_ok-vaet.ensures
+returns-clause-ids c =
+    four_in_row _ _ _ _ _ _ _ _ _ _ _ _ _ c.in_ok-eavt.ensures c.in_ok-aevt.ensures c.in_ok-avet.ensures c.in_ok-vaet.ensures
 
 pub returns-clause-next : goal.returns-clause-next
 returns-clause-next c =

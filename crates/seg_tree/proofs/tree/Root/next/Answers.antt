@@ -6,7 +6,10 @@ pub returns-in-None : goal.returns-in-None
 returns-in-None c = omega (arith, rank_none c.args.self.now c.args.place (sym c.in-None.ensures))
 
 pub returns-in-None-next : goal.returns-in-None-next
-returns-in-None-next c = omega (arith, rank_end c.args.self.now c.args.place c.in-Some.directory.now (sym c.in-Some.ensures) c.in-None-next.ensures.none)
+returns-in-None-next c =
+    omega (arith, rank_end c.args.self.now c.args.place c.in-Some.directory.now (sym c.in-Some.ensures) c.in-None-next.ensures.none)
 
 pub returns-in-Some-next : goal.returns-in-Some-next
-returns-in-Some-next c = rank_step c.args.self.now c.args.place c.settled.result c.in-Some-next.leaf c.in-Some-next.datom c.in-Some.directory.now (sym c.in-Some.ensures) c.in-Some-next.ensures.next c.settled.ensures
+returns-in-Some-next c =
+    rank_step c.args.self.now c.args.place c.settled.result c.in-Some-next.leaf c.in-Some-next.datom c.in-Some.directory.now
+    (sym c.in-Some.ensures) c.in-Some-next.ensures.next c.settled.ensures

@@ -18,5 +18,7 @@ pub returns-else-leaf-len : goal.returns-else-leaf-len
 returns-else-leaf-len c =
     let past : length c.args.directory.now.leaves ≤ c.args.leaf = rw (← c.len.ensures) c.if-leaf-len.false in
     ap (λ (k : ℕ). rank c.args.self.now (record { directory = k; leaf = 0; datom = 0 })) c.behind.ensures
-    ∙ rank_over c.self.inside.firsts.items c.args.self.now c.args.at c.args.directory.now (root_of c.self.view_is c.self.invariant) c.requires.there
-    ∙ ap (λ n. length (tree_datoms (take c.args.at c.args.self.now)) + n) (sym (rank_no_leaf c.args.directory.now.leaves c.args.leaf c.args.datom (slice_get_past c.args.directory.now.leaves c.args.leaf past)))
+    ∙ rank_over c.self.inside.firsts.items c.args.self.now c.args.at c.args.directory.now
+    (root_of c.self.view_is c.self.invariant) c.requires.there
+    ∙ ap (λ n. length (tree_datoms (take c.args.at c.args.self.now)) + n)
+    (sym (rank_no_leaf c.args.directory.now.leaves c.args.leaf c.args.datom (slice_get_past c.args.directory.now.leaves c.args.leaf past)))

@@ -1,6 +1,6 @@
 use Rattle.std.proofs.Common.{◌≡◌, ℕ, ◌++◌, drop}
 use Rattle.std.specs.Prelude.{filter}
-use Rattle.fb_facts.specs.Told.{is_under}
+use Rattle.fb_facts.specs.FactLists.{is_under}
 use Rattle.tx_after.specs.Parts.{part_at}
 use Rattle.tx_after.proofs.by_attribute.ByAttribute.of.Given as goal
 

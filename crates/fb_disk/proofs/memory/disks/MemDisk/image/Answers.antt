@@ -7,5 +7,7 @@ use Rattle.fb_disk.proofs.memory.disks.MemDisk.image.Goals as goal
 
 pub returns-clause-left : goal.returns-clause-left
 returns-clause-left c =
-    let is : c.replay.new.image.items ≡ image_from c.args.cuts.now 0 c.args.self.now.changes c.args.self.now.first c.args.self.now.first = grind (arith, common_steps) in
-    subst (images_of c.args.self.now) (sym is) (leaves-image_from c.args.cuts.now 0 c.args.self.now.changes c.args.self.now.first c.args.self.now.first)
+    let is : c.replay.new.image.items ≡ image_from c.args.cuts.now 0 c.args.self.now.changes c.args.self.now.first c.args.self.now.first =
+    grind (arith, common_steps) in
+    subst (images_of c.args.self.now) (sym is)
+    (leaves-image_from c.args.cuts.now 0 c.args.self.now.changes c.args.self.now.first c.args.self.now.first)

@@ -1,5 +1,0 @@
-use Rattle.edn_alike.proofs.Texts.{text_inside}
-use Rattle.edn_alike.proofs.laws.texts_say_nothing_twice.Goals as goal
-
-pub returns : goal.returns
-returns c = λ depth f here rest t. text_inside t

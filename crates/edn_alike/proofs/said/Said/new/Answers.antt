@@ -1,9 +1,0 @@
-use Rattle.std.proofs.Common.{List, sym, subst}
-use Rattle.edn_model.specs.Form as form
-use Rattle.edn_alike.specs.Said.{AreSaid}
-use Rattle.edn_alike.specs.declared.coded.Coded.{Coded}
-use Rattle.edn_alike.proofs.Sayings.{said_none}
-use Rattle.edn_alike.proofs.said.Said.new.Goals as goal
-
-pub returns : goal.returns
-returns c = subst (λ (ks : List Coded). AreSaid form.no_forms ks) (sym c.new-codes.ensures.empty) said_none

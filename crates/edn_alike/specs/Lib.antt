@@ -1,5 +1,0 @@
-pub mod Code
-pub mod First
-pub mod Inside
-pub mod Order
-pub mod Said

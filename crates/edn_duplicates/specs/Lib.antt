@@ -1,0 +1,5 @@
+pub mod Code
+pub mod First
+pub mod Inside
+pub mod Order
+pub mod FormCodes

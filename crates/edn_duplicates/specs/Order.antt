@@ -1,0 +1,23 @@
+-- The order of tokens that their type gives: by kind, and then by what they hold.
+-- This project's own choice.
+use Rattle.std.specs.Prelude.{List, [], ◌∷◌}
+use Rattle.std.specs.declared.cmp.Ordering.{Ordering}
+use Rattle.std.specs.Cmp.{IsTotalOrder}
+use Rattle.edn_duplicates.specs.contracts.token.CodeTokenOrd.TheImpl as token_ord
+use Rattle.edn_duplicates.specs.contracts.token.CodeTokenOrd.TheImpl.Laws as laws
+use Rattle.edn_duplicates.specs.declared.coded.Coded.{Coded}
+use Rattle.edn_duplicates.specs.declared.coded.Coded.TheVariants.{One, Many}
+use Rattle.edn_duplicates.specs.declared.token.CodeToken.{CodeToken}
+
+unfoldable pub token_cmp : CodeToken → CodeToken → Ordering
+token_cmp = (token_ord.ghosts).cmp
+
+-- The order of tokens is total, so the order of lists of them is total too.
+pub token_total : IsTotalOrder token_cmp
+unfolding token_cmp
+token_total = laws.total-law
+
+-- a code as a set holds it
+abbrev pub tokens_of : Coded → List CodeToken
+tokens_of (One token) = token ∷ []
+tokens_of (Many tokens) = tokens.items

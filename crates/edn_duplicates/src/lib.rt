@@ -1,0 +1,16 @@
+//! Which member of a set, or key of a map, is a duplicate: found by codes in which alike forms are equal.
+#![tactic(auto)]
+
+pub mod code;
+mod coded;
+mod form_codes;
+pub mod laws;
+mod search;
+mod spelling;
+mod token;
+
+pub use fb_memory::Memory;
+pub use form_codes::FormCodes;
+pub use search::{first_duplicate, first_key_twice};
+pub use spelling::Spelling;
+pub use token::CodeToken;

@@ -1,5 +1,0 @@
-use Rattle.fb_facts.proofs.Lists.{facts_in-rising}
-use Rattle.fb_facts.proofs.laws.told_lists_are_the_rising_ones.Goals as goal
-
-pub returns : goal.returns
-returns c = facts_in-rising

@@ -1,9 +1,0 @@
-use Rattle.std.proofs.Common.{map, take}
-use Rattle.edn_model.specs.Form.{forms}
-use Rattle.edn_model.specs.Canon.{CanonAll}
-use Rattle.edn_print.specs.Printed.{Appends}
-use Rattle.talk_model.specs.Replies.{datom_form}
-use Rattle.fb_replies.proofs.datoms.append_datoms.Given as goal
-
-abbrev pub invariant-loop-index : goal.invariant-loop-index
-invariant-loop-index l = Appends (CanonAll (forms (map (datom_form l.schema) (take l.index l.datoms)))) l.fn.line.items l.line.items
