@@ -14,5 +14,4 @@ mod token;
 pub use edn_form::{Edn, Items, Pairs, Text};
 pub use edn_token::{What, is_keyword, is_symbol};
 pub use fault::EdnFault;
-pub use fb_memory::Memory;
 pub use read::read_form;

@@ -9,7 +9,6 @@ mod search;
 mod spelling;
 mod token;
 
-pub use fb_memory::Memory;
 pub use form_codes::FormCodes;
 pub use search::{first_duplicate, first_key_twice};
 pub use spelling::Spelling;

@@ -3,6 +3,5 @@
 
 mod form;
 
-pub use fb_memory::Memory;
 pub use fb_text::Text;
 pub use form::{Edn, Items, Pairs};

@@ -7,5 +7,4 @@ mod instant;
 pub mod laws;
 mod token;
 
-pub use fb_memory::Memory;
 pub use form::print;

@@ -2,7 +2,7 @@
 #![tactic(auto)]
 
 use fb_core::NoGuard;
-use fb_ports::Memory;
+use fb_memory::Memory;
 use fb_preds::shipped;
 use fb_run::run;
 use merge_worker::OpenGate;

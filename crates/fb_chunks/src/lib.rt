@@ -7,6 +7,5 @@ mod lists;
 mod sharing;
 mod tree;
 
-pub use fb_memory::Memory;
 pub use lists::ChunkList;
 pub use sharing::{Share, Shared};

@@ -8,5 +8,4 @@ mod first;
 
 pub use authors::Authors;
 pub use entries::EntryList;
-pub use fb_memory::Memory;
 pub use fb_values::{Datoms, Entry};

@@ -15,7 +15,6 @@ mod starts;
 mod stores;
 mod windows;
 
-pub use fb_memory::Memory;
 pub use frames::{Framed, frame, frame_in};
 pub use journals::{Journal, JournalFault};
 pub use marks::Mark;

@@ -4,9 +4,7 @@ ghost use Rattle.std.specs.Option.{ok_or};
 ghost use Rattle.edn_form.specs.View.{form_of};
 ghost use Rattle.fb_values.specs.declared.facts.Entry.{Entry};
 ghost use Rattle.fb_model.specs.Facts.{facts};
-ghost use Rattle.fb_model.specs.Schema.{is_held as model_is_held};
 ghost use Rattle.fb_schema.specs.Described.{SchemaStands};
-ghost use Rattle.fb_schema.specs.Parts.{model_attribute};
 ghost use Rattle.fb_db.specs.Seen.{window_of};
 ghost use Rattle.read_model.specs.Names.{id_in};
 ghost use Rattle.read_model.specs.Given.{refusal};
@@ -73,7 +71,7 @@ pub fn attribute(schema: &Schema, order: Order, form: &Edn, at: usize) -> Result
     let Some(attribute) = schema.named(keyword) else {
         return Err(bad_component(at));
     };
-    if !is_held(order, attribute) {
+    if !attribute.is_held_in(order) {
         return Err(Refusal {
             reason: Reason::NotInIndex,
             at,
@@ -83,17 +81,6 @@ pub fn attribute(schema: &Schema, order: Order, form: &Edn, at: usize) -> Result
         id: attribute.id,
         kind: attribute.kind,
     })
-}
-
-/// Whether the index holds the attribute.
-fn is_held(order: Order, attribute: &Attribute) -> bool
-    ensures { result ≡ model_is_held order (model_attribute attribute.now) }
-{
-    match order {
-        Order::Eavt | Order::Aevt => true,
-        Order::Avet => attribute.is_unique() || attribute.indexed,
-        Order::Vaet => attribute.is_ref(),
-    }
 }
 
 /// A value of the type. If that is the type of entities, the value is named as an entity is.

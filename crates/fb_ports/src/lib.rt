@@ -11,7 +11,6 @@ mod streams;
 pub use clocks::Clock;
 pub use fails::OpenFail;
 pub use fb_disk::Disk;
-pub use fb_memory::Memory;
 pub use hosts::{Host, Part};
 pub use io_faults::Failed;
 pub use streams::{Sink, Source};

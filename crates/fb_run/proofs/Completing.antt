@@ -19,8 +19,8 @@ use Rattle.fb_ports.specs.HostSpec.{HostSpec}
 use Rattle.fb_view.specs.SnapshotModel.{SnapshotModel}
 use Rattle.command_line.specs.Words.{Command, run as runs, check, load, scripts_of, sink_of}
 use Rattle.command_line.specs.declared.commands.Options.{Options}
-use Rattle.script_model.specs.Script.{Ending, whole, fault, too_many, Script}
-use Rattle.script_model.proofs.OneScript.{OneReading, one_script}
+use Rattle.talk_model.specs.Script.{Ending, whole, fault, too_many, Script}
+use Rattle.talk_model.proofs.OneScript.{OneReading, one_script}
 use Rattle.talk_model.specs.Session.{Setting}
 use Rattle.talk_model.specs.Talk.{forms_of}
 use Rattle.fb_session.specs.declared.outcome.SessionEnd.{SessionEnd}

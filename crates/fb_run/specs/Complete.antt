@@ -12,7 +12,7 @@ use Rattle.fb_ports.specs.declared.hosts.Part.{Part}
 use Rattle.fb_ports.specs.declared.hosts.Part.TheVariants.{Log}
 use Rattle.fb_ports.specs.HostSpec.{HostSpec}
 use Rattle.command_line.specs.Words.{Command, check, scripts_of, sink_of, standard}
-use Rattle.script_model.specs.Script.{whole, Script}
+use Rattle.talk_model.specs.Script.{whole, Script}
 use Rattle.talk_model.specs.Session.{Setting, Standing, opened_at}
 use Rattle.talk_model.specs.Talk.{Exchange, forms_of, places_of, lines_of, commits_of, Talk}
 use Rattle.fb_session.specs.Sessions.{Terms}

@@ -6,7 +6,7 @@ use Rattle.std.specs.List.{range_with_len}
 use Rattle.fb_values.specs.declared.facts.Entry.{Entry}
 use Rattle.fb_view.specs.SnapshotModel.{SnapshotModel}
 use Rattle.fb_core.specs.declared.accepting.Draft.{Draft}
-use Rattle.io_faults.specs.Calls.{no_calls}
+use Rattle.mem_ports.specs.Calls.{no_calls}
 use Rattle.mem_ports.specs.InMemory.{Supply, Store}
 use Rattle.load_scripts.specs.Scripts.{script_of}
 use Rattle.fb_run.specs.declared.outcome.SessionOut.{SessionOut}

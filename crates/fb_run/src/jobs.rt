@@ -3,7 +3,7 @@ ghost use denote.Param.Send.{IsSync};
 ghost use Rattle.std.specs.Prelude.{◌≡◌, ℕ, ◌+◌, ◌≤◌, ◌<◌, [], ◌∷◌, map, length, Some, IfOk, slice_get, slice_index_or, vec_len, vec_capacity};
 ghost use Rattle.std.specs.List.{All};
 ghost use Rattle.std.specs.Vec.Iter.{into_iter_items, into_iter_len};
-ghost use Rattle.script_model.specs.Script.{most_commands};
+ghost use Rattle.talk_model.specs.Script.{most_commands};
 ghost use Rattle.fb_conn.specs.declared.seats.Seat.{Seat};
 ghost use Rattle.fb_conn.specs.Seats.{IsSeatOf, state_of};
 ghost use Rattle.fb_session.specs.Sessions.{terms_at};

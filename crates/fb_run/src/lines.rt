@@ -4,7 +4,8 @@ ghost use Rattle.edn_core.specs.Answers.{fault_of};
 ghost use Rattle.fb_run.specs.StatusLines.{usage_line, cannot_open, out_of_memory, disk_fault, record_line, law_line, stopped_line, segment_fault, console_fault, history_line, script_line, fault_line, status_of_end, line_of_end, status_of, line_of, why_not};
 
 use edn_core::EdnFault;
-use fb_ports::{Memory, Part};
+use fb_memory::Memory;
+use fb_ports::Part;
 use fb_recover::OpenFault;
 use fb_session::SessionEnd;
 use std::alloc::Global;

@@ -1,9 +1,12 @@
 //! An installed attribute.
 ghost use Rattle.std.specs.Prelude.{◌≡◌, not, nat_eq};
 ghost use Rattle.fb_numbers.specs.Numbers.{type_ref, unique_identity};
+ghost use Rattle.fb_model.specs.Schema.{is_held};
+ghost use Rattle.fb_schema.specs.Parts.{model_attribute};
 
 use fb_numbers::{TYPE_REF, UNIQUE_IDENTITY};
 use fb_text::Text;
+use fb_values::Order;
 
 /// An installed attribute. Its type and its uniqueness are the entities that say so in the data.
 #[derive(Drop)]
@@ -42,5 +45,16 @@ impl Attribute {
         ensures { result ≡ nat_eq self.now.unique unique_identity }
     {
         self.unique == UNIQUE_IDENTITY
+    }
+
+    /// Whether the order's index has its datoms.
+    pub fn is_held_in(&self, order: Order) -> bool
+        ensures { result ≡ is_held order (model_attribute self.now) }
+    {
+        match order {
+            Order::Eavt | Order::Aevt => true,
+            Order::Avet => self.is_unique() || self.indexed,
+            Order::Vaet => self.is_ref(),
+        }
     }
 }

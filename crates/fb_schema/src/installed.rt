@@ -55,22 +55,12 @@ pub fn held_of(found: &Option<Attribute>) -> Held
 {
     match found {
         Some(attribute) => Held {
-            avet: is_held(Order::Avet, attribute),
-            vaet: is_held(Order::Vaet, attribute),
+            avet: attribute.is_held_in(Order::Avet),
+            vaet: attribute.is_held_in(Order::Vaet),
         },
         None => Held {
             avet: false,
             vaet: false,
         },
-    }
-}
-
-fn is_held(order: Order, attribute: &Attribute) -> bool
-    ensures { result ≡ model_is_held order (model_attribute attribute.now) }
-{
-    match order {
-        Order::Eavt | Order::Aevt => true,
-        Order::Avet => attribute.is_unique() || attribute.indexed,
-        Order::Vaet => attribute.is_ref(),
     }
 }

@@ -5,7 +5,7 @@ ghost use Rattle.std.specs.Option.{option_map, option_copied};
 ghost use Rattle.fb_values.specs.declared.facts.Datom.{Datom};
 ghost use Rattle.fb_values.specs.declared.facts.Entry.{Entry};
 ghost use Rattle.fb_values.specs.declared.indexes.Order.TheVariants.{Avet};
-ghost use Rattle.fb_model.specs.Schema.{attribute_of, attribute_named, named, is_one as model_is_one, is_unique as model_is_unique};
+ghost use Rattle.fb_model.specs.Schema.{attribute_of, attribute_named, named, is_attribute as model_is_attribute, is_one as model_is_one, is_unique as model_is_unique};
 ghost use Rattle.fb_schema.specs.Described.{describes as model_describes, SchemaStands};
 ghost use Rattle.fb_schema.specs.Parts.{model_attribute};
 ghost use Rattle.fb_schema.specs.Tables.{HasCoverage};
@@ -97,6 +97,13 @@ impl Schema {
             ≡ attribute_named self.now ident.now }
     {
         self.attribute(self.entity_named(ident)?)
+    }
+
+    /// Whether the entity is an attribute.
+    pub fn is_attribute(&self, e: u64) -> bool
+        ensures { result ≡ model_is_attribute self.now e }
+    {
+        self.attribute(e).is_some()
     }
 
     /// Whether it is an attribute of which an entity has one value.

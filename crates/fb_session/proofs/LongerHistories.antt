@@ -4,7 +4,7 @@ use Rattle.edn_model.specs.Faults.{Fault}
 use Rattle.edn_core.specs.Answers.{fault_of}
 use Rattle.fb_values.specs.declared.facts.Entry.{Entry}
 use Rattle.fb_model.specs.History.{basis}
-use Rattle.script_model.specs.Script.{Ending, whole, fault, too_many}
+use Rattle.talk_model.specs.Script.{Ending, whole, fault, too_many}
 use Rattle.talk_model.specs.Session.{Setting, Stays, grown, opened_at}
 use Rattle.talk_model.specs.Prefixes.{SeesAll, Prefixes}
 use Rattle.talk_model.proofs.Longer.{Talk-longer}

@@ -16,8 +16,8 @@ use Rattle.edn_core.specs.declared.fault.EdnFault.TheVariants as edn
 use Rattle.fb_values.specs.declared.facts.Entry.{Entry}
 use Rattle.fb_model.specs.History.{basis}
 use Rattle.fb_model.proofs.LawfulHistories.{IsLawful-length}
-use Rattle.script_model.specs.Script.{Ending, whole, fault, too_many, most_commands, FormsBetween, EndsAt, Begins}
-use Rattle.script_model.proofs.OneScript.{FormsBetween-push}
+use Rattle.talk_model.specs.Script.{Ending, whole, fault, too_many, most_commands, FormsBetween, EndsAt, Begins}
+use Rattle.talk_model.proofs.OneScript.{FormsBetween-push}
 use Rattle.talk_model.specs.Session.{Setting, Standing, setting, opened_at}
 use Rattle.talk_model.specs.Talk.{Exchange, forms_of, places_of, lines_of, commits_of, Talk}
 use Rattle.talk_model.specs.Prefixes.{SeesAll}

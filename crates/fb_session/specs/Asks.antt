@@ -4,7 +4,7 @@ use Rattle.std.specs.Prelude.{◌≡◌, ℕ, ◌+◌, ◌≤◌, Bool, true, fa
 use Rattle.std.specs.Prelude.{count_by}
 use Rattle.std.specs.Io.KnownBytes.{prepend_known}
 use Rattle.edn_model.specs.Form.{Form}
-use Rattle.script_model.specs.Script.{Begins}
+use Rattle.talk_model.specs.Script.{Begins}
 use Rattle.talk_model.specs.Commands.{Command, transact, db, sync, command_in}
 use Rattle.fb_desk.specs.Desks.{Tally}
 use Rattle.fb_session.specs.declared.outcome.Served.{Served}

@@ -8,7 +8,7 @@ use Rattle.std.specs.Io.KnownBytes.{prepend_known, append_known, IsAtEnd}
 use Rattle.edn_model.specs.Faults.{Fault}
 use Rattle.edn_core.specs.Answers.{fault_of}
 use Rattle.fb_ports.specs.Faults.{Rose}
-use Rattle.script_model.specs.Script.{Ending, whole, fault, too_many, Script, Begins}
+use Rattle.talk_model.specs.Script.{Ending, whole, fault, too_many, Script, Begins}
 use Rattle.talk_model.specs.Session.{Setting, Standing, opened_at}
 use Rattle.talk_model.specs.Talk.{Exchange, forms_of, places_of, lines_of, commits_of, Talk}
 use Rattle.fb_session.specs.declared.outcome.SessionEnd.{SessionEnd}

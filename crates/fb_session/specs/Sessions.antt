@@ -14,7 +14,7 @@ use Rattle.fb_model.specs.History.{basis}
 use Rattle.fb_model.specs.Lawful.{IsLawful}
 use Rattle.tx_refusals.specs.Reasons.{keyword_of}
 use Rattle.tx_model.specs.Step.{Guard}
-use Rattle.script_model.specs.Script.{most_commands, FormsBetween}
+use Rattle.talk_model.specs.Script.{most_commands, FormsBetween}
 use Rattle.talk_model.specs.Replies as reply
 use Rattle.talk_model.specs.Replies.{IsLineOf}
 use Rattle.talk_model.specs.Commands.{Read}

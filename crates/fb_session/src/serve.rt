@@ -4,7 +4,7 @@ ghost use Rattle.std.specs.Prelude.{◌≡◌, ◌≤◌, ◌<◌, ◌+◌, ◌+
 ghost use Rattle.std.specs.List.{last_or};
 ghost use Rattle.edn_form.specs.View.{form_of};
 ghost use Rattle.fb_model.specs.History.{basis};
-ghost use Rattle.script_model.specs.Script.{most_commands};
+ghost use Rattle.talk_model.specs.Script.{most_commands};
 ghost use Rattle.talk_model.specs.Prefixes.{Prefixes};
 ghost use Rattle.talk_model.specs.Session.{Standing};
 ghost use Rattle.fb_desk.specs.Desks.{GoesOn, WentOn};

@@ -8,5 +8,4 @@ mod indexes;
 pub mod laws;
 
 pub use facts::{Datom, Datoms, Entry, Value};
-pub use fb_memory::Memory;
 pub use indexes::{Order, Probe, cmp_in, cmp_probe};

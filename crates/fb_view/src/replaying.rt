@@ -117,10 +117,7 @@ fn push_gained(found: &mut Vec<Datom>, older: &Older, covers: &Covers, a: u64) -
     ensures { IfOk result
         (λ _. found.new.items ≡ found.old.items ++ gained_of covers.now older.now a) }
 {
-    if older.held.holds(Order::Avet, a) {
-        return Ok(());
-    }
-    if !covers.holds(Order::Avet, a) {
+    if older.held.holds(Order::Avet, a) || !covers.holds(Order::Avet, a) {
         return Ok(());
     }
     let probe = Probe {

@@ -1,6 +1,6 @@
 -- A disk that is handed out is told as what it is.
 use Rattle.std.proofs.Common.{◌≡◌, sym, subst, Result, Ok, Err, IfOk}
-use Rattle.fb_disk.specs.MemDisks.{Past, images_of}
+use Rattle.mem_ports.specs.MemDisks.{Past, images_of}
 use Rattle.fb_ports.specs.HostCalls.{Alike}
 
 pub more_ok : {T E : Type 0} (P Q : T → Type 0) (r : Result T E) → ((x : T) → P x → Q x) → IfOk r P → IfOk r Q

@@ -1,7 +1,7 @@
 -- Worked examples of the objects in memory, each closed by computation.
 -- This project's own choice.
 use Rattle.std.specs.Prelude.{◌≡◌, [], ◌∷◌, ℕ, List, true, false, refl}
-use Rattle.io_faults.specs.Calls.{no_calls}
+use Rattle.mem_ports.specs.Calls.{no_calls, fails_next, after_call, after_fault}
 use Rattle.mem_ports.specs.InMemory.{Store, fails_write}
 
 -- a sink with room for two bytes
@@ -18,3 +18,13 @@ fails_write-full = refl
 -- nothing always fits
 pub fails_write-nothing : fails_write (small_sink (7 ∷ 8 ∷ [])) 0 ≡ false
 fails_write-nothing = refl
+
+-- of the calls 1, 2 and 3 the first and the third are made to fail
+pub fails_next-first : fails_next (no_calls (1 ∷ 3 ∷ [])) ≡ true
+fails_next-first = refl
+
+pub fails_next-second : fails_next (after_fault (no_calls (1 ∷ 3 ∷ []))) ≡ false
+fails_next-second = refl
+
+pub fails_next-third : fails_next (after_call (after_fault (no_calls (1 ∷ 3 ∷ [])))) ≡ true
+fails_next-third = refl

@@ -1,7 +1,7 @@
 -- What a source and a sink in memory hold.
 -- This project's own choice.
 use Rattle.std.specs.Prelude.{◌||◌, ◌&&◌, ℕ, Bool, List, length, nat_lt, nat_le}
-use Rattle.io_faults.specs.Calls.{Calls, fails_next}
+use Rattle.mem_ports.specs.Calls.{Calls, fails_next}
 
 -- the bytes still to be read
 pub record Supply : Type 0 where

@@ -1,4 +1,9 @@
+pub mod Calls
 pub mod Clocks
-pub mod Examples
+pub mod Images
 pub mod InMemory
+pub mod MemDisks
 pub mod MemHosts
+pub mod Room
+pub mod Steps
+pub mod Examples

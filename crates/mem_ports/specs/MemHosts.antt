@@ -3,8 +3,8 @@
 use Rattle.std.specs.Prelude.{ℕ, List, [], Option, Some, option_map}
 use Rattle.std.specs.Option.{option_map_or, unwrap_or}
 use Rattle.std.specs.BTreeMap.{get_by_text}
-use Rattle.io_faults.specs.Calls.{no_calls}
-use Rattle.fb_disk.specs.MemDisks.{Past, known_bytes, images_of, moment_of}
+use Rattle.mem_ports.specs.Calls.{no_calls}
+use Rattle.mem_ports.specs.MemDisks.{Past, known_bytes, images_of, moment_of}
 use Rattle.fb_ports.specs.HostSpec.{HostSpec}
 use Rattle.fb_ports.specs.declared.hosts.Part.{Part}
 use Rattle.fb_ports.specs.declared.hosts.Part.TheVariants.{Log, Segments}

@@ -1,15 +1,14 @@
 //! A host in memory: sources, sinks and disks under the names that its maker gave them.
 ghost use Rattle.std.specs.Prelude.{◌≡◌, ℕ, List, [], None, Some, IfOk, IfErr, OnOk, OnErr};
 ghost use Rattle.std.specs.Result.{result_ok};
-ghost use Rattle.fb_disk.specs.MemDisks.{known_bytes, images_of, moment_of};
-ghost use Rattle.io_faults.specs.Calls.{no_calls};
+ghost use Rattle.mem_ports.specs.MemDisks.{known_bytes, images_of, moment_of};
+ghost use Rattle.mem_ports.specs.Calls.{no_calls};
 ghost use Rattle.mem_ports.specs.MemHosts.{handed_of};
 ghost use Rattle.fb_ports.specs.Faults.{CountsOpening, raised};
 ghost use Rattle.fb_ports.specs.HostCalls.{Same, SameBut, SameParts, SameButPart, Alike, StaysButSource, StaysButDisk};
 ghost use Rattle.fb_ports.specs.declared.hosts.Part.{Part};
 
-use crate::{MemSink, MemSource};
-use fb_disk::MemDisk;
+use crate::{MemDisk, MemSink, MemSource};
 use fb_memory::Memory;
 use fb_ports::{Host, OpenFail, Part};
 use io_faults::raise;

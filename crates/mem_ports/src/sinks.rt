@@ -2,12 +2,12 @@
 ghost use Rattle.std.specs.Prelude.{◌≡◌, ◌≤◌, ◌<◌, ◌-◌, ◌++◌, [], Some, IfOk, OnErr, is_err, length, take, min};
 ghost use Rattle.std.specs.Io.KnownBytes.{append_known};
 ghost use Rattle.fb_ports.specs.Faults.{Counts};
-ghost use Rattle.io_faults.specs.Calls.{no_calls, after_call, after_fault};
+ghost use Rattle.mem_ports.specs.Calls.{no_calls, after_call, after_fault};
 ghost use Rattle.mem_ports.specs.InMemory.{fails_write};
 
+use crate::plan::CallPlan;
 use fb_memory::Memory;
 use fb_ports::{Failed, Sink};
-use io_faults::CallPlan;
 use std::alloc::Global;
 use std::marker::Model;
 

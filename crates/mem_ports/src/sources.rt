@@ -2,10 +2,10 @@
 ghost use Rattle.std.specs.Prelude.{◌≡◌, ◌≤◌, ◌<◌, Some, IfOk, OnErr, is_err, length, take, drop, min};
 ghost use Rattle.std.specs.Io.KnownBytes.{prepend_known, IsAtEnd};
 ghost use Rattle.fb_ports.specs.Faults.{Counts};
-ghost use Rattle.io_faults.specs.Calls.{no_calls, fails_next, after_call, after_fault};
+ghost use Rattle.mem_ports.specs.Calls.{no_calls, fails_next, after_call, after_fault};
 
+use crate::plan::CallPlan;
 use fb_ports::{Failed, Source};
-use io_faults::CallPlan;
 use std::marker::Model;
 
 /// A source in memory.

@@ -10,6 +10,5 @@ mod names;
 mod values;
 
 pub use asks::{Ask, Name, Operand, append, copy_path, inside, one};
-pub use fb_memory::Memory;
 pub use names::{OWN_TEMPID, attribute_of_ask, is_same_tempid, is_tempid, names_of};
 pub use values::value_in;

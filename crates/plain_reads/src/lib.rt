@@ -14,7 +14,6 @@ mod schema;
 mod views;
 
 pub use facts::{holds, is_of, said, standing};
-pub use fb_memory::Memory;
 pub use history::{
     basis, is_builtin, is_issued, last_instant, next_instant, users_in, users_issued,
 };

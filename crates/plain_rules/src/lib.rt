@@ -17,7 +17,6 @@ mod tempids;
 mod transaction;
 
 pub use db::Db;
-pub use fb_memory::Memory;
 pub use rules::least_refusal;
 pub use tempids::named_tempids;
 pub use transaction::{Transaction, recorded, transaction_at};

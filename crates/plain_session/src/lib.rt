@@ -18,6 +18,5 @@ mod session;
 mod sight;
 mod stops;
 
-pub use fb_memory::Memory;
 pub use replies::{receipt, refusal};
 pub use session::{PlainSession, new_history, transact};

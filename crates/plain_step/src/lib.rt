@@ -8,6 +8,5 @@
 mod guard;
 mod outcome;
 
-pub use fb_memory::Memory;
 pub use guard::{Guard, NoGuard};
 pub use outcome::{Decision, step};

@@ -11,6 +11,5 @@ mod maps;
 mod shapes;
 mod walk;
 
-pub use fb_memory::Memory;
 pub use shapes::{first_without_shape, forms_in};
 pub use walk::flat;

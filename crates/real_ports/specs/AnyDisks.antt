@@ -2,8 +2,8 @@
 -- This project's own choice.
 use Rattle.std.specs.Prelude.{ℕ, Bool, List, [], codes, if◌then◌else◌, Option, None, Some, ⊤}
 use Rattle.std.specs.Str.{bytes_eq}
-use Rattle.io_faults.specs.Calls.{no_calls}
-use Rattle.fb_disk.specs.MemDisks.{known_bytes, moment_of, images_of, images_since_of}
+use Rattle.mem_ports.specs.Calls.{no_calls}
+use Rattle.mem_ports.specs.MemDisks.{known_bytes, moment_of, images_of, images_since_of}
 use Rattle.fb_ports.specs.declared.hosts.Part.{Part}
 use Rattle.real_ports.specs.declared.disks.AnyDisk.{AnyDisk}
 use Rattle.real_ports.specs.declared.disks.AnyDisk.TheVariants.{File, InMemory}

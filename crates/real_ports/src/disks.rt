@@ -3,9 +3,9 @@ ghost use Rattle.std.specs.Prelude.{◌≡◌, ◌<◌, ℕ, [], None, Some, is_
 ghost use Rattle.real_ports.specs.AnyDisks.{faults_of, bytes_of, is_memory, held_in, opened_in};
 ghost use Rattle.fb_ports.specs.Faults.{Counts};
 
-use fb_disk::MemDisk;
 use fb_ports::{Disk, Failed, OpenFail, Part};
 use io_faults::raise;
+use mem_ports::MemDisk;
 use std::alloc::Global;
 use std::fs::{File, OpenOptions, TryLockError};
 use std::io;

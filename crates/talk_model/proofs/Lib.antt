@@ -1,3 +1,4 @@
+pub mod OneScript
 pub mod Steps
 pub mod OneMore
 pub mod Longer

@@ -1,3 +1,4 @@
+pub mod Script
 pub mod Commands
 pub mod Replies
 pub mod Session

@@ -1,4 +1,4 @@
-//! How each form of a session is answered, as definitions in `specs/`: its commands, its replies,
+//! What a script is, and how each form of a session is answered, as definitions in `specs/`: its commands, its replies,
 //! what a read sees, and the talk of a session over a history that it shares with others. The
 //! functions here are laws about them, and examples: each has an empty body, and its contract is
 //! the law.
@@ -9,6 +9,7 @@ mod commands;
 mod examples;
 mod reads;
 mod replies;
+mod scripts;
 mod talks;
 
 pub use answers::{refusals_of_reads, views_of_a_session};
@@ -19,6 +20,7 @@ pub use reads::{
     reads_keep_their_place,
 };
 pub use replies::{datoms_as_forms, lines_of_replies, transactions_as_forms};
+pub use scripts::{a_script_has_one_reading, empty_script};
 pub use talks::{
     Surroundings, a_longer_history_keeps_a_talk, a_session_is_notified_once,
     a_talk_ends_with_its_last_form, a_talk_goes_on, a_talk_rests_on_what_was_seen,

@@ -78,7 +78,7 @@ pub fn commits_strictly_rise()
 {}
 
 /// A session is notified once at most that the log did not take its transaction, and as the first that it
-/// hears of a stop: from then on each of its transactions is answered with that the log has stopped.
+/// hears of a stop: from then on each of its transactions is answered that the log has stopped.
 pub fn a_session_is_notified_once<S: Surroundings>()
     ensures once { (s : S) (guard : Guard) (is_filter : List ℕ → Bool) (h : List Entry) (stop : Option ℕ)
         (teller : Bool) (one two three four : Standing) (talk : List Exchange) (f g : Form)

@@ -3,8 +3,9 @@
 ghost use Rattle.seg_store.specs.Trees.{HaveStorableDatoms};
 
 use crate::trees::hi_trees;
-use fb_disk::{Disk, MemDisk};
+use fb_disk::Disk;
 use fb_memory::Memory;
+use mem_ports::MemDisk;
 use seg_store::{Loaded, SegStore};
 use seg_tree::Roots;
 use std::alloc::Global;

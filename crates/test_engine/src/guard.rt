@@ -3,9 +3,10 @@ ghost use Rattle.std.specs.Prelude.{◌≡◌};
 ghost use Rattle.std.specs.List.{list_any};
 ghost use Rattle.test_engine.specs.Guards as model;
 
+use fb_memory::Memory;
 use fb_values::{Datom, Entry, Value};
 use fb_view::Snapshot;
-use plain_step::{Guard, Memory};
+use plain_step::Guard;
 use tx_refusals::Bar;
 
 const DOC: u64 = 7;

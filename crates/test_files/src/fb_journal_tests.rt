@@ -1,7 +1,9 @@
 //! A journal in a file of the system, whose bytes no contract knows, and one that is begun again.
-use fb_disk::{Disk, MemDisk, Memory};
+use fb_disk::Disk;
 use fb_journal::{Journal, Mark, Reading, frame, frame_in};
+use fb_memory::Memory;
 use fb_ports::{Host, Part};
+use mem_ports::MemDisk;
 use real_ports::RealHost;
 use std::alloc::Global;
 use std::test::Fail;

@@ -3,8 +3,6 @@
 #![tactic(auto)]
 
 #[cfg(test)]
-mod fb_disk_tests;
-#[cfg(test)]
 mod fb_journal_tests;
 #[cfg(test)]
 mod mem_ports_tests;

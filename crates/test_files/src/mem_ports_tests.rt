@@ -1,7 +1,8 @@
-//! The host in memory, and its clocks, whose readings no contract orders.
-use fb_disk::{MemDisk, Memory};
+//! The host and the disk in memory, and clocks, whose readings no contract orders.
+use fb_disk::Disk;
+use fb_memory::Memory;
 use fb_ports::{Clock, Host, Part};
-use mem_ports::{FixedClock, MemHost, MemSource, StepClock};
+use mem_ports::{FixedClock, MemDisk, MemHost, MemSource, StepClock};
 use std::alloc::Global;
 use std::test::Fail;
 
@@ -24,6 +25,26 @@ fn hands_out(alloc: Global) -> Result<bool, Memory> {
 #[test]
 fn a_host_in_memory_hands_out_what_it_was_given(rt: HostRuntime) -> Result<(), Fail> {
     assert!(rt; hands_out(rt.alloc())?);
+    Ok(())
+}
+
+/// Whether that is left of `abc`, which is synced, and of `defg` after it, which is not and is cut to so many bytes.
+fn leaves(alloc: Global, cut: u64, want: &[u8]) -> Result<bool, Memory> {
+    let mut disk = MemDisk::new(alloc, 200, Vec::new(alloc))?;
+    let is_written = disk.write_at(0, b"abc").is_ok()
+        && disk.sync().is_ok()
+        && disk.write_at(3, b"defg").is_ok();
+    let image = disk.image(alloc, &[cut])?;
+    Ok(is_written && image.bytes() == want)
+}
+
+const ROWS: [(u64, &[u8]); 3] = [(0, b"abc\0\0\0\0"), (2, b"abcde\0\0"), (9, b"abcdefg")];
+
+#[test]
+fn an_image_can_be_made_of_each_crash(rt: HostRuntime) -> Result<(), Fail> {
+    for (cut, want) in ROWS {
+        assert!(rt; leaves(rt.alloc(), cut, want)?, "cut to {cut}");
+    }
     Ok(())
 }
 

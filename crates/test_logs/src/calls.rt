@@ -3,7 +3,7 @@
 use crate::left::{Case, Left, left_by};
 use crate::runs::{Ended, disk, is_answered, run_over};
 use anyhow::{Result, bail};
-use fb_disk::MemDisk;
+use mem_ports::MemDisk;
 use std::alloc::Global;
 use std::sync::Wait;
 use std::thread::Threads;

@@ -1,12 +1,12 @@
 //! Runs of scripts over a directory in memory.
 use anyhow::{Result, bail};
 use fb_core::NoGuard;
-use fb_disk::{Disk, MemDisk};
+use fb_disk::Disk;
 use fb_ports::Part;
 use fb_preds::shipped;
 use fb_run::{Outcome, SessionOut, run};
 use fb_view::Snapshot;
-use mem_ports::{FixedClock, MemHost, MemSink, MemSource};
+use mem_ports::{FixedClock, MemDisk, MemHost, MemSink, MemSource};
 use merge_worker::OpenGate;
 use std::alloc::Global;
 use std::sync::Wait;

@@ -2,7 +2,8 @@
 use crate::left::plain_session;
 use crate::runs::{CLOCK, Ended, Job, Parts, disk, ends_so, run_job};
 use anyhow::{Result, bail};
-use fb_disk::{Disk, MemDisk};
+use fb_disk::Disk;
+use mem_ports::MemDisk;
 use std::alloc::Global;
 use std::sync::Wait;
 use std::thread::Threads;

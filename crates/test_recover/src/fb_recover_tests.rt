@@ -1,10 +1,11 @@
 //! The documented log, as it is and with bytes changed, opened as a database, by itself and beside a file of segments.
-use fb_disk::{Disk, MemDisk};
+use fb_disk::Disk;
 use fb_memory::Memory;
 use fb_merge::merged;
 use fb_ports::Part;
 use fb_recover::{OpenFault, reopen};
 use fb_view::Snapshot;
+use mem_ports::MemDisk;
 use seg_store::{SegStore, trees_of_a_lawful_history_are_storable};
 use std::alloc::Global;
 use std::test::Fail;

@@ -1,11 +1,10 @@
 //! Runs of scripts over hosts in memory.
 use anyhow::{Result, bail};
 use fb_core::NoGuard;
-use fb_disk::MemDisk;
 use fb_ports::Host;
 use fb_preds::shipped;
 use fb_run::{Outcome, run};
-use mem_ports::{FixedClock, MemHost, MemSink, MemSource};
+use mem_ports::{FixedClock, MemDisk, MemHost, MemSink, MemSource};
 use merge_worker::{Gate, OpenGate};
 use std::alloc::Global;
 use std::sync::Wait;

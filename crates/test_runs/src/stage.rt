@@ -3,9 +3,8 @@
 ghost use Rattle.std.specs.Prelude.{Some};
 
 use crate::play::Play;
-use fb_disk::MemDisk;
 use fb_ports::{Failed, Host, OpenFail, Part, Sink};
-use mem_ports::{MemHost, MemSink, MemSource};
+use mem_ports::{MemDisk, MemHost, MemSink, MemSource};
 use merge_worker::{Gate, Point};
 use std::alloc::Global;
 use std::collections::BTreeMap;

@@ -6,22 +6,28 @@ use Rattle.edn_model.specs.Form as edn
 use Rattle.edn_model.specs.Form.{Form, items}
 use Rattle.fb_values.specs.declared.facts.Datom.{Datom}
 use Rattle.tx_model.specs.Asks.{number, meets}
-use Rattle.tx_model.specs.Walk.{verb_asks, map_asks, form_asks, asks_from}
+use Rattle.tx_model.specs.Shapes.{verb_in}
+use Rattle.tx_model.specs.Walk.{list_asks, verb_asks, map_asks, form_asks, asks_from}
+use Rattle.tx_forms.specs.Parts.{list_parts_in, parts_in}
 use Rattle.tx_asks.specs.Asks.{AreApart}
 use Rattle.tx_expand.specs.Numbered.{walk_map, walk_form, walk_forms, next_behind}
 use Rattle.tx_expand.specs.Placed.{ask_placed}
-use Rattle.tx_expand.proofs.Renaming.{verb_asks_stay}
+use Rattle.tx_expand.proofs.Renaming.{list_stays}
 use Rattle.tx_expand.proofs.Numbering.{Has, has_at, has_first, has_second, In, IsNot, NoneTwice, IsUnder, IsFrom, in_map, in_append}
 use Rattle.tx_expand.proofs.Numbering.{none_twice_append, under_is_from, later_is_from, parts_differ, Numbering, none, inside, map_numbered}
 
+list_numbered : (facts : List Datom) (place : ℕ) (fs : List Form) (n : ℕ)
+    → Numbering (IsUnder (place ∷ [])) (number (pos 0)) (number (pos 0)) n (walk_form facts n (list_parts_in fs)) (verb_asks facts fs)
+list_numbered facts place [] n = none (IsUnder (place ∷ [])) (number (pos 0)) (number (pos 0)) n [] [] (λ all is. refl)
+list_numbered facts place (first ∷ arguments) n =
+    none (IsUnder (place ∷ [])) (number (pos 0)) (number (pos 0)) n
+    (list_asks facts (verb_in first) arguments) (list_asks facts (verb_in first) arguments)
+    (λ all is. list_stays all facts (verb_in first) arguments)
+
 form_numbered : (facts : List Datom) (place : ℕ) (f : Form) (n : ℕ)
-    → Numbering (IsUnder (place ∷ [])) (number (pos 0)) (number (pos 0)) n (walk_form facts n f) (form_asks facts place f)
-form_numbered facts place (edn.vector fs) n =
-    none (IsUnder (place ∷ [])) (number (pos 0)) (number (pos 0)) n (verb_asks facts (items fs)) (verb_asks facts (items fs))
-    (λ all is. verb_asks_stay all facts (items fs))
-form_numbered facts place (edn.list fs) n =
-    none (IsUnder (place ∷ [])) (number (pos 0)) (number (pos 0)) n (verb_asks facts (items fs)) (verb_asks facts (items fs))
-    (λ all is. verb_asks_stay all facts (items fs))
+    → Numbering (IsUnder (place ∷ [])) (number (pos 0)) (number (pos 0)) n (walk_form facts n (parts_in f)) (form_asks facts place f)
+form_numbered facts place (edn.vector fs) n = list_numbered facts place (items fs) n
+form_numbered facts place (edn.list fs) n = list_numbered facts place (items fs) n
 form_numbered facts place (edn.map ps) n =
     inside (number (pos 0)) (number (pos 0)) (place ∷ []) n ps (λ name m. walk_map facts name m ps)
     (λ name. map_asks facts name (place ∷ []) 0 ps)
@@ -31,8 +37,9 @@ form_numbered facts place f n = none (IsUnder (place ∷ [])) (number (pos 0)) (
 
 pub record FormsNumbering (facts : List Datom) (place n : ℕ) (fs : List Form) : Type 0 where
   pub places : List (List ℕ)
-  pub next : next_behind facts n fs ≡ n + length places
-  pub same : (all : List (List ℕ)) → Has all n places → map (map (ask_placed all)) (walk_forms facts n fs) ≡ asks_from facts place fs
+  pub next : next_behind facts n (map parts_in fs) ≡ n + length places
+  pub same : (all : List (List ℕ)) → Has all n places
+      → map (map (ask_placed all)) (walk_forms facts n (map parts_in fs)) ≡ asks_from facts place fs
   pub within : In (IsFrom [] place) places
   pub apart : NoneTwice places
 
@@ -40,15 +47,15 @@ pub forms_numbered : (facts : List Datom) (place n : ℕ) (fs : List Form) → F
 forms_numbered facts place n [] = record { places = []; next = omega arith; same = λ all has. refl; within = tt; apart = tt }
 forms_numbered facts place n (f ∷ fs) =
     let one = form_numbered facts place f n in
-    let rest = forms_numbered facts (place + 1) (walk_form facts n f).next fs in
+    let rest = forms_numbered facts (place + 1) (walk_form facts n (parts_in f)).next fs in
     record {
       places = one.places ++ rest.places;
       next = omega (arith, one.next, rest.next, length-append one.places rest.places);
       same = λ all has.
-          ap (λ asks. asks ∷ map (map (ask_placed all)) (walk_forms facts (walk_form facts n f).next fs))
+          ap (λ asks. asks ∷ map (map (ask_placed all)) (walk_forms facts (walk_form facts n (parts_in f)).next (map parts_in fs)))
           (one.same all (has_first all n one.places rest.places has) refl)
           ∙ ap (λ lists. form_asks facts place f ∷ lists)
-          (rest.same all (has_at all (n + length one.places) (walk_form facts n f).next rest.places (sym one.next)
+          (rest.same all (has_at all (n + length one.places) (walk_form facts n (parts_in f)).next rest.places (sym one.next)
           (has_second all n one.places rest.places has)));
       within = in_append (IsFrom [] place) one.places rest.places
           (in_map (IsUnder (place ∷ [])) (IsFrom [] place) (under_is_from [] place) one.places one.within)

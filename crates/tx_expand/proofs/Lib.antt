@@ -1,8 +1,7 @@
-pub mod Arguments
 pub mod Cuts
 pub mod LookupLists
 pub mod Results
-pub mod FormMembers
+pub mod EntityNames
 pub mod MapNames
 pub mod Underscores
 pub mod Nested

@@ -1,26 +1,15 @@
 -- One form more of a transaction.
-use Rattle.std.proofs.Common.{◌≡◌, ℕ, ◌+◌, Bool, true, false, not, List, [], ◌∷◌, ◌++◌, map, cond, refl, ap, ◌∙◌}
+use Rattle.std.proofs.Common.{◌≡◌, ℕ, ◌+◌, Bool, true, false, List, [], ◌∷◌, ◌++◌, map, cond, refl, ap, ◌∙◌}
 use Rattle.std.specs.Prelude.{Option, Some, None, is_none}
 use Rattle.std.proofs.lemmas.Bool.{false≢true}
-use Rattle.edn_model.specs.Form.{Form}
 use Rattle.fb_values.specs.declared.facts.Datom.{Datom}
 use Rattle.tx_model.specs.Asks.{Ask}
-use Rattle.tx_model.specs.Shapes.{has_shape}
-use Rattle.tx_model.specs.Step.{first_yes}
 use Rattle.tx_expand.specs.declared.firsts.Firsts.{Firsts}
 use Rattle.tx_expand.specs.Faults.{form_faults}
 use Rattle.tx_expand.specs.Rules.{first_unknown, firsts_from, earlier, earlier_ones, place_if, firsts_of}
 
 pub no_some : {A B : Type 0} {x : A} → Some x ≡ None → B
 no_some {B = B} same = absurd (false≢true (ap (λ o. is_none o) same))
-
-by_shape : (b : Bool) (n : ℕ) (rest : Option ℕ) → cond (not b) (Some n) rest ≡ None → (b ≡ true) × (rest ≡ None)
-by_shape true n rest none = (refl, none)
-by_shape false n rest none = no_some none
-
-pub shape_here : (n : ℕ) (f : Form) (fs : List Form) → first_yes n (map (λ f. not (has_shape f)) (f ∷ fs)) ≡ None
-    → (has_shape f ≡ true) × (first_yes (n + 1) (map (λ f. not (has_shape f)) fs) ≡ None)
-shape_here n f fs none = by_shape (has_shape f) n (first_yes (n + 1) (map (λ f. not (has_shape f)) fs)) none
 
 pub known_behind : (facts : List Datom) (n : ℕ) (asks : List Ask) (more : List (List Ask)) → (form_faults facts asks).unknown ≡ false
     → first_unknown facts n (asks ∷ more) ≡ first_unknown facts (n + 1) more

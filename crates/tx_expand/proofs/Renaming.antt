@@ -8,12 +8,12 @@ use Rattle.edn_model.specs.Form as edn
 use Rattle.edn_model.specs.Form.{Form, Forms, Pairs}
 use Rattle.fb_values.specs.declared.facts.Datom.{Datom}
 use Rattle.fb_model.specs.Schema.{Attribute, attribute_named}
-use Rattle.tx_model.specs.Shapes.{Verb, add, retract, cas, retract_entity, verb_in}
+use Rattle.tx_model.specs.Shapes.{Verb, add, retract, cas, retract_entity}
 use Rattle.tx_model.specs.Asks.{Name, number, ident, lookup, tempid, nameless, lookup_in, name_of_pair, attribute_of_ask, Operand, plain}
 use Rattle.tx_model.specs.Asks.{entity, Ask, adds, retracts, retracts_all, compares, retracts_entity, meets, mentions, lacks_id, Key, own}
 use Rattle.tx_model.specs.Asks.{forward, backward, names_of}
 use Rattle.tx_model.specs.Walk.{has_ref, has_many, has_uniqueness, scalar, lookup_or, value_part, old_value_part, keyword_in, entity_in}
-use Rattle.tx_model.specs.Walk.{list_asks, verb_asks, links, need, nested_asks, scalar_asks, vector_asks, sequence_asks, pair_asks}
+use Rattle.tx_model.specs.Walk.{list_asks, links, need, nested_asks, scalar_asks, vector_asks, sequence_asks, pair_asks}
 use Rattle.tx_model.specs.NameRules.{lookups_in, is_unknown, names_no_attribute, is_protected, is_ident, is_reserved_part}
 use Rattle.tx_model.specs.NameRules.{adds_reserved_ident, is_wrong_part, is_wrong_old_part, has_wrong_part, attribute_in, is_wrong_lookup}
 use Rattle.tx_model.specs.NameRules.{has_wrong_lookup, has_other_lookup, is_lacking}
@@ -142,7 +142,7 @@ module _ (places : List (List ℕ)) where
   entity_stays (edn.vector fs) = found_stays (lookup_in fs)
   entity_stays f = refl
 
-  list_stays : (facts : List Datom) (verb : Option Verb) (fs : List Form)
+  pub list_stays : (facts : List Datom) (verb : Option Verb) (fs : List Form)
       → map (ask_placed places) (list_asks facts verb fs) ≡ list_asks facts verb fs
   list_stays facts (Some add) (e ∷ a ∷ v ∷ []) =
       ap (λ name. adds name (keyword_in a) (part_placed places (value_part (has_ref facts (keyword_in a)) v)) ∷ []) (entity_stays e)
@@ -161,10 +161,6 @@ module _ (places : List (List ℕ)) where
       (old_value_stays (has_ref facts (keyword_in a)) new)
   list_stays facts (Some retract_entity) (e ∷ []) = ap (λ name. retracts_entity name ∷ []) (entity_stays e)
   list_stays facts verb fs = refl
-
-  pub verb_asks_stay : (facts : List Datom) (fs : List Form) → map (ask_placed places) (verb_asks facts fs) ≡ verb_asks facts fs
-  verb_asks_stay facts [] = refl
-  verb_asks_stay facts (verb ∷ arguments) = list_stays facts (verb_in verb) arguments
 
   -- ---- what the rules look at
 

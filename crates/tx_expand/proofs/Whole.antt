@@ -14,6 +14,7 @@ use Rattle.tx_model.specs.Asks as model
 use Rattle.tx_model.specs.Step.{first_yes, first_refusal}
 use Rattle.tx_model.specs.Tempids.{Db}
 use Rattle.tx_model.specs.Walk.{flat}
+use Rattle.tx_forms.specs.Parts.{parts_in}
 use Rattle.tx_asks.specs.Asks.{Legend, ask_of, part_of, old_part_of, name_of, matters, IsTyped, AreCounted, AreAsks}
 use Rattle.tx_asks.specs.declared.asks.LookupRef.{LookupRef}
 use Rattle.tx_asks.specs.declared.asks.Name.{Name}
@@ -38,13 +39,17 @@ use Rattle.tx_expand.proofs.OneMore.{no_some, append_none}
 use Rattle.tx_expand.proofs.Below.{Each, IsAskBelow, all_of_each, counted_asks, kept_below, lists_below}
 use Rattle.tx_expand.proofs.SameAttributes.{flat_same, faults_same}
 
+-- what forms ask, by numbers
+abbrev pub walked : List Datom → List Form → List (List model.Ask)
+walked s fs = walk_forms s 0 (map parts_in fs)
+
 -- ---- what is wrong, by the facts of a history
 
 module _ (s facts : List Datom) (same : (k : List ℕ) → attribute_named s k ≡ attribute_named facts k) (fs : List Form) where
   abbrev pub places : List (List ℕ)
   places = (forms_numbered s 0 0 fs).places
 
-  pub asks_are : (more : List (List ℕ)) → map (map (ask_placed (places ++ more))) (walk_forms s 0 fs) ≡ flat facts fs
+  pub asks_are : (more : List (List ℕ)) → map (map (ask_placed (places ++ more))) (walked s fs) ≡ flat facts fs
   asks_are more =
       (forms_numbered s 0 0 fs).same ((forms_numbered s 0 0 fs).places ++ more) (has_all (forms_numbered s 0 0 fs).places more)
       ∙ flat_same s facts same fs
@@ -58,27 +63,27 @@ module _ (s facts : List Datom) (same : (k : List ℕ) → attribute_named s k �
       ∙ ap (λ rest. test (form_faults facts (map (ask_placed all) asks)) ∷ rest) (tests_same test all lists)
 
   pub tests_are : (test : Faults → Bool)
-      → map (λ form. test (form_faults s form)) (walk_forms s 0 fs) ≡ map (λ form. test (form_faults facts form)) (flat facts fs)
-  tests_are test = tests_same test (places ++ []) (walk_forms s 0 fs) ∙ ap (map (λ form. test (form_faults facts form))) (asks_are [])
+      → map (λ form. test (form_faults s form)) (walked s fs) ≡ map (λ form. test (form_faults facts form)) (flat facts fs)
+  tests_are test = tests_same test (places ++ []) (walked s fs) ∙ ap (map (λ form. test (form_faults facts form))) (asks_are [])
 
   abbrev first_where : (Faults → Bool) → Option ℕ
   first_where test = first_yes 0 (map (λ form. test (form_faults facts form)) (flat facts fs))
 
-  first_is : (test : Faults → Bool) → first_yes 0 (map (λ form. test (form_faults s form)) (walk_forms s 0 fs)) ≡ first_where test
+  first_is : (test : Faults → Bool) → first_yes 0 (map (λ form. test (form_faults s form)) (walked s fs)) ≡ first_where test
   first_is test = ap (first_yes 0) (tests_are test)
 
   pub rules_are : ◌≡◌ {A = List (Reason × Option ℕ)}
-      ((NotAnAttribute, first_unknown s 0 (walk_forms s 0 fs)) ∷ rules_of (firsts_from s 0 (walk_forms s 0 fs)))
+      ((NotAnAttribute, first_unknown s 0 (walked s fs)) ∷ rules_of (firsts_from s 0 (walked s fs)))
       ((NotAnAttribute, first_where (λ found. found.unknown)) ∷ (ProtectedAttribute, first_where (λ found. found.protected))
       ∷ (WrongType, first_where (λ found. found.wrong)) ∷ (NotUniqueLookup, first_where (λ found. found.not_unique)) ∷ [])
   rules_are =
-      ap (λ o. (NotAnAttribute, o) ∷ rules_of (firsts_from s 0 (walk_forms s 0 fs))) (first_is (λ found. found.unknown))
+      ap (λ o. (NotAnAttribute, o) ∷ rules_of (firsts_from s 0 (walked s fs))) (first_is (λ found. found.unknown))
       ∙ ap (λ o. (NotAnAttribute, first_where (λ found. found.unknown)) ∷ (ProtectedAttribute, o) ∷ (
         WrongType,
-        (firsts_from s 0 (walk_forms s 0 fs)).wrong,
-      ) ∷ (NotUniqueLookup, (firsts_from s 0 (walk_forms s 0 fs)).not_unique) ∷ []) (first_is (λ found. found.protected))
+        (firsts_from s 0 (walked s fs)).wrong,
+      ) ∷ (NotUniqueLookup, (firsts_from s 0 (walked s fs)).not_unique) ∷ []) (first_is (λ found. found.protected))
       ∙ ap (λ o. (NotAnAttribute, first_where (λ found. found.unknown)) ∷ (ProtectedAttribute, first_where (λ found. found.protected))
-      ∷ (WrongType, o) ∷ (NotUniqueLookup, (firsts_from s 0 (walk_forms s 0 fs)).not_unique) ∷ []) (first_is (λ found. found.wrong))
+      ∷ (WrongType, o) ∷ (NotUniqueLookup, (firsts_from s 0 (walked s fs)).not_unique) ∷ []) (first_is (λ found. found.wrong))
       ∙ ap (λ o. (NotAnAttribute, first_where (λ found. found.unknown)) ∷ (ProtectedAttribute, first_where (λ found. found.protected))
       ∷ (WrongType, first_where (λ found. found.wrong)) ∷ (NotUniqueLookup, o) ∷ []) (first_is (λ found. found.not_unique))
 
@@ -212,13 +217,13 @@ module _ (s facts : List Datom) (same : (k : List ℕ) → attribute_named s k �
   all_counted n refs (form ∷ forms) below =
       (all_of_each (AreCounted n) form.items (counted_asks n refs form.items below.0), all_counted n refs forms below.1)
 
-  pub placed_alone : map (map (ask_placed places)) (walk_forms s 0 fs) ≡ flat facts fs
-  placed_alone = ap (λ all. map (map (ask_placed all)) (walk_forms s 0 fs)) (sym (append_none places)) ∙ asks_are []
+  pub placed_alone : map (map (ask_placed places)) (walked s fs) ≡ flat facts fs
+  placed_alone = ap (λ all. map (map (ask_placed all)) (walked s fs)) (sym (append_none places)) ∙ asks_are []
 
-  pub are_asks : (e : Expanded) → AreExpanded s fs e → e.firsts.wrong ≡ None
+  pub are_asks : (e : Expanded) → AreExpanded s (map parts_in fs) e → e.firsts.wrong ≡ None
       → AreAsks (record { forms = e.forms; lookups = e.lookups; nameless = e.nameless; lacking = e.firsts.lacking }) facts (flat facts fs)
   are_asks e are right =
-      let wrong_none : (firsts_from s 0 (walk_forms s 0 fs)).wrong ≡ None = ap (λ firsts. firsts.wrong) (sym are.firsts_are) ∙ right in
+      let wrong_none : (firsts_from s 0 (walked s fs)).wrong ≡ None = ap (λ firsts. firsts.wrong) (sym are.firsts_are) ∙ right in
       let counts : length places ≡ e.nameless = sym (are.counted ∙ (forms_numbered s 0 0 fs).next ∙ omega arith) in
       record {
         places = places;
@@ -226,8 +231,8 @@ module _ (s facts : List Datom) (same : (k : List ℕ) → attribute_named s k �
         counted = counts;
         same =
             forms_are e.lookups.items places e.forms.items
-            ∙ ap (map (map (ask_placed places))) (are.asks_are ∙ all_matter 0 (walk_forms s 0 fs) are.known wrong_none)
-            ∙ filters_placed places (walk_forms s 0 fs)
+            ∙ ap (map (map (ask_placed places))) (are.asks_are ∙ all_matter 0 (walked s fs) are.known wrong_none)
+            ∙ filters_placed places (walked s fs)
             ∙ ap (map (filter matters)) placed_alone;
         read =
             λ k d below.
@@ -237,8 +242,8 @@ module _ (s facts : List Datom) (same : (k : List ℕ) → attribute_named s k �
             (all_of_each (λ form. All (AreCounted (length places)) form.items) e.forms.items
             (all_counted (length places) e.lookups.items e.forms.items
             (subst (λ lists. Each (Each (IsAskBelow (length places))) lists) (sym are.asks_are)
-            (kept_below (length places) (is_kept s) (walk_forms s 0 fs)
-            (lists_below places (walk_forms s 0 fs) (λ more. asks_are more ∙ sym placed_alone))))));
+            (kept_below (length places) (is_kept s) (walked s fs)
+            (lists_below places (walked s fs) (λ more. asks_are more ∙ sym placed_alone))))));
         lacking = ap (λ firsts. firsts.lacking) are.firsts_are ∙ first_is (λ found. found.lacking);
       }
 

@@ -6,13 +6,14 @@
 use Rattle.std.specs.Prelude.{ℕ, ◌+◌, Bool, true, false, not, ◌&&◌, ◌||◌, List, [], ◌∷◌, ◌++◌}
 use Rattle.std.specs.Prelude.{if◌then◌else◌, Option, Some, None}
 use Rattle.edn_model.specs.Form as edn
-use Rattle.edn_model.specs.Form.{Form, Forms, no_forms, form, Pairs, no_pairs, pair, items}
+use Rattle.edn_model.specs.Form.{Form, Forms, no_forms, form, Pairs, no_pairs, pair}
 use Rattle.fb_values.specs.declared.facts.Datom.{Datom}
 use Rattle.tx_model.specs.Asks.{Name, nameless, plain, entity, Ask, meets, lookup_in, Key, own}
 use Rattle.tx_model.specs.Asks.{forward, backward, key_in}
 use Rattle.tx_model.specs.Walk.{has_ref, has_many, has_uniqueness, has_parts, has_identity, need}
 use Rattle.tx_model.specs.Walk.{name_of_map, links, nested_asks, scalar_asks, vector_asks}
-use Rattle.tx_model.specs.Walk.{sequence_asks, pair_asks, verb_asks}
+use Rattle.tx_model.specs.Walk.{sequence_asks, pair_asks, list_asks}
+use Rattle.tx_forms.specs.Parts.{Parts, list_form, map_form, no_form}
 
 pub record Visited : Type 0 where
   pub asks : List Ask
@@ -123,20 +124,19 @@ abbrev mutual
 
 -- ---- forms
 
-abbrev pub walk_form : List Datom → ℕ → Form → Visited
-walk_form facts n (edn.vector fs) = visited (verb_asks facts (items fs)) n
-walk_form facts n (edn.list fs) = visited (verb_asks facts (items fs)) n
-walk_form facts n (edn.map ps) =
+abbrev pub walk_form : List Datom → ℕ → Parts → Visited
+walk_form facts n (list_form verb arguments) = visited (list_asks facts verb arguments) n
+walk_form facts n (map_form ps) =
     then_walk (visited (meets (name_at n ps) ∷ []) (behind (name_at n ps) n))
     (λ m. walk_map facts (name_at n ps) m ps)
-walk_form facts n f = visited [] n
+walk_form facts n no_form = visited [] n
 
 -- what each form asks, and the number after them all
-abbrev pub walk_forms : List Datom → ℕ → List Form → List (List Ask)
+abbrev pub walk_forms : List Datom → ℕ → List Parts → List (List Ask)
 walk_forms facts n [] = []
 walk_forms facts n (f ∷ fs) =
     (walk_form facts n f).asks ∷ walk_forms facts (walk_form facts n f).next fs
 
-abbrev pub next_behind : List Datom → ℕ → List Form → ℕ
+abbrev pub next_behind : List Datom → ℕ → List Parts → ℕ
 next_behind facts n [] = n
 next_behind facts n (f ∷ fs) = next_behind facts (walk_form facts n f).next fs

@@ -2,15 +2,12 @@
 -- each with the first form that breaks it: the least rule first.
 -- Datomic, Transaction Data and Schema.
 -- That of several faults the least rule is reported is this project's own choice.
-use Rattle.std.specs.Prelude.{ℕ, Bool, List, [], ◌∷◌, map, if◌then◌else◌, Option, Some, None, ⊤}
+use Rattle.std.specs.Prelude.{ℕ, Bool, List, [], ◌∷◌, map, if◌then◌else◌, Option, Some, None}
 use Rattle.fb_values.specs.declared.facts.Datom.{Datom}
 use Rattle.tx_refusals.specs.declared.reasons.Reason.{Reason}
 use Rattle.tx_refusals.specs.declared.reasons.Reason.TheVariants.{NotAnAttribute}
 use Rattle.tx_refusals.specs.declared.reasons.Reason.TheVariants.{ProtectedAttribute, WrongType}
 use Rattle.tx_refusals.specs.declared.reasons.Reason.TheVariants.{NotUniqueLookup}
-use Rattle.tx_refusals.specs.declared.reasons.Refusal.{Refusal}
-use Rattle.tx_forms.specs.declared.read.TxStop.{TxStop}
-use Rattle.tx_forms.specs.declared.read.TxStop.TheVariants.{Refused, Memory}
 use Rattle.tx_model.specs.Asks.{Ask}
 use Rattle.tx_model.specs.NameRules.{breaks_not_an_attribute, breaks_protected_attribute}
 use Rattle.tx_model.specs.NameRules.{breaks_wrong_type, breaks_not_unique_lookup}
@@ -27,11 +24,6 @@ schema_rules db asks =
     ∷ (WrongType, first_yes 0 (map (breaks_wrong_type db) asks))
     ∷ (NotUniqueLookup, first_yes 0 (map (breaks_not_unique_lookup db) asks))
     ∷ []
-
--- why a transaction was refused, if memory did not run out
-abbrev pub IfRefused : TxStop → (Refusal → Type 0) → Type 0
-IfRefused (Refused refusal) P = P refusal
-IfRefused Memory P = ⊤
 
 -- ---- the first forms with each fault but the least, from some form on
 

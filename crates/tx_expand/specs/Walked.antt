@@ -1,8 +1,8 @@
 -- What the walk over the forms of a transaction answers. This project's own choice.
 use Rattle.std.specs.Prelude.{◌≡◌, List, map, filter, Some, None}
 use Rattle.std.specs.List.{All}
-use Rattle.edn_model.specs.Form.{Form}
 use Rattle.fb_values.specs.declared.facts.Datom.{Datom}
+use Rattle.tx_forms.specs.Parts.{Parts}
 use Rattle.tx_asks.specs.Asks.{IsTyped}
 use Rattle.tx_expand.specs.declared.forms.Expanded.{Expanded}
 use Rattle.tx_expand.specs.declared.forms.Walked.{Walked}
@@ -11,7 +11,7 @@ use Rattle.tx_expand.specs.Numbered.{walk_forms, next_behind}
 use Rattle.tx_expand.specs.Faults.{ask_read, is_kept}
 use Rattle.tx_expand.specs.Rules.{first_unknown, firsts_from}
 
-pub record AreExpanded (facts : List Datom) (fs : List Form) (expanded : Expanded) : Type 0 where
+pub record AreExpanded (facts : List Datom) (fs : List Parts) (expanded : Expanded) : Type 0 where
   pub known : first_unknown facts 0 (walk_forms facts 0 fs) ≡ None
   pub firsts_are : expanded.firsts ≡ firsts_from facts 0 (walk_forms facts 0 fs)
   pub asks_are :
@@ -20,6 +20,6 @@ pub record AreExpanded (facts : List Datom) (fs : List Form) (expanded : Expande
   pub read : All (λ form. All (IsTyped facts) form.items) expanded.forms.items
   pub counted : expanded.nameless ≡ next_behind facts 0 fs
 
-abbrev pub IsWalked : List Datom → List Form → Walked → Type 0
+abbrev pub IsWalked : List Datom → List Parts → Walked → Type 0
 IsWalked facts fs (Unknown place) = first_unknown facts 0 (walk_forms facts 0 fs) ≡ Some place
 IsWalked facts fs (Whole expanded) = AreExpanded facts fs expanded

@@ -1,9 +1,7 @@
 //! The forms of a transaction, one after another.
-ghost use Rattle.std.specs.Prelude.{◌≡◌, List, map, filter, true, None, IfOk};
+ghost use Rattle.std.specs.Prelude.{◌≡◌, List, map, filter, IfOk};
 ghost use Rattle.std.specs.List.{All};
-ghost use Rattle.edn_form.specs.View.{form_of, forms_of};
-ghost use Rattle.tx_model.specs.Shapes.{has_shape};
-ghost use Rattle.tx_model.specs.Step.{first_without_shape};
+ghost use Rattle.tx_forms.specs.Parts.{parts_of};
 ghost use Rattle.tx_asks.specs.declared.asks.LookupRef.{LookupRef as model_LookupRef};
 ghost use Rattle.tx_asks.specs.Asks.{IsTyped};
 ghost use Rattle.tx_expand.specs.Known.{HaveOwnNames};
@@ -18,11 +16,11 @@ use crate::judge::{Judged, judge_all};
 use crate::lookups::judge_lookups;
 use crate::raw::Out;
 use crate::walk::form_asks;
-use edn_form::Edn;
 use fb_memory::Memory;
 use fb_schema::Schema;
 use std::alloc::Global;
 use tx_asks::{Ask, LookupRef};
+use tx_forms::TxForm;
 
 /// What all forms ask, and the first forms with each fault.
 #[derive(Drop)]
@@ -47,39 +45,38 @@ fn expand_form<'a>(
     schema: &'a Schema,
     out: &mut Out<'a>,
     judged: &mut Vec<NameFaults>,
-    f: &'a Edn,
+    form: TxForm<'a>,
 ) -> Result<Judged<'a>, Memory>
     requires own { HaveOwnNames schema.now }
-    requires shape { has_shape (form_of f.now) ≡ true }
     requires judged { judged.old.items ≡ map (ref_faults schema.now) out.old.lookups.items }
-    ensures faults { IfOk result (λ form. form.faults
-        ≡ form_faults schema.now (walk_form schema.now out.old.next (form_of f.now)).asks) }
+    ensures faults { IfOk result (λ found. found.faults
+        ≡ form_faults schema.now (walk_form schema.now out.old.next (parts_of form.entry)).asks) }
     ensures asks { (all : List model_LookupRef) → BeginWith out.new.lookups.items all
-        → IfOk result (λ form. map (ask_read all) form.asks.items
-        ≡ filter (is_kept schema.now) (walk_form schema.now out.old.next (form_of f.now)).asks) }
-    ensures read { IfOk result (λ form. All (IsTyped schema.now) form.asks.items) }
+        → IfOk result (λ found. map (ask_read all) found.asks.items
+        ≡ filter (is_kept schema.now)
+        (walk_form schema.now out.old.next (parts_of form.entry)).asks) }
+    ensures read { IfOk result (λ found. All (IsTyped schema.now) found.asks.items) }
     ensures judged { IfOk result
         (λ _. judged.new.items ≡ map (ref_faults schema.now) out.new.lookups.items) }
     ensures kept { (all : List model_LookupRef) → BeginWith out.new.lookups.items all
         → IfOk result (λ _. BeginWith out.old.lookups.items all) }
     ensures next { IfOk result
-        (λ _. out.new.next ≡ (walk_form schema.now out.old.next (form_of f.now)).next) }
+        (λ _. out.new.next ≡ (walk_form schema.now out.old.next (parts_of form.entry)).next) }
 {
     out.raws.clear();
-    form_asks(alloc, schema, out, f)?;
+    form_asks(alloc, schema, out, form)?;
     judge_lookups(schema, out.lookups.as_slice(), judged)?;
     judge_all(alloc, schema, judged, out.raws.as_slice())
 }
 
-/// What the forms ask, which have shapes. A keyword that names no attribute ends the walk.
+/// What the forms ask. A keyword that names no attribute ends the walk.
 pub fn expand_forms<'a>(
     alloc: Global,
     schema: &'a Schema,
-    forms: &'a [Edn],
+    forms: &[TxForm<'a>],
 ) -> Result<Walked<'a>, Memory>
-    requires own { HaveOwnNames schema.now }
-    requires shape { first_without_shape (forms_of forms.now) ≡ None }
-    ensures { IfOk result (λ walked. IsWalked schema.now (forms_of forms.now) walked) }
+    requires { HaveOwnNames schema.now }
+    ensures { IfOk result (λ walked. IsWalked schema.now (map parts_of forms.now) walked) }
 {
     let mut expanded = Vec::with_capacity(alloc, forms.len())?;
     let mut out = Out {
@@ -90,13 +87,13 @@ pub fn expand_forms<'a>(
     let mut judged = Vec::new(alloc);
     let mut firsts = NONE;
     let mut place = 0;
-    for f in forms {
-        let form = expand_form(alloc, schema, &mut out, &mut judged, f)?;
-        if form.faults.unknown {
+    for form in forms {
+        let found = expand_form(alloc, schema, &mut out, &mut judged, *form)?;
+        if found.faults.unknown {
             return Ok(Walked::Unknown(place));
         }
-        firsts = with_faults(firsts, form.faults, place);
-        expanded.push(form.asks)?;
+        firsts = with_faults(firsts, found.faults, place);
+        expanded.push(found.asks)?;
         place += 1;
     }
     Ok(Walked::Whole(Expanded {

@@ -9,6 +9,7 @@ ghost use Rattle.fb_model.specs.Schema.{attribute_named};
 ghost use Rattle.tx_model.specs.Asks.{Ask};
 ghost use Rattle.tx_model.specs.Tempids.{Db};
 ghost use Rattle.tx_model.specs.Walk.{flat};
+ghost use Rattle.tx_forms.specs.Parts.{parts_in};
 ghost use Rattle.tx_asks.specs.Asks.{AreApart};
 ghost use Rattle.tx_expand.specs.Known.{HaveOwnNames, IsLawfulSchema};
 ghost use Rattle.tx_expand.specs.Numbered.{walk_forms, next_behind};
@@ -46,6 +47,6 @@ pub fn maps_have_places_of_their_own()
     ensures { (facts : List Datom) (fs : List Form)
         → (places : List (List ℕ))
         × (AreApart places
-        × (length places ≡ next_behind facts 0 fs)
-        × (map (map (ask_placed places)) (walk_forms facts 0 fs) ≡ flat facts fs)) }
+        × (length places ≡ next_behind facts 0 (map parts_in fs))
+        × (map (map (ask_placed places)) (walk_forms facts 0 (map parts_in fs)) ≡ flat facts fs)) }
 {}

@@ -1,22 +1,24 @@
 //! What a list form asks.
 ghost use Rattle.std.specs.Prelude.{◌≡◌, ◌∷◌, [], List, true, Some, IfOk};
 ghost use Rattle.fb_values.specs.declared.facts.Datom.{Datom};
-ghost use Rattle.edn_form.specs.View.{form_of, forms_of};
+ghost use Rattle.edn_model.specs.Form as edn;
+ghost use Rattle.edn_form.specs.View.{form_of};
 ghost use Rattle.tx_model.specs.Shapes as shapes;
 ghost use Rattle.tx_model.specs.Walk as model;
-ghost use Rattle.tx_forms.specs.Words.{verb_of};
+ghost use Rattle.tx_forms.specs.Parts.{entity_form, verb_of, arguments_of};
 ghost use Rattle.tx_asks.specs.declared.asks.LookupRef.{LookupRef as model_LookupRef};
 ghost use Rattle.tx_expand.specs.View.{BeginWith, model_part, model_ask};
 ghost use Rattle.tx_expand.specs.Known.{HaveOwnNames, IsAskLookedUp};
 
-use crate::attrs::has_ref;
-use crate::names::{attribute_in, entity_in, looked_up};
+use crate::attrs::{attribute, has_ref};
+use crate::names::{looked_up, named};
 use crate::raw::{RawAsk, RawPart};
 use edn_form::Edn;
 use fb_memory::Memory;
 use fb_schema::Schema;
+use fb_text::Text;
 use tx_asks::{LookupRef, Name};
-use tx_forms::{Verb, lookup_in, verb_in};
+use tx_forms::{EntityForm, ListForm, lookup_in};
 
 // ---- values
 
@@ -88,167 +90,139 @@ fn old_value_part<'a>(
 fn add<'a>(
     schema: &'a Schema,
     lookups: &mut Vec<LookupRef<'a>>,
-    e: &'a Edn,
-    a: &Edn,
-    v: &'a Edn,
+    entity: EntityForm<'a>,
+    k: &Text,
+    value: &'a Edn,
 ) -> Result<RawAsk<'a>, Memory>
-    requires own { HaveOwnNames schema.now }
-    requires entity { shapes.names_an_entity (form_of e.now) ≡ true }
-    requires keyword { shapes.is_keyword (form_of a.now) ≡ true }
+    requires { HaveOwnNames schema.now }
     ensures ask { (all : List model_LookupRef) → BeginWith lookups.new.items all
         → IfOk result (λ raw. model_ask all raw ∷ []
         ≡ model.list_asks schema.now (Some shapes.add)
-        (form_of e.now ∷ form_of a.now ∷ form_of v.now ∷ [])) }
+        (entity_form entity.entry ∷ edn.keyword k.now ∷ form_of value.now ∷ [])) }
     ensures kept { (all : List model_LookupRef) → BeginWith lookups.new.items all
         → IfOk result (λ _. BeginWith lookups.old.items all) }
     ensures known { IfOk result (λ raw. IsAskLookedUp schema.now raw) }
 {
-    let attr = attribute_in(schema, a)?;
-    let entity = entity_in(lookups, e)?;
-    let part = value_part(lookups, has_ref(schema, &attr), v)?;
-    Ok(RawAsk::Adds(entity, attr, part))
+    let attr = attribute(schema, k)?;
+    let on = named(lookups, entity)?;
+    let part = value_part(lookups, has_ref(schema, &attr), value)?;
+    Ok(RawAsk::Adds(on, attr, part))
 }
 
 fn retract<'a>(
     schema: &'a Schema,
     lookups: &mut Vec<LookupRef<'a>>,
-    e: &'a Edn,
-    a: &Edn,
-    v: &'a Edn,
+    entity: EntityForm<'a>,
+    k: &Text,
+    value: &'a Edn,
 ) -> Result<RawAsk<'a>, Memory>
-    requires own { HaveOwnNames schema.now }
-    requires entity { shapes.names_an_entity (form_of e.now) ≡ true }
-    requires keyword { shapes.is_keyword (form_of a.now) ≡ true }
+    requires { HaveOwnNames schema.now }
     ensures ask { (all : List model_LookupRef) → BeginWith lookups.new.items all
         → IfOk result (λ raw. model_ask all raw ∷ []
         ≡ model.list_asks schema.now (Some shapes.retract)
-        (form_of e.now ∷ form_of a.now ∷ form_of v.now ∷ [])) }
+        (entity_form entity.entry ∷ edn.keyword k.now ∷ form_of value.now ∷ [])) }
     ensures kept { (all : List model_LookupRef) → BeginWith lookups.new.items all
         → IfOk result (λ _. BeginWith lookups.old.items all) }
     ensures known { IfOk result (λ raw. IsAskLookedUp schema.now raw) }
 {
-    let attr = attribute_in(schema, a)?;
-    let entity = entity_in(lookups, e)?;
-    let part = old_value_part(lookups, has_ref(schema, &attr), v)?;
-    Ok(RawAsk::Retracts(entity, attr, part))
+    let attr = attribute(schema, k)?;
+    let on = named(lookups, entity)?;
+    let part = old_value_part(lookups, has_ref(schema, &attr), value)?;
+    Ok(RawAsk::Retracts(on, attr, part))
 }
 
 fn retract_all<'a>(
     schema: &'a Schema,
     lookups: &mut Vec<LookupRef<'a>>,
-    e: &'a Edn,
-    a: &Edn,
+    entity: EntityForm<'a>,
+    k: &Text,
 ) -> Result<RawAsk<'a>, Memory>
-    requires own { HaveOwnNames schema.now }
-    requires entity { shapes.names_an_entity (form_of e.now) ≡ true }
-    requires keyword { shapes.is_keyword (form_of a.now) ≡ true }
+    requires { HaveOwnNames schema.now }
     ensures ask { (all : List model_LookupRef) → BeginWith lookups.new.items all
         → IfOk result (λ raw. model_ask all raw ∷ []
-        ≡ model.list_asks schema.now (Some shapes.retract) (form_of e.now ∷ form_of a.now ∷ [])) }
+        ≡ model.list_asks schema.now (Some shapes.retract)
+        (entity_form entity.entry ∷ edn.keyword k.now ∷ [])) }
     ensures kept { (all : List model_LookupRef) → BeginWith lookups.new.items all
         → IfOk result (λ _. BeginWith lookups.old.items all) }
     ensures known { IfOk result (λ raw. IsAskLookedUp schema.now raw) }
 {
-    let attr = attribute_in(schema, a)?;
-    Ok(RawAsk::RetractsAll(entity_in(lookups, e)?, attr))
+    let attr = attribute(schema, k)?;
+    Ok(RawAsk::RetractsAll(named(lookups, entity)?, attr))
 }
 
 fn compare<'a>(
     schema: &'a Schema,
     lookups: &mut Vec<LookupRef<'a>>,
-    e: &'a Edn,
-    a: &Edn,
+    entity: EntityForm<'a>,
+    k: &Text,
     old: &'a Edn,
     new: &'a Edn,
 ) -> Result<RawAsk<'a>, Memory>
-    requires own { HaveOwnNames schema.now }
-    requires entity { shapes.names_an_entity (form_of e.now) ≡ true }
-    requires keyword { shapes.is_keyword (form_of a.now) ≡ true }
+    requires { HaveOwnNames schema.now }
     ensures ask { (all : List model_LookupRef) → BeginWith lookups.new.items all
         → IfOk result (λ raw. model_ask all raw ∷ []
         ≡ model.list_asks schema.now (Some shapes.cas)
-        (form_of e.now ∷ form_of a.now ∷ form_of old.now ∷ form_of new.now ∷ [])) }
+        (entity_form entity.entry ∷ edn.keyword k.now ∷ form_of old.now ∷ form_of new.now ∷ [])) }
     ensures kept { (all : List model_LookupRef) → BeginWith lookups.new.items all
         → IfOk result (λ _. BeginWith lookups.old.items all) }
     ensures known { IfOk result (λ raw. IsAskLookedUp schema.now raw) }
 {
-    let attr = attribute_in(schema, a)?;
+    let attr = attribute(schema, k)?;
     let is_ref = has_ref(schema, &attr);
-    let entity = entity_in(lookups, e)?;
+    let on = named(lookups, entity)?;
     let old = old_value_part(lookups, is_ref, old)?;
     let new = old_value_part(lookups, is_ref, new)?;
-    Ok(RawAsk::Compares(entity, attr, old, new))
+    Ok(RawAsk::Compares(on, attr, old, new))
 }
 
-fn retract_entity<'a>(lookups: &mut Vec<LookupRef<'a>>, e: &'a Edn) -> Result<RawAsk<'a>, Memory>
-    requires { shapes.names_an_entity (form_of e.now) ≡ true }
+fn retract_entity<'a>(
+    lookups: &mut Vec<LookupRef<'a>>,
+    entity: EntityForm<'a>,
+) -> Result<RawAsk<'a>, Memory>
     ensures ask { (all : List model_LookupRef) → BeginWith lookups.new.items all
         → IfOk result (λ raw. model_ask all raw ∷ []
-        ≡ model.list_asks [] (Some shapes.retract_entity) (form_of e.now ∷ [])) }
+        ≡ model.list_asks [] (Some shapes.retract_entity) (entity_form entity.entry ∷ [])) }
     ensures kept { (all : List model_LookupRef) → BeginWith lookups.new.items all
         → IfOk result (λ _. BeginWith lookups.old.items all) }
     ensures known { IfOk result (λ raw. (facts : List Datom) → IsAskLookedUp facts raw) }
 {
-    Ok(RawAsk::RetractsEntity(entity_in(lookups, e)?))
+    Ok(RawAsk::RetractsEntity(named(lookups, entity)?))
 }
 
-#[tactic(auto, using(crate::proofs::Arguments::add_of_others, crate::proofs::Arguments::retract_of_others, crate::proofs::Arguments::cas_of_others, crate::proofs::Arguments::retract_entity_of_others, crate::proofs::Arguments::both_are))]
-fn ask_of<'a>(
-    schema: &'a Schema,
-    lookups: &mut Vec<LookupRef<'a>>,
-    verb: Verb,
-    arguments: &'a [Edn],
-) -> Result<RawAsk<'a>, Memory>
-    requires own { HaveOwnNames schema.now }
-    requires shape { shapes.has_arguments (Some (verb_of verb)) (forms_of arguments.now) ≡ true }
-    ensures ask { (all : List model_LookupRef) → BeginWith lookups.new.items all
-        → IfOk result (λ raw. model_ask all raw ∷ []
-        ≡ model.list_asks schema.now (Some (verb_of verb)) (forms_of arguments.now)) }
-    ensures kept { (all : List model_LookupRef) → BeginWith lookups.new.items all
-        → IfOk result (λ _. BeginWith lookups.old.items all) }
-    ensures known { IfOk result (λ raw. IsAskLookedUp schema.now raw) }
-{
-    match verb {
-        Verb::Add => match arguments {
-            [e, a, v] => add(schema, lookups, e, a, v),
-            _ => unreachable!(),
-        },
-        Verb::Retract => match arguments {
-            [e, a, v] => retract(schema, lookups, e, a, v),
-            [e, a] => retract_all(schema, lookups, e, a),
-            _ => unreachable!(),
-        },
-        Verb::Cas => match arguments {
-            [e, a, old, new] => compare(schema, lookups, e, a, old, new),
-            _ => unreachable!(),
-        },
-        Verb::RetractEntity => match arguments {
-            [e] => retract_entity(lookups, e),
-            _ => unreachable!(),
-        },
-    }
-}
-
-/// What the list form asks: one thing, since it has a shape.
+/// What the list form asks: one thing.
 pub fn list_ask<'a>(
     schema: &'a Schema,
     lookups: &mut Vec<LookupRef<'a>>,
-    members: &'a [Edn],
+    form: ListForm<'a>,
 ) -> Result<RawAsk<'a>, Memory>
-    requires own { HaveOwnNames schema.now }
-    requires shape { shapes.has_list_shape (forms_of members.now) ≡ true }
+    requires { HaveOwnNames schema.now }
     ensures ask { (all : List model_LookupRef) → BeginWith lookups.new.items all
-        → IfOk result
-        (λ raw. model_ask all raw ∷ [] ≡ model.verb_asks schema.now (forms_of members.now)) }
+        → IfOk result (λ raw. model_ask all raw ∷ []
+        ≡ model.list_asks schema.now (Some (verb_of form.entry)) (arguments_of form.entry)) }
     ensures kept { (all : List model_LookupRef) → BeginWith lookups.new.items all
         → IfOk result (λ _. BeginWith lookups.old.items all) }
     ensures known { IfOk result (λ raw. IsAskLookedUp schema.now raw) }
 {
-    let [first, arguments @ ..] = members else {
-        unreachable!()
-    };
-    match verb_in(first) {
-        Some(verb) => ask_of(schema, lookups, verb, arguments),
-        None => unreachable!(),
+    match form {
+        ListForm::Add {
+            entity,
+            attribute,
+            value,
+        } => add(schema, lookups, entity, attribute, value),
+        ListForm::Retract {
+            entity,
+            attribute,
+            value,
+        } => retract(schema, lookups, entity, attribute, value),
+        ListForm::RetractAll { entity, attribute } => {
+            retract_all(schema, lookups, entity, attribute)
+        }
+        ListForm::Cas {
+            entity,
+            attribute,
+            old,
+            new,
+        } => compare(schema, lookups, entity, attribute, old, new),
+        ListForm::RetractEntity { entity } => retract_entity(lookups, entity),
     }
 }

@@ -5,16 +5,16 @@ ghost use Rattle.edn_model.specs.Form as edn;
 ghost use Rattle.edn_form.specs.View.{form_of, pairs_of, entries};
 ghost use Rattle.fb_model.specs.Words as words;
 ghost use Rattle.tx_model.specs.Asks as asks;
-ghost use Rattle.tx_model.specs.Shapes as shapes;
 ghost use Rattle.tx_model.specs.Walk as walk;
+ghost use Rattle.tx_forms.specs.Parts.{entity_form};
 ghost use Rattle.tx_asks.specs.declared.asks.LookupRef.{LookupRef as model_LookupRef};
-ghost use Rattle.tx_expand.specs.View.{BeginWith, model_name, word_of, model_link, model_key};
-ghost use Rattle.tx_expand.specs.Known.{HaveOwnNames, IsLookedUp, IsLinkLookedUp, IsKeyLookedUp};
+ghost use Rattle.tx_expand.specs.View.{BeginWith, model_name, model_link, model_key};
+ghost use Rattle.tx_expand.specs.Known.{HaveOwnNames, IsLinkLookedUp, IsKeyLookedUp};
 ghost use Rattle.tx_expand.specs.Numbered.{name_at};
 ghost use Rattle.tx_expand.specs.Texts.{cut_at_slash, other_key};
 
 use crate::attrs::attribute;
-use crate::raw::{Attr, Link};
+use crate::raw::Link;
 use edn_form::{Edn, Pairs};
 use edn_values::{begins_with_one_of, local_name};
 use fb_memory::Memory;
@@ -22,7 +22,7 @@ use fb_schema::Schema;
 use fb_text::Text;
 use std::alloc::Global;
 use tx_asks::{LookupRef, Name};
-use tx_forms::{is_id, lookup_in};
+use tx_forms::{EntityForm, entity_in, is_id};
 
 /// The entity that the lookup ref names, which is kept as one more.
 pub fn looked_up<'a>(
@@ -40,50 +40,36 @@ pub fn looked_up<'a>(
     Ok(name)
 }
 
+/// The entity that is named so.
+pub fn named<'a>(
+    lookups: &mut Vec<LookupRef<'a>>,
+    entity: EntityForm<'a>,
+) -> Result<Name<'a>, Memory>
+    ensures name { (all : List model_LookupRef) → BeginWith lookups.new.items all
+        → IfOk result (λ name. model_name all name ≡ walk.entity_in (entity_form entity.entry)) }
+    ensures kept { (all : List model_LookupRef) → BeginWith lookups.new.items all
+        → IfOk result (λ _. BeginWith lookups.old.items all) }
+{
+    match entity {
+        EntityForm::Number(number) => Ok(Name::Number(number)),
+        EntityForm::Ident(keyword) => Ok(Name::Ident(keyword)),
+        EntityForm::Tempid(tempid) => Ok(Name::Tempid(tempid)),
+        EntityForm::Lookup(attribute, value) => looked_up(lookups, attribute, value),
+    }
+}
+
 /// The entity that a form names, in a place where a tempid may be.
-pub fn name_in<'a>(lookups: &mut Vec<LookupRef<'a>>, f: &'a Edn) -> Result<Option<Name<'a>>, Memory>
+#[tactic(auto, using(crate::proofs::EntityNames::named_is))]
+fn name_in<'a>(lookups: &mut Vec<LookupRef<'a>>, f: &'a Edn) -> Result<Option<Name<'a>>, Memory>
     ensures name { (all : List model_LookupRef) → BeginWith lookups.new.items all
         → IfOk result
         (λ name. option_map (model_name all) name ≡ asks.name_in (form_of f.now)) }
     ensures kept { (all : List model_LookupRef) → BeginWith lookups.new.items all
         → IfOk result (λ _. BeginWith lookups.old.items all) }
 {
-    match f {
-        Edn::Int(n) => Ok(Some(Name::Number(*n))),
-        Edn::Key(k) => Ok(Some(Name::Ident(k))),
-        Edn::Str(s) => Ok(Some(Name::Tempid(s))),
-        Edn::Vector(items) => match lookup_in(items) {
-            Some((k, value)) => Ok(Some(looked_up(lookups, k, value)?)),
-            None => Ok(None),
-        },
-        _ => Ok(None),
-    }
-}
-
-/// The entity that the form names, as its shape says that it does.
-pub fn entity_in<'a>(lookups: &mut Vec<LookupRef<'a>>, f: &'a Edn) -> Result<Name<'a>, Memory>
-    requires { shapes.names_an_entity (form_of f.now) ≡ true }
-    ensures name { (all : List model_LookupRef) → BeginWith lookups.new.items all
-        → IfOk result (λ name. model_name all name ≡ walk.entity_in (form_of f.now)) }
-    ensures kept { (all : List model_LookupRef) → BeginWith lookups.new.items all
-        → IfOk result (λ _. BeginWith lookups.old.items all) }
-{
-    match name_in(lookups, f)? {
-        Some(name) => Ok(name),
-        None => unreachable!(),
-    }
-}
-
-/// The attribute that the form names, as its shape says that it is a keyword.
-pub fn attribute_in<'a>(schema: &'a Schema, f: &Edn) -> Result<Attr<'a>, Memory>
-    requires own { HaveOwnNames schema.now }
-    requires keyword { shapes.is_keyword (form_of f.now) ≡ true }
-    ensures word { IfOk result (λ attr. word_of attr ≡ walk.keyword_in (form_of f.now)) }
-    ensures known { IfOk result (λ attr. IsLookedUp schema.now attr) }
-{
-    match f {
-        Edn::Key(k) => attribute(schema, k),
-        _ => unreachable!(),
+    match entity_in(f) {
+        Some(entity) => Ok(Some(named(lookups, entity)?)),
+        None => Ok(None),
     }
 }
 

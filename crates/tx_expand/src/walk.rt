@@ -1,12 +1,11 @@
 //! The walk over a form: what it asks, in the order in which a reader meets it.
-ghost use Rattle.std.specs.Prelude.{◌≡◌, true, IfOk};
+ghost use Rattle.std.specs.Prelude.{◌≡◌, IfOk};
 ghost use Rattle.edn_model.specs.Form as edn;
 ghost use Rattle.edn_form.specs.View.{form_of, forms_of, pairs_of, members, entries};
-ghost use Rattle.tx_model.specs.Shapes as shapes;
-ghost use Rattle.tx_model.specs.Walk as model;
+ghost use Rattle.tx_forms.specs.Parts.{parts_of};
 ghost use Rattle.tx_expand.specs.View.{model_name, model_link};
 ghost use Rattle.tx_expand.specs.Known.{HaveOwnNames, IsLinkLookedUp, AreLookedUp};
-ghost use Rattle.tx_expand.specs.Numbered.{visited, walk_map, walk_pair, walk_value, walk_members, walk_member, walk_form};
+ghost use Rattle.tx_expand.specs.Numbered.{walk_map, walk_pair, walk_value, walk_members, walk_member, walk_form};
 ghost use Rattle.tx_expand.specs.Walks.{Walks};
 
 use crate::attrs::{has_ref, push};
@@ -22,6 +21,7 @@ use fb_memory::Memory;
 use fb_schema::Schema;
 use std::alloc::Global;
 use tx_asks::Name;
+use tx_forms::TxForm;
 
 /// What the pairs of a map ask, one after another.
 #[cycle(walk)]
@@ -181,44 +181,28 @@ fn member_asks<'a>(
     }
 }
 
-/// What the list form with these members asks.
-#[tactic(auto, using(crate::proofs::FormMembers::items_forms))]
-fn list_asks<'a>(schema: &'a Schema, out: &mut Out<'a>, items: &'a Items) -> Result<(), Memory>
-    requires own { HaveOwnNames schema.now }
-    requires shape { shapes.has_list_shape (edn.items (edn.forms (forms_of (members items.now))))
-        ≡ true }
-    requires known { AreLookedUp schema.now out.old }
-    ensures walks { IfOk result (λ _. Walks out.old out.new (λ _.
-        visited (model.verb_asks schema.now (edn.items (edn.forms (forms_of (members items.now)))))
-        out.old.next)) }
-    ensures known { IfOk result (λ _. AreLookedUp schema.now out.new) }
-{
-    let raw = list_ask(schema, &mut out.lookups, items.as_slice())?;
-    push(schema, out, raw)
-}
-
-/// What the form asks, which has a shape.
+/// What the form asks.
 pub fn form_asks<'a>(
     alloc: Global,
     schema: &'a Schema,
     out: &mut Out<'a>,
-    f: &'a Edn,
+    form: TxForm<'a>,
 ) -> Result<(), Memory>
     requires own { HaveOwnNames schema.now }
-    requires shape { shapes.has_shape (form_of f.now) ≡ true }
     requires known { AreLookedUp schema.now out.old }
     ensures walks { IfOk result (λ _. Walks out.old out.new (λ _.
-        walk_form schema.now out.old.next (form_of f.now))) }
+        walk_form schema.now out.old.next (parts_of form.entry))) }
     ensures known { IfOk result (λ _. AreLookedUp schema.now out.new) }
 {
-    match f {
-        Edn::Vector(items) => list_asks(schema, out, items),
-        Edn::List(items) => list_asks(schema, out, items),
-        Edn::Map(pairs) => {
+    match form {
+        TxForm::List(form) => {
+            let raw = list_ask(schema, &mut out.lookups, form)?;
+            push(schema, out, raw)
+        }
+        TxForm::Map(pairs) => {
             let name = enter(out, pairs)?;
             push(schema, out, RawAsk::Meets(name))?;
             map_asks(alloc, schema, out, name, pairs)
         }
-        _ => unreachable!(),
     }
 }

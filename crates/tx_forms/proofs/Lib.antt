@@ -1,2 +1,3 @@
 pub mod FormMembers
 pub mod ShapeRules
+pub mod Parsing

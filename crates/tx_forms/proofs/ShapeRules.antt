@@ -1,11 +1,11 @@
--- The shape of a map by its pairs, and of a list form by how many arguments it has.
-use Rattle.std.proofs.Common.{◌≡◌, ◌≢◌, ℕ, ◌<◌, ◌≤◌, Bool, true, false, List, [], ◌∷◌, ◌+◌, length, drop, get_or, refl, ap, ◌∙◌, sym, arith}
-use Rattle.std.specs.Prelude.{◌&&◌, Some}
+-- The shape of a map by its pairs.
+use Rattle.std.proofs.Common.{◌≡◌, ℕ, ◌<◌, ◌≤◌, Bool, true, false, List, [], ◌∷◌, ◌+◌, length, drop, get_or, refl, ap, ◌∙◌, sym, arith}
+use Rattle.std.specs.Prelude.{◌&&◌}
 use Rattle.std.proofs.lemmas.List.{drop_more, drop_all}
 use Rattle.edn_model.specs.Form.{Form, pairs}
-use Rattle.tx_model.specs.Shapes.{has_arguments, has_map_shape, has_pair_shape, has_value_shape, add, retract, cas, retract_entity}
+use Rattle.tx_model.specs.Shapes.{has_map_shape, has_pair_shape, has_value_shape}
 use Rattle.edn_form.specs.declared.form.Edn.{Edn}
-use Rattle.edn_form.specs.View.{form_of, forms_of, pairs_of}
+use Rattle.edn_form.specs.View.{form_of, pairs_of}
 use Rattle.tx_forms.specs.Shaped.{have_pair_shapes}
 
 at_end : (a b : Bool) → (a && b) ≡ ((a && b) && true)
@@ -31,35 +31,6 @@ map_shape_of (e ∷ es) some = map_shape (pairs_of (e ∷ es)) (omega arith)
 pub empty_map_shape : (es : List (Edn × Edn)) → length es ≡ 0 → has_map_shape (pairs (pairs_of es)) ≡ false
 empty_map_shape [] none = refl
 empty_map_shape (e ∷ es) none = absurd (omega arith)
-
--- ---- arguments of another number than a verb has
-
-pub add_of_others : (xs : List Edn) → length xs ≢ 3 → has_arguments (Some add) (forms_of xs) ≡ false
-add_of_others [] other = refl
-add_of_others (a ∷ []) other = refl
-add_of_others (a ∷ b ∷ []) other = refl
-add_of_others (a ∷ b ∷ c ∷ []) other = absurd (other refl)
-add_of_others (a ∷ b ∷ c ∷ d ∷ rest) other = refl
-
-pub retract_of_others : (xs : List Edn) → length xs ≢ 3 → length xs ≢ 2 → has_arguments (Some retract) (forms_of xs) ≡ false
-retract_of_others [] other two = refl
-retract_of_others (a ∷ []) other two = refl
-retract_of_others (a ∷ b ∷ []) other two = absurd (two refl)
-retract_of_others (a ∷ b ∷ c ∷ []) other two = absurd (other refl)
-retract_of_others (a ∷ b ∷ c ∷ d ∷ rest) other two = refl
-
-pub cas_of_others : (xs : List Edn) → length xs ≢ 4 → has_arguments (Some cas) (forms_of xs) ≡ false
-cas_of_others [] other = refl
-cas_of_others (a ∷ []) other = refl
-cas_of_others (a ∷ b ∷ []) other = refl
-cas_of_others (a ∷ b ∷ c ∷ []) other = refl
-cas_of_others (a ∷ b ∷ c ∷ d ∷ []) other = absurd (other refl)
-cas_of_others (a ∷ b ∷ c ∷ d ∷ e ∷ rest) other = refl
-
-pub retract_entity_of_others : (xs : List Edn) → length xs ≢ 1 → has_arguments (Some retract_entity) (forms_of xs) ≡ false
-retract_entity_of_others [] other = refl
-retract_entity_of_others (a ∷ []) other = absurd (other refl)
-retract_entity_of_others (a ∷ b ∷ rest) other = refl
 
 -- ---- a map whose pairs are looked at one by one
 

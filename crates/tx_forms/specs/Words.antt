@@ -5,11 +5,11 @@ use Rattle.tx_model.specs.Shapes as shapes
 use Rattle.tx_forms.specs.declared.verbs.Verb.{Verb}
 use Rattle.tx_forms.specs.declared.verbs.Verb.TheVariants.{Add, Retract, Cas, RetractEntity}
 
-abbrev pub verb_of : Verb → shapes.Verb
-verb_of Add = shapes.add
-verb_of Retract = shapes.retract
-verb_of Cas = shapes.cas
-verb_of RetractEntity = shapes.retract_entity
+abbrev pub model_verb : Verb → shapes.Verb
+model_verb Add = shapes.add
+model_verb Retract = shapes.retract
+model_verb Cas = shapes.cas
+model_verb RetractEntity = shapes.retract_entity
 
 -- the key is `:db/id`
 abbrev pub is_own : Key → Bool

@@ -1,12 +1,14 @@
-//! The first step of a transaction: which forms it is made of. Each has one of the shapes that a form may have, or the
-//! transaction is refused; nothing is looked up yet.
+//! The first step of a transaction: its forms, parsed. Each has one of the shapes that a form may have, or the transaction
+//! is refused; nothing is looked up yet.
 #![tactic(auto)]
 
+mod forms;
+mod lists;
+mod maps;
 mod names;
 mod read;
-mod shapes;
 mod verbs;
 
-pub use names::{is_id, is_keyword, lookup_in, names_an_entity, names_an_old_entity};
-pub use read::{Forms, TxStop, read_forms};
-pub use verbs::{Verb, verb_in};
+pub use forms::{EntityForm, ListForm, TxForm};
+pub use names::{entity_in, is_id, lookup_in};
+pub use read::{TxStop, read_forms};

@@ -1,20 +1,27 @@
 //! What names an entity or an attribute in a form.
 ghost use Rattle.std.specs.Prelude.{◌≡◌, []};
+ghost use Rattle.std.specs.Bool.{then_some};
 ghost use Rattle.std.specs.Option.{option_map};
 ghost use Rattle.edn_model.specs.Form as edn;
 ghost use Rattle.edn_form.specs.View.{form_of, forms_of, members};
 ghost use Rattle.tx_model.specs.Asks as asks;
 ghost use Rattle.tx_model.specs.Shapes as model;
+ghost use Rattle.tx_forms.specs.Parts.{entity_form};
 ghost use Rattle.tx_forms.specs.Words.{is_own};
 
+use crate::forms::EntityForm;
 use edn_form::{Edn, Items};
 use fb_text::Text;
 
-/// Whether the form is a keyword.
-pub fn is_keyword(f: &Edn) -> bool
-    ensures { result ≡ model.is_keyword (form_of f.now) }
+/// The keyword that the form is, if it is one.
+pub fn keyword_in(f: &Edn) -> Option<&Text>
+    ensures { option_map (λ keyword. edn.keyword keyword.now) result
+        ≡ then_some (model.is_keyword (form_of f.now)) (form_of f.now) }
 {
-    matches!(f, Edn::Key(_))
+    match f {
+        Edn::Key(keyword) => Some(keyword),
+        _ => None,
+    }
 }
 
 /// The keyword and the value of a lookup ref: a vector of two whose first member is a keyword.
@@ -32,24 +39,32 @@ pub fn lookup_in(items: &Items) -> Option<(&Text, &Edn)>
     }
 }
 
-/// Whether the form names an entity in a place where a tempid may be.
-pub fn names_an_entity(f: &Edn) -> bool
-    ensures { result ≡ model.names_an_entity (form_of f.now) }
+/// The entity that the form names, in a place where a tempid may be.
+pub fn entity_in(f: &Edn) -> Option<EntityForm<'_>>
+    ensures { option_map entity_form result
+        ≡ then_some (model.names_an_entity (form_of f.now)) (form_of f.now) }
 {
     match f {
-        Edn::Int(_) => true,
-        Edn::Key(_) => true,
-        Edn::Str(_) => true,
-        Edn::Vector(items) => lookup_in(items).is_some(),
-        _ => false,
+        Edn::Int(number) => Some(EntityForm::Number(*number)),
+        Edn::Key(keyword) => Some(EntityForm::Ident(keyword)),
+        Edn::Str(tempid) => Some(EntityForm::Tempid(tempid)),
+        Edn::Vector(items) => {
+            let (attribute, value) = lookup_in(items)?;
+            Some(EntityForm::Lookup(attribute, value))
+        }
+        _ => None,
     }
 }
 
-/// Whether the form names an entity that the database may have already: no tempid.
-pub fn names_an_old_entity(f: &Edn) -> bool
-    ensures { result ≡ model.names_an_old_entity (form_of f.now) }
+/// The entity that the form names, and that the database may have already: no tempid.
+pub fn old_entity_in(f: &Edn) -> Option<EntityForm<'_>>
+    ensures { option_map entity_form result
+        ≡ then_some (model.names_an_old_entity (form_of f.now)) (form_of f.now) }
 {
-    names_an_entity(f) && !matches!(f, Edn::Str(_))
+    match f {
+        Edn::Str(_) => None,
+        _ => entity_in(f),
+    }
 }
 
 /// Whether the key of a map is `:db/id`.

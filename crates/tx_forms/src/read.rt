@@ -1,17 +1,20 @@
 //! The forms of a transaction.
-ghost use Rattle.std.specs.Prelude.{◌≡◌, ℕ, Some, None, IfOk, IfErr};
+ghost use Rattle.std.specs.Prelude.{◌≡◌, List, Some, None, IfOk, IfErr};
 ghost use Rattle.std.specs.Option.{option_map};
+ghost use Rattle.edn_model.specs.Form.{Form};
 ghost use Rattle.edn_form.specs.View.{form_of, forms_of};
 ghost use Rattle.tx_model.specs.Shapes as model;
-ghost use Rattle.tx_model.specs.Step.{first_without_shape as model_first_without_shape};
+ghost use Rattle.tx_model.specs.Step.{first_without_shape};
 ghost use Rattle.tx_refusals.specs.declared.reasons.Reason.TheVariants.{NotAForm};
-ghost use Rattle.tx_forms.specs.Shaped.{place_without_shape};
 ghost use Rattle.tx_forms.specs.declared.read.TxStop.TheVariants.{Refused};
+ghost use Rattle.tx_forms.specs.Parts.{AreParsed};
+ghost use Rattle.tx_forms.specs.Shaped.{place_without_shape};
+ghost use Rattle.tx_forms.specs.Stops.{IfRefused};
 
-use crate::shapes::has_shape;
+use crate::forms::{TxForm, form_in};
 use edn_form::Edn;
 use fb_memory::Memory;
-use std::alloc::AllocFailed;
+use std::alloc::{AllocError, AllocFailed, Global};
 use tx_refusals::{Reason, Refusal};
 
 /// Why a transaction gave no entry.
@@ -33,6 +36,17 @@ impl From<Memory> for TxStop {
     }
 }
 
+impl From<AllocError> for TxStop {
+    ghost use Rattle.std.specs.Prelude.{◌≡◌};
+    ghost use Rattle.tx_forms.specs.declared.read.TxStop.TheVariants.{Memory};
+
+    ghost from_gives = { λ _ stop. stop ≡ Memory };
+
+    fn from(_: AllocError) -> TxStop {
+        TxStop::Memory
+    }
+}
+
 impl<T: Drop> From<AllocFailed<T>> for TxStop {
     ghost use Rattle.std.specs.Prelude.{◌≡◌};
     ghost use Rattle.tx_forms.specs.declared.read.TxStop.TheVariants.{Memory};
@@ -44,16 +58,9 @@ impl<T: Drop> From<AllocFailed<T>> for TxStop {
     }
 }
 
-/// The forms of a transaction, in order: each has a shape.
-#[derive(Clone, Copy)]
-pub struct Forms<'a> {
-    pub forms: &'a [Edn],
-    ghost shaped: { model_first_without_shape (forms_of forms.now) ≡ None },
-}
-
 /// The members of a vector or a list.
 #[tactic(auto, using(crate::proofs::FormMembers::items_forms))]
-fn forms_in(f: &Edn) -> Option<&[Edn]>
+fn members_in(f: &Edn) -> Option<&[Edn]>
     ensures { option_map (λ fs. forms_of fs.now) result ≡ model.forms_of (form_of f.now) }
 {
     match f {
@@ -61,20 +68,6 @@ fn forms_in(f: &Edn) -> Option<&[Edn]>
         Edn::List(items) => Some(items.as_slice()),
         _ => None,
     }
-}
-
-/// The place of the first form without a shape.
-fn first_without_shape(forms: &[Edn]) -> Option<usize>
-    ensures { result ≡ model_first_without_shape (forms_of forms.now) }
-{
-    let mut place = 0;
-    for f in forms {
-        if !has_shape(f) {
-            return Some(place);
-        }
-        place += 1;
-    }
-    None
 }
 
 fn not_a_form(at: usize) -> TxStop
@@ -86,19 +79,37 @@ fn not_a_form(at: usize) -> TxStop
     })
 }
 
-/// Reads which forms a transaction is made of. What is neither a vector nor a list is refused at place 0. It takes no memory.
-pub fn read_forms(asked: &Edn) -> Result<Forms<'_>, TxStop>
-    ensures ok { IfOk result
-        (λ read. model.forms_of (form_of asked.now) ≡ Some (forms_of read.forms.now)) }
-    ensures refused { IfErr result (λ stop. (at : ℕ)
-        × (stop ≡ Refused (record { reason = NotAForm; at = at }))
-        × (place_without_shape (form_of asked.now) ≡ Some at)) }
+/// Each form by its parts. The first one without a shape is refused.
+fn parse<'a>(alloc: Global, forms: &'a [Edn]) -> Result<Vec<TxForm<'a>>, TxStop>
+    ensures parsed { IfOk result (λ parsed. AreParsed parsed.items (forms_of forms.now)) }
+    ensures shaped { IfOk result (λ _. first_without_shape (forms_of forms.now) ≡ None) }
+    ensures refused { IfErr result (λ stop. IfRefused stop (λ refusal.
+        (refusal.reason ≡ NotAForm)
+        × (first_without_shape (forms_of forms.now) ≡ Some refusal.at))) }
 {
-    let Some(forms) = forms_in(asked) else {
+    let mut parsed = Vec::with_capacity(alloc, forms.len())?;
+    for f in forms {
+        let Some(form) = form_in(f) else {
+            return Err(not_a_form(parsed.len()));
+        };
+        parsed.push(form)?;
+    }
+    Ok(parsed)
+}
+
+/// Parses the forms that a transaction is made of. The first one without a shape is refused at its place, and what is
+/// neither a vector nor a list at place 0.
+pub fn read_forms<'a>(alloc: Global, asked: &'a Edn) -> Result<Vec<TxForm<'a>>, TxStop>
+    ensures parsed { IfOk result (λ parsed. (forms : List Form)
+        × (model.forms_of (form_of asked.now) ≡ Some forms)
+        × (first_without_shape forms ≡ None)
+        × AreParsed parsed.items forms) }
+    ensures refused { IfErr result (λ stop. IfRefused stop (λ refusal.
+        (refusal.reason ≡ NotAForm)
+        × (place_without_shape (form_of asked.now) ≡ Some refusal.at))) }
+{
+    let Some(forms) = members_in(asked) else {
         return Err(not_a_form(0));
     };
-    match first_without_shape(forms) {
-        Some(place) => Err(not_a_form(place)),
-        None => Ok(Forms { forms }),
-    }
+    parse(alloc, forms)
 }

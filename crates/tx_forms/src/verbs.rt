@@ -3,7 +3,7 @@ ghost use Rattle.std.specs.Prelude.{◌≡◌};
 ghost use Rattle.std.specs.Option.{option_map};
 ghost use Rattle.edn_form.specs.View.{form_of};
 ghost use Rattle.tx_model.specs.Shapes as model;
-ghost use Rattle.tx_forms.specs.Words.{verb_of};
+ghost use Rattle.tx_forms.specs.Words.{model_verb};
 
 use edn_form::Edn;
 
@@ -21,7 +21,7 @@ pub enum Verb {
 }
 
 fn verb_named(keyword: &str) -> Option<Verb>
-    ensures { option_map verb_of result ≡ model.verb_of keyword.now }
+    ensures { option_map model_verb result ≡ model.verb_of keyword.now }
 {
     if keyword == "db/add" {
         Some(Verb::Add)
@@ -38,7 +38,7 @@ fn verb_named(keyword: &str) -> Option<Verb>
 
 /// What a list form asks whose first member this is.
 pub fn verb_in(first: &Edn) -> Option<Verb>
-    ensures { option_map verb_of result ≡ model.verb_in (form_of first.now) }
+    ensures { option_map model_verb result ≡ model.verb_in (form_of first.now) }
 {
     match first {
         Edn::Key(keyword) => verb_named(keyword.as_str()),

@@ -10,7 +10,6 @@ ghost use Rattle.fb_numbers.specs.Numbers.{tx_instant};
 ghost use Rattle.tx_laws.specs.Changes as changes;
 
 use crate::altered::Altered;
-use crate::datoms::is_attribute;
 use edn_values::is_reserved;
 use fb_numbers::{
     CARDINALITY, IDENT, INDEX, IS_COMPONENT, TX_INSTANT, UNIQUE, USER_ENTITIES, VALUE_TYPE,
@@ -55,7 +54,7 @@ fn are_whole(schema: &Schema, altered: &BTreeMap<u64, Altered>, datoms: &[Datom]
 fn asks_whole(schema: &Schema, d: &Datom) -> bool
     ensures { result ≡ changes.asks_whole schema.now d.now }
 {
-    if is_attribute(schema, d.e) {
+    if schema.is_attribute(d.e) {
         is_alteration(d)
     } else {
         d.added && says_attribute(d)
@@ -99,7 +98,7 @@ fn is_forbidden(schema: &Schema, d: &Datom) -> bool
     ensures { result ≡ model.is_forbidden schema.now d.now }
 {
     let is_fixed = d.a == IDENT || d.a == VALUE_TYPE || d.a == IS_COMPONENT;
-    (is_fixed && is_attribute(schema, d.e))
+    (is_fixed && schema.is_attribute(d.e))
         || (IDENT <= d.a && d.a <= INDEX && is_builtin(d.e))
         || (d.a == TX_INSTANT && !d.added)
 }

@@ -7,7 +7,7 @@ ghost use Rattle.fb_values.specs.declared.indexes.Order.TheVariants.{Eavt};
 ghost use Rattle.fb_values.specs.Rising.{rises as model_rises};
 ghost use Rattle.fb_model.specs.Facts.{holds};
 ghost use Rattle.fb_model.specs.Laws as model;
-ghost use Rattle.fb_model.specs.Schema.{attribute_of, is_attribute as model_is_attribute};
+ghost use Rattle.fb_model.specs.Schema.{attribute_of};
 ghost use Rattle.fb_model.specs.Types.{is_of_type as model_is_of_type};
 
 use edn_values::is_of_type;
@@ -36,17 +36,11 @@ pub fn are_installed(schema: &Schema, datoms: &[Datom]) -> bool
     ensures { result ≡ model.are_installed schema.now datoms.now }
 {
     for d in datoms {
-        if !is_attribute(schema, d.a) {
+        if !schema.is_attribute(d.a) {
             return false;
         }
     }
     true
-}
-
-pub fn is_attribute(schema: &Schema, e: u64) -> bool
-    ensures { result ≡ model_is_attribute schema.now e }
-{
-    schema.attribute(e).is_some()
 }
 
 /// Law 4: whether each value is of its attribute's type.

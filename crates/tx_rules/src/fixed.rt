@@ -1,6 +1,5 @@
 //! What stays as it is.
 ghost use Rattle.std.specs.Prelude.{◌≡◌};
-ghost use Rattle.fb_model.specs.Schema.{is_attribute as model_is_attribute};
 ghost use Rattle.tx_rules.specs.Fixed as model;
 
 use crate::places::{earlier, recorded_at};
@@ -25,13 +24,7 @@ fn is_fixed(schema: &Schema, triple: &Triple) -> bool
     ensures { result ≡ model.is_fixed schema.now triple.now }
 {
     let a = triple.a;
-    ((a == IDENT || a == VALUE_TYPE || a == IS_COMPONENT) && is_attribute(schema, triple.e))
+    ((a == IDENT || a == VALUE_TYPE || a == IS_COMPONENT) && schema.is_attribute(triple.e))
         || (IDENT <= a && a <= INDEX && is_builtin(triple.e))
         || (a == TX_INSTANT && triple.holds)
-}
-
-pub fn is_attribute(schema: &Schema, e: u64) -> bool
-    ensures { result ≡ model_is_attribute schema.now e }
-{
-    schema.attribute(e).is_some()
 }

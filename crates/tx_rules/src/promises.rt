@@ -12,7 +12,6 @@ ghost use Rattle.tx_after.specs.Parts.{AreByAttribute};
 ghost use Rattle.tx_after.specs.Promises as promised;
 ghost use Rattle.tx_rules.specs.Promises as model;
 
-use crate::fixed::is_attribute;
 use crate::places::{earlier, recorded_at};
 use fb_facts::Facts;
 use fb_memory::Memory;
@@ -149,7 +148,7 @@ fn verdict_of<F: Facts>(
     ensures { IfOk result (λ verdict. verdict
         ≡ model.verdict_of schema.now (after (F.history facts.now) changes.now) e) }
 {
-    if !is_attribute(schema, e) {
+    if !schema.is_attribute(e) {
         return Ok(Verdict { e, broken: false });
     }
     let kept = keeps_its_promise(alloc, e, changes, by_attribute, facts)?;

@@ -5,7 +5,6 @@ ghost use Rattle.tx_after.specs.After.{AreChanges, after};
 ghost use Rattle.tx_rules.specs.Places as places;
 ghost use Rattle.tx_rules.specs.Whole as model;
 
-use crate::fixed::is_attribute;
 use crate::places::{earlier, named_at, recorded_at};
 use fb_facts::Facts;
 use fb_memory::Memory;
@@ -116,7 +115,7 @@ fn lack_of<F: Facts>(e: u64, changes: &[Datom], facts: &F, schema: &Schema) -> R
     ensures { IfOk result
         (λ lack. lack ≡ model.lack_of schema.now (after (F.history facts.now) changes.now) e) }
 {
-    let was_one = is_attribute(schema, e);
+    let was_one = schema.is_attribute(e);
     let found = description_after(facts, changes, e)?;
     Ok(Lack {
         e,

@@ -1,7 +1,7 @@
 -- The step of a transaction, by the steps of the engine.
 use Rattle.std.proofs.lemmas.Int.{ints}
 use Rattle.std.proofs.Common.{rules, arith, ◌≡◌, refl, sym, ap, ◌∙◌, ℕ, ℤ, Bool, true, false, List, [], ◌∷◌, ◌++◌, ◌<◌, zero, suc, length}
-use Rattle.std.proofs.Common.{get_or, subst}
+use Rattle.std.proofs.Common.{get_or}
 use Rattle.std.specs.Prelude.{Option, Some, None, ◌<ℤ◌, not, int_lt, is_none}
 use Rattle.std.specs.List.{list_all}
 use Rattle.std.specs.Option.{option_map_or}
@@ -26,8 +26,11 @@ use Rattle.tx_model.specs.Tempids.{db_of}
 use Rattle.tx_model.specs.Transaction.{Transaction, transaction}
 use Rattle.tx_model.specs.Step.{Decision, refused, Guard, step, under_guard, unless_refused, first_refusal, first_without_shape, refusal_of}
 use Rattle.tx_model.specs.Step.{broken_rules, no_list, by_whole}
+use Rattle.tx_forms.specs.declared.forms.TxForm.{TxForm}
+use Rattle.tx_forms.specs.Parts.{AreParsed}
 use Rattle.tx_forms.specs.Shaped.{place_without_shape}
-use Rattle.tx_expand.specs.Rules.{schema_rules, IfRefused}
+use Rattle.tx_forms.specs.Stops.{IfRefused}
+use Rattle.tx_expand.specs.Rules.{schema_rules}
 use Rattle.tx_resolve.specs.Rules.{resolve_rules, StopsBy}
 use Rattle.tx_rules.specs.Rules.{change_rules}
 use Rattle.tx_step.specs.Outcomes.{Matches, shaped_step, judged_step, refusal_or}
@@ -107,10 +110,11 @@ judged_by_changes h fs reading guard none no_other =
 -- the stops of the steps
 
 pub told_by_shapes : (h : List Entry) (asked : Form) (reading : ℤ) (guard : Guard) (stop : TxStop)
-    → (at : ℕ) × (stop ≡ Refused (record { reason = NotAForm; at = at })) × (place_without_shape asked ≡ Some at)
+    → IfRefused stop (λ refusal. (refusal.reason ≡ NotAForm) × (place_without_shape asked ≡ Some refusal.at))
     → Matches stop (step h asked reading guard)
-told_by_shapes h asked reading guard stop why =
-    subst (λ s. Matches s (step h asked reading guard)) (sym why.1) (unshaped h asked reading guard why.0 why.2)
+told_by_shapes h asked reading guard (Refused refusal) why =
+    unshaped h asked reading guard refusal.at why.1 ∙ ap (λ reason. refused (record { reason = reason; at = refusal.at })) (sym why.0)
+told_by_shapes h asked reading guard Memory why = tt
 
 pub told_by_names : (h : List Entry) (fs : List Form) (reading : ℤ) (guard : Guard)
     → first_refusal (schema_rules (db_of h) (flat (facts h) fs)) ≡ None
@@ -119,12 +123,15 @@ pub told_by_names : (h : List Entry) (fs : List Form) (reading : ℤ) (guard : G
 told_by_names h fs reading guard none (Refused refusal) told = refused_by_names h fs reading guard refusal none told
 told_by_names h fs reading guard none Memory told = tt
 
-pub told_by_schema : (h : List Entry) (fs : List Form) (reading : ℤ) (guard : Guard) (schema : List Datom) (stop : TxStop)
+pub told_by_schema : (h : List Entry) (fs : List Form) (reading : ℤ) (guard : Guard) (schema : List Datom) (forms : List TxForm)
+    (stop : TxStop)
     → IfRefused stop
-    (λ refusal. (h : List Entry) → SchemaStands schema h → first_refusal (schema_rules (db_of h) (flat (facts h) fs)) ≡ Some refusal)
-    → SchemaStands schema h → Matches stop (shaped_step h fs reading guard)
-told_by_schema h fs reading guard schema (Refused refusal) told stands = refused_by_schema h fs reading guard refusal (told h stands)
-told_by_schema h fs reading guard schema Memory told stands = tt
+    (λ refusal. (h : List Entry) (fs : List Form) → SchemaStands schema h → AreParsed forms fs
+    → first_refusal (schema_rules (db_of h) (flat (facts h) fs)) ≡ Some refusal)
+    → SchemaStands schema h → AreParsed forms fs → Matches stop (shaped_step h fs reading guard)
+told_by_schema h fs reading guard schema forms (Refused refusal) told stands parsed =
+    refused_by_schema h fs reading guard refusal (told h fs stands parsed)
+told_by_schema h fs reading guard schema forms Memory told stands parsed = tt
 
 pub told_by_changes : (o : Option Refusal) (decision : Decision) (stop : TxStop) → StopsBy o stop → Matches stop (refusal_or o decision)
 told_by_changes o decision (Refused refusal) told = ap (λ rule. refusal_or rule decision) told

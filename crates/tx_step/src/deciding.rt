@@ -59,7 +59,7 @@ pub fn decide<F: Facts, G: Guard<F>>(
     ensures refused { IfErr result (λ stop. Matches stop
         (model.step (F.history facts.now) (form_of asked.now) reading (G.bars guard.now))) }
 {
-    let forms = read_forms(asked)?;
+    let forms = read_forms(alloc, asked)?;
     let flat = expand(alloc, forms, schema)?;
     let Resolved {
         forms: acts,

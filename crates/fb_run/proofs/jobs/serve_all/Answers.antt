@@ -1,5 +1,5 @@
 use Rattle.std.proofs.Common.{◌≤◌, arith}
-use Rattle.script_model.specs.Script.{most_commands}
+use Rattle.talk_model.specs.Script.{most_commands}
 use Rattle.fb_conn.specs.Seats.{state_of}
 use Rattle.fb_run.proofs.Talking.{at_seats, have_talked_in}
 use Rattle.fb_run.proofs.jobs.serve_all.Goals as goal

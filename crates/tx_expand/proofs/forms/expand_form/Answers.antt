@@ -1,10 +1,10 @@
 use Rattle.std.proofs.Common.{◌≡◌, ◌≤◌, ◌++◌, List, length, drop, map, ap, ◌∙◌, subst, arith}
 use Rattle.std.specs.Prelude.{IfOk, filter}
-use Rattle.edn_form.specs.View.{form_of}
+use Rattle.tx_forms.specs.Parts.{parts_of}
 use Rattle.tx_model.specs.Asks.{Ask}
 use Rattle.tx_asks.specs.declared.asks.LookupRef.{LookupRef}
 use Rattle.tx_expand.specs.declared.raw.RawAsk.{RawAsk}
-use Rattle.tx_expand.specs.View.{BeginWith, model_ask}
+use Rattle.tx_expand.specs.View.{model_ask}
 use Rattle.tx_expand.specs.Numbered.{walk_form}
 use Rattle.tx_expand.specs.Faults.{form_faults, ref_faults, ask_read, is_kept}
 use Rattle.tx_expand.proofs.LookupLists.{begin_with_themselves, judged_behind, no_more_judged}
@@ -23,7 +23,7 @@ pub returns-clause-faults : goal.returns-clause-faults
 returns-clause-faults c =
     let facts = c.args.schema.now in
     let refs = c.form_asks.new.out.lookups.items in
-    let asks = (walk_form facts c.args.out.now.next (form_of c.args.f.now)).asks in
+    let asks = (walk_form facts c.args.out.now.next (parts_of c.args.form)).asks in
     let judged = c.args.judged.now.items in
     let asks_are : map (model_ask refs) c.as_slice-2.result.now ≡ asks =
     ap (map (model_ask refs)) c.as_slice-2.ensures.value
@@ -40,7 +40,7 @@ returns-clause-faults c =
 pub returns-clause-asks : goal.returns-clause-asks
 returns-clause-asks c = λ all begin.
     let facts = c.args.schema.now in
-    let asks = (walk_form facts c.args.out.now.next (form_of c.args.f.now)).asks in
+    let asks = (walk_form facts c.args.out.now.next (parts_of c.args.form)).asks in
     let asks_are : map (model_ask all) c.as_slice-2.result.now ≡ asks =
     ap (map (model_ask all)) c.as_slice-2.ensures.value
     ∙ c.in_ok-form_asks.ensures.walks.asks all begin
@@ -64,5 +64,5 @@ returns-clause-judged c =
 pub returns-clause-next : goal.returns-clause-next
 returns-clause-next c =
     let refs = c.form_asks.new.out.lookups.items in
-    IfOk-always (c.form_asks.new.out.next ≡ (walk_form c.args.schema.now c.args.out.now.next (form_of c.args.f.now)).next)
+    IfOk-always (c.form_asks.new.out.next ≡ (walk_form c.args.schema.now c.args.out.now.next (parts_of c.args.form)).next)
     (c.in_ok-form_asks.ensures.walks.next refs (begin_with_themselves refs)) c.judge_all.result

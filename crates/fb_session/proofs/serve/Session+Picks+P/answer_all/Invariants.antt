@@ -1,5 +1,5 @@
 use Rattle.std.proofs.Common.{◌≡◌, ◌+◌, ◌-◌, ◌≤◌, length, map}
-use Rattle.script_model.specs.Script.{most_commands}
+use Rattle.talk_model.specs.Script.{most_commands}
 use Rattle.fb_session.specs.Sessions.{terms_at, TalkSoFar}
 use Rattle.fb_session.proofs.serve.Session+Picks+P.answer_all.Given as goal
 

@@ -1,6 +1,6 @@
 use Rattle.std.proofs.Common.{◌≡◌, ◌∙◌, Option, option_map, refl, ap}
 use Rattle.std.specs.Option.{option_map_or}
-use Rattle.fb_disk.specs.MemDisks.{Past, known_bytes, images_of, moment_of}
+use Rattle.mem_ports.specs.MemDisks.{Past, known_bytes, images_of, moment_of}
 use Rattle.fb_ports.specs.HostCalls.{Alike}
 use Rattle.mem_ports.specs.InMemory.{Supply}
 use Rattle.mem_ports.specs.MemHosts.{handed_of, handed_at}

@@ -1,6 +1,6 @@
 use Rattle.std.proofs.Common.{sym, subst}
 use Rattle.disk_model.specs.Disk.{Elapses}
-use Rattle.fb_disk.specs.MemDisks.{moment_of}
+use Rattle.mem_ports.specs.MemDisks.{moment_of}
 use Rattle.real_ports.specs.AnyDisks.{may_leave, moment_at, may_have_left}
 use Rattle.real_ports.specs.declared.disks.AnyDisk.{AnyDisk}
 use Rattle.real_ports.specs.declared.disks.AnyDisk.TheVariants.{InMemory}

@@ -1,5 +1,0 @@
-pub mod StepLists
-pub mod Placing
-pub mod Replays
-pub mod Pasts
-pub mod Left

@@ -1,4 +1,0 @@
-pub mod Images
-pub mod MemDisks
-pub mod Room
-pub mod Steps

@@ -1,6 +1,0 @@
-//! The disk in memory.
-mod disks;
-mod place;
-mod record;
-
-pub use disks::MemDisk;
