@@ -24,8 +24,13 @@ pub fn has_lookup_with(
     db: &Db<'_>,
     ask: &Ask,
 ) -> Result<bool, Memory> {
-    for name in names_of(alloc, ask)? {
-        if has_faulty_lookup(fault, db, &name)? {
+    let names = names_of(alloc, ask)?;
+    have_lookup_with(fault, db, &names)
+}
+
+fn have_lookup_with(fault: LookupFault, db: &Db<'_>, names: &[Name]) -> Result<bool, Memory> {
+    for name in names {
+        if has_faulty_lookup(fault, db, name)? {
             return Ok(true);
         }
     }
@@ -87,9 +92,14 @@ fn is_wrong_old(attribute: &Attribute<'_>, part: &Operand) -> Result<bool, Memor
 // ---- not an entity
 
 pub fn names_no_entity(alloc: Global, db: &Db<'_>, ask: &Ask) -> Result<bool, Memory> {
-    for name in names_of(alloc, ask)? {
+    let names = names_of(alloc, ask)?;
+    have_no_entity(db, &names)
+}
+
+fn have_no_entity(db: &Db<'_>, names: &[Name]) -> Result<bool, Memory> {
+    for name in names {
         let is_old = !matches!(name, Name::Tempid(_) | Name::Nameless(_));
-        if is_old && found(db, &name)?.is_none() {
+        if is_old && found(db, name)?.is_none() {
             return Ok(true);
         }
     }
@@ -105,31 +115,43 @@ pub fn has_tempid_of_two(
     all: &[Ask],
     ask: &Ask,
 ) -> Result<bool, Memory> {
-    for name in names_of(alloc, ask)? {
-        if is_tempid(&name) {
-            if let Some(e) = identified(db, &name, ask)? {
-                if holders(alloc, db, all, &name)?
-                    .iter()
-                    .any(|other| *other != e)
-                {
-                    return Ok(true);
-                }
-            }
+    let names = names_of(alloc, ask)?;
+    for name in names.as_slice() {
+        if is_tempid(name) && is_of_two(alloc, db, all, name, ask)? {
+            return Ok(true);
         }
     }
     Ok(false)
+}
+
+fn is_of_two(
+    alloc: Global,
+    db: &Db<'_>,
+    all: &[Ask],
+    name: &Name,
+    ask: &Ask,
+) -> Result<bool, Memory> {
+    let Some(e) = identified(db, name, ask)? else {
+        return Ok(false);
+    };
+    let holders = holders(alloc, db, all, name)?;
+    Ok(holders.iter().any(|other| *other != e))
 }
 
 // ---- tempid of no entity
 
 /// Whether it uses a tempid that is the entity of no addition.
 pub fn has_tempid_of_none(alloc: Global, all: &[Ask], ask: &Ask) -> Result<bool, Memory> {
-    for name in names_of(alloc, ask)? {
-        if is_tempid(&name) && !all.iter().any(|other| adds_to(&name, other)) {
-            return Ok(true);
-        }
-    }
-    Ok(false)
+    let names = names_of(alloc, ask)?;
+    Ok(
+        names
+            .iter()
+            .any(|name| is_tempid(name) && !is_added(all, name)),
+    )
+}
+
+fn is_added(all: &[Ask], name: &Name) -> bool {
+    all.iter().any(|ask| adds_to(name, ask))
 }
 
 fn adds_to(name: &Name, ask: &Ask) -> bool {

@@ -47,17 +47,27 @@ pub fn assigned(alloc: Global, db: &Db<'_>, all: &[Ask]) -> Result<Vec<(Name, u6
     let mut names = Vec::new(alloc);
     let mut users = db.users;
     for name in tempids_in(alloc, all)? {
-        let held = holders(alloc, db, all, &name)?;
-        let e = match held.first() {
-            Some(e) => *e,
-            None => {
-                users = users.saturating_add(1);
-                USER_ENTITIES.saturating_add(users)
-            }
-        };
+        let e = assigned_to(alloc, db, all, &name, &mut users)?;
         names.push((name, e))?;
     }
     Ok(names)
+}
+
+fn assigned_to(
+    alloc: Global,
+    db: &Db<'_>,
+    all: &[Ask],
+    name: &Name,
+    users: &mut u64,
+) -> Result<u64, Memory> {
+    let held = holders(alloc, db, all, name)?;
+    Ok(match held.first() {
+        Some(e) => *e,
+        None => {
+            *users = users.saturating_add(1);
+            USER_ENTITIES.saturating_add(*users)
+        }
+    })
 }
 
 /// The tempids in the order in which they are first met.

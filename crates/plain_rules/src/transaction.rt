@@ -27,24 +27,30 @@ pub struct Transaction<'a> {
     pub after: Vec<Datom>,
 }
 
+/// What the forms ask, by kind, form by form.
+#[derive(Drop)]
+struct Asked {
+    added: Vec<Vec<Datom>>,
+    retracted: Vec<Vec<Datom>>,
+    swept: Vec<Vec<Datom>>,
+    replaced: Vec<Vec<Datom>>,
+}
+
 /// The transaction of these asks, form by form.
 pub fn transaction_at<'a>(
     alloc: Global,
     db: Db<'a>,
     asks: Vec<Vec<Ask>>,
 ) -> Result<Transaction<'a>, Memory> {
-    let names = assigned(alloc, &db, &all_asks(alloc, &asks)?)?;
-    let added = of_forms(alloc, Kind::Additions, &db, &names, &asks)?;
-    let retracted = of_forms(alloc, Kind::Retractions, &db, &names, &asks)?;
-    let swept = of_forms(alloc, Kind::Sweeps, &db, &names, &asks)?;
-    let replaced = implied_by_forms(alloc, &db, &added)?;
-    let mut changes = Vec::new(alloc);
-    add_changes(&mut changes, &db.said, &added)?;
-    add_changes(&mut changes, &db.said, &retracted)?;
-    add_changes(&mut changes, &db.said, &swept)?;
-    add_changes(&mut changes, &db.said, &replaced)?;
-    let changes = in_order(alloc, Order::Eavt, &changes)?;
-    let after = facts_after(alloc, &db.said, &changes)?;
+    let names = names_in(alloc, &db, &asks)?;
+    let asked = asked_by(alloc, &db, &names, &asks)?;
+    let (changes, after) = changes_and_after(alloc, &db, &asked)?;
+    let Asked {
+        added,
+        retracted,
+        swept,
+        replaced,
+    } = asked;
     Ok(Transaction {
         db,
         asks,
@@ -56,6 +62,53 @@ pub fn transaction_at<'a>(
         changes,
         after,
     })
+}
+
+fn names_in(alloc: Global, db: &Db<'_>, asks: &[Vec<Ask>]) -> Result<Vec<(Name, u64)>, Memory> {
+    let all = all_asks(alloc, asks)?;
+    assigned(alloc, db, &all)
+}
+
+fn asked_by(
+    alloc: Global,
+    db: &Db<'_>,
+    names: &[(Name, u64)],
+    asks: &[Vec<Ask>],
+) -> Result<Asked, Memory> {
+    let added = of_forms(alloc, Kind::Additions, db, names, asks)?;
+    let replaced = implied_by_forms(alloc, db, &added)?;
+    let retracted = of_forms(alloc, Kind::Retractions, db, names, asks)?;
+    let swept = of_forms(alloc, Kind::Sweeps, db, names, asks)?;
+    Ok(Asked {
+        added,
+        retracted,
+        swept,
+        replaced,
+    })
+}
+
+/// The changes in order, and the facts after them.
+fn changes_and_after(
+    alloc: Global,
+    db: &Db<'_>,
+    asked: &Asked,
+) -> Result<(Vec<Datom>, Vec<Datom>), Memory> {
+    let changes = changes_of(alloc, db, asked)?;
+    let after = facts_after(alloc, &db.said, &changes)?;
+    Ok((changes, after))
+}
+
+fn changes_of(alloc: Global, db: &Db<'_>, asked: &Asked) -> Result<Vec<Datom>, Memory> {
+    let mut changes = Vec::new(alloc);
+    for lists in [
+        &asked.added,
+        &asked.retracted,
+        &asked.swept,
+        &asked.replaced,
+    ] {
+        add_changes(&mut changes, &db.said, lists)?;
+    }
+    in_order(alloc, Order::Eavt, &changes)
 }
 
 /// Copies of what all forms ask.

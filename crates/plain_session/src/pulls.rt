@@ -7,7 +7,7 @@ use crate::stops::{ReadStop, or_refused};
 use edn_form::{Edn, Items, Pairs};
 use fb_memory::Memory;
 use fb_text::Text;
-use fb_values::{Order, Value};
+use fb_values::{Datom, Order, Value};
 use plain_reads::{basis, in_order};
 use std::alloc::Global;
 
@@ -41,15 +41,24 @@ impl Sight<'_> {
         if self.window.history {
             return Err(ReadStop::Refused("read/history", 0));
         }
-        let seen = in_order(self.alloc, Order::Eavt, &self.seen()?)?;
+        let tree = self.tree_of(&items, e)?;
+        Ok(replies::pull(self.alloc, basis(self.entries), tree)?)
+    }
+
+    fn tree_of(&self, items: &[Item], e: u64) -> Result<Edn, ReadStop> {
+        let seen = self.seen_in_order()?;
         let facts = Facts {
             schema: &self.facts,
             seen: &seen,
         };
         let mut maps = 0;
-        let tree = tree(self.alloc, MOST_AROUND, &facts, &items, &[], e, &mut maps)?;
-        let basis = basis(self.entries);
-        Ok(replies::pull(self.alloc, basis, tree.unwrap_or(Edn::Nil))?)
+        let tree = tree(self.alloc, MOST_AROUND, &facts, items, &[], e, &mut maps)?;
+        Ok(tree.unwrap_or(Edn::Nil))
+    }
+
+    fn seen_in_order(&self) -> Result<Vec<Datom>, Memory> {
+        let seen = self.seen()?;
+        in_order(self.alloc, Order::Eavt, &seen)
     }
 }
 
@@ -106,15 +115,29 @@ fn tree(
         path: &path,
         room: room - 1,
     };
+    let placed = placed_items(alloc, facts, e, items)?;
     let mut pairs = Vec::new(alloc);
-    for (place, item) in placed_items(alloc, facts, e, items)? {
-        add_pair(alloc, &at, e, place, &item, &mut pairs, maps)?;
-    }
+    add_pairs(alloc, &at, e, &placed, &mut pairs, maps)?;
     Ok(if pairs.is_empty() {
         None
     } else {
         Some(Edn::Map(Pairs::of(pairs)))
     })
+}
+
+#[cycle(tree)]
+fn add_pairs(
+    alloc: Global,
+    at: &Stand<'_>,
+    e: u64,
+    placed: &[(usize, Item)],
+    pairs: &mut Vec<(Edn, Edn)>,
+    maps: &mut u64,
+) -> Result<(), ReadStop> {
+    for (place, item) in placed {
+        add_pair(alloc, at, e, *place, item, pairs, maps)?;
+    }
+    Ok(())
 }
 
 /// An item whose key stands already is skipped.
@@ -172,12 +195,16 @@ fn placed_items(
     let mut list = Vec::new(alloc);
     for (place, item) in items.iter().enumerate() {
         if item.name.is_some() {
-            list.push((place, item.copy(item.below.copy()?)?))?;
+            list.push((place, copied(item)?))?;
         } else {
             add_wildcard(alloc, facts, e, items, place, &mut list)?;
         }
     }
     Ok(list)
+}
+
+fn copied(item: &Item) -> Result<Item, Memory> {
+    item.copy(item.below.copy()?)
 }
 
 /// `*` is `:db/id`, and the attributes of the entity that have no item of their own.
@@ -189,11 +216,12 @@ fn add_wildcard(
     place: usize,
     list: &mut Vec<(usize, Item)>,
 ) -> Result<(), Memory> {
-    let own = Item::plain(Some(Text::of(alloc, "db/id")?));
-    list.push((place, own))?;
-    for name in names_of(alloc, facts, e)? {
+    let own = Text::of(alloc, "db/id")?;
+    list.push((place, Item::plain(Some(own))))?;
+    let names = names_of(alloc, facts, e)?;
+    for name in names.as_slice() {
         if !items.iter().any(|item| item.is_named(name.as_str())) {
-            list.push((place, Item::plain(Some(name))))?;
+            list.push((place, Item::plain(Some(name.copy()?))))?;
         }
     }
     Ok(())
@@ -204,12 +232,9 @@ fn one_less(alloc: Global, items: &[Item], place: usize) -> Result<Vec<Item>, Me
     let mut list = Vec::new(alloc);
     for (other, item) in items.iter().enumerate() {
         match item.below {
-            Below::Times(n) if other == place => {
-                if n > 1 {
-                    list.push(item.copy(Below::Times(n - 1))?)?;
-                }
-            }
-            _ => list.push(item.copy(item.below.copy()?)?)?,
+            Below::Times(0..=1) if other == place => {}
+            Below::Times(n) if other == place => list.push(item.copy(Below::Times(n - 1))?)?,
+            _ => list.push(copied(item)?)?,
         }
     }
     Ok(list)
@@ -286,23 +311,42 @@ fn told(
         return Ok(Some(replies::value(v)?));
     };
     match below {
-        Below::Usual => {
-            if !parts {
-                return stub(alloc, *n, at.room, maps);
-            }
-            let everything = [Item::plain(None)];
-            unless_met(alloc, at, &everything, *n, maps)
-        }
-        Below::Under(pattern) => {
-            let items = read_pattern(alloc, pattern)?;
-            tree(alloc, at.room, &at.facts, &items, &[], *n, maps)
-        }
-        Below::Times(_) => {
-            let fewer = one_less(alloc, at.items, place)?;
-            unless_met(alloc, at, &fewer, *n, maps)
-        }
+        Below::Usual if parts => whole(alloc, at, *n, maps),
+        Below::Usual => stub(alloc, *n, at.room, maps),
+        Below::Under(pattern) => tree_under(alloc, at, pattern, *n, maps),
+        Below::Times(_) => fewer_times(alloc, at, place, *n, maps),
         Below::Unlimited => unless_met(alloc, at, at.items, *n, maps),
     }
+}
+
+#[cycle(tree)]
+fn whole(alloc: Global, at: &Stand<'_>, n: u64, maps: &mut u64) -> Result<Option<Edn>, ReadStop> {
+    let everything = [Item::plain(None)];
+    unless_met(alloc, at, &everything, n, maps)
+}
+
+#[cycle(tree)]
+fn tree_under(
+    alloc: Global,
+    at: &Stand<'_>,
+    pattern: &Edn,
+    n: u64,
+    maps: &mut u64,
+) -> Result<Option<Edn>, ReadStop> {
+    let items = read_pattern(alloc, pattern)?;
+    tree(alloc, at.room, &at.facts, &items, &[], n, maps)
+}
+
+#[cycle(tree)]
+fn fewer_times(
+    alloc: Global,
+    at: &Stand<'_>,
+    place: usize,
+    n: u64,
+    maps: &mut u64,
+) -> Result<Option<Edn>, ReadStop> {
+    let fewer = one_less(alloc, at.items, place)?;
+    unless_met(alloc, at, &fewer, n, maps)
 }
 
 /// Of an entity that is met again its number alone is given.

@@ -44,13 +44,17 @@ impl Reply {
 
 /// `{:t 2 :tempids {"p" 17592186044418}}`
 pub fn receipt(alloc: Global, t: u32, tempids: Vec<(Text, u64)>) -> Result<Edn, Memory> {
+    let tempids = entities(alloc, tempids)?;
+    let reply = Reply::new(alloc).with_number("t", u64::from(t))?;
+    Ok(reply.with("tempids", tempids)?.map())
+}
+
+fn entities(alloc: Global, tempids: Vec<(Text, u64)>) -> Result<Edn, Memory> {
     let mut entities = Vec::new(alloc);
     for (name, e) in tempids {
         entities.push((Edn::Str(name), number(e)))?;
     }
-    let tempids = Edn::Map(Pairs::of(entities));
-    let reply = Reply::new(alloc).with_number("t", u64::from(t))?;
-    Ok(reply.with("tempids", tempids)?.map())
+    Ok(Edn::Map(Pairs::of(entities)))
 }
 
 /// `{:basis 3}`
@@ -94,12 +98,16 @@ pub(crate) fn transactions(
 ) -> Result<Edn, Memory> {
     let mut list = Vec::new(alloc);
     for entry in entries {
-        let data = vectors(alloc, facts, entry.datoms.as_slice())?;
-        let reply = Reply::new(alloc).with_number("t", u64::from(entry.t))?;
-        list.push(reply.with("data", data)?.map())?;
+        list.push(transaction(alloc, facts, entry)?)?;
     }
     let reply = Reply::new(alloc).with_number("basis", u64::from(basis))?;
     Ok(reply.with("txs", Edn::Vector(Items::of(list)))?.map())
+}
+
+fn transaction(alloc: Global, facts: &[Datom], entry: &Entry) -> Result<Edn, Memory> {
+    let data = vectors(alloc, facts, entry.datoms.as_slice())?;
+    let reply = Reply::new(alloc).with_number("t", u64::from(entry.t))?;
+    Ok(reply.with("data", data)?.map())
 }
 
 /// `{:basis 3 :pull {:db/doc "hi"}}`

@@ -54,9 +54,9 @@ pub fn transact<G: Guard>(
             replies::refusal(alloc, keyword, refusal.at, basis(entries))
         }
         Decision::Accepted(entry, tempids) => {
-            let reply = replies::receipt(alloc, entry.t, tempids)?;
+            let t = entry.t;
             entries.push(entry)?;
-            Ok(reply)
+            replies::receipt(alloc, t, tempids)
         }
     }
 }
@@ -117,15 +117,13 @@ impl PlainSession {
                 Ok(replies::done(self.alloc, basis(&self.entries))?)
             }
             Command::RequestIndex => Ok(replies::done(self.alloc, basis(&self.entries))?),
-            Command::Look(look) => {
-                let sight = Sight::of(self.alloc, &self.entries, self.window, &self.filters)?;
-                sight.reply(look)
-            }
-            Command::Pull(pattern, entity) => {
-                let sight = Sight::of(self.alloc, &self.entries, self.window, &self.filters)?;
-                sight.pull(pattern, entity)
-            }
+            Command::Look(look) => self.sight()?.reply(look),
+            Command::Pull(pattern, entity) => self.sight()?.pull(pattern, entity),
         }
+    }
+
+    fn sight(&self) -> Result<Sight<'_>, Memory> {
+        Sight::of(self.alloc, &self.entries, self.window, &self.filters)
     }
 
     /// What the session sees from now on.

@@ -3,6 +3,7 @@ use crate::forms::{Verb, lookup_in, name_in, verb_in};
 use edn_form::Edn;
 use fb_memory::Memory;
 use fb_numbers::TYPE_REF;
+use fb_text::Text;
 use fb_values::Datom;
 use plain_asks::{Ask, Name, Operand};
 use plain_reads::attribute_named;
@@ -76,25 +77,85 @@ fn verb_ask(facts: &[Datom], members: &[Edn]) -> Result<Option<Ask>, Memory> {
     let [first, e, more @ ..] = members else {
         return Ok(None);
     };
-    let (Some(verb), Some(e)) = (verb_in(first), name_in(e)?) else {
+    let Some(verb) = verb_in(first) else {
         return Ok(None);
     };
-    let [Edn::Key(k), values @ ..] = more else {
-        return Ok(match verb {
-            Verb::RetractEntity => Some(Ask::RetractsEntity(e)),
-            _ => None,
-        });
-    };
+    match more {
+        [Edn::Key(k), values @ ..] => attribute_ask(facts, verb, e, k, values),
+        _ => entity_ask(verb, e),
+    }
+}
+
+fn entity_ask(verb: Verb, e: &Edn) -> Result<Option<Ask>, Memory> {
+    match verb {
+        Verb::RetractEntity => match name_in(e)? {
+            Some(name) => Ok(Some(Ask::RetractsEntity(name))),
+            None => Ok(None),
+        },
+        _ => Ok(None),
+    }
+}
+
+fn attribute_ask(
+    facts: &[Datom],
+    verb: Verb,
+    e: &Edn,
+    k: &Text,
+    values: &[Edn],
+) -> Result<Option<Ask>, Memory> {
     let is_ref = has_ref(facts, k.as_str());
-    let k = k.copy()?;
-    Ok(match (verb, values) {
-        (Verb::Add, [v]) => Some(Ask::Adds(e, k, value_part(is_ref, v)?)),
-        (Verb::Retract, [v]) => Some(Ask::Retracts(e, k, old_value_part(is_ref, v)?)),
-        (Verb::Retract, []) => Some(Ask::RetractsAll(e, k)),
-        (Verb::Cas, [old, new]) => {
-            let old = old_value_part(is_ref, old)?;
-            Some(Ask::Compares(e, k, old, old_value_part(is_ref, new)?))
-        }
-        _ => None,
-    })
+    match (verb, values) {
+        (Verb::Add, [v]) => add(e, k, is_ref, v),
+        (Verb::Retract, [v]) => retract(e, k, is_ref, v),
+        (Verb::Retract, []) => retract_all(e, k),
+        (Verb::Cas, [old, new]) => compare(e, k, is_ref, [old, new]),
+        _ => Ok(None),
+    }
+}
+
+/// The entity and the attribute of an ask, where the form names an entity.
+fn subject(e: &Edn, k: &Text) -> Result<Option<(Name, Text)>, Memory> {
+    match name_in(e)? {
+        Some(name) => Ok(Some((name, k.copy()?))),
+        None => Ok(None),
+    }
+}
+
+fn add(e: &Edn, k: &Text, is_ref: bool, v: &Edn) -> Result<Option<Ask>, Memory> {
+    match subject(e, k)? {
+        Some((name, k)) => Ok(Some(Ask::Adds(name, k, value_part(is_ref, v)?))),
+        None => Ok(None),
+    }
+}
+
+fn retract(e: &Edn, k: &Text, is_ref: bool, v: &Edn) -> Result<Option<Ask>, Memory> {
+    match subject(e, k)? {
+        Some((name, k)) => Ok(Some(Ask::Retracts(name, k, old_value_part(is_ref, v)?))),
+        None => Ok(None),
+    }
+}
+
+fn retract_all(e: &Edn, k: &Text) -> Result<Option<Ask>, Memory> {
+    match subject(e, k)? {
+        Some((name, k)) => Ok(Some(Ask::RetractsAll(name, k))),
+        None => Ok(None),
+    }
+}
+
+/// The value that has to be there, and the one in its place.
+fn compare(e: &Edn, k: &Text, is_ref: bool, values: [&Edn; 2]) -> Result<Option<Ask>, Memory> {
+    match subject(e, k)? {
+        Some((name, k)) => compared(name, k, is_ref, values),
+        None => Ok(None),
+    }
+}
+
+fn compared(
+    name: Name,
+    k: Text,
+    is_ref: bool,
+    [old, new]: [&Edn; 2],
+) -> Result<Option<Ask>, Memory> {
+    let old = old_value_part(is_ref, old)?;
+    Ok(Some(Ask::Compares(name, k, old, old_value_part(is_ref, new)?)))
 }

@@ -3,6 +3,7 @@ use crate::forms::{Key, key_in, lookup_in, name_in};
 use crate::lists::{has_many, has_parts, has_ref, has_uniqueness, scalar};
 use edn_form::{Edn, Items, Pairs};
 use fb_memory::Memory;
+use fb_text::Text;
 use fb_values::Datom;
 use plain_asks::{Ask, Name, Operand, append, copy_path, one};
 use std::alloc::Global;
@@ -46,16 +47,33 @@ fn has_identity(alloc: Global, facts: &[Datom], pairs: &Pairs) -> Result<bool, M
 
 /// One value under a key: the map's entity has it, or the entity that is the value has the map's.
 pub fn links(alloc: Global, this: &Name, key: &Key, part: Operand) -> Result<Vec<Ask>, Memory> {
-    match (key, part) {
-        (Key::Own, _) => Ok(Vec::new(alloc)),
-        (Key::Backward(name), Operand::Entity(other)) => {
-            let this = Operand::Entity(this.copy()?);
-            one(alloc, Ask::Adds(other, name.copy()?, this))
-        }
-        (Key::Forward(name) | Key::Backward(name), part) => {
-            one(alloc, Ask::Adds(this.copy()?, name.copy()?, part))
-        }
+    match key {
+        Key::Own => Ok(Vec::new(alloc)),
+        Key::Forward(name) => one(alloc, link(this, name, part)?),
+        Key::Backward(name) => one(alloc, back_link(this, name, part)?),
     }
+}
+
+fn link(this: &Name, name: &Text, part: Operand) -> Result<Ask, Memory> {
+    let (this, name) = subject(this, name)?;
+    Ok(Ask::Adds(this, name, part))
+}
+
+fn subject(this: &Name, name: &Text) -> Result<(Name, Text), Memory> {
+    let this = this.copy()?;
+    Ok((this, name.copy()?))
+}
+
+fn back_link(this: &Name, name: &Text, part: Operand) -> Result<Ask, Memory> {
+    match part {
+        Operand::Entity(other) => held_by(other, this, name),
+        Operand::Plain(f) => link(this, name, Operand::Plain(f)),
+    }
+}
+
+fn held_by(other: Name, this: &Name, name: &Text) -> Result<Ask, Memory> {
+    let (this, name) = subject(this, name)?;
+    Ok(Ask::Adds(other, name, Operand::Entity(this)))
 }
 
 /// What a map asks that stands under a key: the link, what it lacks, and then its own pairs.
@@ -155,17 +173,26 @@ pub fn pair_asks(
     key: &Key,
     values: Vec<Ask>,
 ) -> Result<Vec<Ask>, Memory> {
-    let (name, is_fault) = match key {
-        Key::Own => return Ok(Vec::new(alloc)),
-        Key::Forward(name) => (name, false),
-        Key::Backward(name) => (name, !has_ref(facts, name.as_str())),
-    };
-    let mut list = one(alloc, Ask::Mentions(name.copy()?))?;
-    if is_fault {
-        let this_again = Operand::Entity(this.copy()?);
-        list.push(Ask::Adds(this.copy()?, name.copy()?, this_again))?;
-    } else {
-        append(&mut list, values)?;
+    match key {
+        Key::Own => Ok(Vec::new(alloc)),
+        Key::Backward(name) if !has_ref(facts, name.as_str()) => {
+            let fault = one(alloc, link_to_itself(this, name)?)?;
+            mention_with(alloc, name, fault)
+        }
+        Key::Forward(name) | Key::Backward(name) => mention_with(alloc, name, values),
     }
+}
+
+fn link_to_itself(this: &Name, name: &Text) -> Result<Ask, Memory> {
+    link(this, name, Operand::Entity(this.copy()?))
+}
+
+fn mention_with(alloc: Global, name: &Text, values: Vec<Ask>) -> Result<Vec<Ask>, Memory> {
+    let mut list = mention(alloc, name)?;
+    append(&mut list, values)?;
     Ok(list)
+}
+
+fn mention(alloc: Global, name: &Text) -> Result<Vec<Ask>, Memory> {
+    one(alloc, Ask::Mentions(name.copy()?))
 }

@@ -101,15 +101,26 @@ fn members_asks(
 fn form_asks(alloc: Global, facts: &[Datom], place: usize, f: &Edn) -> Result<Vec<Ask>, Memory> {
     match f {
         Edn::Vector(items) | Edn::List(items) => verb_asks(alloc, facts, items.as_slice()),
-        Edn::Map(pairs) => {
-            let path = inside(alloc, place, &[])?;
-            let name = name_of_map(alloc, &path, pairs)?;
-            let mut list = one(alloc, Ask::Meets(name.copy()?))?;
-            append(&mut list, map_asks(alloc, facts, &name, &path, pairs)?)?;
-            Ok(list)
-        }
+        Edn::Map(pairs) => map_form_asks(alloc, facts, place, pairs),
         _ => Ok(Vec::new(alloc)),
     }
+}
+
+fn map_form_asks(
+    alloc: Global,
+    facts: &[Datom],
+    place: usize,
+    pairs: &Pairs,
+) -> Result<Vec<Ask>, Memory> {
+    let path = inside(alloc, place, &[])?;
+    let name = name_of_map(alloc, &path, pairs)?;
+    let mut list = meeting(alloc, &name)?;
+    append(&mut list, map_asks(alloc, facts, &name, &path, pairs)?)?;
+    Ok(list)
+}
+
+fn meeting(alloc: Global, name: &Name) -> Result<Vec<Ask>, Memory> {
+    one(alloc, Ask::Meets(name.copy()?))
 }
 
 /// What each form of a transaction asks.

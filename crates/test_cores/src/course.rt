@@ -29,10 +29,7 @@ impl Course {
             if place == self.begin {
                 run = run.begin_merge()?;
             }
-            if place == self.adopt {
-                run.end_merge(rt, alloc)?;
-                check(alloc, run.core().snapshot(), indexes)?;
-            }
+            self.go_on(rt, alloc, &mut run, place, indexes)?;
             if let Some(row) = rows.get(place) {
                 run.transact(row)?;
             }
@@ -42,6 +39,21 @@ impl Course {
             None => Ok(()),
         }
     }
+
+    fn go_on<R: Threads + Sync>(
+        self,
+        rt: &R,
+        alloc: Global,
+        run: &mut Run,
+        place: usize,
+        indexes: &Indexes,
+    ) -> Result<()> {
+        if place != self.adopt {
+            return Ok(());
+        }
+        run.end_merge(rt, alloc)?;
+        check(alloc, run.core().snapshot(), indexes)
+    }
 }
 
 /// The database is opened anew over the trees that it has, and over ones that were made of newer and of older trees. Then it merges
@@ -49,10 +61,34 @@ impl Course {
 fn end<R: Threads + Sync>(rt: &R, alloc: Global, run: Run, wanted: &Indexes) -> Result<()> {
     let snapshot = run.core().snapshot();
     check(alloc, snapshot, wanted)?;
-    check(alloc, &over_newer(rt, alloc, snapshot)?, wanted)?;
-    check(alloc, &over_older(rt, alloc, snapshot)?, wanted)?;
+    check_over_others(rt, alloc, snapshot, wanted)?;
+    check_reopened(alloc, snapshot, wanted)?;
+    check_merged(rt, alloc, run, wanted)
+}
+
+fn check_over_others<R: Threads + Sync>(
+    rt: &R,
+    alloc: Global,
+    snapshot: &Snapshot,
+    wanted: &Indexes,
+) -> Result<()> {
+    let newer = over_newer(rt, alloc, snapshot)?;
+    check(alloc, &newer, wanted)?;
+    let older = over_older(rt, alloc, snapshot)?;
+    check(alloc, &older, wanted)
+}
+
+fn check_reopened(alloc: Global, snapshot: &Snapshot, wanted: &Indexes) -> Result<()> {
     let core = reopened(alloc, snapshot)?;
-    check(alloc, core.snapshot(), wanted)?;
+    check(alloc, core.snapshot(), wanted)
+}
+
+fn check_merged<R: Threads + Sync>(
+    rt: &R,
+    alloc: Global,
+    run: Run,
+    wanted: &Indexes,
+) -> Result<()> {
     let mut run = run.begin_merge()?;
     run.end_merge(rt, alloc)?;
     check(alloc, run.core().snapshot(), wanted)
