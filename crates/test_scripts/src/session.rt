@@ -21,28 +21,39 @@ pub(crate) fn lines<R: Threads + Wait + Sync>(
     script: &[u8],
     clock: Readings,
 ) -> Result<Vec<u8>> {
-    let mut bytes = Vec::new(alloc);
-    bytes.extend_from_slice(script)?;
-    let mut source = MemSource::new(bytes, Vec::new(alloc));
+    let mut source = source_of(alloc, script)?;
     let mut sink = MemSink::new(alloc, ROOM, Vec::new(alloc))?;
-    let core = Core::of(alloc, Snapshot::first(alloc)?)?;
-    let mut desk = CoreDesk::new(alloc, core);
+    serve(rt, alloc, &mut source, &mut sink, clock)?;
+    copied(alloc, sink.bytes())
+}
+
+fn source_of(alloc: Global, script: &[u8]) -> Result<MemSource> {
+    let bytes = copied(alloc, script)?;
+    Ok(MemSource::new(bytes, Vec::new(alloc)))
+}
+
+fn copied(alloc: Global, bytes: &[u8]) -> Result<Vec<u8>> {
+    let mut copy = Vec::new(alloc);
+    copy.extend_from_slice(bytes)?;
+    Ok(copy)
+}
+
+fn serve<R: Threads + Wait + Sync>(
+    rt: &R,
+    alloc: Global,
+    source: &mut MemSource,
+    sink: &mut MemSink,
+    clock: Readings,
+) -> Result<()> {
     let clock = StepClock::new(clock.first, clock.step);
     let filters = shipped(alloc)?;
+    let core = Core::of(alloc, Snapshot::first(alloc)?)?;
+    let mut desk = CoreDesk::new(alloc, core);
     let served = serve_desk(
-        rt,
-        alloc,
-        &mut source,
-        &mut sink,
-        &mut desk,
-        &clock,
-        &NoGuard,
-        &filters,
+        rt, alloc, source, sink, &mut desk, &clock, &NoGuard, &filters,
     );
-    let SessionEnd::Done = served.end else {
+    if !matches!(served.end, SessionEnd::Done) {
         bail!("a session ended early");
-    };
-    let mut lines = Vec::new(alloc);
-    lines.extend_from_slice(sink.bytes())?;
-    Ok(lines)
+    }
+    Ok(())
 }

@@ -4,7 +4,7 @@ use crate::drawn::commands;
 use crate::plain::PlainScript;
 use crate::rows::{CLOCK, Readings, Row};
 use crate::tally::Tally;
-use crate::worlds::drawn_world;
+use crate::worlds::{World, drawn_world};
 use crate::{merges, session};
 use anyhow::{Result, bail};
 use std::alloc::Global;
@@ -35,12 +35,19 @@ impl<R: Threads + Wait + Sync, W: Write> Stage<'_, R, W> {
             bail!("a script is answered otherwise than the table says");
         }
         if script.len() < LONG {
-            let plain = PlainScript::of(self.alloc, row.script.as_str(), row.clock)?;
-            if !are_same(self.out, name, script, wanted, &plain.lines)? {
-                bail!("the plain session answers otherwise than the table says");
-            }
+            self.run_by_plain(row)?;
         }
         self.run_with_merges(script, &lines, row.clock)
+    }
+
+    fn run_by_plain(&mut self, row: &Row) -> Result<()> {
+        let plain = PlainScript::of(self.alloc, row.script.as_str(), row.clock)?;
+        let script = row.script.as_str().as_bytes();
+        let wanted = row.replies.as_str().as_bytes();
+        if !are_same(self.out, row.name.as_str(), script, wanted, &plain.lines)? {
+            bail!("the plain session answers otherwise than the table says");
+        }
+        Ok(())
     }
 
     /// So many worlds, and so many scripts in each, that are drawn from the seed.
@@ -48,16 +55,31 @@ impl<R: Threads + Wait + Sync, W: Write> Stage<'_, R, W> {
         let mut dice = Dice::new(seed);
         let mut tally = Tally::new(self.alloc);
         for _ in 0..worlds {
-            let world = drawn_world(self.alloc, &mut dice)?;
-            let begun = PlainScript::of(self.alloc, world.commands.as_str(), CLOCK)?;
-            for _ in 0..scripts {
-                let commands = commands(self.alloc, &mut dice, &world)?;
-                let mut plain = begun.copy()?;
-                plain.go_on(commands.as_str())?;
-                self.run_as_plain(&plain, &mut tally)?;
-            }
+            self.run_world(scripts, &mut dice, &mut tally)?;
         }
         Ok(tally)
+    }
+
+    fn run_world(&mut self, scripts: u32, dice: &mut Dice, tally: &mut Tally) -> Result<()> {
+        let world = drawn_world(self.alloc, dice)?;
+        let begun = PlainScript::of(self.alloc, world.commands.as_str(), CLOCK)?;
+        for _ in 0..scripts {
+            let plain = self.drawn_script(&world, &begun, dice)?;
+            self.run_as_plain(&plain, tally)?;
+        }
+        Ok(())
+    }
+
+    fn drawn_script(
+        &self,
+        world: &World,
+        begun: &PlainScript,
+        dice: &mut Dice,
+    ) -> Result<PlainScript> {
+        let commands = commands(self.alloc, dice, world)?;
+        let mut plain = begun.copy()?;
+        plain.go_on(commands.as_str())?;
+        Ok(plain)
     }
 
     /// A script that the plain session has answered.
