@@ -1,9 +1,13 @@
 //! A long chain of entities, pulled by every session in a thread of its own.
-use crate::runs::run_scripts;
+use crate::replays::texts_of;
+use crate::runs::{Ended, run_in_memory};
 use anyhow::{Result, bail};
 use std::alloc::Global;
 use std::sync::Wait;
 use std::thread::Threads;
+
+/// Each of so many sessions makes a chain and pulls it.
+const SESSIONS: usize = 16;
 
 /// The most maps that may be inside one another.
 const LINKS: usize = 256;
@@ -12,17 +16,21 @@ const SCHEMA: &str = "[:transact [
     {:db/ident :c/name :db/valueType :db.type/long :db/cardinality :db.cardinality/one :db/unique :db.unique/identity}
     {:db/ident :c/next :db/valueType :db.type/ref :db/cardinality :db.cardinality/one}]]";
 
-/// Each of so many sessions makes a chain and pulls it.
-pub(crate) fn pull_chains<R: Threads + Wait + Sync>(
-    rt: &R,
-    alloc: Global,
-    sessions: usize,
-) -> Result<()> {
-    let mut scripts = Vec::new(alloc);
-    for session in 0..sessions {
-        scripts.push(script(alloc, session)?)?;
-    }
-    let ended = run_scripts(rt, alloc, "1", scripts.as_slice())?;
+pub(crate) fn pull_chains<R: Print + Threads + Wait + Sync>(rt: &R, alloc: Global) -> Result<()> {
+    let scripts = scripts(alloc)?;
+    let texts = texts_of(alloc, scripts.as_slice())?;
+    pull_in_each(rt, alloc, texts.as_slice())?;
+    println!(rt; "{SESSIONS} sessions pull chains of {LINKS} maps")?;
+    Ok(())
+}
+
+fn pull_in_each<R: Threads + Wait + Sync>(rt: &R, alloc: Global, scripts: &[&str]) -> Result<()> {
+    let ended = run_in_memory(rt, alloc, "1", scripts)?;
+    see_chains(alloc, &ended)
+}
+
+/// The last line of each session has to be its chain.
+fn see_chains(alloc: Global, ended: &Ended) -> Result<()> {
     for (session, out) in ended.sessions.iter().enumerate() {
         let wanted = tree(alloc, session)?;
         if !out.sink.bytes().ends_with(wanted.as_str().as_bytes()) {
@@ -32,9 +40,26 @@ pub(crate) fn pull_chains<R: Threads + Wait + Sync>(
     Ok(())
 }
 
+fn scripts(alloc: Global) -> Result<Vec<String>> {
+    let mut scripts = Vec::new(alloc);
+    for session in 0..SESSIONS {
+        scripts.push(script(alloc, session)?)?;
+    }
+    Ok(scripts)
+}
+
 /// It makes a chain, whose links have the session's number in their names, and pulls it.
 fn script(alloc: Global, session: usize) -> Result<String> {
     let mut out = format!(in alloc; "{SCHEMA}\n[:transact [")?;
+    add_links(session, &mut out)?;
+    writeln!(
+        out,
+        "]] [:pull [:c/name {{:c/next ...}}] [:c/name 1{session:02}000]]"
+    )?;
+    Ok(out)
+}
+
+fn add_links(session: usize, out: &mut String) -> Result<()> {
     for link in 0..LINKS {
         writeln!(out, "[:db/add \"{link}\" :c/name 1{session:02}{link:03}]")?;
     }
@@ -43,16 +68,17 @@ fn script(alloc: Global, session: usize) -> Result<String> {
         writeln!(out, "[:db/add \"{before}\" :c/next \"{link}\"]")?;
         before = link;
     }
-    writeln!(
-        out,
-        "]] [:pull [:c/name {{:c/next ...}}] [:c/name 1{session:02}000]]"
-    )?;
-    Ok(out)
+    Ok(())
 }
 
 /// The end of its last line.
 fn tree(alloc: Global, session: usize) -> Result<String> {
     let mut out = format!(in alloc; " :pull {{:c/name 1{session:02}000")?;
+    add_branches(session, &mut out)?;
+    Ok(out)
+}
+
+fn add_branches(session: usize, out: &mut String) -> Result<()> {
     for link in 1..LINKS {
         write!(out, " :c/next {{:c/name 1{session:02}{link:03}")?;
     }
@@ -60,5 +86,5 @@ fn tree(alloc: Global, session: usize) -> Result<String> {
         out.push('}')?;
     }
     out.push_str("}\n")?;
-    Ok(out)
+    Ok(())
 }

@@ -4,6 +4,8 @@ use anyhow::Result;
 use std::alloc::Global;
 use test_data::{Dice, PEOPLE, SCHEMA, data};
 
+const SEED: u64 = 20_261_129;
+
 /// Commands in which `~` stands for a digit that is drawn, and `%` for the number of the session.
 const COMMANDS: [&str; 28] = [
     "[:transact [{:g/id \"own %-~\" :g/one ~ :g/many [~ 7]}]]",
@@ -36,23 +38,53 @@ const COMMANDS: [&str; 28] = [
     "[:unfilter]",
 ];
 
+/// A script for each session, of so many drawn commands.
+pub(crate) fn scripts(alloc: Global, sessions: usize, commands: u32) -> Result<Vec<String>> {
+    let mut dice = Dice::new(SEED);
+    let mut scripts = Vec::new(alloc);
+    for session in 0..sessions {
+        scripts.push(script(alloc, &mut dice, session, commands)?)?;
+    }
+    Ok(scripts)
+}
+
+fn script(alloc: Global, dice: &mut Dice, session: usize, commands: u32) -> Result<String> {
+    let mut out = String::new(alloc);
+    add_script(alloc, dice, session, commands, &mut out)?;
+    Ok(out)
+}
+
+/// One script with so many datoms in it that merges are due beside it.
+pub(crate) fn long_script(alloc: Global) -> Result<String> {
+    let mut out = String::new(alloc);
+    add_long_script(alloc, &mut out)?;
+    Ok(out)
+}
+
+fn add_long_script(alloc: Global, out: &mut String) -> Result<()> {
+    let mut dice = Dice::new(SEED);
+    add_script(alloc, &mut dice, 0, 100, out)?;
+    add_many_datoms(out)?;
+    add_script(alloc, &mut dice, 1, 100, out)
+}
+
 /// The script of a session. It begins with the schema and the entities that every session asks for, and ends with the whole log.
-pub(crate) fn script(
+fn add_script(
     alloc: Global,
     dice: &mut Dice,
     session: usize,
     commands: u32,
-) -> Result<String> {
-    let mut out = String::new(alloc);
+    out: &mut String,
+) -> Result<()> {
     write!(out, "[:transact {SCHEMA}]\n[:transact {PEOPLE}]\n")?;
     for _ in 0..commands {
-        command(alloc, dice, session, &mut out)?;
+        add_command(alloc, dice, session, out)?;
     }
     out.push_str("[:unfilter] [:sync] [:tx-range 1 nil]\n")?;
-    Ok(out)
+    Ok(())
 }
 
-fn command(alloc: Global, dice: &mut Dice, session: usize, out: &mut String) -> Result<()> {
+fn add_command(alloc: Global, dice: &mut Dice, session: usize, out: &mut String) -> Result<()> {
     match dice.roll(8) {
         0 => write!(out, "[:transact {}]", data(alloc, dice)?.as_str())?,
         1 => out.push_str("[:unfilter]")?,
@@ -76,11 +108,11 @@ fn fill(dice: &mut Dice, session: usize, out: &mut String) -> Result<()> {
 }
 
 /// A transaction of 1,500 datoms.
-pub(crate) fn many_datoms(alloc: Global) -> Result<String> {
-    let mut out = String::from_str(alloc, "[:transact [{:g/id \"k1\" :g/many [")?;
+fn add_many_datoms(out: &mut String) -> Result<()> {
+    out.push_str("[:transact [{:g/id \"k1\" :g/many [")?;
     for n in 0..1500 {
         write!(out, "{n} ")?;
     }
     out.push_str("]}]]\n")?;
-    Ok(out)
+    Ok(())
 }

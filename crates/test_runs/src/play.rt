@@ -5,7 +5,7 @@ use anyhow::{Result, bail};
 use std::alloc::Global;
 
 /// The sessions that speak.
-pub(crate) const SPEAKERS: [&str; 2] = ["ann", "bob"];
+pub(crate) const SPEAKERS: &[&str] = &["ann", "bob"];
 
 #[derive(Clone, Copy)]
 pub(crate) struct Line<'a> {

@@ -1,6 +1,7 @@
 //! Worked examples as a text has them: in front of each run its clock, then each command with its answer after an arrow.
-use crate::bad_logs::{LOG, replaced};
-use crate::runs::{Job, Parts, disk, ends_so, run_job, run_over};
+use crate::directories::{Parts, disk};
+use crate::logs::bad_logs::{LOG, replaced};
+use crate::runs::{Ended, Terms, ends_so, run_in, run_over};
 use anyhow::{Result, bail};
 use std::alloc::Global;
 use std::sync::Wait;
@@ -13,16 +14,30 @@ struct Row {
     lines: String,
 }
 
+impl Row {
+    /// A row without a line.
+    fn at(alloc: Global, clock: &str) -> Result<Row> {
+        Ok(Row {
+            clock: clock.parse()?,
+            script: String::new(alloc),
+            lines: String::new(alloc),
+        })
+    }
+
+    fn judge(&self, ended: &Ended) -> Result<()> {
+        if !ends_so(ended, 0, "", self.lines.as_str().as_bytes()) {
+            bail!("{} is answered otherwise", self.script.as_str());
+        }
+        Ok(())
+    }
+}
+
 fn rows_in(alloc: Global, text: &str) -> Result<Vec<Row>> {
     let mut rows = Vec::new(alloc);
     for line in text.lines() {
         match line.split_once(" -> ") {
             Some((command, answer)) => add_line(&mut rows, command, answer)?,
-            None => rows.push(Row {
-                clock: line.parse()?,
-                script: String::new(alloc),
-                lines: String::new(alloc),
-            })?,
+            None => rows.push(Row::at(alloc, line)?)?,
         }
     }
     Ok(rows)
@@ -37,11 +52,15 @@ fn add_line(rows: &mut Vec<Row>, command: &str, answer: &str) -> Result<()> {
     Ok(())
 }
 
-/// The first row leaves the documented log, and the second goes on with that in its older format. In the third the log stops. The others
-/// go on from one another, whenever merges are due.
 pub(crate) fn run_rows<R: Threads + Wait + Sync>(rt: &R, alloc: Global, text: &str) -> Result<()> {
     let rows = rows_in(alloc, text)?;
-    let [first, older, stopped, chain @ ..] = rows.as_slice() else {
+    run_each(rt, alloc, rows.as_slice())
+}
+
+/// The first row leaves the documented log, and the second goes on with that in its older format. In the third the log stops. The others
+/// go on from one another, whenever merges are due.
+fn run_each<R: Threads + Wait + Sync>(rt: &R, alloc: Global, rows: &[Row]) -> Result<()> {
+    let [first, older, stopped, chain @ ..] = rows else {
         bail!("rows are missing");
     };
     leave_documented(rt, alloc, first)?;
@@ -73,16 +92,13 @@ fn run_row<R: Threads + Wait + Sync>(
     parts: Parts,
     merge_at: &str,
 ) -> Result<Parts> {
-    let job = Job {
-        scripts: &[row.script.as_str()],
+    let terms = Terms {
         clock: row.clock,
-        merge_at,
+        ..Terms::in_directory(merge_at)
     };
-    let ended = run_job(rt, alloc, job, parts)?;
-    if !ends_so(&ended, 0, "", row.lines.as_str().as_bytes()) {
-        bail!("{} is answered otherwise", row.script.as_str());
-    }
-    Ok(ended.parts)
+    let ended = run_in(rt, alloc, terms, &[row.script.as_str()], parts)?;
+    row.judge(&ended)?;
+    ended.into_parts()
 }
 
 /// The first sync of the second record: the opening takes five calls of the disk (a sync, the length, the new journal, a sync, and its
@@ -92,12 +108,12 @@ const STOPPING: u64 = 11;
 fn stop_at_second<R: Threads + Wait + Sync>(rt: &R, alloc: Global, row: &Row) -> Result<()> {
     let log = disk(alloc, &[], Some(STOPPING))?;
     let ended = run_over(rt, alloc, &[row.script.as_str()], log)?;
-    if !ends_so(
-        &ended,
-        7,
-        "factbase: log stopped at t 2",
-        row.lines.as_str().as_bytes(),
-    ) {
+    judge_stopped(row, &ended)
+}
+
+fn judge_stopped(row: &Row, ended: &Ended) -> Result<()> {
+    let lines = row.lines.as_str().as_bytes();
+    if !ends_so(ended, 7, "factbase: log stopped at t 2", lines) {
         bail!("a log stops otherwise");
     }
     Ok(())

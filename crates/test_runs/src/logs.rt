@@ -1,35 +1,42 @@
 //! What a directory keeps, through whole runs of the program: when calls of its log's disk fail, after a crash at any moment, from one
 //! run to the next, and when bytes of the log were changed.
-#![tactic(auto)]
-
 mod bad_logs;
 mod calls;
+mod crossed;
+mod failing;
+mod kept;
 mod left;
 mod rows;
-mod runs;
 mod segments;
 
+use crate::directories::{Parts, disk};
+use crate::plain::{answers_of, plain_session};
+use crate::runs::run_over;
 use anyhow::Result;
 use bad_logs::{open_changed, open_cut};
 use calls::{Tally, fail_each_call};
-use left::{Case, plain_session};
+use crossed::cross_images;
+use kept::{Kept, kept_by_each};
+use left::Case;
+use plain_session::PlainSession;
 use rows::run_rows;
-use runs::{disk, run_over};
-use segments::{Histories, cross_images};
+use segments::histories_in;
 use std::alloc::Global;
 use std::fs;
 use std::rt::Files;
 use std::sync::Wait;
 use std::thread::Threads;
-use test_replay::answer_all;
 
-fn main(rt: HostRuntime) -> Result<()> {
-    let alloc = rt.alloc();
-    run_examples(&rt, alloc)?;
-    one_session(&rt, alloc)?;
-    two_sessions(&rt, alloc)?;
-    damage_logs(&rt, alloc)?;
-    open_beside_segments(&rt, alloc)
+pub(crate) fn run_over_logs<R: Files + Alloc + Print + Threads + Wait + Sync>(
+    rt: &R,
+    alloc: Global,
+) -> Result<()> {
+    run_examples(rt, alloc)?;
+    one_session(rt, alloc)?;
+    two_sessions(rt, alloc)?;
+    damage_logs(rt, alloc)?;
+    open_beside_segments(rt, alloc)?;
+    cross_images(rt, alloc)
 }
 
 fn run_examples<R: Files + Alloc + Threads + Wait + Sync>(rt: &R, alloc: Global) -> Result<()> {
@@ -86,26 +93,6 @@ fn fail_two<R: Print + Threads + Wait + Sync>(
     Ok(())
 }
 
-fn damage_logs<R: Files + Alloc + Print + Threads + Wait + Sync>(
-    rt: &R,
-    alloc: Global,
-) -> Result<()> {
-    let table = fs::read_to_string(rt, "bytes.txt")?;
-    let changed = open_changed(rt, alloc, table.as_str())?;
-    let cut = open_cut(rt, alloc)?;
-    println!(rt; "{changed} logs with bytes changed, {cut} that end too early")?;
-    Ok(())
-}
-
-fn open_beside_segments<R: Print + Threads + Wait + Sync>(rt: &R, alloc: Global) -> Result<()> {
-    let histories = Histories::new(rt, alloc)?;
-    let pairs = histories.pair(rt, alloc)?;
-    let bytes = histories.change_bytes(rt, alloc)?;
-    println!(rt; "{pairs} logs beside segments, {bytes} files of segments with a byte changed")?;
-    histories.fail_calls(rt, alloc)?;
-    cross_images(rt, alloc)
-}
-
 /// Fails each call of scripts that begin with an empty directory.
 fn fail_at_first<R: Threads + Wait + Sync>(
     rt: &R,
@@ -128,13 +115,52 @@ fn fail_later<R: Threads + Wait + Sync>(
     script: &str,
     later: &str,
 ) -> Result<Tally> {
-    let mut plain = plain_session(alloc)?;
-    answer_all(alloc, &mut plain, script, &mut Vec::new(alloc))?;
-    let ended = run_over(rt, alloc, &[script], disk(alloc, &[], None)?)?;
+    let plain = plain_after(alloc, script)?;
+    let left = left_by(rt, alloc, script)?;
     let case = Case {
-        log: ended.parts.log.bytes(),
+        log: left.log.bytes(),
         plain: &plain,
         scripts: &[later],
     };
     fail_each_call(rt, alloc, case)
+}
+
+/// A plain session that has answered a script.
+fn plain_after(alloc: Global, script: &str) -> Result<PlainSession> {
+    let mut plain = plain_session(alloc)?;
+    answers_of(alloc, &mut plain, script)?;
+    Ok(plain)
+}
+
+/// What a script leaves of an empty directory.
+fn left_by<R: Threads + Wait + Sync>(rt: &R, alloc: Global, script: &str) -> Result<Parts> {
+    run_over(rt, alloc, &[script], disk(alloc, &[], None)?)?.into_parts()
+}
+
+fn damage_logs<R: Files + Alloc + Print + Threads + Wait + Sync>(
+    rt: &R,
+    alloc: Global,
+) -> Result<()> {
+    let table = fs::read_to_string(rt, "bytes.txt")?;
+    let changed = open_changed(rt, alloc, table.as_str())?;
+    let cut = open_cut(rt, alloc)?;
+    println!(rt; "{changed} logs with bytes changed, {cut} that end too early")?;
+    Ok(())
+}
+
+fn open_beside_segments<R: Print + Threads + Wait + Sync>(rt: &R, alloc: Global) -> Result<()> {
+    let kept = kept_by_each(rt, alloc)?;
+    open_histories(rt, alloc, kept.as_slice())
+}
+
+fn open_histories<R: Print + Threads + Wait + Sync>(
+    rt: &R,
+    alloc: Global,
+    kept: &[Kept],
+) -> Result<()> {
+    let histories = histories_in(kept)?;
+    let pairs = histories.pair(rt, alloc)?;
+    let bytes = histories.change_bytes(rt, alloc)?;
+    println!(rt; "{pairs} logs beside segments, {bytes} files of segments with a byte changed")?;
+    histories.fail_calls(rt, alloc)
 }

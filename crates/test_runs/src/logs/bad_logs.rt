@@ -1,5 +1,6 @@
 //! Logs with bytes changed, and logs that end too early. Each says what it says by the format, and is left as it is.
-use crate::runs::{Ended, disk, ends_so, is_answered, run_over};
+use crate::directories::disk;
+use crate::runs::{Ended, ends_so, is_answered, run_over};
 use anyhow::{Result, bail};
 use std::alloc::Global;
 use std::sync::Wait;
@@ -131,7 +132,11 @@ pub(crate) fn open_cut<R: Threads + Wait + Sync>(rt: &R, alloc: Global) -> Resul
 /// A log of these bytes has to say so, and to keep them.
 fn open<R: Threads + Wait + Sync>(rt: &R, alloc: Global, bytes: &[u8], says: &str) -> Result<()> {
     let ended = run_over(rt, alloc, &[WHOLE], disk(alloc, bytes, None)?)?;
-    if !is_said(alloc, &ended, says)? || ended.parts.log.bytes() != bytes {
+    judge(alloc, &ended, bytes, says)
+}
+
+fn judge(alloc: Global, ended: &Ended, bytes: &[u8], says: &str) -> Result<()> {
+    if !is_said(alloc, ended, says)? || ended.parts()?.log.bytes() != bytes {
         bail!("a log does not say {says}");
     }
     Ok(())

@@ -1,7 +1,8 @@
 //! Each call of the log's disk fails in turn. The run has to say so. A crash then has to leave what the sessions were answered, at most
 //! with the transaction that met the fault, and the script goes on from there.
-use crate::left::{Case, Left, left_by};
-use crate::runs::{Ended, disk, is_answered, run_over};
+use crate::directories::disk;
+use crate::logs::left::{Case, Left, Stop, left_by};
+use crate::runs::{Ended, is_answered, run_over};
 use anyhow::{Result, bail};
 use mem_ports::MemDisk;
 use std::alloc::Global;
@@ -53,56 +54,71 @@ fn fail_call<R: Threads + Wait + Sync>(
     tally: &mut Tally,
 ) -> Result<bool> {
     let ended = run_over(rt, alloc, case.scripts, disk(alloc, case.log, Some(call))?)?;
-    judge(rt, alloc, case, &ended, tally)?;
-    Ok(ended.status != 0)
+    judge(rt, alloc, case, &ended, tally)
 }
 
-/// A run has to end as the call that failed says, and to leave what its sessions were answered.
+/// A run has to end as the call that failed says, and to leave what its sessions were answered. It says whether a call failed.
 fn judge<R: Threads + Wait + Sync>(
     rt: &R,
     alloc: Global,
     case: Case<'_>,
     ended: &Ended,
     tally: &mut Tally,
-) -> Result<()> {
+) -> Result<bool> {
+    let log = &ended.parts()?.log;
     let left = left_over(alloc, case, ended, tally)?;
-    let images = reopened(rt, alloc, &ended.parts.log, &left)?;
+    let images = reopened(rt, alloc, log, &left)?;
     if ended.status == 7 {
         tally.images = tally.images.saturating_add(images);
     }
-    Ok(())
+    Ok(ended.status != 0)
 }
 
 /// What a crash may leave of a run, which has to end as the call that failed says.
 fn left_over(alloc: Global, case: Case<'_>, ended: &Ended, tally: &mut Tally) -> Result<Left> {
     match ended.status {
         3 if tally.adding == 0 && ended.sessions.is_empty() => {
-            tally.opening = tally.opening.saturating_add(1);
-            tells(ended, "factbase: disk fault on log")?;
-            let script = case.scripts.first().copied().unwrap_or("");
-            Left::alone(alloc, case.plain, script)
+            left_at_opening(alloc, case, ended, tally)
         }
-        7 => {
-            let records = tally.adding / CALLS_A_RECORD;
-            tally.adding = tally.adding.saturating_add(1);
-            let t = ended.recovered.saturating_add(records).saturating_add(1);
-            tells(
-                ended,
-                format!(in alloc; "factbase: log stopped at t {t}")?.as_str(),
-            )?;
-            let is_gate_written = tally.adding % CALLS_A_RECORD == 0;
-            left_by(alloc, case, ended, Some(t), is_gate_written)
-        }
-        0 => {
-            tells(ended, "")?;
-            let records = ended.last.saturating_sub(ended.recovered);
-            if tally.adding != records.saturating_mul(CALLS_A_RECORD) {
-                bail!("{} calls failed of {records} records", tally.adding);
-            }
-            left_by(alloc, case, ended, None, false)
-        }
+        7 => left_at_stop(alloc, case, ended, tally),
+        0 => left_at_end(alloc, case, ended, *tally),
         status => bail!("a run ended with status {status}"),
     }
+}
+
+fn left_at_opening(
+    alloc: Global,
+    case: Case<'_>,
+    ended: &Ended,
+    tally: &mut Tally,
+) -> Result<Left> {
+    tells(ended, "factbase: disk fault on log")?;
+    tally.opening = tally.opening.saturating_add(1);
+    let script = case.scripts.first().copied().unwrap_or("");
+    Left::alone(alloc, case.plain, script)
+}
+
+fn left_at_stop(alloc: Global, case: Case<'_>, ended: &Ended, tally: &mut Tally) -> Result<Left> {
+    let records = tally.adding / CALLS_A_RECORD;
+    tally.adding = tally.adding.saturating_add(1);
+    let t = ended.recovered.saturating_add(records).saturating_add(1);
+    let line = format!(in alloc; "factbase: log stopped at t {t}")?;
+    tells(ended, line.as_str())?;
+    let stop = Stop {
+        t,
+        is_gate_written: tally.adding % CALLS_A_RECORD == 0,
+    };
+    left_by(alloc, case, ended, Some(stop))
+}
+
+/// All calls of all records have failed before.
+fn left_at_end(alloc: Global, case: Case<'_>, ended: &Ended, tally: Tally) -> Result<Left> {
+    tells(ended, "")?;
+    let records = ended.basis().saturating_sub(ended.recovered);
+    if tally.adding != records.saturating_mul(CALLS_A_RECORD) {
+        bail!("{} calls failed of {records} records", tally.adding);
+    }
+    left_by(alloc, case, ended, None)
 }
 
 fn tells(ended: &Ended, line: &str) -> Result<()> {
@@ -121,15 +137,26 @@ fn reopened<R: Threads + Wait + Sync>(
     left: &Left,
 ) -> Result<u64> {
     for cut in 0..MOST_CUTS {
-        let image = log.image(alloc, &[cut])?;
-        let is_whole = image.bytes() == log.bytes();
-        let sequel = left.at(cut);
-        if !is_answered(rt, alloc, image, sequel.script.as_str(), &sequel.lines)? {
-            bail!("a crash leaves something else, with the last write cut at byte {cut}");
-        }
-        if is_whole {
+        if reopened_at(rt, alloc, log, left, cut)? {
             return Ok(cut.saturating_add(1));
         }
     }
     bail!("a write does not end")
+}
+
+/// Opens the image with the last write cut in front of this byte. It says whether the write is whole.
+fn reopened_at<R: Threads + Wait + Sync>(
+    rt: &R,
+    alloc: Global,
+    log: &MemDisk,
+    left: &Left,
+    cut: u64,
+) -> Result<bool> {
+    let sequel = left.at(cut);
+    let image = log.image(alloc, &[cut])?;
+    let is_whole = image.bytes() == log.bytes();
+    if !is_answered(rt, alloc, image, sequel.script.as_str(), &sequel.lines)? {
+        bail!("a crash leaves something else, with the last write cut at byte {cut}");
+    }
+    Ok(is_whole)
 }
