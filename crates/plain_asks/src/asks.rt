@@ -1,110 +1,44 @@
-//! What a transaction asks, with entities still by their names.
+//! What a transaction asks, with entities still by their names. All of it is borrowed from the forms and the facts.
 use edn_form::Edn;
-use fb_memory::Memory;
 use fb_text::Text;
-use std::alloc::Global;
+use plain_reads::Attribute;
 
 /// How a transaction names an entity.
-#[derive(Drop)]
-pub enum Name {
+#[derive(Clone, Copy)]
+pub enum Name<'a> {
     Number(i64),
     /// A keyword, without its colon.
-    Ident(Text),
+    Ident(&'a Text),
     /// A unique attribute, by its keyword, and its value.
-    Lookup(Text, Edn),
-    Tempid(Text),
-    /// A map without `:db/id`: its place among the forms, pairs and members, from the inside out.
-    Nameless(Vec<usize>),
+    Lookup(&'a Text, &'a Edn),
+    Tempid(&'a Text),
+    /// A map without `:db/id`, by how many maps come before it.
+    Nameless(usize),
 }
 
 /// What is given in the place of a value.
-#[derive(Drop)]
-pub enum Operand {
+#[derive(Clone, Copy)]
+pub enum Operand<'a> {
     /// A value, to be read by the attribute's type.
-    Plain(Edn),
+    Plain(&'a Edn),
     /// An entity, under an attribute whose values are entities.
-    Entity(Name),
+    Entity(Name<'a>),
 }
 
-#[derive(Drop)]
-pub enum Ask {
-    Adds(Name, Text, Operand),
-    Retracts(Name, Text, Operand),
+/// Each attribute as the facts before have it, where they do.
+#[derive(Clone, Copy)]
+pub enum Ask<'a> {
+    Adds(Name<'a>, Option<Attribute<'a>>, Operand<'a>),
+    Retracts(Name<'a>, Option<Attribute<'a>>, Operand<'a>),
     /// Every value.
-    RetractsAll(Name, Text),
+    RetractsAll(Name<'a>, Option<Attribute<'a>>),
     /// The old value and the new one.
-    Compares(Name, Text, Operand, Operand),
-    RetractsEntity(Name),
+    Compares(Name<'a>, Option<Attribute<'a>>, Operand<'a>, Operand<'a>),
+    RetractsEntity(Name<'a>),
     /// There is a map of this entity.
-    Meets(Name),
+    Meets(Name<'a>),
     /// An attribute is a key of a map.
-    Mentions(Text),
+    Mentions(Option<Attribute<'a>>),
     /// A map inside another lacks what it needs.
     LacksId,
-}
-
-pub fn copy_path(alloc: Global, path: &[usize]) -> Result<Vec<usize>, Memory> {
-    let mut copy = Vec::new(alloc);
-    copy.extend_from_slice(path)?;
-    Ok(copy)
-}
-
-/// The place of the n-th part of what stands at a place.
-pub fn inside(alloc: Global, n: usize, path: &[usize]) -> Result<Vec<usize>, Memory> {
-    let mut inner = Vec::new(alloc);
-    inner.push(n)?;
-    inner.extend_from_slice(path)?;
-    Ok(inner)
-}
-
-impl Name {
-    pub fn copy(&self) -> Result<Name, Memory> {
-        Ok(match self {
-            Name::Number(n) => Name::Number(*n),
-            Name::Ident(k) => Name::Ident(k.copy()?),
-            Name::Lookup(k, f) => Name::Lookup(k.copy()?, f.copy()?),
-            Name::Tempid(s) => Name::Tempid(s.copy()?),
-            Name::Nameless(path) => Name::Nameless(copy_path(*path.allocator(), path)?),
-        })
-    }
-}
-
-/// Moves the asks to the end of the list.
-pub fn append(list: &mut Vec<Ask>, more: Vec<Ask>) -> Result<(), Memory> {
-    for ask in more {
-        list.push(ask)?;
-    }
-    Ok(())
-}
-
-pub fn one(alloc: Global, ask: Ask) -> Result<Vec<Ask>, Memory> {
-    let mut list = Vec::new(alloc);
-    list.push(ask)?;
-    Ok(list)
-}
-
-impl Operand {
-    pub fn copy(&self) -> Result<Operand, Memory> {
-        Ok(match self {
-            Operand::Plain(f) => Operand::Plain(f.copy()?),
-            Operand::Entity(name) => Operand::Entity(name.copy()?),
-        })
-    }
-}
-
-impl Ask {
-    pub fn copy(&self) -> Result<Ask, Memory> {
-        Ok(match self {
-            Ask::Adds(name, k, part) => Ask::Adds(name.copy()?, k.copy()?, part.copy()?),
-            Ask::Retracts(name, k, part) => Ask::Retracts(name.copy()?, k.copy()?, part.copy()?),
-            Ask::RetractsAll(name, k) => Ask::RetractsAll(name.copy()?, k.copy()?),
-            Ask::Compares(name, k, old, new) => {
-                Ask::Compares(name.copy()?, k.copy()?, old.copy()?, new.copy()?)
-            }
-            Ask::RetractsEntity(name) => Ask::RetractsEntity(name.copy()?),
-            Ask::Meets(name) => Ask::Meets(name.copy()?),
-            Ask::Mentions(k) => Ask::Mentions(k.copy()?),
-            Ask::LacksId => Ask::LacksId,
-        })
-    }
 }

@@ -6,9 +6,11 @@
 #![tactic(auto)]
 
 mod asks;
+mod keys;
 mod names;
 mod values;
 
-pub use asks::{Ask, Name, Operand, append, copy_path, inside, one};
-pub use names::{OWN_TEMPID, attribute_of_ask, is_same_tempid, is_tempid, names_of};
+pub use asks::{Ask, Name, Operand};
+pub use keys::{Key, key_in};
+pub use names::{OWN_TEMPID, is_same_tempid, is_tempid, names_of};
 pub use values::value_in;

@@ -1,14 +1,11 @@
-//! The names in an ask, its attribute, and which names are tempids.
+//! The names in an ask, and which names are tempids.
 use crate::asks::{Ask, Name, Operand};
-use fb_memory::Memory;
-use fb_text::Text;
-use std::alloc::Global;
 
 /// It names the transaction itself.
 pub const OWN_TEMPID: &str = "datomic.tx";
 
 /// Whether the name is that of a new entity; the transaction's own is none.
-pub fn is_tempid(name: &Name) -> bool {
+pub fn is_tempid(name: &Name<'_>) -> bool {
     match name {
         Name::Tempid(s) => s.as_str() != OWN_TEMPID,
         Name::Nameless(_) => true,
@@ -16,50 +13,31 @@ pub fn is_tempid(name: &Name) -> bool {
     }
 }
 
-pub fn is_same_tempid(name: &Name, other: &Name) -> bool {
+pub fn is_same_tempid(name: &Name<'_>, other: &Name<'_>) -> bool {
     match (name, other) {
         (Name::Tempid(s), Name::Tempid(other)) => s.as_str() == other.as_str(),
-        (Name::Nameless(path), Name::Nameless(other)) => path == other,
+        (Name::Nameless(number), Name::Nameless(other)) => number == other,
         _ => false,
     }
 }
 
 /// The names of an ask in the order in which it meets them.
-pub fn names_of(alloc: Global, ask: &Ask) -> Result<Vec<Name>, Memory> {
-    let mut names = Vec::new(alloc);
+pub fn names_of<'a>(ask: &Ask<'a>) -> [Option<Name<'a>>; 3] {
     match ask {
         Ask::Adds(name, _, part) | Ask::Retracts(name, _, part) => {
-            names.push(name.copy()?)?;
-            push_part(&mut names, part)?;
+            [Some(*name), name_of_part(part), None]
         }
-        Ask::Compares(name, _, old, new) => {
-            names.push(name.copy()?)?;
-            push_part(&mut names, old)?;
-            push_part(&mut names, new)?;
-        }
+        Ask::Compares(name, _, old, new) => [Some(*name), name_of_part(old), name_of_part(new)],
         Ask::RetractsAll(name, _) | Ask::RetractsEntity(name) | Ask::Meets(name) => {
-            names.push(name.copy()?)?;
+            [Some(*name), None, None]
         }
-        Ask::Mentions(_) | Ask::LacksId => {}
+        Ask::Mentions(_) | Ask::LacksId => [None, None, None],
     }
-    Ok(names)
 }
 
-fn push_part(names: &mut Vec<Name>, part: &Operand) -> Result<(), Memory> {
-    if let Operand::Entity(name) = part {
-        names.push(name.copy()?)?;
-    }
-    Ok(())
-}
-
-/// The keyword in the ask's attribute's place.
-pub fn attribute_of_ask(ask: &Ask) -> Option<&Text> {
-    match ask {
-        Ask::Adds(_, k, _)
-        | Ask::Retracts(_, k, _)
-        | Ask::RetractsAll(_, k)
-        | Ask::Compares(_, k, _, _)
-        | Ask::Mentions(k) => Some(k),
-        Ask::RetractsEntity(_) | Ask::Meets(_) | Ask::LacksId => None,
+fn name_of_part<'a>(part: &Operand<'a>) -> Option<Name<'a>> {
+    match part {
+        Operand::Plain(_) => None,
+        Operand::Entity(name) => Some(*name),
     }
 }

@@ -11,15 +11,13 @@ use fb_numbers::{
 };
 use fb_values::{Datom, Value};
 use plain_asks::{Ask, Operand};
-use plain_reads::{attribute_named, is_builtin, is_of, last_instant, users_in, value_of};
+use plain_reads::{Attribute, is_builtin, is_of, last_instant, users_in, value_of};
 
 // ---- cas of many
 
-pub fn compares_many(tx: &Transaction<'_>, ask: &Ask) -> bool {
+pub fn compares_many(ask: &Ask<'_>) -> bool {
     match ask {
-        Ask::Compares(_, k, _, _) => {
-            attribute_named(&tx.db.facts, k.as_str()).is_some_and(|attribute| attribute.many)
-        }
+        Ask::Compares(_, Some(attribute), _, _) => attribute.many,
         _ => false,
     }
 }
@@ -27,25 +25,39 @@ pub fn compares_many(tx: &Transaction<'_>, ask: &Ask) -> bool {
 // ---- cas failed
 
 /// Whether the present value differs from the old one of a cas; nil means that there is none.
-pub fn compares_another(tx: &Transaction<'_>, ask: &Ask) -> Result<bool, Memory> {
-    let Ask::Compares(name, k, old, _) = ask else {
-        return Ok(false);
-    };
-    let Some(e) = entity_of(&tx.db, &tx.names, name)? else {
-        return Ok(false);
-    };
-    let Some(attribute) = attribute_named(&tx.db.facts, k.as_str()) else {
-        return Ok(false);
-    };
-    let old = match old {
-        Operand::Plain(Edn::Nil) => None,
-        _ => value_of_part(&tx.db, &tx.names, &attribute, old)?,
-    };
-    Ok(match (value_of(&tx.db.facts, e, attribute.id), &old) {
+pub fn compares_another(tx: &Transaction<'_>, ask: &Ask<'_>) -> Result<bool, Memory> {
+    match ask {
+        Ask::Compares(name, Some(attribute), old, _) => match entity_of(tx.db, &tx.names, name)? {
+            Some(e) => has_another(tx, e, attribute, old),
+            None => Ok(false),
+        },
+        _ => Ok(false),
+    }
+}
+
+fn has_another(
+    tx: &Transaction<'_>,
+    e: u64,
+    attribute: &Attribute<'_>,
+    old: &Operand<'_>,
+) -> Result<bool, Memory> {
+    let present = value_of(&tx.db.facts, e, attribute.id);
+    Ok(match (present, &old_value(tx, attribute, old)?) {
         (Some(v), Some(w)) => *v != *w,
         (None, None) => false,
         _ => true,
     })
+}
+
+fn old_value(
+    tx: &Transaction<'_>,
+    attribute: &Attribute<'_>,
+    old: &Operand<'_>,
+) -> Result<Option<Value>, Memory> {
+    match old {
+        Operand::Plain(Edn::Nil) => Ok(None),
+        _ => value_of_part(tx.db, &tx.names, attribute, old),
+    }
 }
 
 // ---- datoms conflict
@@ -53,9 +65,9 @@ pub fn compares_another(tx: &Transaction<'_>, ask: &Ask) -> Result<bool, Memory>
 /// Whether the triple is added beside another value of cardinality one, or is both added and retracted.
 pub fn conflicts(tx: &Transaction<'_>, d: &Datom) -> bool {
     let is_beside_another = is_one(&tx.db.facts, d.a)
-        && tx.added.iter().any(|list| has_another_value(list, d));
-    is_asked_in(&tx.added, d)
-        && (is_beside_another || is_asked_in(&tx.retracted, d) || is_asked_in(&tx.swept, d))
+        && tx.asked.added.iter().any(|list| has_another_value(list, d));
+    is_asked_in(&tx.asked.added, d)
+        && (is_beside_another || is_asked_in(&tx.asked.retracted, d) || is_asked_in(&tx.asked.swept, d))
 }
 
 fn is_asked_in(lists: &[Vec<Datom>], d: &Datom) -> bool {

@@ -2,83 +2,113 @@
 use crate::attributes::is_one;
 use crate::components::closed_set;
 use crate::db::Db;
-use crate::tempids::entity_of;
+use crate::tempids::{Assigned, entity_of};
 use fb_memory::Memory;
-use fb_text::Text;
 use fb_values::{Datom, Value};
 use plain_asks::{Ask, Name, Operand, value_in};
-use plain_reads::{Attribute, attribute_named};
+use plain_reads::Attribute;
 use std::alloc::Global;
 
-/// What an ask may ask for.
-#[derive(Clone, Copy)]
-pub enum Kind {
-    Additions,
+/// What the forms ask, by kind, form by form.
+#[derive(Drop)]
+pub struct Asked {
+    pub added: Vec<Vec<Datom>>,
     /// As triples.
-    Retractions,
+    pub retracted: Vec<Vec<Datom>>,
     /// The retractions of what is found in the database.
-    Sweeps,
+    pub swept: Vec<Vec<Datom>>,
+    /// What the additions imply.
+    pub replaced: Vec<Vec<Datom>>,
 }
 
-/// For each form what it asks of a kind.
-pub fn of_forms(
+impl Asked {
+    pub fn of_all_kinds(&self) -> [&[Vec<Datom>]; 4] {
+        [&self.added, &self.retracted, &self.swept, &self.replaced]
+    }
+}
+
+pub fn asked_by(
     alloc: Global,
-    kind: Kind,
     db: &Db<'_>,
-    names: &[(Name, u64)],
-    forms: &[Vec<Ask>],
-) -> Result<Vec<Vec<Datom>>, Memory> {
-    let mut lists = Vec::new(alloc);
+    names: &[Assigned<'_>],
+    forms: &[Vec<Ask<'_>>],
+) -> Result<Asked, Memory> {
+    let mut asked = Asked {
+        added: Vec::new(alloc),
+        retracted: Vec::new(alloc),
+        swept: Vec::new(alloc),
+        replaced: Vec::new(alloc),
+    };
     for asks in forms {
-        let mut list = Vec::new(alloc);
-        for ask in asks.iter() {
-            add_asked(alloc, &mut list, kind, db, names, ask)?;
-        }
-        lists.push(list)?;
+        add_form(alloc, &mut asked, db, names, asks)?;
     }
-    Ok(lists)
+    Ok(asked)
 }
 
-/// Adds what the ask asks of the kind.
-fn add_asked(
+/// Adds what a form asks of each kind.
+fn add_form(
     alloc: Global,
-    list: &mut Vec<Datom>,
-    kind: Kind,
+    asked: &mut Asked,
     db: &Db<'_>,
-    names: &[(Name, u64)],
-    ask: &Ask,
+    names: &[Assigned<'_>],
+    asks: &[Ask<'_>],
 ) -> Result<(), Memory> {
-    match (kind, ask) {
-        (Kind::Additions, Ask::Adds(name, k, part) | Ask::Compares(name, k, _, part)) => {
-            add_triple(list, db, names, true, name, k, part)
+    let added = additions(alloc, db, names, asks)?;
+    asked.replaced.push(implied_by(alloc, db, &added)?)?;
+    asked.added.push(added)?;
+    asked.retracted.push(retractions(alloc, db, names, asks)?)?;
+    asked.swept.push(sweeps(alloc, db, names, asks)?)?;
+    Ok(())
+}
+
+// ---- additions and retractions
+
+fn additions(
+    alloc: Global,
+    db: &Db<'_>,
+    names: &[Assigned<'_>],
+    asks: &[Ask<'_>],
+) -> Result<Vec<Datom>, Memory> {
+    let mut list = Vec::new(alloc);
+    for ask in asks {
+        if let Ask::Adds(name, Some(attribute), part)
+        | Ask::Compares(name, Some(attribute), _, part) = ask
+        {
+            add_triple(&mut list, db, names, true, name, attribute, part)?;
         }
-        (Kind::Retractions, Ask::Retracts(name, k, part)) => {
-            add_triple(list, db, names, false, name, k, part)
-        }
-        (Kind::Sweeps, Ask::RetractsAll(name, k)) => sweep_values(list, db, names, name, k),
-        (Kind::Sweeps, Ask::RetractsEntity(name)) => sweep_entity(alloc, list, db, names, name),
-        _ => Ok(()),
     }
+    Ok(list)
+}
+
+fn retractions(
+    alloc: Global,
+    db: &Db<'_>,
+    names: &[Assigned<'_>],
+    asks: &[Ask<'_>],
+) -> Result<Vec<Datom>, Memory> {
+    let mut list = Vec::new(alloc);
+    for ask in asks {
+        if let Ask::Retracts(name, Some(attribute), part) = ask {
+            add_triple(&mut list, db, names, false, name, attribute, part)?;
+        }
+    }
+    Ok(list)
 }
 
 /// The datom of an entity, an attribute and a value, where each of them is found.
 fn add_triple(
     list: &mut Vec<Datom>,
     db: &Db<'_>,
-    names: &[(Name, u64)],
+    names: &[Assigned<'_>],
     added: bool,
-    name: &Name,
-    k: &Text,
-    part: &Operand,
+    name: &Name<'_>,
+    attribute: &Attribute<'_>,
+    part: &Operand<'_>,
 ) -> Result<(), Memory> {
-    let Some(e) = entity_of(db, names, name)? else {
-        return Ok(());
-    };
-    let Some(attribute) = attribute_named(&db.facts, k.as_str()) else {
-        return Ok(());
-    };
-    if let Some(v) = value_of_part(db, names, &attribute, part)? {
-        list.push(change(db, added, e, attribute.id, v))?;
+    if let Some(e) = entity_of(db, names, name)? {
+        if let Some(v) = value_of_part(db, names, attribute, part)? {
+            list.push(change(db, added, e, attribute.id, v))?;
+        }
     }
     Ok(())
 }
@@ -86,9 +116,9 @@ fn add_triple(
 /// The value in a value's place.
 pub fn value_of_part(
     db: &Db<'_>,
-    names: &[(Name, u64)],
+    names: &[Assigned<'_>],
     attribute: &Attribute<'_>,
-    part: &Operand,
+    part: &Operand<'_>,
 ) -> Result<Option<Value>, Memory> {
     match part {
         Operand::Plain(f) => value_in(attribute.kind, f),
@@ -102,28 +132,47 @@ fn change(db: &Db<'_>, added: bool, e: u64, a: u64, v: Value) -> Datom {
     Datom { e, a, v, t, added }
 }
 
-/// The retraction of a fact.
-fn withdrawn(db: &Db<'_>, d: &Datom) -> Result<Datom, Memory> {
-    Ok(change(db, false, d.e, d.a, d.v.copy()?))
+// ---- retractions of what is found
+
+fn sweeps(
+    alloc: Global,
+    db: &Db<'_>,
+    names: &[Assigned<'_>],
+    asks: &[Ask<'_>],
+) -> Result<Vec<Datom>, Memory> {
+    let mut list = Vec::new(alloc);
+    for ask in asks {
+        sweep(alloc, &mut list, db, names, ask)?;
+    }
+    Ok(list)
+}
+
+fn sweep(
+    alloc: Global,
+    list: &mut Vec<Datom>,
+    db: &Db<'_>,
+    names: &[Assigned<'_>],
+    ask: &Ask<'_>,
+) -> Result<(), Memory> {
+    match ask {
+        Ask::RetractsAll(name, Some(attribute)) => {
+            sweep_values(list, db, entity_of(db, names, name)?, attribute)
+        }
+        Ask::RetractsEntity(name) => sweep_entity(alloc, list, db, entity_of(db, names, name)?),
+        _ => Ok(()),
+    }
 }
 
 /// Every value of an attribute.
 fn sweep_values(
     list: &mut Vec<Datom>,
     db: &Db<'_>,
-    names: &[(Name, u64)],
-    name: &Name,
-    k: &Text,
+    e: Option<u64>,
+    attribute: &Attribute<'_>,
 ) -> Result<(), Memory> {
-    let Some(e) = entity_of(db, names, name)? else {
-        return Ok(());
-    };
-    let Some(attribute) = attribute_named(&db.facts, k.as_str()) else {
-        return Ok(());
-    };
     for d in &db.facts {
-        if d.e == e && d.a == attribute.id {
-            list.push(withdrawn(db, d)?)?;
+        if Some(d.e) == e && d.a == attribute.id {
+            withdraw(list, db, d)?;
         }
     }
     Ok(())
@@ -134,42 +183,42 @@ fn sweep_entity(
     alloc: Global,
     list: &mut Vec<Datom>,
     db: &Db<'_>,
-    names: &[(Name, u64)],
-    name: &Name,
+    e: Option<u64>,
 ) -> Result<(), Memory> {
-    let Some(e) = entity_of(db, names, name)? else {
+    let Some(e) = e else {
         return Ok(());
     };
     let set = closed_set(alloc, &db.facts, e)?;
     for d in &db.facts {
-        let refers = match &d.v {
-            Value::Ref(other) => set.contains(other),
-            _ => false,
-        };
-        if refers || set.contains(&d.e) {
-            list.push(withdrawn(db, d)?)?;
+        if refers_to(&set, d) || set.contains(&d.e) {
+            withdraw(list, db, d)?;
         }
     }
     Ok(())
 }
 
-/// For each form what its additions imply: of an attribute with one value, another value that holds goes.
-pub fn implied_by_forms(
-    alloc: Global,
-    db: &Db<'_>,
-    added: &[Vec<Datom>],
-) -> Result<Vec<Vec<Datom>>, Memory> {
-    let mut lists = Vec::new(alloc);
-    for additions in added {
-        let mut list = Vec::new(alloc);
-        for d in &db.facts {
-            if has_another_value(additions, d) && is_one(&db.facts, d.a) {
-                list.push(withdrawn(db, d)?)?;
-            }
-        }
-        lists.push(list)?;
+fn refers_to(set: &[u64], d: &Datom) -> bool {
+    match &d.v {
+        Value::Ref(other) => set.contains(other),
+        _ => false,
     }
-    Ok(lists)
+}
+
+/// Adds the retraction of a fact.
+fn withdraw(list: &mut Vec<Datom>, db: &Db<'_>, d: &Datom) -> Result<(), Memory> {
+    list.push(change(db, false, d.e, d.a, d.v.copy()?))?;
+    Ok(())
+}
+
+/// What a form's additions imply: of an attribute with one value, another value that holds goes.
+fn implied_by(alloc: Global, db: &Db<'_>, added: &[Datom]) -> Result<Vec<Datom>, Memory> {
+    let mut list = Vec::new(alloc);
+    for d in &db.facts {
+        if has_another_value(added, d) && is_one(&db.facts, d.a) {
+            withdraw(&mut list, db, d)?;
+        }
+    }
+    Ok(list)
 }
 
 /// Whether another value of the same entity and attribute is added.

@@ -18,5 +18,5 @@ mod transaction;
 
 pub use db::Db;
 pub use rules::least_refusal;
-pub use tempids::named_tempids;
+pub use tempids::{Assigned, named_tempids};
 pub use transaction::{Transaction, recorded, transaction_at};

@@ -19,7 +19,11 @@ pub enum LookupFault {
 }
 
 /// Whether a lookup ref in the name has the fault.
-pub fn has_faulty_lookup(fault: LookupFault, db: &Db<'_>, name: &Name) -> Result<bool, Memory> {
+pub fn has_faulty_lookup(
+    fault: LookupFault,
+    db: &Db<'_>,
+    name: &Name<'_>,
+) -> Result<bool, Memory> {
     match name {
         Name::Lookup(k, value) => has_fault(fault, db, k, value),
         _ => Ok(false),
@@ -55,13 +59,16 @@ fn has_fault_inside(fault: LookupFault, db: &Db<'_>, items: &Items) -> Result<bo
 
 /// Where values are entities, a number, an ident or a lookup ref names one.
 fn is_wrong(attribute: &Attribute<'_>, value: &Edn) -> Result<bool, Memory> {
-    if attribute.kind != TYPE_REF {
-        return Ok(value_in(attribute.kind, value)?.is_none());
+    match value {
+        _ if attribute.kind != TYPE_REF => has_no_value(attribute, value),
+        Edn::Int(n) => Ok(*n < 0),
+        Edn::Key(_) => Ok(false),
+        Edn::Vector(items) => Ok(!matches!(items.as_slice(), [Edn::Key(_), _])),
+        _ => Ok(true),
     }
-    Ok(match value {
-        Edn::Int(n) => *n < 0,
-        Edn::Key(_) => false,
-        Edn::Vector(items) => !matches!(items.as_slice(), [Edn::Key(_), _]),
-        _ => true,
-    })
+}
+
+/// Whether the form is no value of the attribute.
+pub fn has_no_value(attribute: &Attribute<'_>, f: &Edn) -> Result<bool, Memory> {
+    Ok(value_in(attribute.kind, f)?.is_none())
 }

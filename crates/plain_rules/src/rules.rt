@@ -31,10 +31,10 @@ const RULES: [Reason; 17] = [
 
 /// Why the transaction is refused, if it is, where each of its forms has a shape.
 pub fn least_refusal(alloc: Global, tx: &Transaction<'_>) -> Result<Option<Refusal>, Memory> {
-    let all = all_asks(alloc, &tx.asks)?;
-    for reason in RULES {
-        if let Some(at) = first_form(alloc, reason, tx, &all)? {
-            return Ok(Some(Refusal { reason, at }));
+    let all = all_asks(alloc, tx.asks)?;
+    for reason in &RULES {
+        if let Some(at) = first_form(alloc, *reason, tx, &all)? {
+            return Ok(Some(Refusal { reason: *reason, at }));
         }
     }
     Ok(None)
@@ -45,7 +45,7 @@ fn first_form(
     alloc: Global,
     rule: Reason,
     tx: &Transaction<'_>,
-    all: &[Ask],
+    all: &[Ask<'_>],
 ) -> Result<Option<usize>, Memory> {
     let is_broken_by_the_whole = match rule {
         Reason::TooLarge => changes::breaks_too_large(tx),
@@ -68,8 +68,8 @@ fn asks_break(
     alloc: Global,
     rule: Reason,
     tx: &Transaction<'_>,
-    all: &[Ask],
-    asks: &[Ask],
+    all: &[Ask<'_>],
+    asks: &[Ask<'_>],
 ) -> Result<bool, Memory> {
     for ask in asks {
         if is_broken_by(alloc, rule, tx, all, ask)? {
@@ -83,20 +83,19 @@ fn is_broken_by(
     alloc: Global,
     rule: Reason,
     tx: &Transaction<'_>,
-    all: &[Ask],
-    ask: &Ask,
+    all: &[Ask<'_>],
+    ask: &Ask<'_>,
 ) -> Result<bool, Memory> {
-    let db = &tx.db;
     match rule {
-        Reason::NotAnAttribute => names::names_no_attribute(alloc, db, ask),
-        Reason::ProtectedAttribute => Ok(names::is_of_protected(db, ask)),
-        Reason::WrongType => names::has_wrong_type(alloc, db, ask),
-        Reason::NotUniqueLookup => names::has_lookup_with(alloc, LookupFault::NotUnique, db, ask),
-        Reason::NotAnEntity => names::names_no_entity(alloc, db, ask),
+        Reason::NotAnAttribute => names::names_no_attribute(tx.db, ask),
+        Reason::ProtectedAttribute => Ok(names::is_of_protected(ask)),
+        Reason::WrongType => names::has_wrong_type(tx.db, ask),
+        Reason::NotUniqueLookup => names::has_lookup_with(LookupFault::NotUnique, tx.db, ask),
+        Reason::NotAnEntity => names::names_no_entity(tx.db, ask),
         Reason::NestedWithoutId => Ok(matches!(ask, Ask::LacksId)),
-        Reason::TempidConflict => names::has_tempid_of_two(alloc, db, all, ask),
-        Reason::TempidNotAnEntity => names::has_tempid_of_none(alloc, all, ask),
-        Reason::CasMany => Ok(changes::compares_many(tx, ask)),
+        Reason::TempidConflict => names::has_tempid_of_two(alloc, tx.db, all, ask),
+        Reason::TempidNotAnEntity => Ok(names::has_tempid_of_none(all, ask)),
+        Reason::CasMany => Ok(changes::compares_many(ask)),
         Reason::CasFailed => changes::compares_another(tx, ask),
         _ => Ok(false),
     }
@@ -104,8 +103,8 @@ fn is_broken_by(
 
 /// Whether what one form changes breaks a rule on changes. What it asks includes what it finds and what its additions imply.
 fn changes_break(rule: Reason, tx: &Transaction<'_>, place: usize) -> bool {
-    let added = at(&tx.added, place);
-    let retracted = at(&tx.retracted, place);
+    let added = at(&tx.asked.added, place);
+    let retracted = at(&tx.asked.retracted, place);
     match rule {
         Reason::UniqueConflict => added.iter().any(|d| changes::shares_a_unique_value(tx, d)),
         Reason::IncompleteAttribute => {
@@ -119,7 +118,7 @@ fn changes_break(rule: Reason, tx: &Transaction<'_>, place: usize) -> bool {
 
 /// Whether one of the datoms that the form asks, in whatever way, breaks the rule.
 fn has_broken_by(rule: Reason, tx: &Transaction<'_>, place: usize) -> bool {
-    for lists in [&tx.added, &tx.retracted, &tx.swept, &tx.replaced] {
+    for lists in tx.asked.of_all_kinds() {
         if at(lists, place)
             .iter()
             .any(|d| is_broken_by_datom(rule, tx, d))

@@ -43,25 +43,26 @@ impl Sight<'_> {
 
     fn put(&self, probe: &mut Probe, letter: u8, form: &Edn, at: usize) -> Result<(), ReadStop> {
         match letter {
-            b'e' => probe.e = Some(or_refused(self.entity(form)?, BAD_COMPONENT, at)?),
+            b'e' => probe.e = Some(self.entity_at(form, at)?),
             b'a' => probe.a = Some(self.attribute(probe.order, form, at)?.id),
-            b'v' => {
-                let value = self.value(self.kind_behind(probe), form)?;
-                probe.v = Some(or_refused(value, BAD_COMPONENT, at)?);
-            }
+            b'v' => probe.v = Some(self.value_at(self.kind_behind(probe), form, at)?),
             _ => probe.t = Some(or_refused(t_in(form), BAD_COMPONENT, at)?),
         }
         Ok(())
     }
 
+    fn entity_at(&self, form: &Edn, at: usize) -> Result<u64, ReadStop> {
+        or_refused(self.entity(form)?, BAD_COMPONENT, at)
+    }
+
     /// The attribute that a keyword names, which the index has to hold.
     fn attribute(&self, order: Order, form: &Edn, at: usize) -> Result<Attribute<'_>, ReadStop> {
         let named = match form {
-            Edn::Key(name) => attribute_named(&self.facts, name.as_str()),
+            Edn::Key(name) => attribute_named(self.facts, name.as_str()),
             _ => None,
         };
         let attribute = or_refused(named, BAD_COMPONENT, at)?;
-        if covers(&self.facts, order, attribute.id) {
+        if covers(self.facts, order, attribute.id) {
             Ok(attribute)
         } else {
             Err(ReadStop::Refused("read/not-in-index", at))
@@ -70,10 +71,14 @@ impl Sight<'_> {
 
     /// The type of the attribute that was read; where none was, the next value is an entity.
     fn kind_behind(&self, probe: &Probe) -> u64 {
-        match probe.a.and_then(|a| attribute_of(&self.facts, a)) {
+        match probe.a.and_then(|a| attribute_of(self.facts, a)) {
             Some(attribute) => attribute.kind,
             None => TYPE_REF,
         }
+    }
+
+    fn value_at(&self, kind: u64, form: &Edn, at: usize) -> Result<Value, ReadStop> {
+        or_refused(self.value(kind, form)?, BAD_COMPONENT, at)
     }
 
     /// A value of the type. Entities stand there by their names.
@@ -96,7 +101,7 @@ impl Sight<'_> {
     fn end(&self, kind: u64, form: &Edn, at: usize) -> Result<Option<Value>, ReadStop> {
         match form {
             Edn::Nil => Ok(None),
-            _ => or_refused(self.value(kind, form)?, BAD_COMPONENT, at).map(|v| Some(v)),
+            _ => Ok(Some(self.value_at(kind, form, at)?)),
         }
     }
 }

@@ -3,7 +3,8 @@ use fb_memory::Memory;
 use fb_numbers::TYPE_REF;
 use fb_text::Text;
 use fb_values::{Datom, Value};
-use plain_reads::{attribute_named, attribute_of};
+use plain_asks::{Key, key_in};
+use plain_reads::{Attribute, attribute_of};
 use std::alloc::Global;
 use std::cmp::Ordering;
 
@@ -31,30 +32,13 @@ pub(crate) fn look_up(
     alloc: Global,
     facts: &Facts<'_>,
     e: u64,
-    name: &str,
+    name: &Text,
 ) -> Result<Found, Memory> {
-    match forward_name(alloc, name)? {
-        Some(forward) => found_backward(alloc, facts, e, forward.as_str()),
-        None => found_forward(alloc, facts, e, name),
+    match key_in(alloc, facts.schema, name)? {
+        Key::Forward(Some(attribute)) => found_forward(alloc, facts, e, &attribute),
+        Key::Backward(Some(attribute)) => found_backward(alloc, facts, e, &attribute),
+        _ => Ok(absent(alloc)),
     }
-}
-
-/// The attribute's keyword of a reversed name, whose local part begins with `_`.
-fn forward_name(alloc: Global, name: &str) -> Result<Option<Text>, Memory> {
-    let (namespace, local) = match name.split_once('/') {
-        Some((namespace, local)) => (Some(namespace), local),
-        None => (None, name),
-    };
-    let Some(rest) = local.strip_prefix('_') else {
-        return Ok(None);
-    };
-    Ok(Some(match namespace {
-        Some(namespace) => {
-            let forward = format!(in alloc; "{namespace}/{rest}")?;
-            Text::of(alloc, forward.as_str())?
-        }
-        None => Text::of(alloc, rest)?,
-    }))
 }
 
 fn absent(alloc: Global) -> Found {
@@ -65,37 +49,58 @@ fn absent(alloc: Global) -> Found {
     }
 }
 
-fn found_forward(alloc: Global, facts: &Facts<'_>, e: u64, name: &str) -> Result<Found, Memory> {
-    let mut found = absent(alloc);
-    if let Some(attribute) = attribute_named(facts.schema, name) {
-        found.several = attribute.many;
-        found.parts = attribute.component;
-        for d in facts.seen {
-            if d.e == e && d.a == attribute.id {
-                found.values.push(d.v.copy()?)?;
-            }
+fn found_forward(
+    alloc: Global,
+    facts: &Facts<'_>,
+    e: u64,
+    attribute: &Attribute<'_>,
+) -> Result<Found, Memory> {
+    let mut values = Vec::new(alloc);
+    for d in facts.seen {
+        if d.e == e && d.a == attribute.id {
+            values.push(d.v.copy()?)?;
         }
     }
-    Ok(found)
+    Ok(Found {
+        several: attribute.many,
+        parts: attribute.component,
+        values,
+    })
 }
 
 /// The entities that refer to this one. A part has one whole.
-fn found_backward(alloc: Global, facts: &Facts<'_>, e: u64, name: &str) -> Result<Found, Memory> {
-    let mut found = absent(alloc);
-    if let Some(attribute) = attribute_named(facts.schema, name) {
-        found.several = !attribute.component;
-        let entity = Value::Ref(e);
-        for d in facts.seen {
-            if attribute.kind == TYPE_REF && d.a == attribute.id && d.v == entity {
-                found.values.push(Value::Ref(d.e))?;
-            }
+fn found_backward(
+    alloc: Global,
+    facts: &Facts<'_>,
+    e: u64,
+    attribute: &Attribute<'_>,
+) -> Result<Found, Memory> {
+    let mut values = Vec::new(alloc);
+    for d in facts.seen {
+        if attribute.kind == TYPE_REF && d.a == attribute.id && refers_to(e, &d.v) {
+            values.push(Value::Ref(d.e))?;
         }
     }
-    Ok(found)
+    Ok(Found {
+        several: !attribute.component,
+        parts: false,
+        values,
+    })
+}
+
+fn refers_to(e: u64, v: &Value) -> bool {
+    match v {
+        Value::Ref(other) => *other == e,
+        _ => false,
+    }
 }
 
 /// The names of the attributes that the entity has, each once, in the order of their bytes.
-pub(crate) fn names_of(alloc: Global, facts: &Facts<'_>, e: u64) -> Result<Vec<Text>, Memory> {
+pub(crate) fn names_of<'a>(
+    alloc: Global,
+    facts: &Facts<'a>,
+    e: u64,
+) -> Result<Vec<&'a Text>, Memory> {
     let mut list = Vec::new(alloc);
     for d in facts.seen {
         if d.e == e {
@@ -107,17 +112,17 @@ pub(crate) fn names_of(alloc: Global, facts: &Facts<'_>, e: u64) -> Result<Vec<T
     Ok(list)
 }
 
-fn put_name(list: &mut Vec<Text>, name: &Text) -> Result<(), Memory> {
+fn put_name<'a>(list: &mut Vec<&'a Text>, name: &'a Text) -> Result<(), Memory> {
     for at in 0..list.len() {
         match name.as_str().cmp(list[at].as_str()) {
             Ordering::Less => {
-                list.insert(at, name.copy()?)?;
+                list.insert(at, name)?;
                 return Ok(());
             }
             Ordering::Equal => return Ok(()),
             Ordering::Greater => {}
         }
     }
-    list.push(name.copy()?)?;
+    list.push(name)?;
     Ok(())
 }

@@ -1,4 +1,4 @@
-//! Patterns of a pull as data.
+//! Patterns of a pull as data, which is borrowed from their forms.
 use crate::stops::ReadStop;
 use edn_form::Edn;
 use fb_memory::Memory;
@@ -8,33 +8,45 @@ use std::alloc::Global;
 /// The greatest number of values, or of times.
 const GREATEST_COUNT: i64 = 2_147_483_647;
 
-#[derive(Drop)]
-pub(crate) struct Item {
-    /// A keyword without its colon, and nothing where the item is `*`.
-    pub(crate) name: Option<Text>,
+const OWN: &str = "db/id";
+
+#[derive(Clone, Copy)]
+pub(crate) struct Item<'a> {
+    pub(crate) name: Name<'a>,
     /// The key in place of the name.
-    pub(crate) renamed: Option<Edn>,
+    pub(crate) renamed: Option<&'a Edn>,
     /// What is given where the attribute is absent.
-    pub(crate) default: Option<Edn>,
+    pub(crate) default: Option<&'a Edn>,
     /// How many values are given at most, where there is a limit.
     pub(crate) limit: Option<usize>,
-    pub(crate) below: Below,
+    pub(crate) below: Below<'a>,
+}
+
+/// What an item gives.
+#[derive(Clone, Copy)]
+pub(crate) enum Name<'a> {
+    /// `*`
+    Everything,
+    /// `:db/id`
+    Own,
+    /// An attribute, by its keyword, forward or reversed.
+    Attribute(&'a Text),
 }
 
 /// What is given of each entity that is found under an attribute.
-#[derive(Drop)]
-pub(crate) enum Below {
+#[derive(Clone, Copy)]
+pub(crate) enum Below<'a> {
     /// Its number, or the whole of it where it is a part.
     Usual,
     /// What this pattern says.
-    Under(Edn),
+    Under(&'a Edn),
     /// What the pattern that has the item says, this many times at most.
     Times(usize),
     Unlimited,
 }
 
-impl Item {
-    pub(crate) fn plain(name: Option<Text>) -> Item {
+impl<'a> Item<'a> {
+    pub(crate) fn plain(name: Name<'a>) -> Item<'a> {
         Item {
             name,
             renamed: None,
@@ -44,49 +56,26 @@ impl Item {
         }
     }
 
-    pub(crate) fn is_named(&self, name: &str) -> bool {
+    /// The keyword of what it gives, without its colon.
+    pub(crate) fn keyword(&self) -> Option<&str> {
         match &self.name {
-            Some(own) => own.as_str() == name,
-            None => false,
+            Name::Everything => None,
+            Name::Own => Some(OWN),
+            Name::Attribute(name) => Some(name.as_str()),
         }
     }
 
-    /// The same item with another number of times.
-    pub(crate) fn copy(&self, below: Below) -> Result<Item, Memory> {
-        Ok(Item {
-            name: match &self.name {
-                Some(name) => Some(name.copy()?),
-                None => None,
-            },
-            renamed: copy_form(&self.renamed)?,
-            default: copy_form(&self.default)?,
-            limit: self.limit,
-            below,
-        })
-    }
-}
-
-impl Below {
-    pub(crate) fn copy(&self) -> Result<Below, Memory> {
-        Ok(match self {
-            Below::Usual => Below::Usual,
-            Below::Under(pattern) => Below::Under(pattern.copy()?),
-            Below::Times(n) => Below::Times(*n),
-            Below::Unlimited => Below::Unlimited,
-        })
-    }
-}
-
-fn copy_form(form: &Option<Edn>) -> Result<Option<Edn>, Memory> {
-    match form {
-        Some(form) => Ok(Some(form.copy()?)),
-        None => Ok(None),
+    pub(crate) fn is_named(&self, name: &str) -> bool {
+        match self.keyword() {
+            Some(own) => own == name,
+            None => false,
+        }
     }
 }
 
 /// The items of a pattern, which is refused at its first item that is none, and at 0 where it has none.
 #[cycle(read)]
-pub(crate) fn read_pattern(alloc: Global, form: &Edn) -> Result<Vec<Item>, ReadStop> {
+pub(crate) fn read_pattern(alloc: Global, form: &Edn) -> Result<Vec<Item<'_>>, ReadStop> {
     let mut list = Vec::new(alloc);
     if let Edn::Vector(members) = form {
         for (place, member) in members.as_slice().iter().enumerate() {
@@ -103,17 +92,25 @@ pub(crate) fn read_pattern(alloc: Global, form: &Edn) -> Result<Vec<Item>, ReadS
 
 /// Adds what the form is: an item, or of a map one for each of its pairs.
 #[cycle(read)]
-fn add_item(alloc: Global, form: &Edn, list: &mut Vec<Item>) -> Result<bool, Memory> {
+fn add_item<'a>(
+    alloc: Global,
+    form: &'a Edn,
+    list: &mut Vec<Item<'a>>,
+) -> Result<bool, Memory> {
     if let Edn::Map(pairs) = form {
         for (key, value) in pairs.as_slice() {
             let below = below_of(alloc, value)?;
-            if !add_specification(key, below, list)? {
+            if !add(list, specification(key, below))? {
                 return Ok(false);
             }
         }
         return Ok(!pairs.is_empty());
     }
-    let Some(item) = item_in(form)? else {
+    add(list, item_in(form))
+}
+
+fn add<'a>(list: &mut Vec<Item<'a>>, item: Option<Item<'a>>) -> Result<bool, Memory> {
+    let Some(item) = item else {
         return Ok(false);
     };
     list.push(item)?;
@@ -121,27 +118,20 @@ fn add_item(alloc: Global, form: &Edn, list: &mut Vec<Item>) -> Result<bool, Mem
 }
 
 /// A pair of a map: a name other than `:db/id`, and what is given below it.
-fn add_specification(
-    key: &Edn,
-    below: Option<Below>,
-    list: &mut Vec<Item>,
-) -> Result<bool, Memory> {
-    let (Some(mut item), Some(below)) = (item_in(key)?, below) else {
-        return Ok(false);
-    };
-    if item.name.is_none() || item.is_named("db/id") {
-        return Ok(false);
+fn specification<'a>(key: &'a Edn, below: Option<Below<'a>>) -> Option<Item<'a>> {
+    let item = item_in(key)?;
+    let below = below?;
+    match item.name {
+        Name::Attribute(_) => Some(Item { below, ..item }),
+        _ => None,
     }
-    item.below = below;
-    list.push(item)?;
-    Ok(true)
 }
 
 #[cycle(read)]
-fn below_of(alloc: Global, form: &Edn) -> Result<Option<Below>, Memory> {
+fn below_of(alloc: Global, form: &Edn) -> Result<Option<Below<'_>>, Memory> {
     match form {
         Edn::Vector(_) => match read_pattern(alloc, form) {
-            Ok(_) => Ok(Some(Below::Under(form.copy()?))),
+            Ok(_) => Ok(Some(Below::Under(form))),
             Err(ReadStop::Refused(_, _)) => Ok(None),
             Err(ReadStop::Memory) => Err(Memory),
         },
@@ -151,45 +141,54 @@ fn below_of(alloc: Global, form: &Edn) -> Result<Option<Below>, Memory> {
 }
 
 /// `*`, a name, or a vector of a name and one option or more.
-fn item_in(form: &Edn) -> Result<Option<Item>, Memory> {
-    Ok(match form {
-        Edn::Sym(s) if s.as_str() == "*" => Some(Item::plain(None)),
-        Edn::Key(name) => Some(Item::plain(Some(name.copy()?))),
-        Edn::Vector(members) => with_options(members.as_slice())?,
+fn item_in(form: &Edn) -> Option<Item<'_>> {
+    match form {
+        Edn::Sym(s) if s.as_str() == "*" => Some(Item::plain(Name::Everything)),
+        Edn::Key(name) => Some(Item::plain(name_in(name))),
+        Edn::Vector(members) => with_options(members.as_slice()),
         _ => None,
-    })
+    }
 }
 
-fn with_options(members: &[Edn]) -> Result<Option<Item>, Memory> {
-    let [Edn::Key(name), _, ..] = members else {
-        return Ok(None);
-    };
-    let mut item = Item::plain(Some(name.copy()?));
-    for option in members[1..].chunks(2) {
-        if !add_option(&mut item, option)? {
-            return Ok(None);
-        }
+fn name_in(name: &Text) -> Name<'_> {
+    if name.as_str() == OWN {
+        Name::Own
+    } else {
+        Name::Attribute(name)
     }
-    Ok(Some(item))
+}
+
+fn with_options(members: &[Edn]) -> Option<Item<'_>> {
+    let [Edn::Key(name), _, ..] = members else {
+        return None;
+    };
+    let mut item = Item::plain(name_in(name));
+    for option in members[1..].chunks(2) {
+        item = with_option(item, option)?;
+    }
+    Some(item)
 }
 
 /// An option is given at most once.
-fn add_option(item: &mut Item, option: &[Edn]) -> Result<bool, Memory> {
+fn with_option<'a>(item: Item<'a>, option: &'a [Edn]) -> Option<Item<'a>> {
     let [Edn::Key(word), value] = option else {
-        return Ok(false);
+        return None;
     };
     match (word.as_str(), value) {
-        ("as", Edn::Key(_) | Edn::Str(_)) if item.renamed.is_none() => {
-            item.renamed = Some(value.copy()?);
-        }
-        ("default", _) if item.default.is_none() => item.default = Some(value.copy()?),
-        ("limit", _) if item.limit.is_none() => {
-            item.limit = limit_in(value);
-            return Ok(item.limit.is_some());
-        }
-        _ => return Ok(false),
+        ("as", Edn::Key(_) | Edn::Str(_)) if item.renamed.is_none() => Some(Item {
+            renamed: Some(value),
+            ..item
+        }),
+        ("default", _) if item.default.is_none() => Some(Item {
+            default: Some(value),
+            ..item
+        }),
+        ("limit", _) if item.limit.is_none() => Some(Item {
+            limit: Some(limit_in(value)?),
+            ..item
+        }),
+        _ => None,
     }
-    Ok(true)
 }
 
 /// Nil lifts the limit.

@@ -1,6 +1,6 @@
 //! Pulls: the tree that a pattern gives of an entity, by recursion on how many maps may still stand inside one another.
 use crate::found::{Facts, Found, look_up, names_of};
-use crate::patterns::{Below, Item, read_pattern};
+use crate::patterns::{Below, Item, Name, read_pattern};
 use crate::replies;
 use crate::sight::Sight;
 use crate::stops::{ReadStop, or_refused};
@@ -27,7 +27,7 @@ const USUAL_LIMIT: usize = 1000;
 struct Stand<'a> {
     facts: Facts<'a>,
     /// The pattern.
-    items: &'a [Item],
+    items: &'a [Item<'a>],
     /// The entities that led here, the last one first.
     path: &'a [u64],
     /// How many maps may still stand inside one another.
@@ -45,10 +45,10 @@ impl Sight<'_> {
         Ok(replies::pull(self.alloc, basis(self.entries), tree)?)
     }
 
-    fn tree_of(&self, items: &[Item], e: u64) -> Result<Edn, ReadStop> {
+    fn tree_of(&self, items: &[Item<'_>], e: u64) -> Result<Edn, ReadStop> {
         let seen = self.seen_in_order()?;
         let facts = Facts {
-            schema: &self.facts,
+            schema: self.facts,
             seen: &seen,
         };
         let mut maps = 0;
@@ -79,18 +79,13 @@ fn stub(alloc: Global, n: u64, room: u64, maps: &mut u64) -> Result<Option<Edn>,
         return Err(TOO_LARGE);
     }
     count(maps)?;
+    Ok(Some(map_of_number(alloc, n)?))
+}
+
+fn map_of_number(alloc: Global, n: u64) -> Result<Edn, Memory> {
     let mut pairs = Vec::new(alloc);
-    push(&mut pairs, (own_key(alloc)?, replies::number(n)))?;
-    Ok(Some(Edn::Map(Pairs::of(pairs))))
-}
-
-fn own_key(alloc: Global) -> Result<Edn, Memory> {
-    Ok(Edn::Key(Text::of(alloc, "db/id")?))
-}
-
-fn push<T: Drop>(list: &mut Vec<T>, more: T) -> Result<(), Memory> {
-    list.push(more)?;
-    Ok(())
+    add_pair_of(alloc, &Item::plain(Name::Own), replies::number(n), &mut pairs)?;
+    Ok(Edn::Map(Pairs::of(pairs)))
 }
 
 /// The tree of the entity e, which was come to by the path `above`.
@@ -99,7 +94,7 @@ fn tree(
     alloc: Global,
     room: u64,
     facts: &Facts<'_>,
-    items: &[Item],
+    items: &[Item<'_>],
     above: &[u64],
     e: u64,
     maps: &mut u64,
@@ -111,13 +106,12 @@ fn tree(
     let path = path_to(alloc, e, above)?;
     let at = Stand {
         facts: *facts,
-        items: &*items,
+        items,
         path: &path,
         room: room - 1,
     };
-    let placed = placed_items(alloc, facts, e, items)?;
     let mut pairs = Vec::new(alloc);
-    add_pairs(alloc, &at, e, &placed, &mut pairs, maps)?;
+    add_pairs(alloc, &at, e, &mut pairs, maps)?;
     Ok(if pairs.is_empty() {
         None
     } else {
@@ -125,17 +119,49 @@ fn tree(
     })
 }
 
+fn path_to(alloc: Global, e: u64, above: &[u64]) -> Result<Vec<u64>, Memory> {
+    let mut path = Vec::new(alloc);
+    path.push(e)?;
+    path.extend_from_slice(above)?;
+    Ok(path)
+}
+
+// ---- items
+
 #[cycle(tree)]
 fn add_pairs(
     alloc: Global,
     at: &Stand<'_>,
     e: u64,
-    placed: &[(usize, Item)],
     pairs: &mut Vec<(Edn, Edn)>,
     maps: &mut u64,
 ) -> Result<(), ReadStop> {
-    for (place, item) in placed {
-        add_pair(alloc, at, e, *place, item, pairs, maps)?;
+    for (place, item) in at.items.iter().enumerate() {
+        match item.name {
+            Name::Everything => add_everything(alloc, at, e, place, pairs, maps)?,
+            _ => add_pair(alloc, at, e, place, item, pairs, maps)?,
+        }
+    }
+    Ok(())
+}
+
+/// `*` is `:db/id`, and the attributes of the entity that have no item of their own.
+#[cycle(tree)]
+fn add_everything(
+    alloc: Global,
+    at: &Stand<'_>,
+    e: u64,
+    place: usize,
+    pairs: &mut Vec<(Edn, Edn)>,
+    maps: &mut u64,
+) -> Result<(), ReadStop> {
+    add_pair(alloc, at, e, place, &Item::plain(Name::Own), pairs, maps)?;
+    let names = names_of(alloc, &at.facts, e)?;
+    for name in &names {
+        if !at.items.iter().any(|item| item.is_named(name.as_str())) {
+            let item = Item::plain(Name::Attribute(name));
+            add_pair(alloc, at, e, place, &item, pairs, maps)?;
+        }
     }
     Ok(())
 }
@@ -147,94 +173,64 @@ fn add_pair(
     at: &Stand<'_>,
     e: u64,
     place: usize,
-    item: &Item,
+    item: &Item<'_>,
     pairs: &mut Vec<(Edn, Edn)>,
     maps: &mut u64,
 ) -> Result<(), ReadStop> {
-    let key = key_of(alloc, item)?;
-    if !has_key(pairs, &key) {
-        if let Some(value) = value_of(alloc, at, e, place, item, maps)? {
-            push(pairs, (key, value))?;
-        }
+    if has_key(pairs, item) {
+        return Ok(());
     }
-    Ok(())
-}
-
-fn path_to(alloc: Global, e: u64, above: &[u64]) -> Result<Vec<u64>, Memory> {
-    let mut path = Vec::new(alloc);
-    path.push(e)?;
-    path.extend_from_slice(above)?;
-    Ok(path)
-}
-
-fn key_of(alloc: Global, item: &Item) -> Result<Edn, Memory> {
-    match (&item.renamed, &item.name) {
-        (Some(key), _) => key.copy(),
-        (None, Some(name)) => Ok(Edn::Key(name.copy()?)),
-        (None, None) => own_key(alloc),
+    match value_of(alloc, at, e, place, item, maps)? {
+        Some(value) => Ok(add_pair_of(alloc, item, value, pairs)?),
+        None => Ok(()),
     }
 }
 
-fn has_key(pairs: &[(Edn, Edn)], key: &Edn) -> bool {
-    pairs.iter().any(|(other, _)| match (other, key) {
-        (Edn::Key(a), Edn::Key(b)) => a.as_str() == b.as_str(),
-        (Edn::Str(a), Edn::Str(b)) => a.as_str() == b.as_str(),
+fn has_key(pairs: &[(Edn, Edn)], item: &Item<'_>) -> bool {
+    pairs.iter().any(|(key, _)| is_key_of(key, item))
+}
+
+fn is_key_of(key: &Edn, item: &Item<'_>) -> bool {
+    match (key, item.renamed) {
+        (Edn::Key(key), Some(Edn::Key(renamed))) => key.as_str() == renamed.as_str(),
+        (Edn::Str(key), Some(Edn::Str(renamed))) => key.as_str() == renamed.as_str(),
+        (Edn::Key(key), None) => item.is_named(key.as_str()),
         _ => false,
-    })
-}
-
-// ---- items
-
-/// The items for the entity, each with its place.
-fn placed_items(
-    alloc: Global,
-    facts: &Facts<'_>,
-    e: u64,
-    items: &[Item],
-) -> Result<Vec<(usize, Item)>, Memory> {
-    let mut list = Vec::new(alloc);
-    for (place, item) in items.iter().enumerate() {
-        if item.name.is_some() {
-            list.push((place, copied(item)?))?;
-        } else {
-            add_wildcard(alloc, facts, e, items, place, &mut list)?;
-        }
     }
-    Ok(list)
 }
 
-fn copied(item: &Item) -> Result<Item, Memory> {
-    item.copy(item.below.copy()?)
-}
-
-/// `*` is `:db/id`, and the attributes of the entity that have no item of their own.
-fn add_wildcard(
+fn add_pair_of(
     alloc: Global,
-    facts: &Facts<'_>,
-    e: u64,
-    items: &[Item],
-    place: usize,
-    list: &mut Vec<(usize, Item)>,
+    item: &Item<'_>,
+    value: Edn,
+    pairs: &mut Vec<(Edn, Edn)>,
 ) -> Result<(), Memory> {
-    let own = Text::of(alloc, "db/id")?;
-    list.push((place, Item::plain(Some(own))))?;
-    let names = names_of(alloc, facts, e)?;
-    for name in names.as_slice() {
-        if !items.iter().any(|item| item.is_named(name.as_str())) {
-            list.push((place, Item::plain(Some(name.copy()?))))?;
-        }
-    }
+    pairs.push((key_of(alloc, item)?, value))?;
     Ok(())
+}
+
+fn key_of(alloc: Global, item: &Item<'_>) -> Result<Edn, Memory> {
+    match item.renamed {
+        Some(key) => key.copy(),
+        None => Ok(Edn::Key(Text::of(alloc, item.keyword().unwrap_or("*"))?)),
+    }
 }
 
 /// The items with one less for the number of the one at the place, and without it where that is used up.
-fn one_less(alloc: Global, items: &[Item], place: usize) -> Result<Vec<Item>, Memory> {
+fn one_less<'a>(
+    alloc: Global,
+    items: &[Item<'a>],
+    place: usize,
+) -> Result<Vec<Item<'a>>, Memory> {
     let mut list = Vec::new(alloc);
     for (other, item) in items.iter().enumerate() {
         match item.below {
             Below::Times(0..=1) if other == place => {}
-            Below::Times(n) if other == place => list.push(item.copy(Below::Times(n - 1))?)?,
-            _ => list.push(copied(item)?)?,
+            Below::Times(n) if other == place => list.push(Item {
+                below: Below::Times(n - 1),
+                ..*item
+            })?,
+            _ => list.push(*item)?,
         }
     }
     Ok(list)
@@ -249,20 +245,36 @@ fn value_of(
     at: &Stand<'_>,
     e: u64,
     place: usize,
-    item: &Item,
+    item: &Item<'_>,
     maps: &mut u64,
 ) -> Result<Option<Edn>, ReadStop> {
-    let Some(name) = &item.name else {
-        return Ok(None);
-    };
-    if name.as_str() == "db/id" {
-        return Ok(Some(replies::number(e)));
+    match item.name {
+        Name::Everything => Ok(None),
+        Name::Own => Ok(Some(replies::number(e))),
+        Name::Attribute(name) => {
+            let found = look_up(alloc, &at.facts, e, name)?;
+            told_or_default(alloc, at, place, item, &found, maps)
+        }
     }
-    let found = look_up(alloc, &at.facts, e, name.as_str())?;
-    if let Some(form) = all_told(alloc, at, place, item, &found, maps)? {
-        return Ok(Some(form));
+}
+
+#[cycle(tree)]
+fn told_or_default(
+    alloc: Global,
+    at: &Stand<'_>,
+    place: usize,
+    item: &Item<'_>,
+    found: &Found,
+    maps: &mut u64,
+) -> Result<Option<Edn>, ReadStop> {
+    match all_told(alloc, at, place, item, found, maps)? {
+        Some(form) => Ok(Some(form)),
+        None => Ok(default_of(item)?),
     }
-    match &item.default {
+}
+
+fn default_of(item: &Item<'_>) -> Result<Option<Edn>, Memory> {
+    match item.default {
         Some(default) => Ok(Some(default.copy()?)),
         None => Ok(None),
     }
@@ -274,20 +286,14 @@ fn all_told(
     alloc: Global,
     at: &Stand<'_>,
     place: usize,
-    item: &Item,
+    item: &Item<'_>,
     found: &Found,
     maps: &mut u64,
 ) -> Result<Option<Edn>, ReadStop> {
-    let most = if found.several {
-        item.limit.unwrap_or(USUAL_LIMIT)
-    } else {
-        1
-    };
     let mut forms = Vec::new(alloc);
-    for v in found.values.iter().take(most) {
-        if let Some(form) = told(alloc, at, place, &item.below, found.parts, v, maps)? {
-            push(&mut forms, form)?;
-        }
+    for v in found.values.iter().take(most_told(item, found)) {
+        let form = told(alloc, at, place, &item.below, found.parts, v, maps)?;
+        add_told(&mut forms, form)?;
     }
     Ok(if found.several && !forms.is_empty() {
         Some(Edn::Vector(Items::of(forms)))
@@ -296,13 +302,28 @@ fn all_told(
     })
 }
 
+fn most_told(item: &Item<'_>, found: &Found) -> usize {
+    if found.several {
+        item.limit.unwrap_or(USUAL_LIMIT)
+    } else {
+        1
+    }
+}
+
+fn add_told(forms: &mut Vec<Edn>, form: Option<Edn>) -> Result<(), Memory> {
+    if let Some(form) = form {
+        forms.push(form)?;
+    }
+    Ok(())
+}
+
 /// A value under the item at the place. A pattern under an attribute has a path of its own.
 #[cycle(tree)]
 fn told(
     alloc: Global,
     at: &Stand<'_>,
     place: usize,
-    below: &Below,
+    below: &Below<'_>,
     parts: bool,
     v: &Value,
     maps: &mut u64,
@@ -321,7 +342,7 @@ fn told(
 
 #[cycle(tree)]
 fn whole(alloc: Global, at: &Stand<'_>, n: u64, maps: &mut u64) -> Result<Option<Edn>, ReadStop> {
-    let everything = [Item::plain(None)];
+    let everything = [Item::plain(Name::Everything)];
     unless_met(alloc, at, &everything, n, maps)
 }
 
@@ -354,7 +375,7 @@ fn fewer_times(
 fn unless_met(
     alloc: Global,
     at: &Stand<'_>,
-    items: &[Item],
+    items: &[Item<'_>],
     n: u64,
     maps: &mut u64,
 ) -> Result<Option<Edn>, ReadStop> {

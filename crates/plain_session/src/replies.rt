@@ -17,6 +17,8 @@ pub(crate) fn number(n: u64) -> Edn {
 struct Reply {
     alloc: Global,
     pairs: Vec<(Edn, Edn)>,
+    /// It lacks a pair, for which there was no memory.
+    is_cut: bool,
 }
 
 impl Reply {
@@ -24,57 +26,81 @@ impl Reply {
         Reply {
             alloc,
             pairs: Vec::new(alloc),
+            is_cut: false,
         }
     }
 
-    fn with(mut self, key: &str, form: Edn) -> Result<Reply, Memory> {
+    fn with(mut self, key: &str, form: Result<Edn, Memory>) -> Reply {
+        if self.add(key, form).is_err() {
+            self.is_cut = true;
+        }
+        self
+    }
+
+    fn with_number(self, key: &str, n: u64) -> Reply {
+        self.with(key, Ok(number(n)))
+    }
+
+    fn add(&mut self, key: &str, form: Result<Edn, Memory>) -> Result<(), Memory> {
+        let form = form?;
         let key = Edn::Key(Text::of(self.alloc, key)?);
         self.pairs.push((key, form))?;
-        Ok(self)
+        Ok(())
     }
 
-    fn with_number(self, key: &str, n: u64) -> Result<Reply, Memory> {
-        self.with(key, number(n))
-    }
-
-    fn map(self) -> Edn {
-        Edn::Map(Pairs::of(self.pairs))
+    fn map(self) -> Result<Edn, Memory> {
+        if self.is_cut {
+            Err(Memory)
+        } else {
+            Ok(Edn::Map(Pairs::of(self.pairs)))
+        }
     }
 }
 
 /// `{:t 2 :tempids {"p" 17592186044418}}`
 pub fn receipt(alloc: Global, t: u32, tempids: Vec<(Text, u64)>) -> Result<Edn, Memory> {
-    let tempids = entities(alloc, tempids)?;
-    let reply = Reply::new(alloc).with_number("t", u64::from(t))?;
-    Ok(reply.with("tempids", tempids)?.map())
+    Reply::new(alloc)
+        .with_number("t", u64::from(t))
+        .with("tempids", entities(alloc, &tempids))
+        .map()
 }
 
-fn entities(alloc: Global, tempids: Vec<(Text, u64)>) -> Result<Edn, Memory> {
+fn entities(alloc: Global, tempids: &[(Text, u64)]) -> Result<Edn, Memory> {
     let mut entities = Vec::new(alloc);
     for (name, e) in tempids {
-        entities.push((Edn::Str(name), number(e)))?;
+        entities.push((Edn::Str(name.copy()?), number(*e)))?;
     }
     Ok(Edn::Map(Pairs::of(entities)))
 }
 
 /// `{:basis 3}`
 pub(crate) fn basis(alloc: Global, basis: u32) -> Result<Edn, Memory> {
-    let reply = Reply::new(alloc).with_number("basis", u64::from(basis))?;
-    Ok(reply.map())
+    with_basis(alloc, basis).map()
+}
+
+fn with_basis(alloc: Global, basis: u32) -> Reply {
+    Reply::new(alloc).with_number("basis", u64::from(basis))
 }
 
 /// `{:ok true :basis 3}`
 pub(crate) fn done(alloc: Global, basis: u32) -> Result<Edn, Memory> {
-    let reply = Reply::new(alloc).with("ok", Edn::Bool(true))?;
-    Ok(reply.with_number("basis", u64::from(basis))?.map())
+    Reply::new(alloc)
+        .with("ok", Ok(Edn::Bool(true)))
+        .with_number("basis", u64::from(basis))
+        .map()
 }
 
 /// `{:refused :db.error/cas-failed :at 0 :basis 3}`
 pub fn refusal(alloc: Global, keyword: &str, at: usize, basis: u32) -> Result<Edn, Memory> {
-    let keyword = Edn::Key(Text::of(alloc, keyword)?);
-    let reply = Reply::new(alloc).with("refused", keyword)?;
-    let reply = reply.with_number("at", at as u64)?;
-    Ok(reply.with_number("basis", u64::from(basis))?.map())
+    Reply::new(alloc)
+        .with("refused", keyword_of(alloc, keyword))
+        .with_number("at", at as u64)
+        .with_number("basis", u64::from(basis))
+        .map()
+}
+
+fn keyword_of(alloc: Global, keyword: &str) -> Result<Edn, Memory> {
+    Ok(Edn::Key(Text::of(alloc, keyword)?))
 }
 
 /// `{:basis 3 :datoms [[17592186044417 :db/doc "hi" 13194139533313 true] ..]}`
@@ -84,9 +110,9 @@ pub(crate) fn datoms(
     facts: &[Datom],
     datoms: &[Datom],
 ) -> Result<Edn, Memory> {
-    let datoms = vectors(alloc, facts, datoms)?;
-    let reply = Reply::new(alloc).with_number("basis", u64::from(basis))?;
-    Ok(reply.with("datoms", datoms)?.map())
+    with_basis(alloc, basis)
+        .with("datoms", vectors(alloc, facts, datoms))
+        .map()
 }
 
 /// `{:basis 3 :txs [{:t 1 :data [..]} ..]}`
@@ -96,24 +122,29 @@ pub(crate) fn transactions(
     facts: &[Datom],
     entries: &[Entry],
 ) -> Result<Edn, Memory> {
+    with_basis(alloc, basis)
+        .with("txs", logged(alloc, facts, entries))
+        .map()
+}
+
+fn logged(alloc: Global, facts: &[Datom], entries: &[Entry]) -> Result<Edn, Memory> {
     let mut list = Vec::new(alloc);
     for entry in entries {
         list.push(transaction(alloc, facts, entry)?)?;
     }
-    let reply = Reply::new(alloc).with_number("basis", u64::from(basis))?;
-    Ok(reply.with("txs", Edn::Vector(Items::of(list)))?.map())
+    Ok(Edn::Vector(Items::of(list)))
 }
 
 fn transaction(alloc: Global, facts: &[Datom], entry: &Entry) -> Result<Edn, Memory> {
-    let data = vectors(alloc, facts, entry.datoms.as_slice())?;
-    let reply = Reply::new(alloc).with_number("t", u64::from(entry.t))?;
-    Ok(reply.with("data", data)?.map())
+    Reply::new(alloc)
+        .with_number("t", u64::from(entry.t))
+        .with("data", vectors(alloc, facts, entry.datoms.as_slice()))
+        .map()
 }
 
 /// `{:basis 3 :pull {:db/doc "hi"}}`
 pub(crate) fn pull(alloc: Global, basis: u32, tree: Edn) -> Result<Edn, Memory> {
-    let reply = Reply::new(alloc).with_number("basis", u64::from(basis))?;
-    Ok(reply.with("pull", tree)?.map())
+    with_basis(alloc, basis).with("pull", Ok(tree)).map()
 }
 
 fn vectors(alloc: Global, facts: &[Datom], datoms: &[Datom]) -> Result<Edn, Memory> {
@@ -125,25 +156,28 @@ fn vectors(alloc: Global, facts: &[Datom], datoms: &[Datom]) -> Result<Edn, Memo
 }
 
 fn vector(alloc: Global, facts: &[Datom], d: &Datom) -> Result<Edn, Memory> {
-    let members = Vec::from_array(
-        alloc,
-        [
-            number(d.e),
-            attribute(facts, d.a)?,
-            value(&d.v)?,
-            number(TRANSACTIONS + u64::from(d.t)),
-            Edn::Bool(d.added),
-        ],
-    )?;
-    Ok(Edn::Vector(Items::of(members)))
+    let attribute = attribute(facts, d.a)?;
+    vector_of(alloc, d, attribute, value(&d.v)?)
+}
+
+fn vector_of(alloc: Global, d: &Datom, attribute: Edn, value: Edn) -> Result<Edn, Memory> {
+    let transaction = number(TRANSACTIONS + u64::from(d.t));
+    let members = [
+        number(d.e),
+        attribute,
+        value,
+        transaction,
+        Edn::Bool(d.added),
+    ];
+    Ok(Edn::Vector(Items::of(Vec::from_array(alloc, members)?)))
 }
 
 /// An attribute by its keyword, and what is none by its number.
 fn attribute(facts: &[Datom], a: u64) -> Result<Edn, Memory> {
-    Ok(match attribute_of(facts, a) {
-        Some(attribute) => Edn::Key(attribute.name.copy()?),
-        None => number(a),
-    })
+    match attribute_of(facts, a) {
+        Some(attribute) => Ok(Edn::Key(attribute.name.copy()?)),
+        None => Ok(number(a)),
+    }
 }
 
 pub(crate) fn value(v: &Value) -> Result<Edn, Memory> {

@@ -8,8 +8,9 @@ use crate::stops::{ReadStop, or_refused};
 use edn_form::Edn;
 use fb_history::EntryList;
 use fb_memory::Memory;
-use fb_values::Entry;
-use plain_reads::{Window, basis};
+use fb_text::Text;
+use fb_values::{Datom, Entry};
+use plain_reads::{Window, basis, said, standing};
 use plain_step::{Decision, Guard, NoGuard, step};
 use std::alloc::Global;
 
@@ -53,12 +54,28 @@ pub fn transact<G: Guard>(
             let keyword = refusal.reason.keyword();
             replies::refusal(alloc, keyword, refusal.at, basis(entries))
         }
-        Decision::Accepted(entry, tempids) => {
-            let t = entry.t;
-            entries.push(entry)?;
-            replies::receipt(alloc, t, tempids)
-        }
+        Decision::Accepted(entry, tempids) => accept(alloc, entries, entry, tempids),
     }
+}
+
+/// The receipt of an entry that is put at the end of the history.
+fn accept(
+    alloc: Global,
+    entries: &mut Vec<Entry>,
+    entry: Entry,
+    tempids: Vec<(Text, u64)>,
+) -> Result<Edn, Memory> {
+    let receipt = replies::receipt(alloc, entry.t, tempids)?;
+    entries.push(entry)?;
+    Ok(receipt)
+}
+
+fn copies(alloc: Global, entries: &[Entry]) -> Result<Vec<Entry>, Memory> {
+    let mut list = Vec::new(alloc);
+    for entry in entries {
+        list.push(entry.copy()?)?;
+    }
+    Ok(list)
 }
 
 impl PlainSession {
@@ -78,13 +95,9 @@ impl PlainSession {
     pub fn copy(&self) -> Result<PlainSession, Memory> {
         let mut filters = Vec::new(self.alloc);
         filters.extend_from_slice(&self.filters)?;
-        let mut entries = Vec::new(self.alloc);
-        for entry in self.entries.iter() {
-            entries.push(entry.copy()?)?;
-        }
         Ok(PlainSession {
             alloc: self.alloc,
-            entries,
+            entries: copies(self.alloc, &self.entries)?,
             window: self.window,
             filters,
             reading: self.reading,
@@ -106,24 +119,41 @@ impl PlainSession {
 
     fn answer(&mut self, form: &Edn) -> Result<Edn, ReadStop> {
         match or_refused(command_in(form), "read/not-a-command", 0)? {
-            Command::Transact(data) => {
-                let reading = self.reading;
-                self.reading = reading.saturating_add(self.step);
-                Ok(transact(self.alloc, &mut self.entries, data, reading, &NoGuard)?)
-            }
+            Command::Transact(data) => Ok(self.transact(data)?),
             Command::Basis => Ok(replies::basis(self.alloc, basis(&self.entries))?),
             Command::Turn(turn) => {
                 self.turn(turn)?;
-                Ok(replies::done(self.alloc, basis(&self.entries))?)
+                self.done()
             }
-            Command::RequestIndex => Ok(replies::done(self.alloc, basis(&self.entries))?),
-            Command::Look(look) => self.sight()?.reply(look),
-            Command::Pull(pattern, entity) => self.sight()?.pull(pattern, entity),
+            Command::RequestIndex => self.done(),
+            Command::Look(look) => self.sight(&self.facts()?).reply(look),
+            Command::Pull(pattern, entity) => self.sight(&self.facts()?).pull(pattern, entity),
         }
     }
 
-    fn sight(&self) -> Result<Sight<'_>, Memory> {
-        Sight::of(self.alloc, &self.entries, self.window, &self.filters)
+    fn transact(&mut self, data: &Edn) -> Result<Edn, Memory> {
+        let reading = self.reading;
+        self.reading = reading.saturating_add(self.step);
+        transact(self.alloc, &mut self.entries, data, reading, &NoGuard)
+    }
+
+    fn done(&self) -> Result<Edn, ReadStop> {
+        Ok(replies::done(self.alloc, basis(&self.entries))?)
+    }
+
+    /// The facts at the end of the history.
+    fn facts(&self) -> Result<Vec<Datom>, Memory> {
+        standing(self.alloc, &said(self.alloc, &self.entries)?)
+    }
+
+    fn sight<'a>(&'a self, facts: &'a [Datom]) -> Sight<'a> {
+        Sight {
+            alloc: self.alloc,
+            entries: &self.entries,
+            facts,
+            window: self.window,
+            filters: &self.filters,
+        }
     }
 
     /// What the session sees from now on.

@@ -4,59 +4,35 @@ use edn_form::Edn;
 use fb_memory::Memory;
 use fb_values::{Datom, Entry, Order};
 use plain_asks::value_in;
-use plain_reads::{Id, Range, Window, attribute_named, entity_named, said, scan, standing, view};
+use plain_reads::{Attribute, Range, Window, attribute_named, holder, named, scan, view};
 use std::alloc::Global;
 
-#[derive(Drop)]
+#[derive(Clone, Copy)]
 pub(crate) struct Sight<'a> {
     pub(crate) alloc: Global,
     pub(crate) entries: &'a [Entry],
-    pub(crate) window: Window,
-    filters: &'a [Filter],
     /// What holds at the end of the whole history: names of attributes, their types and their indexes go by it.
-    pub(crate) facts: Vec<Datom>,
+    pub(crate) facts: &'a [Datom],
+    pub(crate) window: Window,
+    pub(crate) filters: &'a [Filter],
 }
 
-impl<'a> Sight<'a> {
-    pub(crate) fn of(
-        alloc: Global,
-        entries: &'a [Entry],
-        window: Window,
-        filters: &'a [Filter],
-    ) -> Result<Sight<'a>, Memory> {
-        let facts = standing(alloc, &said(alloc, entries)?)?;
-        Ok(Sight {
-            alloc,
-            entries,
-            window,
-            filters,
-            facts,
-        })
-    }
-
+impl Sight<'_> {
     /// The datoms of the range, in the index's order.
     pub(crate) fn scanned(&self, order: Order, range: &Range) -> Result<Vec<Datom>, Memory> {
         let datoms = scan(self.alloc, self.entries, self.window, order, range)?;
-        self.selected(datoms)
+        self.selected(&datoms)
     }
 
     /// Those that every filter selects.
-    fn selected(&self, datoms: Vec<Datom>) -> Result<Vec<Datom>, Memory> {
+    fn selected(&self, datoms: &[Datom]) -> Result<Vec<Datom>, Memory> {
         let mut list = Vec::new(self.alloc);
         for d in datoms {
-            if self.filters.iter().all(|filter| selects(*filter, &d)) {
-                list.push(d)?;
+            if self.filters.iter().all(|filter| selects(*filter, d)) {
+                list.push(d.copy()?)?;
             }
         }
         Ok(list)
-    }
-
-    /// The entity that the form names in the window without its history, under the filters.
-    pub(crate) fn entity(&self, form: &Edn) -> Result<Option<u64>, Memory> {
-        let Some(id) = self.name_in(form)? else {
-            return Ok(None);
-        };
-        Ok(entity_named(&self.seen()?, &id))
     }
 
     /// The facts of the window without its history, under the filters.
@@ -66,30 +42,34 @@ impl<'a> Sight<'a> {
             ..self.window
         };
         let seen = view(self.alloc, self.entries, window)?;
-        self.selected(seen)
+        self.selected(&seen)
     }
 
-    /// The name that the form is: a number, an ident, or a lookup ref.
-    fn name_in(&self, form: &Edn) -> Result<Option<Id>, Memory> {
-        Ok(match form {
-            Edn::Int(n) => u64::try_from(*n).ok().map(|n| Id::Number(n)),
-            Edn::Key(name) => Some(Id::Ident(name.copy()?)),
-            Edn::Vector(members) => self.lookup_in(members.as_slice())?,
-            _ => None,
-        })
+    /// The entity that the form names in the window without its history, under the filters: by a number, an ident, or a lookup
+    /// ref.
+    pub(crate) fn entity(&self, form: &Edn) -> Result<Option<u64>, Memory> {
+        match form {
+            Edn::Int(n) => Ok(u64::try_from(*n).ok()),
+            Edn::Key(name) => Ok(named(&self.seen()?, name.as_str())),
+            Edn::Vector(members) => self.looked_up(members.as_slice()),
+            _ => Ok(None),
+        }
     }
 
-    fn lookup_in(&self, members: &[Edn]) -> Result<Option<Id>, Memory> {
+    fn looked_up(&self, members: &[Edn]) -> Result<Option<u64>, Memory> {
         let [Edn::Key(name), form] = members else {
             return Ok(None);
         };
-        let Some(attribute) = attribute_named(&self.facts, name.as_str()) else {
-            return Ok(None);
-        };
-        if attribute.uniqueness == 0 {
-            return Ok(None);
+        match attribute_named(self.facts, name.as_str()) {
+            Some(attribute) if attribute.uniqueness != 0 => self.holder_of(&attribute, form),
+            _ => Ok(None),
         }
-        let value = value_in(attribute.kind, form)?;
-        Ok(value.map(|v| Id::Lookup(attribute.id, v)))
+    }
+
+    fn holder_of(&self, attribute: &Attribute<'_>, form: &Edn) -> Result<Option<u64>, Memory> {
+        match value_in(attribute.kind, form)? {
+            Some(v) => Ok(holder(&self.seen()?, attribute.id, &v)),
+            None => Ok(None),
+        }
     }
 }

@@ -33,14 +33,34 @@ pub fn step<G: Guard>(
         return Ok(refused(Reason::NotAForm, at));
     }
     let db = Db::of(alloc, entries)?;
+    step_at(alloc, &db, forms, reading, guard)
+}
+
+/// The step of forms that have a shape.
+fn step_at<G: Guard>(
+    alloc: Global,
+    db: &Db<'_>,
+    forms: &[Edn],
+    reading: i64,
+    guard: &G,
+) -> Result<Decision, Memory> {
     let asks = flat(alloc, &db.facts, forms)?;
-    let tx = transaction_at(alloc, db, asks)?;
-    if let Some(refusal) = least_refusal(alloc, &tx)? {
+    let tx = transaction_at(alloc, db, &asks)?;
+    decided(alloc, &tx, reading, guard)
+}
+
+fn decided<G: Guard>(
+    alloc: Global,
+    tx: &Transaction<'_>,
+    reading: i64,
+    guard: &G,
+) -> Result<Decision, Memory> {
+    if let Some(refusal) = least_refusal(alloc, tx)? {
         return Ok(Decision::Refused(refusal));
     }
-    match guard.judge(entries, &tx.changes)? {
+    match guard.judge(tx.db.entries, &tx.changes)? {
         Some(bar) => Ok(refused(Reason::Barred(bar), 0)),
-        None => accepted(alloc, &tx, reading),
+        None => accepted(alloc, tx, reading),
     }
 }
 
@@ -49,11 +69,17 @@ fn refused(reason: Reason, at: usize) -> Decision {
 }
 
 fn accepted(alloc: Global, tx: &Transaction<'_>, reading: i64) -> Result<Decision, Memory> {
+    let tempids = named_tempids(alloc, &tx.names)?;
+    let entry = entry_of(alloc, tx, reading)?;
+    Ok(Decision::Accepted(entry, tempids))
+}
+
+fn entry_of(alloc: Global, tx: &Transaction<'_>, reading: i64) -> Result<Entry, Memory> {
     let instant = next_instant(last_instant(tx.db.entries), reading);
-    let entry = Entry {
+    let datoms = recorded(alloc, tx, instant)?;
+    Ok(Entry {
         t: tx.db.next_t,
         instant,
-        datoms: Datoms::of(recorded(alloc, tx, instant)?),
-    };
-    Ok(Decision::Accepted(entry, named_tempids(alloc, &tx.names)?))
+        datoms: Datoms::of(datoms),
+    })
 }

@@ -6,8 +6,9 @@
 #![tactic(auto)]
 
 mod forms;
+mod links;
 mod lists;
-mod maps;
+mod operands;
 mod shapes;
 mod walk;
 

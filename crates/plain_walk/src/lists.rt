@@ -1,161 +1,51 @@
-//! What list forms ask, and the parts of an ask that stand in a value's place.
-use crate::forms::{Verb, lookup_in, name_in, verb_in};
+//! What list forms ask.
+use crate::forms::{Verb, name_in, verb_in};
+use crate::links::has_ref;
+use crate::operands::{old_value_part, value_part};
 use edn_form::Edn;
-use fb_memory::Memory;
-use fb_numbers::TYPE_REF;
-use fb_text::Text;
 use fb_values::Datom;
-use plain_asks::{Ask, Name, Operand};
-use plain_reads::attribute_named;
-use std::alloc::Global;
-
-// ---- what the facts before say of a keyword in an attribute's place
-
-/// Whether its values are entities.
-pub fn has_ref(facts: &[Datom], name: &str) -> bool {
-    attribute_named(facts, name).is_some_and(|attribute| attribute.kind == TYPE_REF)
-}
-
-/// Whether an entity may have several values of it.
-pub fn has_many(facts: &[Datom], name: &str) -> bool {
-    attribute_named(facts, name).is_some_and(|attribute| attribute.many)
-}
-
-/// Whether the attribute's values are parts of their entities.
-pub fn has_parts(facts: &[Datom], name: &str) -> bool {
-    attribute_named(facts, name).is_some_and(|attribute| attribute.component)
-}
-
-pub fn has_uniqueness(facts: &[Datom], name: &str) -> bool {
-    attribute_named(facts, name).is_some_and(|attribute| attribute.uniqueness != 0)
-}
-
-// ---- values
-
-/// A number, an ident or a tempid under an attribute whose values are entities, and else a plain value.
-pub fn scalar(is_ref: bool, f: &Edn) -> Result<Operand, Memory> {
-    Ok(match f {
-        Edn::Int(n) if is_ref && *n >= 0 => Operand::Entity(Name::Number(*n)),
-        Edn::Key(k) if is_ref => Operand::Entity(Name::Ident(k.copy()?)),
-        Edn::Str(s) if is_ref => Operand::Entity(Name::Tempid(s.copy()?)),
-        _ => Operand::Plain(f.copy()?),
-    })
-}
-
-/// The value of a list form: a lookup ref too.
-fn value_part(is_ref: bool, f: &Edn) -> Result<Operand, Memory> {
-    if let Edn::Vector(items) = f {
-        if let Some((k, value)) = lookup_in(items) {
-            if is_ref {
-                return Ok(Operand::Entity(Name::Lookup(k.copy()?, value.copy()?)));
-            }
-        }
-    }
-    scalar(is_ref, f)
-}
-
-/// A value that is there before: a string names no entity.
-fn old_value_part(is_ref: bool, f: &Edn) -> Result<Operand, Memory> {
-    match f {
-        Edn::Str(_) => Ok(Operand::Plain(f.copy()?)),
-        _ => value_part(is_ref, f),
-    }
-}
-
-// ---- list forms
+use plain_asks::{Ask, Name};
+use plain_reads::{Attribute, attribute_named};
 
 /// What the list form asks.
-pub fn verb_asks(alloc: Global, facts: &[Datom], members: &[Edn]) -> Result<Vec<Ask>, Memory> {
-    let mut asks = Vec::new(alloc);
-    if let Some(ask) = verb_ask(facts, members)? {
-        asks.push(ask)?;
-    }
-    Ok(asks)
-}
-
-fn verb_ask(facts: &[Datom], members: &[Edn]) -> Result<Option<Ask>, Memory> {
+pub fn list_ask<'a>(facts: &'a [Datom], members: &'a [Edn]) -> Option<Ask<'a>> {
     let [first, e, more @ ..] = members else {
-        return Ok(None);
+        return None;
     };
-    let Some(verb) = verb_in(first) else {
-        return Ok(None);
-    };
+    let verb = verb_in(first)?;
+    let name = name_in(e)?;
     match more {
-        [Edn::Key(k), values @ ..] => attribute_ask(facts, verb, e, k, values),
-        _ => entity_ask(verb, e),
+        [Edn::Key(k), values @ ..] => {
+            attribute_ask(verb, name, attribute_named(facts, k.as_str()), values)
+        }
+        _ => entity_ask(verb, name),
     }
 }
 
-fn entity_ask(verb: Verb, e: &Edn) -> Result<Option<Ask>, Memory> {
+fn entity_ask<'a>(verb: Verb, name: Name<'a>) -> Option<Ask<'a>> {
     match verb {
-        Verb::RetractEntity => match name_in(e)? {
-            Some(name) => Ok(Some(Ask::RetractsEntity(name))),
-            None => Ok(None),
-        },
-        _ => Ok(None),
+        Verb::RetractEntity => Some(Ask::RetractsEntity(name)),
+        _ => None,
     }
 }
 
-fn attribute_ask(
-    facts: &[Datom],
+fn attribute_ask<'a>(
     verb: Verb,
-    e: &Edn,
-    k: &Text,
-    values: &[Edn],
-) -> Result<Option<Ask>, Memory> {
-    let is_ref = has_ref(facts, k.as_str());
+    name: Name<'a>,
+    attribute: Option<Attribute<'a>>,
+    values: &'a [Edn],
+) -> Option<Ask<'a>> {
+    let is_ref = has_ref(&attribute);
     match (verb, values) {
-        (Verb::Add, [v]) => add(e, k, is_ref, v),
-        (Verb::Retract, [v]) => retract(e, k, is_ref, v),
-        (Verb::Retract, []) => retract_all(e, k),
-        (Verb::Cas, [old, new]) => compare(e, k, is_ref, [old, new]),
-        _ => Ok(None),
+        (Verb::Add, [v]) => Some(Ask::Adds(name, attribute, value_part(is_ref, v))),
+        (Verb::Retract, [v]) => Some(Ask::Retracts(name, attribute, old_value_part(is_ref, v))),
+        (Verb::Retract, []) => Some(Ask::RetractsAll(name, attribute)),
+        (Verb::Cas, [old, new]) => Some(Ask::Compares(
+            name,
+            attribute,
+            old_value_part(is_ref, old),
+            old_value_part(is_ref, new),
+        )),
+        _ => None,
     }
-}
-
-/// The entity and the attribute of an ask, where the form names an entity.
-fn subject(e: &Edn, k: &Text) -> Result<Option<(Name, Text)>, Memory> {
-    match name_in(e)? {
-        Some(name) => Ok(Some((name, k.copy()?))),
-        None => Ok(None),
-    }
-}
-
-fn add(e: &Edn, k: &Text, is_ref: bool, v: &Edn) -> Result<Option<Ask>, Memory> {
-    match subject(e, k)? {
-        Some((name, k)) => Ok(Some(Ask::Adds(name, k, value_part(is_ref, v)?))),
-        None => Ok(None),
-    }
-}
-
-fn retract(e: &Edn, k: &Text, is_ref: bool, v: &Edn) -> Result<Option<Ask>, Memory> {
-    match subject(e, k)? {
-        Some((name, k)) => Ok(Some(Ask::Retracts(name, k, old_value_part(is_ref, v)?))),
-        None => Ok(None),
-    }
-}
-
-fn retract_all(e: &Edn, k: &Text) -> Result<Option<Ask>, Memory> {
-    match subject(e, k)? {
-        Some((name, k)) => Ok(Some(Ask::RetractsAll(name, k))),
-        None => Ok(None),
-    }
-}
-
-/// The value that has to be there, and the one in its place.
-fn compare(e: &Edn, k: &Text, is_ref: bool, values: [&Edn; 2]) -> Result<Option<Ask>, Memory> {
-    match subject(e, k)? {
-        Some((name, k)) => compared(name, k, is_ref, values),
-        None => Ok(None),
-    }
-}
-
-fn compared(
-    name: Name,
-    k: Text,
-    is_ref: bool,
-    [old, new]: [&Edn; 2],
-) -> Result<Option<Ask>, Memory> {
-    let old = old_value_part(is_ref, old)?;
-    Ok(Some(Ask::Compares(name, k, old, old_value_part(is_ref, new)?)))
 }

@@ -1,133 +1,225 @@
 //! The walk over a transaction: what each form asks, in the order in which a reader meets it.
-use crate::forms::{Key, key_in};
-use crate::lists::verb_asks;
-use crate::maps::{
-    links, name_of_map, nested_asks, pair_asks, scalar_asks, sequence_asks, vector_asks,
-};
+use crate::forms::name_in;
+use crate::links::{Link, has_ref, has_uniqueness};
+use crate::lists::list_ask;
+use crate::operands::{linked_lookup, linked_part};
 use edn_form::{Edn, Items, Pairs};
 use fb_memory::Memory;
 use fb_values::Datom;
-use plain_asks::{Ask, Name, Operand, append, inside, one};
+use plain_asks::{Ask, Key, Name, Operand, key_in};
+use plain_reads::Attribute;
 use std::alloc::Global;
 
-/// What the pairs of a map ask, one after another.
-#[cycle(walk)]
-fn map_asks(
-    alloc: Global,
-    facts: &[Datom],
-    this: &Name,
-    path: &[usize],
-    pairs: &Pairs,
-) -> Result<Vec<Ask>, Memory> {
-    let mut list = Vec::new(alloc);
-    for (n, (key, value)) in pairs.as_slice().iter().enumerate() {
-        if let Edn::Key(k) = key {
-            let key = key_in(alloc, k)?;
-            let place = inside(alloc, n, path)?;
-            let values = value_asks(alloc, facts, this, &key, &place, value)?;
-            append(&mut list, pair_asks(alloc, facts, this, &key, values)?)?;
-        }
-    }
-    Ok(list)
-}
-
-/// What a map asks that is a value under a key, or a member of one.
-#[cycle(walk)]
-fn inner_map_asks(
-    alloc: Global,
-    facts: &[Datom],
-    this: &Name,
-    key: &Key,
-    path: &[usize],
-    pairs: &Pairs,
-) -> Result<Vec<Ask>, Memory> {
-    let name = name_of_map(alloc, path, pairs)?;
-    let inner = map_asks(alloc, facts, &name, path, pairs)?;
-    nested_asks(alloc, facts, this, key, &name, pairs, inner)
-}
-
-/// What a value asks that stands under a key.
-#[cycle(walk)]
-fn value_asks(
-    alloc: Global,
-    facts: &[Datom],
-    this: &Name,
-    key: &Key,
-    path: &[usize],
-    f: &Edn,
-) -> Result<Vec<Ask>, Memory> {
-    match f {
-        Edn::Map(pairs) => inner_map_asks(alloc, facts, this, key, path, pairs),
-        Edn::Set(items) => members_asks(alloc, facts, this, key, path, items),
-        Edn::Vector(items) => {
-            let inner = members_asks(alloc, facts, this, key, path, items)?;
-            vector_asks(alloc, facts, this, key, items, inner)
-        }
-        Edn::List(items) => {
-            let inner = members_asks(alloc, facts, this, key, path, items)?;
-            sequence_asks(alloc, facts, this, key, f, inner)
-        }
-        _ => scalar_asks(alloc, facts, this, key, f),
-    }
-}
-
-/// What the members of a collection ask, one after another. A collection inside one is no value.
-#[cycle(walk)]
-fn members_asks(
-    alloc: Global,
-    facts: &[Datom],
-    this: &Name,
-    key: &Key,
-    path: &[usize],
-    items: &Items,
-) -> Result<Vec<Ask>, Memory> {
-    let mut list = Vec::new(alloc);
-    for (n, f) in items.as_slice().iter().enumerate() {
-        let place = inside(alloc, n, path)?;
-        let asks = match f {
-            Edn::Map(pairs) => inner_map_asks(alloc, facts, this, key, &place, pairs)?,
-            Edn::Vector(items) => {
-                let plain = links(alloc, this, key, Operand::Plain(f.copy()?))?;
-                vector_asks(alloc, facts, this, key, items, plain)?
-            }
-            _ => scalar_asks(alloc, facts, this, key, f)?,
-        };
-        append(&mut list, asks)?;
-    }
-    Ok(list)
-}
-
-/// What the form at the place asks, by the facts before the transaction.
-fn form_asks(alloc: Global, facts: &[Datom], place: usize, f: &Edn) -> Result<Vec<Ask>, Memory> {
-    match f {
-        Edn::Vector(items) | Edn::List(items) => verb_asks(alloc, facts, items.as_slice()),
-        Edn::Map(pairs) => map_form_asks(alloc, facts, place, pairs),
-        _ => Ok(Vec::new(alloc)),
-    }
-}
-
-fn map_form_asks(
-    alloc: Global,
-    facts: &[Datom],
-    place: usize,
-    pairs: &Pairs,
-) -> Result<Vec<Ask>, Memory> {
-    let path = inside(alloc, place, &[])?;
-    let name = name_of_map(alloc, &path, pairs)?;
-    let mut list = meeting(alloc, &name)?;
-    append(&mut list, map_asks(alloc, facts, &name, &path, pairs)?)?;
-    Ok(list)
-}
-
-fn meeting(alloc: Global, name: &Name) -> Result<Vec<Ask>, Memory> {
-    one(alloc, Ask::Meets(name.copy()?))
-}
-
 /// What each form of a transaction asks.
-pub fn flat(alloc: Global, facts: &[Datom], forms: &[Edn]) -> Result<Vec<Vec<Ask>>, Memory> {
+pub fn flat<'a>(
+    alloc: Global,
+    facts: &'a [Datom],
+    forms: &'a [Edn],
+) -> Result<Vec<Vec<Ask<'a>>>, Memory> {
     let mut lists = Vec::new(alloc);
-    for (place, f) in forms.iter().enumerate() {
-        lists.push(form_asks(alloc, facts, place, f)?)?;
+    let mut maps = 0;
+    for f in forms {
+        lists.push(form_asks(alloc, facts, f, &mut maps)?)?;
     }
     Ok(lists)
+}
+
+/// What the form asks, by the facts before the transaction.
+fn form_asks<'a>(
+    alloc: Global,
+    facts: &'a [Datom],
+    f: &'a Edn,
+    maps: &mut usize,
+) -> Result<Vec<Ask<'a>>, Memory> {
+    let mut walk = Walk {
+        alloc,
+        facts,
+        asks: Vec::new(alloc),
+        maps: *maps,
+    };
+    walk.form(f)?;
+    *maps = walk.maps;
+    Ok(walk.asks)
+}
+
+/// A walk over a form.
+#[derive(Drop)]
+struct Walk<'a> {
+    alloc: Global,
+    facts: &'a [Datom],
+    /// What the form asks as far as it was met.
+    asks: Vec<Ask<'a>>,
+    /// How many maps were met, in this form and before.
+    maps: usize,
+}
+
+impl<'a> Walk<'a> {
+    fn ask(&mut self, ask: Ask<'a>) -> Result<(), Memory> {
+        self.asks.push(ask)?;
+        Ok(())
+    }
+
+    fn form(&mut self, f: &'a Edn) -> Result<(), Memory> {
+        match f {
+            Edn::Vector(items) | Edn::List(items) => self.list_form(items.as_slice()),
+            Edn::Map(pairs) => self.map_form(pairs),
+            _ => Ok(()),
+        }
+    }
+
+    fn list_form(&mut self, members: &'a [Edn]) -> Result<(), Memory> {
+        match list_ask(self.facts, members) {
+            Some(ask) => self.ask(ask),
+            None => Ok(()),
+        }
+    }
+
+    fn map_form(&mut self, pairs: &'a Pairs) -> Result<(), Memory> {
+        let name = self.name_of_map(pairs);
+        self.ask(Ask::Meets(name))?;
+        self.pairs(name, pairs)
+    }
+
+    // ---- maps
+
+    /// The entity that the map names by `:db/id`, or its number.
+    fn name_of_map(&mut self, pairs: &'a Pairs) -> Name<'a> {
+        let number = self.maps;
+        self.maps = number.saturating_add(1);
+        own_name(pairs).unwrap_or(Name::Nameless(number))
+    }
+
+    /// What the pairs of a map ask, one after another.
+    #[cycle(walk)]
+    fn pairs(&mut self, this: Name<'a>, pairs: &'a Pairs) -> Result<(), Memory> {
+        for (key, value) in pairs.as_slice() {
+            if let Edn::Key(k) = key {
+                let key = key_in(self.alloc, self.facts, k)?;
+                self.pair(this, key, value)?;
+            }
+        }
+        Ok(())
+    }
+
+    /// It mentions its attribute, and under a reversed name the attribute's values have to be entities.
+    #[cycle(walk)]
+    fn pair(&mut self, this: Name<'a>, key: Key<'a>, value: &'a Edn) -> Result<(), Memory> {
+        match key {
+            Key::Own => Ok(()),
+            Key::Backward(attribute) if !has_ref(&attribute) => self.fault(this, attribute),
+            Key::Forward(attribute) => self.linked(
+                Link {
+                    this,
+                    attribute,
+                    is_reversed: false,
+                },
+                value,
+            ),
+            Key::Backward(attribute) => self.linked(
+                Link {
+                    this,
+                    attribute,
+                    is_reversed: true,
+                },
+                value,
+            ),
+        }
+    }
+
+    /// A link of the entity to itself, under an attribute whose values are no entities.
+    fn fault(&mut self, this: Name<'a>, attribute: Option<Attribute<'a>>) -> Result<(), Memory> {
+        self.ask(Ask::Mentions(attribute))?;
+        self.ask(Ask::Adds(this, attribute, Operand::Entity(this)))
+    }
+
+    #[cycle(walk)]
+    fn linked(&mut self, link: Link<'a>, value: &'a Edn) -> Result<(), Memory> {
+        self.ask(Ask::Mentions(link.attribute))?;
+        self.value(link, value)
+    }
+
+    // ---- values
+
+    /// What a value asks that stands under a key. Where there may be several, a list is a collection, and so is a vector that
+    /// names no entity.
+    #[cycle(walk)]
+    fn value(&mut self, link: Link<'a>, f: &'a Edn) -> Result<(), Memory> {
+        match f {
+            Edn::Set(items) => self.members(link, items),
+            Edn::List(items) if link.is_many() => self.members(link, items),
+            Edn::Vector(items) if self.is_collection(&link, items) => self.members(link, items),
+            _ => self.member(link, f),
+        }
+    }
+
+    fn is_collection(&self, link: &Link<'_>, items: &Items) -> bool {
+        link.is_many() && linked_lookup(self.facts, link, items).is_none()
+    }
+
+    /// What the members of a collection ask, one after another.
+    #[cycle(walk)]
+    fn members(&mut self, link: Link<'a>, items: &'a Items) -> Result<(), Memory> {
+        for f in items.as_slice() {
+            self.member(link, f)?;
+        }
+        Ok(())
+    }
+
+    /// What one value asks. A collection inside one is no value.
+    #[cycle(walk)]
+    fn member(&mut self, link: Link<'a>, f: &'a Edn) -> Result<(), Memory> {
+        match f {
+            Edn::Map(pairs) if link.is_ref() => self.inner_map(link, pairs),
+            _ => self.ask(link.to(linked_part(self.facts, &link, f))),
+        }
+    }
+
+    /// What a map asks that is a value: the link, what it lacks, and then its own pairs.
+    #[cycle(walk)]
+    fn inner_map(&mut self, link: Link<'a>, pairs: &'a Pairs) -> Result<(), Memory> {
+        let name = self.name_of_map(pairs);
+        self.ask(link.to(Operand::Entity(name)))?;
+        if !link.has_parts() && !has_identity(self.alloc, self.facts, pairs)? {
+            self.ask(Ask::LacksId)?;
+        }
+        self.pairs(name, pairs)
+    }
+}
+
+fn own_name(pairs: &Pairs) -> Option<Name<'_>> {
+    for (key, value) in pairs.as_slice() {
+        if is_own(key) {
+            if let Some(name) = name_in(value) {
+                return Some(name);
+            }
+        }
+    }
+    None
+}
+
+fn is_own(key: &Edn) -> bool {
+    match key {
+        Edn::Key(k) => k.as_str() == "db/id",
+        _ => false,
+    }
+}
+
+/// Whether the map has `:db/id` or a unique attribute among its keys.
+fn has_identity(alloc: Global, facts: &[Datom], pairs: &Pairs) -> Result<bool, Memory> {
+    for (key, _) in pairs.as_slice() {
+        if let Edn::Key(k) = key {
+            if identifies(&key_in(alloc, facts, k)?) {
+                return Ok(true);
+            }
+        }
+    }
+    Ok(false)
+}
+
+fn identifies(key: &Key<'_>) -> bool {
+    match key {
+        Key::Own => true,
+        Key::Forward(attribute) => has_uniqueness(attribute),
+        Key::Backward(_) => false,
+    }
 }
