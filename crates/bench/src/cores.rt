@@ -50,13 +50,32 @@ pub(crate) fn perform<R: Input + Print + Threads + Sync>(
         return Ok(false);
     }
     let mut database = Database::new(alloc)?;
-    for line in rt.lines(alloc) {
-        let Some((task, count)) = ask_of(line?.as_str()) else {
-            bail!("no such task");
-        };
-        println!(rt; "{}", answer(rt, &mut database, task, count)?)?;
-    }
+    answer_lines(alloc, rt, &mut database)?;
     Ok(true)
+}
+
+/// Does what each line of standard input asks, and prints its answer.
+fn answer_lines<R: Input + Print + Threads + Sync>(
+    alloc: Global,
+    rt: &R,
+    database: &mut Database,
+) -> Result<()> {
+    for line in rt.lines(alloc) {
+        answer_line(rt, database, line?.as_str())?;
+    }
+    Ok(())
+}
+
+fn answer_line<R: Print + Threads + Sync>(
+    rt: &R,
+    database: &mut Database,
+    line: &str,
+) -> Result<()> {
+    let Some((task, count)) = ask_of(line) else {
+        bail!("no such task");
+    };
+    println!(rt; "{}", answer(rt, database, task, count)?)?;
+    Ok(())
 }
 
 fn answer<R: Threads + Sync>(

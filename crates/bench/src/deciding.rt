@@ -22,32 +22,49 @@ pub(crate) fn perform(rt: &HostRuntime, words: &[String]) -> Result<bool> {
     let Some(rounds) = number(rounds.as_str()) else {
         return Ok(false);
     };
-    let forms = forms_of(rt, file.as_str())?;
-    let Some((last, before)) = forms.split_last() else {
-        bail!("there is no transaction");
-    };
-    let snapshot = recorded(rt.alloc(), before)?;
-    let outcome = decided_each(rt.alloc(), &snapshot, last, rounds)?;
+    let outcome = outcome_of(rt, file.as_str(), rounds)?;
     println!(rt; "{outcome}")?;
     Ok(true)
 }
 
-/// The forms of a file.
-fn forms_of(rt: &HostRuntime, file: &str) -> Result<Vec<Edn>> {
+fn outcome_of(rt: &HostRuntime, file: &str, rounds: u32) -> Result<Outcome> {
     let bytes = fs::read(rt, file)?;
-    let mut forms = Vec::new(rt.alloc());
-    let mut at = 0;
+    let forms = forms_in(rt.alloc(), &bytes)?;
+    outcome_of_last(rt.alloc(), &forms, rounds)
+}
+
+/// The forms of the text.
+fn forms_in(alloc: Global, bytes: &[u8]) -> Result<Vec<Edn>> {
+    let mut forms = Vec::new(alloc);
+    let mut at = Some(0);
     for _ in 0..bytes.len() {
-        match read_form(rt.alloc(), &bytes, at) {
-            Ok(Some((form, after))) => {
-                forms.push(form)?;
-                at = after;
-            }
-            Ok(None) => break,
-            Err(_) => bail!("the text is no EDN"),
-        }
+        let Some(place) = at else {
+            break;
+        };
+        at = add_form(alloc, bytes, place, &mut forms)?;
     }
     Ok(forms)
+}
+
+/// Adds the form at the place, if there is one, and gives the place after it.
+fn add_form(alloc: Global, bytes: &[u8], at: usize, forms: &mut Vec<Edn>) -> Result<Option<usize>> {
+    match read_form(alloc, bytes, at) {
+        Ok(Some((form, after))) => {
+            forms.push(form)?;
+            Ok(Some(after))
+        }
+        Ok(None) => Ok(None),
+        Err(_) => bail!("the text is no EDN"),
+    }
+}
+
+/// What the last transaction comes to, after the others.
+fn outcome_of_last(alloc: Global, forms: &[Edn], rounds: u32) -> Result<Outcome> {
+    let Some((last, before)) = forms.split_last() else {
+        bail!("there is no transaction");
+    };
+    let snapshot = recorded(alloc, before)?;
+    decided_each(alloc, &snapshot, last, rounds)
 }
 
 /// The database after the transactions, each of which has to be accepted.

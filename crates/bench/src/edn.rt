@@ -3,6 +3,7 @@
 
 use anyhow::Result;
 use edn_core::read_form;
+use edn_form::Edn;
 use edn_print::print;
 use std::alloc::Global;
 use std::io::{self, Read, Write};
@@ -59,8 +60,7 @@ fn print_each<W: Write>(alloc: Global, bytes: &[u8], sink: &mut W) -> Result<()>
     let mut lines = Vec::with_capacity(alloc, FULL)?;
     let mut at = 0;
     while let Some((form, next)) = read_form(alloc, bytes, at)? {
-        print(&form, &mut lines)?;
-        lines.push(b'\n')?;
+        add_line(&form, &mut lines)?;
         if lines.len() >= FULL {
             sink.write_all(lines.as_slice())?;
             lines.clear();
@@ -68,5 +68,11 @@ fn print_each<W: Write>(alloc: Global, bytes: &[u8], sink: &mut W) -> Result<()>
         at = next;
     }
     sink.write_all(lines.as_slice())?;
+    Ok(())
+}
+
+fn add_line(form: &Edn, lines: &mut Vec<u8>) -> Result<()> {
+    print(form, lines)?;
+    lines.push(b'\n')?;
     Ok(())
 }

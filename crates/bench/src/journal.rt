@@ -43,18 +43,26 @@ pub(crate) fn perform(rt: &HostRuntime, words: &[String]) -> Result<bool> {
 }
 
 fn append_all<H: Host>(rt: &HostRuntime, host: &mut H, dir: &str, count: u32) -> bool {
-    let Some(mut journal) = started(rt, host, dir) else {
-        return false;
-    };
+    match started(rt, host, dir) {
+        Some(mut journal) => append_each(rt, &mut journal, count),
+        None => false,
+    }
+}
+
+fn append_each<D: Disk>(rt: &HostRuntime, journal: &mut Journal<D>, count: u32) -> bool {
     for _ in 0..count {
-        let Ok(framed) = frame(rt.alloc(), &PAYLOAD) else {
-            return false;
-        };
-        if journal.append(&framed).is_err() {
+        if !append(rt, journal) {
             return false;
         }
     }
     true
+}
+
+fn append<D: Disk>(rt: &HostRuntime, journal: &mut Journal<D>) -> bool {
+    match frame(rt.alloc(), &PAYLOAD) {
+        Ok(framed) => journal.append(&framed).is_ok(),
+        Err(_) => false,
+    }
 }
 
 fn start_all<H: Host>(rt: &HostRuntime, host: &mut H, dir: &str, count: u32) -> bool {

@@ -76,13 +76,28 @@ fn measure(alloc: Global, task: Task) -> Result<(), Memory> {
     let entries = task.count / DATOMS;
     let live = filled(alloc, &covers, entries)?;
     for _ in 0..task.rounds {
-        let begin = live.share()?;
-        drop(if task.installs {
-            installed(alloc, begin, &covers, entries)?
-        } else {
-            grown(alloc, begin, &covers, entries, ENTRIES)?
-        });
+        round(alloc, &live, &covers, entries, task.installs)?;
     }
+    Ok(())
+}
+
+/// Adds a round's entries to the filled index, of which the first is the n-th.
+fn round(
+    alloc: Global,
+    filled: &Live,
+    covers: &Covers,
+    n: u32,
+    installs: bool,
+) -> Result<(), Memory>
+    requires few { n + ENTRIES < 2 ^ 32 }
+    requires live { LiveIsBefore covers.now n filled.now }
+{
+    let begin = filled.share()?;
+    drop(if installs {
+        installed(alloc, begin, covers, n)?
+    } else {
+        grown(alloc, begin, covers, n, ENTRIES)?
+    });
     Ok(())
 }
 

@@ -89,10 +89,24 @@ pub(crate) fn perform<R: Input + Print + Threads + Sync>(
     };
     let covers = coverage(alloc)?;
     let roots = trees_of(alloc, rt, &covers, sizes.older())?;
-    let among = index(alloc, &covers, sizes.among(), NEWER)?;
-    let behind = index(alloc, &covers, sizes.behind(), NEWER)?;
-    answer_lines(alloc, rt, sizes, &covers, &roots, &among, &behind)?;
+    measure(alloc, rt, sizes, &covers, &roots)?;
     Ok(true)
+}
+
+/// Makes the indexes that the rounds merge, and does the rounds.
+fn measure<R: Input + Print + Threads + Sync>(
+    alloc: Global,
+    rt: &R,
+    sizes: Sizes,
+    covers: &Covers,
+    roots: &Roots,
+) -> Result<()>
+    requires roots { TreesRise roots.now }
+    requires held { TreesAreHeld covers.now roots.now }
+{
+    let among = index(alloc, covers, sizes.among(), NEWER)?;
+    let behind = index(alloc, covers, sizes.behind(), NEWER)?;
+    answer_lines(alloc, rt, sizes, covers, roots, &among, &behind)
 }
 
 /// Does a round for each line of standard input, and prints its answer.

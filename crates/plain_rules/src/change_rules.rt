@@ -67,7 +67,9 @@ pub fn conflicts(tx: &Transaction<'_>, d: &Datom) -> bool {
     let is_beside_another = is_one(&tx.db.facts, d.a)
         && tx.asked.added.iter().any(|list| has_another_value(list, d));
     is_asked_in(&tx.asked.added, d)
-        && (is_beside_another || is_asked_in(&tx.asked.retracted, d) || is_asked_in(&tx.asked.swept, d))
+        && (is_beside_another
+            || is_asked_in(&tx.asked.retracted, d)
+            || is_asked_in(&tx.asked.swept, d))
 }
 
 fn is_asked_in(lists: &[Vec<Datom>], d: &Datom) -> bool {

@@ -19,11 +19,7 @@ pub enum LookupFault {
 }
 
 /// Whether a lookup ref in the name has the fault.
-pub fn has_faulty_lookup(
-    fault: LookupFault,
-    db: &Db<'_>,
-    name: &Name<'_>,
-) -> Result<bool, Memory> {
+pub fn has_faulty_lookup(fault: LookupFault, db: &Db<'_>, name: &Name<'_>) -> Result<bool, Memory> {
     match name {
         Name::Lookup(k, value) => has_fault(fault, db, k, value),
         _ => Ok(false),

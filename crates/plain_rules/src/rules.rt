@@ -34,7 +34,10 @@ pub fn least_refusal(alloc: Global, tx: &Transaction<'_>) -> Result<Option<Refus
     let all = all_asks(alloc, tx.asks)?;
     for reason in &RULES {
         if let Some(at) = first_form(alloc, *reason, tx, &all)? {
-            return Ok(Some(Refusal { reason: *reason, at }));
+            return Ok(Some(Refusal {
+                reason: *reason,
+                at,
+            }));
         }
     }
     Ok(None)

@@ -124,8 +124,7 @@ pub fn holders(
 pub fn identified(db: &Db<'_>, name: &Name<'_>, ask: &Ask<'_>) -> Result<Option<u64>, Memory> {
     match ask {
         Ask::Adds(other, Some(attribute), Operand::Plain(f))
-            if is_same_tempid(name, other) && is_identity(&db.facts, attribute.id) =>
-        {
+            if is_same_tempid(name, other) && is_identity(&db.facts, attribute.id) => {
             holder_of(db, attribute, f)
         }
         _ => Ok(None),
@@ -157,10 +156,7 @@ fn entity_of_tempid(names: &[Assigned<'_>], name: &Name<'_>) -> Option<u64> {
 }
 
 /// The tempids with a name by the bytes of their texts, for the answer.
-pub fn named_tempids(
-    alloc: Global,
-    names: &[Assigned<'_>],
-) -> Result<Vec<(Text, u64)>, Memory> {
+pub fn named_tempids(alloc: Global, names: &[Assigned<'_>]) -> Result<Vec<(Text, u64)>, Memory> {
     let mut list = Vec::new(alloc);
     for tempid in names {
         if let Name::Tempid(s) = &tempid.name {

@@ -92,11 +92,7 @@ pub(crate) fn read_pattern(alloc: Global, form: &Edn) -> Result<Vec<Item<'_>>, R
 
 /// Adds what the form is: an item, or of a map one for each of its pairs.
 #[cycle(read)]
-fn add_item<'a>(
-    alloc: Global,
-    form: &'a Edn,
-    list: &mut Vec<Item<'a>>,
-) -> Result<bool, Memory> {
+fn add_item<'a>(alloc: Global, form: &'a Edn, list: &mut Vec<Item<'a>>) -> Result<bool, Memory> {
     if let Edn::Map(pairs) = form {
         for (key, value) in pairs.as_slice() {
             let below = below_of(alloc, value)?;

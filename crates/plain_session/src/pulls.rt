@@ -84,7 +84,12 @@ fn stub(alloc: Global, n: u64, room: u64, maps: &mut u64) -> Result<Option<Edn>,
 
 fn map_of_number(alloc: Global, n: u64) -> Result<Edn, Memory> {
     let mut pairs = Vec::new(alloc);
-    add_pair_of(alloc, &Item::plain(Name::Own), replies::number(n), &mut pairs)?;
+    add_pair_of(
+        alloc,
+        &Item::plain(Name::Own),
+        replies::number(n),
+        &mut pairs,
+    )?;
     Ok(Edn::Map(Pairs::of(pairs)))
 }
 
@@ -217,11 +222,7 @@ fn key_of(alloc: Global, item: &Item<'_>) -> Result<Edn, Memory> {
 }
 
 /// The items with one less for the number of the one at the place, and without it where that is used up.
-fn one_less<'a>(
-    alloc: Global,
-    items: &[Item<'a>],
-    place: usize,
-) -> Result<Vec<Item<'a>>, Memory> {
+fn one_less<'a>(alloc: Global, items: &[Item<'a>], place: usize) -> Result<Vec<Item<'a>>, Memory> {
     let mut list = Vec::new(alloc);
     for (other, item) in items.iter().enumerate() {
         match item.below {

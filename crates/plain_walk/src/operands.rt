@@ -56,11 +56,7 @@ pub fn linked_part<'a>(facts: &[Datom], link: &Link<'_>, f: &'a Edn) -> Operand<
 }
 
 /// The entity that a vector names under a key: its first member is a unique attribute, or there is one value alone.
-pub fn linked_lookup<'a>(
-    facts: &[Datom],
-    link: &Link<'_>,
-    items: &'a Items,
-) -> Option<Name<'a>> {
+pub fn linked_lookup<'a>(facts: &[Datom], link: &Link<'_>, items: &'a Items) -> Option<Name<'a>> {
     let (k, value) = lookup_in(items)?;
     let is_unique = has_uniqueness(&attribute_named(facts, k.as_str()));
     if link.is_ref() && (is_unique || !link.is_many()) {

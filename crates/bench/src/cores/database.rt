@@ -28,12 +28,11 @@ pub(crate) struct Database {
 impl Database {
     /// It has the two attributes.
     pub(crate) fn new(alloc: Global) -> Result<Database> {
-        let mut core = Core::of(alloc, Snapshot::first(alloc)?)?;
-        transact(&mut core, &schema(alloc)?)?;
+        let names = Names::new(alloc)?;
         Ok(Database {
             alloc,
-            names: Names::new(alloc)?,
-            core,
+            names,
+            core: with_schema(alloc)?,
             entities: 0,
         })
     }
@@ -50,15 +49,28 @@ impl Database {
     /// Grows by so many entities, and gives the t of the last transaction.
     pub(crate) fn accept<R: Threads + Sync>(&mut self, rt: &R, count: u32) -> Result<u32> {
         for _ in 0..count {
-            let form = self.names.new_entity(self.alloc, self.entities)?;
-            transact(&mut self.core, &form)?;
-            self.entities = self.entities.saturating_add(1);
+            self.add_entity()?;
             if self.core.due(MERGE_AT) {
                 merge(rt, self.alloc, &mut self.core)?;
             }
         }
         Ok(self.core.basis())
     }
+
+    fn add_entity(&mut self) -> Result<()> {
+        let form = self.names.new_entity(self.alloc, self.entities)?;
+        transact(&mut self.core, &form)?;
+        self.entities = self.entities.saturating_add(1);
+        Ok(())
+    }
+}
+
+/// A core of a new database with the two attributes.
+fn with_schema(alloc: Global) -> Result<Core> {
+    let schema = schema(alloc)?;
+    let mut core = Core::of(alloc, Snapshot::first(alloc)?)?;
+    transact(&mut core, &schema)?;
+    Ok(core)
 }
 
 fn transact(core: &mut Core, form: &Edn) -> Result<()> {
