@@ -55,7 +55,7 @@ fn holder_of(db: &Db<'_>, attribute: &Attribute<'_>, f: &Edn) -> Result<Option<u
 // ---- tempids
 
 /// The tempids of all asks with their entities: the holder of an identity value, or else the next user entity.
-pub fn assigned<'a>(
+pub fn entities_of_tempids<'a>(
     alloc: Global,
     db: &Db<'_>,
     all: &[Ask<'a>],
@@ -168,10 +168,12 @@ pub fn named_tempids(alloc: Global, names: &[Assigned<'_>]) -> Result<Vec<(Text,
 
 /// Puts the text in its place of a list in order.
 fn put(list: &mut Vec<(Text, u64)>, text: &Text, e: u64) -> Result<(), Memory> {
-    let mut place = 0;
-    while place < list.len() && list[place].0.as_str() <= text.as_str() {
-        place += 1;
+    for at in 0..list.len() {
+        if text.as_str() < list[at].0.as_str() {
+            list.insert(at, (text.copy()?, e))?;
+            return Ok(());
+        }
     }
-    list.insert(place, (text.copy()?, e))?;
+    list.push((text.copy()?, e))?;
     Ok(())
 }

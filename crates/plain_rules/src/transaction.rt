@@ -1,7 +1,7 @@
 //! A transaction at a history: what each of its forms asks, what would be recorded, and what would hold then.
 use crate::changes::{Asked, asked_by};
 use crate::db::Db;
-use crate::tempids::{Assigned, assigned};
+use crate::tempids::{Assigned, entities_of_tempids};
 use fb_memory::Memory;
 use fb_numbers::{TRANSACTIONS, TX_INSTANT};
 use fb_values::{Datom, Order, Value};
@@ -49,7 +49,7 @@ fn names_in<'a>(
     asks: &[Vec<Ask<'a>>],
 ) -> Result<Vec<Assigned<'a>>, Memory> {
     let all = all_asks(alloc, asks)?;
-    assigned(alloc, db, &all)
+    entities_of_tempids(alloc, db, &all)
 }
 
 /// What all forms ask, one after another.
