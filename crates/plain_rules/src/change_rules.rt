@@ -27,7 +27,7 @@ pub fn compares_many(ask: &Ask<'_>) -> bool {
 /// Whether the present value differs from the old one of a cas; nil means that there is none.
 pub fn compares_another(tx: &Transaction<'_>, ask: &Ask<'_>) -> Result<bool, Memory> {
     match ask {
-        Ask::Compares(name, Some(attribute), old, _) => match entity_of(tx.db, &tx.names, name)? {
+        Ask::Compares(name, Some(attribute), old, _) => match entity_of(&tx.db, &tx.names, name)? {
             Some(e) => has_another(tx, e, attribute, old),
             None => Ok(false),
         },
@@ -41,7 +41,7 @@ fn has_another(
     attribute: &Attribute<'_>,
     old: &Operand<'_>,
 ) -> Result<bool, Memory> {
-    let present = value_of(&tx.db.facts, e, attribute.id);
+    let present = value_of(tx.db.facts, e, attribute.id);
     Ok(match (present, &old_value(tx, attribute, old)?) {
         (Some(v), Some(w)) => *v != *w,
         (None, None) => false,
@@ -56,7 +56,7 @@ fn old_value(
 ) -> Result<Option<Value>, Memory> {
     match old {
         Operand::Plain(Edn::Nil) => Ok(None),
-        _ => value_of_part(tx.db, &tx.names, attribute, old),
+        _ => value_of_part(&tx.db, &tx.names, attribute, old),
     }
 }
 
@@ -64,7 +64,7 @@ fn old_value(
 
 /// Whether the triple is added beside another value of cardinality one, or is both added and retracted.
 pub fn conflicts(tx: &Transaction<'_>, d: &Datom) -> bool {
-    let is_beside_another = is_one(&tx.db.facts, d.a)
+    let is_beside_another = is_one(tx.db.facts, d.a)
         && tx.asked.added.iter().any(|list| has_another_value(list, d));
     is_asked_in(&tx.asked.added, d)
         && (is_beside_another
@@ -91,7 +91,7 @@ fn has_another_holder(facts: &[Datom], d: &Datom) -> bool {
 }
 
 pub fn shares_a_unique_value(tx: &Transaction<'_>, d: &Datom) -> bool {
-    is_unique(&tx.db.facts, d.a) && has_another_holder(&tx.after, d)
+    is_unique(tx.db.facts, d.a) && has_another_holder(&tx.after, d)
 }
 
 // ---- incomplete attribute
@@ -100,7 +100,7 @@ pub fn shares_a_unique_value(tx: &Transaction<'_>, d: &Datom) -> bool {
 pub fn describes_no_whole(tx: &Transaction<'_>, d: &Datom) -> bool {
     IDENT <= d.a
         && d.a <= INDEX
-        && !is_attribute(&tx.db.facts, d.e)
+        && !is_attribute(tx.db.facts, d.e)
         && tx
             .after
             .iter()
@@ -111,8 +111,8 @@ pub fn describes_no_whole(tx: &Transaction<'_>, d: &Datom) -> bool {
 /// Whether it alters an attribute so that it is not whole.
 pub fn alters_to_no_whole(tx: &Transaction<'_>, d: &Datom) -> bool {
     (d.a == CARDINALITY || d.a == UNIQUE || d.a == INDEX)
-        && is_change(&tx.db.said, d)
-        && is_attribute(&tx.db.facts, d.e)
+        && is_change(tx.db.said, d)
+        && is_attribute(tx.db.facts, d.e)
         && !is_whole(&tx.after, d.e)
 }
 
@@ -121,10 +121,10 @@ pub fn alters_to_no_whole(tx: &Transaction<'_>, d: &Datom) -> bool {
 /// Whether it changes what stays as it is: an attribute's ident, its type and its parts, what is built in, and a transaction's instant.
 pub fn changes_what_stays(tx: &Transaction<'_>, d: &Datom) -> bool {
     let is_fixed = (d.a == IDENT || d.a == VALUE_TYPE || d.a == IS_COMPONENT)
-        && is_attribute(&tx.db.facts, d.e);
+        && is_attribute(tx.db.facts, d.e);
     let is_of_builtin = IDENT <= d.a && d.a <= INDEX && is_builtin(d.e);
     let is_old_instant = d.a == TX_INSTANT && !d.added;
-    is_change(&tx.db.said, d) && (is_fixed || is_of_builtin || is_old_instant)
+    is_change(tx.db.said, d) && (is_fixed || is_of_builtin || is_old_instant)
 }
 
 // ---- alteration conflict
@@ -132,8 +132,8 @@ pub fn changes_what_stays(tx: &Transaction<'_>, d: &Datom) -> bool {
 /// Whether it alters the cardinality or the uniqueness of an attribute against its facts.
 pub fn breaks_a_promise(tx: &Transaction<'_>, d: &Datom) -> bool {
     (d.a == CARDINALITY || d.a == UNIQUE)
-        && is_change(&tx.db.said, d)
-        && is_attribute(&tx.db.facts, d.e)
+        && is_change(tx.db.said, d)
+        && is_attribute(tx.db.facts, d.e)
         && !keeps_its_promise(&tx.after, d.e)
 }
 

@@ -170,7 +170,7 @@ fn sweep_values(
     e: Option<u64>,
     attribute: &Attribute<'_>,
 ) -> Result<(), Memory> {
-    for d in &db.facts {
+    for d in db.facts {
         if Some(d.e) == e && d.a == attribute.id {
             withdraw(list, db, d)?;
         }
@@ -188,8 +188,8 @@ fn sweep_entity(
     let Some(e) = e else {
         return Ok(());
     };
-    let set = closed_set(alloc, &db.facts, e)?;
-    for d in &db.facts {
+    let set = closed_set(alloc, db.facts, e)?;
+    for d in db.facts {
         if refers_to(&set, d) || set.contains(&d.e) {
             withdraw(list, db, d)?;
         }
@@ -213,8 +213,8 @@ fn withdraw(list: &mut Vec<Datom>, db: &Db<'_>, d: &Datom) -> Result<(), Memory>
 /// What a form's additions imply: of an attribute with one value, another value that holds goes.
 fn implied_by(alloc: Global, db: &Db<'_>, added: &[Datom]) -> Result<Vec<Datom>, Memory> {
     let mut list = Vec::new(alloc);
-    for d in &db.facts {
-        if has_another_value(added, d) && is_one(&db.facts, d.a) {
+    for d in db.facts {
+        if has_another_value(added, d) && is_one(db.facts, d.a) {
             withdraw(&mut list, db, d)?;
         }
     }

@@ -29,7 +29,7 @@ pub fn has_faulty_lookup(fault: LookupFault, db: &Db<'_>, name: &Name<'_>) -> Re
 /// Whether the lookup ref has the fault, or one that is its value, where values are entities.
 #[cycle(inside)]
 fn has_fault(fault: LookupFault, db: &Db<'_>, k: &Text, value: &Edn) -> Result<bool, Memory> {
-    let Some(attribute) = attribute_named(&db.facts, k.as_str()) else {
+    let Some(attribute) = attribute_named(db.facts, k.as_str()) else {
         return Ok(matches!(fault, LookupFault::Unknown));
     };
     let is_faulty = match fault {

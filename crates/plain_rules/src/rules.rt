@@ -31,7 +31,7 @@ const RULES: [Reason; 17] = [
 
 /// Why the transaction is refused, if it is, where each of its forms has a shape.
 pub fn least_refusal(alloc: Global, tx: &Transaction<'_>) -> Result<Option<Refusal>, Memory> {
-    let all = all_asks(alloc, tx.asks)?;
+    let all = all_asks(alloc, &tx.asks)?;
     for reason in &RULES {
         if let Some(at) = first_form(alloc, *reason, tx, &all)? {
             return Ok(Some(Refusal {
@@ -90,13 +90,13 @@ fn is_broken_by(
     ask: &Ask<'_>,
 ) -> Result<bool, Memory> {
     match rule {
-        Reason::NotAnAttribute => names::names_no_attribute(tx.db, ask),
+        Reason::NotAnAttribute => names::names_no_attribute(&tx.db, ask),
         Reason::ProtectedAttribute => Ok(names::is_of_protected(ask)),
-        Reason::WrongType => names::has_wrong_type(tx.db, ask),
-        Reason::NotUniqueLookup => names::has_lookup_with(LookupFault::NotUnique, tx.db, ask),
-        Reason::NotAnEntity => names::names_no_entity(tx.db, ask),
+        Reason::WrongType => names::has_wrong_type(&tx.db, ask),
+        Reason::NotUniqueLookup => names::has_lookup_with(LookupFault::NotUnique, &tx.db, ask),
+        Reason::NotAnEntity => names::names_no_entity(&tx.db, ask),
         Reason::NestedWithoutId => Ok(matches!(ask, Ask::LacksId)),
-        Reason::TempidConflict => names::has_tempid_of_two(alloc, tx.db, all, ask),
+        Reason::TempidConflict => names::has_tempid_of_two(alloc, &tx.db, all, ask),
         Reason::TempidNotAnEntity => Ok(names::has_tempid_of_none(all, ask)),
         Reason::CasMany => Ok(changes::compares_many(ask)),
         Reason::CasFailed => changes::compares_another(tx, ask),

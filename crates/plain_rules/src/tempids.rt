@@ -22,7 +22,7 @@ pub struct Assigned<'a> {
 pub fn found(db: &Db<'_>, name: &Name<'_>) -> Result<Option<u64>, Memory> {
     match name {
         Name::Number(n) => Ok(numbered(db, *n)),
-        Name::Ident(k) => Ok(named(&db.facts, k.as_str())),
+        Name::Ident(k) => Ok(named(db.facts, k.as_str())),
         Name::Lookup(k, value) => looked_up(db, k, value),
         Name::Tempid(_) | Name::Nameless(_) => Ok(None),
     }
@@ -38,7 +38,7 @@ fn numbered(db: &Db<'_>, n: i64) -> Option<u64> {
 }
 
 fn looked_up(db: &Db<'_>, k: &Text, value: &Edn) -> Result<Option<u64>, Memory> {
-    match attribute_named(&db.facts, k.as_str()) {
+    match attribute_named(db.facts, k.as_str()) {
         Some(attribute) => holder_of(db, &attribute, value),
         None => Ok(None),
     }
@@ -47,7 +47,7 @@ fn looked_up(db: &Db<'_>, k: &Text, value: &Edn) -> Result<Option<u64>, Memory> 
 /// The entity that has the value.
 fn holder_of(db: &Db<'_>, attribute: &Attribute<'_>, f: &Edn) -> Result<Option<u64>, Memory> {
     match value_in(attribute.kind, f)? {
-        Some(v) => Ok(holder(&db.facts, attribute.id, &v)),
+        Some(v) => Ok(holder(db.facts, attribute.id, &v)),
         None => Ok(None),
     }
 }
@@ -124,7 +124,7 @@ pub fn holders(
 pub fn identified(db: &Db<'_>, name: &Name<'_>, ask: &Ask<'_>) -> Result<Option<u64>, Memory> {
     match ask {
         Ask::Adds(other, Some(attribute), Operand::Plain(f))
-            if is_same_tempid(name, other) && is_identity(&db.facts, attribute.id) => {
+            if is_same_tempid(name, other) && is_identity(db.facts, attribute.id) => {
             holder_of(db, attribute, f)
         }
         _ => Ok(None),

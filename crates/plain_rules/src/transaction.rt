@@ -11,9 +11,9 @@ use std::alloc::Global;
 
 #[derive(Drop)]
 pub struct Transaction<'a> {
-    pub db: &'a Db<'a>,
+    pub db: Db<'a>,
     /// In the walk's order, for each form.
-    pub asks: &'a [Vec<Ask<'a>>],
+    pub asks: Vec<Vec<Ask<'a>>>,
     /// The entities of tempids.
     pub names: Vec<Assigned<'a>>,
     /// What the forms ask for, as datoms.
@@ -27,12 +27,12 @@ pub struct Transaction<'a> {
 /// The transaction of these asks, form by form.
 pub fn transaction_at<'a>(
     alloc: Global,
-    db: &'a Db<'a>,
-    asks: &'a [Vec<Ask<'a>>],
+    db: Db<'a>,
+    asks: Vec<Vec<Ask<'a>>>,
 ) -> Result<Transaction<'a>, Memory> {
-    let names = names_in(alloc, db, asks)?;
-    let asked = asked_by(alloc, db, &names, asks)?;
-    let (changes, after) = changes_and_after(alloc, db, &asked)?;
+    let names = names_in(alloc, &db, &asks)?;
+    let asked = asked_by(alloc, &db, &names, &asks)?;
+    let (changes, after) = changes_and_after(alloc, &db, &asked)?;
     Ok(Transaction {
         db,
         asks,
@@ -68,14 +68,14 @@ fn changes_and_after(
     asked: &Asked,
 ) -> Result<(Vec<Datom>, Vec<Datom>), Memory> {
     let changes = changes_of(alloc, db, asked)?;
-    let after = facts_after(alloc, &db.said, &changes)?;
+    let after = facts_after(alloc, db.said, &changes)?;
     Ok((changes, after))
 }
 
 fn changes_of(alloc: Global, db: &Db<'_>, asked: &Asked) -> Result<Vec<Datom>, Memory> {
     let mut changes = Vec::new(alloc);
     for lists in asked.of_all_kinds() {
-        add_changes(&mut changes, &db.said, lists)?;
+        add_changes(&mut changes, db.said, lists)?;
     }
     in_order(alloc, Order::Eavt, &changes)
 }

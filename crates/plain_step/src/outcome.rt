@@ -4,7 +4,7 @@ use edn_form::Edn;
 use fb_memory::Memory;
 use fb_text::Text;
 use fb_values::{Datoms, Entry};
-use plain_reads::{last_instant, next_instant};
+use plain_reads::{last_instant, next_instant, said, standing};
 use plain_rules::{Db, Transaction, least_refusal, named_tempids, recorded, transaction_at};
 use plain_walk::{first_without_shape, flat, forms_in};
 use std::alloc::Global;
@@ -32,20 +32,21 @@ pub fn step<G: Guard>(
     if let Some(at) = first_without_shape(forms) {
         return Ok(refused(Reason::NotAForm, at));
     }
-    let db = Db::of(alloc, entries)?;
-    step_at(alloc, &db, forms, reading, guard)
+    let said = said(alloc, entries)?;
+    let facts = standing(alloc, &said)?;
+    step_at(alloc, Db::of(entries, &said, &facts), forms, reading, guard)
 }
 
 /// The step of forms that have a shape.
-fn step_at<G: Guard>(
+fn step_at<'a, G: Guard>(
     alloc: Global,
-    db: &Db<'_>,
-    forms: &[Edn],
+    db: Db<'a>,
+    forms: &'a [Edn],
     reading: i64,
     guard: &G,
 ) -> Result<Decision, Memory> {
-    let asks = flat(alloc, &db.facts, forms)?;
-    let tx = transaction_at(alloc, db, &asks)?;
+    let asks = flat(alloc, db.facts, forms)?;
+    let tx = transaction_at(alloc, db, asks)?;
     decided(alloc, &tx, reading, guard)
 }
 
