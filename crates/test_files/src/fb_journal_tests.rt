@@ -1,6 +1,6 @@
 //! A journal in a file of the system, whose bytes no contract knows, and one that is begun again.
 use fb_disk::Disk;
-use fb_journal::{Journal, Mark, Reading, frame, frame_in};
+use fb_journal::{Framed, Journal, Mark, Reading, frame, frame_in};
 use fb_memory::Memory;
 use fb_ports::{Host, Part};
 use mem_ports::MemDisk;
@@ -52,21 +52,32 @@ fn a_log_in_a_file_has_the_documented_bytes(rt: HostRuntime) -> Result<(), Fail>
     Ok(())
 }
 
-/// How many records a journal has that is begun, gets a record, is emptied and gets two more, and is given back and started.
+/// Adds a record to a journal, empties it and adds two more. It says whether each call succeeds.
+fn is_reset_and_goes_on(journal: &mut Journal<MemDisk>, framed: &Framed) -> bool {
+    journal.append(framed).is_ok()
+        && journal.reset().is_ok()
+        && journal.append(framed).is_ok()
+        && journal.append(framed).is_ok()
+}
+
+/// How many records the log of the disk has.
+fn count_in(alloc: Global, disk: MemDisk) -> Option<usize> {
+    match Journal::start(alloc, disk, Mark::Log) {
+        Ok((_, payloads)) => Some(payloads.len()),
+        Err(_) => None,
+    }
+}
+
+/// How many records a journal has that is begun and emptied, and goes on, and is given back and started.
 fn count_after_a_reset(alloc: Global) -> Result<Option<usize>, Memory> {
-    let disk = MemDisk::new(alloc, 1_000, Vec::new(alloc))?;
     let framed = frame(alloc, b"hi")?;
+    let disk = MemDisk::new(alloc, 1_000, Vec::new(alloc))?;
     let Ok(mut journal) = Journal::anew(alloc, disk, Mark::Log) else {
         return Ok(None);
     };
-    let is_added = journal.append(&framed).is_ok()
-        && journal.reset().is_ok()
-        && journal.append(&framed).is_ok()
-        && journal.append(&framed).is_ok();
-    match Journal::start(alloc, journal.give_back(), Mark::Log) {
-        Ok((_, payloads)) => Ok(if is_added { Some(payloads.len()) } else { None }),
-        Err(_) => Ok(None),
-    }
+    let is_added = is_reset_and_goes_on(&mut journal, &framed);
+    let count = count_in(alloc, journal.give_back());
+    Ok(if is_added { count } else { None })
 }
 
 #[test]

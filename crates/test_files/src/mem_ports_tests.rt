@@ -6,34 +6,36 @@ use mem_ports::{FixedClock, MemDisk, MemHost, MemSource, StepClock};
 use std::alloc::Global;
 use std::test::Fail;
 
-fn hands_out(alloc: Global) -> Result<bool, Memory> {
-    let mut host = MemHost::new(alloc);
+fn add_one(alloc: Global, host: &mut MemHost) -> Result<(), Memory> {
     host.add_source("one", MemSource::new(b"1".to_vec(alloc)?, Vec::new(alloc)))?;
-    host.add_disk(
-        "one",
-        Part::Segments,
-        MemDisk::new(alloc, 100, Vec::new(alloc))?,
-    )?;
-    Ok(
-        host.source(alloc, "one").is_ok()
-            && host.disk(alloc, "one", Part::Segments).is_ok()
-            && host.disk(alloc, "one", Part::Log).is_ok()
-            && host.sink(alloc, "-").is_ok(),
-    )
+    let disk = MemDisk::new(alloc, 100, Vec::new(alloc))?;
+    host.add_disk("one", Part::Segments, disk)
+}
+
+fn hands_out(alloc: Global, host: &mut MemHost) -> bool {
+    host.source(alloc, "one").is_ok()
+        && host.disk(alloc, "one", Part::Segments).is_ok()
+        && host.disk(alloc, "one", Part::Log).is_ok()
+        && host.sink(alloc, "-").is_ok()
 }
 
 #[test]
 fn a_host_in_memory_hands_out_what_it_was_given(rt: HostRuntime) -> Result<(), Fail> {
-    assert!(rt; hands_out(rt.alloc())?);
+    let mut host = MemHost::new(rt.alloc());
+    add_one(rt.alloc(), &mut host)?;
+    assert!(rt; hands_out(rt.alloc(), &mut host));
     Ok(())
 }
 
-/// Whether that is left of `abc`, which is synced, and of `defg` after it, which is not and is cut to so many bytes.
+/// Writes `abc`, which is synced, and `defg` after it, which is not. It says whether each call succeeds.
+fn is_written(disk: &mut MemDisk) -> bool {
+    disk.write_at(0, b"abc").is_ok() && disk.sync().is_ok() && disk.write_at(3, b"defg").is_ok()
+}
+
+/// Whether that is left of the two where the second is cut to so many bytes.
 fn leaves(alloc: Global, cut: u64, want: &[u8]) -> Result<bool, Memory> {
     let mut disk = MemDisk::new(alloc, 200, Vec::new(alloc))?;
-    let is_written = disk.write_at(0, b"abc").is_ok()
-        && disk.sync().is_ok()
-        && disk.write_at(3, b"defg").is_ok();
+    let is_written = is_written(&mut disk);
     let image = disk.image(alloc, &[cut])?;
     Ok(is_written && image.bytes() == want)
 }
@@ -42,8 +44,8 @@ const ROWS: [(u64, &[u8]); 3] = [(0, b"abc\0\0\0\0"), (2, b"abcde\0\0"), (9, b"a
 
 #[test]
 fn an_image_can_be_made_of_each_crash(rt: HostRuntime) -> Result<(), Fail> {
-    for (cut, want) in ROWS {
-        assert!(rt; leaves(rt.alloc(), cut, want)?, "cut to {cut}");
+    for (cut, want) in ROWS.iter() {
+        assert!(rt; leaves(rt.alloc(), *cut, want)?, "cut to {cut}");
     }
     Ok(())
 }
@@ -64,10 +66,10 @@ const STEPS: [(i64, i64, [i64; 3]); 5] = [
 #[test]
 fn a_clock_in_memory_stands_still_or_steps(rt: HostRuntime) -> Result<(), Fail> {
     assert_eq!(rt; readings(&FixedClock::new(-5)), [-5, -5, -5]);
-    for (first, step, want) in STEPS {
+    for (first, step, want) in STEPS.iter() {
         assert_eq!(rt;
-            readings(&StepClock::new(first, step)),
-            want,
+            readings(&StepClock::new(*first, *step)),
+            *want,
             "{first} by {step}"
         );
     }

@@ -21,25 +21,31 @@ const COPIES: [(&str, &str, Option<usize>); 3] = [
     ("script", "script.out", Some(4)),
 ];
 
+fn write_two(rt: &HostRuntime) -> io::Result<()> {
+    std::fs::write(rt, "script", "hello")?;
+    std::fs::write(rt, "script.out", "what was there before")
+}
+
+fn remove_two(rt: &HostRuntime) -> io::Result<()> {
+    std::fs::remove_file(rt, "script")?;
+    std::fs::remove_file(rt, "script.out")
+}
+
 #[test]
 fn a_file_is_read_and_another_is_replaced(rt: HostRuntime) -> Result<(), Fail> {
-    std::fs::write(&rt, "script", "hello")?;
-    std::fs::write(&rt, "script.out", "what was there before")?;
+    write_two(&rt)?;
     let mut host = RealHost::new(rt);
-    for (from, to, want) in COPIES {
+    for (from, to, want) in COPIES.iter() {
         assert_eq!(rt;
             copied(&mut host, rt.alloc(), from, to),
-            want,
+            *want,
             "{from} to {to}"
         );
     }
     assert_eq!(rt; host.faults(), 2);
-    assert_eq!(rt;
-        std::fs::read_to_string(&rt, "script.out")?.as_str(),
-        "hell"
-    );
-    std::fs::remove_file(&rt, "script")?;
-    std::fs::remove_file(&rt, "script.out")?;
+    let replaced = std::fs::read_to_string(&rt, "script.out")?;
+    assert_eq!(rt; replaced.as_str(), "hell");
+    remove_two(&rt)?;
     Ok(())
 }
 
@@ -111,20 +117,31 @@ const LOGS: [(&str, bool, &[u8]); 5] = [
     ("", false, b""),
 ];
 
+fn make_places(rt: &HostRuntime) -> io::Result<()> {
+    std::fs::create_dir(rt, "store")?;
+    std::fs::write(rt, "no_directory", "")
+}
+
+fn remove_places(rt: &HostRuntime) -> io::Result<()> {
+    std::fs::remove_file(rt, "store/log")?;
+    std::fs::remove_dir(rt, "store")?;
+    std::fs::remove_file(rt, "no_directory")
+}
+
 #[test]
 fn a_log_is_there_at_the_next_opening(rt: HostRuntime) -> Result<(), Fail> {
-    let alloc = rt.alloc();
-    std::fs::create_dir(&rt, "store")?;
-    std::fs::write(&rt, "no_directory", "")?;
+    make_places(&rt)?;
     let mut host = RealHost::new(rt);
-    for (dir, opens, bytes) in LOGS {
-        assert_eq!(rt; is_written(&mut host, alloc, dir), opens, "{dir}");
-        assert_eq!(rt; reads_again(&mut host, alloc, dir, bytes), opens, "{dir}");
+    for (dir, opens, bytes) in LOGS.iter() {
+        assert_eq!(rt; is_written(&mut host, rt.alloc(), dir), *opens, "{dir}");
+        assert_eq!(rt;
+            reads_again(&mut host, rt.alloc(), dir, bytes),
+            *opens,
+            "{dir}"
+        );
     }
     assert_eq!(rt; host.faults(), 6);
-    std::fs::remove_file(&rt, "store/log")?;
-    std::fs::remove_dir(&rt, "store")?;
-    std::fs::remove_file(&rt, "no_directory")?;
+    remove_places(&rt)?;
     Ok(())
 }
 
