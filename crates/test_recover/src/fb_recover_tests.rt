@@ -2,8 +2,7 @@
 use fb_disk::Disk;
 use fb_memory::Memory;
 use fb_merge::merged;
-use fb_ports::Part;
-use fb_recover::{OpenFault, reopen};
+use fb_recover::{OpenFault, Opened, reopen};
 use fb_view::Snapshot;
 use mem_ports::MemDisk;
 use seg_store::{SegStore, trees_of_a_lawful_history_are_storable};
@@ -12,7 +11,7 @@ use std::test::Fail;
 use std::thread::Threads;
 
 /// A log of one entry, in the older format. Its record begins at byte 15, and the payload at byte 24.
-const LOG: [u8; 92] = [
+const LOG: &[u8; 92] = &[
     0x46, 0x41, 0x43, 0x54, 0x42, 0x41, 0x53, 0x45, 0x20, 0x4c, 0x4f, 0x47, 0x20, 0x31, 0x0a, 0x01,
     0x00, 0x00, 0x00, 0x00, 0x00, 0x00, 0x00, 0x43, 0x01, 0x00, 0x00, 0x00, 0x01, 0x00, 0x00, 0x01,
     0x8c, 0xc2, 0x51, 0xf4, 0x00, 0x00, 0x00, 0x00, 0x02, 0x00, 0x00, 0x0c, 0x00, 0x00, 0x00, 0x00,
@@ -24,7 +23,7 @@ const LOG: [u8; 92] = [
 /// The places that are changed, each with its new byte, and what opening then answers: the t of the last entry, or the fault.
 type Row = (&'static [(usize, u8)], Result<u32, OpenFault>);
 
-const ROWS: [Row; 17] = [
+const ROWS: &[Row] = &[
     (&[], Ok(1)),
     (&[(24, 2)], Ok(1)),
     (&[(15, 0)], Ok(0)),
@@ -54,7 +53,7 @@ const ROWS: [Row; 17] = [
 ];
 
 fn changed(changes: &[(usize, u8)]) -> [u8; 92] {
-    let mut log = LOG;
+    let mut log = *LOG;
     for (place, byte) in changes {
         if let Some(old) = log.get_mut(*place) {
             *old = *byte;
@@ -63,45 +62,8 @@ fn changed(changes: &[(usize, u8)]) -> [u8; 92] {
     log
 }
 
-/// What opening a disk with these bytes answers.
-fn told(alloc: Global, bytes: &[u8]) -> Result<Result<u32, OpenFault>, Memory> {
-    let mut log = MemDisk::new(alloc, 1_000, Vec::new(alloc))?;
-    let segments = MemDisk::new(alloc, 1_000, Vec::new(alloc))?;
-    if log.write_at(0, bytes).is_err() {
-        return Ok(Err(OpenFault::Disk { which: Part::Log }));
-    }
-    Ok(match reopen(alloc, log, segments) {
-        Ok(opened) => Ok(opened.recovered),
-        Err(stop) => Err(stop.fault),
-    })
-}
-
-#[test]
-fn the_first_fault_of_a_log_is_told(rt: HostRuntime) -> Result<(), Fail> {
-    for (n, (changes, expected)) in ROWS.iter().enumerate() {
-        let log = changed(changes);
-        assert_eq!(rt; told(rt.alloc(), &log)?, *expected, "row {n}");
-    }
-    Ok(())
-}
-
-// ---- beside a file of segments
-
 /// More than any of these files takes.
 const ROOM: usize = 100_000;
-
-/// A file of segments without a record.
-const NO_ROOTS: &[u8] = b"FACTBASE SEG 1\n\0";
-
-/// What an opening answers: how far the history goes and how far its trees, the least number that a new node may have, and the
-/// bytes that the file of segments then has.
-#[derive(Drop)]
-struct Opening {
-    recovered: u32,
-    covered: u32,
-    next_id: u64,
-    segments: Vec<u8>,
-}
 
 fn disk_of(alloc: Global, bytes: &[u8]) -> Result<MemDisk, Memory> {
     let mut disk = MemDisk::new(alloc, ROOM, Vec::new(alloc))?;
@@ -111,24 +73,77 @@ fn disk_of(alloc: Global, bytes: &[u8]) -> Result<MemDisk, Memory> {
     }
 }
 
-/// The bytes of the disk.
-fn bytes_of(alloc: Global, disk: &MemDisk) -> Result<Vec<u8>, Memory> {
-    let mut bytes = Vec::new(alloc);
-    bytes.extend_from_slice(disk.bytes())?;
-    Ok(bytes)
+/// What opening a disk with these bytes answers.
+fn told(alloc: Global, bytes: &[u8]) -> Result<Result<u32, OpenFault>, Memory> {
+    let log = disk_of(alloc, bytes)?;
+    let segments = disk_of(alloc, &[])?;
+    Ok(recovered(alloc, log, segments))
+}
+
+fn recovered(alloc: Global, log: MemDisk, segments: MemDisk) -> Result<u32, OpenFault> {
+    match reopen(alloc, log, segments) {
+        Ok(opened) => Ok(opened.recovered),
+        Err(stop) => Err(stop.fault),
+    }
+}
+
+#[test]
+fn the_first_fault_of_a_log_is_told(rt: HostRuntime) -> Result<(), Fail> {
+    for (n, (changes, expected)) in ROWS.iter().enumerate() {
+        let log = changed(changes);
+        let told = told(rt.alloc(), &log)?;
+        assert_eq!(rt; told, *expected, "row {n}");
+    }
+    Ok(())
+}
+
+// ---- beside a file of segments
+
+/// A file of segments without a record.
+const NO_ROOTS: &[u8] = b"FACTBASE SEG 1\n\0";
+
+/// How far the history of an opened database goes and how far its trees, and the least number that a new node may have.
+type Reach = (u32, u32, u64);
+
+/// What an opening answers: its reach, and the file of segments that it leaves.
+#[derive(Drop)]
+struct Opening {
+    reach: Reach,
+    segments: MemDisk,
 }
 
 /// What opening the log beside these segments answers, if it is no fault.
 fn opened(alloc: Global, log: &[u8], segments: &[u8]) -> Result<Option<Opening>, Memory> {
-    match reopen(alloc, disk_of(alloc, log)?, disk_of(alloc, segments)?) {
-        Ok(opened) => Ok(Some(Opening {
-            recovered: opened.recovered,
-            covered: opened.covered,
-            next_id: opened.store.next_id(),
-            segments: bytes_of(alloc, &opened.store.give_back())?,
-        })),
+    let log = disk_of(alloc, log)?;
+    let segments = disk_of(alloc, segments)?;
+    match reopen(alloc, log, segments) {
+        Ok(opened) => Ok(Some(opening_of(opened))),
         Err(_) => Ok(None),
     }
+}
+
+fn opening_of(opened: Opened<MemDisk>) -> Opening {
+    let store = opened.store;
+    let reach = (opened.recovered, opened.covered, store.next_id());
+    Opening {
+        reach,
+        segments: store.give_back(),
+    }
+}
+
+/// Whether opening the log beside these segments answers this, and leaves this file of segments.
+fn opens_as(
+    alloc: Global,
+    log: &[u8],
+    segments: &[u8],
+    reach: Reach,
+    left: &[u8],
+) -> Result<bool, Memory> {
+    let opening = opened(alloc, log, segments)?;
+    Ok(match &opening {
+        Some(told) => told.reach == reach && told.segments.bytes() == left,
+        None => false,
+    })
 }
 
 /// Keeps the value's trees. It answers whether they are kept.
@@ -152,128 +167,127 @@ fn keep_merged<R: Threads + Sync>(
     }
 }
 
+/// Keeps the value's own trees, and so many times those of all its entries. It answers whether all are kept.
+fn keep_all<R: Threads + Sync>(
+    rt: &R,
+    alloc: Global,
+    value: &Snapshot,
+    store: &mut SegStore<MemDisk>,
+    times: usize,
+) -> bool {
+    let mut kept = keep_own(alloc, value, store);
+    for _ in 0..times {
+        kept = kept && keep_merged(rt, alloc, value, store);
+    }
+    kept
+}
+
 /// A file of segments that keeps the trees of the first entry, and so many times those of the whole documented log.
-fn file_of<R: Threads + Sync>(rt: &R, alloc: Global, times: usize) -> Result<Vec<u8>, Memory> {
-    let Ok(opened) = reopen(alloc, disk_of(alloc, &LOG)?, disk_of(alloc, &[])?) else {
+fn file_of<R: Threads + Sync>(rt: &R, alloc: Global, times: usize) -> Result<MemDisk, Memory> {
+    let log = disk_of(alloc, LOG)?;
+    let segments = disk_of(alloc, &[])?;
+    let Ok(opened) = reopen(alloc, log, segments) else {
         return Err(Memory);
     };
+    file_with(rt, alloc, opened, times)
+}
+
+fn file_with<R: Threads + Sync>(
+    rt: &R,
+    alloc: Global,
+    opened: Opened<MemDisk>,
+    times: usize,
+) -> Result<MemDisk, Memory> {
     let mut store = opened.store;
-    let value = opened.core.snapshot();
-    let mut kept = keep_own(alloc, value, &mut store);
-    for _ in 0..times {
-        kept = kept && keep_merged(rt, alloc, value, &mut store);
-    }
-    if kept {
-        bytes_of(alloc, &store.give_back())
+    if keep_all(rt, alloc, opened.core.snapshot(), &mut store, times) {
+        Ok(store.give_back())
     } else {
         Err(Memory)
     }
 }
 
-/// Whether an opening answers this, and leaves these bytes.
-fn is(
-    opening: &Option<Opening>,
-    recovered: u32,
-    covered: u32,
-    next_id: u64,
-    segments: &[u8],
-) -> bool {
-    match opening {
-        Some(told) => {
-            told.recovered == recovered
-                && told.covered == covered
-                && told.next_id == next_id
-                && told.segments.as_slice() == segments
-        }
-        None => false,
-    }
-}
+/// The places of the log that are changed, each with its new byte, and the reach of the opening beside a file that keeps the trees of
+/// both entries. One log ends before the second entry, and one has another text in it.
+///
+/// The trees of the first entry have 8 nodes, a leaf and a directory for each order. Those of both entries have 7 new ones and the same
+/// leaf of VAET. Of these 15 nodes 8 are theirs.
+const BESIDE: &[(&[(usize, u8)], Reach)] = &[
+    (&[], (1, 1, 16)),
+    (&[(15, 0)], (0, 0, 16)),
+    (&[(89, 0x6a)], (1, 0, 16)),
+];
 
 #[test]
 fn a_kept_root_is_found_again(rt: HostRuntime) -> Result<(), Fail> {
-    let alloc = rt.alloc();
-    assert!(rt; is(&opened(alloc, &LOG, &[])?, 1, 0, 1, NO_ROOTS));
-
-    // The trees of the first entry have 8 nodes, a leaf and a directory for each order. Those of both entries have 7 new ones and
-    // the same leaf of VAET. Of these 15 nodes 8 are theirs.
-    let file = file_of(&rt, alloc, 1)?;
-    assert!(rt; is(&opened(alloc, &LOG, &file)?, 1, 1, 16, &file));
-
-    // A log that ends before the entry, and one with another text in it.
-    assert!(rt;
-        is(
-            &opened(alloc, &changed(&[(15, 0)]), &file)?,
-            0,
-            0,
-            16,
-            &file
-        )
-    );
-    assert!(rt;
-        is(
-            &opened(alloc, &changed(&[(89, 0x6a)]), &file)?,
-            1,
-            0,
-            16,
-            &file
-        )
-    );
-
-    // No file of segments.
-    let other = flipped(alloc, &file, 0)?;
-    assert!(rt; is(&opened(alloc, &LOG, &other)?, 1, 0, 1, NO_ROOTS));
+    let disk = file_of(&rt, rt.alloc(), 1)?;
+    let file = disk.bytes();
+    for (n, (changes, reach)) in BESIDE.iter().enumerate() {
+        let is_so = opens_as(rt.alloc(), &changed(changes), file, *reach, file)?;
+        assert!(rt; is_so, "row {n}");
+    }
     Ok(())
 }
 
 #[test]
-fn a_file_of_mostly_dead_nodes_starts_anew(rt: HostRuntime) -> Result<(), Fail> {
+fn without_a_file_of_segments_there_is_no_root(rt: HostRuntime) -> Result<(), Fail> {
     let alloc = rt.alloc();
+    assert!(rt; opens_as(alloc, LOG, &[], (1, 0, 1), NO_ROOTS)?);
+    let disk = file_of(&rt, alloc, 1)?;
+    let other = flipped(alloc, disk.bytes(), 0)?;
+    assert!(rt; opens_as(alloc, LOG, &other, (1, 0, 1), NO_ROOTS)?);
+    Ok(())
+}
+
+/// Whether an opening of the documented log has this reach and makes the file shorter, and the next one leaves it as it then is.
+fn starts_anew(alloc: Global, file: &[u8], reach: Reach) -> Result<bool, Memory> {
+    let Some(first) = opened(alloc, LOG, file)? else {
+        return Ok(false);
+    };
+    let left = first.segments.bytes();
+    let is_left = opens_as(alloc, LOG, left, reach, left)?;
+    Ok(left.len() < file.len() && first.reach == reach && is_left)
+}
+
+#[test]
+fn a_file_of_mostly_dead_nodes_starts_anew(rt: HostRuntime) -> Result<(), Fail> {
     // Each time there are 7 nodes more, and the newest root has 8.
     for (times, next_id) in [(2, 23), (5, 44)] {
-        let file = file_of(&rt, alloc, times)?;
-        let Some(first) = opened(alloc, &LOG, &file)? else {
-            return Err(Memory.into());
-        };
-        assert!(rt; first.segments.len() < file.len());
-        assert_eq!(rt;
-            (first.recovered, first.covered, first.next_id),
-            (1, 1, next_id)
-        );
-        assert!(rt;
-            is(
-                &opened(alloc, &LOG, &first.segments)?,
-                1,
-                1,
-                next_id,
-                &first.segments
-            )
-        );
+        let disk = file_of(&rt, rt.alloc(), times)?;
+        let is_so = starts_anew(rt.alloc(), disk.bytes(), (1, 1, next_id))?;
+        assert!(rt; is_so, "{times} times");
     }
     Ok(())
 }
 
 /// The file with a byte changed.
 fn flipped(alloc: Global, file: &[u8], place: usize) -> Result<Vec<u8>, Memory> {
-    let mut bytes = Vec::new(alloc);
-    bytes.extend_from_slice(file)?;
+    let mut bytes = Vec::from_slice(alloc, file)?;
     if let Some(byte) = bytes.get_mut(place) {
         *byte ^= 1;
     }
     Ok(bytes)
 }
 
+/// The reach of an opening of the documented log beside the file with a byte changed.
+fn reach_with(alloc: Global, file: &[u8], place: usize) -> Result<Reach, Memory> {
+    let other = flipped(alloc, file, place)?;
+    match opened(alloc, LOG, &other)? {
+        Some(opening) => Ok(opening.reach),
+        None => Err(Memory),
+    }
+}
+
 #[test]
 fn a_changed_byte_of_the_segments_is_no_fault(rt: HostRuntime) -> Result<(), Fail> {
     let alloc = rt.alloc();
-    let file = file_of(&rt, alloc, 1)?;
+    let disk = file_of(&rt, alloc, 1)?;
+    let file = disk.bytes();
     let count = file.len() / 211;
     let mut newest: usize = 0;
     for nth in 0..count {
-        let Some(told) = opened(alloc, &LOG, &flipped(alloc, &file, 211 * nth)?)? else {
-            return Err(Memory.into());
-        };
-        assert_eq!(rt; told.recovered, 1, "place {nth}");
-        if told.covered == 1 {
+        let (recovered, covered, _) = reach_with(alloc, file, 211 * nth)?;
+        assert_eq!(rt; recovered, 1, "place {nth}");
+        if covered == 1 {
             newest += 1;
         }
     }
