@@ -42,24 +42,28 @@ pub(crate) fn decided(alloc: Global, histories: u32, seed: u64) -> Result<Tally>
     };
     for i in 0..histories {
         let guard = NoEmptyText { bars: i % 2 == 1 };
-        decide_round(alloc, &mut dice, &guard, &mut tally)?;
+        decide_round(alloc, guard, &mut dice, &mut tally)?;
     }
     Ok(tally)
 }
 
 fn decide_round(
     alloc: Global,
+    guard: NoEmptyText,
     dice: &mut Dice,
-    guard: &NoEmptyText,
     tally: &mut Tally,
 ) -> Result<()> {
-    let mut run = Run::new(alloc)?;
-    for data in [SCHEMA, PEOPLE] {
-        run.reply_to(alloc, data.as_bytes(), guard)?;
-    }
+    let mut run = Run::new(alloc, guard)?;
+    decide_on(alloc, &mut run, dice, tally)
+}
+
+/// The history gains the schema and the people of which the transactions speak.
+fn decide_on(alloc: Global, run: &mut Run, dice: &mut Dice, tally: &mut Tally) -> Result<()> {
+    run.reply_to(SCHEMA.as_bytes())?;
+    run.reply_to(PEOPLE.as_bytes())?;
     for _ in 0..ROUND {
         let data = test_data::data(alloc, dice)?;
-        let reply = run.reply_to(alloc, data.as_bytes(), guard)?;
+        let reply = run.reply_to(data.as_bytes())?;
         tally.count(alloc, &reply)?;
     }
     Ok(())

@@ -1,4 +1,6 @@
 //! The engine over a snapshot.
+ghost use Rattle.fb_model.specs.Lawful.{IsLawfulAfter};
+
 use crate::CLOCK;
 use crate::guard::NoEmptyText;
 use anyhow::{Result, bail};
@@ -8,28 +10,36 @@ use fb_view::Snapshot;
 use std::alloc::Global;
 use tx_forms::TxStop;
 use tx_model::an_accepted_entry_is_lawful;
-use tx_step::decide;
+use tx_refusals::Refusal;
+use tx_step::{Accepted, decide};
 
-/// What the engine replies; the snapshot with the entry, where there is one.
+/// What the engine replies. The snapshot gains the entry, where there is one.
 pub(crate) fn transact(
     alloc: Global,
-    snapshot: &Snapshot,
+    snapshot: &mut Snapshot,
     data: &Edn,
     guard: &NoEmptyText,
-) -> Result<(Snapshot, Edn)> {
+) -> Result<Edn> {
     an_accepted_entry_is_lawful();
     match decide(alloc, data, snapshot, snapshot.schema(), CLOCK, guard) {
-        Ok(accepted) => {
-            let reply = plain_session::receipt(alloc, accepted.entry.t, accepted.tempids)?;
-            Ok((snapshot.with_entry(accepted.entry)?, reply))
-        }
-        Err(TxStop::Refused(refusal)) => {
-            let keyword = refusal.reason.keyword();
-            let reply = plain_session::refusal(alloc, keyword, refusal.at, snapshot.basis())?;
-            Ok((snapshot.share()?, reply))
-        }
+        Ok(accepted) => record(alloc, snapshot, accepted),
+        Err(TxStop::Refused(refusal)) => refused(alloc, refusal, snapshot.basis()),
         Err(TxStop::Memory) => bail!("out of memory"),
     }
+}
+
+/// The reply to an accepted transaction, whose entry the snapshot gains.
+fn record(alloc: Global, snapshot: &mut Snapshot, accepted: Accepted) -> Result<Edn>
+    requires { IsLawfulAfter snapshot.old.entries accepted.entry }
+{
+    let t = accepted.entry.t;
+    *snapshot = snapshot.with_entry(accepted.entry)?;
+    Ok(plain_session::receipt(alloc, t, accepted.tempids)?)
+}
+
+fn refused(alloc: Global, refusal: Refusal, basis: u32) -> Result<Edn> {
+    let keyword = refusal.reason.keyword();
+    Ok(plain_session::refusal(alloc, keyword, refusal.at, basis)?)
 }
 
 /// Whether the snapshot's last entry is that of the list.

@@ -24,12 +24,8 @@ const HISTORIES: u32 = 100;
 const SEED: u64 = 20_261_127;
 
 fn main(rt: HostRuntime) -> Result<()> {
-    let table = fs::read_to_string(&rt, "rows.txt")?;
-    if !all_agree(rt.alloc(), table.as_str(), &mut io::writer(&rt))? {
-        bail!("transactions are answered otherwise than the table says");
-    }
-    let count = table.as_str().lines().filter(|line| is_row(line)).count();
-    println!(rt; "{count} replies as the table says")?;
+    let replies = check_table(&rt)?;
+    println!(rt; "{replies} replies as the table says")?;
     let tally = drawn::decided(rt.alloc(), HISTORIES, SEED)?;
     println!(rt;
         "{} transactions decided alike, {} of the rules met",
@@ -39,23 +35,35 @@ fn main(rt: HostRuntime) -> Result<()> {
     Ok(())
 }
 
+/// How many replies the table has. Each of them has to be given.
+fn check_table(rt: &HostRuntime) -> Result<usize> {
+    let table = fs::read_to_string(rt, "rows.txt")?;
+    if !all_agree(rt.alloc(), table.as_str(), &mut io::writer(rt))? {
+        bail!("transactions are answered otherwise than the table says");
+    }
+    Ok(table.as_str().lines().filter(|line| is_row(line)).count())
+}
+
 /// A line with no tab is a heading.
 fn is_row(line: &str) -> bool {
     line.contains('\t')
 }
 
-/// Runs each row. The heading `new` begins a new history, and `new guarded` one under the guard.
+/// Runs each row.
 fn all_agree<W: Write>(alloc: Global, table: &str, out: &mut W) -> Result<bool> {
-    let mut run = Run::new(alloc)?;
-    let mut guard = NoEmptyText { bars: false };
+    let mut run = Run::new(alloc, NoEmptyText { bars: false })?;
+    rows_agree(alloc, &mut run, table, out)
+}
+
+/// The heading `new` begins a new history, and `new guarded` one under the guard.
+fn rows_agree<W: Write>(alloc: Global, run: &mut Run, table: &str, out: &mut W) -> Result<bool> {
     let mut agree = true;
     for line in table.lines() {
         match line.split_once('\t') {
-            Some((data, want)) => agree &= agrees(alloc, &mut run, &guard, data, want, out)?,
-            None if line.starts_with("new") => {
-                run = Run::new(alloc)?;
-                guard.bars = line == "new guarded";
-            }
+            Some((data, want)) => agree &= agrees(alloc, run, data, want, out)?,
+            None if line.starts_with("new") => run.begin_anew(NoEmptyText {
+                bars: line == "new guarded",
+            })?,
             None => {}
         }
     }
@@ -66,19 +74,22 @@ fn all_agree<W: Write>(alloc: Global, table: &str, out: &mut W) -> Result<bool> 
 fn agrees<W: Write>(
     alloc: Global,
     run: &mut Run,
-    guard: &NoEmptyText,
     data: &str,
     want: &str,
     out: &mut W,
 ) -> Result<bool> {
     let bytes = spelling::bytes_of(alloc, data)?;
-    let got = run.reply_to(alloc, &bytes, guard)?;
+    let got = run.reply_to(&bytes)?;
     if got.as_slice() == want.as_bytes() {
         return Ok(true);
     }
-    out.write_all(data.as_bytes())?;
-    out.write_all(b"\t")?;
-    out.write_all(got.as_slice())?;
-    out.write_all(b"\n")?;
+    show(data, &got, out)?;
     Ok(false)
+}
+
+fn show<W: Write>(data: &str, got: &[u8], out: &mut W) -> Result<()> {
+    for text in &[data.as_bytes(), b"\t", got, b"\n"] {
+        out.write_all(text)?;
+    }
+    Ok(())
 }
