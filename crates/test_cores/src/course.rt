@@ -3,7 +3,7 @@ use crate::indexes::Indexes;
 use crate::onto::{over_newer, over_older};
 use crate::rows::Row;
 use crate::run::{Run, reopened};
-use anyhow::{Result, bail};
+use anyhow::Result;
 use fb_view::Snapshot;
 use std::alloc::Global;
 use std::thread::Threads;
@@ -25,11 +25,19 @@ impl Course {
         wanted: &[Indexes],
     ) -> Result<()> {
         let mut run = Run::new(alloc)?;
+        self.drive(rt, alloc, &mut run, rows, wanted)
+    }
+
+    fn drive<R: Threads + Sync>(
+        self,
+        rt: &R,
+        alloc: Global,
+        run: &mut Run,
+        rows: &[Row],
+        wanted: &[Indexes],
+    ) -> Result<()> {
         for (place, indexes) in wanted.iter().enumerate() {
-            if place == self.begin {
-                run = run.begin_merge()?;
-            }
-            self.go_on(rt, alloc, &mut run, place, indexes)?;
+            self.merge_at(rt, alloc, run, place, indexes)?;
             if let Some(row) = rows.get(place) {
                 run.transact(row)?;
             }
@@ -40,7 +48,8 @@ impl Course {
         }
     }
 
-    fn go_on<R: Threads + Sync>(
+    /// The merge begins or ends, where this is the place for it.
+    fn merge_at<R: Threads + Sync>(
         self,
         rt: &R,
         alloc: Global,
@@ -48,55 +57,51 @@ impl Course {
         place: usize,
         indexes: &Indexes,
     ) -> Result<()> {
-        if place != self.adopt {
-            return Ok(());
+        if place == self.begin {
+            run.begin_merge()?;
         }
-        run.end_merge(rt, alloc)?;
-        check(alloc, run.core().snapshot(), indexes)
+        if place == self.adopt {
+            run.end_merge(rt, alloc)?;
+            indexes.check(alloc, run.core().snapshot())?;
+        }
+        Ok(())
     }
 }
 
 /// The database is opened anew over the trees that it has, and over ones that were made of newer and of older trees. Then it merges
 /// a last time.
-fn end<R: Threads + Sync>(rt: &R, alloc: Global, run: Run, wanted: &Indexes) -> Result<()> {
+fn end<R: Threads + Sync>(rt: &R, alloc: Global, run: &mut Run, wanted: &Indexes) -> Result<()> {
     let snapshot = run.core().snapshot();
-    check(alloc, snapshot, wanted)?;
-    check_over_others(rt, alloc, snapshot, wanted)?;
+    wanted.check(alloc, snapshot)?;
+    check_over_newer(rt, alloc, snapshot, wanted)?;
+    check_over_older(rt, alloc, snapshot, wanted)?;
     check_reopened(alloc, snapshot, wanted)?;
-    check_merged(rt, alloc, run, wanted)
+    run.begin_merge()?;
+    run.end_merge(rt, alloc)?;
+    wanted.check(alloc, run.core().snapshot())
 }
 
-fn check_over_others<R: Threads + Sync>(
+fn check_over_newer<R: Threads + Sync>(
     rt: &R,
     alloc: Global,
     snapshot: &Snapshot,
     wanted: &Indexes,
 ) -> Result<()> {
     let newer = over_newer(rt, alloc, snapshot)?;
-    check(alloc, &newer, wanted)?;
+    wanted.check(alloc, &newer)
+}
+
+fn check_over_older<R: Threads + Sync>(
+    rt: &R,
+    alloc: Global,
+    snapshot: &Snapshot,
+    wanted: &Indexes,
+) -> Result<()> {
     let older = over_older(rt, alloc, snapshot)?;
-    check(alloc, &older, wanted)
+    wanted.check(alloc, &older)
 }
 
 fn check_reopened(alloc: Global, snapshot: &Snapshot, wanted: &Indexes) -> Result<()> {
     let core = reopened(alloc, snapshot)?;
-    check(alloc, core.snapshot(), wanted)
-}
-
-fn check_merged<R: Threads + Sync>(
-    rt: &R,
-    alloc: Global,
-    run: Run,
-    wanted: &Indexes,
-) -> Result<()> {
-    let mut run = run.begin_merge()?;
-    run.end_merge(rt, alloc)?;
-    check(alloc, run.core().snapshot(), wanted)
-}
-
-fn check(alloc: Global, snapshot: &Snapshot, wanted: &Indexes) -> Result<()> {
-    if !wanted.are_those_of(alloc, snapshot)? {
-        bail!("an index is otherwise than the plain program has it");
-    }
-    Ok(())
+    wanted.check(alloc, core.snapshot())
 }

@@ -1,15 +1,15 @@
 //! The four indexes of a history, as the plain program has them and as a core has them.
-use anyhow::Result;
+use anyhow::{Result, bail};
 use fb_db::Db;
 use fb_numbers::{CARDINALITY, IDENT};
 use fb_preds::Selector;
 use fb_scan::{Bounds, first, index_range, next_attribute, seek};
-use fb_values::{Datom, Datoms, Entry, Order, Probe, Value};
+use fb_values::{Datom, Entry, Order, Probe, Value};
 use fb_view::Snapshot;
 use plain_reads::{Range, Window, scan};
 use std::alloc::Global;
 
-const ORDERS: [Order; 4] = [Order::Eavt, Order::Aevt, Order::Avet, Order::Vaet];
+const ORDERS: &[Order] = &[Order::Eavt, Order::Aevt, Order::Avet, Order::Vaet];
 
 /// The attribute of a number that gains an index and loses it.
 const AGE: u64 = 17_592_186_044_417;
@@ -24,36 +24,57 @@ pub(crate) struct Indexes {
 impl Indexes {
     /// By the definitions.
     pub(crate) fn of(alloc: Global, entries: &[Entry]) -> Result<Indexes> {
-        let mut lists = Vec::new(alloc);
-        for order in ORDERS {
-            let all = Range::NotBelow(from_the_first(order));
-            lists.push(scan(alloc, entries, whole(true), order, &all)?)?;
-        }
-        let five = Range::Between(AGE, Some(Value::Long(5)), Some(Value::Long(6)));
-        let aged_five = scan(alloc, entries, whole(false), Order::Avet, &five)?;
-        Ok(Indexes { lists, aged_five })
+        Ok(Indexes {
+            aged_five: aged_five(alloc, entries)?,
+            lists: whole_lists(alloc, entries)?,
+        })
     }
 
-    /// Whether the snapshot has the same.
-    pub(crate) fn are_those_of(&self, alloc: Global, snapshot: &Snapshot) -> Result<bool> {
+    /// The snapshot has to have the same.
+    pub(crate) fn check(&self, alloc: Global, snapshot: &Snapshot) -> Result<()> {
+        self.check_lists(alloc, snapshot)?;
+        self.check_aged_five(alloc, snapshot)
+    }
+
+    fn check_lists(&self, alloc: Global, snapshot: &Snapshot) -> Result<()> {
         let mut all = Db::of(snapshot.share()?, Everything);
         all.with_history();
-        for (order, list) in ORDERS.iter().zip(self.lists.iter()) {
-            let own = seek(alloc, &all, &from_the_first(*order))?;
-            if !are_same(own.as_slice(), list) {
-                return Ok(false);
-            }
-            let few = first(alloc, &all, &from_the_first(*order), 3)?;
-            if !are_same(few.as_slice(), &list[..list.len().min(3)]) {
-                return Ok(false);
-            }
-        }
-        if next_attribute(&all, IDENT, CARDINALITY) != Some(CARDINALITY) {
-            return Ok(false);
-        }
-        let own = aged_five(alloc, snapshot)?;
-        Ok(are_same(own.as_slice(), &self.aged_five))
+        self.check_reads(alloc, &all)
     }
+
+    fn check_reads(&self, alloc: Global, all: &Db<Everything>) -> Result<()> {
+        for (order, list) in ORDERS.iter().zip(self.lists.iter()) {
+            check_seek(alloc, all, *order, list)?;
+            check_first(alloc, all, *order, list)?;
+        }
+        if next_attribute(all, IDENT, CARDINALITY) != Some(CARDINALITY) {
+            bail!("an entity has another next attribute than in the first entry");
+        }
+        Ok(())
+    }
+
+    fn check_aged_five(&self, alloc: Global, snapshot: &Snapshot) -> Result<()> {
+        let now = Db::of(snapshot.share()?, Everything);
+        check_range(alloc, &now, &self.aged_five)
+    }
+}
+
+fn whole_lists(alloc: Global, entries: &[Entry]) -> Result<Vec<Vec<Datom>>> {
+    let mut lists = Vec::new(alloc);
+    for order in ORDERS {
+        lists.push(whole_list(alloc, entries, *order)?)?;
+    }
+    Ok(lists)
+}
+
+fn whole_list(alloc: Global, entries: &[Entry], order: Order) -> Result<Vec<Datom>> {
+    let all = Range::NotBelow(from_the_first(order));
+    Ok(scan(alloc, entries, whole(true), order, &all)?)
+}
+
+fn aged_five(alloc: Global, entries: &[Entry]) -> Result<Vec<Datom>> {
+    let five = Range::Between(AGE, Some(Value::Long(5)), Some(Value::Long(6)));
+    Ok(scan(alloc, entries, whole(false), Order::Avet, &five)?)
 }
 
 /// The filter that selects every datom.
@@ -70,13 +91,23 @@ impl Selector for Everything {
     }
 }
 
-fn aged_five(alloc: Global, snapshot: &Snapshot) -> Result<Datoms> {
-    let now = Db::of(snapshot.share()?, Everything);
+fn check_seek(alloc: Global, all: &Db<Everything>, order: Order, list: &[Datom]) -> Result<()> {
+    let own = seek(alloc, all, &from_the_first(order))?;
+    check_same(own.as_slice(), list)
+}
+
+fn check_first(alloc: Global, all: &Db<Everything>, order: Order, list: &[Datom]) -> Result<()> {
+    let few = first(alloc, all, &from_the_first(order), 3)?;
+    check_same(few.as_slice(), &list[..list.len().min(3)])
+}
+
+fn check_range(alloc: Global, now: &Db<Everything>, aged_five: &[Datom]) -> Result<()> {
     let bounds = Bounds {
         start: Some(Value::Long(5)),
         end: Some(Value::Long(6)),
     };
-    Ok(index_range(alloc, &now, AGE, bounds)?)
+    let own = index_range(alloc, now, AGE, bounds)?;
+    check_same(own.as_slice(), aged_five)
 }
 
 /// Leads to all that the order has.
@@ -97,6 +128,13 @@ fn whole(history: bool) -> Window {
         to: u64::MAX,
         history,
     }
+}
+
+fn check_same(own: &[Datom], wanted: &[Datom]) -> Result<()> {
+    if !are_same(own, wanted) {
+        bail!("an index is otherwise than the plain program has it");
+    }
+    Ok(())
 }
 
 fn are_same(own: &[Datom], other: &[Datom]) -> bool {

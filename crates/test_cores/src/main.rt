@@ -12,7 +12,8 @@ mod run;
 use anyhow::Result;
 use course::Course;
 use fb_view::Snapshot;
-use rows::rows_of;
+use indexes::Indexes;
+use rows::{Row, rows_of};
 use std::alloc::Global;
 use std::fs;
 
@@ -25,19 +26,32 @@ fn snapshots_cross_threads(alloc: Global) -> Result<()> {
 }
 
 fn main(rt: HostRuntime) -> Result<()> {
-    let alloc = rt.alloc();
-    snapshots_cross_threads(alloc)?;
-    let text = fs::read_to_string(&rt, "rows.txt")?;
-    let rows = rows_of(alloc, text.as_str())?;
-    let wanted = plain::indexes_after(alloc, &rows)?;
+    snapshots_cross_threads(rt.alloc())?;
+    let runs = run_all(&rt)?;
+    println!(rt; "{runs} runs end in the indexes of the plain program")?;
+    Ok(())
+}
+
+/// How many courses there are through the table.
+fn run_all(rt: &HostRuntime) -> Result<u64> {
+    let rows = rows_in_file(rt)?;
+    let wanted = plain::indexes_after(rt.alloc(), &rows)?;
+    follow_all(rt, &rows, &wanted)
+}
+
+fn rows_in_file(rt: &HostRuntime) -> Result<Vec<Row>> {
+    let text = fs::read_to_string(rt, "rows.txt")?;
+    rows_of(rt.alloc(), text.as_str())
+}
+
+fn follow_all(rt: &HostRuntime, rows: &[Row], wanted: &[Indexes]) -> Result<u64> {
     let mut runs = 0_u64;
     for begin in 0..wanted.len() {
         for adopt in begin..wanted.len() {
             let course = Course { begin, adopt };
-            course.follow(&rt, alloc, &rows, &wanted)?;
+            course.follow(rt, rt.alloc(), rows, wanted)?;
             runs = runs.saturating_add(1);
         }
     }
-    println!(rt; "{runs} runs end in the indexes of the plain program")?;
-    Ok(())
+    Ok(runs)
 }

@@ -11,13 +11,7 @@ use std::alloc::Global;
 /// The indexes of the new database, and those after each of the transactions.
 pub(crate) fn indexes_after(alloc: Global, rows: &[Row]) -> Result<Vec<Indexes>> {
     let mut entries = new_history(alloc)?;
-    let mut after = Vec::new(alloc);
-    after.push(Indexes::of(alloc, &entries)?)?;
-    for row in rows {
-        transact(alloc, &mut entries, row)?;
-        after.push(Indexes::of(alloc, &entries)?)?;
-    }
-    Ok(after)
+    indexes_along(alloc, &mut entries, rows)
 }
 
 /// The history that has only the built-in schema.
@@ -28,11 +22,40 @@ fn new_history(alloc: Global) -> Result<Vec<Entry>> {
     Ok(entries)
 }
 
+fn indexes_along(alloc: Global, entries: &mut Vec<Entry>, rows: &[Row]) -> Result<Vec<Indexes>> {
+    let mut after = Vec::new(alloc);
+    add_indexes(alloc, &mut after, entries)?;
+    for row in rows {
+        transact(alloc, entries, row)?;
+        add_indexes(alloc, &mut after, entries)?;
+    }
+    Ok(after)
+}
+
+fn add_indexes(alloc: Global, after: &mut Vec<Indexes>, entries: &[Entry]) -> Result<()> {
+    after.push(Indexes::of(alloc, entries)?)?;
+    Ok(())
+}
+
 /// The history grows by the transaction where that is accepted.
 fn transact(alloc: Global, entries: &mut Vec<Entry>, row: &Row) -> Result<()> {
-    match step(alloc, entries, &row.data, CLOCK, &NoGuard)? {
-        Decision::Refused(refusal) if row.is_refused_by(refusal) => Ok(()),
-        Decision::Accepted(entry, _) if row.is_accepted() => Ok(entries.push(entry)?),
-        _ => bail!("the plain program decides otherwise than the table"),
+    let decision = step(alloc, entries, &row.data, CLOCK, &NoGuard)?;
+    if !is_as_in(row, &decision) {
+        bail!("the plain program decides otherwise than the table");
+    }
+    record(entries, decision)
+}
+
+fn record(entries: &mut Vec<Entry>, decision: Decision) -> Result<()> {
+    if let Decision::Accepted(entry, _) = decision {
+        entries.push(entry)?;
+    }
+    Ok(())
+}
+
+fn is_as_in(row: &Row, decision: &Decision) -> bool {
+    match decision {
+        Decision::Refused(refusal) => row.is_refused_by(*refusal),
+        Decision::Accepted(_, _) => row.is_accepted(),
     }
 }

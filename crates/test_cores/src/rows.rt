@@ -37,12 +37,26 @@ pub(crate) fn rows_of(alloc: Global, table: &str) -> Result<Vec<Row>> {
 }
 
 fn row_of(alloc: Global, line: &str) -> Result<Row> {
-    let (data, refused) = match line.split_once("\t:") {
-        Some((data, reason)) => (data, Some(String::from_str(alloc, reason)?)),
-        None => (line, None),
-    };
-    let Ok(Some((data, _))) = read_form(alloc, data.as_bytes(), 0) else {
-        bail!("a row has no form");
-    };
-    Ok(Row { data, refused })
+    match line.split_once("\t:") {
+        Some((data, reason)) => refused_row(alloc, data, reason),
+        None => Ok(Row {
+            data: form_in(alloc, line)?,
+            refused: None,
+        }),
+    }
+}
+
+fn refused_row(alloc: Global, data: &str, reason: &str) -> Result<Row> {
+    let reason = String::from_str(alloc, reason)?;
+    Ok(Row {
+        data: form_in(alloc, data)?,
+        refused: Some(reason),
+    })
+}
+
+fn form_in(alloc: Global, text: &str) -> Result<Edn> {
+    match read_form(alloc, text.as_bytes(), 0) {
+        Ok(Some((form, _))) => Ok(form),
+        _ => bail!("a row has no form"),
+    }
 }

@@ -65,8 +65,10 @@ impl Run {
     }
 
     /// The merge begins anew, with the latest value.
-    pub(crate) fn begin_merge(self) -> Result<Run> {
-        Run::of(self.core)
+    pub(crate) fn begin_merge(&mut self) -> Result<()> {
+        a_beginning_stays_one();
+        self.begin = self.core.snapshot().share()?;
+        Ok(())
     }
 
     /// Merges what was live when the merge began, and adopts the trees.
