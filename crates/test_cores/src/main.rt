@@ -16,6 +16,7 @@ use indexes::Indexes;
 use rows::{Row, rows_of};
 use std::alloc::Global;
 use std::fs;
+use std::thread::Threads;
 
 /// Compiles only where a value of the type may be sent to another thread and shared with it.
 fn crosses_threads<T: Send + Sync>(_value: &T) {}
@@ -26,17 +27,12 @@ fn snapshots_cross_threads(alloc: Global) -> Result<()> {
 }
 
 fn main(rt: HostRuntime) -> Result<()> {
-    snapshots_cross_threads(rt.alloc())?;
-    let runs = run_all(&rt)?;
+    let alloc = rt.alloc();
+    snapshots_cross_threads(alloc)?;
+    let rows = rows_in_file(&rt)?;
+    let runs = run_all(&rt, alloc, &rows)?;
     println!(rt; "{runs} runs end in the indexes of the plain program")?;
     Ok(())
-}
-
-/// How many courses there are through the table.
-fn run_all(rt: &HostRuntime) -> Result<u64> {
-    let rows = rows_in_file(rt)?;
-    let wanted = plain::indexes_after(rt.alloc(), &rows)?;
-    follow_all(rt, &rows, &wanted)
 }
 
 fn rows_in_file(rt: &HostRuntime) -> Result<Vec<Row>> {
@@ -44,12 +40,23 @@ fn rows_in_file(rt: &HostRuntime) -> Result<Vec<Row>> {
     rows_of(rt.alloc(), text.as_str())
 }
 
-fn follow_all(rt: &HostRuntime, rows: &[Row], wanted: &[Indexes]) -> Result<u64> {
+/// How many courses there are, each of which is followed.
+fn run_all<R: Threads + Sync>(rt: &R, alloc: Global, rows: &[Row]) -> Result<u64> {
+    let wanted = plain::indexes_after(alloc, rows)?;
+    follow_all(rt, alloc, rows, &wanted)
+}
+
+fn follow_all<R: Threads + Sync>(
+    rt: &R,
+    alloc: Global,
+    rows: &[Row],
+    wanted: &[Indexes],
+) -> Result<u64> {
     let mut runs = 0_u64;
     for begin in 0..wanted.len() {
         for adopt in begin..wanted.len() {
             let course = Course { begin, adopt };
-            course.follow(rt, rt.alloc(), rows, wanted)?;
+            course.follow(rt, alloc, rows, wanted)?;
             runs = runs.saturating_add(1);
         }
     }

@@ -15,7 +15,7 @@ pub(crate) fn are_same<W: Write>(
         return Ok(true);
     }
     let at = end_of_same_lines(wanted, lines);
-    for text in [
+    for text in &[
         name.as_bytes(),
         b":\n",
         script,

@@ -5,7 +5,7 @@ use anyhow::Result;
 use std::alloc::Global;
 use test_data::{Dice, data};
 
-const OTHER_FORMS: [&str; 9] = [
+const OTHER_FORMS: &[&str] = &[
     "[:pull]",
     "[:pull [:db/doc]]",
     "[:datoms]",
@@ -17,7 +17,7 @@ const OTHER_FORMS: [&str; 9] = [
     "[:filter :users :no-doc]",
 ];
 
-const CHANGES_OF_SCHEMA: [(&str, &str); 6] = [
+const CHANGES_OF_SCHEMA: &[(&str, &str)] = &[
     (":db/add", ":db/index true"),
     (":db/add", ":db/index true"),
     (":db/retract", ":db/index true"),
@@ -26,26 +26,26 @@ const CHANGES_OF_SCHEMA: [(&str, &str); 6] = [
     (":db/add", ":db/cardinality :db.cardinality/many"),
 ];
 
+const TEMPIDS: &[&str] = &["\"x\"", "\"y\"", "\"z\""];
+
+const FILTERS: &[&str] = &["users", "no-doc", "positive", "none"];
+
 /// Commands with which a script may go on in the world.
 pub(crate) fn commands(alloc: Global, dice: &mut Dice, world: &World) -> Result<String> {
     let count = 8 + dice.roll(8);
-    let mut pen = Pen {
-        dice,
-        world,
-        out: String::new(alloc),
-    };
+    let mut pen = Pen::new(alloc, dice, world);
     for _ in 0..count {
-        pen.command(alloc)?;
-        pen.write("\n")?;
+        pen.command();
+        pen.write("\n");
     }
-    Ok(pen.out)
+    pen.finish()
 }
 
 impl Pen<'_> {
-    fn command(&mut self, alloc: Global) -> Result<()> {
+    fn command(&mut self) {
         match self.dice.roll(32) {
             0..=4 => self.transact(),
-            5 if self.world.is_shared => self.transact_shared(alloc),
+            5 if self.world.is_shared => self.transact_shared(),
             5 | 6 => self.change_schema(),
             7..=10 => self.turn(),
             11..=14 => self.scan("[:datoms "),
@@ -57,114 +57,124 @@ impl Pen<'_> {
         }
     }
 
-    fn transact_shared(&mut self, alloc: Global) -> Result<()> {
-        let data = data(alloc, self.dice)?;
-        write!(self.out, "[:transact {}]", data.as_str())?;
-        Ok(())
+    fn transact_shared(&mut self) {
+        match data(self.alloc, self.dice) {
+            Ok(data) => self.write_all(&["[:transact ", data.as_str(), "]"]),
+            Err(_) => self.fail(),
+        }
     }
 
-    fn transact(&mut self) -> Result<()> {
-        self.write("[:transact [")?;
+    fn transact(&mut self) {
+        self.write("[:transact [");
         let forms = 1 + self.dice.roll(4);
         for _ in 0..forms {
-            self.form()?;
+            self.form();
         }
-        self.write("]]")
+        self.write("]]");
     }
 
-    fn form(&mut self) -> Result<()> {
+    fn form(&mut self) {
         match self.dice.roll(8) {
-            0..=5 => {
-                self.write("[:db/add ")?;
-                self.new_entity()?;
-                self.attribute_and_value()
-            }
-            6 => {
-                self.write("[:db/retract ")?;
-                self.entity()?;
-                self.attribute_and_value()
-            }
-            _ => {
-                self.write("[:db/retractEntity ")?;
-                self.entity()?;
-                self.write("]")
-            }
+            0..=5 => self.add(),
+            6 => self.retract(),
+            _ => self.retract_entity(),
         }
     }
 
-    fn new_entity(&mut self) -> Result<()> {
+    fn add(&mut self) {
+        self.write("[:db/add ");
+        self.new_entity();
+        self.attribute_and_value();
+    }
+
+    fn retract(&mut self) {
+        self.write("[:db/retract ");
+        self.entity();
+        self.attribute_and_value();
+    }
+
+    fn retract_entity(&mut self) {
+        self.write("[:db/retractEntity ");
+        self.entity();
+        self.write("]");
+    }
+
+    fn new_entity(&mut self) {
         if self.dice.once_in(2) {
-            self.write_one(&["\"x\"", "\"y\"", "\"z\""])
+            self.write_one(TEMPIDS);
         } else {
-            self.entity()
+            self.entity();
         }
     }
 
-    fn attribute_and_value(&mut self) -> Result<()> {
+    fn attribute_and_value(&mut self) {
         let field = if self.dice.once_in(16) {
             self.field()
         } else {
             self.own_field()
         };
-        write!(self.out, " {} ", field.name)?;
-        self.value(field)?;
-        self.write("]")
+        self.write_all(&[" ", field.name, " "]);
+        self.value(field);
+        self.write("]");
     }
 
-    fn change_schema(&mut self) -> Result<()> {
-        let field = self.own_field();
+    fn change_schema(&mut self) {
+        let name = self.own_field().name;
         let (verb, change) = CHANGES_OF_SCHEMA[self.dice.roll(6) as usize];
-        write!(self.out, "[:transact [[{verb} {} {change}]]]", field.name)?;
-        Ok(())
+        self.write_all(&["[:transact [[", verb, " ", name, " ", change, "]]]"]);
     }
 
     /// A command that changes what the session sees.
-    fn turn(&mut self) -> Result<()> {
+    fn turn(&mut self) {
         match self.dice.roll(12) {
-            0..=3 => {
-                self.write_one(&["[:as-of ", "[:since "])?;
-                self.point()?;
-                self.write("]")
-            }
+            0..=3 => self.move_end(),
             4..=5 => self.write("[:history]"),
-            6..=8 => {
-                let name = self.dice.pick(&["users", "no-doc", "positive", "none"]);
-                write!(self.out, "[:filter :{name}]")?;
-                Ok(())
-            }
+            6..=8 => self.filter(),
             _ => self.write("[:unfilter]"),
         }
     }
 
-    fn scan(&mut self, word: &str) -> Result<()> {
-        self.write(word)?;
-        self.index_and_components()?;
-        self.write("]")
+    fn move_end(&mut self) {
+        self.write_one(&["[:as-of ", "[:since "]);
+        self.point();
+        self.write("]");
     }
 
-    fn index_range(&mut self) -> Result<()> {
+    fn filter(&mut self) {
+        self.write("[:filter :");
+        self.write_one(FILTERS);
+        self.write("]");
+    }
+
+    fn scan(&mut self, word: &str) {
+        self.write(word);
+        self.index_and_components();
+        self.write("]");
+    }
+
+    fn index_range(&mut self) {
         let field = self.field();
-        write!(self.out, "[:index-range {} ", field.name)?;
-        self.value_or_nil(field)?;
-        self.write(" ")?;
-        self.value_or_nil(field)?;
-        self.write("]")
+        self.write_all(&["[:index-range ", field.name, " "]);
+        self.value_or_nil(field);
+        self.write(" ");
+        self.value_or_nil(field);
+        self.write("]");
     }
 
-    fn tx_range(&mut self) -> Result<()> {
-        self.write("[:tx-range ")?;
-        self.point_or_nil()?;
-        self.write(" ")?;
-        self.point_or_nil()?;
-        self.write("]")
+    fn tx_range(&mut self) {
+        self.write("[:tx-range ");
+        self.point_or_nil();
+        self.write(" ");
+        self.point_or_nil();
+        self.write("]");
     }
 
-    fn other(&mut self) -> Result<()> {
+    fn other(&mut self) {
         match self.dice.roll(6) {
             0 => self.write("[:db]"),
             1 => self.write("[:sync]"),
             2 => self.write("[:request-index]"),
-            _ => self.write_one(&OTHER_FORMS),
+            _ => self.write_one(OTHER_FORMS),
         }
     }
 }

@@ -49,7 +49,7 @@ const TYPES: &[&str] = &[":db.type/long", ":db.type/ref", "14", "11"];
 const ENTITIES: &[&str] = &[];
 
 /// Those of which a world installs some.
-pub(crate) const OWN: [Field; 10] = [
+pub(crate) const OWN: &[Field] = &[
     Field {
         name: ":h/keyword",
         kind: ":db.type/keyword",
@@ -103,7 +103,7 @@ pub(crate) const OWN: [Field; 10] = [
 ];
 
 /// Those of the transactions that other tests draw too.
-pub(crate) const SHARED: [Field; 7] = [
+pub(crate) const SHARED: &[Field] = &[
     Field {
         name: ":g/one",
         kind: ":db.type/long",
@@ -142,7 +142,7 @@ pub(crate) const SHARED: [Field; 7] = [
 ];
 
 /// Those of the first entry, and one that is nowhere.
-pub(crate) const OTHERS: [Field; 5] = [
+pub(crate) const OTHERS: &[Field] = &[
     Field {
         name: ":db/doc",
         kind: ":db.type/string",

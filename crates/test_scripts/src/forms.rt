@@ -11,3 +11,11 @@ pub(crate) fn next_form(alloc: Global, script: &[u8], at: usize) -> Result<Optio
         Err(_) => bail!("a script cannot be read"),
     }
 }
+
+/// The place after the next form, if there is one.
+pub(crate) fn end_of_form(alloc: Global, script: &[u8], at: usize) -> Result<Option<usize>> {
+    match next_form(alloc, script, at)? {
+        Some((_, behind)) => Ok(Some(behind)),
+        None => Ok(None),
+    }
+}

@@ -18,10 +18,10 @@ mod tally;
 mod worlds;
 
 use anyhow::Result;
-use rows::rows_in;
+use rows::{Row, rows_in};
 use stage::Stage;
 use std::{fs, io};
-use tally::Answer;
+use tally::{Answer, Tally};
 
 /// How many worlds are drawn, how many scripts in each of them, and from which seed.
 const WORLDS: u32 = 50;
@@ -31,18 +31,24 @@ const SCRIPTS: u32 = 10;
 const SEED: u64 = 20_261_128;
 
 fn main(rt: HostRuntime) -> Result<()> {
-    let table = fs::read_to_string(&rt, "scripts.txt")?;
-    let rows = rows_in(rt.alloc(), table.as_str())?;
+    let rows = rows_in_file(&rt)?;
     let mut stage = Stage {
         rt: &rt,
         alloc: rt.alloc(),
         out: &mut io::writer(&rt),
     };
-    for row in rows.iter() {
-        stage.run_row(row)?;
-    }
+    stage.run_rows(&rows)?;
     let tally = stage.run_drawn(WORLDS, SCRIPTS, SEED)?;
     println!(rt; "{} scripts as the table says", rows.len())?;
+    report(&rt, &tally)
+}
+
+fn rows_in_file(rt: &HostRuntime) -> Result<Vec<Row>> {
+    let table = fs::read_to_string(rt, "scripts.txt")?;
+    rows_in(rt.alloc(), table.as_str())
+}
+
+fn report(rt: &HostRuntime, tally: &Tally) -> Result<()> {
     println!(rt;
         "{} drawn scripts, of {} lines, as the plain session says",
         tally.scripts, tally.lines

@@ -1,5 +1,5 @@
 //! The same script with a request for a merge after each command.
-use crate::forms::next_form;
+use crate::forms::end_of_form;
 use anyhow::{Result, bail};
 use std::alloc::Global;
 
@@ -7,7 +7,7 @@ pub(crate) fn with_merges(alloc: Global, script: &[u8]) -> Result<Vec<u8>> {
     let mut more = Vec::new(alloc);
     let mut at = 0;
     for _ in 0..script.len() {
-        let Some((_, behind)) = next_form(alloc, script, at)? else {
+        let Some(behind) = end_of_form(alloc, script, at)? else {
             break;
         };
         if let Some(command) = script.get(at..behind) {

@@ -2,6 +2,7 @@
 use crate::forms::next_form;
 use crate::rows::Readings;
 use anyhow::Result;
+use edn_form::Edn;
 use edn_print::print;
 use plain_session::PlainSession;
 use std::alloc::Global;
@@ -27,31 +28,51 @@ impl PlainScript {
         Ok(plain)
     }
 
-    /// The same script, to go on with in another way.
-    pub(crate) fn copy(&self) -> Result<PlainScript> {
+    /// The same script with more commands.
+    pub(crate) fn followed_by(&self, commands: &str) -> Result<PlainScript> {
+        let mut plain = self.copy()?;
+        plain.go_on(commands)?;
+        Ok(plain)
+    }
+
+    fn copy(&self) -> Result<PlainScript> {
+        let script = String::from_str(self.alloc, self.script.as_str())?;
         let mut lines = Vec::new(self.alloc);
         lines.extend_from_slice(&self.lines)?;
         Ok(PlainScript {
             alloc: self.alloc,
             session: self.session.copy()?,
-            script: String::from_str(self.alloc, self.script.as_str())?,
+            script,
             lines,
         })
     }
 
-    /// Answers more commands.
-    pub(crate) fn go_on(&mut self, commands: &str) -> Result<()> {
+    fn go_on(&mut self, commands: &str) -> Result<()> {
         let bytes = commands.as_bytes();
         let mut at = 0;
         for _ in 0..bytes.len() {
-            let Some((form, behind)) = next_form(self.alloc, bytes, at)? else {
-                break;
-            };
-            print(&self.session.reply(&form)?, &mut self.lines)?;
-            self.lines.push(b'\n')?;
-            at = behind;
+            match self.answer_next(bytes, at)? {
+                Some(behind) => at = behind,
+                None => break,
+            }
         }
         self.script.push_str(commands)?;
+        Ok(())
+    }
+
+    /// Answers the next command, if there is one. It gives the place after it.
+    fn answer_next(&mut self, commands: &[u8], at: usize) -> Result<Option<usize>> {
+        let Some((form, behind)) = next_form(self.alloc, commands, at)? else {
+            return Ok(None);
+        };
+        self.answer(&form)?;
+        Ok(Some(behind))
+    }
+
+    fn answer(&mut self, form: &Edn) -> Result<()> {
+        let reply = self.session.reply(form)?;
+        print(&reply, &mut self.lines)?;
+        self.lines.push(b'\n')?;
         Ok(())
     }
 }

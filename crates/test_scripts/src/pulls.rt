@@ -1,9 +1,8 @@
 //! Pulls that are drawn: patterns of every kind, most of which can be read, of entities that are often there.
 use crate::pen::Pen;
-use anyhow::Result;
 
 /// Attributes whose values are entities, and reversed names.
-const LINKS: [&str; 8] = [
+const LINKS: &[&str] = &[
     ":h/ref",
     ":h/ref",
     ":h/part",
@@ -14,11 +13,11 @@ const LINKS: [&str; 8] = [
     ":db/_valueType",
 ];
 
-const SHARED_LINKS: [&str; 6] = [
+const SHARED_LINKS: &[&str] = &[
     ":g/ref", ":g/ref", ":g/part", ":g/part", ":g/_ref", ":g/_part",
 ];
 
-const OPTIONS: [&str; 13] = [
+const OPTIONS: &[&str] = &[
     ":limit 1",
     ":limit 2",
     ":limit 1000",
@@ -34,9 +33,9 @@ const OPTIONS: [&str; 13] = [
     ":default \"\" :limit 2147483647",
 ];
 
-const TIMES: [&str; 6] = ["...", "...", "1", "2", "3", "2147483647"];
+const TIMES: &[&str] = &["...", "...", "1", "2", "3", "2147483647"];
 
-const NO_ITEMS: [&str; 18] = [
+const NO_ITEMS: &[&str] = &[
     "7",
     "nil",
     "\"*\"",
@@ -57,96 +56,93 @@ const NO_ITEMS: [&str; 18] = [
     "{* 1}",
 ];
 
-const NO_PATTERNS: [&str; 5] = ["[]", "*", ":db/doc", "{:h/ref [*]}", "(:db/doc)"];
+const NO_PATTERNS: &[&str] = &["[]", "*", ":db/doc", "{:h/ref [*]}", "(:db/doc)"];
 
 impl Pen<'_> {
-    pub(crate) fn pull(&mut self) -> Result<()> {
-        self.write("[:pull ")?;
+    pub(crate) fn pull(&mut self) {
+        self.write("[:pull ");
         if self.dice.once_in(32) {
-            self.write_one(&NO_PATTERNS)?;
+            self.write_one(NO_PATTERNS);
         } else {
-            self.pattern()?;
+            self.pattern();
         }
-        self.write(" ")?;
-        self.entity()?;
-        self.write("]")
+        self.write(" ");
+        self.entity();
+        self.write("]");
     }
 
     /// Patterns inside one another, with items before and after the one inside.
-    fn pattern(&mut self) -> Result<()> {
+    fn pattern(&mut self) {
         let around = self.dice.roll(3);
         for _ in 0..around {
-            self.write("[")?;
-            self.items()?;
-            self.write("{")?;
-            self.key()?;
-            self.write(" ")?;
+            self.write("[");
+            self.items();
+            self.write("{");
+            self.key();
+            self.write(" ");
         }
-        self.write("[")?;
-        self.item()?;
-        self.items()?;
-        self.write("]")?;
+        self.write("[");
+        self.item();
+        self.items();
+        self.write("]");
         for _ in 0..around {
-            self.write("} ")?;
-            self.items()?;
-            self.write("]")?;
+            self.write("} ");
+            self.items();
+            self.write("]");
         }
-        Ok(())
     }
 
-    fn items(&mut self) -> Result<()> {
+    fn items(&mut self) {
         let count = self.dice.roll(4);
         for _ in 0..count {
-            self.item()?;
+            self.item();
         }
-        Ok(())
     }
 
-    fn item(&mut self) -> Result<()> {
+    fn item(&mut self) {
         match self.dice.roll(64) {
-            0..=7 => self.write("*")?,
-            8..=12 => self.write(":db/id")?,
-            13 => self.write_one(&NO_ITEMS)?,
-            14..=33 => self.name()?,
-            34..=47 => self.name_with_options()?,
-            _ => self.recursion()?,
+            0..=7 => self.write("*"),
+            8..=12 => self.write(":db/id"),
+            13 => self.write_one(NO_ITEMS),
+            14..=33 => self.name(),
+            34..=47 => self.name_with_options(),
+            _ => self.recursion(),
         }
-        self.write(" ")
+        self.write(" ");
     }
 
     /// An attribute, or now and then its reversed name.
-    fn name(&mut self) -> Result<()> {
+    fn name(&mut self) {
         if self.dice.once_in(4) {
             return self.link();
         }
         let name = self.field().name;
         match name.split_once('/') {
             Some((namespace, local)) if self.dice.once_in(4) => {
-                write!(self.out, "{namespace}/_{local}")?;
-                Ok(())
+                self.write_all(&[namespace, "/_", local]);
             }
             _ => self.write(name),
         }
     }
 
-    fn link(&mut self) -> Result<()> {
+    fn link(&mut self) {
         if self.world.is_shared {
-            self.write_one(&SHARED_LINKS)
+            self.write_one(SHARED_LINKS);
         } else {
-            self.write_one(&LINKS)
+            self.write_one(LINKS);
         }
     }
 
-    fn name_with_options(&mut self) -> Result<()> {
-        self.write("[")?;
-        self.name()?;
-        self.write(" ")?;
-        self.write_one(&OPTIONS)?;
-        self.write("]")
+    fn name_with_options(&mut self) {
+        self.write("[");
+        self.name();
+        self.write(" ");
+        self.write_one(OPTIONS);
+        self.write("]");
     }
 
     /// What leads to the entities of a pattern below.
-    fn key(&mut self) -> Result<()> {
+    fn key(&mut self) {
         match self.dice.roll(6) {
             0 => self.name_with_options(),
             1 => self.name(),
@@ -154,11 +150,11 @@ impl Pen<'_> {
         }
     }
 
-    fn recursion(&mut self) -> Result<()> {
-        self.write("{")?;
-        self.key()?;
-        self.write(" ")?;
-        self.write_one(&TIMES)?;
-        self.write("}")
+    fn recursion(&mut self) {
+        self.write("{");
+        self.key();
+        self.write(" ");
+        self.write_one(TIMES);
+        self.write("}");
     }
 }

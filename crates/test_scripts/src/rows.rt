@@ -30,15 +30,21 @@ pub(crate) struct Row {
 pub(crate) fn rows_in(alloc: Global, table: &str) -> Result<Vec<Row>> {
     let mut rows = Vec::new(alloc);
     for line in table.lines() {
-        match line.strip_prefix("# ") {
-            Some(name) => rows.push(Row::named(alloc, name)?)?,
-            None => match rows.last_mut() {
-                Some(row) => row.add(line)?,
-                None => bail!("a line has no name above it"),
-            },
-        }
+        add_to_rows(alloc, &mut rows, line)?;
     }
     Ok(rows)
+}
+
+/// A name begins a row, and any other line goes to the last one.
+fn add_to_rows(alloc: Global, rows: &mut Vec<Row>, line: &str) -> Result<()> {
+    if let Some(name) = line.strip_prefix("# ") {
+        rows.push(Row::named(alloc, name)?)?;
+        return Ok(());
+    }
+    match rows.last_mut() {
+        Some(row) => row.add(line),
+        None => bail!("a line has no name above it"),
+    }
 }
 
 impl Row {
@@ -78,16 +84,22 @@ fn add_line(lines: &mut String, line: &str) -> Result<()> {
     match line.split_once('‹') {
         None => lines.push_str(line)?,
         Some((before, rest)) => {
-            let Some((count, behind)) = rest.split_once('›') else {
-                bail!("an angle quote is not closed");
-            };
             lines.push_str(before)?;
-            for n in 0..count.parse::<u32>()? {
-                write!(lines, "{}{n}", if n == 0 { "" } else { " " })?;
-            }
-            lines.push_str(behind)?;
+            add_numbers(lines, rest)?;
         }
     }
     lines.push('\n')?;
+    Ok(())
+}
+
+/// The text begins with how many numbers there are, and a closing quote.
+fn add_numbers(lines: &mut String, text: &str) -> Result<()> {
+    let Some((count, behind)) = text.split_once('›') else {
+        bail!("an angle quote is not closed");
+    };
+    for n in 0..count.parse::<u32>()? {
+        write!(lines, "{}{n}", if n == 0 { "" } else { " " })?;
+    }
+    lines.push_str(behind)?;
     Ok(())
 }

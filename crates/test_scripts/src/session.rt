@@ -15,16 +15,27 @@ use tx_step::NoGuard;
 /// The room of a sink: 16 MiB.
 const ROOM: usize = 16_777_216;
 
+/// The lines that answer the script.
 pub(crate) fn lines<R: Threads + Wait + Sync>(
     rt: &R,
     alloc: Global,
     script: &[u8],
     clock: Readings,
 ) -> Result<Vec<u8>> {
-    let mut source = source_of(alloc, script)?;
     let mut sink = MemSink::new(alloc, ROOM, Vec::new(alloc))?;
-    serve(rt, alloc, &mut source, &mut sink, clock)?;
+    serve(rt, alloc, script, &mut sink, clock)?;
     copied(alloc, sink.bytes())
+}
+
+fn serve<R: Threads + Wait + Sync>(
+    rt: &R,
+    alloc: Global,
+    script: &[u8],
+    sink: &mut MemSink,
+    clock: Readings,
+) -> Result<()> {
+    let mut source = source_of(alloc, script)?;
+    serve_source(rt, alloc, &mut source, sink, clock)
 }
 
 fn source_of(alloc: Global, script: &[u8]) -> Result<MemSource> {
@@ -38,7 +49,8 @@ fn copied(alloc: Global, bytes: &[u8]) -> Result<Vec<u8>> {
     Ok(copy)
 }
 
-fn serve<R: Threads + Wait + Sync>(
+/// A session on a new database.
+fn serve_source<R: Threads + Wait + Sync>(
     rt: &R,
     alloc: Global,
     source: &mut MemSource,
@@ -47,12 +59,20 @@ fn serve<R: Threads + Wait + Sync>(
 ) -> Result<()> {
     let clock = StepClock::new(clock.first, clock.step);
     let filters = shipped(alloc)?;
-    let core = Core::of(alloc, Snapshot::first(alloc)?)?;
-    let mut desk = CoreDesk::new(alloc, core);
+    let mut desk = new_desk(alloc)?;
     let served = serve_desk(
         rt, alloc, source, sink, &mut desk, &clock, &NoGuard, &filters,
     );
-    if !matches!(served.end, SessionEnd::Done) {
+    check_end(&served.end)
+}
+
+fn new_desk(alloc: Global) -> Result<CoreDesk> {
+    let core = Core::of(alloc, Snapshot::first(alloc)?)?;
+    Ok(CoreDesk::new(alloc, core))
+}
+
+fn check_end(end: &SessionEnd) -> Result<()> {
+    if !matches!(end, SessionEnd::Done) {
         bail!("a session ended early");
     }
     Ok(())

@@ -25,8 +25,16 @@ pub(crate) struct Stage<'a, R, W> {
 const LONG: usize = 20_000;
 
 impl<R: Threads + Wait + Sync, W: Write> Stage<'_, R, W> {
+    /// The scripts of the table.
+    pub(crate) fn run_rows(&mut self, rows: &[Row]) -> Result<()> {
+        for row in rows {
+            self.run_row(row)?;
+        }
+        Ok(())
+    }
+
     /// A script of the table, with merges and without, and by the plain session.
-    pub(crate) fn run_row(&mut self, row: &Row) -> Result<()> {
+    fn run_row(&mut self, row: &Row) -> Result<()> {
         let name = row.name.as_str();
         let script = row.script.as_str().as_bytes();
         let wanted = row.replies.as_str().as_bytes();
@@ -62,24 +70,34 @@ impl<R: Threads + Wait + Sync, W: Write> Stage<'_, R, W> {
 
     fn run_world(&mut self, scripts: u32, dice: &mut Dice, tally: &mut Tally) -> Result<()> {
         let world = drawn_world(self.alloc, dice)?;
+        self.run_in(&world, scripts, dice, tally)
+    }
+
+    fn run_in(
+        &mut self,
+        world: &World,
+        scripts: u32,
+        dice: &mut Dice,
+        tally: &mut Tally,
+    ) -> Result<()> {
         let begun = PlainScript::of(self.alloc, world.commands.as_str(), CLOCK)?;
         for _ in 0..scripts {
-            let plain = self.drawn_script(&world, &begun, dice)?;
-            self.run_as_plain(&plain, tally)?;
+            self.run_on(world, &begun, dice, tally)?;
         }
         Ok(())
     }
 
-    fn drawn_script(
-        &self,
+    /// One script: the world's commands, and drawn ones after them.
+    fn run_on(
+        &mut self,
         world: &World,
         begun: &PlainScript,
         dice: &mut Dice,
-    ) -> Result<PlainScript> {
+        tally: &mut Tally,
+    ) -> Result<()> {
         let commands = commands(self.alloc, dice, world)?;
-        let mut plain = begun.copy()?;
-        plain.go_on(commands.as_str())?;
-        Ok(plain)
+        let plain = begun.followed_by(commands.as_str())?;
+        self.run_as_plain(&plain, tally)
     }
 
     /// A script that the plain session has answered.

@@ -48,14 +48,25 @@ impl Tally {
         self.scripts = self.scripts.saturating_add(1);
         let mut at = 0;
         for line in lines.split_inclusive(|byte| *byte == b'\n') {
-            let Some((form, behind)) = next_form(alloc, script, at)? else {
-                bail!("a line answers no form");
-            };
-            self.lines = self.lines.saturating_add(1);
-            self.count_line(alloc, word_of(&form), line)?;
-            at = behind;
+            at = self.count_next(alloc, script, at, line)?;
         }
         Ok(())
+    }
+
+    /// Counts the line that answers the script's form at the place. It gives the place after the form.
+    fn count_next(
+        &mut self,
+        alloc: Global,
+        script: &[u8],
+        at: usize,
+        line: &[u8],
+    ) -> Result<usize> {
+        let Some((form, behind)) = next_form(alloc, script, at)? else {
+            bail!("a line answers no form");
+        };
+        self.lines = self.lines.saturating_add(1);
+        self.count_line(alloc, word_of(&form), line)?;
+        Ok(behind)
     }
 
     fn count_line(&mut self, alloc: Global, word: &str, line: &[u8]) -> Result<()> {

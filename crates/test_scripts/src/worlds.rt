@@ -13,14 +13,14 @@ pub(crate) struct World {
     pub(crate) is_shared: bool,
 }
 
-const UNIQUENESSES: [&str; 4] = [
+const UNIQUENESSES: &[&str] = &[
     "",
     "",
     " :db/unique :db.unique/identity",
     " :db/unique :db.unique/value",
 ];
 
-const CARDINALITIES: [&str; 2] = [":db.cardinality/one", ":db.cardinality/many"];
+const CARDINALITIES: &[&str] = &[":db.cardinality/one", ":db.cardinality/many"];
 
 pub(crate) fn drawn_world(alloc: Global, dice: &mut Dice) -> Result<World> {
     let mut world = World {
@@ -28,29 +28,39 @@ pub(crate) fn drawn_world(alloc: Global, dice: &mut Dice) -> Result<World> {
         fields: Vec::new(alloc),
         is_shared: dice.once_in(3),
     };
-    if world.is_shared {
-        world.fields.extend_from_slice(&SHARED)?;
-        write!(
-            world.commands,
-            "[:transact {SCHEMA}]\n[:transact {PEOPLE}]\n"
-        )?;
-    }
-    world.commands.push_str("[:transact [")?;
-    for field in OWN.iter() {
-        if dice.once_in(2) {
-            world.install(dice, *field)?;
-        }
-    }
-    world.commands.push_str("]]\n")?;
+    world.install_fields(dice)?;
     Ok(world)
 }
 
 impl World {
+    fn install_fields(&mut self, dice: &mut Dice) -> Result<()> {
+        if self.is_shared {
+            self.install_shared()?;
+        }
+        self.commands.push_str("[:transact [")?;
+        for field in OWN {
+            if dice.once_in(2) {
+                self.install(dice, *field)?;
+            }
+        }
+        self.commands.push_str("]]\n")?;
+        Ok(())
+    }
+
+    fn install_shared(&mut self) -> Result<()> {
+        self.fields.extend_from_slice(SHARED)?;
+        write!(
+            self.commands,
+            "[:transact {SCHEMA}]\n[:transact {PEOPLE}]\n"
+        )?;
+        Ok(())
+    }
+
     /// With a cardinality, a uniqueness and an index as they fall.
     fn install(&mut self, dice: &mut Dice, field: Field) -> Result<()> {
-        let cardinality = dice.pick(&CARDINALITIES);
+        let cardinality = dice.pick(CARDINALITIES);
         let more = if !field.values.is_empty() {
-            dice.pick(&UNIQUENESSES)
+            dice.pick(UNIQUENESSES)
         } else if field.name == ":h/part" {
             " :db/isComponent true"
         } else {
