@@ -1,6 +1,7 @@
 //! The four indexes of a history, as the plain program has them and as a core has them.
 use anyhow::{Result, bail};
 use fb_db::Db;
+use fb_memory::Memory;
 use fb_numbers::{CARDINALITY, IDENT};
 use fb_preds::Selector;
 use fb_scan::{Bounds, first, index_range, next_attribute, seek};
@@ -67,14 +68,14 @@ fn whole_lists(alloc: Global, entries: &[Entry]) -> Result<Vec<Vec<Datom>>> {
     Ok(lists)
 }
 
-fn whole_list(alloc: Global, entries: &[Entry], order: Order) -> Result<Vec<Datom>> {
+fn whole_list(alloc: Global, entries: &[Entry], order: Order) -> Result<Vec<Datom>, Memory> {
     let all = Range::NotBelow(from_the_first(order));
-    Ok(scan(alloc, entries, whole(true), order, &all)?)
+    scan(alloc, entries, whole(true), order, &all)
 }
 
-fn aged_five(alloc: Global, entries: &[Entry]) -> Result<Vec<Datom>> {
+fn aged_five(alloc: Global, entries: &[Entry]) -> Result<Vec<Datom>, Memory> {
     let five = Range::Between(AGE, Some(Value::Long(5)), Some(Value::Long(6)));
-    Ok(scan(alloc, entries, whole(false), Order::Avet, &five)?)
+    scan(alloc, entries, whole(false), Order::Avet, &five)
 }
 
 /// The filter that selects every datom.

@@ -47,10 +47,10 @@ fn transact(alloc: Global, entries: &mut Vec<Entry>, row: &Row) -> Result<()> {
 }
 
 fn record(entries: &mut Vec<Entry>, decision: Decision) -> Result<()> {
-    if let Decision::Accepted(entry, _) = decision {
-        entries.push(entry)?;
+    match decision {
+        Decision::Refused(_refusal) => Ok(()),
+        Decision::Accepted(entry, _tempids) => Ok(entries.push(entry)?),
     }
-    Ok(())
 }
 
 fn is_as_in(row: &Row, decision: &Decision) -> bool {

@@ -1,4 +1,6 @@
 //! A script by the session, over a core in memory.
+ghost use Rattle.std.specs.Prelude.{◌≡◌, [], IfOk};
+
 use crate::rows::Readings;
 use anyhow::{Result, bail};
 use core_desk::CoreDesk;
@@ -59,16 +61,19 @@ fn serve_source<R: Threads + Wait + Sync>(
 ) -> Result<()> {
     let clock = StepClock::new(clock.first, clock.step);
     let filters = shipped(alloc)?;
-    let mut desk = new_desk(alloc)?;
+    let mut desk = CoreDesk::new(alloc, new_core(alloc)?);
     let served = serve_desk(
         rt, alloc, source, sink, &mut desk, &clock, &NoGuard, &filters,
     );
     check_end(&served.end)
 }
 
-fn new_desk(alloc: Global) -> Result<CoreDesk> {
-    let core = Core::of(alloc, Snapshot::first(alloc)?)?;
-    Ok(CoreDesk::new(alloc, core))
+/// The core of a new database, to which nobody has written.
+fn new_core(alloc: Global) -> Result<Core>
+    ensures { IfOk result (λ core. core.authors ≡ []) }
+{
+    let snapshot = Snapshot::first(alloc)?;
+    Ok(Core::of(alloc, snapshot)?)
 }
 
 fn check_end(end: &SessionEnd) -> Result<()> {
