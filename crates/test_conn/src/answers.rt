@@ -107,28 +107,42 @@ fn sync<R: Wait>(rt: &R, conn: &Conn<CountingLog>, seat: &mut Seat) -> Result<An
 
 /// The answer to a transaction. Its line was made exactly where an entry was to be recorded.
 fn told(outcome: Result<Receipt, TxFault>, line: Line) -> Result<Answer> {
-    let (said, snapshot, recorded) = match outcome {
-        Ok(receipt) => {
-            let Receipt {
-                t,
-                instant: _,
-                tempids,
-                snapshot,
-            } = receipt;
-            let entity = first_entity(tempids.as_slice());
-            let given = u64::from(t);
-            (Said::Receipt { t: given, entity }, snapshot, Some(t))
-        }
-        Err(TxFault::Refused { refusal, snapshot }) => (Said::Refused(refusal), snapshot, None),
-        Err(TxFault::LogFault { at, snapshot }) => {
-            (Said::LogFault(u64::from(at)), snapshot, Some(at))
-        }
-        Err(TxFault::Stopped { at, snapshot }) => (Said::Stopped(u64::from(at)), snapshot, None),
-        Err(TxFault::Memory) => bail!("out of memory"),
-    };
-    if line.t != recorded {
+    if line.t != recorded(&outcome) {
         bail!("the line of a transaction was made too late, or for nothing");
     }
+    match outcome {
+        Ok(receipt) => Ok(accepted(receipt)),
+        Err(fault) => not_accepted(fault),
+    }
+}
+
+/// The t of the entry that was recorded, or was to be.
+fn recorded(outcome: &Result<Receipt, TxFault>) -> Option<u32> {
+    match outcome {
+        Ok(receipt) => Some(receipt.t),
+        Err(TxFault::LogFault { at, .. }) => Some(*at),
+        Err(_) => None,
+    }
+}
+
+fn accepted(receipt: Receipt) -> Answer {
+    let said = Said::Receipt {
+        t: u64::from(receipt.t),
+        entity: first_entity(receipt.tempids.as_slice()),
+    };
+    Answer {
+        said,
+        snapshot: receipt.snapshot,
+    }
+}
+
+fn not_accepted(fault: TxFault) -> Result<Answer> {
+    let (said, snapshot) = match fault {
+        TxFault::Refused { refusal, snapshot } => (Said::Refused(refusal), snapshot),
+        TxFault::LogFault { at, snapshot } => (Said::LogFault(u64::from(at)), snapshot),
+        TxFault::Stopped { at, snapshot } => (Said::Stopped(u64::from(at)), snapshot),
+        TxFault::Memory => bail!("out of memory"),
+    };
     Ok(Answer { said, snapshot })
 }
 

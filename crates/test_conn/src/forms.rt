@@ -5,7 +5,7 @@ use fb_values::{Entry, Value};
 use std::alloc::Global;
 
 /// What the sessions write.
-const TEXTS: [&str; 2] = ["by session 0", "by session 1"];
+const TEXTS: &[&str] = &["by session 0", "by session 1"];
 
 /// Data of transactions.
 #[derive(Drop)]

@@ -17,26 +17,34 @@ use forms::Forms;
 use model::Counts;
 use orders::Script;
 use runs::run_orders;
+use std::alloc::Global;
+use std::sync::Wait;
+use std::thread::Threads;
 
 /// What the sessions ask.
-const SCRIPTS: [Script; 2] = [
+const SCRIPTS: &[Script] = &[
     Script {
-        first: [Call::Good, Call::Db, Call::Bad, Call::Good],
-        second: [Call::Sync, Call::Good, Call::Db, Call::Good],
+        first: &[Call::Good, Call::Db, Call::Bad, Call::Good],
+        second: &[Call::Sync, Call::Good, Call::Db, Call::Good],
     },
     Script {
-        first: [Call::Good, Call::Good, Call::Db, Call::Bad],
-        second: [Call::Db, Call::Bad, Call::Good, Call::Sync],
+        first: &[Call::Good, Call::Good, Call::Db, Call::Bad],
+        second: &[Call::Db, Call::Bad, Call::Good, Call::Sync],
     },
 ];
 
-fn main(rt: HostRuntime) -> Result<()> {
-    let alloc = rt.alloc();
+/// Runs all orders of all scripts, and counts the answers.
+fn run_scripts<R: Threads + Wait + Sync>(rt: &R, alloc: Global) -> Result<Counts> {
     let forms = Forms::new(alloc)?;
     let mut counts = Counts::none();
     for script in SCRIPTS {
-        run_orders(&rt, alloc, &forms, script, &mut counts)?;
+        run_orders(rt, alloc, &forms, script, &mut counts)?;
     }
+    Ok(counts)
+}
+
+fn main(rt: HostRuntime) -> Result<()> {
+    let counts = run_scripts(&rt, rt.alloc())?;
     println!(rt;
         "{} runs: {} receipts, {} refusals, {} log faults, {} times stopped, {} looks",
         counts.runs,

@@ -67,21 +67,18 @@ pub(crate) struct Model {
     pub(crate) authors: Vec<usize>,
     pub(crate) halt: Option<Halt>,
     /// The t of the entry that the log does not take.
-    fails_at: Option<u64>,
+    pub(crate) fails_at: Option<u64>,
     /// The t up to which each session has seen the history.
     seen: Vec<u64>,
 }
 
 impl Model {
     pub(crate) fn new(alloc: Global, fails_at: Option<u64>) -> Result<Model, Memory> {
-        let mut seen = Vec::new(alloc);
-        seen.push(0)?;
-        seen.push(0)?;
         Ok(Model {
             authors: Vec::new(alloc),
             halt: None,
             fails_at,
-            seen,
+            seen: vec![in alloc; 0, 0]?,
         })
     }
 

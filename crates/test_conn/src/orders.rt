@@ -9,8 +9,8 @@ pub(crate) const CALLS: usize = 4;
 /// What two sessions ask, each one call after another.
 #[derive(Clone, Copy)]
 pub(crate) struct Script {
-    pub(crate) first: [Call; CALLS],
-    pub(crate) second: [Call; CALLS],
+    pub(crate) first: &'static [Call],
+    pub(crate) second: &'static [Call],
 }
 
 impl Script {

@@ -14,7 +14,7 @@ use crate::model::{Counts, Model, halt_of};
 use crate::orders::Script;
 use anyhow::{Result, bail};
 use fb_conn::{Closed, Conn, Made, Seat};
-use fb_core::{Core, CoreParts};
+use fb_core::{Core, CoreParts, Draft};
 use fb_roots::{Base, NoStore};
 use fb_view::Snapshot;
 use merge_worker::{OpenGate, WorkEnd, base_of, work};
@@ -26,14 +26,14 @@ use std::thread::Threads;
 const ORDERS: u32 = 256;
 
 /// The records at which the log fails, and the number of one that never comes.
-const FAILURES: [u64; 4] = [1, 2, 3, 1000];
+const FAILURES: &[u64] = &[1, 2, 3, 1000];
 
 /// Runs each order of the calls.
 pub(crate) fn run_orders<R: Threads + Wait + Sync>(
     rt: &R,
     alloc: Global,
     forms: &Forms,
-    script: Script,
+    script: &Script,
     counts: &mut Counts,
 ) -> Result<()> {
     for order in 0..ORDERS {
@@ -53,7 +53,7 @@ fn run_failures<R: Threads + Wait + Sync>(
 ) -> Result<()> {
     for fails_at in FAILURES {
         counts.runs = counts.runs.saturating_add(1);
-        run(rt, alloc, forms, turns, fails_at, counts)?;
+        run(rt, alloc, forms, turns, *fails_at, counts)?;
     }
     Ok(())
 }
@@ -67,9 +67,21 @@ fn run<R: Threads + Wait + Sync>(
     counts: &mut Counts,
 ) -> Result<()> {
     let mut model = Model::new(alloc, Some(fails_at))?;
+    serve(rt, alloc, forms, turns, &mut model, counts)
+}
+
+/// Serves the calls over a log that fails where the model says, and closes the connection. A failure is told once nothing is left of it.
+fn serve<R: Threads + Wait + Sync>(
+    rt: &R,
+    alloc: Global,
+    forms: &Forms,
+    turns: &[Turn],
+    model: &mut Model,
+    counts: &mut Counts,
+) -> Result<()> {
     let log = CountingLog {
         records: 0,
-        fails_at: Some(fails_at),
+        fails_at: model.fails_at,
     };
     let core = Core::of(alloc, Snapshot::first(alloc)?)?;
     let mut base = base_of(core.snapshot())?;
@@ -78,12 +90,32 @@ fn run<R: Threads + Wait + Sync>(
         mut seats,
         mut worker,
     } = Conn::new(alloc, core, log, 2, 1)?;
+    let asked = ask_all(rt, &conn, &mut seats, turns, forms, model, counts);
+    let merged = merge_rest(rt, alloc, &conn, &mut worker, &mut base);
+    let left = compare_end(model, conn.close(seats, worker));
+    asked?;
+    merged?;
+    left
+}
+
+/// Asks for one call after another, each at the seat of its session, and compares the answers.
+fn ask_all<R: Wait>(
+    rt: &R,
+    conn: &Conn<CountingLog>,
+    seats: &mut Vec<Seat>,
+    turns: &[Turn],
+    forms: &Forms,
+    model: &mut Model,
+    counts: &mut Counts,
+) -> Result<()>
+    requires { AreSessions conn.now seats.old.items }
+    ensures { AreSessions conn.now seats.new.items }
+{
     for turn in turns {
-        let answer = ask_at(rt, &conn, &mut seats, *turn, forms)?;
-        compare(&mut model, *turn, &answer, seats.as_slice(), counts)?;
+        let answer = ask_at(rt, conn, seats, *turn, forms)?;
+        compare(model, *turn, &answer, seats.as_slice(), counts)?;
     }
-    merge_rest(rt, alloc, &conn, &mut worker, &mut base)?;
-    compare_end(&model, conn.close(seats, worker))
+    Ok(())
 }
 
 /// Lets the worker merge what is left when both sessions have ended.
@@ -154,39 +186,47 @@ fn compare(
     Ok(())
 }
 
-/// What is left is as the model says: the history with its authors, all of it merged, as many records, the stop, and the torn
-/// transaction.
+/// What is left is as the model says.
 fn compare_end(model: &Model, closed: Closed<CountingLog>) -> Result<()> {
-    let Closed {
-        core,
-        log,
-        stopped,
-        torn,
-    } = closed;
-    if u64::from(core.covered()) != model.basis() {
+    compare_stop(model, &closed)?;
+    let left = closed.core.into_parts();
+    compare_history(model, &left)
+}
+
+/// All of the history is merged, the log took as many records, and it stopped as the model says, with that transaction torn.
+fn compare_stop(model: &Model, closed: &Closed<CountingLog>) -> Result<()> {
+    if u64::from(closed.core.covered()) != model.basis() {
         bail!("something is left that was not merged");
     }
-    let CoreParts { snapshot, authors } = core.into_parts();
-    for place in 0..authors.len() {
+    if closed.log.records != model.basis() || halt_of(closed.stopped) != model.halt {
+        bail!("the log stopped elsewhere");
+    }
+    if torn_at(&closed.torn) != model.stop_at() {
+        bail!("another transaction is torn");
+    }
+    Ok(())
+}
+
+/// The t that the entry of the torn transaction was to have.
+fn torn_at(torn: &Option<Draft>) -> Option<u64> {
+    match torn {
+        Some(draft) => Some(u64::from(draft.after().basis())),
+        None => None,
+    }
+}
+
+/// The history that is left is the model's, and each entry has its author.
+fn compare_history(model: &Model, left: &CoreParts) -> Result<()> {
+    for place in 0..left.authors.len() {
         let Some(who) = model.authors.get(place as usize) else {
             bail!("there are too many entries");
         };
-        if authors.at(place) as usize != *who {
+        if left.authors.at(place) as usize != *who {
             bail!("an entry has another author");
         }
     }
-    if !model.has(&snapshot) || u64::from(authors.len()) != model.basis() {
+    if !model.has(&left.snapshot) || u64::from(left.authors.len()) != model.basis() {
         bail!("another history is left");
-    }
-    if log.records != model.basis() || halt_of(stopped) != model.halt {
-        bail!("the log stopped elsewhere");
-    }
-    let torn_at = match &torn {
-        Some(draft) => Some(u64::from(draft.after().basis())),
-        None => None,
-    };
-    if torn_at != model.stop_at() {
-        bail!("another transaction is torn");
     }
     Ok(())
 }
