@@ -142,7 +142,15 @@ fn damage_logs<R: Files + Alloc + Print + Threads + Wait + Sync>(
     alloc: Global,
 ) -> Result<()> {
     let table = fs::read_to_string(rt, "bytes.txt")?;
-    let changed = open_changed(rt, alloc, table.as_str())?;
+    open_damaged(rt, alloc, table.as_str())
+}
+
+fn open_damaged<R: Print + Threads + Wait + Sync>(
+    rt: &R,
+    alloc: Global,
+    table: &str,
+) -> Result<()> {
+    let changed = open_changed(rt, alloc, table)?;
     let cut = open_cut(rt, alloc)?;
     println!(rt; "{changed} logs with bytes changed, {cut} that end too early")?;
     Ok(())

@@ -96,7 +96,8 @@ impl<O> EndedRun<O> {
 impl EndedRun<MemSink> {
     /// The disks, to go on with.
     pub(crate) fn into_parts(self) -> Result<Parts> {
-        match self.parts {
+        let EndedRun { parts, .. } = self;
+        match parts {
             Some(parts) => Ok(parts),
             None => bail!("a run hands back no disks"),
         }

@@ -3,6 +3,7 @@ use crate::directories::{Parts, disk};
 use crate::logs::kept::{Kept, merge_over};
 use crate::runs::{Ended, ends_so};
 use anyhow::{Result, bail};
+use mem_ports::MemDisk;
 use std::alloc::Global;
 use std::sync::Wait;
 use std::thread::Threads;
@@ -109,10 +110,21 @@ fn open_again<R: Threads + Wait + Sync>(
         bail!("a fault of the segments changes the log");
     }
     for cut in SEGMENTS_CUTS {
-        let segments = left.segments.image(alloc, &[*cut])?;
-        if history.covered_by(rt, alloc, segments.bytes())? < least {
+        if covered_at(rt, alloc, &left.segments, history, *cut)? < least {
             bail!("a crash leaves no trees up to t {least}");
         }
     }
     Ok(())
+}
+
+/// How far the trees go where a crash leaves so many bytes of the last write of the segments.
+fn covered_at<R: Threads + Wait + Sync>(
+    rt: &R,
+    alloc: Global,
+    segments: &MemDisk,
+    history: &Kept,
+    cut: u64,
+) -> Result<u32> {
+    let image = segments.image(alloc, &[cut])?;
+    history.covered_by(rt, alloc, image.bytes())
 }

@@ -39,8 +39,8 @@ pub(crate) fn histories_in(kept: &[Kept]) -> Result<Histories<'_>> {
     })
 }
 
-impl Histories<'_> {
-    fn all(&self) -> [&Kept; 4] {
+impl<'a> Histories<'a> {
+    fn all(&self) -> [&'a Kept; 4] {
         [self.none, self.one, self.two, self.other]
     }
 
