@@ -4,7 +4,7 @@ use std::alloc::Global;
 use std::test::Fail;
 
 /// An entry of two datoms, the second of which has the text `hi`. In the documented log it begins at byte 24.
-const PAYLOAD: [u8; 67] = [
+const PAYLOAD: &[u8; 67] = &[
     0x02, 0x00, 0x00, 0x00, 0x01, 0x00, 0x00, 0x01, 0x8c, 0xc2, 0x51, 0xf4, 0x00, 0x00, 0x00, 0x00,
     0x02, 0x00, 0x00, 0x0c, 0x00, 0x00, 0x00, 0x00, 0x01, 0x00, 0x00, 0x00, 0x00, 0x00, 0x00, 0x00,
     0x08, 0x06, 0x00, 0x00, 0x01, 0x8c, 0xc2, 0x51, 0xf4, 0x00, 0x01, 0x00, 0x00, 0x10, 0x00, 0x00,
@@ -15,7 +15,7 @@ const PAYLOAD: [u8; 67] = [
 /// The places that are changed, each with its new byte, and the byte at which the payload then breaks, if it does.
 type Row = (&'static [(usize, u8)], Option<u64>);
 
-const ROWS: [Row; 14] = [
+const ROWS: &[Row] = &[
     (&[], None),
     (&[(0, 1)], None),
     (&[(0, 9)], Some(0)),
@@ -33,7 +33,7 @@ const ROWS: [Row; 14] = [
 ];
 
 fn changed(changes: &[(usize, u8)]) -> [u8; 67] {
-    let mut payload = PAYLOAD;
+    let mut payload = *PAYLOAD;
     for (place, byte) in changes {
         if let Some(old) = payload.get_mut(*place) {
             *old = *byte;
@@ -56,19 +56,27 @@ fn payloads_with_bytes_changed_hold_an_entry_or_break_at_a_byte(
 ) -> Result<(), Fail> {
     for (n, (changes, byte)) in ROWS.iter().enumerate() {
         let payload = changed(changes);
-        assert_eq!(rt; breaks_at(rt.alloc(), &payload)?, *byte, "row {n}");
+        let broken = breaks_at(rt.alloc(), &payload)?;
+        assert_eq!(rt; broken, *byte, "row {n}");
     }
     Ok(())
 }
 
+/// How many bytes a payload has, the documented ones or some more, and the byte at which it breaks.
+const LENGTHS: &[(usize, u64)] = &[(68, 67), (66, 66), (0, 0)];
+
+fn breaks_in_length(alloc: Global, length: usize) -> Result<Option<u64>, BytesFault> {
+    let mut payload = Vec::from_slice(alloc, PAYLOAD)?;
+    payload.resize(length, 0)?;
+    breaks_at(alloc, &payload)
+}
+
 #[test]
 fn payloads_of_another_length_break_at_their_end(rt: HostRuntime) -> Result<(), Fail> {
-    let alloc = rt.alloc();
-    let mut longer = Vec::from_slice(alloc, &PAYLOAD)?;
-    longer.push(0)?;
-    assert_eq!(rt; breaks_at(alloc, &longer)?, Some(67));
-    assert_eq!(rt; breaks_at(alloc, &PAYLOAD[..66])?, Some(66));
-    assert_eq!(rt; breaks_at(alloc, &[])?, Some(0));
+    for (length, byte) in LENGTHS {
+        let broken = breaks_in_length(rt.alloc(), *length)?;
+        assert_eq!(rt; broken, Some(*byte), "{length} bytes");
+    }
     Ok(())
 }
 
@@ -79,13 +87,13 @@ fn entry_again(alloc: Global, payload: &[u8]) -> Result<Vec<u8>, BytesFault> {
 
 #[test]
 fn an_entry_is_written_as_it_was_read(rt: HostRuntime) -> Result<(), Fail> {
-    let written = entry_again(rt.alloc(), &PAYLOAD)?;
+    let written = entry_again(rt.alloc(), PAYLOAD)?;
     assert_eq!(rt; written.as_slice(), PAYLOAD.as_slice());
     Ok(())
 }
 
 /// A value of each type, and a long text besides.
-const VALUES: [&[u8]; 10] = [
+const VALUES: &[&[u8]] = &[
     b"\x01\0\0\0\x03a/b",
     b"\x02\0\0\0\0",
     b"\x02\0\0\0\x17ein Wort mit 23 Bytes\xc3\x9f",
@@ -110,7 +118,7 @@ fn value_again(alloc: Global, bytes: &[u8]) -> Result<(Vec<u8>, usize), BytesFau
 fn values_are_written_as_they_were_read(rt: HostRuntime) -> Result<(), Fail> {
     for bytes in VALUES {
         let (written, end) = value_again(rt.alloc(), bytes)?;
-        assert_eq!(rt; written.as_slice(), bytes);
+        assert_eq!(rt; written.as_slice(), *bytes);
         assert_eq!(rt; end, bytes.len());
     }
     Ok(())
