@@ -6,20 +6,32 @@ use fb_text::Text;
 use std::alloc::Global;
 use std::test::Fail;
 
-/// The text of the copy of a map with a list in it.
+/// A map with a list in it, `{1 ("a" nil)}`.
+fn map_with_list(alloc: Global) -> Result<Edn, Memory> {
+    let list = list(alloc)?;
+    Ok(Edn::Map(Pairs::of(vec![in alloc; (Edn::Int(1), list)]?)))
+}
+
+fn list(alloc: Global) -> Result<Edn, Memory> {
+    let text = Edn::Str(Text::of(alloc, "a")?);
+    Ok(Edn::List(Items::of(vec![in alloc; text, Edn::Nil]?)))
+}
+
+fn print_copy(form: &Edn, text: &mut Vec<u8>) -> Result<(), Memory> {
+    let copy = form.copy()?;
+    print(&copy, text)
+}
+
 fn copied(alloc: Global) -> Result<Vec<u8>, Memory> {
-    let list = Items::of(vec![in alloc; Edn::Str(Text::of(alloc, "a")?), Edn::Nil]?);
-    let form = Edn::Map(Pairs::of(vec![in alloc; (Edn::Int(1), Edn::List(list))]?));
+    let form = map_with_list(alloc)?;
     let mut text = Vec::new(alloc);
-    print(&form.copy()?, &mut text)?;
+    print_copy(&form, &mut text)?;
     Ok(text)
 }
 
 #[test]
 fn a_form_can_be_copied(rt: HostRuntime) -> Result<(), Fail> {
-    assert_eq!(rt;
-        copied(rt.alloc())?.as_slice(),
-        b"{1 (\"a\" nil)}".as_slice()
-    );
+    let copied = copied(rt.alloc())?;
+    assert_eq!(rt; copied.as_slice(), b"{1 (\"a\" nil)}".as_slice());
     Ok(())
 }

@@ -9,6 +9,7 @@ fn words(alloc: Global) -> Result<String, Memory> {
 
 #[test]
 fn the_error_says_that_memory_is_out(rt: HostRuntime) -> Result<(), Fail> {
-    assert_eq!(rt; words(rt.alloc())?.as_str(), "out of memory");
+    let words = words(rt.alloc())?;
+    assert_eq!(rt; words.as_str(), "out of memory");
     Ok(())
 }

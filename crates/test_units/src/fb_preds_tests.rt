@@ -20,6 +20,16 @@ impl Selector for Entity {
     }
 }
 
+fn said_of(e: u64, t: u32) -> Datom {
+    Datom {
+        e,
+        a: 9,
+        v: Value::Long(0),
+        t,
+        added: true,
+    }
+}
+
 /// What the filter of that name answers of a datom of this entity and t, where there is one.
 fn answer(
     alloc: Global,
@@ -28,20 +38,20 @@ fn answer(
     e: u64,
     t: u32,
 ) -> Result<Option<bool>, Memory> {
-    let d = Datom {
-        e,
-        a: 9,
-        v: Value::Long(0),
-        t,
-        added: true,
-    };
-    Ok(match table.find(&Text::of(alloc, name)?) {
-        Some(place) => Some(table.test(place, &d)),
+    let found = table.find(&Text::of(alloc, name)?);
+    Ok(match found {
+        Some(place) => Some(table.test(place, &said_of(e, t))),
         None => None,
     })
 }
 
-const ROWS: [(&str, u64, u32, Option<bool>); 5] = [
+/// Adds this closure as `late`, and as `one` a type of the caller, which selects entity 1.
+fn add_both(alloc: Global, table: &mut PredTable, late: Kept) -> Result<(), Memory> {
+    table.keep(Text::of(alloc, "late")?, late)?;
+    table.add(Text::of(alloc, "one")?, Box::new(alloc, Entity(1))?)
+}
+
+const ROWS: &[(&str, u64, u32, Option<bool>)] = &[
     ("one", 1, 5, Some(true)),
     ("one", 2, 5, Some(false)),
     ("late", 2, 6, Some(true)),
@@ -49,20 +59,16 @@ const ROWS: [(&str, u64, u32, Option<bool>); 5] = [
     ("two", 1, 6, None),
 ];
 
-/// Entity 1 is selected under `one`, by a type of the caller, and what was said after t 5 under `late`, by a closure.
+/// Under `late` what was said after t 5 is selected.
 #[test]
 fn filters_of_callers_are_found_and_asked(rt: HostRuntime) -> Result<(), Fail> {
     let alloc = rt.alloc();
-    let mut table = PredTable::new(alloc);
-    table.add(Text::of(alloc, "one")?, Box::new(alloc, Entity(1))?)?;
     let late = Kept::new(Box::new(alloc, |d: &Datom| d.t > 5)?);
-    table.keep(Text::of(alloc, "late")?, late)?;
+    let mut table = PredTable::new(alloc);
+    add_both(alloc, &mut table, late)?;
     for (name, e, t, want) in ROWS {
-        assert_eq!(rt;
-            answer(alloc, &table, name, e, t)?,
-            want,
-            "{name} of {e} at {t}"
-        );
+        let answer = answer(alloc, &table, name, *e, *t)?;
+        assert_eq!(rt; answer, *want, "{name} of {e} at {t}");
     }
     Ok(())
 }

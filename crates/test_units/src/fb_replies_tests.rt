@@ -10,7 +10,7 @@ fn line(alloc: Global, fault: LogFault) -> Result<Vec<u8>, Memory> {
     Ok(line)
 }
 
-const ROWS: [(LogFault, &str); 2] = [
+const ROWS: &[(LogFault, &str)] = &[
     (LogFault::Failed, "{:fault :log :at 2 :basis 1}\n"),
     (LogFault::Stopped, "{:fault :log-stopped :at 2 :basis 1}\n"),
 ];
@@ -18,7 +18,8 @@ const ROWS: [(LogFault, &str); 2] = [
 #[test]
 fn a_log_that_fails_is_told_in_a_line(rt: HostRuntime) -> Result<(), Fail> {
     for (fault, want) in ROWS {
-        assert_eq!(rt; line(rt.alloc(), fault)?.as_slice(), want.as_bytes());
+        let line = line(rt.alloc(), *fault)?;
+        assert_eq!(rt; line.as_slice(), want.as_bytes());
     }
     Ok(())
 }

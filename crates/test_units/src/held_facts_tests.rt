@@ -19,34 +19,48 @@ const FRIEND: u64 = 101;
 type FormCodes = (u64, i64, bool);
 
 /// The entries from t 1 on. Bob is also Ann's friend from t 1 on, and no longer from t 2 on.
-const ENTRIES: [&[FormCodes]; 3] = [
+const ENTRIES: &[&[FormCodes]; 3] = &[
     &[(ANN, 7, true), (ANN, 5, true), (BOB, 5, true)],
     &[(ANN, 5, false), (ANN, 7, true)],
     &[(ANN, 5, true), (ANN, 7, false), (BOB, 6, false)],
 ];
 
-/// After so many entries: Ann's lucky numbers, the holder of 5, the entity and the t of each lucky number, and Ann's facts
-/// and those that refer to Bob by their attributes.
-type Row = (
-    usize,
-    &'static [i64],
-    Option<u64>,
-    &'static [(u64, u32)],
-    &'static [u64],
-    &'static [u64],
-);
+/// What is answered after so many entries: Ann's lucky numbers, the holder of 5, the entity and the t of each lucky number, and Ann's
+/// facts and those that refer to Bob by their attributes.
+struct Row {
+    count: usize,
+    values: &'static [i64],
+    holder: Option<u64>,
+    under: &'static [(u64, u32)],
+    of_ann: &'static [u64],
+    to_bob: &'static [u64],
+}
 
-const ROWS: [Row; 3] = [
-    (
-        1,
-        &[5, 7],
-        Some(ANN),
-        &[(ANN, 1), (ANN, 1), (BOB, 1)],
-        &[LUCKY, LUCKY, FRIEND],
-        &[FRIEND],
-    ),
-    (2, &[7], Some(BOB), &[(ANN, 2), (BOB, 1)], &[LUCKY], &[]),
-    (3, &[5], Some(ANN), &[(ANN, 3), (BOB, 1)], &[LUCKY], &[]),
+const ROWS: &[Row] = &[
+    Row {
+        count: 1,
+        values: &[5, 7],
+        holder: Some(ANN),
+        under: &[(ANN, 1), (ANN, 1), (BOB, 1)],
+        of_ann: &[LUCKY, LUCKY, FRIEND],
+        to_bob: &[FRIEND],
+    },
+    Row {
+        count: 2,
+        values: &[7],
+        holder: Some(BOB),
+        under: &[(ANN, 2), (BOB, 1)],
+        of_ann: &[LUCKY],
+        to_bob: &[],
+    },
+    Row {
+        count: 3,
+        values: &[5],
+        holder: Some(ANN),
+        under: &[(ANN, 3), (BOB, 1)],
+        of_ann: &[LUCKY],
+        to_bob: &[],
+    },
 ];
 
 fn entry(alloc: Global, t: u32, said: &[FormCodes]) -> Result<Entry, Memory> {
@@ -88,11 +102,6 @@ struct Columns {
     to_bob: Vec<u64>,
 }
 
-fn told_after(alloc: Global, count: usize) -> Result<Columns, Memory> {
-    let held = after(alloc, count)?;
-    told(alloc, &held)
-}
-
 fn told(alloc: Global, held: &Held) -> Result<Columns, Memory> {
     Ok(Columns {
         values: values(alloc, held)?,
@@ -122,15 +131,28 @@ fn attributes(alloc: Global, facts: Datoms) -> Result<Vec<u64>, Memory> {
     Ok(facts.as_slice().iter().map(|d| d.a).collect(alloc)?)
 }
 
+/// Whether the facts are answered as the row says.
+fn has_columns(alloc: Global, held: &Held, row: &Row) -> Result<bool, Memory> {
+    let told = told(alloc, held)?;
+    Ok(
+        told.values.as_slice() == row.values
+            && told.holder == row.holder
+            && told.under.as_slice() == row.under
+            && told.of_ann.as_slice() == row.of_ann
+            && told.to_bob.as_slice() == row.to_bob,
+    )
+}
+
+fn is_told(alloc: Global, row: &Row) -> Result<bool, Memory> {
+    let held = after(alloc, row.count)?;
+    has_columns(alloc, &held, row)
+}
+
 #[test]
 fn what_holds_follows_the_entries(rt: HostRuntime) -> Result<(), Fail> {
-    for (count, values, holder, under, of_ann, to_bob) in ROWS {
-        let told = told_after(rt.alloc(), count)?;
-        assert_eq!(rt; told.values.as_slice(), values, "after {count} entries");
-        assert_eq!(rt; told.holder, holder, "after {count} entries");
-        assert_eq!(rt; told.under.as_slice(), under, "after {count} entries");
-        assert_eq!(rt; told.of_ann.as_slice(), of_ann, "after {count} entries");
-        assert_eq!(rt; told.to_bob.as_slice(), to_bob, "after {count} entries");
+    for row in ROWS {
+        let is_told = is_told(rt.alloc(), row)?;
+        assert!(rt; is_told, "after {} entries", row.count);
     }
     Ok(())
 }

@@ -20,12 +20,13 @@ fn leaves(alloc: Global, size: u64) -> Result<usize, Memory> {
 }
 
 /// A list that is too long for one leaf is halved until it is not.
-const ROWS: [(u64, usize); 5] = [(0, 0), (1, 1), (512, 1), (513, 2), (100_000, 256)];
+const ROWS: &[(u64, usize)] = &[(0, 0), (1, 1), (512, 1), (513, 2), (100_000, 256)];
 
 #[test]
 fn leaves_are_no_emptier_than_half(rt: HostRuntime) -> Result<(), Fail> {
     for (size, want) in ROWS {
-        assert_eq!(rt; leaves(rt.alloc(), size)?, want, "of {size} datoms");
+        let leaves = leaves(rt.alloc(), *size)?;
+        assert_eq!(rt; leaves, *want, "of {size} datoms");
     }
     Ok(())
 }

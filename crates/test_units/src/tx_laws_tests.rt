@@ -45,7 +45,7 @@ fn broken(alloc: Global, count: u32, rise: bool) -> Result<Option<u8>, Memory> {
     lawful(alloc, &entry, &snapshot, snapshot.schema())
 }
 
-const ROWS: [(u32, bool, Option<u8>); 3] = [
+const ROWS: &[(u32, bool, Option<u8>)] = &[
     (1, true, None),
     (20_000, true, None),
     (20_000, false, Some(5)),
@@ -54,7 +54,8 @@ const ROWS: [(u32, bool, Option<u8>); 3] = [
 #[test]
 fn entries_are_judged_without_comparing_all_pairs(rt: HostRuntime) -> Result<(), Fail> {
     for (count, rise, want) in ROWS {
-        assert_eq!(rt; broken(rt.alloc(), count, rise)?, want, "{count} documents");
+        let law = broken(rt.alloc(), *count, *rise)?;
+        assert_eq!(rt; law, *want, "{count} documents");
     }
     Ok(())
 }
