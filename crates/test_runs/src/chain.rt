@@ -1,6 +1,5 @@
 //! A long chain of entities, pulled by every session in a thread of its own.
-use crate::replays::texts_of;
-use crate::runs::{Ended, run_in_memory};
+use crate::runs::{Ended, run_in_memory, texts_of};
 use anyhow::{Result, bail};
 use std::alloc::Global;
 use std::sync::Wait;

@@ -1,7 +1,7 @@
 //! Drawn scripts run in as many threads. A plain session replays what they were answered, and merges change no byte of it.
 use crate::drawn::{long_script, scripts};
 use crate::plain::plain_session;
-use crate::runs::{Ended, run_in_memory, served_by};
+use crate::runs::{Ended, run_in_memory, served_by, texts_of};
 use anyhow::{Result, bail};
 use std::alloc::Global;
 use std::sync::Wait;
@@ -33,14 +33,6 @@ fn replayed<R: Threads + Wait + Sync>(
     let scripts = scripts(alloc, sessions, commands)?;
     let texts = texts_of(alloc, scripts.as_slice())?;
     replay_run(rt, alloc, merge_at, texts.as_slice())
-}
-
-pub(crate) fn texts_of(alloc: Global, scripts: &[String]) -> Result<Vec<&str>> {
-    let mut texts = Vec::new(alloc);
-    for script in scripts {
-        texts.push(script.as_str())?;
-    }
-    Ok(texts)
 }
 
 fn replay_run<R: Threads + Wait + Sync>(

@@ -155,6 +155,15 @@ pub(crate) fn run_in_memory<R: Threads + Wait + Sync>(
     Ok(ended)
 }
 
+/// Scripts that were made, as a run takes them.
+pub(crate) fn texts_of(alloc: Global, scripts: &[String]) -> Result<Vec<&str>> {
+    let mut texts = Vec::new(alloc);
+    for script in scripts {
+        texts.push(script.as_str())?;
+    }
+    Ok(texts)
+}
+
 /// Runs the scripts over a log alone.
 pub(crate) fn run_over<R: Threads + Wait + Sync>(
     rt: &R,
