@@ -49,9 +49,13 @@ pub(crate) fn perform<R: Input + Print + Threads + Sync>(
     if !words.is_empty() {
         return Ok(false);
     }
-    let mut database = Database::new(alloc)?;
-    answer_lines(alloc, rt, &mut database)?;
+    measure(alloc, rt)?;
     Ok(true)
+}
+
+fn measure<R: Input + Print + Threads + Sync>(alloc: Global, rt: &R) -> Result<()> {
+    let mut database = Database::new(alloc)?;
+    answer_lines(alloc, rt, &mut database)
 }
 
 /// Does what each line of standard input asks, and prints its answer.

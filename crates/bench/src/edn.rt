@@ -39,7 +39,7 @@ pub(crate) fn perform(rt: &HostRuntime, words: &[String]) -> Result<bool> {
             let count = count(rt.alloc(), &bytes)?;
             println!(rt; "{count}")?;
         }
-        Task::Print => print_each(rt.alloc(), &bytes, &mut io::writer(rt))?,
+        Task::Print => print_all(rt.alloc(), &bytes, &mut io::writer(rt))?,
     }
     Ok(true)
 }
@@ -56,23 +56,34 @@ fn count(alloc: Global, bytes: &[u8]) -> Result<u64> {
 }
 
 /// Writes the canonical text of each form, one a line.
-fn print_each<W: Write>(alloc: Global, bytes: &[u8], sink: &mut W) -> Result<()> {
+fn print_all<W: Write>(alloc: Global, bytes: &[u8], sink: &mut W) -> Result<()> {
     let mut lines = Vec::with_capacity(alloc, FULL)?;
-    let mut at = 0;
-    while let Some((form, next)) = read_form(alloc, bytes, at)? {
-        add_line(&form, &mut lines)?;
-        if lines.len() >= FULL {
-            sink.write_all(lines.as_slice())?;
-            lines.clear();
-        }
-        at = next;
-    }
+    print_each(alloc, bytes, &mut lines, sink)?;
     sink.write_all(lines.as_slice())?;
     Ok(())
 }
 
-fn add_line(form: &Edn, lines: &mut Vec<u8>) -> Result<()> {
+/// Gathers the lines, and writes them each time that there are many. The last ones are left.
+fn print_each<W: Write>(
+    alloc: Global,
+    bytes: &[u8],
+    lines: &mut Vec<u8>,
+    sink: &mut W,
+) -> Result<()> {
+    let mut at = 0;
+    while let Some((form, next)) = read_form(alloc, bytes, at)? {
+        add_line(&form, lines, sink)?;
+        at = next;
+    }
+    Ok(())
+}
+
+fn add_line<W: Write>(form: &Edn, lines: &mut Vec<u8>, sink: &mut W) -> Result<()> {
     print(form, lines)?;
     lines.push(b'\n')?;
+    if lines.len() >= FULL {
+        sink.write_all(lines.as_slice())?;
+        lines.clear();
+    }
     Ok(())
 }

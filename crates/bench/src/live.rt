@@ -67,37 +67,63 @@ pub(crate) fn perform(alloc: Global, words: &[String]) -> Result<bool> {
     let Some(task) = task_of(words) else {
         return Ok(false);
     };
-    measure(alloc, task)?;
+    let covers = coverage(alloc, 0, 0)?;
+    measure(alloc, &covers, task)?;
     Ok(true)
 }
 
-fn measure(alloc: Global, task: Task) -> Result<(), Memory> {
-    let covers = coverage(alloc, 0, 0)?;
+fn measure(alloc: Global, covers: &Covers, task: Task) -> Result<(), Memory> {
     let entries = task.count / DATOMS;
-    let live = filled(alloc, &covers, entries)?;
-    for _ in 0..task.rounds {
-        round(alloc, &live, &covers, entries, task.installs)?;
-    }
-    Ok(())
+    let live = filled(alloc, covers, entries)?;
+    do_rounds(alloc, &live, covers, entries, task)
 }
 
-/// Adds a round's entries to the filled index, of which the first is the n-th.
-fn round(
+/// Adds a round's entries to the filled index so many times, of which the first is the n-th.
+fn do_rounds(
     alloc: Global,
     filled: &Live,
     covers: &Covers,
     n: u32,
-    installs: bool,
+    task: Task,
 ) -> Result<(), Memory>
     requires few { n + ENTRIES < 2 ^ 32 }
     requires live { LiveIsBefore covers.now n filled.now }
 {
+    for _ in 0..task.rounds {
+        if task.installs {
+            install(alloc, filled, covers, n)?;
+        } else {
+            grow(alloc, filled, covers, n)?;
+        }
+    }
+    Ok(())
+}
+
+fn grow(alloc: Global, filled: &Live, covers: &Covers, n: u32) -> Result<(), Memory>
+    requires few { n + ENTRIES < 2 ^ 32 }
+    requires live { LiveIsBefore covers.now n filled.now }
+{
     let begin = filled.share()?;
-    drop(if installs {
-        installed(alloc, begin, covers, n)?
-    } else {
-        grown(alloc, begin, covers, n, ENTRIES)?
-    });
+    drop(grown(alloc, begin, covers, n, ENTRIES)?);
+    Ok(())
+}
+
+/// Each entry installs a unique attribute, so that the coverage grows with each.
+fn install(alloc: Global, filled: &Live, covers: &Covers, n: u32) -> Result<(), Memory>
+    requires few { n + ENTRIES < 2 ^ 32 }
+    requires live { LiveIsBefore covers.now n filled.now }
+{
+    let mut index = Index::of(filled, covers)?;
+    install_each(alloc, &mut index, n)
+}
+
+fn install_each(alloc: Global, index: &mut Index, n: u32) -> Result<(), Memory>
+    requires few { n + ENTRIES < 2 ^ 32 }
+    requires live { LiveIsBefore index.old.covers n index.old.live }
+{
+    for i in 0..ENTRIES {
+        *index = index.with_entry(alloc, n, i)?;
+    }
     Ok(())
 }
 
@@ -120,18 +146,34 @@ fn grown(alloc: Global, mut live: Live, covers: &Covers, n: u32, count: u32) -> 
     Ok(live)
 }
 
-/// The index with as many entries more as a round adds, each of which installs a unique attribute, so that the coverage grows with each.
-fn installed(alloc: Global, mut live: Live, covers: &Covers, n: u32) -> Result<Live, Memory>
-    requires few { n + ENTRIES < 2 ^ 32 }
-    requires live { LiveIsBefore covers.now n live }
-{
-    let mut before = covers.share()?;
-    for i in 0..ENTRIES {
-        let after = coverage(alloc, n, i + 1)?;
-        live = with_attribute(alloc, &live, &before, &after, n + i)?;
-        before = after;
+/// An index and its coverage, which grow together.
+#[derive(Drop)]
+struct Index {
+    live: Live,
+    covers: Covers,
+}
+
+impl Index {
+    fn of(live: &Live, covers: &Covers) -> Result<Index, Memory>
+        ensures { IfOk result (λ new. (new.live ≡ live.now) × (new.covers ≡ covers.now)) }
+    {
+        let live = live.share()?;
+        Ok(Index {
+            live,
+            covers: covers.share()?,
+        })
     }
-    Ok(live)
+
+    /// The n-th entry was the first that installed an attribute, and `i` did.
+    fn with_entry(&self, alloc: Global, n: u32, i: u32) -> Result<Index, Memory>
+        requires few { n + i + 1 < 2 ^ 32 }
+        requires live { LiveIsBefore self.now.covers (n + i) self.now.live }
+        ensures { IfOk result (λ new. LiveIsBefore new.covers (n + i + 1) new.live) }
+    {
+        let covers = coverage(alloc, n, i + 1)?;
+        let live = with_attribute(alloc, &self.live, &self.covers, &covers, n + i)?;
+        Ok(Index { live, covers })
+    }
 }
 
 fn with_facts(alloc: Global, live: &Live, covers: &Covers, n: u32) -> Result<Live, Memory>
@@ -181,9 +223,9 @@ fn facts(alloc: Global, n: u32) -> Result<Vec<Datom>, Memory>
     ensures { IfOk result (λ v. IsEntry n v.items) }
 {
     let key = Value::Str(name(alloc, n)?);
-    let number = Value::Long(n as i64 * 7919 % 1000);
     let datoms = pushed(Vec::new(alloc), instant(n))?;
     let datoms = pushed(datoms, of_user(n, KEY, key))?;
+    let number = Value::Long(n as i64 * 7919 % 1000);
     pushed(datoms, of_user(n, NUMBER, number))
 }
 

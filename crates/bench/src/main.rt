@@ -29,27 +29,23 @@ const NO_TASK: u8 = 2;
 
 fn main(rt: HostRuntime) -> Result<ExitCode> {
     let words: Vec<String> = env::args(&rt)?.skip(1).collect(rt.alloc())?;
-    if perform(&rt, &words)? {
+    let Some((name, words)) = words.split_first() else {
+        return no_task(&rt);
+    };
+    let done = match name.as_str() {
+        "edn" => edn::perform(&rt, words),
+        "board" => board::perform(rt.alloc(), &rt, words),
+        "live" => live::perform(rt.alloc(), words),
+        "segments" => segments::perform(rt.alloc(), &rt, words),
+        "deciding" => deciding::perform(&rt, words),
+        "journal" => journal::perform(&rt, words),
+        "core" => cores::perform(rt.alloc(), &rt, words),
+        _ => Ok(false),
+    };
+    if done? {
         Ok(ExitCode::SUCCESS)
     } else {
         no_task(&rt)
-    }
-}
-
-/// Does what the words name. It is false where they name nothing.
-fn perform(rt: &HostRuntime, words: &[String]) -> Result<bool> {
-    let Some((name, words)) = words.split_first() else {
-        return Ok(false);
-    };
-    match name.as_str() {
-        "edn" => edn::perform(rt, words),
-        "board" => board::perform(rt.alloc(), rt, words),
-        "live" => live::perform(rt.alloc(), words),
-        "segments" => segments::perform(rt.alloc(), rt, words),
-        "deciding" => deciding::perform(rt, words),
-        "journal" => journal::perform(rt, words),
-        "core" => cores::perform(rt.alloc(), rt, words),
-        _ => Ok(false),
     }
 }
 

@@ -9,6 +9,7 @@ mod trees;
 use crate::common::number;
 use anyhow::{Result, bail};
 use fb_covers::Covers;
+use fb_memory::Memory;
 use live_index::Live;
 use seg_tree::Roots;
 use std::alloc::Global;
@@ -88,13 +89,23 @@ pub(crate) fn perform<R: Input + Print + Threads + Sync>(
         return Ok(false);
     };
     let covers = coverage(alloc)?;
-    let roots = trees_of(alloc, rt, &covers, sizes.older())?;
-    measure(alloc, rt, sizes, &covers, &roots)?;
+    measure(alloc, rt, sizes, &covers)?;
     Ok(true)
 }
 
-/// Makes the indexes that the rounds merge, and does the rounds.
+/// Makes the trees, and does the rounds.
 fn measure<R: Input + Print + Threads + Sync>(
+    alloc: Global,
+    rt: &R,
+    sizes: Sizes,
+    covers: &Covers,
+) -> Result<()> {
+    let roots = trees_of(alloc, rt, covers, sizes.older())?;
+    measure_trees(alloc, rt, sizes, covers, &roots)
+}
+
+/// Makes the index of datoms among those of the trees.
+fn measure_trees<R: Input + Print + Threads + Sync>(
     alloc: Global,
     rt: &R,
     sizes: Sizes,
@@ -105,8 +116,24 @@ fn measure<R: Input + Print + Threads + Sync>(
     requires held { TreesAreHeld covers.now roots.now }
 {
     let among = index(alloc, covers, sizes.among(), NEWER)?;
+    measure_merges(alloc, rt, sizes, covers, roots, &among)
+}
+
+/// Makes the index of datoms behind those of the trees.
+fn measure_merges<R: Input + Print + Threads + Sync>(
+    alloc: Global,
+    rt: &R,
+    sizes: Sizes,
+    covers: &Covers,
+    roots: &Roots,
+    among: &Live,
+) -> Result<()>
+    requires roots { TreesRise roots.now }
+    requires held { TreesAreHeld covers.now roots.now }
+    requires among { LiveRises among.now }
+{
     let behind = index(alloc, covers, sizes.behind(), NEWER)?;
-    answer_lines(alloc, rt, sizes, covers, roots, &among, &behind)
+    answer_lines(alloc, rt, sizes, covers, roots, among, &behind)
 }
 
 /// Does a round for each line of standard input, and prints its answer.
@@ -125,12 +152,33 @@ fn answer_lines<R: Input + Print + Threads + Sync>(
     requires behind { LiveRises behind.now }
 {
     for line in rt.lines(alloc) {
-        let answer = match task_of(line?.as_str())? {
-            Task::Seek => sought(roots, sizes.end(), sizes.sought),
-            Task::Merge => next_id(alloc, rt, roots, among, covers)?,
-            Task::Behind => next_id(alloc, rt, roots, behind, covers)?,
-        };
-        println!(rt; "{answer}")?;
+        let task = task_of(line?.as_str())?;
+        println!(rt;
+            "{}",
+            answer(alloc, rt, task, sizes, covers, roots, among, behind)?
+        )?;
     }
     Ok(())
+}
+
+fn answer<R: Threads + Sync>(
+    alloc: Global,
+    rt: &R,
+    task: Task,
+    sizes: Sizes,
+    covers: &Covers,
+    roots: &Roots,
+    among: &Live,
+    behind: &Live,
+) -> Result<u64, Memory>
+    requires roots { TreesRise roots.now }
+    requires held { TreesAreHeld covers.now roots.now }
+    requires among { LiveRises among.now }
+    requires behind { LiveRises behind.now }
+{
+    match task {
+        Task::Seek => Ok(sought(roots, sizes.end(), sizes.sought)),
+        Task::Merge => next_id(alloc, rt, roots, among, covers),
+        Task::Behind => next_id(alloc, rt, roots, behind, covers),
+    }
 }

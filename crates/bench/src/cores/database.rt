@@ -67,10 +67,19 @@ impl Database {
 
 /// A core of a new database with the two attributes.
 fn with_schema(alloc: Global) -> Result<Core> {
-    let schema = schema(alloc)?;
-    let mut core = Core::of(alloc, Snapshot::first(alloc)?)?;
-    transact(&mut core, &schema)?;
+    let mut core = new_core(alloc)?;
+    install_schema(alloc, &mut core)?;
     Ok(core)
+}
+
+fn new_core(alloc: Global) -> Result<Core> {
+    let first = Snapshot::first(alloc)?;
+    Ok(Core::of(alloc, first)?)
+}
+
+fn install_schema(alloc: Global, core: &mut Core) -> Result<()> {
+    let schema = schema(alloc)?;
+    transact(core, &schema)
 }
 
 fn transact(core: &mut Core, form: &Edn) -> Result<()> {

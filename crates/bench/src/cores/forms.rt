@@ -27,17 +27,24 @@ impl Names {
 
     /// `[{:b/num 7 :b/text "text 7"}]`
     pub(crate) fn new_entity(&self, alloc: Global, n: u32) -> Result<Edn> {
-        let text = format!(in alloc; "text {n}")?;
         let mut pairs = Vec::with_capacity(alloc, 2)?;
-        pairs.push((Edn::Key(self.num.copy()?), Edn::Int(i64::from(n))))?;
-        pairs.push((
-            Edn::Key(self.text.copy()?),
-            Edn::Str(Text::of(alloc, text.as_str())?),
-        ))?;
+        self.add_pairs(alloc, n, &mut pairs)?;
         let mut forms = Vec::with_capacity(alloc, 1)?;
         forms.push(Edn::Map(Pairs::of(pairs)))?;
         Ok(Edn::Vector(Items::of(forms)))
     }
+
+    fn add_pairs(&self, alloc: Global, n: u32, pairs: &mut Vec<(Edn, Edn)>) -> Result<()> {
+        pairs.push((Edn::Key(self.num.copy()?), Edn::Int(i64::from(n))))?;
+        let text = text_of(alloc, n)?;
+        pairs.push((Edn::Key(self.text.copy()?), Edn::Str(text)))?;
+        Ok(())
+    }
+}
+
+fn text_of(alloc: Global, n: u32) -> Result<Text> {
+    let text = format!(in alloc; "text {n}")?;
+    Ok(Text::of(alloc, text.as_str())?)
 }
 
 pub(crate) fn schema(alloc: Global) -> Result<Edn> {

@@ -86,9 +86,23 @@ pub(crate) fn trees_of<R: Threads + Sync>(
     ensures rise { IfOk result (λ roots. TreesRise roots) }
     ensures held { IfOk result (λ roots. TreesAreHeld covers.now roots) }
 {
-    let none = no_roots(alloc)?;
     let live = index(alloc, covers, numbers, OLDER)?;
-    merged(alloc, rt, &none, &live, OLDER, covers)
+    first_trees(alloc, rt, &live, covers)
+}
+
+/// Trees of the live datoms.
+fn first_trees<R: Threads + Sync>(
+    alloc: Global,
+    rt: &R,
+    live: &Live,
+    covers: &Covers,
+) -> Result<Roots, Memory>
+    requires live { LiveRises live.now }
+    ensures rise { IfOk result (λ roots. TreesRise roots) }
+    ensures held { IfOk result (λ roots. TreesAreHeld covers.now roots) }
+{
+    let none = no_roots(alloc)?;
+    merged(alloc, rt, &none, live, OLDER, covers)
 }
 
 /// Trees without a datom.

@@ -1,5 +1,5 @@
 use Rattle.std.proofs.Common.{◌-◌, length}
 use Rattle.bench.proofs.edn.print_each.Given as goal
 
-abbrev pub decreases-loop-lines : goal.decreases-loop-lines
-decreases-loop-lines g l = length l.bytes - l.at
+abbrev pub decreases-loop-form : goal.decreases-loop-form
+decreases-loop-form g l = length l.bytes - l.at
