@@ -33,15 +33,17 @@ const SCHEMA: &str =
 /// Its latest value, over trees that hold all of it.
 pub(crate) fn grown<R: Threads + Sync>(rt: &R, alloc: Global) -> Result<Snapshot> {
     let mut core = Core::of(alloc, Snapshot::first(alloc)?)?;
-    transact(&mut core, &schema(alloc)?)?;
-    for nth in 0..ENTITIES {
-        transact(&mut core, &new_entity(alloc, nth)?)?;
-    }
+    grow(alloc, &mut core)?;
     merge(rt, alloc, &mut core)?;
-    if core.covered() != FIRST_T + ENTITIES - 1 {
-        bail!("the trees do not hold the whole history");
-    }
     Ok(core.snapshot().share()?)
+}
+
+fn grow(alloc: Global, core: &mut Core) -> Result<()> {
+    transact(core, &schema(alloc)?)?;
+    for nth in 0..ENTITIES {
+        transact(core, &new_entity(alloc, nth)?)?;
+    }
+    Ok(())
 }
 
 fn transact(core: &mut Core, form: &Edn) -> Result<()> {
@@ -62,6 +64,9 @@ fn merge<R: Threads + Sync>(rt: &R, alloc: Global, core: &mut Core) -> Result<()
     let roots = merged(rt, alloc, &begin, first_id)?;
     let rebased = core.rebase(&begin, roots)?;
     core.adopt(rebased);
+    if core.covered() != FIRST_T + ENTITIES - 1 {
+        bail!("the trees do not hold the whole history");
+    }
     Ok(())
 }
 
@@ -74,17 +79,21 @@ fn schema(alloc: Global) -> Result<Edn> {
 
 /// `[{:x/n [0 1 2 ..]}]` for the first entity, with the numbers after these for the second, and so on.
 fn new_entity(alloc: Global, nth: u32) -> Result<Edn> {
+    let numbers = numbers_of(alloc, nth)?;
+    let entity = entity_with(alloc, numbers)?;
+    Ok(Edn::Vector(Items::of(vec![in alloc; entity]?)))
+}
+
+fn numbers_of(alloc: Global, nth: u32) -> Result<Edn> {
     let first = i64::from(nth) * i64::from(NUMBERS_EACH);
     let mut numbers = Vec::with_capacity(alloc, NUMBERS_EACH as usize)?;
     for number in first..first + i64::from(NUMBERS_EACH) {
         numbers.push(Edn::Int(number))?;
     }
-    let mut pairs = Vec::with_capacity(alloc, 1)?;
-    pairs.push((
-        Edn::Key(Text::of(alloc, "x/n")?),
-        Edn::Vector(Items::of(numbers)),
-    ))?;
-    let mut forms = Vec::with_capacity(alloc, 1)?;
-    forms.push(Edn::Map(Pairs::of(pairs)))?;
-    Ok(Edn::Vector(Items::of(forms)))
+    Ok(Edn::Vector(Items::of(numbers)))
+}
+
+fn entity_with(alloc: Global, numbers: Edn) -> Result<Edn> {
+    let key = Edn::Key(Text::of(alloc, "x/n")?);
+    Ok(Edn::Map(Pairs::of(vec![in alloc; (key, numbers)]?)))
 }

@@ -39,15 +39,20 @@ fn is_found(alloc: Global, db: &Db<Everything>, number: u32) -> Result<bool, Mem
     })
 }
 
-fn main(rt: HostRuntime) -> Result<()> {
-    let alloc = rt.alloc();
-    let db = Db::of(grown(&rt, alloc)?, Everything);
+fn find_each(alloc: Global, db: &Db<Everything>) -> Result<()> {
     for nth in 0..ASKED {
         let number = nth * STEP % NUMBERS;
-        if !is_found(alloc, &db, number)? {
+        if !is_found(alloc, db, number)? {
             bail!("a scan does not find {number} alone");
         }
     }
+    Ok(())
+}
+
+fn main(rt: HostRuntime) -> Result<()> {
+    let alloc = rt.alloc();
+    let db = Db::of(grown(&rt, alloc)?, Everything);
+    find_each(alloc, &db)?;
     println!(rt; "{ASKED} of {NUMBERS} numbers are found, each by a scan of its own")?;
     Ok(())
 }
