@@ -8,7 +8,7 @@ use real_ports::RealHost;
 use std::alloc::Global;
 use std::test::Fail;
 
-const PAYLOADS: [&[u8]; 3] = [b"hi", b"", b"x"];
+const PAYLOADS: &[&[u8]] = &[b"hi", b"", b"x"];
 
 /// A log of these three payloads as it is documented: the mark, the gate of record 0, and for each record the length, the payload and
 /// the next gate, of which the last is closed.
@@ -44,9 +44,11 @@ fn a_log_in_a_file_has_the_documented_bytes(rt: HostRuntime) -> Result<(), Fail>
     std::fs::create_dir(&rt, "journal")?;
     let mut host = RealHost::new(rt);
     for (n, payload) in PAYLOADS.iter().enumerate() {
-        assert_eq!(rt; add(&mut host, rt.alloc(), "journal", payload)?, Some(n));
+        let count = add(&mut host, rt.alloc(), "journal", payload)?;
+        assert_eq!(rt; count, Some(n));
     }
-    assert_eq!(rt; std::fs::read_to_string(&rt, "journal/log")?.as_str(), FILE);
+    let file = std::fs::read_to_string(&rt, "journal/log")?;
+    assert_eq!(rt; file.as_str(), FILE);
     std::fs::remove_file(&rt, "journal/log")?;
     std::fs::remove_dir(&rt, "journal")?;
     Ok(())
@@ -87,7 +89,7 @@ fn a_journal_goes_on_after_a_reset(rt: HostRuntime) -> Result<(), Fail> {
 }
 
 /// The byte that each payload of a log has, and how often. Some of them span the end of a window, and one is longer.
-const RUNS: [(u8, u32); 6] = [
+const RUNS: &[(u8, u32)] = &[
     (1, 2),
     (2, 700_000),
     (3, 0),
@@ -105,7 +107,7 @@ fn add_runs<H: Host>(host: &mut H, alloc: Global, dir: &str) -> Result<bool, Mem
         return Ok(false);
     };
     for (byte, count) in RUNS {
-        let framed = frame_in(vec![in alloc; byte; count as usize + 8]?)?;
+        let framed = frame_in(vec![in alloc; *byte; *count as usize + 8]?)?;
         if journal.append(&framed).is_err() {
             return Ok(false);
         }
@@ -120,7 +122,7 @@ fn has_runs<D: Disk>(reading: &mut Reading<D>, alloc: Global) -> bool {
         if !matches!(reading.next(&mut payload), Ok(Some(_))) {
             return false;
         }
-        if payload.len() != count as usize || payload.iter().any(|b| *b != byte) {
+        if payload.len() != *count as usize || payload.iter().any(|b| b != byte) {
             return false;
         }
     }

@@ -40,11 +40,11 @@ fn leaves(alloc: Global, cut: u64, want: &[u8]) -> Result<bool, Memory> {
     Ok(is_written && image.bytes() == want)
 }
 
-const ROWS: [(u64, &[u8]); 3] = [(0, b"abc\0\0\0\0"), (2, b"abcde\0\0"), (9, b"abcdefg")];
+const ROWS: &[(u64, &[u8])] = &[(0, b"abc\0\0\0\0"), (2, b"abcde\0\0"), (9, b"abcdefg")];
 
 #[test]
 fn an_image_can_be_made_of_each_crash(rt: HostRuntime) -> Result<(), Fail> {
-    for (cut, want) in ROWS.iter() {
+    for (cut, want) in ROWS {
         assert!(rt; leaves(rt.alloc(), *cut, want)?, "cut to {cut}");
     }
     Ok(())
@@ -55,7 +55,7 @@ fn readings<K: Clock + Sync>(clock: &K) -> [i64; 3] {
 }
 
 /// The first reading of a clock, its step, and what it reads: it stops at either end.
-const STEPS: [(i64, i64, [i64; 3]); 5] = [
+const STEPS: &[(i64, i64, [i64; 3])] = &[
     (5, 3, [5, 8, 11]),
     (5, -3, [5, 2, -1]),
     (i64::MAX - 1, 1, [i64::MAX - 1, i64::MAX, i64::MAX]),
@@ -66,7 +66,7 @@ const STEPS: [(i64, i64, [i64; 3]); 5] = [
 #[test]
 fn a_clock_in_memory_stands_still_or_steps(rt: HostRuntime) -> Result<(), Fail> {
     assert_eq!(rt; readings(&FixedClock::new(-5)), [-5, -5, -5]);
-    for (first, step, want) in STEPS.iter() {
+    for (first, step, want) in STEPS {
         assert_eq!(rt;
             readings(&StepClock::new(*first, *step)),
             *want,

@@ -15,7 +15,7 @@ fn copied<H: Host>(host: &mut H, alloc: Global, from: &str, to: &str) -> Option<
 }
 
 /// From where to where, and how many bytes are copied.
-const COPIES: [(&str, &str, Option<usize>); 3] = [
+const COPIES: &[(&str, &str, Option<usize>)] = &[
     ("missing", "script.out", None),
     ("script", "missing/out", None),
     ("script", "script.out", Some(4)),
@@ -35,7 +35,7 @@ fn remove_two(rt: &HostRuntime) -> io::Result<()> {
 fn a_file_is_read_and_another_is_replaced(rt: HostRuntime) -> Result<(), Fail> {
     write_two(&rt)?;
     let mut host = RealHost::new(rt);
-    for (from, to, want) in COPIES.iter() {
+    for (from, to, want) in COPIES {
         assert_eq!(rt;
             copied(&mut host, rt.alloc(), from, to),
             *want,
@@ -109,7 +109,7 @@ fn reads_again<H: Host>(host: &mut H, alloc: Global, dir: &str, want: &[u8]) -> 
 }
 
 /// A directory, whether its log can be written, and what is read of it after it was closed.
-const LOGS: [(&str, bool, &[u8]); 5] = [
+const LOGS: &[(&str, bool, &[u8])] = &[
     ("store", true, b"bcde"),
     (":memory:", true, b""),
     ("missing", false, b""),
@@ -132,7 +132,7 @@ fn remove_places(rt: &HostRuntime) -> io::Result<()> {
 fn a_log_is_there_at_the_next_opening(rt: HostRuntime) -> Result<(), Fail> {
     make_places(&rt)?;
     let mut host = RealHost::new(rt);
-    for (dir, opens, bytes) in LOGS.iter() {
+    for (dir, opens, bytes) in LOGS {
         assert_eq!(rt; is_written(&mut host, rt.alloc(), dir), *opens, "{dir}");
         assert_eq!(rt;
             reads_again(&mut host, rt.alloc(), dir, bytes),
