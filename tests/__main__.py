@@ -4,7 +4,9 @@ import sys
 
 import edn
 import examples
+import files
 import scripts
+import streams
 import transactions
 from outside import Program, Tally
 
@@ -12,7 +14,7 @@ from outside import Program, Tally
 def main():
     program = Program(sys.argv[1])
     tallies = []
-    for kind in (examples, transactions, scripts, edn):
+    for kind in (examples, transactions, scripts, edn, streams, files):
         tally = Tally(kind.NAME)
         kind.check(program, tally)
         tallies.append(tally)

@@ -26,9 +26,9 @@ class Answer(NamedTuple):
 class Program(NamedTuple):
     path: str
 
-    def answer(self, script):
-        """What the program answers to the script on standard input."""
-        words = [self.path, "run", ":memory:", "-"]
+    def answer(self, script, options=()):
+        """What the program answers to the script on standard input, run with these options."""
+        words = [self.path, "run", *options, ":memory:", "-"]
         try:
             done = subprocess.run(words, input=script, capture_output=True, timeout=SECONDS)
         except subprocess.TimeoutExpired:

@@ -1,4 +1,4 @@
-"""Whole scripts with the lines that answer them: `crates/test_scripts/data/scripts.txt`.
+"""Whole scripts with the lines that answer them: the tables of `crates/test_scripts/data`, one of them for runs with `--strict`.
 
 There a line `# name` begins a script, and behind its commands stand their replies, each line with an arrow before it. A number in
 angle quotes stands for so many numbers, from 0 on. A line `clock` gives the readings of a clock, which no user can set.
@@ -9,7 +9,8 @@ from itertools import zip_longest
 from outside import lines_of
 
 NAME = "scripts, each alone and among merges,"
-TABLE = "crates/test_scripts/data/scripts.txt"
+# Each table, with the options of the command that runs its scripts.
+TABLES = {"crates/test_scripts/data/scripts.txt": [], "crates/test_scripts/data/strict.txt": ["--strict"]}
 
 
 class Row:
@@ -35,29 +36,35 @@ class Row:
         return [reply for _, replies in self.blocks for reply in replies]
 
     def among_merges(self):
-        """The same script with a request for a merge behind each block."""
+        """The same script with a request for a merge behind each block. What is tried changes no basis, and its refusal names another one."""
         more, basis = Row(self.line, self.name), b"0"
         for commands, replies in self.blocks:
-            for reply in replies:
+            tries = any(command.startswith(b"[:with ") for command in commands)
+            for reply in () if tries else replies:
                 basis = re.search(rb":(?:t|basis) (\d+)", reply).group(1)
             more.blocks.append(([*commands, b"[:request-index]"], [*replies, b"{:ok true :basis %b}" % basis]))
         return more
 
+    def compared(self, program, options):
+        """The lines that are wanted, and those that came: of the script alone, and then among merges."""
+        more = self.among_merges()
+        wanted = [*self.replies(), *more.replies()]
+        return wanted, [*program.answer(self.script(), options).lines(), *program.answer(more.script(), options).lines()]
+
 
 def check(program, tally):
-    for row in rows():
-        if row.has_clock:
-            tally.left_out["under a clock that steps"] += 1
-            continue
-        more = row.among_merges()
-        wanted = [*row.replies(), *more.replies()]
-        got = [*program.answer(row.script()).lines(), *program.answer(more.script()).lines()]
-        tally.check(f"{TABLE}:{row.line}: {row.name}", *first_difference(wanted, got))
+    for table, options in TABLES.items():
+        for row in rows(table):
+            if row.has_clock:
+                tally.left_out["under a clock that steps"] += 1
+            else:
+                name = f"{table}:{row.line}: {row.name}"
+                tally.check(name, *first_difference(*row.compared(program, options)))
 
 
-def rows():
+def rows(table):
     found = []
-    for number, line in lines_of(TABLE):
+    for number, line in lines_of(table):
         if line.startswith("# "):
             found.append(Row(number, line[2:]))
         else:

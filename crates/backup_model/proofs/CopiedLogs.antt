@@ -1,19 +1,22 @@
 -- What a copy stands for.
-use Rattle.std.proofs.Common.{inl, ◌≡◌, ◌<◌, ℕ, suc, List, [], ◌∷◌, ◌++◌, drop, map, refl, sym, ◌∙◌, ap, subst, arith, append_assoc}
+use Rattle.std.proofs.Common.{inl, ◌≡◌, ◌<◌, ℕ, zero, suc, ◌+◌, List, [], ◌∷◌, ◌++◌, take, drop, map, refl, sym, ◌∙◌, ap, subst, arith}
+use Rattle.std.proofs.Common.{append_assoc}
 use Rattle.std.specs.Prelude.{All}
 use Rattle.std.proofs.lemmas.List.Elements.{All-nil, All-cons, All-head, All-tail, All-same, All-drop}
 use Rattle.fb_values.specs.declared.facts.Entry.{Entry}
 use Rattle.fb_model.specs.FirstEntry.{first_entry}
+use Rattle.fb_model.specs.History.{upto}
 use Rattle.fb_model.specs.Lawful.{IsLawful, IsLawfulFrom}
 use Rattle.log_model.specs.Payload.{entry_bytes, written_format}
 use Rattle.log_model.specs.Storable.{IsStorable}
-use Rattle.log_model.specs.Log.{ArePayloadsOf, LogStands, hold, entries_behind}
-use Rattle.log_model.specs.Nodes.{MergeRecord, no_nodes, record_bytes_in}
-use Rattle.log_model.specs.Kept.{KeptRoot, kept_by, kept_roots, Agrees, IsCoverage}
+use Rattle.log_model.specs.Log.{ArePayloadsOf, LogStands, IsLogOf, hold, with_entry, with_record, entries_behind}
+use Rattle.log_model.specs.Nodes.{Roots}
+use Rattle.log_model.specs.Kept.{KeptRoot, FileKeeps, Agrees, IsCoverage}
+use Rattle.log_model.proofs.Entries.{says-entry_bytes}
+use Rattle.log_model.proofs.KeptRoots.{one_keeping, one_coverage}
 use Rattle.log_model.proofs.Logs.{payloads-entries_behind, AreRecords-All}
-use Rattle.log_model.proofs.MergeRecords.{says-record_bytes}
 use Rattle.log_model.proofs.StorableHistories.{all_storable}
-use Rattle.backup_model.specs.Backup.{with_entries, IsCopyOf}
+use Rattle.backup_model.specs.Backup.{appends, BackupSays, with_entries, IsCopyFile}
 
 payloads-append : (entries : List Entry) (records : List (List ℕ)) (more : List Entry) (payloads : List (List ℕ))
     → ArePayloadsOf entries records → ArePayloadsOf more payloads → ArePayloadsOf (entries ++ more) (records ++ payloads)
@@ -77,25 +80,57 @@ module _ (records : List (List ℕ)) (entries : List Entry) (are : All (λ (payl
         payloads = with_payloads done (All-front done left (lacking-storable (first ∷ rest) entries (done ++ left) lawful is));
       }
 
+-- ---- what a log holds
+
+pub hold-behind : (before : List (List ℕ)) (entries : List Entry) (records : List (List ℕ)) → ArePayloadsOf entries records
+    → entries_behind before records ≡ hold entries
+hold-behind before [] [] are = refl
+hold-behind before [] (payload ∷ records) are = absurd are
+hold-behind before (entry ∷ entries) [] are = absurd are
+hold-behind before (entry ∷ entries) (payload ∷ records) are =
+    ap (λ said. with_record before said (entries_behind (before ++ payload ∷ []) records)) (says-entry_bytes entry payload are.0)
+    ∙ ap (with_entry entry) (hold-behind (before ++ payload ∷ []) entries records are.1)
+
+pub take-drop : (entries : List Entry) (n : ℕ) → entries ≡ take n entries ++ drop n entries
+take-drop entries zero = refl
+take-drop [] (suc n) = refl
+take-drop (entry ∷ entries) (suc n) = ap (λ l. entry ∷ l) (take-drop entries n)
+
+-- the entries after the first of all, and those of them that come later than n
+pub behind_first : (h : List Entry) (n : ℕ) → drop 1 h ≡ drop 1 (upto h n) ++ drop (n + 1) h
+behind_first [] n = let one : n + 1 ≡ suc n = omega arith in rw one refl
+behind_first (first ∷ rest) n = let one : n + 1 ≡ suc n = omega arith in rw one (take-drop rest n)
+
+pub beginning_lacks : (file : List ℕ) (h : List Entry) (n : ℕ) → IsLogOf file (upto h n) → BackupSays file h (appends (drop (n + 1) h))
+beginning_lacks file h n log = (
+  drop 1 (upto h n),
+  record { records = log.records; journal = log.journal; hold_them = hold-behind [] (drop 1 (upto h n)) log.records log.stands.payloads },
+  behind_first h n,
+)
+
 -- ---- trees
 
-pub copy-kept : (merge : MergeRecord) (root : KeptRoot) → IsCopyOf merge root
-    → kept_roots (record_bytes_in written_format merge ∷ []) ≡ root ∷ []
-copy-kept merge root is =
-    ap (λ said. kept_by no_nodes said (λ next. [])) (says-record_bytes written_format no_nodes merge refl is.may_begin)
-    ∙ ap (λ (r : KeptRoot). r ∷ []) is.root_is
+pub copy_keeps : (file : List ℕ) (root : KeptRoot) (ids : Roots) → IsCopyFile file root ids → FileKeeps file (root ∷ [])
+copy_keeps file root ids is = (is.records, inl is.journal, sym is.kept)
 
-pub copy-IsCoverage : (merge : MergeRecord) (root : KeptRoot) (h : List Entry) → IsCopyOf merge root → Agrees h root
-    → IsCoverage h (kept_roots (record_bytes_in written_format merge ∷ [])) root.c
-copy-IsCoverage merge root h is agrees =
+pub copy_alone : (file : List ℕ) (root : KeptRoot) (ids : Roots) (kept : List KeptRoot) → IsCopyFile file root ids → FileKeeps file kept
+    → kept ≡ root ∷ []
+copy_alone file root ids kept is keeps = one_keeping file kept (root ∷ []) keeps (copy_keeps file root ids is)
+
+opened_with : (h : List Entry) (root : KeptRoot) → Agrees h root → IsCoverage h (root ∷ []) root.c
+opened_with h root agrees =
     inl (
       root,
-      record {
-        older = [];
-        newer = [];
-        place = copy-kept merge root is;
-        agrees = agrees;
-        newest = λ other has. absurd (omega (arith, has.1));
-      },
+      record { older = []; newer = []; place = refl; agrees = agrees; newest = λ other has. absurd (omega (arith, has.1)) },
       refl,
     )
+
+pub copy_opened : (file : List ℕ) (root : KeptRoot) (ids : Roots) (h : List Entry) (kept : List KeptRoot) → IsCopyFile file root ids
+    → Agrees h root → FileKeeps file kept → IsCoverage h kept root.c
+copy_opened file root ids h kept is agrees keeps =
+    subst (λ l. IsCoverage h l root.c) (sym (copy_alone file root ids kept is keeps)) (opened_with h root agrees)
+
+pub copy_no_further : (file : List ℕ) (root : KeptRoot) (ids : Roots) (h : List Entry) (kept : List KeptRoot) (c : ℕ)
+    → IsCopyFile file root ids → Agrees h root → FileKeeps file kept → IsCoverage h kept c → c ≡ root.c
+copy_no_further file root ids h kept c is agrees keeps covers =
+    one_coverage h kept c root.c covers (copy_opened file root ids h kept is agrees keeps)

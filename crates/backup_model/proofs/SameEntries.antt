@@ -13,7 +13,7 @@ use Rattle.fb_values.specs.declared.facts.Entry.{Entry}
 use Rattle.fb_model.specs.Facts.{is_of}
 use Rattle.fb_model.proofs.Triples.{is_of-true, value_eq-refl}
 
-abbrev datom_eq : Datom → Datom → Bool
+abbrev pub datom_eq : Datom → Datom → Bool
 datom_eq d other = is_of other.e other.a other.v d && eqb d.t other.t && beq d.added other.added
 
 datom_eq-true : (d other : Datom) → datom_eq d other ≡ true → d ≡ other
@@ -31,13 +31,13 @@ datom_eq-refl d =
     (and_from _ _ (and_from _ _ (and_from _ _ (eq-eqb d.e d.e refl) (eq-eqb d.a d.a refl)) (value_eq-refl d.v)) (eq-eqb d.t d.t refl))
     ((booleans_Decides d.added d.added).1 refl)
 
-datom_eq-Decides : (d other : Datom) → Decides (datom_eq d other) (d ≡ other)
+pub datom_eq-Decides : (d other : Datom) → Decides (datom_eq d other) (d ≡ other)
 datom_eq-Decides d other = (datom_eq-true d other, λ same. subst (λ x. datom_eq d x ≡ true) same (datom_eq-refl d))
 
-datoms_eq-Decides : (ds others : List Datom) → Decides (pointwise datom_eq ds others) (ds ≡ others)
+pub datoms_eq-Decides : (ds others : List Datom) → Decides (pointwise datom_eq ds others) (ds ≡ others)
 datoms_eq-Decides ds others = slice_eq-Decides datom_eq-Decides ds others (pointwise datom_eq ds others) refl
 
-abbrev entry_eq : Entry → Entry → Bool
+abbrev pub entry_eq : Entry → Entry → Bool
 entry_eq first second = eqb first.t second.t && int_eq first.instant second.instant && pointwise datom_eq first.datoms second.datoms
 
 entry_eq-true : (first second : Entry) → entry_eq first second ≡ true → first ≡ second

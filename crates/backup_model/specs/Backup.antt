@@ -3,12 +3,11 @@
 use Rattle.std.specs.Prelude.{◌≡◌, ◌≢◌, ◌⊎◌, ℕ, ◌+◌, List, [], ◌∷◌, ◌++◌, length, map, flat_map}
 use Rattle.std.specs.Prelude.{drop, IsTrue, Contains}
 use Rattle.fb_values.specs.declared.facts.Entry.{Entry}
-use Rattle.disk_model.specs.Journal.{log_mark, JournalStands, JournalBreaks}
-use Rattle.log_model.specs.Payload.{entry_bytes, written_format}
+use Rattle.disk_model.specs.Journal.{log_mark, segments_mark, JournalStands, JournalBreaks}
+use Rattle.log_model.specs.Payload.{entry_bytes}
 use Rattle.log_model.specs.Log.{hold, bad_at, entries_behind}
-use Rattle.log_model.specs.Nodes.{no_nodes, MergeRecord, ids_below, in_order_of_indexes, ids_in}
-use Rattle.log_model.specs.Merges.{is_record_over}
-use Rattle.log_model.specs.Kept.{KeptRoot, with_nodes, kept_root}
+use Rattle.log_model.specs.Nodes.{Nodes, Roots, ids_below, in_order_of_indexes, ids_in}
+use Rattle.log_model.specs.Kept.{KeptRoot, kept_roots, nodes_of, are_good}
 
 -- what a backup of a history does to a target
 pub data Plan : Type 0 where
@@ -57,17 +56,25 @@ BackupSays file h (differs_at t) =
 abbrev pub with_entries : List (List ℕ) → List Entry → List (List ℕ)
 with_entries records entries = records ++ map entry_bytes entries
 
+-- how many entries the target gets
+abbrev pub copied_of : Plan → ℕ
+copied_of (appends lacking) = length lacking
+copied_of (bad_target nth at) = 0
+copied_of (differs_at t) = 0
+
 -- ---- trees
 
--- the ids that a record's roots reach
-abbrev pub reached_ids : MergeRecord → List ℕ
-reached_ids merge =
-    flat_map (flat_map (ids_below (with_nodes no_nodes merge))) (in_order_of_indexes merge.roots)
+-- the ids that these roots reach among the nodes
+abbrev pub reached_ids : Nodes → Roots → List ℕ
+reached_ids nodes ids = flat_map (flat_map (ids_below nodes)) (in_order_of_indexes ids)
 
--- A record that may begin a file, whose one root is this one, and which has the nodes that the root
--- reaches and no others.
-pub record IsCopyOf (merge : MergeRecord) (root : KeptRoot) : Type 0 where
-  pub may_begin : IsTrue (is_record_over written_format no_nodes merge)
-  pub root_is : kept_root (with_nodes no_nodes merge) merge ≡ root
-  pub no_others : (id : ℕ)
-      → Contains (ids_in (with_nodes no_nodes merge)) id → Contains (reached_ids merge) id
+-- The file keeps this root alone, and has the nodes that its ids reach and no others.
+pub record IsCopyFile (file : List ℕ) (root : KeptRoot) (ids : Roots) : Type 0 where
+  pub records : List (List ℕ)
+  pub journal : JournalStands segments_mark records file
+  pub good : IsTrue (are_good records)
+  pub kept : kept_roots records ≡ root ∷ []
+  pub there : (id : ℕ) → Contains (reached_ids (nodes_of records) ids) id
+      → Contains (ids_in (nodes_of records)) id
+  pub no_others : (id : ℕ) → Contains (ids_in (nodes_of records)) id
+      → Contains (reached_ids (nodes_of records) ids) id

@@ -2,10 +2,11 @@
 ghost use Rattle.std.specs.Prelude.{◌≡◌, [], ◌∷◌};
 ghost use Rattle.fb_model.specs.FirstEntry.{first_entry};
 ghost use Rattle.disk_model.specs.Journal.{log_mark, new_journal};
-ghost use Rattle.log_model.specs.Samples.{hi_entry, hi_payload, hi_log, with_byte, leaf_merge, hi_history};
-ghost use Rattle.log_model.specs.Nodes.{no_nodes};
-ghost use Rattle.log_model.specs.Kept.{with_nodes, kept_root};
-ghost use Rattle.backup_model.specs.Backup.{appends, bad_target, differs_at, BackupSays, with_entries, IsCopyOf};
+ghost use Rattle.log_model.specs.Samples.{hi_entry, keyword_entry, hi_payload, hi_log, with_byte, hi_history, leaf_record, next_record};
+ghost use Rattle.log_model.specs.Nodes.{Roots};
+ghost use Rattle.log_model.specs.Kept.{KeptRoot};
+ghost use Rattle.backup_model.specs.Backup.{appends, bad_target, differs_at, BackupSays, with_entries, copied_of, IsCopyFile};
+ghost use Rattle.backup_model.specs.Samples.{file_of, leaf_root, leaf_ids, no_ids, rootless_record};
 
 /// The history of one transaction, copied to targets of several kinds.
 pub fn targets()
@@ -20,7 +21,23 @@ pub fn targets()
     ensures bad_mark { BackupSays (with_byte 0 0 hi_log) hi_history (bad_target 0 0) }
 {}
 
-/// A record of one leaf and one directory is the copy of its own root.
+/// Which files are copies of a root: that of a record of one leaf and one directory is one. None is
+/// a file that keeps two roots, or none, or that has other nodes.
 pub fn copies()
-    ensures { IsCopyOf leaf_merge (kept_root (with_nodes no_nodes leaf_merge) leaf_merge) }
+    ensures whole { IsCopyFile (file_of (leaf_record ∷ [])) leaf_root leaf_ids }
+    ensures again { (root : KeptRoot) (ids : Roots)
+        → IsCopyFile (file_of (leaf_record ∷ next_record ∷ [])) root ids → ⊥ }
+    ensures bad_behind { (root : KeptRoot) (ids : Roots)
+        → IsCopyFile (file_of (leaf_record ∷ hi_payload ∷ [])) root ids → ⊥ }
+    ensures empty { (root : KeptRoot) (ids : Roots) → IsCopyFile [] root ids → ⊥ }
+    ensures other_nodes { (root : KeptRoot)
+        → IsCopyFile (file_of (rootless_record ∷ [])) root no_ids → ⊥ }
+{}
+
+/// How many entries a target gets: those that it lacks, and none where it is refused.
+pub fn numbers_of_copies()
+    ensures two { copied_of (appends (hi_entry ∷ keyword_entry ∷ [])) ≡ 2 }
+    ensures none { copied_of (appends []) ≡ 0 }
+    ensures refused { copied_of (bad_target 1 100) ≡ 0 }
+    ensures different { copied_of (differs_at 7) ≡ 0 }
 {}

@@ -1,14 +1,14 @@
 //! Laws about backups.
-ghost use Rattle.std.specs.Prelude.{◌≡◌, ℕ, List, [], ◌∷◌, ◌++◌, drop, All};
+ghost use Rattle.std.specs.Prelude.{◌≡◌, ◌+◌, ℕ, List, [], ◌∷◌, ◌++◌, drop, All};
 ghost use Rattle.fb_values.specs.declared.facts.Entry.{Entry};
 ghost use Rattle.fb_model.specs.FirstEntry.{first_entry};
+ghost use Rattle.fb_model.specs.History.{upto};
 ghost use Rattle.fb_model.specs.Lawful.{IsLawful};
-ghost use Rattle.log_model.specs.Payload.{written_format};
-ghost use Rattle.log_model.specs.Log.{hold, entries_behind, LogStands};
-ghost use Rattle.log_model.specs.Nodes.{MergeRecord, record_bytes_in};
-ghost use Rattle.log_model.specs.Kept.{KeptRoot, kept_roots, Agrees, IsCoverage};
-ghost use Rattle.backup_model.specs.Backup.{Plan, BackupSays, with_entries, IsCopyOf};
 ghost use Rattle.log_model.specs.Fields.{AreAllBytes};
+ghost use Rattle.log_model.specs.Log.{hold, entries_behind, LogStands, IsLogOf};
+ghost use Rattle.log_model.specs.Nodes.{Roots};
+ghost use Rattle.log_model.specs.Kept.{KeptRoot, FileKeeps, Agrees, IsCoverage};
+ghost use Rattle.backup_model.specs.Backup.{Plan, appends, BackupSays, with_entries, IsCopyFile};
 
 /// A backup of a history to a target has one plan.
 pub fn a_backup_has_one_plan()
@@ -34,12 +34,25 @@ pub fn a_backup_broken_off_is_a_beginning()
         → LogStands (with_entries records done) (first_entry ∷ (entries ++ done)) }
 {}
 
-/// A file that begins with the copy of a root keeps that root alone, and a history that agrees with
-/// it is opened with it.
+/// A log that stands for the entries 0 to n of a history lacks those after them.
+pub fn a_beginning_lacks_the_rest()
+    ensures { (file : List ℕ) (h : List Entry) (n : ℕ) → IsLogOf file (upto h n)
+        → BackupSays file h (appends (drop (n + 1) h)) }
+{}
+
+/// A file that is the copy of a root keeps that root alone, and a history that agrees with the root
+/// is opened with it: its trees go as far as the root does.
 pub fn a_copied_root_is_kept()
-    ensures kept { (merge : MergeRecord) (root : KeptRoot)
-        → IsCopyOf merge root → kept_roots (record_bytes_in written_format merge ∷ []) ≡ root ∷ [] }
-    ensures opened { (merge : MergeRecord) (root : KeptRoot) (h : List Entry)
-        → IsCopyOf merge root → Agrees h root
-        → IsCoverage h (kept_roots (record_bytes_in written_format merge ∷ [])) root.c }
+    ensures keeps { (file : List ℕ) (root : KeptRoot) (ids : Roots)
+        → IsCopyFile file root ids → FileKeeps file (root ∷ []) }
+    ensures alone { (file : List ℕ) (root : KeptRoot) (ids : Roots) (kept : List KeptRoot)
+        → IsCopyFile file root ids → FileKeeps file kept → kept ≡ root ∷ [] }
+    ensures opened { (file : List ℕ) (root : KeptRoot) (ids : Roots) (h : List Entry)
+        (kept : List KeptRoot)
+        → IsCopyFile file root ids → Agrees h root → FileKeeps file kept
+        → IsCoverage h kept root.c }
+    ensures no_further { (file : List ℕ) (root : KeptRoot) (ids : Roots) (h : List Entry)
+        (kept : List KeptRoot) (c : ℕ)
+        → IsCopyFile file root ids → Agrees h root → FileKeeps file kept → IsCoverage h kept c
+        → c ≡ root.c }
 {}

@@ -12,22 +12,27 @@ use Rattle.std.proofs.lemmas.Str.{IsCharBoundary-after_ascii, IsUtf8-drop, IsUtf
 use Rattle.clap.specs.Lexer.{long_of, name_and_value, short_of}
 use Rattle.clap.specs.Walk.{Held, Row, Rule, Text, arg_by_long, arg_by_short}
 use Rattle.clap.specs.Faults.{bundle_step_fault, flag_word_fault, flags_fault, long_fault, short_fault}
+use Rattle.clap.specs.declared.error.kind.ErrorKind.{ErrorKind}
 use Rattle.clap.specs.declared.error.kind.ErrorKind.TheVariants.{UnknownArgument}
 use Rattle.command_line.specs.Words.{begins_above_zero, is_name, merge_at_is}
 
 abbrev pub held : List Row → Option (Text × List Text) → Held
 held rows pending = record { rows = rows; pending = pending; skip = 0 }
 
--- the only option is `--merge-at`, if there is one
-pub record HasOneOption (c : List Rule) : Type 0 where
+-- there are no options but `--merge-at` and `--strict`, if there are these, and `--strict` has no value
+pub record HasOptions (c : List Rule) : Type 0 where
   pub short : (x : ℕ) → arg_by_short c x ≡ None
-  pub long : (name : Text) → bytes_eq (codes "merge-at") name ≡ false → arg_by_long c name ≡ None
+  pub long : (name : Text) → bytes_eq (codes "merge-at") name ≡ false → bytes_eq (codes "strict") name ≡ false
+      → arg_by_long c name ≡ None
+  pub kind : ErrorKind
+  pub valued : (value : Text) (h : Held) → long_fault c false (arg_by_long c (codes "strict")) (Some value) h ≡ kind ∷ []
 
--- the word is neither `--` nor `--merge-at`
+-- the word is neither `--` nor one of the options
 pub record IsOther (word : Text) : Type 0 where
   pub end : bytes_eq word (codes "--") ≡ false
   pub option : bytes_eq word (codes "--merge-at") ≡ false
   pub says : starts_with nat_eq word merge_at_is ≡ false
+  pub flag : bytes_eq word (codes "--strict") ≡ false
 
 pub record IsNameWord (word : Text) : Type 0 where
   pub other : IsOther word
@@ -35,18 +40,20 @@ pub record IsNameWord (word : Text) : Type 0 where
   pub long : long_of word ≡ None
   pub short : short_of word ≡ None
 
--- an argument that the command does not know
+-- an argument that the command does not take
 pub record IsStray (c : List Rule) (word : Text) : Type 0 where
   pub other : IsOther word
   pub is : is_name word ≡ false
   pub low : begins_above_zero word ≡ false
+  pub kind : ErrorKind
   pub fault : (rows : List Row) (pending : Option (Text × List Text))
-      → flag_word_fault c false (long_of word) word (held rows pending) ≡ UnknownArgument ∷ []
+      → flag_word_fault c false (long_of word) word (held rows pending) ≡ kind ∷ []
 
 pub data Meaning (c : List Rule) (word : Text) : Type 0 where
   ends : word ≡ codes "--" → Meaning c word
   asks : word ≡ codes "--merge-at" → Meaning c word
   says : (value : Text) → word ≡ merge_at_is ++ value → Meaning c word
+  flags : word ≡ codes "--strict" → Meaning c word
   stray : IsStray c word → Meaning c word
   naming : IsNameWord word → Meaning c word
 
@@ -82,7 +89,17 @@ first_char d rest utf8 =
     go [] spelt back = absurd (cc)
     go (x ∷ xs) spelt back = (x, ap (λ t. slice_get (chars t) 0) (sym spelt) ∙ ap (λ t. slice_get t 0) back)
 
-module _ (c : List Rule) (one : HasOneOption c) where
+module _ (c : List Rule) (options : HasOptions c) where
+  -- `--strict=` and more
+  valued_flag : (v : Text) → IsOther (codes "--strict=" ++ v) → Meaning c (codes "--strict=" ++ v)
+  valued_flag v other = stray (record {
+    other = other;
+    is = refl;
+    low = refl;
+    kind = options.kind;
+    fault = λ rows pending. options.valued v (held rows pending);
+  })
+
   -- `--` and more
   two_dashes : (x : ℕ) (xs : Text) → IsOther (45 ∷ 45 ∷ x ∷ xs) → Meaning c (45 ∷ 45 ∷ x ∷ xs)
   two_dashes x xs other = go (bytes_eq (codes "merge-at") (before_first is_equals (x ∷ xs))) refl
@@ -91,15 +108,27 @@ module _ (c : List Rule) (one : HasOneOption c) where
       not_it (inl e) = true≢false (sym (ap (λ t. bytes_eq (45 ∷ 45 ∷ t) (codes "--merge-at")) e) ∙ other.option)
       not_it (inr h) = true≢false (sym (ap (λ t. starts_with nat_eq (45 ∷ 45 ∷ t) merge_at_is) h.1) ∙ other.says)
 
-      go : (b : Bool) → bytes_eq (codes "merge-at") (before_first is_equals (x ∷ xs)) ≡ b → Meaning c (45 ∷ 45 ∷ x ∷ xs)
-      go true e = absurd (not_it (before_equals (codes "merge-at") (x ∷ xs) (same_text _ _ e)))
-      go false e = stray (record {
+      at_flag : (x ∷ xs ≡ codes "strict") ⊎ ((v : Text) × (x ∷ xs ≡ codes "strict" ++ 61 ∷ v)) → Meaning c (45 ∷ 45 ∷ x ∷ xs)
+      at_flag (inl e) = absurd (true≢false (sym (ap (λ t. bytes_eq (45 ∷ 45 ∷ t) (codes "--strict")) e) ∙ other.flag))
+      at_flag (inr h) =
+          subst (λ t. IsOther (45 ∷ 45 ∷ t) → Meaning c (45 ∷ 45 ∷ t)) (sym h.1) (valued_flag h.0) other
+
+      go_on : bytes_eq (codes "merge-at") (before_first is_equals (x ∷ xs)) ≡ false
+          → (b : Bool) → bytes_eq (codes "strict") (before_first is_equals (x ∷ xs)) ≡ b → Meaning c (45 ∷ 45 ∷ x ∷ xs)
+      go_on e true f = at_flag (before_equals (codes "strict") (x ∷ xs) (same_text _ _ f))
+      go_on e false f = stray (record {
         other = other;
         is = refl;
         low = refl;
+        kind = UnknownArgument;
         fault = λ rows pending.
-            ap (λ o. long_fault c false o (name_and_value (x ∷ xs)).1 (held rows pending)) (one.long (before_first is_equals (x ∷ xs)) e);
+            ap (λ o. long_fault c false o (name_and_value (x ∷ xs)).1 (held rows pending))
+            (options.long (before_first is_equals (x ∷ xs)) e f);
       })
+
+      go : (b : Bool) → bytes_eq (codes "merge-at") (before_first is_equals (x ∷ xs)) ≡ b → Meaning c (45 ∷ 45 ∷ x ∷ xs)
+      go true e = absurd (not_it (before_equals (codes "merge-at") (x ∷ xs) (same_text _ _ e)))
+      go false e = go_on e (bytes_eq (codes "strict") (before_first is_equals (x ∷ xs))) refl
 
   -- one dash and more
   one_dash : (d : ℕ) (rest : Text) → d == 45 ≡ false → IsUtf8 (45 ∷ d ∷ rest) → IsOther (45 ∷ d ∷ rest) → Meaning c (45 ∷ d ∷ rest)
@@ -111,8 +140,14 @@ module _ (c : List Rule) (one : HasOneOption c) where
       λ rows pending.
       ap (λ o. bundle_step_fault c false o (d ∷ rest) 0 (held rows pending) (flags_fault c false (length rest))) first.1
       ∙ ap (λ o. let behind = drop (length (encode_utf8 first.0)) (d ∷ rest) in
-      short_fault c false o behind (held rows pending) (flags_fault c false (length rest) behind 0)) (one.short first.0) in
-      stray (record { other = other; is = refl; low = refl; fault = λ rows pending. rw (no_dash, no_dash) (fault rows pending) })
+      short_fault c false o behind (held rows pending) (flags_fault c false (length rest) behind 0)) (options.short first.0) in
+      stray (record {
+        other = other;
+        is = refl;
+        low = refl;
+        kind = UnknownArgument;
+        fault = λ rows pending. rw (no_dash, no_dash) (fault rows pending);
+      })
 
   at_dash : (d : ℕ) (rest : Text) → IsUtf8 (45 ∷ d ∷ rest) → IsOther (45 ∷ d ∷ rest) → Meaning c (45 ∷ d ∷ rest)
   at_dash d rest utf8 other = go (d == 45) refl rest utf8 other
@@ -144,11 +179,16 @@ module _ (c : List Rule) (one : HasOneOption c) where
   pub meaning_of : (word : Text) → IsUtf8 word → Meaning c word
   meaning_of word utf8 = at_end (bytes_eq word (codes "--")) refl
     where
+      at_flag : bytes_eq word (codes "--") ≡ false → bytes_eq word (codes "--merge-at") ≡ false → starts_with nat_eq word merge_at_is ≡ false
+          → (b : Bool) → bytes_eq word (codes "--strict") ≡ b → Meaning c word
+      at_flag e f g true h = flags (same_text word (codes "--strict") h)
+      at_flag e f g false h = meaning_of_other word utf8 (record { end = e; option = f; says = g; flag = h })
+
       at_says : bytes_eq word (codes "--") ≡ false → bytes_eq word (codes "--merge-at") ≡ false
           → (b : Bool) → starts_with nat_eq word merge_at_is ≡ b → Meaning c word
       at_says e f true g = says (drop 11 word)
           (sym (take-append-drop 11 word) ∙ ap (λ t. t ++ drop 11 word) (sym (same_text merge_at_is (take 11 word) g)))
-      at_says e f false g = meaning_of_other word utf8 (record { end = e; option = f; says = g })
+      at_says e f false g = at_flag e f g (bytes_eq word (codes "--strict")) refl
 
       at_option : bytes_eq word (codes "--") ≡ false → (b : Bool) → bytes_eq word (codes "--merge-at") ≡ b → Meaning c word
       at_option e true f = asks (same_text word (codes "--merge-at") f)

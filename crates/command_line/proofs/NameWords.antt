@@ -1,5 +1,5 @@
 -- `clap` reads of the words behind `check` and `load` what the definition says.
-use Rattle.std.proofs.Common.{◌≡◌, ◌∙◌, ℕ, ◌&&◌, Bool, true, false, refl, sym, ap, subst, List, [], ◌∷◌, Option, Some, None, codes}
+use Rattle.std.proofs.Common.{◌≡◌, ◌∙◌, ℕ, ◌&&◌, Bool, true, false, refl, sym, ap, subst, List, [], ◌∷◌, ◌++◌, Option, Some, None, codes}
 use Rattle.std.specs.Prelude.{option_and_then}
 use Rattle.std.specs.Str.{bytes_eq}
 use Rattle.clap.specs.Lexer.{long_of}
@@ -7,11 +7,12 @@ use Rattle.clap.specs.Walk.{Row, Rule, Text, Walk, idle, nothing_held, walked}
 use Rattle.clap.specs.Simple.{Shape, built, matches_of}
 use Rattle.clap.specs.Kinds.{Kinds}
 use Rattle.clap.specs.Faults.{defaults_fault, flag_word_fault, turn_fault, walk_fault}
+use Rattle.clap.specs.declared.error.kind.ErrorKind.{ErrorKind}
 use Rattle.clap.specs.declared.error.kind.ErrorKind.TheVariants.{UnknownArgument}
 use Rattle.clap.proofs.FaultLemmas.{leaf_fault}
-use Rattle.command_line.specs.Words.{one_name, is_name}
+use Rattle.command_line.specs.Words.{one_name, is_name, merge_at_is}
 use Rattle.command_line.specs.ByClap.{name_app, name_parsed, parsed, without_fault}
-use Rattle.command_line.proofs.Dashes.{AreTexts, HasOneOption, IsNameWord, Meaning, asks, ends, held, meaning_of, naming, says, stray}
+use Rattle.command_line.proofs.Dashes.{AreTexts, HasOptions, IsNameWord, Meaning, asks, ends, flags, held, meaning_of, naming, says, stray}
 use Rattle.command_line.proofs.Walks.{first_fails, walk_at}
 use Rattle.command_line.proofs.Walks as walks
 
@@ -22,8 +23,8 @@ abbrev rules : List Rule
 rules = shape.rules
 
 -- there is none
-one_option : HasOneOption rules
-one_option = record { short = λ x. refl; long = λ name e. refl }
+no_option : HasOptions rules
+no_option = record { short = λ x. refl; long = λ name e f. refl; kind = UnknownArgument; valued = λ value h. refl }
 
 abbrev outcome : Walk → List Text → Option Text
 outcome = walks.outcome shape name_parsed
@@ -38,8 +39,8 @@ passes : (w after : Walk) (word : Text) (words : List Text) → turn w word ≡ 
     → outcome w (word ∷ words) ≡ outcome after words
 passes = walks.passes shape name_parsed
 
-fails : (w : Walk) (word : Text) (words : List Text) → turn w word ≡ UnknownArgument ∷ [] → outcome w (word ∷ words) ≡ None
-fails w word words = walks.fails shape name_parsed w word words UnknownArgument []
+fails : (w : Walk) (word : Text) (words : List Text) (k : ErrorKind) → turn w word ≡ k ∷ [] → outcome w (word ∷ words) ≡ None
+fails w word words k = walks.fails shape name_parsed w word words k []
 
 -- with no name yet, and with one
 abbrev fresh : Bool → Walk
@@ -51,23 +52,32 @@ full directory = walk_at [] (Some (codes "NAME", directory ∷ [])) idle 2
 record IsUnknown (word : Text) : Type 0 where
   end : bytes_eq word (codes "--") ≡ false
   is : is_name word ≡ false
+  kind : ErrorKind
   fault : (rows : List Row) (pending : Option (Text × List Text))
-      → flag_word_fault rules false (long_of word) word (held rows pending) ≡ UnknownArgument ∷ []
+      → flag_word_fault rules false (long_of word) word (held rows pending) ≡ kind ∷ []
 
 data Kind (word : Text) : Type 0 where
   ending : word ≡ codes "--" → Kind word
   unknown : IsUnknown word → Kind word
   name : IsNameWord word → Kind word
 
+-- an option that a run has
+an_option : (word : Text) → bytes_eq word (codes "--") ≡ false → is_name word ≡ false
+    → ((rows : List Row) (pending : Option (Text × List Text))
+    → flag_word_fault rules false (long_of word) word (held rows pending) ≡ UnknownArgument ∷ [])
+    → IsUnknown word
+an_option word end is fault = record { end = end; is = is; kind = UnknownArgument; fault = fault }
+
 kind_by : (word : Text) → Meaning rules word → Kind word
 kind_by word (ends is) = ending is
-kind_by word (asks is) = unknown (subst IsUnknown (sym is) (record { end = refl; is = refl; fault = λ rows pending. refl }))
-kind_by word (says v is) = unknown (subst IsUnknown (sym is) (record { end = refl; is = refl; fault = λ rows pending. refl }))
-kind_by word (stray is) = unknown (record { end = is.other.end; is = is.is; fault = is.fault })
+kind_by word (asks is) = unknown (subst IsUnknown (sym is) (an_option (codes "--merge-at") refl refl (λ rows pending. refl)))
+kind_by word (says v is) = unknown (subst IsUnknown (sym is) (an_option (merge_at_is ++ v) refl refl (λ rows pending. refl)))
+kind_by word (flags is) = unknown (subst IsUnknown (sym is) (an_option (codes "--strict") refl refl (λ rows pending. refl)))
+kind_by word (stray is) = unknown (record { end = is.other.end; is = is.is; kind = is.kind; fault = is.fault })
 kind_by word (naming is) = name is
 
-unknown_fails : (word : Text) (rows : List Row) (pending : Option (Text × List Text)) (position : ℕ) → IsUnknown word
-    → turn (walk_at rows pending idle position false) word ≡ UnknownArgument ∷ []
+unknown_fails : (word : Text) (rows : List Row) (pending : Option (Text × List Text)) (position : ℕ) (is : IsUnknown word)
+    → turn (walk_at rows pending idle position false) word ≡ is.kind ∷ []
 unknown_fails word rows pending position is = simp is.end (first_fails _ _ _ _ (is.fault rows pending))
 
 name_passes : (word : Text) → IsNameWord word → turn (fresh false) word ≡ []
@@ -101,7 +111,7 @@ unfolding walk_fault defaults_fault
 nothing is_trailing = refl
 
 no_more : (directory word : Text) (words : List Text) → outcome (full directory true) (word ∷ words) ≡ None
-no_more directory word words = fails (full directory true) word words refl
+no_more directory word words = fails (full directory true) word words UnknownArgument refl
 
 behind : (words : List Text) → outcome (fresh true) words ≡ one_name (codes "--" ∷ words)
 behind [] = nothing true
@@ -138,28 +148,28 @@ after_name directory word words is (ending e) =
     ∙ passes (full directory false) (full directory true) (codes "--") words refl (end_walks_full directory)
     ∙ behind_name directory words is ∙ sym (ap (λ w. one_name (directory ∷ w ∷ words)) e)
 after_name directory word words is (unknown u) =
-    fails (full directory false) word words (unknown_fails word _ _ 2 u) ∙ sym (two_are_none directory word words is u.end)
+    fails (full directory false) word words u.kind (unknown_fails word _ _ 2 u) ∙ sym (two_are_none directory word words is u.end)
 after_name directory word words is (name n) =
-    fails (full directory false) word words (second_name directory word n)
+    fails (full directory false) word words UnknownArgument (second_name directory word n)
     ∙ sym (two_are_none directory word words is n.other.end)
 
 named : (directory : Text) (words : List Text) → IsNameWord directory → AreTexts words
     → outcome (full directory false) words ≡ one_name (directory ∷ words)
 named directory [] is texts = at_end directory false ∙ rw is.is refl
-named directory (word ∷ words) is texts = after_name directory word words is (kind_by word (meaning_of rules one_option word texts.0))
+named directory (word ∷ words) is texts = after_name directory word words is (kind_by word (meaning_of rules no_option word texts.0))
 
 first : (word : Text) (words : List Text) → AreTexts words → Kind word → outcome (fresh false) (word ∷ words) ≡ one_name (word ∷ words)
 first word words texts (ending e) =
     ap (λ w. outcome (fresh false) (w ∷ words)) e ∙ passes (fresh false) (fresh true) (codes "--") words refl end_walks ∙ behind words
     ∙ sym (ap (λ w. one_name (w ∷ words)) e)
 first word words texts (unknown u) =
-    fails (fresh false) word words (unknown_fails word _ _ 1 u) ∙ sym (unknown_is_none word words u)
+    fails (fresh false) word words u.kind (unknown_fails word _ _ 1 u) ∙ sym (unknown_is_none word words u)
 first word words texts (name n) =
     passes (fresh false) (full word false) word words (name_passes word n) (name_walks word n) ∙ named word words n texts
 
 all : (words : List Text) → AreTexts words → outcome (fresh false) words ≡ one_name words
 all [] texts = nothing false
-all (word ∷ words) texts = first word words texts.1 (kind_by word (meaning_of rules one_option word texts.0))
+all (word ∷ words) texts = first word words texts.1 (kind_by word (meaning_of rules no_option word texts.0))
 
 pub name_words : (words : List Text) → AreTexts words → option_and_then name_parsed (parsed name_app words) ≡ one_name words
 name_words words texts =

@@ -4,12 +4,12 @@ use Rattle.clap.specs.Walk.{Held, Text, Waiting, Walk, arg_by_index, idle, optio
 use Rattle.clap.specs.Kinds.{Kinds, or_else}
 use Rattle.clap.specs.Faults.{turn_fault, walk_fault}
 use Rattle.clap.specs.declared.error.kind.ErrorKind.{ErrorKind}
-use Rattle.clap.specs.declared.error.kind.ErrorKind.TheVariants.{InvalidValue, UnknownArgument}
+use Rattle.clap.specs.declared.error.kind.ErrorKind.TheVariants.{InvalidValue}
 use Rattle.command_line.specs.Words.{Command, merge_at_is}
 use Rattle.command_line.specs.ByClap.{run_parsed}
-use Rattle.command_line.proofs.Dashes.{AreTexts, IsNameWord, IsStray, Meaning, asks, ends, held, meaning_of, naming, says, stray}
-use Rattle.command_line.proofs.RunSpots.{IsIdle, Spot, asking, at, by_idle, fault_at, name_fault, not_both, one_option, position_of, rested}
-use Rattle.command_line.proofs.RunSpots.{rows_at, rules, shape, waiting_after, waits_for, with_name, with_number}
+use Rattle.command_line.proofs.Dashes.{AreTexts, IsNameWord, IsStray, Meaning, asks, ends, flags, held, meaning_of, naming, says, stray}
+use Rattle.command_line.proofs.RunSpots.{IsIdle, Spot, asking, at, by_idle, fault_at, flag_fault, name_fault, not_both, options, position_of}
+use Rattle.command_line.proofs.RunSpots.{rested, rows_at, rules, shape, waiting_after, waits_for, with_flag, with_name, with_number}
 use Rattle.command_line.proofs.Walks.{first_fails, walk_at}
 use Rattle.command_line.proofs.Walks as walks
 
@@ -69,10 +69,10 @@ name_walk s waiting word free is =
     (simp (is.other.end, is.long, is.short) (behind_name s word idle false))
     (simp (is.other.end, is.long, is.short) (behind_name s word positional false)) waiting free
 
-stray_turn : (s : Spot) (waiting : Waiting) (word : Text) → IsIdle waiting → IsStray rules word
-    → turn (at s waiting false) word ≡ UnknownArgument ∷ []
+stray_turn : (s : Spot) (waiting : Waiting) (word : Text) → IsIdle waiting → (is : IsStray rules word)
+    → turn (at s waiting false) word ≡ is.kind ∷ []
 stray_turn s waiting word free is =
-    by_idle (λ w. turn (at s w false) word ≡ UnknownArgument ∷ []) (simp is.other.end (first_fails _ _ _ _ (is.fault s.rows s.pending)))
+    by_idle (λ w. turn (at s w false) word ≡ is.kind ∷ []) (simp is.other.end (first_fails _ _ _ _ (is.fault s.rows s.pending)))
     (simp is.other.end (first_fails _ _ _ _ (is.fault s.rows s.pending))) waiting free
 
 module _ (s : Spot) (waiting : Waiting) (free : IsIdle waiting) (words : List Text) where
@@ -86,7 +86,7 @@ module _ (s : Spot) (waiting : Waiting) (free : IsIdle waiting) (words : List Te
   name_fails word k ks is fault = fails _ word words k ks (name_turn s waiting word free is ∙ fault)
 
   pub stray_fails : (word : Text) → IsStray rules word → outcome (at s waiting false) (word ∷ words) ≡ None
-  stray_fails word is = fails _ word words UnknownArgument [] (stray_turn s waiting word free is)
+  stray_fails word is = fails _ word words is.kind [] (stray_turn s waiting word free is)
 
   -- `--`
   pub end_passes : outcome (at s waiting false) (codes "--" ∷ words) ≡ outcome (at s waiting true) words
@@ -129,6 +129,22 @@ module _ (s : Spot) (waiting : Waiting) (free : IsIdle waiting) (words : List Te
       → outcome (at s waiting false) ((merge_at_is ++ v) ∷ words) ≡ None
   says_fails v k ks fault = fails _ _ words k ks (says_turn v ∙ ap (λ x. or_else x []) fault)
 
+  -- `--strict`
+  flag_turn : turn (at s waiting false) (codes "--strict") ≡ or_else (or_else (fault_at s) (flag_fault s)) []
+  flag_turn = by_idle (λ w. turn (at s w false) (codes "--strict") ≡ or_else (or_else (fault_at s) (flag_fault s)) []) refl refl waiting free
+
+  flag_walk : walked rules [] (at s waiting false) (codes "--strict") ≡ at (with_flag s) idle false
+  unfolding walked
+  flag_walk = by_idle (λ w. walked rules [] (at s w false) (codes "--strict") ≡ at (with_flag s) idle false) refl refl waiting free
+
+  pub flag_passes : fault_at s ≡ [] → flag_fault s ≡ []
+      → outcome (at s waiting false) (codes "--strict" ∷ words) ≡ outcome (at (with_flag s) idle false) words
+  flag_passes settles then = passes _ _ _ words (flag_turn ∙ (λ i. or_else (or_else (settles i) (then i)) [])) flag_walk
+
+  pub flag_fails : (k : ErrorKind) (ks : Kinds) → or_else (fault_at s) (flag_fault s) ≡ k ∷ ks
+      → outcome (at s waiting false) (codes "--strict" ∷ words) ≡ None
+  flag_fails k ks fault = fails _ _ words k ks (flag_turn ∙ ap (λ x. or_else x []) fault)
+
 -- ---- where the number of `--merge-at` stands next
 
 module _ (s : Spot) (words : List Text) where
@@ -139,10 +155,13 @@ module _ (s : Spot) (words : List Text) where
 
   pub number_stray_fails : (word : Text) → IsStray rules word → outcome (asking s false) (word ∷ words) ≡ None
   number_stray_fails word is =
-      fails _ word words UnknownArgument [] (simp is.other.end (first_fails _ _ _ _ (is.fault (rows_at s) (Some (codes "merge-at", [])))))
+      fails _ word words is.kind [] (simp is.other.end (first_fails _ _ _ _ (is.fault (rows_at s) (Some (codes "merge-at", [])))))
 
   pub number_asks_fails : outcome (asking s false) (codes "--merge-at" ∷ words) ≡ None
   number_asks_fails = fails _ _ words InvalidValue [] refl
+
+  pub number_flag_fails : outcome (asking s false) (codes "--strict" ∷ words) ≡ None
+  number_flag_fails = fails _ _ words InvalidValue [] refl
 
   pub number_says_fails : (v : Text) → outcome (asking s false) ((merge_at_is ++ v) ∷ words) ≡ None
   number_says_fails v = fails _ _ words InvalidValue [] refl
@@ -167,12 +186,15 @@ module _ (s : Spot) (k : ErrorKind) (ks : Kinds) (fault : fault_at s ≡ k ∷ k
   doomed_before waiting word words free (says v is) =
       ap (λ x. outcome (at s waiting false) (x ∷ words)) is
       ∙ says_fails s waiting free words v k ks (ap (λ x. or_else x (fault_at (with_number s v))) fault)
+  doomed_before waiting word words free (flags is) =
+      ap (λ x. outcome (at s waiting false) (x ∷ words)) is
+      ∙ flag_fails s waiting free words k ks (ap (λ x. or_else x (flag_fault s)) fault)
   doomed_before waiting word words free (stray is) = stray_fails s waiting free words word is
   doomed_before waiting word words free (naming is) = name_fails s waiting free words word k ks is fault
 
   pub doomed : (waiting : Waiting) (words : List Text) → IsIdle waiting → AreTexts words → outcome (at s waiting false) words ≡ None
   doomed waiting [] free texts = doomed_at_end waiting false
-  doomed waiting (word ∷ words) free texts = doomed_before waiting word words free (meaning_of rules one_option word texts.0)
+  doomed waiting (word ∷ words) free texts = doomed_before waiting word words free (meaning_of rules options word texts.0)
 
 -- `--` in place of the number
 pub number_end_fails : (s : Spot) (words : List Text) → outcome (asking s false) (codes "--" ∷ words) ≡ None

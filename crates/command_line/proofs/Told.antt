@@ -7,7 +7,7 @@ use Rattle.clap.specs.declared.error.kind.ErrorKind.{ErrorKind}
 use Rattle.clap.specs.declared.parser.matches.ArgMatches.{ArgMatches}
 use Rattle.clap.proofs.WalkLemmas.{both, first_value-rows, raw_values-rows}
 use Rattle.clap.specs.declared.parser.matches.Found.{Found}
-use Rattle.command_line.specs.ByClap.{run_parsed, run_with, parsed, without_fault}
+use Rattle.command_line.specs.ByClap.{is_set, run_parsed, run_with, parsed, without_fault}
 use Rattle.command_line.specs.Words.{merge_at_in}
 
 pub told_matches : (a : App) (words : List Text) (m : ArgMatches) → is_simple_and_free a ≡ true → fault_of a words ≡ []
@@ -21,12 +21,14 @@ told_fault k [] rows among = absurd among
 told_fault k (x ∷ xs) rows among = refl
 
 -- the getters' answers, by the rows
-pub asks_for : (f : Found) (directory : Option Text) (scripts : Option (List Text)) (number : Option Text)
+pub asks_for : (f : Found) (directory : Option Text) (scripts : Option (List Text)) (number strict : Option Text)
     → directory ≡ first_value f (codes "DIR")
     → scripts ≡ option_map raw_values (matched_of f (codes "SCRIPT")) → number ≡ first_value f (codes "merge-at")
-    → run_with directory scripts (merge_at_in number) ≡ run_parsed (rows_of f)
-asks_for f directory scripts number d s n =
+    → strict ≡ first_value f (codes "strict")
+    → run_with directory scripts (merge_at_in number) (is_set strict) ≡ run_parsed (rows_of f)
+asks_for f directory scripts number strict d s n t =
     let d_is = d ∙ first_value-rows f (codes "DIR") in
     let s_is = s ∙ raw_values-rows f (codes "SCRIPT") in
     let n_is = n ∙ first_value-rows f (codes "merge-at") in
-    λ i. run_with (d_is i) (s_is i) (merge_at_in (n_is i))
+    let t_is = t ∙ first_value-rows f (codes "strict") in
+    λ i. run_with (d_is i) (s_is i) (merge_at_in (n_is i)) (is_set (t_is i))

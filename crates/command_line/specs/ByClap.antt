@@ -1,9 +1,10 @@
 -- The commands of `clap` that read the words after a verb, and what is taken from their matches.
 -- This project's own choice.
-use Rattle.std.specs.Prelude.{true, List, [], ◌∷◌, Option, Some, None, ℕ, codes}
+use Rattle.std.specs.Prelude.{Bool, true, false, List, [], ◌∷◌, Option, Some, None, ℕ, bytes_eq, codes}
+use Rattle.std.specs.Option.{option_map_or}
 use Rattle.clap.specs.Words.{App, Row, Rule, Text, all_of, first_of, fault_of, matches_of, new_app}
 use Rattle.clap.specs.Words.{new_rule, with_rule, Kinds}
-use Rattle.clap.specs.declared.builder.ArgAction.TheVariants.{Set, Append}
+use Rattle.clap.specs.declared.builder.ArgAction.TheVariants.{Set, SetTrue, Append}
 use Rattle.command_line.specs.Words.{Command, command_with, merge_at_in}
 
 -- no program's name in front, and neither `--help` nor `--version`
@@ -22,6 +23,12 @@ merge_at_rule = record (new_rule (codes "merge-at")) {
   action = Some Set;
 }
 
+abbrev pub strict_rule : Rule
+strict_rule = record (new_rule (codes "strict")) {
+  long = Some (codes "strict");
+  action = Some SetTrue;
+}
+
 abbrev pub directory_rule : Rule
 directory_rule = record (new_rule (codes "DIR")) { required = true }
 
@@ -30,9 +37,8 @@ abbrev pub script_rule : Rule
 script_rule = record (new_rule (codes "SCRIPT")) { required = true; action = Some Append }
 
 abbrev pub run_app : App
-run_app =
-    with_rule (with_rule (with_rule (plain_app (codes "run")) merge_at_rule) directory_rule)
-    script_rule
+run_app = with_rule (with_rule (with_rule (with_rule (plain_app (codes "run")) merge_at_rule)
+    strict_rule) directory_rule) script_rule
 
 -- one name, after `check` and `load`
 abbrev pub name_rule : Rule
@@ -50,14 +56,19 @@ without_fault (k ∷ ks) rows = None
 abbrev pub parsed : App → List Text → Option (List Row)
 parsed app words = without_fault (fault_of app words) (matches_of app words)
 
-abbrev pub run_with : Option Text → Option (List Text) → Option ℕ → Option Command
-run_with (Some directory) (Some scripts) merge_at = command_with (directory ∷ scripts) merge_at
-run_with _ _ merge_at = None
+-- the word of a flag's row says that the flag was given
+abbrev pub is_set : Option Text → Bool
+is_set word = option_map_or (λ w. bytes_eq w (codes "true")) word false
+
+abbrev pub run_with : Option Text → Option (List Text) → Option ℕ → Bool → Option Command
+run_with (Some directory) (Some scripts) merge_at strict =
+    command_with (directory ∷ scripts) merge_at strict
+run_with _ _ merge_at strict = None
 
 -- the run that the matches ask for
 abbrev pub run_parsed : List Row → Option Command
 run_parsed rows = run_with (first_of (codes "DIR") rows) (all_of (codes "SCRIPT") rows)
-    (merge_at_in (first_of (codes "merge-at") rows))
+    (merge_at_in (first_of (codes "merge-at") rows)) (is_set (first_of (codes "strict") rows))
 
 -- the name that they have
 abbrev pub name_parsed : List Row → Option Text

@@ -1,3 +1,4 @@
 pub mod Words
+pub mod Samples
 pub mod Views
 pub mod ByClap

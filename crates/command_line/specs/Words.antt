@@ -36,6 +36,13 @@ merge_at_of (Some (run options directory scripts)) = Some options.merge_at
 merge_at_of (Some (check directory)) = None
 merge_at_of (Some (load count)) = Some load_merge_at
 
+-- whether the program's guard judges what the scripts ask for
+abbrev pub is_strict : Option Command → Bool
+is_strict None = false
+is_strict (Some (run options directory scripts)) = options.strict
+is_strict (Some (check directory)) = false
+is_strict (Some (load count)) = false
+
 -- ---- names
 
 -- a dash and more is an option, and no name
@@ -116,14 +123,15 @@ pub data Place : Type 0 where
   -- names alone, since `--` has ended the options
   BehindOptions : Place
 
--- what may come next, the names so far, and the number that was given
+-- what may come next, the names so far, the number that was given, and whether `--strict` was
 pub record Progress : Type 0 where
   pub place : Place
   pub names : List (List ℕ)
   pub number : Option (List ℕ)
+  pub strict : Bool
 
 abbrev pub start : Progress
-start = record { place = Anywhere; names = []; number = None }
+start = record { place = Anywhere; names = []; number = None; strict = false }
 
 abbrev pub named : Progress → List ℕ → Progress
 named p word = record p { names = p.names ++ word ∷ [] }
@@ -133,18 +141,23 @@ abbrev pub numbered : Progress → List ℕ → Option Progress
 numbered p word =
     if is_some p.number then None else Some (record p { place = Anywhere; number = Some word })
 
+-- the word is `--strict`, which occurs once at most
+abbrev pub flagged : Progress → Option Progress
+flagged p = if p.strict then None else Some (record p { strict = true })
+
 abbrev pub merge_at_is : List ℕ
 merge_at_is = codes "--merge-at="
 
--- a step where an option may come: `--` ends the options,
--- `--merge-at` takes the next word or its own rest, and what else is no name makes no command
+-- a step where an option may come: `--` ends the options, `--merge-at` takes the next word or its
+-- own rest, `--strict` takes nothing, and what else is no name makes no command
 abbrev pub step_anywhere : Progress → List ℕ → Option Progress
 step_anywhere p word =
     if bytes_eq word (codes "--") then Some (record p { place = BehindOptions })
     else (if bytes_eq word (codes "--merge-at") then Some (record p { place = AtNumber })
     else (if starts_with nat_eq word merge_at_is
     then numbered p (drop (length merge_at_is) word)
-    else (if is_name word then Some (named p word) else None)))
+    else (if bytes_eq word (codes "--strict") then flagged p
+    else (if is_name word then Some (named p word) else None))))
 
 abbrev pub step_at : Place → Progress → List ℕ → Option Progress
 step_at Anywhere p word = step_anywhere p word
@@ -163,18 +176,18 @@ walked (Some p) (word ∷ words) = walked (step p word) words
 -- ---- the command
 
 -- Of the names the first is the directory, and the others are the scripts.
-abbrev pub command_with : List (List ℕ) → Option ℕ → Option Command
-command_with [] merge_at = None
-command_with (directory ∷ scripts) None = None
-command_with (directory ∷ scripts) (Some merge_at) =
+abbrev pub command_with : List (List ℕ) → Option ℕ → Bool → Option Command
+command_with [] merge_at strict = None
+command_with (directory ∷ scripts) None strict = None
+command_with (directory ∷ scripts) (Some merge_at) strict =
     if are_scripts scripts
-    then Some (run (record { merge_at = merge_at }) directory scripts)
+    then Some (run (record { merge_at = merge_at; strict = strict }) directory scripts)
     else None
 
 abbrev pub command_at : Place → Progress → Option Command
-command_at Anywhere p = command_with p.names (merge_at_in p.number)
+command_at Anywhere p = command_with p.names (merge_at_in p.number) p.strict
 command_at AtNumber p = None
-command_at BehindOptions p = command_with p.names (merge_at_in p.number)
+command_at BehindOptions p = command_with p.names (merge_at_in p.number) p.strict
 
 -- the command that a walk over all words has found
 abbrev pub command_from : Option Progress → Option Command

@@ -9,20 +9,29 @@ use clap::{Arg, ArgAction, ArgMatches, Command};
 use fb_memory::Memory;
 use std::alloc::Global;
 
-/// `[--merge-at N] DIR SCRIPT..`
+/// `[--merge-at N] [--strict] DIR SCRIPT..`
 pub(crate) fn run_command<'a>(alloc: Global) -> Result<Command<'a>, Memory>
     ensures { IfOk result (λ command. app_of command ≡ run_app) }
 {
     let merge_at = Arg::new(alloc, "merge-at")
         .long("merge-at")
         .action(ArgAction::Set);
+    let strict = Arg::new(alloc, "strict")
+        .long("strict")
+        .action(ArgAction::SetTrue);
     let directory = Arg::new(alloc, "DIR").required(true);
     // An option may come between two scripts.
     let script = Arg::new(alloc, "SCRIPT")
         .required(true)
         .action(ArgAction::Append);
     let command = plain(alloc, "run");
-    Ok(command.arg(merge_at)?.arg(directory)?.arg(script)?)
+    Ok(
+        command
+            .arg(merge_at)?
+            .arg(strict)?
+            .arg(directory)?
+            .arg(script)?,
+    )
 }
 
 /// One name, as it follows `check` and `load`.

@@ -2,7 +2,7 @@
 ghost use Rattle.std.specs.Prelude.{◌≡◌, ◌≤◌, ◌∷◌, true, map, Some, string_bytes, IfSome, IfOk};
 ghost use Rattle.std.specs.Option.{option_map};
 ghost use Rattle.clap.specs.Words.{found_of, rows_of};
-ghost use Rattle.command_line.specs.ByClap.{run_parsed};
+ghost use Rattle.command_line.specs.ByClap.{is_set, run_parsed};
 ghost use Rattle.command_line.specs.Words.{load, are_scripts, merge_at_in, start, walked, command_with, command_from, one_name, load_of, command_of};
 ghost use Rattle.command_line.specs.Views.{names_in, run_by, command_by, CanRun};
 
@@ -18,6 +18,8 @@ use std::alloc::Global;
 pub struct Options {
     /// From how many live datoms on a merge is due.
     pub merge_at: u64,
+    /// Whether the program's guard judges what the scripts ask for.
+    pub strict: bool,
 }
 
 /// A run of scripts over the history that a directory keeps. The names are those of the words.
@@ -118,7 +120,24 @@ fn run_of<'a>(alloc: Global, matches: &ArgMatches<'a>) -> Result<Option<Run<'a>>
     let Some(scripts) = matches.get_strs("SCRIPT") else {
         return Ok(None);
     };
-    run_with(alloc, directory, scripts, matches.get_str("merge-at"))
+    let strict = is_set(matches.get_str("strict"));
+    run_with(
+        alloc,
+        directory,
+        scripts,
+        matches.get_str("merge-at"),
+        strict,
+    )
+}
+
+/// Whether the word of a flag's match says that the flag was given.
+fn is_set(word: Option<&str>) -> bool
+    ensures { result ≡ is_set (option_map (λ s. s.now) word.entry) }
+{
+    match word {
+        Some(word) => word == "true",
+        None => false,
+    }
 }
 
 /// The run of these scripts, where they may run together and the number is one.
@@ -127,10 +146,11 @@ fn run_with<'a>(
     directory: &'a str,
     scripts: &[&'a str],
     number: Option<&'a str>,
+    strict: bool,
 ) -> Result<Option<Run<'a>>, Memory>
     ensures run { IfOk result (λ run. option_map run_by run
         ≡ command_with (directory.entry.now ∷ names_in scripts.now)
-        (merge_at_in (option_map (λ s. s.now) number.entry))) }
+        (merge_at_in (option_map (λ s. s.now) number.entry)) strict) }
     ensures scripts { IfOk result (λ run. IfSome run
         (λ run. are_scripts (names_in run.scripts.items) ≡ true)) }
     ensures merge_at { IfOk result (λ run. IfSome run (λ run. 1 ≤ run.options.merge_at)) }
@@ -142,7 +162,7 @@ fn run_with<'a>(
         return Ok(None);
     }
     Ok(Some(Run {
-        options: Options { merge_at },
+        options: Options { merge_at, strict },
         directory,
         scripts: scripts.iter().copied().collect(alloc)?,
     }))

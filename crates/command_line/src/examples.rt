@@ -1,16 +1,17 @@
 //! Which words are a command, and where its lines go, by computation.
-ghost use Rattle.std.specs.Prelude.{◌≡◌, [], ◌∷◌, Some, None, codes};
-ghost use Rattle.command_line.specs.Words.{run, check, load, command_of, sink_of};
+ghost use Rattle.std.specs.Prelude.{◌≡◌, [], ◌∷◌, Some, None, true, false, codes};
+ghost use Rattle.command_line.specs.Samples.{plain_run, strict_run};
+ghost use Rattle.command_line.specs.Words.{check, load, command_of, is_strict, sink_of};
 
 /// A name or more after `run` and a directory is a command.
 pub fn words()
     ensures standard_input { command_of (codes "run" ∷ codes ":memory:" ∷ codes "-" ∷ [])
-        ≡ Some (run (record { merge_at = 65536 }) (codes ":memory:") (codes "-" ∷ [])) }
+        ≡ plain_run 65536 (codes ":memory:") (codes "-" ∷ []) }
     ensures two_scripts { command_of (codes "run" ∷ codes ":memory:" ∷ codes "a" ∷ codes "b" ∷ [])
-        ≡ Some (run (record { merge_at = 65536 }) (codes ":memory:") (codes "a" ∷ codes "b" ∷ [])) }
+        ≡ plain_run 65536 (codes ":memory:") (codes "a" ∷ codes "b" ∷ []) }
     ensures no_script { command_of (codes "run" ∷ codes ":memory:" ∷ []) ≡ None }
     ensures directory { command_of (codes "run" ∷ codes "data" ∷ codes "-" ∷ [])
-        ≡ Some (run (record { merge_at = 65536 }) (codes "data") (codes "-" ∷ [])) }
+        ≡ plain_run 65536 (codes "data") (codes "-" ∷ []) }
     ensures verb { command_of (codes "look" ∷ codes ":memory:" ∷ codes "-" ∷ []) ≡ None }
     ensures no_word { command_of [] ≡ None }
 {}
@@ -45,13 +46,13 @@ pub fn loads()
 pub fn options()
     ensures next_word { command_of
         (codes "run" ∷ codes ":memory:" ∷ codes "--merge-at" ∷ codes "8" ∷ codes "a" ∷ [])
-        ≡ Some (run (record { merge_at = 8 }) (codes ":memory:") (codes "a" ∷ [])) }
+        ≡ plain_run 8 (codes ":memory:") (codes "a" ∷ []) }
     ensures own_rest { command_of
         (codes "run" ∷ codes ":memory:" ∷ codes "a" ∷ codes "--merge-at=1000000" ∷ [])
-        ≡ Some (run (record { merge_at = 1000000 }) (codes ":memory:") (codes "a" ∷ [])) }
+        ≡ plain_run 1000000 (codes ":memory:") (codes "a" ∷ []) }
     ensures behind_options { command_of
         (codes "run" ∷ codes ":memory:" ∷ codes "--" ∷ codes "-a" ∷ [])
-        ≡ Some (run (record { merge_at = 65536 }) (codes ":memory:") (codes "-a" ∷ [])) }
+        ≡ plain_run 65536 (codes ":memory:") (codes "-a" ∷ []) }
     ensures unknown { command_of (codes "run" ∷ codes ":memory:" ∷ codes "-a" ∷ []) ≡ None }
     ensures twice { command_of (codes "run" ∷ codes "--merge-at=1" ∷ codes "--merge-at=1"
         ∷ codes ":memory:" ∷ codes "a" ∷ []) ≡ None }
@@ -63,19 +64,72 @@ pub fn options()
         (codes "run" ∷ codes ":memory:" ∷ codes "a" ∷ codes "--merge-at" ∷ []) ≡ None }
 {}
 
+/// `--strict` may be anywhere in front of `--`, once at most, and takes no value.
+pub fn strictly()
+    ensures first { command_of
+        (codes "run" ∷ codes "--strict" ∷ codes ":memory:" ∷ codes "-" ∷ [])
+        ≡ strict_run 65536 (codes ":memory:") (codes "-" ∷ []) }
+    ensures last { command_of (codes "run" ∷ codes "data" ∷ codes "a" ∷ codes "--strict" ∷ [])
+        ≡ strict_run 65536 (codes "data") (codes "a" ∷ []) }
+    ensures between_scripts { command_of
+        (codes "run" ∷ codes "data" ∷ codes "a" ∷ codes "--strict" ∷ codes "b" ∷ [])
+        ≡ strict_run 65536 (codes "data") (codes "a" ∷ codes "b" ∷ []) }
+    ensures with_number { command_of
+        (codes "run" ∷ codes "--merge-at" ∷ codes "8" ∷ codes "--strict" ∷ codes "data"
+        ∷ codes "a" ∷ []) ≡ strict_run 8 (codes "data") (codes "a" ∷ []) }
+    ensures number_behind { command_of
+        (codes "run" ∷ codes "--strict" ∷ codes "data" ∷ codes "--merge-at=8" ∷ codes "a" ∷ [])
+        ≡ strict_run 8 (codes "data") (codes "a" ∷ []) }
+    ensures behind_options { command_of
+        (codes "run" ∷ codes "data" ∷ codes "--" ∷ codes "--strict" ∷ [])
+        ≡ plain_run 65536 (codes "data") (codes "--strict" ∷ []) }
+    ensures twice { command_of (codes "run" ∷ codes "--strict" ∷ codes "--strict"
+        ∷ codes ":memory:" ∷ codes "-" ∷ []) ≡ None }
+    ensures twice_apart { command_of (codes "run" ∷ codes "--strict" ∷ codes "data"
+        ∷ codes "a" ∷ codes "--strict" ∷ []) ≡ None }
+    ensures value { command_of
+        (codes "run" ∷ codes "--strict=x" ∷ codes "data" ∷ codes "a" ∷ []) ≡ None }
+    ensures no_value { command_of
+        (codes "run" ∷ codes "--strict=" ∷ codes "data" ∷ codes "a" ∷ []) ≡ None }
+    ensures for_number { command_of
+        (codes "run" ∷ codes "--merge-at" ∷ codes "--strict" ∷ codes "data" ∷ codes "a" ∷ [])
+        ≡ None }
+    ensures shortened { command_of
+        (codes "run" ∷ codes "--stric" ∷ codes "data" ∷ codes "a" ∷ []) ≡ None }
+    ensures lengthened { command_of
+        (codes "run" ∷ codes "--strictly" ∷ codes "data" ∷ codes "a" ∷ []) ≡ None }
+    ensures one_dash { command_of
+        (codes "run" ∷ codes "-strict" ∷ codes "data" ∷ codes "a" ∷ []) ≡ None }
+    ensures look { command_of (codes "check" ∷ codes "--strict" ∷ codes "data" ∷ []) ≡ None }
+    ensures look_behind_options { command_of (codes "check" ∷ codes "--" ∷ codes "--strict" ∷ [])
+        ≡ Some (check (codes "--strict")) }
+    ensures generator { command_of (codes "load" ∷ codes "--strict" ∷ codes "4" ∷ []) ≡ None }
+    ensures not_first { command_of
+        (codes "--strict" ∷ codes "run" ∷ codes "data" ∷ codes "a" ∷ []) ≡ None }
+{}
+
+/// The guard counts in a run that asks for it, and in no other command.
+pub fn strictness()
+    ensures asked { is_strict (strict_run 8 (codes "data") (codes "a" ∷ [])) ≡ true }
+    ensures not_asked { is_strict (plain_run 8 (codes "data") (codes "a" ∷ [])) ≡ false }
+    ensures look { is_strict (Some (check (codes "data"))) ≡ false }
+    ensures generator { is_strict (Some (load 4)) ≡ false }
+    ensures no_command { is_strict None ≡ false }
+{}
+
 /// What looks odd: a dash alone and the empty word are names, and what begins with a dash is no number.
 pub fn odd_words()
     ensures dashes { command_of (codes "run" ∷ codes "-" ∷ codes "-" ∷ [])
-        ≡ Some (run (record { merge_at = 65536 }) (codes "-") (codes "-" ∷ [])) }
+        ≡ plain_run 65536 (codes "-") (codes "-" ∷ []) }
     ensures empty { command_of (codes "run" ∷ [] ∷ [] ∷ [])
-        ≡ Some (run (record { merge_at = 65536 }) [] ([] ∷ [])) }
+        ≡ plain_run 65536 [] ([] ∷ []) }
     ensures end_at_the_end { command_of (codes "run" ∷ codes "data" ∷ codes "a" ∷ codes "--" ∷ [])
-        ≡ Some (run (record { merge_at = 65536 }) (codes "data") (codes "a" ∷ [])) }
+        ≡ plain_run 65536 (codes "data") (codes "a" ∷ []) }
     ensures second_end { command_of (codes "run" ∷ codes "--" ∷ codes "data" ∷ codes "--" ∷ [])
-        ≡ Some (run (record { merge_at = 65536 }) (codes "data") (codes "--" ∷ [])) }
+        ≡ plain_run 65536 (codes "data") (codes "--" ∷ []) }
     ensures between_scripts { command_of
         (codes "run" ∷ codes "data" ∷ codes "a" ∷ codes "--merge-at" ∷ codes "8" ∷ codes "b" ∷ [])
-        ≡ Some (run (record { merge_at = 8 }) (codes "data") (codes "a" ∷ codes "b" ∷ [])) }
+        ≡ plain_run 8 (codes "data") (codes "a" ∷ codes "b" ∷ []) }
     ensures end_for_number { command_of
         (codes "run" ∷ codes "--merge-at" ∷ codes "--" ∷ codes "data" ∷ codes "a" ∷ []) ≡ None }
     ensures less_than_none { command_of
@@ -84,8 +138,6 @@ pub fn odd_words()
         (codes "run" ∷ codes "--merge-at=" ∷ codes "data" ∷ codes "a" ∷ []) ≡ None }
     ensures shortened { command_of
         (codes "run" ∷ codes "--merge=8" ∷ codes "data" ∷ codes "a" ∷ []) ≡ None }
-    ensures other_option { command_of
-        (codes "run" ∷ codes "--strict=x" ∷ codes "data" ∷ codes "a" ∷ []) ≡ None }
     ensures help { command_of
         (codes "run" ∷ codes "data" ∷ codes "a" ∷ codes "--help" ∷ []) ≡ None }
 {}

@@ -31,12 +31,12 @@ goes_on-still old new entries opening untold seat left =
 pub receipt_is : (may : ℤ → Type 0) (guard : Guard) (asked : Form) (old new : State) (receipt : Receipt) (draft : Draft) (reading : ℤ)
     → may reading → step old.entries asked reading guard ≡ accepted (entry_of draft) draft.tempids.items
     → new.entries ≡ old.entries ++ entry_of draft ∷ [] → new.commits ≡ old.commits ++ receipt.t ∷ [] → new.tally ≡ old.tally
-    → old.stop ≡ None → receipt.t ≡ basis new.entries → receipt.instant ≡ (entry_of draft).instant
+    → new.stop ≡ None → receipt.t ≡ basis new.entries → receipt.instant ≡ (entry_of draft).instant
     → receipt.tempids.items ≡ draft.tempids.items → receipt.snapshot.entries ≡ new.entries
     → IsReceipt may guard asked old new receipt
-receipt_is may guard asked old new receipt draft reading may_be step_is entries commits tally untold t instant tempids snapshot =
+receipt_is may guard asked old new receipt draft reading may_be step_is entries commits tally going t instant tempids snapshot =
     record {
-      untold = untold;
+      going = going;
       others = [];
       reading = reading;
       may_be = may_be;

@@ -14,7 +14,7 @@ use Rattle.fb_model.proofs.Times.{next_t}
 use Rattle.tx_model.specs.Step.{Guard}
 use Rattle.event_model.specs.World.{Session, World, IsBeginning, changed}
 use Rattle.event_model.specs.Event.{Event, accept, refuse, fail, stopped, mail, glance, held, sync, begin, keep, adopt, abandon, crash}
-use Rattle.event_model.specs.Event.{with_snap, with_mail, with_commit, at_its_mail, synced, committed, IsLogOf, Happens, is_crash}
+use Rattle.event_model.specs.Event.{with_snap, with_mail, with_commit, at_its_mail, synced, committed, IsLeftOf, Happens, is_crash}
 use Rattle.event_model.specs.Event.{is_of_merge}
 use Rattle.event_model.specs.Runs.{Runs, HaveNoCrash}
 use Rattle.event_model.specs.Sound.{IsSound}
@@ -30,7 +30,7 @@ Begins h longer = (more : List Entry) × (longer ≡ h ++ more)
 begins-itself : (h longer : List Entry) → longer ≡ h → Begins h longer
 begins-itself h longer same = ([], same ∙ sym (append-nil h))
 
-log_begins : (world : World) (h : List Entry) → IsLogOf world h → Begins world.history h
+log_begins : (world : World) (h : List Entry) → IsLeftOf world h → Begins world.history h
 log_begins world h (inl same) = begins-itself world.history h same
 log_begins world h (inr torn) = (torn.0.torn ∷ [], torn.2)
 
@@ -213,7 +213,7 @@ pub crash-kept : (guard : Guard) (before after : World) (s t : ℕ) → IsSound 
     → (entry : Entry) × (entry.t ≡ t) × (slice_get before.history t ≡ Some entry) × (slice_get after.history t ≡ Some entry)
 crash-kept guard before after s t sound crashes theirs = commit-kept guard before (crash ∷ []) after s t sound (after, crashes, refl) theirs
 
-pub crash-log : (guard : Guard) (before after : World) → Happens guard before crash after → IsLogOf before after.history
+pub crash-log : (guard : Guard) (before after : World) → Happens guard before crash after → IsLeftOf before after.history
 crash-log guard before after crashes = crashes.log
 
 pub crash-IsBeginning : (guard : Guard) (before after : World) → IsSound before → Happens guard before crash after → IsBeginning after

@@ -2,7 +2,7 @@
 use Rattle.std.proofs.Common.{◌≡◌, ◌⊎◌, ℕ, ◌+◌, ◌<◌, ◌≤◌, ℤ, List, [], ◌∷◌, ◌++◌, Option, Some, None, refl, sym, ◌∙◌, ap, subst, inl, inr}
 use Rattle.std.proofs.Common.{arith}
 use Rattle.std.specs.Prelude.{All, Contains}
-use Rattle.std.proofs.lemmas.List.Elements.{All-push, All-weaker, All-contains}
+use Rattle.std.proofs.lemmas.List.Elements.{All-nil, All-push, All-weaker, All-contains, All-contains_itself, Contains-append_left}
 use Rattle.edn_model.specs.Form.{Form}
 use Rattle.fb_values.specs.declared.facts.Entry.{Entry}
 use Rattle.fb_model.specs.History.{basis}
@@ -15,8 +15,8 @@ use Rattle.tx_model.proofs.Steps.{accepted_at}
 use Rattle.tx_model.proofs.StepLaws.{step-lawful}
 use Rattle.event_model.specs.World.{Session, Stop, World, opened, IsBeginning, changed, with_session}
 use Rattle.event_model.specs.Event.{Event, accept, refuse, fail, stopped, mail, glance, held, sync, begin, keep, adopt, abandon, crash}
-use Rattle.event_model.specs.Event.{with_snap, with_mail, with_commit, at_its_mail, synced, committed, stopped_at, IsLogOf, IsFoundIn}
-use Rattle.event_model.specs.Event.{Crashes, Happens}
+use Rattle.event_model.specs.Event.{with_snap, with_mail, with_commit, at_its_mail, synced, committed, stopped_at, IsLeftOf, IsFoundIn}
+use Rattle.event_model.specs.Event.{AreRootsLeft, Crashes, Happens}
 use Rattle.event_model.specs.Runs.{Runs, IsReached}
 use Rattle.event_model.specs.Sound.{IsSoundSession, HasOneAuthor, IsSoundStop, IsSound}
 use Rattle.event_model.proofs.Sessions.{changed_by, opened_session, session_with_snap, session_with_mail, session_at_its_mail}
@@ -216,7 +216,7 @@ abandoned-IsSound world sound = adopted-IsSound world.adopted world sound.adopte
 
 -- ---- crashes
 
-log-IsLawful : (world : World) (h : List Entry) → IsSound world → IsLogOf world h → IsLawful h × (basis world.history ≤ basis h)
+log-IsLawful : (world : World) (h : List Entry) → IsSound world → IsLeftOf world h → IsLawful h × (basis world.history ≤ basis h)
 log-IsLawful world h sound (inl same) = subst (λ k. IsLawful k × (basis world.history ≤ basis k)) (sym same) (sound.lawful, omega arith)
 log-IsLawful world h sound (inr torn) =
     let next = (sound.stop torn.0 torn.1).lawful in
@@ -227,6 +227,14 @@ log-IsLawful world h sound (inr torn) =
 found_low : (kept : List ℕ) (h : List Entry) (c : ℕ) → IsFoundIn kept h c → c ≤ basis h
 found_low kept h c (inl none) = omega (arith, none)
 found_low kept h c (inr found) = found.1
+
+-- each root that is left was there before
+were_kept : (kept : List ℕ) (c : ℕ) (left : List ℕ) → AreRootsLeft kept c left → All (Contains kept) left
+were_kept kept c left (inl (lost, same)) =
+    subst (λ l. All (Contains l) left) (sym same)
+    (All-weaker (Contains left) (Contains (left ++ lost)) (Contains-append_left left lost) left (All-contains_itself left))
+were_kept kept c left (inr (was_kept, same)) =
+    subst (All (Contains kept)) (sym same) (All-push (Contains kept) [] c (All-nil (Contains kept)) was_kept)
 
 pub crashed-IsBeginning : (before after : World) → IsSound before → Crashes before after → IsBeginning after
 crashed-IsBeginning before after sound crashes =
@@ -240,7 +248,7 @@ crashed-IsBeginning before after sound crashes =
           All-weaker (Contains before.kept) (λ c. c ≤ after.opening)
           (λ c was_kept. let low : c ≤ basis before.history =
           All-contains (λ c. c ≤ basis before.history) before.kept c sound.kept was_kept in omega (arith, low, log.1, opening))
-          after.kept crashes.kept;
+          after.kept (were_kept before.kept after.adopted after.kept crashes.kept);
     }
 
 -- ---- all events

@@ -1,8 +1,8 @@
 -- What the events of the examples come to.
-use Rattle.std.proofs.Common.{◌≡◌, ℕ, ◌++◌, Bool, true, false, List, [], ◌∷◌, Some, None, refl, sym}
+use Rattle.std.proofs.Common.{◌≡◌, ℕ, ◌++◌, Bool, true, false, List, [], ◌∷◌, Some, None, refl, sym, inl}
 use Rattle.std.specs.Prelude.{codes}
 use Rattle.std.proofs.lemmas.Bool.{false≢true}
-use Rattle.std.proofs.lemmas.List.Elements.{All-contains_itself}
+use Rattle.std.proofs.lemmas.List.{append-nil}
 use Rattle.edn_model.specs.Form.{Form}
 use Rattle.fb_values.specs.declared.facts.Entry.{Entry}
 use Rattle.fb_model.specs.FirstEntry.{first_entry}
@@ -11,7 +11,7 @@ use Rattle.tx_refusals.specs.declared.reasons.Refusal.{Refusal}
 use Rattle.tx_model.specs.Step.{Decision, refused, accepted, step, no_guard, no_list}
 use Rattle.tx_model.specs.Samples.{clock}
 use Rattle.event_model.specs.World.{World, opened, with_session}
-use Rattle.event_model.specs.Event.{accept, refuse, fail, crash, with_mail, committed, stopped_at, synced, IsLogOf, IsFoundIn, Happens}
+use Rattle.event_model.specs.Event.{accept, refuse, fail, crash, with_mail, committed, stopped_at, synced, IsLeftOf, IsFoundIn, Happens}
 use Rattle.event_model.specs.Runs.{Runs}
 use Rattle.event_model.specs.Samples.{start, text}
 
@@ -87,9 +87,10 @@ refuses s asked world none is =
 
 -- ---- crashes
 
-pub crashes_to : (before : World) (h : List Entry) (adopted : ℕ) → IsLogOf before h → IsFoundIn before.kept h adopted
+pub crashes_to : (before : World) (h : List Entry) (adopted : ℕ) → IsLeftOf before h → IsFoundIn before.kept h adopted
     → Happens no_guard before crash (opened h adopted before.kept)
-crashes_to before h adopted log found = record { log = log; kept = All-contains_itself before.kept; adopted = found; is_opened = refl }
+crashes_to before h adopted log found =
+    record { log = log; kept = inl ([], sym (append-nil before.kept)); adopted = found; is_opened = refl }
 
 -- ---- the worlds
 

@@ -1,7 +1,7 @@
 -- What may happen to a database that many sessions share, and what each event makes of a world.
 -- This project's own choice.
 use Rattle.std.specs.Prelude.{◌≡◌, ℕ, ◌+◌, ◌≤◌, ◌⊎◌, ℤ, Bool, true, false, max, List, [], ◌∷◌, ◌++◌}
-use Rattle.std.specs.Prelude.{Some, None, All, Contains}
+use Rattle.std.specs.Prelude.{Some, None, Contains}
 use Rattle.edn_model.specs.Form.{Form}
 use Rattle.fb_values.specs.declared.facts.Entry.{Entry}
 use Rattle.fb_model.specs.History.{basis}
@@ -66,8 +66,8 @@ stopped_at entry world =
 -- ---- crashes
 
 -- what the log has after a crash: the history, and perhaps the entry whose append failed
-abbrev pub IsLogOf : World → List Entry → Type 0
-IsLogOf world h =
+abbrev pub IsLeftOf : World → List Entry → Type 0
+IsLeftOf world h =
     (h ≡ world.history)
     ⊎ ((stop : Stop) × (world.stop ≡ Some stop) × (h ≡ world.history ++ stop.torn ∷ []))
 
@@ -75,10 +75,15 @@ IsLogOf world h =
 abbrev pub IsFoundIn : List ℕ → List Entry → ℕ → Type 0
 IsFoundIn kept h c = (c ≡ 0) ⊎ (Contains kept c × (c ≤ basis h))
 
--- of the roots some may be lost with the end of their file
+-- which roots the file has after a crash: some at its end may be lost, or all, and an opening that
+-- makes room leaves the one alone whose trees it adopts
+abbrev pub AreRootsLeft : List ℕ → ℕ → List ℕ → Type 0
+AreRootsLeft kept adopted left =
+    ((lost : List ℕ) × (kept ≡ left ++ lost)) ⊎ (Contains kept adopted × (left ≡ adopted ∷ []))
+
 pub record Crashes (before after : World) : Type 0 where
-  pub log : IsLogOf before after.history
-  pub kept : All (Contains before.kept) after.kept
+  pub log : IsLeftOf before after.history
+  pub kept : AreRootsLeft before.kept after.adopted after.kept
   pub adopted : IsFoundIn after.kept after.history after.adopted
   pub is_opened : after ≡ opened after.history after.adopted after.kept
 

@@ -1,7 +1,7 @@
 //! Examples: what may come of a few events, and what cannot happen.
 ghost use Rattle.std.specs.Prelude.{◌≡◌, [], ◌∷◌, length};
 ghost use Rattle.event_model.specs.World.{IsBeginning};
-ghost use Rattle.event_model.specs.Event.{refuse, stopped, mail, glance, held, sync, begin, keep, adopt, abandon, crash};
+ghost use Rattle.event_model.specs.Event.{refuse, stopped, mail, glance, held, sync, begin, keep, adopt, abandon, crash, AreRootsLeft};
 ghost use Rattle.event_model.specs.Samples.{start, no_attribute, two_accepted, failed_and_crashed, session, MayCome, NeverHappen, text_a, first, second, third, a_from, b_from, b_fails_from};
 
 /// A new database is a beginning.
@@ -64,4 +64,16 @@ pub fn merges_step_by_step()
         (λ after. after.adopted ≡ 1) }
     ensures not_found { MayCome start (a_from first ∷ begin ∷ keep ∷ crash ∷ [])
         (λ after. after.adopted ≡ 0) }
+{}
+
+/// A crash may take roots from the end of the file, and the opening behind it may leave the one
+/// alone that it adopts. No root comes twice, and none is left of which the file had none.
+pub fn roots_after_a_crash()
+    ensures all { AreRootsLeft (1 ∷ 3 ∷ []) 3 (1 ∷ 3 ∷ []) }
+    ensures last_lost { AreRootsLeft (1 ∷ 3 ∷ []) 1 (1 ∷ []) }
+    ensures none { AreRootsLeft (1 ∷ 3 ∷ []) 0 [] }
+    ensures made_room { AreRootsLeft (1 ∷ 3 ∷ []) 3 (3 ∷ []) }
+    ensures not_the_first { AreRootsLeft (1 ∷ 3 ∷ []) 1 (3 ∷ []) → ⊥ }
+    ensures not_twice { AreRootsLeft (1 ∷ []) 1 (1 ∷ 1 ∷ []) → ⊥ }
+    ensures not_another { AreRootsLeft (1 ∷ []) 2 (2 ∷ []) → ⊥ }
 {}

@@ -1,9 +1,7 @@
 //! Factbase: a database of immutable facts.
 #![tactic(auto)]
 
-use fb_core::NoGuard;
 use fb_memory::Memory;
-use fb_preds::shipped;
 use fb_run::run;
 use merge_worker::OpenGate;
 use real_ports::{RealHost, SystemClock};
@@ -15,7 +13,11 @@ use std::process::ExitCode;
 const OUT_OF_MEMORY: u8 = 9;
 
 fn main(rt: HostRuntime) -> ExitCode {
-    let (Ok(words), Ok(preds)) = (words_of(&rt), shipped(rt.alloc())) else {
+    let (Ok(words), Ok(preds), Ok(checks)) = (
+        words_of(&rt),
+        fb_preds::shipped(rt.alloc()),
+        fb_checks::shipped(rt.alloc()),
+    ) else {
         return ExitCode::from(OUT_OF_MEMORY);
     };
     let mut host = RealHost::new(rt);
@@ -27,7 +29,7 @@ fn main(rt: HostRuntime) -> ExitCode {
         &mut host,
         &clock,
         &preds,
-        &NoGuard,
+        &checks,
         &OpenGate,
     );
     if !outcome.line.is_empty() {

@@ -1,6 +1,5 @@
--- Words that differ, and commands with more forms than any word has but those of an index.
-use Rattle.std.proofs.Common.{◌≡◌, ◌≢◌, ℕ, ◌-◌, ◌≤◌, false, List, [], ◌∷◌, length, take, drop, get_or, ap, ◌∙◌, sym, arith, option_and_then}
-use Rattle.std.proofs.Common.{Option}
+-- Words that differ, and commands with more forms than their words have.
+use Rattle.std.proofs.Common.{◌≡◌, ◌≢◌, ℕ, ◌-◌, ◌≤◌, false, List, [], ◌∷◌, length, take, drop, get_or, refl, ap, ◌∙◌, sym, arith, None}
 use Rattle.std.specs.Prelude.{bytes_eq}
 use Rattle.std.proofs.lemmas.Bool.{false_from_ne_true}
 use Rattle.std.proofs.lemmas.List.{take_all, length-drop}
@@ -15,24 +14,25 @@ differs one word differ = false_from_ne_true (bytes_eq one word) (λ same. diffe
 
 -- what a word begins before four forms or more
 many_forms : (word : List ℕ) (xs : List Edn) (x : Edn) → 4 ≤ length xs → x ≡ get_or xs 0 x
-    → option_and_then (λ (command : Option model.Command). command)
-    (model.beside word (model.of_an_index (form_of x) (forms_of (drop 1 xs))))
-    ≡ option_and_then (λ (command : Option model.Command). command) (model.beside word (model.before (forms_of xs)))
+    → model.named word (model.of_an_index (form_of x) (forms_of (drop 1 xs))) ≡ model.look_named word (forms_of xs)
 many_forms word [] x many is = absurd (omega arith)
 many_forms word (a ∷ []) x many is = absurd (omega arith)
 many_forms word (a ∷ b ∷ []) x many is = absurd (omega arith)
 many_forms word (a ∷ b ∷ c ∷ []) x many is = absurd (omega arith)
 many_forms word (a ∷ b ∷ c ∷ d ∷ more) x many is =
-    ap (λ (e : Edn). option_and_then (λ (command : Option model.Command). command)
-    (model.beside word (model.of_an_index (form_of e) (forms_of (b ∷ c ∷ d ∷ more))))) is
+    ap (λ (e : Edn). model.named word (model.of_an_index (form_of e) (forms_of (b ∷ c ∷ d ∷ more)))) is
 
 -- the same, where what stands behind the first form is a range of them
 pub before_many : (word : List ℕ) (xs : List Edn) (x : Edn) → 4 ≤ length xs → x ≡ get_or xs 0 x
-    → option_and_then (λ (command : Option model.Command). command)
-    (model.beside word (model.of_an_index (form_of x) (forms_of (take (length xs - 1) (drop 1 xs)))))
-    ≡ option_and_then (λ (command : Option model.Command). command) (model.beside word (model.before (forms_of xs)))
+    → model.named word (model.of_an_index (form_of x) (forms_of (take (length xs - 1) (drop 1 xs))))
+    ≡ model.look_named word (forms_of xs)
 before_many word xs x many is =
     let rest : take (length xs - 1) (drop 1 xs) ≡ drop 1 xs = take_all (length xs - 1) (drop 1 xs) (omega (arith, length-drop 1 xs)) in
-    ap (λ (es : List Edn).
-    option_and_then (λ (command : Option model.Command). command) (model.beside word (model.of_an_index (form_of x) (forms_of es)))) rest
-    ∙ many_forms word xs x many is
+    ap (λ (es : List Edn). model.named word (model.of_an_index (form_of x) (forms_of es))) rest ∙ many_forms word xs x many is
+
+-- what is no look begins before two forms at most
+pub three_forms : (word : List ℕ) (xs : List Edn) → 3 ≤ length xs → None ≡ model.named word (model.before (forms_of xs))
+three_forms word [] many = absurd (omega arith)
+three_forms word (a ∷ []) many = absurd (omega arith)
+three_forms word (a ∷ b ∷ []) many = absurd (omega arith)
+three_forms word (a ∷ b ∷ c ∷ more) many = refl

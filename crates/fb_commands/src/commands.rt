@@ -37,6 +37,8 @@ pub enum Turn<'a> {
 #[derive(Clone, Copy)]
 pub enum Read<'a> {
     Look(Look<'a>),
+    /// `[:with [data ..] look]`: a look at what the transactions would make of it.
+    Tried(&'a [Edn], Look<'a>),
     Turn(Turn<'a>),
     /// `[:request-index]`
     RequestIndex,

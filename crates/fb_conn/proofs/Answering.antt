@@ -13,7 +13,7 @@ use Rattle.fb_view.specs.SnapshotModel.{SnapshotModel}
 use Rattle.fb_core.specs.declared.accepting.Draft.{Draft}
 use Rattle.fb_core.specs.Cores.{entry_of}
 use Rattle.fb_desk.specs.declared.answers.Receipt.{Receipt}
-use Rattle.fb_desk.specs.Desks.{GoesOn, IsReceipt, IsNotAccepted, IsLogFault, IsStopped}
+use Rattle.fb_desk.specs.Desks.{GoesOn, IsReceipt, IsNotAccepted, IsLogFault, IsStopped, IsOutOfMemory}
 use Rattle.board_rule.specs.declared.view.Stop.{Stop}
 use Rattle.board_rule.specs.declared.view.Marks.{Marks}
 use Rattle.board_rule.specs.declared.view.Code.{Code}
@@ -25,7 +25,7 @@ use Rattle.board_seats.specs.Turning.{entered, left_seen}
 use Rattle.fb_conn.specs.Homes.{code_of, follows}
 use Rattle.fb_conn.specs.Seats.{at_of, is_own, state_by}
 use Rattle.fb_conn.specs.Turns.{committed, stopped_at, IsReceiptOf}
-use Rattle.fb_conn.proofs.States.{goes_on, untold}
+use Rattle.fb_conn.proofs.States.{goes_on, untold, same_own}
 
 -- what follows in both cases of a result
 pub by_result : {A E C : Type 0} {P : A → Type 0} {Q : Type 0} (r : Result A E) → IfOk r P → OnErr r Q → ((a : A) → P a → C) → (Q → C) → C
@@ -44,6 +44,10 @@ if_ok (Err e) p f = tt
 pub if_err : {A E : Type 0} {P Q : E → Type 0} (r : Result A E) → IfErr r P → ((e : E) → P e → Q e) → IfErr r Q
 if_err (Ok a) p f = tt
 if_err (Err e) p f = f e p
+
+pub on_err : {A E : Type 0} {P Q : Type 0} (r : Result A E) → OnErr r P → (P → Q) → OnErr r Q
+on_err (Ok a) p f = tt
+on_err (Err e) p f = f p
 
 not_both : (p : Stop) (now : Option Stop) → now ≡ Some p → now ≡ None → ⊥
 not_both p now some none = let both = sym some ∙ none in cc both
@@ -93,6 +97,23 @@ module _ (t u : TableId) (v w x : View Code) (ticket : ℕ) (last h : List Entry
       → IsNotAccepted (state_by t v last) (state_by u x new) s
   is_not_accepted = not_accepted marks
 
+  same_teller : x.number ≡ v.number → x.stop ≡ marks.stop → is_own x.number x.stop ≡ is_own v.number v.stop
+  same_teller number stop = (λ i. is_own (number i) (stop i)) ∙ same_own v.number v.stop marks.stop learns.stop learns.own_stop
+
+  pub same_teller_seen : x ≡ left_seen code_of w h marks → is_own x.number x.stop ≡ is_own v.number v.stop
+  same_teller_seen ends =
+      let e = shown marks ends in same_teller (ap (λ (z : View Code). z.number) e) (ap (λ (z : View Code). z.stop) e)
+
+  pub is_out_of_memory : x ≡ left w marks → (new : List Entry) → new ≡ last → IsOutOfMemory (state_by t v last) (state_by u x new)
+  is_out_of_memory ends new is =
+      let e : x ≡ left (entered code_of v ticket h authors marks) marks = ends ∙ ap (λ (z : View Code). left z marks) enters in
+      record {
+        entries = is;
+        commits = ap (λ (z : View Code). z.commits) e;
+        teller = same_teller (ap (λ (z : View Code). z.number) e) (ap (λ (z : View Code). z.stop) e);
+        tally = (λ i. record { glances = (e i).grabs; loads = (e i).loads });
+      }
+
   pub is_stopped : x ≡ left_seen code_of w h marks → (q : Stop) → marks.stop ≡ Some q → q.at ≡ basis h + 1 → (new : List Entry) → new ≡ h
       → (s : SnapshotModel) → s.entries ≡ new
       → IsStopped (state_by t v last) (state_by u x new) q.at s
@@ -111,8 +132,11 @@ module _ (t u : TableId) (v w x : View Code) (ticket : ℕ) (last h : List Entry
 
   -- there was no stop
   module _ (none : marks.stop ≡ None) where
-    pub nobody_told : option_map at_of v.stop ≡ None
-    nobody_told = untold v.stop marks.stop none learns.stop
+    nobody_knows : option_map at_of v.stop ≡ None
+    nobody_knows = untold v.stop marks.stop none learns.stop
+
+    pub still_going : x ≡ left_seen code_of w h marks → option_map at_of x.stop ≡ None
+    still_going ends = ap (λ (z : View Code). option_map at_of z.stop) ends ∙ ap (option_map at_of) none
 
     module _ (draft : Draft) where
       pub goes_on_committed : (n met : ℕ) → x ≡ committed w draft.after.entries n marks met → draft.after.entries ≡ h ++ entry_of draft ∷ []
@@ -144,7 +168,7 @@ module _ (t u : TableId) (v w x : View Code) (ticket : ℕ) (last h : List Entry
             let e : x ≡ committed (entered code_of v ticket h authors marks) draft.after.entries receipt.t marks met =
             ends ∙ ap (λ (z : View Code). committed z draft.after.entries receipt.t marks met) enters in
             record {
-              untold = nobody_told;
+              going = ap (λ (z : View Code). option_map at_of z.stop) e ∙ ap (option_map at_of) none;
               others = learns.seen.0;
               reading = reading;
               may_be = may_be;
@@ -173,7 +197,7 @@ module _ (t u : TableId) (v w x : View Code) (ticket : ℕ) (last h : List Entry
               tempids = draft.tempids.items;
               step_is = ap (λ (l : List Entry). step l asked reading guard) is ∙ decided;
               at_is = next ∙ ap (λ (l : List Entry). basis l + 1) (sym is);
-              untold = nobody_told;
+              untold = nobody_knows;
               stop = ap (option_map at_of) stop;
               teller = ap (is_own x.number) stop ∙ eq-eqb w.number x.number (sym number);
               rest = not_accepted (stopped_at w.number draft) ends new s (entries ∙ sym is);

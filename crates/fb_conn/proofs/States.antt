@@ -1,5 +1,5 @@
 -- What a session knows after a call, by the view of its seat.
-use Rattle.std.proofs.Common.{◌≡◌, ◌⊎◌, inl, inr, ◌∙◌, ℕ, ◌+◌, ◌-◌, ◌<◌, ◌≤◌, List, ◌∷◌, Option, Some, None, refl, sym, ap, subst, arith}
+use Rattle.std.proofs.Common.{◌≡◌, ◌⊎◌, inl, inr, ◌∙◌, ℕ, ◌+◌, ◌-◌, ◌<◌, ◌≤◌, List, ◌∷◌, Option, Some, None, refl, sym, ap, subst, arith, ne_eqb}
 use Rattle.std.specs.Prelude.{option_map}
 use Rattle.atomic_table.specs.Seated.{TableId}
 use Rattle.fb_values.specs.declared.facts.Entry.{Entry}
@@ -62,6 +62,13 @@ as_new t v last h start k seen view same begins = λ i.
 pub untold : (old now : Option Stop) → now ≡ None → ((p : Stop) → old ≡ Some p → now ≡ Some p) → option_map at_of old ≡ None
 untold None now none keeps = refl
 untold (Some p) now none keeps = let told = sym (keeps p refl) ∙ none in absurd (cc told)
+
+-- a turn that names no new stop of the seat's own leaves it whether the seat is the author
+pub same_own : (n : ℕ) (old now : Option Stop) → ((p : Stop) → old ≡ Some p → now ≡ Some p)
+    → ((p : Stop) → now ≡ Some p → n ≡ p.author → old ≡ Some p) → is_own n now ≡ is_own n old
+same_own n (Some p) now keeps own = ap (is_own n) (keeps p refl)
+same_own n None None keeps own = refl
+same_own n None (Some q) keeps own = ne_eqb q.author n (λ same. let none : None ≡ Some q = own q refl (sym same) in cc none)
 
 -- a seat of a session stays one
 pub stays_seat : {L R : Type 0} (conn : Conn L R) (old new : Seat) → IsSeatOf conn old → board_of new.board ≡ board_of old.board

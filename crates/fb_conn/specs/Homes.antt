@@ -1,6 +1,6 @@
 -- The history that the value in slot 0 of the board represents, and when its log goes with it.
 -- This project's own choice.
-use Rattle.std.specs.Prelude.{◌≡◌, ℕ, List, [], ◌∷◌, ◌++◌, length, Option, Some, None, option_map}
+use Rattle.std.specs.Prelude.{◌≡◌, ℕ, List, [], ◌∷◌, ◌++◌, length, Option, Some, None, option_map, IfSome}
 use base.Stored.{Gv}
 use Rattle.fb_values.specs.declared.facts.Entry.{Entry}
 use Rattle.fb_values.specs.contracts.facts.Entry as an_entry
@@ -42,6 +42,11 @@ module _ {L : Type 0} (keeps : L → List Entry → L → Type 0)
       × IsLawfulAfter entries (entry_of draft)
       × broke begun entries (entry_of draft) log)
 
+-- The torn transaction is the stop's author's: beside the authors of the history, it names this one.
+abbrev pub IsTornBy : List ℕ → Option Stop → Option Draft → Type 0
+IsTornBy authors stopped torn =
+    IfSome torn (λ draft. IfSome stopped (λ stop. draft.authors ≡ authors ++ stop.author ∷ []))
+
 module _ {L R : Type 0} where
   abbrev pub marks_of : Home L R → Marks
   marks_of home = marks_by home.stop home.core.snapshot.covered
@@ -50,3 +55,4 @@ module _ {L R : Type 0} where
       → Home L R → Type 0
   IsSoundHome keeps broke home =
       LogStands keeps broke home.begun.value home.core.snapshot.entries home.log home.stop home.torn
+      × IsTornBy home.core.authors home.stop home.torn

@@ -76,6 +76,7 @@ impl<L: Log> Conn<L> {
             × ((view_of m.worker.board).covered ≡ core.snapshot.covered)
             × ((view_of m.worker.board).start ≡ basis core.snapshot.entries)
             × (m.worker.last.entries ≡ core.snapshot.entries)) }
+        ensures unused { IfOk result (λ m. (view_of m.worker.board).draws ≡ 0) }
         ensures begun { IfOk result
             (λ m. begun_of m.conn ≡ log) }
     {

@@ -23,6 +23,9 @@ impl<L: Log> Conn<L> {
         ensures snapshot { IfOk result (λ snapshot. (snapshot ≡ seat.new.last)
             × StartsWith snapshot.entries seat.old.last.entries
             × (snapshot.covered ≡ (view_of seat.new.board).covered)) }
+        // It is what there was in the worker's turn.
+        ensures latest { OnOk result
+            ((view_of seat.new.board).loads ≡ (view_of seat.old.board).loads + 1) }
         ensures unchanged { OnErr result (seat.new.last ≡ seat.old.last) }
     {
         let held = enter(&self.board, rt, &mut seat.board);

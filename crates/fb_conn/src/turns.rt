@@ -2,7 +2,7 @@
 ghost use Rattle.std.specs.Prelude.{◌≡◌, ◌<◌, IfOk, IfErr, OnOk, OnErr};
 ghost use Rattle.edn_form.specs.View.{form_of};
 ghost use Rattle.fb_core.specs.Cores.{CoreStands};
-ghost use Rattle.fb_desk.specs.Desks.{GoesOn, IsReceipt, IsFault, loaded};
+ghost use Rattle.fb_desk.specs.Desks.{GoesOn, IsReceipt, IsFault, IsOutOfMemory, loaded};
 ghost use Rattle.board_rule.specs.Calls.{view_of, board_of};
 ghost use Rattle.board_turn.specs.Turn.{left};
 ghost use Rattle.board_seats.specs.Turning.{left_seen};
@@ -62,11 +62,12 @@ impl<L: Log> Conn<L> {
         ensures seat { IsSeatOf self.now seat.new }
         ensures goes_on { GoesOn (state_of seat.old) (state_of seat.new) }
         ensures commits { (state_of seat.new).commits ≡ (state_of seat.old).commits }
+        ensures teller { (state_of seat.new).teller ≡ (state_of seat.old).teller }
         ensures tally { OnOk result
             ((state_of seat.new).tally ≡ loaded (state_of seat.old).tally) }
-        ensures untold { OnErr result ((state_of seat.new).tally ≡ (state_of seat.old).tally) }
         ensures sees { IfOk result
             (λ snapshot. snapshot.entries ≡ (state_of seat.new).entries) }
+        ensures fault { OnErr result (IsOutOfMemory (state_of seat.old) (state_of seat.new)) }
         ensures unchanged { OnErr result (seat.new.last ≡ seat.old.last) }
     {
         let held = enter(&self.board, rt, &mut seat.board);

@@ -43,16 +43,16 @@ impl Core {
     ghost use Rattle.fb_core.specs.Cores.{CoreStands, live_datoms};
 
     /// The core of a database that has this value as it opens. Nobody has written since.
-    pub fn of(alloc: Global, snapshot: Snapshot) -> Result<Core, Memory>
-        ensures { IfOk result (λ core. core ≡ record { snapshot = snapshot; authors = [] }) }
+    pub fn of(alloc: Global, snapshot: Snapshot) -> Core
+        ensures { result ≡ record { snapshot = snapshot; authors = [] } }
     {
         // This call brings into the proof that the snapshot represents its history.
         let _basis = snapshot.basis();
-        let authors = Authors::new(alloc)?;
-        Ok(Core {
+        let authors = Authors::new(alloc);
+        Core {
             alloc,
             parts: CoreParts { snapshot, authors },
-        })
+        }
     }
 
     /// The core of a history that was read, with trees of its entries up to `c`.
@@ -65,7 +65,7 @@ impl Core {
         ensures authors { IfOk result (λ core. core.authors ≡ []) }
         ensures stands { IfOk result (λ core. CoreStands core) }
     {
-        Core::of(alloc, Snapshot::opened(alloc, entries, roots, c)?)
+        Ok(Core::of(alloc, Snapshot::opened(alloc, entries, roots, c)?))
     }
 
     /// The latest value of the database.

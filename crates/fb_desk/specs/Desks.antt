@@ -27,7 +27,8 @@ pub record State : Type 0 where
   pub opening : ℕ
   -- the t of each transaction that was accepted through it
   pub commits : List ℕ
-  -- the t that the log did not take, once the desk was notified of one, and whether it was this desk's transaction
+  -- the t that the log did not take, once a turn of the desk's own found that the log had stopped, or stopped it, and whether that was
+  -- at this desk's transaction
   pub stop : Option ℕ
   pub teller : Bool
   pub tally : Tally
@@ -58,8 +59,8 @@ glanced tally = record tally { glances = tally.glances + 1 }
 abbrev pub loaded : Tally → Tally
 loaded tally = record tally { loads = tally.loads + 1 }
 
--- The desk has seen all that was seen before, since the same opening, and what it has seen stays lawful. Once it was notified of a
--- log that has stopped, that stays so.
+-- The desk has seen all that was seen before, since the same opening, and what it has seen stays lawful. Once it has found that the
+-- log had stopped, that stays so.
 pub record WentOn (old new : State) : Type 0 where
   pub more : List Entry
   pub entries : new.entries ≡ old.entries ++ more
@@ -73,11 +74,11 @@ pub record GoesOn (old new : State) : Type 0 where
   pub went_on : WentOn old new
   pub left : old.left ≤ new.left + 1
 
--- The desk was notified of no stop. The transaction is the last of the history that is seen now: its entry is what the step gives
--- after the entries before it, which have all that was seen, at a number that the clock may read.
+-- The log had not stopped. The transaction is the last of the history that is seen now: its entry is what the step gives after the
+-- entries before it, which have all that was seen, at a number that the clock may read.
 pub record IsReceipt (may : ℤ → Type 0) (guard : Guard) (asked : Form) (old new : State)
     (receipt : Receipt) : Type 0 where
-  pub untold : old.stop ≡ None
+  pub going : new.stop ≡ None
   pub others : List Entry
   pub reading : ℤ
   pub may_be : may reading
@@ -97,15 +98,14 @@ pub record IsNotAccepted (old new : State) (snapshot : SnapshotModel) : Type 0 w
   pub tally : new.tally ≡ loaded old.tally
   pub snapshot_is : snapshot.entries ≡ new.entries
 
--- the desk was notified of no stop, and it is refused at the history that is seen now, whatever the clock reads
+-- the log had not stopped, and the transaction is refused at the history that is seen now, whatever the clock reads
 pub record IsRefusal (guard : Guard) (asked : Form) (old new : State) (refusal : Refusal)
     (snapshot : SnapshotModel) : Type 0 where
-  pub untold : old.stop ≡ None
+  pub going : new.stop ≡ None
   pub step_is : (reading : ℤ) → step new.entries asked reading guard ≡ refused refusal
   pub rest : IsNotAccepted old new snapshot
 
--- the transaction is accepted at the history that is seen now, and the log did not take its entry, of which the desk is notified for
--- the first time
+-- the log had not stopped; the transaction is accepted at the history that is seen now, and the log did not take its entry
 pub record IsLogFault (may : ℤ → Type 0) (guard : Guard) (asked : Form) (old new : State) (at : ℕ)
     (snapshot : SnapshotModel) : Type 0 where
   pub reading : ℤ
@@ -119,16 +119,18 @@ pub record IsLogFault (may : ℤ → Type 0) (guard : Guard) (asked : Form) (old
   pub teller : new.teller ≡ true
   pub rest : IsNotAccepted old new snapshot
 
--- the log had stopped; it was another desk's transaction, unless this desk was notified of it before
+-- the log had stopped, at another desk's transaction unless this desk knew of it before
 pub record IsStopped (old new : State) (at : ℕ) (snapshot : SnapshotModel) : Type 0 where
   pub at_is : at ≡ basis new.entries + 1
   pub stop : new.stop ≡ Some at
   pub teller : (old.stop ≡ None) → new.teller ≡ false
   pub rest : IsNotAccepted old new snapshot
 
--- memory ran out, and nothing was accepted
+-- memory ran out: nothing was accepted, the log did not stop at this desk's transaction, and no more was seen
 pub record IsOutOfMemory (old new : State) : Type 0 where
+  pub entries : new.entries ≡ old.entries
   pub commits : new.commits ≡ old.commits
+  pub teller : new.teller ≡ old.teller
   pub tally : new.tally ≡ old.tally
 
 abbrev pub IsFault : (ℤ → Type 0) → Guard → Form → State → State → TxFault → Type 0

@@ -2,7 +2,7 @@
 ghost use denote.Param.Send.{IsSync};
 ghost use Rattle.std.specs.Prelude.{ℕ, List, ◌≡◌, ◌<◌, IfOk, IfErr, OnOk, OnErr};
 ghost use Rattle.edn_form.specs.View.{form_of};
-ghost use Rattle.fb_desk.specs.Desks.{State, GoesOn, IsReceipt, IsFault, glanced, loaded, snapshot_of};
+ghost use Rattle.fb_desk.specs.Desks.{State, GoesOn, IsReceipt, IsFault, IsOutOfMemory, glanced, loaded, snapshot_of};
 
 use crate::answers::{Glance, Receipt, TxFault};
 use edn_form::Edn;
@@ -66,9 +66,10 @@ pub trait Desk: Drop {
         requires { 0 < (state self.old).left }
         ensures goes_on { GoesOn (state self.old) (state self.new) }
         ensures commits { (state self.new).commits ≡ (state self.old).commits }
+        ensures teller { (state self.new).teller ≡ (state self.old).teller }
         ensures tally { OnOk result ((state self.new).tally ≡ loaded (state self.old).tally) }
-        ensures untold { OnErr result ((state self.new).tally ≡ (state self.old).tally) }
-        ensures sees { IfOk result (λ snapshot. snapshot.entries ≡ (state self.new).entries) };
+        ensures sees { IfOk result (λ snapshot. snapshot.entries ≡ (state self.new).entries) }
+        ensures fault { OnErr result (IsOutOfMemory (state self.old) (state self.new)) };
 
     /// Asks for a merge of the indexes, which changes nothing that the database says.
     fn ring<R: Threads + Wait + Sync>(&mut self, rt: &R) -> Result<(), Memory>

@@ -9,38 +9,49 @@ use std::marker::Model;
 /// The sessions that wrote the entries from t = 1 on, in their order.
 #[derive(Drop)]
 pub struct Authors {
-    sessions: ChunkList<u32>,
+    alloc: Global,
+    /// None while nobody has written, so that an empty list takes no memory.
+    sessions: Option<ChunkList<u32>>,
 }
 
 impl Model for Authors {
-    ghost use Rattle.std.specs.Prelude.{ℕ, List, length, ◌<◌, ◌^◌};
+    ghost use Rattle.std.specs.Prelude.{ℕ, List, [], length, ◌<◌, ◌^◌, unwrap_or};
 
     ghost Value = { List ℕ };
 
-    ghost view = { λ a. a.sessions };
+    ghost view = { λ a. unwrap_or a.sessions [] };
 
-    ghost invariant = { λ a. length a.sessions < 2 ^ 32 };
+    ghost invariant = { λ a. length (unwrap_or a.sessions []) < 2 ^ 32 };
 }
 
 impl Authors {
-    pub fn new(alloc: Global) -> Result<Authors, Memory>
-        ensures { IfOk result (λ a. a ≡ []) }
+    /// Nobody. It takes no memory.
+    pub fn new(alloc: Global) -> Authors
+        ensures { result ≡ [] }
     {
-        let sessions = ChunkList::new(alloc)?;
-        Ok(Authors { sessions })
+        Authors {
+            alloc,
+            sessions: None,
+        }
     }
 
     pub fn len(&self) -> u32
         ensures { result ≡ length self.now }
     {
-        self.sessions.len() as u32
+        match &self.sessions {
+            Some(sessions) => sessions.len() as u32,
+            None => 0,
+        }
     }
 
     pub fn at(&self, place: u32) -> u32
         requires { place < length self.now }
         ensures { slice_get self.now place ≡ Some result }
     {
-        *self.sessions.at(place as usize)
+        match &self.sessions {
+            Some(sessions) => *sessions.at(place as usize),
+            None => unreachable!(),
+        }
     }
 
     /// The list with one more author at its end.
@@ -48,15 +59,27 @@ impl Authors {
         requires { length self.now < 2 ^ 32 - 1 }
         ensures { IfOk result (λ a. a ≡ self.now ++ author ∷ []) }
     {
-        let sessions = self.sessions.with(author)?;
-        Ok(Authors { sessions })
+        let sessions = match &self.sessions {
+            Some(sessions) => sessions.with(author)?,
+            None => ChunkList::new(self.alloc)?.with(author)?,
+        };
+        Ok(Authors {
+            alloc: self.alloc,
+            sessions: Some(sessions),
+        })
     }
 
     /// The same list, at the cost of a few reference counts.
     pub fn share(&self) -> Result<Authors, Memory>
         ensures { IfOk result (λ a. a ≡ self.now) }
     {
-        let sessions = self.sessions.share()?;
-        Ok(Authors { sessions })
+        let sessions = match &self.sessions {
+            Some(sessions) => Some(sessions.share()?),
+            None => None,
+        };
+        Ok(Authors {
+            alloc: self.alloc,
+            sessions,
+        })
     }
 }

@@ -3,3 +3,4 @@ pub mod Scanned
 pub mod Naming
 pub mod Answered
 pub mod Pulled
+pub mod Trying

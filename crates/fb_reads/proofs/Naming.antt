@@ -11,7 +11,7 @@ use Rattle.fb_preds.specs.Naming.{IsFound, AreFound, with_place}
 use Rattle.talk_model.specs.Session.{with_name}
 use Rattle.talk_model.specs.Replies.{done_reply, IsLineOf}
 use Rattle.read_refusals.specs.declared.reasons.Refusal.{Refusal}
-use Rattle.talk_model.specs.Reads.{refused}
+use Rattle.talk_model.specs.Looks.{refused}
 use Rattle.fb_reads.specs.Answers.{no_filter}
 
 pub unnamed : {T E : Type 0} (r : Result T E) (o : Option ℕ) (basis n : ℕ) (refusal : Refusal) (line : List ℕ) → o ≡ None → n ≡ basis

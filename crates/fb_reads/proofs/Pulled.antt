@@ -12,7 +12,7 @@ use Rattle.read_model.specs.Names.{IsEntityOf}
 use Rattle.pull_model.specs.Patterns.{Pattern}
 use Rattle.pull_model.specs.Pull.{IsPulled}
 use Rattle.talk_model.specs.Replies.{pull_reply, IsLineOf}
-use Rattle.talk_model.specs.Reads.{refused, pull_shown, HasTree, HasPull}
+use Rattle.talk_model.specs.Looks.{refused, pull_shown, HasTree, HasPull}
 use Rattle.fb_reads.specs.Answers.{IsLineFor}
 
 module _ (h : List Entry) (w : Window) (Selects : Datom → Type 0) (line : List ℕ) where

@@ -16,7 +16,8 @@ use Rattle.view_model.specs.Scan.{Range, between, IsScan, transactions}
 use Rattle.read_refusals.specs.declared.reasons.Refusal.{Refusal}
 use Rattle.read_model.specs.Components.{AreComponents, IsIndexRange}
 use Rattle.talk_model.specs.Replies.{datoms_reply, transactions_reply, done_reply, IsLineOf}
-use Rattle.talk_model.specs.Reads.{Shows, done_at, HasDatomsAt, HasDatomsBetween, HasTransactions, refused}
+use Rattle.talk_model.specs.Looks.{Shows, HasDatomsAt, HasDatomsBetween, HasTransactions, refused}
+use Rattle.talk_model.specs.Reads.{done_at}
 use Rattle.fb_names.specs.declared.stops.NameStop.{NameStop}
 use Rattle.fb_names.specs.declared.stops.NameStop.TheVariants.{Refused, Memory}
 use Rattle.fb_names.specs.declared.ranges.ValueRange.{ValueRange}

@@ -9,7 +9,8 @@ use Rattle.read_refusals.specs.declared.reasons.Reason.TheVariants.{NoFilter}
 use Rattle.read_refusals.specs.declared.reasons.Refusal.{Refusal}
 use Rattle.read_model.specs.Given.{refusal}
 use Rattle.talk_model.specs.Replies.{IsLineOf}
-use Rattle.talk_model.specs.Reads.{refused}
+use Rattle.tx_model.specs.Step.{Guard}
+use Rattle.talk_model.specs.Looks.{refused}
 use Rattle.talk_model.specs.Session.{Standing, Sight, SelectedBy}
 use Rattle.fb_preds.specs.Naming.{selected_by}
 use Rattle.fb_names.specs.declared.stops.NameStop.{NameStop}
@@ -20,16 +21,16 @@ abbrev pub IsLineFor : (Form → Type 0) → List ℕ → Type 0
 IsLineFor IsAnswer line = (reply : Form) × IsAnswer reply × IsLineOf reply line
 
 -- what a read has of a view whose filters are at these places of a table
-abbrev pub sight_in : (List ℕ → Option ℕ) → (ℕ → List ℕ) → (ℕ → Datom → Type 0) → List Entry
-    → Window
-    → List ℕ → Sight
-sight_in place_of name_at SelectsAt h w places =
+abbrev pub sight_in : (List ℕ → Option ℕ) → (ℕ → List ℕ) → (ℕ → Datom → Type 0) → Guard
+    → List Entry → Window → List ℕ → Sight
+sight_in place_of name_at SelectsAt guard h w places =
     record {
       history = h;
       window = w;
       filters = map name_at places;
       Selects = SelectedBy (selected_by place_of SelectsAt) (map name_at places);
       is_filter = λ name. is_some (place_of name);
+      guard = guard;
     }
 
 -- the line is that of the refusal; running out of memory has no line

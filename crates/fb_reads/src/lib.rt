@@ -6,6 +6,7 @@ mod lines;
 mod pulls;
 mod reads;
 mod scans;
+mod tries;
 mod views;
 
 pub use reads::answer_read;

@@ -2,7 +2,7 @@
 ghost use Rattle.std.specs.Prelude.{OnOk};
 ghost use Rattle.read_model.specs.Components.{no_command};
 ghost use Rattle.talk_model.specs.Replies.{IsLineOf};
-ghost use Rattle.talk_model.specs.Reads.{refused};
+ghost use Rattle.talk_model.specs.Looks.{refused};
 ghost use Rattle.fb_reads.specs.Answers.{IsRefused};
 
 use fb_memory::Memory;

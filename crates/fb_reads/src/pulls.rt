@@ -6,7 +6,7 @@ ghost use Rattle.fb_db.specs.Seen.{window_of};
 ghost use Rattle.read_model.specs.Given.{refusal};
 ghost use Rattle.pull_model.specs.Reading as model;
 ghost use Rattle.pull_pattern.specs.View.{model_pattern};
-ghost use Rattle.talk_model.specs.Reads.{refused, HasTree, HasPull};
+ghost use Rattle.talk_model.specs.Looks.{refused, HasTree, HasPull};
 ghost use Rattle.talk_model.specs.Replies.{IsLineOf};
 ghost use Rattle.fb_reads.specs.Answers.{IsLineFor};
 

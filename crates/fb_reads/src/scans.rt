@@ -8,7 +8,7 @@ ghost use Rattle.view_model.specs.Scan.{Range, IsScan, leading, not_below, trans
 ghost use Rattle.fb_db.specs.Seen.{window_of};
 ghost use Rattle.read_model.specs.Points.{log_range as model_log_range};
 ghost use Rattle.talk_model.specs.Replies.{datoms_reply, transactions_reply, IsLineOf};
-ghost use Rattle.talk_model.specs.Reads.{Shows, HasDatomsAt, HasDatomsBetween, HasTransactions};
+ghost use Rattle.talk_model.specs.Looks.{Shows, HasDatomsAt, HasDatomsBetween, HasTransactions};
 ghost use Rattle.fb_reads.specs.Answers.{IsLineFor};
 
 use crate::lines::{refuse, refuse_stop};

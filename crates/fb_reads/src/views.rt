@@ -7,7 +7,8 @@ ghost use Rattle.view_model.specs.Window as window;
 ghost use Rattle.fb_db.specs.Seen.{window_of};
 ghost use Rattle.read_model.specs.Points.{point_in};
 ghost use Rattle.talk_model.specs.Replies.{done_reply, IsLineOf};
-ghost use Rattle.talk_model.specs.Reads.{done_at, refused};
+ghost use Rattle.talk_model.specs.Looks.{refused};
+ghost use Rattle.talk_model.specs.Reads.{done_at};
 ghost use Rattle.talk_model.specs.Session.{with_name};
 ghost use Rattle.fb_reads.specs.Answers.{narrowed, no_filter as model_no_filter};
 

@@ -1,8 +1,13 @@
 -- The trees that a history is opened with: those of the newest root that it agrees with, or of its first entry.
-use Rattle.std.proofs.Common.{◌≡◌, ◌∙◌, ◌⊎◌, ◌≤◌, ◌*◌, ◌^◌, inl, inr, ⊎_elim, ℕ, List, [], ◌∷◌, Option, Some, Result, Ok, Err, length, map}
+use Rattle.std.proofs.Common.{◌≡◌, ◌∙◌, ◌⊎◌, ◌≤◌, ◌*◌, ◌^◌, inl, inr, ⊎_elim, ℕ, Bool, true, false, List, [], ◌∷◌, Option, Some, Result, Ok, Err, length, map, nat_lt}
 use Rattle.std.proofs.Common.{refl, sym, ap, subst, arith}
-use Rattle.std.specs.Prelude.{Contains, IsTrue, IfOk}
-use Rattle.std.proofs.lemmas.Bool.{eqb-true}
+use Rattle.std.specs.Prelude.{Contains, IsTrue, IfOk, nat_eq}
+use Rattle.std.specs.Cmp.{IsEquivalence}
+use Rattle.std.specs.List.{IsDistinct}
+use Rattle.std.proofs.lemmas.Bool.{eqb-true, eq-eqb, ne_eqb, ltb-true, ltb-false}
+use Rattle.std.proofs.lemmas.Map.Made.{length-le_from_is_member}
+use mathlib.Core.Logic.{dite}
+use native.Mathlib.Decide.{ℕ_discrete}
 use Rattle.std.proofs.lemmas.List.{nil_from_length}
 use Rattle.std.proofs.lemmas.List.Elements.{All-contains}
 use Rattle.fb_values.specs.declared.facts.Entry.{Entry}
@@ -10,26 +15,29 @@ use Rattle.fb_model.specs.FirstEntry.{first_entry}
 use Rattle.fb_model.specs.Lawful.{IsLawful}
 use Rattle.disk_model.specs.Disk.{IfKnown}
 use Rattle.view_model.specs.Stands.{RootStands}
-use Rattle.log_model.specs.Nodes.{Roots as FileRoots}
+use Rattle.log_model.specs.Nodes.{Nodes, Roots as FileRoots, ids_in}
 use Rattle.log_model.specs.Kept.{KeptRoot, FileKeeps, NoneAgrees, kept_roots, nodes_of, are_good}
 use Rattle.log_model.proofs.KeptRoots.{one_keeping}
 use Rattle.fb_journal.specs.Journals.{StaysKnown}
 use Rattle.seg_tree.specs.Ids.{next_above}
 use Rattle.seg_tree.specs.Indexes.{root_ids, trees_of}
-use Rattle.seg_codec.specs.Trees.{AreTreesOf, Fits}
+use Rattle.seg_codec.specs.Trees.{AreTreesOf, AreIdsOf, Fits}
 use Rattle.seg_codec.proofs.Among.{mapped_member}
 use Rattle.seg_store.specs.declared.loads.KeptTrees.{KeptTrees}
 use Rattle.seg_store.specs.declared.loads.Loaded.{Loaded}
-use Rattle.seg_store.specs.Stores.{disk_in, node_count, StoreKeeps}
+use Rattle.seg_store.specs.declared.stores.SegStore.{SegStore}
+use Rattle.seg_tree.specs.declared.roots.Roots.{Roots}
+use Rattle.seg_store.specs.Stores.{disk_in, next_in, node_count, StoreKeeps}
 use Rattle.seg_store.specs.Keeping.{FitsStore}
 use Rattle.seg_store.specs.Loads.{kept_of, IsLoaded}
 use Rattle.seg_store.proofs.Fitting.{fits_none}
 use Rattle.seg_store.proofs.NodeCounts.{no_ids}
 use Rattle.seg_agree.specs.Newest.{IsNewest}
-use Rattle.fb_recover.specs.Openings.{AreNumberedFromOne, HasFault, HasRoot}
+use Rattle.fb_recover.specs.Openings.{AreNumberedFromOne, AgreesWithNone, HasFault, HasRoot, HasRecordsOf, IsMostlyDead}
 use Rattle.fb_recover.specs.Basing.{IsBased}
 use Rattle.fb_recover.specs.declared.basing.Based.{Based}
 use Rattle.fb_recover.proofs.Greatness.{great_there}
+use Rattle.fb_recover.proofs.Numbers.{below_known}
 use Rattle.fb_recover.proofs.Trees.{first-stands}
 
 pub IfOk-both : {T E : Type 0} (r : Result T E) (P Q : T → Type 0) → IfOk r P → IfOk r Q → IfOk r (λ x. P x × Q x)
@@ -43,6 +51,22 @@ no_root_no_record : (records : List (List ℕ)) → kept_roots records ≡ [] �
 no_root_no_record records none good =
     let same : length (kept_roots records) ≡ length records = eqb-true (length (kept_roots records)) (length records) good in
     nil_from_length records (sym same ∙ ap length none)
+
+same_test : (a b : ℕ) → nat_eq a b ≡ nat_eq b a
+same_test a b =
+    dite (ℕ_discrete a b) (λ e. eq-eqb a b e ∙ sym (eq-eqb b a (sym e))) (λ ne. ne_eqb a b ne ∙ sym (ne_eqb b a (λ e. ne (sym e))))
+
+equal_numbers : IsEquivalence nat_eq
+equal_numbers = record {
+  refl = λ n. eq-eqb n n refl;
+  symm = same_test;
+  congr = λ a b c same. ap (λ n. nat_eq n c) (eqb-true a b same);
+}
+
+-- a file has no fewer nodes than ids of it are known
+known_nodes : (ids : List ℕ) (nodes : Nodes) → IsDistinct nat_eq ids → AreIdsOf ids nodes → length ids ≤ length (ids_in nodes)
+known_nodes ids nodes distinct are =
+    length-le_from_is_member equal_numbers ids (ids_in nodes) distinct (λ id member. sym (are id) ∙ member)
 
 module _ {D : Type 0} {g : _} (bytes : D → Option (List ℕ)) (images : D → List ℕ → Type 0) (told : Option (List ℕ)) (h : List Entry) where
   -- a store that keeps no root has no record
@@ -78,16 +102,71 @@ module _ {D : Type 0} {g : _} (bytes : D → Option (List ℕ)) (images : D → 
       (λ anew. inl (is.read, is.file file was, anew.1 file was))
       is.goes_on
 
+  -- new nodes get numbers above those of a root that was loaded, unless the file that was loaded has a fault
+  below_loaded : (loaded : Loaded D g) (ids : FileRoots) (roots : Roots) (is : IsLoaded bytes images told loaded)
+      → AreTreesOf (nodes_of is.read) ids roots
+      → IfKnown told (λ file. HasFault file ⊎ (next_above (root_ids roots) ≤ next_in loaded.store))
+  below_loaded loaded ids roots is there file was = ⊎_elim
+      (λ same.
+      let known = subst (λ (r : List (List ℕ)). AreIdsOf loaded.store.ids (nodes_of r)) same is.store.ids in
+      inr (below_known loaded.store.ids (nodes_of is.read) ids roots known there))
+      (λ anew. inl (is.read, is.file file was, anew.1 file was))
+      is.goes_on
+
+  -- a store that was loaded has the records of its file, or none
+  room_loaded : (loaded : Loaded D g) (store : SegStore D g) (n : ℕ) → IsLoaded bytes images told loaded
+      → (node_count store ≤ n) ⊎ (store ≡ loaded.store)
+      → (node_count store ≤ n) ⊎ IfKnown told (HasRecordsOf bytes images store)
+  room_loaded loaded store n is (inl few) = inl few
+  room_loaded loaded store n is (inr same) =
+      subst (λ (s : SegStore D g). (node_count s ≤ n) ⊎ IfKnown told (HasRecordsOf bytes images s)) (sym same)
+      (⊎_elim
+      (λ read. inr (λ file was.
+      (is.read, is.file file was, subst (λ (r : List (List ℕ)). StoreKeeps bytes images r loaded.store) read is.store)))
+      (λ anew.
+      let empty = subst (λ (r : List (List ℕ)). StoreKeeps bytes images r loaded.store) anew.0 is.store in
+      inl (omega (arith, ap length (no_ids loaded.store.ids empty.ids))))
+      is.goes_on)
+
+  -- it stays as it is, unless its file is mostly dead
+  still_loaded : (loaded : Loaded D g) (roots : Roots) (store : SegStore D g) → IsLoaded bytes images told loaded
+      → IsDistinct nat_eq loaded.store.ids
+      → (node_count loaded.store ≤ 2 * length (root_ids roots) → store ≡ loaded.store)
+      → IfKnown told (λ file. HasFault file ⊎ AgreesWithNone h file ⊎ IsMostlyDead roots file ⊎ HasRecordsOf bytes images store file)
+  still_loaded loaded roots store is distinct stays file was =
+      let n = 2 * length (root_ids roots) in
+      ⊎_elim
+      (λ read.
+      let keeps = subst (λ (r : List (List ℕ)). StoreKeeps bytes images r loaded.store) read is.store in
+      let nodes = known_nodes loaded.store.ids (nodes_of is.read) distinct keeps.ids in
+      let go : (b : Bool) → nat_lt n (node_count loaded.store) ≡ b
+      → HasFault file ⊎ AgreesWithNone h file ⊎ IsMostlyDead roots file ⊎ HasRecordsOf bytes images store file =
+      elim [
+        | true ↦ λ test. inr (inr (inl (is.read, is.file file was, omega (arith, ltb-true n (node_count loaded.store) test, nodes))))
+        | false ↦ λ test. inr (inr (inr (
+          is.read,
+          is.file file was,
+          subst (λ (s : SegStore D g). StoreKeeps bytes images is.read s)
+              (sym (stays (ltb-false n (node_count loaded.store) test))) keeps,
+        )))
+      ] in
+      go (nat_lt n (node_count loaded.store)) refl)
+      (λ anew. inl (is.read, is.file file was, anew.1 file was))
+      is.goes_on
+
   -- the newest root that the history agrees with
   pub based_found : (loaded : Loaded D g) (trees : KeptTrees) (based : Based D g) → IsLoaded bytes images told loaded
       → IfKnown told (λ file. FileKeeps file (map kept_of loaded.kept.items))
       → IsNewest h loaded.kept.items (Some trees)
       → based.trees ≡ trees → FitsStore bytes images based.store trees.roots
       → (HasRoot bytes images loaded.store (kept_of trees) → HasRoot bytes images based.store (kept_of trees))
-      → node_count based.store ≤ 2 * length (root_ids trees.roots)
+      → (next_above (root_ids trees.roots) ≤ next_in loaded.store → next_above (root_ids trees.roots) ≤ next_in based.store)
+      → (node_count based.store ≤ 2 * length (root_ids trees.roots)) ⊎ (based.store ≡ loaded.store)
+      → (node_count loaded.store ≤ 2 * length (root_ids trees.roots) → based.store ≡ loaded.store)
+      → IsDistinct nat_eq loaded.store.ids
       → StaysKnown told (bytes (disk_in based.store))
       → IsBased bytes images told h based
-  based_found loaded trees based is keeps newest same fits goes_on room stays =
+  based_found loaded trees based is keeps newest same fits goes_on higher room still distinct stays =
       let member = newest.0 in
       let root = newest.1 in
       let there = All-contains (λ (k : KeptTrees). (ids : FileRoots) × AreTreesOf (nodes_of is.read) ids k.roots) loaded.kept.items trees
@@ -98,7 +177,11 @@ module _ {D : Type 0} {g : _} (bytes : D → Option (List ℕ)) (images : D → 
         fits = fits;
         root = λ file was.
             ⊎_elim (λ faulty. inl faulty) (λ has. inr (inr (goes_on has))) (root_loaded loaded trees is member file was);
-        room = room;
+        below = λ file was.
+            ⊎_elim (λ faulty. inl faulty) (λ under. inr (inr (higher under)))
+            (below_loaded loaded there.0 trees.roots is there.1 file was);
+        room = room_loaded loaded based.store (2 * length (root_ids trees.roots)) is room;
+        still = still_loaded loaded trees.roots based.store is distinct still;
         ids = inr (is.read, is.file, there.0, there.1);
         great = λ file was above. (is.read, is.file file was, great_there (nodes_of is.read) there.0 trees.roots there.1 above);
         anew = λ file was none.
@@ -123,7 +206,9 @@ module _ {D : Type 0} {g : _} (bytes : D → Option (List ℕ)) (images : D → 
     coverage = λ file was. (map kept_of loaded.kept.items, keeps file was, inr (none, stands.1));
     fits = record { records = []; keeps = empty; fits = fits_none based.trees.roots };
     root = λ file was. inr (inl (map kept_of loaded.kept.items, keeps file was, none));
-    room = omega (arith, ap length (no_ids based.store.ids empty.ids));
+    below = λ file was. inr (inl (map kept_of loaded.kept.items, keeps file was, none));
+    room = inl (omega (arith, ap length (no_ids based.store.ids empty.ids)));
+    still = λ file was. inr (inl (map kept_of loaded.kept.items, keeps file was, none));
     ids = inl ids;
     great = λ file was above. absurd (omega (arith, above, few));
     anew = λ file was agrees. (ids, empty);

@@ -1,11 +1,11 @@
 -- The log's disk after an opening,
 -- and what the trees and the store are that a database is opened with.
 -- This project's own choice.
-use Rattle.std.specs.Prelude.{◌≡◌, ℕ, List, length, Option, Result, Ok, Err, Contains}
+use Rattle.std.specs.Prelude.{◌≡◌, ◌<◌, ◌*◌, ℕ, List, length, Option, Result, Ok, Err, Contains}
 use Rattle.std.specs.List.{range_with_len}
 use Rattle.fb_values.specs.declared.facts.Entry.{Entry}
 use Rattle.disk_model.specs.Disk.{IfKnown}
-use Rattle.log_model.specs.Nodes.{Roots as FileRoots}
+use Rattle.log_model.specs.Nodes.{Roots as FileRoots, ids_in}
 use Rattle.log_model.specs.Kept.{KeptRoot, FileKeeps, NoneAgrees, IsCoverage, kept_roots, nodes_of}
 use Rattle.seg_tree.specs.Indexes.{root_ids}
 use Rattle.seg_tree.specs.declared.roots.Roots.{Roots}
@@ -52,3 +52,16 @@ HasRoot bytes images store root =
     (records : List (List ℕ))
     × StoreKeeps bytes images records store
     × Contains (kept_roots records) root
+
+-- the store goes on, and its file has the records of this one
+abbrev pub HasRecordsOf : {D : Type 0} {g : _} → (D → Option (List ℕ)) → (D → List ℕ → Type 0)
+    → SegStore D g → List ℕ → Type 0
+HasRecordsOf bytes images store file =
+    (records : List (List ℕ)) × AreRecordsOf records file × StoreKeeps bytes images records store
+
+-- the file has more than two nodes for each node of these trees
+abbrev pub IsMostlyDead : Roots → List ℕ → Type 0
+IsMostlyDead roots file =
+    (records : List (List ℕ))
+    × AreRecordsOf records file
+    × (2 * length (root_ids roots) < length (ids_in (nodes_of records)))

@@ -1,12 +1,13 @@
 //! The trees that a history is opened with, and the store whose file they fit.
-ghost use Rattle.std.specs.Prelude.{◌≡◌, ◌≤◌, ◌*◌, ◌^◌, [], ◌∷◌, ℕ, List, length, true, false, IfOk, MatchResult};
+ghost use Rattle.std.specs.Prelude.{◌≡◌, ◌⊎◌, ◌≤◌, ◌*◌, ◌^◌, [], ◌∷◌, ℕ, List, length, true, false, nat_eq, IfOk, MatchResult};
+ghost use Rattle.std.specs.List.{IsDistinct};
 ghost use Rattle.disk_model.specs.Disk.{IfKnown};
 ghost use Rattle.fb_model.specs.FirstEntry.{first_entry};
 ghost use Rattle.fb_model.specs.Lawful.{IsLawful};
 ghost use Rattle.view_model.specs.Stands.{RootStands};
 ghost use Rattle.seg_tree.specs.Ids.{next_above};
 ghost use Rattle.seg_tree.specs.Indexes.{root_ids, trees_of};
-ghost use Rattle.seg_store.specs.Stores.{disk_in as segments_in, node_count, StoreKeeps};
+ghost use Rattle.seg_store.specs.Stores.{disk_in as segments_in, next_in, node_count, StoreKeeps};
 ghost use Rattle.seg_store.specs.Trees.{root_of, HaveStorableDatoms};
 ghost use Rattle.seg_store.specs.Keeping.{FitsStore};
 ghost use Rattle.fb_journal.specs.Journals.{StaysKnown};
@@ -34,7 +35,7 @@ pub(crate) struct Based<D: Disk> {
 }
 
 /// The newest root of the file that the history agrees with; the file then starts anew with this root alone, where more than
-/// half of its nodes are dead. Where there is none, the trees of the first entry; a file that keeps roots then starts anew.
+/// half of its nodes are dead and there is memory for its record. Where there is none, the trees of the first entry; a file that keeps roots then starts anew.
 pub(crate) fn find_base<D: Disk>(
     alloc: Global,
     entries: &EntryList,
@@ -65,7 +66,7 @@ pub(crate) fn find_base<D: Disk>(
 }
 
 /// The trees of a root, and the store: where more than half of its file's nodes are dead, the file starts anew with this root
-/// alone.
+/// alone. It stays as it is where there is no memory for that.
 fn with_room<D: Disk>(
     alloc: Global,
     store: SegStore<D>,
@@ -78,7 +79,13 @@ fn with_room<D: Disk>(
     ensures root { IfOk result
         (λ b. HasRoot D.bytes D.images store (root_of trees.roots trees.c)
         → HasRoot D.bytes D.images b.store (root_of trees.roots trees.c)) }
-    ensures room { IfOk result (λ b. node_count b.store ≤ 2 * length (root_ids trees.roots)) }
+    ensures below { IfOk result (λ b. next_above (root_ids trees.roots) ≤ next_in store
+        → next_above (root_ids trees.roots) ≤ next_in b.store) }
+    ensures room { IfOk result (λ b. (node_count b.store ≤ 2 * length (root_ids trees.roots))
+        ⊎ (b.store ≡ store)) }
+    ensures still { IfOk result
+        (λ b. node_count store ≤ 2 * length (root_ids trees.roots) → b.store ≡ store) }
+    ensures distinct { IsDistinct nat_eq store.ids }
     ensures known { IfOk result
         (λ b. StaysKnown (D.bytes (segments_in store)) (D.bytes (segments_in b.store))) }
     ensures counted { MatchResult result
@@ -91,10 +98,7 @@ fn with_room<D: Disk>(
     }
     match store.renew(alloc, &trees.roots, trees.c) {
         Ok(()) => Ok(Based { store, trees }),
-        Err(KeepFault::Memory) => Err(LoadStop {
-            fault: LoadFault::Memory,
-            disk: store.give_back(),
-        }),
+        Err(KeepFault::Memory) => Ok(Based { store, trees }),
         Err(_) => Err(LoadStop {
             fault: LoadFault::Disk,
             disk: store.give_back(),

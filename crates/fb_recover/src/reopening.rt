@@ -8,14 +8,14 @@ ghost use Rattle.disk_model.specs.Disk.{IfKnown, LeavesOnly};
 ghost use Rattle.log_model.specs.Log.{IsLogOf};
 ghost use Rattle.fb_journal.specs.Journals.{StaysKnown};
 ghost use Rattle.fb_core.specs.Cores.{CoreStands};
-ghost use Rattle.seg_store.specs.Stores.{disk_in as segments_in, node_count, StoreKeeps};
+ghost use Rattle.seg_store.specs.Stores.{disk_in as segments_in, next_in, node_count, StoreKeeps};
 ghost use Rattle.disk_log.specs.Logs.{disk_in, count_in, KeepsHistory};
 ghost use Rattle.fb_ports.specs.declared.hosts.Part.TheVariants.{Log, Segments};
 ghost use Rattle.fb_recover.specs.Faults.{IsCause, IsOfLog, CountsOpening};
 ghost use Rattle.seg_tree.specs.Ids.{next_above};
 ghost use Rattle.seg_tree.specs.Indexes.{root_ids};
 ghost use Rattle.seg_store.specs.Keeping.{HasGreatNode, FitsStore};
-ghost use Rattle.fb_recover.specs.Openings.{log_after, AreNumberedFromOne, AreOfFile, HasCoverage, AgreesWithNone, HasFault, HasRoot};
+ghost use Rattle.fb_recover.specs.Openings.{log_after, AreNumberedFromOne, AreOfFile, HasCoverage, AgreesWithNone, HasFault, HasRoot, HasRecordsOf, IsMostlyDead};
 ghost use Rattle.seg_store.specs.Trees.{root_of};
 ghost use Rattle.fb_recover.specs.Joining.{IsJoined, IsStopped, IsOpenedOn, IsStoppedOn};
 
@@ -43,7 +43,7 @@ pub struct Opened<D: Disk> {
 
 /// Opens the database of a log and of a file of segments. The trees are those of the newest root that the file keeps and the
 /// history agrees with, and the entries after them are live. A file then starts anew with this root alone, where more than
-/// half of its nodes are none of these trees'. Where there is no such root, the trees are of the first entry alone, and a file
+/// half of its nodes are none of these trees' and there is memory for its record. Where there is no such root, the trees are of the first entry alone, and a file
 /// that keeps roots starts anew.
 ///
 /// After the first sync the log's file is only read, unless it is a new one. Nothing is asked of the segments before the
@@ -66,13 +66,22 @@ pub fn reopen<D: Disk>(alloc: Global, log: D, segments: D) -> Result<Opened<D>, 
     ensures ids { IfOk result (λ o. AreNumberedFromOne o.core.snapshot.roots
         ⊎ AreOfFile (D.bytes segments) o.core.snapshot.roots) }
 
-    // Unless the file of segments has a fault, or no root of it agrees, the store's file keeps the trees as a root. At most
-    // half of its nodes are none of theirs.
+    // Unless the file of segments has a fault, or no root of it agrees, the store's file keeps the trees as a root. It has the
+    // records that it had, unless more than half of its nodes were none of the trees'. Then at most half are now, where there
+    // was memory for a file without the others. New nodes get numbers above those of the trees.
     ensures root { IfOk result (λ o. IfKnown (D.bytes segments) (λ file. HasFault file
         ⊎ AgreesWithNone o.core.snapshot.entries file
         ⊎ HasRoot D.bytes D.images o.store (root_of o.core.snapshot.roots o.covered))) }
+    ensures below { IfOk result (λ o. IfKnown (D.bytes segments) (λ file. HasFault file
+        ⊎ AgreesWithNone o.core.snapshot.entries file
+        ⊎ (next_above (root_ids o.core.snapshot.roots) ≤ next_in o.store))) }
     ensures room { IfOk result
-        (λ o. node_count o.store ≤ 2 * length (root_ids o.core.snapshot.roots)) }
+        (λ o. (node_count o.store ≤ 2 * length (root_ids o.core.snapshot.roots))
+        ⊎ IfKnown (D.bytes segments) (HasRecordsOf D.bytes D.images o.store)) }
+    ensures still { IfOk result (λ o. IfKnown (D.bytes segments) (λ file. HasFault file
+        ⊎ AgreesWithNone o.core.snapshot.entries file
+        ⊎ IsMostlyDead o.core.snapshot.roots file
+        ⊎ HasRecordsOf D.bytes D.images o.store file)) }
 
     // Where they have a number after which no merge may go, the file had it before.
     ensures great { IfOk result (λ o. IfKnown (D.bytes segments)

@@ -1,7 +1,8 @@
 -- The lines of maps with one, two and three fields.
-use Rattle.std.proofs.Common.{◌≡◌, ℕ, true, List, [], ◌∷◌, ◌++◌, map, refl, ap, ◌∙◌, sym, codes}
+use Rattle.std.proofs.Common.{◌≡◌, ℕ, ◌+◌, ◌-◌, true, List, [], ◌∷◌, ◌++◌, map, length, length-append, take, refl, ap, ◌∙◌, sym, codes, arith}
 use Rattle.std.specs.Prelude.{decimal}
 use Rattle.std.proofs.lemmas.List.{append_assoc, append-nil}
+use Rattle.std.proofs.Math.Seq.{take-append_seam}
 use Rattle.edn_model.specs.Form as edn
 use Rattle.edn_model.specs.Form.{Form, forms, pairs}
 use Rattle.edn_model.specs.Canon.{Canon, CanonAll, CanonPairs}
@@ -10,7 +11,8 @@ use Rattle.edn_print.specs.Printable.{printable}
 use Rattle.fb_values.specs.declared.facts.Datom.{Datom}
 use Rattle.fb_values.specs.declared.facts.Entry.{Entry}
 use Rattle.talk_model.specs.Replies.{number, vector, map_of, tempid_pair, datom_form, transaction_form, receipt, basis_reply, done_reply}
-use Rattle.talk_model.specs.Replies.{datoms_reply, transactions_reply, pull_reply, refusal_reply, fault_reply, IsLineOf}
+use Rattle.talk_model.specs.Replies.{datoms_reply, transactions_reply, pull_reply, with_reply, refusal_reply, fault_reply, IsLineOf}
+use Rattle.with_model.specs.Chain.{TxReport}
 use Rattle.fb_replies.specs.Faults.{place_text}
 
 -- ---- fields
@@ -131,6 +133,32 @@ pull_line basis tree l0 l1 l2 l3 l4 e0 e1 e2 a e4 = (
   numbered_text (codes "basis") (codes "pull") basis (printable tree) a.text a.is,
   simp (e4, a.behind, e2, e1, e0, append_assoc, append-nil),
 )
+
+-- of a line all but its line feed
+line_taken : (text : List ℕ) → take (length (text ++ 10 ∷ []) - 1) (text ++ 10 ∷ []) ≡ text
+line_taken text =
+    let one : length (text ++ 10 ∷ []) ≡ length text + 1 = length-append text (10 ∷ []) in
+    let all : length (text ++ 10 ∷ []) - 1 ≡ length text = omega (arith, one) in
+    ap (λ (n : ℕ). take n (text ++ 10 ∷ [])) all ∙ take-append_seam text (10 ∷ [])
+
+pub with_line : (basis : ℕ) (reports : List TxReport) (reply : Form) (shown : List ℕ) (l0 l1 l2 l3 l4 l5 l6 : List ℕ)
+    → l0 ≡ codes "{:basis "
+    → l1 ≡ l0 ++ decimal basis → l2 ≡ l1 ++ codes " :with ["
+    → Appends (CanonAll (forms (map (λ (one : TxReport). receipt one.t one.tempids) reports))) l2 l3 → l4 ≡ l3 ++ codes "] :reply "
+    → l5 ≡ l4 ++ take (length shown - 1) shown → l6 ≡ l5 ++ codes "}\n" → IsLineOf reply shown
+    → IsLineOf (with_reply basis reports reply) l6
+with_line basis reports reply shown l0 l1 l2 l3 l4 l5 l6 e0 e1 e2 a e4 e5 e6 says =
+    let each : List Form = map (λ (one : TxReport). receipt one.t one.tempids) reports in
+    let inside = vector_text each a.text a.is in
+    let text : take (length shown - 1) shown ≡ says.0 =
+    ap (λ (l : List ℕ). take (length l - 1) l) says.2 ∙ line_taken says.0 in
+    let last : l5 ≡ l4 ++ says.0 = e5 ∙ ap (λ (t : List ℕ). l4 ++ t) text in (
+      braces (field_text (codes "basis") (decimal basis) (32 ∷ field_text (codes "with") (in_brackets a.text) (32 ∷ field_text
+          (codes "reply") says.0 []))),
+      three_fields (codes "basis") (codes "with") (codes "reply") (number basis) (vector each) reply (decimal basis)
+          (in_brackets a.text) says.0 refl inside says.1,
+      simp (e6, last, e4, a.behind, e2, e1, e0, append_assoc, append-nil),
+    )
 
 -- of a keyword and two numbers
 abbrev placed : List ℕ → List ℕ → ℕ → ℕ → List ℕ

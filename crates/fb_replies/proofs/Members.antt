@@ -1,16 +1,17 @@
--- The texts of a datom and of a transaction.
+-- The texts of a datom, of a transaction, and of the report of one.
 use Rattle.std.proofs.Common.{◌≡◌, ℕ, List, [], ◌∷◌, ◌++◌, map, refl, ap, ◌∙◌, codes}
 use Rattle.std.specs.Prelude.{if◌then◌else◌, decimal}
 use Rattle.std.proofs.lemmas.List.{append_assoc, append-nil}
-use Rattle.edn_model.specs.Form.{forms}
-use Rattle.edn_model.specs.Canon.{Canon, CanonAll}
+use Rattle.edn_model.specs.Form as edn
+use Rattle.edn_model.specs.Form.{forms, pairs}
+use Rattle.edn_model.specs.Canon.{Canon, CanonAll, CanonPairs}
 use Rattle.edn_values.specs.Values.{form_of_value}
 use Rattle.edn_print.specs.Printed.{Appends}
 use Rattle.fb_values.specs.declared.facts.Datom.{Datom}
 use Rattle.fb_values.specs.declared.facts.Entry.{Entry}
 use Rattle.fb_numbers.specs.Numbers.{transaction_of}
-use Rattle.talk_model.specs.Replies.{entity, attribute, datom_form, datom_forms, transaction_form}
-use Rattle.fb_replies.proofs.Lines.{in_brackets, vector_text, numbered, numbered_text}
+use Rattle.talk_model.specs.Replies.{entity, attribute, datom_form, datom_forms, transaction_form, tempid_pair, receipt}
+use Rattle.fb_replies.proofs.Lines.{braces, in_brackets, vector_text, map_text, numbered, numbered_text}
 
 pub datom_behind : (facts : List Datom) (d : Datom) (l0 l1 l2 l3 l4 l5 l6 l7 l8 l9 : List ℕ) → l1 ≡ l0 ++ codes "["
     → Appends (Canon (entity d.e)) l1 l2 → l3 ≡ l2 ++ codes " " → Appends (Canon (attribute facts d.a)) l3 l4 → l5 ≡ l4 ++ codes " "
@@ -58,5 +59,16 @@ transaction_behind facts entry l0 l1 l2 l3 l4 l5 e1 e2 e3 a e5 =
     record {
       text = numbered (codes "t") entry.t (codes "data") (in_brackets a.text);
       is = numbered_text (codes "t") (codes "data") entry.t (datom_forms facts entry.datoms) (in_brackets a.text) inside;
+      behind = simp (e5, a.behind, e3, e2, e1, append_assoc, append-nil);
+    }
+
+pub report_behind : (t : ℕ) (tempids : List (List ℕ × ℕ)) (l0 l1 l2 l3 l4 l5 : List ℕ) → l1 ≡ l0 ++ codes "{:t " → l2 ≡ l1 ++ decimal t
+    → l3 ≡ l2 ++ codes " :tempids {" → Appends (CanonPairs (pairs (map tempid_pair tempids))) l3 l4 → l5 ≡ l4 ++ codes "}}"
+    → Appends (Canon (receipt t tempids)) l0 l5
+report_behind t tempids l0 l1 l2 l3 l4 l5 e1 e2 e3 a e5 =
+    let inside = map_text (map tempid_pair tempids) a.text a.is in
+    record {
+      text = numbered (codes "t") t (codes "tempids") (braces a.text);
+      is = numbered_text (codes "t") (codes "tempids") t (edn.map (pairs (map tempid_pair tempids))) (braces a.text) inside;
       behind = simp (e5, a.behind, e3, e2, e1, append_assoc, append-nil);
     }

@@ -1,19 +1,23 @@
 //! The lines themselves. Each call puts the whole line, with its line feed, in place of what the buffer held. Where memory runs
 //! out nothing is promised of the buffer.
 ghost use Rattle.std.specs.Prelude.{◌≡◌, ◌++◌, IsTrue, OnOk, map};
-ghost use Rattle.talk_model.specs.Replies.{receipt, basis_reply, done_reply, datoms_reply, transactions_reply, pull_reply, refusal_reply, fault_reply, IsLineOf};
+ghost use Rattle.talk_model.specs.Replies.{receipt, basis_reply, done_reply, datoms_reply, transactions_reply, pull_reply, with_reply, refusal_reply, fault_reply, IsLineOf};
+ghost use Rattle.edn_model.specs.Form.{Form};
 ghost use Rattle.edn_form.specs.View.{form_of};
+ghost use Rattle.fb_with.specs.Outcomes.{report_of};
 ghost use Rattle.fb_replies.specs.Texts.{have_texts, entries_have_texts};
 ghost use Rattle.fb_replies.specs.Faults.{word_of, place_text};
 
 use crate::datoms::{append_lent, append_transactions};
 use crate::tokens::{append, append_count, append_tempids, begin};
+use crate::tried::append_reports;
 use edn_form::Edn;
 use edn_print::print;
 use fb_memory::Memory;
 use fb_schema::Schema;
 use fb_text::Text;
 use fb_values::{Datom, Entry};
+use fb_with::Tried;
 
 /// The reply to a transaction that the log did not take.
 #[derive(Clone, Copy)]
@@ -110,6 +114,27 @@ pub fn write_pull(line: &mut Vec<u8>, basis: u32, tree: &Edn) -> Result<(), Memo
     append_count(line, u64::from(basis))?;
     append(line, b" :pull ")?;
     print(tree, line)?;
+    append(line, b"}\n")
+}
+
+/// `{:basis 1 :with [{:t 2 :tempids {}} ..] :reply {:basis 2 ..}}`: the reports of transactions that were tried, and what the line of
+/// a look behind them says.
+pub fn write_with(
+    line: &mut Vec<u8>,
+    basis: u32,
+    reports: &[Tried],
+    shown: &[u8],
+) -> Result<(), Memory>
+    ensures { (reply : Form) → IsLineOf reply shown.now → OnOk result
+        (IsLineOf (with_reply basis (map report_of reports.now) reply) line.new.items) }
+{
+    begin(line, b"{:basis ")?;
+    append_count(line, u64::from(basis))?;
+    append(line, b" :with [")?;
+    append_reports(line, reports)?;
+    append(line, b"] :reply ")?;
+    // Without its line feed.
+    append(line, &shown[..shown.len().saturating_sub(1)])?;
     append(line, b"}\n")
 }
 

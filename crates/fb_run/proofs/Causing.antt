@@ -36,10 +36,11 @@ use Rattle.fb_run.specs.declared.database.Obstacle.TheVariants as obstacle
 use Rattle.fb_run.specs.declared.database.Unready.{Unready}
 use Rattle.fb_run.specs.declared.opening.Unopened.TheVariants as unopened
 use Rattle.fb_run.specs.declared.looking.Look.{Look}
-use Rattle.fb_run.specs.Outside.{StreamSpec, DiskSpec, IsDiskOf, run_from, run_of, setting_of, EachOf}
+use Rattle.fb_run.specs.Outside.{StreamSpec, DiskSpec, IsDiskOf, ports_of, run_from, run_of, setting_of, EachOf}
 use Rattle.fb_view.specs.SnapshotModel.{SnapshotModel}
 use Rattle.fb_run.specs.Logs.{IsUnharmed, LogHolds}
 use Rattle.fb_run.specs.Database.{why_unready, LeaveLogUnharmed, LeavesBehind, IsObstacle, IsUnready}
+use Rattle.fb_run.specs.Coverage.{StaysCovered}
 use Rattle.fb_run.specs.Looking.{IsLook, HasPrinted}
 use Rattle.fb_run.specs.Opening.{IsOpenedFor}
 use Rattle.fb_run.specs.Headline.{EachReplies, stop_of}
@@ -230,17 +231,21 @@ module _ {I O : Type 0} (terms : Terms) (spec : HostSpec) (io : StreamSpec I O) 
       subst (λ (had : Option (List ℕ)). Q (P (spec.sources name) had)) opened.sink.contents
       (subst (λ (held : Option (List ℕ)). Q (P held (io.contents old.sink))) opened.source.left reply)
 
-  pub replies_told : (h : List Entry) (stop : Option ℕ) (opening : ℕ) (names : List (List ℕ)) (opened sessions : List (SessionOut I O))
+  pub replies_told : (h : List Entry) (torn : Option Draft) (authors : List ℕ) (opening : ℕ) (names : List (List ℕ))
+      (opened sessions : List (SessionOut I O))
       → EachOf (λ n name (s : SessionOut I O). IsOpenedFor spec io name s) 0 names opened
-      → RepliesBy terms io opening stop opened sessions h → EachReplies terms spec io opening stop names sessions h
-  replies_told h stop opening names opened sessions each replies = (
+      → RepliesBy terms io opening torn authors opened sessions h → EachReplies terms spec io opening torn authors names sessions h
+  replies_told h torn authors opening names opened sessions each replies = (
     replies.0,
     each_through (λ n name (s : SessionOut I O). IsOpenedFor spec io name s)
-        (λ n (old new : SessionOut I O). Replies (setting_of terms h stop (replies.0 == n)) opening (run_from io old.source old.sink
+        (λ n (old new : SessionOut I O). Replies (setting_of terms h (stop_of torn) (replies.0 == n)) opening (run_from io old.source
+        old.sink
         new))
-        (λ n name (s : SessionOut I O). Replies (setting_of terms h stop (replies.0 == n)) opening (run_of spec io name s))
-        (λ m name old new opened reply. reply_of h stop opening replies.0 m name old new opened reply) 0 names opened sessions each
+        (λ n name (s : SessionOut I O). Replies (setting_of terms h (stop_of torn) (replies.0 == n)) opening (run_of spec io name s))
+        (λ m name old new opened reply. reply_of h (stop_of torn) opening replies.0 m name old new opened reply) 0 names opened sessions
+        each
         replies.1,
+    replies.2,
   )
 
 module _ {I O : Type 0} (spec : HostSpec) (io : StreamSpec I O) where
@@ -314,21 +319,22 @@ module _ {I O D : Type 0} (outcome : Outcome I O D) (left : Option (Disks D))
     segments = subst IsSome (sym (segments_left both is)) refl;
   }
 
-  hands_back : (place : ℕ) → LeavesBehind place left → HandsBack place outcome
-  hands_back zero none = record {
+  hands_back : (spec : HostSpec) (command : Command) (place : ℕ) → LeavesBehind spec (directory_of (Some command)) place left
+      → HandsBack spec (Some command) place outcome
+  hands_back spec command zero none = record {
     log = log_is ∙ ap (option_map (λ (d : Disks D). d.log)) none;
     segments = segments_is ∙ ap (option_map (λ (d : Disks D). d.segments)) none;
   }
-  hands_back (suc place) some = both_left left refl some
+  hands_back spec command (suc place) some = (both_left left refl some.0, some.1)
 
-module _ {I O D : Type 0} (spec : HostSpec) (io : StreamSpec I O) (disks : DiskSpec D) (new : ℕ) (outcome : Outcome I O D) where
+module _ {I O D : Type 0} (spec : HostSpec) (io : StreamSpec I O) (disks : DiskSpec D) (new : HostSpec) (outcome : Outcome I O D) where
   cause_why : (command : Command) (early : Option (List ℕ × SessionEnd)) (torn : Option Draft) (end : WorkEnd) → outcome.torn ≡ torn
       → IfSome outcome.last (λ l. IfSome outcome.log (LogHolds spec disks (directory_of (Some command)) l.entries outcome.recovered
       outcome.torn))
       → (segments : D) → outcome.segments ≡ Some segments
       → CountsMerges end (spec.disk_faults (directory_of (Some command)) Segments) (disks.faults segments)
-      → HaveRun spec io new (Some command) outcome early → loads_of (Some command) ≡ []
-      → CauseOf spec io disks new (Some command) outcome (why_of early (stop_of torn) end)
+      → HaveRun spec io new.faults (Some command) outcome early → loads_of (Some command) ≡ []
+      → CauseOf spec new io disks (Some command) outcome (why_of early (stop_of torn) end)
   cause_why command None None Shut is holds segments there counted ran scripts = (ran, is, (segments, there, counted), scripts)
   cause_why command None None StoreFault is holds segments there counted ran scripts = (ran, is, (segments, there, counted))
   cause_why command None None Spent is holds segments there counted ran scripts = (ran, is, (segments, there, counted), scripts)
@@ -342,31 +348,31 @@ module _ {I O D : Type 0} (spec : HostSpec) (io : StreamSpec I O) (disks : DiskS
   cause_why command (Some p) torn end is holds segments there counted ran scripts = ran
 
   pub caused_by_memory : (command : Command) → NoSession outcome → outcome.console ≡ None → IsOutOfMemory outcome
-      → Causes spec io disks new (Some command) outcome
+      → Causes spec new io disks (Some command) outcome
   caused_by_memory command none no_console refused =
       record { why = memory; says = inr refused; cause = inl (none, refl); console = no_console }
 
   -- whatever the words are
-  pub caused_by_words : (command : Option Command) → new ≡ spec.faults → NoSession outcome → HasNoDisk outcome → outcome.console ≡ None
-      → IsOutOfMemory outcome → Causes spec io disks new command outcome
+  pub caused_by_words : (command : Option Command) → new.faults ≡ spec.faults → NoSession outcome → HasNoDisk outcome
+      → outcome.console ≡ None → IsOutOfMemory outcome → Causes spec new io disks command outcome
   caused_by_words None same none no_disk no_console refused =
       record { why = usage; says = inr refused; cause = (none, no_disk, refl, same); console = no_console }
   caused_by_words (Some command) same none no_disk no_console refused = caused_by_memory command none no_console refused
 
-  pub caused_by_usage : (command : Option Command) → None ≡ command → new ≡ spec.faults → NoSession outcome → HasNoDisk outcome
+  pub caused_by_usage : (command : Option Command) → None ≡ command → new.faults ≡ spec.faults → NoSession outcome → HasNoDisk outcome
       → outcome.console ≡ None
-      → ((outcome.status ≡ 1) × (string_bytes outcome.line ≡ usage_line)) ⊎ IsOutOfMemory outcome → Causes spec io disks new command
+      → ((outcome.status ≡ 1) × (string_bytes outcome.line ≡ usage_line)) ⊎ IsOutOfMemory outcome → Causes spec new io disks command
       outcome
   caused_by_usage command is same none no_disk no_console said =
       record { why = usage; says = said; cause = (none, no_disk, sym is, same); console = no_console }
 
   by_fault : (command : Command) (fault : OpenFault) (log segments : D) → outcome.log ≡ Some log → outcome.segments ≡ Some segments
-      → IsNotOpened spec disks new (Some command) outcome
+      → IsNotOpened spec disks new.faults (Some command) outcome
       → IfKnown (spec.disks (directory_of (Some command)) Log) (IsCause fault)
       → CountsOpening fault Log (spec.disk_faults (directory_of (Some command)) Log) (disks.faults log)
       → CountsOpening fault Segments (spec.disk_faults (directory_of (Some command)) Segments) (disks.faults segments)
       → (IsOfLog fault → IsUntouched spec disks (Some command) outcome)
-      → CauseOf spec io disks new (Some command) outcome (why_not fault)
+      → CauseOf spec new io disks (Some command) outcome (why_not fault)
   by_fault command (fault.Disk Log) log segments is there not_opened cause counted also untouched =
       (not_opened, untouched tt, (log, is, counted))
   by_fault command (fault.Disk Segments) log segments is there not_opened cause counted also untouched =
@@ -377,13 +383,13 @@ module _ {I O D : Type 0} (spec : HostSpec) (io : StreamSpec I O) (disks : DiskS
 
   pub caused_by_sessions : {g : _} (command : Command) (opened : List (SessionOut I O)) (merge_at : ℕ) (begun : Trees D g)
       → EachOf (λ n name (s : SessionOut I O). IsOpenedFor spec io name s) 0 (scripts_of (Some command)) opened
-      → IsRun (Some command) → loads_of (Some command) ≡ [] → outcome.loads.items ≡ [] → new ≡ spec.faults → outcome.console ≡ None
+      → IsRun (Some command) → loads_of (Some command) ≡ [] → outcome.loads.items ≡ [] → new.faults ≡ spec.faults → outcome.console ≡ None
       → disks.faults (segments_in begun.store) ≡ spec.disk_faults (directory_of (Some command)) Segments
       → IfSome outcome.last (λ l. IfSome outcome.log (LogHolds spec disks (directory_of (Some command)) l.entries outcome.recovered
       outcome.torn))
       → (NoSession outcome × IsOutOfMemory outcome)
       ⊎ HaveEnded io disks merge_at (scripts_of (Some command)) opened begun outcome
-      → Causes spec io disks new (Some command) outcome
+      → Causes spec new io disks (Some command) outcome
   caused_by_sessions command opened merge_at begun has is_run scripts no_loads same no_console unfailed holds (inl none) =
       caused_by_memory command none.0 no_console none.1
   caused_by_sessions command opened merge_at begun has is_run scripts no_loads same no_console unfailed holds (inr ran) =
@@ -415,14 +421,16 @@ module _ {I O D : Type 0} (spec new : HostSpec) (io : StreamSpec I O) (disks : D
     (log_is : outcome.log ≡ option_map (λ (d : Disks D). d.log) left)
     (segments_is : outcome.segments ≡ option_map (λ (d : Disks D). d.segments) left)
     (unharmed : IfSome left (LeaveLogUnharmed spec disks (directory_of (Some command)))) where
-  cause_unready : (why : Obstacle) → IsObstacle spec new disks (directory_of (Some command)) (names_of (Some command)) left why
-      → CauseOf spec io disks new.faults (Some command) outcome (why_unready why)
+  cause_unready : (why : Obstacle)
+      → IsObstacle spec new disks (ports_of (Some command)) (directory_of (Some command)) (names_of (Some command)) left why
+      → CauseOf spec new io disks (Some command) outcome (why_unready why)
   cause_unready (obstacle.Unopened (unopened.CannotOpen name)) is = record {
     none = none;
-    host = is.1;
-    place = is.0.0;
-    named = is.0.1;
-    disks = hands_back outcome left log_is segments_is is.0.0 is.0.2;
+    host = is.host;
+    place = is.place;
+    named = is.named;
+    disks = hands_back outcome left log_is segments_is spec command is.place is.left_is;
+    behind = is.behind;
   }
   cause_unready (obstacle.Unopened unopened.Memory) is = inl (none, refl)
   cause_unready (obstacle.NotReopened fault) is =
@@ -439,7 +447,7 @@ module _ {I O D : Type 0} (spec new : HostSpec) (io : StreamSpec I O) (disks : D
         log_is = log;
         unharmed = its;
       } in
-      by_fault spec io disks new.faults outcome command fault both.log both.segments log segments not_opened is.1.cause is.1.counted
+      by_fault spec io disks new outcome command fault both.log both.segments log segments not_opened is.1.cause is.1.counted
       is.1.segments_counted
       (λ of. subst (λ (o : Option D). IfSome o (IsDiskOf spec disks (directory_of (Some command)) Segments)) (sym segments)
       (is.1.untouched of))
@@ -456,11 +464,12 @@ module _ {I O D : Type 0} (spec new : HostSpec) (io : StreamSpec I O) (disks : D
 
 module _ {I O D : Type 0} (spec new : HostSpec) (io : StreamSpec I O) (disks : DiskSpec D) (outcome : Outcome I O D) (command : Command)
     (unready : Unready D)
-    (is : IsUnready spec new disks (directory_of (Some command)) (names_of (Some command)) unready) (none : NoSession outcome)
+    (is : IsUnready spec new disks (ports_of (Some command)) (directory_of (Some command)) (names_of (Some command)) unready)
+    (none : NoSession outcome)
     (log_is : outcome.log ≡ option_map (λ (d : Disks D). d.log) unready.disks)
     (segments_is : outcome.segments ≡ option_map (λ (d : Disks D). d.segments) unready.disks) where
   pub caused_by_unready : outcome.console ≡ None → SaysWhy (why_unready unready.why) outcome.status (string_bytes outcome.line)
-      → Causes spec io disks new.faults (Some command) outcome
+      → Causes spec new io disks (Some command) outcome
   caused_by_unready no_console said = record {
     why = why_unready unready.why;
     says = said;
@@ -496,6 +505,7 @@ module _ {I O D : Type 0} {g : _} (spec new : HostSpec) (io : StreamSpec I O) (d
     covered = is.covered;
     coverage = is.coverage;
     unfailed = look_unfailed;
+    kept = subst (λ (o : Option D). IfSome o (StaysCovered spec disks dir is.history is.covered)) (sym segments_is) is.kept;
     console = has.now;
     console_is = has.console_is;
     took = subst (λ (l : List ℕ). Took l (spec.sinks standard) (io.contents has.now) (spec.sink_faults standard)
@@ -506,7 +516,7 @@ module _ {I O D : Type 0} {g : _} (spec new : HostSpec) (io : StreamSpec I O) (d
         (io.sink_faults has.now)) is.console.faults took));
   }
 
-  pub caused_by_look : Causes spec io disks new.faults (Some (check dir)) outcome
+  pub caused_by_look : Causes spec new io disks (Some (check dir)) outcome
   caused_by_look =
       let there : IsSome outcome.console = subst IsSome (sym has.console_is) refl in
       elim has.took [

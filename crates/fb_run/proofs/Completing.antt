@@ -5,6 +5,7 @@ use Rattle.std.proofs.lemmas.List.{append-nil}
 use Rattle.std.proofs.lemmas.Option.{none-some, some_pair_parts, IfSome_then}
 use Rattle.std.specs.Prelude.{◌==◌, IfSome, IsSome, string_bytes}
 use Rattle.std.specs.List.{AllByRecursion}
+use Rattle.std.specs.Option.{unwrap_or}
 use Rattle.std.specs.Io.KnownBytes.{prepend_known, append_known, IsAtEnd}
 use Rattle.edn_model.specs.Form.{Form}
 use Rattle.edn_model.specs.Faults.{Fault}
@@ -37,7 +38,7 @@ use Rattle.log_model.proofs.LogFiles.{one_said, IsLogOf-says}
 use Rattle.fb_ports.specs.declared.hosts.Part.TheVariants.{Log, Segments}
 use Rattle.fb_run.specs.Outside.{StreamSpec, DiskSpec, run_of, setting_of, EachOf, EachWhile}
 use Rattle.fb_run.specs.Logs.{LogHolds}
-use Rattle.fb_run.specs.Headline.{OneHistory, stop_of, EachReplies}
+use Rattle.fb_run.specs.Headline.{OneHistory, EachReplies}
 use Rattle.fb_run.specs.StatusLines.{Why, answered, reported, usage, unopened, disk_failed, bad_record, unlawful, ended_early}
 use Rattle.fb_run.specs.StatusLines.{console_failed, log_stopped, segments_failed, memory, status_of_end, line_of_end, first_early}
 use Rattle.fb_run.specs.Generated.{loads_of, spec_in_memory, in_memory}
@@ -188,7 +189,8 @@ module _ {I O D : Type 0} (terms : Terms) (spec : HostSpec) (io : StreamSpec I O
     Outcome
     I O D) (last : SnapshotModel)
     (lawful : IsLawful last.entries) (seen : outcome.recovered ≤ basis last.entries) (kept : outcome.last ≡ Some last)
-    (replies : EachReplies terms spec io outcome.recovered None (scripts_of (Some command)) outcome.sessions.items last.entries)
+    (replies : EachReplies terms spec io outcome.recovered None
+    (unwrap_or outcome.authors []) (scripts_of (Some command)) outcome.sessions.items last.entries)
     (holds : AllByRecursion (λ name. HoldsFormsAlone (spec.sources name)) (scripts_of (Some command)))
     (calm : NoneRose spec io disks new (Some command) outcome) (scripts : loads_of (Some command) ≡ []) where
   no_loads : {early : Option (List ℕ × SessionEnd)} → HaveRun spec io new (Some command) outcome early → outcome.loads.items ≡ []
@@ -234,12 +236,12 @@ says_history held said holds says = (
       holds.known),
 )
 
-module _ {I O D : Type 0} (terms : Terms) (spec : HostSpec) (io : StreamSpec I O) (disks : DiskSpec D) (new : ℕ) (command : Command)
+module _ {I O D : Type 0} (terms : Terms) (spec : HostSpec) (io : StreamSpec I O) (disks : DiskSpec D) (new : HostSpec) (command : Command)
     (outcome :
     Outcome I O D)
     (log : HoldsHistory (spec.disks (directory_of (Some command)) Log))
     (holds : AllByRecursion (λ name. HoldsFormsAlone (spec.sources name)) (scripts_of (Some command)))
-    (calm : NoneRose spec io disks new (Some command) outcome) where
+    (calm : NoneRose spec io disks new.faults (Some command) outcome) where
   pub no_bad_record : (nth at : ℕ)
       → IfKnown (spec.disks (directory_of (Some command)) Log) (λ file. FileSays file (bad_record_there nth at))
       → ⊥
@@ -250,7 +252,7 @@ module _ {I O D : Type 0} (terms : Terms) (spec : HostSpec) (io : StreamSpec I O
 
   -- a look at a directory that has nothing wrong succeeds
   looked_by : (IsRun (Some command) → ⊥) → (why : Why) → SaysWhy why outcome.status (string_bytes outcome.line)
-      → CauseOf spec io disks new (Some command) outcome why → (outcome.status ≡ 0) ⊎ IsOutOfMemory outcome
+      → CauseOf spec new io disks (Some command) outcome why → (outcome.status ≡ 0) ⊎ IsOutOfMemory outcome
   looked_by not answered says cause = absurd (not cause.0.is_run)
   looked_by not reported says cause = inl says.0
   looked_by not usage says cause = absurd (none-some command (sym cause.2))
@@ -265,13 +267,14 @@ module _ {I O D : Type 0} (terms : Terms) (spec : HostSpec) (io : StreamSpec I O
   looked_by not segments_failed says cause = absurd (not cause.0.is_run)
   looked_by not memory says cause = inr (says_memory outcome.status (string_bytes outcome.line) says)
 
-  pub complete_check : (IsRun (Some command) → ⊥) → Causes spec io disks new (Some command) outcome
+  pub complete_check : (IsRun (Some command) → ⊥) → Causes spec new io disks (Some command) outcome
       → (outcome.status ≡ 0) ⊎ IsOutOfMemory outcome
   complete_check not causes = looked_by not causes.why causes.says causes.cause
 
   -- the sessions ran, so there is a history
   module _ (lawful : IfSome outcome.last (λ last. IsLawful last.entries × (outcome.recovered ≤ basis last.entries)))
-      (replies : IfSome outcome.last (λ last. EachReplies terms spec io outcome.recovered (stop_of outcome.torn) (scripts_of (Some
+      (replies : IfSome outcome.last (λ last. EachReplies terms spec io outcome.recovered outcome.torn
+      (unwrap_or outcome.authors []) (scripts_of (Some
       command)) outcome.sessions.items last.entries))
       (kept : IfSome outcome.last (λ last. IfSome outcome.log (LogHolds spec disks (directory_of (Some command)) last.entries
       outcome.recovered outcome.torn))) (scripts : loads_of (Some command) ≡ []) where
@@ -285,39 +288,41 @@ module _ {I O D : Type 0} (terms : Terms) (spec : HostSpec) (io : StreamSpec I O
         let rose = counts_torn spec disks outcome (directory_of (Some command)) kept there both.log (subst IsSome (sym is) refl) in
         absurd (calm.parts Log rose.0 rose.1 rose.2)
 
-    going : {early : Option (List ℕ × SessionEnd)} → HaveRun spec io new (Some command) outcome early → outcome.torn ≡ None
+    going : {early : Option (List ℕ × SessionEnd)} → HaveRun spec io new.faults (Some command) outcome early → outcome.torn ≡ None
     going ran = not_torn outcome.torn refl ran.last ran.disks
 
     unstopped : (h : List Entry) → outcome.torn ≡ None
-        → EachReplies terms spec io outcome.recovered (stop_of outcome.torn) (scripts_of (Some command)) outcome.sessions.items h
-        → EachReplies terms spec io outcome.recovered None (scripts_of (Some command)) outcome.sessions.items h
+        → EachReplies terms spec io outcome.recovered outcome.torn
+        (unwrap_or outcome.authors []) (scripts_of (Some command)) outcome.sessions.items h
+        → EachReplies terms spec io outcome.recovered None
+        (unwrap_or outcome.authors []) (scripts_of (Some command)) outcome.sessions.items h
     unstopped h none says =
-        subst (λ (torn : Option Draft). EachReplies terms spec io outcome.recovered (stop_of torn) (scripts_of (Some command))
+        subst (λ (torn : Option Draft). EachReplies terms spec io outcome.recovered torn
+        (unwrap_or outcome.authors []) (scripts_of (Some command))
         outcome.sessions.items h) none says
 
-    whole_by : (last : Option SnapshotModel) → outcome.last ≡ last → IsSome last → outcome.status ≡ 0 → HaveRun spec io new (Some command)
-        outcome None
-        → AnsweredWhole terms spec io (Some command) outcome
+    whole_by : (last : Option SnapshotModel) → outcome.last ≡ last → IsSome last → outcome.status ≡ 0
+        → HaveRun spec io new.faults (Some command) outcome None → AnsweredWhole terms spec io (Some command) outcome
     whole_by None is there success ran = absurd (cc)
     whole_by (Some l) is there success ran =
         let stands = rw is at lawful in let says = rw is at replies in
-        answered_whole terms spec io disks new command outcome l stands.0 stands.1 is (unstopped l.entries (going ran) says) holds calm
-        scripts success ran
+        answered_whole terms spec io disks new.faults command outcome l stands.0 stands.1 is (unstopped l.entries (going ran) says) holds
+        calm scripts success ran
 
     refused_by : (last : Option SnapshotModel) → outcome.last ≡ last → IsSome last → (name : List ℕ) (how : SessionEnd)
-        → HaveRun spec io new
+        → HaveRun spec io new.faults
         (Some command) outcome (Some (name, how))
         → ((outcome.status ≡ status_of_end how) × (string_bytes outcome.line ≡ line_of_end name how)) ⊎ IsOutOfMemory outcome →
         IsOutOfMemory outcome
     refused_by None is there name how ran said = absurd (cc)
     refused_by (Some l) is there name how ran said =
         let stands = rw is at lawful in let says = rw is at replies in
-        refused terms spec io disks new command outcome l stands.0 stands.1 is
+        refused terms spec io disks new.faults command outcome l stands.0 stands.1 is
         (unstopped l.entries (going ran) says) holds calm scripts name how
         ran said
 
     by_why : IsRun (Some command) → (why : Why) → SaysWhy why outcome.status (string_bytes outcome.line)
-        → CauseOf spec io disks new (Some command) outcome why
+        → CauseOf spec new io disks (Some command) outcome why
         → AnsweredWhole terms spec io (Some command) outcome ⊎ IsOutOfMemory outcome
     by_why is_run answered says cause = inl (whole_by outcome.last refl cause.0.last says.0 cause.0)
     by_why is_run reported says (inl looked) = absurd (subst IsRun looked.is_check is_run)
@@ -334,25 +339,26 @@ module _ {I O D : Type 0} (terms : Terms) (spec : HostSpec) (io : StreamSpec I O
     by_why is_run segments_failed says cause = absurd (calm.parts Segments cause.2.0 cause.2.1 cause.2.2)
     by_why is_run memory says cause = inr (says_memory outcome.status (string_bytes outcome.line) says)
 
-    pub complete_run : IsRun (Some command) → Causes spec io disks new (Some command) outcome
+    pub complete_run : IsRun (Some command) → Causes spec new io disks (Some command) outcome
         → AnsweredWhole terms spec io (Some command) outcome
         ⊎ IsOutOfMemory outcome
     complete_run is_run causes = by_why is_run causes.why causes.says causes.cause
 
-pub complete_look : {I O D : Type 0} (terms : Terms) (spec : HostSpec) (io : StreamSpec I O) (disks : DiskSpec D) (new : ℕ) (dir : List ℕ)
-    (outcome : Outcome I O D)
-    → Causes spec io disks new (Some (check dir)) outcome → Complete terms spec io disks new (Some (check dir)) outcome
+pub complete_look : {I O D : Type 0} (terms : Terms) (spec : HostSpec) (io : StreamSpec I O) (disks : DiskSpec D) (new : HostSpec)
+    (dir : List ℕ) (outcome : Outcome I O D)
+    → Causes spec new io disks (Some (check dir)) outcome → Complete terms spec io disks new.faults (Some (check dir)) outcome
 complete_look terms spec io disks new dir outcome causes =
-    λ log holds none calm. complete_check terms spec io disks new (check dir) outcome log holds calm (λ wrong. wrong) causes
+    λ log holds calm. complete_check terms spec io disks new (check dir) outcome log holds calm (λ wrong. wrong) causes
 
-pub complete_scripts : {I O D : Type 0} (terms : Terms) (spec : HostSpec) (io : StreamSpec I O) (disks : DiskSpec D) (new : ℕ)
+pub complete_scripts : {I O D : Type 0} (terms : Terms) (spec : HostSpec) (io : StreamSpec I O) (disks : DiskSpec D) (new : HostSpec)
     (options : Options) (dir : List ℕ) (scripts : List (List ℕ)) (outcome : Outcome I O D) (authors : List ℕ) (commits : List (List ℕ))
     → IfSome outcome.last (λ last. OneHistory last.entries outcome.recovered authors commits)
-    → IfSome outcome.last (λ last. EachReplies terms spec io outcome.recovered (stop_of outcome.torn) scripts outcome.sessions.items
+    → IfSome outcome.last (λ last. EachReplies terms spec io outcome.recovered outcome.torn
+    (unwrap_or outcome.authors []) scripts outcome.sessions.items
     last.entries)
     → IfSome outcome.last (λ last. IfSome outcome.log (LogHolds spec disks dir last.entries outcome.recovered outcome.torn))
-    → Causes spec io disks new (Some (runs options dir scripts)) outcome
-    → Complete terms spec io disks new (Some (runs options dir scripts)) outcome
+    → Causes spec new io disks (Some (runs options dir scripts)) outcome
+    → Complete terms spec io disks new.faults (Some (runs options dir scripts)) outcome
 complete_scripts terms spec io disks new options dir scripts outcome authors commits history replies kept causes =
     let lawful : IfSome outcome.last (λ last. IsLawful last.entries × (outcome.recovered ≤ basis last.entries)) =
     IfSome_then outcome.last history (λ last one. (
@@ -360,5 +366,5 @@ complete_scripts terms spec io disks new options dir scripts outcome authors com
       stands_behind outcome.recovered (length authors) (basis last.entries)
           one.each_t,
     )) in
-    λ log holds none calm. complete_run terms spec io disks new (runs options dir scripts) outcome log holds calm lawful replies kept
+    λ log holds calm. complete_run terms spec io disks new (runs options dir scripts) outcome log holds calm lawful replies kept
     refl tt causes

@@ -2,7 +2,7 @@
 use Rattle.std.proofs.Common.{◌≡◌, ℕ, ◌+◌, ◌≤◌, ◌⊎◌, inl, inr, List, [], ◌∷◌, ◌++◌, length, Option, Some, None, suc, refl, sym, ap, ◌∙◌}
 use Rattle.std.proofs.Common.{subst, ⊎_elim, arith}
 use Rattle.std.proofs.lemmas.List.{take-append-le, length-take}
-use Rattle.std.specs.Prelude.{IsSome, IfSome, Result, Ok, Err, IfErr}
+use Rattle.std.specs.Prelude.{IfSome, Result, Ok, Err, IfErr}
 use Rattle.fb_values.specs.declared.facts.Entry.{Entry}
 use Rattle.fb_model.specs.History.{basis, upto}
 use Rattle.fb_model.specs.Lawful.{IsLawful}
@@ -10,7 +10,15 @@ use Rattle.fb_model.proofs.LawfulHistories.{IsLawful-length}
 use Rattle.fb_model.proofs.OneMoreEntry.{basis-push}
 use Rattle.fb_model.proofs.Times.{next_t}
 use Rattle.disk_model.specs.Disk.{IfKnown, LeavesOnly}
+use Rattle.disk_model.specs.Journal.{segments_mark, JournalStands}
+use Rattle.disk_model.proofs.Journals.{stands-holds}
 use Rattle.log_model.specs.Log.{IsLogOf}
+use Rattle.log_model.specs.Kept.{KeptRoot, FileKeeps, kept_roots}
+use Rattle.fb_journal.specs.Journals.{mark_of}
+use Rattle.seg_store.specs.declared.stores.SegStore.{SegStore}
+use Rattle.seg_store.specs.Stores.{disk_in as segments_in, StoreKeeps}
+use Rattle.seg_store.specs.Keeping.{FileHas}
+use Rattle.seg_store.specs.Trees.{root_of}
 use Rattle.disk_log.specs.Disks.{IsLogFrom, HasKept, HasBroken}
 use Rattle.disk_log.specs.Logs.{disk_in}
 use Rattle.fb_core.specs.declared.accepting.Draft.{Draft}
@@ -21,6 +29,7 @@ use Rattle.fb_ports.specs.declared.hosts.Part.TheVariants.{Log, Segments}
 use Rattle.fb_ports.specs.HostSpec.{HostSpec}
 use Rattle.fb_ports.specs.HostCalls.{StaysButDisk}
 use Rattle.fb_recover.specs.Faults.{CountsOpening}
+use Rattle.fb_recover.specs.Openings.{HasRoot}
 use Rattle.fb_run.specs.declared.database.Directory.{Directory}
 use Rattle.fb_run.specs.declared.database.Disks.{Disks}
 use Rattle.fb_run.specs.declared.database.Obstacle.{Obstacle}
@@ -30,42 +39,76 @@ use Rattle.fb_run.specs.declared.opening.Unopened.{Unopened}
 use Rattle.fb_run.specs.declared.opening.Unopened.TheVariants as unopened
 use Rattle.fb_run.specs.declared.outcome.SessionOut.{SessionOut}
 use Rattle.fb_run.specs.declared.outcome.Outcome.{Outcome}
-use Rattle.fb_run.specs.Outside.{StreamSpec, DiskSpec, IsDiskOf, EachOf}
-use Rattle.fb_run.specs.Opening.{IsOpenedFor, HasOpened, IsUnopened}
-use Rattle.fb_run.specs.Logs.{IsUnharmed, LogHolds}
+use Rattle.command_line.specs.Words.{standard}
+use Rattle.fb_run.specs.Outside.{StreamSpec, DiskSpec, Ports, IsDiskOf, OpensOnly, of_directory, of_scripts, of_sinks, EachOf}
+use Rattle.fb_run.specs.Opening.{IsOpenedFor, HasOpened, HostRefuses, IsUnopened}
+use Rattle.fb_run.specs.Logs.{HasHistory, IsUnharmed, LogHolds}
+use Rattle.fb_run.specs.Coverage.{StaysCovered}
 use Rattle.fb_run.specs.Database.{SameStreams, IsOpened, IsRefused, IsUnopenedBy, IsUnopenedPart, LeaveLogUnharmed, IsObstacle, IsUnready}
 use Rattle.fb_run.specs.Database.{disks_in}
 use Rattle.fb_run.specs.Running.{LeavesLog, HandsLogBack, GoesOnFrom}
+use Rattle.fb_run.proofs.Opens.{opens_behind, up_to_behind}
 
 -- ---- what is opened behind the directory
 
-module _ {D : Type 0} (disks : DiskSpec D) (dir : List ℕ) (names : List (List ℕ)) (old mid new : HostSpec) where
-  part_obstacle : (left : Option (Disks D)) (why : Obstacle) → mid.faults ≡ old.faults → left ≡ None → IsUnopenedBy mid new dir why
-      → IsObstacle old new disks dir (dir ∷ names) left why
-  part_obstacle left (obstacle.Unopened (unopened.CannotOpen name)) same none not =
-      ((0, ap Some (sym not.0), none), subst (λ n. Rose n new.faults) same not.1)
-  part_obstacle left (obstacle.Unopened unopened.Memory) same none not = tt
-  part_obstacle left (obstacle.NotReopened fault) same none not = absurd not
+module _ {D : Type 0} (disks : DiskSpec D) (ports : Ports) (dir : List ℕ) (names : List (List ℕ)) (old mid new : HostSpec) where
+  part_obstacle : (left : Option (Disks D)) (why : Obstacle) → mid.faults ≡ old.faults → left ≡ None
+      → OpensOnly (record ports { sources = []; sinks = [] }) old new → IsUnopenedBy mid new dir why
+      → IsObstacle old new disks ports dir (dir ∷ names) left why
+  part_obstacle left (obstacle.Unopened (unopened.CannotOpen name)) same none only not = record {
+    place = 0;
+    named = ap Some (sym not.0);
+    left_is = none;
+    behind = only;
+    host = subst (λ n. Rose n new.faults) same not.1;
+  }
+  part_obstacle left (obstacle.Unopened unopened.Memory) same none only not = tt
+  part_obstacle left (obstacle.NotReopened fault) same none only not = absurd not
 
-  pub unready_part : (unready : Unready D) → mid.faults ≡ old.faults → IsUnopenedPart mid new dir unready
-      → IsUnready old new disks dir (dir ∷ names) unready
-  unready_part unready same not = record {
-    why = part_obstacle unready.disks unready.why same not.0 not.1;
+  pub unready_part : (unready : Unready D) → mid.faults ≡ old.faults → OpensOnly (record ports { sources = []; sinks = [] }) old new
+      → IsUnopenedPart mid new dir unready → IsUnready old new disks ports dir (dir ∷ names) unready
+  unready_part unready same only not = record {
+    why = part_obstacle unready.disks unready.why same not.0 only not.1;
     unharmed = subst (λ (o : Option (Disks D)). IfSome o (LeaveLogUnharmed old disks dir)) (sym not.0) tt;
   }
 
-  later_obstacle : (left : Option (Disks D)) (why : Unopened) → mid.faults ≡ old.faults → IsSome left → IsUnopened names mid new why
-      → IsObstacle old new disks dir (dir ∷ names) left (obstacle.Unopened why)
-  later_obstacle left (unopened.CannotOpen name) same some not =
-      ((suc not.0.0, not.0.1, some), subst (λ n. Rose n new.faults) same not.1)
-  later_obstacle left unopened.Memory same some not = tt
+module _ {D : Type 0} (disks : DiskSpec D) (dir : List ℕ) (old mid new : HostSpec) (both : Disks D) (same : mid.faults ≡ old.faults)
+    (unharmed : LeaveLogUnharmed old disks dir both) (read : HasHistory old dir) (first : OpensOnly (of_directory dir) old mid) where
+  script_obstacle : (scripts : List (List ℕ)) (why : Unopened) → IsUnopened scripts mid new why
+      → IsObstacle old new disks (record (of_scripts scripts) { directories = dir ∷ [] }) dir (dir ∷ scripts) (Some both)
+      (obstacle.Unopened why)
+  script_obstacle scripts (unopened.CannotOpen name) not = record {
+    place = suc not.place;
+    named = not.named;
+    left_is = (refl, read);
+    behind = up_to_behind (of_scripts scripts) dir old mid new not.place first not.behind;
+    host = subst (λ n. Rose n new.faults) same not.host;
+  }
+  script_obstacle scripts unopened.Memory not = tt
 
-  -- what has a later name was not opened
-  pub unready_later : (both : Disks D) (why : Unopened) → mid.faults ≡ old.faults → LeaveLogUnharmed old disks dir both
-      → IsUnopened names mid new why
-      → IsUnready old new disks dir (dir ∷ names) (record { why = obstacle.Unopened why; disks = Some both })
-  unready_later both why same unharmed not =
-      record { why = later_obstacle (Some both) why same refl not; unharmed = unharmed }
+  -- the source or the sink of a script was not opened
+  pub unready_script : (scripts : List (List ℕ)) (why : Unopened) → IsUnopened scripts mid new why
+      → IsUnready old new disks (record (of_scripts scripts) { directories = dir ∷ [] }) dir (dir ∷ scripts)
+      (record { why = obstacle.Unopened why; disks = Some both })
+  unready_script scripts why not = record { why = script_obstacle scripts why not; unharmed = unharmed }
+
+  console_obstacle : (why : Unopened) → OpensOnly (of_sinks (standard ∷ [])) mid new → HostRefuses standard mid new why
+      → IsObstacle old new disks (record (of_sinks (standard ∷ [])) { directories = dir ∷ [] }) dir (dir ∷ standard ∷ []) (Some both)
+      (obstacle.Unopened why)
+  console_obstacle (unopened.CannotOpen name) only not = record {
+    place = 1;
+    named = ap Some (sym not.0);
+    left_is = (refl, read);
+    behind = inr (opens_behind (of_sinks (standard ∷ [])) dir old mid new first only);
+    host = subst (λ n. Rose n new.faults) same not.1;
+  }
+  console_obstacle unopened.Memory only not = tt
+
+  -- the console was not opened
+  pub unready_console : (why : Unopened) → OpensOnly (of_sinks (standard ∷ [])) mid new → HostRefuses standard mid new why
+      → IsUnready old new disks (record (of_sinks (standard ∷ [])) { directories = dir ∷ [] }) dir (dir ∷ standard ∷ [])
+      (record { why = obstacle.Unopened why; disks = Some both })
+  unready_console why only not = record { why = console_obstacle why only not; unharmed = unharmed }
 
 -- opening the log changes nothing that the host tells of the segments
 pub other_part : {D : Type 0} (disks : DiskSpec D) (dir : List ℕ) (old mid : HostSpec) (disk : D) → StaysButDisk dir Log old mid
@@ -90,12 +133,12 @@ module _ {D : Type 0} (spec : HostSpec) (disks : DiskSpec D) (dir : List ℕ) (d
       (subst (λ (t : ℕ). disks.images_since log t image) (sym is.moment) since))
 
   -- the database of a directory was not reopened
-  pub unready_log : (names : List (List ℕ)) (new : HostSpec) (segments : D) (unready : Unready D)
+  pub unready_log : (ports : Ports) (names : List (List ℕ)) (new : HostSpec) (segments : D) (unready : Unready D)
       → IsDiskOf spec disks dir Segments segments → new.faults ≡ spec.faults → IsRefused disks disk segments unready
-      → IsUnready spec new disks dir names unready
-  unready_log names new segments unready its same refused =
+      → IsUnready spec new disks ports dir names unready
+  unready_log ports names new segments unready its same refused =
       let both : Disks D = record { log = refused.log; segments = refused.file } in
-      subst (λ (u : Unready D). IsUnready spec new disks dir names u) (sym refused.is) (record {
+      subst (λ (u : Unready D). IsUnready spec new disks ports dir names u) (sym refused.is) (record {
         why = (
           same,
           record {
@@ -111,17 +154,62 @@ module _ {D : Type 0} (spec : HostSpec) (disks : DiskSpec D) (dir : List ℕ) (d
         unharmed = unharmed_log refused.log refused.unharmed;
       })
 
-  pub not_reopened : {T : Type 0} (r : Result T (Unready D)) (names : List (List ℕ)) (new : HostSpec) (segments : D)
+  pub not_reopened : {T : Type 0} (r : Result T (Unready D)) (ports : Ports) (names : List (List ℕ)) (new : HostSpec) (segments : D)
       → IsDiskOf spec disks dir Segments segments → new.faults ≡ spec.faults → IfErr r (IsRefused disks disk segments)
-      → IfErr r (IsUnready spec new disks dir names)
-  not_reopened (Ok x) names new segments its same refused = tt
-  not_reopened (Err unready) names new segments its same refused = unready_log names new segments unready its same refused
+      → IfErr r (IsUnready spec new disks ports dir names)
+  not_reopened (Ok x) ports names new segments its same refused = tt
+  not_reopened (Err unready) ports names new segments its same refused = unready_log ports names new segments unready its same refused
 
 -- a directory that was opened is left as it was
 pub opened_unharmed : {D : Type 0} {g : _} (spec : HostSpec) (disks : DiskSpec D) (dir : List ℕ) (directory : Directory D g)
     → IsOpened spec disks dir directory → LeaveLogUnharmed spec disks dir (disks_in directory)
 opened_unharmed spec disks dir directory opened =
     unharmed_log spec disks dir opened.disk opened.log (disk_in directory.log) opened.reopened.unharmed
+
+-- its log was read
+pub opened_history : {D : Type 0} {g : _} (spec : HostSpec) (disks : DiskSpec D) (dir : List ℕ) (directory : Directory D g)
+    → IsOpened spec disks dir directory → HasHistory spec dir
+opened_history spec disks dir directory opened =
+    λ file held. (directory.core.snapshot.entries, opened.reopened.history file (opened.log.bytes ∙ held))
+
+-- a crash leaves the roots of a store's records
+roots_left : {D : Type 0} {g : _} (disks : DiskSpec D) (records : List (List ℕ)) (store : SegStore D g) (file image : List ℕ)
+    → StoreKeeps disks.bytes disks.images records store → disks.bytes (segments_in store) ≡ Some file
+    → disks.images (segments_in store) image → FileKeeps image (kept_roots records)
+roots_left disks records store file image keeps told_is left =
+    let kept = keeps.journal.file file told_is in
+    let stands : JournalStands segments_mark records file =
+    subst (λ (m : List ℕ). JournalStands m records file) store.marked
+    (stands-holds (mark_of store.journal) records file (ap length store.marked) kept.0) in
+    (records, inl (subst (λ (f : List ℕ). JournalStands segments_mark records f) (sym (kept.1 image left)) stands), refl)
+
+-- a crash leaves each of them
+pub root_left : {D : Type 0} {g : _} (disks : DiskSpec D) (store : SegStore D g) (root : KeptRoot) (file image : List ℕ)
+    → HasRoot disks.bytes disks.images store root → disks.bytes (segments_in store) ≡ Some file
+    → disks.images (segments_in store) image → FileHas image root
+root_left disks store root file image has told_is left =
+    (kept_roots has.0, roots_left disks has.0 store file image has.1 told_is left, has.2)
+
+-- its file keeps the trees, where it kept them before
+pub opened_covered : {D : Type 0} {g : _} (spec : HostSpec) (disks : DiskSpec D) (dir : List ℕ) (directory : Directory D g)
+    → IsOpened spec disks dir directory
+    → StaysCovered spec disks dir directory.core.snapshot.entries directory.core.snapshot.covered (segments_in directory.store)
+opened_covered spec disks dir directory opened = λ file is.
+    let held = opened.segments.bytes ∙ is in
+    let re = opened.reopened in
+    elim (re.root file held) [
+      | inl fault ↦ inl fault
+      | inr rest ↦ elim rest [
+        | inl none ↦ inr (inl none)
+        | inr has ↦ inr (inr (λ image left.
+            let later = re.segments_known file held in (
+              root_of directory.core.snapshot.roots directory.core.snapshot.covered,
+              root_left disks directory.store _ later.0 image has later.1 left,
+              refl,
+              re.core.snapshot.history.roots_stand,
+            )))
+      ]
+    ]
 
 module _ {I O : Type 0} (io : StreamSpec I O) (old mid : HostSpec) (streams : SameStreams old mid) where
   one_over : (name : List ℕ) (s : SessionOut I O) → IsOpenedFor mid io name s → IsOpenedFor old io name s

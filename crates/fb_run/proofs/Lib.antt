@@ -1,4 +1,5 @@
 pub mod Lists
+pub mod Opens
 pub mod Telling
 pub mod Talking
 pub mod Running
@@ -10,4 +11,5 @@ pub mod Settling
 pub mod Crossing
 pub mod Ahead
 pub mod Loads
+pub mod Generators
 pub mod LoadsWhole

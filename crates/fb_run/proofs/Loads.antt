@@ -158,14 +158,19 @@ module _ {I O D : Type 0} (spec new : HostSpec) (io : StreamSpec I O) (disks : D
 
   pub load_replies : (terms : Terms) (opened : List (SessionOut Supply Store))
       → EachOf (λ n name s. IsOpenedFor generators in_memory name s) 0 names opened
-      → IfSome ran.last (λ last. RepliesBy terms in_memory ran.recovered (stop_of ran.torn) opened ran.sessions.items last.entries)
-      → IfSome out.last (λ last. EachReplies terms generators in_memory out.recovered (stop_of out.torn) names out.loads.items last.entries)
+      → IfSome ran.last (λ last. RepliesBy terms in_memory ran.recovered ran.torn
+      (unwrap_or ran.authors []) opened ran.sessions.items last.entries)
+      → IfSome out.last (λ last. EachReplies terms generators in_memory out.recovered out.torn
+      (unwrap_or out.authors []) names out.loads.items last.entries)
   load_replies terms opened each replies =
-      subst (λ ss. IfSome out.last (λ last. EachReplies terms generators in_memory out.recovered (stop_of out.torn) names ss last.entries))
+      subst (λ ss. IfSome out.last (λ last. EachReplies terms generators in_memory out.recovered out.torn
+      (unwrap_or out.authors []) names ss last.entries))
       (sym loads)
-      (over (λ l. IfSome l.last (λ last. EachReplies terms generators in_memory l.recovered (stop_of l.torn) names ran.sessions.items
+      (over (λ l. IfSome l.last (λ last. EachReplies terms generators in_memory l.recovered l.torn
+      (unwrap_or l.authors []) names ran.sessions.items
       last.entries))
-      (IfSome_then ran.last replies (λ last r. replies_told terms generators in_memory last.entries _ _ names opened ran.sessions.items each
+      (IfSome_then ran.last replies (λ last r. replies_told terms generators in_memory last.entries _ _ _ names opened ran.sessions.items
+      each
       r)))
 
   pub load_prefixes : IfSome ran.last (λ last. AllByRecursion
@@ -231,7 +236,7 @@ module _ {I O D : Type 0} (spec new : HostSpec) (io : StreamSpec I O) (disks : D
         → HaveRun spec io new.faults command out early
         → (SaysWhy answered out.status (string_bytes out.line) → ⊥)
         → SaysWhy (why_of early (stop_of torn) end) out.status (string_bytes out.line)
-        → CauseOf spec io disks new.faults command out (why_of early (stop_of torn) end)
+        → CauseOf spec new io disks command out (why_of early (stop_of torn) end)
     cause_wrong None None Shut is holds segments there counted run wrong says = absurd (wrong says)
     cause_wrong None None StoreFault is holds segments there counted run wrong says = (run, is, (segments, there, counted))
     cause_wrong None None Spent is holds segments there counted run wrong says = absurd (wrong says)
@@ -248,7 +253,7 @@ module _ {I O D : Type 0} (spec new : HostSpec) (io : StreamSpec I O) (disks : D
         (was : O) (sink : IsSinkOf spec io standard was)
         (holds : IfSome out.last (λ l. IfSome out.log (LogHolds spec disks (directory_of command) l.entries out.recovered out.torn))) where
       wrong_says : Ended opened → SaysSame ran.status (string_bytes ran.line) ran.last (said_of out)
-          → Causes spec io disks new.faults command out
+          → Causes spec new io disks command out
       wrong_says ended says =
           let early = first_early names (map end_of ran.sessions.items) in
           let e = ended.ends in
@@ -293,7 +298,7 @@ module _ {I O D : Type 0} (spec new : HostSpec) (io : StreamSpec I O) (disks : D
 
       sums_up : IsUnfailed spec disks command out Segments → HaveRun spec io new.faults command out None → out.torn ≡ None
           → (k : SnapshotModel) → out.last ≡ Some k
-          → SumsUp io.contents io.sink_faults k.entries was (said_of out) → Causes spec io disks new.faults command out
+          → SumsUp io.contents io.sink_faults k.entries was (said_of out) → Causes spec new io disks command out
       sums_up stays run torn k last_is (inl refused) =
           record { why = memory; says = inr refused.0; cause = inr (run, torn); console = refused.1 }
       sums_up stays run torn k last_is (inr told_it) =
@@ -316,7 +321,7 @@ module _ {I O D : Type 0} (spec new : HostSpec) (io : StreamSpec I O) (disks : D
 
       well_says : Ended opened
           → HasSummedUp io.contents io.sink_faults ran.status ran.last was (said_of out)
-          → Causes spec io disks new.faults command out
+          → Causes spec new io disks command out
       well_says ended says =
           let e = ended.ends in
           let ends = map end_of ran.sessions.items in
@@ -329,12 +334,12 @@ module _ {I O D : Type 0} (spec new : HostSpec) (io : StreamSpec I O) (disks : D
 
       pub caused_by_load : (NoSession ran × IsOutOfMemory ran) ⊎ Ended opened
           → SaysFurther io.contents io.sink_faults ran.status (string_bytes ran.line) ran.last was (said_of out)
-          → Causes spec io disks new.faults command out
+          → Causes spec new io disks command out
       caused_by_load (inl nothing) (inl says) =
           let status : out.status ≡ ran.status = ap (λ (s : Said O). s.status) says.same in
           let line : string_bytes out.line ≡ string_bytes ran.line = ap (λ (s : Said O). s.line) says.same in
           let refused : IsOutOfMemory out = rw (status, line) nothing.1 in
-          caused_by_memory spec io disks new.faults out (load count) (no_session nothing.0) (ap (λ (s : Said O). s.console) says.same)
+          caused_by_memory spec io disks new out (load count) (no_session nothing.0) (ap (λ (s : Said O). s.console) says.same)
           refused
       caused_by_load (inl nothing) (inr says) = absurd (omega (arith, nothing.1.0, says.success))
       caused_by_load (inr ended) (inl says) = wrong_says ended says
@@ -342,11 +347,15 @@ module _ {I O D : Type 0} (spec new : HostSpec) (io : StreamSpec I O) (disks : D
 
 -- ---- where a list of sessions is empty
 
-pub nothing_replies : {I O : Type 0} (terms : Terms) (spec : HostSpec) (io : StreamSpec I O) (opening : ℕ) (stop : Option ℕ)
-    (sessions : List (SessionOut I O)) → sessions ≡ [] → (last : Option SnapshotModel)
-    → IfSome last (λ l. EachReplies terms spec io opening stop [] sessions l.entries)
-nothing_replies terms spec io opening stop sessions none None = tt
-nothing_replies terms spec io opening stop sessions none (Some l) = (0, rw none tt)
+-- their teller is that of the others
+pub nothing_replies : {I O J P : Type 0} (terms theirs : Terms) (spec others : HostSpec) (io : StreamSpec I O) (beside : StreamSpec J P)
+    (opening : ℕ) (torn : Option Draft) (authors : List ℕ) (names : List (List ℕ)) (sessions : List (SessionOut I O))
+    (talked : List (SessionOut J P)) → sessions ≡ [] → (last : Option SnapshotModel)
+    → IfSome last (λ l. EachReplies theirs others beside opening torn authors names talked l.entries)
+    → IfSome last (λ l. EachReplies terms spec io opening torn authors [] sessions l.entries)
+nothing_replies terms theirs spec others io beside opening torn authors names sessions talked none None replies = tt
+nothing_replies terms theirs spec others io beside opening torn authors names sessions talked none (Some l) replies =
+    (replies.0, rw none tt, replies.2)
 
 pub nothing_all : {S : Type 0} (P : SnapshotModel → S → Type 0) (sessions : List S) → sessions ≡ [] → (last : Option SnapshotModel)
     → IfSome last (λ l. AllByRecursion (P l) sessions)

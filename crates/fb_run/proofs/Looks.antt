@@ -14,13 +14,13 @@ use Rattle.fb_run.specs.declared.database.Directory.{Directory}
 use Rattle.fb_run.specs.declared.database.Unready.{Unready}
 use Rattle.fb_run.specs.declared.looking.Look.{Look}
 use Rattle.fb_run.specs.StatusLines.{reported, console_failed, history_line}
-use Rattle.fb_run.specs.Outside.{StreamSpec, DiskSpec}
-use Rattle.fb_run.specs.Opening.{OpensSink, IsNotOpened}
+use Rattle.fb_run.specs.Outside.{StreamSpec, DiskSpec, OpensOnly, of_directory, of_sinks}
+use Rattle.fb_run.specs.Opening.{OpensSink, HostRefuses}
 use Rattle.fb_run.specs.Database.{SameStreams, IsOpened, LeaveLogUnharmed, IsUnready, disks_in}
 use Rattle.fb_run.specs.Causes.{SaysWhy}
 use Rattle.fb_run.specs.Looking.{IsLook, IsUnanswered, HasPrinted}
-use Rattle.fb_run.proofs.Directories.{opened_unharmed, unready_later}
-use Rattle.fb_run.proofs.Telling.{first_unopened}
+use Rattle.fb_run.specs.Coverage.{StaysCovered}
+use Rattle.fb_run.proofs.Directories.{opened_unharmed, opened_history, opened_covered, unready_console}
 
 pub has_told : {I O D E : Type 0} (contents : O → Option (List ℕ)) (faults : O → ℕ) (line sent : List ℕ) (was now : O)
     (outcome : Outcome I O D) (r : Result (Unit {0}) E) → sent ≡ line → outcome.console ≡ Some now
@@ -60,6 +60,8 @@ module _ {I O D : Type 0} {g : _} (old mid new : HostSpec) (io : StreamSpec I O)
           opening = λ file held. opened.reopened.history file (opened.log.bytes ∙ held);
           covered = directory.core.snapshot.covered;
           coverage = λ file held. opened.reopened.coverage file (opened.segments.bytes ∙ held);
+          kept = subst (λ (d : Directory D g). StaysCovered old disks dir h directory.core.snapshot.covered (segments_in d.store)) (sym is)
+              (opened_covered old disks dir directory opened);
           line = line ∙ ap (λ (m : ℕ). history_line m directory.core.snapshot.covered) opened.reopened.recovered;
           console = record {
             contents = its.is.contents ∙ streams.sinks standard;
@@ -79,11 +81,14 @@ module _ {I O D : Type 0} {g : _} (old mid new : HostSpec) (io : StreamSpec I O)
     is_look (Ok look) is line sink = look_of look is line sink
     is_look (Err e) is line sink = tt
 
-    pub is_unready : {T : Type 0} (r : Result T (Unready D)) → IfErr r (IsUnanswered mid new name directory)
-        → IfErr r (IsUnready old new disks dir (dir ∷ standard ∷ []))
-    is_unready (Ok x) not = tt
-    is_unready (Err unready) not =
-        let its = subst (λ (n : List ℕ). IsNotOpened n mid new not.why) standard_is not.not in
-        subst (λ (u : Unready D). IsUnready old new disks dir (dir ∷ standard ∷ []) u) (sym not.is)
-        (unready_later disks dir (standard ∷ []) old mid new (disks_in directory) not.why streams.faults
-        (opened_unharmed old disks dir directory opened) (first_unopened standard [] mid new not.why its))
+    pub is_unready : {T : Type 0} (r : Result T (Unready D)) → OpensOnly (of_directory dir) old mid
+        → OpensOnly (of_sinks (name ∷ [])) mid new → IfErr r (IsUnanswered mid new name directory)
+        → IfErr r (IsUnready old new disks (record (of_sinks (standard ∷ [])) { directories = dir ∷ [] }) dir (dir ∷ standard ∷ []))
+    is_unready (Ok x) first only not = tt
+    is_unready (Err unready) first only not =
+        let its = subst (λ (n : List ℕ). HostRefuses n mid new not.why) standard_is not.not in
+        let ours = subst (λ (n : List ℕ). OpensOnly (of_sinks (n ∷ [])) mid new) standard_is only in
+        subst (λ (u : Unready D). IsUnready old new disks (record (of_sinks (standard ∷ [])) { directories = dir ∷ [] }) dir
+        (dir ∷ standard ∷ []) u) (sym not.is)
+        (unready_console disks dir old mid new (disks_in directory) streams.faults (opened_unharmed old disks dir directory opened)
+        (opened_history old disks dir directory opened) first not.why ours its)

@@ -19,7 +19,7 @@ use Rattle.fb_desk.specs.Desks.{State, as_opened}
 use Rattle.fb_conn.specs.declared.conn.Conn.{Conn}
 use Rattle.fb_conn.specs.declared.seats.Seat.{Seat}
 use Rattle.fb_conn.specs.declared.home.Stop.{Stop}
-use Rattle.fb_conn.specs.Homes.{LogStands}
+use Rattle.fb_conn.specs.Homes.{LogStands, IsTornBy}
 use Rattle.fb_conn.specs.Seats.{IsSeatOf, IsWorkerOf, state_of}
 use Rattle.fb_core.specs.declared.shared.CoreParts.{CoreParts}
 use Rattle.fb_core.specs.declared.accepting.Draft.{Draft}
@@ -52,6 +52,13 @@ IsNew h s = s ≡ record (as_opened h) { seat = s.seat }
 abbrev pub teller_of : Option Stop → ℕ
 teller_of None = 0
 teller_of (Some stop) = stop.author
+
+-- the torn transaction is the teller's
+torn_by : (authors : List ℕ) (stopped : Option Stop) (torn : Option Draft) → stop_of torn ≡ option_map at_of stopped
+    → IsTornBy authors stopped torn → IfSome torn (λ draft. draft.authors ≡ authors ++ teller_of stopped ∷ [])
+torn_by authors stopped None is by = tt
+torn_by authors None (Some draft) is by = let wrong = is in absurd (cc)
+torn_by authors (Some who) (Some draft) is by = by
 
 module _ {I O : Type 0} (terms : Terms) (io : StreamSpec I O) (h : List Entry) (begun : IsLawful h) (r : ℕ) (start : basis h ≡ r) (stopped :
     Option Stop) (last : SnapshotModel)
@@ -187,16 +194,25 @@ module _ {I O : Type 0} (terms : Terms) (io : StreamSpec I O) (h : List Entry) (
     same_count : length opened ≡ length sessions
     same_count = omega (arith, count, talked.session_count)
 
-    pub all_replies : RepliesBy terms io r stop opened sessions last.entries
-    all_replies = (
+    each_replies : EachOf (λ n (old new : SessionOut I O).
+        Replies (setting_of terms last.entries stop (teller_of stopped == n)) r (run_from io old.source old.sink new)) 0 opened sessions
+    each_replies =
+        each_at (λ n (old new : SessionOut I O). Replies (setting_of terms last.entries stop (teller_of stopped == n)) r (run_from io
+        old.source old.sink
+        new)) 0 opened sessions same_count (λ k m old new is is_old is_new_one.
+        let same : m ≡ k = omega (arith, is) in
+        subst (λ (n : ℕ). Replies (setting_of terms last.entries stop (teller_of stopped == n)) r (run_from io old.source old.sink
+        new)) (sym same)
+        (part_at k old new is_old is_new_one (slice_get_within sessions k new is_new_one)).replies)
+
+    pub all_replies : (torn : Option Draft) → stop_of torn ≡ stop → IsTornBy authors stopped torn
+        → RepliesBy terms io r torn authors opened sessions last.entries
+    all_replies torn is by = (
       teller_of stopped,
-      each_at (λ n (old new : SessionOut I O). Replies (setting_of terms last.entries stop (teller_of stopped == n)) r (run_from io
-          old.source old.sink
-          new)) 0 opened sessions same_count (λ k m old new is is_old is_new_one.
-          let same : m ≡ k = omega (arith, is) in
-          subst (λ (n : ℕ). Replies (setting_of terms last.entries stop (teller_of stopped == n)) r (run_from io old.source old.sink
-          new)) (sym same)
-          (part_at k old new is_old is_new_one (slice_get_within sessions k new is_new_one)).replies),
+      subst (λ (at : Option ℕ). EachOf (λ n (old new : SessionOut I O).
+          Replies (setting_of terms last.entries at (teller_of stopped == n)) r (run_from io old.source old.sink new)) 0 opened sessions)
+          (sym is) each_replies,
+      torn_by authors stopped torn is by,
     )
 
     pub all_counts : EachOf (λ n (old new : SessionOut I O). CountsBy io old new) 0 opened sessions
@@ -273,10 +289,11 @@ pub closes_of : {I O D : Type 0} (seats : List Seat) (outcome : Outcome I O D) (
     → parts.snapshot.entries ≡ core.snapshot.entries → parts.authors ≡ core.authors
     → outcome.last ≡ Some parts.snapshot → outcome.authors ≡ Some parts.authors → start ≡ r → stop_of outcome.torn ≡ option_map at_of
     stopped
+    → IsTornBy core.authors stopped outcome.torn
     → CoreStands core
     → start + length core.authors ≡ basis core.snapshot.entries → AllByRecursion (λ author. author < length seats) core.authors
     → ((k : ℕ) (seat : Seat) → slice_get seats k ≡ Some seat → IsTakenIn core start stopped k (state_of seat)) → Closes seats r outcome
-closes_of seats outcome core parts start r stopped same by_same last authors begins torn stands each_t by_seats taken =
+closes_of seats outcome core parts start r stopped same by_same last authors begins torn teller stands each_t by_seats taken =
     let counted : start + length core.authors ≡ basis parts.snapshot.entries = each_t ∙ ap basis (sym same) in
     record {
       last = parts.snapshot;
@@ -298,6 +315,7 @@ closes_of seats outcome core parts start r stopped same by_same last authors beg
           } in
           subst (λ (n : ℕ). IsTakenIn parts n stopped k (state_of seat)) begins now;
       torn = torn;
+      teller = subst (λ (who : List ℕ). IsTornBy who stopped outcome.torn) (sym by_same) teller;
     }
 
 -- ---- the outcome
@@ -326,13 +344,14 @@ module _ {I O D L R : Type 0} (terms : Terms) (io : StreamSpec I O) (conn : Conn
       conn given opened seats sessions talked count is_new closes.taken
       closes.each_t closes.by_sessions))
 
-  pub run_replies : IfSome outcome.last (λ last. RepliesBy terms io outcome.recovered (stop_of outcome.torn) opened
+  pub run_replies : IfSome outcome.last (λ last. RepliesBy terms io outcome.recovered outcome.torn (unwrap_or outcome.authors []) opened
       outcome.sessions.items last.entries)
   run_replies =
-      some_then (λ last. RepliesBy terms io outcome.recovered (stop_of outcome.torn) opened outcome.sessions.items last.entries)
+      some_then (λ last. RepliesBy terms io outcome.recovered outcome.torn (unwrap_or outcome.authors []) opened outcome.sessions.items
+      last.entries)
       outcome.last closes.last closes.last_is
-      (rw (start, same, closes.torn) (all_replies terms io h begun r opens closes.stopped closes.last closes.authors closes.lawful conn
-      given opened seats sessions talked count is_new closes.taken))
+      (rw (start, same, closes.authors_is) (all_replies terms io h begun r opens closes.stopped closes.last closes.authors closes.lawful
+      conn given opened seats sessions talked count is_new closes.taken outcome.torn closes.torn closes.teller))
 
   pub run_prefixes : IfSome outcome.last (λ last. AllByRecursion (λ (s : SessionOut I O). Prefixes outcome.recovered (basis last.entries)
       s.places s.commits) outcome.sessions.items)

@@ -8,6 +8,7 @@ use Rattle.io_faults.specs.Faults.{Rose}
 use Rattle.fb_values.specs.declared.facts.Entry.{Entry}
 use Rattle.fb_model.specs.History.{upto}
 use Rattle.fb_model.specs.Lawful.{IsLawful}
+use Rattle.disk_model.specs.Disk.{IfKnown}
 use Rattle.view_model.specs.Stands.{RootStands}
 use Rattle.seg_tree.specs.Ids.{next_above}
 use Rattle.seg_tree.specs.Indexes.{root_ids, trees_of}
@@ -16,7 +17,7 @@ use Rattle.seg_store.specs.Stores.{disk_in, next_in}
 use Rattle.seg_store.specs.Keeping.{GoesOn, HasKept}
 use Rattle.seg_store.specs.declared.stores.SegStore.{SegStore}
 use Rattle.seg_store.proofs.Rooting.{great_left}
-use Rattle.fb_recover.specs.Openings.{HasCoverage}
+use Rattle.fb_recover.specs.Openings.{HasCoverage, AgreesWithNone, HasFault}
 use Rattle.fb_roots.specs.declared.bases.Base.{Base}
 use Rattle.fb_view.specs.SnapshotModel.{SnapshotModel}
 use Rattle.fb_core.specs.Cores.{live_datoms}
@@ -33,10 +34,12 @@ use Rattle.fb_run.specs.Outside.{StreamSpec, DiskSpec}
 use Rattle.fb_run.specs.Database.{IsOpened}
 use Rattle.fb_run.specs.Headline.{stop_of}
 use Rattle.fb_run.specs.Causes.{NoSession, IsOutOfMemory}
-use Rattle.fb_run.specs.Merging.{TreesStand, TreesFit, trees_in, CountsMerges, HaveMerged, NumbersAreUsedUp, HaveSettled, LeavesTrees}
-use Rattle.fb_run.specs.Merging.{GoAsFar, IsMerged}
+use Rattle.fb_run.specs.Merging.{TreesStand, TreesFit, trees_in, CountsMerges, StayKept, HaveMerged, NumbersAreUsedUp, HaveSettled}
+use Rattle.fb_run.specs.Merging.{LeavesTrees}
+use Rattle.fb_run.specs.Coverage.{IsCovered, GoAsFar, IsMerged}
 use Rattle.fb_run.specs.Running.{GoesOnFrom, EndsWith, HaveEnded}
 use Rattle.fb_run.proofs.Causing.{success_is_merged}
+use Rattle.fb_run.proofs.Directories.{root_left}
 
 -- ---- counts
 
@@ -84,6 +87,7 @@ module _ {D : Type 0} {g : _} (disks : DiskSpec D) where
       → HaveMerged disks begun now end → HaveSettled disks merge_at begun now end last
   settled_so merge_at begun now end last not_shut not_spent merged = record {
     base = merged.base;
+    stays = merged.stays;
     counts = merged.counts;
     shut = λ is. absurd (not_shut is);
     spent = λ is. absurd (not_spent is);
@@ -123,19 +127,40 @@ module _ {D : Type 0} {g : _} (disks : DiskSpec D) where
     -- merging went on in the closed core
     pub settled_on : (merge_at : ℕ) (now : Trees D g) (then : WorkEnd) (last : SnapshotModel)
         → IsOldOrKept (HasKept disks.bytes disks.images begun.store) mid.base now.store now.base
-        → (HasKept disks.bytes disks.images begun.store mid.base mid.store
-        → HasKept disks.bytes disks.images begun.store mid.base now.store)
+        → ((older : Base) → HasKept disks.bytes disks.images begun.store older mid.store
+        → HasKept disks.bytes disks.images begun.store older now.store)
         → CountsMerges then (disks.faults (disk_in mid.store)) (disks.faults (disk_in now.store))
         → (then ≡ Shut → live_datoms last.live < merge_at)
         → (then ≡ Spent → IsOutOfIds (next_in mid.store) (start_of mid.base mid.ahead)) → (then ≡ Spent → now.store ≡ mid.store)
         → HaveSettled disks merge_at begun now then last
     settled_on merge_at now then last base still counts shut spent same = record {
-      base = chained (HasKept disks.bytes disks.images begun.store) mid.store now.store begun.base mid.base now.base merged.base still base;
+      base = chained (HasKept disks.bytes disks.images begun.store) mid.store now.store begun.base mid.base now.base merged.base
+          (still mid.base) base;
+      stays = λ older kept. still older (merged.stays older kept);
       counts = counts_since end then (disks.faults (disk_in begun.store)) (disks.faults (disk_in mid.store))
           (disks.faults (disk_in now.store)) unfailed merged.counts counts;
       shut = shut;
       spent = λ is. subst (λ (s : SegStore D g). NumbersAreUsedUp disks begun (disk_in s)) (sym (same is)) (used_up (spent is));
     }
+
+  -- trees that the file keeps cover what they are of
+  kept_cover : (begun now : Trees D g) (last : SnapshotModel) → TreesStand now last.entries last.covered
+      → HasKept disks.bytes disks.images begun.store now.base now.store
+      → IfKnown (disks.bytes (disk_in begun.store)) (λ _. IsCovered disks last.entries last.covered (disk_in now.store))
+  kept_cover begun now last stand kept = λ file spec image left. (
+    root_of now.base.roots now.base.c,
+    kept.root file spec image left,
+    stand.base.0,
+    subst (λ (c : ℕ). RootStands (trees_of now.base.roots) last.entries c) (sym stand.base.0) stand.base.1,
+  )
+
+  -- the trees are kept, where those with which they were begun are
+  still_there : (begun now : Trees D g) → IsOldOrKept (HasKept disks.bytes disks.images begun.store) begun.base now.store now.base
+      → StayKept disks begun now → HasKept disks.bytes disks.images begun.store begun.base begun.store
+      → HasKept disks.bytes disks.images begun.store now.base now.store
+  still_there begun now (inl was) stays kept =
+      subst (λ (b : Base). HasKept disks.bytes disks.images begun.store b now.store) (sym was) (stays begun.base kept)
+  still_there begun now (inr is) stays kept = is
 
   -- the trees of a closed database, and the disk of their store
   pub leaves_trees : (merge_at : ℕ) (begun now : Trees D g) (end : WorkEnd) (last : SnapshotModel)
@@ -145,13 +170,9 @@ module _ {D : Type 0} {g : _} (disks : DiskSpec D) where
     counts = settled.counts;
     covers = elim settled.base [
       | inl was ↦ inl (sym stand.base.0 ∙ ap (λ (b : Base). b.c) was)
-      | inr kept ↦ inr (λ file spec image left. (
-        root_of now.base.roots now.base.c,
-        kept.root file spec image left,
-        stand.base.0,
-        subst (λ (c : ℕ). RootStands (trees_of now.base.roots) last.entries c) (sym stand.base.0) stand.base.1,
-      ))
+      | inr kept ↦ inr (kept_cover begun now last stand kept)
     ];
+    stays = λ kept. kept_cover begun now last stand (still_there begun now settled.base settled.stays kept);
     shut = settled.shut;
     spent = settled.spent;
   }
@@ -161,13 +182,39 @@ module _ {D : Type 0} {g : _} (disks : DiskSpec D) where
 module _ {D : Type 0} {g : _} (spec : HostSpec) (disks : DiskSpec D) (dir : List ℕ) (directory : Directory D g)
     (opened : IsOpened spec disks dir directory) (merge_at : ℕ) (end : WorkEnd) (last : SnapshotModel) (segments : D)
     (trees : LeavesTrees disks merge_at (trees_in directory) end last segments) where
+  -- the file of segments had a fault or agreed with nothing, or it keeps the trees of the opening
+  begins_kept : (file : List ℕ) → disks.bytes opened.file ≡ Some file
+      → (HasFault file ⊎ AgreesWithNone directory.core.snapshot.entries file)
+      ⊎ HasKept disks.bytes disks.images directory.store (trees_in directory).base directory.store
+  begins_kept file held = elim (opened.reopened.root file held) [
+    | inl fault ↦ inl (inl fault)
+    | inr rest ↦ elim rest [
+      | inl none ↦ inl (inr none)
+      | inr has ↦ elim (opened.reopened.below file held) [
+        | inl fault ↦ inl (inl fault)
+        | inr more ↦ elim more [
+          | inl none ↦ inl (inr none)
+          | inr above ↦ inr (record {
+            root = λ now told image left. root_left disks directory.store _ now image has told left;
+            below = above;
+          })
+        ]
+      ]
+    ]
+  ]
+
   far : (opening : List Entry) → opening ≡ directory.core.snapshot.entries → GoAsFar spec disks dir opening last segments
   far opening begins = λ file is.
       let held = opened.segments.bytes ∙ is in
-      elim trees.covers [
-        | inl same ↦ inl (subst (λ (h : List Entry). HasCoverage h last.covered file) (sym begins)
-            (subst (λ (c : ℕ). HasCoverage directory.core.snapshot.entries c file) (sym same) (opened.reopened.coverage file held)))
-        | inr left ↦ let then = opened.reopened.segments_known file held in inr (left then.0 then.1)
+      let then = opened.reopened.segments_known file held in
+      elim (begins_kept file held) [
+        | inr kept ↦ inr (trees.stays kept then.0 then.1)
+        | inl lost ↦ elim trees.covers [
+          | inl same ↦ inl (subst (λ (h : List Entry). HasCoverage h last.covered file × (HasFault file ⊎ AgreesWithNone h file))
+              (sym begins)
+              (subst (λ (c : ℕ). HasCoverage directory.core.snapshot.entries c file) (sym same) (opened.reopened.coverage file held), lost))
+          | inr left ↦ inr (left then.0 then.1)
+        ]
       ]
 
   none_due : (end ≡ Shut) ⊎ (end ≡ Spent) → IsMerged spec disks dir merge_at last segments

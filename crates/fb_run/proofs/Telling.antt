@@ -1,25 +1,21 @@
 -- What a host tells of scripts that are opened one after another is what it told at first.
-use Rattle.std.proofs.Common.{◌≡◌, ◌≢◌, ℕ, ◌+◌, Bool, true, false, List, [], ◌∷◌, ◌++◌, map, length, length-append, Some, suc, refl, sym}
+use Rattle.std.proofs.Common.{◌≡◌, ◌≢◌, ℕ, ◌+◌, Bool, true, false, List, [], ◌∷◌, ◌++◌, map, length, length-append, refl, sym}
 use Rattle.std.proofs.Common.{ap, ◌∙◌, subst, arith}
 use Rattle.std.proofs.lemmas.Bool.{not-true}
 use Rattle.std.proofs.lemmas.List.{append-nil, append_assoc, append_cancel_right}
 use Rattle.std.proofs.lemmas.Slice.Eq.{bytes_eq-Decides}
 use Rattle.std.specs.Prelude.{◌-◌, ◌<◌, ◌≤◌, ◌&&◌, ◌||◌, not, bytes_eq, codes, get_or, take, drop, if◌then◌else◌, Result, Ok, Err, OnOk}
-use Rattle.std.specs.Prelude.{IfErr}
 use Rattle.std.specs.Borrow.{Bor}
 use lib.ListN.{length-map}
 use Rattle.command_line.specs.Views.{names_in}
 use Rattle.fb_run.proofs.Lists.{each_len, names_cut}
 use Rattle.std.specs.List.{list_any, AllByRecursion}
-use Rattle.fb_ports.specs.Faults.{Rose}
 use Rattle.fb_ports.specs.HostSpec.{HostSpec}
 use Rattle.fb_ports.specs.HostCalls.{Same, SameBut}
 use Rattle.command_line.specs.Words.{standard, sink_of, is_out_of, clash, are_apart}
 use Rattle.fb_run.specs.declared.outcome.SessionOut.{SessionOut}
-use Rattle.fb_run.specs.declared.opening.Unopened.{Unopened}
-use Rattle.fb_run.specs.declared.opening.Unopened.TheVariants.{CannotOpen, Memory}
 use Rattle.fb_run.specs.Outside.{StreamSpec, IsSourceOf, IsSinkOf, EachOf}
-use Rattle.fb_run.specs.Opening.{AddsSource, OpensSources, AddsSession, AddsSessions, IsOpenedFor, HasOpened, IsNotOpened, IsUnopened}
+use Rattle.fb_run.specs.Opening.{AddsSource, OpensSources, AddsSession, AddsSessions, IsOpenedFor, HasOpened}
 
 -- ---- names that are apart
 
@@ -187,41 +183,10 @@ module _ {I O : Type 0} (io : StreamSpec I O) where
         faults = second.faults ∙ first.faults;
       }
 
--- ---- what is not opened
-
-pub first_unopened : (name : List ℕ) (names : List (List ℕ)) (old new : HostSpec) (why : Unopened) → IsNotOpened name old new why
-    → IsUnopened
-    (name ∷ names) old new why
-first_unopened name names old new (CannotOpen why) not = ((0, ap Some (sym not.0)), not.1)
-first_unopened name names old new Memory not = tt
-
-pub later_unopened : (name : List ℕ) (names : List (List ℕ)) (old mid new : HostSpec) (why : Unopened) → mid.faults ≡ old.faults
-    → IsUnopened
-    names mid new why
-    → IsUnopened (name ∷ names) old new why
-later_unopened name names old mid new (CannotOpen why) same not = ((suc not.0.0, not.0.1), subst (λ n. Rose n new.faults) same not.1)
-later_unopened name names old mid new Memory same not = tt
-
-pub then_unopened : (names : List (List ℕ)) (old mid new : HostSpec) (why : Unopened) → mid.faults ≡ old.faults
-    → IsUnopened names mid new why
-    → IsUnopened names old new why
-then_unopened names old mid new (CannotOpen why) same not = (not.0, subst (λ n. Rose n new.faults) same not.1)
-then_unopened names old mid new Memory same not = tt
-
 omega_eq : (a b c : ℕ) → b ≡ a → b ≡ c → a ≡ c
 omega_eq a b c e f = sym e ∙ f
 
 -- ---- in the words of the functions that open them one after another
-
-pub stop_step : {T : Type 0} (r : Result T Unopened) (scripts : List (Bor (List ℕ))) (old mid new : HostSpec) → 1 ≤ length scripts
-    → mid.faults
-    ≡ old.faults
-    → IfErr r (IsUnopened (names_in (take (length scripts - 1) (drop 1 scripts))) mid new) → IfErr r (IsUnopened (names_in scripts) old new)
-stop_step (Ok x) scripts old mid new some same not = tt
-stop_step (Err why) scripts old mid new some same not =
-    let d : Bor (List ℕ) = record { ref_ptr = (0, 0); now = [] } in
-    subst (λ (names : List (List ℕ)). IsUnopened names old new why) (sym (names_cut scripts d some)) (later_unopened (get_or scripts 0
-    d).now _ old mid new why same not)
 
 module _ {I O : Type 0} (io : StreamSpec I O) where
   pub sources_none : (scripts : List (Bor (List ℕ))) (had : List I) (spec : HostSpec) → length scripts < 1 → OpensSources io (names_in

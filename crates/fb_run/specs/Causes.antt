@@ -19,12 +19,13 @@ use Rattle.fb_session.specs.Replies.{SourceCount, SinkCount}
 use Rattle.fb_session.specs.Written.{TakesPart}
 use Rattle.fb_run.specs.declared.outcome.SessionOut.{SessionOut}
 use Rattle.fb_run.specs.declared.outcome.Outcome.{Outcome}
-use Rattle.fb_run.specs.Outside.{StreamSpec, DiskSpec, IsDiskOf, EachOf}
+use Rattle.fb_run.specs.Outside.{StreamSpec, DiskSpec, ports_of, OpensUpTo, IsDiskOf, EachOf}
 use Rattle.fb_run.specs.Headline.{stop_of}
 use Rattle.fb_run.specs.Generated.{loads_of, spec_in_memory, in_memory}
 use Rattle.fb_run.specs.Summary.{IsSummary}
-use Rattle.fb_run.specs.Logs.{IsUnharmed}
+use Rattle.fb_run.specs.Logs.{HasHistory, IsUnharmed}
 use Rattle.fb_recover.specs.Openings.{HasCoverage}
+use Rattle.fb_run.specs.Coverage.{StaysCovered}
 use Rattle.fb_run.specs.StatusLines.{Why, answered, reported, usage, unopened, disk_failed}
 use Rattle.fb_run.specs.StatusLines.{bad_record, unlawful, ended_early, console_failed, log_stopped}
 use Rattle.fb_run.specs.StatusLines.{segments_failed, memory, out_of_memory, history_line}
@@ -130,19 +131,22 @@ names_of (Some (run options directory scripts)) = directory ∷ scripts
 names_of (Some (check directory)) = directory ∷ standard ∷ []
 names_of (Some (load count)) = codes ":memory:" ∷ standard ∷ []
 
--- both disks are handed back, unless the directory itself was not opened
-abbrev pub HandsBack : {I O D : Type 0} → ℕ → Outcome I O D → Type 0
-HandsBack zero outcome = HasNoDisk outcome
-HandsBack (suc place) outcome = HasDisks outcome
+-- Both disks are handed back, unless the directory itself was not opened. The log was read before
+-- what has a later name: it is that of a history.
+abbrev pub HandsBack : {I O D : Type 0} → HostSpec → Option Command → ℕ → Outcome I O D → Type 0
+HandsBack spec command zero outcome = HasNoDisk outcome
+HandsBack spec command (suc place) outcome =
+    HasDisks outcome × HasHistory spec (directory_of command)
 
--- the host could not open what has this name
-pub record CannotOpen {I O D : Type 0} (spec : HostSpec) (new : ℕ) (command : Option Command)
+-- the host could not open what has this name, and nothing was opened behind it
+pub record CannotOpen {I O D : Type 0} (spec new : HostSpec) (command : Option Command)
     (outcome : Outcome I O D) (name : List ℕ) : Type 0 where
   pub none : NoSession outcome
-  pub host : Rose spec.faults new
+  pub host : Rose spec.faults new.faults
   pub place : ℕ
   pub named : slice_get (names_of command) place ≡ Some name
-  pub disks : HandsBack place outcome
+  pub disks : HandsBack spec command place outcome
+  pub behind : OpensUpTo (ports_of command) place spec new
 
 -- the directory's disks were opened, and its database was not
 pub record IsNotOpened {I O D : Type 0} (spec : HostSpec) (disks : DiskSpec D) (new : ℕ)
@@ -165,9 +169,7 @@ IsUntouched spec disks command outcome =
 abbrev pub IsInTurn : {I O D : Type 0} → HostSpec → DiskSpec D → Option Command → Outcome I O D
     → Part → Type 0
 IsInTurn spec disks command outcome Log = IsUntouched spec disks command outcome
-IsInTurn spec disks command outcome Segments =
-    IfKnown (spec.disks (directory_of command) Log)
-    (λ file. (history : List Entry) × IsLogOf file history)
+IsInTurn spec disks command outcome Segments = HasHistory spec (directory_of command)
 
 -- the disk of this part failed, or it did not
 abbrev pub Failed : {I O D : Type 0} → HostSpec → DiskSpec D → Option Command → Outcome I O D → Part
@@ -208,6 +210,7 @@ pub record HasLooked {I O D : Type 0} (spec : HostSpec) (io : StreamSpec I O) (d
   pub covered : ℕ
   pub coverage : IfKnown (spec.disks directory Segments) (HasCoverage history covered)
   pub unfailed : (part : Part) → IsUnfailed spec disks command outcome part
+  pub kept : IfSome outcome.segments (StaysCovered spec disks directory history covered)
   pub console : O
   pub console_is : outcome.console ≡ Some console
   pub took : Took (history_line (basis history) covered)
@@ -241,47 +244,47 @@ Reports spec io disks new command outcome Took =
     HasLooked spec io disks new command outcome Took
     ⊎ HasLoaded spec io disks new command outcome Took
 
-abbrev pub CauseOf : {I O D : Type 0} → HostSpec → StreamSpec I O → DiskSpec D → ℕ → Option Command
-    → Outcome I O D → Why → Type 0
-CauseOf spec io disks new command outcome answered =
-    HaveRun spec io new command outcome None × (outcome.torn ≡ None)
+abbrev pub CauseOf : {I O D : Type 0} → HostSpec → HostSpec → StreamSpec I O → DiskSpec D
+    → Option Command → Outcome I O D → Why → Type 0
+CauseOf spec new io disks command outcome answered =
+    HaveRun spec io new.faults command outcome None × (outcome.torn ≡ None)
     × IsUnfailed spec disks command outcome Segments
     × (loads_of command ≡ [])
-CauseOf spec io disks new command outcome reported =
-    Reports spec io disks new command outcome TookWhole
-CauseOf spec io disks new command outcome usage =
-    NoSession outcome × HasNoDisk outcome × (command ≡ None) × (new ≡ spec.faults)
-CauseOf spec io disks new command outcome (unopened name) =
+CauseOf spec new io disks command outcome reported =
+    Reports spec io disks new.faults command outcome TookWhole
+CauseOf spec new io disks command outcome usage =
+    NoSession outcome × HasNoDisk outcome × (command ≡ None) × (new.faults ≡ spec.faults)
+CauseOf spec new io disks command outcome (unopened name) =
     CannotOpen spec new command outcome name
-CauseOf spec io disks new command outcome (disk_failed part) =
-    IsNotOpened spec disks new command outcome
+CauseOf spec new io disks command outcome (disk_failed part) =
+    IsNotOpened spec disks new.faults command outcome
     × IsInTurn spec disks command outcome part
     × Failed spec disks command outcome part
-CauseOf spec io disks new command outcome (bad_record nth at) =
-    IsNotOpened spec disks new command outcome
+CauseOf spec new io disks command outcome (bad_record nth at) =
+    IsNotOpened spec disks new.faults command outcome
     × IsInTurn spec disks command outcome Log
     × IfKnown (spec.disks (directory_of command) Log)
     (λ file. FileSays file (bad_record_there nth at))
-CauseOf spec io disks new command outcome (unlawful t law) =
-    IsNotOpened spec disks new command outcome
+CauseOf spec new io disks command outcome (unlawful t law) =
+    IsNotOpened spec disks new.faults command outcome
     × IsInTurn spec disks command outcome Log
     × IfKnown (spec.disks (directory_of command) Log)
     (λ file. FileSays file (unlawful_there t law))
-CauseOf spec io disks new command outcome (ended_early name how) =
-    HaveRun spec io new command outcome (Some (name, how))
-CauseOf spec io disks new command outcome console_failed =
-    Reports spec io disks new command outcome TookPart
-CauseOf spec io disks new command outcome (log_stopped t) =
-    HaveRun spec io new command outcome None
+CauseOf spec new io disks command outcome (ended_early name how) =
+    HaveRun spec io new.faults command outcome (Some (name, how))
+CauseOf spec new io disks command outcome console_failed =
+    Reports spec io disks new.faults command outcome TookPart
+CauseOf spec new io disks command outcome (log_stopped t) =
+    HaveRun spec io new.faults command outcome None
     × (stop_of outcome.torn ≡ Some t)
     × Failed spec disks command outcome Log
-CauseOf spec io disks new command outcome segments_failed =
-    HaveRun spec io new command outcome None
+CauseOf spec new io disks command outcome segments_failed =
+    HaveRun spec io new.faults command outcome None
     × (outcome.torn ≡ None)
     × Failed spec disks command outcome Segments
-CauseOf spec io disks new command outcome memory =
+CauseOf spec new io disks command outcome memory =
     (NoSession outcome × IsSome command)
-    ⊎ (HaveRun spec io new command outcome None × (outcome.torn ≡ None))
+    ⊎ (HaveRun spec io new.faults command outcome None × (outcome.torn ≡ None))
 
 -- a console is handed back where there was a line for it
 abbrev pub HasConsole : {I O D : Type 0} → Why → Outcome I O D → Type 0
@@ -291,10 +294,9 @@ HasConsole why outcome = outcome.console ≡ None
 
 -- There is a reason why the run ended as it did.
 -- The status and the line say it, and it has its cause.
-pub record Causes {I O D : Type 0} (spec : HostSpec) (io : StreamSpec I O) (disks : DiskSpec D)
-    (new : ℕ)
-    (command : Option Command) (outcome : Outcome I O D) : Type 0 where
+pub record Causes {I O D : Type 0} (spec new : HostSpec) (io : StreamSpec I O)
+    (disks : DiskSpec D) (command : Option Command) (outcome : Outcome I O D) : Type 0 where
   pub why : Why
   pub says : SaysWhy why outcome.status (string_bytes outcome.line)
-  pub cause : CauseOf spec io disks new command outcome why
+  pub cause : CauseOf spec new io disks command outcome why
   pub console : HasConsole why outcome

@@ -21,7 +21,7 @@ use Rattle.fb_session.specs.Replies.{SessionRun}
 use Rattle.fb_run.specs.declared.outcome.SessionOut.{SessionOut}
 use Rattle.fb_run.specs.declared.outcome.Outcome.{Outcome}
 use Rattle.fb_run.specs.Outside.{StreamSpec, DiskSpec, run_of, setting_of, EachOf, EachWhile}
-use Rattle.fb_run.specs.Generated.{loads_of, generated, spec_in_memory, in_memory}
+use Rattle.fb_run.specs.Generated.{loads_of, spec_in_memory, in_memory}
 use Rattle.fb_run.specs.Causes.{directory_of, part_of, IsOutOfMemory}
 
 -- the source holds these forms, within the limits, and nothing else
@@ -111,7 +111,5 @@ Complete terms spec io disks new None outcome = Unit {0}
 Complete terms spec io disks new (Some command) outcome =
     HoldsHistory (spec.disks (directory_of (Some command)) Log)
     → AllByRecursion (λ name. HoldsFormsAlone (spec.sources name)) (scripts_of (Some command))
-    → AllByRecursion (λ name. HoldsFormsAlone (generated (Some command) name))
-    (loads_of (Some command))
     → NoneRose spec io disks new (Some command) outcome
     → Succeeds terms spec io command outcome ⊎ IsOutOfMemory outcome

@@ -8,13 +8,14 @@ use Rattle.disk_model.specs.Disk.{IfKnown, LeavesOnly}
 use Rattle.log_model.specs.Log.{IsLogOf}
 use Rattle.seg_tree.specs.Ids.{next_above}
 use Rattle.seg_tree.specs.Indexes.{root_ids}
-use Rattle.seg_store.specs.Stores.{disk_in as segments_in}
+use Rattle.seg_store.specs.Stores.{disk_in as segments_in, next_in}
 use Rattle.seg_store.specs.Keeping.{HasGreatNode, FitsStore}
+use Rattle.seg_store.specs.Trees.{root_of}
 use Rattle.fb_journal.specs.Journals.{StaysKnown}
 use Rattle.disk_log.specs.Logs.{disk_in, count_in, KeepsHistory}
 use Rattle.fb_core.specs.Cores.{CoreStands}
 use Rattle.fb_recover.specs.Faults.{IsCause, CountsOpening, IsOfLog}
-use Rattle.fb_recover.specs.Openings.{HasCoverage}
+use Rattle.fb_recover.specs.Openings.{HasCoverage, AgreesWithNone, HasFault, HasRoot}
 use Rattle.fb_recover.specs.declared.faults.OpenFault.{OpenFault}
 use Rattle.fb_ports.specs.Faults.{Rose}
 use Rattle.fb_ports.specs.declared.hosts.Part.TheVariants.{Log, Segments}
@@ -27,8 +28,8 @@ use Rattle.fb_run.specs.declared.database.Obstacle.TheVariants.{Unopened, NotReo
 use Rattle.fb_run.specs.declared.database.Unready.{Unready}
 use Rattle.fb_run.specs.declared.opening.Unopened.TheVariants.{CannotOpen, Memory}
 use Rattle.fb_run.specs.StatusLines.{Why, unopened, memory, why_not}
-use Rattle.fb_run.specs.Outside.{DiskSpec, IsDiskOf}
-use Rattle.fb_run.specs.Logs.{IsUnharmed}
+use Rattle.fb_run.specs.Outside.{DiskSpec, Ports, OpensUpTo, IsDiskOf}
+use Rattle.fb_run.specs.Logs.{HasHistory, IsUnharmed}
 
 -- what the host's record has of sources and sinks is as it was, and it has not failed
 pub record SameStreams (old new : HostSpec) : Type 0 where
@@ -60,6 +61,13 @@ pub record IsReopened {D : Type 0} {g : _} (disks : DiskSpec D) (disk segments :
       (λ image. disks.images disk image ⊎ ((length file ≤ 16) × (length image ≤ 16))))
   pub coverage : IfKnown (disks.bytes segments)
       (HasCoverage directory.core.snapshot.entries directory.core.snapshot.covered)
+  pub root : IfKnown (disks.bytes segments) (λ file. HasFault file
+      ⊎ (AgreesWithNone directory.core.snapshot.entries file
+      ⊎ HasRoot disks.bytes disks.images directory.store
+      (root_of directory.core.snapshot.roots directory.core.snapshot.covered)))
+  pub below : IfKnown (disks.bytes segments) (λ file. HasFault file
+      ⊎ (AgreesWithNone directory.core.snapshot.entries file
+      ⊎ (next_above (root_ids directory.core.snapshot.roots) ≤ next_in directory.store)))
   pub fit : FitsStore disks.bytes disks.images directory.store directory.core.snapshot.roots
   -- a great number of the trees is one of the file
   pub great : IfKnown (disks.bytes segments)
@@ -135,23 +143,31 @@ pub record IsNotReopened {D : Type 0} (spec : HostSpec) (disks : DiskSpec D) (di
   pub untouched : IsOfLog fault → IsDiskOf spec disks dir Segments both.segments
 
 -- The disks of the directory, which is the first of the names,
--- are left where what has a later name was not opened.
-abbrev pub LeavesBehind : {D : Type 0} → ℕ → Option (Disks D) → Type 0
-LeavesBehind zero left = left ≡ None
-LeavesBehind (suc place) left = IsSome left
+-- are left where what has a later name was not opened, and then its log was read.
+abbrev pub LeavesBehind : {D : Type 0} → HostSpec → List ℕ → ℕ → Option (Disks D) → Type 0
+LeavesBehind spec dir zero left = left ≡ None
+LeavesBehind spec dir (suc place) left = IsSome left × HasHistory spec dir
+
+-- the host could not open what has this name, which is one of these
+pub record IsBlocked {D : Type 0} (old new : HostSpec) (ports : Ports) (dir : List ℕ)
+    (names : List (List ℕ)) (left : Option (Disks D)) (name : List ℕ) : Type 0 where
+  pub place : ℕ
+  pub named : slice_get names place ≡ Some name
+  pub left_is : LeavesBehind old dir place left
+  pub behind : OpensUpTo ports place old new
+  pub host : Rose old.faults new.faults
 
 -- the host could not open what has one of these names, or the database was not reopened
-abbrev pub IsObstacle : {D : Type 0} → HostSpec → HostSpec → DiskSpec D → List ℕ → List (List ℕ)
-    → Option (Disks D) → Obstacle → Type 0
-IsObstacle old new disks dir names left (Unopened (CannotOpen name)) =
-    ((place : ℕ) × (slice_get names place ≡ Some name.now) × LeavesBehind place left)
-    × Rose old.faults new.faults
-IsObstacle old new disks dir names left (Unopened Memory) = Unit {0}
-IsObstacle old new disks dir names left (NotReopened fault) =
+abbrev pub IsObstacle : {D : Type 0} → HostSpec → HostSpec → DiskSpec D → Ports → List ℕ
+    → List (List ℕ) → Option (Disks D) → Obstacle → Type 0
+IsObstacle old new disks ports dir names left (Unopened (CannotOpen name)) =
+    IsBlocked old new ports dir names left name.now
+IsObstacle old new disks ports dir names left (Unopened Memory) = Unit {0}
+IsObstacle old new disks ports dir names left (NotReopened fault) =
     (new.faults ≡ old.faults) × IsNotReopened old disks dir fault left
 
 -- why a command over the directory can't begin, and what is left of its disks
-pub record IsUnready {D : Type 0} (old new : HostSpec) (disks : DiskSpec D) (dir : List ℕ)
-    (names : List (List ℕ)) (unready : Unready D) : Type 0 where
-  pub why : IsObstacle old new disks dir names unready.disks unready.why
+pub record IsUnready {D : Type 0} (old new : HostSpec) (disks : DiskSpec D) (ports : Ports)
+    (dir : List ℕ) (names : List (List ℕ)) (unready : Unready D) : Type 0 where
+  pub why : IsObstacle old new disks ports dir names unready.disks unready.why
   pub unharmed : IfSome unready.disks (LeaveLogUnharmed old disks dir)

@@ -1,7 +1,8 @@
 -- What a run promises: the accepted transactions form one history, and each reply is that of
 -- a database with one thread at a prefix of the history which holds all that its session had seen.
 -- This project's own choice.
-use Rattle.std.specs.Prelude.{◌≡◌, ℕ, ◌+◌, ◌<◌, ◌==◌, List, [], Option, length, slice_index_or}
+use Rattle.std.specs.Prelude.{◌≡◌, ℕ, ◌+◌, ◌<◌, ◌==◌, List, [], ◌∷◌, ◌++◌, Option, length}
+use Rattle.std.specs.Prelude.{slice_index_or, IfSome}
 use Rattle.std.specs.Option.{option_map}
 use Rattle.std.specs.List.{AllByRecursion}
 use Rattle.std.specs.List.Sorted.{IsStrictlyIncreasing}
@@ -32,10 +33,13 @@ abbrev pub stop_of : Option Draft → Option ℕ
 stop_of torn = option_map (λ draft. basis draft.after.entries) torn
 
 -- The session of each script answered it over the one history since its opening,
--- where one session at most, the teller, asked for what the log did not take.
-abbrev pub EachReplies : {I O : Type 0} → Terms → HostSpec → StreamSpec I O → ℕ → Option ℕ
-    → List (List ℕ) → List (SessionOut I O) → List Entry → Type 0
-EachReplies {I} {O} terms spec io opening stop scripts sessions h =
-    (teller : ℕ) × EachOf (λ n name (s : SessionOut I O).
-    Replies (setting_of terms h stop (teller == n)) opening (run_of spec io name s))
+-- where one session at most, the teller, asked for what the log did not take:
+-- the torn transaction names it beside the authors of the history.
+abbrev pub EachReplies : {I O : Type 0} → Terms → HostSpec → StreamSpec I O → ℕ → Option Draft
+    → List ℕ → List (List ℕ) → List (SessionOut I O) → List Entry → Type 0
+EachReplies {I} {O} terms spec io opening torn authors scripts sessions h =
+    (teller : ℕ)
+    × EachOf (λ n name (s : SessionOut I O).
+    Replies (setting_of terms h (stop_of torn) (teller == n)) opening (run_of spec io name s))
     0 scripts sessions
+    × IfSome torn (λ draft. draft.authors ≡ authors ++ teller ∷ [])

@@ -1,8 +1,10 @@
 pub mod StatusLines
 pub mod Outside
 pub mod Generated
+pub mod Strict
 pub mod Opening
 pub mod Jobs
+pub mod Coverage
 pub mod Merging
 pub mod Headline
 pub mod Summary

@@ -1,5 +1,6 @@
--- What a run leaves of the log on its disk: a crash at any moment leaves a history
--- that the log had at that moment, or the one that the log failed to lengthen.
+-- What a run leaves of the log on its disk: a crash at the end leaves the history,
+-- or the one that the log failed to lengthen. Earlier it leaves one of their beginnings
+-- with all that was there at the opening, or what a crash could have left before the run.
 -- This project's own choice.
 use Rattle.std.specs.Prelude.{◌≡◌, ◌⊎◌, ◌+◌, ◌≤◌, ℕ, List, [], ◌∷◌, ◌++◌, length, Option, Some}
 use Rattle.std.specs.Prelude.{None, IsSome, IfSome}
@@ -36,13 +37,19 @@ pub record LogHolds {D : Type 0} (spec : HostSpec) (disks : DiskSpec D) (dir : L
   -- the log's count of faults rose where a transaction is torn, and nowhere else
   pub failed : IsSome torn → Rose (spec.disk_faults dir Log) (disks.faults log)
   pub unfailed : torn ≡ None → disks.faults log ≡ spec.disk_faults dir Log
-  -- what a crash leaves
+  -- what a crash leaves now
   pub at_end : IfKnown (spec.disks dir Log) (λ _. (image : List ℕ) → disks.images log image
       → IsLogOf image h ⊎ IsLogOf image (with_torn h torn))
-  -- what a crash left at each moment since the host handed out the disk
+  -- what a crash left at each moment since the host handed out the disk:
+  -- a beginning of that, or what it could have left before the run
   pub any_moment : IfKnown (spec.disks dir Log) (λ _. (image : List ℕ)
       → disks.images_since log (spec.disk_moment dir Log) image
       → spec.disk_images dir Log image ⊎ IsLogFrom opening (with_torn h torn) image)
+
+-- the log's file, where it is known, is that of a history
+abbrev pub HasHistory : HostSpec → List ℕ → Type 0
+HasHistory spec dir =
+    IfKnown (spec.disks dir Log) (λ file. (history : List Entry) × IsLogOf file history)
 
 -- Opening it wrote nothing but the mark of a new log: a crash since the host
 -- handed out the disk leaves an image from before, or at most 16 bytes where there were no more.

@@ -19,8 +19,9 @@ use Rattle.fb_run.specs.declared.looking.Look.{Look}
 use Rattle.fb_run.specs.declared.outcome.Outcome.{Outcome}
 use Rattle.fb_run.specs.StatusLines.{reported, console_failed, history_line}
 use Rattle.fb_run.specs.Outside.{StreamSpec, DiskSpec, IsSinkOf}
-use Rattle.fb_run.specs.Opening.{IsNotOpened}
+use Rattle.fb_run.specs.Opening.{HostRefuses}
 use Rattle.fb_recover.specs.Openings.{HasCoverage}
+use Rattle.fb_run.specs.Coverage.{StaysCovered}
 use Rattle.fb_run.specs.Database.{LeaveLogUnharmed, disks_in}
 use Rattle.fb_run.specs.Causes.{SaysWhy, TookWhole, TookPart}
 
@@ -33,6 +34,7 @@ pub record IsLook {I O D : Type 0} {g : _} (old new : HostSpec) (io : StreamSpec
   pub opening : IfKnown (old.disks dir Log) (λ file. IsLogOf file history)
   pub covered : ℕ
   pub coverage : IfKnown (old.disks dir Segments) (HasCoverage history covered)
+  pub kept : StaysCovered old disks dir history covered (segments_in look.directory.store)
   pub line : string_bytes look.answer.line ≡ history_line (basis history) covered
   pub console : IsSinkOf old io standard look.answer.console
   pub host : new.faults ≡ old.faults
@@ -45,7 +47,7 @@ pub record IsLook {I O D : Type 0} {g : _} (old new : HostSpec) (io : StreamSpec
 pub record IsUnanswered {D : Type 0} {g : _} (old new : HostSpec) (name : List ℕ)
     (directory : Directory D g) (unready : Unready D) : Type 0 where
   pub why : Unopened
-  pub not : IsNotOpened name old new why
+  pub not : HostRefuses name old new why
   pub is : unready ≡ record {
     why = obstacle.Unopened why;
     disks = Some (disks_in directory);

@@ -1,22 +1,20 @@
--- The trees of a run: what its worker has of them,
--- what became of them when they were merged, and what is left to merge when the run has ended.
+-- The trees of a run while it runs: what its worker has of them, what becomes of them when they are
+-- merged, and what is left to merge when the run has ended.
 -- This project's own choice.
 use Rattle.std.specs.Prelude.{◌≡◌, ◌⊎◌, ◌<◌, ◌^◌, ℕ, List, None}
 use Rattle.io_faults.specs.Faults.{Rose}
 use Rattle.fb_values.specs.declared.facts.Entry.{Entry}
 use Rattle.disk_model.specs.Disk.{IfKnown}
-use Rattle.log_model.specs.Kept.{KeptRoot, Agrees}
 use Rattle.seg_tree.specs.Ids.{next_above}
 use Rattle.seg_tree.specs.Indexes.{root_ids}
-use Rattle.seg_store.specs.Keeping.{FileHas, HasGreatNode, GoesOn, HasKept, FitsStore}
+use Rattle.seg_store.specs.Keeping.{HasGreatNode, GoesOn, HasKept, FitsStore}
 use Rattle.seg_store.specs.Stores.{disk_in}
 use Rattle.fb_view.specs.SnapshotModel.{SnapshotModel}
 use Rattle.fb_core.specs.Cores.{live_datoms}
-use Rattle.fb_ports.specs.HostSpec.{HostSpec}
-use Rattle.fb_ports.specs.declared.hosts.Part.TheVariants.{Segments}
 use Rattle.board_rule.specs.Calls.{view_of}
 use Rattle.fb_conn.specs.declared.conn.Conn.{Conn}
 use Rattle.fb_conn.specs.Seats.{IsWorkerOf}
+use Rattle.fb_roots.specs.declared.bases.Base.{Base}
 use Rattle.fb_roots.specs.Bases.{IsBaseOf}
 use Rattle.merge_worker.specs.declared.ends.WorkEnd.{WorkEnd}
 use Rattle.merge_worker.specs.declared.ends.WorkEnd.TheVariants.{Shut, StoreFault, Spent, Memory}
@@ -25,7 +23,7 @@ use Rattle.fb_run.specs.declared.database.Directory.{Directory}
 use Rattle.fb_run.specs.declared.merging.Trees.{Trees}
 use Rattle.fb_run.specs.declared.merging.Worker.{Worker}
 use Rattle.fb_run.specs.Outside.{DiskSpec}
-use Rattle.fb_recover.specs.Openings.{HasCoverage}
+use Rattle.fb_run.specs.Coverage.{IsCovered}
 
 -- ---- the worker's trees
 
@@ -68,6 +66,12 @@ CountsMerges StoreFault old new = Rose old new
 CountsMerges Spent old new = new ≡ old
 CountsMerges Memory old new = new ≡ old
 
+-- What the file of the store kept when the trees were begun, it keeps.
+abbrev pub StayKept : {D : Type 0} {g : _} → DiskSpec D → Trees D g → Trees D g → Type 0
+StayKept disks begun now =
+    (older : Base) → HasKept disks.bytes disks.images begun.store older begun.store
+    → HasKept disks.bytes disks.images begun.store older now.store
+
 -- trees that were merged since they were begun, and the end of that:
 -- each is as it was, or is kept in the file
 pub record HaveMerged {D : Type 0} {g : _} (disks : DiskSpec D) (begun now : Trees D g)
@@ -76,6 +80,7 @@ pub record HaveMerged {D : Type 0} {g : _} (disks : DiskSpec D) (begun now : Tre
       now.base
   pub ahead : AreOldOrKept (HasKept disks.bytes disks.images begun.store) begun.ahead now.store
       now.ahead
+  pub stays : StayKept disks begun now
   pub goes : (end ≡ StoreFault → ⊥) → GoesOn disks.bytes disks.images begun.store now.store
   pub counts : CountsMerges end (disks.faults (disk_in begun.store))
       (disks.faults (disk_in now.store))
@@ -103,17 +108,11 @@ pub record HaveSettled {D : Type 0} {g : _} (disks : DiskSpec D) (merge_at : ℕ
     (begun now : Trees D g) (end : WorkEnd) (last : SnapshotModel) : Type 0 where
   pub base : IsOldOrKept (HasKept disks.bytes disks.images begun.store) begun.base now.store
       now.base
+  pub stays : StayKept disks begun now
   pub counts : CountsMerges end (disks.faults (disk_in begun.store))
       (disks.faults (disk_in now.store))
   pub shut : end ≡ Shut → live_datoms last.live < merge_at
   pub spent : end ≡ Spent → NumbersAreUsedUp disks begun (disk_in now.store)
-
--- a crash leaves a file that keeps a root of this c with which the history agrees,
--- so a reopening covers no less
-abbrev pub IsCovered : {D : Type 0} → DiskSpec D → List Entry → ℕ → D → Type 0
-IsCovered disks h c segments =
-    (image : List ℕ) → disks.images segments image
-    → (root : KeptRoot) × FileHas image root × (root.c ≡ c) × Agrees h root
 
 -- what became of the trees since they were begun,
 -- and of the disk of their store, which is handed back
@@ -123,26 +122,8 @@ pub record LeavesTrees {D : Type 0} {g : _} (disks : DiskSpec D) (merge_at : ℕ
   pub covers : (last.covered ≡ begun.base.c)
       ⊎ IfKnown (disks.bytes (disk_in begun.store))
       (λ _. IsCovered disks last.entries last.covered segments)
+  pub stays : HasKept disks.bytes disks.images begun.store begun.base begun.store
+      → IfKnown (disks.bytes (disk_in begun.store))
+      (λ _. IsCovered disks last.entries last.covered segments)
   pub shut : end ≡ Shut → live_datoms last.live < merge_at
   pub spent : end ≡ Spent → NumbersAreUsedUp disks begun segments
-
--- ---- what a run promises of its trees
-
--- The trees go as far as they did at the opening,
--- or a crash leaves a file of segments from which they go as far.
-abbrev pub GoAsFar : {D : Type 0} → HostSpec → DiskSpec D → List ℕ → List Entry → SnapshotModel → D
-    → Type 0
-GoAsFar spec disks dir opening last segments =
-    IfKnown (spec.disks dir Segments)
-    (λ file. HasCoverage opening last.covered file
-    ⊎ IsCovered disks last.entries last.covered segments)
-
--- So few datoms are live that no merge is due,
--- unless the numbers for the nodes of trees are used up: a node had one of the last
--- in the file of segments as the host's record has it, or has one in whatever a crash leaves.
-abbrev pub IsMerged : {D : Type 0} → HostSpec → DiskSpec D → List ℕ → ℕ → SnapshotModel → D → Type 0
-IsMerged spec disks dir merge_at last segments =
-    (live_datoms last.live < merge_at)
-    ⊎ IfKnown (spec.disks dir Segments)
-    (λ file. HasGreatNode file
-    ⊎ ((image : List ℕ) → disks.images segments image → HasGreatNode image))

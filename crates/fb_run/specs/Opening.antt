@@ -1,6 +1,6 @@
 -- What opening sources and sinks of scripts gives, and the host's record from then on.
 -- This project's own choice.
-use Rattle.std.specs.Prelude.{◌≡◌, ℕ, List, [], ◌∷◌, ◌++◌, map, Some, slice_get}
+use Rattle.std.specs.Prelude.{◌≡◌, ℕ, suc, List, [], ◌∷◌, ◌++◌, map, take, Some, slice_get}
 use Rattle.fb_ports.specs.Faults.{Rose}
 use Rattle.fb_ports.specs.HostSpec.{HostSpec}
 use Rattle.fb_ports.specs.HostCalls.{Same, SameBut}
@@ -8,7 +8,8 @@ use Rattle.command_line.specs.Words.{sink_of}
 use Rattle.fb_run.specs.declared.outcome.SessionOut.{SessionOut}
 use Rattle.fb_run.specs.declared.opening.Unopened.{Unopened}
 use Rattle.fb_run.specs.declared.opening.Unopened.TheVariants.{CannotOpen, Memory}
-use Rattle.fb_run.specs.Outside.{StreamSpec, IsSourceOf, IsSinkOf, EachOf}
+use Rattle.fb_run.specs.Outside.{StreamSpec, Ports, OpensOnly, OpensUpTo, of_scripts, IsSourceOf}
+use Rattle.fb_run.specs.Outside.{IsSinkOf, EachOf}
 
 -- ---- sources
 
@@ -81,12 +82,31 @@ pub record HasOpened {I O : Type 0} (io : StreamSpec I O) (names : List (List �
 
 -- ---- what cannot be opened: by the host's own fault, or because memory runs out
 
-abbrev pub IsNotOpened : List ℕ → HostSpec → HostSpec → Unopened → Type 0
-IsNotOpened name old new (CannotOpen why) = (why.now ≡ name) × Rose old.faults new.faults
-IsNotOpened name old new Memory = Unit {0}
+abbrev pub HostRefuses : List ℕ → HostSpec → HostSpec → Unopened → Type 0
+HostRefuses name old new (CannotOpen why) = (why.now ≡ name) × Rose old.faults new.faults
+HostRefuses name old new Memory = Unit {0}
 
--- it is one of these names
+-- it is one of these names, each of which stands for such ports, and nothing behind it was opened
+pub record IsStuck (ports : List (List ℕ) → Ports) (names : List (List ℕ)) (old new : HostSpec)
+    (name : List ℕ) : Type 0 where
+  pub place : ℕ
+  pub named : slice_get names place ≡ Some name
+  pub behind : OpensOnly (ports (take (suc place) names)) old new
+  pub host : Rose old.faults new.faults
+
+abbrev pub HostRefusesOne : (List (List ℕ) → Ports) → List (List ℕ) → HostSpec → HostSpec
+    → Unopened → Type 0
+HostRefusesOne ports names old new (CannotOpen why) = IsStuck ports names old new why.now
+HostRefusesOne ports names old new Memory = Unit {0}
+
+-- it is the source or the sink of one of these scripts
+pub record IsUnopenedScript (names : List (List ℕ)) (old new : HostSpec) (name : List ℕ) : Type 0
+  where
+    pub place : ℕ
+    pub named : slice_get names place ≡ Some name
+    pub behind : OpensUpTo (of_scripts names) (suc place) old new
+    pub host : Rose old.faults new.faults
+
 abbrev pub IsUnopened : List (List ℕ) → HostSpec → HostSpec → Unopened → Type 0
-IsUnopened names old new (CannotOpen why) =
-    ((place : ℕ) × (slice_get names place ≡ Some why.now)) × Rose old.faults new.faults
+IsUnopened names old new (CannotOpen why) = IsUnopenedScript names old new why.now
 IsUnopened names old new Memory = Unit {0}

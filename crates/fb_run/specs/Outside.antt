@@ -1,12 +1,13 @@
 -- What the contracts say of the objects that a run was handed,
 -- and by what its sessions are answered.
 -- This project's own choice.
-use Rattle.std.specs.Prelude.{◌≡◌, ℕ, ◌+◌, Bool, List, [], ◌∷◌, Option}
+use Rattle.std.specs.Prelude.{◌≡◌, ◌⊎◌, ℕ, zero, suc, ◌+◌, Bool, List, [], ◌∷◌, Option, Some, None}
+use Rattle.std.specs.Prelude.{Contains, codes, map, take}
 use Rattle.fb_values.specs.declared.facts.Entry.{Entry}
 use Rattle.fb_ports.specs.declared.hosts.Part.{Part}
 use Rattle.fb_ports.specs.HostSpec.{HostSpec}
 use Rattle.fb_ports.specs.HostCalls.{Alike}
-use Rattle.command_line.specs.Words.{sink_of}
+use Rattle.command_line.specs.Words.{Command, run, check, load, sink_of, standard}
 use Rattle.talk_model.specs.Session.{Setting, setting}
 use Rattle.fb_session.specs.Sessions.{Terms}
 use Rattle.fb_session.specs.Replies.{SessionRun}
@@ -112,6 +113,71 @@ pub record IsDiskOf {D : Type 0} (spec : HostSpec) (disks : DiskSpec D) (dir : L
   pub faults : disks.faults disk ≡ spec.disk_faults dir part
   pub images : Alike (spec.disk_images dir part) (disks.images disk)
   pub moment : disks.moment disk ≡ spec.disk_moment dir part
+
+-- ---- what is opened
+
+-- the names of sources, of sinks and of directories
+pub record Ports : Type 0 where
+  pub sources : List (List ℕ)
+  pub sinks : List (List ℕ)
+  pub directories : List (List ℕ)
+
+abbrev pub of_directory : List ℕ → Ports
+of_directory name = record { sources = []; sinks = []; directories = name ∷ [] }
+
+-- the sources of these scripts
+abbrev pub of_sources : List (List ℕ) → Ports
+of_sources scripts = record { sources = scripts; sinks = []; directories = [] }
+
+-- the sinks for the lines of these scripts
+abbrev pub of_sinks : List (List ℕ) → Ports
+of_sinks scripts = record { sources = []; sinks = map sink_of scripts; directories = [] }
+
+-- both
+abbrev pub of_scripts : List (List ℕ) → Ports
+of_scripts scripts = record { sources = scripts; sinks = map sink_of scripts; directories = [] }
+
+-- what a command names: its directory, and its scripts' sources and sinks or the console
+abbrev pub ports_of : Option Command → Ports
+ports_of None = record { sources = []; sinks = []; directories = [] }
+ports_of (Some (run options directory scripts)) =
+    record (of_scripts scripts) { directories = directory ∷ [] }
+ports_of (Some (check directory)) =
+    record (of_sinks (standard ∷ [])) { directories = directory ∷ [] }
+ports_of (Some (load count)) =
+    record (of_sinks (standard ∷ [])) { directories = codes ":memory:" ∷ [] }
+
+-- what the record has of every other name is as it was
+abbrev pub SameBeside : {A : Type 0} → List (List ℕ) → (List ℕ → A) → (List ℕ → A) → Type 0
+SameBeside names old new = (other : List ℕ) → ¬ Contains names other → new other ≡ old other
+
+-- what the record has of every part of every other directory is as it was
+abbrev pub SamePartsBeside : {A : Type 0} → List (List ℕ) → (List ℕ → Part → A)
+    → (List ℕ → Part → A) → Type 0
+SamePartsBeside names old new =
+    (other : List ℕ) → ¬ Contains names other → (part : Part) → new other part ≡ old other part
+
+-- Of what has none of these names the host's record is as it was: nothing else was opened.
+pub record OpensOnly (ports : Ports) (old new : HostSpec) : Type 0 where
+  pub sources : SameBeside ports.sources old.sources new.sources
+  pub source_faults : SameBeside ports.sources old.source_faults new.source_faults
+  pub sinks : SameBeside ports.sinks old.sinks new.sinks
+  pub sink_faults : SameBeside ports.sinks old.sink_faults new.sink_faults
+  pub disks : SamePartsBeside ports.directories old.disks new.disks
+  pub disk_faults : SamePartsBeside ports.directories old.disk_faults new.disk_faults
+  pub disk_images : (other : List ℕ) → ¬ Contains ports.directories other → (part : Part)
+      → Alike (old.disk_images other part) (new.disk_images other part)
+  pub disk_moment : SamePartsBeside ports.directories old.disk_moment new.disk_moment
+
+-- A directory, then all sources and then all sinks are opened, in the order of their names.
+-- Nothing was opened behind what has this place among the directory and the other names:
+-- where this is the directory, no source and no sink, and else no later source and no sink,
+-- or no later sink.
+abbrev pub OpensUpTo : Ports → ℕ → HostSpec → HostSpec → Type 0
+OpensUpTo ports zero old new = OpensOnly (record ports { sources = []; sinks = [] }) old new
+OpensUpTo ports (suc n) old new =
+    OpensOnly (record ports { sources = take (suc n) ports.sources; sinks = [] }) old new
+    ⊎ OpensOnly (record ports { sinks = take (suc n) ports.sinks }) old new
 
 -- ---- lists that go together
 

@@ -1,8 +1,8 @@
 -- How a run comes about: what its sessions are given,
 -- and what the closed database and the sessions leave.
 -- This project's own choice.
-use Rattle.std.specs.Prelude.{◌≡◌, ℕ, ◌+◌, ◌<◌, ◌≤◌, ◌==◌, List, map, length, Option, Some, None}
-use Rattle.std.specs.Prelude.{option_map, IsSome, slice_get, string_bytes}
+use Rattle.std.specs.Prelude.{◌≡◌, ℕ, ◌+◌, ◌<◌, ◌≤◌, ◌==◌, List, [], ◌∷◌, ◌++◌, map, length, Option}
+use Rattle.std.specs.Prelude.{Some, None, option_map, IsSome, IfSome, slice_get, string_bytes}
 use Rattle.std.specs.List.{AllByRecursion}
 use Rattle.fb_values.specs.declared.facts.Entry.{Entry}
 use Rattle.fb_model.specs.History.{basis, upto}
@@ -15,6 +15,7 @@ use Rattle.fb_conn.specs.declared.seats.Seat.{Seat}
 use Rattle.fb_conn.specs.Seats.{IsSeatOf, IsWorkerOf, state_of}
 use Rattle.fb_conn.specs.declared.home.Stop.{Stop}
 use Rattle.fb_conn.specs.Closing.{at_of, IsTakenIn}
+use Rattle.fb_conn.specs.Homes.{IsTornBy}
 use Rattle.fb_core.specs.declared.accepting.Draft.{Draft}
 use Rattle.fb_core.specs.Cores.{entry_of}
 use Rattle.disk_log.specs.Disks.{HasKept, HasBroken}
@@ -45,7 +46,7 @@ pub record IsMade {L R : Type 0} (sessions : ℕ) (h : List Entry) (conn : Conn 
 
 -- The closed database has one lawful history, whose entries after the opening's are the sessions',
 -- and has taken in what each of their seats knew.
--- The log stopped or did not, and what is torn is what it did not take.
+-- The log stopped or did not, and what is torn is what it did not take, of the stop's author.
 pub record Closes {I O D : Type 0} (seats : List Seat) (opening : ℕ) (outcome : Outcome I O D)
     : Type 0 where
   pub last : SnapshotModel
@@ -59,6 +60,7 @@ pub record Closes {I O D : Type 0} (seats : List Seat) (opening : ℕ) (outcome 
   pub taken : (k : ℕ) (seat : Seat) → slice_get seats k ≡ Some seat
       → IsTakenIn (record { snapshot = last; authors = authors }) opening stopped k (state_of seat)
   pub torn : stop_of outcome.torn ≡ option_map at_of stopped
+  pub teller : IsTornBy authors stopped outcome.torn
 
 -- what became of the log's disk since it was opened with the entries 0 to r:
 -- it kept the history, or failed at what is torn
@@ -84,14 +86,17 @@ pub record GoesOnFrom {I O D : Type 0} {g : _} (directory : Directory D g) (h : 
   pub within : outcome.recovered ≤ basis h
   pub opened : upto h outcome.recovered ≡ directory.core.snapshot.entries
 
--- the sessions answered what they were opened with, over the one history since its opening
-abbrev pub RepliesBy : {I O : Type 0} → Terms → StreamSpec I O → ℕ → Option ℕ
-    → List (SessionOut I O)
-    → List (SessionOut I O) → List Entry → Type 0
-RepliesBy {I} {O} terms io opening stop opened sessions h =
-    (teller : ℕ) × EachOf (λ n (old new : SessionOut I O).
-    Replies (setting_of terms h stop (teller == n)) opening (run_from io old.source old.sink new))
+-- The sessions answered what they were opened with, over the one history since its opening.
+-- The torn transaction is the teller's.
+abbrev pub RepliesBy : {I O : Type 0} → Terms → StreamSpec I O → ℕ → Option Draft → List ℕ
+    → List (SessionOut I O) → List (SessionOut I O) → List Entry → Type 0
+RepliesBy {I} {O} terms io opening torn authors opened sessions h =
+    (teller : ℕ)
+    × EachOf (λ n (old new : SessionOut I O).
+    Replies (setting_of terms h (stop_of torn) (teller == n)) opening
+    (run_from io old.source old.sink new))
     0 opened sessions
+    × IfSome torn (λ draft. draft.authors ≡ authors ++ teller ∷ [])
 
 -- no count rose but that of the object whose fault ended the session
 pub record CountsBy {I O : Type 0} (io : StreamSpec I O) (old new : SessionOut I O) : Type 0 where

@@ -26,7 +26,8 @@ history_line basis covered =
 -- ---- the lines of standard error
 
 abbrev pub usage_line : List ℕ
-usage_line = codes "factbase: usage: factbase run [--merge-at N] DIR SCRIPT.. | check DIR | load N"
+usage_line =
+    codes "factbase: usage: factbase run [--merge-at N] [--strict] DIR SCRIPT.. | check DIR | load N"
 
 abbrev pub cannot_open : List ℕ → List ℕ
 cannot_open name = codes "factbase: cannot open " ++ name

@@ -4,7 +4,7 @@ ghost use Rattle.board_rule.specs.Calls.{view_of};
 ghost use Rattle.fb_conn.specs.Seats.{begun_of};
 ghost use Rattle.disk_log.specs.Logs.{KeepsHistory};
 ghost use Rattle.fb_ports.specs.HostCalls.{StaysButDisk};
-ghost use Rattle.fb_run.specs.Outside.{disks_of, IsDiskOf};
+ghost use Rattle.fb_run.specs.Outside.{Ports, disks_of, of_directory, IsDiskOf, OpensOnly};
 ghost use Rattle.fb_run.specs.Merging.{CanWork, trees_in};
 ghost use Rattle.fb_run.specs.Database.{SameStreams, IsReopened, IsRefused, IsOpened, IsUnopenedPart, IsUnready, disks_in};
 ghost use Rattle.fb_run.specs.Running.{IsMade};
@@ -89,10 +89,11 @@ pub(crate) fn open_directory<'a, H: Host>(
         (disks_of H.Disk.bytes H.Disk.faults H.Disk.images H.Disk.moment H.Disk.images_since)
         dir.now) }
     ensures streams { IfOk result (λ _. SameStreams (H.spec host.old) (H.spec host.new)) }
-    ensures stop { (names : List (List ℕ)) → IfErr result (IsUnready (H.spec host.old)
-        (H.spec host.new)
+    ensures stop { (ports : Ports) (names : List (List ℕ)) → ports.directories ≡ dir.now ∷ []
+        → IfErr result (IsUnready (H.spec host.old) (H.spec host.new)
         (disks_of H.Disk.bytes H.Disk.faults H.Disk.images H.Disk.moment H.Disk.images_since)
-        dir.now (dir.now ∷ names)) }
+        ports dir.now (dir.now ∷ names)) }
+    ensures others { OpensOnly (of_directory dir.now) (H.spec host.old) (H.spec host.new) }
 {
     let log = open_part(alloc, host, dir, Part::Log)?;
     let segments = open_part(alloc, host, dir, Part::Segments)?;

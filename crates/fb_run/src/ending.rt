@@ -7,6 +7,7 @@ ghost use Rattle.disk_log.specs.Logs.{disk_in, count_in};
 ghost use Rattle.fb_conn.specs.declared.seats.Seat.{Seat};
 ghost use Rattle.fb_conn.specs.Seats.{table_of, begun_of, IsAtRest};
 ghost use Rattle.merge_worker.specs.declared.ends.WorkEnd.{WorkEnd};
+ghost use Rattle.fb_view.specs.SnapshotModel.{Stands};
 ghost use Rattle.fb_run.specs.StatusLines.{first_early, why_of};
 ghost use Rattle.fb_run.specs.Database.{why_unready};
 ghost use Rattle.fb_run.specs.Outside.{disks_of};
@@ -56,6 +57,7 @@ pub(crate) fn closed<R: Threads + Sync, I: Drop, O: Drop, D: Disk>(
     ensures sessions { result.sessions.items ≡ ended.sessions.items }
     ensures recovered { result.recovered ≡ recovered }
     ensures closes { Closes ended.seats.items recovered result }
+    ensures stands { IfSome result.last Stands }
     ensures log { IfSome result.last (λ last. HandsLogBack
         (disks_of D.bytes D.faults D.images D.moment D.images_since)
         (count_in (begun_of conn)) (disk_in (begun_of conn)) last.entries result) }

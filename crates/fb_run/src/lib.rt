@@ -11,6 +11,7 @@ mod looking;
 mod merging;
 mod opening;
 mod outcome;
+mod strict;
 mod summary;
 mod top;
 

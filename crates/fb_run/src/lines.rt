@@ -11,7 +11,7 @@ use fb_session::SessionEnd;
 use std::alloc::Global;
 
 const USAGE: &str =
-    "factbase: usage: factbase run [--merge-at N] DIR SCRIPT.. | check DIR | load N";
+    "factbase: usage: factbase run [--merge-at N] [--strict] DIR SCRIPT.. | check DIR | load N";
 
 const OUT_OF_MEMORY: &str = "factbase: out of memory";
 

@@ -10,16 +10,17 @@ ghost use Rattle.command_line.specs.Words.{load, load_merge_at, standard};
 ghost use Rattle.command_line.specs.Views.{names_in};
 ghost use Rattle.fb_ports.specs.declared.hosts.Part.{Part};
 ghost use Rattle.fb_session.specs.Sessions.{terms_at};
-ghost use Rattle.fb_run.specs.Outside.{streams_of, disks_of, IsSinkOf};
+ghost use Rattle.fb_run.specs.Outside.{streams_of, disks_of, of_sinks, ports_of, IsSinkOf, OpensOnly};
 ghost use Rattle.fb_run.specs.Generated.{loads_of, spec_in_memory, in_memory};
-ghost use Rattle.fb_run.specs.Opening.{OpensSink, IsNotOpened};
+ghost use Rattle.fb_run.specs.Opening.{OpensSink, HostRefuses};
 ghost use Rattle.fb_run.specs.Database.{IsOpened, IsUnready};
-ghost use Rattle.fb_run.specs.Headline.{OneHistory, stop_of, EachReplies};
+ghost use Rattle.fb_view.specs.SnapshotModel.{Stands};
+ghost use Rattle.fb_run.specs.Headline.{OneHistory, EachReplies};
 ghost use Rattle.fb_run.specs.Logs.{LogHolds, IsUnharmed};
 ghost use Rattle.fb_run.specs.Causes.{directory_of, names_of, NoSession, Causes};
 ghost use Rattle.fb_run.specs.Looking.{IsUnanswered};
 ghost use Rattle.fb_run.specs.Loading.{supply, room, AreGenerated, left_of, said_of, SumsUp, SaysFurther};
-ghost use Rattle.fb_run.specs.Merging.{GoAsFar, IsMerged};
+ghost use Rattle.fb_run.specs.Coverage.{GoAsFar, IsMerged};
 
 use crate::database::{Directory, Obstacle, Unready, open_directory};
 use crate::ending::{not_begun, without_session};
@@ -79,7 +80,8 @@ pub(crate) fn load<
     ensures replies { IfSome result.last (λ last. EachReplies
         (terms_at K.may_answer G.bars P.place_of P.selects_at clock.now guard.now preds.now)
         (spec_in_memory (H.spec host.old) (Some (load count))) in_memory result.recovered
-        (stop_of result.torn) (loads_of (Some (load count))) result.loads.items last.entries) }
+        result.torn (unwrap_or result.authors []) (loads_of (Some (load count)))
+        result.loads.items last.entries) }
     ensures prefixes { IfSome result.last (λ last. AllByRecursion
         (λ s. Prefixes result.recovered (basis last.entries) s.places s.commits)
         result.loads.items) }
@@ -89,10 +91,13 @@ pub(crate) fn load<
     ensures log { IfSome result.last (λ last. IfSome result.log (LogHolds (H.spec host.old)
         (disks_of H.Disk.bytes H.Disk.faults H.Disk.images H.Disk.moment H.Disk.images_since)
         (directory_of (Some (load count))) last.entries result.recovered result.torn)) }
-    ensures causes { Causes (H.spec host.old)
+    ensures causes { Causes (H.spec host.old) (H.spec host.new)
         (streams_of H.In.left H.In.faults H.Out.contents H.Out.faults)
         (disks_of H.Disk.bytes H.Disk.faults H.Disk.images H.Disk.moment H.Disk.images_since)
-        (H.spec host.new).faults (Some (load count)) result }
+        (Some (load count)) result }
+    ensures others { OpensOnly (ports_of (Some (load count))) (H.spec host.old)
+        (H.spec host.new) }
+    ensures stands { IfSome result.last Stands }
     ensures unharmed { result.last ≡ None → IfSome result.log (IsUnharmed (H.spec host.old)
         (disks_of H.Disk.bytes H.Disk.faults H.Disk.images H.Disk.moment H.Disk.images_since)
         (directory_of (Some (load count)))) }
@@ -126,7 +131,10 @@ fn command_of<'a>(alloc: Global) -> Result<Run<'a>, Memory>
     ensures merge_at { IfOk result (λ run. run.options.merge_at ≡ load_merge_at) }
 {
     Ok(Run {
-        options: Options { merge_at: MERGE_AT },
+        options: Options {
+            merge_at: MERGE_AT,
+            strict: false,
+        },
         directory: IN_MEMORY,
         scripts: Vec::from_array(alloc, NAMES)?,
     })
@@ -155,7 +163,10 @@ fn open_load<'a, H: Host>(
         (λ _. (H.spec host.new).faults ≡ (H.spec host.old).faults) }
     ensures stop { IfErr result (IsUnready (H.spec host.old) (H.spec host.new)
         (disks_of H.Disk.bytes H.Disk.faults H.Disk.images H.Disk.moment H.Disk.images_since)
-        (directory_of (Some (load count))) (names_of (Some (load count)))) }
+        (ports_of (Some (load count))) (directory_of (Some (load count)))
+        (names_of (Some (load count)))) }
+    ensures others { OpensOnly (ports_of (Some (load count))) (H.spec host.old)
+        (H.spec host.new) }
 {
     match open_directory(alloc, host, IN_MEMORY) {
         Ok(directory) => prepare_over(alloc, host, count, directory),
@@ -177,6 +188,7 @@ fn prepare_over<'a, H: Host>(
         (H.spec host.new) made.console) }
     ensures stop { IfErr result
         (IsUnanswered (H.spec host.old) (H.spec host.new) standard directory) }
+    ensures others { OpensOnly (of_sinks (standard ∷ [])) (H.spec host.old) (H.spec host.new) }
 {
     match open_sessions(alloc, host, count) {
         Ok(Streams { sessions, console }) => Ok(Prepared {
@@ -211,7 +223,8 @@ fn open_sessions<'a, H: Host>(
         (streams_of H.In.left H.In.faults H.Out.contents H.Out.faults) standard (H.spec host.old)
         (H.spec host.new) made.console) }
     ensures sessions { IfOk result (λ made. AreGenerated count made.sessions.items) }
-    ensures stop { IfErr result (IsNotOpened standard (H.spec host.old) (H.spec host.new)) }
+    ensures stop { IfErr result (HostRefuses standard (H.spec host.old) (H.spec host.new)) }
+    ensures others { OpensOnly (of_sinks (standard ∷ [])) (H.spec host.old) (H.spec host.new) }
 {
     let console = open_sink(alloc, host, CONSOLE)?;
     match sessions_of(alloc, count) {

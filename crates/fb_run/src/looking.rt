@@ -6,9 +6,9 @@ ghost use Rattle.disk_log.specs.Logs.{disk_in};
 ghost use Rattle.seg_store.specs.Stores.{disk_in as segments_in};
 ghost use Rattle.fb_ports.specs.Faults.{Counts};
 ghost use Rattle.fb_session.specs.Written.{TakesPart};
-ghost use Rattle.fb_run.specs.Outside.{streams_of, disks_of};
+ghost use Rattle.fb_run.specs.Outside.{streams_of, disks_of, of_sinks, ports_of, OpensOnly};
 ghost use Rattle.fb_run.specs.Logs.{IsUnharmed};
-ghost use Rattle.fb_run.specs.Opening.{OpensSink, IsNotOpened};
+ghost use Rattle.fb_run.specs.Opening.{OpensSink, HostRefuses};
 ghost use Rattle.fb_run.specs.Database.{IsUnready};
 ghost use Rattle.fb_run.specs.StatusLines.{history_line, reported, console_failed};
 ghost use Rattle.fb_run.specs.Causes.{HasNoConsole, NoSession, SaysWhy, Causes};
@@ -36,10 +36,12 @@ pub(crate) fn check_directory<H: Host>(
     ensures unharmed { IfSome result.log (IsUnharmed (H.spec host.old)
         (disks_of H.Disk.bytes H.Disk.faults H.Disk.images H.Disk.moment H.Disk.images_since)
         directory.now) }
-    ensures causes { Causes (H.spec host.old)
+    ensures causes { Causes (H.spec host.old) (H.spec host.new)
         (streams_of H.In.left H.In.faults H.Out.contents H.Out.faults)
         (disks_of H.Disk.bytes H.Disk.faults H.Disk.images H.Disk.moment H.Disk.images_since)
-        (H.spec host.new).faults (Some (check directory.now)) result }
+        (Some (check directory.now)) result }
+    ensures others { OpensOnly (ports_of (Some (check directory.now))) (H.spec host.old)
+        (H.spec host.new) }
 {
     let names = Names {
         directory,
@@ -85,7 +87,10 @@ fn open_look<'a, H: Host>(
         names.now.directory.now) }
     ensures stop { IfErr result (IsUnready (H.spec host.old) (H.spec host.new)
         (disks_of H.Disk.bytes H.Disk.faults H.Disk.images H.Disk.moment H.Disk.images_since)
-        names.now.directory.now (names.now.directory.now ∷ standard ∷ [])) }
+        (ports_of (Some (check names.now.directory.now))) names.now.directory.now
+        (names.now.directory.now ∷ standard ∷ [])) }
+    ensures others { OpensOnly (ports_of (Some (check names.now.directory.now)))
+        (H.spec host.old) (H.spec host.new) }
 {
     match open_directory(alloc, host, names.directory) {
         Ok(directory) => look_into(alloc, host, names, directory),
@@ -108,6 +113,8 @@ fn look_into<'a, H: Host>(
         (H.spec host.old) (H.spec host.new) look.answer.console) }
     ensures stop { IfErr result
         (IsUnanswered (H.spec host.old) (H.spec host.new) names.now.console.now directory) }
+    ensures others { OpensOnly (of_sinks (names.now.console.now ∷ [])) (H.spec host.old)
+        (H.spec host.new) }
 {
     let reach = directory.reach();
     match open_answer(alloc, host, names, reach) {
@@ -132,7 +139,9 @@ fn open_answer<'a, H: Host>(
         (streams_of H.In.left H.In.faults H.Out.contents H.Out.faults) names.now.console.now (H.spec host.old)
         (H.spec host.new) answer.console) }
     ensures stop { IfErr result
-        (IsNotOpened names.now.console.now (H.spec host.old) (H.spec host.new)) }
+        (HostRefuses names.now.console.now (H.spec host.old) (H.spec host.new)) }
+    ensures others { OpensOnly (of_sinks (names.now.console.now ∷ [])) (H.spec host.old)
+        (H.spec host.new) }
 {
     let Ok(line) = history_line(alloc, reach) else {
         return Err(Unopened::Memory);

@@ -1,11 +1,11 @@
 //! Opening what a run needs of the outside: the directory, and then what its scripts need, all sources and then all sinks.
-ghost use Rattle.std.specs.Prelude.{◌≡◌, ◌+◌, ◌<◌, ◌∷◌, true, length, IfOk, IfErr, OnOk};
+ghost use Rattle.std.specs.Prelude.{◌≡◌, ◌+◌, ◌<◌, [], ◌∷◌, true, length, Some, IfOk, IfErr, OnOk};
 ghost use Rattle.std.specs.Vec.Iter.{into_iter_items, into_iter_len};
 ghost use Rattle.command_line.specs.Words.{are_apart};
-ghost use Rattle.command_line.specs.Views.{names_in};
-ghost use Rattle.fb_run.specs.Outside.{streams_of, disks_of};
+ghost use Rattle.command_line.specs.Views.{names_in, run_by};
+ghost use Rattle.fb_run.specs.Outside.{streams_of, disks_of, of_sources, of_sinks, of_scripts, ports_of, OpensOnly};
 ghost use Rattle.fb_run.specs.Database.{IsOpened, IsUnready};
-ghost use Rattle.fb_run.specs.Opening.{AddsSource, OpensSources, OpensSink, AddsSession, AddsSessions, HasOpened, IsNotOpened, IsUnopened};
+ghost use Rattle.fb_run.specs.Opening.{AddsSource, OpensSources, OpensSink, AddsSession, AddsSessions, HasOpened, HostRefuses, HostRefusesOne, IsUnopened};
 
 use crate::database::{Directory, Obstacle, Unready, open_directory};
 use crate::outcome::SessionOut;
@@ -48,8 +48,10 @@ pub(crate) fn open_run<'a, H: Host>(
         ready.sessions.items) }
     ensures stop { IfErr result (IsUnready (H.spec host.old) (H.spec host.new)
         (disks_of H.Disk.bytes H.Disk.faults H.Disk.images H.Disk.moment H.Disk.images_since)
-        command.now.directory.now
+        (ports_of (Some (run_by command.now))) command.now.directory.now
         (command.now.directory.now ∷ names_in command.now.scripts.items)) }
+    ensures others { OpensOnly (ports_of (Some (run_by command.now))) (H.spec host.old)
+        (H.spec host.new) }
 {
     let directory = open_directory(alloc, host, command.directory)?;
     match open_all(alloc, host, command.scripts.as_slice()) {
@@ -85,6 +87,8 @@ pub(crate) fn open_all<'a, H: Host>(
         (H.spec host.old) (H.spec host.new) opened.items) }
     ensures stop { IfErr result
         (IsUnopened (names_in scripts.now) (H.spec host.old) (H.spec host.new)) }
+    ensures others { OpensOnly (of_scripts (names_in scripts.now)) (H.spec host.old)
+        (H.spec host.new) }
 {
     let mut sources = Vec::new(alloc);
     open_sources(alloc, host, scripts, &mut sources)?;
@@ -105,8 +109,10 @@ fn open_sources<'a, H: Host>(
     ensures opened { OnOk result (OpensSources
         (streams_of H.In.left H.In.faults H.Out.contents H.Out.faults) (names_in scripts.now)
         sources.old.items sources.new.items (H.spec host.old) (H.spec host.new)) }
-    ensures stop { IfErr result
-        (IsUnopened (names_in scripts.now) (H.spec host.old) (H.spec host.new)) }
+    ensures stop { IfErr result (HostRefusesOne of_sources (names_in scripts.now)
+        (H.spec host.old) (H.spec host.new)) }
+    ensures others { OpensOnly (of_sources (names_in scripts.now)) (H.spec host.old)
+        (H.spec host.new) }
 {
     match scripts {
         [] => Ok(()),
@@ -127,7 +133,8 @@ fn add_source<'a, H: Host>(
     ensures opened { OnOk result (AddsSource
         (streams_of H.In.left H.In.faults H.Out.contents H.Out.faults) name.now
         sources.old.items sources.new.items (H.spec host.old) (H.spec host.new)) }
-    ensures stop { IfErr result (IsNotOpened name.now (H.spec host.old) (H.spec host.new)) }
+    ensures stop { IfErr result (HostRefuses name.now (H.spec host.old) (H.spec host.new)) }
+    ensures others { OpensOnly (of_sources (name.now ∷ [])) (H.spec host.old) (H.spec host.new) }
 {
     match host.source(alloc, name) {
         Ok(source) => match sources.push(source) {
@@ -153,8 +160,10 @@ fn open_sinks<'a, H: Host>(
         (streams_of H.In.left H.In.faults H.Out.contents H.Out.faults) (names_in scripts.now)
         (into_iter_items sources.old) sessions.old.items sessions.new.items (H.spec host.old)
         (H.spec host.new)) }
-    ensures stop { IfErr result
-        (IsUnopened (names_in scripts.now) (H.spec host.old) (H.spec host.new)) }
+    ensures stop { IfErr result (HostRefusesOne of_sinks (names_in scripts.now)
+        (H.spec host.old) (H.spec host.new)) }
+    ensures others { OpensOnly (of_sinks (names_in scripts.now)) (H.spec host.old)
+        (H.spec host.new) }
 {
     match scripts {
         [] => Ok(()),
@@ -178,7 +187,8 @@ fn add_session<'a, H: Host>(
         (streams_of H.In.left H.In.faults H.Out.contents H.Out.faults) name.now
         (into_iter_items sources.old) (into_iter_items sources.new) sessions.old.items
         sessions.new.items (H.spec host.old) (H.spec host.new)) }
-    ensures stop { IfErr result (IsNotOpened name.now (H.spec host.old) (H.spec host.new)) }
+    ensures stop { IfErr result (HostRefuses name.now (H.spec host.old) (H.spec host.new)) }
+    ensures others { OpensOnly (of_sinks (name.now ∷ [])) (H.spec host.old) (H.spec host.new) }
     ensures len { into_iter_len sources.new + 1 ≡ into_iter_len sources.old }
 {
     let source = match sources.next() {
@@ -216,7 +226,8 @@ pub(crate) fn open_sink<'a, H: Host>(
     ensures opened { IfOk result (OpensSink
         (streams_of H.In.left H.In.faults H.Out.contents H.Out.faults) name.now (H.spec host.old)
         (H.spec host.new)) }
-    ensures stop { IfErr result (IsNotOpened name.now (H.spec host.old) (H.spec host.new)) }
+    ensures stop { IfErr result (HostRefuses name.now (H.spec host.old) (H.spec host.new)) }
+    ensures others { OpensOnly (of_sinks (name.now ∷ [])) (H.spec host.old) (H.spec host.new) }
 {
     let Ok(lines) = sink_name(alloc, name) else {
         return Err(Unopened::Memory);

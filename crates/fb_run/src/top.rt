@@ -11,13 +11,16 @@ ghost use Rattle.disk_log.specs.Logs.{disk_in};
 ghost use Rattle.talk_model.specs.Prefixes.{Prefixes};
 ghost use Rattle.fb_ports.specs.declared.hosts.Part.{Part};
 ghost use Rattle.fb_session.specs.Sessions.{terms_at};
-ghost use Rattle.fb_run.specs.Outside.{streams_of, disks_of};
+ghost use Rattle.fb_view.specs.SnapshotModel.{Stands};
+ghost use Rattle.fb_run.specs.Outside.{streams_of, disks_of, ports_of, OpensOnly};
 ghost use Rattle.fb_run.specs.Generated.{loads_of, spec_in_memory, in_memory};
-ghost use Rattle.fb_run.specs.Headline.{OneHistory, stop_of, EachReplies};
+ghost use Rattle.fb_run.specs.Headline.{OneHistory, EachReplies};
+ghost use Rattle.fb_run.specs.Strict.{under};
 ghost use Rattle.fb_run.specs.Logs.{LogHolds, IsUnharmed};
 ghost use Rattle.fb_run.specs.Causes.{directory_of, HasNoConsole, HasNoDisk, NoSession, IsOutOfMemory, Causes};
 ghost use Rattle.fb_run.specs.Complete.{Complete};
-ghost use Rattle.fb_run.specs.Merging.{trees_in, GoAsFar, IsMerged};
+ghost use Rattle.fb_run.specs.Coverage.{GoAsFar, IsMerged};
+ghost use Rattle.fb_run.specs.Merging.{trees_in};
 ghost use Rattle.fb_run.specs.Database.{IsReopened};
 ghost use Rattle.fb_run.specs.Running.{RepliesBy, HaveEnded, HandsLogBack, GoesOnFrom};
 
@@ -29,6 +32,7 @@ use crate::loading::load;
 use crate::looking::check_directory;
 use crate::opening::{Ready, open_run};
 use crate::outcome::{Outcome, SessionOut};
+use crate::strict::Chosen;
 use command_line::{Request, Run, command_in};
 use fb_core::Guard;
 use fb_disk::Disk;
@@ -64,17 +68,23 @@ pub fn run<
         (unwrap_or result.authors []) (map (λ s. s.commits) result.loads.items
         ++ map (λ s. s.commits) result.sessions.items)) }
 
-    // Each line answers its form as a database with one thread would at its place in the history.
+    // The last value of the database represents that history.
+    ensures stands { IfSome result.last Stands }
+
+    // Each line answers its form as a database with one thread would at its place in the history. The guard judges with
+    // `--strict` alone, and never what the generator asks for. The torn transaction is that of the one session that is told `:log`.
     ensures replies { IfSome result.last (λ last. EachReplies
-        (terms_at K.may_answer G.bars P.place_of P.selects_at clock.now guard.now preds.now)
+        (terms_at K.may_answer (under (command_of (map string_bytes words.now.items)) G.bars)
+        P.place_of P.selects_at clock.now guard.now preds.now)
         (H.spec host.old) (streams_of H.In.left H.In.faults H.Out.contents H.Out.faults)
-        result.recovered (stop_of result.torn)
+        result.recovered result.torn (unwrap_or result.authors [])
         (scripts_of (command_of (map string_bytes words.now.items))) result.sessions.items
         last.entries) }
     ensures loads { IfSome result.last (λ last. EachReplies
-        (terms_at K.may_answer G.bars P.place_of P.selects_at clock.now guard.now preds.now)
+        (terms_at K.may_answer (under (command_of (map string_bytes words.now.items)) G.bars)
+        P.place_of P.selects_at clock.now guard.now preds.now)
         (spec_in_memory (H.spec host.old) (command_of (map string_bytes words.now.items)))
-        in_memory result.recovered (stop_of result.torn)
+        in_memory result.recovered result.torn (unwrap_or result.authors [])
         (loads_of (command_of (map string_bytes words.now.items))) result.loads.items
         last.entries) }
 
@@ -92,29 +102,35 @@ pub fn run<
         Part.Log)
         (λ file. IsLogOf file (upto last.entries result.recovered))) }
 
-    // A crash at any moment leaves a log of the history, or of the history with the transaction at which the log failed.
+    // At the end a crash leaves a log of the history, or of the history with the transaction at which the log failed. Before, it
+    // leaves that up to some t with all that was there at the opening, or what a crash could have left before the run.
     ensures log { IfSome result.last (λ last. IfSome result.log (LogHolds (H.spec host.old)
         (disks_of H.Disk.bytes H.Disk.faults H.Disk.images H.Disk.moment H.Disk.images_since)
         (directory_of (command_of (map string_bytes words.now.items))) last.entries
         result.recovered result.torn)) }
 
     // Each status and its line have their cause.
-    ensures causes { Causes (H.spec host.old)
+    ensures causes { Causes (H.spec host.old) (H.spec host.new)
         (streams_of H.In.left H.In.faults H.Out.contents H.Out.faults)
         (disks_of H.Disk.bytes H.Disk.faults H.Disk.images H.Disk.moment H.Disk.images_since)
-        (H.spec host.new).faults
         (command_of (map string_bytes words.now.items)) result }
+
+    // Of the outside nothing is opened that the command does not name.
+    ensures others { OpensOnly (ports_of (command_of (map string_bytes words.now.items)))
+        (H.spec host.old) (H.spec host.new) }
 
     // Over a log that is that of a history, scripts that are forms within the limits are answered whole where no count of faults
     // rises, unless memory is refused.
     ensures complete { Complete
-        (terms_at K.may_answer G.bars P.place_of P.selects_at clock.now guard.now preds.now)
+        (terms_at K.may_answer (under (command_of (map string_bytes words.now.items)) G.bars)
+        P.place_of P.selects_at clock.now guard.now preds.now)
         (H.spec host.old) (streams_of H.In.left H.In.faults H.Out.contents H.Out.faults)
         (disks_of H.Disk.bytes H.Disk.faults H.Disk.images H.Disk.moment H.Disk.images_since)
         (H.spec host.new).faults (command_of (map string_bytes words.now.items)) result }
 
-    // How far the trees go: as far as those that the database was opened with, which are the newest that the segments kept and the
-    // history agrees with, or as far as ones that the segments keep at the end. Where the program succeeds, no merge is due any longer.
+    // How far the trees go: as far as ones that the segments keep at the end. Only where the file of segments had a fault, or kept
+    // none that the history agrees with, the trees may be those of the opening, and not kept. Where the program succeeds, no merge
+    // is due any longer.
     ensures covered { IfSome result.last (λ last. result.covered ≡ last.covered) }
     ensures coverage { IfSome result.last (λ last. IfSome result.segments (GoAsFar
         (H.spec host.old)
@@ -134,11 +150,20 @@ pub fn run<
 {
     match command_in(alloc, words.as_slice()) {
         Ok(Some(Request::Run(command))) => {
-            run_command(rt, alloc, &command, host, clock, preds, guard, gate)
+            let chosen = Chosen {
+                strict: command.options.strict,
+                guard,
+            };
+            run_command(rt, alloc, &command, host, clock, preds, &chosen, gate)
         }
         Ok(Some(Request::Check(directory))) => check_directory(alloc, host, directory),
+        // No guard judges what the generator asks for.
         Ok(Some(Request::Load(count))) => {
-            load(rt, alloc, count, host, clock, preds, guard, gate)
+            let chosen = Chosen {
+                strict: false,
+                guard,
+            };
+            load(rt, alloc, count, host, clock, preds, &chosen, gate)
         }
         Ok(None) => without_session(alloc, 1, usage(alloc)),
         Err(Memory) => without_session(alloc, 9, out_of_memory(alloc)),
@@ -170,8 +195,8 @@ fn run_command<
     ensures replies { IfSome result.last (λ last. EachReplies
         (terms_at K.may_answer G.bars P.place_of P.selects_at clock.now guard.now preds.now)
         (H.spec host.old) (streams_of H.In.left H.In.faults H.Out.contents H.Out.faults)
-        result.recovered (stop_of result.torn) (names_in command.now.scripts.items)
-        result.sessions.items last.entries) }
+        result.recovered result.torn (unwrap_or result.authors [])
+        (names_in command.now.scripts.items) result.sessions.items last.entries) }
     ensures prefixes { IfSome result.last (λ last. AllByRecursion
         (λ s. Prefixes result.recovered (basis last.entries) s.places s.commits)
         result.sessions.items) }
@@ -181,10 +206,13 @@ fn run_command<
     ensures log { IfSome result.last (λ last. IfSome result.log (LogHolds (H.spec host.old)
         (disks_of H.Disk.bytes H.Disk.faults H.Disk.images H.Disk.moment H.Disk.images_since)
         command.now.directory.now last.entries result.recovered result.torn)) }
-    ensures causes { Causes (H.spec host.old)
+    ensures causes { Causes (H.spec host.old) (H.spec host.new)
         (streams_of H.In.left H.In.faults H.Out.contents H.Out.faults)
         (disks_of H.Disk.bytes H.Disk.faults H.Disk.images H.Disk.moment H.Disk.images_since)
-        (H.spec host.new).faults (Some (run_by command.now)) result }
+        (Some (run_by command.now)) result }
+    ensures others { OpensOnly (ports_of (Some (run_by command.now))) (H.spec host.old)
+        (H.spec host.new) }
+    ensures stands { IfSome result.last Stands }
     ensures unharmed { result.last ≡ None → IfSome result.log (IsUnharmed (H.spec host.old)
         (disks_of H.Disk.bytes H.Disk.faults H.Disk.images H.Disk.moment H.Disk.images_since)
         command.now.directory.now) }
@@ -235,8 +263,8 @@ pub(crate) fn run_opened<
         (unwrap_or result.authors []) (map (λ s. s.commits) result.sessions.items)) }
     ensures replies { IfSome result.last (λ last. RepliesBy
         (terms_at K.may_answer G.bars P.place_of P.selects_at clock.now guard.now preds.now)
-        (streams_of I.left I.faults O.contents O.faults) result.recovered (stop_of result.torn)
-        ready.sessions.items result.sessions.items last.entries) }
+        (streams_of I.left I.faults O.contents O.faults) result.recovered result.torn
+        (unwrap_or result.authors []) ready.sessions.items result.sessions.items last.entries) }
     ensures prefixes { IfSome result.last (λ last. AllByRecursion
         (λ s. Prefixes result.recovered (basis last.entries) s.places s.commits)
         result.sessions.items) }
@@ -244,6 +272,7 @@ pub(crate) fn run_opened<
     ensures log { IfSome result.last (λ last. HandsLogBack
         (disks_of D.bytes D.faults D.images D.moment D.images_since) ready.directory.recovered
         (disk_in ready.directory.log) last.entries result) }
+    ensures stands { IfSome result.last Stands }
     ensures none { result.last ≡ None → HasNoDisk result }
     ensures ended { (NoSession result × IsOutOfMemory result) ⊎ HaveEnded
         (streams_of I.left I.faults O.contents O.faults)

@@ -62,6 +62,10 @@ module _ {S : Type 0} (f : Terms) (names : S → List (List ℕ)) (was is : Stat
   still_told told none =
       elim goes.went_on.stop [ inl untold ↦ stands.was_notified told untold | inr same ↦ stands.was_notified told (sym same.0 ∙ none) ]
 
+  -- a log that has not stopped now had not stopped
+  was_going : is.stop ≡ None → was.stop ≡ None
+  was_going going = elim goes.went_on.stop [ inl untold ↦ untold | inr same ↦ sym same.0 ∙ going ]
+
   not_told : was.stop ≡ None → before.was_notified ≡ false
   not_told untold = not_true before.was_notified (λ told. stands.was_notified told untold)
 
@@ -98,7 +102,7 @@ module _ {S : Type 0} (f : Terms) (names : S → List (List ℕ)) (was is : Stat
         ∙ take-append-le (length past) past (r.entry ∷ []) (omega arith)
         ∙ take-length past in
         record {
-          going = not_told r.untold;
+          going = not_told (was_going r.going);
           place = receipt.t;
           above = above;
           within = omega (arith, r.t);
@@ -113,12 +117,12 @@ module _ {S : Type 0} (f : Terms) (names : S → List (List ℕ)) (was is : Stat
           stands = refl;
         }
 
-    refused_in_talk : (refusal : Refusal) → was.stop ≡ None → ((reading : ℤ) → step is.entries asked reading f.guard ≡ refused refusal)
+    refused_in_talk : (refusal : Refusal) → is.stop ≡ None → ((reading : ℤ) → step is.entries asked reading f.guard ≡ refused refusal)
         → IsLineOf (reply.refusal_reply (keyword_of refusal.reason) refusal.at (basis is.entries)) bytes
         → IsRefused (over f is) before asked (moved before (basis is.entries)) bytes None
-    refused_in_talk refusal untold is_refused says =
+    refused_in_talk refusal going is_refused says =
         record {
-          going = not_told untold;
+          going = not_told (was_going going);
           place = basis is.entries;
           from = grown;
           within = omega arith;
@@ -199,7 +203,7 @@ module _ {S : Type 0} (f : Terms) (names : S → List (List ℕ)) (was is : Stat
           commit = None;
           answered =
               as_form after new.line.bytes.items None
-              (inr (inl (refused_in_talk asked new.line.bytes.items refusal d.is_fault.untold d.is_fault.step_is d.says)));
+              (inr (inl (refused_in_talk asked new.line.bytes.items refusal d.is_fault.going d.is_fault.step_is d.says)));
           stands = stands_behind new after d.sees refl refl refl still_told;
           keeps = d.keeps;
           counted = counted_denied form asked was.tally is.tally asks d.is_fault.rest.tally;

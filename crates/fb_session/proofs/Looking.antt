@@ -78,7 +78,7 @@ by_parts before place w names p q r = λ i. standing_at (sym p i) before.was_not
 
 module _ {S : Type 0} (f : Terms) (names : S → List (List ℕ))
     (was : State) (before : Standing) (old new : Session S) (stands : HasStanding old.view names was before) (asked : Option Read)
-    (reads : AnswersRead old.view new.view names f.is_filter f.Selects asked new.line.bytes.items) where
+    (reads : AnswersRead old.view new.view names f.is_filter f.Selects f.guard asked new.line.bytes.items) where
   past : upto was.entries before.place ≡ was.entries
   past = ap (upto was.entries) stands.place ∙ upto-basis was.entries (IsLawful-length was.entries stands.lawful)
 
@@ -87,14 +87,21 @@ module _ {S : Type 0} (f : Terms) (names : S → List (List ℕ))
 
   -- what the talk says that its reads have is what the view shows
   abbrev shown_by : Sight
-  shown_by = sight old.view names f.is_filter f.Selects
+  shown_by = sight old.view names f.is_filter f.Selects f.guard
 
   same : (P : Sight → Type 0) → P shown_by → P (sight_of (over f was) before)
   same P p = sight_at (upto was.entries before.place) before.window before.filters seen (sym stands.window) (sym stands.filters)
     where
       sight_at : (h : List Entry) (w : Window) (filters : List (List ℕ)) → old.view.snapshot.entries ≡ h → window_of old.view ≡ w
           → names old.view.filter ≡ filters
-          → P (record { history = h; window = w; filters = filters; Selects = SelectedBy f.Selects filters; is_filter = f.is_filter })
+          → P (record {
+            history = h;
+            window = w;
+            filters = filters;
+            Selects = SelectedBy f.Selects filters;
+            is_filter = f.is_filter;
+            guard = f.guard;
+          })
       sight_at h w filters q s e = rw (← q, ← s, ← e) p
 
   abbrev after : Standing

@@ -146,24 +146,25 @@ pub record Shows {S : Type 0} (old new : Session S) (is : State) : Type 0 where
 
 -- what a read has of the view
 abbrev pub sight : {S : Type 0} → Db S → (S → List (List ℕ)) → (List ℕ → Bool)
-    → (List ℕ → Datom → Type 0) → Sight
-sight view names is_filter Selects =
+    → (List ℕ → Datom → Type 0) → Guard → Sight
+sight view names is_filter Selects guard =
     record {
       history = view.snapshot.entries;
       window = window_of view;
       filters = names view.filter;
       Selects = SelectedBy Selects (names view.filter);
       is_filter = is_filter;
+      guard = guard;
     }
 
 -- the read is answered of what was seen before, and the view changes as it says
 pub record AnswersRead {S : Type 0} (old new : Db S) (names : S → List (List ℕ))
-    (is_filter : List ℕ → Bool) (Selects : List ℕ → Datom → Type 0) (asked : Option Read)
-    (line : List ℕ) : Type 0 where
-  pub says : IsLineFor (IsReply (sight old names is_filter Selects) asked) line
+    (is_filter : List ℕ → Bool) (Selects : List ℕ → Datom → Type 0) (guard : Guard)
+    (asked : Option Read) (line : List ℕ) : Type 0 where
+  pub says : IsLineFor (IsReply (sight old names is_filter Selects guard) asked) line
   pub stands : (place : ℕ) (notified : Bool)
       → standing_at place notified (window_of new) (names new.filter)
-      ≡ behind (sight old names is_filter Selects)
+      ≡ behind (sight old names is_filter Selects guard)
       (standing_at place notified (window_of old) (names old.filter)) asked
   pub snapshot : new.snapshot ≡ old.snapshot
 

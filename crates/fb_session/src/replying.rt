@@ -75,23 +75,28 @@ impl<P: FilterTable> Session<Picks<'_, P>> {
             Some(Command::Sync) => self.catch_up(rt, desk),
             Some(Command::Read(asked)) => {
                 ring_for(rt, desk, asked)?;
-                self.read(alloc, Some(asked))
+                self.read(alloc, Some(asked), guard)
             }
-            None => self.read(alloc, None),
+            None => self.read(alloc, None, guard),
         }
     }
 
     /// Answers of what was seen before.
-    fn read(&mut self, alloc: Global, asked: Option<Read<'_>>) -> Result<(), Memory>
+    fn read<G: Guard<Snapshot>>(
+        &mut self,
+        alloc: Global,
+        asked: Option<Read<'_>>,
+        guard: &G,
+    ) -> Result<(), Memory>
         ensures ok { let table = self.old.view.filter.table.now in OnOk result
             (AnswersRead self.old.view self.new.view (λ p. map (P.name_at p.table.now) p.places.items)
             (λ name. is_some (P.place_of table name))
-            (selected_by (P.place_of table) (P.selects_at table))
+            (selected_by (P.place_of table) (P.selects_at table)) (G.bars guard.now)
             (option_map (λ read. model_read read) asked.entry) self.new.line.bytes.items) }
         ensures table { self.new.view.filter.table ≡ self.old.view.filter.table }
         ensures rest { self.new ≡ record self.old { view = self.new.view; line = self.new.line } }
     {
-        answer_read(alloc, &mut self.view, asked, &mut self.line.bytes)
+        answer_read(alloc, &mut self.view, asked, guard, &mut self.line.bytes)
     }
 }
 

@@ -2,6 +2,8 @@
 #![tactic(auto)]
 
 mod examples;
+mod laws;
 mod scripts;
 
+pub use laws::scripts_are_forms;
 pub use scripts::{INSTALLER, SESSIONS, script_of};

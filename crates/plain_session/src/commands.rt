@@ -12,8 +12,8 @@ pub(crate) enum Command<'a> {
     Turn(Turn<'a>),
     RequestIndex,
     Look(Look<'a>),
-    /// The pattern, and the entity's name.
-    Pull(&'a Edn, &'a Edn),
+    /// Transactions that are tried, and what is looked at behind them.
+    With(&'a [Edn], Look<'a>),
 }
 
 /// It changes what the session sees.
@@ -33,26 +33,46 @@ pub(crate) enum Look<'a> {
     Seek(Order, &'a [Edn]),
     IndexRange(&'a Edn, &'a Edn, &'a Edn),
     TxRange(&'a Edn, &'a Edn),
+    /// The pattern, and the entity's name.
+    Pull(&'a Edn, &'a Edn),
 }
+
+/// How many transactions may be tried together.
+const MOST_TRIED: usize = 64;
 
 /// The command that the form is, if it is one: a vector that begins with a command's word.
 pub(crate) fn command_in(form: &Edn) -> Option<Command<'_>> {
+    if let Some(look) = look_in(form) {
+        return Some(Command::Look(look));
+    }
+    let (word, behind) = worded(form)?;
+    match behind {
+        [] => alone(word),
+        [x] => before_one(word, x),
+        [x, y] => before_two(word, x, y),
+        _ => None,
+    }
+}
+
+/// The word, and what stands behind it.
+fn worded(form: &Edn) -> Option<(&str, &[Edn])> {
     let Edn::Vector(members) = form else {
         return None;
     };
-    let [Edn::Key(word), behind @ ..] = members.as_slice() else {
-        return None;
-    };
-    match behind {
-        [] => alone(word.as_str()),
-        [x] => before_one(word.as_str(), x),
-        [x, y] => before_two(word.as_str(), x, y),
-        [x, y, z] if word.as_str() == "index-range" => Some(Command::Look(Look::IndexRange(
-            x, y, z,
-        ))),
+    match members.as_slice() {
+        [Edn::Key(word), behind @ ..] => Some((word.as_str(), behind)),
         _ => None,
     }
-    .or(of_an_index(word.as_str(), behind))
+}
+
+fn look_in(form: &Edn) -> Option<Look<'_>> {
+    let (word, behind) = worded(form)?;
+    match (word, behind) {
+        ("tx-range", [x, y]) => Some(Look::TxRange(x, y)),
+        ("pull", [x, y]) => Some(Look::Pull(x, y)),
+        ("index-range", [x, y, z]) => Some(Look::IndexRange(x, y, z)),
+        _ => of_an_index(word, behind),
+    }
 }
 
 fn alone(word: &str) -> Option<Command<'_>> {
@@ -76,22 +96,23 @@ fn before_one<'a>(word: &str, x: &'a Edn) -> Option<Command<'a>> {
 }
 
 fn before_two<'a>(word: &str, x: &'a Edn, y: &'a Edn) -> Option<Command<'a>> {
-    match word {
-        "tx-range" => Some(Command::Look(Look::TxRange(x, y))),
-        "pull" => Some(Command::Pull(x, y)),
+    match (word, x) {
+        ("with", Edn::Vector(datas)) if (1..=MOST_TRIED).contains(&datas.as_slice().len()) => {
+            Some(Command::With(datas.as_slice(), look_in(y)?))
+        }
         _ => None,
     }
 }
 
 /// `[:datoms index c ..]` and `[:seek index c ..]`.
-fn of_an_index<'a>(word: &str, behind: &'a [Edn]) -> Option<Command<'a>> {
+fn of_an_index<'a>(word: &str, behind: &'a [Edn]) -> Option<Look<'a>> {
     let [Edn::Key(index), components @ ..] = behind else {
         return None;
     };
     let order = order_in(index.as_str())?;
     match word {
-        "datoms" => Some(Command::Look(Look::Datoms(order, components))),
-        "seek" => Some(Command::Look(Look::Seek(order, components))),
+        "datoms" => Some(Look::Datoms(order, components)),
+        "seek" => Some(Look::Seek(order, components)),
         _ => None,
     }
 }

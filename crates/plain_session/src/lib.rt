@@ -5,6 +5,7 @@
 //! that a comparison says something that the proofs do not.
 #![tactic(auto)]
 
+mod checks;
 mod commands;
 mod components;
 mod filters;

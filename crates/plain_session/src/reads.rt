@@ -15,6 +15,7 @@ impl Sight<'_> {
             Look::Seek(order, components) => self.seek(order, components),
             Look::IndexRange(attribute, start, end) => self.index_range(attribute, start, end),
             Look::TxRange(start, stop) => self.log(start, stop),
+            Look::Pull(pattern, entity) => self.pull(pattern, entity),
         }
     }
 

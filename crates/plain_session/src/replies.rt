@@ -147,6 +147,19 @@ pub(crate) fn pull(alloc: Global, basis: u32, tree: Edn) -> Result<Edn, Memory> 
     with_basis(alloc, basis).with("pull", Ok(tree)).map()
 }
 
+/// `{:basis 1 :with [{:t 2 :tempids {}} ..] :reply {:basis 2 :pull nil}}`
+pub(crate) fn with(
+    alloc: Global,
+    basis: u32,
+    reports: Vec<Edn>,
+    reply: Edn,
+) -> Result<Edn, Memory> {
+    with_basis(alloc, basis)
+        .with("with", Ok(Edn::Vector(Items::of(reports))))
+        .with("reply", Ok(reply))
+        .map()
+}
+
 fn vectors(alloc: Global, facts: &[Datom], datoms: &[Datom]) -> Result<Edn, Memory> {
     let mut list = Vec::new(alloc);
     for d in datoms {

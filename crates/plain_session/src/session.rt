@@ -1,5 +1,6 @@
 //! A session, from one command to the next.
-use crate::commands::{Command, Turn, command_in};
+use crate::checks::Checks;
+use crate::commands::{Command, Look, Turn, command_in};
 use crate::filters::{Filter, filter_named};
 use crate::points::end_of;
 use crate::replies;
@@ -8,11 +9,13 @@ use crate::stops::{ReadStop, or_refused};
 use edn_form::Edn;
 use fb_history::EntryList;
 use fb_memory::Memory;
+use fb_numbers::LEAST_INSTANT;
 use fb_text::Text;
 use fb_values::{Datom, Entry};
 use plain_reads::{Window, basis, said, standing};
-use plain_step::{Decision, Guard, NoGuard, step};
+use plain_step::{Decision, Guard, step};
 use std::alloc::Global;
+use tx_refusals::Refusal;
 
 /// What a session sees as it begins: every transaction, and no history.
 const WHOLE: Window = Window {
@@ -28,6 +31,8 @@ pub struct PlainSession {
     entries: Vec<Entry>,
     window: Window,
     filters: Vec<Filter>,
+    /// Whether the program's guard judges its transactions.
+    is_strict: bool,
     /// What the clock reads at the next transaction, and how much more at the one after it.
     reading: i64,
     step: i64,
@@ -70,6 +75,15 @@ fn accept(
     Ok(receipt)
 }
 
+/// The reply that a read gives at the basis, also where it is refused.
+fn replied(alloc: Global, answer: Result<Edn, ReadStop>, basis: u32) -> Result<Edn, Memory> {
+    match answer {
+        Ok(reply) => Ok(reply),
+        Err(ReadStop::Refused(keyword, at)) => replies::refusal(alloc, keyword, at, basis),
+        Err(ReadStop::Memory) => Err(Memory),
+    }
+}
+
 fn copies(alloc: Global, entries: &[Entry]) -> Result<Vec<Entry>, Memory> {
     let mut list = Vec::new(alloc);
     for entry in entries {
@@ -86,9 +100,18 @@ impl PlainSession {
             entries: new_history(alloc)?,
             window: WHOLE,
             filters: Vec::new(alloc),
+            is_strict: false,
             reading: first,
             step,
         })
+    }
+
+    /// The same session, whose transactions are judged by the program's guard from now on.
+    pub fn strict(self) -> PlainSession {
+        PlainSession {
+            is_strict: true,
+            ..self
+        }
     }
 
     /// The same session, to go on with in another way.
@@ -100,6 +123,7 @@ impl PlainSession {
             entries: copies(self.alloc, &self.entries)?,
             window: self.window,
             filters,
+            is_strict: self.is_strict,
             reading: self.reading,
             step: self.step,
         })
@@ -108,13 +132,7 @@ impl PlainSession {
     /// The reply to a form of a script.
     pub fn reply(&mut self, form: &Edn) -> Result<Edn, Memory> {
         let basis = basis(&self.entries);
-        match self.answer(form) {
-            Ok(reply) => Ok(reply),
-            Err(ReadStop::Refused(keyword, at)) => {
-                replies::refusal(self.alloc, keyword, at, basis)
-            }
-            Err(ReadStop::Memory) => Err(Memory),
-        }
+        replied(self.alloc, self.answer(form), basis)
     }
 
     fn answer(&mut self, form: &Edn) -> Result<Edn, ReadStop> {
@@ -126,15 +144,65 @@ impl PlainSession {
                 self.done()
             }
             Command::RequestIndex => self.done(),
-            Command::Look(look) => self.sight(&self.facts()?).reply(look),
-            Command::Pull(pattern, entity) => self.sight(&self.facts()?).pull(pattern, entity),
+            Command::Look(look) => self.look(look),
+            Command::With(datas, look) => self.tried(datas, look),
         }
+    }
+
+    fn look(&self, look: Look<'_>) -> Result<Edn, ReadStop> {
+        self.sight(&self.facts()?).reply(look)
+    }
+
+    /// Transactions are tried on a copy of the whole database, and the look goes over what became of it.
+    fn tried(&self, datas: &[Edn], look: Look<'_>) -> Result<Edn, ReadStop> {
+        or_refused(self.sees_all().then_some(()), "read/filtered", 0)?;
+        let mut later = self.copy()?;
+        let mut reports = Vec::new(self.alloc);
+        for data in datas {
+            match step(
+                self.alloc,
+                &later.entries,
+                data,
+                LEAST_INSTANT,
+                &self.checks(),
+            )? {
+                Decision::Refused(refusal) => return Ok(later.refused(refusal)?),
+                Decision::Accepted(entry, tempids) => {
+                    let report = accept(self.alloc, &mut later.entries, entry, tempids)?;
+                    reports.push(report).map_err(Memory::from)?;
+                }
+            }
+        }
+        let reply = replied(self.alloc, later.look(look), basis(&later.entries))?;
+        Ok(replies::with(self.alloc, basis(&self.entries), reports, reply)?)
+    }
+
+    /// Whether nothing is narrowed or filtered.
+    fn sees_all(&self) -> bool {
+        let window = self.window;
+        window.from == WHOLE.from
+            && window.to == WHOLE.to
+            && !window.history
+            && self.filters.is_empty()
+    }
+
+    fn refused(&self, refusal: Refusal) -> Result<Edn, Memory> {
+        let keyword = refusal.reason.keyword();
+        replies::refusal(self.alloc, keyword, refusal.at, basis(&self.entries))
     }
 
     fn transact(&mut self, data: &Edn) -> Result<Edn, Memory> {
         let reading = self.reading;
         self.reading = reading.saturating_add(self.step);
-        transact(self.alloc, &mut self.entries, data, reading, &NoGuard)
+        let checks = self.checks();
+        transact(self.alloc, &mut self.entries, data, reading, &checks)
+    }
+
+    fn checks(&self) -> Checks {
+        Checks {
+            alloc: self.alloc,
+            is_strict: self.is_strict,
+        }
     }
 
     fn done(&self) -> Result<Edn, ReadStop> {

@@ -2,12 +2,12 @@
 use Rattle.std.proofs.Common.{◌≡◌, ℕ, List, [], ◌∷◌, cond, refl, sym, ap, ◌∙◌}
 use Rattle.std.specs.Prelude.{bytes_eq}
 use Rattle.read_refusals.specs.declared.reasons.Reason.{Reason}
-use Rattle.read_refusals.specs.declared.reasons.Reason.TheVariants.{NotACommand, BadPattern, NoFilter, BadPoint, BadComponent, NotInIndex}
-use Rattle.read_refusals.specs.declared.reasons.Reason.TheVariants.{NotAnEntity, History, TooLarge}
+use Rattle.read_refusals.specs.declared.reasons.Reason.TheVariants.{NotACommand, Filtered, BadPattern, BadTuple, NoFilter, BadPoint}
+use Rattle.read_refusals.specs.declared.reasons.Reason.TheVariants.{BadComponent, NotInIndex, NotAnEntity, History, TooLarge}
 use Rattle.read_refusals.specs.Reasons.{keyword_of}
 
 abbrev all : List Reason
-all = NotACommand ∷ BadPattern ∷ NoFilter ∷ BadPoint ∷ BadComponent ∷ NotInIndex ∷ NotAnEntity ∷ History ∷ TooLarge ∷ []
+all = NotACommand ∷ Filtered ∷ BadPattern ∷ BadTuple ∷ NoFilter ∷ BadPoint ∷ BadComponent ∷ NotInIndex ∷ NotAnEntity ∷ History ∷ TooLarge ∷ []
 
 -- the first of the reasons with the keyword, and any other where there is none
 abbrev named_in : List Reason → List ℕ → Reason
@@ -16,7 +16,9 @@ named_in (reason ∷ rest) k = cond (bytes_eq (keyword_of reason) k) reason (nam
 
 named_is : (reason : Reason) → named_in all (keyword_of reason) ≡ reason
 named_is NotACommand = refl
+named_is Filtered = refl
 named_is BadPattern = refl
+named_is BadTuple = refl
 named_is NoFilter = refl
 named_is BadPoint = refl
 named_is BadComponent = refl

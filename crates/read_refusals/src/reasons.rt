@@ -8,8 +8,12 @@ ghost use Rattle.read_refusals.specs.Reasons.{keyword_of};
 pub enum Reason {
     /// The form is not a command.
     NotACommand,
+    /// Transactions are to be tried on a view that is filtered or narrowed.
+    Filtered,
     /// The pattern of a Pull is none.
     BadPattern,
+    /// The attributes of a tuple are none that can make one.
+    BadTuple,
     /// No filter has the name.
     NoFilter,
     /// No point in time, or no end of a range of the log.
@@ -20,7 +24,7 @@ pub enum Reason {
     NotInIndex,
     /// The entity of a Pull is found by no name.
     NotAnEntity,
-    /// A Pull meets a history view.
+    /// A read that takes no history meets a history view.
     History,
     /// A Pull makes too much.
     TooLarge,
@@ -40,7 +44,9 @@ impl Reason {
     {
         match self {
             Reason::NotACommand => "read/not-a-command",
+            Reason::Filtered => "read/filtered",
             Reason::BadPattern => "read/bad-pattern",
+            Reason::BadTuple => "read/bad-tuple",
             Reason::NoFilter => "read/no-filter",
             Reason::BadPoint => "read/bad-point",
             Reason::BadComponent => "read/bad-component",

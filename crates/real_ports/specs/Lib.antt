@@ -1,2 +1,3 @@
 pub mod AnyDiskLaws
 pub mod AnyDisks
+pub mod Nodes

@@ -1,13 +1,16 @@
 //! Files as disks. Each call is a few calls of the system at an offset, and a sync reaches the disk itself.
-ghost use Rattle.std.specs.Prelude.{◌≡◌, ◌<◌, ℕ, [], None, Some, is_ok, IfOk, IfErr, IsTrue};
+ghost use Rattle.std.specs.Prelude.{◌≡◌, ◌<◌, ◌≤◌, ℕ, [], length, None, Some, is_ok, IfOk, IfErr, IsTrue};
 ghost use Rattle.real_ports.specs.AnyDisks.{faults_of, bytes_of, is_memory, held_in, opened_in};
 ghost use Rattle.fb_ports.specs.Faults.{Counts};
 
+use crate::in_use::InUse;
+use crate::opened::{Node, open_directory, open_regular};
+use crate::synced::{mark_unsynced, settle};
 use fb_ports::{Disk, Failed, OpenFail, Part};
 use io_faults::raise;
 use mem_ports::MemDisk;
 use std::alloc::Global;
-use std::fs::{File, OpenOptions, TryLockError};
+use std::fs::{File, TryLockError};
 use std::io;
 use std::io::ErrorKind;
 use std::marker::Model;
@@ -37,20 +40,17 @@ impl Model for FileDisk {
 impl FileDisk {
     /// The file of this path in a directory that must be there. A missing file is made empty. Its entry in the directory
     /// is on the disk before this answers, also where an earlier run made the file and broke off. A file that another
-    /// program holds locked, as this one holds its own, is not opened.
-    fn open(rt: &HostRuntime, dir: &str, path: &str) -> io::Result<FileDisk>
+    /// program holds locked, as this one holds its own, is not opened, and neither is one that is a sink.
+    fn open(rt: &HostRuntime, in_use: &mut InUse, dir: &str, path: &str) -> io::Result<FileDisk>
         ensures { IfOk result (λ d. d ≡ 0) }
     {
-        let dir = File::open(rt, dir)?;
-        let file = OpenOptions::new()
-            .read(true)
-            .write(true)
-            .create(true)
-            .open(rt, path)?;
-        // Where a file system has no locks, none is held.
-        if let Err(TryLockError::WouldBlock) = file.try_lock() {
-            return Err(io::Error::from(ErrorKind::WouldBlock));
+        let dir = open_directory(rt, dir)?;
+        let file = open_regular(rt, path)?;
+        lock(&file)?;
+        if let Some(node) = Node::of(&file.metadata()?) {
+            in_use.add(node)?;
         }
+        settle(&file)?;
         dir.sync_all()?;
         Ok(FileDisk { file, faults: 0 })
     }
@@ -66,6 +66,28 @@ impl FileDisk {
         raise(&mut self.faults);
         Err(Failed)
     }
+}
+
+/// Locks a file, unless another program holds it. Where a file system has no locks, none is held.
+fn lock(file: &File) -> io::Result<()> {
+    match file.try_lock() {
+        Err(TryLockError::Error(e)) if e.kind() == ErrorKind::Unsupported => Ok(()),
+        Err(e) => Err(io::Error::from(e)),
+        Ok(()) => Ok(()),
+    }
+}
+
+/// Reads at a place, and again where a signal interrupts it.
+fn read_some(file: &File, at: u64, buf: &mut [u8]) -> io::Result<usize>
+    ensures { IfOk result (λ n. n ≤ length buf.old) }
+{
+    for _ in 0..u64::MAX {
+        match file.read_at(buf, at) {
+            Err(e) if e.kind() == ErrorKind::Interrupted => {}
+            read => return read,
+        }
+    }
+    Err(io::Error::from(ErrorKind::TimedOut))
 }
 
 impl Disk for FileDisk {
@@ -102,7 +124,7 @@ impl Disk for FileDisk {
     }
 
     fn read_at(&mut self, at: u64, buf: &mut [u8]) -> Result<usize, Failed> {
-        match self.file.read_at(buf, at) {
+        match read_some(&self.file, at, buf) {
             Ok(count) => Ok(count),
             Err(_) => {
                 raise(&mut self.faults);
@@ -129,6 +151,10 @@ impl Disk for FileDisk {
 
     fn sync(&mut self) -> Result<(), Failed> {
         let done = self.file.sync_data().is_ok();
+        if !done {
+            // A mark that cannot be set is not known of at the next opening.
+            let _ = mark_unsynced(&self.file);
+        }
         self.count(done)
     }
 }
@@ -144,6 +170,7 @@ impl AnyDisk {
     /// The file of a part of a directory, or an empty disk in memory for `:memory:`.
     pub(crate) fn open(
         rt: &HostRuntime,
+        in_use: &mut InUse,
         alloc: Global,
         dir: &str,
         part: Part,
@@ -166,7 +193,7 @@ impl AnyDisk {
         let Ok(path) = format!(in alloc; "{dir}/{name}") else {
             return Err(OpenFail::Memory);
         };
-        match FileDisk::open(rt, dir, &path) {
+        match FileDisk::open(rt, in_use, dir, &path) {
             Ok(file) => Ok(AnyDisk::File(file)),
             Err(_) => Err(OpenFail::Failed),
         }

@@ -4,16 +4,20 @@ ghost use Rattle.fb_ports.specs.Faults.{CountsOpening};
 ghost use Rattle.fb_ports.specs.HostCalls.{Alike};
 ghost use Rattle.real_ports.specs.AnyDisks.{faults_of, bytes_of, may_leave, moment_at, is_memory, held_in, may_leave_in, opened_in};
 
+use crate::in_use::InUse;
 use crate::{AnyDisk, FileSink, FileSource};
 use fb_ports::{Host, OpenFail, Part};
 use io_faults::raise;
 use std::alloc::Global;
+use std::io;
 use std::marker::Model;
 
-/// The file system, and the standard streams by the name `-`. A contract sees its count of faults.
+/// The file system, and the standard streams by the name `-`. A file that it hands out as a sink it hands out as nothing else, whatever the
+/// names. Terminals, the null device and sockets are free. A contract sees its count of faults.
 #[derive(Drop)]
 pub struct RealHost {
     rt: HostRuntime,
+    in_use: InUse,
     faults: u64,
 }
 
@@ -29,7 +33,36 @@ impl RealHost {
     pub fn new(rt: HostRuntime) -> RealHost
         ensures { result ≡ 0 }
     {
-        RealHost { rt, faults: 0 }
+        RealHost {
+            rt,
+            in_use: InUse::new(),
+            faults: 0,
+        }
+    }
+
+    /// A source whose file is no sink.
+    fn open_source(&mut self, name: &str) -> io::Result<FileSource>
+        ensures count { IfOk result (λ s. s ≡ 0) }
+        ensures faults { self.new ≡ self.old }
+    {
+        let source = FileSource::open(&self.rt, name)?;
+        if let Some(node) = source.node()? {
+            self.in_use.add(node)?;
+        }
+        Ok(source)
+    }
+
+    /// A sink whose file is nothing else that was opened. Only then is the file emptied.
+    fn open_sink(&mut self, name: &str) -> io::Result<FileSink>
+        ensures count { IfOk result (λ s. s ≡ 0) }
+        ensures faults { self.new ≡ self.old }
+    {
+        let sink = FileSink::open(&self.rt, name)?;
+        if let Some(node) = sink.node()? {
+            self.in_use.add_sink(node)?;
+        }
+        sink.empty()?;
+        Ok(sink)
     }
 }
 
@@ -65,7 +98,7 @@ impl Host for RealHost {
         // Opening takes no memory.
         ensures fault { IfErr result (λ e. e ≡ OpenFail.Failed) }
     {
-        match FileSource::open(&self.rt, name) {
+        match self.open_source(name) {
             Ok(source) => Ok(source),
             Err(_) => {
                 raise(&mut self.faults);
@@ -81,7 +114,7 @@ impl Host for RealHost {
         // Opening takes no memory.
         ensures fault { IfErr result (λ e. e ≡ OpenFail.Failed) }
     {
-        match FileSink::create(&self.rt, name) {
+        match self.open_sink(name) {
             Ok(sink) => Ok(sink),
             Err(_) => {
                 raise(&mut self.faults);
@@ -102,7 +135,7 @@ impl Host for RealHost {
         // In memory only memory can be wanting.
         ensures in_memory { IsTrue (is_memory dir.now) → IfErr result (λ e. e ≡ OpenFail.Memory) }
     {
-        match AnyDisk::open(&self.rt, alloc, dir, part) {
+        match AnyDisk::open(&self.rt, &mut self.in_use, alloc, dir, part) {
             Err(OpenFail::Failed) => {
                 raise(&mut self.faults);
                 Err(OpenFail::Failed)

@@ -6,6 +6,10 @@ mod clocks;
 mod disks;
 mod files;
 mod hosts;
+mod in_use;
+mod opened;
+mod synced;
+mod waits;
 
 pub use clocks::SystemClock;
 pub use disks::AnyDisk;

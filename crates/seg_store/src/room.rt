@@ -1,5 +1,6 @@
 //! Room in a file most of whose nodes are dead: they are nodes of none of the trees that are kept on with.
-ghost use Rattle.std.specs.Prelude.{◌≡◌, ◌⊎◌, ◌*◌, ◌-◌, ◌++◌, [], ◌∷◌, ℕ, List, length, nat_lt, None, Some, OnOk, IsErrOf};
+ghost use Rattle.std.specs.Prelude.{◌≡◌, ◌⊎◌, ◌*◌, ◌-◌, ◌++◌, [], ◌∷◌, ℕ, List, length, nat_eq, nat_lt, None, Some, OnOk, IsErrOf};
+ghost use Rattle.std.specs.List.{IsDistinct};
 ghost use Rattle.io_faults.specs.Faults.{Rose};
 ghost use Rattle.fb_journal.specs.Journals.{Keeps, StaysKnown};
 ghost use Rattle.seg_tree.specs.Ids.{node_ids};
@@ -21,7 +22,9 @@ impl<D: Disk> SegStore<D> {
     /// Whether the file has more than two nodes for each node of these trees: where they are the file's, more than half of its
     /// nodes are dead.
     pub fn is_mostly_dead(&self, roots: &Roots) -> bool
-        ensures { result ≡ nat_lt (2 * length (root_ids roots.now)) (node_count self.now) }
+        ensures count { result ≡ nat_lt (2 * length (root_ids roots.now)) (node_count self.now) }
+        // The store counts no node twice.
+        ensures distinct { IsDistinct nat_eq self.now.ids }
     {
         let left = without_two_each(&roots.eavt, self.ids.len());
         let left = without_two_each(&roots.aevt, left);

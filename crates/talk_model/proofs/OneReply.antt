@@ -1,7 +1,8 @@
 -- A read has one answer, and leaves its session where it was.
-use Rattle.std.proofs.Common.{ℕ, ◌≡◌, ◌+◌, Bool, true, false, zero, suc, List, [], ◌∷◌, ◌++◌, Option, Some, None, Result, Ok, Err, take}
+use Rattle.std.proofs.Common.{ℕ, ◌≡◌, ◌+◌, Bool, true, false, zero, suc, List, [], ◌∷◌, ◌++◌, length, Option, Some, None, Result, Ok, Err}
+use Rattle.std.proofs.Common.{take}
 use Rattle.std.proofs.Common.{refl, ap, sym, ◌∙◌, subst, arith}
-use Rattle.std.specs.Bool.{Decides}
+use Rattle.std.specs.Bool.{Decides, MatchBool}
 use Rattle.std.specs.Str.{bytes_eq}
 use Rattle.std.specs.Option.{option_map}
 use Rattle.std.proofs.lemmas.Bool.{true≢false}
@@ -20,7 +21,12 @@ use Rattle.view_model.specs.Window.{Window}
 use Rattle.view_model.specs.Names.{Id}
 use Rattle.view_model.specs.Scan.{Range, leading, not_below}
 use Rattle.view_model.proofs.Scans.{IsRisingListOf-one}
+use Rattle.with_model.specs.Chain.{TxReport, Chain, reaches, refused_at, chain, is_unfiltered}
+use Rattle.with_model.proofs.Chains.{chain-IsLawful}
+use Rattle.tuple_model.proofs.SeenRows.{one_list_in}
+use Rattle.read_refusals.specs.declared.reasons.Reason.TheVariants.{Filtered}
 use Rattle.read_refusals.specs.declared.reasons.Refusal.{Refusal}
+use Rattle.read_model.specs.Given.{refusal}
 use Rattle.read_model.specs.Points.{log_range}
 use Rattle.read_model.specs.Names.{id_in, IsFound}
 use Rattle.read_model.proofs.Finding.{named_one}
@@ -28,11 +34,14 @@ use Rattle.pull_model.specs.Patterns.{Pattern}
 use Rattle.pull_model.specs.Reading.{pattern_in}
 use Rattle.pull_model.proofs.Views.{not_without_a_list}
 use Rattle.talk_model.proofs.Reading.{components_one, range_one}
-use Rattle.talk_model.specs.Commands.{Look, datoms, seek, index_range, tx_range, pull, Read, look, turn, request_index, Command, read}
-use Rattle.talk_model.specs.Commands.{command_in}
-use Rattle.talk_model.specs.Replies.{datoms_reply, line_feed, IsLineOf}
+use Rattle.talk_model.specs.Commands.{Look, datoms, seek, index_range, tx_range, pull, Read, look, tried, tuples, turn, request_index}
+use Rattle.talk_model.specs.Commands.{Command, read, command_in}
+use Rattle.talk_model.specs.Replies.{datoms_reply, with_reply, tuples_reply, line_feed, IsLineOf}
 use Rattle.talk_model.specs.Session.{Setting, Standing, Sight, sight_of}
-use Rattle.talk_model.specs.Reads.{Shows, HasDatoms, HasDatomsAt, HasDatomsBetween, HasTransactions, HasTree, HasPull, IsLook, IsReply}
+use Rattle.talk_model.specs.Looks.{refused, Shows, HasDatoms, HasDatomsAt, HasDatomsBetween, HasTransactions, HasTree, HasPull, IsLook}
+use Rattle.talk_model.specs.Tried.{at_end, ShowsChain, IsTried}
+use Rattle.talk_model.specs.TupleRanges.{HasRows, HasTuples, tuple_range}
+use Rattle.talk_model.specs.Reads.{IsReply}
 use Rattle.talk_model.specs.Talk.{IsReadAnswer, AnswersCommand, IsAnswered}
 use Rattle.talk_model.proofs.Steps.{behind-place}
 
@@ -111,9 +120,39 @@ module _ (s : Sight) (lawful : IsLawful s.history) where
       differ (shows_one (basis s.history) (HasTransactions s.history) (λ range p q x y. x ∙ sym y) (log_range s.history start end) p q x y)
   look_one (pull pattern entity) p q x y differ = pull_one s.history s.window s.Selects lawful (pattern_in pattern) entity p q x y differ
 
+module _ (s : Sight) (lawful : IsLawful s.history) where
+  chain_one : (l : Look) (c : Chain) → ((h : List Entry) (told : List TxReport) → c ≡ reaches h told → IsLawful h) → (p q : Form)
+      → ShowsChain s l c p → ShowsChain s l c q → (p ≡ q → ⊥) → ⊥
+  chain_one l (refused_at r at) stays p q x y differ = differ (x ∙ sym y)
+  chain_one l (reaches h told) stays p q x y differ =
+      look_one (at_end s h) (stays h told refl) l x.0 y.0 x.1 y.1
+      (λ same. differ (x.2 ∙ ap (with_reply (basis s.history) told) same ∙ sym y.2))
+
+  tried_one : (datas : List Form) (l : Look) (p q : Form) → IsTried s datas l p → IsTried s datas l q → (p ≡ q → ⊥) → ⊥
+  tried_one datas l p q x y differ = go (is_unfiltered s.window (length s.filters)) x y
+    where
+      narrowed : Form
+      narrowed = refused (basis s.history) (refusal Filtered 0)
+
+      go : (b : Bool) → MatchBool b (ShowsChain s l (chain s.guard s.history datas) p) (p ≡ narrowed)
+          → MatchBool b (ShowsChain s l (chain s.guard s.history datas) q) (q ≡ narrowed) → ⊥
+      go true x y =
+          chain_one l (chain s.guard s.history datas) (λ h told is. chain-IsLawful s.guard s.history h datas told lawful is) p q x y differ
+      go false x y = differ (x ∙ sym y)
+
+  tuples_one : (names start end p q : Form) → HasTuples s names start end p → HasTuples s names start end q → p ≡ q
+  tuples_one names start end =
+      shows_one (basis s.history) (HasRows s) (λ range p q x y.
+      x.2
+      ∙ ap (tuples_reply (basis s.history))
+      (one_list_in s.history s.window s.Selects range.attrs range.start range.end x.0 y.0 x.1 y.1) ∙ sym y.2)
+      (tuple_range (facts s.history) s.window.history names start end)
+
   reply_one : (asked : Option Read) (p q : Form) → IsReply s asked p → IsReply s asked q → (p ≡ q → ⊥) → ⊥
   reply_one None p q x y differ = differ (x ∙ sym y)
-  reply_one (Some (look l)) p q x y differ = look_one l p q x y differ
+  reply_one (Some (look l)) p q x y differ = look_one s lawful l p q x y differ
+  reply_one (Some (tried datas l)) p q x y differ = tried_one datas l p q x y differ
+  reply_one (Some (tuples names start end)) p q x y differ = differ (tuples_one names start end p q x y)
   reply_one (Some (turn t)) p q x y differ = differ (x ∙ sym y)
   reply_one (Some request_index) p q x y differ = differ (x ∙ sym y)
 
@@ -162,6 +201,15 @@ module _ (s : Setting) (before : Standing) where
   pub answer_look : (f : Form) (l : Look) (after : Standing) (line : List ℕ) (commit : Option ℕ) → command_in f ≡ Some (read (look l))
       → IsAnswered s before f after line commit → after ≡ before
   answer_look f l after line commit is a = (reads (Some (look l)) (command_in f) after line commit is a).stands
+
+  pub answer_tried : (f : Form) (datas : List Form) (l : Look) (after : Standing) (line : List ℕ) (commit : Option ℕ)
+      → command_in f ≡ Some (read (tried datas l)) → IsAnswered s before f after line commit → after ≡ before
+  answer_tried f datas l after line commit is a = (reads (Some (tried datas l)) (command_in f) after line commit is a).stands
+
+  pub answer_tuples : (f names start end : Form) (after : Standing) (line : List ℕ) (commit : Option ℕ)
+      → command_in f ≡ Some (read (tuples names start end)) → IsAnswered s before f after line commit → after ≡ before
+  answer_tuples f names start end after line commit is a =
+      (reads (Some (tuples names start end)) (command_in f) after line commit is a).stands
 
   pub answer_request : (f : Form) (after : Standing) (line : List ℕ) (commit : Option ℕ) → command_in f ≡ Some (read request_index)
       → IsAnswered s before f after line commit → after ≡ before

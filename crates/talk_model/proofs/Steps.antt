@@ -7,8 +7,8 @@ use Rattle.view_model.specs.Window.{Window}
 use Rattle.view_model.specs.Window as window
 use Rattle.read_refusals.specs.declared.reasons.Refusal.{Refusal}
 use Rattle.read_model.specs.Points.{point_in}
-use Rattle.talk_model.specs.Commands.{Turn, as_of, since, history, filter, unfilter, Read, look, turn, request_index, Command, transact, db}
-use Rattle.talk_model.specs.Commands.{sync, read, command_in}
+use Rattle.talk_model.specs.Commands.{Turn, as_of, since, history, filter, unfilter, Read, look, tried, tuples, turn, request_index}
+use Rattle.talk_model.specs.Commands.{Command, transact, db, sync, read, command_in}
 use Rattle.talk_model.specs.Session.{Setting, Standing, Sight, sight_of, with_name}
 use Rattle.talk_model.specs.Reads.{windowed, turned, behind}
 use Rattle.talk_model.specs.Talk.{IsAccepted, IsRefused, IsNotTaken, IsStopped, IsShown, IsReadAnswer, AnswersCommand, IsAnswered}
@@ -52,12 +52,16 @@ turned-told s standing unfilter = refl
 pub behind-place : (s : Sight) (standing : Standing) (asked : Option Read) → (behind s standing asked).place ≡ standing.place
 behind-place s standing (Some (turn t)) = turned-place s standing t
 behind-place s standing (Some (look l)) = refl
+behind-place s standing (Some (tried datas l)) = refl
+behind-place s standing (Some (tuples names start end)) = refl
 behind-place s standing (Some request_index) = refl
 behind-place s standing None = refl
 
 pub behind-told : (s : Sight) (standing : Standing) (asked : Option Read) → (behind s standing asked).was_notified ≡ standing.was_notified
 behind-told s standing (Some (turn t)) = turned-told s standing t
 behind-told s standing (Some (look l)) = refl
+behind-told s standing (Some (tried datas l)) = refl
+behind-told s standing (Some (tuples names start end)) = refl
 behind-told s standing (Some request_index) = refl
 behind-told s standing None = refl
 

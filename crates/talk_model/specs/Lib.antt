@@ -2,6 +2,9 @@ pub mod Script
 pub mod Commands
 pub mod Replies
 pub mod Session
+pub mod Looks
+pub mod Tried
+pub mod TupleRanges
 pub mod Reads
 pub mod Computed
 pub mod Talk

@@ -1,6 +1,7 @@
 -- What answers a command, as a form, and its line: the canonical text, and a line feed.
 -- EDN, edn-format. Which keys a reply has is this project's own choice.
-use Rattle.std.specs.Prelude.{◌≡◌, ℕ, pos, true, List, [], ◌∷◌, ◌++◌, codes, map}
+use Rattle.std.specs.Prelude.{◌≡◌, ℕ, pos, true, List, [], ◌∷◌, ◌++◌, codes, map, Option, Some}
+use Rattle.std.specs.Prelude.{None}
 use Rattle.std.specs.Option.{option_map_or}
 use Rattle.edn_model.specs.Form as edn
 use Rattle.edn_model.specs.Form.{Form, forms, pairs}
@@ -9,9 +10,12 @@ use Rattle.edn_print.specs.Printable.{printable}
 use Rattle.edn_values.specs.Values.{form_of_value}
 use Rattle.fb_values.specs.declared.facts.Datom.{Datom}
 use Rattle.fb_values.specs.declared.facts.Entry.{Entry}
+use Rattle.fb_values.specs.declared.facts.Value.{Value}
 use Rattle.fb_values.specs.declared.facts.Value.TheVariants.{Ref}
 use Rattle.fb_numbers.specs.Numbers.{transaction_of}
 use Rattle.fb_model.specs.Schema.{attribute_of}
+use Rattle.with_model.specs.Chain.{TxReport}
+use Rattle.tuple_model.specs.Tuples.{Row}
 
 -- ---- parts
 
@@ -61,6 +65,15 @@ abbrev pub transaction_form : List Datom → Entry → Form
 transaction_form facts entry =
     map_of ((codes "t", number entry.t) ∷ (codes "data", datom_forms facts entry.datoms) ∷ [])
 
+-- a member of a tuple
+abbrev pub member_form : Option Value → Form
+member_form None = edn.nil
+member_form (Some v) = form_of_value v
+
+-- [[1 nil] 17592186044420]
+abbrev pub row_form : Row → Form
+row_form row = vector (vector (map member_form row.tuple) ∷ entity row.e ∷ [])
+
 -- ---- replies
 
 -- {:t 1 :tempids {"x" 17592186044417}}
@@ -95,6 +108,21 @@ transactions_reply basis facts entries =
 abbrev pub pull_reply : ℕ → Form → Form
 pull_reply basis tree =
     map_of ((codes "basis", number basis) ∷ (codes "pull", printable tree) ∷ [])
+
+-- {:basis 1 :with [{:t 2 :tempids {}} ..] :reply {:basis 2 ..}}: the reports of transactions that
+-- were tried, and the reply of a look behind them
+abbrev pub with_reply : ℕ → List TxReport → Form → Form
+with_reply basis reports shown =
+    map_of (
+    (codes "basis", number basis)
+    ∷ (codes "with", vector (map (λ report. receipt report.t report.tempids) reports))
+    ∷ (codes "reply", shown)
+    ∷ [])
+
+-- {:basis 3 :tuples [[[1 nil] 17592186044420] ..]}
+abbrev pub tuples_reply : ℕ → List Row → Form
+tuples_reply basis rows =
+    map_of ((codes "basis", number basis) ∷ (codes "tuples", vector (map row_form rows)) ∷ [])
 
 -- {:refused :read/not-a-command :at 0 :basis 3}
 abbrev pub refusal_reply : List ℕ → ℕ → ℕ → Form

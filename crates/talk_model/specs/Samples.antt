@@ -68,6 +68,7 @@ over_ages =
       filters = [];
       Selects = λ d. d.added ≡ true;
       is_filter = users_alone;
+      guard = no_guard;
     }
 
 -- the reply to a read at t 4 of the ages
@@ -88,7 +89,11 @@ standing_with w filters = record { place = 4; window = w; filters = filters; was
 -- the reply to a read at t 1 of the texts, under a window and filters
 abbrev pub reply_over_texts : Window → List (Datom → Bool) → Form → Form
 reply_over_texts w filters form =
-    reply (tested texts w [] filters users_alone) filters (read_in form)
+    reply (tested texts w [] filters users_alone no_guard) filters (read_in form)
+
+-- [:with datas look]
+abbrev pub tries : List Form → Form → Form
+tries datas look = said (codes "with") (vector datas ∷ look ∷ [])
 
 -- [:datoms :eavt e], where e is the first user entity
 abbrev pub datoms_of_first : Form

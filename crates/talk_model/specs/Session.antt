@@ -44,6 +44,8 @@ pub record Sight : Type 1 where
   pub Selects : Datom → Type 0
   -- which names are those of filters
   pub is_filter : List ℕ → Bool
+  -- what judges the transactions that it tries
+  pub guard : Guard
 
 -- of a session that is opened at this t
 abbrev pub opened_at : ℕ → Standing
@@ -71,6 +73,7 @@ sight_of s standing =
       filters = standing.filters;
       Selects = SelectedBy s.Selects standing.filters;
       is_filter = s.is_filter;
+      guard = s.guard;
     }
 
 -- the same setting with more of the history, and with what became of the log

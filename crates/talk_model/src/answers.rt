@@ -1,11 +1,12 @@
 //! What each read answers, by computation.
 ghost use Rattle.std.specs.Prelude.{◌≡◌, [], ◌∷◌, true, codes};
 ghost use Rattle.edn_model.specs.Form.{nil, string};
+ghost use Rattle.fb_numbers.specs.Numbers.{user_entity};
 ghost use Rattle.view_model.specs.Window.{whole, as_of, since, with_history};
 ghost use Rattle.tx_model.specs.Samples.{vector};
-ghost use Rattle.talk_model.specs.Replies.{refusal_reply, done_reply};
+ghost use Rattle.talk_model.specs.Replies.{refusal_reply, done_reply, transactions_reply, with_reply};
 ghost use Rattle.talk_model.specs.Session.{opened_at};
-ghost use Rattle.talk_model.specs.Samples.{said, key, number, minus_one_form, IsReplyOverAges, behind_read, standing_behind, standing_with};
+ghost use Rattle.talk_model.specs.Samples.{said, key, number, minus_one_form, text, tries, datoms_of_first, reply_over_texts, IsReplyOverAges, behind_read, standing_behind, standing_with};
 
 /// Each reason, at its place.
 pub fn refusals_of_reads()
@@ -36,6 +37,23 @@ pub fn refusals_of_reads()
     ensures no_entity { IsReplyOverAges
         (said (codes "pull") (vector (key (codes "db/id") ∷ []) ∷ string (codes "x") ∷ []))
         (refusal_reply (codes "read/not-an-entity") 2 4) }
+{}
+
+/// Transactions that are tried: the whole database alone is tried on, the first refusal ends a chain
+/// at the basis that it had come to, and the look is answered at its end.
+pub fn transactions_are_tried()
+    ensures filtered { reply_over_texts (since 2 whole) [] (tries (text ∷ []) datoms_of_first)
+        ≡ refusal_reply (codes "read/filtered") 0 1 }
+    ensures history { reply_over_texts (with_history whole) [] (tries (text ∷ []) datoms_of_first)
+        ≡ refusal_reply (codes "read/filtered") 0 1 }
+    ensures refused { reply_over_texts whole [] (tries (text ∷ nil ∷ []) datoms_of_first)
+        ≡ refusal_reply (codes "db.error/not-a-form") 0 2 }
+    ensures shown { reply_over_texts whole [] (tries (text ∷ []) (said (codes "tx-range") (number 3 ∷ nil ∷ [])))
+        ≡ with_reply 1 (record { t = 2; tempids = (codes "x", user_entity 2) ∷ [] } ∷ [])
+        (transactions_reply 2 [] []) }
+    ensures look_refused { reply_over_texts whole [] (tries (text ∷ []) (said (codes "tx-range") (nil ∷ minus_one_form ∷ [])))
+        ≡ with_reply 1 (record { t = 2; tempids = (codes "x", user_entity 2) ∷ [] } ∷ [])
+        (refusal_reply (codes "read/bad-point") 2 2) }
 {}
 
 /// What changes after a command.

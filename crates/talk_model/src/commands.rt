@@ -1,10 +1,10 @@
 //! Which form is which command, by computation.
-ghost use Rattle.std.specs.Prelude.{◌≡◌, [], ◌∷◌, codes, Some, None};
+ghost use Rattle.std.specs.Prelude.{◌≡◌, [], ◌∷◌, codes, replicate, Some, None};
 ghost use Rattle.edn_model.specs.Form as edn;
 ghost use Rattle.edn_model.specs.Form.{nil, forms};
 ghost use Rattle.fb_values.specs.declared.indexes.Order.TheVariants.{Eavt, Aevt, Avet, Vaet};
 ghost use Rattle.talk_model.specs.Commands as command;
-ghost use Rattle.talk_model.specs.Commands.{command_in};
+ghost use Rattle.talk_model.specs.Commands.{look_in, datas_in, command_in};
 ghost use Rattle.talk_model.specs.Samples.{said, key, number};
 
 /// Each command.
@@ -40,6 +40,10 @@ pub fn words_of_commands()
         ≡ Some (command.looks (command.tx_range nil (number 3))) }
     ensures pull { command_in (said (codes "pull") (nil ∷ number 3 ∷ []))
         ≡ Some (command.looks (command.pull nil (number 3))) }
+    ensures tried { command_in
+        (said (codes "with")
+        (edn.vector (forms (nil ∷ [])) ∷ said (codes "tx-range") (nil ∷ nil ∷ []) ∷ []))
+        ≡ Some (command.read (command.tried (nil ∷ []) (command.tx_range nil nil))) }
 {}
 
 /// Near misses.
@@ -58,4 +62,34 @@ pub fn forms_that_are_no_command()
     ensures half_a_range { command_in
         (said (codes "index-range") (key (codes "p/age") ∷ number 1 ∷ []))
         ≡ None }
+    ensures nothing_tried { command_in
+        (said (codes "with")
+        (edn.vector (forms []) ∷ said (codes "tx-range") (nil ∷ nil ∷ []) ∷ []))
+        ≡ None }
+    ensures tried_before_no_look { command_in
+        (said (codes "with") (edn.vector (forms (nil ∷ [])) ∷ said (codes "db") [] ∷ []))
+        ≡ None }
+{}
+
+/// A look inside a command, and near misses: what changes the view is none.
+pub fn looks_in_forms()
+    ensures pull { look_in (said (codes "pull") (nil ∷ number 3 ∷ []))
+        ≡ Some (command.pull nil (number 3)) }
+    ensures datoms { look_in (said (codes "datoms") (key (codes "eavt") ∷ []))
+        ≡ Some (command.datoms Eavt []) }
+    ensures a_turn { look_in (said (codes "as-of") (number 3 ∷ [])) ≡ None }
+    ensures a_transaction { look_in (said (codes "transact") (nil ∷ [])) ≡ None }
+    ensures another_index { look_in (said (codes "datoms") (key (codes "aave") ∷ [])) ≡ None }
+    ensures a_list { look_in
+        (edn.list (forms (key (codes "datoms") ∷ key (codes "eavt") ∷ [])))
+        ≡ None }
+{}
+
+/// From 1 to 64 transactions may be tried.
+pub fn transactions_that_may_be_tried()
+    ensures one { datas_in (edn.vector (forms (nil ∷ []))) ≡ Some (nil ∷ []) }
+    ensures most { datas_in (edn.vector (forms (replicate 64 nil))) ≡ Some (replicate 64 nil) }
+    ensures none { datas_in (edn.vector (forms [])) ≡ None }
+    ensures too_many { datas_in (edn.vector (forms (replicate 65 nil))) ≡ None }
+    ensures a_list { datas_in (edn.list (forms (nil ∷ []))) ≡ None }
 {}

@@ -12,8 +12,10 @@ mod replies;
 mod scripts;
 mod talks;
 
-pub use answers::{refusals_of_reads, views_of_a_session};
-pub use commands::{forms_that_are_no_command, words_of_commands};
+pub use answers::{refusals_of_reads, transactions_are_tried, views_of_a_session};
+pub use commands::{
+    forms_that_are_no_command, looks_in_forms, transactions_that_may_be_tried, words_of_commands,
+};
 pub use examples::{a_talk, a_talk_over_a_stopped_log, datoms_that_are_read};
 pub use reads::{
     a_read_has_one_answer, looks_change_nothing, reads_are_computed_by_tests,

@@ -1,13 +1,13 @@
 //! Replies as forms and as lines, by computation.
-ghost use Rattle.std.specs.Prelude.{◌≡◌, [], ◌∷◌, true, false, codes};
+ghost use Rattle.std.specs.Prelude.{◌≡◌, [], ◌∷◌, pos, true, false, codes, Some, None};
 ghost use Rattle.edn_model.specs.Form as edn;
 ghost use Rattle.edn_model.specs.Form.{forms, pairs};
-ghost use Rattle.fb_values.specs.declared.facts.Value.TheVariants.{Str, Ref};
+ghost use Rattle.fb_values.specs.declared.facts.Value.TheVariants.{Str, Ref, Long};
 ghost use Rattle.fb_numbers.specs.Numbers.{user_entity, value_type, transaction_of, type_long};
 ghost use Rattle.fb_model.specs.Facts.{facts};
 ghost use Rattle.view_model.specs.Scan.{transactions};
 ghost use Rattle.view_model.specs.Samples.{datom, ages, texts, hi};
-ghost use Rattle.talk_model.specs.Replies.{datom_form, receipt, basis_reply, done_reply, datoms_reply, transactions_reply, refusal_reply, fault_reply, IsLineOf};
+ghost use Rattle.talk_model.specs.Replies.{datom_form, receipt, basis_reply, done_reply, datoms_reply, transactions_reply, with_reply, tuples_reply, refusal_reply, fault_reply, IsLineOf};
 ghost use Rattle.talk_model.specs.Samples.{key, number, datom_vector, text_transaction};
 
 /// A datom as a form: an attribute by its keyword, and an entity by its number wherever it is.
@@ -47,6 +47,14 @@ pub fn lines_of_replies()
         (codes "{:basis 0 :datoms []}\n") }
     ensures no_transaction { IsLineOf (transactions_reply 0 (facts texts) [])
         (codes "{:basis 0 :txs []}\n") }
+    ensures tried { IsLineOf
+        (with_reply 1 (record { t = 2; tempids = [] } ∷ []) (basis_reply 2))
+        (codes "{:basis 1 :with [{:t 2 :tempids {}}] :reply {:basis 2}}\n") }
+    ensures a_tuple { IsLineOf
+        (tuples_reply 2
+        (record { tuple = Some (Long (pos 1)) ∷ None ∷ []; e = user_entity 4 } ∷ []))
+        (codes "{:basis 2 :tuples [[[1 nil] 17592186044420]]}\n") }
+    ensures no_tuple { IsLineOf (tuples_reply 2 []) (codes "{:basis 2 :tuples []}\n") }
     ensures refused { IsLineOf (refusal_reply (codes "read/bad-point") 1 3)
         (codes "{:refused :read/bad-point :at 1 :basis 3}\n") }
     ensures not_taken { IsLineOf (fault_reply (codes "log") 4 3)

@@ -105,7 +105,7 @@ fn hire(
 ) -> Result<Vec<Worker>, Memory>
     requires seat { board_of first.old ≡ board.now.table.shared.table_id }
     requires first { ((view_of first.old).number ≡ worker) × ((view_of first.old).given ≡ 0) }
-    requires few { (count ≤ 16) × (rounds ≤ 10000) }
+    requires few { (count ≤ 64) × (rounds ≤ 10000) }
     ensures seat { board_of first.new ≡ board_of first.old }
     ensures given { IfOk result
         (λ ws. view_of first.new ≡ record (view_of first.old) { given = count }) }
@@ -203,7 +203,7 @@ pub fn open(
     serial: u32,
     sessions: u32,
 ) -> Result<(Board<Book, Page>, BoardSeat), Memory>
-    requires { sessions ≤ 16 }
+    requires { sessions ≤ 64 }
     ensures board { IfOk result (λ r. (board_of r.1 ≡ r.0.table.shared.table_id)
         × (r.0.table.shared.key.sessions ≡ sessions)) }
     ensures serial { IfOk result (λ r. r.0.table.shared.key.home.value.serial ≡ serial) }
@@ -224,7 +224,7 @@ pub fn run<R: Threads + Wait + Sync>(
     count: u32,
     rounds: u32,
 ) -> Result<Report, Memory>
-    requires { (0 < count) × (count ≤ 16) × (rounds ≤ 10000) }
+    requires { (0 < count) × (count ≤ 64) × (rounds ≤ 10000) }
     ensures { IfOk result (λ r. IsLawful (λ l e. e < 1000000) r.book.entries.items
         × IsSoundBook r.book.entries.items r.book.halt
         × (r.book.serial ≡ serial)) }

@@ -36,7 +36,7 @@ fn done_by<R: Threads + Wait + Sync>(
     count: u32,
     rounds: u32,
 ) -> Result<Work, Memory>
-    requires count { (0 < count) × (count ≤ 16) }
+    requires count { (0 < count) × (count ≤ 64) }
     requires rounds { (0 < rounds) × (rounds ≤ 10000) }
 {
     let Report { book, added, fell } = run(alloc, rt, 1, count, rounds)?;
@@ -91,6 +91,11 @@ fn main(rt: HostRuntime) -> Result<()> {
     println!(rt;
         "16 threads, 200 numbers each: {:?}",
         done_by(alloc, &rt, 16, 200)?
+    )?;
+    // More threads than there are beds to sleep in.
+    println!(rt;
+        "40 threads, 50 numbers each: {:?}",
+        done_by(alloc, &rt, 40, 50)?
     )?;
     println!(rt;
         "a reader that holds its word: {:?}",

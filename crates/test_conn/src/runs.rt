@@ -83,7 +83,7 @@ fn serve<R: Threads + Wait + Sync>(
         records: 0,
         fails_at: model.fails_at,
     };
-    let core = Core::of(alloc, Snapshot::first(alloc)?)?;
+    let core = Core::of(alloc, Snapshot::first(alloc)?);
     let mut base = base_of(core.snapshot())?;
     let Made {
         conn,

@@ -37,7 +37,7 @@ impl Model for Run {
 impl Run {
     /// A new database. A merge of it has begun.
     pub(crate) fn new(alloc: Global) -> Result<Run> {
-        Run::of(Core::of(alloc, Snapshot::first(alloc)?)?)
+        Run::of(Core::of(alloc, Snapshot::first(alloc)?))
     }
 
     fn of(core: Core) -> Result<Run> {

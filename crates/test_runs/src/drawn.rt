@@ -6,6 +6,10 @@ use test_data::{Dice, PEOPLE, SCHEMA, data};
 
 const SEED: u64 = 20_261_129;
 
+/// An attribute of which the program's guard speaks.
+const EMAIL: &str =
+    "{:db/ident :person/email :db/valueType :db.type/string :db/cardinality :db.cardinality/one :db/unique :db.unique/identity}";
+
 /// Commands in which `~` stands for a digit that is drawn, and `%` for the number of the session.
 const COMMANDS: [&str; 28] = [
     "[:transact [{:g/id \"own %-~\" :g/one ~ :g/many [~ 7]}]]",
@@ -37,6 +41,45 @@ const COMMANDS: [&str; 28] = [
     "[:filter :positive]",
     "[:unfilter]",
 ];
+
+/// Commands of which the program's guard bars some.
+const BARRED_COMMANDS: [&str; 14] = [
+    "[:transact [{:person/email \"e~\" :db/doc \"by %\"}]]",
+    "[:transact [{:person/email \"e~\" :db/doc \"~\"}]]",
+    "[:transact [{:person/email \"e~\"}]]",
+    "[:transact [{:person/email \"e~\" :db/doc \"\"}]]",
+    "[:transact [[:db/add \"x\" :db/doc \"\"]]]",
+    "[:transact [[:db/add \"x\" :db/doc \"x\"]]]",
+    "[:transact [[:db/retract [:person/email \"e~\"] :db/doc]]]",
+    "[:transact [[:db/retract [:person/email \"e~\"] :db/doc \"~\"] [:db/add \"x\" :db/doc \"~\"]]]",
+    "[:transact [[:db/retract [:person/email \"e~\"] :person/email]]]",
+    "[:transact [[:db/retractEntity [:person/email \"e~\"]]]]",
+    "[:transact []]",
+    "[:db]",
+    "[:datoms :aevt :person/email]",
+    "[:pull [*] [:person/email \"e~\"]]",
+];
+
+/// Two scripts of so many of these commands, over one attribute.
+pub(crate) fn barred_scripts(alloc: Global, commands: u32) -> Result<Vec<String>> {
+    let mut dice = Dice::new(SEED);
+    let mut scripts = Vec::new(alloc);
+    for session in 0..2 {
+        scripts.push(barred_script(alloc, &mut dice, session, commands)?)?;
+    }
+    Ok(scripts)
+}
+
+fn barred_script(alloc: Global, dice: &mut Dice, session: usize, commands: u32) -> Result<String> {
+    let mut out = String::new(alloc);
+    writeln!(out, "[:transact [{EMAIL}]]")?;
+    for _ in 0..commands {
+        let command = dice.pick(&BARRED_COMMANDS);
+        fill(dice, command, session, &mut out)?;
+        out.push('\n')?;
+    }
+    Ok(out)
+}
 
 /// A script for each session, of so many drawn commands.
 pub(crate) fn scripts(alloc: Global, sessions: usize, commands: u32) -> Result<Vec<String>> {
@@ -88,15 +131,17 @@ fn add_command(alloc: Global, dice: &mut Dice, session: usize, out: &mut String)
     match dice.roll(8) {
         0 => write!(out, "[:transact {}]", data(alloc, dice)?.as_str())?,
         1 => out.push_str("[:unfilter]")?,
-        _ => fill(dice, session, out)?,
+        _ => {
+            let command = dice.pick(&COMMANDS);
+            fill(dice, command, session, out)?
+        }
     }
     out.push('\n')?;
     Ok(())
 }
 
-/// One of the commands, with its digits.
-fn fill(dice: &mut Dice, session: usize, out: &mut String) -> Result<()> {
-    let command = dice.pick(&COMMANDS);
+/// A command with its digits.
+fn fill(dice: &mut Dice, command: &str, session: usize, out: &mut String) -> Result<()> {
     for letter in command.chars() {
         match letter {
             '~' => write!(out, "{}", dice.roll(4))?,

@@ -27,6 +27,7 @@ fn main(rt: HostRuntime) -> Result<()> {
 fn run_all<R: Files + Alloc + Print + Threads + Wait + Sync>(rt: &R, alloc: Global) -> Result<()> {
     plays::perform_at_each_point(rt, alloc)?;
     replays::replay_drawn(rt, alloc)?;
+    replays::replay_barred(rt, alloc)?;
     replays::compare_bytes(rt, alloc)?;
     chain::pull_chains(rt, alloc)?;
     logs::run_over_logs(rt, alloc)

@@ -1,8 +1,9 @@
 //! Drawn scripts run in as many threads. A plain session replays what they were answered, and merges change no byte of it.
-use crate::drawn::{long_script, scripts};
+use crate::drawn::{barred_scripts, long_script, scripts};
 use crate::plain::plain_session;
-use crate::runs::{Ended, run_in_memory, served_by, texts_of};
+use crate::runs::{Ended, Terms, run_by, run_in_memory, served_by, texts_of};
 use anyhow::{Result, bail};
+use plain_session::PlainSession;
 use std::alloc::Global;
 use std::sync::Wait;
 use std::thread::Threads;
@@ -42,22 +43,18 @@ fn replay_run<R: Threads + Wait + Sync>(
     scripts: &[&str],
 ) -> Result<usize> {
     let ended = run_in_memory(rt, alloc, merge_at, scripts)?;
-    replay(alloc, scripts, &ended)
+    replay(alloc, scripts, &ended, plain_session(alloc)?)
 }
 
-fn replay(alloc: Global, scripts: &[&str], ended: &Ended) -> Result<usize> {
+/// Replays the whole history, up to its last t, by a plain session that is still to be asked. It says how many lines there were.
+fn replay(alloc: Global, scripts: &[&str], ended: &Ended, plain: PlainSession) -> Result<usize> {
     let Some(last) = ended.last else {
         bail!("a run hands back no history");
     };
     let served = served_by(alloc, scripts, ended)?;
-    replay_to(alloc, served.as_slice(), last)?;
+    let mut replay = Replay::new(alloc, plain, None)?;
+    replay.replay(served.as_slice(), 0..last)?;
     Ok(lines_in(served.as_slice()))
-}
-
-/// Replays the whole history, up to its last t.
-fn replay_to(alloc: Global, served: &[Served<'_>], last: u32) -> Result<()> {
-    let mut replay = Replay::new(alloc, plain_session(alloc)?, None)?;
-    replay.replay(served, 0..last)
 }
 
 fn lines_in(served: &[Served<'_>]) -> usize {
@@ -66,6 +63,63 @@ fn lines_in(served: &[Served<'_>]) -> usize {
         lines = lines.saturating_add(session.places.len());
     }
     lines
+}
+
+/// Two sessions run at once under the program's guard, which bars each empty text and more, and then without it.
+pub(crate) fn replay_barred<R: Print + Threads + Wait + Sync>(rt: &R, alloc: Global) -> Result<()> {
+    let scripts = barred_scripts(alloc, 150)?;
+    let texts = texts_of(alloc, scripts.as_slice())?;
+    let loose = Terms::in_memory("1");
+    let strict = Terms {
+        is_strict: true,
+        ..loose
+    };
+    let lines = replay_on(rt, alloc, strict, texts.as_slice(), empty_texts(&texts))?;
+    replay_on(rt, alloc, loose, texts.as_slice(), 0)?;
+    println!(rt; "under a guard: {lines} lines as the plain session's")?;
+    Ok(())
+}
+
+/// Runs the scripts on these terms, by which so many texts have to be barred, and replays them.
+fn replay_on<R: Threads + Wait + Sync>(
+    rt: &R,
+    alloc: Global,
+    terms: Terms<'_>,
+    scripts: &[&str],
+    barred: usize,
+) -> Result<usize> {
+    let ended = run_by(rt, alloc, terms, scripts)?;
+    if barred_texts(&ended) != barred {
+        bail!("a guard bars other texts than the empty ones");
+    }
+    let plain = plain_session(alloc)?;
+    let plain = if terms.is_strict {
+        plain.strict()
+    } else {
+        plain
+    };
+    replay(alloc, scripts, &ended, plain)
+}
+
+/// How many commands record an empty text.
+fn empty_texts(scripts: &[&str]) -> usize {
+    let mut count: usize = 0;
+    for script in scripts {
+        let lines = script.lines().filter(|line| line.contains(":db/doc \"\""));
+        count = count.saturating_add(lines.count());
+    }
+    count
+}
+
+/// How many lines say that a guard barred a value.
+fn barred_texts(ended: &Ended) -> usize {
+    let mut count: usize = 0;
+    for session in &ended.sessions {
+        let lines = session.sink.bytes().split(|byte| *byte == b'\n');
+        let barred = lines.filter(|line| line.starts_with(b"{:refused :db.error/attr-pred "));
+        count = count.saturating_add(barred.count());
+    }
+    count
 }
 
 /// One script has to be answered by the same bytes, whenever merges are due.

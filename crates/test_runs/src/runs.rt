@@ -1,7 +1,6 @@
 //! Runs of scripts over hosts in memory, and what they hand back.
 use crate::directories::{DIRECTORY, Parts, host_with};
 use anyhow::{Result, bail};
-use fb_core::NoGuard;
 use fb_ports::Host;
 use fb_preds::shipped;
 use fb_run::{Outcome, SessionOut, run};
@@ -23,6 +22,8 @@ pub(crate) struct Terms<'a> {
     /// How many datoms make a merge due.
     pub(crate) merge_at: &'a str,
     pub(crate) clock: i64,
+    /// Whether the program's guard judges what the scripts ask for.
+    pub(crate) is_strict: bool,
 }
 
 impl<'a> Terms<'a> {
@@ -32,6 +33,7 @@ impl<'a> Terms<'a> {
             directory: ":memory:",
             merge_at,
             clock: CLOCK,
+            is_strict: false,
         }
     }
 
@@ -41,6 +43,7 @@ impl<'a> Terms<'a> {
             directory: DIRECTORY,
             merge_at,
             clock: CLOCK,
+            is_strict: false,
         }
     }
 
@@ -49,6 +52,9 @@ impl<'a> Terms<'a> {
         let mut words = Vec::new(alloc);
         for word in &["run", "--merge-at", self.merge_at, self.directory] {
             words.push(String::from_str(alloc, word)?)?;
+        }
+        if self.is_strict {
+            words.push(String::from_str(alloc, "--strict")?)?;
         }
         Ok(words)
     }
@@ -149,8 +155,18 @@ pub(crate) fn run_in_memory<R: Threads + Wait + Sync>(
     merge_at: &str,
     scripts: &[&str],
 ) -> Result<Ended> {
+    run_by(rt, alloc, Terms::in_memory(merge_at), scripts)
+}
+
+/// The same on these terms.
+pub(crate) fn run_by<R: Threads + Wait + Sync>(
+    rt: &R,
+    alloc: Global,
+    terms: Terms<'_>,
+    scripts: &[&str],
+) -> Result<Ended> {
     let mut host = MemHost::new(alloc);
-    let ended = run_scripts(rt, alloc, Terms::in_memory(merge_at), scripts, &mut host)?;
+    let ended = run_scripts(rt, alloc, terms, scripts, &mut host)?;
     ended.succeeds()?;
     Ok(ended)
 }
@@ -223,7 +239,7 @@ pub(crate) fn source_of(alloc: Global, script: &str) -> Result<MemSource> {
     Ok(MemSource::new(bytes, Vec::new(alloc)))
 }
 
-/// Runs a command by a clock that stands.
+/// Runs a command by a clock that stands. It has the program's guard, which counts in a strict run alone.
 pub(crate) fn run_words<R: Threads + Wait + Sync, H: Host, W: Gate + Sync>(
     rt: &R,
     alloc: Global,
@@ -234,7 +250,8 @@ pub(crate) fn run_words<R: Threads + Wait + Sync, H: Host, W: Gate + Sync>(
 ) -> Result<Outcome<H::In, H::Out, H::Disk>> {
     let clock = FixedClock::new(clock);
     let filters = shipped(alloc)?;
-    Ok(run(rt, alloc, words, host, &clock, &filters, &NoGuard, gate))
+    let checks = fb_checks::shipped(alloc)?;
+    Ok(run(rt, alloc, words, host, &clock, &filters, &checks, gate))
 }
 
 /// What each session asked and was answered.

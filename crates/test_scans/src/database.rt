@@ -32,7 +32,7 @@ const SCHEMA: &str =
 
 /// Its latest value, over trees that hold all of it.
 pub(crate) fn grown<R: Threads + Sync>(rt: &R, alloc: Global) -> Result<Snapshot> {
-    let mut core = Core::of(alloc, Snapshot::first(alloc)?)?;
+    let mut core = Core::of(alloc, Snapshot::first(alloc)?);
     grow(alloc, &mut core)?;
     merge(rt, alloc, &mut core)?;
     Ok(core.snapshot().share()?)

@@ -52,7 +52,8 @@ impl Pen<'_> {
             15..=17 => self.scan("[:seek "),
             18..=20 => self.index_range(),
             21 | 22 => self.tx_range(),
-            23..=30 => self.pull(),
+            23..=29 => self.pull(),
+            30 => self.tried(),
             _ => self.other(),
         }
     }
@@ -65,12 +66,41 @@ impl Pen<'_> {
     }
 
     fn transact(&mut self) {
-        self.write("[:transact [");
+        self.write("[:transact ");
+        self.data();
+        self.write("]");
+    }
+
+    /// What a transaction is asked.
+    fn data(&mut self) {
+        self.write("[");
         let forms = 1 + self.dice.roll(4);
         for _ in 0..forms {
             self.form();
         }
-        self.write("]]");
+        self.write("]");
+    }
+
+    /// Up to three transactions that are tried, and a look behind them.
+    fn tried(&mut self) {
+        self.write("[:with [");
+        let count = self.dice.roll(4);
+        for _ in 0..count {
+            self.data();
+        }
+        self.write("] ");
+        self.look();
+        self.write("]");
+    }
+
+    fn look(&mut self) {
+        match self.dice.roll(16) {
+            0..=4 => self.scan("[:datoms "),
+            5..=7 => self.scan("[:seek "),
+            8..=9 => self.index_range(),
+            10..=11 => self.tx_range(),
+            _ => self.pull(),
+        }
     }
 
     fn form(&mut self) {

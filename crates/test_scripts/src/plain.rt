@@ -1,6 +1,6 @@
 //! Scripts by the plain session.
 use crate::forms::next_form;
-use crate::rows::Readings;
+use crate::rows::Terms;
 use anyhow::Result;
 use edn_form::Edn;
 use edn_print::print;
@@ -17,10 +17,10 @@ pub(crate) struct PlainScript {
 }
 
 impl PlainScript {
-    pub(crate) fn of(alloc: Global, script: &str, clock: Readings) -> Result<PlainScript> {
+    pub(crate) fn of(alloc: Global, script: &str, terms: Terms) -> Result<PlainScript> {
         let mut plain = PlainScript {
             alloc,
-            session: PlainSession::new(alloc, clock.first, clock.step)?,
+            session: session_of(alloc, terms)?,
             script: String::new(alloc),
             lines: Vec::new(alloc),
         };
@@ -75,4 +75,13 @@ impl PlainScript {
         self.lines.push(b'\n')?;
         Ok(())
     }
+}
+
+/// A session that is still to be asked.
+fn session_of(alloc: Global, terms: Terms) -> Result<PlainSession> {
+    let session = PlainSession::new(alloc, terms.clock.first, terms.clock.step)?;
+    if !terms.is_strict {
+        return Ok(session);
+    }
+    Ok(session.strict())
 }

@@ -11,34 +11,45 @@ pub(crate) struct Readings {
     pub(crate) step: i64,
 }
 
-/// A clock that always reads the first of January 2024.
-pub(crate) const CLOCK: Readings = Readings {
-    first: 1_704_067_200_000,
-    step: 0,
+/// How a script is run.
+#[derive(Clone, Copy)]
+pub(crate) struct Terms {
+    pub(crate) clock: Readings,
+    /// Whether the program's guard judges its transactions.
+    pub(crate) is_strict: bool,
+}
+
+/// A clock that always reads the first of January 2024, and no guard.
+pub(crate) const TERMS: Terms = Terms {
+    clock: Readings {
+        first: 1_704_067_200_000,
+        step: 0,
+    },
+    is_strict: false,
 };
 
 /// A script of the table.
 #[derive(Drop)]
 pub(crate) struct Row {
     pub(crate) name: String,
-    pub(crate) clock: Readings,
+    pub(crate) terms: Terms,
     pub(crate) script: String,
     /// Each with its line feed.
     pub(crate) replies: String,
 }
 
-pub(crate) fn rows_in(alloc: Global, table: &str) -> Result<Vec<Row>> {
+pub(crate) fn rows_in(alloc: Global, table: &str, terms: Terms) -> Result<Vec<Row>> {
     let mut rows = Vec::new(alloc);
     for line in table.lines() {
-        add_to_rows(alloc, &mut rows, line)?;
+        add_to_rows(alloc, &mut rows, line, terms)?;
     }
     Ok(rows)
 }
 
 /// A name begins a row, and any other line goes to the last one.
-fn add_to_rows(alloc: Global, rows: &mut Vec<Row>, line: &str) -> Result<()> {
+fn add_to_rows(alloc: Global, rows: &mut Vec<Row>, line: &str, terms: Terms) -> Result<()> {
     if let Some(name) = line.strip_prefix("# ") {
-        rows.push(Row::named(alloc, name)?)?;
+        rows.push(Row::named(alloc, name, terms)?)?;
         return Ok(());
     }
     match rows.last_mut() {
@@ -48,10 +59,10 @@ fn add_to_rows(alloc: Global, rows: &mut Vec<Row>, line: &str) -> Result<()> {
 }
 
 impl Row {
-    fn named(alloc: Global, name: &str) -> Result<Row> {
+    fn named(alloc: Global, name: &str, terms: Terms) -> Result<Row> {
         Ok(Row {
             name: String::from_str(alloc, name)?,
-            clock: CLOCK,
+            terms,
             script: String::new(alloc),
             replies: String::new(alloc),
         })
@@ -61,7 +72,7 @@ impl Row {
         if let Some(reply) = line.strip_prefix("-> ") {
             add_line(&mut self.replies, reply)?;
         } else if let Some(words) = line.strip_prefix("clock ") {
-            self.clock = readings_in(words)?;
+            self.terms.clock = readings_in(words)?;
         } else {
             add_line(&mut self.script, line)?;
         }

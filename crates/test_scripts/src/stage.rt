@@ -2,7 +2,7 @@
 use crate::compared::are_same;
 use crate::drawn::commands;
 use crate::plain::PlainScript;
-use crate::rows::{CLOCK, Readings, Row};
+use crate::rows::{Row, TERMS, Terms};
 use crate::tally::Tally;
 use crate::worlds::{World, drawn_world};
 use crate::{merges, session};
@@ -25,7 +25,7 @@ pub(crate) struct Stage<'a, R, W> {
 const LONG: usize = 20_000;
 
 impl<R: Threads + Wait + Sync, W: Write> Stage<'_, R, W> {
-    /// The scripts of the table.
+    /// The scripts of a table.
     pub(crate) fn run_rows(&mut self, rows: &[Row]) -> Result<()> {
         for row in rows {
             self.run_row(row)?;
@@ -33,23 +33,23 @@ impl<R: Threads + Wait + Sync, W: Write> Stage<'_, R, W> {
         Ok(())
     }
 
-    /// A script of the table, with merges and without, and by the plain session.
+    /// A script of a table, with merges and without, and by the plain session.
     fn run_row(&mut self, row: &Row) -> Result<()> {
         let name = row.name.as_str();
         let script = row.script.as_str().as_bytes();
         let wanted = row.replies.as_str().as_bytes();
-        let lines = session::lines(self.rt, self.alloc, script, row.clock)?;
+        let lines = session::lines(self.rt, self.alloc, script, row.terms)?;
         if !are_same(self.out, name, script, wanted, &lines)? {
             bail!("a script is answered otherwise than the table says");
         }
         if script.len() < LONG {
             self.run_by_plain(row)?;
         }
-        self.run_with_merges(script, &lines, row.clock)
+        self.run_with_merges(script, &lines, row.terms)
     }
 
     fn run_by_plain(&mut self, row: &Row) -> Result<()> {
-        let plain = PlainScript::of(self.alloc, row.script.as_str(), row.clock)?;
+        let plain = PlainScript::of(self.alloc, row.script.as_str(), row.terms)?;
         let script = row.script.as_str().as_bytes();
         let wanted = row.replies.as_str().as_bytes();
         if !are_same(self.out, row.name.as_str(), script, wanted, &plain.lines)? {
@@ -80,7 +80,7 @@ impl<R: Threads + Wait + Sync, W: Write> Stage<'_, R, W> {
         dice: &mut Dice,
         tally: &mut Tally,
     ) -> Result<()> {
-        let begun = PlainScript::of(self.alloc, world.commands.as_str(), CLOCK)?;
+        let begun = PlainScript::of(self.alloc, world.commands.as_str(), TERMS)?;
         for _ in 0..scripts {
             self.run_on(world, &begun, dice, tally)?;
         }
@@ -103,18 +103,18 @@ impl<R: Threads + Wait + Sync, W: Write> Stage<'_, R, W> {
     /// A script that the plain session has answered.
     fn run_as_plain(&mut self, plain: &PlainScript, tally: &mut Tally) -> Result<()> {
         let script = plain.script.as_str().as_bytes();
-        let lines = session::lines(self.rt, self.alloc, script, CLOCK)?;
+        let lines = session::lines(self.rt, self.alloc, script, TERMS)?;
         if !are_same(self.out, "a drawn script", script, &plain.lines, &lines)? {
             bail!("a drawn script is answered otherwise than the plain session says");
         }
         tally.count(self.alloc, script, &lines)?;
-        self.run_with_merges(script, &lines, CLOCK)
+        self.run_with_merges(script, &lines, TERMS)
     }
 
     /// Requests for merges change no other line.
-    fn run_with_merges(&mut self, script: &[u8], lines: &[u8], clock: Readings) -> Result<()> {
+    fn run_with_merges(&mut self, script: &[u8], lines: &[u8], terms: Terms) -> Result<()> {
         let more = merges::with_merges(self.alloc, script)?;
-        let among = session::lines(self.rt, self.alloc, &more, clock)?;
+        let among = session::lines(self.rt, self.alloc, &more, terms)?;
         let others = merges::other_lines(self.alloc, &among)?;
         if !are_same(self.out, "with merges", script, lines, &others)? {
             bail!("a merge changes a line");

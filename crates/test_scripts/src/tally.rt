@@ -102,6 +102,7 @@ impl Tally {
 fn finds(word: &str, line: &[u8]) -> bool {
     match word {
         "pull" => !line.ends_with(b":pull nil}\n"),
+        "with" => line.ends_with(b"]]}}\n") || line.ends_with(b"]]}]}}\n"),
         _ => line.ends_with(b"]]}\n") || line.ends_with(b"]]}]}\n"),
     }
 }

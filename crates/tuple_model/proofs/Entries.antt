@@ -1,6 +1,6 @@
 -- The tuples of entities of which an entry says nothing.
-use Rattle.std.proofs.Common.{◌≡◌, ℕ, false, List, [], ◌∷◌, ◌++◌, map, refl, ◌∙◌, ap}
-use Rattle.std.specs.Prelude.{nat_eq}
+use Rattle.std.proofs.Common.{◌≡◌, ℕ, false, List, [], ◌∷◌, ◌++◌, map, refl, sym, ◌∙◌, ap}
+use Rattle.std.specs.Prelude.{nat_eq, is_some}
 use Rattle.std.specs.List.{list_any}
 use Rattle.std.proofs.lemmas.Bool.{and_left, or_parts, or_from}
 use Rattle.fb_values.specs.declared.facts.Datom.{Datom}
@@ -11,7 +11,8 @@ use Rattle.fb_model.specs.Schema.{is_about}
 use Rattle.fb_model.proofs.Triples.{is_of-true}
 use Rattle.fb_model.proofs.OneMoreEntry.{said-push}
 use Rattle.fb_model.proofs.Untouched.{IsOnTriples, standing-untouched}
-use Rattle.tuple_model.specs.Tuples.{least_value, tuple_of}
+use Rattle.tuple_model.specs.Tuples.{least_value, tuple_of, has_one_of}
+use Rattle.tuple_model.proofs.SeenRows.{has_one_of-some}
 
 is_about-IsOnTriples : (e a : ℕ) → IsOnTriples (is_about e a)
 is_about-IsOnTriples e a =
@@ -36,3 +37,9 @@ tuple_of-untouched h entry (a ∷ attrs) e none =
     ap least_value (ap (λ ds. values_of (standing ds) e a) (said-push h entry) ∙ values_of-untouched (said h) entry.datoms e a none) in
     let rest = tuple_of-untouched h entry attrs e none in
     λ i. first i ∷ rest i
+
+pub has_one_of-untouched : (h : List Entry) (entry : Entry) (attrs : List ℕ) (e : ℕ) → list_any (λ d. nat_eq d.e e) entry.datoms ≡ false
+    → has_one_of (facts (h ++ entry ∷ [])) attrs e ≡ has_one_of (facts h) attrs e
+has_one_of-untouched h entry attrs e none =
+    has_one_of-some (facts (h ++ entry ∷ [])) attrs e ∙ ap (list_any is_some) (tuple_of-untouched h entry attrs e none)
+    ∙ sym (has_one_of-some (facts h) attrs e)

@@ -1,7 +1,7 @@
 -- Rows are totally ordered, and a rising list of them is told by its members.
-use Rattle.std.proofs.Common.{inl, inr, ◌⊎◌, ◌≡◌, zero, suc, Bool, true, false, cond, ◌&&◌, List, [], ◌∷◌, refl, sym, ◌∙◌, ap, subst, arith}
+use Rattle.std.proofs.Common.{inl, inr, ◌⊎◌, ◌≡◌, Bool, true, false, cond, ◌&&◌, List, [], ◌∷◌, refl, sym, ◌∙◌, ap, subst}
 use Rattle.std.proofs.Common.{T, Option, Some, None}
-use Rattle.std.specs.Prelude.{Contains}
+use Rattle.std.specs.Prelude.{Contains, filter}
 use Rattle.std.specs.Ordering.{is_lt, is_eq, nat_cmp, ordering_then, ordering_reverse}
 use Rattle.std.specs.Cmp.{IsTotalOrder, on_total, then_total, nat_cmp_total, tied_itself}
 use Rattle.std.specs.Cmp.Lexicographic.{slice_cmp, lists_total}
@@ -12,7 +12,8 @@ use Rattle.std.proofs.lemmas.Bool.{true≢false, and_parts, and_from}
 use Rattle.fb_values.specs.Orders.{value_cmp}
 use Rattle.fb_values.specs.OrderLaws.{value_cmp_total, value_cmp-IsAntisymmetric}
 use Rattle.fb_values.specs.declared.facts.Value.{Value}
-use Rattle.tuple_model.specs.Tuples.{Row, member_cmp, tuple_cmp, row_cmp, rows_rise, put_row, rows_in_order}
+use Rattle.tuple_model.proofs.Members.{here, there, cases_of, none_of, kept_member}
+use Rattle.tuple_model.specs.Tuples.{Tuple, Row, member_cmp, tuple_cmp, row_cmp, rows_rise, put_row, rows_in_order}
 
 -- ---- the order
 
@@ -52,28 +53,18 @@ then_parts Less s e = different Less refl e
 then_parts Equal s e = (refl, e)
 then_parts Greater s e = different Greater refl e
 
+pub tuple_cmp-Equal : (s t : Tuple) → tuple_cmp s t ≡ Equal → s ≡ t
+tuple_cmp-Equal = slice_cmp-IsAntisymmetric member_cmp-IsAntisymmetric
+
+pub tuple_cmp-itself : (t : Tuple) → tuple_cmp t t ≡ Equal
+tuple_cmp-itself t = tied_itself (lists_total member_cmp_total) t
+
 pub row_cmp-Equal : (x y : Row) → row_cmp x y ≡ Equal → x ≡ y
 row_cmp-Equal x y e =
     let parts = then_parts (tuple_cmp x.tuple y.tuple) (nat_cmp x.e y.e) e in
-    let tuples = slice_cmp-IsAntisymmetric member_cmp-IsAntisymmetric x.tuple y.tuple parts.0 in
+    let tuples = tuple_cmp-Equal x.tuple y.tuple parts.0 in
     let entities = nat_cmp-IsAntisymmetric x.e y.e parts.1 in
     λ i. record { tuple = tuples i; e = entities i }
-
--- ---- members
-
-module _ {A : Type 0} where
-  pub here : (x : A) (xs : List A) → Contains (x ∷ xs) x
-  here x xs = (0, omega arith, refl)
-
-  pub there : (x y : A) (xs : List A) → Contains xs y → Contains (x ∷ xs) y
-  there x y xs member = (suc member.0, omega (arith, member.1), member.2)
-
-  pub cases_of : (x y : A) (xs : List A) → Contains (x ∷ xs) y → (x ≡ y) ⊎ Contains xs y
-  cases_of x y xs (zero, below, is) = inl is
-  cases_of x y xs (suc k, below, is) = inr (k, omega (arith, below), is)
-
-  pub none_of : (y : A) → Contains [] y → ⊥
-  none_of y member = omega (arith, member.1)
 
 -- ---- lists in order
 
@@ -188,11 +179,11 @@ not_itself x lt = true≢false (sym lt ∙ ap is_lt (tied_itself row_cmp_total x
 not_both : (x y : Row) → is_lt (row_cmp x y) ≡ true → is_lt (row_cmp y x) ≡ true → ⊥
 not_both x y p q = not_itself x (lt_chain x y x p q)
 
-rest_rises : (x : Row) (rows : List Row) → rows_rise (x ∷ rows) ≡ true → rows_rise rows ≡ true
+pub rest_rises : (x : Row) (rows : List Row) → rows_rise (x ∷ rows) ≡ true → rows_rise rows ≡ true
 rest_rises x [] rising = refl
 rest_rises x (y ∷ rows) rising = (and_parts _ _ rising).1
 
-first_is_least : (x : Row) (rows : List Row) (d : Row) → rows_rise (x ∷ rows) ≡ true → Contains rows d → is_lt (row_cmp x d) ≡ true
+pub first_is_least : (x : Row) (rows : List Row) (d : Row) → rows_rise (x ∷ rows) ≡ true → Contains rows d → is_lt (row_cmp x d) ≡ true
 first_is_least x [] d rising member = absurd (none_of d member)
 first_is_least x (y ∷ rows) d rising member =
     let parts = and_parts (is_lt (row_cmp x y)) (rows_rise (y ∷ rows)) rising in
@@ -200,6 +191,21 @@ first_is_least x (y ∷ rows) d rising member =
       | inl same ↦ subst (λ z. is_lt (row_cmp x z) ≡ true) same parts.0
       | inr later ↦ lt_chain x y d parts.0 (first_is_least y rows d parts.1 later)
     ]
+
+below_rest : (x : Row) (rows : List Row) → ((d : Row) → Contains rows d → is_lt (row_cmp x d) ≡ true) → is_below x rows ≡ true
+unfolding is_below
+below_rest x [] below = refl
+below_rest x (y ∷ rows) below = below y (here y rows)
+
+pub filter-rises : (p : Row → Bool) (rows : List Row) → rows_rise rows ≡ true → rows_rise (filter p rows) ≡ true
+filter-rises p [] rising = refl
+filter-rises p (x ∷ rows) rising = go (p x) (filter-rises p rows (rest_rises x rows rising))
+  where
+    go : (b : Bool) → rows_rise (filter p rows) ≡ true → rows_rise (cond b (x ∷ filter p rows) (filter p rows)) ≡ true
+    go true rest =
+        rows_rise-cons x (filter p rows)
+        ∙ and_from _ _ (below_rest x (filter p rows) (λ d member. first_is_least x rows d rising (kept_member p rows d member).0)) rest
+    go false rest = rest
 
 pub one_rising_list : (xs ys : List Row) → rows_rise xs ≡ true → rows_rise ys ≡ true
     → ((d : Row) → Contains xs d → Contains ys d) → ((d : Row) → Contains ys d → Contains xs d) → xs ≡ ys

@@ -1,27 +1,13 @@
 -- The computed tuples are those of the facts.
-use Rattle.std.proofs.Common.{inl, inr, ◌≡◌, ℕ, ◌&&◌, List, [], ◌∷◌, map, refl, sym, ◌∙◌, ap, subst}
+use Rattle.std.proofs.Common.{◌≡◌, ℕ, ◌&&◌, List, map, refl, sym, ◌∙◌, ap, subst}
 use Rattle.std.specs.Prelude.{Contains, filter, nat_eq}
 use Rattle.std.proofs.lemmas.Bool.{and_parts, and_from, eqb-true, eq-eqb}
 use Rattle.fb_values.specs.declared.facts.Datom.{Datom}
 use Rattle.fb_model.proofs.Members.{any_member, some_member, IsKept, kept, keep}
 use Rattle.tuple_model.specs.Composite.{is_among}
 use Rattle.tuple_model.specs.Tuples.{Row, tuple_of, IsRowOf, AreTuples, row_of, tuples}
-use Rattle.tuple_model.proofs.Rows.{here, there, cases_of, none_of, in_order-rises, in_order_member, in_order_has, one_rising_list}
-
-module _ {A B : Type 0} (f : A → B) where
-  map_has : (xs : List A) (x : A) → Contains xs x → Contains (map f xs) (f x)
-  map_has [] x member = absurd (none_of x member)
-  map_has (y ∷ xs) x member = elim (cases_of y x xs member) [
-    | inl same ↦ subst (λ z. Contains (f y ∷ map f xs) (f z)) same (here (f y) (map f xs))
-    | inr later ↦ there (f y) (f x) (map f xs) (map_has xs x later)
-  ]
-
-  map_member : (xs : List A) (z : B) → Contains (map f xs) z → (x : A) × Contains xs x × (f x ≡ z)
-  map_member [] z member = absurd (none_of z member)
-  map_member (y ∷ xs) z member = elim (cases_of (f y) z (map f xs) member) [
-    | inl same ↦ (y, here y xs, same)
-    | inr later ↦ let from = map_member xs z later in (from.0, there y from.0 xs from.1, from.2)
-  ]
+use Rattle.tuple_model.proofs.Members.{map_has, map_member}
+use Rattle.tuple_model.proofs.Rows.{in_order-rises, in_order_member, in_order_has, one_rising_list}
 
 module _ (facts : List Datom) (attrs : List ℕ) where
   abbrev rows : List Row

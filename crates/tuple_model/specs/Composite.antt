@@ -1,6 +1,7 @@
 -- Composites: lists of attributes whose values together are given as tuples.
 -- Datomic, Schema (Composite tuples). That a composite is named by whoever asks, and is no
--- attribute, is this project's own choice.
+-- attribute, is this project's own choice. What is an attribute is said by the facts of the whole
+-- history, also where a view shows fewer of them.
 use Rattle.std.specs.Prelude.{ℕ, Bool, true, false, not, ◌&&◌, List, [], ◌∷◌, ◌++◌, length, nat_eq}
 use Rattle.std.specs.Prelude.{nat_le, if◌then◌else◌, Option, Some, None, option_and_then}
 use Rattle.std.specs.Prelude.{option_map}

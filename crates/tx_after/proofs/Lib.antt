@@ -2,6 +2,7 @@ pub mod Orders
 pub mod Merging
 pub mod Searching
 pub mod WithChanges
+pub mod Timeless
 pub mod Drops
 pub mod Results
 pub mod Telling

@@ -1,17 +1,22 @@
 -- Lists that have one datom for each triple, in the order of an index.
 -- This project's own choice.
-use Rattle.std.specs.Prelude.{Bool, true, not, ◌&&◌, List, [], ◌∷◌, ◌++◌, filter}
+use Rattle.std.specs.Prelude.{ℕ, Bool, true, not, ◌&&◌, List, [], ◌∷◌, ◌++◌, filter}
 use Rattle.std.specs.List.{list_all, list_any}
 use Rattle.std.specs.Ordering.{is_lt}
 use Rattle.std.specs.declared.cmp.Ordering.{Ordering}
 use Rattle.fb_values.specs.Orders.{key_cmp}
 use Rattle.fb_values.specs.declared.facts.Datom.{Datom}
+use Rattle.fb_values.specs.declared.facts.Value.{Value}
 use Rattle.fb_values.specs.declared.indexes.Order.{Order}
 use Rattle.fb_model.specs.Rising.{in_order}
 use Rattle.fb_model.specs.Facts.{is_of}
 
 abbrev pub without_t : Datom → Datom
 without_t d = record d { t = 0 }
+
+-- the value as a fact of the entity under the attribute, of no t
+abbrev pub without_time : ℕ → ℕ → Value → Datom
+without_time e a v = record { e = e; a = a; v = v; t = 0; added = true }
 
 -- by all components of the order but t
 abbrev pub triple_cmp : Order → Datom → Datom → Ordering

@@ -13,13 +13,15 @@ mod parts;
 mod promises;
 mod said;
 mod triples;
+mod values;
 
 pub use by_attribute::ByAttribute;
 pub use described::{Description, attribute_after, description_after};
-pub use facts::{facts_of, facts_under, values_of};
+pub use facts::{facts_of, facts_under};
 pub use laws::{
     datoms_in_order_are_changes, values_are_as_many, what_is_asked_of_a_part_is_asked_of_it_alone,
     what_is_said_of_an_entity_is_in_its_facts,
 };
 pub use promises::{gives_one_holder, gives_one_value};
 pub use triples::mentions;
+pub use values::values_of;

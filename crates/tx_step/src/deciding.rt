@@ -12,6 +12,7 @@ ghost use Rattle.tx_model.specs.Tempids.{db_of, named_tempids};
 ghost use Rattle.tx_model.specs.Transaction as transactions;
 ghost use Rattle.tx_refusals.specs.declared.reasons.Reason.TheVariants.{Barred};
 ghost use Rattle.tx_forms.specs.declared.read.TxStop.TheVariants.{Refused};
+ghost use Rattle.tx_after.specs.After.{AreChanges};
 ghost use Rattle.tx_resolve.specs.Rules.{StopsBy};
 ghost use Rattle.tx_rules.specs.Cas.{acts_of};
 ghost use Rattle.tx_rules.specs.Rules.{change_rules};
@@ -109,7 +110,7 @@ fn judged_changes<F: Facts>(
         (λ tx. model.first_refusal (change_rules tx) ≡ None)) }
     ensures refused { IfErr result (λ stop. OfTransactions (F.history facts.now) (acts_of forms.now)
         (λ tx. StopsBy (model.first_refusal (change_rules tx)) stop)) }
-    ensures rising { IfOk result (λ changes. IsTrue (rises Eavt changes)) }
+    ensures changes_are { IfOk result AreChanges }
     ensures room { IfOk result
         (λ _. history.last_instant (F.history facts.now) <ℤ greatest_instant) }
 {
@@ -133,7 +134,7 @@ fn recorded<F: Facts, G: Guard<F>>(
     guard: &G,
 ) -> Result<Accepted, TxStop>
     requires lawful { IsLawful (F.history facts.now) }
-    requires rising { IsTrue (rises Eavt changes.now) }
+    requires changes { AreChanges changes.now }
     requires room { history.last_instant (F.history facts.now) <ℤ greatest_instant }
     ensures accepted { IfOk result (λ done. (tx : transactions.Transaction)
         → tx.db ≡ db_of (F.history facts.now) → changes.now ≡ tx.changes

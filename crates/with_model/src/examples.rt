@@ -25,10 +25,10 @@ pub fn refused_chains()
 
 /// Which values transactions may be tried on.
 pub fn unfiltered_values()
-    ensures whole { is_unfiltered whole [] ≡ true }
-    ensures as_of { is_unfiltered (as_of 2 whole) [] ≡ false }
-    ensures since { is_unfiltered (since 1 whole) [] ≡ false }
-    ensures since_the_start { is_unfiltered (since 0 whole) [] ≡ true }
-    ensures history { is_unfiltered (with_history whole) [] ≡ false }
-    ensures filtered { is_unfiltered whole ((λ d. true) ∷ []) ≡ false }
+    ensures whole { is_unfiltered whole 0 ≡ true }
+    ensures as_of { is_unfiltered (as_of 2 whole) 0 ≡ false }
+    ensures since { is_unfiltered (since 1 whole) 0 ≡ false }
+    ensures since_the_start { is_unfiltered (since 0 whole) 0 ≡ true }
+    ensures history { is_unfiltered (with_history whole) 0 ≡ false }
+    ensures filtered { is_unfiltered whole 1 ≡ false }
 {}

@@ -74,7 +74,7 @@ fn with_schema(alloc: Global) -> Result<Core> {
 
 fn new_core(alloc: Global) -> Result<Core> {
     let first = Snapshot::first(alloc)?;
-    Ok(Core::of(alloc, first)?)
+    Ok(Core::of(alloc, first))
 }
 
 fn install_schema(alloc: Global, core: &mut Core) -> Result<()> {

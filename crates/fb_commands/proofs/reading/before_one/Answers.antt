@@ -1,4 +1,4 @@
-use Rattle.std.proofs.Common.{codes}
+use Rattle.std.proofs.Common.{refl, codes}
 use Rattle.fb_commands.proofs.Words.{differs}
 use Rattle.fb_commands.proofs.reading.before_one.Goals as goal
 
@@ -11,4 +11,4 @@ returns-in_default c =
       differs (codes "as-of") word other.not-text,
       differs (codes "since") word other.not-since,
       differs (codes "filter") word other.not-filter,
-    ) c.of_an_index.ensures
+    ) refl

@@ -5,7 +5,7 @@ use Rattle.fb_model.specs.History.{basis}
 use Rattle.read_refusals.specs.declared.reasons.Reason.TheVariants.{BadPattern}
 use Rattle.read_model.specs.Given.{refusal}
 use Rattle.talk_model.specs.Replies.{IsLineOf}
-use Rattle.talk_model.specs.Reads.{refused}
+use Rattle.talk_model.specs.Looks.{refused}
 use Rattle.edn_form.specs.View.{form_of}
 use Rattle.fb_db.specs.Seen.{window_of}
 use Rattle.pull_model.specs.Reading as model

@@ -5,7 +5,7 @@ use Rattle.edn_form.specs.View.{form_of}
 use Rattle.fb_model.specs.History.{basis}
 use Rattle.read_model.specs.Points.{log_range}
 use Rattle.talk_model.specs.Replies.{IsLineOf}
-use Rattle.talk_model.specs.Reads.{HasTransactions, refused}
+use Rattle.talk_model.specs.Looks.{HasTransactions, refused}
 use Rattle.fb_reads.proofs.Scanned.{logged, refuses}
 use Rattle.fb_reads.proofs.scans.answer_tx_range.Goals as goal
 

@@ -5,7 +5,7 @@ use Rattle.edn_form.specs.View.{form_of}
 use Rattle.fb_model.specs.History.{basis}
 use Rattle.read_model.specs.Points.{point_in}
 use Rattle.talk_model.specs.Replies.{done_reply, IsLineOf}
-use Rattle.talk_model.specs.Reads.{refused}
+use Rattle.talk_model.specs.Looks.{refused}
 use Rattle.fb_reads.proofs.Scanned.{done, not_done}
 use Rattle.fb_reads.proofs.views.see_as_of.Goals as goal
 

@@ -27,11 +27,13 @@ returns-in-Ok-Some-clause-based g c =
     let newest = subst (IsNewest c.args.entries.now loaded.kept.items) c.in-Ok-Some.field-0-is c.in-Ok-Some.ensures in
     IfOk-weaker c.with_room.result _ _
     (λ b has. based_found d.bytes d.images (d.bytes c.args.segments) c.args.entries.now loaded c.in-Ok-Some.trees b load.loaded load.kept
-    newest has.0 has.1.0 has.1.1.0 has.1.1.1.0
-    (told_on (d.bytes c.args.segments) (d.bytes (disk_in loaded.store)) (d.bytes (disk_in b.store)) load.known has.1.1.1.1))
+    newest has.0 has.1.0 has.1.1.0 has.1.1.1.0 has.1.1.1.1.0 has.1.1.1.1.1.0 room.distinct
+    (told_on (d.bytes c.args.segments) (d.bytes (disk_in loaded.store)) (d.bytes (disk_in b.store)) load.known has.1.1.1.1.1.1))
     (IfOk-both c.with_room.result _ _ room.trees
     (IfOk-both c.with_room.result _ _ room.fits
-    (IfOk-both c.with_room.result _ _ room.root (IfOk-both c.with_room.result _ _ room.room room.known))))
+    (IfOk-both c.with_room.result _ _ room.root
+    (IfOk-both c.with_room.result _ _ room.below
+    (IfOk-both c.with_room.result _ _ room.room (IfOk-both c.with_room.result _ _ room.still room.known))))))
 
 pub returns-in-Ok-None-clause-based : goal.returns-in-Ok-None-clause-based
 returns-in-Ok-None-clause-based g c =

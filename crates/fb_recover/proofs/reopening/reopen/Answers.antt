@@ -7,11 +7,11 @@ use Rattle.fb_journal.specs.Readings.{LeavesBegun}
 use Rattle.disk_log.specs.Logs.{disk_in, count_in, KeepsHistory}
 use Rattle.seg_tree.specs.Ids.{next_above}
 use Rattle.seg_tree.specs.Indexes.{root_ids}
-use Rattle.seg_store.specs.Stores.{disk_in as segments_in, node_count, StoreKeeps}
+use Rattle.seg_store.specs.Stores.{disk_in as segments_in, next_in, node_count, StoreKeeps}
 use Rattle.seg_store.specs.Trees.{root_of}
 use Rattle.seg_store.specs.Keeping.{HasGreatNode, FitsStore}
 use Rattle.fb_model.specs.History.{basis}
-use Rattle.fb_recover.specs.Openings.{AreNumberedFromOne, AreOfFile, HasCoverage, AgreesWithNone, HasFault, HasRoot}
+use Rattle.fb_recover.specs.Openings.{AreNumberedFromOne, AreOfFile, HasCoverage, AgreesWithNone, HasFault, HasRoot, HasRecordsOf, IsMostlyDead}
 use Rattle.fb_recover.proofs.Joining.{log-counts, log-spares, behind-cause, behind-spares, behind-apart, log-stays}
 use Rattle.fb_recover.proofs.reopening.reopen.Goals as goal
 
@@ -65,13 +65,42 @@ returns-in-Ok-clause-root g c =
     ⊎ HasRoot d.bytes d.images store (root_of is.based.trees.roots is.based.trees.c)) (sym j.store) (is.is.root file told)))))
     c.opened_on.ensures.opened
 
+pub returns-in-Ok-clause-below : goal.returns-in-Ok-clause-below
+returns-in-Ok-clause-below g c =
+    IfOk-weaker c.opened_on.result _ _
+    (λ o is. λ file told.
+    let j = is.joined in
+    subst (λ h. HasFault file ⊎ AgreesWithNone h file ⊎ (next_above (root_ids o.core.snapshot.roots) ≤ next_in o.store)) (sym j.entries)
+    (subst (λ roots. HasFault file ⊎ AgreesWithNone c.in-Ok.logged.entries file ⊎ (next_above (root_ids roots) ≤ next_in o.store))
+    (sym j.roots)
+    (subst (λ store. HasFault file ⊎ AgreesWithNone c.in-Ok.logged.entries file
+    ⊎ (next_above (root_ids is.based.trees.roots) ≤ next_in store)) (sym j.store) (is.is.below file told))))
+    c.opened_on.ensures.opened
+
 pub returns-in-Ok-clause-room : goal.returns-in-Ok-clause-room
 returns-in-Ok-clause-room g c =
+    let d = g.D.Disk in
     IfOk-weaker c.opened_on.result _ _
     (λ o is.
     let j = is.joined in
-    subst (λ store. node_count store ≤ 2 * length (root_ids o.core.snapshot.roots)) (sym j.store)
-    (subst (λ roots. node_count is.based.store ≤ 2 * length (root_ids roots)) (sym j.roots) is.is.room))
+    subst (λ store. (node_count store ≤ 2 * length (root_ids o.core.snapshot.roots))
+    ⊎ IfKnown (d.bytes c.args.segments) (HasRecordsOf d.bytes d.images store)) (sym j.store)
+    (subst (λ roots. (node_count is.based.store ≤ 2 * length (root_ids roots))
+    ⊎ IfKnown (d.bytes c.args.segments) (HasRecordsOf d.bytes d.images is.based.store)) (sym j.roots) is.is.room))
+    c.opened_on.ensures.opened
+
+pub returns-in-Ok-clause-still : goal.returns-in-Ok-clause-still
+returns-in-Ok-clause-still g c =
+    let d = g.D.Disk in
+    IfOk-weaker c.opened_on.result _ _
+    (λ o is. λ file told.
+    let j = is.joined in
+    subst (λ h. HasFault file ⊎ AgreesWithNone h file ⊎ IsMostlyDead o.core.snapshot.roots file ⊎ HasRecordsOf d.bytes d.images o.store file)
+    (sym j.entries)
+    (subst (λ roots. HasFault file ⊎ AgreesWithNone c.in-Ok.logged.entries file ⊎ IsMostlyDead roots file
+    ⊎ HasRecordsOf d.bytes d.images o.store file) (sym j.roots)
+    (subst (λ store. HasFault file ⊎ AgreesWithNone c.in-Ok.logged.entries file ⊎ IsMostlyDead is.based.trees.roots file
+    ⊎ HasRecordsOf d.bytes d.images store file) (sym j.store) (is.is.still file told))))
     c.opened_on.ensures.opened
 
 pub returns-in-Ok-clause-ids : goal.returns-in-Ok-clause-ids

@@ -33,7 +33,7 @@ returns-clause-closes g c =
     refl c.requires.worker.1
     (torn_at (disks_of g.D.Disk.bytes g.D.Disk.faults g.D.Disk.images g.D.Disk.moment g.D.Disk.images_since) (begun_of c.args.conn)
     c.close-core.result.log c.close-core.result.core.snapshot.entries c.close-core.result.stopped c.close-core.result.torn
-    c.close-core.ensures.stands.snapshot.history.lawful c.close-core.ensures.log) c.close-core.ensures.stands
+    c.close-core.ensures.stands.snapshot.history.lawful c.close-core.ensures.log) c.close-core.ensures.teller c.close-core.ensures.stands
     c.close-core.ensures.each_t
     c.close-core.ensures.by_sessions c.close-core.ensures.taken
 

@@ -7,12 +7,15 @@ use Rattle.disk_model.specs.Disk.{IfKnown}
 use Rattle.log_model.specs.Log.{IsLogOf}
 use Rattle.fb_ports.specs.declared.hosts.Part.TheVariants as part
 use Rattle.command_line.specs.Words.{load, load_merge_at}
-use Rattle.fb_run.specs.Outside.{streams_of, disks_of}
+use Rattle.fb_view.specs.SnapshotModel.{Stands}
+use Rattle.fb_run.specs.Outside.{streams_of, disks_of, ports_of}
+use Rattle.fb_run.proofs.Opens.{opens_nothing}
 use Rattle.fb_run.specs.Opening.{IsOpenedFor}
 use Rattle.fb_run.specs.Generated.{loads_of, spec_in_memory, in_memory}
 use Rattle.fb_run.specs.Logs.{LogHolds, IsUnharmed}
 use Rattle.fb_run.specs.Causes.{directory_of, NoSession, IsOutOfMemory}
-use Rattle.fb_run.specs.Merging.{trees_in, GoAsFar, IsMerged}
+use Rattle.fb_run.specs.Coverage.{GoAsFar, IsMerged}
+use Rattle.fb_run.specs.Merging.{trees_in}
 use Rattle.fb_run.specs.Running.{HaveEnded}
 use Rattle.fb_run.specs.Loading.{Left}
 use Rattle.fb_run.proofs.Lists.{each_len, none_then}
@@ -171,3 +174,10 @@ returns-in_default-clause-causes g c =
     let said = c.without_session.ensures in
     caused_by_memory (g.H.Host.spec c.args.host.now) io disks _ c.without_session.result (load c.args.count) said.none said.no_console
     (says_memory _ _ (says_line string_bytes c.out_of_memory.result 9 _ _ _ said.said said.unsaid c.out_of_memory.ensures))
+
+pub returns-in_default-clause-others : goal.returns-in_default-clause-others
+returns-in_default-clause-others g c = opens_nothing (ports_of (Some (load c.args.count))) (g.H.Host.spec c.args.host.now)
+
+pub returns-in-Ok-open_load-clause-stands : goal.returns-in-Ok-open_load-clause-stands
+returns-in-Ok-open_load-clause-stands g c =
+    subst (λ (l : Left g.row.H-Disk.Denot). IfSome l.last Stands) (sym c.summed_up.ensures.left) c.run_opened-ran.ensures.stands

@@ -14,6 +14,7 @@ returns g c =
       merged = record {
         base = e.kept store goes;
         ahead = e.ahead_kept store goes;
+        stays = λ older kept. e.stays store older goes kept;
         goes = λ not. (e.unfailed not).0 store goes;
         counts = counts_by c.work-worker.result _ _ e.fault e.unfailed;
       };

@@ -14,6 +14,7 @@ returns-in-Shut-clause-settled g c = λ begun none merged.
     let goes = merged.goes unfailed in
     let e = c.settle.ensures in
     settled_on disks begun mid c.args.end merged unfailed (c.requires.fit unfailed) none c.args.merge_at _ c.settle.result
-    c.settle.new.core.snapshot (e.kept begun.store goes) (e.stays begun.store mid.base goes)
+    c.settle.new.core.snapshot (e.kept begun.store goes)
+    (λ older. e.stays begun.store older goes)
     (counts_by c.settle.result _ _ e.fault e.unfailed)
     (λ shut. leb-false c.args.merge_at (live_datoms c.settle.new.core.snapshot.live) (e.shut shut)) (λ spent. (e.spent.0 spent).1) e.unspent

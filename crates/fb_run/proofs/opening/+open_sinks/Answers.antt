@@ -1,6 +1,24 @@
-use Rattle.fb_run.specs.Outside.{streams_of}
-use Rattle.fb_run.proofs.Telling.{sessions_step, stop_step}
+use Rattle.std.proofs.Common.{◌≡◌, Err, arith, rules}
+use Rattle.fb_run.specs.Outside.{streams_of, of_sinks}
+use Rattle.fb_run.proofs.Telling.{sessions_step}
+use Rattle.fb_run.proofs.Opens.{sinks_grow, opens_nothing, opens_first, opens_rest, stuck_first, stuck_later}
+use Rattle.command_line.specs.Views.{names_in}
 use Rattle.fb_run.proofs.opening.+open_sinks.Goals as goal
+
+pub returns-in-empty-clause-others : goal.returns-in-empty-clause-others
+returns-in-empty-clause-others g t c = opens_nothing (of_sinks (names_in c.args.scripts.now)) (g.H.Host.spec c.args.host.now)
+
+pub returns-in_err-add_session-in-len1-up-clause-others : goal.returns-in_err-add_session-in-len1-up-clause-others
+returns-in_err-add_session-in-len1-up-clause-others g t c =
+    opens_first of_sinks sinks_grow c.args.scripts.now _ c.in-len1-up.len_at_least (g.H.Host.spec c.args.host.now)
+    (g.H.Host.spec c.add_session.new.host) c.in_err-add_session-in-len1-up.ensures.others
+
+pub returns-in_err-add_session-in-len1-up-clause-stop : goal.returns-in_err-add_session-in-len1-up-clause-stop
+returns-in_err-add_session-in-len1-up-clause-stop g t c =
+    let e : c.from_residual.result ≡ Err c.in_err-add_session-in-len1-up.field-0.0 = first_of (search rules, grind arith) in
+    rw e
+    (stuck_first of_sinks sinks_grow c.args.scripts.now _ c.in-len1-up.len_at_least (g.H.Host.spec c.args.host.now)
+    (g.H.Host.spec c.add_session.new.host) _ c.in_err-add_session-in-len1-up.ensures.others c.in_err-add_session-in-len1-up.ensures.stop)
 
 pub returns-in_ok-add_session-in-len1-up-clause-opened : goal.returns-in_ok-add_session-in-len1-up-clause-opened
 returns-in_ok-add_session-in-len1-up-clause-opened g t c =
@@ -8,8 +26,14 @@ returns-in_ok-add_session-in-len1-up-clause-opened g t c =
     c.args.scripts.now _ _ _ _ _ _ _ _ _
     c.in-len1-up.len_at_least c.requires.apart c.in_ok-add_session-in-len1-up.ensures.opened c.open_sinks.ensures.opened
 
+pub returns-in_ok-add_session-in-len1-up-clause-others : goal.returns-in_ok-add_session-in-len1-up-clause-others
+returns-in_ok-add_session-in-len1-up-clause-others g t c =
+    opens_rest of_sinks sinks_grow c.args.scripts.now _ c.in-len1-up.len_at_least (g.H.Host.spec c.args.host.now)
+    (g.H.Host.spec c.add_session.new.host) (g.H.Host.spec c.open_sinks.new.host) c.in_ok-add_session-in-len1-up.ensures.others
+    c.open_sinks.ensures.others
+
 pub returns-in_ok-add_session-in-len1-up-clause-stop : goal.returns-in_ok-add_session-in-len1-up-clause-stop
 returns-in_ok-add_session-in-len1-up-clause-stop g t c =
-    stop_step c.open_sinks.result c.args.scripts.now (g.H.Host.spec c.args.host.now) (g.H.Host.spec c.add_session.new.host) (g.H.Host.spec
-    c.open_sinks.new.host)
-    c.in-len1-up.len_at_least c.in_ok-add_session-in-len1-up.ensures.opened.opens.faults c.open_sinks.ensures.stop
+    stuck_later of_sinks sinks_grow c.args.scripts.now _ c.in-len1-up.len_at_least c.open_sinks.result
+    (g.H.Host.spec c.args.host.now) (g.H.Host.spec c.add_session.new.host) (g.H.Host.spec c.open_sinks.new.host)
+    c.in_ok-add_session-in-len1-up.ensures.opened.opens.faults c.in_ok-add_session-in-len1-up.ensures.others c.open_sinks.ensures.stop

@@ -26,7 +26,7 @@ pub returns-in-Ok-clause-replies : goal.returns-in-Ok-clause-replies
 returns-in-Ok-clause-replies g c =
     let io = streams_of g.H.In.Source.left g.H.In.Source.faults g.H.Out.Sink.contents g.H.Out.Sink.faults in
     IfSome_then c.run_opened.result.last c.run_opened.ensures.replies (λ last r. replies_told _ (g.H.Host.spec c.args.host.now) io
-    last.entries _ _ _ c.in-Ok.ready.sessions.items _ c.in-Ok.ensures.sessions.each r)
+    last.entries _ _ _ _ c.in-Ok.ready.sessions.items _ c.in-Ok.ensures.sessions.each r)
 
 pub returns-in-Ok-clause-opening : goal.returns-in-Ok-clause-opening
 returns-in-Ok-clause-opening g c =

@@ -10,7 +10,7 @@ ask_all-asked-requires g c =
 
 pub merge_rest-merged-requires-clause-base : goal.merge_rest-merged-requires-clause-base
 merge_rest-merged-requires-clause-base g c κs within =
-    let base = c.in_ok-base.base in let made = c.in_ok-conn.ensures.worker in let core = c.in_ok-core.core in
+    let base = c.in_ok-base.base in let made = c.in_ok-conn.ensures.worker in let core = c.of-core.result in
     let own : IsBaseOf base core.snapshot.entries core.snapshot.covered =
     subst (λ (k : SnapshotModel). IsBaseOf base k.entries k.covered) c.snapshot.ensures.snapshot c.in_ok-base.ensures.stand in
     subst (λ (n : ℕ). IsBaseOf base c.in_ok-conn.field-0.worker.last.entries n) (sym made.2)

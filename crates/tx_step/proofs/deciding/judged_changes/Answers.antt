@@ -1,8 +1,6 @@
 -- What is judged is one transaction's.
 use Rattle.std.proofs.Common.{◌+◌, ap, sym, ◌∙◌, subst}
 use Rattle.std.specs.Prelude.{◌<ℤ◌, IsTrue}
-use Rattle.fb_values.specs.declared.indexes.Order.TheVariants.{Eavt}
-use Rattle.fb_values.specs.Rising.{rises}
 use Rattle.fb_numbers.specs.Numbers.{greatest_instant}
 use Rattle.fb_model.specs.History as history
 use Rattle.tx_asks.specs.Triples.{rise, AreTriples}
@@ -39,13 +37,13 @@ returns-clause-unbroken g c tx db_is acts_are =
     let changes_are = c.as_slice.ensures ∙ c.in_ok-changes.ensures tx acts_are.built triples next in
     sym (c.in_ok-refusal.ensures tx db_is acts_are again changes_are) ∙ c.in-None.is
 
-pub returns-clause-rising : goal.returns-clause-rising
-returns-clause-rising g c =
+pub returns-clause-changes_are : goal.returns-clause-changes_are
+returns-clause-changes_are g c =
     let one = c.requires.acts in
     let triples = subst (AreTriples one.tx) (sym c.deref.ensures.value) (c.in_ok-triples.ensures one.tx one.db_is one.acts_are) in
     let next = ap (λ t. t + 1) (c.basis.ensures ∙ ap (λ db. history.basis db.history) (sym one.db_is)) in
-    subst (λ list. IsTrue (rises Eavt list)) (sym (c.in_ok-changes.ensures one.tx one.acts_are.built triples next))
-    (c.changes_are_of_one_entry.ensures one.tx one.acts_are.built).rising
+    subst AreChanges (sym (c.in_ok-changes.ensures one.tx one.acts_are.built triples next))
+    (c.changes_are_of_one_entry.ensures one.tx one.acts_are.built)
 
 pub returns-clause-room : goal.returns-clause-room
 returns-clause-room g c =

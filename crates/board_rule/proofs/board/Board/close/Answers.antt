@@ -1,6 +1,6 @@
-use Rattle.std.proofs.Common.{◌≡◌, ◌+◌, ◌<◌, ◌≤◌, false, get_or, ap, sym, subst, ◌∙◌, Some, arith}
+use Rattle.std.proofs.Common.{◌≡◌, ◌+◌, ◌<◌, false, get_or, ap, sym, subst, ◌∙◌, Some, arith}
 use Rattle.std.proofs.lemmas.List.{get_or-set_other}
-use Rattle.std.specs.Slots.{slots_filled, slots_len}
+use Rattle.std.specs.Slots.{slots_filled}
 use mathlib.Core.Option.{some-injective}
 use Rattle.board_rule.specs.Seat.{first_of}
 use Rattle.board_rule.specs.Views.{IsLawful, IsWhole, codes}

@@ -25,7 +25,7 @@ returns-in_ok-snapshot-in-Err-Refused-clause-fault g c =
     let guard = g.G.Guard.bars c.args.guard.now in
     let told = rw c.in-Err-Refused.field-0-is at c.in-Err-Refused.ensures in
     record {
-      untold = refl;
+      going = refl;
       step_is =
           λ other. c.refusals_do_not_depend_on_the_clock.ensures h asked guard c.in-Err-Refused.refusal
           (to_z w64 (of_z w64 c.now.result)) other told.refused;

@@ -1,16 +1,19 @@
-use Rattle.std.proofs.Common.{rules, ◌≡◌, ◌∙◌, List, Option, Some, None, ap, sym, subst, w64, to_z, of_z, FitsSigned}
-use Rattle.std.specs.Prelude.{option_map}
+use Rattle.std.proofs.Common.{rules, ◌≡◌, ◌∙◌, ℤ, List, Option, Some, None, ap, sym, subst, w64, to_z, of_z, FitsSigned}
+use Rattle.std.specs.Prelude.{option_map, Result, Ok, Err, IfErr, IsErrAnd}
 use Rattle.std.proofs.lemmas.Int.{to_z-of_z}
 use Rattle.edn_form.specs.View.{form_of}
 use Rattle.fb_values.specs.declared.facts.Entry.{Entry}
 use Rattle.fb_model.specs.History.{basis}
 use Rattle.fb_model.proofs.LawfulHistories.{IsLawful-length}
-use Rattle.tx_model.specs.Step.{step, refused}
+use Rattle.edn_model.specs.Form.{Form}
+use Rattle.tx_model.specs.Step.{Guard, step, refused}
 use Rattle.fb_view.specs.SnapshotModel.{SnapshotModel}
 use Rattle.fb_core.specs.Cores.{entry_of}
 use Rattle.fb_core.proofs.Histories.{next_basis}
+use Rattle.fb_desk.specs.declared.answers.Receipt.{Receipt}
 use Rattle.fb_desk.specs.declared.answers.TxFault.{TxFault}
-use Rattle.fb_desk.specs.Desks.{IsFault}
+use Rattle.fb_desk.specs.declared.answers.TxFault.TheVariants.{Memory}
+use Rattle.fb_desk.specs.Desks.{State, IsFault, IsOutOfMemory}
 use Rattle.board_rule.specs.declared.view.View.{View}
 use Rattle.board_rule.specs.declared.view.Code.{Code}
 use Rattle.board_rule.specs.Views.{codes}
@@ -21,9 +24,15 @@ use Rattle.fb_conn.specs.Homes.{code_of, marks_of, named_stop, LogStands}
 use Rattle.fb_conn.specs.Seats.{state_of}
 use Rattle.fb_conn.specs.Turns.{committed, stopped_at}
 use Rattle.fb_conn.proofs.States.{stays_seat}
-use Rattle.fb_conn.proofs.Answering.{by_outcome, if_ok, if_err, goes_on_shown, goes_on_left, is_not_accepted, is_stopped, nobody_told}
+use Rattle.fb_conn.proofs.Answering.{by_outcome, if_ok, if_err, goes_on_shown, goes_on_left, is_not_accepted, is_stopped, is_out_of_memory, still_going}
 use Rattle.fb_conn.proofs.Answering.{goes_on_committed, goes_on_stopped, receipt_is, log_fault_is}
 use Rattle.fb_conn.proofs.conn.Conn.decide_in_turn.Goals as goal
+
+-- what `?` answers where memory ran out
+out_of_memory : (may : ℤ → Type 0) (guard : Guard) (asked : Form) (old new : State) (r : Result Receipt TxFault)
+    → IsErrAnd r (λ fault. fault ≡ Memory) → IsOutOfMemory old new → IfErr r (IsFault may guard asked old new)
+out_of_memory may guard asked old new (Ok receipt) is out = tt
+out_of_memory may guard asked old new (Err fault) is out = subst (IsFault may guard asked old new) (sym is) out
 
 -- ---- the log had stopped
 
@@ -38,6 +47,20 @@ returns-in_err-snapshot-clause-goes_on g c =
     (view_of new.board) turn.entered.0 old.last.entries home.core.snapshot.entries
     home.core.authors (marks_of home) (c.show_latest.ensures.seat ∙ turn.seat) turn.entered.1
     (turn.learns old.last.entries c.requires.seat.0.seen) kept.1 new.last.entries (ap (λ (k : SnapshotModel). k.entries) kept.0)
+
+pub returns-in_err-snapshot-clause-fault : goal.returns-in_err-snapshot-clause-fault
+returns-in_err-snapshot-clause-fault g c =
+    let old = c.args.seat.now in
+    let new = c.show_latest.new.seat in
+    let home = c.enter-held.result.home in
+    let turn = c.enter-held.ensures in
+    let kept = c.in_err-snapshot.ensures.kept in
+    out_of_memory (g.K.Clock.may_answer c.args.clock.now) (g.G.Guard.bars c.args.guard.now) (form_of c.args.asked.now)
+    (state_of old) (state_of new) c.from_residual.result c.from_residual.ensures.1
+    (is_out_of_memory (board_of old.board) (board_of new.board) (view_of old.board) (view_of c.enter-held.new.seat)
+    (view_of new.board) turn.entered.0 old.last.entries home.core.snapshot.entries
+    home.core.authors (marks_of home) (c.show_latest.ensures.seat ∙ turn.seat) turn.entered.1
+    (turn.learns old.last.entries c.requires.seat.0.seen) kept.1 new.last.entries (ap (λ (k : SnapshotModel). k.entries) kept.0))
 
 pub returns-in-Some-clause-goes_on : goal.returns-in-Some-clause-goes_on
 returns-in-Some-clause-goes_on g c =
@@ -60,7 +83,7 @@ returns-in-Some-clause-fault g c =
     let turn = c.enter-held.ensures in
     let shown = c.in_ok-snapshot.ensures.shown in
     let h = home.core.snapshot.entries in let stop = c.in-Some.stop in let is : home.stop ≡ Some stop = c.in-Some.is in
-    let sound = subst (λ (o : Option Stop). LogStands g.L.Log.keeps g.L.Log.broke home.begun.value h home.log o home.torn) is turn.sound in
+    let sound = subst (λ (o : Option Stop). LogStands g.L.Log.keeps g.L.Log.broke home.begun.value h home.log o home.torn) is turn.sound.0 in
     let last = ap (λ (k : SnapshotModel). k.entries) shown.1 in
     is_stopped (board_of old.board) (board_of new.board) (view_of old.board) (view_of c.enter-held.new.seat)
     (view_of new.board) turn.entered.0 old.last.entries h
@@ -83,6 +106,22 @@ returns-in_err-snapshot-in-Err-Refused-clause-goes_on g c =
     home.core.authors (marks_of home) (c.show_latest-in-Err-Refused.ensures.seat ∙ turn.seat) turn.entered.1
     (turn.learns old.last.entries c.requires.seat.0.seen) kept.1 new.last.entries
     (ap (λ (k : SnapshotModel). k.entries) kept.0)
+
+pub returns-in_err-snapshot-in-Err-Refused-clause-fault : goal.returns-in_err-snapshot-in-Err-Refused-clause-fault
+returns-in_err-snapshot-in-Err-Refused-clause-fault g c =
+    let old = c.args.seat.now in
+    let new = c.show_latest-in-Err-Refused.new.seat in
+    let home = c.enter-held.result.home in
+    let turn = c.enter-held.ensures in
+    let kept = c.in_err-snapshot-in-Err-Refused.ensures.kept in
+    out_of_memory (g.K.Clock.may_answer c.args.clock.now) (g.G.Guard.bars c.args.guard.now) (form_of c.args.asked.now)
+    (state_of old) (state_of new) c.from_residual-in_err-snapshot-in-Err-Refused.result
+    c.from_residual-in_err-snapshot-in-Err-Refused.ensures.1
+    (is_out_of_memory (board_of old.board) (board_of new.board) (view_of old.board) (view_of c.enter-held.new.seat)
+    (view_of new.board) turn.entered.0 old.last.entries home.core.snapshot.entries
+    home.core.authors (marks_of home) (c.show_latest-in-Err-Refused.ensures.seat ∙ turn.seat) turn.entered.1
+    (turn.learns old.last.entries c.requires.seat.0.seen) kept.1 new.last.entries
+    (ap (λ (k : SnapshotModel). k.entries) kept.0))
 
 pub returns-in_ok-snapshot-in-Err-Refused-clause-goes_on : goal.returns-in_ok-snapshot-in-Err-Refused-clause-goes_on
 returns-in_ok-snapshot-in-Err-Refused-clause-goes_on g c =
@@ -111,10 +150,10 @@ returns-in_ok-snapshot-in-Err-Refused-clause-fault g c =
     let none : home.stop ≡ None = c.in_default.is in let asked = form_of c.args.asked.now in let guard = g.G.Guard.bars c.args.guard.now in
     let told = rw c.in-Err-Refused.field-0-is at c.in-Err-Refused.ensures in
     record {
-      untold =
-          nobody_told (board_of old.board) (board_of new.board) (view_of old.board) (view_of c.enter-held.new.seat)
+      going =
+          still_going (board_of old.board) (board_of new.board) (view_of old.board) (view_of c.enter-held.new.seat)
           (view_of new.board) turn.entered.0 old.last.entries h
-          home.core.authors (marks_of home) same turn.entered.1 learns (ap (option_map named_stop) none);
+          home.core.authors (marks_of home) same turn.entered.1 learns (ap (option_map named_stop) none) shown.2;
       step_is = λ other.
           subst (λ (l : List Entry). step l asked other guard ≡ refused c.in-Err-Refused.refusal)
           (sym last) (c.refusals_do_not_depend_on_the_clock.ensures h asked guard c.in-Err-Refused.refusal
@@ -143,6 +182,25 @@ returns-in-Err-Memory-clause-goes_on g c =
     let turn = c.enter-held.ensures in
     let ended = c.end-in-Err-Memory in
     goes_on_left (board_of old.board) (board_of ended.new.seat) (view_of old.board) (view_of c.enter-held.new.seat)
+    (view_of ended.new.seat) turn.entered.0 old.last.entries home.core.snapshot.entries
+    home.core.authors (marks_of home) (ended.ensures.seat ∙ turn.seat) turn.entered.1
+    (turn.learns old.last.entries c.requires.seat.0.seen) ended.ensures.left old.last.entries (λ i. old.last.entries)
+
+pub returns-in-Err-clause-fault : goal.returns-in-Err-clause-fault
+returns-in-Err-clause-fault g c =
+    let old = c.args.seat.now in let home = c.enter-held.result.home in let turn = c.enter-held.ensures in
+    is_out_of_memory (board_of old.board) (board_of c.end.new.seat) (view_of old.board) (view_of c.enter-held.new.seat)
+    (view_of c.end.new.seat) turn.entered.0 old.last.entries home.core.snapshot.entries
+    home.core.authors (marks_of home) (c.end.ensures.seat ∙ turn.seat) turn.entered.1
+    (turn.learns old.last.entries c.requires.seat.0.seen) c.end.ensures.left old.last.entries (λ i. old.last.entries)
+
+pub returns-in-Err-Memory-clause-fault : goal.returns-in-Err-Memory-clause-fault
+returns-in-Err-Memory-clause-fault g c =
+    let old = c.args.seat.now in
+    let home = c.enter-held.result.home in
+    let turn = c.enter-held.ensures in
+    let ended = c.end-in-Err-Memory in
+    is_out_of_memory (board_of old.board) (board_of ended.new.seat) (view_of old.board) (view_of c.enter-held.new.seat)
     (view_of ended.new.seat) turn.entered.0 old.last.entries home.core.snapshot.entries
     home.core.authors (marks_of home) (ended.ensures.seat ∙ turn.seat) turn.entered.1
     (turn.learns old.last.entries c.requires.seat.0.seen) ended.ensures.left old.last.entries (λ i. old.last.entries)

@@ -1,4 +1,4 @@
-use Rattle.std.proofs.Common.{◌≡◌, ◌∙◌, ℕ, ap, sym, refl}
+use Rattle.std.proofs.Common.{◌≡◌, ◌∙◌, ℕ, [], ◌∷◌, ◌++◌, ap, sym, refl}
 use Rattle.fb_model.specs.History.{basis}
 use Rattle.fb_model.proofs.LawfulHistories.{IsLawful-length}
 use Rattle.fb_view.specs.SnapshotModel.{SnapshotModel}
@@ -13,7 +13,8 @@ end_seen-requires-clause-sound g c =
     let at : c.basis-at.result ≡ basis draft.after.entries =
     c.basis-at.ensures.basis ∙ ap (λ (k : SnapshotModel). basis k.entries) c.after.ensures in
     let next = next_basis h (entry_of draft) own.next ∙ sym (IsLawful-length h c.requires.stands.snapshot.history.lawful) in
-    (at ∙ (ap basis own.entries ∙ next), (draft, refl, own.entries, own.next, c.requires.broke))
+    let by = own.authors ∙ ap (λ (n : ℕ). c.args.held.home.core.authors ++ n ∷ []) (sym c.number.ensures) in
+    ((at ∙ (ap basis own.entries ∙ next), (draft, refl, own.entries, own.next, c.requires.broke)), by)
 
 pub returns-clause-fault : goal.returns-clause-fault
 returns-clause-fault g c =

@@ -1,10 +1,18 @@
-use Rattle.std.proofs.Common.{refl, ap}
+use Rattle.std.proofs.Common.{refl, ap, inl}
+use Rattle.std.specs.Prelude.{Result, Ok, Err, OnErr}
 use Rattle.std.proofs.lemmas.Result.{on_ok_weaker}
 use Rattle.fb_session.proofs.Seeing.{keeps_nothing, shows_from}
 use Rattle.fb_session.proofs.session.Session.catch_up.Goals as goal
 
+on_err : {A E P : Type 0} (r : Result A E) → P → OnErr r P
+on_err (Ok a) p = tt
+on_err (Err e) p = p
+
 pub returns-in_err-snapshot-clause-keeps : goal.returns-in_err-snapshot-clause-keeps
 returns-in_err-snapshot-clause-keeps g c = keeps_nothing _ _ _ _ refl c.sync.ensures.commits
+
+pub returns-in_err-snapshot-clause-loads : goal.returns-in_err-snapshot-clause-loads
+returns-in_err-snapshot-clause-loads g c = on_err c.from_residual.result (inl c.in_err-snapshot.ensures.fault.tally)
 
 pub returns-clause-shows : goal.returns-clause-shows
 returns-clause-shows g c =

@@ -1,0 +1,4 @@
+pub mod Backups
+pub mod Comparing
+pub mod Copies
+pub mod Targets

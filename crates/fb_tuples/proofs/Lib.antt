@@ -1,0 +1,9 @@
+pub mod Parts
+pub mod RowOrders
+pub mod Ranges
+pub mod Firsts
+pub mod Listed
+pub mod Sorted
+pub mod Gathering
+pub mod LentOrder
+pub mod Reading
