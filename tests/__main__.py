@@ -2,6 +2,7 @@
 stand as data in the repository. The last line says what passed and what was left out. The status is 1 where a row failed."""
 import sys
 
+import backups
 import edn
 import examples
 import files
@@ -14,7 +15,7 @@ from outside import Program, Tally
 def main():
     program = Program(sys.argv[1])
     tallies = []
-    for kind in (examples, transactions, scripts, edn, streams, files):
+    for kind in (examples, transactions, scripts, edn, streams, files, backups):
         tally = Tally(kind.NAME)
         kind.check(program, tally)
         tallies.append(tally)

@@ -6,5 +6,7 @@ pub mod Walks
 pub mod RunSpots
 pub mod RunSteps
 pub mod RunWords
+pub mod NoOptions
 pub mod NameWords
+pub mod PairWords
 pub mod Reading

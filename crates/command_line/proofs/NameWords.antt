@@ -1,18 +1,18 @@
 -- `clap` reads of the words behind `check` and `load` what the definition says.
-use Rattle.std.proofs.Common.{◌≡◌, ◌∙◌, ℕ, ◌&&◌, Bool, true, false, refl, sym, ap, subst, List, [], ◌∷◌, ◌++◌, Option, Some, None, codes}
+use Rattle.std.proofs.Common.{◌≡◌, ◌∙◌, ℕ, ◌&&◌, Bool, true, false, refl, sym, ap, List, [], ◌∷◌, Option, Some, None, codes}
 use Rattle.std.specs.Prelude.{option_and_then}
 use Rattle.std.specs.Str.{bytes_eq}
-use Rattle.clap.specs.Lexer.{long_of}
 use Rattle.clap.specs.Walk.{Row, Rule, Text, Walk, idle, nothing_held, walked}
 use Rattle.clap.specs.Simple.{Shape, built, matches_of}
 use Rattle.clap.specs.Kinds.{Kinds}
-use Rattle.clap.specs.Faults.{defaults_fault, flag_word_fault, turn_fault, walk_fault}
+use Rattle.clap.specs.Faults.{defaults_fault, turn_fault, walk_fault}
 use Rattle.clap.specs.declared.error.kind.ErrorKind.{ErrorKind}
 use Rattle.clap.specs.declared.error.kind.ErrorKind.TheVariants.{UnknownArgument}
 use Rattle.clap.proofs.FaultLemmas.{leaf_fault}
-use Rattle.command_line.specs.Words.{one_name, is_name, merge_at_is}
+use Rattle.command_line.specs.Words.{one_name, is_name}
 use Rattle.command_line.specs.ByClap.{name_app, name_parsed, parsed, without_fault}
-use Rattle.command_line.proofs.Dashes.{AreTexts, HasOptions, IsNameWord, Meaning, asks, ends, flags, held, meaning_of, naming, says, stray}
+use Rattle.command_line.proofs.Dashes.{AreTexts, IsNameWord}
+use Rattle.command_line.proofs.NoOptions.{HasNoOption, IsUnknown, Kind, ending, kind_of, name, unknown}
 use Rattle.command_line.proofs.Walks.{first_fails, walk_at}
 use Rattle.command_line.proofs.Walks as walks
 
@@ -22,9 +22,8 @@ shape = (built name_app).top
 abbrev rules : List Rule
 rules = shape.rules
 
--- there is none
-no_option : HasOptions rules
-no_option = record { short = λ x. refl; long = λ name e f. refl; kind = UnknownArgument; valued = λ value h. refl }
+no_option : HasNoOption rules
+no_option = record { short = λ x. refl; long = λ name. refl }
 
 abbrev outcome : Walk → List Text → Option Text
 outcome = walks.outcome shape name_parsed
@@ -49,34 +48,7 @@ fresh = walk_at [] None idle 1
 abbrev full : Text → Bool → Walk
 full directory = walk_at [] (Some (codes "NAME", directory ∷ [])) idle 2
 
-record IsUnknown (word : Text) : Type 0 where
-  end : bytes_eq word (codes "--") ≡ false
-  is : is_name word ≡ false
-  kind : ErrorKind
-  fault : (rows : List Row) (pending : Option (Text × List Text))
-      → flag_word_fault rules false (long_of word) word (held rows pending) ≡ kind ∷ []
-
-data Kind (word : Text) : Type 0 where
-  ending : word ≡ codes "--" → Kind word
-  unknown : IsUnknown word → Kind word
-  name : IsNameWord word → Kind word
-
--- an option that a run has
-an_option : (word : Text) → bytes_eq word (codes "--") ≡ false → is_name word ≡ false
-    → ((rows : List Row) (pending : Option (Text × List Text))
-    → flag_word_fault rules false (long_of word) word (held rows pending) ≡ UnknownArgument ∷ [])
-    → IsUnknown word
-an_option word end is fault = record { end = end; is = is; kind = UnknownArgument; fault = fault }
-
-kind_by : (word : Text) → Meaning rules word → Kind word
-kind_by word (ends is) = ending is
-kind_by word (asks is) = unknown (subst IsUnknown (sym is) (an_option (codes "--merge-at") refl refl (λ rows pending. refl)))
-kind_by word (says v is) = unknown (subst IsUnknown (sym is) (an_option (merge_at_is ++ v) refl refl (λ rows pending. refl)))
-kind_by word (flags is) = unknown (subst IsUnknown (sym is) (an_option (codes "--strict") refl refl (λ rows pending. refl)))
-kind_by word (stray is) = unknown (record { end = is.other.end; is = is.is; kind = is.kind; fault = is.fault })
-kind_by word (naming is) = name is
-
-unknown_fails : (word : Text) (rows : List Row) (pending : Option (Text × List Text)) (position : ℕ) (is : IsUnknown word)
+unknown_fails : (word : Text) (rows : List Row) (pending : Option (Text × List Text)) (position : ℕ) (is : IsUnknown rules word)
     → turn (walk_at rows pending idle position false) word ≡ is.kind ∷ []
 unknown_fails word rows pending position is = simp is.end (first_fails _ _ _ _ (is.fault rows pending))
 
@@ -124,7 +96,7 @@ not_both : (b : Bool) → (b && false) ≡ false
 not_both true = refl
 not_both false = refl
 
-unknown_is_none : (word : Text) (words : List Text) → IsUnknown word → one_name (word ∷ words) ≡ None
+unknown_is_none : (word : Text) (words : List Text) → IsUnknown rules word → one_name (word ∷ words) ≡ None
 unknown_is_none word [] is = rw is.is refl
 unknown_is_none word (other ∷ []) is =
     let none : (bytes_eq other (codes "--") && is_name word) ≡ false = rw is.is (not_both (bytes_eq other (codes "--"))) in
@@ -141,7 +113,7 @@ behind_name : (directory : Text) (words : List Text) → IsNameWord directory
 behind_name directory [] is = at_end directory true ∙ rw (is.other.end, is.is) refl
 behind_name directory (word ∷ words) is = no_more directory word words
 
-after_name : (directory word : Text) (words : List Text) → IsNameWord directory → Kind word
+after_name : (directory word : Text) (words : List Text) → IsNameWord directory → Kind rules word
     → outcome (full directory false) (word ∷ words) ≡ one_name (directory ∷ word ∷ words)
 after_name directory word words is (ending e) =
     ap (λ w. outcome (full directory false) (w ∷ words)) e
@@ -156,9 +128,9 @@ after_name directory word words is (name n) =
 named : (directory : Text) (words : List Text) → IsNameWord directory → AreTexts words
     → outcome (full directory false) words ≡ one_name (directory ∷ words)
 named directory [] is texts = at_end directory false ∙ rw is.is refl
-named directory (word ∷ words) is texts = after_name directory word words is (kind_by word (meaning_of rules no_option word texts.0))
+named directory (word ∷ words) is texts = after_name directory word words is (kind_of rules no_option word texts.0)
 
-first : (word : Text) (words : List Text) → AreTexts words → Kind word → outcome (fresh false) (word ∷ words) ≡ one_name (word ∷ words)
+first : (word : Text) (words : List Text) → AreTexts words → Kind rules word → outcome (fresh false) (word ∷ words) ≡ one_name (word ∷ words)
 first word words texts (ending e) =
     ap (λ w. outcome (fresh false) (w ∷ words)) e ∙ passes (fresh false) (fresh true) (codes "--") words refl end_walks ∙ behind words
     ∙ sym (ap (λ w. one_name (w ∷ words)) e)
@@ -169,7 +141,7 @@ first word words texts (name n) =
 
 all : (words : List Text) → AreTexts words → outcome (fresh false) words ≡ one_name words
 all [] texts = nothing false
-all (word ∷ words) texts = first word words texts.1 (kind_by word (meaning_of rules no_option word texts.0))
+all (word ∷ words) texts = first word words texts.1 (kind_of rules no_option word texts.0)
 
 pub name_words : (words : List Text) → AreTexts words → option_and_then name_parsed (parsed name_app words) ≡ one_name words
 name_words words texts =

@@ -7,8 +7,9 @@ use Rattle.clap.specs.declared.error.kind.ErrorKind.{ErrorKind}
 use Rattle.clap.specs.declared.parser.matches.ArgMatches.{ArgMatches}
 use Rattle.clap.proofs.WalkLemmas.{both, first_value-rows, raw_values-rows}
 use Rattle.clap.specs.declared.parser.matches.Found.{Found}
-use Rattle.command_line.specs.ByClap.{is_set, run_parsed, run_with, parsed, without_fault}
-use Rattle.command_line.specs.Words.{merge_at_in}
+use Rattle.std.specs.Prelude.{option_and_then}
+use Rattle.command_line.specs.ByClap.{is_set, run_parsed, run_with, both_names, pair_parsed, parsed, without_fault}
+use Rattle.command_line.specs.Words.{between, merge_at_in}
 
 pub told_matches : (a : App) (words : List Text) (m : ArgMatches) → is_simple_and_free a ≡ true → fault_of a words ≡ []
     → HasMatchesOf a words m
@@ -32,3 +33,10 @@ asks_for f directory scripts number strict d s n t =
     let n_is = n ∙ first_value-rows f (codes "merge-at") in
     let t_is = t ∙ first_value-rows f (codes "strict") in
     λ i. run_with (d_is i) (s_is i) (merge_at_in (n_is i)) (is_set (t_is i))
+
+pub asks_between : (f : Found) (from to : Option Text) → from ≡ first_value f (codes "DIR") → to ≡ first_value f (codes "DIR2")
+    → option_and_then between (both_names from to) ≡ option_and_then between (pair_parsed (rows_of f))
+asks_between f from to a b =
+    let a_is = a ∙ first_value-rows f (codes "DIR") in
+    let b_is = b ∙ first_value-rows f (codes "DIR2") in
+    λ i. option_and_then between (both_names (a_is i) (b_is i))

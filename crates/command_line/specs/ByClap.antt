@@ -47,6 +47,16 @@ name_rule = record (new_rule (codes "NAME")) { required = true }
 abbrev pub name_app : App
 name_app = with_rule (plain_app (codes "factbase")) name_rule
 
+-- two names, after `backup`
+abbrev pub from_rule : Rule
+from_rule = record (new_rule (codes "DIR")) { required = true }
+
+abbrev pub to_rule : Rule
+to_rule = record (new_rule (codes "DIR2")) { required = true }
+
+abbrev pub pair_app : App
+pair_app = with_rule (with_rule (plain_app (codes "factbase")) from_rule) to_rule
+
 -- the matches where there is no fault
 abbrev pub without_fault : Kinds → List Row → Option (List Row)
 without_fault [] rows = Some rows
@@ -73,3 +83,11 @@ run_parsed rows = run_with (first_of (codes "DIR") rows) (all_of (codes "SCRIPT"
 -- the name that they have
 abbrev pub name_parsed : List Row → Option Text
 name_parsed = first_of (codes "NAME")
+
+-- the two names that they have
+abbrev pub both_names : Option Text → Option Text → Option (Text × Text)
+both_names (Some from) (Some to) = Some (from, to)
+both_names _ _ = None
+
+abbrev pub pair_parsed : List Row → Option (Text × Text)
+pair_parsed rows = both_names (first_of (codes "DIR") rows) (first_of (codes "DIR2") rows)

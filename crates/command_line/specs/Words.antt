@@ -17,6 +17,8 @@ pub data Command : Type 0 where
   check : List ℕ → Command
   -- the generator, each of whose sessions records so many numbers
   load : ℕ → Command
+  -- a copy of what one directory keeps to another
+  backup : List ℕ → List ℕ → Command
 
 -- the scripts that it runs, in order
 abbrev pub scripts_of : Option Command → List (List ℕ)
@@ -24,6 +26,7 @@ scripts_of None = []
 scripts_of (Some (run options directory scripts)) = scripts
 scripts_of (Some (check directory)) = []
 scripts_of (Some (load count)) = []
+scripts_of (Some (backup from to)) = []
 
 -- how many live datoms make a merge due in a run of the generator
 abbrev pub load_merge_at : ℕ
@@ -35,6 +38,7 @@ merge_at_of None = None
 merge_at_of (Some (run options directory scripts)) = Some options.merge_at
 merge_at_of (Some (check directory)) = None
 merge_at_of (Some (load count)) = Some load_merge_at
+merge_at_of (Some (backup from to)) = None
 
 -- whether the program's guard judges what the scripts ask for
 abbrev pub is_strict : Option Command → Bool
@@ -42,6 +46,7 @@ is_strict None = false
 is_strict (Some (run options directory scripts)) = options.strict
 is_strict (Some (check directory)) = false
 is_strict (Some (load count)) = false
+is_strict (Some (backup from to)) = false
 
 -- ---- names
 
@@ -202,6 +207,17 @@ one_name (word ∷ other ∷ []) =
     else (if bytes_eq other (codes "--") && is_name word then Some word else None)
 one_name words = None
 
+-- the two names that the words give; there is no option, and `--` may be anywhere among them
+abbrev pub two_names : List (List ℕ) → Option (List ℕ × List ℕ)
+two_names (word ∷ other ∷ []) =
+    if is_name word && is_name other then Some (word, other) else None
+two_names (word ∷ other ∷ third ∷ []) =
+    if bytes_eq word (codes "--") then Some (other, third)
+    else (if bytes_eq other (codes "--") && is_name word then Some (word, third)
+    else (if bytes_eq third (codes "--") && (is_name word && is_name other)
+    then Some (word, other) else None))
+two_names words = None
+
 -- a look at one directory
 abbrev pub check_of : List (List ℕ) → Option Command
 check_of words = option_map check (one_name words)
@@ -210,10 +226,19 @@ check_of words = option_map check (one_name words)
 abbrev pub load_of : List (List ℕ) → Option Command
 load_of words = option_map load (option_and_then (number_up_to greatest_load) (one_name words))
 
+-- a directory is no copy of itself
+abbrev pub between : List ℕ × List ℕ → Option Command
+between names = if bytes_eq names.0 names.1 then None else Some (backup names.0 names.1)
+
+-- a copy from one directory to another
+abbrev pub backup_of : List (List ℕ) → Option Command
+backup_of words = option_and_then between (two_names words)
+
 -- the command that the words after the program's name are, or none
 abbrev pub command_of : List (List ℕ) → Option Command
 command_of [] = None
 command_of (verb ∷ words) =
     if bytes_eq verb (codes "run") then command_from (walked (Some start) words)
     else (if bytes_eq verb (codes "check") then check_of words
-    else (if bytes_eq verb (codes "load") then load_of words else None))
+    else (if bytes_eq verb (codes "load") then load_of words
+    else (if bytes_eq verb (codes "backup") then backup_of words else None)))

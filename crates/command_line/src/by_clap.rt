@@ -2,7 +2,7 @@
 ghost use Rattle.std.specs.Prelude.{◌≡◌, map, string_bytes, true, IfOk};
 ghost use Rattle.std.specs.Option.{option_map};
 ghost use Rattle.clap.specs.Words.{app_of, found_of, is_simple_and_free, rows_of};
-ghost use Rattle.command_line.specs.ByClap.{plain_app, run_app, name_app, parsed};
+ghost use Rattle.command_line.specs.ByClap.{plain_app, run_app, name_app, pair_app, parsed};
 
 use clap::error::ErrorKind;
 use clap::{Arg, ArgAction, ArgMatches, Command};
@@ -40,6 +40,15 @@ pub(crate) fn name_command<'a>(alloc: Global) -> Result<Command<'a>, Memory>
 {
     let name = Arg::new(alloc, "NAME").required(true);
     Ok(plain(alloc, "factbase").arg(name)?)
+}
+
+/// Two names, as they follow `backup`.
+pub(crate) fn pair_command<'a>(alloc: Global) -> Result<Command<'a>, Memory>
+    ensures { IfOk result (λ command. app_of command ≡ pair_app) }
+{
+    let from = Arg::new(alloc, "DIR").required(true);
+    let to = Arg::new(alloc, "DIR2").required(true);
+    Ok(plain(alloc, "factbase").arg(from)?.arg(to)?)
 }
 
 /// A command with no arguments yet, which reads `--help` and `--version` as any other word.

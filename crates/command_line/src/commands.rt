@@ -1,12 +1,12 @@
 //! What the words of a command line ask for.
-ghost use Rattle.std.specs.Prelude.{◌≡◌, ◌≤◌, ◌∷◌, true, map, Some, string_bytes, IfSome, IfOk};
-ghost use Rattle.std.specs.Option.{option_map};
+ghost use Rattle.std.specs.Prelude.{◌≡◌, ◌≢◌, ◌≤◌, ◌∷◌, true, map, Some, string_bytes, IfSome, IfOk};
+ghost use Rattle.std.specs.Option.{option_map, option_and_then};
 ghost use Rattle.clap.specs.Words.{found_of, rows_of};
-ghost use Rattle.command_line.specs.ByClap.{is_set, run_parsed};
-ghost use Rattle.command_line.specs.Words.{load, are_scripts, merge_at_in, start, walked, command_with, command_from, one_name, load_of, command_of};
-ghost use Rattle.command_line.specs.Views.{names_in, run_by, command_by, CanRun};
+ghost use Rattle.command_line.specs.ByClap.{is_set, run_parsed, pair_parsed};
+ghost use Rattle.command_line.specs.Words.{load, are_scripts, merge_at_in, start, walked, command_with, command_from, one_name, load_of, between, backup_of, command_of};
+ghost use Rattle.command_line.specs.Views.{names_in, run_by, backup_by, command_by, CanRun};
 
-use crate::by_clap::{matches_in, name_command, run_command};
+use crate::by_clap::{matches_in, name_command, pair_command, run_command};
 use crate::numbers::{load_in, merge_at_in};
 use crate::scripts::are_scripts;
 use clap::ArgMatches;
@@ -30,6 +30,13 @@ pub struct Run<'a> {
     pub scripts: Vec<&'a str>,
 }
 
+/// A copy of what one directory keeps to another. The names differ.
+#[derive(Clone, Copy)]
+pub struct Backup<'a> {
+    pub from: &'a str,
+    pub to: &'a str,
+}
+
 /// What the words of a command line ask for.
 #[derive(Drop)]
 pub enum Request<'a> {
@@ -38,6 +45,7 @@ pub enum Request<'a> {
     Check(&'a str),
     /// The generator, each of whose sessions records so many numbers.
     Load(u32),
+    Backup(Backup<'a>),
 }
 
 /// The command that the words after the program's name are, where they are one.
@@ -61,11 +69,17 @@ pub fn command_in<'a>(alloc: Global, words: &'a [String]) -> Result<Option<Reque
             None => Ok(None),
         };
     }
-    if verb.as_str() != "load" {
+    if verb.as_str() == "load" {
+        return match count_in(alloc, rest)? {
+            Some(count) => Ok(Some(Request::Load(count))),
+            None => Ok(None),
+        };
+    }
+    if verb.as_str() != "backup" {
         return Ok(None);
     }
-    match count_in(alloc, rest)? {
-        Some(count) => Ok(Some(Request::Load(count))),
+    match backup_in(alloc, rest)? {
+        Some(backup) => Ok(Some(Request::Backup(backup))),
         None => Ok(None),
     }
 }
@@ -90,6 +104,36 @@ fn name_in<'a>(alloc: Global, words: &'a [String]) -> Result<Option<&'a str>, Me
         Some(matches) => Ok(matches.get_str("NAME")),
         None => Ok(None),
     }
+}
+
+/// The copy that the words after `backup` ask for.
+fn backup_in<'a>(alloc: Global, words: &'a [String]) -> Result<Option<Backup<'a>>, Memory>
+    ensures backup { IfOk result
+        (λ backup. option_map backup_by backup ≡ backup_of (map string_bytes words.now)) }
+    ensures apart { IfOk result (λ backup. IfSome backup (λ b. b.from.now ≢ b.to.now)) }
+{
+    match matches_in(pair_command(alloc)?, words)? {
+        Some(matches) => Ok(backup_from(&matches)),
+        None => Ok(None),
+    }
+}
+
+/// The copy that the matches ask for.
+fn backup_from<'a>(matches: &ArgMatches<'a>) -> Option<Backup<'a>>
+    ensures backup { option_map backup_by result
+        ≡ option_and_then between (pair_parsed (rows_of (found_of matches.now))) }
+    ensures apart { IfSome result (λ b. b.from.now ≢ b.to.now) }
+{
+    let Some(from) = matches.get_str("DIR") else {
+        return None;
+    };
+    let Some(to) = matches.get_str("DIR2") else {
+        return None;
+    };
+    if from == to {
+        return None;
+    }
+    Some(Backup { from, to })
 }
 
 /// The run that the words after the verb ask for.

@@ -1,7 +1,7 @@
 //! Which words are a command, and where its lines go, by computation.
 ghost use Rattle.std.specs.Prelude.{◌≡◌, [], ◌∷◌, Some, None, true, false, codes};
 ghost use Rattle.command_line.specs.Samples.{plain_run, strict_run};
-ghost use Rattle.command_line.specs.Words.{check, load, command_of, is_strict, sink_of};
+ghost use Rattle.command_line.specs.Words.{check, load, backup, command_of, is_strict, sink_of};
 
 /// A name or more after `run` and a directory is a command.
 pub fn words()
@@ -40,6 +40,46 @@ pub fn loads()
     ensures no_number { command_of (codes "load" ∷ codes "-" ∷ []) ≡ None }
     ensures two { command_of (codes "load" ∷ codes "4" ∷ codes "4" ∷ []) ≡ None }
     ensures none { command_of (codes "load" ∷ []) ≡ None }
+{}
+
+/// A backup has two names, which differ.
+pub fn backups()
+    ensures one { command_of (codes "backup" ∷ codes "a" ∷ codes "b" ∷ [])
+        ≡ Some (backup (codes "a") (codes "b")) }
+    ensures from_memory { command_of (codes "backup" ∷ codes ":memory:" ∷ codes "b" ∷ [])
+        ≡ Some (backup (codes ":memory:") (codes "b")) }
+    ensures odd_names { command_of (codes "backup" ∷ codes "-" ∷ [] ∷ [])
+        ≡ Some (backup (codes "-") []) }
+    ensures options_end_first { command_of
+        (codes "backup" ∷ codes "--" ∷ codes "-a" ∷ codes "-b" ∷ [])
+        ≡ Some (backup (codes "-a") (codes "-b")) }
+    ensures options_end_between { command_of
+        (codes "backup" ∷ codes "a" ∷ codes "--" ∷ codes "-b" ∷ [])
+        ≡ Some (backup (codes "a") (codes "-b")) }
+    ensures options_end_last { command_of
+        (codes "backup" ∷ codes "a" ∷ codes "b" ∷ codes "--" ∷ [])
+        ≡ Some (backup (codes "a") (codes "b")) }
+    ensures named_by_dashes { command_of
+        (codes "backup" ∷ codes "a" ∷ codes "--" ∷ codes "--" ∷ [])
+        ≡ Some (backup (codes "a") (codes "--")) }
+    ensures same { command_of (codes "backup" ∷ codes "a" ∷ codes "a" ∷ []) ≡ None }
+    ensures same_behind_options { command_of
+        (codes "backup" ∷ codes "a" ∷ codes "--" ∷ codes "a" ∷ []) ≡ None }
+    ensures no_name { command_of (codes "backup" ∷ []) ≡ None }
+    ensures one_name { command_of (codes "backup" ∷ codes "a" ∷ []) ≡ None }
+    ensures one_name_behind_options { command_of
+        (codes "backup" ∷ codes "--" ∷ codes "a" ∷ []) ≡ None }
+    ensures three_names { command_of
+        (codes "backup" ∷ codes "a" ∷ codes "b" ∷ codes "c" ∷ []) ≡ None }
+    ensures three_behind_options { command_of
+        (codes "backup" ∷ codes "--" ∷ codes "a" ∷ codes "b" ∷ codes "c" ∷ []) ≡ None }
+    ensures option { command_of (codes "backup" ∷ codes "-a" ∷ codes "b" ∷ []) ≡ None }
+    ensures second_option { command_of (codes "backup" ∷ codes "a" ∷ codes "-b" ∷ []) ≡ None }
+    ensures option_before_end { command_of
+        (codes "backup" ∷ codes "a" ∷ codes "-b" ∷ codes "--" ∷ []) ≡ None }
+    ensures strict { command_of
+        (codes "backup" ∷ codes "--strict" ∷ codes "a" ∷ codes "b" ∷ []) ≡ None }
+    ensures shortened { command_of (codes "back" ∷ codes "a" ∷ codes "b" ∷ []) ≡ None }
 {}
 
 /// Options may be anywhere in front of `--`, and `--merge-at` once at most.
@@ -114,6 +154,7 @@ pub fn strictness()
     ensures not_asked { is_strict (plain_run 8 (codes "data") (codes "a" ∷ [])) ≡ false }
     ensures look { is_strict (Some (check (codes "data"))) ≡ false }
     ensures generator { is_strict (Some (load 4)) ≡ false }
+    ensures copy { is_strict (Some (backup (codes "a") (codes "b"))) ≡ false }
     ensures no_command { is_strict None ≡ false }
 {}
 

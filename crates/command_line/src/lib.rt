@@ -7,5 +7,5 @@ mod examples;
 mod numbers;
 mod scripts;
 
-pub use commands::{Options, Request, Run, command_in};
+pub use commands::{Backup, Options, Request, Run, command_in};
 pub use scripts::sink_name;

@@ -30,9 +30,10 @@ before_many word xs x many is =
     let rest : take (length xs - 1) (drop 1 xs) ≡ drop 1 xs = take_all (length xs - 1) (drop 1 xs) (omega (arith, length-drop 1 xs)) in
     ap (λ (es : List Edn). model.named word (model.of_an_index (form_of x) (forms_of es))) rest ∙ many_forms word xs x many is
 
--- what is no look begins before two forms at most
-pub three_forms : (word : List ℕ) (xs : List Edn) → 3 ≤ length xs → None ≡ model.named word (model.before (forms_of xs))
-three_forms word [] many = absurd (omega arith)
-three_forms word (a ∷ []) many = absurd (omega arith)
-three_forms word (a ∷ b ∷ []) many = absurd (omega arith)
-three_forms word (a ∷ b ∷ c ∷ more) many = refl
+-- what is no look begins before three forms at most
+pub four_forms : (word : List ℕ) (xs : List Edn) → 4 ≤ length xs → None ≡ model.named word (model.before (forms_of xs))
+four_forms word [] many = absurd (omega arith)
+four_forms word (a ∷ []) many = absurd (omega arith)
+four_forms word (a ∷ b ∷ []) many = absurd (omega arith)
+four_forms word (a ∷ b ∷ c ∷ []) many = absurd (omega arith)
+four_forms word (a ∷ b ∷ c ∷ d ∷ more) many = refl

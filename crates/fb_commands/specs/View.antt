@@ -31,6 +31,8 @@ model_turn Unfilter = model.unfilter
 abbrev pub model_read : Read → model.Read
 model_read (a_read.Look look) = model.look (model_look look)
 model_read (a_read.Tried datas look) = model.tried (forms_of datas.now) (model_look look)
+model_read (a_read.Tuples names start end) =
+    model.tuples (form_of names.now) (form_of start.now) (form_of end.now)
 model_read (a_read.Turn turn) = model.turn (model_turn turn)
 model_read a_read.RequestIndex = model.request_index
 

@@ -39,6 +39,8 @@ pub enum Read<'a> {
     Look(Look<'a>),
     /// `[:with [data ..] look]`: a look at what the transactions would make of it.
     Tried(&'a [Edn], Look<'a>),
+    /// `[:tuple-range [a ..] start end]`
+    Tuples(&'a Edn, &'a Edn, &'a Edn),
     Turn(Turn<'a>),
     /// `[:request-index]`
     RequestIndex,

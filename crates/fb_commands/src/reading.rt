@@ -108,6 +108,7 @@ fn other_named<'a>(word: &str, behind: &'a [Edn]) -> Option<Command<'a>>
         [] => alone(word),
         [x] => before_one(word, x),
         [x, y] => before_two(word, x, y),
+        [x, y, z] => before_three(word, x, y, z),
         _ => None,
     }
 }
@@ -145,6 +146,16 @@ fn before_two<'a>(word: &str, x: &'a Edn, y: &'a Edn) -> Option<Command<'a>>
 {
     match word {
         "with" => tried_in(x, y),
+        _ => None,
+    }
+}
+
+fn before_three<'a>(word: &str, x: &'a Edn, y: &'a Edn, z: &'a Edn) -> Option<Command<'a>>
+    ensures { option_map (λ command. model_command command) result
+        ≡ model.named word.now (model.before (form_of x.now ∷ form_of y.now ∷ form_of z.now ∷ [])) }
+{
+    match word {
+        "tuple-range" => Some(Command::Read(Read::Tuples(x, y, z))),
         _ => None,
     }
 }

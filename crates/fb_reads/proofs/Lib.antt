@@ -4,3 +4,4 @@ pub mod Naming
 pub mod Answered
 pub mod Pulled
 pub mod Trying
+pub mod Tupled

@@ -1,16 +1,18 @@
 -- What a read answers, and what it changes of its session.
 -- This project's own choice.
-use Rattle.std.specs.Prelude.{ℕ, Bool, List, Option, is_some, map, Result, Ok, Err}
+use Rattle.std.specs.Prelude.{ℕ, Bool, false, List, [], Option, is_some, map, Result, Ok, Err}
 use Rattle.edn_model.specs.Form.{Form}
 use Rattle.fb_values.specs.declared.facts.Datom.{Datom}
 use Rattle.fb_values.specs.declared.facts.Entry.{Entry}
+use Rattle.fb_model.specs.History.{basis}
 use Rattle.view_model.specs.Window.{Window}
 use Rattle.read_refusals.specs.declared.reasons.Reason.TheVariants.{NoFilter}
 use Rattle.read_refusals.specs.declared.reasons.Refusal.{Refusal}
 use Rattle.read_model.specs.Given.{refusal}
 use Rattle.talk_model.specs.Replies.{IsLineOf}
-use Rattle.tx_model.specs.Step.{Guard}
-use Rattle.talk_model.specs.Looks.{refused}
+use Rattle.tx_model.specs.Step.{Guard, no_guard}
+use Rattle.talk_model.specs.Looks.{refused, Shows}
+use Rattle.talk_model.specs.TupleRanges.{TupleRange, HasRows}
 use Rattle.talk_model.specs.Session.{Standing, Sight, SelectedBy}
 use Rattle.fb_preds.specs.Naming.{selected_by}
 use Rattle.fb_names.specs.declared.stops.NameStop.{NameStop}
@@ -32,6 +34,23 @@ sight_in place_of name_at SelectsAt guard h w places =
       is_filter = λ name. is_some (place_of name);
       guard = guard;
     }
+
+-- what a range of tuples has of a view, whatever its filters are called
+abbrev pub sight_through : List Entry → Window → (Datom → Type 0) → Sight
+sight_through h w Selects =
+    record {
+      history = h;
+      window = w;
+      filters = [];
+      Selects = Selects;
+      is_filter = λ name. false;
+      guard = no_guard;
+    }
+
+-- the reply to a range of tuples that was read, or its refusal
+abbrev pub ShowsRange : List Entry → Window → (Datom → Type 0) → Result TupleRange Refusal → Form
+    → Type 0
+ShowsRange h w Selects range reply = Shows (basis h) (HasRows (sight_through h w Selects)) range reply
 
 -- the line is that of the refusal; running out of memory has no line
 abbrev pub IsRefused : ℕ → NameStop → List ℕ → Type 0

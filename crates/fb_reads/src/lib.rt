@@ -7,6 +7,7 @@ mod pulls;
 mod reads;
 mod scans;
 mod tries;
+mod tuples;
 mod views;
 
 pub use reads::answer_read;

@@ -10,7 +10,7 @@ ghost use Rattle.talk_model.specs.Looks.{refused, HasTree, HasPull};
 ghost use Rattle.talk_model.specs.Replies.{IsLineOf};
 ghost use Rattle.fb_reads.specs.Answers.{IsLineFor};
 
-use crate::lines::refuse;
+use crate::lines::refuse_at;
 use edn_form::Edn;
 use fb_db::Db;
 use fb_memory::Memory;
@@ -19,7 +19,7 @@ use fb_preds::Selector;
 use fb_pull::{PullStop, pull};
 use fb_replies::write_pull;
 use pull_pattern::{Pattern, PatternStop, read_pattern};
-use read_refusals::{Reason, Refusal};
+use read_refusals::Reason;
 use std::alloc::Global;
 
 /// Answers a pull.
@@ -80,16 +80,4 @@ fn answer_of<S: Selector>(
         Err(PullStop::TooLarge) => refuse_at(line, view, Reason::TooLarge, 0),
         Err(PullStop::Memory) => Err(Memory),
     }
-}
-
-fn refuse_at<S: Selector>(
-    line: &mut Vec<u8>,
-    view: &Db<S>,
-    reason: Reason,
-    at: usize,
-) -> Result<(), Memory>
-    ensures { OnOk result (IsLineOf
-        (refused (basis view.now.snapshot.entries) (refusal reason at)) line.new.items) }
-{
-    refuse(line, Refusal { reason, at }, view.snapshot.basis())
 }

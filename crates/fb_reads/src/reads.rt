@@ -13,6 +13,7 @@ use crate::lines::not_a_command;
 use crate::pulls::answer_pull;
 use crate::scans::{answer_datoms, answer_index_range, answer_seek, answer_tx_range};
 use crate::tries::answer_tried;
+use crate::tuples::answer_tuples;
 use crate::views::{add_filter, see_as_of, see_history, see_since, see_whole};
 use fb_commands::{Look, Read, Turn};
 use fb_db::Db;
@@ -61,6 +62,7 @@ pub fn answer_read<T: FilterTable, G: Guard<Snapshot>>(
     match read {
         Read::Look(look) => answer_look(alloc, view, look, line),
         Read::Tried(datas, look) => answer_tried(alloc, view, datas, look, guard, line),
+        Read::Tuples(names, start, end) => answer_tuples(alloc, view, names, start, end, line),
         Read::Turn(turn) => turn_view(view, turn, line),
         Read::RequestIndex => write_done(line, basis),
     }

@@ -11,7 +11,9 @@ use Rattle.edn_print.specs.Printable.{printable}
 use Rattle.fb_values.specs.declared.facts.Datom.{Datom}
 use Rattle.fb_values.specs.declared.facts.Entry.{Entry}
 use Rattle.talk_model.specs.Replies.{number, vector, map_of, tempid_pair, datom_form, transaction_form, receipt, basis_reply, done_reply}
-use Rattle.talk_model.specs.Replies.{datoms_reply, transactions_reply, pull_reply, with_reply, refusal_reply, fault_reply, IsLineOf}
+use Rattle.talk_model.specs.Replies.{datoms_reply, transactions_reply, pull_reply, with_reply, tuples_reply, row_form, refusal_reply}
+use Rattle.talk_model.specs.Replies.{fault_reply, IsLineOf}
+use Rattle.tuple_model.specs.Tuples.{Row}
 use Rattle.with_model.specs.Chain.{TxReport}
 use Rattle.fb_replies.specs.Faults.{place_text}
 
@@ -122,6 +124,16 @@ transactions_line basis facts entries l0 l1 l2 l3 l4 e0 e1 e2 a e4 =
     let inside = vector_text (map (transaction_form facts) entries) a.text a.is in (
       numbered (codes "basis") basis (codes "txs") (in_brackets a.text),
       numbered_text (codes "basis") (codes "txs") basis (vector (map (transaction_form facts) entries)) (in_brackets a.text) inside,
+      simp (e4, a.behind, e2, e1, e0, append_assoc, append-nil),
+    )
+
+pub tuples_line : (basis : ℕ) (rows : List Row) (l0 l1 l2 l3 l4 : List ℕ) → l0 ≡ codes "{:basis " → l1 ≡ l0 ++ decimal basis
+    → l2 ≡ l1 ++ codes " :tuples [" → Appends (CanonAll (forms (map row_form rows))) l2 l3 → l4 ≡ l3 ++ codes "]}\n"
+    → IsLineOf (tuples_reply basis rows) l4
+tuples_line basis rows l0 l1 l2 l3 l4 e0 e1 e2 a e4 =
+    let inside = vector_text (map row_form rows) a.text a.is in (
+      numbered (codes "basis") basis (codes "tuples") (in_brackets a.text),
+      numbered_text (codes "basis") (codes "tuples") basis (vector (map row_form rows)) (in_brackets a.text) inside,
       simp (e4, a.behind, e2, e1, e0, append_assoc, append-nil),
     )
 

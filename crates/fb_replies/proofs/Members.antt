@@ -1,4 +1,4 @@
--- The texts of a datom, of a transaction, and of the report of one.
+-- The texts of a datom, of a transaction, of the report of one, and of a tuple's row.
 use Rattle.std.proofs.Common.{◌≡◌, ℕ, List, [], ◌∷◌, ◌++◌, map, refl, ap, ◌∙◌, codes}
 use Rattle.std.specs.Prelude.{if◌then◌else◌, decimal}
 use Rattle.std.proofs.lemmas.List.{append_assoc, append-nil}
@@ -10,7 +10,8 @@ use Rattle.edn_print.specs.Printed.{Appends}
 use Rattle.fb_values.specs.declared.facts.Datom.{Datom}
 use Rattle.fb_values.specs.declared.facts.Entry.{Entry}
 use Rattle.fb_numbers.specs.Numbers.{transaction_of}
-use Rattle.talk_model.specs.Replies.{entity, attribute, datom_form, datom_forms, transaction_form, tempid_pair, receipt}
+use Rattle.tuple_model.specs.Tuples.{Row}
+use Rattle.talk_model.specs.Replies.{entity, attribute, datom_form, datom_forms, transaction_form, tempid_pair, member_form, row_form, receipt}
 use Rattle.fb_replies.proofs.Lines.{braces, in_brackets, vector_text, map_text, numbered, numbered_text}
 
 pub datom_behind : (facts : List Datom) (d : Datom) (l0 l1 l2 l3 l4 l5 l6 l7 l8 l9 : List ℕ) → l1 ≡ l0 ++ codes "["
@@ -71,4 +72,17 @@ report_behind t tempids l0 l1 l2 l3 l4 l5 e1 e2 e3 a e5 =
       text = numbered (codes "t") t (codes "tempids") (braces a.text);
       is = numbered_text (codes "t") (codes "tempids") t (edn.map (pairs (map tempid_pair tempids))) (braces a.text) inside;
       behind = simp (e5, a.behind, e3, e2, e1, append_assoc, append-nil);
+    }
+
+pub row_behind : (row : Row) (l0 l1 l2 l3 l4 l5 : List ℕ) → l1 ≡ l0 ++ codes "[["
+    → Appends (CanonAll (forms (map member_form row.tuple))) l1 l2 → l3 ≡ l2 ++ codes "] " → Appends (Canon (entity row.e)) l3 l4
+    → l5 ≡ l4 ++ codes "]" → Appends (Canon (row_form row)) l0 l5
+row_behind row l0 l1 l2 l3 l4 l5 e1 a e3 e e5 =
+    let tuple = in_brackets a.text in
+    let last : List ℕ = 32 ∷ (e.text ++ []) in
+    let inside = vector_text (map member_form row.tuple) a.text a.is in
+    record {
+      text = in_brackets (tuple ++ last);
+      is = (tuple ++ last, (tuple, last, inside, (e.text, [], e.is, refl, refl), refl), refl);
+      behind = simp (e5, e.behind, e3, a.behind, e1, append_assoc, append-nil);
     }

@@ -105,7 +105,7 @@ fn append_attribute(line: &mut Vec<u8>, schema: &Schema, a: u64) -> Result<(), M
 }
 
 /// Numbers are written as they are; of another value the printer of forms is given one that shares its text.
-fn append_value(line: &mut Vec<u8>, v: &Value) -> Result<(), Memory>
+pub(crate) fn append_value(line: &mut Vec<u8>, v: &Value) -> Result<(), Memory>
     requires { IsTrue (has_text v.now) }
     ensures { OnOk result (Appends (Canon (form_of_value v.now)) line.old.items line.new.items) }
 {

@@ -1,21 +1,24 @@
 //! The lines themselves. Each call puts the whole line, with its line feed, in place of what the buffer held. Where memory runs
 //! out nothing is promised of the buffer.
 ghost use Rattle.std.specs.Prelude.{◌≡◌, ◌++◌, IsTrue, OnOk, map};
-ghost use Rattle.talk_model.specs.Replies.{receipt, basis_reply, done_reply, datoms_reply, transactions_reply, pull_reply, with_reply, refusal_reply, fault_reply, IsLineOf};
+ghost use Rattle.talk_model.specs.Replies.{receipt, basis_reply, done_reply, datoms_reply, transactions_reply, pull_reply, with_reply, tuples_reply, refusal_reply, fault_reply, IsLineOf};
 ghost use Rattle.edn_model.specs.Form.{Form};
 ghost use Rattle.edn_form.specs.View.{form_of};
 ghost use Rattle.fb_with.specs.Outcomes.{report_of};
-ghost use Rattle.fb_replies.specs.Texts.{have_texts, entries_have_texts};
+ghost use Rattle.fb_tuples.specs.Lent.{model_row};
+ghost use Rattle.fb_replies.specs.Texts.{have_texts, entries_have_texts, rows_have_texts};
 ghost use Rattle.fb_replies.specs.Faults.{word_of, place_text};
 
 use crate::datoms::{append_lent, append_transactions};
 use crate::tokens::{append, append_count, append_tempids, begin};
 use crate::tried::append_reports;
+use crate::tuples::append_rows;
 use edn_form::Edn;
 use edn_print::print;
 use fb_memory::Memory;
 use fb_schema::Schema;
 use fb_text::Text;
+use fb_tuples::LentRow;
 use fb_values::{Datom, Entry};
 use fb_with::Tried;
 
@@ -136,6 +139,19 @@ pub fn write_with(
     // Without its line feed.
     append(line, &shown[..shown.len().saturating_sub(1)])?;
     append(line, b"}\n")
+}
+
+/// `{:basis 3 :tuples [[[1 nil] 17592186044420] ..]}`: the tuples of a composite, each with its entity.
+pub fn write_tuples(line: &mut Vec<u8>, basis: u32, rows: &[LentRow<'_>]) -> Result<(), Memory>
+    requires { IsTrue (rows_have_texts (map model_row rows.now)) }
+    ensures { OnOk result
+        (IsLineOf (tuples_reply basis (map model_row rows.now)) line.new.items) }
+{
+    begin(line, b"{:basis ")?;
+    append_count(line, u64::from(basis))?;
+    append(line, b" :tuples [")?;
+    append_rows(line, rows)?;
+    append(line, b"]}\n")
 }
 
 /// `{:refused :read/bad-point :at 1 :basis 3}`: the keyword, without its colon, says why, and `at` is the place in the command.

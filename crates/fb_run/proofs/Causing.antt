@@ -10,7 +10,7 @@ use Rattle.std.proofs.lemmas.Bool.{ltb-true, leb-true}
 use Rattle.fb_ports.specs.Faults.{Rose}
 use Rattle.fb_ports.specs.HostSpec.{HostSpec}
 use Rattle.fb_values.specs.declared.facts.Entry.{Entry}
-use Rattle.command_line.specs.Words.{Command, check, scripts_of, are_scripts, are_apart, standard}
+use Rattle.command_line.specs.Words.{Command, run, check, load, backup, scripts_of, are_scripts, are_apart, standard}
 use Rattle.fb_session.specs.declared.outcome.SessionEnd.{SessionEnd}
 use Rattle.fb_session.specs.declared.outcome.SessionEnd.TheVariants as ended
 use Rattle.fb_session.specs.Sessions.{Terms}
@@ -45,11 +45,11 @@ use Rattle.fb_run.specs.Looking.{IsLook, HasPrinted}
 use Rattle.fb_run.specs.Opening.{IsOpenedFor}
 use Rattle.fb_run.specs.Headline.{EachReplies, stop_of}
 use Rattle.fb_run.specs.Generated.{loads_of}
-use Rattle.fb_run.specs.StatusLines.{reported, usage, ended_early, console_failed, memory, usage_line, out_of_memory, status_of_end}
+use Rattle.fb_run.specs.StatusLines.{Why, reported, usage, ended_early, console_failed, memory, usage_line, out_of_memory, status_of_end}
 use Rattle.fb_run.specs.StatusLines.{line_of_end, first_early, why_of, why_not}
 use Rattle.fb_run.specs.Causes.{HasDisks, NoSession, HasNoDisk, OutOfMemory, IsOutOfMemory, SaysWhy, Counts, IsRun, HaveRun, directory_of}
 use Rattle.fb_run.specs.Causes.{names_of, HandsBack, IsNotOpened, IsUntouched, IsUnfailed, TookWhole, TookPart, HasLooked, CauseOf}
-use Rattle.fb_run.specs.Causes.{HasConsole, Causes}
+use Rattle.fb_run.specs.Causes.{HasConsole, HasNoTarget, HasTargetBy, HasTargets, Causes}
 use Rattle.fb_run.specs.Running.{RepliesBy, CountsBy, HaveEnded}
 use Rattle.fb_run.proofs.Lists.{each_through, cut_first, names_cut}
 
@@ -302,6 +302,35 @@ module _ {I O D : Type 0} (outcome : Outcome I O D) (none : outcome.console ≡ 
   console_unready (obstacle.Unopened unopened.Memory) = none
   console_unready (obstacle.NotReopened fault) = console_not fault
 
+-- no disk of a target is handed back
+module _ {I O D : Type 0} (outcome : Outcome I O D) (none : HasNoTarget outcome) where
+  pub targets_none : (why : Why) (command : Option Command) → HasTargetBy why outcome → HasTargets why command outcome
+  targets_none why None by = none
+  targets_none why (Some (run options directory scripts)) by = none
+  targets_none why (Some (check directory)) by = none
+  targets_none why (Some (load count)) by = none
+  targets_none why (Some (backup from to)) by = by
+
+  pub targets_why : (early : Option (List ℕ × SessionEnd)) (stop : Option ℕ) (end : WorkEnd)
+      → HasTargetBy (why_of early stop end) outcome
+  targets_why (Some p) stop end = none
+  targets_why None (Some t) end = none
+  targets_why None None Shut = none
+  targets_why None None StoreFault = none
+  targets_why None None Spent = none
+  targets_why None None NoMemory = tt
+
+  targets_not : (fault : OpenFault) → HasTargetBy (why_not fault) outcome
+  targets_not (fault.Disk part) = none
+  targets_not (fault.BadLog nth at) = none
+  targets_not (fault.Unlawful t law) = none
+  targets_not fault.Memory = tt
+
+  targets_unready : (why : Obstacle) → HasTargetBy (why_unready why) outcome
+  targets_unready (obstacle.Unopened (unopened.CannotOpen name)) = none
+  targets_unready (obstacle.Unopened unopened.Memory) = tt
+  targets_unready (obstacle.NotReopened fault) = targets_not fault
+
 -- what is handed back are the disks that are left
 module _ {I O D : Type 0} (outcome : Outcome I O D) (left : Option (Disks D))
     (log_is : outcome.log ≡ option_map (λ (d : Disks D). d.log) left)
@@ -347,24 +376,40 @@ module _ {I O D : Type 0} (spec : HostSpec) (io : StreamSpec I O) (disks : DiskS
   )
   cause_why command (Some p) torn end is holds segments there counted ran scripts = ran
 
-  pub caused_by_memory : (command : Command) → NoSession outcome → outcome.console ≡ None → IsOutOfMemory outcome
-      → Causes spec new io disks (Some command) outcome
-  caused_by_memory command none no_console refused =
-      record { why = memory; says = inr refused; cause = inl (none, refl); console = no_console }
+  pub caused_by_memory : (command : Command) → NoSession outcome → outcome.console ≡ None → HasNoTarget outcome
+      → IsOutOfMemory outcome → Causes spec new io disks (Some command) outcome
+  caused_by_memory command none no_console no_target refused = record {
+    why = memory;
+    says = inr refused;
+    cause = inl (none, refl);
+    console = no_console;
+    targets = targets_none outcome no_target memory (Some command) tt;
+  }
 
   -- whatever the words are
   pub caused_by_words : (command : Option Command) → new.faults ≡ spec.faults → NoSession outcome → HasNoDisk outcome
-      → outcome.console ≡ None → IsOutOfMemory outcome → Causes spec new io disks command outcome
-  caused_by_words None same none no_disk no_console refused =
-      record { why = usage; says = inr refused; cause = (none, no_disk, refl, same); console = no_console }
-  caused_by_words (Some command) same none no_disk no_console refused = caused_by_memory command none no_console refused
+      → outcome.console ≡ None → HasNoTarget outcome → IsOutOfMemory outcome → Causes spec new io disks command outcome
+  caused_by_words None same none no_disk no_console no_target refused = record {
+    why = usage;
+    says = inr refused;
+    cause = (none, no_disk, refl, same);
+    console = no_console;
+    targets = no_target;
+  }
+  caused_by_words (Some command) same none no_disk no_console no_target refused =
+      caused_by_memory command none no_console no_target refused
 
   pub caused_by_usage : (command : Option Command) → None ≡ command → new.faults ≡ spec.faults → NoSession outcome → HasNoDisk outcome
-      → outcome.console ≡ None
+      → outcome.console ≡ None → HasNoTarget outcome
       → ((outcome.status ≡ 1) × (string_bytes outcome.line ≡ usage_line)) ⊎ IsOutOfMemory outcome → Causes spec new io disks command
       outcome
-  caused_by_usage command is same none no_disk no_console said =
-      record { why = usage; says = said; cause = (none, no_disk, sym is, same); console = no_console }
+  caused_by_usage command is same none no_disk no_console no_target said = record {
+    why = usage;
+    says = said;
+    cause = (none, no_disk, sym is, same);
+    console = no_console;
+    targets = targets_none outcome no_target usage command no_target;
+  }
 
   by_fault : (command : Command) (fault : OpenFault) (log segments : D) → outcome.log ≡ Some log → outcome.segments ≡ Some segments
       → IsNotOpened spec disks new.faults (Some command) outcome
@@ -384,15 +429,16 @@ module _ {I O D : Type 0} (spec : HostSpec) (io : StreamSpec I O) (disks : DiskS
   pub caused_by_sessions : {g : _} (command : Command) (opened : List (SessionOut I O)) (merge_at : ℕ) (begun : Trees D g)
       → EachOf (λ n name (s : SessionOut I O). IsOpenedFor spec io name s) 0 (scripts_of (Some command)) opened
       → IsRun (Some command) → loads_of (Some command) ≡ [] → outcome.loads.items ≡ [] → new.faults ≡ spec.faults → outcome.console ≡ None
+      → HasNoTarget outcome
       → disks.faults (segments_in begun.store) ≡ spec.disk_faults (directory_of (Some command)) Segments
       → IfSome outcome.last (λ l. IfSome outcome.log (LogHolds spec disks (directory_of (Some command)) l.entries outcome.recovered
       outcome.torn))
       → (NoSession outcome × IsOutOfMemory outcome)
       ⊎ HaveEnded io disks merge_at (scripts_of (Some command)) opened begun outcome
       → Causes spec new io disks (Some command) outcome
-  caused_by_sessions command opened merge_at begun has is_run scripts no_loads same no_console unfailed holds (inl none) =
-      caused_by_memory command none.0 no_console none.1
-  caused_by_sessions command opened merge_at begun has is_run scripts no_loads same no_console unfailed holds (inr ran) =
+  caused_by_sessions command opened merge_at begun has is_run scripts no_loads same no_console no_target unfailed holds (inl none) =
+      caused_by_memory command none.0 no_console no_target none.1
+  caused_by_sessions command opened merge_at begun has is_run scripts no_loads same no_console no_target unfailed holds (inr ran) =
       let early = first_early (scripts_of (Some command)) (map (λ (s : SessionOut I O). s.end) outcome.sessions.items) in
       let each = counts_told spec io (scripts_of (Some command)) opened outcome.sessions.items has ran.each in
       let ends = ran.ends in
@@ -412,6 +458,8 @@ module _ {I O D : Type 0} (spec : HostSpec) (io : StreamSpec I O) (disks : DiskS
           disks = ran.both;
         }) scripts;
         console = console_why outcome no_console early (stop_of outcome.torn) ends.end;
+        targets = targets_none outcome no_target (why_of early (stop_of outcome.torn) ends.end) (Some command)
+            (targets_why outcome no_target early (stop_of outcome.torn) ends.end);
       }
 
 -- ---- a command that can't begin
@@ -468,13 +516,14 @@ module _ {I O D : Type 0} (spec new : HostSpec) (io : StreamSpec I O) (disks : D
     (none : NoSession outcome)
     (log_is : outcome.log ≡ option_map (λ (d : Disks D). d.log) unready.disks)
     (segments_is : outcome.segments ≡ option_map (λ (d : Disks D). d.segments) unready.disks) where
-  pub caused_by_unready : outcome.console ≡ None → SaysWhy (why_unready unready.why) outcome.status (string_bytes outcome.line)
+  pub caused_by_unready : outcome.console ≡ None → HasNoTarget outcome → SaysWhy (why_unready unready.why) outcome.status (string_bytes outcome.line)
       → Causes spec new io disks (Some command) outcome
-  caused_by_unready no_console said = record {
+  caused_by_unready no_console no_target said = record {
     why = why_unready unready.why;
     says = said;
     cause = cause_unready spec new io disks outcome command none unready.disks log_is segments_is is.unharmed unready.why is.why;
     console = console_unready outcome no_console unready.why;
+    targets = targets_none outcome no_target (why_unready unready.why) (Some command) (targets_unready outcome no_target unready.why);
   }
 
   pub unready_unharmed : IfSome outcome.log (IsUnharmed spec disks (directory_of (Some command)))
@@ -486,6 +535,7 @@ module _ {I O D : Type 0} (spec new : HostSpec) (io : StreamSpec I O) (disks : D
 module _ {I O D : Type 0} {g : _} (spec new : HostSpec) (io : StreamSpec I O) (disks : DiskSpec D) (outcome : Outcome I O D) (dir : List ℕ)
     (look : Look O D g) (is : IsLook spec new io disks dir look) (none : NoSession outcome)
     (log_is : outcome.log ≡ Some (disk_in look.directory.log)) (segments_is : outcome.segments ≡ Some (segments_in look.directory.store))
+    (no_target : HasNoTarget outcome)
     (has : HasPrinted io.contents io.sink_faults (string_bytes look.answer.line) look.answer.console outcome) where
   look_unfailed : (part : Part) → IsUnfailed spec disks (Some (check dir)) outcome part
   look_unfailed Log = (disk_in look.directory.log, log_is, is.unfailed)
@@ -520,8 +570,20 @@ module _ {I O D : Type 0} {g : _} (spec new : HostSpec) (io : StreamSpec I O) (d
   caused_by_look =
       let there : IsSome outcome.console = subst IsSome (sym has.console_is) refl in
       elim has.took [
-        | inl whole ↦ record { why = reported; says = whole.0; cause = inl (has_looked TookWhole whole.1); console = there }
-        | inr part ↦ record { why = console_failed; says = part.0; cause = inl (has_looked TookPart part.1); console = there }
+        | inl whole ↦ record {
+          why = reported;
+          says = whole.0;
+          cause = inl (has_looked TookWhole whole.1);
+          console = there;
+          targets = no_target;
+        }
+        | inr part ↦ record {
+          why = console_failed;
+          says = part.0;
+          cause = inl (has_looked TookPart part.1);
+          console = there;
+          targets = no_target;
+        }
       ]
 
   pub look_unharmed : IfSome outcome.log (IsUnharmed spec disks dir)

@@ -1,6 +1,6 @@
 -- Scripts with nothing wrong are answered whole.
 use Rattle.std.proofs.Common.{◌≡◌, ℕ, ◌+◌, ◌<◌, ◌≤◌, ◌⊎◌, Bool, false, List, [], ◌∷◌, ◌++◌, map, Option, Some, None, length, length-append}
-use Rattle.std.proofs.Common.{refl, ap, ◌∙◌, sym, subst, inl, inr, arith}
+use Rattle.std.proofs.Common.{refl, ap, ◌∙◌, sym, subst, inl, inr, arith, drop}
 use Rattle.std.proofs.lemmas.List.{append-nil}
 use Rattle.std.proofs.lemmas.Option.{none-some, some_pair_parts, IfSome_then}
 use Rattle.std.specs.Prelude.{◌==◌, IfSome, IsSome, string_bytes}
@@ -18,7 +18,7 @@ use Rattle.fb_core.specs.declared.accepting.Draft.{Draft}
 use Rattle.fb_ports.specs.Faults.{Rose}
 use Rattle.fb_ports.specs.HostSpec.{HostSpec}
 use Rattle.fb_view.specs.SnapshotModel.{SnapshotModel}
-use Rattle.command_line.specs.Words.{Command, run as runs, check, load, scripts_of, sink_of}
+use Rattle.command_line.specs.Words.{Command, run as runs, check, load, backup, scripts_of, sink_of}
 use Rattle.command_line.specs.declared.commands.Options.{Options}
 use Rattle.talk_model.specs.Script.{Ending, whole, fault, too_many, Script}
 use Rattle.talk_model.proofs.OneScript.{OneReading, one_script}
@@ -33,17 +33,21 @@ use Rattle.fb_session.proofs.LongerHistories.{replies_longer}
 use Rattle.fb_run.specs.declared.outcome.SessionOut.{SessionOut}
 use Rattle.fb_run.specs.declared.outcome.Outcome.{Outcome}
 use Rattle.disk_model.specs.Disk.{IfKnown}
-use Rattle.log_model.specs.Log.{LogSays, stands_for, bad_record as bad_record_there, unlawful as unlawful_there, FileSays}
+use Rattle.backup_model.specs.Backup.{Plan, appends, BackupSays, bad_target as bad_target_there, differs_at}
+use Rattle.backup_model.proofs.CopiedLogs.{beginning_lacks}
+use Rattle.backup_model.proofs.Plans.{one_plan}
+use Rattle.log_model.specs.Log.{IsLogOf, LogSays, stands_for, bad_record as bad_record_there, unlawful as unlawful_there, FileSays}
 use Rattle.log_model.proofs.LogFiles.{one_said, IsLogOf-says}
 use Rattle.fb_ports.specs.declared.hosts.Part.TheVariants.{Log, Segments}
 use Rattle.fb_run.specs.Outside.{StreamSpec, DiskSpec, run_of, setting_of, EachOf, EachWhile}
 use Rattle.fb_run.specs.Logs.{LogHolds}
 use Rattle.fb_run.specs.Headline.{OneHistory, EachReplies}
 use Rattle.fb_run.specs.StatusLines.{Why, answered, reported, usage, unopened, disk_failed, bad_record, unlawful, ended_early}
+use Rattle.fb_run.specs.StatusLines.{target_failed, bad_target, target_differs}
 use Rattle.fb_run.specs.StatusLines.{console_failed, log_stopped, segments_failed, memory, status_of_end, line_of_end, first_early}
 use Rattle.fb_run.specs.Generated.{loads_of, spec_in_memory, in_memory}
-use Rattle.fb_run.specs.Causes.{HasDisks, IsOutOfMemory, SaysWhy, Counts, IsRun, HaveRun, directory_of, CauseOf, Causes}
-use Rattle.fb_run.specs.Complete.{HoldsForms, HoldsFormsAlone, HoldsHistory, NoneRose, EachHasItsLine, AnsweredWhole, Complete}
+use Rattle.fb_run.specs.Causes.{HasDisks, IsOutOfMemory, SaysWhy, Counts, IsRun, HaveRun, directory_of, TargetSays, CauseOf, Causes}
+use Rattle.fb_run.specs.Complete.{HoldsForms, HoldsFormsAlone, HoldsHistory, HoldsBeginning, NoneRose, EachHasItsLine, AnsweredWhole, Complete}
 use Rattle.fb_run.proofs.Causing.{first_done, says_memory, counts_torn}
 
 -- what was taken of a source that tells, up to its end, is what it held
@@ -250,26 +254,35 @@ module _ {I O D : Type 0} (terms : Terms) (spec : HostSpec) (io : StreamSpec I O
   pub no_unlawful : (t law : ℕ) → IfKnown (spec.disks (directory_of (Some command)) Log) (λ file. FileSays file (unlawful_there t law)) → ⊥
   no_unlawful t law says = let wrong = (says_history _ _ log says).1 in absurd (cc)
 
-  -- a look at a directory that has nothing wrong succeeds
-  looked_by : (IsRun (Some command) → ⊥) → (why : Why) → SaysWhy why outcome.status (string_bytes outcome.line)
-      → CauseOf spec new io disks (Some command) outcome why → (outcome.status ≡ 0) ⊎ IsOutOfMemory outcome
-  looked_by not answered says cause = absurd (not cause.0.is_run)
-  looked_by not reported says cause = inl says.0
-  looked_by not usage says cause = absurd (none-some command (sym cause.2))
-  looked_by not (unopened name) says cause = absurd (calm.host cause.host)
-  looked_by not (disk_failed part) says cause = absurd (calm.parts part cause.2.0 cause.2.1 cause.2.2)
-  looked_by not (bad_record nth at) says cause = absurd (no_bad_record nth at cause.2)
-  looked_by not (unlawful t law) says cause = absurd (no_unlawful t law cause.2)
-  looked_by not (ended_early name how) says cause = absurd (not cause.is_run)
-  looked_by not console_failed says (inl looked) = absurd (calm.console looked.console looked.console_is looked.took.failed)
-  looked_by not console_failed says (inr loaded) = absurd (calm.console loaded.console loaded.console_is loaded.took.failed)
-  looked_by not (log_stopped t) says cause = absurd (not cause.0.is_run)
-  looked_by not segments_failed says cause = absurd (not cause.0.is_run)
-  looked_by not memory says cause = inr (says_memory outcome.status (string_bytes outcome.line) says)
+  -- a target has nothing wrong
+  abbrev IsWell : Plan → Type 0
+  IsWell plan = TargetSays spec disks new.faults (Some command) outcome plan → ⊥
 
-  pub complete_check : (IsRun (Some command) → ⊥) → Causes spec new io disks (Some command) outcome
-      → (outcome.status ≡ 0) ⊎ IsOutOfMemory outcome
-  complete_check not causes = looked_by not causes.why causes.says causes.cause
+  -- a look at a directory, or its backup, that has nothing wrong succeeds
+  module _ (not : IsRun (Some command) → ⊥) (no_bad : (nth at : ℕ) → IsWell (bad_target_there nth at))
+      (no_other : (t : ℕ) → IsWell (differs_at t)) where
+    looked_by : (why : Why) → SaysWhy why outcome.status (string_bytes outcome.line)
+        → CauseOf spec new io disks (Some command) outcome why → (outcome.status ≡ 0) ⊎ IsOutOfMemory outcome
+    looked_by answered says cause = absurd (not cause.0.is_run)
+    looked_by reported says cause = inl says.0
+    looked_by usage says cause = absurd (none-some command (sym cause.2))
+    looked_by (unopened name) says cause = absurd (calm.host cause.host)
+    looked_by (disk_failed part) says cause = absurd (calm.parts part cause.2.0 cause.2.1 cause.2.2)
+    looked_by (bad_record nth at) says cause = absurd (no_bad_record nth at cause.2)
+    looked_by (unlawful t law) says cause = absurd (no_unlawful t law cause.2)
+    looked_by (target_failed part) says cause = absurd (calm.targets part cause.2.0 cause.2.1 cause.2.2)
+    looked_by (bad_target nth at) says cause = absurd (no_bad nth at cause)
+    looked_by (target_differs t) says cause = absurd (no_other t cause)
+    looked_by (ended_early name how) says cause = absurd (not cause.is_run)
+    looked_by console_failed says (inl looked) = absurd (calm.console looked.console looked.console_is looked.took.failed)
+    looked_by console_failed says (inr (inl loaded)) = absurd (calm.console loaded.console loaded.console_is loaded.took.failed)
+    looked_by console_failed says (inr (inr copied)) = absurd (calm.console copied.console copied.console_is copied.took.failed)
+    looked_by (log_stopped t) says cause = absurd (not cause.0.is_run)
+    looked_by segments_failed says cause = absurd (not cause.0.is_run)
+    looked_by memory says cause = inr (says_memory outcome.status (string_bytes outcome.line) says)
+
+    pub complete_without_sessions : Causes spec new io disks (Some command) outcome → (outcome.status ≡ 0) ⊎ IsOutOfMemory outcome
+    complete_without_sessions causes = looked_by causes.why causes.says causes.cause
 
   -- the sessions ran, so there is a history
   module _ (lawful : IfSome outcome.last (λ last. IsLawful last.entries × (outcome.recovered ≤ basis last.entries)))
@@ -326,15 +339,20 @@ module _ {I O D : Type 0} (terms : Terms) (spec : HostSpec) (io : StreamSpec I O
         → AnsweredWhole terms spec io (Some command) outcome ⊎ IsOutOfMemory outcome
     by_why is_run answered says cause = inl (whole_by outcome.last refl cause.0.last says.0 cause.0)
     by_why is_run reported says (inl looked) = absurd (subst IsRun looked.is_check is_run)
-    by_why is_run reported says (inr loaded) = absurd (not_load loaded.count loaded.is_load)
+    by_why is_run reported says (inr (inl loaded)) = absurd (not_load loaded.count loaded.is_load)
+    by_why is_run reported says (inr (inr copied)) = absurd (subst IsRun copied.begun.is_backup is_run)
     by_why is_run usage says cause = absurd (none-some command (sym cause.2))
     by_why is_run (unopened name) says cause = absurd (calm.host cause.host)
     by_why is_run (disk_failed part) says cause = absurd (calm.parts part cause.2.0 cause.2.1 cause.2.2)
     by_why is_run (bad_record nth at) says cause = absurd (no_bad_record nth at cause.2)
     by_why is_run (unlawful t law) says cause = absurd (no_unlawful t law cause.2)
+    by_why is_run (target_failed part) says cause = absurd (subst IsRun cause.0.is_backup is_run)
+    by_why is_run (bad_target nth at) says cause = absurd (subst IsRun cause.begun.is_backup is_run)
+    by_why is_run (target_differs t) says cause = absurd (subst IsRun cause.begun.is_backup is_run)
     by_why is_run (ended_early name how) says cause = inr (refused_by outcome.last refl cause.last name how cause says)
     by_why is_run console_failed says (inl looked) = absurd (subst IsRun looked.is_check is_run)
-    by_why is_run console_failed says (inr loaded) = absurd (not_load loaded.count loaded.is_load)
+    by_why is_run console_failed says (inr (inl loaded)) = absurd (not_load loaded.count loaded.is_load)
+    by_why is_run console_failed says (inr (inr copied)) = absurd (subst IsRun copied.begun.is_backup is_run)
     by_why is_run (log_stopped t) says cause = absurd (calm.parts Log cause.2.0 cause.2.1 cause.2.2)
     by_why is_run segments_failed says cause = absurd (calm.parts Segments cause.2.0 cause.2.1 cause.2.2)
     by_why is_run memory says cause = inr (says_memory outcome.status (string_bytes outcome.line) says)
@@ -348,7 +366,42 @@ pub complete_look : {I O D : Type 0} (terms : Terms) (spec : HostSpec) (io : Str
     (dir : List ℕ) (outcome : Outcome I O D)
     → Causes spec new io disks (Some (check dir)) outcome → Complete terms spec io disks new.faults (Some (check dir)) outcome
 complete_look terms spec io disks new dir outcome causes =
-    λ log holds calm. complete_check terms spec io disks new (check dir) outcome log holds calm (λ wrong. wrong) causes
+    λ log holds calm. complete_without_sessions terms spec io disks new (check dir) outcome log holds calm (λ wrong. wrong)
+    (λ nth at said. let wrong = said.begun.is_backup in cc) (λ t said. let wrong = said.begun.is_backup in cc) causes
+
+-- ---- a backup
+
+-- a log has one history
+one_history : (file : List ℕ) (h other : List Entry) → IsLogOf file h → IsLogOf file other → h ≡ other
+one_history file h other is also =
+    let same : stands_for h ≡ stands_for other =
+    one_said file (stands_for h) (stands_for other) (IsLogOf-says file h is) (IsLogOf-says file other also) in
+    cc
+
+module _ {I O D : Type 0} (spec : HostSpec) (disks : DiskSpec D) (new : ℕ) (from to : List ℕ) (outcome : Outcome I O D)
+    (log : HoldsHistory (spec.disks from Log)) (begins : HoldsBeginning log.history (spec.disks to Log)) where
+  -- the target's log has a beginning of the history, and says nothing else beside it
+  no_other_plan : (plan : Plan) → TargetSays spec disks new (Some (backup from to)) outcome plan
+      → appends (drop (begins.t + 1) log.history) ≡ plan
+  no_other_plan plan said =
+      let from_is : said.begun.from ≡ from = let is = said.begun.is_backup in cc in
+      let to_is : said.begun.to ≡ to = let is = said.begun.is_backup in cc in
+      let its : IsLogOf log.file said.begun.history =
+      said.begun.opening log.file (ap (λ (dir : List ℕ). spec.disks dir Log) from_is ∙ log.known) in
+      let same : said.begun.history ≡ log.history = one_history log.file said.begun.history log.history its log.is in
+      let says : BackupSays begins.file said.begun.history plan =
+      said.says begins.file (ap (λ (dir : List ℕ). spec.disks dir Log) to_is ∙ begins.known) in
+      one_plan begins.file log.history (appends (drop (begins.t + 1) log.history)) plan
+      (beginning_lacks begins.file log.history begins.t begins.is)
+      (subst (λ (h : List Entry). BackupSays begins.file h plan) same says)
+
+pub complete_backup : {I O D : Type 0} (terms : Terms) (spec : HostSpec) (io : StreamSpec I O) (disks : DiskSpec D) (new : HostSpec)
+    (from to : List ℕ) (outcome : Outcome I O D)
+    → Causes spec new io disks (Some (backup from to)) outcome → Complete terms spec io disks new.faults (Some (backup from to)) outcome
+complete_backup terms spec io disks new from to outcome causes =
+    λ log begins calm. complete_without_sessions terms spec io disks new (backup from to) outcome log tt calm (λ wrong. wrong)
+    (λ nth at said. let wrong = no_other_plan spec disks new.faults from to outcome log begins (bad_target_there nth at) said in cc)
+    (λ t said. let wrong = no_other_plan spec disks new.faults from to outcome log begins (differs_at t) said in cc) causes
 
 pub complete_scripts : {I O D : Type 0} (terms : Terms) (spec : HostSpec) (io : StreamSpec I O) (disks : DiskSpec D) (new : HostSpec)
     (options : Options) (dir : List ℕ) (scripts : List (List ℕ)) (outcome : Outcome I O D) (authors : List ℕ) (commits : List (List ℕ))
@@ -368,3 +421,12 @@ complete_scripts terms spec io disks new options dir scripts outcome authors com
     )) in
     λ log holds calm. complete_run terms spec io disks new (runs options dir scripts) outcome log holds calm lawful replies kept
     refl tt causes
+
+-- where memory is refused nothing is owed
+pub complete_refused : {I O D : Type 0} (terms : Terms) (spec : HostSpec) (io : StreamSpec I O) (disks : DiskSpec D) (new : ℕ)
+    (command : Option Command) (outcome : Outcome I O D) → IsOutOfMemory outcome → Complete terms spec io disks new command outcome
+complete_refused terms spec io disks new None outcome said = tt
+complete_refused terms spec io disks new (Some (runs options directory scripts)) outcome said = λ log holds calm. inr said
+complete_refused terms spec io disks new (Some (check directory)) outcome said = λ log holds calm. inr said
+complete_refused terms spec io disks new (Some (load count)) outcome said = λ log holds calm. inr said
+complete_refused terms spec io disks new (Some (backup from to)) outcome said = λ log begins calm. inr said

@@ -1,6 +1,6 @@
 -- What opening a directory gives, in the words of what the host told before, and what the run leaves of the log.
 use Rattle.std.proofs.Common.{◌≡◌, ℕ, ◌+◌, ◌≤◌, ◌⊎◌, inl, inr, List, [], ◌∷◌, ◌++◌, length, Option, Some, None, suc, refl, sym, ap, ◌∙◌}
-use Rattle.std.proofs.Common.{subst, ⊎_elim, arith}
+use Rattle.std.proofs.Common.{subst, ⊎_elim, arith, take}
 use Rattle.std.proofs.lemmas.List.{take-append-le, length-take}
 use Rattle.std.specs.Prelude.{IfSome, Result, Ok, Err, IfErr}
 use Rattle.fb_values.specs.declared.facts.Entry.{Entry}
@@ -32,7 +32,6 @@ use Rattle.fb_recover.specs.Faults.{CountsOpening}
 use Rattle.fb_recover.specs.Openings.{HasRoot}
 use Rattle.fb_run.specs.declared.database.Directory.{Directory}
 use Rattle.fb_run.specs.declared.database.Disks.{Disks}
-use Rattle.fb_run.specs.declared.database.Obstacle.{Obstacle}
 use Rattle.fb_run.specs.declared.database.Obstacle.TheVariants as obstacle
 use Rattle.fb_run.specs.declared.database.Unready.{Unready}
 use Rattle.fb_run.specs.declared.opening.Unopened.{Unopened}
@@ -40,37 +39,38 @@ use Rattle.fb_run.specs.declared.opening.Unopened.TheVariants as unopened
 use Rattle.fb_run.specs.declared.outcome.SessionOut.{SessionOut}
 use Rattle.fb_run.specs.declared.outcome.Outcome.{Outcome}
 use Rattle.command_line.specs.Words.{standard}
-use Rattle.fb_run.specs.Outside.{StreamSpec, DiskSpec, Ports, IsDiskOf, OpensOnly, of_directory, of_scripts, of_sinks, EachOf}
+use Rattle.fb_run.specs.Outside.{StreamSpec, DiskSpec, Ports, IsDiskOf, OpensOnly, OpensUpTo, of_directory, of_scripts, of_sinks, EachOf}
 use Rattle.fb_run.specs.Opening.{IsOpenedFor, HasOpened, HostRefuses, IsUnopened}
 use Rattle.fb_run.specs.Logs.{HasHistory, IsUnharmed, LogHolds}
 use Rattle.fb_run.specs.Coverage.{StaysCovered}
-use Rattle.fb_run.specs.Database.{SameStreams, IsOpened, IsRefused, IsUnopenedBy, IsUnopenedPart, LeaveLogUnharmed, IsObstacle, IsUnready}
+use Rattle.fb_run.specs.Database.{SameStreams, IsOpened, IsRefused, LeaveLogUnharmed, IsObstacle, IsUnready}
 use Rattle.fb_run.specs.Database.{disks_in}
 use Rattle.fb_run.specs.Running.{LeavesLog, HandsLogBack, GoesOnFrom}
 use Rattle.fb_run.proofs.Opens.{opens_behind, up_to_behind}
 
 -- ---- what is opened behind the directory
 
-module _ {D : Type 0} (disks : DiskSpec D) (ports : Ports) (dir : List ℕ) (names : List (List ℕ)) (old mid new : HostSpec) where
-  part_obstacle : (left : Option (Disks D)) (why : Obstacle) → mid.faults ≡ old.faults → left ≡ None
-      → OpensOnly (record ports { sources = []; sinks = [] }) old new → IsUnopenedBy mid new dir why
-      → IsObstacle old new disks ports dir (dir ∷ names) left why
-  part_obstacle left (obstacle.Unopened (unopened.CannotOpen name)) same none only not = record {
+module _ {D : Type 0} (disks : DiskSpec D) (ports : Ports) (dir : List ℕ) (rest names : List (List ℕ)) (old new : HostSpec)
+    (at : ports.directories ≡ dir ∷ rest) (only : OpensOnly (of_directory dir) old new) where
+  only_first : OpensUpTo ports 0 old new
+  only_first =
+      subst (λ (ds : List (List ℕ)). OpensOnly (record { sources = []; sinks = []; directories = take 1 ds }) old new) (sym at) only
+
+  part_obstacle : (why : Unopened) → HostRefuses dir old new why
+      → IsObstacle old new disks ports dir (dir ∷ names) None (obstacle.Unopened why)
+  part_obstacle (unopened.CannotOpen name) not = record {
     place = 0;
     named = ap Some (sym not.0);
-    left_is = none;
-    behind = only;
-    host = subst (λ n. Rose n new.faults) same not.1;
+    left_is = refl;
+    behind = only_first;
+    host = not.1;
   }
-  part_obstacle left (obstacle.Unopened unopened.Memory) same none only not = tt
-  part_obstacle left (obstacle.NotReopened fault) same none only not = absurd not
+  part_obstacle unopened.Memory not = tt
 
-  pub unready_part : (unready : Unready D) → mid.faults ≡ old.faults → OpensOnly (record ports { sources = []; sinks = [] }) old new
-      → IsUnopenedPart mid new dir unready → IsUnready old new disks ports dir (dir ∷ names) unready
-  unready_part unready same only not = record {
-    why = part_obstacle unready.disks unready.why same not.0 only not.1;
-    unharmed = subst (λ (o : Option (Disks D)). IfSome o (LeaveLogUnharmed old disks dir)) (sym not.0) tt;
-  }
+  -- the directory was not opened
+  pub unready_part : (why : Unopened) → HostRefuses dir old new why
+      → IsUnready old new disks ports dir (dir ∷ names) (record { why = obstacle.Unopened why; disks = None })
+  unready_part why not = record { why = part_obstacle why not; unharmed = tt }
 
 module _ {D : Type 0} (disks : DiskSpec D) (dir : List ℕ) (old mid new : HostSpec) (both : Disks D) (same : mid.faults ≡ old.faults)
     (unharmed : LeaveLogUnharmed old disks dir both) (read : HasHistory old dir) (first : OpensOnly (of_directory dir) old mid) where
@@ -109,6 +109,12 @@ module _ {D : Type 0} (disks : DiskSpec D) (dir : List ℕ) (old mid new : HostS
       → IsUnready old new disks (record (of_sinks (standard ∷ [])) { directories = dir ∷ [] }) dir (dir ∷ standard ∷ [])
       (record { why = obstacle.Unopened why; disks = Some both })
   unready_console why only not = record { why = console_obstacle why only not; unharmed = unharmed }
+
+-- what was refused behind something else
+pub refuses_later : (name : List ℕ) (old mid new : HostSpec) → mid.faults ≡ old.faults → (why : Unopened) → HostRefuses name mid new why
+    → HostRefuses name old new why
+refuses_later name old mid new same (unopened.CannotOpen why) not = (not.0, subst (λ n. Rose n new.faults) same not.1)
+refuses_later name old mid new same unopened.Memory not = tt
 
 -- opening the log changes nothing that the host tells of the segments
 pub other_part : {D : Type 0} (disks : DiskSpec D) (dir : List ℕ) (old mid : HostSpec) (disk : D) → StaysButDisk dir Log old mid

@@ -6,9 +6,9 @@ use Rattle.std.specs.Option.{option_map}
 use Rattle.std.specs.List.{AllByRecursion}
 use Rattle.std.specs.Str.{all_ascii_digits}
 use Rattle.std.specs.Str.Parse.{digits_value}
-use Rattle.command_line.specs.Words.{Command, run, check, load, greatest_load, begins_above_zero, number_up_to, one_name, are_scripts}
+use Rattle.command_line.specs.Words.{Command, run, check, load, backup, greatest_load, begins_above_zero, number_up_to, one_name, two_names, are_scripts}
 use Rattle.command_line.specs.Words.{Place, Anywhere, AtNumber, BehindOptions, Progress, start, walked, merge_at_in, command_with}
-use Rattle.command_line.specs.Words.{command_at, command_from, check_of, load_of, command_of}
+use Rattle.command_line.specs.Words.{command_at, command_from, check_of, load_of, between, backup_of, command_of}
 use Rattle.load_scripts.specs.Scripts.{script_of}
 use Rattle.load_scripts.proofs.Forms.{script_forms, script_length}
 use Rattle.fb_run.specs.Generated.{loads_of, generated}
@@ -21,6 +21,7 @@ IsSmall None = Unit {0}
 IsSmall (Some (run options directory scripts)) = Unit {0}
 IsSmall (Some (check directory)) = Unit {0}
 IsSmall (Some (load count)) = count ≤ greatest_load
+IsSmall (Some (backup from to)) = Unit {0}
 
 chosen : (b : Bool) (x y : Option Command) → IsSmall x → IsSmall y → IsSmall (if b then x else y)
 chosen true x y first second = first
@@ -66,12 +67,17 @@ small_load : (name : Option (List ℕ)) → IsSmall (option_map load (option_and
 small_load None = tt
 small_load (Some name) = small_number name
 
+small_backup : (names : Option (List ℕ × List ℕ)) → IsSmall (option_and_then between names)
+small_backup None = tt
+small_backup (Some names) = chosen (bytes_eq names.0 names.1) None (Some (backup names.0 names.1)) tt tt
+
 small_command : (words : List (List ℕ)) → IsSmall (command_of words)
 small_command [] = tt
 small_command (verb ∷ words) =
     chosen (bytes_eq verb (codes "run")) (command_from (walked (Some start) words)) _ (small_from (walked (Some start) words))
     (chosen (bytes_eq verb (codes "check")) (check_of words) _ (small_check (one_name words))
-    (chosen (bytes_eq verb (codes "load")) (load_of words) None (small_load (one_name words)) tt))
+    (chosen (bytes_eq verb (codes "load")) (load_of words) _ (small_load (one_name words))
+    (chosen (bytes_eq verb (codes "backup")) (backup_of words) None (small_backup (two_names words)) tt)))
 
 pub load_within : (words : List (List ℕ)) (count : ℕ) → Some (load count) ≡ command_of words → count ≤ greatest_load
 load_within words count is = subst IsSmall (sym is) (small_command words)

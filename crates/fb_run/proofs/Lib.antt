@@ -13,3 +13,4 @@ pub mod Ahead
 pub mod Loads
 pub mod Generators
 pub mod LoadsWhole
+pub mod Backups

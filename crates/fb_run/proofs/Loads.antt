@@ -28,7 +28,7 @@ use Rattle.fb_run.specs.Summary.{IsSummary}
 use Rattle.fb_run.specs.Logs.{LogHolds}
 use Rattle.fb_run.specs.StatusLines.{answered, reported, console_failed, memory, first_early, why_of}
 use Rattle.fb_run.specs.Causes.{NoSession, IsOutOfMemory, SaysWhy, HaveRun, directory_of, IsUnfailed, TookWhole, TookPart, HasLoaded}
-use Rattle.fb_run.specs.Causes.{CauseOf, Causes}
+use Rattle.fb_run.specs.Causes.{CauseOf, HasNoTarget, Causes}
 use Rattle.fb_run.specs.Looking.{HasPrinted}
 use Rattle.fb_run.specs.Loading.{supply, room, AreGenerated, Left, left_of, Said, said_of, HasReported, SumsUp, SaysSame, HasSummedUp}
 use Rattle.fb_run.specs.Loading.{SaysFurther}
@@ -129,7 +129,7 @@ not_torn (Some draft) none = absurd (cc)
 
 module _ {I O D : Type 0} (spec new : HostSpec) (io : StreamSpec I O) (disks : DiskSpec D) (count : ℕ) (ran : Outcome Supply Store D)
     (out : Outcome I O D) (left : left_of out ≡ left_of ran) (loads : out.loads.items ≡ ran.sessions.items)
-    (none : out.sessions.items ≡ []) where
+    (none : out.sessions.items ≡ []) (no_target : HasNoTarget out) where
   abbrev command : Option Command
   command = Some (load count)
 
@@ -271,6 +271,7 @@ module _ {I O D : Type 0} (spec new : HostSpec) (io : StreamSpec I O) (disks : D
                 (have_run early opened same each ended refl)
                 (λ said. nothing_there ran.last (says.failed (sym status ∙ said.0)) there) its;
             console = console_why out (ap (λ (s : Said O). s.console) says.same) early (stop_of out.torn) e.end;
+            targets = no_target;
           }
 
       -- the line went out to the console
@@ -300,7 +301,7 @@ module _ {I O D : Type 0} (spec new : HostSpec) (io : StreamSpec I O) (disks : D
           → (k : SnapshotModel) → out.last ≡ Some k
           → SumsUp io.contents io.sink_faults k.entries was (said_of out) → Causes spec new io disks command out
       sums_up stays run torn k last_is (inl refused) =
-          record { why = memory; says = inr refused.0; cause = inr (run, torn); console = refused.1 }
+          record { why = memory; says = inr refused.0; cause = inr (run, torn); console = refused.1; targets = no_target }
       sums_up stays run torn k last_is (inr told_it) =
           let report = told_it.2 in
           let there : IsSome out.console = subst IsSome (sym report.console_is) refl in
@@ -308,14 +309,16 @@ module _ {I O D : Type 0} (spec new : HostSpec) (io : StreamSpec I O) (disks : D
             | inl whole ↦ record {
               why = reported;
               says = whole.0;
-              cause = inr (loaded stays k told_it.0 report.now TookWhole run torn last_is told_it.1 report.console_is whole.1);
+              cause = inr (inl (loaded stays k told_it.0 report.now TookWhole run torn last_is told_it.1 report.console_is whole.1));
               console = there;
+              targets = no_target;
             }
             | inr part ↦ record {
               why = console_failed;
               says = part.0;
-              cause = inr (loaded stays k told_it.0 report.now TookPart run torn last_is told_it.1 report.console_is part.1);
+              cause = inr (inl (loaded stays k told_it.0 report.now TookPart run torn last_is told_it.1 report.console_is part.1));
               console = there;
+              targets = no_target;
             }
           ]
 
@@ -340,7 +343,7 @@ module _ {I O D : Type 0} (spec new : HostSpec) (io : StreamSpec I O) (disks : D
           let line : string_bytes out.line ≡ string_bytes ran.line = ap (λ (s : Said O). s.line) says.same in
           let refused : IsOutOfMemory out = rw (status, line) nothing.1 in
           caused_by_memory spec io disks new out (load count) (no_session nothing.0) (ap (λ (s : Said O). s.console) says.same)
-          refused
+          no_target refused
       caused_by_load (inl nothing) (inr says) = absurd (omega (arith, nothing.1.0, says.success))
       caused_by_load (inr ended) (inl says) = wrong_says ended says
       caused_by_load (inr ended) (inr says) = well_says ended says

@@ -23,6 +23,7 @@ use Rattle.fb_run.specs.Logs.{LogHolds}
 use Rattle.fb_run.specs.Headline.{OneHistory, EachReplies}
 use Rattle.fb_run.specs.Generated.{loads_of, generated, spec_in_memory, in_memory}
 use Rattle.fb_run.specs.StatusLines.{Why, answered, reported, usage, unopened, disk_failed, bad_record, unlawful, ended_early}
+use Rattle.fb_run.specs.StatusLines.{target_failed, bad_target, target_differs}
 use Rattle.fb_run.specs.StatusLines.{console_failed, log_stopped, segments_failed, memory, status_of_end, line_of_end, first_early}
 use Rattle.fb_run.specs.Causes.{Counts, HasDisks, IsOutOfMemory, SaysWhy, HaveRun, directory_of, CauseOf, Causes}
 use Rattle.fb_run.specs.Complete.{HoldsFormsAlone, HoldsHistory, NoneRose, AnsweredWhole, Complete}
@@ -122,15 +123,20 @@ module _ {I O D : Type 0} (terms : Terms) (spec : HostSpec) (io : StreamSpec I O
           → AnsweredWhole terms spec io command out ⊎ IsOutOfMemory out
       by_why answered says cause = inl (whole_by out.last refl cause.0.last says.0 cause.0)
       by_why reported says (inl looked) = let wrong = looked.is_check in absurd (cc)
-      by_why reported says (inr loaded) = inl (whole_by out.last refl loaded.ran.last says.0 loaded.ran)
+      by_why reported says (inr (inl loaded)) = inl (whole_by out.last refl loaded.ran.last says.0 loaded.ran)
+      by_why reported says (inr (inr copied)) = let wrong = copied.begun.is_backup in absurd (cc)
       by_why usage says cause = absurd (none-some (load count) (sym cause.2))
       by_why (unopened name) says cause = absurd (calm.host cause.host)
       by_why (disk_failed part) says cause = absurd (calm.parts part cause.2.0 cause.2.1 cause.2.2)
       by_why (bad_record nth at) says cause = absurd (no_bad_record terms spec io disks new (load count) out log tt calm nth at cause.2)
       by_why (unlawful t law) says cause = absurd (no_unlawful terms spec io disks new (load count) out log tt calm t law cause.2)
+      by_why (target_failed part) says cause = let wrong = cause.0.is_backup in absurd (cc)
+      by_why (bad_target nth at) says cause = let wrong = cause.begun.is_backup in absurd (cc)
+      by_why (target_differs t) says cause = let wrong = cause.begun.is_backup in absurd (cc)
       by_why (ended_early name how) says cause = inr (refused_by out.last refl cause.last name how cause says)
       by_why console_failed says (inl looked) = let wrong = looked.is_check in absurd (cc)
-      by_why console_failed says (inr loaded) = absurd (calm.console loaded.console loaded.console_is loaded.took.failed)
+      by_why console_failed says (inr (inl loaded)) = absurd (calm.console loaded.console loaded.console_is loaded.took.failed)
+      by_why console_failed says (inr (inr copied)) = let wrong = copied.begun.is_backup in absurd (cc)
       by_why (log_stopped t) says cause = absurd (calm.parts Log cause.2.0 cause.2.1 cause.2.2)
       by_why segments_failed says cause = absurd (calm.parts Segments cause.2.0 cause.2.1 cause.2.2)
       by_why memory says cause = inr (says_memory out.status (string_bytes out.line) says)

@@ -21,13 +21,13 @@ use Rattle.fb_run.proofs.Lists.{names_cut}
 pub first_in : (name : List ℕ) (names : List (List ℕ)) → Contains (name ∷ names) name
 first_in name names = (0, omega arith, refl)
 
-later_in : (name other : List ℕ) (names : List (List ℕ)) → Contains names other → Contains (name ∷ names) other
+pub later_in : (name other : List ℕ) (names : List (List ℕ)) → Contains names other → Contains (name ∷ names) other
 later_in name other names has = (suc has.0, omega (arith, has.1), has.2)
 
-none_in : {X : Type 0} (other : List ℕ) → Contains [] other → X
+pub none_in : {X : Type 0} (other : List ℕ) → Contains [] other → X
 none_in other has = absurd (omega (arith, has.1))
 
-only_in : (name other : List ℕ) (names : List (List ℕ)) → Contains (name ∷ []) other → Contains (name ∷ names) other
+pub only_in : (name other : List ℕ) (names : List (List ℕ)) → Contains (name ∷ []) other → Contains (name ∷ names) other
 only_in name other names (zero, within, is) = (zero, omega arith, is)
 only_in name other names (suc k, within, is) = absurd (omega (arith, within))
 

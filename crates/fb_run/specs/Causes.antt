@@ -13,7 +13,10 @@ use Rattle.fb_ports.specs.Faults.{Rose}
 use Rattle.fb_ports.specs.HostSpec.{HostSpec}
 use Rattle.fb_ports.specs.declared.hosts.Part.{Part}
 use Rattle.fb_ports.specs.declared.hosts.Part.TheVariants.{Log, Segments}
-use Rattle.command_line.specs.Words.{Command, run, check, load, scripts_of, sink_of, standard}
+use Rattle.command_line.specs.Words.{Command, run, check, load, backup, scripts_of, sink_of}
+use Rattle.command_line.specs.Words.{standard}
+use Rattle.backup_model.specs.Backup.{Plan, appends, copied_of, BackupSays, differs_at}
+use Rattle.backup_model.specs.Backup.{bad_target as bad_target_there}
 use Rattle.fb_session.specs.declared.outcome.SessionEnd.{SessionEnd}
 use Rattle.fb_session.specs.Replies.{SourceCount, SinkCount}
 use Rattle.fb_session.specs.Written.{TakesPart}
@@ -27,8 +30,10 @@ use Rattle.fb_run.specs.Logs.{HasHistory, IsUnharmed}
 use Rattle.fb_recover.specs.Openings.{HasCoverage}
 use Rattle.fb_run.specs.Coverage.{StaysCovered}
 use Rattle.fb_run.specs.StatusLines.{Why, answered, reported, usage, unopened, disk_failed}
-use Rattle.fb_run.specs.StatusLines.{bad_record, unlawful, ended_early, console_failed, log_stopped}
+use Rattle.fb_run.specs.StatusLines.{bad_record, unlawful, target_failed, bad_target}
+use Rattle.fb_run.specs.StatusLines.{target_differs, ended_early, console_failed, log_stopped}
 use Rattle.fb_run.specs.StatusLines.{segments_failed, memory, out_of_memory, history_line}
+use Rattle.fb_run.specs.StatusLines.{copied_line}
 use Rattle.fb_run.specs.StatusLines.{status_of, line_of, first_early}
 
 -- ---- what is handed back
@@ -51,6 +56,21 @@ pub record HasDisks {I O D : Type 0} (outcome : Outcome I O D) : Type 0 where
 pub record HasNoDisk {I O D : Type 0} (outcome : Outcome I O D) : Type 0 where
   pub log : outcome.log ≡ None
   pub segments : outcome.segments ≡ None
+
+-- the disk of this part of a backup's target
+abbrev pub target_part_of : {I O D : Type 0} → Outcome I O D → Part → Option D
+target_part_of outcome Log = outcome.target_log
+target_part_of outcome Segments = outcome.target_segments
+
+-- both of these
+pub record HasTarget {I O D : Type 0} (outcome : Outcome I O D) : Type 0 where
+  pub log : IsSome outcome.target_log
+  pub segments : IsSome outcome.target_segments
+
+-- neither of them
+pub record HasNoTarget {I O D : Type 0} (outcome : Outcome I O D) : Type 0 where
+  pub log : outcome.target_log ≡ None
+  pub segments : outcome.target_segments ≡ None
 
 -- no session ran
 pub record NoSession {I O D : Type 0} (outcome : Outcome I O D) : Type 0 where
@@ -95,6 +115,7 @@ IsRun None = ⊥
 IsRun (Some (run options directory scripts)) = Unit {0}
 IsRun (Some (check directory)) = ⊥
 IsRun (Some (load count)) = Unit {0}
+IsRun (Some (backup from to)) = ⊥
 
 -- how the sessions ended: those of the generator, or those of scripts
 abbrev pub ends_of : {I O D : Type 0} → Outcome I O D → List SessionEnd
@@ -117,19 +138,27 @@ pub record HaveRun {I O D : Type 0} (spec : HostSpec) (io : StreamSpec I O) (new
   pub authors : IsSome outcome.authors
   pub disks : HasDisks outcome
 
--- the directory that a command names, or none
+-- the directory that a command names, the first of two, or none
 abbrev pub directory_of : Option Command → List ℕ
 directory_of None = []
 directory_of (Some (run options directory scripts)) = directory
 directory_of (Some (check directory)) = directory
 directory_of (Some (load count)) = codes ":memory:"
+directory_of (Some (backup from to)) = from
 
--- what it opens: its directory first, and then its scripts' sources and sinks, or the console
+-- the directory that a backup copies to
+abbrev pub target_of : Option Command → List ℕ
+target_of (Some (backup from to)) = to
+target_of command = []
+
+-- What it opens: its directory first, and then its scripts' sources and sinks, or the console.
+-- A backup opens its target before the console.
 abbrev pub names_of : Option Command → List (List ℕ)
 names_of None = []
 names_of (Some (run options directory scripts)) = directory ∷ scripts
 names_of (Some (check directory)) = directory ∷ standard ∷ []
 names_of (Some (load count)) = codes ":memory:" ∷ standard ∷ []
+names_of (Some (backup from to)) = from ∷ to ∷ standard ∷ []
 
 -- Both disks are handed back, unless the directory itself was not opened. The log was read before
 -- what has a later name: it is that of a history.
@@ -186,6 +215,29 @@ IsUnfailed {I} {O} {D} spec disks command outcome part =
     × (part_of outcome part ≡ Some disk)
     × (disks.faults disk ≡ spec.disk_faults (directory_of command) part)
 
+-- the same of a disk of a backup's target
+abbrev pub TargetFailed : {I O D : Type 0} → HostSpec → DiskSpec D → Option Command → Outcome I O D
+    → Part → Type 0
+TargetFailed {I} {O} {D} spec disks command outcome part =
+    (disk : D)
+    × (target_part_of outcome part ≡ Some disk)
+    × Rose (spec.disk_faults (target_of command) part) (disks.faults disk)
+
+abbrev pub IsTargetUnfailed : {I O D : Type 0} → HostSpec → DiskSpec D → Option Command
+    → Outcome I O D → Part → Type 0
+IsTargetUnfailed {I} {O} {D} spec disks command outcome part =
+    (disk : D)
+    × (target_part_of outcome part ≡ Some disk)
+    × (disks.faults disk ≡ spec.disk_faults (target_of command) part)
+
+-- The target's log is copied to before anything is asked of its segments' disk.
+abbrev pub IsTargetInTurn : {I O D : Type 0} → HostSpec → DiskSpec D → Option Command
+    → Outcome I O D → Part → Type 0
+IsTargetInTurn spec disks command outcome Log =
+    IfSome outcome.target_segments (IsDiskOf spec disks (target_of command) Segments)
+IsTargetInTurn spec disks command outcome Segments =
+    IsTargetUnfailed spec disks command outcome Log
+
 -- a sink took the whole line
 pub record TookWhole (line : List ℕ) (had has : Option (List ℕ)) (old new : ℕ) : Type 0 where
   pub gained : has ≡ append_known had line
@@ -236,13 +288,60 @@ pub record HasLoaded {I O D : Type 0} (spec : HostSpec) (io : StreamSpec I O) (d
   pub took : Took line (spec.sinks standard) (io.contents console)
       (spec.sink_faults standard) (io.sink_faults console)
 
+-- A backup was begun: its directory's log was that of a history, whose trees go so far,
+-- and nothing of the directory failed.
+pub record BacksUp {I O D : Type 0} (spec : HostSpec) (disks : DiskSpec D) (new : ℕ)
+    (command : Option Command) (outcome : Outcome I O D) : Type 0 where
+  pub from : List ℕ
+  pub to : List ℕ
+  pub is_backup : command ≡ Some (backup from to)
+  pub none : NoSession outcome
+  pub host : new ≡ spec.faults
+  pub history : List Entry
+  pub opening : IfKnown (spec.disks from Log) (λ file. IsLogOf file history)
+  pub covered : ℕ
+  pub coverage : IfKnown (spec.disks from Segments) (HasCoverage history covered)
+  pub unfailed : (part : Part) → IsUnfailed spec disks command outcome part
+  pub kept : IfSome outcome.segments (StaysCovered spec disks from history covered)
+
+-- so many entries of the history were lacking in the target's log, and were copied
+abbrev pub HasLacked : HostSpec → List ℕ → List Entry → ℕ → Type 0
+HasLacked spec to h copied =
+    IfKnown (spec.disks to Log)
+    (λ file. (lacking : List Entry)
+    × BackupSays file h (appends lacking)
+    × (copied ≡ copied_of (appends lacking)))
+
+-- The target got what it lacked. The console took the line about it, so far.
+pub record HasCopied {I O D : Type 0} (spec : HostSpec) (io : StreamSpec I O) (disks : DiskSpec D)
+    (new : ℕ) (command : Option Command) (outcome : Outcome I O D)
+    (Took : List ℕ → Option (List ℕ) → Option (List ℕ) → ℕ → ℕ → Type 0) : Type 0 where
+  pub begun : BacksUp spec disks new command outcome
+  pub copied : ℕ
+  pub lacked : HasLacked spec begun.to begun.history copied
+  pub unfailed : (part : Part) → IsTargetUnfailed spec disks command outcome part
+  pub console : O
+  pub console_is : outcome.console ≡ Some console
+  pub took : Took (copied_line (basis begun.history) copied begun.covered)
+      (spec.sinks standard) (io.contents console)
+      (spec.sink_faults standard) (io.sink_faults console)
+
+-- the target's log says this beside the history, and nothing was appended to it
+pub record TargetSays {I O D : Type 0} (spec : HostSpec) (disks : DiskSpec D) (new : ℕ)
+    (command : Option Command) (outcome : Outcome I O D) (plan : Plan) : Type 0 where
+  pub begun : BacksUp spec disks new command outcome
+  pub in_turn : IsTargetInTurn spec disks command outcome Log
+  pub unfailed : IsTargetUnfailed spec disks command outcome Log
+  pub says : IfKnown (spec.disks begun.to Log) (λ file. BackupSays file begun.history plan)
+
 -- the line of the command went out to the console, so far
 abbrev pub Reports : {I O D : Type 0} → HostSpec → StreamSpec I O → DiskSpec D → ℕ → Option Command
     → Outcome I O D
     → (List ℕ → Option (List ℕ) → Option (List ℕ) → ℕ → ℕ → Type 0) → Type 0
 Reports spec io disks new command outcome Took =
     HasLooked spec io disks new command outcome Took
-    ⊎ HasLoaded spec io disks new command outcome Took
+    ⊎ (HasLoaded spec io disks new command outcome Took
+    ⊎ HasCopied spec io disks new command outcome Took)
 
 abbrev pub CauseOf : {I O D : Type 0} → HostSpec → HostSpec → StreamSpec I O → DiskSpec D
     → Option Command → Outcome I O D → Why → Type 0
@@ -270,6 +369,14 @@ CauseOf spec new io disks command outcome (unlawful t law) =
     × IsInTurn spec disks command outcome Log
     × IfKnown (spec.disks (directory_of command) Log)
     (λ file. FileSays file (unlawful_there t law))
+CauseOf spec new io disks command outcome (target_failed part) =
+    BacksUp spec disks new.faults command outcome
+    × IsTargetInTurn spec disks command outcome part
+    × TargetFailed spec disks command outcome part
+CauseOf spec new io disks command outcome (bad_target nth at) =
+    TargetSays spec disks new.faults command outcome (bad_target_there nth at)
+CauseOf spec new io disks command outcome (target_differs t) =
+    TargetSays spec disks new.faults command outcome (differs_at t)
 CauseOf spec new io disks command outcome (ended_early name how) =
     HaveRun spec io new.faults command outcome (Some (name, how))
 CauseOf spec new io disks command outcome console_failed =
@@ -292,6 +399,21 @@ HasConsole reported outcome = IsSome outcome.console
 HasConsole console_failed outcome = IsSome outcome.console
 HasConsole why outcome = outcome.console ≡ None
 
+-- the disks of a backup's target are handed back where they were opened, unless memory was refused
+abbrev pub HasTargetBy : {I O D : Type 0} → Why → Outcome I O D → Type 0
+HasTargetBy reported outcome = HasTarget outcome
+HasTargetBy (target_failed part) outcome = HasTarget outcome
+HasTargetBy (bad_target nth at) outcome = HasTarget outcome
+HasTargetBy (target_differs t) outcome = HasTarget outcome
+HasTargetBy console_failed outcome = HasTarget outcome
+HasTargetBy memory outcome = Unit {0}
+HasTargetBy why outcome = HasNoTarget outcome
+
+-- no other command has a target
+abbrev pub HasTargets : {I O D : Type 0} → Why → Option Command → Outcome I O D → Type 0
+HasTargets why (Some (backup from to)) outcome = HasTargetBy why outcome
+HasTargets why command outcome = HasNoTarget outcome
+
 -- There is a reason why the run ended as it did.
 -- The status and the line say it, and it has its cause.
 pub record Causes {I O D : Type 0} (spec new : HostSpec) (io : StreamSpec I O)
@@ -300,3 +422,4 @@ pub record Causes {I O D : Type 0} (spec new : HostSpec) (io : StreamSpec I O)
   pub says : SaysWhy why outcome.status (string_bytes outcome.line)
   pub cause : CauseOf spec new io disks command outcome why
   pub console : HasConsole why outcome
+  pub targets : HasTargets why command outcome

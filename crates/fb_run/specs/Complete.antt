@@ -6,12 +6,13 @@ use Rattle.std.specs.Io.KnownBytes.{append_known}
 use Rattle.edn_model.specs.Form.{Form}
 use Rattle.fb_values.specs.declared.facts.Entry.{Entry}
 use Rattle.fb_view.specs.SnapshotModel.{SnapshotModel}
+use Rattle.fb_model.specs.History.{upto}
 use Rattle.log_model.specs.Log.{IsLogOf}
 use Rattle.fb_ports.specs.Faults.{Rose}
 use Rattle.fb_ports.specs.declared.hosts.Part.{Part}
 use Rattle.fb_ports.specs.declared.hosts.Part.TheVariants.{Log}
 use Rattle.fb_ports.specs.HostSpec.{HostSpec}
-use Rattle.command_line.specs.Words.{Command, check, scripts_of, sink_of, standard}
+use Rattle.command_line.specs.Words.{Command, check, backup, scripts_of, sink_of, standard}
 use Rattle.talk_model.specs.Script.{whole, Script}
 use Rattle.talk_model.specs.Session.{Setting, Standing, opened_at}
 use Rattle.talk_model.specs.Talk.{Exchange, forms_of, places_of, lines_of, commits_of, Talk}
@@ -22,7 +23,7 @@ use Rattle.fb_run.specs.declared.outcome.SessionOut.{SessionOut}
 use Rattle.fb_run.specs.declared.outcome.Outcome.{Outcome}
 use Rattle.fb_run.specs.Outside.{StreamSpec, DiskSpec, run_of, setting_of, EachOf, EachWhile}
 use Rattle.fb_run.specs.Generated.{loads_of, spec_in_memory, in_memory}
-use Rattle.fb_run.specs.Causes.{directory_of, part_of, IsOutOfMemory}
+use Rattle.fb_run.specs.Causes.{directory_of, target_of, part_of, target_part_of, IsOutOfMemory}
 
 -- the source holds these forms, within the limits, and nothing else
 pub record HoldsForms (held : Option (List ℕ)) (forms : List Form) : Type 0 where
@@ -42,6 +43,13 @@ pub record HoldsHistory (held : Option (List ℕ)) : Type 0 where
   pub history : List Entry
   pub is : IsLogOf file history
 
+-- the bytes of a backup's target are known, and they are the log of a beginning of this history
+pub record HoldsBeginning (h : List Entry) (held : Option (List ℕ)) : Type 0 where
+  pub file : List ℕ
+  pub known : held ≡ Some file
+  pub t : ℕ
+  pub is : IsLogOf file (upto h t)
+
 -- no count of a session's source or sink rose
 pub record StreamsStay {I O : Type 0} (spec : HostSpec) (io : StreamSpec I O)
     (names : List (List ℕ))
@@ -58,6 +66,8 @@ pub record NoneRose {I O D : Type 0} (spec : HostSpec) (io : StreamSpec I O) (di
   pub host : ¬ Rose spec.faults new
   pub parts : (part : Part) (disk : D) → part_of outcome part ≡ Some disk
       → ¬ Rose (spec.disk_faults (directory_of command) part) (disks.faults disk)
+  pub targets : (part : Part) (disk : D) → target_part_of outcome part ≡ Some disk
+      → ¬ Rose (spec.disk_faults (target_of command) part) (disks.faults disk)
   pub sessions : StreamsStay spec io (scripts_of command) outcome.sessions.items
   pub loads : StreamsStay (spec_in_memory spec command) in_memory (loads_of command)
       outcome.loads.items
@@ -96,18 +106,26 @@ pub record AnsweredWhole {I O D : Type 0} (terms : Terms) (spec : HostSpec) (io 
       last.entries (loads_of command) outcome.loads.items
 
 -- each form of its scripts, or of the generator's, was answered;
--- or the look at the directory, which has no script, succeeded, so it printed its line
+-- or the look at the directory or its backup, which has no script, succeeded,
+-- so it printed its line
 abbrev pub Succeeds : {I O D : Type 0} → Terms → HostSpec → StreamSpec I O → Command → Outcome I O D
     → Type 0
 Succeeds terms spec io (check directory) outcome = outcome.status ≡ 0
+Succeeds terms spec io (backup from to) outcome = outcome.status ≡ 0
 Succeeds terms spec io command outcome =
     AnsweredWhole terms spec io (Some command) outcome
 
 -- Where the words are a command, its log is that of a history, its scripts
 -- are forms within the limits, and no count of faults rises, it succeeds, or memory was refused.
+-- The log of a backup's target has to be that of a beginning of the history.
 abbrev pub Complete : {I O D : Type 0} → Terms → HostSpec → StreamSpec I O → DiskSpec D → ℕ
     → Option Command → Outcome I O D → Type 0
 Complete terms spec io disks new None outcome = Unit {0}
+Complete terms spec io disks new (Some (backup from to)) outcome =
+    (log : HoldsHistory (spec.disks from Log))
+    → HoldsBeginning log.history (spec.disks to Log)
+    → NoneRose spec io disks new (Some (backup from to)) outcome
+    → Succeeds terms spec io (backup from to) outcome ⊎ IsOutOfMemory outcome
 Complete terms spec io disks new (Some command) outcome =
     HoldsHistory (spec.disks (directory_of (Some command)) Log)
     → AllByRecursion (λ name. HoldsFormsAlone (spec.sources name)) (scripts_of (Some command))

@@ -39,6 +39,12 @@ pub record SameStreams (old new : HostSpec) : Type 0 where
   pub sinks : Same old.sinks new.sinks
   pub sink_faults : Same old.sink_faults new.sink_faults
 
+-- the disks are those of this directory
+pub record AreDisksOf {D : Type 0} (spec : HostSpec) (disks : DiskSpec D) (dir : List ℕ)
+    (both : Disks D) : Type 0 where
+  pub log : IsDiskOf spec disks dir Log both.log
+  pub segments : IsDiskOf spec disks dir Segments both.segments
+
 -- The log goes on after the history that its file held,
 -- and the store after the roots of its own, over disks that were handed out for them.
 pub record IsReopened {D : Type 0} {g : _} (disks : DiskSpec D) (disk segments : D)
@@ -114,17 +120,6 @@ pub record IsRefused {D : Type 0} (disks : DiskSpec D) (disk segments : D) (unre
   pub untouched : IsOfLog fault → file ≡ segments
   pub unharmed : IfKnown (disks.bytes disk) (λ file. LeavesOnly disks.moment disks.images_since
       disk log (λ image. disks.images disk image ⊎ ((length file ≤ 16) × (length image ≤ 16))))
-
--- the host could not open a part of the directory, and no disk is left
-abbrev pub IsUnopenedBy : HostSpec → HostSpec → List ℕ → Obstacle → Type 0
-IsUnopenedBy old new dir (Unopened (CannotOpen name)) =
-    (name.now ≡ dir) × Rose old.faults new.faults
-IsUnopenedBy old new dir (Unopened Memory) = Unit {0}
-IsUnopenedBy old new dir (NotReopened fault) = ⊥
-
-abbrev pub IsUnopenedPart : {D : Type 0} → HostSpec → HostSpec → List ℕ → Unready D → Type 0
-IsUnopenedPart old new dir unready =
-    (unready.disks ≡ None) × IsUnopenedBy old new dir unready.why
 
 -- the log is unharmed
 abbrev pub LeaveLogUnharmed : {D : Type 0} → HostSpec → DiskSpec D → List ℕ → Disks D → Type 0

@@ -14,4 +14,6 @@ pub mod Complete
 pub mod Database
 pub mod Looking
 pub mod Loading
+pub mod Targets
+pub mod Copying
 pub mod Running

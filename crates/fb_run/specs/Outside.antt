@@ -7,7 +7,7 @@ use Rattle.fb_values.specs.declared.facts.Entry.{Entry}
 use Rattle.fb_ports.specs.declared.hosts.Part.{Part}
 use Rattle.fb_ports.specs.HostSpec.{HostSpec}
 use Rattle.fb_ports.specs.HostCalls.{Alike}
-use Rattle.command_line.specs.Words.{Command, run, check, load, sink_of, standard}
+use Rattle.command_line.specs.Words.{Command, run, check, load, backup, sink_of, standard}
 use Rattle.talk_model.specs.Session.{Setting, setting}
 use Rattle.fb_session.specs.Sessions.{Terms}
 use Rattle.fb_session.specs.Replies.{SessionRun}
@@ -137,7 +137,7 @@ of_sinks scripts = record { sources = []; sinks = map sink_of scripts; directori
 abbrev pub of_scripts : List (List ℕ) → Ports
 of_scripts scripts = record { sources = scripts; sinks = map sink_of scripts; directories = [] }
 
--- what a command names: its directory, and its scripts' sources and sinks or the console
+-- what a command names: its directory or two, and its scripts' sources and sinks or the console
 abbrev pub ports_of : Option Command → Ports
 ports_of None = record { sources = []; sinks = []; directories = [] }
 ports_of (Some (run options directory scripts)) =
@@ -146,6 +146,8 @@ ports_of (Some (check directory)) =
     record (of_sinks (standard ∷ [])) { directories = directory ∷ [] }
 ports_of (Some (load count)) =
     record (of_sinks (standard ∷ [])) { directories = codes ":memory:" ∷ [] }
+ports_of (Some (backup from to)) =
+    record (of_sinks (standard ∷ [])) { directories = from ∷ to ∷ [] }
 
 -- what the record has of every other name is as it was
 abbrev pub SameBeside : {A : Type 0} → List (List ℕ) → (List ℕ → A) → (List ℕ → A) → Type 0
@@ -169,12 +171,13 @@ pub record OpensOnly (ports : Ports) (old new : HostSpec) : Type 0 where
       → Alike (old.disk_images other part) (new.disk_images other part)
   pub disk_moment : SamePartsBeside ports.directories old.disk_moment new.disk_moment
 
--- A directory, then all sources and then all sinks are opened, in the order of their names.
--- Nothing was opened behind what has this place among the directory and the other names:
--- where this is the directory, no source and no sink, and else no later source and no sink,
--- or no later sink.
+-- A directory or two, then all sources and then all sinks are opened, in the order of their names.
+-- Nothing was opened behind what has this place among the directories and the other names:
+-- where this is the first directory, no other one, no source and no sink,
+-- and else no later source and no sink, or no later sink.
 abbrev pub OpensUpTo : Ports → ℕ → HostSpec → HostSpec → Type 0
-OpensUpTo ports zero old new = OpensOnly (record ports { sources = []; sinks = [] }) old new
+OpensUpTo ports zero old new =
+    OpensOnly (record { sources = []; sinks = []; directories = take 1 ports.directories }) old new
 OpensUpTo ports (suc n) old new =
     OpensOnly (record ports { sources = take (suc n) ports.sources; sinks = [] }) old new
     ⊎ OpensOnly (record ports { sinks = take (suc n) ports.sinks }) old new

@@ -5,6 +5,8 @@ use Rattle.edn_model.specs.Faults.{Fault, bad, unsupported, deep, cut}
 use Rattle.edn_core.specs.Answers.{fault_of}
 use Rattle.fb_ports.specs.declared.hosts.Part.{Part}
 use Rattle.fb_ports.specs.declared.hosts.Part.TheVariants.{Log, Segments}
+use Rattle.fb_backup.specs.declared.faults.BackupFault.TheVariants as backup_fault
+use Rattle.fb_backup.specs.declared.faults.CopyFault.TheVariants as copy_fault
 use Rattle.fb_recover.specs.declared.faults.OpenFault.{OpenFault}
 use Rattle.fb_recover.specs.declared.faults.OpenFault.TheVariants.{Disk, BadLog, Unlawful}
 use Rattle.fb_recover.specs.declared.faults.OpenFault.TheVariants.{Memory as OutOfMemory}
@@ -14,6 +16,8 @@ use Rattle.merge_worker.specs.declared.ends.WorkEnd.TheVariants.{Memory as NoMem
 use Rattle.fb_session.specs.declared.outcome.SessionEnd.{SessionEnd}
 use Rattle.fb_session.specs.declared.outcome.SessionEnd.TheVariants.{Done, Script, TooLong, TooMany}
 use Rattle.fb_session.specs.declared.outcome.SessionEnd.TheVariants.{ReadFault, WriteFault, Memory}
+use Rattle.fb_run.specs.declared.copying.NotCopied.{NotCopied}
+use Rattle.fb_run.specs.declared.copying.NotCopied.TheVariants as not_copied
 
 -- ---- the line of a look at a directory:
 -- the basis of its history, and the t up to which it is in trees
@@ -23,11 +27,22 @@ history_line basis covered =
     codes "{:basis "
     ++ (decimal basis ++ (codes " :covered " ++ (decimal covered ++ codes "}\n")))
 
+-- ---- the line of a backup: the basis of the history, how many of its entries were copied,
+-- and the t up to which it is in trees
+
+abbrev pub copied_line : ℕ → ℕ → ℕ → List ℕ
+copied_line basis copied covered =
+    codes "{:basis "
+    ++ (decimal basis
+    ++ (codes " :copied "
+    ++ (decimal copied ++ (codes " :covered " ++ (decimal covered ++ codes "}\n")))))
+
 -- ---- the lines of standard error
 
 abbrev pub usage_line : List ℕ
 usage_line =
     codes "factbase: usage: factbase run [--merge-at N] [--strict] DIR SCRIPT.. | check DIR | load N"
+    ++ codes " | backup DIR DIR2"
 
 abbrev pub cannot_open : List ℕ → List ℕ
 cannot_open name = codes "factbase: cannot open " ++ name
@@ -51,6 +66,19 @@ record_line nth at =
 abbrev pub law_line : ℕ → ℕ → List ℕ
 law_line t law =
     codes "factbase: bad log: t " ++ (decimal t ++ (codes " breaks law " ++ decimal law))
+
+-- a disk of the target of a backup
+abbrev pub target_fault : Part → List ℕ
+target_fault part = codes "factbase: disk fault on target " ++ name_of part
+
+-- a record of its log, and the byte of the file
+abbrev pub target_line : ℕ → ℕ → List ℕ
+target_line nth at =
+    codes "factbase: bad target: record " ++ (decimal nth ++ (codes " at byte " ++ decimal at))
+
+-- an entry of its log
+abbrev pub differs_line : ℕ → List ℕ
+differs_line t = codes "factbase: target differs at t " ++ decimal t
 
 abbrev pub stopped_line : ℕ → List ℕ
 stopped_line t = codes "factbase: log stopped at t " ++ decimal t
@@ -102,7 +130,7 @@ line_of_end name Memory = out_of_memory
 pub data Why : Type 0 where
   -- each script was answered
   answered : Why
-  -- the console took the line of a look, or that of the generator
+  -- the console took the line of a look, of the generator or of a backup
   reported : Why
   -- the words are not a command
   usage : Why
@@ -114,6 +142,12 @@ pub data Why : Type 0 where
   bad_record : ℕ → ℕ → Why
   -- the log's first entry that may not follow those before it, and the least law that it breaks
   unlawful : ℕ → ℕ → Why
+  -- a call of this disk of a backup's target failed
+  target_failed : Part → Why
+  -- the first record of the target's log that is none or holds no entry, and the byte of the file
+  bad_target : ℕ → ℕ → Why
+  -- the t of the first entry of the target's log that is not the history's
+  target_differs : ℕ → Why
   -- the session of the script with this name is the first, by number, that did not answer all of it
   ended_early : List ℕ → SessionEnd → Why
   -- the console did not take the whole line
@@ -132,6 +166,9 @@ status_of (unopened name) = 2
 status_of (disk_failed part) = 3
 status_of (bad_record nth at) = 4
 status_of (unlawful t law) = 4
+status_of (target_failed part) = 3
+status_of (bad_target nth at) = 4
+status_of (target_differs t) = 4
 status_of (ended_early name how) = status_of_end how
 status_of console_failed = 6
 status_of (log_stopped t) = 7
@@ -146,6 +183,9 @@ line_of (unopened name) = cannot_open name
 line_of (disk_failed part) = disk_fault part
 line_of (bad_record nth at) = record_line nth at
 line_of (unlawful t law) = law_line t law
+line_of (target_failed part) = target_fault part
+line_of (bad_target nth at) = target_line nth at
+line_of (target_differs t) = differs_line t
 line_of (ended_early name how) = line_of_end name how
 line_of console_failed = console_fault
 line_of (log_stopped t) = stopped_line t
@@ -181,3 +221,13 @@ why_not (Disk part) = disk_failed part
 why_not (BadLog nth at) = bad_record nth at
 why_not (Unlawful t law) = unlawful t law
 why_not OutOfMemory = memory
+
+-- ---- why a backup does not copy all
+
+abbrev pub why_not_copied : NotCopied → Why
+why_not_copied (not_copied.Log backup_fault.Disk) = target_failed Log
+why_not_copied (not_copied.Log (backup_fault.BadLog nth at)) = bad_target nth at
+why_not_copied (not_copied.Log (backup_fault.Other t)) = target_differs t
+why_not_copied (not_copied.Log backup_fault.Memory) = memory
+why_not_copied (not_copied.Segments copy_fault.Disk) = target_failed Segments
+why_not_copied (not_copied.Segments copy_fault.Memory) = memory

@@ -6,7 +6,8 @@ ghost use Rattle.disk_log.specs.Logs.{KeepsHistory};
 ghost use Rattle.fb_ports.specs.HostCalls.{StaysButDisk};
 ghost use Rattle.fb_run.specs.Outside.{Ports, disks_of, of_directory, IsDiskOf, OpensOnly};
 ghost use Rattle.fb_run.specs.Merging.{CanWork, trees_in};
-ghost use Rattle.fb_run.specs.Database.{SameStreams, IsReopened, IsRefused, IsOpened, IsUnopenedPart, IsUnready, disks_in};
+ghost use Rattle.fb_run.specs.Opening.{HostRefuses};
+ghost use Rattle.fb_run.specs.Database.{SameStreams, AreDisksOf, IsReopened, IsRefused, IsOpened, IsUnready, disks_in};
 ghost use Rattle.fb_run.specs.Running.{IsMade};
 
 use crate::lines::Reach;
@@ -89,15 +90,37 @@ pub(crate) fn open_directory<'a, H: Host>(
         (disks_of H.Disk.bytes H.Disk.faults H.Disk.images H.Disk.moment H.Disk.images_since)
         dir.now) }
     ensures streams { IfOk result (λ _. SameStreams (H.spec host.old) (H.spec host.new)) }
-    ensures stop { (ports : Ports) (names : List (List ℕ)) → ports.directories ≡ dir.now ∷ []
-        → IfErr result (IsUnready (H.spec host.old) (H.spec host.new)
+    ensures stop { (ports : Ports) (names rest : List (List ℕ))
+        → ports.directories ≡ dir.now ∷ rest → IfErr result (IsUnready (H.spec host.old) (H.spec host.new)
         (disks_of H.Disk.bytes H.Disk.faults H.Disk.images H.Disk.moment H.Disk.images_since)
         ports dir.now (dir.now ∷ names)) }
     ensures others { OpensOnly (of_directory dir.now) (H.spec host.old) (H.spec host.new) }
 {
+    match open_disks(alloc, host, dir) {
+        Ok(Disks { log, segments }) => reopened(alloc, log, segments),
+        Err(why) => Err(Unready {
+            why: Obstacle::Unopened(why),
+            disks: None,
+        }),
+    }
+}
+
+/// Opens the two disks of a directory.
+pub(crate) fn open_disks<'a, H: Host>(
+    alloc: Global,
+    host: &mut H,
+    dir: &'a str,
+) -> Result<Disks<H::Disk>, Unopened<'a>>
+    ensures opened { IfOk result (AreDisksOf (H.spec host.old)
+        (disks_of H.Disk.bytes H.Disk.faults H.Disk.images H.Disk.moment H.Disk.images_since)
+        dir.now) }
+    ensures streams { IfOk result (λ _. SameStreams (H.spec host.old) (H.spec host.new)) }
+    ensures stop { IfErr result (HostRefuses dir.now (H.spec host.old) (H.spec host.new)) }
+    ensures others { OpensOnly (of_directory dir.now) (H.spec host.old) (H.spec host.new) }
+{
     let log = open_part(alloc, host, dir, Part::Log)?;
     let segments = open_part(alloc, host, dir, Part::Segments)?;
-    reopened(alloc, log, segments)
+    Ok(Disks { log, segments })
 }
 
 /// Opens the disk of a part of the directory.
@@ -106,23 +129,19 @@ fn open_part<'a, H: Host>(
     host: &mut H,
     dir: &'a str,
     part: Part,
-) -> Result<H::Disk, Unready<'a, H::Disk>>
+) -> Result<H::Disk, Unopened<'a>>
     ensures opened { IfOk result (IsDiskOf (H.spec host.old)
         (disks_of H.Disk.bytes H.Disk.faults H.Disk.images H.Disk.moment H.Disk.images_since)
         dir.now part) }
     ensures unfailed { IfOk result (λ _. (H.spec host.new).faults ≡ (H.spec host.old).faults) }
     ensures others { StaysButDisk dir.now part (H.spec host.old) (H.spec host.new) }
-    ensures stop { IfErr result (IsUnopenedPart (H.spec host.old) (H.spec host.new) dir.now) }
+    ensures stop { IfErr result (HostRefuses dir.now (H.spec host.old) (H.spec host.new)) }
 {
-    let why = match host.disk(alloc, dir, part) {
-        Ok(disk) => return Ok(disk),
-        Err(OpenFail::Failed) => Unopened::CannotOpen(dir),
-        Err(OpenFail::Memory) => Unopened::Memory,
-    };
-    Err(Unready {
-        why: Obstacle::Unopened(why),
-        disks: None,
-    })
+    match host.disk(alloc, dir, part) {
+        Ok(disk) => Ok(disk),
+        Err(OpenFail::Failed) => Err(Unopened::CannotOpen(dir)),
+        Err(OpenFail::Memory) => Err(Unopened::Memory),
+    }
 }
 
 /// Opens the database that a log holds, with the trees of the segments.

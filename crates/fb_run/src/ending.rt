@@ -12,7 +12,7 @@ ghost use Rattle.fb_run.specs.StatusLines.{first_early, why_of};
 ghost use Rattle.fb_run.specs.Database.{why_unready};
 ghost use Rattle.fb_run.specs.Outside.{disks_of};
 ghost use Rattle.fb_run.specs.Headline.{stop_of};
-ghost use Rattle.fb_run.specs.Causes.{HasNoConsole, HasNoDisk, NoSession, SaysWhy};
+ghost use Rattle.fb_run.specs.Causes.{HasNoConsole, HasNoDisk, HasNoTarget, NoSession, SaysWhy};
 ghost use Rattle.fb_run.specs.Merging.{TreesFit, CanWork, HaveMerged};
 ghost use Rattle.fb_run.specs.Running.{Closes, HandsLogBack, EndsWith};
 
@@ -68,6 +68,7 @@ pub(crate) fn closed<R: Threads + Sync, I: Drop, O: Drop, D: Disk>(
         command.now.options.merge_at (names_in command.now.scripts.items) begun result }
     ensures covered { IfSome result.last (λ last. result.covered ≡ last.covered) }
     ensures no_console { HasNoConsole result }
+    ensures no_target { HasNoTarget result }
     ensures no_loads { result.loads.items ≡ [] }
 {
     let Ended { sessions, seats } = ended;
@@ -186,6 +187,7 @@ pub(crate) fn not_begun<I: Drop, O: Drop, D: Drop>(
 ) -> Outcome<I, O, D>
     ensures none { NoSession result }
     ensures no_console { HasNoConsole result }
+    ensures no_target { HasNoTarget result }
     ensures log { result.log ≡ option_map (λ disks. disks.log) unready.entry.disks }
     ensures segments { result.segments ≡ option_map (λ disks. disks.segments) unready.entry.disks }
     ensures said { SaysWhy (why_unready unready.entry.why) result.status (string_bytes result.line) }
@@ -206,6 +208,7 @@ pub(crate) fn not_begun<I: Drop, O: Drop, D: Drop>(
 fn obstructed<I: Drop, O: Drop, D: Drop>(alloc: Global, why: Obstacle<'_>) -> Outcome<I, O, D>
     ensures none { NoSession result }
     ensures no_console { HasNoConsole result }
+    ensures no_target { HasNoTarget result }
     ensures said { SaysWhy (why_unready why.entry) result.status (string_bytes result.line) }
 {
     match why {
@@ -228,6 +231,7 @@ pub(crate) fn without_session<I: Drop, O: Drop, D: Drop>(
     ensures none { NoSession result }
     ensures no_disk { HasNoDisk result }
     ensures no_console { HasNoConsole result }
+    ensures no_target { HasNoTarget result }
     ensures said { IfOk line (λ line. (result.status ≡ status)
         × (string_bytes result.line ≡ string_bytes line)) }
     ensures unsaid { OnErr line ((result.status ≡ 9) × (string_bytes result.line ≡ [])) }
@@ -244,6 +248,8 @@ pub(crate) fn without_session<I: Drop, O: Drop, D: Drop>(
         loads: Vec::new(alloc),
         log: None,
         segments: None,
+        target_log: None,
+        target_segments: None,
         authors: None,
         last: None,
         torn: None,

@@ -2,6 +2,8 @@
 //! hands back all that became of them.
 #![tactic(auto)]
 
+mod backing;
+mod copying;
 mod database;
 mod ending;
 mod jobs;

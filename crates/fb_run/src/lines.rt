@@ -1,9 +1,11 @@
-//! The lines of standard error, and that of a look at a directory.
+//! The lines of standard error, and those of a look at a directory and of a backup.
 ghost use Rattle.std.specs.Prelude.{◌≡◌, ◌++◌, IfOk, string_bytes, codes, decimal};
 ghost use Rattle.edn_core.specs.Answers.{fault_of};
-ghost use Rattle.fb_run.specs.StatusLines.{usage_line, cannot_open, out_of_memory, disk_fault, record_line, law_line, stopped_line, segment_fault, console_fault, history_line, script_line, fault_line, status_of_end, line_of_end, status_of, line_of, why_not};
+ghost use Rattle.fb_run.specs.StatusLines.{usage_line, cannot_open, out_of_memory, disk_fault, record_line, law_line, target_fault, target_line, differs_line, stopped_line, segment_fault, console_fault, history_line, copied_line, script_line, fault_line, status_of_end, line_of_end, status_of, line_of, why_not, why_not_copied};
 
+use crate::copying::NotCopied;
 use edn_core::EdnFault;
+use fb_backup::{BackupFault, CopyFault};
 use fb_memory::Memory;
 use fb_ports::Part;
 use fb_recover::OpenFault;
@@ -11,13 +13,17 @@ use fb_session::SessionEnd;
 use std::alloc::Global;
 
 const USAGE: &str =
-    "factbase: usage: factbase run [--merge-at N] [--strict] DIR SCRIPT.. | check DIR | load N";
+    "factbase: usage: factbase run [--merge-at N] [--strict] DIR SCRIPT.. | check DIR | load N | backup DIR DIR2";
 
 const OUT_OF_MEMORY: &str = "factbase: out of memory";
 
 const LOG_DISK_FAULT: &str = "factbase: disk fault on log";
 
 const SEGMENTS_DISK_FAULT: &str = "factbase: disk fault on segments";
+
+const TARGET_LOG_FAULT: &str = "factbase: disk fault on target log";
+
+const TARGET_SEGMENTS_FAULT: &str = "factbase: disk fault on target segments";
 
 const SEGMENT_FAULT: &str = "factbase: segment fault";
 
@@ -93,6 +99,63 @@ pub(crate) fn history_line(alloc: Global, reach: Reach) -> Result<String, Memory
 {
     let Reach { basis, covered } = reach;
     Ok(format!(in alloc; "{{:basis {basis} :covered {covered}}}\n")?)
+}
+
+/// What a backup says of a copy of so many entries.
+pub(crate) fn copied_line(alloc: Global, reach: Reach, copied: u32) -> Result<String, Memory>
+    ensures { IfOk result
+        (λ line. string_bytes line ≡ copied_line reach.basis copied reach.covered) }
+{
+    let Reach { basis, covered } = reach;
+    Ok(format!(in alloc; "{{:basis {basis} :copied {copied} :covered {covered}}}\n")?)
+}
+
+/// The exit status for why not all was copied.
+pub(crate) fn status_of_copy(why: NotCopied) -> u8
+    ensures { result ≡ status_of (why_not_copied why) }
+{
+    match why {
+        NotCopied::Log(BackupFault::Disk) | NotCopied::Segments(CopyFault::Disk) => 3,
+        NotCopied::Log(BackupFault::BadLog { .. } | BackupFault::Other { .. }) => 4,
+        NotCopied::Log(BackupFault::Memory) | NotCopied::Segments(CopyFault::Memory) => 9,
+    }
+}
+
+/// The line for why not all was copied.
+pub(crate) fn line_of_copy(alloc: Global, why: NotCopied) -> Result<String, Memory>
+    ensures { IfOk result (λ line. string_bytes line ≡ line_of (why_not_copied why)) }
+{
+    match why {
+        NotCopied::Log(BackupFault::Disk) => target_fault(alloc, Part::Log),
+        NotCopied::Segments(CopyFault::Disk) => target_fault(alloc, Part::Segments),
+        NotCopied::Log(BackupFault::BadLog { nth, at }) => bad_target(alloc, nth, at),
+        NotCopied::Log(BackupFault::Other { t }) => target_differs(alloc, t),
+        NotCopied::Log(BackupFault::Memory) | NotCopied::Segments(CopyFault::Memory) => {
+            out_of_memory(alloc)
+        }
+    }
+}
+
+fn target_fault(alloc: Global, which: Part) -> Result<String, Memory>
+    ensures { IfOk result (λ line. string_bytes line ≡ target_fault which) }
+{
+    let line = match which {
+        Part::Log => TARGET_LOG_FAULT,
+        Part::Segments => TARGET_SEGMENTS_FAULT,
+    };
+    Ok(String::from_str(alloc, line)?)
+}
+
+fn bad_target(alloc: Global, nth: u64, at: u64) -> Result<String, Memory>
+    ensures { IfOk result (λ line. string_bytes line ≡ target_line nth at) }
+{
+    Ok(format!(in alloc; "factbase: bad target: record {nth} at byte {at}")?)
+}
+
+fn target_differs(alloc: Global, t: u32) -> Result<String, Memory>
+    ensures { IfOk result (λ line. string_bytes line ≡ differs_line t) }
+{
+    Ok(format!(in alloc; "factbase: target differs at t {t}")?)
 }
 
 pub(crate) fn console_fault(alloc: Global) -> Result<String, Memory>

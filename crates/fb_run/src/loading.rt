@@ -17,7 +17,7 @@ ghost use Rattle.fb_run.specs.Database.{IsOpened, IsUnready};
 ghost use Rattle.fb_view.specs.SnapshotModel.{Stands};
 ghost use Rattle.fb_run.specs.Headline.{OneHistory, EachReplies};
 ghost use Rattle.fb_run.specs.Logs.{LogHolds, IsUnharmed};
-ghost use Rattle.fb_run.specs.Causes.{directory_of, names_of, NoSession, Causes};
+ghost use Rattle.fb_run.specs.Causes.{directory_of, names_of, NoSession, HasNoTarget, Causes};
 ghost use Rattle.fb_run.specs.Looking.{IsUnanswered};
 ghost use Rattle.fb_run.specs.Loading.{supply, room, AreGenerated, left_of, said_of, SumsUp, SaysFurther};
 ghost use Rattle.fb_run.specs.Coverage.{GoAsFar, IsMerged};
@@ -75,6 +75,7 @@ pub(crate) fn load<
     gate: &W,
 ) -> Outcome<H::In, H::Out, H::Disk>
     ensures sessions { result.sessions.items ≡ [] }
+    ensures no_target { HasNoTarget result }
     ensures one_history { IfSome result.last (λ last. OneHistory last.entries result.recovered
         (unwrap_or result.authors []) (map (λ s. s.commits) result.loads.items)) }
     ensures replies { IfSome result.last (λ last. EachReplies
@@ -265,6 +266,7 @@ fn summed_up<I: Drop, O: Sink, D: Disk>(
     console: O,
 ) -> Outcome<I, O, D>
     ensures sessions { result.sessions.items ≡ [] }
+    ensures no_target { HasNoTarget result }
     ensures loads { result.loads.items ≡ ran.sessions.items }
     ensures left { left_of result ≡ left_of ran }
     ensures said { SaysFurther O.contents O.faults ran.status (string_bytes ran.line) ran.last
@@ -278,6 +280,8 @@ fn summed_up<I: Drop, O: Sink, D: Disk>(
         loads: _,
         log,
         segments,
+        target_log: _,
+        target_segments: _,
         authors,
         last,
         torn,
@@ -307,6 +311,7 @@ fn said_further<I: Drop, O: Sink, D: Drop>(
     console: O,
 ) -> Outcome<I, O, D>
     ensures none { NoSession result }
+    ensures no_target { HasNoTarget result }
     ensures said { SaysFurther O.contents O.faults status (string_bytes line) last.now console
         (said_of result) }
 {
@@ -323,6 +328,7 @@ fn printed<I: Drop, O: Sink, D: Drop>(
     mut console: O,
 ) -> Outcome<I, O, D>
     ensures none { NoSession result }
+    ensures no_target { HasNoTarget result }
     ensures sums_up { SumsUp O.contents O.faults last.now.entries console (said_of result) }
 {
     let Ok(line) = summary_line(alloc, last) else {

@@ -11,7 +11,7 @@ ghost use Rattle.fb_run.specs.Logs.{IsUnharmed};
 ghost use Rattle.fb_run.specs.Opening.{OpensSink, HostRefuses};
 ghost use Rattle.fb_run.specs.Database.{IsUnready};
 ghost use Rattle.fb_run.specs.StatusLines.{history_line, reported, console_failed};
-ghost use Rattle.fb_run.specs.Causes.{HasNoConsole, NoSession, SaysWhy, Causes};
+ghost use Rattle.fb_run.specs.Causes.{HasNoConsole, HasNoTarget, NoSession, SaysWhy, Causes};
 ghost use Rattle.fb_run.specs.Looking.{IsLook, IsUnanswered, HasPrinted};
 
 use crate::database::{Directory, Obstacle, Unready, open_directory};
@@ -33,6 +33,7 @@ pub(crate) fn check_directory<H: Host>(
     directory: &str,
 ) -> Outcome<H::In, H::Out, H::Disk>
     ensures none { NoSession result }
+    ensures no_target { HasNoTarget result }
     ensures unharmed { IfSome result.log (IsUnharmed (H.spec host.old)
         (disks_of H.Disk.bytes H.Disk.faults H.Disk.images H.Disk.moment H.Disk.images_since)
         directory.now) }
@@ -153,6 +154,7 @@ fn open_answer<'a, H: Host>(
 /// The outcome of a look: its line goes out to the console.
 fn looked<I: Drop, O: Sink, D: Disk>(alloc: Global, look: Look<O, D>) -> Outcome<I, O, D>
     ensures none { NoSession result }
+    ensures no_target { HasNoTarget result }
     ensures log { result.log ≡ Some (disk_in look.directory.log) }
     ensures segments { result.segments ≡ Some (segments_in look.directory.store) }
     ensures printed { HasPrinted O.contents O.faults (string_bytes look.answer.line)
@@ -177,6 +179,7 @@ pub(crate) fn answered<I: Drop, O: Drop, D: Drop>(
 ) -> Outcome<I, O, D>
     ensures none { NoSession result }
     ensures no_console { HasNoConsole result }
+    ensures no_target { HasNoTarget result }
     ensures said { MatchResult written
         (λ _. SaysWhy reported result.status (string_bytes result.line))
         (λ _. SaysWhy console_failed result.status (string_bytes result.line)) }

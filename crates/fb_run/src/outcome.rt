@@ -33,6 +33,9 @@ pub struct Outcome<I, O, D> {
     /// The two disks of the directory, where it was opened. Where memory runs out they may be missing.
     pub log: Option<D>,
     pub segments: Option<D>,
+    /// The two disks that a backup copied to.
+    pub target_log: Option<D>,
+    pub target_segments: Option<D>,
     /// For each t after the opening, the session that wrote it, where sessions ran.
     pub authors: Option<Authors>,
     /// The last value of the database, where sessions ran: its entries are the one history.

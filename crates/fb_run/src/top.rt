@@ -17,13 +17,15 @@ ghost use Rattle.fb_run.specs.Generated.{loads_of, spec_in_memory, in_memory};
 ghost use Rattle.fb_run.specs.Headline.{OneHistory, EachReplies};
 ghost use Rattle.fb_run.specs.Strict.{under};
 ghost use Rattle.fb_run.specs.Logs.{LogHolds, IsUnharmed};
-ghost use Rattle.fb_run.specs.Causes.{directory_of, HasNoConsole, HasNoDisk, NoSession, IsOutOfMemory, Causes};
+ghost use Rattle.fb_run.specs.Causes.{directory_of, target_of, HasNoConsole, HasNoDisk, HasNoTarget, NoSession, IsOutOfMemory, Causes};
 ghost use Rattle.fb_run.specs.Complete.{Complete};
 ghost use Rattle.fb_run.specs.Coverage.{GoAsFar, IsMerged};
 ghost use Rattle.fb_run.specs.Merging.{trees_in};
+ghost use Rattle.fb_run.specs.Targets.{TargetHolds, TargetHasRoot};
 ghost use Rattle.fb_run.specs.Database.{IsReopened};
 ghost use Rattle.fb_run.specs.Running.{RepliesBy, HaveEnded, HandsLogBack, GoesOnFrom};
 
+use crate::backing::back_up;
 use crate::database::{Connection, connected};
 use crate::ending::{closed, not_begun, without_session};
 use crate::jobs::serve_all;
@@ -147,6 +149,18 @@ pub fn run<
     ensures unharmed { result.last ≡ None → IfSome result.log (IsUnharmed (H.spec host.old)
         (disks_of H.Disk.bytes H.Disk.faults H.Disk.images H.Disk.moment H.Disk.images_since)
         (directory_of (command_of (map string_bytes words.now.items)))) }
+
+    // A backup leaves the target's log a beginning of the history, with all that it had, and where it succeeds the whole of it.
+    ensures target { IfSome result.target_log (TargetHolds (H.spec host.old)
+        (disks_of H.Disk.bytes H.Disk.faults H.Disk.images H.Disk.moment H.Disk.images_since)
+        (directory_of (command_of (map string_bytes words.now.items)))
+        (target_of (command_of (map string_bytes words.now.items))) result.status) }
+
+    // Where it succeeds, a new file of segments gets a copy of the trees. A file that has a record is left as it is.
+    ensures target_trees { IfSome result.target_segments (TargetHasRoot (H.spec host.old)
+        (disks_of H.Disk.bytes H.Disk.faults H.Disk.images H.Disk.moment H.Disk.images_since)
+        (directory_of (command_of (map string_bytes words.now.items)))
+        (target_of (command_of (map string_bytes words.now.items))) result.status) }
 {
     match command_in(alloc, words.as_slice()) {
         Ok(Some(Request::Run(command))) => {
@@ -165,6 +179,7 @@ pub fn run<
             };
             load(rt, alloc, count, host, clock, preds, &chosen, gate)
         }
+        Ok(Some(Request::Backup(names))) => back_up(alloc, host, &names),
         Ok(None) => without_session(alloc, 1, usage(alloc)),
         Err(Memory) => without_session(alloc, 9, out_of_memory(alloc)),
     }
@@ -226,6 +241,7 @@ fn run_command<
         (disks_of H.Disk.bytes H.Disk.faults H.Disk.images H.Disk.moment H.Disk.images_since)
         command.now.directory.now command.now.options.merge_at last)) }
     ensures no_console { HasNoConsole result }
+    ensures no_target { HasNoTarget result }
     ensures no_loads { result.loads.items ≡ [] }
 {
     match open_run(alloc, host, command) {
@@ -281,6 +297,7 @@ pub(crate) fn run_opened<
         (trees_in ready.directory) result }
     ensures covered { IfSome result.last (λ last. result.covered ≡ last.covered) }
     ensures no_console { HasNoConsole result }
+    ensures no_target { HasNoTarget result }
     ensures no_loads { result.loads.items ≡ [] }
 {
     let Ready {

@@ -1,6 +1,6 @@
 -- Rows of the entities of all lists, once they are sorted, are the tuples in the view.
-use Rattle.std.proofs.Common.{◌≡◌, ℕ, List, map, refl, sym, ap, ◌∙◌, subst, None}
-use Rattle.std.specs.Prelude.{◌↔◌, Contains, is_some}
+use Rattle.std.proofs.Common.{◌≡◌, ℕ, List, [], ◌∷◌, map, refl, sym, ap, ◌∙◌, subst, Option}
+use Rattle.std.specs.Prelude.{◌↔◌, Contains, is_some, filter}
 use Rattle.std.specs.List.{list_any}
 use Rattle.std.specs.List.Sorted.{IsPermutation, IsSortedBy, IsStrictlyIncreasing}
 use Rattle.std.specs.Ordering.{is_lt}
@@ -8,13 +8,15 @@ use Rattle.std.proofs.lemmas.List.Sorted.{Contains-permutation, IsPermutation-ma
 use Rattle.fb_values.specs.declared.facts.Datom.{Datom}
 use Rattle.fb_values.specs.declared.facts.Entry.{Entry}
 use Rattle.view_model.specs.Window.{Window, without_history}
-use Rattle.tuple_model.specs.Tuples.{Row, row_cmp}
+use Rattle.tuple_model.specs.Tuples.{Tuple, Row, row_cmp, is_in_range}
 use Rattle.tuple_model.specs.Seen.{IsTupleIn, AreTuplesIn}
-use Rattle.tuple_model.proofs.Members.{map_has, map_member}
+use Rattle.tuple_model.proofs.Members.{map_has, map_member, kept_has, kept_member}
 use Rattle.tuple_model.proofs.SeenRows.{one_tuple}
 use Rattle.fb_tuples.specs.Gathered.{AreLists, entities_in, first_of, row_in}
 use Rattle.fb_tuples.proofs.Listed.{members_listed, entity_has, has_entity}
-use Rattle.fb_tuples.proofs.Sorted.{sorted_rows_rise}
+use Rattle.fb_tuples.specs.Reached.{HasRange}
+use Rattle.fb_tuples.proofs.Parts.{map_kept}
+use Rattle.fb_tuples.proofs.Sorted.{kept_rows_rise}
 
 module _ (h : List Entry) (w : Window) (Selects : Datom → Type 0) (attrs : List ℕ) (lists : List (List Datom))
     (listed : AreLists h (without_history w) Selects attrs lists) (es : List ℕ)
@@ -36,18 +38,36 @@ module _ (h : List Entry) (w : Window) (Selects : Datom → Type 0) (attrs : Lis
       let row_is : row_in lists row.e ≡ row = λ i. record { tuple = same i; e = row.e } in
       subst (Contains (map (row_in lists) es)) row_is (map_has (row_in lists) es row.e there)
 
-  pub gathered : {A : Type 0} (f : A → Row) (xs ys : List A) → IsStrictlyIncreasing es → map f xs ≡ map (row_in lists) es → IsPermutation xs ys
-      → IsSortedBy (λ x y. is_lt (row_cmp (f x) (f y))) ys → AreTuplesIn h w Selects attrs None None (map f ys)
-  gathered f xs ys rising are moved sorted =
-      let all_moved = IsPermutation-map f xs ys moved in
+  -- a row for each entity of the lists
+  pub gathered : (start end : Option Tuple) → IsStrictlyIncreasing es → HasRange h w Selects attrs start end (map (row_in lists) es)
+  gathered start end rising = record {
+    apart = subst IsStrictlyIncreasing (sym (entities_of_rows es)) rising;
+    members = λ row inside. (is_tuple row, has_tuple row);
+  }
+    where
+      entities_of_rows : (ns : List ℕ) → map (λ row. row.e) (map (row_in lists) ns) ≡ ns
+      entities_of_rows [] = refl
+      entities_of_rows (n ∷ ns) = ap (λ l. n ∷ l) (entities_of_rows ns)
+
+-- of rows that have the range, those that are in it, sorted
+module _ (h : List Entry) (w : Window) (Selects : Datom → Type 0) (attrs : List ℕ) (start end : Option Tuple) where
+  pub in_range_sorted : {A : Type 0} (f : A → Row) (all kept ys : List A) → HasRange h w Selects attrs start end (map f all)
+      → kept ≡ filter (λ x. is_in_range start end (f x)) all → IsPermutation kept ys
+      → IsSortedBy (λ x y. is_lt (row_cmp (f x) (f y))) ys → AreTuplesIn h w Selects attrs start end (map f ys)
+  in_range_sorted f all kept ys has is moved sorted =
+      let inside = is_in_range start end in
+      let kept_is : map f kept ≡ filter inside (map f all) = ap (map f) is ∙ map_kept f inside all in
+      let all_moved : IsPermutation (filter inside (map f all)) (map f ys) =
+      subst (λ l. IsPermutation l (map f ys)) kept_is (IsPermutation-map f kept ys moved) in
       record {
-        rising = sorted_rows_rise f (row_in lists) (λ e. refl) es rising xs ys are all_moved sorted;
+        rising = kept_rows_rise f inside (map f all) has.apart ys all_moved sorted;
         members = λ row. (
-          λ member. (
-            is_tuple row
-                (subst (λ l. Contains l row) are (Contains-permutation (map f ys) (map f xs) row (IsPermutation-sym (map f xs) (map f ys) all_moved) member)),
-            refl,
-          ),
-          λ is. Contains-permutation (map f xs) (map f ys) row all_moved (subst (λ l. Contains l row) (sym are) (has_tuple row is.0)),
+          λ member.
+              let from = kept_member inside (map f all) row
+              (Contains-permutation (map f ys) (filter inside (map f all)) row (IsPermutation-sym (filter inside (map f all)) (map f ys) all_moved) member) in
+              ((has.members row from.1).0 from.0, from.1),
+          λ told.
+              Contains-permutation (filter inside (map f all)) (map f ys) row all_moved
+              (kept_has inside (map f all) row ((has.members row told.1).1 told.0) told.1),
         );
       }

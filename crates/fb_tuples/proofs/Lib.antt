@@ -1,9 +1,11 @@
 pub mod Parts
 pub mod RowOrders
-pub mod Ranges
+pub mod BelowBounds
 pub mod Firsts
 pub mod Listed
 pub mod Sorted
 pub mod Gathering
+pub mod MemberScans
+pub mod Reaching
 pub mod LentOrder
 pub mod Reading

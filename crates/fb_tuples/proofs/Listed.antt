@@ -19,6 +19,7 @@ use Rattle.fb_values.specs.declared.facts.Datom.{Datom}
 use Rattle.fb_values.specs.declared.facts.Entry.{Entry}
 use Rattle.fb_values.specs.declared.facts.Value.{Value}
 use Rattle.fb_values.specs.declared.facts.Value.TheVariants.{Ref}
+use Rattle.fb_values.specs.declared.indexes.Order.{Order}
 use Rattle.fb_values.specs.declared.indexes.Order.TheVariants.{Aevt}
 use Rattle.fb_values.specs.Orders.{value_cmp, key_cmp, probe_cmp}
 use Rattle.fb_values.specs.OrderLaws.{value_cmp_total}
@@ -35,7 +36,7 @@ use Rattle.fb_tuples.specs.Gathered.{under, AreLists, AreByEntity, IsByEntity, e
 
 -- ---- the order of the index
 
-then_rest : (o rest : Ordering) → o ≡ Equal → ordering_then o rest ≡ Less → rest ≡ Less
+pub then_rest : (o rest : Ordering) → o ≡ Equal → ordering_then o rest ≡ Less → rest ≡ Less
 then_rest Less rest is less = absurd (cc)
 then_rest Equal rest is less = less
 then_rest Greater rest is less = absurd (cc)
@@ -60,7 +61,7 @@ entities_rise : (x y : Datom) → x.a ≡ y.a → key_cmp Aevt x y ≡ Less → 
 entities_rise x y same less =
     upto x.e y.e (slice_cmp value_cmp (x.v ∷ Ref x.t ∷ []) (y.v ∷ Ref y.t ∷ [])) (of_one_attribute x y same less)
 
-not_less_back : (v w : Value) (rest : Ordering) → ordering_then (value_cmp v w) rest ≡ Less → is_lt (value_cmp w v) ≡ false
+pub not_less_back : (v w : Value) (rest : Ordering) → ordering_then (value_cmp v w) rest ≡ Less → is_lt (value_cmp w v) ≡ false
 not_less_back v w rest less = go (value_cmp v w) refl less
   where
     go : (o : Ordering) → value_cmp v w ≡ o → ordering_then o rest ≡ Less → is_lt (value_cmp w v) ≡ false
@@ -74,11 +75,11 @@ values_rise x y same_a same_e less =
     (then_rest (value_cmp (Ref x.e) (Ref y.e)) (slice_cmp value_cmp (x.v ∷ Ref x.t ∷ []) (y.v ∷ Ref y.t ∷ []))
     (subst (λ n. value_cmp (Ref x.e) (Ref n) ≡ Equal) same_e (tied_itself value_cmp_total (Ref x.e))) (of_one_attribute x y same_a less))
 
-below_member : (x y : Datom) (ds : List Datom) → IsBelowAll Aevt x ds → Contains ds y → key_cmp Aevt x y ≡ Less
-below_member x y [] below member = absurd (none_of y member)
-below_member x y (d ∷ ds) below member = elim (cases_of d y ds member) [
-  | inl same ↦ subst (λ z. key_cmp Aevt x z ≡ Less) same below.0
-  | inr later ↦ below_member x y ds below.1 later
+pub below_member : (order : Order) (x y : Datom) (ds : List Datom) → IsBelowAll order x ds → Contains ds y → key_cmp order x y ≡ Less
+below_member order x y [] below member = absurd (none_of y member)
+below_member order x y (d ∷ ds) below member = elim (cases_of d y ds member) [
+  | inl same ↦ subst (λ z. key_cmp order x z ≡ Less) same below.0
+  | inr later ↦ below_member order x y ds below.1 later
 ]
 
 -- ---- a rising list of datoms of one attribute
@@ -99,7 +100,7 @@ module _ (a : ℕ) where
       mine same d member of = elim (cases_of x d ds member) [
         | inl is ↦ subst (λ (z : Datom). is_lt (value_cmp z.v x.v) ≡ false) is (ap is_lt (tied_itself value_cmp_total x.v))
         | inr later ↦
-            values_rise x d (each x (here x ds) ∙ sym (each d (there x d ds later))) (same ∙ sym of) (below_member x d ds rising.0 later)
+            values_rise x d (each x (here x ds) ∙ sym (each d (there x d ds later))) (same ∙ sym of) (below_member Aevt x d ds rising.0 later)
       ]
 
       later_first : (o : Option Value) → nat_eq x.e e ≡ false → IsFirst e ds o → IsFirst e (x ∷ ds) o
@@ -126,7 +127,7 @@ module _ (a : ℕ) where
   by_entities (x ∷ ds) rising each zero (suc j) d le within =
       let member = Contains-get_or ds j d (omega (arith, within)) in
       entities_rise x (get_or ds j d) (each x (here x ds) ∙ sym (each (get_or ds j d) (there x (get_or ds j d) ds member)))
-      (below_member x (get_or ds j d) ds rising.0 member)
+      (below_member Aevt x (get_or ds j d) ds rising.0 member)
   by_entities (x ∷ ds) rising each (suc i) zero d le within = absurd (omega (arith, le))
   by_entities (x ∷ ds) rising each (suc i) (suc j) d le within =
       by_entities ds rising.1 (λ y member. each y (there x y ds member)) i j d (omega (arith, le)) (omega (arith, within))
@@ -153,7 +154,7 @@ led_by a d led =
     then_nothing : (o : Ordering) → o ≡ Equal → o ≡ Equal
     then_nothing o is = is
 
-leads : (a : ℕ) (d : Datom) → d.a ≡ a → is_eq (probe_cmp (under a) d) ≡ true
+pub leads : (a : ℕ) (d : Datom) → d.a ≡ a → is_eq (probe_cmp (under a) d) ≡ true
 leads a d same =
     under_itself a d ∙ ap is_eq (subst (λ n. value_cmp (Ref a) (Ref n) ≡ Equal) (sym same) (tied_itself value_cmp_total (Ref a)))
 

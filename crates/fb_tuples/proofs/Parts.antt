@@ -45,3 +45,12 @@ filter_twice p q r both (x ∷ xs) = go (q x) (p x) refl (r x) (both x) (filter_
 pub filter_agree : {A : Type 0} (p q : A → Bool) → ((x : A) → p x ≡ q x) → (xs : List A) → filter p xs ≡ filter q xs
 filter_agree p q same [] = refl
 filter_agree p q same (x ∷ xs) = rw (same x, filter_agree p q same xs) refl
+
+pub map_kept : {A B : Type 0} (f : A → B) (p : B → Bool) (xs : List A) → map f (filter (λ x. p (f x)) xs) ≡ filter p (map f xs)
+map_kept f p [] = refl
+map_kept f p (x ∷ xs) = go (p (f x)) (map_kept f p xs)
+  where
+    go : (b : Bool) → map f (filter (λ y. p (f y)) xs) ≡ filter p (map f xs)
+        → map f (cond b (x ∷ filter (λ y. p (f y)) xs) (filter (λ y. p (f y)) xs)) ≡ cond b (f x ∷ filter p (map f xs)) (filter p (map f xs))
+    go true rest = ap (λ l. f x ∷ l) rest
+    go false rest = rest

@@ -1,6 +1,6 @@
 -- Tuples and rows are totally ordered. The lemmas of tuple_model on this are its own, so they stand here until that crate hands them out.
 use Rattle.std.proofs.Common.{◌≡◌, List, [], ◌∷◌, Option, Some, None, refl, sym, subst}
-use Rattle.std.specs.Ordering.{nat_cmp, ordering_then}
+use Rattle.std.specs.Ordering.{ordering_then}
 use Rattle.std.specs.Cmp.{IsTotalOrder, on_total, then_total, nat_cmp_total}
 use Rattle.std.specs.Cmp.Lexicographic.{slice_cmp, lists_total}
 use Rattle.std.specs.declared.cmp.Ordering.{Ordering}
@@ -8,7 +8,7 @@ use Rattle.std.specs.declared.cmp.Ordering.TheVariants.{Less, Equal, Greater}
 use Rattle.fb_values.specs.Orders.{value_cmp}
 use Rattle.fb_values.specs.OrderLaws.{value_cmp_total}
 use Rattle.fb_values.specs.declared.facts.Value.{Value}
-use Rattle.tuple_model.specs.Tuples.{Tuple, Row, member_cmp, tuple_cmp, row_cmp}
+use Rattle.tuple_model.specs.Tuples.{Row, member_cmp, tuple_cmp, row_cmp}
 
 abbrev as_list : Option Value → List Value
 as_list None = []

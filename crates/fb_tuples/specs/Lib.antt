@@ -1,3 +1,4 @@
 pub mod Lent
+pub mod Reached
 pub mod Gathered
 pub mod Reading

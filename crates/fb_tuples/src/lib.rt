@@ -4,8 +4,11 @@
 
 mod given;
 mod order;
+mod ranges;
+mod reach;
 mod rows;
 
 pub use given::{bad_place, bound, composite};
 pub use order::within;
-pub use rows::{LentRow, lent};
+pub use ranges::{lent, ranged};
+pub use rows::LentRow;

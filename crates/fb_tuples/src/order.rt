@@ -59,7 +59,7 @@ fn count_below(rows: &[LentRow<'_>], bound: &[Option<Value>]) -> usize
     rows.partition_point(|row| is_below(row, bound))
 }
 
-fn is_below(row: &LentRow<'_>, bound: &[Option<Value>]) -> bool
+pub(crate) fn is_below(row: &LentRow<'_>, bound: &[Option<Value>]) -> bool
     ensures { result ≡ model_is_below bound.now (model_row row.now) }
 {
     tuple_cmp(&row.tuple, bound) == Ordering::Less

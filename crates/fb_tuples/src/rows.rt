@@ -1,13 +1,14 @@
 //! The rows of a composite, lent by the database value that they are read from.
-ghost use Rattle.std.specs.Prelude.{◌≡◌, ◌↔◌, ℕ, ◌++◌, IfOk, map, false, Contains, All, None};
+ghost use Rattle.std.specs.Prelude.{◌≡◌, ◌↔◌, ℕ, ◌++◌, IfOk, map, false, Contains, All, Option};
 ghost use Rattle.std.specs.Option.{option_map};
 ghost use Rattle.std.specs.List.Sorted.{IsStrictlyIncreasing, IsNonDecreasingBy};
 ghost use Rattle.fb_values.specs.declared.indexes.Order.TheVariants.{Aevt};
 ghost use Rattle.view_model.specs.Scan.{IsScan, leading};
 ghost use Rattle.fb_db.specs.Seen.{window_of};
-ghost use Rattle.tuple_model.specs.Seen.{AreTuplesIn};
+ghost use Rattle.tuple_model.specs.Tuples.{Tuple};
 ghost use Rattle.fb_tuples.specs.Lent.{model_row, tuple_lent, datoms_lent, lists_lent};
-ghost use Rattle.fb_tuples.specs.Gathered.{under, AreLists, AreByEntity, IsByEntity, entities_in, first_of as model_first_of, row_in};
+ghost use Rattle.fb_tuples.specs.Reached.{HasRange};
+ghost use Rattle.fb_tuples.specs.Gathered.{under, AreLists, AreByEntity, IsByEntity, entities_in as model_entities_in, first_of as model_first_of, row_in};
 
 use fb_db::Db;
 use fb_memory::Memory;
@@ -23,22 +24,20 @@ pub struct LentRow<'a> {
     pub e: u64,
 }
 
-/// The rows of all entities that have a value of one of the attributes, in order.
-pub fn lent<'a, S: Selector>(
+/// The rows of all entities that have a value of one of the attributes, by their entities.
+pub(crate) fn all_rows<'a, S: Selector>(
     alloc: Global,
     db: &'a Db<S>,
     attrs: &[u64],
 ) -> Result<Vec<LentRow<'a>>, Memory>
-    // A view that shows its history has no tuples.
     requires { db.now.history ≡ false }
-    ensures { IfOk result (λ rows. AreTuplesIn db.now.snapshot.entries (window_of db.now)
-        (S.selects db.now.filter) attrs.now None None (map model_row rows.items)) }
+    ensures { IfOk result (λ rows. (start end : Option Tuple)
+        → HasRange db.now.snapshot.entries (window_of db.now) (S.selects db.now.filter) attrs.now
+        start end (map model_row rows.items)) }
 {
     let lists = lists_of(alloc, db, attrs)?;
     let entities = entities_of(alloc, &lists)?;
-    let mut rows = rows_of(alloc, &lists, &entities)?;
-    rows.sort_unstable();
-    Ok(rows)
+    rows_of(alloc, &lists, &entities)
 }
 
 /// The datoms of each attribute, by their entities.
@@ -58,7 +57,11 @@ fn lists_of<'a, S: Selector>(
 }
 
 /// The datoms of the attribute.
-fn under<'a, S: Selector>(alloc: Global, db: &'a Db<S>, a: u64) -> Result<Vec<&'a Datom>, Memory>
+pub(crate) fn under<'a, S: Selector>(
+    alloc: Global,
+    db: &'a Db<S>,
+    a: u64,
+) -> Result<Vec<&'a Datom>, Memory>
     ensures { IfOk result (λ ds. IsScan db.now.snapshot.entries (window_of db.now)
         (S.selects db.now.filter) Aevt (leading (under a)) (datoms_lent ds.items)) }
 {
@@ -76,12 +79,24 @@ fn under<'a, S: Selector>(alloc: Global, db: &'a Db<S>, a: u64) -> Result<Vec<&'
 fn entities_of(alloc: Global, lists: &[Vec<&Datom>]) -> Result<Vec<u64>, Memory>
     ensures rising { IfOk result (λ entities. IsStrictlyIncreasing entities.items) }
     ensures members { IfOk result (λ entities. (e : ℕ)
-        → Contains (entities_in (lists_lent lists.now)) e ↔ Contains entities.items e) }
+        → Contains (model_entities_in (lists_lent lists.now)) e ↔ Contains entities.items e) }
 {
     let mut entities = Vec::new(alloc);
     for list in lists {
         push_entities(&mut entities, list)?;
     }
+    keep_each_once(&mut entities);
+    Ok(entities)
+}
+
+/// The entities of these datoms, each once, by their numbers.
+pub(crate) fn entities_in(alloc: Global, datoms: &[&Datom]) -> Result<Vec<u64>, Memory>
+    ensures rising { IfOk result (λ entities. IsStrictlyIncreasing entities.items) }
+    ensures members { IfOk result (λ entities. (e : ℕ)
+        → Contains (map (λ d. d.e) (datoms_lent datoms.now)) e ↔ Contains entities.items e) }
+{
+    let mut entities = Vec::with_capacity(alloc, datoms.len())?;
+    push_entities(&mut entities, datoms)?;
     keep_each_once(&mut entities);
     Ok(entities)
 }
@@ -96,7 +111,7 @@ fn push_entities(entities: &mut Vec<u64>, list: &[&Datom]) -> Result<(), Memory>
     Ok(())
 }
 
-fn keep_each_once(numbers: &mut Vec<u64>)
+pub(crate) fn keep_each_once(numbers: &mut Vec<u64>)
     ensures rising { IsStrictlyIncreasing numbers.new.items }
     ensures members { (n : ℕ) → Contains numbers.old.items n ↔ Contains numbers.new.items n }
 {

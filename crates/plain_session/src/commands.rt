@@ -14,6 +14,8 @@ pub(crate) enum Command<'a> {
     Look(Look<'a>),
     /// Transactions that are tried, and what is looked at behind them.
     With(&'a [Edn], Look<'a>),
+    /// The names of a composite, and where the range of its tuples starts and ends.
+    Tuples(&'a Edn, &'a Edn, &'a Edn),
 }
 
 /// It changes what the session sees.
@@ -50,6 +52,7 @@ pub(crate) fn command_in(form: &Edn) -> Option<Command<'_>> {
         [] => alone(word),
         [x] => before_one(word, x),
         [x, y] => before_two(word, x, y),
+        [x, y, z] if word == "tuple-range" => Some(Command::Tuples(x, y, z)),
         _ => None,
     }
 }

@@ -18,6 +18,7 @@ mod replies;
 mod session;
 mod sight;
 mod stops;
+mod tuples;
 
 pub use replies::{receipt, refusal};
 pub use session::{PlainSession, new_history, transact};

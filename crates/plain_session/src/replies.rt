@@ -160,6 +160,13 @@ pub(crate) fn with(
         .map()
 }
 
+/// `{:basis 3 :tuples [[[1 nil] 17592186044420] ..]}`
+pub(crate) fn tuples(alloc: Global, basis: u32, rows: Vec<Edn>) -> Result<Edn, Memory> {
+    with_basis(alloc, basis)
+        .with("tuples", Ok(Edn::Vector(Items::of(rows))))
+        .map()
+}
+
 fn vectors(alloc: Global, facts: &[Datom], datoms: &[Datom]) -> Result<Edn, Memory> {
     let mut list = Vec::new(alloc);
     for d in datoms {

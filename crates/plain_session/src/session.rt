@@ -146,6 +146,9 @@ impl PlainSession {
             Command::RequestIndex => self.done(),
             Command::Look(look) => self.look(look),
             Command::With(datas, look) => self.tried(datas, look),
+            Command::Tuples(names, start, end) => {
+                self.sight(&self.facts()?).tuples(names, start, end)
+            }
         }
     }
 

@@ -37,7 +37,7 @@ pub data Read : Type 0 where
   look : Look → Read
   -- [:with [data ..] look]: a look at what transactions would make of it
   tried : List Form → Look → Read
-  -- a range of the tuples of a composite
+  -- [:tuple-range [a ..] start end]
   tuples : Form → Form → Form → Read
   turn : Turn → Read
   -- [:request-index]
@@ -147,6 +147,7 @@ before (x ∷ []) =
     ∷ (codes "filter", option_map (λ name. turns (filter name)) (name_in x))
     ∷ []
 before (x ∷ y ∷ []) = (codes "with", tried_in x y) ∷ []
+before (x ∷ y ∷ z ∷ []) = (codes "tuple-range", Some (read (tuples x y z))) ∷ []
 before (x ∷ y ∷ z ∷ more) = []
 
 abbrev pub command_named : List ℕ → List Form → Option Command

@@ -8,6 +8,7 @@ use Rattle.fb_values.specs.declared.facts.Entry.{Entry}
 use Rattle.fb_numbers.specs.Numbers.{transaction_of, user_entity}
 use Rattle.view_model.specs.Window.{Window, whole}
 use Rattle.view_model.specs.Samples.{ages, texts, minus_one}
+use Rattle.tuple_model.specs.Samples.{numbered}
 use Rattle.tx_model.specs.Step.{no_guard}
 use Rattle.tx_model.specs.Samples.{string, vector, add, doc}
 use Rattle.talk_model.specs.Commands.{Read, Command, read, command_in}
@@ -90,6 +91,15 @@ standing_with w filters = record { place = 4; window = w; filters = filters; was
 abbrev pub reply_over_texts : Window → List (Datom → Bool) → Form → Form
 reply_over_texts w filters form =
     reply (tested texts w [] filters users_alone no_guard) filters (read_in form)
+
+-- the reply to a range of the tuples of `:n/a` and `:n/b`, by user entities 3 to 5, under a window
+-- and filters
+abbrev pub range_over_numbers : Window → List (Datom → Bool) → Form → Form → Form
+range_over_numbers w filters start end =
+    reply (tested numbered w [] filters users_alone no_guard) filters
+    (read_in
+    (said (codes "tuple-range")
+    (vector (key (codes "n/a") ∷ key (codes "n/b") ∷ []) ∷ start ∷ end ∷ [])))
 
 -- [:with datas look]
 abbrev pub tries : List Form → Form → Form

@@ -1,12 +1,13 @@
 //! What each read answers, by computation.
-ghost use Rattle.std.specs.Prelude.{◌≡◌, [], ◌∷◌, true, codes};
+ghost use Rattle.std.specs.Prelude.{◌≡◌, [], ◌∷◌, true, not, codes, None, nat_eq};
 ghost use Rattle.edn_model.specs.Form.{nil, string};
 ghost use Rattle.fb_numbers.specs.Numbers.{user_entity};
 ghost use Rattle.view_model.specs.Window.{whole, as_of, since, with_history};
 ghost use Rattle.tx_model.specs.Samples.{vector};
-ghost use Rattle.talk_model.specs.Replies.{refusal_reply, done_reply, transactions_reply, with_reply};
+ghost use Rattle.tuple_model.specs.Samples.{a, long, row};
+ghost use Rattle.talk_model.specs.Replies.{refusal_reply, done_reply, transactions_reply, with_reply, tuples_reply};
 ghost use Rattle.talk_model.specs.Session.{opened_at};
-ghost use Rattle.talk_model.specs.Samples.{said, key, number, minus_one_form, text, tries, datoms_of_first, reply_over_texts, IsReplyOverAges, behind_read, standing_behind, standing_with};
+ghost use Rattle.talk_model.specs.Samples.{said, key, number, minus_one_form, text, tries, datoms_of_first, reply_over_texts, range_over_numbers, IsReplyOverAges, behind_read, standing_behind, standing_with};
 
 /// Each reason, at its place.
 pub fn refusals_of_reads()
@@ -54,6 +55,38 @@ pub fn transactions_are_tried()
     ensures look_refused { reply_over_texts whole [] (tries (text ∷ []) (said (codes "tx-range") (nil ∷ minus_one_form ∷ [])))
         ≡ with_reply 1 (record { t = 2; tempids = (codes "x", user_entity 2) ∷ [] } ∷ [])
         (refusal_reply (codes "read/bad-point") 2 2) }
+{}
+
+/// Ranges of tuples: the start is in them, the end is not. Of what is refused the composite comes
+/// first, then the start, the end, and the view.
+pub fn ranges_of_tuples()
+    ensures from { range_over_numbers whole [] (vector (number 1 ∷ nil ∷ [])) nil
+        ≡ tuples_reply 2
+        (row (long 1 ∷ None ∷ []) (user_entity 4)
+        ∷ row (long 1 ∷ long 2 ∷ []) (user_entity 3)
+        ∷ []) }
+    ensures before { range_over_numbers whole [] nil (vector (number 1 ∷ number 2 ∷ []))
+        ≡ tuples_reply 2
+        (row (long 0 ∷ long 9 ∷ []) (user_entity 5)
+        ∷ row (long 1 ∷ None ∷ []) (user_entity 4)
+        ∷ []) }
+    ensures filtered { range_over_numbers whole ((λ d. not (nat_eq d.a a)) ∷ []) nil nil
+        ≡ tuples_reply 2
+        (row (None ∷ long 2 ∷ []) (user_entity 3)
+        ∷ row (None ∷ long 9 ∷ []) (user_entity 5)
+        ∷ []) }
+    ensures earlier { range_over_numbers (as_of 2 whole) [] nil nil ≡ tuples_reply 2 [] }
+    ensures no_composite { IsReplyOverAges
+        (said (codes "tuple-range")
+        (vector (key (codes "p/age") ∷ []) ∷ string (codes "x") ∷ nil ∷ []))
+        (refusal_reply (codes "read/bad-tuple") 1 4) }
+    ensures no_start { range_over_numbers (with_history whole) []
+        (vector (number 1 ∷ [])) (string (codes "x"))
+        ≡ refusal_reply (codes "read/bad-component") 2 2 }
+    ensures no_end { range_over_numbers (with_history whole) [] nil (string (codes "x"))
+        ≡ refusal_reply (codes "read/bad-component") 3 2 }
+    ensures history { range_over_numbers (with_history whole) [] nil nil
+        ≡ refusal_reply (codes "read/history") 0 2 }
 {}
 
 /// What changes after a command.

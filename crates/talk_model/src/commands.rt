@@ -44,6 +44,8 @@ pub fn words_of_commands()
         (said (codes "with")
         (edn.vector (forms (nil ∷ [])) ∷ said (codes "tx-range") (nil ∷ nil ∷ []) ∷ []))
         ≡ Some (command.read (command.tried (nil ∷ []) (command.tx_range nil nil))) }
+    ensures tuples { command_in (said (codes "tuple-range") (nil ∷ number 1 ∷ number 3 ∷ []))
+        ≡ Some (command.read (command.tuples nil (number 1) (number 3))) }
 {}
 
 /// Near misses.
@@ -69,6 +71,15 @@ pub fn forms_that_are_no_command()
     ensures tried_before_no_look { command_in
         (said (codes "with") (edn.vector (forms (nil ∷ [])) ∷ said (codes "db") [] ∷ []))
         ≡ None }
+    ensures half_a_range_of_tuples { command_in (said (codes "tuple-range") (nil ∷ number 1 ∷ []))
+        ≡ None }
+    ensures more_than_a_range_of_tuples { command_in
+        (said (codes "tuple-range") (nil ∷ nil ∷ nil ∷ nil ∷ []))
+        ≡ None }
+    ensures tried_before_tuples { command_in
+        (said (codes "with")
+        (edn.vector (forms (nil ∷ [])) ∷ said (codes "tuple-range") (nil ∷ nil ∷ nil ∷ []) ∷ []))
+        ≡ None }
 {}
 
 /// A look inside a command, and near misses: what changes the view is none.
@@ -79,6 +90,7 @@ pub fn looks_in_forms()
         ≡ Some (command.datoms Eavt []) }
     ensures a_turn { look_in (said (codes "as-of") (number 3 ∷ [])) ≡ None }
     ensures a_transaction { look_in (said (codes "transact") (nil ∷ [])) ≡ None }
+    ensures tuples { look_in (said (codes "tuple-range") (nil ∷ nil ∷ nil ∷ [])) ≡ None }
     ensures another_index { look_in (said (codes "datoms") (key (codes "aave") ∷ [])) ≡ None }
     ensures a_list { look_in
         (edn.list (forms (key (codes "datoms") ∷ key (codes "eavt") ∷ [])))

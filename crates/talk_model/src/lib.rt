@@ -12,7 +12,9 @@ mod replies;
 mod scripts;
 mod talks;
 
-pub use answers::{refusals_of_reads, transactions_are_tried, views_of_a_session};
+pub use answers::{
+    ranges_of_tuples, refusals_of_reads, transactions_are_tried, views_of_a_session,
+};
 pub use commands::{
     forms_that_are_no_command, looks_in_forms, transactions_that_may_be_tried, words_of_commands,
 };

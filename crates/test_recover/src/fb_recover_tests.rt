@@ -11,7 +11,7 @@ use std::test::Fail;
 use std::thread::Threads;
 
 /// A log of one entry, in the older format. Its record begins at byte 15, and the payload at byte 24.
-const LOG: &[u8; 92] = &[
+pub(crate) const LOG: &[u8; 92] = &[
     0x46, 0x41, 0x43, 0x54, 0x42, 0x41, 0x53, 0x45, 0x20, 0x4c, 0x4f, 0x47, 0x20, 0x31, 0x0a, 0x01,
     0x00, 0x00, 0x00, 0x00, 0x00, 0x00, 0x00, 0x43, 0x01, 0x00, 0x00, 0x00, 0x01, 0x00, 0x00, 0x01,
     0x8c, 0xc2, 0x51, 0xf4, 0x00, 0x00, 0x00, 0x00, 0x02, 0x00, 0x00, 0x0c, 0x00, 0x00, 0x00, 0x00,
@@ -52,7 +52,7 @@ const ROWS: &[Row] = &[
     (&[(83, 1)], Err(OpenFault::Unlawful { t: 1, law: 4 })),
 ];
 
-fn changed(changes: &[(usize, u8)]) -> [u8; 92] {
+pub(crate) fn changed(changes: &[(usize, u8)]) -> [u8; 92] {
     let mut log = *LOG;
     for (place, byte) in changes {
         if let Some(old) = log.get_mut(*place) {
@@ -63,9 +63,9 @@ fn changed(changes: &[(usize, u8)]) -> [u8; 92] {
 }
 
 /// More than any of these files takes.
-const ROOM: usize = 100_000;
+pub(crate) const ROOM: usize = 100_000;
 
-fn disk_of(alloc: Global, bytes: &[u8]) -> Result<MemDisk, Memory> {
+pub(crate) fn disk_of(alloc: Global, bytes: &[u8]) -> Result<MemDisk, Memory> {
     let mut disk = MemDisk::new(alloc, ROOM, Vec::new(alloc))?;
     match disk.write_at(0, bytes) {
         Ok(()) => Ok(disk),
@@ -80,7 +80,7 @@ fn told(alloc: Global, bytes: &[u8]) -> Result<Result<u32, OpenFault>, Memory> {
     Ok(recovered(alloc, log, segments))
 }
 
-fn recovered(alloc: Global, log: MemDisk, segments: MemDisk) -> Result<u32, OpenFault> {
+pub(crate) fn recovered(alloc: Global, log: MemDisk, segments: MemDisk) -> Result<u32, OpenFault> {
     match reopen(alloc, log, segments) {
         Ok(opened) => Ok(opened.recovered),
         Err(stop) => Err(stop.fault),
@@ -100,10 +100,10 @@ fn the_first_fault_of_a_log_is_told(rt: HostRuntime) -> Result<(), Fail> {
 // ---- beside a file of segments
 
 /// A file of segments without a record.
-const NO_ROOTS: &[u8] = b"FACTBASE SEG 1\n\0";
+pub(crate) const NO_ROOTS: &[u8] = b"FACTBASE SEG 1\n\0";
 
 /// How far the history of an opened database goes and how far its trees, and the least number that a new node may have.
-type Reach = (u32, u32, u64);
+pub(crate) type Reach = (u32, u32, u64);
 
 /// What an opening answers: its reach, and the file of segments that it leaves.
 #[derive(Drop)]
@@ -132,7 +132,7 @@ fn opening_of(opened: Opened<MemDisk>) -> Opening {
 }
 
 /// Whether opening the log beside these segments answers this, and leaves this file of segments.
-fn opens_as(
+pub(crate) fn opens_as(
     alloc: Global,
     log: &[u8],
     segments: &[u8],
@@ -183,7 +183,11 @@ fn keep_all<R: Threads + Sync>(
 }
 
 /// A file of segments that keeps the trees of the first entry, and so many times those of the whole documented log.
-fn file_of<R: Threads + Sync>(rt: &R, alloc: Global, times: usize) -> Result<MemDisk, Memory> {
+pub(crate) fn file_of<R: Threads + Sync>(
+    rt: &R,
+    alloc: Global,
+    times: usize,
+) -> Result<MemDisk, Memory> {
     let log = disk_of(alloc, LOG)?;
     let segments = disk_of(alloc, &[])?;
     let Ok(opened) = reopen(alloc, log, segments) else {

@@ -1,6 +1,8 @@
-//! Opening the documented log, as it is and with bytes changed, and the roots that a history agrees with.
+//! Opening the documented log, as it is and with bytes changed, the roots that a history agrees with, and backups.
 #![tactic(auto)]
 
+#[cfg(test)]
+mod fb_backup_tests;
 #[cfg(test)]
 mod fb_recover_tests;
 #[cfg(test)]

@@ -4,6 +4,8 @@ use anyhow::{Result, bail};
 use fb_ports::Host;
 use fb_preds::shipped;
 use fb_run::{Outcome, SessionOut, run};
+use fb_text::Text;
+use fb_tuple_guard::{Both, Names, UniqueTuples};
 use fb_view::Snapshot;
 use mem_ports::{FixedClock, MemDisk, MemHost, MemSink, MemSource};
 use merge_worker::{Gate, OpenGate};
@@ -14,6 +16,9 @@ use test_replay::Served;
 
 /// The first of January 2024, which the clock of a run reads unless its terms say otherwise.
 pub(crate) const CLOCK: i64 = 1_704_067_200_000;
+
+/// The attributes whose values together are of one entity in a strict run.
+const COMPOSITE: &[&str] = &["n/a", "n/b"];
 
 /// How scripts are run.
 #[derive(Clone, Copy)]
@@ -239,7 +244,7 @@ pub(crate) fn source_of(alloc: Global, script: &str) -> Result<MemSource> {
     Ok(MemSource::new(bytes, Vec::new(alloc)))
 }
 
-/// Runs a command by a clock that stands. It has the program's guard, which counts in a strict run alone.
+/// Runs a command by a clock that stands. It has the program's guard and one on a composite, which count in a strict run alone.
 pub(crate) fn run_words<R: Threads + Wait + Sync, H: Host, W: Gate + Sync>(
     rt: &R,
     alloc: Global,
@@ -250,8 +255,23 @@ pub(crate) fn run_words<R: Threads + Wait + Sync, H: Host, W: Gate + Sync>(
 ) -> Result<Outcome<H::In, H::Out, H::Disk>> {
     let clock = FixedClock::new(clock);
     let filters = shipped(alloc)?;
-    let checks = fb_checks::shipped(alloc)?;
-    Ok(run(rt, alloc, words, host, &clock, &filters, &checks, gate))
+    let guard = Both::new(fb_checks::shipped(alloc)?, unique_tuples(alloc)?);
+    Ok(run(rt, alloc, words, host, &clock, &filters, &guard, gate))
+}
+
+/// Bars each second entity with the values of another.
+fn unique_tuples(alloc: Global) -> Result<UniqueTuples> {
+    let mut tuples = UniqueTuples::new(alloc);
+    tuples.add(composite(alloc)?)?;
+    Ok(tuples)
+}
+
+fn composite(alloc: Global) -> Result<Names> {
+    let mut items = Vec::new(alloc);
+    for name in COMPOSITE {
+        items.push(Text::of(alloc, name)?)?;
+    }
+    Ok(Names { items })
 }
 
 /// What each session asked and was answered.

@@ -1,4 +1,5 @@
 //! Commands of every kind that are drawn from a seed, most of them sensible.
+use crate::fields::Field;
 use crate::pen::Pen;
 use crate::worlds::World;
 use anyhow::Result;
@@ -14,6 +15,7 @@ const OTHER_FORMS: &[&str] = &[
     "(:db)",
     "nil",
     "[:seek :eavt 1 2 3 4 5]",
+    "[:tuple-range [:db/doc :db/ident] nil]",
     "[:filter :users :no-doc]",
 ];
 
@@ -52,7 +54,8 @@ impl Pen<'_> {
             15..=17 => self.scan("[:seek "),
             18..=20 => self.index_range(),
             21 | 22 => self.tx_range(),
-            23..=29 => self.pull(),
+            23..=28 => self.pull(),
+            29 => self.tuple_range(),
             30 => self.tried(),
             _ => self.other(),
         }
@@ -188,6 +191,40 @@ impl Pen<'_> {
         self.value_or_nil(field);
         self.write(" ");
         self.value_or_nil(field);
+        self.write("]");
+    }
+
+    /// A range of the tuples of up to three attributes, most often of two.
+    fn tuple_range(&mut self) {
+        let fields = [self.field(), self.field(), self.field()];
+        match self.dice.roll(8) {
+            0 => self.tuples_of(&fields[..1]),
+            1..=5 => self.tuples_of(&fields[..2]),
+            _ => self.tuples_of(&fields),
+        }
+    }
+
+    fn tuples_of(&mut self, fields: &[Field]) {
+        self.write("[:tuple-range [");
+        for field in fields {
+            self.write_all(&[field.name, " "]);
+        }
+        self.write("] ");
+        self.tuple_or_nil(fields);
+        self.write(" ");
+        self.tuple_or_nil(fields);
+        self.write("]");
+    }
+
+    fn tuple_or_nil(&mut self, fields: &[Field]) {
+        if self.dice.once_in(2) {
+            return self.write("nil");
+        }
+        self.write("[");
+        for field in fields {
+            self.value_or_nil(*field);
+            self.write(" ");
+        }
         self.write("]");
     }
 

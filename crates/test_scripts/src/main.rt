@@ -66,7 +66,7 @@ fn report(rt: &HostRuntime, tally: &Tally) -> Result<()> {
         tally.scripts, tally.lines
     )?;
     println!(rt;
-        "{} of 15 commands answered, {} of 6 reads with a find, {} of 10 refusals of reads, {} of transactions",
+        "{} of 16 commands answered, {} of 7 reads with a find, {} of 11 refusals of reads, {} of transactions",
         tally.count_of(Answer::Given),
         tally.count_of(Answer::Found),
         tally.count_of(Answer::NoRead),

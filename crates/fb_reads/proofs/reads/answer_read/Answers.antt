@@ -9,7 +9,7 @@ use Rattle.talk_model.specs.Commands as model
 use Rattle.talk_model.specs.Replies.{done_reply, IsLineOf}
 use Rattle.talk_model.specs.Looks.{refused}
 use Rattle.talk_model.specs.Reads.{turn_reply}
-use Rattle.edn_form.specs.View.{forms_of}
+use Rattle.edn_form.specs.View.{form_of, forms_of}
 use Rattle.fb_commands.specs.View.{model_read, model_look, model_turn}
 use Rattle.fb_reads.specs.Answers.{sight_in}
 use Rattle.fb_reads.proofs.Answered.{said, line_of, stands_of}
@@ -35,6 +35,18 @@ returns-in-Tried-clause-line g c =
     (option_map model_read c.args.asked) (Some (model.tried (forms_of c.in-Tried.datas.now) (model_look c.in-Tried.look)))
     c.answer_tried.new.line.items
     (ap (option_map model_read) (c.in-Some.is ∙ ap Some c.in-Tried.is)) c.answer_tried.ensures
+
+pub returns-in-Tuples-clause-line : goal.returns-in-Tuples-clause-line
+returns-in-Tuples-clause-line g c =
+    let view = c.args.view.now in
+    let table = view.filter.table.now in
+    let guard = g.G.Guard.bars c.args.guard.now in
+    let asked = c.in-Tuples in
+    line_of c.answer_tuples.result (sight_in (g.T.FilterTable.place_of table) (g.T.FilterTable.name_at table)
+    (g.T.FilterTable.selects_at table) guard view.snapshot.entries (window_of view) view.filter.places.items)
+    (option_map model_read c.args.asked) (Some (model.tuples (form_of asked.names.now) (form_of asked.start.now) (form_of asked.end.now)))
+    c.answer_tuples.new.line.items
+    (ap (option_map model_read) (c.in-Some.is ∙ ap Some asked.is)) (c.answer_tuples.ensures guard)
 
 pub returns-in-Turn-clause-line : goal.returns-in-Turn-clause-line
 returns-in-Turn-clause-line g c =

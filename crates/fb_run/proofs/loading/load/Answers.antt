@@ -40,7 +40,7 @@ returns-in-Ok-open_load-clause-one_history g c =
     let io = streams_of g.H.In.Source.left g.H.In.Source.faults g.H.Out.Sink.contents g.H.Out.Sink.faults in
     let disks = disks_of g.H.Disk.Disk.bytes g.H.Disk.Disk.faults g.H.Disk.Disk.images g.H.Disk.Disk.moment g.H.Disk.Disk.images_since in
     let so = c.summed_up.ensures in
-    load_history spec spec io disks c.args.count c.run_opened-ran.result c.summed_up.result so.left so.loads so.sessions
+    load_history spec spec io disks c.args.count c.run_opened-ran.result c.summed_up.result so.left so.loads so.sessions so.no_target
     c.run_opened-ran.ensures.one_history
 
 pub returns-in-Ok-open_load-clause-replies : goal.returns-in-Ok-open_load-clause-replies
@@ -51,7 +51,7 @@ returns-in-Ok-open_load-clause-replies g c =
     let io = streams_of g.H.In.Source.left g.H.In.Source.faults g.H.Out.Sink.contents g.H.Out.Sink.faults in
     let disks = disks_of g.H.Disk.Disk.bytes g.H.Disk.Disk.faults g.H.Disk.Disk.images g.H.Disk.Disk.moment g.H.Disk.Disk.images_since in
     let so = c.summed_up.ensures in
-    load_replies spec spec io disks c.args.count c.run_opened-ran.result c.summed_up.result so.left so.loads so.sessions
+    load_replies spec spec io disks c.args.count c.run_opened-ran.result c.summed_up.result so.left so.loads so.sessions so.no_target
     terms c.in-Ok-open_load.made.ready.sessions.items
     (opened_in_memory spec c.args.count c.in-Ok-open_load.made.ready.sessions.items c.in-Ok-open_load.ensures.sessions)
     c.run_opened-ran.ensures.replies
@@ -62,7 +62,7 @@ returns-in-Ok-open_load-clause-prefixes g c =
     let io = streams_of g.H.In.Source.left g.H.In.Source.faults g.H.Out.Sink.contents g.H.Out.Sink.faults in
     let disks = disks_of g.H.Disk.Disk.bytes g.H.Disk.Disk.faults g.H.Disk.Disk.images g.H.Disk.Disk.moment g.H.Disk.Disk.images_since in
     let so = c.summed_up.ensures in
-    load_prefixes spec spec io disks c.args.count c.run_opened-ran.result c.summed_up.result so.left so.loads so.sessions
+    load_prefixes spec spec io disks c.args.count c.run_opened-ran.result c.summed_up.result so.left so.loads so.sessions so.no_target
     c.run_opened-ran.ensures.prefixes
 
 pub returns-in-Ok-open_load-clause-opening : goal.returns-in-Ok-open_load-clause-opening
@@ -106,7 +106,7 @@ returns-in-Ok-open_load-clause-causes g c =
     subst (λ (l : Left g.row.H-Disk.Denot). IfSome l.last (λ last. IfSome l.log (LogHolds spec disks dir last.entries l.recovered
     l.torn))) (sym so.left)
     (run_logs spec disks dir ready.directory made.directory ran c.run_opened-ran.ensures.opening c.run_opened-ran.ensures.log) in
-    caused_by_load spec new io disks c.args.count ran c.summed_up.result so.left so.loads so.sessions at (trees_in ready.directory)
+    caused_by_load spec new io disks c.args.count ran c.summed_up.result so.left so.loads so.sessions so.no_target at (trees_in ready.directory)
     (made.directory.reopened.segments_unfailed ∙ made.directory.segments.faults)
     ready.sessions.items made.unfailed (opened_in_memory spec c.args.count ready.sessions.items made.sessions)
     c.in-Ok-open_load.made.console made.console holds ended so.said
@@ -143,7 +143,7 @@ returns-in-Ok-open_load-clause-merged g c =
     let dir = directory_of (Some (load c.args.count)) in
     let so = c.summed_up.ensures in
     let ran = c.run_opened-ran.result in
-    load_merged spec spec io disks c.args.count ran c.summed_up.result so.left so.loads so.sessions
+    load_merged spec spec io disks c.args.count ran c.summed_up.result so.left so.loads so.sessions so.no_target
     (λ segments last. IfSome segments (IsMerged spec disks dir load_merge_at last)) io.contents io.sink_faults
     c.in-Ok-open_load.made.console so.said
     (subst (λ merge_at. IfSome ran.last (λ last. ran.status ≡ 0 → IfSome ran.segments (IsMerged spec disks dir merge_at last)))
@@ -157,7 +157,7 @@ returns-clause-causes g c =
     let disks = disks_of g.H.Disk.Disk.bytes g.H.Disk.Disk.faults g.H.Disk.Disk.images g.H.Disk.Disk.moment g.H.Disk.Disk.images_since in
     let out = c.not_begun.ensures in
     caused_by_unready (g.H.Host.spec c.args.host.now) (g.H.Host.spec c.open_load.new.host) io disks c.not_begun.result
-    (load c.args.count) c.in-Err.unready c.in-Err.ensures.stop out.none out.log out.segments out.no_console out.said
+    (load c.args.count) c.in-Err.unready c.in-Err.ensures.stop out.none out.log out.segments out.no_console out.no_target out.said
 
 pub returns-clause-unharmed : goal.returns-clause-unharmed
 returns-clause-unharmed g c = λ none.
@@ -172,7 +172,7 @@ returns-in_default-clause-causes g c =
     let io = streams_of g.H.In.Source.left g.H.In.Source.faults g.H.Out.Sink.contents g.H.Out.Sink.faults in
     let disks = disks_of g.H.Disk.Disk.bytes g.H.Disk.Disk.faults g.H.Disk.Disk.images g.H.Disk.Disk.moment g.H.Disk.Disk.images_since in
     let said = c.without_session.ensures in
-    caused_by_memory (g.H.Host.spec c.args.host.now) io disks _ c.without_session.result (load c.args.count) said.none said.no_console
+    caused_by_memory (g.H.Host.spec c.args.host.now) io disks _ c.without_session.result (load c.args.count) said.none said.no_console said.no_target
     (says_memory _ _ (says_line string_bytes c.out_of_memory.result 9 _ _ _ said.said said.unsaid c.out_of_memory.ensures))
 
 pub returns-in_default-clause-others : goal.returns-in_default-clause-others

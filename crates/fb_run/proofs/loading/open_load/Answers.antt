@@ -36,7 +36,7 @@ returns-in-Ok-clause-stop g c =
     c.prepare_over.result c.in-Ok.ensures.others c.prepare_over.ensures.others c.prepare_over.ensures.stop
 
 pub returns-in-Err-clause-stop : goal.returns-in-Err-clause-stop
-returns-in-Err-clause-stop g c = c.in-Err.ensures.stop (ports_of (Some (load c.args.count))) (standard ∷ []) refl
+returns-in-Err-clause-stop g c = c.in-Err.ensures.stop (ports_of (Some (load c.args.count))) (standard ∷ []) [] refl
 
 pub returns-in-Ok-clause-others : goal.returns-in-Ok-clause-others
 returns-in-Ok-clause-others g c =

@@ -23,7 +23,7 @@ returns-in-Ok-clause-stop g c =
     c.in-Ok.ensures.streams c.requires.console c.look_into.result c.in-Ok.ensures.others c.look_into.ensures.others c.look_into.ensures.stop
 
 pub returns-in-Err-clause-stop : goal.returns-in-Err-clause-stop
-returns-in-Err-clause-stop g c = c.in-Err.ensures.stop (ports_of (Some (check c.args.names.now.directory.now))) (standard ∷ []) refl
+returns-in-Err-clause-stop g c = c.in-Err.ensures.stop (ports_of (Some (check c.args.names.now.directory.now))) (standard ∷ []) [] refl
 
 pub returns-in-Ok-clause-others : goal.returns-in-Ok-clause-others
 returns-in-Ok-clause-others g c =

@@ -1,4 +1,4 @@
-use Rattle.std.proofs.Common.{◌≡◌, Err, Some, refl, sym, subst, arith, rules}
+use Rattle.std.proofs.Common.{◌≡◌, [], Err, Some, refl, sym, subst, arith, rules}
 use Rattle.command_line.specs.Views.{names_in, run_by}
 use Rattle.fb_run.specs.Outside.{streams_of, disks_of, of_directory, of_scripts, ports_of, OpensOnly}
 use Rattle.fb_run.specs.Opening.{HasOpened, IsUnopened}
@@ -20,7 +20,7 @@ pub returns-in_err-directory-clause-stop : goal.returns-in_err-directory-clause-
 returns-in_err-directory-clause-stop g c =
     let e : c.from_residual.result ≡ Err c.in_err-directory.field-0.0 = first_of (search rules, grind arith) in
     rw e
-    (c.in_err-directory.ensures.stop (ports_of (Some (run_by c.args.command.now))) (names_in c.args.command.now.scripts.items) refl)
+    (c.in_err-directory.ensures.stop (ports_of (Some (run_by c.args.command.now))) (names_in c.args.command.now.scripts.items) [] refl)
 
 pub returns-in_err-directory-clause-others : goal.returns-in_err-directory-clause-others
 returns-in_err-directory-clause-others g c =

@@ -3,7 +3,7 @@ use Rattle.std.specs.Prelude.{IfSome, string_bytes}
 use Rattle.std.specs.Option.{unwrap_or}
 use Rattle.fb_session.specs.Sessions.{terms_at}
 use Rattle.command_line.specs.Words.{Command, check, command_of, load, scripts_of, merge_at_of}
-use Rattle.command_line.specs.Views.{names_in, run_by}
+use Rattle.command_line.specs.Views.{names_in, run_by, backup_by}
 use Rattle.fb_run.specs.Outside.{streams_of, disks_of, ports_of, OpensOnly}
 use Rattle.fb_model.specs.History.{basis, upto}
 use Rattle.talk_model.specs.Prefixes.{Prefixes}
@@ -19,7 +19,7 @@ use Rattle.fb_run.specs.Complete.{Complete}
 use Rattle.fb_run.specs.Strict.{under}
 use Rattle.fb_run.proofs.Opens.{opens_nothing}
 use Rattle.fb_run.proofs.Causing.{caused_by_usage, caused_by_words, says_line, says_memory}
-use Rattle.fb_run.proofs.Completing.{complete_scripts, complete_look}
+use Rattle.fb_run.proofs.Completing.{complete_scripts, complete_look, complete_backup, complete_refused}
 use Rattle.fb_run.proofs.Loads.{nothing_replies, nothing_all, no_loads_history, no_sessions_history}
 use Rattle.fb_run.proofs.Generators.{load_within}
 use Rattle.fb_run.proofs.LoadsWhole.{complete_load}
@@ -99,7 +99,7 @@ returns-in-Ok-None-clause-causes g c =
     let is = rw c.in-Ok-None.field-0-is at c.in-Ok-None.ensures.asks in
     caused_by_usage (g.H.Host.spec c.args.host.now) io disks _ c.without_session.result _ (is ∙ ap (λ ws. command_of (map string_bytes
     ws)) c.as_slice.ensures.value) refl
-    c.without_session.ensures.none c.without_session.ensures.no_disk c.without_session.ensures.no_console
+    c.without_session.ensures.none c.without_session.ensures.no_disk c.without_session.ensures.no_console c.without_session.ensures.no_target
     (says_line string_bytes c.usage.result 1 _ _ _ c.without_session.ensures.said c.without_session.ensures.unsaid c.usage.ensures)
 
 pub returns-in-Err-clause-causes : goal.returns-in-Err-clause-causes
@@ -108,6 +108,7 @@ returns-in-Err-clause-causes g c =
     let disks = disks_of g.H.Disk.Disk.bytes g.H.Disk.Disk.faults g.H.Disk.Disk.images g.H.Disk.Disk.moment g.H.Disk.Disk.images_since in
     caused_by_words (g.H.Host.spec c.args.host.now) io disks _ c.without_session-in-Err.result _ refl
     c.without_session-in-Err.ensures.none c.without_session-in-Err.ensures.no_disk c.without_session-in-Err.ensures.no_console
+    c.without_session-in-Err.ensures.no_target
     (says_memory _ _ (says_line string_bytes c.out_of_memory.result 9 _ _ _ c.without_session-in-Err.ensures.said
     c.without_session-in-Err.ensures.unsaid c.out_of_memory.ensures))
 
@@ -276,3 +277,37 @@ returns-in-Ok-Some-Load-clause-others g c =
     let is = rw c.in-Ok-Some-Load.field-0-0-is at some in
     subst (λ command. OpensOnly (ports_of command) (g.H.Host.spec c.args.host.now) (g.H.Host.spec c.load.new.host))
     (is ∙ ap (λ ws. command_of (map string_bytes ws)) c.as_slice.ensures.value) c.load.ensures.others
+
+pub returns-in-Ok-Some-Backup-clause-complete : goal.returns-in-Ok-Some-Backup-clause-complete
+returns-in-Ok-Some-Backup-clause-complete g c =
+    let terms = λ (command : Option Command). terms_at g.K.Clock.may_answer (under command g.G.Guard.bars) g.P.FilterTable.place_of
+    g.P.FilterTable.selects_at c.args.clock.now c.args.guard.now c.args.preds.now in
+    let io = streams_of g.H.In.Source.left g.H.In.Source.faults g.H.Out.Sink.contents g.H.Out.Sink.faults in
+    let disks = disks_of g.H.Disk.Disk.bytes g.H.Disk.Disk.faults g.H.Disk.Disk.images g.H.Disk.Disk.moment g.H.Disk.Disk.images_since in
+    let some = rw c.in-Ok-Some-Backup.field-0-is at c.in-Ok-Some-Backup.ensures.asks in
+    let is = rw c.in-Ok-Some-Backup.field-0-0-is at some in
+    let r = c.back_up.result in
+    let new = g.H.Host.spec c.back_up.new.host in
+    subst (λ command. Complete (terms command) (g.H.Host.spec c.args.host.now) io disks new.faults command r)
+    (is ∙ ap (λ ws. command_of (map string_bytes ws)) c.as_slice.ensures.value)
+    (complete_backup (terms (Some (backup_by c.in-Ok-Some-Backup.names))) (g.H.Host.spec c.args.host.now) io disks new
+    c.in-Ok-Some-Backup.names.from.now c.in-Ok-Some-Backup.names.to.now r c.back_up.ensures.causes)
+
+pub returns-in-Ok-Some-Backup-clause-others : goal.returns-in-Ok-Some-Backup-clause-others
+returns-in-Ok-Some-Backup-clause-others g c =
+    let some = rw c.in-Ok-Some-Backup.field-0-is at c.in-Ok-Some-Backup.ensures.asks in
+    let is = rw c.in-Ok-Some-Backup.field-0-0-is at some in
+    subst (λ command. OpensOnly (ports_of command) (g.H.Host.spec c.args.host.now) (g.H.Host.spec c.back_up.new.host))
+    (is ∙ ap (λ ws. command_of (map string_bytes ws)) c.as_slice.ensures.value) c.back_up.ensures.others
+
+pub returns-in-Err-clause-complete : goal.returns-in-Err-clause-complete
+returns-in-Err-clause-complete g c =
+    let spec = g.H.Host.spec c.args.host.now in
+    let command = command_of (map string_bytes c.args.words.now.items) in
+    let terms = terms_at g.K.Clock.may_answer (under command g.G.Guard.bars) g.P.FilterTable.place_of
+    g.P.FilterTable.selects_at c.args.clock.now c.args.guard.now c.args.preds.now in
+    let io = streams_of g.H.In.Source.left g.H.In.Source.faults g.H.Out.Sink.contents g.H.Out.Sink.faults in
+    let disks = disks_of g.H.Disk.Disk.bytes g.H.Disk.Disk.faults g.H.Disk.Disk.images g.H.Disk.Disk.moment g.H.Disk.Disk.images_since in
+    complete_refused terms spec io disks spec.faults command c.without_session-in-Err.result
+    (says_memory _ _ (says_line string_bytes c.out_of_memory.result 9 _ _ _ c.without_session-in-Err.ensures.said
+    c.without_session-in-Err.ensures.unsaid c.out_of_memory.ensures))

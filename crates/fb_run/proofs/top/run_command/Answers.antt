@@ -46,7 +46,7 @@ returns-in-Ok-clause-causes g c =
     let disks = disks_of g.H.Disk.Disk.bytes g.H.Disk.Disk.faults g.H.Disk.Disk.images g.H.Disk.Disk.moment g.H.Disk.Disk.images_since in
     caused_by_sessions (g.H.Host.spec c.args.host.now) io disks _ c.run_opened.result (run_by c.args.command.now)
     c.in-Ok.ready.sessions.items _ (trees_in c.in-Ok.ready.directory) c.in-Ok.ensures.sessions.each tt refl c.run_opened.ensures.no_loads
-    c.in-Ok.ensures.sessions.faults c.run_opened.ensures.no_console
+    c.in-Ok.ensures.sessions.faults c.run_opened.ensures.no_console c.run_opened.ensures.no_target
     (c.in-Ok.ensures.directory.reopened.segments_unfailed ∙ c.in-Ok.ensures.directory.segments.faults)
     (run_logs (g.H.Host.spec c.args.host.now) disks c.args.command.now.directory.now c.in-Ok.ready.directory c.in-Ok.ensures.directory
     c.run_opened.result c.run_opened.ensures.opening c.run_opened.ensures.log)
@@ -78,7 +78,7 @@ returns-in-Err-clause-causes g c =
     let disks = disks_of g.H.Disk.Disk.bytes g.H.Disk.Disk.faults g.H.Disk.Disk.images g.H.Disk.Disk.moment g.H.Disk.Disk.images_since in
     let out = c.not_begun.ensures in
     caused_by_unready (g.H.Host.spec c.args.host.now) (g.H.Host.spec c.open_run.new.host) io disks c.not_begun.result
-    (run_by c.args.command.now) c.in-Err.unready c.in-Err.ensures.stop out.none out.log out.segments out.no_console out.said
+    (run_by c.args.command.now) c.in-Err.unready c.in-Err.ensures.stop out.none out.log out.segments out.no_console out.no_target out.said
 
 pub returns-in-Err-clause-unharmed : goal.returns-in-Err-clause-unharmed
 returns-in-Err-clause-unharmed g c = λ none.

@@ -1,7 +1,7 @@
 -- An open end leaves all rows.
 use Rattle.std.proofs.Common.{map}
 use Rattle.fb_tuples.specs.Lent.{model_row}
-use Rattle.fb_tuples.proofs.Ranges.{all_in_range}
+use Rattle.fb_tuples.proofs.BelowBounds.{all_in_range}
 use Rattle.fb_tuples.proofs.order.before.Goals as goal
 
 pub returns-in-None : goal.returns-in-None

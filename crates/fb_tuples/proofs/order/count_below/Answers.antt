@@ -2,7 +2,7 @@
 use Rattle.std.proofs.Common.{rules}
 use Rattle.std.proofs.lemmas.List.Sorted.{IsPartitionPoint-from_clause}
 use Rattle.fb_tuples.specs.Lent.{model_row, is_below}
-use Rattle.fb_tuples.proofs.Ranges.{partitioned, below_rows, rows_behind}
+use Rattle.fb_tuples.proofs.BelowBounds.{partitioned, below_rows, rows_behind}
 use Rattle.fb_tuples.proofs.order.count_below.Goals as goal
 
 pub returns-clause-below : goal.returns-clause-below

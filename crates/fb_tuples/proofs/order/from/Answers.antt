@@ -5,7 +5,7 @@ use Rattle.std.proofs.lemmas.List.{length-drop}
 use Rattle.tuple_model.specs.Tuples.{rows_rise, is_in_range}
 use Rattle.tuple_model.proofs.Rows.{filter-rises}
 use Rattle.fb_tuples.specs.Lent.{model_row}
-use Rattle.fb_tuples.proofs.Ranges.{all_in_range}
+use Rattle.fb_tuples.proofs.BelowBounds.{all_in_range}
 use Rattle.fb_tuples.proofs.order.from.Goals as goal
 
 pub returns-in-Some-clause-rising : goal.returns-in-Some-clause-rising

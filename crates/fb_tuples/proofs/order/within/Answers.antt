@@ -2,7 +2,7 @@
 use Rattle.std.proofs.Common.{◌∙◌, ap, map, option_map, None}
 use Rattle.tuple_model.specs.Tuples.{range}
 use Rattle.fb_tuples.specs.Lent.{model_row}
-use Rattle.fb_tuples.proofs.Ranges.{range_in_turn}
+use Rattle.fb_tuples.proofs.BelowBounds.{range_in_turn}
 use Rattle.fb_tuples.proofs.order.within.Goals as goal
 
 pub returns : goal.returns
