@@ -1,9 +1,9 @@
 -- Parts and prefixes that agree with how what they stand for compares.
-use Rattle.std.proofs.Common.{◌≡◌, ℕ, zero, suc, ◌+◌, ◌-◌, ◌*◌, ◌<◌, ◌≤◌, ◌⊎◌, inl, inr, Bool, true, false, cond, refl, sym, arith, nat_lt, ◌&&◌, ◌||◌, ◌==◌}
+use Rattle.std.proofs.Common.{◌≡◌, ℕ, ◌+◌, ◌-◌, ◌*◌, ◌<◌, ◌≤◌, ◌⊎◌, inl, inr, Bool, true, false, cond, refl, ap, arith}
 use Rattle.std.proofs.lemmas.Bool.Decides.{nat_tests}
 use Rattle.std.specs.Ordering.{nat_cmp, ordering_then}
 use Rattle.std.specs.declared.cmp.Ordering.{Ordering}
-use Rattle.std.specs.declared.cmp.Ordering.TheVariants.{Less, Equal, Greater}
+use Rattle.std.specs.declared.cmp.Ordering.TheVariants.{Less, Equal}
 use Rattle.fb_prefix.specs.declared.parts.Part.{Part}
 use Rattle.fb_prefix.specs.declared.prefixes.Prefix.{Prefix}
 use Rattle.fb_prefix.specs.Prefixes.{is_lesser, pair, put}
@@ -110,3 +110,33 @@ put_agrees_at room m n false false r s o o' rb sb agree rest =
 pub put_agrees : (room : ℕ) (p q : Part) (r s : Prefix) (o o' : Ordering) → r.high < room → s.high < room
     → Agree p q o → AgreeByWords r s o' → AgreeByWords (put room p r) (put room q s) (ordering_then o o')
 put_agrees room p q r s o o' rb sb agree rest = put_agrees_at room p.n q.n p.is_whole q.is_whole r s o o' rb sb agree rest
+
+-- ---- equal prefixes
+
+both_then : (b c : Bool) (m n : ℕ) → b ≡ true → c ≡ true → cond b m 0 ≡ cond c n 0 → m ≡ n
+both_then true true m n is is' same = same
+both_then true false m n is is' same = absurd (cc)
+both_then false c m n is is' same = absurd (cc)
+
+pub pair_same : (p q p' q' : Part) (o : Ordering) → Agree p q o → q.is_whole ≡ true → (pair p p').high ≡ (pair q q').high
+    → (pair p p').low ≡ (pair q q').low → (o ≡ Equal) × (p'.n ≡ q'.n)
+pair_same p q p' q' o agree whole high low =
+    let told = agree.exact high whole in
+    (told.0, both_then p.is_whole q.is_whole p'.n q'.n told.1 whole low)
+
+put_same_at : (room m n : ℕ) (b c : Bool) (r s : Prefix) (o : Ordering) → r.high < room → s.high < room
+    → Agree (record { n = m; is_whole = b }) (record { n = n; is_whole = c }) o → c ≡ true
+    → (put room (record { n = m; is_whole = b }) r).high ≡ (put room (record { n = n; is_whole = c }) s).high
+    → (put room (record { n = m; is_whole = b }) r).low ≡ (put room (record { n = n; is_whole = c }) s).low
+    → (o ≡ Equal) × (r.high ≡ s.high) × (r.low ≡ s.low)
+put_same_at room m n true true r s o rb sb agree whole high low =
+    let parts = same_parts m n r.high s.high room rb sb high in
+    ((agree.exact parts.0 refl).0, parts.1, low)
+put_same_at room m n false true r s o rb sb agree whole high low =
+    not_whole m n o agree (same_parts m n 0 s.high room (omega arith) sb (omega arith)).0
+put_same_at room m n b false r s o rb sb agree whole high low = absurd (cc)
+
+pub put_same : (room : ℕ) (p q : Part) (r s : Prefix) (o : Ordering) → r.high < room → s.high < room → Agree p q o → q.is_whole ≡ true
+    → put room p r ≡ put room q s → (o ≡ Equal) × (r.high ≡ s.high) × (r.low ≡ s.low)
+put_same room p q r s o rb sb agree whole same =
+    put_same_at room p.n q.n p.is_whole q.is_whole r s o rb sb agree whole (ap (λ (w : Prefix). w.high) same) (ap (λ (w : Prefix). w.low) same)

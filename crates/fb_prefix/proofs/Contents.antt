@@ -1,21 +1,18 @@
 -- The parts of entities, attributes and values agree with how these compare.
-use Rattle.std.proofs.Common.{◌≡◌, ℕ, zero, suc, ◌+◌, ◌-◌, ◌*◌, ◌/◌, ◌%◌, ◌^◌, ◌<◌, ◌≤◌, ◌⊎◌, inl, inr, min, ℤ, pos, negsuc, Bool, true, false, cond, nat_lt, ◌&&◌, List, Option, Some, None, refl, sym, arith}
+use Rattle.std.proofs.Common.{◌≡◌, ℕ, ◌+◌, ◌-◌, ◌*◌, ◌/◌, ◌%◌, ◌^◌, ◌<◌, ◌≤◌, inl, inr, min, ℤ, pos, negsuc, true, false, cond, nat_lt, ◌&&◌, List, Some, refl, arith}
 use Rattle.std.proofs.lemmas.Bool.{and_parts}
 use Rattle.std.proofs.lemmas.Bool.Decides.{nat_tests}
 use Rattle.std.proofs.lemmas.Nat.{div_below}
 use Rattle.std.specs.Ordering.{nat_cmp, int_cmp, bool_cmp, ordering_then}
-use Rattle.std.specs.Cmp.Lexicographic.{slice_cmp}
 use Rattle.std.specs.declared.cmp.Ordering.{Ordering}
 use Rattle.std.specs.declared.cmp.Ordering.TheVariants.{Less, Equal, Greater}
-use Rattle.fb_numbers.specs.declared.entities.TheConstants.{USER_ENTITIES}
 use Rattle.fb_values.specs.declared.facts.Value.{Value}
 use Rattle.fb_values.specs.declared.facts.Value.TheVariants.{Keyword, Str, Bool as Boolean, Long, Ref, Instant}
 use Rattle.fb_values.specs.declared.facts.Value.TheVariants.{Uuid, Symbol, Uri}
 use Rattle.fb_values.specs.declared.facts.Datom.{Datom}
 use Rattle.fb_values.specs.Orders.{type_place, text_cmp, content_cmp, value_cmp}
 use Rattle.fb_prefix.specs.declared.parts.Part.{Part}
-use Rattle.fb_prefix.specs.declared.prefixes.Prefix.{Prefix}
-use Rattle.fb_prefix.specs.Parts.{held, entity_part, attribute_part, front, sixteen, raised, signed_part, number_part, content_of, content, value_part}
+use Rattle.fb_prefix.specs.Parts.{held, attribute_part, front, sixteen, raised, signed_part, content_of, content, value_part}
 use Rattle.fb_prefix.specs.Prefixes.{behind_value, value_and_entity}
 use Rattle.fb_prefix.proofs.Agreeing.{nat_less, nat_equal, Agree, AgreeByWords, less_then, equal_then, behind_less, first_part, same_parts}
 use Rattle.fb_prefix.proofs.Fronts.{front_rises, front_below, div_less, next_less}

@@ -2,21 +2,21 @@
 use Rattle.std.proofs.Common.{◌≡◌, ℕ, ◌-◌, ◌^◌, ◌<◌, true, refl, arith}
 use Rattle.std.specs.Ordering.{nat_cmp, ordering_then}
 use Rattle.std.specs.declared.cmp.Ordering.{Ordering}
-use Rattle.std.specs.declared.cmp.Ordering.TheVariants.{Less, Equal, Greater}
+use Rattle.std.specs.declared.cmp.Ordering.TheVariants.{Less, Equal}
 use Rattle.fb_values.specs.declared.facts.Datom.{Datom}
 use Rattle.fb_values.specs.declared.indexes.Order.{Order}
 use Rattle.fb_values.specs.declared.indexes.Order.TheVariants.{Eavt, Aevt, Avet, Vaet}
 use Rattle.fb_values.specs.Orders.{key_cmp, value_cmp}
 use Rattle.fb_prefix.specs.declared.parts.Part.{Part}
 use Rattle.fb_prefix.specs.Parts.{entity_part, attribute_part, value_part}
-use Rattle.fb_prefix.specs.Prefixes.{is_lesser, pair, put, value_and_entity, prefix_in}
+use Rattle.fb_prefix.specs.Prefixes.{is_lesser, pair, value_and_entity, prefix_in}
 use Rattle.fb_prefix.proofs.Agreeing.{AgreeByWords, Agree, lesser_agrees, pair_agrees, put_agrees, nat_less, nat_equal}
 use Rattle.fb_prefix.proofs.Contents.{held_agrees, attributes_agree, attribute_below, values_agree, long_range, short_range, values_and_entities_agree, value_below}
 
-entity_below : (e : ℕ) → (entity_part e).n < 2 ^ 48
+pub entity_below : (e : ℕ) → (entity_part e).n < 2 ^ 48
 entity_below e = omega arith
 
-entities_agree : (m n : ℕ) → Agree (record { n = m; is_whole = true }) (record { n = n; is_whole = true }) (nat_cmp m n)
+pub entities_agree : (m n : ℕ) → Agree (record { n = m; is_whole = true }) (record { n = n; is_whole = true }) (nat_cmp m n)
 entities_agree m n = record { rises = nat_less m n; exact = λ same whole. (nat_equal m n same, refl) }
 
 -- how the transactions compare decides last

@@ -1,6 +1,6 @@
 -- Numbers of a few bits that stand for an entity, an attribute or a value, and rise as these do.
 -- This project's own choice.
-use Rattle.std.specs.Prelude.{ℕ, zero, suc, ◌+◌, ◌-◌, ◌*◌, ◌/◌, ◌^◌, min, ℤ, pos, negsuc, Bool, true, false, ◌&&◌}
+use Rattle.std.specs.Prelude.{ℕ, zero, suc, ◌+◌, ◌-◌, ◌*◌, ◌/◌, ◌^◌, min, ℤ, pos, negsuc, true, false, ◌&&◌}
 use Rattle.std.specs.Prelude.{if◌then◌else◌, nat_lt, List, [], ◌∷◌, Option, Some, None}
 use Rattle.fb_numbers.specs.declared.entities.TheConstants.{USER_ENTITIES}
 use Rattle.fb_values.specs.declared.facts.Value.{Value}

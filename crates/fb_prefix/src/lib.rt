@@ -4,5 +4,7 @@
 pub mod laws;
 mod parts;
 mod prefixes;
+mod probes;
 
 pub use prefixes::{Prefix, prefix_of};
+pub use probes::{Sought, sought_by};

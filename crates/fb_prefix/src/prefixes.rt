@@ -75,7 +75,7 @@ fn value_and_entity(d: &Datom) -> Prefix
     }
 }
 
-fn behind_value(value: Part, bytes: Option<u128>, e: u64) -> u64
+pub fn behind_value(value: Part, bytes: Option<u128>, e: u64) -> u64
     ensures { result ≡ model_behind_value value bytes e }
 {
     match bytes {
@@ -85,7 +85,7 @@ fn behind_value(value: Part, bytes: Option<u128>, e: u64) -> u64
     }
 }
 
-fn pair(p: Part, q: Part) -> Prefix
+pub fn pair(p: Part, q: Part) -> Prefix
     ensures { result ≡ model_pair p q }
 {
     Prefix {
@@ -94,7 +94,7 @@ fn pair(p: Part, q: Part) -> Prefix
     }
 }
 
-fn put(room: u64, p: Part, rest: Prefix) -> Prefix
+pub fn put(room: u64, p: Part, rest: Prefix) -> Prefix
     requires fits { p.n * room + room ≤ 2 ^ 64 }
     requires room { rest.high < room }
     ensures { result ≡ model_put room p rest }
