@@ -85,6 +85,8 @@ def check(program, tally):
     check_trees(program, tally)
     check_names(program, tally)
     check_console(program, tally)
+    check_limit(program, tally)
+    check_each_byte(program, tally)
 
 
 def check_again(program, tally):
@@ -157,6 +159,36 @@ def check_console(program, tally):
             done = subprocess.run([program.path, "backup", "a", "b"], cwd=folder, stdout=full, stderr=subprocess.PIPE, check=False)
         tally.check("tests/backups.py: a full standard output", (6, b"factbase: console: write fault\n", LOG),
                     (done.returncode, done.stderr, read(folder, "b/log")))
+
+
+def check_limit(program, tally):
+    """Files of the target that take no byte, by the limit on the size of files: what was there stays."""
+    for part, before, kept in (("log", LOG[:15] + b"\0", None), ("segments", LOG, LOG)):
+        with tempfile.TemporaryDirectory() as folder:
+            write(folder, "a/log", LOG)
+            run(program, folder, "run", "--merge-at", "1", "a", "-")
+            write(folder, "b/log", before)
+            done = subprocess.run(["sh", "-c", 'trap "" XFSZ; ulimit -f 0; exec "$0" backup a b', program.path], cwd=folder,
+                                  stdout=subprocess.PIPE, stderr=subprocess.PIPE, check=False)
+            line = b"factbase: disk fault on target %b\n" % part.encode()
+            tally.check(f"tests/backups.py: a full disk, {part}", (3, b"", line, kept or before),
+                        (done.returncode, done.stdout, done.stderr, read(folder, "b/log")))
+
+
+def check_each_byte(program, tally):
+    """Targets that differ from the log in the last bit of one byte: each is refused and left as it was, but the one whose first gate
+    is closed by it, which is an empty log."""
+    gate = len(MARK)
+    with tempfile.TemporaryDirectory() as folder:
+        write(folder, "a/log", LOG)
+        for at, byte in enumerate(LOG):
+            target = LOG[:at] + bytes([byte ^ 1]) + LOG[at + 1:]
+            write(folder, "b/log", target)
+            status = run(program, folder, "backup", "a", "b")[0]
+            wanted = (0, LOG) if at == gate else (4, target)
+            if wanted != (status, read(folder, "b/log")):
+                break
+        tally.check("tests/backups.py: each byte changed", (len(LOG) - 1, wanted), (at, (status, read(folder, "b/log"))))
 
 
 def run(program, folder, *words, script=b""):

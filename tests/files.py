@@ -1,5 +1,5 @@
 """What the names of files lead to: a log that is no regular file, and an output that is a source, another output or the database; and a
-log that can't grow.
+log that can't grow, and files with a hole.
 
 Each row is a command of the shell in a folder of its own, after commands that prepare it. What was there before a refused command must be
 there after it.
@@ -75,6 +75,7 @@ def check(program, tally):
     check_held(program, tally)
     check_socket(program, tally)
     check_stopped(program, tally)
+    check_holes(program, tally)
 
 
 def check_held(program, tally):
@@ -123,6 +124,34 @@ def check_stopped(program, tally):
         done = subprocess.run([program.path, "run", folder, "-"], input=script.encode(), capture_output=True, preexec_fn=limit, check=False)
     tally.check("tests/files.py: a log that has stopped", (7, "factbase: log stopped at t 1\n", wanted),
                 (done.returncode, done.stderr.decode(), done.stdout.decode()))
+
+
+# A record whose payload is a format, 16 bytes more that end in a count of none, and a hole.
+HOLE = 3 << 30
+BEFORE_HOLE = b"\1" + HOLE.to_bytes(8, "big") + b"\2" + bytes(16)
+
+
+def check_holes(program, tally):
+    """Files with a record of three gibibytes, of which few bytes are there, in less memory than that."""
+    def limit():
+        resource.setrlimit(resource.RLIMIT_AS, (600 << 20, 600 << 20))
+
+    def check_with(folder):
+        done = subprocess.run([program.path, "check", folder], capture_output=True, preexec_fn=limit, timeout=60, check=False)
+        return done.returncode, done.stderr.decode()
+
+    with tempfile.TemporaryDirectory() as folder:
+        check_with(folder)
+        make_hole(os.path.join(folder, "segments"), b"FACTBASE SEG 1\n")
+        tally.check("tests/files.py: segments with a hole", (0, ""), check_with(folder))
+        make_hole(os.path.join(folder, "log"), b"FACTBASE LOG 1\n")
+        tally.check("tests/files.py: a log with a hole", (4, "factbase: bad log: record 0 at byte 41\n"), check_with(folder))
+
+
+def make_hole(path, mark):
+    with open(path, "wb") as file:
+        file.write(mark + BEFORE_HOLE)
+        file.truncate(len(mark) + 9 + HOLE + 1)
 
 
 def make(folder):

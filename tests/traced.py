@@ -22,8 +22,8 @@ KINDS = "openat,flock,fsync,fdatasync,pread64,pwrite64,ftruncate,read,write"
 OPENED = [f"{call} {file}" for part in ("log", "segments")
           for call, file in (("openat", "data"), ("openat", part), ("flock", part), ("fsync", "data"))]
 # The call that fails, which one of its kind it is on this file, and what then comes: the status, how many are answered, how many are found.
-OPENING_CALLS = [("flock", 1, 2, 0, 0), ("fdatasync", 1, 3, 0, 0), ("pwrite64", 1, 3, 0, 0), ("fdatasync", 2, 3, 0, 0),
-                 ("pread64", 1, 3, 0, 0)]
+OPENING_CALLS = [("openat", 1, 2, 0, 0), ("openat", 2, 2, 0, 0), ("flock", 1, 2, 0, 0), ("fsync", 1, 2, 0, 0), ("fdatasync", 1, 3, 0, 0),
+                 ("pwrite64", 1, 3, 0, 0), ("fdatasync", 2, 3, 0, 0), ("pread64", 1, 3, 0, 0)]
 COMMIT_CALLS = [("pwrite64", 4, 7, 1, 1), ("fdatasync", 5, 7, 1, 1), ("pwrite64", 5, 7, 1, 1), ("fdatasync", 6, 7, 1, 2)]
 
 

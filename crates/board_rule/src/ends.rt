@@ -1,5 +1,5 @@
 //! How a board is made, and what is left when it is closed.
-ghost use Rattle.std.specs.Prelude.{◌≡◌, ℕ, ◌+◌, ◌<◌, ◌≤◌, [], ◌∷◌, map, length, Some, None, IfOk, slice_index_or, slice_set, replicate, true, false};
+ghost use Rattle.std.specs.Prelude.{◌≡◌, ℕ, ◌+◌, ◌<◌, ◌≤◌, [], ◌∷◌, map, length, Some, None, IfOk, IfErr, slice_get, slice_index_or, slice_set, replicate, vec_capacity, true, false};
 ghost use Rattle.std.specs.List.{All};
 ghost use Rattle.std.specs.Slots.{slots_filled, slots_len};
 ghost use Rattle.board_rule.specs.Views.{worker, IsLawful, codes, starting, IsWhole};
@@ -17,29 +17,65 @@ use fb_memory::Memory;
 use std::alloc::Global;
 use std::snapshot::Snapshot;
 
-/// Slot 0 with the value, and a mail slot for each snapshot.
-fn lay_slots<H: Drop, S: Drop>(
-    alloc: Global,
-    home: H,
-    mailed: Vec<S>,
-) -> Result<Vec<SlotValue<H, S>>, Memory>
-    ensures { IfOk result (λ v. v.items ≡ Core (Some home) ∷ map mailed_as mailed.items) }
-{
-    let mut slots = Vec::new(alloc);
-    slots.push(SlotValue::Core(Some(home)))?;
-    for snapshot in mailed {
-        slots.push(SlotValue::Mail(Some(snapshot)))?;
-    }
-    Ok(slots)
+/// A board that was not made, since memory ran out.
+#[derive(Drop)]
+pub struct BoardStop<H> {
+    /// The value that was to be in slot 0.
+    pub home: H,
 }
 
-fn lay_words(alloc: Global, sessions: usize, basis: u32) -> Result<Vec<u64>, Memory>
+/// The memory for a board's words and slots.
+#[derive(Drop)]
+struct Room<H, S> {
+    words: Vec<u64>,
+    slots: Vec<SlotValue<H, S>>,
+}
+
+/// The words of so many sessions, and room for their slots.
+fn room_for<H: Drop, S: Drop>(
+    alloc: Global,
+    sessions: usize,
+    basis: u32,
+) -> Result<Room<H, S>, Memory>
     requires { sessions < 2147483648 }
-    ensures { IfOk result (λ v. v.items ≡ slice_set (replicate (sessions + 3) 0) 2 basis) }
+    ensures words { IfOk result
+        (λ r. r.words.items ≡ slice_set (replicate (sessions + 3) 0) 2 basis) }
+    ensures slots { IfOk result
+        (λ r. (r.slots.items ≡ []) × (sessions + 1 ≤ vec_capacity r.slots)) }
 {
     let mut words = Vec::from_elem(alloc, 0u64, sessions + 3)?;
     words[2] = basis as u64;
-    Ok(words)
+    let slots = Vec::with_capacity(alloc, sessions + 1)?;
+    Ok(Room { words, slots })
+}
+
+/// Slot 0 with the value, and a mail slot for each snapshot.
+fn lay_slots<H: Drop, S: Drop>(
+    home: H,
+    mailed: Vec<S>,
+    mut slots: Vec<SlotValue<H, S>>,
+) -> Vec<SlotValue<H, S>>
+    requires empty { slots.items ≡ [] }
+    requires room { length mailed.items + 1 ≤ vec_capacity slots }
+    ensures { result.items ≡ Core (Some home) ∷ map mailed_as mailed.items }
+{
+    slots.push_reserved(SlotValue::Core(Some(home)));
+    let mut mailed = mailed.into_iter();
+    while let Some(snapshot) = mailed.next() {
+        slots.push_reserved(SlotValue::Mail(Some(snapshot)));
+    }
+    slots
+}
+
+/// The value in slot 0.
+fn home_of<H: Drop, S: Drop>(slots: Vec<SlotValue<H, S>>) -> H
+    requires { (h : H) × (slice_get slots.items 0 ≡ Some (Core (Some h))) }
+    ensures { slice_get slots.items 0 ≡ Some (Core (Some result)) }
+{
+    match slots.into_iter().next() {
+        Some(slot) => core_of(slot),
+        None => unreachable!(),
+    }
 }
 
 fn core_of<H: Drop, S: Drop>(place: SlotValue<H, S>) -> H
@@ -74,7 +110,7 @@ impl<H: Named, S: Mailed + Named<Entry = H::Entry>> Board<H, S> {
         home: H,
         basis: u32,
         mailed: Mails<S>,
-    ) -> Result<(Board<H, S>, BoardSeat), Memory>
+    ) -> Result<(Board<H, S>, BoardSeat), BoardStop<H>>
         requires history { (basis + 1 ≡ length (H.entries home))
             × IsLawful H.follows (H.entries home) }
         requires home { (H.authors home ≡ []) × ((H.marks home).stop ≡ None) × H.sound home }
@@ -87,6 +123,7 @@ impl<H: Named, S: Mailed + Named<Entry = H::Entry>> Board<H, S> {
         ensures seat { IfOk result (λ r. view_of r.1
             ≡ starting basis (codes H.Entry.row.coded.code (H.entries home))
             (H.marks home).covered) }
+        ensures stop { IfErr result (λ stop. stop.home ≡ home) }
     {
         let mailed = mailed.into_vec();
         let sessions = mailed.len();
@@ -95,8 +132,10 @@ impl<H: Named, S: Mailed + Named<Entry = H::Entry>> Board<H, S> {
             sessions: sessions as u32,
             start: basis,
         };
-        let words = lay_words(alloc, sessions, basis)?;
-        let slots = lay_slots(alloc, home, mailed)?;
+        let Ok(Room { words, slots }) = room_for(alloc, sessions, basis) else {
+            return Err(BoardStop { home });
+        };
+        let slots = lay_slots(home, mailed, slots);
         match Table::new(alloc, words.as_slice(), slots, &about) {
             Ok((table, seat)) => Ok((
                 Board {
@@ -111,7 +150,9 @@ impl<H: Named, S: Mailed + Named<Entry = H::Entry>> Board<H, S> {
                     badge: seat.into_badge(),
                 },
             )),
-            Err(Refused { slots: _ }) => Err(Memory),
+            Err(Refused { slots }) => Err(BoardStop {
+                home: home_of(slots),
+            }),
         }
     }
 

@@ -16,6 +16,7 @@ mod steps;
 mod view;
 
 pub use board::{Begun, Board, OneHistory, SlotValue};
+pub use ends::BoardStop;
 pub use held::Held;
 pub use mail_steps::{
     step_holder_grab, step_holder_let_go, step_mail, step_reader_grab, step_reader_let_go,

@@ -1,5 +1,5 @@
 //! The snapshots with which the mail slots begin.
-ghost use Rattle.std.specs.Prelude.{◌≡◌, List};
+ghost use Rattle.std.specs.Prelude.{◌≡◌, List, length};
 
 use std::marker::Model;
 
@@ -20,6 +20,12 @@ impl<S: Drop> Mails<S> {
         ensures { result ≡ snapshots.items }
     {
         Mails { snapshots }
+    }
+
+    pub fn len(&self) -> usize
+        ensures { result ≡ length self.now }
+    {
+        self.snapshots.len()
     }
 
     pub fn into_vec(self) -> Vec<S>

@@ -1,13 +1,12 @@
 //! How a board is opened with a seat for each session, and how the seats come together again.
-ghost use Rattle.std.specs.Prelude.{◌≡◌, ◌+◌, ◌<◌, ◌≤◌, [], map, length, None, IfOk};
+ghost use Rattle.std.specs.Prelude.{◌≡◌, ◌+◌, ◌<◌, ◌≤◌, [], map, length, None, IfOk, IfErr, vec_capacity};
 ghost use Rattle.std.specs.List.{All};
 ghost use Rattle.board_rule.specs.declared.seat.BoardSeat.{BoardSeat};
 ghost use Rattle.board_rule.specs.Views.{worker, IsLawful, codes, starting, IsIdle};
 ghost use Rattle.board_rule.specs.Calls.{view_of, board_of};
 ghost use Rattle.board_seats.specs.Seating.{AreNew, AreIdle, AreNoted, HasSeen};
 
-use board_rule::{Board, BoardSeat, Mailed, Mails, Named, step_join, step_split};
-use fb_memory::Memory;
+use board_rule::{Board, BoardSeat, BoardStop, Mailed, Mails, Named, step_join, step_split};
 use std::alloc::Global;
 
 /// A board that was opened.
@@ -20,35 +19,37 @@ pub struct Opened<H: Named, S: Mailed + Named<Entry = H::Entry>> {
     pub seats: Vec<BoardSeat>,
 }
 
+/// Splits a seat for each session from the first one. `room` has room for them.
 fn split_each<H: Named, S: Mailed + Named<Entry = H::Entry>>(
-    alloc: Global,
     board: &Board<H, S>,
     first: &mut BoardSeat,
     count: u32,
-) -> Result<Vec<BoardSeat>, Memory>
+    room: Vec<BoardSeat>,
+) -> Vec<BoardSeat>
     requires seat { board_of first.old ≡ board.now.table.shared.table_id }
     requires first { ((view_of first.old).number ≡ worker) × ((view_of first.old).given ≡ 0) }
     requires few { count < 2147483648 }
+    requires empty { room.items ≡ [] }
+    requires room { count ≤ vec_capacity room }
     ensures seat { board_of first.new ≡ board_of first.old }
-    ensures given { IfOk result
-        (λ seats. view_of first.new ≡ record (view_of first.old) { given = count }) }
-    ensures count { IfOk result (λ seats. length seats.items ≡ count) }
-    ensures seats { IfOk result (λ seats. AreNew board.now.table.shared.table_id
-        (view_of first.old).start (view_of first.old).seen seats.items) }
+    ensures given { view_of first.new ≡ record (view_of first.old) { given = count } }
+    ensures count { length result.items ≡ count }
+    ensures seats { AreNew board.now.table.shared.table_id (view_of first.old).start
+        (view_of first.old).seen result.items }
 {
-    let mut seats = Vec::new(alloc);
+    let mut seats = room;
     for _ in 0..count {
-        seats.push(step_split(board, first))?;
+        seats.push_reserved(step_split(board, first));
     }
-    Ok(seats)
+    seats
 }
 
-/// A board of the history of `home`, with a mail slot and a seat for each snapshot.
+/// A board of the history of `home`, with a mail slot and a seat for each snapshot. Where memory runs out, `home` is handed back.
 pub fn open<H: Named, S: Mailed + Named<Entry = H::Entry>>(
     alloc: Global,
     home: H,
     mails: Mails<S>,
-) -> Result<Opened<H, S>, Memory>
+) -> Result<Opened<H, S>, BoardStop<H>>
     requires history { IsLawful H.follows (H.entries home) }
     requires home { (H.authors home ≡ []) × ((H.marks home).stop ≡ None) × H.sound home }
     requires mails { All (λ s. S.entries s ≡ H.entries home) mails × (length mails < 2147483648) }
@@ -66,10 +67,14 @@ pub fn open<H: Named, S: Mailed + Named<Entry = H::Entry>>(
     ensures seats { IfOk result (λ o. AreNew o.board.table.shared.table_id
         o.board.table.shared.key.start (codes H.Entry.row.coded.code (H.entries home))
         o.seats.items) }
+    ensures stop { IfErr result (λ stop. stop.home ≡ home) }
 {
+    let Ok(room) = Vec::with_capacity(alloc, mails.len()) else {
+        return Err(BoardStop { home });
+    };
     let basis = home.basis();
     let (board, mut first) = Board::new(alloc, home, basis, mails)?;
-    let seats = split_each(alloc, &board, &mut first, board.sessions())?;
+    let seats = split_each(&board, &mut first, board.sessions(), room);
     Ok(Opened {
         board,
         first,

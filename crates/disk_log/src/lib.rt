@@ -4,6 +4,8 @@
 
 mod laws;
 mod logs;
+mod records;
 
 pub use laws::a_log_goes_on_from_its_opening;
 pub use logs::DiskLog;
+pub use records::{LogRecord, next_record};

@@ -10,7 +10,7 @@ use Rattle.fb_journal.specs.declared.starts.StartFault.TheVariants.{Disk as Star
 use Rattle.backup_model.proofs.CopiedLogs.{hold-behind}
 use Rattle.fb_backup.specs.declared.faults.BackupFault.{BackupFault}
 use Rattle.fb_backup.specs.declared.faults.BackupFault.TheVariants.{Disk, BadLog, Other, Memory}
-use Rattle.fb_backup.specs.Backups.{fault_of, IsBackupCause, IsOutside, CountsBackup}
+use Rattle.fb_backup.specs.Backups.{fault_of, IsBackupCause, IsOutside, IsRefusal, CountsBackup}
 use Rattle.fb_backup.specs.Comparing.{SaysFault}
 
 module _ (told : Option (List ℕ)) (h : List Entry) (records : List (List ℕ)) where
@@ -56,3 +56,10 @@ outside-cause told h Disk outside = λ file is. tt
 outside-cause told h (BadLog nth at) outside = absurd outside
 outside-cause told h (Other t) outside = absurd outside
 outside-cause told h Memory outside = λ file is. tt
+
+-- what comes from outside refuses no file
+pub outside-refusal : (fault : BackupFault) → IsOutside fault → IsRefusal fault → ⊥
+outside-refusal Disk outside refusal = refusal
+outside-refusal (BadLog nth at) outside refusal = outside
+outside-refusal (Other t) outside refusal = outside
+outside-refusal Memory outside refusal = refusal

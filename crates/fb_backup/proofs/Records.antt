@@ -15,6 +15,8 @@ use Rattle.log_model.specs.Log.{RecordsSay, ArePayloadsOf, LogStands, hold, bad_
 use Rattle.log_model.proofs.Entries.{says-entry_bytes}
 use Rattle.backup_model.proofs.CopiedLogs.{behind_first}
 use Rattle.disk_model.specs.Journal.{log_mark}
+use Rattle.disk_log.specs.Records.{IsBehind}
+use Rattle.disk_log.specs.declared.records.LogRecord.TheVariants.{Misfit as Bad}
 use Rattle.disk_log.proofs.Histories.{payloads-push, stands-push}
 use Rattle.fb_view.proofs.Beginnings.{next_of, upto_lawful}
 use Rattle.fb_view.proofs.Lists.{take-next}
@@ -58,6 +60,12 @@ misfit-found h records beside place payload byte at are number here breaks sum =
     let many : length records ≡ place.nth = sym number in
     let there : byte_in_log records byte ≡ at = omega (arith, sum, here) in
     bad-behind [] had.0 records payload byte had.1 breaks ∙ (λ i. bad_at (many i) (there i))
+
+pub misfit-behind : (h : List Entry) (records : List (List ℕ)) (beside : Beside) (whole read : List ℕ) (nth at : ℕ)
+    → AreBeside h records beside → IsBehind records whole read (Bad nth at) → AreCompared h (records ++ whole ∷ []) (Misfit nth at)
+misfit-behind h records beside whole read nth at are is =
+    let had = held h records beside are in
+    bad-behind [] had.0 records whole is.0 had.1 is.1 ∙ (λ i. bad_at (sym is.2 i) (sym is.3 i))
 
 with-stays : (before : List (List ℕ)) (said : PayloadSays) (behind longer : RecordsSay) (nth at : ℕ)
     → (behind ≡ bad_at nth at → longer ≡ bad_at nth at)

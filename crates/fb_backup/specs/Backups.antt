@@ -27,6 +27,13 @@ IsOutside (BadLog nth at) = ⊥
 IsOutside (Other t) = ⊥
 IsOutside Memory = ⊤
 
+-- the file is refused: its log is no beginning of the history
+abbrev pub IsRefusal : BackupFault → Type 0
+IsRefusal Disk = ⊥
+IsRefusal (BadLog nth at) = ⊤
+IsRefusal (Other t) = ⊤
+IsRefusal Memory = ⊥
+
 -- a fault of the disk raised its count, and nothing else did
 abbrev pub CountsBackup : BackupFault → ℕ → ℕ → Type 0
 CountsBackup Disk old new = Rose old new

@@ -6,10 +6,11 @@ ghost use Rattle.fb_model.specs.Lawful.{IsLawful};
 ghost use Rattle.disk_model.specs.Disk.{IfKnown, LeavesOnly};
 ghost use Rattle.log_model.specs.Log.{IsLogOf};
 ghost use Rattle.fb_journal.specs.Journals.{StaysKnown};
+ghost use Rattle.fb_journal.specs.Readings.{LeavesBegun};
 ghost use Rattle.disk_log.specs.Disks.{IsLogFrom};
 ghost use Rattle.disk_log.specs.Logs.{disk_in, count_in, KeepsHistory};
 ghost use Rattle.backup_model.specs.Backup.{appends, copied_of, BackupSays};
-ghost use Rattle.fb_backup.specs.Backups.{IsBackupCause, IsOutside, CountsBackup, log_left};
+ghost use Rattle.fb_backup.specs.Backups.{IsBackupCause, IsOutside, IsRefusal, CountsBackup, log_left};
 
 use crate::appending::append_behind;
 use crate::reading::{Target, open_target};
@@ -42,6 +43,10 @@ pub fn backup<D: Disk>(
         ((image : List ℕ) → D.images log image → IsLogFrom n snapshot.now.entries image)
         → LeavesOnly D.moment D.images_since log (log_left result)
         (IsLogFrom n snapshot.now.entries)) }
+
+    // A target that is refused is left as it was.
+    ensures untouched { IfErr result (λ s. IsRefusal s.fault
+        → LeavesBegun D.bytes D.images D.moment D.images_since log s.log) }
 
     // A fault is what the target says beside the history, and the disk's is counted.
     ensures why_not { IfErr result

@@ -5,10 +5,13 @@ ghost use Rattle.fb_model.specs.History.{basis, upto};
 ghost use Rattle.fb_model.specs.Lawful.{IsLawful};
 ghost use Rattle.log_model.specs.Storable.{IsPayloadOf};
 ghost use Rattle.log_model.specs.Log.{LogStands, byte_in_log};
+ghost use Rattle.disk_log.specs.Records.{IsBehind, EndsWithin};
+ghost use Rattle.disk_log.specs.declared.records.LogRecord.TheVariants.{Misfit};
 ghost use Rattle.fb_backup.specs.Comparing.{AreBeside, AreCompared, SaysFault};
 
 use crate::BackupFault;
 use crate::same::has_at;
+use disk_log::LogRecord;
 use fb_codec::{BytesFault, entry_of};
 use fb_history::EntryList;
 use fb_journal::Place;
@@ -47,8 +50,29 @@ impl Compared {
         }
     }
 
-    /// With the record that comes next, whose payload lies at this place.
+    /// With the record that comes next, of whose payload this was read.
     pub(crate) fn with(
+        self,
+        alloc: Global,
+        entries: &EntryList,
+        next: LogRecord,
+        payload: &[u8],
+    ) -> Result<Compared, Memory>
+        requires lawful { IsLawful entries.now }
+        requires within { EndsWithin payload.now next }
+        requires compared { (records : List (List ℕ)) × AreCompared entries.now records self }
+        ensures { IfOk result (λ compared. (records : List (List ℕ)) (whole : List ℕ)
+            → AreCompared entries.now records self → IsBehind records whole payload.now next
+            → AreCompared entries.now (records ++ whole ∷ []) compared) }
+    {
+        match next {
+            LogRecord::Whole { place } => self.with_payload(alloc, entries, place, payload),
+            LogRecord::Misfit { nth, at } => Ok(self.with_misfit(nth, at)),
+        }
+    }
+
+    /// With a record whose payload lies at this place.
+    fn with_payload(
         self,
         alloc: Global,
         entries: &EntryList,
@@ -66,6 +90,24 @@ impl Compared {
         match self {
             Compared::Entries { beside } => compared_in(alloc, entries, beside, place, payload),
             Compared::Misfit { nth, at } => Ok(Compared::Misfit { nth, at }),
+        }
+    }
+
+    /// With a record that holds no entry.
+    fn with_misfit(self, nth: u64, at: u64) -> Compared
+        ensures { (h : List Entry) (records : List (List ℕ)) (whole read : List ℕ)
+            → AreCompared h records self → IsBehind records whole read (Misfit nth at)
+            → AreCompared h (records ++ whole ∷ []) result }
+    {
+        match self {
+            Compared::Entries { .. } => Compared::Misfit { nth, at },
+            Compared::Misfit {
+                nth: first,
+                at: there,
+            } => Compared::Misfit {
+                nth: first,
+                at: there,
+            },
         }
     }
 

@@ -14,7 +14,7 @@ ghost use Rattle.fb_backup.specs.Targets.{target_left};
 
 use crate::comparing::Compared;
 use crate::{BackupFault, BackupStop};
-use disk_log::DiskLog;
+use disk_log::{DiskLog, next_record};
 use fb_disk::Disk;
 use fb_history::EntryList;
 use fb_journal::{Journal, Mark, Reading, StartStop};
@@ -53,6 +53,8 @@ pub(crate) fn open_target<D: Disk>(
         ((image : List ℕ) → D.images disk image → IsLogFrom n entries.now image)
         → LeavesOnly D.moment D.images_since disk (target_left result)
         (IsLogFrom n entries.now)) }
+    ensures untouched { IfErr result
+        (λ s. LeavesBegun D.bytes D.images D.moment D.images_since disk s.log) }
 {
     let mut reading = match Journal::open(alloc, disk, Mark::Log) {
         Ok(reading) => reading,
@@ -100,8 +102,8 @@ fn beginning_of<D: Disk>(
 {
     let mut compared = Compared::none();
     let mut payload = Vec::new(alloc);
-    while let Some(place) = log.next(&mut payload)? {
-        compared = compared.with(alloc, entries, place, &payload)?;
+    while let Some(next) = next_record(alloc, log, &mut payload)? {
+        compared = compared.with(alloc, entries, next, &payload)?;
     }
     compared.into_basis()
 }

@@ -5,6 +5,7 @@
 mod entries;
 mod faults;
 mod fields;
+mod fronts;
 mod room;
 mod tags;
 mod texts;
@@ -15,5 +16,6 @@ pub use faults::BytesFault;
 pub use fields::{
     WRITTEN_FORMAT, get_format, get_i64, get_truth, get_u8, get_u32, get_u64, get_u128, misfit, put,
 };
+pub use fronts::{has_whole_field, misfit_in_front};
 pub use texts::{Words, get_text, put_text};
 pub use values::{get_value, put_value};

@@ -17,6 +17,11 @@ module _ {A B : Type 0} (f : A → B) where
   made_at (x ∷ l) zero a e = let same : x ≡ a = cc e in ap (λ z. some (f z)) same
   made_at (x ∷ l) (suc k) a e = made_at l k a e
 
+  pub each_made : (P : B → Type 0) (l : List A) (k : ℕ) (a : A) → All P (map f l) → slice_get l k ≡ Some a → P (f a)
+  each_made P [] k a all e = absurd (cc)
+  each_made P (x ∷ l) zero a all e = let same : x ≡ a = cc e in subst (λ z. P (f z)) same (all zero (f x) (omega arith))
+  each_made P (x ∷ l) (suc k) a all e = each_made P l k a (λ i d within. all (suc i) d (omega (arith, within))) e
+
 pub all_at : {A : Type 0} (P : A → Type 0) (l : List A) (k : ℕ) (a : A) → All P l → slice_get l k ≡ Some a → P a
 all_at P l k a all at = subst P (get_or_from_slice_get l k a a at) (all k a (slice_get_within l k a at))
 

@@ -6,6 +6,7 @@ use base.Stored.{Coded-set, Gv-set}
 use Rattle.std.proofs.Props.{props}
 use Rattle.atomic_table.specs.Seated.{TableId, table_id_coded}
 use Rattle.fb_values.specs.declared.facts.Entry.{Entry}
+use Rattle.fb_view.specs.SnapshotModel.{SnapshotModel}
 use Rattle.fb_desk.specs.declared.answers.Glance.{Glance}
 use Rattle.fb_desk.specs.declared.answers.Glance.TheVariants.{Fresh, Held}
 use Rattle.fb_desk.specs.Desks.{State, most_calls}
@@ -22,6 +23,9 @@ use Rattle.fb_conn.specs.Homes.{code_of}
 
 abbrev pub board_in : Seat → BoardSeat
 board_in seat = seat.board
+
+abbrev pub last_in : Seat → SnapshotModel
+last_in seat = seat.last
 
 -- a seat of this table between two calls: what it has seen is the history of its last snapshot
 pub record IsAtRest (table : TableId) (seat : Seat) : Type 0 where

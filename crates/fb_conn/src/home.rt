@@ -1,6 +1,7 @@
 //! What lies in slot 0 of the board: the core, and the log that goes with it.
 ghost use Rattle.std.specs.Prelude.{◌≡◌};
 
+use crate::conn::ConnStop;
 use board_seats::Named;
 use fb_core::{Core, Draft};
 use fb_log::Log;
@@ -47,5 +48,22 @@ impl<L: Log> Named for Home<L> {
 
     fn basis(&self) -> u32 {
         self.core.basis()
+    }
+}
+
+impl<L: Log> Home<L> {
+    /// What is left of it, where no connection was opened.
+    pub(crate) fn into_stop(self) -> ConnStop<L>
+        ensures core { result.core ≡ self.core }
+        ensures log { result.log ≡ self.log }
+    {
+        let Home {
+            core,
+            log,
+            stop: _,
+            torn: _,
+            begun: _,
+        } = self;
+        ConnStop { core, log }
     }
 }

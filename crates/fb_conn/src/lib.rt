@@ -16,6 +16,6 @@ mod turns;
 
 pub use bell::Bell;
 pub use closing::Closed;
-pub use conn::{Conn, Made};
+pub use conn::{Conn, ConnStop, Made};
 pub use home::Stop;
 pub use seats::Seat;

@@ -2,6 +2,7 @@ pub mod Appends
 pub mod Filling
 pub mod Framing
 pub mod GoingOn
+pub mod GoingOver
 pub mod Outcomes
 pub mod Passing
 pub mod Showing

@@ -1,12 +1,15 @@
 -- A journal that is read record by record.
 -- This project's own choice.
-use Rattle.std.specs.Prelude.{◌≡◌, ◌⊎◌, ◌≤◌, ◌<◌, ◌+◌, ◌-◌, ◌++◌, ℕ, List, length, take, Option}
+use Rattle.std.specs.Prelude.{◌≡◌, ◌⊎◌, ◌≤◌, ◌<◌, ◌+◌, ◌-◌, ◌++◌, ℕ, List, length, take, drop, Option}
 use Rattle.std.specs.Prelude.{Some, ⊤}
 use Rattle.disk_model.specs.Disk.{Only, IfKnown, LeavesOnly}
 use Rattle.disk_model.specs.Journal.{new_journal, opened, HaveLengths, Holds, JournalStands}
 use Rattle.disk_model.specs.Journal.{JournalBreaks}
 use Rattle.fb_journal.specs.Marks.{mark_bytes}
 use Rattle.fb_journal.specs.Windows.{Shows}
+use Rattle.fb_journal.specs.Gates.{IsAheadAt}
+use Rattle.fb_journal.specs.declared.gates.Ahead.TheVariants.{Record}
+use Rattle.fb_journal.specs.declared.readings.Next.{Next}
 use Rattle.fb_journal.specs.declared.readings.Reading.{Reading}
 use Rattle.fb_journal.specs.declared.starts.StartFault.{StartFault}
 use Rattle.fb_journal.specs.declared.starts.StartFault.TheVariants.{Disk, BadLog, Memory}
@@ -65,3 +68,22 @@ IsFirstFault mark known records (BadLog nth at) =
     IfKnown known (λ file. JournalBreaks mark records file nth at)
 IsFirstFault mark known records Disk = ⊤
 IsFirstFault mark known records Memory = ⊤
+
+-- There is room for this record where the next one lies, and for the front in its payload.
+pub record HasPlace {D : Type 0} {g : _} (r : Reading D g) (next : Next) (front : List ℕ) : Type 0 where
+  pub place : next.place.at ≡ r.gate + 9
+  pub room : next.place.at + next.len < r.window.len
+  pub within : length front ≤ next.len
+
+-- this record comes next in the file, and its payload begins with the front
+abbrev pub IsFront : {D : Type 0} {g : _} → (D → Option (List ℕ)) → Reading D g → Next → List ℕ
+    → Type 0
+IsFront bytes r next front = IfKnown (bytes r.disk) (λ file.
+    IsAheadAt file r.gate (Record next.len)
+    × (front ≡ take (length front) (drop next.place.at file)))
+
+-- no record of more than n bytes comes next in the file
+abbrev pub HasNoLonger : {D : Type 0} {g : _} → (D → Option (List ℕ)) → Reading D g → ℕ → Type 0
+HasNoLonger bytes r n = IfKnown (bytes r.disk) (λ file. (len : ℕ)
+    → IsAheadAt file r.gate (Record len)
+    → len ≤ n)

@@ -19,5 +19,5 @@ pub use frames::{Framed, frame, frame_in};
 pub use journals::{Journal, JournalFault};
 pub use marks::Mark;
 pub use payloads::Payloads;
-pub use readings::{Place, Reading};
+pub use readings::{Next, Place, Reading};
 pub use starts::{StartFault, StartStop};

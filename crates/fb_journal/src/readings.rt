@@ -1,4 +1,4 @@
-//! Reading a journal record by record. Of the file no more is in memory than a window and one payload.
+//! Reading a journal record by record. Of the file no more is in memory than a window and one payload, or the front of one.
 ghost use Rattle.std.specs.Prelude.{◌≡◌, ◌⊎◌, ◌≤◌, ◌<◌, ◌+◌, ◌-◌, ◌^◌, ◌++◌, [], ◌∷◌, ℕ, List, length, take, drop, IfOk, IfErr, OnOk, OnErr, MatchOption, MatchResult, ⊤};
 ghost use Rattle.disk_model.specs.Disk.{IfKnown, LeavesOnly};
 ghost use Rattle.disk_model.specs.Journal.{opened};
@@ -22,6 +22,13 @@ const BEFORE_PAYLOAD: u64 = 9;
 pub struct Place {
     pub nth: u64,
     pub at: u64,
+}
+
+/// The record that comes next: its place, and the length of its payload.
+#[derive(Clone, Copy, Debug, PartialEq, Eq)]
+pub struct Next {
+    pub place: Place,
+    pub len: u64,
 }
 
 /// A journal whose records are being read, one after another.
@@ -80,7 +87,7 @@ impl<D: Disk> Journal<D> {
 
 impl<D: Disk> Reading<D> {
     ghost use Rattle.fb_journal.specs.Windows.{Shows, OnlyReads};
-    ghost use Rattle.fb_journal.specs.Readings.{disk_from, left_in, HasRead, HasReadAll, IsFirstFault};
+    ghost use Rattle.fb_journal.specs.Readings.{disk_from, left_in, HasRead, HasReadAll, IsFirstFault, HasPlace, IsFront, HasNoLonger};
     ghost use Rattle.fb_journal.specs.declared.starts.StartFault.{StartFault};
 
     /// Reads the next record's payload, in place of what the vector holds, and answers the place of the record; or answers
@@ -122,6 +129,66 @@ impl<D: Disk> Reading<D> {
         }
     }
 
+    /// Reads the first n bytes of the next record's payload, if there are more, in place of what the vector holds, and answers
+    /// the record. The reading stays where it was, and a fault of the file is not told.
+    pub fn front(&mut self, n: usize, front: &mut Vec<u8>) -> Result<Option<Next>, StartFault>
+        ensures has_place { IfOk result (λ next. MatchOption next ⊤
+            (λ next. HasPlace self.new next front.new.items)) }
+        ensures front { IfOk result (λ next. MatchOption next ⊤ (λ next. (mark : List ℕ) (disk : D)
+            (records : List (List ℕ))
+            → HasRead D.bytes D.images D.moment D.images_since mark disk records self.old
+            → IsFront D.bytes self.new next front.new.items
+            × (next.place.nth ≡ length records)
+            × (next.place.at ≡ length mark + length (opened records) + 9))) }
+        ensures len { IfOk result (λ next. MatchOption next ⊤
+            (λ next. (length front.new.items ≡ n) × (n < next.len))) }
+        ensures within { IfOk result (λ next. MatchOption next ⊤
+            (λ next. next.place.at + next.len < 2 ^ 64)) }
+        ensures none { IfOk result (λ next. MatchOption next ((mark : List ℕ) (disk : D)
+            (records : List (List ℕ))
+            → HasRead D.bytes D.images D.moment D.images_since mark disk records self.old
+            → HasNoLonger D.bytes self.old n)
+            (λ _. ⊤)) }
+        ensures stays { (mark : List ℕ) (disk : D) (records : List (List ℕ))
+            → HasRead D.bytes D.images D.moment D.images_since mark disk records self.old
+            → HasRead D.bytes D.images D.moment D.images_since mark disk records self.new }
+        ensures left { left_in self.new ≡ left_in self.old }
+        ensures why_not { IfErr result (λ fault. (mark : List ℕ) (disk : D)
+            (records : List (List ℕ))
+            → HasRead D.bytes D.images D.moment D.images_since mark disk records self.old
+            → IsFirstFault mark (D.bytes disk) records fault) }
+        ensures counted { MatchResult result
+            (λ _. D.faults (disk_from self.new) ≡ D.faults (disk_from self.old))
+            (λ fault. CountsStart fault (D.faults (disk_from self.old)) (D.faults (disk_from self.new))) }
+    {
+        let ahead = look_ahead(&mut self.disk, &mut self.window, self.gate)?;
+        let Ahead::Record { len } = ahead else {
+            return Ok(None);
+        };
+        if len <= n {
+            return Ok(None);
+        }
+        let place = self.read_ahead(n, front)?;
+        let len = len as u64;
+        Ok(Some(Next { place, len }))
+    }
+
+    /// Goes on behind the record that comes next, of whose payload this is the front, and reads no more of it.
+    pub fn pass(&mut self, next: Next, front: &[u8])
+        requires { HasPlace self.old next front.now }
+        ensures passed { (rest : List ℕ) × ((mark : List ℕ) (disk : D) (records : List (List ℕ))
+            → HasRead D.bytes D.images D.moment D.images_since mark disk records self.old
+            → IsFront D.bytes self.old next front.now
+            → HasRead D.bytes D.images D.moment D.images_since mark disk
+            (records ++ (front.now ++ rest) ∷ []) self.new) }
+        ensures less { left_in self.new < left_in self.old }
+        ensures counted { D.faults (disk_from self.new) ≡ D.faults (disk_from self.old) }
+    {
+        let _len = front.len();
+        self.gate = next.place.at + next.len;
+        self.records += 1;
+    }
+
     /// Reads the payload of this length after the gate.
     fn take(&mut self, len: usize, payload: &mut Vec<u8>) -> Result<Place, StartFault>
         requires { self.old.gate + 9 + len < self.old.window.len }
@@ -144,8 +211,33 @@ impl<D: Disk> Reading<D> {
             (λ _. D.faults (disk_from self.new) ≡ D.faults (disk_from self.old))
             (λ fault. CountsStart fault (D.faults (disk_from self.old)) (D.faults (disk_from self.new))) }
     {
+        let place = self.read_ahead(len, payload)?;
+        self.gate = place.at + len as u64;
+        self.records += 1;
+        Ok(place)
+    }
+
+    /// Reads the first n bytes of the payload after the gate.
+    fn read_ahead(&mut self, n: usize, payload: &mut Vec<u8>) -> Result<Place, StartFault>
+        requires { self.old.gate + 9 + n < self.old.window.len }
+        ensures place { IfOk result (λ place. (place.nth ≡ self.old.records)
+            × (place.at ≡ self.old.gate + 9)) }
+        ensures len { OnOk result (length payload.new.items ≡ n) }
+        ensures read { OnOk result (IfKnown (D.bytes (disk_from self.old)) (λ file.
+            Shows file self.old.window
+            → payload.new.items ≡ take n (drop (self.old.gate + 9) file))) }
+        ensures stays { (self.new.records ≡ self.old.records) × (self.new.gate ≡ self.old.gate)
+            × (self.new.mark ≡ self.old.mark) }
+        ensures leaves { OnlyReads D.bytes D.images D.moment D.images_since (disk_from self.old)
+            (disk_from self.new) self.old.window self.new.window }
+        ensures why_not { IfErr result (λ fault. IfKnown (D.bytes (disk_from self.old)) (λ file.
+            Shows file self.old.window → IsNotBad fault)) }
+        ensures counted { MatchResult result
+            (λ _. D.faults (disk_from self.new) ≡ D.faults (disk_from self.old))
+            (λ fault. CountsStart fault (D.faults (disk_from self.old)) (D.faults (disk_from self.new))) }
+    {
         payload.clear();
-        payload.resize(len, 0)?;
+        payload.resize(n, 0)?;
         let place = Place {
             nth: self.records,
             at: self.gate + BEFORE_PAYLOAD,
@@ -153,8 +245,6 @@ impl<D: Disk> Reading<D> {
         if !self.window.read(&mut self.disk, place.at, payload)? {
             return Err(self.broken());
         }
-        self.gate = place.at + len as u64;
-        self.records += 1;
         Ok(place)
     }
 

@@ -9,6 +9,8 @@ use Rattle.log_model.specs.Payload.{PayloadSays, holds, breaks_at, payload_says}
 use Rattle.log_model.specs.Log.{RecordsSay, ArePayloadsOf, LogStands, hold, bad_at, byte_in_log, with_entry, with_record, entries_behind}
 use Rattle.log_model.specs.Log.{log_reading, log_says}
 use Rattle.log_model.proofs.Entries.{says-entry_bytes}
+use Rattle.disk_log.specs.Records.{IsBehind}
+use Rattle.disk_log.specs.declared.records.LogRecord.TheVariants.{Misfit as Bad}
 use Rattle.disk_log.proofs.Histories.{payloads-push}
 use Rattle.fb_journal.specs.Readings.{HasRead}
 use Rattle.fb_journal.specs.declared.readings.Place.{Place}
@@ -77,6 +79,11 @@ found-more records judged place payload (Misfit nth at) have number here is =
     let many : length records ≡ nth = sym (is.2 ∙ number) in
     let there : byte_in_log records byte ≡ at = omega (arith, is.3, here) in
     bad-behind [] have.0 records payload [] byte have.1 is.1 ∙ (λ i. bad_at (many i) (there i))
+
+pub found-misfit : (records : List (List ℕ)) (judged : Judged) (whole read : List ℕ) (nth at : ℕ) → HaveFound records (Entries judged)
+    → IsBehind records whole read (Bad nth at) → HaveFound (records ++ whole ∷ []) (Misfit nth at)
+found-misfit records judged whole read nth at have is =
+    bad-behind [] have.0 records whole [] is.0 have.1 is.1 ∙ (λ i. bad_at (sym is.2 i) (sym is.3 i))
 
 -- ---- at the end
 

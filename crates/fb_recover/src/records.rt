@@ -5,12 +5,15 @@ ghost use Rattle.disk_model.specs.Disk.{IfKnown};
 ghost use Rattle.disk_model.specs.Journal.{log_mark};
 ghost use Rattle.log_model.specs.Log.{LogStands, byte_in_log, log_says};
 ghost use Rattle.fb_journal.specs.Readings.{disk_from, HasRead, HasReadAll, LeavesBegun};
+ghost use Rattle.disk_log.specs.Records.{IsBehind, EndsWithin};
+ghost use Rattle.disk_log.specs.declared.records.LogRecord.TheVariants.{Misfit};
 ghost use Rattle.fb_recover.specs.Faults.{MatchesFault, IsCause, CountsLog};
 ghost use Rattle.fb_recover.specs.Finding.{IsFound, HaveFound};
 ghost use Rattle.fb_recover.specs.Judging.{IsJudged};
 
 use crate::OpenFault;
 use crate::judging::Judged;
+use disk_log::{LogRecord, next_record};
 use fb_codec::{BytesFault, entry_of};
 use fb_disk::Disk;
 use fb_history::EntryList;
@@ -54,8 +57,8 @@ pub(crate) fn history_of<D: Disk>(
 {
     let mut found = Found::none(alloc)?;
     let mut payload = Vec::new(alloc);
-    while let Some(place) = log.next(&mut payload)? {
-        found = found.with(alloc, place, &payload)?;
+    while let Some(next) = next_record(alloc, log, &mut payload)? {
+        found = found.with(alloc, next, &payload)?;
     }
     found.into_entries()
 }
@@ -69,8 +72,22 @@ impl Found {
         Ok(Found::Entries { judged })
     }
 
-    /// With the record that comes next, whose payload lies at this place.
-    fn with(self, alloc: Global, place: Place, payload: &[u8]) -> Result<Found, Memory>
+    /// With the record that comes next, of whose payload this was read.
+    fn with(self, alloc: Global, next: LogRecord, payload: &[u8]) -> Result<Found, Memory>
+        requires within { EndsWithin payload.now next }
+        requires found { (records : List (List ℕ)) × HaveFound records self }
+        ensures { IfOk result (λ found. (records : List (List ℕ)) (whole : List ℕ)
+            → HaveFound records self → IsBehind records whole payload.now next
+            → HaveFound (records ++ whole ∷ []) found) }
+    {
+        match next {
+            LogRecord::Whole { place } => self.with_payload(alloc, place, payload),
+            LogRecord::Misfit { nth, at } => Ok(self.with_misfit(nth, at)),
+        }
+    }
+
+    /// With a record whose payload lies at this place.
+    fn with_payload(self, alloc: Global, place: Place, payload: &[u8]) -> Result<Found, Memory>
         requires within { place.at + length payload.now < 2 ^ 64 }
         requires found { (records : List (List ℕ)) × HaveFound records self }
         ensures { IfOk result (λ found. (records : List (List ℕ)) → HaveFound records self
@@ -80,6 +97,24 @@ impl Found {
         match self {
             Found::Entries { judged } => found_in(alloc, judged, place, payload),
             Found::Misfit { nth, at } => Ok(Found::Misfit { nth, at }),
+        }
+    }
+
+    /// With a record that holds no entry.
+    fn with_misfit(self, nth: u64, at: u64) -> Found
+        ensures { (records : List (List ℕ)) (whole read : List ℕ) → HaveFound records self
+            → IsBehind records whole read (Misfit nth at)
+            → HaveFound (records ++ whole ∷ []) result }
+    {
+        match self {
+            Found::Entries { judged: _judged } => Found::Misfit { nth, at },
+            Found::Misfit {
+                nth: first,
+                at: there,
+            } => Found::Misfit {
+                nth: first,
+                at: there,
+            },
         }
     }
 

@@ -1,12 +1,13 @@
 -- What a backup begins with, why it ends as it does, and what it leaves of its target.
 use Rattle.std.proofs.Common.{◌≡◌, ◌≢◌, ◌⊎◌, inl, inr, ℕ, List, [], ◌∷◌, Option, Some, zero, suc, refl, sym, ap, ◌∙◌}
-use Rattle.std.proofs.Common.{subst, arith}
+use Rattle.std.proofs.Common.{subst, arith, ⊎_elim}
 use Rattle.std.specs.Prelude.{Contains, IfOk, IfErr, IfSome, IsSome, Result, Ok, Err, string_bytes}
 use Rattle.fb_values.specs.declared.facts.Entry.{Entry}
 use Rattle.disk_model.specs.Disk.{IfKnown}
 use Rattle.disk_log.specs.Logs.{disk_in}
 use Rattle.log_model.specs.Log.{IsLogOf}
 use Rattle.backup_model.specs.Backup.{Plan, BackupSays, appends, copied_of, bad_target as bad_target_there, differs_at}
+use Rattle.fb_journal.specs.Readings.{LeavesBegun}
 use Rattle.seg_codec.specs.Trees.{roots_of}
 use Rattle.seg_store.specs.Stores.{disk_in as segments_in}
 use Rattle.seg_store.specs.Trees.{root_of}
@@ -35,14 +36,15 @@ use Rattle.fb_run.specs.Opening.{HostRefuses}
 use Rattle.fb_run.specs.Database.{SameStreams, AreDisksOf, IsOpened, LeaveLogUnharmed, IsObstacle, IsUnready, disks_in}
 use Rattle.fb_run.specs.StatusLines.{reported, console_failed, memory, target_failed, bad_target, target_differs, why_not_copied}
 use Rattle.fb_run.specs.StatusLines.{status_of, line_of, copied_line}
-use Rattle.fb_run.specs.Causes.{HasTarget, NoSession, OutOfMemory, SaysWhy, IsUnfailed, IsTargetUnfailed, IsTargetInTurn}
+use Rattle.fb_run.specs.Causes.{HasDisks, HasTarget, NoSession, OutOfMemory, SaysWhy, IsUnfailed, IsTargetUnfailed, IsTargetInTurn}
 use Rattle.fb_run.specs.Causes.{TookWhole, TookPart, BacksUp, HasCopied, TargetSays, Causes}
 use Rattle.fb_run.specs.Loading.{said_of}
-use Rattle.fb_run.specs.Targets.{TargetHolds, TargetHasRoot}
+use Rattle.fb_run.specs.Targets.{WasCopied, TargetHolds, TargetHasRoot}
 use Rattle.fb_run.specs.Copying.{outside_of, OpensOutside, RefusesOutside, IsUnbegun, IsBegun, CopiesAll, HasTrees, EndsCopy}
 use Rattle.fb_run.specs.Copying.{TellsCopy, HasBackedUp}
 use Rattle.fb_run.proofs.Opens.{HaveAll, none_in, only_in, later_in, opens_more, opens_then}
 use Rattle.fb_run.proofs.Directories.{opened_unharmed, opened_history, opened_covered}
+use Rattle.fb_run.proofs.Causing.{has_disks}
 
 -- ---- what is opened behind the directory
 
@@ -175,7 +177,7 @@ module _ {D : Type 0} (disks : DiskSpec D) (from to : List ℕ) (old mid new : H
       behind = inr (opens_all only);
       host = subst (λ n. Rose n new.faults) same rose;
     }
-    outside_obstacle unopened.Memory only not = tt
+    outside_obstacle unopened.Memory only not = inl refl
 
     unready_outside : (why : Unopened) → OpensOnly (outside_of to) mid new → RefusesOutside to mid new why
         → IsUnready old new disks (ours from to) from (from ∷ to ∷ standard ∷ [])
@@ -193,20 +195,39 @@ module _ {D : Type 0} (disks : DiskSpec D) (from to : List ℕ) (old mid new : H
 
 -- ---- what is copied
 
--- a copy that ended early has no success
-no_success : (why : NotCopied) (status : ℕ) (line : List ℕ) → SaysWhy (why_not_copied why) status line → status ≡ 0 → ⊥
-no_success (not_copied.Log backup_fault.Disk) status line (inl says) none = omega (arith, says.0, none)
-no_success (not_copied.Log backup_fault.Disk) status line (inr says) none = omega (arith, says.0, none)
-no_success (not_copied.Log (backup_fault.BadLog nth at)) status line (inl says) none = omega (arith, says.0, none)
-no_success (not_copied.Log (backup_fault.BadLog nth at)) status line (inr says) none = omega (arith, says.0, none)
-no_success (not_copied.Log (backup_fault.Other t)) status line (inl says) none = omega (arith, says.0, none)
-no_success (not_copied.Log (backup_fault.Other t)) status line (inr says) none = omega (arith, says.0, none)
-no_success (not_copied.Log backup_fault.Memory) status line (inl says) none = omega (arith, says.0, none)
-no_success (not_copied.Log backup_fault.Memory) status line (inr says) none = omega (arith, says.0, none)
-no_success (not_copied.Segments copy_fault.Disk) status line (inl says) none = omega (arith, says.0, none)
-no_success (not_copied.Segments copy_fault.Disk) status line (inr says) none = omega (arith, says.0, none)
-no_success (not_copied.Segments copy_fault.Memory) status line (inl says) none = omega (arith, says.0, none)
-no_success (not_copied.Segments copy_fault.Memory) status line (inr says) none = omega (arith, says.0, none)
+-- a fault of the target's disk, a target that is refused, or want of memory
+abbrev IsEarly : ℕ → Type 0
+IsEarly status = (status ≡ 3) ⊎ (status ≡ 4) ⊎ (status ≡ 9)
+
+ends_early : (why : NotCopied) (status : ℕ) (line : List ℕ) → SaysWhy (why_not_copied why) status line → IsEarly status
+ends_early (not_copied.Log backup_fault.Disk) status line (inl says) = inl says.0
+ends_early (not_copied.Log backup_fault.Disk) status line (inr says) = inr (inr says.0)
+ends_early (not_copied.Log (backup_fault.BadLog nth at)) status line (inl says) = inr (inl says.0)
+ends_early (not_copied.Log (backup_fault.BadLog nth at)) status line (inr says) = inr (inr says.0)
+ends_early (not_copied.Log (backup_fault.Other t)) status line (inl says) = inr (inl says.0)
+ends_early (not_copied.Log (backup_fault.Other t)) status line (inr says) = inr (inr says.0)
+ends_early (not_copied.Log backup_fault.Memory) status line (inl says) = inr (inr says.0)
+ends_early (not_copied.Log backup_fault.Memory) status line (inr says) = inr (inr says.0)
+ends_early (not_copied.Segments copy_fault.Disk) status line (inl says) = inl says.0
+ends_early (not_copied.Segments copy_fault.Disk) status line (inr says) = inr (inr says.0)
+ends_early (not_copied.Segments copy_fault.Memory) status line (inl says) = inr (inr says.0)
+ends_early (not_copied.Segments copy_fault.Memory) status line (inr says) = inr (inr says.0)
+
+-- a copy that ended early did not copy all
+not_all : (status : ℕ) → IsEarly status → WasCopied status → ⊥
+not_all status (inl is) (inl all) = omega (arith, is, all)
+not_all status (inl is) (inr all) = omega (arith, is, all)
+not_all status (inr (inl is)) (inl all) = omega (arith, is, all)
+not_all status (inr (inl is)) (inr all) = omega (arith, is, all)
+not_all status (inr (inr is)) (inl all) = omega (arith, is, all)
+not_all status (inr (inr is)) (inr all) = omega (arith, is, all)
+
+-- a copy that did not end at the log's file refused nothing
+not_refused : (status : ℕ) → (status ≡ 0) ⊎ (status ≡ 3) ⊎ (status ≡ 6) ⊎ (status ≡ 9) → status ≡ 4 → ⊥
+not_refused status (inl is) four = omega (arith, is, four)
+not_refused status (inr (inl is)) four = omega (arith, is, four)
+not_refused status (inr (inr (inl is))) four = omega (arith, is, four)
+not_refused status (inr (inr (inr is))) four = omega (arith, is, four)
 
 -- what is said of one
 pub says_copy : (why : NotCopied) (n status : ℕ) (line : List ℕ) → n ≡ status_of (why_not_copied why)
@@ -286,6 +307,9 @@ module _ {I O D : Type 0} {g : _} (spec new : HostSpec) (io : StreamSpec I O) (d
         (opened_covered spec disks from begun.directory is.directory);
   }
 
+  both : HasDisks outcome
+  both = has_disks outcome (disk_in begun.directory.log) (segments_in begun.directory.store) log_is segments_is
+
   there : HasTarget outcome
   there = record { log = subst IsSome (sym has.log_is) refl; segments = subst IsSome (sym has.segments_is) refl }
 
@@ -336,7 +360,7 @@ module _ {I O D : Type 0} {g : _} (spec new : HostSpec) (io : StreamSpec I O) (d
       → TellsCopy io.contents io.sink_faults begun.directory.recovered s.covered begun.outside.console end (said_of outcome)
       → Causes spec new io disks command outcome
   caused_by (Ok n) all (inl refused) =
-      record { why = memory; says = inr refused.0; cause = inl (none, refl); console = refused.1; targets = tt }
+      record { why = memory; says = inr refused.0; cause = inl (none, refl, inl both); console = refused.1; targets = tt }
   caused_by (Ok n) all (inr report) =
       let shown : IsSome outcome.console = subst IsSome (sym report.console_is) refl in
       elim report.took [
@@ -381,7 +405,7 @@ module _ {I O D : Type 0} {g : _} (spec new : HostSpec) (io : StreamSpec I O) (d
     targets = there;
   }
   caused_by (Err (not_copied.Log backup_fault.Memory)) stop told =
-      record { why = memory; says = told.0; cause = inl (none, refl); console = told.1; targets = tt }
+      record { why = memory; says = told.0; cause = inl (none, refl, inl both); console = told.1; targets = tt }
   caused_by (Err (not_copied.Segments copy_fault.Disk)) stop told = record {
     why = target_failed Segments;
     says = told.0;
@@ -394,7 +418,7 @@ module _ {I O D : Type 0} {g : _} (spec new : HostSpec) (io : StreamSpec I O) (d
     targets = there;
   }
   caused_by (Err (not_copied.Segments copy_fault.Memory)) stop told =
-      record { why = memory; says = told.0; cause = inl (none, refl); console = told.1; targets = tt }
+      record { why = memory; says = told.0; cause = inl (none, refl, inl both); console = told.1; targets = tt }
 
   pub caused_by_backup : Causes spec new io disks command outcome
   caused_by_backup = caused_by has.now.end has.copies.ended has.told
@@ -408,12 +432,38 @@ module _ {I O D : Type 0} {g : _} (spec new : HostSpec) (io : StreamSpec I O) (d
 
   all_by : (end : Result ℕ NotCopied) → EndsCopy disks s was now end
       → TellsCopy io.contents io.sink_faults begun.directory.recovered s.covered begun.outside.console end (said_of outcome)
-      → outcome.status ≡ 0 → (n : ℕ) × CopiesAll disks s was now n
-  all_by (Ok n) all told success = (n, all)
-  all_by (Err why) stop told success = absurd (no_success why outcome.status (string_bytes outcome.line) told.0 success)
+      → WasCopied outcome.status → (n : ℕ) × CopiesAll disks s was now n
+  all_by (Ok n) all told copied = (n, all)
+  all_by (Err why) stop told copied =
+      absurd (not_all outcome.status (ends_early why outcome.status (string_bytes outcome.line) told.0) copied)
 
-  all_of : outcome.status ≡ 0 → (n : ℕ) × CopiesAll disks s was now n
-  all_of success = all_by has.now.end has.copies.ended has.told success
+  all_of : WasCopied outcome.status → (n : ℕ) × CopiesAll disks s was now n
+  all_of copied = all_by has.now.end has.copies.ended has.told copied
+
+  -- what is said of a target that is not refused
+  not_said : (n : ℕ) (told : List ℕ) → (n ≡ 0) ⊎ (n ≡ 3) ⊎ (n ≡ 6) ⊎ (n ≡ 9)
+      → ((outcome.status ≡ n) × (string_bytes outcome.line ≡ told)) ⊎ OutOfMemory outcome.status (string_bytes outcome.line)
+      → outcome.status ≡ 4 → ⊥
+  not_said n told other (inl says) four = not_refused n other (sym says.0 ∙ four)
+  not_said n told other (inr says) four = not_refused outcome.status (inr (inr (inr says.0))) four
+
+  left_by : (end : Result ℕ NotCopied) → EndsCopy disks s was now end
+      → TellsCopy io.contents io.sink_faults begun.directory.recovered s.covered begun.outside.console end (said_of outcome)
+      → outcome.status ≡ 4 → LeavesBegun disks.bytes disks.images disks.moment disks.images_since was.log now.log
+  left_by (Ok n) all (inl refused) four = absurd (not_refused outcome.status (inr (inr (inr refused.0.0))) four)
+  left_by (Ok n) all (inr report) four = elim report.took [
+    | inl whole ↦ absurd (not_refused outcome.status (inl whole.0.0) four)
+    | inr part ↦ absurd (not_said 6 (line_of console_failed) (inr (inr (inl refl))) part.0 four)
+  ]
+  left_by (Err (not_copied.Log backup_fault.Disk)) stop told four =
+      absurd (not_said 3 (line_of (target_failed Log)) (inr (inl refl)) told.0 four)
+  left_by (Err (not_copied.Log (backup_fault.BadLog nth at))) stop told four = stop.refused tt
+  left_by (Err (not_copied.Log (backup_fault.Other t))) stop told four = stop.refused tt
+  left_by (Err (not_copied.Log backup_fault.Memory)) stop told four = absurd (not_said 9 (line_of memory) (inr (inr (inr refl))) told.0 four)
+  left_by (Err (not_copied.Segments copy_fault.Disk)) stop told four =
+      absurd (not_said 3 (line_of (target_failed Segments)) (inr (inl refl)) told.0 four)
+  left_by (Err (not_copied.Segments copy_fault.Memory)) stop told four =
+      absurd (not_said 9 (line_of memory) (inr (inr (inr refl))) told.0 four)
 
   pub target_holds : IfSome outcome.target_log (TargetHolds spec disks from to outcome.status)
   target_holds = subst (λ (o : Option D). IfSome o (TargetHolds spec disks from to outcome.status)) (sym has.log_is) (record {
@@ -422,7 +472,11 @@ module _ {I O D : Type 0} {g : _} (spec new : HostSpec) (io : StreamSpec I O) (d
     any_moment = λ n file held before image since.
         (has.copies.beginnings n file (is.target.log.bytes ∙ held) (λ im x. before im ((is.target.log.images im).0 x))).each image
         (subst (λ (t : ℕ). disks.images_since now.log t image) (sym is.target.log.moment) since);
-    at_end = λ success file held. (all_of success).1.stands file (is.target.log.bytes ∙ held);
+    at_end = λ copied file held. (all_of copied).1.stands file (is.target.log.bytes ∙ held);
+    refused = λ four file held image since.
+        ⊎_elim (λ im. inl ((is.target.log.images image).0 im)) (λ short. inr short)
+        ((left_by has.now.end has.copies.ended has.told four file (is.target.log.bytes ∙ held)).each image
+        (subst (λ (t : ℕ). disks.images_since now.log t image) (sym is.target.log.moment) since));
   })
 
   pub target_has_root : IfSome outcome.target_segments (TargetHasRoot spec disks from to outcome.status)
@@ -434,7 +488,7 @@ module _ {I O D : Type 0} {g : _} (spec new : HostSpec) (io : StreamSpec I O) (d
         ids = roots_of s.roots;
         agrees = is.directory.reopened.core.snapshot.history.roots_stand;
         newest = λ file held. is.directory.reopened.coverage file (is.directory.segments.bytes ∙ held);
-        copy = λ success file held. (all_of success).1.trees.copy file (is.target.segments.bytes ∙ held);
+        copy = λ copied file held. (all_of copied).1.trees.copy file (is.target.segments.bytes ∙ held);
         left = λ file held more.
             let kept = has.copies.records file (is.target.segments.bytes ∙ held) more in (
               kept.0 ∙ (is.target.segments.bytes ∙ held),

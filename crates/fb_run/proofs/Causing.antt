@@ -36,10 +36,10 @@ use Rattle.fb_run.specs.declared.database.Obstacle.TheVariants as obstacle
 use Rattle.fb_run.specs.declared.database.Unready.{Unready}
 use Rattle.fb_run.specs.declared.opening.Unopened.TheVariants as unopened
 use Rattle.fb_run.specs.declared.looking.Look.{Look}
-use Rattle.fb_run.specs.Outside.{StreamSpec, DiskSpec, IsDiskOf, ports_of, run_from, run_of, setting_of, EachOf}
+use Rattle.fb_run.specs.Outside.{StreamSpec, DiskSpec, IsDiskOf, ports_of, OpensUpTo, run_from, run_of, setting_of, EachOf}
 use Rattle.fb_view.specs.SnapshotModel.{SnapshotModel}
 use Rattle.fb_run.specs.Logs.{IsUnharmed, LogHolds}
-use Rattle.fb_run.specs.Database.{why_unready, LeaveLogUnharmed, LeavesBehind, IsObstacle, IsUnready}
+use Rattle.fb_run.specs.Database.{why_unready, LeaveLogUnharmed, LeavesBehind, LeavesAllOrNone, IsObstacle, IsUnready}
 use Rattle.fb_run.specs.Coverage.{StaysCovered}
 use Rattle.fb_run.specs.Looking.{IsLook, HasPrinted}
 use Rattle.fb_run.specs.Opening.{IsOpenedFor}
@@ -48,7 +48,7 @@ use Rattle.fb_run.specs.Generated.{loads_of}
 use Rattle.fb_run.specs.StatusLines.{Why, reported, usage, ended_early, console_failed, memory, usage_line, out_of_memory, status_of_end}
 use Rattle.fb_run.specs.StatusLines.{line_of_end, first_early, why_of, why_not}
 use Rattle.fb_run.specs.Causes.{HasDisks, NoSession, HasNoDisk, OutOfMemory, IsOutOfMemory, SaysWhy, Counts, IsRun, HaveRun, directory_of}
-use Rattle.fb_run.specs.Causes.{names_of, HandsBack, IsNotOpened, IsUntouched, IsUnfailed, TookWhole, TookPart, HasLooked, CauseOf}
+use Rattle.fb_run.specs.Causes.{names_of, HandsBack, IsCutShort, IsNotOpened, IsUntouched, IsUnfailed, TookWhole, TookPart, HasLooked, CauseOf}
 use Rattle.fb_run.specs.Causes.{HasConsole, HasNoTarget, HasTargetBy, HasTargets, Causes}
 use Rattle.fb_run.specs.Running.{RepliesBy, CountsBy, HaveEnded}
 use Rattle.fb_run.proofs.Lists.{each_through, cut_first, names_cut}
@@ -331,6 +331,11 @@ module _ {I O D : Type 0} (outcome : Outcome I O D) (none : HasNoTarget outcome)
   targets_unready (obstacle.Unopened unopened.Memory) = tt
   targets_unready (obstacle.NotReopened fault) = targets_not fault
 
+pub has_disks : {I O D : Type 0} (outcome : Outcome I O D) (log segments : D) → outcome.log ≡ Some log → outcome.segments ≡ Some segments
+    → HasDisks outcome
+has_disks outcome log segments log_is segments_is =
+    record { log = subst IsSome (sym log_is) refl; segments = subst IsSome (sym segments_is) refl }
+
 -- what is handed back are the disks that are left
 module _ {I O D : Type 0} (outcome : Outcome I O D) (left : Option (Disks D))
     (log_is : outcome.log ≡ option_map (λ (d : Disks D). d.log) left)
@@ -343,10 +348,7 @@ module _ {I O D : Type 0} (outcome : Outcome I O D) (left : Option (Disks D))
 
   both_left : (l : Option (Disks D)) → left ≡ l → IsSome l → HasDisks outcome
   both_left None is some = absurd (cc)
-  both_left (Some both) is some = record {
-    log = subst IsSome (sym (log_left both is)) refl;
-    segments = subst IsSome (sym (segments_left both is)) refl;
-  }
+  both_left (Some both) is some = has_disks outcome both.log both.segments (log_left both is) (segments_left both is)
 
   hands_back : (spec : HostSpec) (command : Command) (place : ℕ) → LeavesBehind spec (directory_of (Some command)) place left
       → HandsBack spec (Some command) place outcome
@@ -355,6 +357,11 @@ module _ {I O D : Type 0} (outcome : Outcome I O D) (left : Option (Disks D))
     segments = segments_is ∙ ap (option_map (λ (d : Disks D). d.segments)) none;
   }
   hands_back spec command (suc place) some = (both_left left refl some.0, some.1)
+
+  cut_short : (spec new : HostSpec) (command : Command) → LeavesAllOrNone spec new (ports_of (Some command)) left
+      → IsCutShort spec new (Some command) outcome
+  cut_short spec new command (inl some) = inl (both_left left refl some)
+  cut_short spec new command (inr nothing) = inr (hands_back spec command zero nothing.0, nothing.1)
 
 module _ {I O D : Type 0} (spec : HostSpec) (io : StreamSpec I O) (disks : DiskSpec D) (new : HostSpec) (outcome : Outcome I O D) where
   cause_why : (command : Command) (early : Option (List ℕ × SessionEnd)) (torn : Option Draft) (end : WorkEnd) → outcome.torn ≡ torn
@@ -376,28 +383,29 @@ module _ {I O D : Type 0} (spec : HostSpec) (io : StreamSpec I O) (disks : DiskS
   )
   cause_why command (Some p) torn end is holds segments there counted ran scripts = ran
 
-  pub caused_by_memory : (command : Command) → NoSession outcome → outcome.console ≡ None → HasNoTarget outcome
-      → IsOutOfMemory outcome → Causes spec new io disks (Some command) outcome
-  caused_by_memory command none no_console no_target refused = record {
+  pub caused_by_memory : (command : Command) → NoSession outcome → IsCutShort spec new (Some command) outcome → outcome.console ≡ None
+      → HasNoTarget outcome → IsOutOfMemory outcome → Causes spec new io disks (Some command) outcome
+  caused_by_memory command none short no_console no_target refused = record {
     why = memory;
     says = inr refused;
-    cause = inl (none, refl);
+    cause = inl (none, refl, short);
     console = no_console;
     targets = targets_none outcome no_target memory (Some command) tt;
   }
 
   -- whatever the words are
-  pub caused_by_words : (command : Option Command) → new.faults ≡ spec.faults → NoSession outcome → HasNoDisk outcome
-      → outcome.console ≡ None → HasNoTarget outcome → IsOutOfMemory outcome → Causes spec new io disks command outcome
-  caused_by_words None same none no_disk no_console no_target refused = record {
+  pub caused_by_words : (command : Option Command) → new.faults ≡ spec.faults → OpensUpTo (ports_of command) zero spec new
+      → NoSession outcome → HasNoDisk outcome → outcome.console ≡ None → HasNoTarget outcome → IsOutOfMemory outcome
+      → Causes spec new io disks command outcome
+  caused_by_words None same opens none no_disk no_console no_target refused = record {
     why = usage;
     says = inr refused;
     cause = (none, no_disk, refl, same);
     console = no_console;
     targets = no_target;
   }
-  caused_by_words (Some command) same none no_disk no_console no_target refused =
-      caused_by_memory command none no_console no_target refused
+  caused_by_words (Some command) same opens none no_disk no_console no_target refused =
+      caused_by_memory command none (inr (no_disk, opens)) no_console no_target refused
 
   pub caused_by_usage : (command : Option Command) → None ≡ command → new.faults ≡ spec.faults → NoSession outcome → HasNoDisk outcome
       → outcome.console ≡ None → HasNoTarget outcome
@@ -424,7 +432,8 @@ module _ {I O D : Type 0} (spec : HostSpec) (io : StreamSpec I O) (disks : DiskS
       (not_opened, cause, (segments, there, also))
   by_fault command (fault.BadLog nth at) log segments is there not_opened cause counted also untouched = (not_opened, untouched tt, cause)
   by_fault command (fault.Unlawful t law) log segments is there not_opened cause counted also untouched = (not_opened, untouched tt, cause)
-  by_fault command fault.Memory log segments is there not_opened cause counted also untouched = inl (not_opened.none, refl)
+  by_fault command fault.Memory log segments is there not_opened cause counted also untouched =
+      inl (not_opened.none, refl, inl (has_disks outcome log segments is there))
 
   pub caused_by_sessions : {g : _} (command : Command) (opened : List (SessionOut I O)) (merge_at : ℕ) (begun : Trees D g)
       → EachOf (λ n name (s : SessionOut I O). IsOpenedFor spec io name s) 0 (scripts_of (Some command)) opened
@@ -433,12 +442,13 @@ module _ {I O D : Type 0} (spec : HostSpec) (io : StreamSpec I O) (disks : DiskS
       → disks.faults (segments_in begun.store) ≡ spec.disk_faults (directory_of (Some command)) Segments
       → IfSome outcome.last (λ l. IfSome outcome.log (LogHolds spec disks (directory_of (Some command)) l.entries outcome.recovered
       outcome.torn))
+      → (outcome.last ≡ None → HasDisks outcome)
       → (NoSession outcome × IsOutOfMemory outcome)
       ⊎ HaveEnded io disks merge_at (scripts_of (Some command)) opened begun outcome
       → Causes spec new io disks (Some command) outcome
-  caused_by_sessions command opened merge_at begun has is_run scripts no_loads same no_console no_target unfailed holds (inl none) =
-      caused_by_memory command none.0 no_console no_target none.1
-  caused_by_sessions command opened merge_at begun has is_run scripts no_loads same no_console no_target unfailed holds (inr ran) =
+  caused_by_sessions command opened merge_at begun has is_run scripts no_loads same no_console no_target unfailed holds both (inl none) =
+      caused_by_memory command none.0 (inl (both none.0.last)) no_console no_target none.1
+  caused_by_sessions command opened merge_at begun has is_run scripts no_loads same no_console no_target unfailed holds both (inr ran) =
       let early = first_early (scripts_of (Some command)) (map (λ (s : SessionOut I O). s.end) outcome.sessions.items) in
       let each = counts_told spec io (scripts_of (Some command)) opened outcome.sessions.items has ran.each in
       let ends = ran.ends in
@@ -480,7 +490,8 @@ module _ {I O D : Type 0} (spec new : HostSpec) (io : StreamSpec I O) (disks : D
     disks = hands_back outcome left log_is segments_is spec command is.place is.left_is;
     behind = is.behind;
   }
-  cause_unready (obstacle.Unopened unopened.Memory) is = inl (none, refl)
+  cause_unready (obstacle.Unopened unopened.Memory) is =
+      inl (none, refl, cut_short outcome left log_is segments_is spec new command is)
   cause_unready (obstacle.NotReopened fault) is =
       let both = is.1.both in
       let log = log_left outcome left log_is segments_is both is.1.is in

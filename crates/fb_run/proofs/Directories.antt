@@ -65,7 +65,7 @@ module _ {D : Type 0} (disks : DiskSpec D) (ports : Ports) (dir : List ℕ) (res
     behind = only_first;
     host = not.1;
   }
-  part_obstacle unopened.Memory not = tt
+  part_obstacle unopened.Memory not = inr (refl, only_first)
 
   -- the directory was not opened
   pub unready_part : (why : Unopened) → HostRefuses dir old new why
@@ -84,7 +84,7 @@ module _ {D : Type 0} (disks : DiskSpec D) (dir : List ℕ) (old mid new : HostS
     behind = up_to_behind (of_scripts scripts) dir old mid new not.place first not.behind;
     host = subst (λ n. Rose n new.faults) same not.host;
   }
-  script_obstacle scripts unopened.Memory not = tt
+  script_obstacle scripts unopened.Memory not = inl refl
 
   -- the source or the sink of a script was not opened
   pub unready_script : (scripts : List (List ℕ)) (why : Unopened) → IsUnopened scripts mid new why
@@ -102,7 +102,7 @@ module _ {D : Type 0} (disks : DiskSpec D) (dir : List ℕ) (old mid new : HostS
     behind = inr (opens_behind (of_sinks (standard ∷ [])) dir old mid new first only);
     host = subst (λ n. Rose n new.faults) same not.1;
   }
-  console_obstacle unopened.Memory only not = tt
+  console_obstacle unopened.Memory only not = inl refl
 
   -- the console was not opened
   pub unready_console : (why : Unopened) → OpensOnly (of_sinks (standard ∷ [])) mid new → HostRefuses standard mid new why

@@ -27,7 +27,7 @@ use Rattle.fb_run.specs.Generated.{loads_of, spec_in_memory, in_memory}
 use Rattle.fb_run.specs.Summary.{IsSummary}
 use Rattle.fb_run.specs.Logs.{LogHolds}
 use Rattle.fb_run.specs.StatusLines.{answered, reported, console_failed, memory, first_early, why_of}
-use Rattle.fb_run.specs.Causes.{NoSession, IsOutOfMemory, SaysWhy, HaveRun, directory_of, IsUnfailed, TookWhole, TookPart, HasLoaded}
+use Rattle.fb_run.specs.Causes.{HasDisks, NoSession, IsOutOfMemory, SaysWhy, HaveRun, directory_of, IsUnfailed, TookWhole, TookPart, HasLoaded}
 use Rattle.fb_run.specs.Causes.{CauseOf, HasNoTarget, Causes}
 use Rattle.fb_run.specs.Looking.{HasPrinted}
 use Rattle.fb_run.specs.Loading.{supply, room, AreGenerated, Left, left_of, Said, said_of, HasReported, SumsUp, SaysSame, HasSummedUp}
@@ -335,18 +335,23 @@ module _ {I O D : Type 0} (spec new : HostSpec) (io : StreamSpec I O) (disks : D
           sums_up (e.segments, over (λ l. l.segments ≡ Some e.segments) e.segments_is, stays) (have_run None opened same each ended whole.0)
           (over (λ l. l.torn ≡ None) (not_torn ran.torn whole.1)) says.kept (over (λ l. l.last ≡ Some says.kept) says.last_is) says.sums_up
 
-      pub caused_by_load : (NoSession ran × IsOutOfMemory ran) ⊎ Ended opened
+      pub caused_by_load : (ran.last ≡ None → HasDisks ran) → (NoSession ran × IsOutOfMemory ran) ⊎ Ended opened
           → SaysFurther io.contents io.sink_faults ran.status (string_bytes ran.line) ran.last was (said_of out)
           → Causes spec new io disks command out
-      caused_by_load (inl nothing) (inl says) =
+      caused_by_load both (inl nothing) (inl says) =
+          let disks_left = both nothing.0.last in
+          let short : HasDisks out = record {
+            log = over (λ l. IsSome l.log) disks_left.log;
+            segments = over (λ l. IsSome l.segments) disks_left.segments;
+          } in
           let status : out.status ≡ ran.status = ap (λ (s : Said O). s.status) says.same in
           let line : string_bytes out.line ≡ string_bytes ran.line = ap (λ (s : Said O). s.line) says.same in
           let refused : IsOutOfMemory out = rw (status, line) nothing.1 in
-          caused_by_memory spec io disks new out (load count) (no_session nothing.0) (ap (λ (s : Said O). s.console) says.same)
-          no_target refused
-      caused_by_load (inl nothing) (inr says) = absurd (omega (arith, nothing.1.0, says.success))
-      caused_by_load (inr ended) (inl says) = wrong_says ended says
-      caused_by_load (inr ended) (inr says) = well_says ended says
+          caused_by_memory spec io disks new out (load count) (no_session nothing.0) (inl short)
+          (ap (λ (s : Said O). s.console) says.same) no_target refused
+      caused_by_load both (inl nothing) (inr says) = absurd (omega (arith, nothing.1.0, says.success))
+      caused_by_load both (inr ended) (inl says) = wrong_says ended says
+      caused_by_load both (inr ended) (inr says) = well_says ended says
 
 -- ---- where a list of sessions is empty
 

@@ -167,6 +167,13 @@ HandsBack spec command zero outcome = HasNoDisk outcome
 HandsBack spec command (suc place) outcome =
     HasDisks outcome × HasHistory spec (directory_of command)
 
+-- Memory ran out before a session ran. Both disks are handed back, unless the directory itself
+-- was not opened, and then nothing was opened behind it.
+abbrev pub IsCutShort : {I O D : Type 0} → HostSpec → HostSpec → Option Command → Outcome I O D
+    → Type 0
+IsCutShort spec new command outcome =
+    HasDisks outcome ⊎ (HasNoDisk outcome × OpensUpTo (ports_of command) zero spec new)
+
 -- the host could not open what has this name, and nothing was opened behind it
 pub record CannotOpen {I O D : Type 0} (spec new : HostSpec) (command : Option Command)
     (outcome : Outcome I O D) (name : List ℕ) : Type 0 where
@@ -390,7 +397,7 @@ CauseOf spec new io disks command outcome segments_failed =
     × (outcome.torn ≡ None)
     × Failed spec disks command outcome Segments
 CauseOf spec new io disks command outcome memory =
-    (NoSession outcome × IsSome command)
+    (NoSession outcome × IsSome command × IsCutShort spec new command outcome)
     ⊎ (HaveRun spec io new.faults command outcome None × (outcome.torn ≡ None))
 
 -- a console is handed back where there was a line for it

@@ -7,10 +7,11 @@ use Rattle.disk_model.specs.Disk.{IfKnown, LeavesOnly, Within}
 use Rattle.disk_log.specs.Disks.{IsLogFrom}
 use Rattle.log_model.specs.Log.{IsLogOf}
 use Rattle.backup_model.specs.Backup.{appends, copied_of, BackupSays, IsCopyFile}
+use Rattle.fb_journal.specs.Readings.{LeavesBegun}
 use Rattle.seg_codec.specs.Trees.{roots_of}
 use Rattle.seg_store.specs.Trees.{root_of}
 use Rattle.fb_view.specs.SnapshotModel.{SnapshotModel}
-use Rattle.fb_backup.specs.Backups.{IsBackupCause, CountsBackup}
+use Rattle.fb_backup.specs.Backups.{IsBackupCause, IsRefusal, CountsBackup}
 use Rattle.fb_backup.specs.Copies.{CountsCopy}
 use Rattle.fb_backup.specs.declared.faults.BackupFault.{BackupFault}
 use Rattle.fb_backup.specs.declared.faults.CopyFault.{CopyFault}
@@ -94,11 +95,14 @@ pub record CopiesAll {D : Type 0} (disks : DiskSpec D) (s : SnapshotModel) (was 
   pub unfailed : disks.faults now.log ≡ disks.faults was.log
   pub trees : GetsTrees disks s was.segments now.segments
 
--- the log was not brought to the history, and nothing was asked of the segments
+-- the log was not brought to the history, and nothing was asked of the segments;
+-- one that is refused is left as it was
 pub record StopsAtLog {D : Type 0} (disks : DiskSpec D) (s : SnapshotModel) (was now : Disks D)
     (fault : BackupFault) : Type 0 where
   pub untouched : now.segments ≡ was.segments
   pub why : IfKnown (disks.bytes was.log) (IsBackupCause s.entries fault)
+  pub refused : IsRefusal fault
+      → LeavesBegun disks.bytes disks.images disks.moment disks.images_since was.log now.log
   pub counted : CountsBackup fault (disks.faults was.log) (disks.faults now.log)
 
 -- the trees were not copied

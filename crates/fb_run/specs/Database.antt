@@ -143,6 +143,11 @@ abbrev pub LeavesBehind : {D : Type 0} → HostSpec → List ℕ → ℕ → Opt
 LeavesBehind spec dir zero left = left ≡ None
 LeavesBehind spec dir (suc place) left = IsSome left × HasHistory spec dir
 
+-- Memory ran out: the disks are left,
+-- unless the directory was not opened, and then nothing was opened behind it.
+abbrev pub LeavesAllOrNone : {D : Type 0} → HostSpec → HostSpec → Ports → Option (Disks D) → Type 0
+LeavesAllOrNone old new ports left = IsSome left ⊎ ((left ≡ None) × OpensUpTo ports zero old new)
+
 -- the host could not open what has this name, which is one of these
 pub record IsBlocked {D : Type 0} (old new : HostSpec) (ports : Ports) (dir : List ℕ)
     (names : List (List ℕ)) (left : Option (Disks D)) (name : List ℕ) : Type 0 where
@@ -157,7 +162,7 @@ abbrev pub IsObstacle : {D : Type 0} → HostSpec → HostSpec → DiskSpec D �
     → List (List ℕ) → Option (Disks D) → Obstacle → Type 0
 IsObstacle old new disks ports dir names left (Unopened (CannotOpen name)) =
     IsBlocked old new ports dir names left name.now
-IsObstacle old new disks ports dir names left (Unopened Memory) = Unit {0}
+IsObstacle old new disks ports dir names left (Unopened Memory) = LeavesAllOrNone old new ports left
 IsObstacle old new disks ports dir names left (NotReopened fault) =
     (new.faults ≡ old.faults) × IsNotReopened old disks dir fault left
 

@@ -19,6 +19,8 @@ use Rattle.fb_conn.specs.Homes.{IsTornBy}
 use Rattle.fb_core.specs.declared.accepting.Draft.{Draft}
 use Rattle.fb_core.specs.Cores.{entry_of}
 use Rattle.disk_log.specs.Disks.{HasKept, HasBroken}
+use Rattle.disk_log.specs.Logs.{disk_in}
+use Rattle.seg_store.specs.Stores.{disk_in as segments_in}
 use Rattle.fb_session.specs.Sessions.{Terms}
 use Rattle.fb_session.specs.Replies.{Replies, SourceCount, SinkCount}
 use Rattle.fb_run.specs.declared.outcome.SessionOut.{SessionOut}
@@ -78,6 +80,12 @@ pub record HandsLogBack {I O D : Type 0} (disks : DiskSpec D) (r : ℕ) (begun :
   pub log : D
   pub log_is : outcome.log ≡ Some log
   pub left : LeavesLog disks r begun h outcome.torn log
+
+-- both disks of the directory are handed back, of which nothing was asked since it was opened
+pub record HandsBothBack {I O D : Type 0} {g : _} (directory : Directory D g)
+    (outcome : Outcome I O D) : Type 0 where
+  pub log : outcome.log ≡ Some (disk_in directory.log)
+  pub segments : outcome.segments ≡ Some (segments_in directory.store)
 
 -- the run goes on from the history that was opened
 pub record GoesOnFrom {I O D : Type 0} {g : _} (directory : Directory D g) (h : List Entry)

@@ -1,7 +1,7 @@
 -- What a backup leaves of its target: the log of the history of the directory's log,
 -- and a copy of the trees with which this was opened.
 -- This project's own choice.
-use Rattle.std.specs.Prelude.{◌≡◌, ◌<◌, ◌≤◌, ℕ, List, length, Some}
+use Rattle.std.specs.Prelude.{◌≡◌, ◌⊎◌, ◌<◌, ◌≤◌, ℕ, List, length, Some}
 use Rattle.fb_values.specs.declared.facts.Entry.{Entry}
 use Rattle.disk_model.specs.Disk.{IfKnown}
 use Rattle.disk_log.specs.Disks.{IsLogFrom}
@@ -13,6 +13,11 @@ use Rattle.fb_recover.specs.Openings.{HasCoverage}
 use Rattle.fb_ports.specs.declared.hosts.Part.TheVariants.{Log, Segments}
 use Rattle.fb_ports.specs.HostSpec.{HostSpec}
 use Rattle.fb_run.specs.Outside.{DiskSpec}
+use Rattle.fb_run.specs.Logs.{IsUnharmed}
+
+-- all was copied: the line about it went out, or the console failed
+abbrev pub WasCopied : ℕ → Type 0
+WasCopied status = (status ≡ 0) ⊎ (status ≡ 6)
 
 -- The target's log, where the backup ended with this status.
 pub record TargetHolds {D : Type 0} (spec : HostSpec) (disks : DiskSpec D) (from to : List ℕ)
@@ -25,9 +30,11 @@ pub record TargetHolds {D : Type 0} (spec : HostSpec) (disks : DiskSpec D) (from
       ((image : List ℕ) → spec.disk_images to Log image → IsLogFrom n history image)
       → (image : List ℕ) → disks.images_since log (spec.disk_moment to Log) image
       → IsLogFrom n history image)
-  -- where the backup succeeded, a crash leaves all of it
-  pub at_end : status ≡ 0 → IfKnown (spec.disks to Log)
+  -- where all was copied, a crash leaves all of it
+  pub at_end : WasCopied status → IfKnown (spec.disks to Log)
       (λ _. (image : List ℕ) → disks.images log image → IsLogOf image history)
+  -- where the target was refused, it is as it was
+  pub refused : status ≡ 4 → IsUnharmed spec disks to log
 
 -- The target's segments. The root is the newest with which the history agrees, and a file
 -- that had a record is left as it was.
@@ -39,7 +46,7 @@ pub record TargetHasRoot {D : Type 0} (spec : HostSpec) (disks : DiskSpec D) (fr
   pub ids : Roots
   pub agrees : Agrees history root
   pub newest : IfKnown (spec.disks from Segments) (HasCoverage history root.c)
-  pub copy : status ≡ 0 → IfKnown (spec.disks to Segments) (λ file. length file ≤ 16
+  pub copy : WasCopied status → IfKnown (spec.disks to Segments) (λ file. length file ≤ 16
       → (image : List ℕ) → disks.images segments image → IsCopyFile image root ids)
   pub left : IfKnown (spec.disks to Segments) (λ file. 16 < length file
       → (disks.bytes segments ≡ Some file)

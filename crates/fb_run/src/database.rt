@@ -14,10 +14,9 @@ use crate::lines::Reach;
 use crate::merging::{Trees, Worker};
 use crate::opening::Unopened;
 use disk_log::DiskLog;
-use fb_conn::{Conn, Made, Seat};
+use fb_conn::{Conn, ConnStop, Made, Seat};
 use fb_core::Core;
 use fb_disk::Disk;
-use fb_memory::Memory;
 use fb_ports::{Host, OpenFail, Part};
 use fb_recover::{OpenFault, OpenStop, Opened, reopen};
 use merge_worker::{WorkEnd, base_of};
@@ -187,13 +186,13 @@ pub(crate) struct Connection<D: Disk> {
     pub(crate) worker: Worker<D>,
 }
 
-/// The connection of so many sessions to a database that was opened.
+/// The connection of so many sessions to a database that was opened. Where memory runs out, its disks are handed back.
 pub(crate) fn connected<D: Disk>(
     alloc: Global,
     directory: Directory<D>,
     sessions: u32,
     merge_at: u64,
-) -> Result<Connection<D>, Memory>
+) -> Result<Connection<D>, Disks<D>>
     requires few { (0 < sessions) × (sessions ≤ 16) }
     requires fresh { (directory.core.authors ≡ [])
         × KeepsHistory D.bytes D.images D.faults D.moment D.images_since directory.log
@@ -203,29 +202,41 @@ pub(crate) fn connected<D: Disk>(
     ensures worker { IfOk result (λ made. CanWork made.conn made.worker) }
     ensures trees { IfOk result (λ made. made.worker.trees ≡ trees_in directory) }
     ensures begun { IfOk result (λ made. begun_of made.conn ≡ directory.log) }
+    ensures stop { IfErr result (λ disks. disks ≡ disks_in directory) }
 {
+    let Ok(base) = base_of(directory.core.snapshot()) else {
+        return Err(directory.into_disks());
+    };
     let Directory {
         core,
         log,
         store,
         ..
     } = directory;
-    let base = base_of(core.snapshot())?;
-    let Made {
-        conn,
-        seats,
-        worker: seat,
-    } = Conn::new(alloc, core, log, sessions, merge_at)?;
-    let trees = Trees {
-        base,
-        ahead: None,
-        store,
-    };
-    // It stays so until the worker has ended.
-    let end = WorkEnd::Shut;
-    Ok(Connection {
-        conn,
-        seats,
-        worker: Worker { seat, trees, end },
-    })
+    match Conn::new(alloc, core, log, sessions, merge_at) {
+        Ok(
+            Made {
+                conn,
+                seats,
+                worker: seat,
+            },
+        ) => Ok(Connection {
+            conn,
+            seats,
+            worker: Worker {
+                seat,
+                trees: Trees {
+                    base,
+                    ahead: None,
+                    store,
+                },
+                // It stays so until the worker has ended.
+                end: WorkEnd::Shut,
+            },
+        }),
+        Err(ConnStop { core: _, log }) => Err(Disks {
+            log: log.into_disk(),
+            segments: store.give_back(),
+        }),
+    }
 }

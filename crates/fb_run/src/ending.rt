@@ -12,7 +12,7 @@ ghost use Rattle.fb_run.specs.StatusLines.{first_early, why_of};
 ghost use Rattle.fb_run.specs.Database.{why_unready};
 ghost use Rattle.fb_run.specs.Outside.{disks_of};
 ghost use Rattle.fb_run.specs.Headline.{stop_of};
-ghost use Rattle.fb_run.specs.Causes.{HasNoConsole, HasNoDisk, HasNoTarget, NoSession, SaysWhy};
+ghost use Rattle.fb_run.specs.Causes.{HasNoConsole, HasNoDisk, HasNoTarget, NoSession, IsOutOfMemory, SaysWhy};
 ghost use Rattle.fb_run.specs.Merging.{TreesFit, CanWork, HaveMerged};
 ghost use Rattle.fb_run.specs.Running.{Closes, HandsLogBack, EndsWith};
 
@@ -219,6 +219,25 @@ fn obstructed<I: Drop, O: Drop, D: Drop>(alloc: Global, why: Obstacle<'_>) -> Ou
         Obstacle::NotReopened(fault) => {
             without_session(alloc, status_of_fault(fault), line_of_fault(alloc, fault))
         }
+    }
+}
+
+/// The outcome where memory ran out over a directory that was opened, and no session ran.
+pub(crate) fn cut_short<I: Drop, O: Drop, D: Drop>(
+    alloc: Global,
+    disks: Disks<D>,
+) -> Outcome<I, O, D>
+    ensures none { NoSession result }
+    ensures no_console { HasNoConsole result }
+    ensures no_target { HasNoTarget result }
+    ensures log { result.log ≡ Some disks.log }
+    ensures segments { result.segments ≡ Some disks.segments }
+    ensures said { IsOutOfMemory result }
+{
+    Outcome {
+        log: Some(disks.log),
+        segments: Some(disks.segments),
+        ..without_session(alloc, 9, out_of_memory(alloc))
     }
 }
 

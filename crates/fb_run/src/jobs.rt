@@ -44,9 +44,37 @@ pub(crate) struct Ended<I, O> {
     pub(crate) seats: Vec<Seat>,
 }
 
-/// Runs the sessions that were opened, each at its seat, and the worker beside them, over any log that may be sent to a thread. All
-/// memory that is wanted besides theirs is taken before any of them runs.
+/// Room for sessions while they run, and for what they leave.
+#[derive(Drop)]
+pub(crate) struct Room<'a, I, O, L: Log> {
+    jobs: Vec<Job<'a, I, O, L>>,
+    ended: Ended<I, O>,
+}
+
+/// Room for so many sessions: all memory that is wanted besides theirs, once they are connected.
+pub(crate) fn room_for<'a, I: Drop, O: Drop, L: Log>(
+    alloc: Global,
+    count: usize,
+) -> Result<Room<'a, I, O, L>, Memory>
+    ensures empty { IfOk result (λ room. (room.jobs.items ≡ [])
+        × (room.ended.sessions.items ≡ [])
+        × (room.ended.seats.items ≡ [])) }
+    ensures room { IfOk result (λ room. (count ≤ vec_capacity room.jobs)
+        × (count ≤ vec_capacity room.ended.sessions)
+        × (count ≤ vec_capacity room.ended.seats)) }
+{
+    Ok(Room {
+        jobs: Vec::with_capacity(alloc, count)?,
+        ended: Ended {
+            sessions: Vec::with_capacity(alloc, count)?,
+            seats: Vec::with_capacity(alloc, count)?,
+        },
+    })
+}
+
+/// Runs the sessions that were opened, each at its seat, and the worker beside them, over any log that may be sent to a thread.
 pub(crate) fn serve_all<
+    'a,
     R: Threads + Wait + Sync,
     L: Log + Send,
     I: Source + Send,
@@ -59,34 +87,40 @@ pub(crate) fn serve_all<
 >(
     rt: &R,
     alloc: Global,
-    conn: &Conn<L>,
+    conn: &'a Conn<L>,
     worker: &mut Worker<D>,
     seats: Vec<Seat>,
     opened: Vec<SessionOut<I, O>>,
+    room: Room<'a, I, O, L>,
     clock: &K,
     guard: &G,
     preds: &P,
     gate: &W,
     start: Start,
-) -> Result<Ended<I, O>, Memory>
+) -> Ended<I, O>
 where
     L::Record: Send,
     requires seats { (k : ℕ) (seat : Seat) → slice_get seats.items k ≡ Some seat
         → IsSeatOf conn.now seat × (most_commands ≤ (state_of seat).left) }
     requires opened { length opened.items ≡ length seats.items }
+    requires empty { (room.jobs.items ≡ [])
+        × (room.ended.sessions.items ≡ [])
+        × (room.ended.seats.items ≡ []) }
+    requires room { (length seats.items ≤ vec_capacity room.jobs)
+        × (length seats.items ≤ vec_capacity room.ended.sessions)
+        × (length seats.items ≤ vec_capacity room.ended.seats) }
     requires can_work { CanWork conn.now worker.old }
     requires fit { TreesFit (disks_of D.bytes D.faults D.images D.moment D.images_since)
         worker.old.trees }
-    ensures talked { IfOk result (λ ended. HaveTalked
+    ensures talked { HaveTalked
         (terms_at K.may_answer G.bars P.place_of P.selects_at clock.now guard.now preds.now)
         (streams_of I.left I.faults O.contents O.faults) conn.now seats.items opened.items
-        ended.seats.items ended.sessions.items) }
-    ensures worked { IfOk result (λ _. HasWorked
-        (disks_of D.bytes D.faults D.images D.moment D.images_since) conn.now worker.old
-        worker.new) }
+        result.seats.items result.sessions.items }
+    ensures worked { HasWorked (disks_of D.bytes D.faults D.images D.moment D.images_since)
+        conn.now worker.old worker.new }
 {
-    let room = room_for(alloc, seats.len())?;
-    let mut jobs = jobs_of(alloc, conn, seats, opened)?;
+    let Room { jobs: empty, ended } = room;
+    let mut jobs = jobs_of(conn, seats, opened, empty);
     serve_from(
         rt,
         alloc,
@@ -99,43 +133,32 @@ where
         gate,
         start,
     );
-    Ok(take_apart(jobs, room))
+    take_apart(jobs, ended)
 }
 
-/// Room for so many sessions and seats.
-fn room_for<I: Drop, O: Drop>(alloc: Global, count: usize) -> Result<Ended<I, O>, Memory>
-    ensures empty { IfOk result
-        (λ room. (room.sessions.items ≡ []) × (room.seats.items ≡ [])) }
-    ensures room { IfOk result (λ room. (count ≤ vec_capacity room.sessions)
-        × (count ≤ vec_capacity room.seats)) }
-{
-    Ok(Ended {
-        sessions: Vec::with_capacity(alloc, count)?,
-        seats: Vec::with_capacity(alloc, count)?,
-    })
-}
-
-/// A desk for each of the sessions.
+/// A desk for each of the sessions, for which there is room.
 fn jobs_of<'a, L: Log, I: Drop, O: Drop>(
-    alloc: Global,
     conn: &'a Conn<L>,
     seats: Vec<Seat>,
     opened: Vec<SessionOut<I, O>>,
-) -> Result<Vec<Job<'a, I, O, L>>, Memory>
+    room: Vec<Job<'a, I, O, L>>,
+) -> Vec<Job<'a, I, O, L>>
     requires seats { All (λ seat. IsSeatOf conn.now seat) seats.items }
     requires opened { length opened.items ≡ length seats.items }
-    ensures seats { IfOk result (λ jobs. map (λ job. job.desk.seat) jobs.items ≡ seats.items) }
-    ensures sessions { IfOk result (λ jobs. map (λ job. job.out) jobs.items ≡ opened.items) }
-    ensures desks { IfOk result (λ jobs. All (λ job. job.desk.conn.now ≡ conn.now) jobs.items) }
+    requires empty { room.items ≡ [] }
+    requires room { length seats.items ≤ vec_capacity room }
+    ensures seats { map (λ job. job.desk.seat) result.items ≡ seats.items }
+    ensures sessions { map (λ job. job.out) result.items ≡ opened.items }
+    ensures desks { All (λ job. job.desk.conn.now ≡ conn.now) result.items }
 {
-    let mut jobs = Vec::new(alloc);
+    let mut jobs = room;
     let mut seats = seats.into_iter();
     let mut opened = opened.into_iter();
     while let Some(seat) = seats.next() {
         let job = job_of(conn, seat, &mut opened);
-        jobs.push(job)?;
+        jobs.push_reserved(job);
     }
-    Ok(jobs)
+    jobs
 }
 
 /// The next of the sessions at this seat.

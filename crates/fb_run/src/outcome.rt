@@ -26,11 +26,11 @@ pub struct Outcome<I, O, D> {
     pub line: String,
     /// One for each script, in order.
     pub sessions: Vec<SessionOut<I, O>>,
-    /// Where the answer of a look at a directory was written, in whole or in part.
+    /// Where the line of `check`, `load` or `backup` was written, in whole or in part.
     pub console: Option<O>,
     /// The sessions of the generator, by number.
     pub loads: Vec<SessionOut<MemSource, MemSink>>,
-    /// The two disks of the directory, where it was opened. Where memory runs out they may be missing.
+    /// The two disks of the directory, where both could be opened.
     pub log: Option<D>,
     pub segments: Option<D>,
     /// The two disks that a backup copied to.

@@ -17,18 +17,18 @@ ghost use Rattle.fb_run.specs.Generated.{loads_of, spec_in_memory, in_memory};
 ghost use Rattle.fb_run.specs.Headline.{OneHistory, EachReplies};
 ghost use Rattle.fb_run.specs.Strict.{under};
 ghost use Rattle.fb_run.specs.Logs.{LogHolds, IsUnharmed};
-ghost use Rattle.fb_run.specs.Causes.{directory_of, target_of, HasNoConsole, HasNoDisk, HasNoTarget, NoSession, IsOutOfMemory, Causes};
+ghost use Rattle.fb_run.specs.Causes.{directory_of, target_of, HasNoConsole, HasNoTarget, NoSession, IsOutOfMemory, Causes};
 ghost use Rattle.fb_run.specs.Complete.{Complete};
 ghost use Rattle.fb_run.specs.Coverage.{GoAsFar, IsMerged};
 ghost use Rattle.fb_run.specs.Merging.{trees_in};
 ghost use Rattle.fb_run.specs.Targets.{TargetHolds, TargetHasRoot};
 ghost use Rattle.fb_run.specs.Database.{IsReopened};
-ghost use Rattle.fb_run.specs.Running.{RepliesBy, HaveEnded, HandsLogBack, GoesOnFrom};
+ghost use Rattle.fb_run.specs.Running.{RepliesBy, HaveEnded, HandsLogBack, HandsBothBack, GoesOnFrom};
 
 use crate::backing::back_up;
 use crate::database::{Connection, connected};
-use crate::ending::{closed, not_begun, without_session};
-use crate::jobs::serve_all;
+use crate::ending::{closed, cut_short, not_begun, without_session};
+use crate::jobs::{room_for, serve_all};
 use crate::lines::{out_of_memory, usage};
 use crate::loading::load;
 use crate::looking::check_directory;
@@ -289,7 +289,7 @@ pub(crate) fn run_opened<
         (disks_of D.bytes D.faults D.images D.moment D.images_since) ready.directory.recovered
         (disk_in ready.directory.log) last.entries result) }
     ensures stands { IfSome result.last Stands }
-    ensures none { result.last ≡ None → HasNoDisk result }
+    ensures none { result.last ≡ None → HandsBothBack ready.directory result }
     ensures ended { (NoSession result × IsOutOfMemory result) ⊎ HaveEnded
         (streams_of I.left I.faults O.contents O.faults)
         (disks_of D.bytes D.faults D.images D.moment D.images_since)
@@ -305,30 +305,35 @@ pub(crate) fn run_opened<
         sessions,
         start,
     } = ready;
-    let count = sessions.len() as u32;
+    let count = sessions.len();
     let recovered = directory.recovered;
-    let Ok(connection) = connected(alloc, directory, count, command.options.merge_at) else {
-        return without_session(alloc, 9, out_of_memory(alloc));
+    let Ok(room) = room_for(alloc, count) else {
+        return cut_short(alloc, directory.into_disks());
     };
-    let Connection {
-        conn,
-        seats,
-        mut worker,
-    } = connection;
-    match serve_all(
-        rt,
-        alloc,
-        &conn,
-        &mut worker,
-        seats,
-        sessions,
-        clock,
-        guard,
-        preds,
-        gate,
-        start,
-    ) {
-        Ok(ended) => closed(rt, alloc, command, conn, worker, ended, recovered),
-        Err(Memory) => without_session(alloc, 9, out_of_memory(alloc)),
+    match connected(alloc, directory, count as u32, command.options.merge_at) {
+        Ok(
+            Connection {
+                conn,
+                seats,
+                mut worker,
+            },
+        ) => {
+            let ended = serve_all(
+                rt,
+                alloc,
+                &conn,
+                &mut worker,
+                seats,
+                sessions,
+                room,
+                clock,
+                guard,
+                preds,
+                gate,
+                start,
+            );
+            closed(rt, alloc, command, conn, worker, ended, recovered)
+        }
+        Err(disks) => cut_short(alloc, disks),
     }
 }

@@ -7,6 +7,7 @@ use Rattle.std.specs.Option.{option_cmp}
 use Rattle.std.specs.Ordering.{is_lt, nat_cmp, ordering_then}
 use Rattle.std.specs.declared.cmp.Ordering.{Ordering}
 use Rattle.fb_values.specs.contracts.facts.ValueOrd.TheImpl as value_ord
+use Rattle.fb_values.specs.Orders.{value_cmp}
 use Rattle.fb_values.specs.declared.facts.Value.{Value}
 use Rattle.tuple_model.specs.Tuples.{member_cmp, tuple_cmp, row_cmp}
 use Rattle.fb_tuples.specs.declared.rows.LentRow.{LentRow}
@@ -38,3 +39,17 @@ rows_sorted rows sorted k d low high =
   where
     same : (x y : LentRow) → row_cmp (model_row x) (model_row y) ≡ lent_cmp x y
     same x y = ap (λ o. ordering_then o (nat_cmp x.e y.e)) (sym (tuples_same x.tuple.items y.tuple.items))
+
+-- ---- rows with values of their own
+
+owned_members_same : (x y : Option Value) → option_cmp value_cmp x y ≡ member_cmp x y
+owned_members_same None None = refl
+owned_members_same None (Some y) = refl
+owned_members_same (Some x) None = refl
+owned_members_same (Some x) (Some y) = refl
+
+pub owned_tuples_same : (xs ys : List (Option Value)) → slice_cmp (option_cmp value_cmp) xs ys ≡ tuple_cmp xs ys
+owned_tuples_same [] [] = refl
+owned_tuples_same [] (y ∷ ys) = refl
+owned_tuples_same (x ∷ xs) [] = refl
+owned_tuples_same (x ∷ xs) (y ∷ ys) = λ i. ordering_then (owned_members_same x y i) (owned_tuples_same xs ys i)

@@ -9,3 +9,5 @@ pub mod MemberScans
 pub mod Reaching
 pub mod LentOrder
 pub mod Reading
+pub mod Least
+pub mod Renewing

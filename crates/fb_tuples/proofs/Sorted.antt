@@ -95,7 +95,7 @@ module _ {A : Type 0} (f : A → Row) where
       (IsDistinct-IsPermutation same_entity flips (filter p rows) (map f ys) moved
       (kept_apart p rows (rows_apart rows (numbers_apart (map (λ row. row.e) rows) rising))))
 
-map_same : (rows : List Row) → map (λ row. row) rows ≡ rows
+pub map_same : (rows : List Row) → map (λ row. row) rows ≡ rows
 map_same [] = refl
 map_same (row ∷ rows) = ap (λ l. row ∷ l) (map_same rows)
 

@@ -2,3 +2,4 @@ pub mod Lent
 pub mod Reached
 pub mod Gathered
 pub mod Reading
+pub mod Indexed

@@ -7,7 +7,7 @@ ghost use Rattle.tuple_model.specs.Tuples.{Tuple, is_in_range as model_is_in_ran
 ghost use Rattle.fb_tuples.specs.Lent.{model_row};
 ghost use Rattle.fb_tuples.specs.Reached.{HasRange, first_member};
 
-use crate::order::is_below;
+use crate::order::Bounded;
 use crate::reach::{Reach, reached_rows};
 use crate::rows::{LentRow, all_rows};
 use fb_db::Db;
@@ -114,11 +114,11 @@ fn is_in_range(
         (option_map (λ b. b.now) end.entry) (model_row row.now) }
 {
     let is_reached = match start {
-        Some(bound) => !is_below(row, bound),
+        Some(bound) => !row.is_below(bound),
         None => true,
     };
     let is_left = match end {
-        Some(bound) => is_below(row, bound),
+        Some(bound) => row.is_below(bound),
         None => true,
     };
     is_reached && is_left

@@ -236,7 +236,7 @@ one_entry first second payload one other =
 
 -- ---- a fault lies within the payload
 
-abbrev byte_in : PayloadSays → ℕ
+abbrev pub byte_in : PayloadSays → ℕ
 byte_in (holds entry) = 0
 byte_in (breaks_at byte) = byte
 

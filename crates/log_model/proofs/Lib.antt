@@ -1,3 +1,4 @@
+pub mod Beginnings
 pub mod BigEndian
 pub mod CountedLists
 pub mod Entries

@@ -1,6 +1,7 @@
 pub mod Fields
 pub mod Values
 pub mod Payload
+pub mod Fronts
 pub mod Storable
 pub mod Log
 pub mod Samples

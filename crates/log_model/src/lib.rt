@@ -3,6 +3,7 @@
 #![tactic(auto)]
 
 mod examples;
+mod fronts;
 mod laws;
 mod merges;
 mod trees;
@@ -11,6 +12,7 @@ pub use examples::{
     bad_journals, bad_logs, first_payload, payloads_that_break, payloads_with_other_fields,
     storable_entries, unlawful_logs,
 };
+pub use fronts::{a_front_tells_a_misfit, fronts_of_payloads};
 pub use laws::{
     a_fault_lies_in_its_payload, a_field_is_its_bytes, a_field_is_read_back,
     a_file_says_one_thing_as_a_log, a_log_stands_for_one_history, a_payload_holds_one_entry,

@@ -1,15 +1,18 @@
 -- Ids and their places, as ids come and go.
 use Rattle.std.proofs.Common.{◌≡◌, ◌≤◌, ◌<◌, ◌+◌, ◌^◌, ℕ, Bool, true, false, cond, List, [], ◌∷◌, ◌++◌, length, get_or, refl, sym, ◌∙◌, ap}
-use Rattle.std.proofs.Common.{subst, arith, Some, None, take, min, length-append, length-take}
-use Rattle.std.specs.Prelude.{nat_eq, nat_le}
+use Rattle.std.proofs.Common.{subst, arith, inl, inr, Some, None, take, min, length-append, length-take}
+use Rattle.std.specs.Prelude.{Option, is_some, nat_eq, nat_le}
 use Rattle.std.specs.Ordering.{is_eq, nat_cmp}
-use Rattle.std.specs.BTreeMap.{BTreeMap, get, UpdatesBy, IsUnchanged, IsEmpty, is_at}
+use Rattle.std.specs.BTreeMap.{BTreeMap, get, UpdatesBy, IsUnchanged, IsEmpty, IsUpperBound, btree_map_len, is_at}
 use Rattle.std.specs.Map.{lookup}
-use Rattle.std.proofs.lemmas.Bool.{true≢false, or_parts, or_from, eqb-true, eqb-false, ne_eqb, leb-true, leb-false}
-use Rattle.std.proofs.lemmas.List.{get_or_append_left, take_all, take-take}
+use Rattle.std.proofs.lemmas.Bool.{true≢false, or_parts, or_from, or_left, or_right, or_cases, eqb-true, eq-eqb, eqb-false}
+use Rattle.std.proofs.lemmas.Bool.{ne_eqb, leb-true, leb-false}
+use Rattle.std.proofs.lemmas.List.{get_or_append_left, get_or_default, take_all, take-take}
 use Rattle.std.proofs.Math.Seq.{get_or-append_seam, take-append_seam}
 use Rattle.std.proofs.lemmas.List.Elements.{All-nil, All-push}
+use Rattle.std.proofs.lemmas.Map.Keys.{ge_from_not_lt}
 use Rattle.log_model.specs.Nodes.{is_among}
+use Rattle.seg_tree.specs.Ids.{next_above}
 use Rattle.seg_codec.specs.IdPlaces.{ArePlaced}
 use Rattle.seg_codec.proofs.Among.{among, among-append, once_none, once_push, once_front, once_apart}
 
@@ -110,6 +113,51 @@ module _ (ids : List ℕ) (id : ℕ) (places new : BTreeMap ℕ ℕ) where
               let apart = eqb-false place (length ids) not_last in
               let lower : place < length ids = omega (arith, below, length-append ids (id ∷ []), apart) in
               (lower, sym (get_or_append_left ids (id ∷ []) 0 place lower) ∙ here)
+
+-- ---- the greatest of them
+
+pub next_above_none : (ids : List ℕ) (places : BTreeMap ℕ ℕ) → ArePlaced ids places → (0 < btree_map_len places → ⊥) → next_above ids ≡ 1
+next_above_none [] places placed none = refl
+next_above_none (id ∷ ids) places placed none =
+    absurd (true≢false (sym (or_left _ _ (eq-eqb id id refl)) ∙ placed.none id (empty places.entries none)))
+  where
+    empty : (entries : List (ℕ × ℕ)) → (0 < length entries → ⊥) → lookup (is_at (nat_cmp id)) entries ≡ None
+    empty [] none = refl
+    empty (e ∷ es) none = absurd (none (omega arith))
+
+above_all : (ids : List ℕ) (most : ℕ) → ((id : ℕ) → is_among ids id ≡ true → id ≤ most) → next_above ids ≤ most + 1
+above_all [] most each = omega arith
+above_all (id ∷ ids) most each =
+    omega (arith, each id (or_left _ _ (eq-eqb id id refl)), above_all ids most (λ other is. each other (or_right _ _ is)))
+
+above_each : (ids : List ℕ) (id : ℕ) → is_among ids id ≡ true → id + 1 ≤ next_above ids
+above_each [] id is = absurd (true≢false (sym is))
+above_each (other ∷ ids) id is =
+    elim (or_cases (nat_eq id other) (is_among ids id) is) [
+      | inl same ↦ omega (arith, eqb-true id other same)
+      | inr later ↦ omega (arith, above_each ids id later)
+    ]
+
+-- the greatest key is the greatest id
+module _ (ids : List ℕ) (places : BTreeMap ℕ ℕ) (id place : ℕ) where
+  pub greatest_small : ArePlaced ids places → get nat_cmp places id ≡ Some place → id < 2 ^ 62
+  greatest_small placed is =
+      let found = placed.some id place is in
+      subst (λ n. n < 2 ^ 62) found.1 (placed.small place 0 found.0)
+
+  pub next_above_greatest : ArePlaced ids places → get nat_cmp places id ≡ Some place → IsUpperBound nat_cmp places id
+      → next_above ids ≡ id + 1
+  next_above_greatest placed is bound =
+      let found = placed.some id place is in
+      let here = among ids id (place, found.0, sym (get_or_default ids place 0 id found.0) ∙ found.1) in
+      omega (arith, above_each ids id here, above_all ids id below)
+    where
+      below : (other : ℕ) → is_among ids other ≡ true → other ≤ id
+      below other there = go (get nat_cmp places other) refl
+        where
+          go : (o : Option ℕ) → get nat_cmp places other ≡ o → other ≤ id
+          go None none = absurd (true≢false (sym there ∙ placed.none other none))
+          go (Some p) some = ge_from_not_lt id other (bound other (ap is_some some))
 
 -- ---- beginnings
 

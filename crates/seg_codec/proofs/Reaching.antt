@@ -1,6 +1,6 @@
 -- Ids that are reached one after another.
 use Rattle.std.proofs.Common.{◌≡◌, ◌≤◌, ◌<◌, ◌+◌, ℕ, Bool, true, false, not, ◌&&◌, ◌||◌, List, [], ◌∷◌, ◌++◌, length, map, take, drop}
-use Rattle.std.proofs.Common.{get_or, max, refl, sym, ◌∙◌, ap, subst, arith, inl, inr, append_assoc}
+use Rattle.std.proofs.Common.{get_or, refl, sym, ◌∙◌, ap, subst, inl, inr, append_assoc}
 use Rattle.std.specs.Prelude.{nat_eq, Contains}
 use Rattle.std.specs.List.{list_any, list_all}
 use Rattle.std.proofs.lemmas.Bool.{true≢false, or_parts, or_from, or_left, or_right, or_cases, false_from_ne_true, eqb-true, eq-eqb}
@@ -8,8 +8,8 @@ use Rattle.std.proofs.lemmas.List.{map-append, take-append-drop, take_more, take
 use Rattle.std.proofs.lemmas.List.Folds.{list_any-append}
 use Rattle.log_model.specs.Nodes.{Directory, Nodes, is_among, is_directory_id, reaching}
 use Rattle.seg_tree.specs.Nodes.{LeafNode, DirectoryNode}
-use Rattle.seg_tree.specs.Ids.{leaf_ids, next_above}
-use Rattle.seg_tree.proofs.Making.{seen_more, next_above_append}
+use Rattle.seg_tree.specs.Ids.{leaf_ids}
+use Rattle.seg_tree.proofs.Making.{seen_more}
 use Rattle.seg_codec.specs.Trees.{file_directory}
 use Rattle.seg_codec.specs.InFile.{IsDirectoryOf}
 use Rattle.seg_codec.proofs.Among.{member_cases, no_member, mapped_member, mapped_among, among-append, AreOnce, once_front, once_head}
@@ -123,13 +123,3 @@ reach_fits nodes reached id d is =
 pub reach_is : (nodes : Nodes) (reached : List ℕ) (id : ℕ) (d : DirectoryNode) → IsDirectoryOf nodes id d
     → reaching nodes reached id ≡ reached ++ d.id ∷ leaf_ids d.leaves
 reach_is nodes reached id d is = ap (λ l. reached ++ l) is.below ∙ ap (λ n. reached ++ n ∷ leaf_ids d.leaves) (sym is.id_is)
-
-pub next_above_more : (ids : List ℕ) (i id : ℕ) → i < length ids → id ≡ get_or ids i id
-    → next_above (take (i + 1) ids) ≡ max (next_above (take i ids)) (id + 1)
-next_above_more ids i id below is =
-    ap next_above (take_more ids i id below ∙ ap (λ x. take i ids ++ x ∷ []) (sym is)) ∙ next_above_append (take i ids) (id ∷ [])
-    ∙ omega (arith, some (take i ids))
-  where
-    some : (xs : List ℕ) → 1 ≤ next_above xs
-    some [] = omega arith
-    some (x ∷ xs) = omega (arith, some xs)

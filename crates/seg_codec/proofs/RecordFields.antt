@@ -8,7 +8,7 @@ use Rattle.log_model.specs.Values.{is_format}
 use Rattle.log_model.specs.Storable.{is_u32}
 use Rattle.log_model.specs.Nodes.{Leaf, Directory, Nodes, Roots, MergeRecord, with_leaf, with_directory, reaching}
 use Rattle.log_model.specs.Merges.{several_over, read_list, read_leaf, read_directory, read_root, four, read_roots, read_record_fields}
-use Rattle.log_model.specs.Merges.{read_record, bad_from, merge_said_by, record_says}
+use Rattle.log_model.specs.Merges.{MergeSays, read_record, bad_from, merge_said_by, record_says}
 use Rattle.fb_codec.specs.Answers.{Misses}
 use Rattle.fb_codec.specs.declared.faults.BytesFault.{BytesFault}
 use Rattle.fb_codec.specs.declared.faults.BytesFault.TheVariants.{At, Memory}
@@ -151,6 +151,11 @@ grown_cut nodes new a b grown leaves directories =
     let front = (λ i. take (leaves i) (ap (λ (n : Nodes). n.leaves) grown.2 i)) ∙ take-append_seam nodes.leaves grown.0 in
     let back = (λ i. take (directories i) (ap (λ (n : Nodes). n.directories) grown.2 i)) ∙ take-append_seam nodes.directories grown.1 in
     λ i. record { leaves = front i; directories = back i }
+
+-- the nodes of a record are more nodes
+pub grown_merged : (old new : Nodes) (says : MergeSays) (trees : SegRoots) (c : ℕ) → IsMerged old new says trees c → IsGrown old new
+grown_merged old new says trees c is =
+    grown_both old (fold with_leaf old is.merge.leaves) new is.merge.leaves is.merge.directories refl is.nodes
 
 -- ---- four roots, one after another
 

@@ -133,10 +133,9 @@ impl Ids {
         ensures next { result ≡ model_next_above self.now }
         ensures small { result ≤ 2 ^ 62 }
     {
-        let mut next: u64 = 1;
-        for id in self.ids.iter() {
-            next = next.max(*id + 1);
+        match self.places.last_key_value() {
+            None => 1,
+            Some((id, _)) => *id + 1,
         }
-        next
     }
 }

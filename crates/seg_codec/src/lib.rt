@@ -8,6 +8,7 @@ mod laws;
 mod leaves;
 mod nodes;
 mod records;
+mod room;
 mod roots;
 mod written;
 
@@ -17,6 +18,6 @@ pub use laws::{
     trees_stand_over_later_nodes,
 };
 pub use nodes::Nodes;
-pub use records::record_of;
+pub use records::{is_bad_front, record_of};
 pub use roots::RootIds;
 pub use written::record_bytes;

@@ -1,14 +1,18 @@
 //! Merge records that are read.
-ghost use Rattle.std.specs.Prelude.{◌≤◌, length, drop};
+ghost use Rattle.std.specs.Prelude.{◌≡◌, ◌≤◌, ◌++◌, ℕ, List, length, drop, false, IsTrue, IfOk};
+ghost use Rattle.fb_codec.specs.declared.faults.BytesFault.TheVariants.{At};
 ghost use Rattle.log_model.specs.Fields.{at_end};
-ghost use Rattle.log_model.specs.Merges.{record_says, read_roots};
+ghost use Rattle.log_model.specs.Fronts.{has_whole_field as model_has_whole_field};
+ghost use Rattle.log_model.specs.Merges.{record_says, bad_from, read_roots};
 ghost use Rattle.seg_codec.specs.Answers.{Matches, ReadsRecord, MatchesRoots};
 
 use crate::directories::get_directories;
 use crate::leaves::get_leaves;
 use crate::nodes::Nodes;
 use crate::roots::get_roots;
-use fb_codec::{BytesFault, get_format, get_u32, misfit};
+use fb_codec::{BytesFault, get_format, get_u32, has_whole_field, misfit};
+use fb_memory::Memory;
+use log_model::a_front_tells_a_misfit;
 use seg_tree::Roots;
 use std::alloc::Global;
 
@@ -28,6 +32,40 @@ pub fn record_of(
             nodes.cut(known);
             Err(fault)
         }
+    }
+}
+
+/// Whether the front of a payload tells that it is no record over the nodes, which stay as they are.
+pub fn is_bad_front(alloc: Global, front: &[u8], nodes: &mut Nodes) -> Result<bool, Memory>
+    ensures bad { IfOk result (λ bad. IsTrue bad → (rest : List ℕ)
+        → (byte : ℕ) × (record_says nodes.old (front.now ++ rest) ≡ bad_from byte)) }
+    ensures untold { IfOk result (λ bad. bad ≡ false → (byte : ℕ)
+        → record_says nodes.old front.now ≡ bad_from byte
+        → model_has_whole_field front.now byte ≡ false) }
+    ensures stays { nodes.new ≡ nodes.old }
+{
+    a_front_tells_a_misfit();
+    let known = nodes.counts();
+    match read_record(alloc, front, nodes) {
+        Ok(_) => {
+            nodes.cut(known);
+            Ok(false)
+        }
+        Err(fault) => {
+            nodes.cut(known);
+            is_told(front, fault)
+        }
+    }
+}
+
+/// Whether the fault is no field that the front cuts off.
+fn is_told(front: &[u8], fault: BytesFault) -> Result<bool, Memory>
+    ensures { IfOk result (λ told. (byte : ℕ) × (fault ≡ At byte)
+        × (told ≡ model_has_whole_field front.now byte)) }
+{
+    match fault {
+        BytesFault::At { byte } => Ok(has_whole_field(front, byte)),
+        BytesFault::Memory => Err(Memory),
     }
 }
 

@@ -10,6 +10,7 @@ ghost use Rattle.seg_tree.specs.Nodes.{tree_leaves};
 ghost use Rattle.seg_codec.specs.Trees.{file_leaf, file_directory, directory_ids, leaves_of_four, directories_of_four, roots_of, merge_over, AreStorable};
 
 use crate::ids::Ids;
+use crate::room::room_for;
 use fb_codec::{WRITTEN_FORMAT, put, put_datom};
 use fb_memory::Memory;
 use fb_values::Datom;
@@ -29,7 +30,8 @@ pub fn record_bytes(alloc: Global, roots: &Roots, c: u32, in_file: &Ids) -> Resu
 {
     let leaves = new_leaves(alloc, roots, in_file)?;
     let directories = new_directories(alloc, roots, in_file)?;
-    let mut out = Vec::new(alloc);
+    // A vector that grows would have its bytes twice and more while it moves them.
+    let mut out = Vec::with_capacity(alloc, room_for(&leaves, &directories, roots))?;
     put(&[0; FREE], &mut out)?;
     out.push(WRITTEN_FORMAT)?;
     put(&c.to_be_bytes(), &mut out)?;

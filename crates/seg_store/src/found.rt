@@ -1,12 +1,12 @@
 //! What a file of segments keeps, found record by record.
-ghost use Rattle.std.specs.Prelude.{◌≡◌, ◌++◌, [], ◌∷◌, ℕ, List, IfOk, OnOk};
+ghost use Rattle.std.specs.Prelude.{◌≡◌, ◌++◌, [], ◌∷◌, ℕ, List, false, IsTrue, IfOk, OnOk};
 ghost use Rattle.seg_store.specs.Finding.{HasFound};
 
 use crate::loads::KeptTrees;
 use fb_codec::BytesFault;
 use fb_journal::Payloads;
 use fb_memory::Memory;
-use seg_codec::{Nodes, record_of};
+use seg_codec::{Nodes, is_bad_front, record_of};
 use std::alloc::Global;
 
 /// What the records so far keep.
@@ -49,6 +49,23 @@ impl Found {
             }
             Err(BytesFault::Memory) => Err(Memory),
         }
+    }
+
+    /// Adds the next record, of whose payload this is the front, if it counts for nothing whatever follows: the front tells that
+    /// it is bad, or one before it was. Answers whether it does.
+    pub(crate) fn pass(&mut self, alloc: Global, front: &[u8]) -> Result<bool, Memory>
+        ensures added { IfOk result (λ passes. IsTrue passes → (rest : List ℕ)
+            (records : List (List ℕ)) → HasFound records self.old
+            → HasFound (records ++ (front.now ++ rest) ∷ []) self.new) }
+        ensures stays { IfOk result (λ passes. passes ≡ false → (records : List (List ℕ))
+            → HasFound records self.old → HasFound records self.new) }
+    {
+        if !self.good {
+            return Ok(true);
+        }
+        let bad = is_bad_front(alloc, front, &mut self.nodes)?;
+        self.good = !bad;
+        Ok(bad)
     }
 
     /// What payloads keep.

@@ -21,6 +21,9 @@ use seg_tree::Roots;
 use std::alloc::Global;
 use thiserror::Error;
 
+/// How many bytes of a long payload are read first.
+const FRONT: usize = 1 << 20;
+
 /// The four trees of a kept root, and how far they go.
 #[derive(Drop)]
 pub struct KeptTrees {
@@ -200,12 +203,13 @@ fn find<D: Disk>(
     payload: &mut Vec<u8>,
     found: &mut Found,
 ) -> Result<bool, LoadFault>
-    ensures record { IfOk result (λ more. IsTrue more → (records : List (List ℕ))
+    ensures record { IfOk result (λ more. IsTrue more → (whole : List ℕ)
+        × ((records : List (List ℕ))
         → ((disk : D)
         → HasRead D.bytes D.images D.moment D.images_since segments_mark disk records file.old
         → HasRead D.bytes D.images D.moment D.images_since segments_mark disk
-        (records ++ payload.new.items ∷ []) file.new)
-        × (HasFound records found.old → HasFound (records ++ payload.new.items ∷ []) found.new)) }
+        (records ++ whole ∷ []) file.new)
+        × (HasFound records found.old → HasFound (records ++ whole ∷ []) found.new))) }
     ensures end { IfOk result (λ more. more ≡ false → (disk : D) (records : List (List ℕ))
         → HasRead D.bytes D.images D.moment D.images_since segments_mark disk records file.old
         → HasFound records found.old
@@ -215,6 +219,9 @@ fn find<D: Disk>(
         (λ _. D.faults (disk_from file.new) ≡ D.faults (disk_from file.old))
         (λ fault. CountsLoad fault (D.faults (disk_from file.old)) (D.faults (disk_from file.new))) }
 {
+    if pass(alloc, file, payload, found)? {
+        return Ok(true);
+    }
     match file.next(payload) {
         Ok(Some(_)) => {
             found.add(alloc, payload)?;
@@ -228,4 +235,43 @@ fn find<D: Disk>(
         Err(StartFault::Disk) => Err(LoadFault::Disk),
         Err(StartFault::Memory) => Err(LoadFault::Memory),
     }
+}
+
+/// Goes over the next record, if it is long and counts for nothing by the front of its payload, and answers whether it does.
+fn pass<D: Disk>(
+    alloc: Global,
+    file: &mut Reading<D>,
+    front: &mut Vec<u8>,
+    found: &mut Found,
+) -> Result<bool, LoadFault>
+    ensures record { IfOk result (λ passes. IsTrue passes → (whole : List ℕ)
+        × ((records : List (List ℕ))
+        → ((disk : D)
+        → HasRead D.bytes D.images D.moment D.images_since segments_mark disk records file.old
+        → HasRead D.bytes D.images D.moment D.images_since segments_mark disk
+        (records ++ whole ∷ []) file.new)
+        × (HasFound records found.old → HasFound (records ++ whole ∷ []) found.new))) }
+    ensures stays { IfOk result (λ passes. passes ≡ false → (records : List (List ℕ))
+        → ((disk : D)
+        → HasRead D.bytes D.images D.moment D.images_since segments_mark disk records file.old
+        → HasRead D.bytes D.images D.moment D.images_since segments_mark disk records file.new)
+        × (HasFound records found.old → HasFound records found.new)) }
+    ensures left { IfOk result (λ passes. passes ≡ false → left_in file.new ≡ left_in file.old) }
+    ensures less { IfOk result (λ passes. IsTrue passes → left_in file.new < left_in file.old) }
+    ensures counted { MatchResult result
+        (λ _. D.faults (disk_from file.new) ≡ D.faults (disk_from file.old))
+        (λ fault. CountsLoad fault (D.faults (disk_from file.old)) (D.faults (disk_from file.new))) }
+{
+    let next = match file.front(FRONT, front) {
+        Ok(Some(next)) => next,
+        Ok(None) | Err(StartFault::BadLog { .. }) => return Ok(false),
+        Err(StartFault::Disk) => return Err(LoadFault::Disk),
+        Err(StartFault::Memory) => return Err(LoadFault::Memory),
+    };
+    let bytes = front.as_slice();
+    if !found.pass(alloc, bytes)? {
+        return Ok(false);
+    }
+    file.pass(next, bytes);
+    Ok(true)
 }

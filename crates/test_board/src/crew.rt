@@ -8,7 +8,7 @@ ghost use Rattle.test_board.specs.Books.{IsSameSeat, IsHired, IsDone, IsSoundBoo
 use crate::book::{Book, Page};
 use crate::rounds::round;
 use board_mail::{Mail, peek};
-use board_rule::{Board, BoardSeat, Mails, step_join, step_split};
+use board_rule::{Board, BoardSeat, BoardStop, Mails, step_join, step_split};
 use fb_memory::Memory;
 use std::alloc::Global;
 use std::sync::Wait;
@@ -213,7 +213,10 @@ pub fn open(
         × ((view_of r.1).seats ≡ 1)) }
 {
     let pages = Page::copies(alloc, sessions as usize, &[0])?;
-    Board::new(alloc, Book::new(alloc, serial, 0)?, 0, Mails::of(pages))
+    match Board::new(alloc, Book::new(alloc, serial, 0)?, 0, Mails::of(pages)) {
+        Ok(made) => Ok(made),
+        Err(BoardStop { home: _ }) => Err(Memory),
+    }
 }
 
 /// Adds `count` times `rounds` numbers to a book of this serial number, each worker in a thread of its own, and closes the board.

@@ -60,6 +60,14 @@ fn records_have_the_documented_bytes(rt: HostRuntime) -> Result<(), Fail> {
     Ok(())
 }
 
+#[test]
+fn records_take_no_more_room_than_their_bytes(rt: HostRuntime) -> Result<(), Fail> {
+    let written = records_of_hi(rt.alloc())?;
+    assert_eq!(rt; written.first.capacity(), written.first.len());
+    assert_eq!(rt; written.second.capacity(), written.second.len());
+    Ok(())
+}
+
 /// The c of a record and the number above the ids of its trees, or the byte at which it breaks.
 fn read(alloc: Global, payload: &[u8], nodes: &mut Nodes) -> Result<Result<(u32, u64), u64>, Fail> {
     match record_of(alloc, payload, nodes) {

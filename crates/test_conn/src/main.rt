@@ -1,10 +1,11 @@
 //! Two sessions at one connection, in one thread: every order of short lists of their calls, over a log that fails at one of its
-//! records or at none. What each call is answered, and what is left when the worker has merged the rest, has to be what a plain model
-//! says.
+//! records or at none. What each call is answered, what a copy has that is made between two commits, and what is left when the worker has
+//! merged the rest, has to be what a plain model says.
 #![tactic(auto)]
 
 mod answers;
 mod calls;
+mod copies;
 mod forms;
 mod logs;
 mod model;

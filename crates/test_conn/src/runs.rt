@@ -7,7 +7,8 @@ ghost use Rattle.merge_worker.specs.Work.{IsSameWorker};
 ghost use Rattle.test_conn.specs.Seated.{AreSessions};
 
 use crate::answers::{Answer, ask};
-use crate::calls::Turn;
+use crate::calls::{Said, Turn};
+use crate::copies::copied;
 use crate::forms::Forms;
 use crate::logs::CountingLog;
 use crate::model::{Counts, Model, halt_of};
@@ -27,6 +28,9 @@ const ORDERS: u32 = 256;
 
 /// The records at which the log fails, and the number of one that never comes.
 const FAILURES: &[u64] = &[1, 2, 3, 1000];
+
+/// The t of the commit behind which the database is copied, while the sessions go on.
+const COPIED_AT: u64 = 2;
 
 /// Runs each order of the calls.
 pub(crate) fn run_orders<R: Threads + Wait + Sync>(
@@ -85,12 +89,17 @@ fn serve<R: Threads + Wait + Sync>(
     };
     let core = Core::of(alloc, Snapshot::first(alloc)?);
     let mut base = base_of(core.snapshot())?;
-    let Made {
-        conn,
-        mut seats,
-        mut worker,
-    } = Conn::new(alloc, core, log, 2, 1)?;
-    let asked = ask_all(rt, &conn, &mut seats, turns, forms, model, counts);
+    let Ok(
+        Made {
+            conn,
+            mut seats,
+            mut worker,
+        },
+    ) = Conn::new(alloc, core, log, 2, 1)
+    else {
+        bail!("out of memory");
+    };
+    let asked = ask_all(rt, alloc, &conn, &mut seats, turns, forms, model, counts);
     let merged = merge_rest(rt, alloc, &conn, &mut worker, &mut base);
     let left = compare_end(model, conn.close(seats, worker));
     asked?;
@@ -101,6 +110,7 @@ fn serve<R: Threads + Wait + Sync>(
 /// Asks for one call after another, each at the seat of its session, and compares the answers.
 fn ask_all<R: Wait>(
     rt: &R,
+    alloc: Global,
     conn: &Conn<CountingLog>,
     seats: &mut Vec<Seat>,
     turns: &[Turn],
@@ -114,6 +124,7 @@ fn ask_all<R: Wait>(
     for turn in turns {
         let answer = ask_at(rt, conn, seats, *turn, forms)?;
         compare(model, *turn, &answer, seats.as_slice(), counts)?;
+        compare_copy(alloc, model, &answer)?;
     }
     Ok(())
 }
@@ -184,6 +195,16 @@ fn compare(
     }
     counts.count(said);
     Ok(())
+}
+
+/// A copy that is made between two commits has all that was accepted until then, and nothing else.
+fn compare_copy(alloc: Global, model: &Model, answer: &Answer) -> Result<()> {
+    match answer.said {
+        Said::Receipt { t: COPIED_AT, .. } if !model.has(&copied(alloc, &answer.snapshot)?) => {
+            bail!("a copy between two commits is of another history")
+        }
+        _ => Ok(()),
+    }
 }
 
 /// What is left is as the model says.

@@ -1,9 +1,11 @@
-//! Opening the documented log, as it is and with bytes changed, the roots that a history agrees with, and backups.
+//! Opening the documented log, as it is and with bytes changed, the roots that a history agrees with, backups, and files with a hole.
 #![tactic(auto)]
 
 #[cfg(test)]
 mod fb_backup_tests;
 #[cfg(test)]
 mod fb_recover_tests;
+#[cfg(test)]
+mod hole_tests;
 #[cfg(test)]
 mod seg_agree_tests;

@@ -1,5 +1,6 @@
 //! What a directory keeps, through whole runs of the program: when calls of its log's disk fail, after a crash at any moment, from one
 //! run to the next, and when bytes of the log were changed.
+mod backups;
 mod bad_logs;
 mod calls;
 mod crossed;
@@ -13,6 +14,7 @@ use crate::directories::{Parts, disk};
 use crate::plain::{answers_of, plain_session};
 use crate::runs::run_over;
 use anyhow::Result;
+use backups::fail_backups;
 use bad_logs::{open_changed, open_cut};
 use calls::{Tally, fail_each_call};
 use crossed::cross_images;
@@ -170,5 +172,8 @@ fn open_histories<R: Print + Threads + Wait + Sync>(
     let pairs = histories.pair(rt, alloc)?;
     let bytes = histories.change_bytes(rt, alloc)?;
     println!(rt; "{pairs} logs beside segments, {bytes} files of segments with a byte changed")?;
-    histories.fail_calls(rt, alloc)
+    histories.fail_calls(rt, alloc)?;
+    let calls = fail_backups(rt, alloc, kept)?;
+    println!(rt; "backups: {calls} calls")?;
+    Ok(())
 }

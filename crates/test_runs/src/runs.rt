@@ -139,7 +139,8 @@ pub(crate) fn ended_of<O: Drop>(outcome: Outcome<MemSource, O, MemDisk>) -> Ende
     }
 }
 
-fn both(log: Option<MemDisk>, segments: Option<MemDisk>) -> Option<Parts> {
+/// The disks of a directory, where both were handed back.
+pub(crate) fn both(log: Option<MemDisk>, segments: Option<MemDisk>) -> Option<Parts> {
     match (log, segments) {
         (Some(log), Some(segments)) => Some(Parts { log, segments }),
         _ => None,

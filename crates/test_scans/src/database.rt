@@ -1,8 +1,11 @@
 //! A database of ten entities, each of which has fifty thousand numbers.
+ghost use Rattle.std.specs.Prelude.{IfOk};
+ghost use Rattle.fb_core.specs.Cores.{IsDraftOf};
+
 use anyhow::{Result, bail};
 use edn_core::read_form;
 use edn_form::{Edn, Items, Pairs};
-use fb_core::{Core, NoGuard, a_beginning_stays_one};
+use fb_core::{Core, Draft, NoGuard, a_beginning_stays_one};
 use fb_merge::merged;
 use fb_text::Text;
 use fb_view::Snapshot;
@@ -39,19 +42,24 @@ pub(crate) fn grown<R: Threads + Sync>(rt: &R, alloc: Global) -> Result<Snapshot
 }
 
 fn grow(alloc: Global, core: &mut Core) -> Result<()> {
-    transact(core, &schema(alloc)?)?;
+    transact(core, &form_in(alloc, SCHEMA)?)?;
     for nth in 0..ENTITIES {
         transact(core, &new_entity(alloc, nth)?)?;
     }
     Ok(())
 }
 
-fn transact(core: &mut Core, form: &Edn) -> Result<()> {
+pub(crate) fn transact(core: &mut Core, form: &Edn) -> Result<()> {
+    let draft = decided(core, form)?;
+    core.accept(draft);
+    Ok(())
+}
+
+pub(crate) fn decided(core: &Core, form: &Edn) -> Result<Draft>
+    ensures { IfOk result (IsDraftOf core.now AUTHOR) }
+{
     match core.decide(form, CLOCK, AUTHOR, &NoGuard) {
-        Ok(draft) => {
-            core.accept(draft);
-            Ok(())
-        }
+        Ok(draft) => Ok(draft),
         Err(_) => bail!("a transaction is refused"),
     }
 }
@@ -70,10 +78,10 @@ fn merge<R: Threads + Sync>(rt: &R, alloc: Global, core: &mut Core) -> Result<()
     Ok(())
 }
 
-fn schema(alloc: Global) -> Result<Edn> {
-    match read_form(alloc, SCHEMA.as_bytes(), 0) {
+pub(crate) fn form_in(alloc: Global, text: &str) -> Result<Edn> {
+    match read_form(alloc, text.as_bytes(), 0) {
         Ok(Some((form, _))) => Ok(form),
-        _ => bail!("the schema is no EDN"),
+        _ => bail!("the text is no EDN"),
     }
 }
 

@@ -1,6 +1,7 @@
 //! The filter that selects every datom.
 use fb_preds::Selector;
 use fb_values::Datom;
+use tuple_model::Selection;
 
 #[derive(Drop)]
 pub(crate) struct Everything;
@@ -13,4 +14,10 @@ impl Selector for Everything {
     fn test(&self, _d: &Datom) -> bool {
         true
     }
+}
+
+impl Selection for Everything {
+    ghost use Rattle.std.specs.Prelude.{⊤};
+
+    ghost selects = { λ d. ⊤ };
 }

@@ -2,8 +2,10 @@
 //! would make 10^11 visits, and not end.
 #![tactic(auto)]
 
+mod asked;
 mod database;
 mod everything;
+mod tuples;
 
 use anyhow::{Result, bail};
 use database::{FIRST_ENTITY, FIRST_T, NUMBER, NUMBERS_EACH, grown};
@@ -13,6 +15,7 @@ use fb_memory::Memory;
 use fb_scan::datoms;
 use fb_values::{Order, Probe, Value};
 use std::alloc::Global;
+use tuples::grow_and_compare;
 
 /// How many numbers there are in all.
 const NUMBERS: u32 = 500_000;
@@ -54,5 +57,7 @@ fn main(rt: HostRuntime) -> Result<()> {
     let db = Db::of(grown(&rt, alloc)?, Everything);
     find_each(alloc, &db)?;
     println!(rt; "{ASKED} of {NUMBERS} numbers are found, each by a scan of its own")?;
+    let ranges = grow_and_compare(alloc)?;
+    println!(rt; "{ranges} ranges of tuples are what filters leave")?;
     Ok(())
 }

@@ -7,7 +7,7 @@ ghost use Rattle.bench.specs.Seats.{IsFresh};
 
 use super::fixed::{Fixed, Sheet, sheets};
 use board_mail::{Mail, peek};
-use board_rule::{Board, BoardSeat, Mails, step_split};
+use board_rule::{Board, BoardSeat, BoardStop, Mails, step_split};
 use board_turn::{draw, leave, turn};
 use fb_memory::Memory;
 use std::alloc::Global;
@@ -22,7 +22,10 @@ fn open(alloc: Global, sessions: u32) -> Result<(Board<Fixed, Sheet>, BoardSeat)
     ensures seat { IfOk result (λ r. ((view_of r.1).number ≡ worker) × ((view_of r.1).given ≡ 0)) }
 {
     let home = Fixed { counter: 0 };
-    Board::new(alloc, home, 0, Mails::of(sheets(alloc, sessions)?))
+    match Board::new(alloc, home, 0, Mails::of(sheets(alloc, sessions)?)) {
+        Ok(made) => Ok(made),
+        Err(BoardStop { home: _ }) => Err(Memory),
+    }
 }
 
 /// A seat for each session.

@@ -111,8 +111,12 @@ impl Kept {
             log: self.log(),
             segments,
         };
-        let ended = read_over(rt, alloc, contents)?;
-        self.answers.covered_by(&ended)
+        self.covered_in(&read_over(rt, alloc, contents)?)
+    }
+
+    /// How far the trees of such a run go, which has to answer the reads as ever.
+    pub(crate) fn covered_in(&self, ended: &Ended) -> Result<u32> {
+        self.answers.covered_by(ended)
     }
 }
 

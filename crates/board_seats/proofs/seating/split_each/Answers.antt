@@ -17,10 +17,11 @@ loop-preserved g c =
     let table = c.args.board.now.table.shared.table_id in let xs : List BoardSeat = c.loop.seats.items in
     let new : view_of x ≡ record (starting v.start v.seen 0) { number = n } =
     c.step_split.ensures.newcomer ∙ ap (λ (z : View Code). newcomer z) inv.1 in
-    let pushed : c.push.new.self.items ≡ xs ++ x ∷ [] = search rules in (
+    let pushed : c.push_reserved.new.self.items ≡ xs ++ x ∷ [] = search rules in (
+      search rules,
       search rules,
       search rules,
       search rules,
       subst (λ (l : List BoardSeat). AreNew table v.start v.seen l) (sym pushed)
-          (new_more table v.start v.seen xs x n inv.2 inv.3 (c.step_split.ensures.seat.1 ∙ (inv.0 ∙ c.requires.seat), new)),
+          (new_more table v.start v.seen xs x n inv.2 inv.4 (c.step_split.ensures.seat.1 ∙ (inv.0 ∙ c.requires.seat), new)),
     )

@@ -5,7 +5,7 @@ use Rattle.disk_model.proofs.Moments.{joined}
 use Rattle.disk_log.specs.Disks.{IsLogFrom}
 use Rattle.backup_model.proofs.CopiedLogs.{beginning_lacks}
 use Rattle.fb_backup.proofs.Beginnings.{from-less, from-within, lawful-as}
-use Rattle.fb_backup.proofs.Causes.{outside-cause}
+use Rattle.fb_backup.proofs.Causes.{outside-cause, outside-refusal}
 use Rattle.fb_backup.proofs.backing.backup.Goals as goal
 
 pub returns-in_err-target-clause-any_moment : goal.returns-in_err-target-clause-any_moment
@@ -62,4 +62,10 @@ pub returns-clause-why_not : goal.returns-clause-why_not
 returns-clause-why_not g c =
     IfErr-weaker c.brought.result _ _
     (λ stop outside. outside-cause (g.D.Disk.bytes c.args.log) c.args.snapshot.now.entries stop.fault outside)
+    c.brought.ensures.why_not
+
+pub returns-clause-untouched : goal.returns-clause-untouched
+returns-clause-untouched g c =
+    IfErr-weaker c.brought.result _ _
+    (λ stop outside refusal. absurd (outside-refusal stop.fault outside refusal))
     c.brought.ensures.why_not

@@ -5,6 +5,7 @@ use Rattle.disk_model.proofs.Moments.{weakened}
 use Rattle.fb_model.specs.History.{upto}
 use Rattle.disk_log.specs.Disks.{IsLogFrom}
 use Rattle.disk_log.proofs.Histories.{stands-count}
+use Rattle.fb_journal.specs.Readings.{LeavesBegun}
 use Rattle.fb_view.proofs.Beginnings.{upto_basis}
 use Rattle.fb_backup.specs.Backups.{IsBackupCause}
 use Rattle.fb_backup.proofs.Beginnings.{new-from, same-from}
@@ -88,3 +89,9 @@ returns-in-Err-beginning_of-clause-any_moment g c = λ n file told were.
     (c.beginning_of.ensures.any_moment c.args.disk c.in-Ok.ensures.begins file told)
     (λ image left. ⊎_elim (were image)
     (λ new. new-from h n file image new.0 new.1 (were file (g.met.D.Disk.reads_an_image c.args.disk file told))) left))
+
+pub returns-in-Err-beginning_of-clause-untouched : goal.returns-in-Err-beginning_of-clause-untouched
+returns-in-Err-beginning_of-clause-untouched g c =
+    let d = g.D.Disk in
+    subst (λ disk. LeavesBegun d.bytes d.images d.moment d.images_since c.args.disk disk) (sym c.give_back.ensures)
+    (c.beginning_of.ensures.any_moment c.args.disk c.in-Ok.ensures.begins)

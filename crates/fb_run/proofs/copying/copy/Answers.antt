@@ -19,7 +19,7 @@ returns-in-Ok-clause-beginnings g c =
 
 pub returns-in-Err-clause-ended : goal.returns-in-Err-clause-ended
 returns-in-Err-clause-ended g c =
-    record { untouched = refl; why = c.in-Err.ensures.why_not; counted = c.in-Err.ensures.counted }
+    record { untouched = refl; why = c.in-Err.ensures.why_not; refused = c.in-Err.ensures.untouched; counted = c.in-Err.ensures.counted }
 
 pub returns-in-Err-clause-beginnings : goal.returns-in-Err-clause-beginnings
 returns-in-Err-clause-beginnings g c = c.in-Err.ensures.any_moment

@@ -8,7 +8,7 @@ use Rattle.fb_run.proofs.jobs.jobs_of.Goals as goal
 
 pub loop-seat-init : goal.loop-seat-init
 loop-seat-init g c =
-    let items = c.new-jobs.ensures.items in let none : length c.new-jobs.result.items ≡ 0 = ap length items in
+    let items = c.requires.empty in let none : length c.args.room.items ≡ 0 = ap length items in
     let seats : length (into_iter_items c.into_iter-seats.result) ≡ length c.args.seats.items = ap length c.into_iter-seats.ensures.rest in
     let opened : length (into_iter_items c.into_iter-opened.result) ≡ length c.args.opened.items = ap length
     c.into_iter-opened.ensures.rest in (
@@ -27,12 +27,13 @@ loop-seat-init g c =
       ),
       omega (arith, seats, c.into_iter-seats.ensures.len, c.args.seats.ok.0),
       omega (arith, opened, c.into_iter-opened.ensures.len, c.args.opened.ok.0),
+      omega (arith, none, c.args.room.ok.0, c.into_iter-seats.ensures.len, c.args.seats.ok.0, c.requires.room),
     )
 
 pub loop-seat-preserved : goal.loop-seat-preserved
 loop-seat-preserved g c =
     let inv = c.loop-seat.invariant in let next = c.in-Some.ensures.cases in let made = c.job_of-job.ensures in let pushed =
-    c.in_ok-push.ensures.items in
+    c.push_reserved.ensures.items in
     let seats = ap length next.0 in let opened = ap length made.out in (
       grow (λ job. job.desk.seat) _ _ c.job_of-job.result _ _ _ _ pushed made.seat next.0 inv.0,
       grow (λ job. job.out) _ _ c.job_of-job.result _ _ _ _ pushed refl made.out inv.1,
@@ -41,6 +42,7 @@ loop-seat-preserved g c =
       omega (arith, next.1, made.len, inv.4),
       omega (arith, seats, next.1, inv.5),
       omega (arith, opened, made.len, inv.6),
+      omega (arith, c.push_reserved.ensures.len, c.push_reserved.ensures.capacity, next.1, inv.7),
     )
 
 pub returns-clause-seats : goal.returns-clause-seats

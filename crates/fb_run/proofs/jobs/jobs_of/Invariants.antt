@@ -1,4 +1,5 @@
-use Rattle.std.proofs.Common.{◌≡◌, ◌++◌, map, length}
+use Rattle.std.proofs.Common.{◌≡◌, ◌+◌, ◌≤◌, ◌++◌, map, length}
+use Rattle.std.specs.Prelude.{vec_len, vec_capacity}
 use Rattle.std.specs.List.{All, AllByRecursion}
 use Rattle.std.specs.Vec.Iter.{into_iter_items, into_iter_len}
 use Rattle.fb_conn.specs.Seats.{IsSeatOf}
@@ -11,6 +12,7 @@ invariant-loop-seat g l =
     l.conn) l.jobs.items
     × AllByRecursion (λ seat. IsSeatOf l.conn seat) (into_iter_items l.seats) × (into_iter_len l.opened ≡ into_iter_len l.seats)
     × (length (into_iter_items l.seats) ≡ into_iter_len l.seats) × (length (into_iter_items l.opened) ≡ into_iter_len l.opened)
+    × (vec_len l.jobs + into_iter_len l.seats ≤ vec_capacity l.jobs)
 
 abbrev pub decreases-loop-seat : goal.decreases-loop-seat
 decreases-loop-seat g l = into_iter_len l.seats

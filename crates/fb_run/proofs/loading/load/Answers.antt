@@ -1,4 +1,4 @@
-use Rattle.std.proofs.Common.{◌≡◌, ◌⊎◌, ◌∙◌, Some, sym, ap, subst, arith}
+use Rattle.std.proofs.Common.{◌≡◌, ◌⊎◌, inr, ◌∙◌, Option, Some, sym, ap, subst, arith}
 use Rattle.std.proofs.lemmas.Option.{IfSome_then}
 use Rattle.std.specs.Prelude.{IfSome, string_bytes}
 use Rattle.fb_session.specs.Sessions.{terms_at}
@@ -18,10 +18,10 @@ use Rattle.fb_run.specs.Coverage.{GoAsFar, IsMerged}
 use Rattle.fb_run.specs.Merging.{trees_in}
 use Rattle.fb_run.specs.Running.{HaveEnded}
 use Rattle.fb_run.specs.Loading.{Left}
-use Rattle.fb_run.proofs.Lists.{each_len, none_then}
-use Rattle.fb_run.proofs.Directories.{run_opens, run_logs}
+use Rattle.fb_run.proofs.Lists.{each_len}
+use Rattle.fb_run.proofs.Directories.{opened_unharmed, run_opens, run_logs}
 use Rattle.fb_run.proofs.Settling.{run_covers, run_merges}
-use Rattle.fb_run.proofs.Causing.{caused_by_memory, caused_by_unready, unready_unharmed, says_line, says_memory}
+use Rattle.fb_run.proofs.Causing.{has_disks, caused_by_memory, caused_by_unready, unready_unharmed, says_line, says_memory}
 use Rattle.fb_run.proofs.Loads.{opened_in_memory, load_history, load_replies, load_prefixes, load_merged, caused_by_load}
 use Rattle.fb_run.proofs.loading.load.Goals as goal
 
@@ -109,16 +109,19 @@ returns-in-Ok-open_load-clause-causes g c =
     caused_by_load spec new io disks c.args.count ran c.summed_up.result so.left so.loads so.sessions so.no_target at (trees_in ready.directory)
     (made.directory.reopened.segments_unfailed ∙ made.directory.segments.faults)
     ready.sessions.items made.unfailed (opened_in_memory spec c.args.count ready.sessions.items made.sessions)
-    c.in-Ok-open_load.made.console made.console holds ended so.said
+    c.in-Ok-open_load.made.console made.console holds
+    (λ none. has_disks ran _ _ (c.run_opened-ran.ensures.none none).log (c.run_opened-ran.ensures.none none).segments) ended so.said
 
 pub returns-in-Ok-open_load-clause-unharmed : goal.returns-in-Ok-open_load-clause-unharmed
 returns-in-Ok-open_load-clause-unharmed g c = λ none.
     let spec = g.H.Host.spec c.args.host.now in
     let disks = disks_of g.H.Disk.Disk.bytes g.H.Disk.Disk.faults g.H.Disk.Disk.images g.H.Disk.Disk.moment g.H.Disk.Disk.images_since in
     let left = c.summed_up.ensures.left in
-    let lost = (c.run_opened-ran.ensures.none (sym (ap (λ (l : Left g.row.H-Disk.Denot). l.last) left) ∙ none)).log in
-    none_then (IsUnharmed spec disks (directory_of (Some (load c.args.count)))) c.summed_up.result.log
-    (ap (λ (l : Left g.row.H-Disk.Denot). l.log) left ∙ lost)
+    let dir = directory_of (Some (load c.args.count)) in
+    let kept = (c.run_opened-ran.ensures.none (sym (ap (λ (l : Left g.row.H-Disk.Denot). l.last) left) ∙ none)).log in
+    subst (λ (o : Option g.row.H-Disk.Denot). IfSome o (IsUnharmed spec disks dir))
+    (sym (ap (λ (l : Left g.row.H-Disk.Denot). l.log) left ∙ kept))
+    (opened_unharmed spec disks dir c.in-Ok-open_load.made.ready.directory c.in-Ok-open_load.ensures.directory)
 
 pub returns-in-Ok-open_load-clause-coverage : goal.returns-in-Ok-open_load-clause-coverage
 returns-in-Ok-open_load-clause-coverage g c =
@@ -172,7 +175,8 @@ returns-in_default-clause-causes g c =
     let io = streams_of g.H.In.Source.left g.H.In.Source.faults g.H.Out.Sink.contents g.H.Out.Sink.faults in
     let disks = disks_of g.H.Disk.Disk.bytes g.H.Disk.Disk.faults g.H.Disk.Disk.images g.H.Disk.Disk.moment g.H.Disk.Disk.images_since in
     let said = c.without_session.ensures in
-    caused_by_memory (g.H.Host.spec c.args.host.now) io disks _ c.without_session.result (load c.args.count) said.none said.no_console said.no_target
+    caused_by_memory (g.H.Host.spec c.args.host.now) io disks _ c.without_session.result (load c.args.count) said.none
+    (inr (said.no_disk, opens_nothing _ (g.H.Host.spec c.args.host.now))) said.no_console said.no_target
     (says_memory _ _ (says_line string_bytes c.out_of_memory.result 9 _ _ _ said.said said.unsaid c.out_of_memory.ensures))
 
 pub returns-in_default-clause-others : goal.returns-in_default-clause-others

@@ -107,6 +107,7 @@ returns-in-Err-clause-causes g c =
     let io = streams_of g.H.In.Source.left g.H.In.Source.faults g.H.Out.Sink.contents g.H.Out.Sink.faults in
     let disks = disks_of g.H.Disk.Disk.bytes g.H.Disk.Disk.faults g.H.Disk.Disk.images g.H.Disk.Disk.moment g.H.Disk.Disk.images_since in
     caused_by_words (g.H.Host.spec c.args.host.now) io disks _ c.without_session-in-Err.result _ refl
+    (opens_nothing _ (g.H.Host.spec c.args.host.now))
     c.without_session-in-Err.ensures.none c.without_session-in-Err.ensures.no_disk c.without_session-in-Err.ensures.no_console
     c.without_session-in-Err.ensures.no_target
     (says_memory _ _ (says_line string_bytes c.out_of_memory.result 9 _ _ _ c.without_session-in-Err.ensures.said

@@ -1,14 +1,15 @@
-use Rattle.std.proofs.Common.{◌∙◌, refl, arith}
+use Rattle.std.proofs.Common.{◌∙◌, Option, refl, sym, subst, arith}
+use Rattle.std.specs.Prelude.{IfSome}
 use Rattle.std.proofs.lemmas.Option.{IfSome_then}
 use Rattle.command_line.specs.Views.{names_in, run_by}
 use Rattle.fb_run.specs.Outside.{streams_of, disks_of}
 use Rattle.fb_run.specs.Opening.{IsOpenedFor}
 use Rattle.fb_run.specs.Logs.{IsUnharmed}
-use Rattle.fb_run.proofs.Lists.{each_len, none_then}
+use Rattle.fb_run.proofs.Lists.{each_len}
 use Rattle.fb_run.specs.Merging.{trees_in}
-use Rattle.fb_run.proofs.Directories.{run_opens, run_logs}
+use Rattle.fb_run.proofs.Directories.{opened_unharmed, run_opens, run_logs}
 use Rattle.fb_run.proofs.Settling.{run_covers, run_merges}
-use Rattle.fb_run.proofs.Causing.{few_scripts, replies_told, caused_by_sessions, caused_by_unready, unready_unharmed}
+use Rattle.fb_run.proofs.Causing.{few_scripts, replies_told, has_disks, caused_by_sessions, caused_by_unready, unready_unharmed}
 use Rattle.fb_run.proofs.top.run_command.Goals as goal
 
 pub open_run-requires-clause-apart : goal.open_run-requires-clause-apart
@@ -50,13 +51,16 @@ returns-in-Ok-clause-causes g c =
     (c.in-Ok.ensures.directory.reopened.segments_unfailed ∙ c.in-Ok.ensures.directory.segments.faults)
     (run_logs (g.H.Host.spec c.args.host.now) disks c.args.command.now.directory.now c.in-Ok.ready.directory c.in-Ok.ensures.directory
     c.run_opened.result c.run_opened.ensures.opening c.run_opened.ensures.log)
+    (λ none. has_disks c.run_opened.result _ _ (c.run_opened.ensures.none none).log (c.run_opened.ensures.none none).segments)
     c.run_opened.ensures.ended
 
 pub returns-in-Ok-clause-unharmed : goal.returns-in-Ok-clause-unharmed
 returns-in-Ok-clause-unharmed g c = λ none.
     let disks = disks_of g.H.Disk.Disk.bytes g.H.Disk.Disk.faults g.H.Disk.Disk.images g.H.Disk.Disk.moment g.H.Disk.Disk.images_since in
-    none_then (IsUnharmed (g.H.Host.spec c.args.host.now) disks c.args.command.now.directory.now) c.run_opened.result.log
-    (c.run_opened.ensures.none none).log
+    let spec = g.H.Host.spec c.args.host.now in
+    let dir = c.args.command.now.directory.now in
+    subst (λ (o : Option g.row.H-Disk.Denot). IfSome o (IsUnharmed spec disks dir)) (sym (c.run_opened.ensures.none none).log)
+    (opened_unharmed spec disks dir c.in-Ok.ready.directory c.in-Ok.ensures.directory)
 
 pub returns-in-Ok-clause-coverage : goal.returns-in-Ok-clause-coverage
 returns-in-Ok-clause-coverage g c =

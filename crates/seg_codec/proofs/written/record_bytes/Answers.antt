@@ -29,7 +29,7 @@ whole c =
     let directories = list_bytes directory_bytes merge.directories in
     let roots = flat_map (list_bytes u64_bytes) (in_order_of_indexes (roots_of c.args.roots.now)) in
     let front = c.in_ok-push.ensures.items
-    ∙ ap (λ l. l ++ 2 ∷ []) (c.in_ok-put.ensures ∙ ap (λ l. l ++ 0 ∷ 0 ∷ 0 ∷ 0 ∷ 0 ∷ 0 ∷ 0 ∷ 0 ∷ []) c.new-out.ensures.items) in
+    ∙ ap (λ l. l ++ 2 ∷ []) (c.in_ok-put.ensures ∙ ap (λ l. l ++ 0 ∷ 0 ∷ 0 ∷ 0 ∷ 0 ∷ 0 ∷ 0 ∷ 0 ∷ []) c.in_ok-out.ensures.items) in
     let with_c = c.in_ok-put-2.ensures ∙ ap (λ l. c.push.new.self.items ++ l) c.to_be_bytes.ensures
     ∙ ap (λ l. l ++ u32_bytes c.args.c) front in
     let with_leaves = c.in_ok-put_leaves.ensures

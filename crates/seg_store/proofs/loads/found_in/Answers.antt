@@ -4,10 +4,11 @@ use Rattle.seg_store.proofs.loads.found_in.Goals as goal
 pub loop-payload-preserved : goal.loop-payload-preserved
 loop-payload-preserved g c =
     let follows = c.loop-payload.invariant.follows in
-    let went = c.in_ok-find.ensures.record c.if-branch.true follows.records in record {
+    let read = c.in_ok-find.ensures.record c.if-branch.true in
+    let went = read.1 follows.records in record {
       faults = c.in_ok-find.ensures.counted ∙ c.loop-payload.invariant.faults;
       follows = record {
-        records = follows.records ++ c.find.new.payload.items ∷ [];
+        records = follows.records ++ read.0 ∷ [];
         reads = λ disk has. went.0 disk (follows.reads disk has);
         has = went.1 follows.has;
       };

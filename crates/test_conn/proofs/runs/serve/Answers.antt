@@ -6,14 +6,14 @@ use Rattle.test_conn.proofs.runs.serve.Goals as goal
 
 pub ask_all-asked-requires : goal.ask_all-asked-requires
 ask_all-asked-requires g c =
-    let made = c.in_ok-conn.ensures in (made.count.0, λ k seat at. let own = made.seats k seat at in (own.0, own.1))
+    let made = c.in-Ok.ensures in (made.count.0, λ k seat at. let own = made.seats k seat at in (own.0, own.1))
 
 pub merge_rest-merged-requires-clause-base : goal.merge_rest-merged-requires-clause-base
 merge_rest-merged-requires-clause-base g c κs within =
-    let base = c.in_ok-base.base in let made = c.in_ok-conn.ensures.worker in let core = c.of-core.result in
+    let base = c.in_ok-base.base in let made = c.in-Ok.ensures.worker in let core = c.of-core.result in
     let own : IsBaseOf base core.snapshot.entries core.snapshot.covered =
     subst (λ (k : SnapshotModel). IsBaseOf base k.entries k.covered) c.snapshot.ensures.snapshot c.in_ok-base.ensures.stand in
-    subst (λ (n : ℕ). IsBaseOf base c.in_ok-conn.field-0.worker.last.entries n) (sym made.2)
+    subst (λ (n : ℕ). IsBaseOf base c.in-Ok.field-0.worker.last.entries n) (sym made.2)
     (subst (λ (h : List Entry). IsBaseOf base h core.snapshot.covered) (sym made.4) own)
 
 pub close-requires-clause-seats : goal.close-requires-clause-seats

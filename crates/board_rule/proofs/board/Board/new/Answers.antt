@@ -18,8 +18,8 @@ new-requires g c =
     let basis = c.requires.history.0 in
     let basis' : c.args.basis + 1 ≡ length (g.H.Named.entries h) = basis ∙ ap (length {A = g.row.H-Entry.Denot}) (sym entries) in
     let range = c.ranges.basis in
-    starts_on _ _ _ h ms c.as_slice.result.now c.in_ok-slots.slots.items (search rules)
-    (c.in_ok-slots.ensures ∙ ap (λ z. Core (Some z) ∷ map mailed_as ms) (sym is)) (search rules)
+    starts_on _ _ _ h ms c.as_slice.result.now c.lay_slots-slots.result.items (search rules)
+    (c.lay_slots-slots.ensures ∙ ap (λ z. Core (Some z) ∷ map mailed_as ms) (sym is)) (search rules)
     (λ k s e. ap (codes f) (of_all (λ s. g.S.Named.entries s ≡ g.H.Named.entries c.args.home) ms
     (subst (λ z. Rattle.std.specs.List.All (λ s. g.S.Named.entries s ≡ g.H.Named.entries c.args.home) z) (sym mails) c.requires.mailed.0) k
     s e ∙ sym entries))

@@ -1,21 +1,19 @@
-use Rattle.std.proofs.Common.{[], ◌∷◌, subst}
+use Rattle.std.proofs.Common.{sym, subst, ◌++◌, ◌∷◌, [], List, ℕ}
 use Rattle.std.proofs.lemmas.Result.{IfOk-weaker}
+use Rattle.disk_log.specs.Records.{IsBehind}
 use Rattle.fb_backup.specs.Comparing.{AreCompared}
-use Rattle.fb_backup.proofs.Records.{misfit-stays}
 use Rattle.fb_backup.proofs.comparing.Compared.with.Goals as goal
 
-pub compared_in-requires-clause-beside : goal.compared_in-requires-clause-beside
-compared_in-requires-clause-beside c =
-    (c.requires.compared.0, subst (AreCompared c.args.entries.now c.requires.compared.0) c.in-Entries.is c.requires.compared.1)
-
-pub returns-in-Entries : goal.returns-in-Entries
-returns-in-Entries c =
-    IfOk-weaker c.compared_in.result _ _
-    (λ compared is. λ records are number here.
-    is records (subst (AreCompared c.args.entries.now records) c.in-Entries.is are) number here)
-    c.compared_in.ensures
+pub returns-in-Whole : goal.returns-in-Whole
+returns-in-Whole c =
+    IfOk-weaker c.with_payload.result _ _
+    (λ compared more. λ records whole are is.
+    let behind = subst (IsBehind records whole c.args.payload.now) c.in-Whole.is is in
+    subst (λ (p : List ℕ). AreCompared c.args.entries.now (records ++ p ∷ []) compared) (sym behind.0)
+    (more records are behind.1 behind.2))
+    c.with_payload.ensures
 
 pub returns-in-Misfit : goal.returns-in-Misfit
-returns-in-Misfit c = λ records are number here.
-    misfit-stays [] records (c.args.payload.now ∷ []) c.in-Misfit.nth c.in-Misfit.at
-    (subst (AreCompared c.args.entries.now records) c.in-Misfit.is are)
+returns-in-Misfit c = λ records whole are is.
+    c.with_misfit.ensures c.args.entries.now records whole c.args.payload.now are
+    (subst (IsBehind records whole c.args.payload.now) c.in-Misfit.is is)

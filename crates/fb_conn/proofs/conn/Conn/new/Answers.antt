@@ -1,4 +1,5 @@
 use Rattle.std.proofs.Common.{◌≡◌, ◌∙◌, ℕ, ◌<◌, List, length, ap, sym, subst, arith}
+use Rattle.std.specs.List.{All}
 use Rattle.std.proofs.lemmas.Option.{slice_get_within}
 use mathlib.Core.Option.{some}
 use lib.ListN.{get_elem?, length-map}
@@ -10,10 +11,9 @@ use Rattle.board_rule.specs.declared.view.Code.{Code}
 use Rattle.board_rule.specs.declared.view.View.{View}
 use Rattle.board_rule.specs.Views.{codes}
 use Rattle.board_rule.specs.Calls.{view_of, board_of}
-use Rattle.fb_conn.specs.declared.seats.Seat.{Seat}
 use Rattle.fb_conn.specs.Homes.{code_of}
-use Rattle.fb_conn.specs.Seats.{board_in}
-use Rattle.fb_conn.proofs.Places.{made_at, all_at}
+use Rattle.fb_conn.specs.Seats.{board_in, last_in}
+use Rattle.fb_conn.proofs.Places.{made_at, each_made}
 use Rattle.fb_conn.proofs.Histories.{each_follows}
 use Rattle.fb_conn.proofs.States.{as_new}
 use Rattle.fb_conn.proofs.conn.Conn.new.Goals as goal
@@ -21,17 +21,18 @@ use Rattle.fb_conn.proofs.conn.Conn.new.Goals as goal
 pub open-requires-clause-history : goal.open-requires-clause-history
 open-requires-clause-history g c = each_follows c.args.core.snapshot.entries c.snapshot.ensures.stands.snapshot.history.lawful
 
-pub returns-clause-seats : goal.returns-clause-seats
-returns-clause-seats g c = λ k seat at.
+pub returns-in-Ok-open-clause-seats : goal.returns-in-Ok-open-clause-seats
+returns-in-Ok-open-clause-seats g c = λ k seat at.
     let h = c.args.core.snapshot.entries in
-    let opened = c.in_ok-opened.opened in
-    let made = c.in_ok-opened.ensures in
-    let seats = c.in_ok-seats.seats.items in
-    let boards = c.in_ok-seats.ensures.boards in let count = IsLawful-length h c.snapshot.ensures.stands.snapshot.history.lawful in
-    let first : c.in_ok-last.last ≡ c.args.core.snapshot = c.in_ok-last.ensures ∙ c.snapshot.ensures.snapshot in
+    let opened = c.in-Ok-open.field-0 in
+    let made = c.in-Ok-open.ensures in
+    let seats = c.seats_of.result.items in
+    let boards = c.seats_of.ensures.boards in let count = IsLawful-length h c.snapshot.ensures.stands.snapshot.history.lawful in
+    let given : All (λ (s : SnapshotModel). s ≡ c.snapshot.result.now) c.in-Ok.shares.lasts.items = c.in-Ok.ensures.lasts.1 in
+    let all = subst (All (λ (s : SnapshotModel). s ≡ c.snapshot.result.now)) (sym c.seats_of.ensures.lasts) given in
     let last : seat.last.entries ≡ h =
     ap (λ (s : SnapshotModel). s.entries)
-    (all_at (λ (s : Seat). s.last ≡ c.in_ok-last.last) seats k seat c.in_ok-seats.ensures.last at ∙ first) in
+    (each_made last_in (λ (s : SnapshotModel). s ≡ c.snapshot.result.now) seats k seat all at ∙ c.snapshot.ensures.snapshot) in
     let new =
     made.seats k seat.board (subst (λ (l : List BoardSeat). get_elem? l k ≡ some seat.board) boards (made_at board_in seats k seat at)) in
     let view = new.1 in let start : ℕ = opened.board.table.shared.key.start in
@@ -53,17 +54,17 @@ returns-clause-seats g c = λ k seat at.
       as_new (board_of seat.board) (view_of seat.board) seat.last.entries h start k (codes code_of h) view last begins,
     )
 
-pub returns-clause-worker : goal.returns-clause-worker
-returns-clause-worker g c =
+pub returns-in-Ok-open-clause-worker : goal.returns-in-Ok-open-clause-worker
+returns-in-Ok-open-clause-worker g c =
     let h = c.args.core.snapshot.entries in
-    let opened = c.in_ok-opened.opened in
-    let made = c.in_ok-opened.ensures in
+    let opened = c.in-Ok-open.field-0 in
+    let made = c.in-Ok-open.ensures in
     let view = made.first in
     let count = IsLawful-length h c.snapshot.ensures.stands.snapshot.history.lawful in
     let start : ℕ = opened.board.table.shared.key.start in
     let begins : start ≡ basis h = omega (arith, made.board.2, count) in
-    let last : c.in_ok-last.last.entries ≡ h =
-    ap (λ (s : SnapshotModel). s.entries) (c.in_ok-last.ensures ∙ c.snapshot.ensures.snapshot) in (
+    let last : c.in-Ok.shares.worker.entries ≡ h =
+    ap (λ (s : SnapshotModel). s.entries) (c.in-Ok.ensures.worker ∙ c.snapshot.ensures.snapshot) in (
       (
         record {
           on = made.board.0;
@@ -74,7 +75,7 @@ returns-clause-worker g c =
         ap (λ (z : View Code). z.number) view,
         ap (λ (z : View Code). z.commits) view,
       ),
-      ap (λ (z : View Code). z.given) view ∙ (ap length c.of.ensures ∙ c.in_ok-mails.ensures.count),
+      ap (λ (z : View Code). z.given) view ∙ (ap length c.of.ensures ∙ c.in-Ok.ensures.mails.0),
       ap (λ (z : View Code). z.covered) view,
       ap (λ (z : View Code). z.start) view ∙ begins,
       last,

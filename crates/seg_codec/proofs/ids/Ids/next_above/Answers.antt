@@ -1,14 +1,27 @@
-use Rattle.std.proofs.Common.{◌≡◌, get_or, arith, ap}
-use Rattle.std.proofs.lemmas.List.{get_or_default}
-use Rattle.seg_codec.proofs.Reaching.{next_above_more}
+use Rattle.std.proofs.Common.{sym, ◌∙◌, ap, arith}
+use Rattle.std.proofs.lemmas.Bool.{true≢false}
+use Rattle.seg_tree.specs.Ids.{next_above}
+use Rattle.seg_codec.proofs.Placing.{next_above_none, next_above_greatest, greatest_small}
 use Rattle.seg_codec.proofs.ids.Ids.next_above.Goals as goal
 
-pub loop-id-preserved : goal.loop-id-preserved
-loop-id-preserved c =
-    let ids = c.deref-id-items.result.now in
-    let i = c.loop-id.id-index in
-    let more = next_above_more ids i (get_or ids i 0) c.loop-id-test.true (get_or_default ids i 0 (get_or ids i 0) c.loop-id-test.true) in
-    let same : get_or c.deref-id-items.result.now c.loop-id.id-index 0
-    ≡ get_or c.self.inside.ids.items c.loop-id.id-index 0 = ap (λ l. get_or l i 0) c.deref-id-items.ensures.value in
-    let small = c.self.invariant.small i 0 (rw c.deref-id-items.ensures.value at c.loop-id-test.true) in
-    (omega (arith, more, c.max-next.ensures, c.loop-id.invariant.0), omega (arith, same, small, c.max-next.ensures, c.loop-id.invariant.1))
+pub overflow_add-result : goal.overflow_add-result
+overflow_add-result c =
+    let small = greatest_small c.self.inside.ids.items c.self.inside.places c.in-Some.id.now c.in-Some.field-0-1.now c.self.invariant
+    c.in-Some.ensures.value in
+    omega (arith, small)
+
+pub returns-in-None-clause-next : goal.returns-in-None-clause-next
+returns-in-None-clause-next c =
+    sym (next_above_none c.self.inside.ids.items c.self.inside.places c.self.invariant
+    (λ some. true≢false (sym (c.in-None.ensures.variant.1 some)))) ∙ ap next_above c.self.view_is
+
+pub returns-in-Some-clause-next : goal.returns-in-Some-clause-next
+returns-in-Some-clause-next c =
+    sym (next_above_greatest c.self.inside.ids.items c.self.inside.places c.in-Some.id.now c.in-Some.field-0-1.now c.self.invariant
+    c.in-Some.ensures.value c.in-Some.ensures.greatest) ∙ ap next_above c.self.view_is
+
+pub returns-in-Some-clause-small : goal.returns-in-Some-clause-small
+returns-in-Some-clause-small c =
+    let small = greatest_small c.self.inside.ids.items c.self.inside.places c.in-Some.id.now c.in-Some.field-0-1.now c.self.invariant
+    c.in-Some.ensures.value in
+    omega (arith, small)
