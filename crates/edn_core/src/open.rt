@@ -1,5 +1,5 @@
 //! Which collection opens here. Each in a call of its own, so that a step over a token makes no room for what opens.
-ghost use Rattle.std.specs.Prelude.{◌≡◌, ℕ, ◌+◌, ◌∷◌, List, drop};
+ghost use Rattle.std.specs.Prelude.{◌≡◌, ℕ, ◌+◌, ◌∷◌, [], List, drop, IfOk};
 ghost use Rattle.edn_model.specs.Bytes.{hash, open_paren, open_bracket, open_brace};
 ghost use Rattle.edn_core.specs.Frames.{LeadsFrom};
 
@@ -8,7 +8,12 @@ use crate::fault::EdnFault;
 use crate::land::{grow, may_open};
 use crate::progress::Progress;
 use edn_duplicates::FormCodes;
+use edn_form::Edn;
+use fb_memory::Memory;
 use std::alloc::Global;
+
+/// The pairs of a map for which there is room from the beginning: most maps have no more.
+const PAIRS: usize = 8;
 
 pub(crate) fn list(
     alloc: Global,
@@ -49,8 +54,15 @@ pub(crate) fn map(
         → LeadsFrom bytes at frames.old.items result frames.new.items }
 {
     may_open(frames.as_slice(), at)?;
-    let construct = Construct::Map(Vec::new(alloc), None, FormCodes::new(alloc));
+    let pairs = no_pairs(alloc)?;
+    let construct = Construct::Map(pairs, None, FormCodes::new(alloc));
     grow(frames, Frame { construct, at }, next)
+}
+
+fn no_pairs(alloc: Global) -> Result<Vec<(Edn, Edn)>, Memory>
+    ensures { IfOk result (λ pairs. pairs.items ≡ []) }
+{
+    Ok(Vec::with_capacity(alloc, PAIRS)?)
 }
 
 pub(crate) fn set(

@@ -15,8 +15,8 @@ use Rattle.tx_asks.specs.Triples.{IsAsked, AreAskings}
 use Rattle.tx_sweep.specs.Sweep.{asking_at}
 use Rattle.tx_sweep.proofs.Members.{any_of}
 use Rattle.tx_sweep.proofs.Sweeping.{all_members, told-by, is_of-itself}
-use Rattle.tx_changes.specs.declared.marks.AskedAs.{AskedAs}
-use Rattle.tx_changes.specs.declared.marks.AskedAs.TheVariants.{Added, Retracted}
+use Rattle.tx_changes.specs.declared.noted.AskedAs.{AskedAs}
+use Rattle.tx_changes.specs.declared.noted.AskedAs.TheVariants.{Added, Retracted}
 use Rattle.tx_changes.specs.Asked.{asked_by, asked_from}
 
 -- the datoms of lists as askings, where the first list is that of the form at the place

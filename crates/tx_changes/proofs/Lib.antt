@@ -3,7 +3,8 @@ pub mod Noting
 pub mod KnownValues
 pub mod Collecting
 pub mod Replacing
-pub mod Entries
-pub mod Marking
+pub mod Ways
+pub mod Folds
+pub mod Joined
 pub mod Recordings
 mod PieceByPiece

@@ -18,7 +18,10 @@ use Rattle.tx_sweep.proofs.Members.{any_of}
 use Rattle.tx_sweep.proofs.Sweeping.{AreTold}
 use Rattle.tx_asks.specs.declared.triples.Asking.{Asking}
 use Rattle.std.proofs.lemmas.List.{append-nil}
+use Rattle.tx_changes.specs.declared.noted.AskedAs.TheVariants.{Replaced}
+use Rattle.tx_changes.specs.declared.noted.Noted.{Noted}
 use Rattle.tx_changes.specs.Asked.{others_of, replaced_of}
+use Rattle.tx_changes.specs.Noted.{as_way}
 
 is_user : (h : List Entry) (e : ℕ) → nat_lt (users_issued h) (user_number e) ≡ true → e ≡ user_entity (user_number e)
 is_user h e new =
@@ -50,8 +53,10 @@ new_has_no_values told h e a law new = ap (map (λ (d : Datom). d.v)) (no_list (
 
 pub new_replaces_nothing : AreTold → (h : List Entry) (schema : List Datom) (addition : Asking)
     → ((h : List Entry) (n : ℕ) → users_issued h < n → list_any (λ d. nat_eq d.e (user_entity n)) (said h) ≡ false)
-    → nat_lt (users_issued h) (user_number addition.e) ≡ true → (xs : List Asking) → xs ≡ xs ++ replaced_of h schema addition
-new_replaces_nothing told h schema addition law new xs = sym (ap (λ ys. xs ++ ys) (nothing (is_one schema addition.a)) ∙ append-nil xs)
+    → nat_lt (users_issued h) (user_number addition.e) ≡ true → (ns : List Noted)
+    → ns ≡ ns ++ map (as_way Replaced) (replaced_of h schema addition)
+new_replaces_nothing told h schema addition law new ns =
+    sym (ap (λ xs. ns ++ map (as_way Replaced) xs) (nothing (is_one schema addition.a)) ∙ append-nil ns)
   where
     nothing : (b : Bool) → cond b (others_of addition (values_of h addition.e addition.a)) [] ≡ []
     nothing true = ap (others_of addition) (new_has_no_values told h addition.e addition.a law new)

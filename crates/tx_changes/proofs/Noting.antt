@@ -1,34 +1,21 @@
--- What marks tell, after some askings.
-use Rattle.std.proofs.Common.{◌≡◌, ℕ, zero, suc, ◌+◌, ◌≤◌, Bool, true, false, cond, ◌&&◌, List, [], ◌∷◌, ◌++◌, map, refl, ap, sym, ◌∙◌}
+-- The least place of the askings of a triple is the first form that asks it.
+use Rattle.std.proofs.Common.{◌≡◌, ℕ, zero, suc, ◌+◌, ◌≤◌, Bool, true, false, cond, ◌&&◌, List, [], ◌∷◌, map, refl, ap, sym, ◌∙◌}
 use Rattle.std.proofs.Common.{subst, arith, inl, inr, ◌⊎◌}
-use Rattle.std.specs.Prelude.{nat_eq, nat_le, min, Contains, unwrap_or, Option, None, Some}
+use Rattle.std.specs.Prelude.{nat_eq, nat_le, min, Contains, Option, None, Some}
 use Rattle.std.specs.List.{list_any}
-use Rattle.std.specs.Ordering.{is_eq, nat_cmp, ordering_then}
-use Rattle.std.specs.BTreeMap.{BTreeMap, get, Updates, is_at}
 use Rattle.std.proofs.lemmas.Bool.{true≢false, and_parts, and_from, eqb-true, eq-eqb, leb-true, leb-false}
 use Rattle.std.proofs.lemmas.List.Elements.{All-contains}
 use Rattle.fb_values.specs.declared.facts.Datom.{Datom}
 use Rattle.fb_values.specs.declared.facts.Value.{Value}
-use Rattle.fb_values.specs.Orders.{value_cmp}
 use Rattle.fb_model.specs.Facts.{is_of, value_eq, least}
 use Rattle.fb_model.proofs.Triples.{value_eq-true, value_eq-refl}
-use Rattle.fb_schema.specs.Standing.{triple_cmp}
 use Rattle.tx_model.specs.Step.{first_yes}
 use Rattle.tx_model.specs.ChangeRules.{at}
 use Rattle.tx_model.proofs.Lists.{first_of, later_of, which, not_in_none}
 use Rattle.tx_asks.specs.declared.triples.Asking.{Asking}
 use Rattle.tx_asks.specs.Triples.{is_asking_of, IsAsked, AreAskings, first_asking}
 use Rattle.tx_sweep.proofs.Members.{some_of}
-use Rattle.tx_sweep.proofs.Sweeping.{is_eq-then, is_eq-nat_cmp}
-use Rattle.tx_changes.specs.declared.marks.Marks.{Marks}
-use Rattle.tx_changes.specs.declared.marks.AskedAs.{AskedAs}
-use Rattle.tx_changes.specs.declared.marks.AskedAs.TheVariants.{Added, Retracted, Swept, Replaced}
-use Rattle.tx_changes.specs.Marks.{no_marks, marked, asks, noted_one, noted, marks_at}
-
-pub noted_next : (way : AskedAs) (e a : ℕ) (v : Value) (marks : Marks) (xs : List Asking) (x : Asking)
-    → noted_one way e a v (noted way e a v marks xs) x ≡ noted way e a v marks (xs ++ x ∷ [])
-noted_next way e a v marks [] x = refl
-noted_next way e a v marks (y ∷ xs) x = noted_next way e a v (noted_one way e a v marks y) xs x
+use Rattle.tx_changes.specs.Noted.{asks, placed}
 
 -- ---- one triple
 
@@ -47,89 +34,7 @@ pub true-asks : (e a : ℕ) (v : Value) (asking : Asking) → IsOne e a v asking
 true-asks e a v asking is =
     and_from _ _ (and_from _ _ (eq-eqb asking.e e is.e_is) (eq-eqb asking.a a is.a_is)) (ap (λ w. value_eq w v) is.v_is ∙ value_eq-refl v)
 
-pub at_triple : (x : ℕ × ℕ × Value) (e a : ℕ) (v : Value)
-    → is_at (triple_cmp x) (e, a, v) ≡ (nat_eq x.0 e && nat_eq x.1 a && value_eq x.2 v)
-at_triple x e a v =
-    is_eq-then (ordering_then (nat_cmp x.0 e) (nat_cmp x.1 a)) (value_cmp x.2 v)
-    ∙ ap (λ b. b && value_eq x.2 v) (is_eq-then (nat_cmp x.0 e) (nat_cmp x.1 a))
-    ∙ ap (λ b. (b && is_eq (nat_cmp x.1 a)) && value_eq x.2 v) (is_eq-nat_cmp x.0 e)
-    ∙ ap (λ b. (nat_eq x.0 e && b) && value_eq x.2 v) (is_eq-nat_cmp x.1 a)
-
--- one asking is marked
-pub mark_is : (old new : BTreeMap (ℕ × ℕ × Value) Marks) (way : AskedAs) (asking : Asking) (made : Marks)
-    → Updates triple_cmp old new (asking.e, asking.a, asking.v) (Some made)
-    → made ≡ marked way (marks_at old asking.e asking.a asking.v) asking.place → (e a : ℕ) (v : Value)
-    → marks_at new e a v ≡ noted_one way e a v (marks_at old e a v) asking
-mark_is old new way asking made updates made_is e a v =
-    ap (λ o. unwrap_or o no_marks)
-    (updates.0 (e, a, v) ∙ ap (λ b. cond b (Some made) (get triple_cmp old (e, a, v))) (at_triple (asking.e, asking.a, asking.v) e a v))
-    ∙ go (asks e a v asking) refl
-  where
-    same_at : IsOne e a v asking → marks_at old asking.e asking.a asking.v ≡ marks_at old e a v
-    same_at is =
-        ap (λ x. marks_at old x asking.a asking.v) is.e_is ∙ ap (λ x. marks_at old e x asking.v) is.a_is ∙ ap (marks_at old e a) is.v_is
-
-    go : (b : Bool) → asks e a v asking ≡ b
-        → unwrap_or (cond b (Some made) (get triple_cmp old (e, a, v))) no_marks
-        ≡ cond b (marked way (marks_at old e a v) asking.place) (marks_at old e a v)
-    go true is = made_is ∙ ap (λ m. marked way m asking.place) (same_at (asks-true e a v asking is))
-    go false is = refl
-
 -- ---- the least place
-
-abbrev pub placed : ℕ → ℕ → Value → Option ℕ → List Asking → Option ℕ
-placed e a v found [] = found
-placed e a v found (x ∷ xs) = placed e a v (cond (asks e a v x) (least x.place found) found) xs
-
-pub noted-Added : (e a : ℕ) (v : Value) (m : Marks) (xs : List Asking)
-    → noted Added e a v m xs ≡ record m { added = placed e a v m.added xs }
-noted-Added e a v m [] = refl
-noted-Added e a v m (x ∷ xs) = go (asks e a v x) (noted-Added e a v (marked Added m x.place) xs) (noted-Added e a v m xs)
-  where
-    go : (b : Bool) → noted Added e a v (marked Added m x.place) xs ≡ record m { added = placed e a v (least x.place m.added) xs }
-        → noted Added e a v m xs ≡ record m { added = placed e a v m.added xs }
-        → noted Added e a v (cond b (marked Added m x.place) m) xs
-        ≡ record m { added = placed e a v (cond b (least x.place m.added) m.added) xs }
-    go true holding no_one = holding
-    go false holding no_one = no_one
-
-pub noted-Retracted : (e a : ℕ) (v : Value) (m : Marks) (xs : List Asking)
-    → noted Retracted e a v m xs ≡ record m { retracted = placed e a v m.retracted xs }
-noted-Retracted e a v m [] = refl
-noted-Retracted e a v m (x ∷ xs) = go (asks e a v x) (noted-Retracted e a v (marked Retracted m x.place) xs) (noted-Retracted e a v m xs)
-  where
-    go : (b : Bool)
-        → noted Retracted e a v (marked Retracted m x.place) xs ≡ record m { retracted = placed e a v (least x.place m.retracted) xs }
-        → noted Retracted e a v m xs ≡ record m { retracted = placed e a v m.retracted xs }
-        → noted Retracted e a v (cond b (marked Retracted m x.place) m) xs
-        ≡ record m { retracted = placed e a v (cond b (least x.place m.retracted) m.retracted) xs }
-    go true holding no_one = holding
-    go false holding no_one = no_one
-
-pub noted-Swept : (e a : ℕ) (v : Value) (m : Marks) (xs : List Asking)
-    → noted Swept e a v m xs ≡ record m { swept = placed e a v m.swept xs }
-noted-Swept e a v m [] = refl
-noted-Swept e a v m (x ∷ xs) = go (asks e a v x) (noted-Swept e a v (marked Swept m x.place) xs) (noted-Swept e a v m xs)
-  where
-    go : (b : Bool) → noted Swept e a v (marked Swept m x.place) xs ≡ record m { swept = placed e a v (least x.place m.swept) xs }
-        → noted Swept e a v m xs ≡ record m { swept = placed e a v m.swept xs }
-        → noted Swept e a v (cond b (marked Swept m x.place) m) xs
-        ≡ record m { swept = placed e a v (cond b (least x.place m.swept) m.swept) xs }
-    go true holding no_one = holding
-    go false holding no_one = no_one
-
-pub noted-Replaced : (e a : ℕ) (v : Value) (m : Marks) (xs : List Asking)
-    → noted Replaced e a v m xs ≡ record m { replaced = placed e a v m.replaced xs }
-noted-Replaced e a v m [] = refl
-noted-Replaced e a v m (x ∷ xs) = go (asks e a v x) (noted-Replaced e a v (marked Replaced m x.place) xs) (noted-Replaced e a v m xs)
-  where
-    go : (b : Bool)
-        → noted Replaced e a v (marked Replaced m x.place) xs ≡ record m { replaced = placed e a v (least x.place m.replaced) xs }
-        → noted Replaced e a v m xs ≡ record m { replaced = placed e a v m.replaced xs }
-        → noted Replaced e a v (cond b (marked Replaced m x.place) m) xs
-        ≡ record m { replaced = placed e a v (cond b (least x.place m.replaced) m.replaced) xs }
-    go true holding no_one = holding
-    go false holding no_one = no_one
 
 -- an asking of the triple that has this place
 abbrev pub Placed : ℕ → ℕ → Value → List Asking → ℕ → Type 0

@@ -34,7 +34,7 @@ use Rattle.tx_asks.specs.Triples.{first_asking, is_triple, is_below, rise, is_as
 use Rattle.tx_sweep.proofs.Members.{any_of, some_of}
 use Rattle.tx_sweep.proofs.Sweeping.{is_of-itself}
 use Rattle.tx_changes.specs.Recorded.{datom_of, is_change}
-use Rattle.tx_changes.proofs.Entries.{triple_cmp_total}
+use Rattle.tx_changes.proofs.Folds.{triple_cmp_total}
 
 -- ---- the datoms rise
 
@@ -44,7 +44,7 @@ less Equal is = absurd (true≢false (sym is))
 less Greater is = absurd (true≢false (sym is))
 
 below_chain : (x y z : Triple) → is_below x y ≡ true → is_below y z ≡ true → is_below x z ≡ true
-below_chain x y z p q = ap is_lt (triple_cmp_total.trans (x.e, x.a, x.v) (y.e, y.a, y.v) (z.e, z.a, z.v) (less _ p) (less _ q))
+below_chain x y z p q = ap is_lt (triple_cmp_total.trans x y z (less _ p) (less _ q))
 
 first_below : (x : Triple) (xs : List Triple) (z : Triple) → rise (x ∷ xs) ≡ true → Contains xs z → is_below x z ≡ true
 first_below x [] z rising among = absurd (not_in_none z among)

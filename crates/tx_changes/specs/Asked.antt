@@ -1,20 +1,24 @@
 -- What acts ask as triples, and what their additions replace, as askings.
 -- Datomic, Transaction Data (:db/add, :db/retract, :db/cas, cardinality one).
-use Rattle.std.specs.Prelude.{◌≡◌, ℕ, ◌+◌, List, [], ◌∷◌, ◌++◌, flat_map, if◌then◌else◌, Vec}
+use Rattle.std.specs.Prelude.{◌≡◌, ℕ, ◌+◌, Bool, List, [], ◌∷◌, ◌++◌, flat_map, if◌then◌else◌, Vec}
 use Rattle.std.specs.Option.{option_map_or}
 use Rattle.std.specs.declared.alloc.Global.{Global}
 use Rattle.std.specs.BTreeMap.{BTreeMap, get}
 use Rattle.fb_values.specs.declared.facts.Datom.{Datom}
 use Rattle.fb_values.specs.declared.facts.Entry.{Entry}
 use Rattle.fb_values.specs.declared.facts.Value.{Value}
-use Rattle.fb_model.specs.Facts.{value_eq}
+use Rattle.fb_model.specs.Facts.{value_eq, holds}
 use Rattle.fb_model.specs.Schema.{is_one}
 use Rattle.fb_facts.specs.FactLists.{values_of}
 use Rattle.tx_asks.specs.declared.triples.Asking.{Asking}
 use Rattle.tx_asks.specs.Acts.{Act, adds, retracts, compares}
 use Rattle.tx_sweep.specs.Sweep.{value_at, pair_cmp}
-use Rattle.tx_changes.specs.declared.marks.AskedAs.{AskedAs}
-use Rattle.tx_changes.specs.declared.marks.AskedAs.TheVariants.{Added, Retracted}
+use Rattle.tx_changes.specs.declared.noted.AskedAs.{AskedAs}
+use Rattle.tx_changes.specs.declared.noted.AskedAs.TheVariants.{Added, Retracted}
+
+-- whether the triple of an asking holds
+abbrev pub asking_holds : List Entry → Asking → Bool
+asking_holds h asking = holds h asking.e asking.a asking.v
 
 -- by the act of a form at the place
 abbrev pub asked_by : AskedAs → ℕ → Act → List Asking

@@ -1,3 +1,3 @@
 pub mod Asked
-pub mod Marks
+pub mod Noted
 pub mod Recorded

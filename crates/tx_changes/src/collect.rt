@@ -1,110 +1,228 @@
-//! What the acts ask as triples, and what additions replace.
-ghost use Rattle.std.specs.Prelude.{◌≡◌, ◌++◌, IfOk, OnOk, flat_map, map, nat_lt};
-ghost use Rattle.fb_numbers.specs.Numbers.{user_number as model_user_number};
+//! What the forms ask of triples: by what they sweep, by their acts, and by what additions replace.
+ghost use Rattle.std.specs.Prelude.{◌≡◌, List, ◌++◌, ◌∷◌, [], IfOk, OnOk, flat_map, map};
+ghost use Rattle.std.specs.List.{All};
+ghost use Rattle.fb_values.specs.declared.facts.Entry.{Entry};
 ghost use Rattle.fb_model.specs.History.{users_issued};
-ghost use Rattle.fb_facts.specs.FactLists.{values_of};
-ghost use Rattle.tx_asks.specs.Acts.{model_act};
-ghost use Rattle.tx_sweep.specs.Sweep.{acts_of};
-ghost use Rattle.tx_changes.specs.Asked.{asked_by, asked_from, known_values, other_of, others_of, replaced_of, KnowsValues};
+ghost use Rattle.fb_schema.specs.Described.{SchemaStands};
+ghost use Rattle.tx_model.specs.Tempids.{db_of};
+ghost use Rattle.tx_model.specs.Transaction.{Transaction};
+ghost use Rattle.tx_asks.specs.Acts.{model_act, AreActs};
+ghost use Rattle.tx_sweep.specs.Sweep.{acts_of, value_at};
+ghost use Rattle.tx_changes.specs.declared.noted.AskedAs.TheVariants.{Replaced, Swept};
+ghost use Rattle.tx_changes.specs.Asked.{known_values, other_of, others_of, replaced_of, KnowsValues};
+ghost use Rattle.tx_changes.specs.Noted.{added_by, as_way, noted_by, noted_from, AreNoted, IsFoundHeld};
 
-use crate::marks::AskedAs;
+use crate::learnt::{Learnt, is_new, learn};
+use crate::noted::{AskedAs, Noted};
 use fb_facts::{Facts, the_lists_are_the_rising_ones};
 use fb_memory::Memory;
-use fb_model::new_users_have_no_facts;
-use fb_numbers::user_number;
-use fb_schema::Schema;
+use fb_model::{facts_are_what_holds, new_users_have_no_facts};
+use fb_schema::{Schema, schemas_tell_of_attributes};
 use fb_values::Value;
 use std::alloc::Global;
 use std::collections::BTreeMap;
-use tx_asks::{Act, Asking};
+use tx_asks::{Act, Asking, acts_ask_what_asks_do};
+use tx_sweep::swept;
 
-/// What the acts ask as triples in this way: to add, or to retract.
-pub fn asked(alloc: Global, way: AskedAs, forms: &[Vec<Act<'_>>]) -> Result<Vec<Asking>, Memory>
-    ensures { IfOk result (λ askings. askings.items ≡ asked_from way 0 (acts_of forms.now)) }
-{
-    let mut askings = Vec::new(alloc);
-    for (place, acts) in forms.iter().enumerate() {
-        push_form(&mut askings, way, place, acts)?;
-    }
-    Ok(askings)
+/// What the forms ask, and the values that were looked up for it.
+#[derive(Drop)]
+pub struct Notes {
+    pub noted: Vec<Noted>,
+    pub learnt: Learnt,
 }
 
-fn push_form(
-    askings: &mut Vec<Asking>,
-    way: AskedAs,
-    place: usize,
-    acts: &[Act<'_>],
-) -> Result<(), Memory>
-    ensures { OnOk result (askings.new.items
-        ≡ askings.old.items ++ flat_map (asked_by way place) (map model_act acts.now)) }
-{
-    for act in acts {
-        push_act(askings, way, place, act)?;
-    }
-    Ok(())
-}
-
-fn push_act(
-    askings: &mut Vec<Asking>,
-    way: AskedAs,
-    place: usize,
-    act: &Act<'_>,
-) -> Result<(), Memory>
-    ensures { OnOk result
-        (askings.new.items ≡ askings.old.items ++ asked_by way place (model_act act.now)) }
-{
-    let (e, a, v) = match (way, act) {
-        (AskedAs::Added, Act::Adds { e, attribute, v }) => (*e, attribute.id, v.copy()?),
-        (
-            AskedAs::Added,
-            Act::Compares {
-                e,
-                attribute,
-                new,
-                ..
-            },
-        ) => (*e, attribute.id, new.copy()?),
-        (AskedAs::Retracted, Act::Retracts { e, attribute, v }) => (*e, attribute.id, v.copy()?),
-        _ => return Ok(()),
-    };
-    askings.push(Asking { e, a, v, place })?;
-    Ok(())
-}
-
-/// What is asked to be replaced: the other values that an entity has, where it is given one under an attribute of cardinality one.
-/// The values of an entity and an attribute are looked up once.
-pub fn replaced<F: Facts>(
+/// All that the forms ask of triples, in each way. What they sweep comes first and stays in front of other askings of the
+/// same triple in a stable sort, so that a triple which was found there needs no question whether it holds.
+pub fn notes_of<F: Facts>(
     alloc: Global,
-    added: &[Asking],
+    forms: &[Vec<Act<'_>>],
+    issued: u64,
     facts: &F,
     schema: &Schema,
-) -> Result<Vec<Asking>, Memory>
-    ensures { IfOk result (λ askings. askings.items
-        ≡ flat_map (replaced_of (F.history facts.now) schema.now) added.now) }
+) -> Result<Notes, Memory>
+    requires schema { SchemaStands schema.now (F.history facts.now) }
+    requires issued { issued ≡ users_issued (F.history facts.now) }
+    ensures noted { IfOk result (λ notes. (tx : Transaction) → tx.db ≡ db_of (F.history facts.now)
+        → AreActs (acts_of forms.now) tx → AreNoted tx notes.noted.items) }
+    ensures found { IfOk result
+        (λ notes. All (IsFoundHeld (F.history facts.now)) notes.noted.items) }
+    ensures known { IfOk result (λ notes. KnowsValues (F.history facts.now) notes.learnt) }
 {
-    let mut askings = Vec::new(alloc);
-    let mut known = BTreeMap::new(alloc);
-    let issued = facts.issued();
-    for addition in added {
-        push_replaced(&mut askings, &mut known, addition, issued, facts, schema)?;
-    }
-    Ok(askings)
+    acts_ask_what_asks_do();
+    facts_are_what_holds();
+    the_lists_are_the_rising_ones();
+    schemas_tell_of_attributes();
+    let swept = swept(alloc, forms, facts, schema)?;
+    let mut notes = with_swept(alloc, swept, room_for(forms, issued))?;
+    note_forms(&mut notes, forms, issued, facts, schema)?;
+    Ok(notes)
 }
 
-fn push_replaced<F: Facts>(
-    askings: &mut Vec<Asking>,
-    known: &mut BTreeMap<(u64, u64), Vec<Value>>,
+/// Notes what was swept, with room for more.
+fn with_swept(alloc: Global, swept: Vec<Asking>, room: usize) -> Result<Notes, Memory>
+    ensures noted { IfOk result (λ notes. notes.noted.items ≡ map (as_way Swept) swept.items) }
+    ensures known { IfOk result (λ notes. (h : List Entry) → KnowsValues h notes.learnt) }
+{
+    let mut noted = Vec::with_capacity(alloc, room.saturating_add(swept.len()))?;
+    for asking in swept {
+        noted.push(Noted {
+            asking,
+            way: AskedAs::Swept,
+        })?;
+    }
+    Ok(Notes {
+        noted,
+        learnt: BTreeMap::new(alloc),
+    })
+}
+
+/// How many askings the acts of the forms make at most, where each attribute is of cardinality one.
+fn room_for(forms: &[Vec<Act<'_>>], issued: u64) -> usize {
+    let mut room: usize = 0;
+    for acts in forms {
+        room = room.saturating_add(room_in(acts, issued));
+    }
+    room
+}
+
+fn room_in(acts: &[Act<'_>], issued: u64) -> usize {
+    let mut room: usize = 0;
+    for act in acts {
+        room = room.saturating_add(room_of(act, issued));
+    }
+    room
+}
+
+/// What is given to an entity that is not new may replace a value.
+fn room_of(act: &Act<'_>, issued: u64) -> usize {
+    match act {
+        Act::Adds { e, .. } | Act::Compares { e, .. } => 1 + usize::from(!is_new(issued, *e)),
+        Act::Retracts { .. } => 1,
+        Act::RetractsAll { .. } | Act::RetractsEntity { .. } => 0,
+    }
+}
+
+fn note_forms<F: Facts>(
+    notes: &mut Notes,
+    forms: &[Vec<Act<'_>>],
+    issued: u64,
+    facts: &F,
+    schema: &Schema,
+) -> Result<(), Memory>
+    requires issued { issued ≡ users_issued (F.history facts.now) }
+    requires known { KnowsValues (F.history facts.now) notes.now.learnt }
+    ensures known { OnOk result (KnowsValues (F.history facts.now) notes.new.learnt) }
+    ensures noted { OnOk result (notes.new.noted.items ≡ notes.old.noted.items
+        ++ noted_from (F.history facts.now) schema.now 0 (acts_of forms.now)) }
+{
+    for (place, acts) in forms.iter().enumerate() {
+        note_form(notes, place, acts, issued, facts, schema)?;
+    }
+    Ok(())
+}
+
+fn note_form<F: Facts>(
+    notes: &mut Notes,
+    place: usize,
+    acts: &[Act<'_>],
+    issued: u64,
+    facts: &F,
+    schema: &Schema,
+) -> Result<(), Memory>
+    requires issued { issued ≡ users_issued (F.history facts.now) }
+    requires known { KnowsValues (F.history facts.now) notes.now.learnt }
+    ensures known { OnOk result (KnowsValues (F.history facts.now) notes.new.learnt) }
+    ensures noted { OnOk result (notes.new.noted.items ≡ notes.old.noted.items
+        ++ flat_map (noted_by (F.history facts.now) schema.now place) (map model_act acts.now)) }
+{
+    for act in acts {
+        note_act(notes, place, act, issued, facts, schema)?;
+    }
+    Ok(())
+}
+
+fn note_act<F: Facts>(
+    notes: &mut Notes,
+    place: usize,
+    act: &Act<'_>,
+    issued: u64,
+    facts: &F,
+    schema: &Schema,
+) -> Result<(), Memory>
+    requires issued { issued ≡ users_issued (F.history facts.now) }
+    requires known { KnowsValues (F.history facts.now) notes.now.learnt }
+    ensures known { OnOk result (KnowsValues (F.history facts.now) notes.new.learnt) }
+    ensures noted { OnOk result (notes.new.noted.items ≡ notes.old.noted.items
+        ++ noted_by (F.history facts.now) schema.now place (model_act act.now)) }
+{
+    match act {
+        Act::Adds { e, attribute, v } => {
+            let addition = asking_of(place, *e, attribute.id, v)?;
+            note_addition(notes, addition, issued, facts, schema)
+        }
+        Act::Compares {
+            e,
+            attribute,
+            new,
+            ..
+        } => {
+            let addition = asking_of(place, *e, attribute.id, new)?;
+            note_addition(notes, addition, issued, facts, schema)
+        }
+        Act::Retracts { e, attribute, v } => {
+            let retraction = asking_of(place, *e, attribute.id, v)?;
+            push(&mut notes.noted, AskedAs::Retracted, retraction)
+        }
+        Act::RetractsAll { .. } | Act::RetractsEntity { .. } => Ok(()),
+    }
+}
+
+fn asking_of(place: usize, e: u64, a: u64, v: &Value) -> Result<Asking, Memory>
+    ensures { IfOk result (λ asking. asking ≡ value_at place e a v.now) }
+{
+    let v = v.copy()?;
+    Ok(Asking { e, a, v, place })
+}
+
+fn push(noted: &mut Vec<Noted>, way: AskedAs, asking: Asking) -> Result<(), Memory>
+    ensures { OnOk result (noted.new.items ≡ noted.old.items ++ as_way way asking ∷ []) }
+{
+    noted.push(Noted { asking, way })?;
+    Ok(())
+}
+
+/// Notes an addition behind what it replaces.
+fn note_addition<F: Facts>(
+    notes: &mut Notes,
+    addition: Asking,
+    issued: u64,
+    facts: &F,
+    schema: &Schema,
+) -> Result<(), Memory>
+    requires issued { issued ≡ users_issued (F.history facts.now) }
+    requires known { KnowsValues (F.history facts.now) notes.now.learnt }
+    ensures known { OnOk result (KnowsValues (F.history facts.now) notes.new.learnt) }
+    ensures noted { OnOk result (notes.new.noted.items ≡ notes.old.noted.items
+        ++ added_by (F.history facts.now) schema.now addition) }
+{
+    note_replaced(notes, &addition, issued, facts, schema)?;
+    push(&mut notes.noted, AskedAs::Added, addition)
+}
+
+/// Notes what is asked to be replaced: the other values that an entity has, where it is given one under an attribute of
+/// cardinality one. The values of an entity and an attribute are looked up once.
+fn note_replaced<F: Facts>(
+    notes: &mut Notes,
     addition: &Asking,
     issued: u64,
     facts: &F,
     schema: &Schema,
 ) -> Result<(), Memory>
-    requires { issued ≡ users_issued (F.history facts.now) }
-    ensures known { KnowsValues (F.history facts.now) known.old
-        → OnOk result (KnowsValues (F.history facts.now) known.new) }
-    ensures askings { KnowsValues (F.history facts.now) known.old
-        → OnOk result (askings.new.items
-        ≡ askings.old.items ++ replaced_of (F.history facts.now) schema.now addition.now) }
+    requires issued { issued ≡ users_issued (F.history facts.now) }
+    requires known { KnowsValues (F.history facts.now) notes.now.learnt }
+    ensures known { OnOk result (KnowsValues (F.history facts.now) notes.new.learnt) }
+    ensures noted { OnOk result (notes.new.noted.items ≡ notes.old.noted.items
+        ++ map (as_way Replaced) (replaced_of (F.history facts.now) schema.now addition.now)) }
 {
     the_lists_are_the_rising_ones();
     new_users_have_no_facts();
@@ -114,75 +232,38 @@ fn push_replaced<F: Facts>(
     if is_new(issued, addition.e) {
         return Ok(());
     }
-    learn_values(known, facts, addition.e, addition.a)?;
-    push_others(askings, addition, known)
+    learn(&mut notes.learnt, facts, addition.e, addition.a)?;
+    push_others(&mut notes.noted, addition, &notes.learnt)
 }
 
-/// The values of the entity under the attribute are known from now on.
-fn learn_values<F: Facts>(
-    known: &mut BTreeMap<(u64, u64), Vec<Value>>,
-    facts: &F,
-    e: u64,
-    a: u64,
-) -> Result<(), Memory>
-    ensures known { KnowsValues (F.history facts.now) known.old
-        → OnOk result (KnowsValues (F.history facts.now) known.new) }
-    ensures learnt { KnowsValues (F.history facts.now) known.old
-        → OnOk result (known_values known.new e a ≡ values_of (F.history facts.now) e a) }
+/// Notes each of the known values but that of the addition.
+fn push_others(noted: &mut Vec<Noted>, addition: &Asking, learnt: &Learnt) -> Result<(), Memory>
+    ensures { OnOk result (noted.new.items ≡ noted.old.items ++ map (as_way Replaced)
+        (others_of addition.now (known_values learnt.now addition.now.e addition.now.a))) }
 {
-    let pair = (e, a);
-    if known.contains_key(&pair) {
-        return Ok(());
-    }
-    known.insert(pair, facts.values_of(e, a)?)?;
-    Ok(())
-}
-
-/// Adds an asking for each of the known values but that of the addition.
-fn push_others(
-    askings: &mut Vec<Asking>,
-    addition: &Asking,
-    known: &BTreeMap<(u64, u64), Vec<Value>>,
-) -> Result<(), Memory>
-    ensures { OnOk result (askings.new.items
-        ≡ askings.old.items
-        ++ others_of addition.now (known_values known.now addition.now.e addition.now.a)) }
-{
-    match known.get(&(addition.e, addition.a)) {
-        Some(values) => push_values(askings, addition, values),
+    match learnt.get(&(addition.e, addition.a)) {
+        Some(values) => push_values(noted, addition, values),
         None => Ok(()),
     }
 }
 
-fn push_values(askings: &mut Vec<Asking>, addition: &Asking, values: &[Value]) -> Result<(), Memory>
-    ensures { OnOk result
-        (askings.new.items ≡ askings.old.items ++ others_of addition.now values.now) }
+fn push_values(noted: &mut Vec<Noted>, addition: &Asking, values: &[Value]) -> Result<(), Memory>
+    ensures { OnOk result (noted.new.items
+        ≡ noted.old.items ++ map (as_way Replaced) (others_of addition.now values.now)) }
 {
     for v in values {
-        push_other(askings, addition, v)?;
+        push_other(noted, addition, v)?;
     }
     Ok(())
 }
 
-fn push_other(askings: &mut Vec<Asking>, addition: &Asking, v: &Value) -> Result<(), Memory>
-    ensures { OnOk result (askings.new.items ≡ askings.old.items ++ other_of addition.now v.now) }
+fn push_other(noted: &mut Vec<Noted>, addition: &Asking, v: &Value) -> Result<(), Memory>
+    ensures { OnOk result (noted.new.items
+        ≡ noted.old.items ++ map (as_way Replaced) (other_of addition.now v.now)) }
 {
     if addition.v == *v {
         return Ok(());
     }
-    let v = v.copy()?;
-    askings.push(Asking {
-        e: addition.e,
-        a: addition.a,
-        v,
-        place: addition.place,
-    })?;
-    Ok(())
-}
-
-/// Whether it is a user entity after those that are issued, of which nothing holds.
-pub fn is_new(issued: u64, e: u64) -> bool
-    ensures { result ≡ nat_lt issued (model_user_number e) }
-{
-    issued < user_number(e)
+    let other = asking_of(addition.place, addition.e, addition.a, v)?;
+    push(noted, AskedAs::Replaced, other)
 }

@@ -4,8 +4,10 @@
 #![tactic(auto)]
 
 mod collect;
+mod folding;
 mod joining;
-mod marks;
+mod learnt;
+mod noted;
 mod recording;
 
 pub use joining::triples;

@@ -6,24 +6,24 @@ ghost use Rattle.tx_asks.specs.Triples.{AreTriples};
 ghost use Rattle.tx_changes.specs.Recorded.{datom_of, is_change as model_is_change};
 
 use fb_memory::Memory;
-use fb_values::{Datom, Datoms};
+use fb_values::Datom;
 use std::alloc::Global;
 use tx_asks::Triple;
 
 /// The changes of a transaction of this t: what is added and does not hold, and what is retracted in some way and holds.
-pub fn changes(alloc: Global, triples: &[Triple], t: u32) -> Result<Datoms, Memory>
+/// There is room for the datom of the transaction's instant, which joins them in its entry.
+pub fn changes(alloc: Global, triples: &[Triple], t: u32) -> Result<Vec<Datom>, Memory>
     ensures { IfOk result (λ changes. (tx : Transaction) → tx ≡ with_names tx.db tx.asks tx.names
-        → AreTriples tx triples.now → t ≡ basis tx.db.history + 1 → changes ≡ tx.changes) }
+        → AreTriples tx triples.now → t ≡ basis tx.db.history + 1 → changes.items ≡ tx.changes) }
 {
-    let changes = changes_of(alloc, triples, t)?;
-    Ok(Datoms::of(changes))
+    changes_of(alloc, triples, t)
 }
 
 fn changes_of(alloc: Global, triples: &[Triple], t: u32) -> Result<Vec<Datom>, Memory>
     ensures { IfOk result
         (λ changes. changes.items ≡ map (datom_of t) (filter model_is_change triples.now)) }
 {
-    let mut changes = Vec::new(alloc);
+    let mut changes = Vec::with_capacity(alloc, triples.len() + 1)?;
     for triple in triples {
         if is_change(triple) {
             changes.push(change_of(triple, t)?)?;

@@ -1,5 +1,5 @@
 //! The forms of a transaction, one after another.
-ghost use Rattle.std.specs.Prelude.{◌≡◌, List, map, filter, IfOk};
+ghost use Rattle.std.specs.Prelude.{◌≡◌, [], List, map, filter, IfOk};
 ghost use Rattle.std.specs.List.{All};
 ghost use Rattle.tx_forms.specs.Parts.{parts_of};
 ghost use Rattle.tx_asks.specs.declared.asks.LookupRef.{LookupRef as model_LookupRef};
@@ -14,7 +14,7 @@ use crate::faults::NameFaults;
 use crate::firsts::{Firsts, NONE, with_faults};
 use crate::judge::{Judged, judge_all};
 use crate::lookups::judge_lookups;
-use crate::raw::Out;
+use crate::raw::{Out, RawAsk};
 use crate::walk::form_asks;
 use fb_memory::Memory;
 use fb_schema::Schema;
@@ -37,6 +37,23 @@ pub enum Walked<'a> {
     /// The form at this place is the first with a keyword that names no attribute.
     Unknown(usize),
     Whole(Expanded<'a>),
+}
+
+/// How many asks a form has where no value is a collection or a map: one that its map is there, and two for each pair.
+fn usual_raws(form: TxForm<'_>) -> usize {
+    match form {
+        TxForm::List(_) => 1,
+        TxForm::Map(pairs) => 1 + 2 * pairs.as_slice().len(),
+    }
+}
+
+/// An empty list, with room for what the form asks.
+fn make_room<'a>(raws: &mut Vec<RawAsk<'a>>, form: TxForm<'_>) -> Result<(), Memory>
+    ensures { IfOk result (λ _. raws.new.items ≡ []) }
+{
+    raws.clear();
+    raws.reserve(usual_raws(form))?;
+    Ok(())
 }
 
 /// What a form asks, judged.
@@ -63,7 +80,7 @@ fn expand_form<'a>(
     ensures next { IfOk result
         (λ _. out.new.next ≡ (walk_form schema.now out.old.next (parts_of form.entry)).next) }
 {
-    out.raws.clear();
+    make_room(&mut out.raws, form)?;
     form_asks(alloc, schema, out, form)?;
     judge_lookups(schema, out.lookups.as_slice(), judged)?;
     judge_all(alloc, schema, judged, out.raws.as_slice())

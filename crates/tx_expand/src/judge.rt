@@ -217,7 +217,8 @@ fn judge<'a>(
     })
 }
 
-/// The asks of a form, judged, where these are the faults of the transaction's lookup refs so far.
+/// The asks of a form, judged, where these are the faults of the transaction's lookup refs so far. There is room for half of
+/// what is judged, and one more: of a pair only one ask is kept, since the other says that its attribute is mentioned.
 #[tactic(auto, using(crate::proofs::Together::either_of_none, crate::proofs::Together::faults_then))]
 pub fn judge_all<'a>(
     alloc: Global,
@@ -235,7 +236,7 @@ pub fn judge_all<'a>(
         ≡ filter (is_kept schema.now) (map (model_ask all) raws.now)) }
     ensures read { IfOk result (λ form. All (IsTyped schema.now) form.asks.items) }
 {
-    let mut asks = Vec::with_capacity(alloc, raws.len())?;
+    let mut asks = Vec::with_capacity(alloc, raws.len() / 2 + 1)?;
     let mut faults = Faults::NONE;
     for raw in raws {
         faults = faults.or(judge(schema, judged, raw, &mut asks)?);

@@ -38,7 +38,7 @@ fn acts_of<'a>(
     ensures { (pairs : List (model_Tempid × ℕ)) → HasEntities entities.now pairs
         → IfOk result (λ acts. map model_act acts.items ≡ filter_map (act_of pairs) drafts.entry.items) }
 {
-    let mut acts = Vec::new(alloc);
+    let mut acts = Vec::with_capacity(alloc, drafts.len())?;
     for draft in drafts {
         push_some(&mut acts, act(entities, draft))?;
     }

@@ -80,7 +80,7 @@ pub fn drafts_of_forms<'a, F: Facts>(
         (first_refusal ((NotAnEntity, lost_at (db_of (F.history facts.now)) found.now forms.now)
         ∷ [])) stop) }
 {
-    let mut forms_found = Vec::new(alloc);
+    let mut forms_found = Vec::with_capacity(alloc, forms.len())?;
     let mut place = 0;
     for asks in forms {
         let Some(drafts) = drafts_of(alloc, facts, schema, found, asks)? else {
@@ -111,7 +111,7 @@ fn drafts_of<'a, F: Facts>(
         (λ drafts. is_none drafts
         ≡ list_any (is_lost (db_of (F.history facts.now)) found.now) asks.now) }
 {
-    let mut drafts = Vec::new(alloc);
+    let mut drafts = Vec::with_capacity(alloc, asks.len())?;
     for ask in asks {
         let Some(draft) = draft_of(facts, schema, found, ask)? else {
             return Ok(None);

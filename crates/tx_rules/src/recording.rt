@@ -16,39 +16,28 @@ use fb_facts::Facts;
 use fb_memory::Memory;
 use fb_numbers::{GREATEST_INSTANT, LEAST_INSTANT, TX_INSTANT, transaction_entity};
 use fb_values::{Datom, Datoms, Entry, Order, Value, cmp_in};
-use std::alloc::Global;
 use std::cmp::Ordering;
 
-/// The entry that records the changes and, among them, the instant of their transaction.
-pub fn entry(alloc: Global, changes: &[Datom], t: u32, instant: i64) -> Result<Entry, Memory>
-    requires { IsTrue (rises Eavt changes.now) }
+/// The entry that records the changes and, among them, the instant of their transaction. Where the list has room for one more
+/// datom, nothing is copied.
+pub fn entry(changes: Vec<Datom>, t: u32, instant: i64) -> Result<Entry, Memory>
+    requires { IsTrue (rises Eavt changes.items) }
     ensures { (h : List ModelEntry) (tx : Transaction) → tx.db ≡ db_of h → t ≡ history.basis h + 1
-        → changes.now ≡ tx.changes → IfOk result (λ entry. entry ≡ entry_of h tx instant) }
+        → changes.items ≡ tx.changes → IfOk result (λ entry. entry ≡ entry_of h tx instant) }
 {
-    entry_at(alloc, changes, t, instant)
+    entry_at(changes, t, instant)
 }
 
-fn entry_at(alloc: Global, changes: &[Datom], t: u32, instant: i64) -> Result<Entry, Memory>
-    ensures { IfOk result (λ entry. entry ≡ model.entry_at t instant changes.now) }
+fn entry_at(changes: Vec<Datom>, t: u32, instant: i64) -> Result<Entry, Memory>
+    ensures { IfOk result (λ entry. entry ≡ model.entry_at t instant changes.items) }
 {
-    let mut datoms = copy_of(alloc, changes)?;
+    let mut datoms = changes;
     put(&mut datoms, instant_datom(t, instant))?;
     Ok(Entry {
         t,
         instant,
         datoms: Datoms::of(datoms),
     })
-}
-
-/// Copies of the datoms, with room for one more.
-fn copy_of(alloc: Global, datoms: &[Datom]) -> Result<Vec<Datom>, Memory>
-    ensures { IfOk result (λ copies. copies.items ≡ datoms.now) }
-{
-    let mut copies = Vec::with_capacity(alloc, datoms.len() + 1)?;
-    for d in datoms {
-        copies.push(d.copy()?)?;
-    }
-    Ok(copies)
 }
 
 fn instant_datom(t: u32, instant: i64) -> Datom

@@ -24,7 +24,7 @@ use fb_facts::Facts;
 use fb_memory::Memory;
 use fb_schema::Schema;
 use fb_text::Text;
-use fb_values::{Datom, Datoms, Entry};
+use fb_values::{Datom, Entry};
 use std::alloc::Global;
 use tx_asks::{Act, Resolved};
 use tx_expand::expand;
@@ -91,7 +91,7 @@ fn judged<F: Facts, G: Guard<F>>(
         → Matches stop (judged_step (F.history facts.now) tx reading (G.bars guard.now)))) }
 {
     let changes = judged_changes(alloc, forms, facts, schema)?;
-    recorded(alloc, changes.as_slice(), tempids, facts, reading, guard)
+    recorded(changes, tempids, facts, reading, guard)
 }
 
 /// The changes of acts that break no rule.
@@ -100,17 +100,17 @@ fn judged_changes<F: Facts>(
     forms: &[Vec<Act<'_>>],
     facts: &F,
     schema: &Schema,
-) -> Result<Datoms, TxStop>
+) -> Result<Vec<Datom>, TxStop>
     requires stands { SchemaStands schema.now (F.history facts.now) }
     requires lawful { IsLawful (F.history facts.now) }
     requires acts { IsSomeTransaction (F.history facts.now) (acts_of forms.now) }
     ensures changes { IfOk result (λ changes. OfTransactions (F.history facts.now)
-        (acts_of forms.now) (λ tx. changes ≡ tx.changes)) }
+        (acts_of forms.now) (λ tx. changes.items ≡ tx.changes)) }
     ensures unbroken { IfOk result (λ _. OfTransactions (F.history facts.now) (acts_of forms.now)
         (λ tx. model.first_refusal (change_rules tx) ≡ None)) }
     ensures refused { IfErr result (λ stop. OfTransactions (F.history facts.now) (acts_of forms.now)
         (λ tx. StopsBy (model.first_refusal (change_rules tx)) stop)) }
-    ensures changes_are { IfOk result AreChanges }
+    ensures changes_are { IfOk result (λ changes. AreChanges changes.items) }
     ensures room { IfOk result
         (λ _. history.last_instant (F.history facts.now) <ℤ greatest_instant) }
 {
@@ -126,53 +126,51 @@ fn judged_changes<F: Facts>(
 
 /// What the changes are recorded as, unless the guard bars them.
 fn recorded<F: Facts, G: Guard<F>>(
-    alloc: Global,
-    changes: &[Datom],
+    changes: Vec<Datom>,
     tempids: Vec<(Text, u64)>,
     facts: &F,
     reading: i64,
     guard: &G,
 ) -> Result<Accepted, TxStop>
     requires lawful { IsLawful (F.history facts.now) }
-    requires changes { AreChanges changes.now }
+    requires changes { AreChanges changes.items }
     requires room { history.last_instant (F.history facts.now) <ℤ greatest_instant }
     ensures accepted { IfOk result (λ done. (tx : transactions.Transaction)
-        → tx.db ≡ db_of (F.history facts.now) → changes.now ≡ tx.changes
+        → tx.db ≡ db_of (F.history facts.now) → changes.items ≡ tx.changes
         → tempids.items ≡ named_tempids tx.names
         → model.under_guard (F.history facts.now) tx reading
         (G.bars guard.now (F.history facts.now) tx.changes)
         ≡ model.accepted done.entry done.tempids.items) }
     ensures refused { IfErr result (λ stop. (tx : transactions.Transaction)
-        → tx.db ≡ db_of (F.history facts.now) → changes.now ≡ tx.changes
+        → tx.db ≡ db_of (F.history facts.now) → changes.items ≡ tx.changes
         → tempids.items ≡ named_tempids tx.names
         → Matches stop (model.under_guard (F.history facts.now) tx reading
         (G.bars guard.now (F.history facts.now) tx.changes))) }
 {
-    match guard.judge(facts, changes)? {
+    match guard.judge(facts, changes.as_slice())? {
         Some(bar) => Err(barred(bar)),
-        None => Ok(with_entry(alloc, changes, tempids, facts, reading)?),
+        None => Ok(with_entry(changes, tempids, facts, reading)?),
     }
 }
 
 fn with_entry<F: Facts>(
-    alloc: Global,
-    changes: &[Datom],
+    changes: Vec<Datom>,
     tempids: Vec<(Text, u64)>,
     facts: &F,
     reading: i64,
 ) -> Result<Accepted, Memory>
     requires lawful { IsLawful (F.history facts.now) }
-    requires rising { IsTrue (rises Eavt changes.now) }
+    requires rising { IsTrue (rises Eavt changes.items) }
     requires room { history.last_instant (F.history facts.now) <ℤ greatest_instant }
     ensures { IfOk result (λ done. (tx : transactions.Transaction)
-        → tx.db ≡ db_of (F.history facts.now) → changes.now ≡ tx.changes
+        → tx.db ≡ db_of (F.history facts.now) → changes.items ≡ tx.changes
         → tempids.items ≡ named_tempids tx.names
         → model.accepted done.entry done.tempids.items
         ≡ model.under_guard (F.history facts.now) tx reading None) }
 {
     lawful_histories_are_small();
     let instant = next_instant(facts, reading);
-    let entry = entry(alloc, changes, facts.basis() + 1, instant)?;
+    let entry = entry(changes, facts.basis() + 1, instant)?;
     Ok(Accepted { entry, tempids })
 }
 

@@ -19,6 +19,11 @@ returns-in_err-may_open c bytes next is start after before kept =
     (subst (λ (xs : List Frame). RefusedAt at (frames_of bytes xs) e) c.as_slice.ensures.value (c.in_err-may_open.ensures.refused bytes))
     (no_string_brace here (drop 1 here) is) (deep_opening F here (drop 1 here) open_brace is refl) after before)
 
+pub returns-in_err-pairs : goal.returns-in_err-pairs
+returns-in_err-pairs c bytes next is start after before kept =
+    let p = err_from_is_err_and c.from_residual-in_err-pairs.result c.from_residual-in_err-pairs.ensures.1 in
+    rw (p.1, p.2) tt
+
 pub returns : goal.returns
 returns c bytes next is start after before kept =
     let at = c.args.at in
@@ -26,7 +31,7 @@ returns c bytes next is start after before kept =
     let may =
     subst (λ (xs : List Frame). Free (frames_of bytes xs) × HasRoom (frames_of bytes xs)) c.as_slice.ensures.value
     (c.in_ok-may_open.ensures.free bytes) in
-    grown_enters bytes start at c.args.next old c.grow.new.items.items (Map c.new.result None c.new-2.result) c.grow.result
-    (subst (λ n. Enters bytes old (Map c.new.result None c.new-2.result) at n) (sym next)
-    (map_enters bytes old at c.new.result c.new-2.result c.new.ensures.items c.new-2.ensures is may.0 may.1))
+    grown_enters bytes start at c.args.next old c.grow.new.items.items (Map c.in_ok-pairs.pairs None c.new.result) c.grow.result
+    (subst (λ n. Enters bytes old (Map c.in_ok-pairs.pairs None c.new.result) at n) (sym next)
+    (map_enters bytes old at c.in_ok-pairs.pairs c.new.result c.in_ok-pairs.ensures c.new.ensures is may.0 may.1))
     c.grow.ensures.ok c.grow.ensures.err after before kept

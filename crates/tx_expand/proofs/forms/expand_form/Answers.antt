@@ -28,7 +28,7 @@ returns-clause-faults c =
     let asks_are : map (model_ask refs) c.as_slice-2.result.now ≡ asks =
     ap (map (model_ask refs)) c.as_slice-2.ensures.value
     ∙ c.in_ok-form_asks.ensures.walks.asks refs (begin_with_themselves refs)
-    ∙ ap (λ (raws : List RawAsk). map (model_ask refs) raws ++ asks) c.clear.ensures.items in
+    ∙ ap (λ (raws : List RawAsk). map (model_ask refs) raws ++ asks) c.in_ok-make_room.ensures in
     let judged_are : c.judge_lookups.new.judged.items ≡ map (ref_faults facts) refs =
     c.in_ok-judge_lookups.ensures
     ∙ ap (λ (xs : List LookupRef). judged ++ map (ref_faults facts) (drop (length judged) xs)) c.as_slice.ensures.value
@@ -44,7 +44,7 @@ returns-clause-asks c = λ all begin.
     let asks_are : map (model_ask all) c.as_slice-2.result.now ≡ asks =
     ap (map (model_ask all)) c.as_slice-2.ensures.value
     ∙ c.in_ok-form_asks.ensures.walks.asks all begin
-    ∙ ap (λ (raws : List RawAsk). map (model_ask all) raws ++ asks) c.clear.ensures.items in
+    ∙ ap (λ (raws : List RawAsk). map (model_ask all) raws ++ asks) c.in_ok-make_room.ensures in
     subst (λ (found : List Ask). IfOk c.judge_all.result (λ form. map (ask_read all) form.asks.items ≡ filter (is_kept facts) found))
     asks_are
     (c.judge_all.ensures.asks all)

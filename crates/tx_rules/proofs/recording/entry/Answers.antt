@@ -7,5 +7,5 @@ use Rattle.tx_rules.proofs.recording.entry.Goals as goal
 
 pub returns : goal.returns
 returns c = λ h tx db_is t_is changes_is.
-    IfOk-map _ _ (λ entry same. same ∙ ap (λ z. entry_at c.args.t z c.args.changes.now) (to_z-of_z w64 c.args.instant c.ranges.instant)
-    ∙ entry_at-of h tx c.args.t c.args.instant c.args.changes.now db_is t_is changes_is c.requires) c.entry_at.result c.entry_at.ensures
+    IfOk-map _ _ (λ entry same. same ∙ ap (λ z. entry_at c.args.t z c.args.changes.items) (to_z-of_z w64 c.args.instant c.ranges.instant)
+    ∙ entry_at-of h tx c.args.t c.args.instant c.args.changes.items db_is t_is changes_is c.requires) c.entry_at.result c.entry_at.ensures

@@ -27,7 +27,7 @@ returns-clause-accepted g c =
     (λ done of tx db_is acts_are named.
     ap (λ rule. refusal_or rule (under_guard h tx c.args.reading (bars h tx.changes))) (c.in_ok-changes.ensures.unbroken tx db_is acts_are)
     ∙ ap (λ reading. under_guard h tx reading (bars h tx.changes)) (sym read)
-    ∙ of tx db_is (c.as_slice.ensures ∙ c.in_ok-changes.ensures.changes tx db_is acts_are) named)
+    ∙ of tx db_is (c.in_ok-changes.ensures.changes tx db_is acts_are) named)
     c.recorded.ensures.accepted
 
 pub returns-clause-refused : goal.returns-clause-refused
@@ -41,5 +41,5 @@ returns-clause-refused g c =
     (sym
     (ap (λ rule. refusal_or rule (under_guard h tx c.args.reading (bars h tx.changes))) (c.in_ok-changes.ensures.unbroken tx db_is acts_are)
     ∙ ap (λ reading. under_guard h tx reading (bars h tx.changes)) (sym read)))
-    (of tx db_is (c.as_slice.ensures ∙ c.in_ok-changes.ensures.changes tx db_is acts_are) named))
+    (of tx db_is (c.in_ok-changes.ensures.changes tx db_is acts_are) named))
     c.recorded.ensures.refused
