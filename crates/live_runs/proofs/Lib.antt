@@ -1,1 +1,17 @@
 pub mod Blocks
+pub mod Rises
+pub mod Changed
+pub mod Beside
+pub mod Twice
+pub mod Prefixed
+pub mod Named
+pub mod Stepping
+pub mod Full
+pub mod Parted
+pub mod Putting
+pub mod Adding
+pub mod Longer
+pub mod Walking
+pub mod Removing
+pub mod Running
+pub mod Left

@@ -12,6 +12,8 @@ mod fb_memory_tests;
 #[cfg(test)]
 mod fb_preds_tests;
 #[cfg(test)]
+mod fb_prefix_tests;
+#[cfg(test)]
 mod fb_replies_tests;
 #[cfg(test)]
 mod held_facts_tests;
