@@ -1,2 +1,3 @@
 pub mod AtNode
 pub mod Joined
+pub mod Links

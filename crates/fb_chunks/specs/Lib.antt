@@ -1,3 +1,4 @@
 pub mod Chunks
+pub mod Tails
 pub mod Tree
 pub mod TreeFalls

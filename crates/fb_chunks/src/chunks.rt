@@ -1,15 +1,16 @@
 //! A chunk: a short list that its owners share whole.
-ghost use Rattle.std.specs.Prelude.{◌≡◌, ◌<◌, ◌^◌, ◌-◌, [], ◌∷◌, ◌++◌, length, IfOk};
+ghost use Rattle.std.specs.Prelude.{◌≡◌, IfOk};
 
-use crate::sharing::{Share, Shared, copy_with};
+use crate::sharing::{Share, Shared};
 use fb_memory::Memory;
 use std::alloc::Global;
 use std::marker::Model;
 
-/// The items of a full chunk. Chosen by measuring: a longer chunk makes `with` dearer, a shorter one `at`.
+/// The items of a full chunk, and the most that a tail has. A larger number makes the newest items dearer to reach, a
+/// smaller one the older items.
 pub const CHUNK: usize = 32;
 
-/// A short list. A longer one is a copy of it.
+/// A short list.
 #[derive(Drop)]
 pub struct Chunk<X> {
     items: Shared<Vec<X>>,
@@ -24,18 +25,9 @@ impl<X> Model for Chunk<X> {
 }
 
 impl<X: Share> Chunk<X> {
-    pub fn new(alloc: Global) -> Result<Chunk<X>, Memory>
-        ensures { IfOk result (λ c. c ≡ []) }
+    pub fn of(alloc: Global, items: Vec<X>) -> Result<Chunk<X>, Memory>
+        ensures { IfOk result (λ c. c ≡ items.items) }
     {
-        let items = Shared::new(alloc, Vec::new(alloc))?;
-        Ok(Chunk { items })
-    }
-
-    pub fn of_one(alloc: Global, item: X) -> Result<Chunk<X>, Memory>
-        ensures { IfOk result (λ c. c ≡ item ∷ []) }
-    {
-        let mut items = Vec::with_capacity(alloc, 1)?;
-        items.push(item)?;
         let items = Shared::new(alloc, items)?;
         Ok(Chunk { items })
     }
@@ -44,20 +36,6 @@ impl<X: Share> Chunk<X> {
         ensures { result.now ≡ self.now }
     {
         self.items.get().as_slice()
-    }
-
-    pub fn allocator(&self) -> Global {
-        *self.items.get().allocator()
-    }
-
-    pub fn with(&self, item: X) -> Result<Chunk<X>, Memory>
-        requires { length self.now < 2 ^ 32 - 1 }
-        ensures { IfOk result (λ c. c ≡ self.now ++ item ∷ []) }
-    {
-        let alloc = self.allocator();
-        let items = copy_with(alloc, self.as_slice(), item)?;
-        let items = Shared::new(alloc, items)?;
-        Ok(Chunk { items })
     }
 }
 

@@ -5,6 +5,7 @@
 mod chunks;
 mod lists;
 mod sharing;
+mod tails;
 mod tree;
 
 pub use lists::ChunkList;

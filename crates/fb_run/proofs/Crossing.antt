@@ -15,6 +15,7 @@ use Rattle.std.proofs.Crossing as heap
 use Rattle.std_heap.proofs.Global.TheSendSync as handle
 use Rattle.fb_values.proofs.facts.Datom.TheSendSync as datom
 use Rattle.fb_chunks.proofs.tree.Tree.TheLaws.TheKnot as chunks
+use Rattle.fb_chunks.proofs.tails.Link.TheLaws.TheKnot as links
 use Rattle.fb_chunks.specs.contracts.sharing.Shared as Shared
 use Rattle.shared_map.proofs.tree.Tree.TheLaws.TheKnot as maps
 use Rattle.shared_map.specs.contracts.tree.Tree as Tree
@@ -56,10 +57,10 @@ use Rattle.fb_run.proofs.outcome.SessionOut.TheSendSync as out
 use denote.Ref.{NamedLft}
 
 EntryList-send : IsSend EntryList.the_row
-EntryList-send = search (sendable, heap.crosses, chunks.crosses, datom.the_send, datom.the_sync) depth 60 fits 10000
+EntryList-send = search (sendable, heap.crosses, chunks.crosses, links.crosses, datom.the_send, datom.the_sync) depth 60 fits 10000
 
 EntryList-sync : IsSync EntryList.the_row
-EntryList-sync = search (sendable, heap.crosses, chunks.crosses, datom.the_send, datom.the_sync) depth 60 fits 10000
+EntryList-sync = search (sendable, heap.crosses, chunks.crosses, links.crosses, datom.the_send, datom.the_sync) depth 60 fits 10000
 
 Shared-send : (T : RattleType) → IsSend T → IsSync T → IsSend (Shared.the_row T)
 Shared-send T s y = view_send _ _ _ _ _ (declared_send (Shared.TheInside.the_type T) (heap.Arc-send T s y, tt))
@@ -155,7 +156,7 @@ pub Snapshot-sync : IsSync Snapshot.the_row
 Snapshot-sync = search (sendable, heap.crosses, Parts-send, Parts-sync) depth 20
 
 Authors-send : IsSend Authors.the_row
-Authors-send = search (sendable, heap.crosses, chunks.crosses) depth 60 fits 10000
+Authors-send = search (sendable, heap.crosses, chunks.crosses, links.crosses) depth 60 fits 10000
 
 Core-send : IsSend Core.the_row
 Core-send = search (sendable, Snapshot-send, Authors-send) depth 20

@@ -9,6 +9,7 @@ use denote.Struct.Tuple.{Tuple, tuple_type}
 use Rattle.std.proofs.Crossing as heap
 use Rattle.fb_values.proofs.facts.Datom.TheSendSync as datom
 use Rattle.fb_chunks.proofs.tree.Tree.TheLaws.TheKnot as chunks
+use Rattle.fb_chunks.proofs.tails.Link.TheLaws.TheKnot as links
 use Rattle.fb_chunks.specs.contracts.sharing.Shared as Shared
 use Rattle.shared_map.proofs.tree.Tree.TheLaws.TheKnot as maps
 use Rattle.shared_map.specs.contracts.tree.Tree as Tree
@@ -29,10 +30,10 @@ use Rattle.fb_view.specs.contracts.snapshot.Parts as Parts
 use Rattle.fb_view.specs.contracts.snapshot.Snapshot as Snapshot
 
 EntryList-send : IsSend EntryList.the_row
-EntryList-send = search (sendable, heap.crosses, chunks.crosses, datom.the_send, datom.the_sync) depth 60 fits 10000
+EntryList-send = search (sendable, heap.crosses, chunks.crosses, links.crosses, datom.the_send, datom.the_sync) depth 60 fits 10000
 
 EntryList-sync : IsSync EntryList.the_row
-EntryList-sync = search (sendable, heap.crosses, chunks.crosses, datom.the_send, datom.the_sync) depth 60 fits 10000
+EntryList-sync = search (sendable, heap.crosses, chunks.crosses, links.crosses, datom.the_send, datom.the_sync) depth 60 fits 10000
 
 Shared-send : (T : RattleType) → IsSend T → IsSync T → IsSend (Shared.the_row T)
 Shared-send T s y = view_send _ _ _ _ _ (declared_send (Shared.TheInside.the_type T) (heap.Arc-send T s y, tt))
