@@ -137,17 +137,23 @@ Recent-send = search (sendable, Schema-send, Live-send) depth 20
 Recent-sync : IsSync (Recent.the_field).row
 Recent-sync = search (sendable, Schema-sync, Live-sync) depth 20
 
-Older-send : IsSend (Older.the_field).row
+Older-send : IsSend Older.the_row
 Older-send = search (sendable, roots.the_field_send, Covers-send) depth 20
 
-Older-sync : IsSync (Older.the_field).row
+Older-sync : IsSync Older.the_row
 Older-sync = search (sendable, roots.the_field_sync, Covers-sync) depth 20
 
+SharedOlder-send : IsSend (Shared.the_field Older.the_row).row
+SharedOlder-send = Shared-send Older.the_row Older-send Older-sync
+
+SharedOlder-sync : IsSync (Shared.the_field Older.the_row).row
+SharedOlder-sync = Shared-sync Older.the_row Older-send Older-sync
+
 Parts-send : IsSend Parts.the_row
-Parts-send = search (sendable, EntryList-send, Recent-send, Older-send) depth 20
+Parts-send = search (sendable, EntryList-send, Recent-send, SharedOlder-send) depth 20
 
 Parts-sync : IsSync Parts.the_row
-Parts-sync = search (sendable, EntryList-sync, Recent-sync, Older-sync) depth 20
+Parts-sync = search (sendable, EntryList-sync, Recent-sync, SharedOlder-sync) depth 20
 
 pub Snapshot-send : IsSend Snapshot.the_row
 Snapshot-send = search (sendable, heap.crosses, Parts-send, Parts-sync) depth 20

@@ -1,5 +1,5 @@
 -- What AVET is refilled with is what an entry's lists demand.
-use Rattle.std.proofs.Common.{◌≡◌, ◌∙◌, ℕ, ◌+◌, ◌<◌, ◌≤◌, ◌⊎◌, inl, inr, Bool, true, false, not, ◌&&◌, cond, List, [], ◌∷◌, ◌++◌, refl, sym}
+use Rattle.std.proofs.Common.{◌≡◌, ◌∙◌, ℕ, ◌<◌, ◌≤◌, ◌⊎◌, inl, inr, Bool, true, false, not, ◌&&◌, cond, List, [], ◌∷◌, ◌++◌, refl, sym}
 use Rattle.std.proofs.Common.{ap, subst, arith, flat_map, get_or}
 use Rattle.std.specs.Prelude.{◌↔◌, Contains, IsTrue, IsFalse, filter}
 use Rattle.std.specs.Cmp.{tied_itself}

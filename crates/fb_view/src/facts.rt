@@ -120,7 +120,7 @@ impl Snapshot {
     {
         match extent {
             Extent::Said => self.roots(),
-            Extent::Held => &self.parts().older.facts,
+            Extent::Held => &self.parts().older.get().facts,
         }
     }
 

@@ -16,6 +16,7 @@ ghost use Rattle.seg_tree.specs.Nodes.{tree_datoms};
 use crate::replaying::{Replay, refill_of};
 use crate::sorting::in_avet;
 use fact_trees::facts_of;
+use fb_chunks::Shared;
 use fb_covers::Covers;
 use fb_history::EntryList;
 use fb_index::{push_live, push_older};
@@ -51,7 +52,12 @@ impl Older {
     ghost use Rattle.fb_view.specs.SnapshotModel.{AreFacts};
 
     /// With the trees of what holds.
-    pub fn of(alloc: Global, roots: Roots, held: Covers, covered: u32) -> Result<Older, Memory>
+    pub fn of(
+        alloc: Global,
+        roots: Roots,
+        held: Covers,
+        covered: u32,
+    ) -> Result<Shared<Older>, Memory>
         requires { (order : Order) → IsRising order (tree_datoms (tree_in roots order)) }
         ensures roots { IfOk result (λ older. older.roots ≡ roots) }
         ensures facts { IfOk result (λ older. AreFacts older.roots older.facts) }
@@ -59,24 +65,13 @@ impl Older {
         ensures covered { IfOk result (λ older. older.covered ≡ covered) }
     {
         let facts = facts_of(alloc, &roots)?;
-        Ok(Older {
+        let older = Older {
             roots,
             facts,
             held,
             covered,
-        })
-    }
-
-    /// The same trees, at the cost of a few reference counts.
-    pub fn share(&self) -> Result<Older, Memory>
-        ensures { IfOk result (λ older. older ≡ self.now) }
-    {
-        Ok(Older {
-            roots: self.roots.share()?,
-            facts: self.facts.share()?,
-            held: self.held.share()?,
-            covered: self.covered,
-        })
+        };
+        Shared::new(alloc, older)
     }
 }
 

@@ -14,6 +14,7 @@ ghost use Rattle.fb_view.specs.SnapshotModel.{Stands};
 use crate::growth::{Older, Recent};
 use crate::snapshot::{Parts, Snapshot};
 use crate::sorting::trees;
+use fb_chunks::Share;
 use fb_history::EntryList;
 use fb_memory::Memory;
 use fb_schema::Schema;
@@ -60,7 +61,7 @@ impl Snapshot {
         let alloc = self.alloc();
         let parts = self.parts();
         let older = parts.older.share()?;
-        let recent = parts.recent.with(alloc, &older, &entry)?;
+        let recent = parts.recent.with(alloc, older.get(), &entry)?;
         let entries = parts.entries.with(entry)?;
         Snapshot::of(
             alloc,
@@ -124,7 +125,7 @@ fn replayed(
 {
     let held = schema.covers().share()?;
     let older = Older::of(alloc, roots, held, c)?;
-    let recent = Recent::fresh(alloc, schema).replayed(alloc, &older, &entries)?;
+    let recent = Recent::fresh(alloc, schema).replayed(alloc, older.get(), &entries)?;
     Snapshot::of(
         alloc,
         Parts {

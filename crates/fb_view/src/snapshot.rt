@@ -5,6 +5,7 @@ ghost use Rattle.fb_model.specs.History.{basis};
 ghost use Rattle.fb_view.specs.SnapshotModel.{Stands};
 
 use crate::growth::{Older, Recent};
+use fb_chunks::Shared;
 use fb_covers::Covers;
 use fb_history::EntryList;
 use fb_memory::Memory;
@@ -21,7 +22,8 @@ use std::sync::Arc;
 pub struct Parts {
     pub entries: EntryList,
     pub recent: Recent,
-    pub older: Older,
+    /// One count for all trees, since each entry makes a new value over the same ones.
+    pub older: Shared<Older>,
 }
 
 impl Model for Parts {
@@ -97,7 +99,7 @@ impl Snapshot {
         ensures covered { result ≡ self.now.covered }
         ensures stands { Stands self.now }
     {
-        self.parts().older.covered
+        self.parts().older.get().covered
     }
 
     pub fn entries(&self) -> &EntryList
@@ -125,7 +127,7 @@ impl Snapshot {
         ensures roots { result.now ≡ self.now.roots }
         ensures stands { Stands self.now }
     {
-        &self.parts().older.roots
+        &self.parts().older.get().roots
     }
 
     /// Which attributes the trees hold.
@@ -133,7 +135,7 @@ impl Snapshot {
         ensures held { result.now ≡ self.now.held }
         ensures stands { Stands self.now }
     {
-        &self.parts().older.held
+        &self.parts().older.get().held
     }
 
     /// How many datoms the four live lists have together, or the greatest number that there is.
