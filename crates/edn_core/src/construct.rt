@@ -1,5 +1,5 @@
 //! What is open while a form is read: constructs inside one another, each with the whole forms in it.
-ghost use Rattle.std.specs.Prelude.{◌≡◌, ℕ, List, MatchBool, MatchOption};
+ghost use Rattle.std.specs.Prelude.{◌≡◌, ℕ, List, [], MatchBool, MatchOption};
 ghost use Rattle.edn_model.specs.Faults as faults;
 ghost use Rattle.edn_model.specs.Steps.{opens_of, HasRoom};
 ghost use Rattle.edn_form.specs.View.{form_of};
@@ -8,6 +8,7 @@ ghost use Rattle.edn_core.specs.Frames.{open_of, frames_of, IsSoundOpen, ClosesA
 
 use edn_duplicates::FormCodes;
 use edn_form::{Edn, Items, Pairs};
+use std::alloc::Global;
 
 /// How many collections and discards may be open at one place.
 const MAX_DEPTH: usize = 64;
@@ -30,6 +31,21 @@ pub(crate) enum Construct {
 pub(crate) struct Frame {
     pub(crate) construct: Construct,
     pub(crate) at: usize,
+}
+
+/// What is open while a form is read. Frames that are kept from one form to the next take their memory once.
+#[derive(Drop)]
+pub struct Frames {
+    pub(crate) open: Vec<Frame>,
+}
+
+impl Frames {
+    pub fn new(alloc: Global) -> Frames
+        ensures { result.open.items ≡ [] }
+    {
+        let open = Vec::new(alloc);
+        Frames { open }
+    }
 }
 
 /// Whether a form that is no string can't come next, since the innermost construct is a tag.

@@ -11,48 +11,48 @@ use Rattle.edn_core.proofs.read.answer.Goals as goal
 pub returns-then-bytes-at : goal.returns-then-bytes-at
 returns-then-bytes-at c = nothing_behind c.args.bytes.now c.args.at c.if-bytes-at.true
 
-pub loop-frames-init : goal.loop-frames-init
-loop-frames-init c = reading_begins c.args.bytes.now c.args.at c.new-frames.result.items c.new-frames.ensures.items c.if-bytes-at.false
+pub steps-init : goal.steps-init
+steps-init c = reading_begins c.args.bytes.now c.args.at c.args.frames.now.items c.requires c.if-bytes-at.false
 
-pub loop-frames-preserved : goal.loop-frames-preserved
-loop-frames-preserved c =
+pub steps-preserved : goal.steps-preserved
+steps-preserved c =
     let bytes = c.args.bytes.now in
-    let h = c.loop-frames.invariant in
-    let begun = going (frames_of bytes c.loop-frames.frames.items) (drop c.loop-frames.here bytes) in
-    reading_goes h (subst (λ p. Leads bytes c.args.at c.loop-frames.here begun (Ok p) c.step.new.frames.items) c.in-Further.is
+    let h = c.steps.invariant in
+    let begun = going (frames_of bytes c.steps.frames.items) (drop c.steps.here bytes) in
+    reading_goes h (subst (λ p. Leads bytes c.args.at c.steps.here begun (Ok p) c.step.new.frames.items) c.in-Further.is
     (c.in_ok-next.ensures c.args.at h.after h.within h.kept))
 
-pub loop-frames-smaller : goal.loop-frames-smaller
-loop-frames-smaller c =
+pub steps-smaller : goal.steps-smaller
+steps-smaller c =
     let bytes = c.args.bytes.now in
-    let h = c.loop-frames.invariant in
-    let begun = going (frames_of bytes c.loop-frames.frames.items) (drop c.loop-frames.here bytes) in
+    let h = c.steps.invariant in
+    let begun = going (frames_of bytes c.steps.frames.items) (drop c.steps.here bytes) in
     let on =
-    subst (λ p. Leads bytes c.args.at c.loop-frames.here begun (Ok p) c.step.new.frames.items) c.in-Further.is
+    subst (λ p. Leads bytes c.args.at c.steps.here begun (Ok p) c.step.new.frames.items) c.in-Further.is
     (c.in_ok-next.ensures c.args.at h.after h.within h.kept) in
     omega (arith, on.ahead, on.within)
 
 pub returns-in-Read : goal.returns-in-Read
 returns-in-Read c =
     let bytes = c.args.bytes.now in
-    let h = c.loop-frames.invariant in
-    let begun = going (frames_of bytes c.loop-frames.frames.items) (drop c.loop-frames.here bytes) in
+    let h = c.steps.invariant in
+    let begun = going (frames_of bytes c.steps.frames.items) (drop c.steps.here bytes) in
     subst (λ e. ReadsTo bytes c.args.at (form_of e) c.in-Read.next) (sym c.into_inner.ensures)
-    (reading_reads h (subst (λ p. Leads bytes c.args.at c.loop-frames.here begun (Ok p) c.step.new.frames.items) c.in-Read.is
+    (reading_reads h (subst (λ p. Leads bytes c.args.at c.steps.here begun (Ok p) c.step.new.frames.items) c.in-Read.is
     (c.in_ok-next.ensures c.args.at h.after h.within h.kept)))
 
 pub returns-in-End : goal.returns-in-End
 returns-in-End c =
     let bytes = c.args.bytes.now in
-    let h = c.loop-frames.invariant in
-    let begun = going (frames_of bytes c.loop-frames.frames.items) (drop c.loop-frames.here bytes) in
-    reading_ends bytes c.args.at c.loop-frames.here c.loop-frames.frames.items h
-    (subst (λ p. Leads bytes c.args.at c.loop-frames.here begun (Ok p) c.step.new.frames.items) c.in-End.is
+    let h = c.steps.invariant in
+    let begun = going (frames_of bytes c.steps.frames.items) (drop c.steps.here bytes) in
+    reading_ends bytes c.args.at c.steps.here c.steps.frames.items h
+    (subst (λ p. Leads bytes c.args.at c.steps.here begun (Ok p) c.step.new.frames.items) c.in-End.is
     (c.in_ok-next.ensures c.args.at h.after h.within h.kept))
 
 pub returns-in_err-next : goal.returns-in_err-next
 returns-in_err-next c =
     let bytes = c.args.bytes.now in
-    let h = c.loop-frames.invariant in
+    let h = c.steps.invariant in
     let p = err_from_is_err_and c.from_residual.result c.from_residual.ensures.1 in
     rw (p.1, p.2) (reading_fails c.in_err-next.field-0.0 h (c.in_err-next.ensures c.args.at h.after h.within h.kept))

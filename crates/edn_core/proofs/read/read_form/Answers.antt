@@ -1,5 +1,5 @@
 use Rattle.edn_core.proofs.Answering.{next_stands, ahead_is, form_is, end_is, fault_is}
-use Rattle.edn_core.proofs.read.read_form.Goals as goal
+use Rattle.edn_core.proofs.read.read_form_in.Goals as goal
 
 pub returns : goal.returns
 returns c =
