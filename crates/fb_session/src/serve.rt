@@ -16,7 +16,7 @@ use crate::outcome::{Served, SessionEnd};
 use crate::reading::{ReadStop, read_script};
 use crate::session::Session;
 use crate::writing::write_line;
-use edn_core::{Edn, EdnFault, read_form};
+use edn_core::{Edn, EdnFault, Frames, read_form_in};
 use fb_desk::Desk;
 use fb_memory::Memory;
 use fb_ports::{Clock, Sink, Source};
@@ -178,9 +178,9 @@ impl<P: FilterTable> Session<Picks<'_, P>> {
             (O.contents sink.new) (served_by self.new result) }
         ensures count { SinkCount result (O.faults sink.old) (O.faults sink.new) }
     {
-        let mut at = 0;
+        let (mut frames, mut at) = (Frames::new(alloc), 0);
         'forms: loop {
-            match self.next_command(alloc, script, at) {
+            match self.next_command(&mut frames, alloc, script, at) {
                 Ok((form, next)) => {
                     let answered = self.answer(rt, alloc, sink, desk, clock, guard, &form);
                     drop(form);
@@ -197,6 +197,7 @@ impl<P: FilterTable> Session<Picks<'_, P>> {
     /// The next command after `at`, and the place after it; or how the session ends.
     fn next_command(
         &self,
+        frames: &mut Frames,
         alloc: Global,
         script: &[u8],
         at: usize,
@@ -205,7 +206,7 @@ impl<P: FilterTable> Session<Picks<'_, P>> {
             (λ r. IsCommand script.now at (length self.now.places.items) (form_of r.0) r.1) }
         ensures err { IfErr result (NoCommand script.now at (length self.now.places.items)) }
     {
-        match read_form(alloc, script, at) {
+        match read_form_in(frames, alloc, script, at) {
             Ok(Some(_)) if self.places.len() >= MOST_COMMANDS => Err(SessionEnd::TooMany),
             Ok(Some(read)) => Ok(read),
             Ok(None) => Err(SessionEnd::Done),
