@@ -1,15 +1,16 @@
 -- The least entity of a name, and what one more datom says of names.
-use Rattle.std.proofs.Common.{◌≡◌, ℕ, ◌≤◌, Bool, true, false, cond, ◌&&◌, ◌||◌, List, [], ◌∷◌, ◌++◌, min, eqb, refl, ap, sym, ◌∙◌, Option}
+use Rattle.std.proofs.Common.{◌≡◌, ℕ, ◌≤◌, Bool, true, false, cond, ◌&&◌, ◌||◌, List, [], ◌∷◌, ◌++◌, length, min, eqb, refl, ap, sym, ◌∙◌, Option}
 use Rattle.std.proofs.Common.{Some, None, arith}
 use Rattle.std.specs.Prelude.{nat_eq, is_some}
 use Rattle.std.specs.List.{list_any}
 use Rattle.std.specs.Option.{option_map, option_map_or}
 use Rattle.std.specs.Ordering.{is_eq, nat_cmp}
 use Rattle.std.specs.Cmp.Lexicographic.{slice_cmp}
+use Rattle.std.specs.Cmp.{tied_then}
 use Rattle.std.specs.declared.cmp.Ordering.{Ordering}
 use Rattle.std.specs.declared.cmp.Ordering.TheVariants.{Less, Equal, Greater}
 use Rattle.std.proofs.lemmas.Bool.{true≢false, and_parts, and_from, eqb-true, eq-eqb}
-use Rattle.std.proofs.lemmas.Cmp.{nat_cmp_total, nat_list_cmp_total, ranked}
+use Rattle.std.proofs.lemmas.Cmp.{nat_cmp_total, ranked}
 use Rattle.fb_values.specs.declared.facts.Datom.{Datom}
 use Rattle.fb_values.specs.declared.facts.Value.{Value}
 use Rattle.fb_values.specs.declared.facts.Value.TheVariants.{Keyword}
@@ -21,7 +22,7 @@ use Rattle.fb_model.proofs.KnownFacts.{holder-HasFact}
 use Rattle.shared_map.specs.Entries.{get, put, removed, first_from, IsRising}
 use Rattle.shared_map.proofs.Sides.{get-before, before-all}
 use Rattle.shared_map.proofs.Lookups.{get-put, get-removed}
-use Rattle.fb_schema.specs.Naming.{Entities, is_name_of, HasNames}
+use Rattle.fb_schema.specs.Naming.{Entities, is_name_of, name_cmp, name_cmp_total, HasNames}
 use Rattle.fb_schema.proofs.Meeting.{is_eq-nat_cmp}
 
 -- ---- one more datom
@@ -56,34 +57,52 @@ HasNames-other names facts d other has stands name e =
     fails false b c none = refl
 
 -- the test of a name
-same_name : (name other : List ℕ) → value_eq (Keyword name) (Keyword other) ≡ is_eq (slice_cmp nat_cmp name other)
-same_name name other = refl
+-- the order of names tells apart what the order of their bytes does
+same_name : (name other : List ℕ) → value_eq (Keyword name) (Keyword other) ≡ is_eq (name_cmp name other)
+same_name name other = go (is_eq (slice_cmp nat_cmp name other)) refl ∙ tied_then (nat_cmp (length name) (length other)) (slice_cmp nat_cmp name other)
+  where
+    go : (b : Bool) → is_eq (slice_cmp nat_cmp name other) ≡ b
+        → is_eq (slice_cmp nat_cmp name other) ≡ (is_eq (nat_cmp (length name) (length other)) && is_eq (slice_cmp nat_cmp name other))
+    go true same =
+        let keywords : Keyword name ≡ Keyword other = value_eq-true (Keyword name) (Keyword other) same in
+        let names : name ≡ other = cc in
+        same
+        ∙ sym (and_from (is_eq (nat_cmp (length name) (length other))) (is_eq (slice_cmp nat_cmp name other))
+        (is_eq-nat_cmp (length name) (length other) ∙ eq-eqb (length name) (length other) (ap length names)) same)
+    go false differs =
+        differs
+        ∙ sym (and_none (is_eq (nat_cmp (length name) (length other))))
+        ∙ ap (λ b. is_eq (nat_cmp (length name) (length other)) && b) (sym differs)
+      where
+        and_none : (b : Bool) → (b && false) ≡ false
+        and_none true = refl
+        and_none false = refl
 
-name-equal : (name other : List ℕ) → is_eq (slice_cmp nat_cmp name other) ≡ true → name ≡ other
+name-equal : (name other : List ℕ) → is_eq (name_cmp name other) ≡ true → name ≡ other
 name-equal name other same =
-    let keywords : Keyword name ≡ Keyword other = value_eq-true (Keyword name) (Keyword other) same in
+    let keywords : Keyword name ≡ Keyword other = value_eq-true (Keyword name) (Keyword other) (same_name name other ∙ same) in
     cc
 
 -- a datom that names its entity, or takes the name away
 pub HasNames-name : (names new : Entities) (facts : List Datom) (d : Datom) (name : List ℕ) → d.a ≡ ident → d.v ≡ Keyword name
     → ((other : List ℕ) (k : ℕ) → is_name_of new other k
-    ≡ cond (is_eq (slice_cmp nat_cmp name other)) (cond (eqb d.e k) d.added (is_name_of names name k)) (is_name_of names other k))
+    ≡ cond (is_eq (name_cmp name other)) (cond (eqb d.e k) d.added (is_name_of names name k)) (is_name_of names other k))
     → HasNames names facts → standing facts ≡ facts → HasNames new (standing (facts ++ d ∷ []))
 HasNames-name names new facts d name is_ident is_name updates has stands other e =
-    updates other e ∙ go (is_eq (slice_cmp nat_cmp name other)) refl ∙ sym (any-said facts d e ident (Keyword other) stands)
+    updates other e ∙ go (is_eq (name_cmp name other)) refl ∙ sym (any-said facts d e ident (Keyword other) stands)
   where
-    test : (b : Bool) → is_eq (slice_cmp nat_cmp name other) ≡ b → is_of e ident (Keyword other) d ≡ (nat_eq d.e e && b)
+    test : (b : Bool) → is_eq (name_cmp name other) ≡ b → is_of e ident (Keyword other) d ≡ (nat_eq d.e e && b)
     test b is =
         ap (λ a. (nat_eq d.e e && nat_eq a ident) && value_eq d.v (Keyword other)) is_ident
         ∙ ap (λ v. (nat_eq d.e e && true) && value_eq v (Keyword other)) is_name
-        ∙ ap (λ c. (nat_eq d.e e && true) && c) is
+        ∙ ap (λ c. (nat_eq d.e e && true) && c) (same_name name other ∙ is)
         ∙ shorter (nat_eq d.e e) b
       where
         shorter : (a b : Bool) → ((a && true) && b) ≡ (a && b)
         shorter true b = refl
         shorter false b = refl
 
-    go : (b : Bool) → is_eq (slice_cmp nat_cmp name other) ≡ b
+    go : (b : Bool) → is_eq (name_cmp name other) ≡ b
         → cond b (cond (eqb d.e e) d.added (is_name_of names name e)) (is_name_of names other e)
         ≡ cond (is_of e ident (Keyword other) d) d.added (list_any (is_of e ident (Keyword other)) facts)
     go true same =
@@ -126,16 +145,16 @@ member-without entities e k rising =
     go false = refl
 
 pub name-put : (names : Entities) (name : List ℕ) (entities : List (ℕ × Unit {0})) (other : List ℕ) (k : ℕ)
-    → is_name_of (put (slice_cmp nat_cmp) (name, entities) names) other k
-    ≡ cond (is_eq (slice_cmp nat_cmp name other)) (is_some (get nat_cmp entities k)) (is_name_of names other k)
+    → is_name_of (put name_cmp (name, entities) names) other k
+    ≡ cond (is_eq (name_cmp name other)) (is_some (get nat_cmp entities k)) (is_name_of names other k)
 name-put names name entities other k =
     ap (λ o. option_map_or (λ (m : List (ℕ × Unit {0})). is_some (get nat_cmp m k)) o false)
-    (get-put nat_list_cmp_total (name, entities) names other)
-    ∙ go (is_eq (slice_cmp nat_cmp name other))
+    (get-put name_cmp_total (name, entities) names other)
+    ∙ go (is_eq (name_cmp name other))
   where
     go : (b : Bool)
         → option_map_or (λ (m : List (ℕ × Unit {0})). is_some (get nat_cmp m k))
-        (cond b (Some entities) (get (slice_cmp nat_cmp) names other)) false
+        (cond b (Some entities) (get name_cmp names other)) false
         ≡ cond b (is_some (get nat_cmp entities k)) (is_name_of names other k)
     go true = refl
     go false = refl
@@ -222,10 +241,10 @@ least-holder (x ∷ entities) facts a v rising has =
         found.1 ∙ ap Some (omega (arith, low, found.2))
 
 pub found-entities : (names : Entities) (name : List ℕ) (entities : List (ℕ × Unit {0})) (k : ℕ)
-    → get (slice_cmp nat_cmp) names name ≡ Some entities → is_name_of names name k ≡ is_some (get nat_cmp entities k)
+    → get name_cmp names name ≡ Some entities → is_name_of names name k ≡ is_some (get nat_cmp entities k)
 found-entities names name entities k found = ap (λ o. option_map_or (λ (m : List (ℕ × Unit {0})). is_some (get nat_cmp m k)) o false) found
 
-pub no-entities : (names : Entities) (name : List ℕ) (k : ℕ) → get (slice_cmp nat_cmp) names name ≡ None → is_name_of names name k ≡ false
+pub no-entities : (names : Entities) (name : List ℕ) (k : ℕ) → get name_cmp names name ≡ None → is_name_of names name k ≡ false
 no-entities names name k none = ap (λ o. option_map_or (λ (m : List (ℕ × Unit {0})). is_some (get nat_cmp m k)) o false) none
 
 pub no_keyword : (v : Value) (name : List ℕ) → ((text : List ℕ) → v ≡ Keyword text → ⊥) → value_eq v (Keyword name) ≡ false

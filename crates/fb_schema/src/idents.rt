@@ -1,13 +1,12 @@
 //! The entities of each ident.
 ghost use Rattle.std.specs.Prelude.{◌≡◌, ℕ, List, ◌++◌, ◌∷◌, [], ◌==◌, if◌then◌else◌, is_some, IfOk};
 ghost use Rattle.std.specs.Ordering.{is_eq, nat_cmp};
-ghost use Rattle.std.specs.Cmp.Lexicographic.{slice_cmp};
 ghost use Rattle.shared_map.specs.Entries.{get, first_from, IsRising};
 ghost use Rattle.std.specs.Option.{option_map};
 ghost use Rattle.fb_values.specs.declared.facts.Datom.{Datom};
 ghost use Rattle.fb_model.specs.Facts.{standing};
 ghost use Rattle.fb_model.specs.Schema.{named};
-ghost use Rattle.fb_schema.specs.Naming.{HasNames, is_name_of};
+ghost use Rattle.fb_schema.specs.Naming.{HasNames, is_name_of, name_cmp};
 
 use fb_chunks::Share;
 use fb_memory::Memory;
@@ -19,7 +18,7 @@ use std::alloc::Global;
 use std::cmp::Ordering;
 use std::marker::Model;
 
-/// An ident as a key, by its bytes.
+/// An ident as a key, by its length and then by its bytes: most idents are told apart with no look at their bytes.
 #[derive(Drop)]
 pub struct Name {
     text: Text,
@@ -34,14 +33,13 @@ impl Model for Name {
 }
 
 impl PartialEq for Name {
-    ghost use Rattle.std.specs.Prelude.{ℕ};
-    ghost use Rattle.std.specs.Ordering.{eq_by_cmp, nat_cmp};
+    ghost use Rattle.std.specs.Ordering.{eq_by_cmp};
     ghost use Rattle.std.specs.Cmp.{eq_by_cmp_equiv, partial_equiv_from_equiv};
-    ghost use Rattle.std.specs.Cmp.Lexicographic.{slice_cmp, nat_list_cmp_total};
+    ghost use Rattle.fb_schema.specs.Naming.{name_cmp, name_cmp_total};
 
-    ghost eq = { eq_by_cmp (slice_cmp nat_cmp) };
+    ghost eq = { eq_by_cmp name_cmp };
 
-    ghost laws = { partial_equiv_from_equiv (eq_by_cmp_equiv nat_list_cmp_total) };
+    ghost laws = { partial_equiv_from_equiv (eq_by_cmp_equiv name_cmp_total) };
 
     fn eq(&self, other: &Name) -> bool {
         self.cmp(other) == Ordering::Equal
@@ -50,19 +48,19 @@ impl PartialEq for Name {
 
 impl Eq for Name {
     ghost use Rattle.std.specs.Cmp.{eq_by_cmp_equiv};
-    ghost use Rattle.std.specs.Cmp.Lexicographic.{nat_list_cmp_total};
+    ghost use Rattle.fb_schema.specs.Naming.{name_cmp_total};
 
-    ghost laws = { eq_by_cmp_equiv nat_list_cmp_total };
+    ghost laws = { eq_by_cmp_equiv name_cmp_total };
 }
 
 impl PartialOrd for Name {
-    ghost use Rattle.std.specs.Ordering.{as_partial_cmp, nat_cmp};
+    ghost use Rattle.std.specs.Ordering.{as_partial_cmp};
     ghost use Rattle.std.specs.Cmp.{partial_order_from_total};
-    ghost use Rattle.std.specs.Cmp.Lexicographic.{slice_cmp, nat_list_cmp_total};
+    ghost use Rattle.fb_schema.specs.Naming.{name_cmp, name_cmp_total};
 
-    ghost partial_cmp = { as_partial_cmp (slice_cmp nat_cmp) };
+    ghost partial_cmp = { as_partial_cmp name_cmp };
 
-    ghost laws = { partial_order_from_total nat_list_cmp_total };
+    ghost laws = { partial_order_from_total name_cmp_total };
 
     fn partial_cmp(&self, other: &Name) -> Option<Ordering> {
         Some(self.cmp(other))
@@ -71,19 +69,18 @@ impl PartialOrd for Name {
 
 impl Ord for Name {
     ghost use Rattle.std.specs.Prelude.{refl};
-    ghost use Rattle.std.specs.Ordering.{nat_cmp};
-    ghost use Rattle.std.specs.Cmp.Lexicographic.{slice_cmp, nat_list_cmp_total};
+    ghost use Rattle.fb_schema.specs.Naming.{name_cmp, name_cmp_total};
 
-    ghost cmp = { slice_cmp nat_cmp };
+    ghost cmp = { name_cmp };
 
-    ghost total = { nat_list_cmp_total };
+    ghost total = { name_cmp_total };
 
     ghost matches_partial_cmp = { λ x y. refl };
 
     ghost matches_eq = { λ x y. refl };
 
     fn cmp(&self, other: &Name) -> Ordering {
-        self.text.as_str().cmp(other.text.as_str())
+        compared(&self.text, &other.text)
     }
 }
 
@@ -91,7 +88,17 @@ impl Query<Name> for Text {
     ghost key = { λ text. text };
 
     fn compare(&self, other: &Name) -> Ordering {
-        self.as_str().cmp(other.text.as_str())
+        compared(self, &other.text)
+    }
+}
+
+fn compared(x: &Text, y: &Text) -> Ordering
+    ensures { result ≡ name_cmp x.now y.now }
+{
+    let (x, y) = (x.as_str(), y.as_str());
+    match x.len().cmp(&y.len()) {
+        Ordering::Equal => x.cmp(y),
+        lengths => lengths,
     }
 }
 
@@ -158,7 +165,7 @@ impl Names {
     /// With the entity under the name or not.
     fn with_name(&self, name: &Text, e: u64, is_named: bool) -> Result<Names, Memory>
         ensures { IfOk result (λ names. (other : List ℕ) (k : ℕ)
-            → is_name_of names other k ≡ (if is_eq (slice_cmp nat_cmp name.now other)
+            → is_name_of names other k ≡ (if is_eq (name_cmp name.now other)
             then (if e == k then is_named else is_name_of self.now name.now k)
             else is_name_of self.now other k)) }
     {
