@@ -1,7 +1,7 @@
 -- A whole form falls to a construct, and a construct closes.
 use Rattle.std.proofs.Common.{◌≡◌, ℕ, ◌≤◌, Bool, true, false, IsTrue, List, [], ◌∷◌, ◌++◌, length, drop, Vec, Global, refl, ap, ◌∙◌, sym}
 use Rattle.std.proofs.Common.{subst, arith, eq-eqb}
-use Rattle.std.specs.Prelude.{not, Some, None, Result, Ok, Err, IfOk, OnErr}
+use Rattle.std.specs.Prelude.{not, Option, Some, None, Result, Ok, Err, IfOk, OnErr}
 use Rattle.edn_model.specs.Form as model
 use Rattle.edn_model.specs.Likeness.{alike, any, distinct, keys}
 use Rattle.edn_model.specs.Faults as faults
@@ -18,7 +18,7 @@ use Rattle.edn_form.proofs.Views.{form_of-Map}
 use Rattle.edn_duplicates.specs.Inside.{IsDistinctInside, AreDistinctInside, ArePairsDistinctInside}
 use Rattle.edn_duplicates.specs.FormCodes.{HasCodesOf}
 use Rattle.edn_duplicates.specs.declared.form_codes.FormCodes.{FormCodes}
-use Rattle.edn_core.specs.Frames.{open_of, inside, frames_of, IsSoundOpen, IsSoundFrame, AreSound, Becomes, IsAgain, LandsAs, ReadsForm}
+use Rattle.edn_core.specs.Frames.{open_of, inside, frames_of, IsSoundOpen, IsSoundFrame, AreSound, Becomes, IsAgain, LandsAs}
 use Rattle.edn_core.specs.Frames.{EndsWith, ClosesAs, LeadsOn, LeadsTo, LeadsAstray, Leads, Whole}
 use Rattle.edn_core.specs.declared.construct.Construct.TheVariants.{List as List', Vector, Map, Set}
 use Rattle.edn_core.specs.declared.construct.Construct.{Construct}
@@ -171,20 +171,15 @@ read_alone bytes start here at n old f none h =
       runs = reaches_same (ap (λ xs. steps.land (frames_of bytes xs) (form_of f) (drop at bytes) (drop n bytes)) (none_there old none));
     }
 
-pub read_there : (bytes : List ℕ) (start here at n : ℕ) (old new : List Frame) (f : Edn) (r : Result Progress EdnFault) → length old ≡ 0
-    → Whole bytes start here at n old (form_of f)
-    → ReadsForm f n r → Leads bytes start here (steps.land (frames_of bytes old) (form_of f) (drop at bytes) (drop n bytes)) r new
-read_there bytes start here at n old new f (Ok (Read boxed m)) none h is =
+pub read_there : (bytes : List ℕ) (start here at n : ℕ) (old new : List Frame) (slot : Option Edn) (f : Edn)
+    (r : Result Progress EdnFault)
+    → length old ≡ 0
+    → Whole bytes start here at n old (form_of f) → r ≡ Ok (Read n) → slot ≡ Some f
+    → Leads bytes start here (steps.land (frames_of bytes old) (form_of f) (drop at bytes) (drop n bytes)) r new slot
+read_there bytes start here at n old new slot f r none h is there =
     let begun = steps.land (frames_of bytes old) (form_of f) (drop at bytes) (drop n bytes) in
-    subst (λ k. LeadsTo bytes here begun (form_of boxed.value) k) (sym is.1)
-    (subst (λ e. LeadsTo bytes here begun (form_of e) n) (sym is.0) (read_alone bytes start here at n old f none h))
-read_there bytes start here at n old new f (Ok (Further m)) none h is = absurd is
-read_there bytes start here at n old new f (Ok End) none h is = absurd is
-read_there bytes start here at n old new f (Err (Bad byte)) none h is = absurd is
-read_there bytes start here at n old new f (Err (Unsupported byte what)) none h is = absurd is
-read_there bytes start here at n old new f (Err (Deep byte)) none h is = absurd is
-read_there bytes start here at n old new f (Err (Cut byte)) none h is = absurd is
-read_there bytes start here at n old new f (Err Memory) none h is = tt
+    subst (λ z. Leads bytes start here begun z new slot) (sym is)
+    (subst (λ z. Leads bytes start here begun (Ok (Read n)) new z) (sym there) (read_alone bytes start here at n old f none h))
 
 -- the state from which a form lands in the innermost
 landing : (bytes : List ℕ) (at n : ℕ) (old outer : List Frame) (i : Frame) (f : model.Form) → old ≡ outer ++ i ∷ []
@@ -236,14 +231,14 @@ over_there bytes start here at n old outer i f is h lands =
     }
 
 -- the same, by what is left open
-pub over_leads : (bytes : List ℕ) (start here at n : ℕ) (old outer new : List Frame) (i : Frame) (f : model.Form)
+pub over_leads : (bytes : List ℕ) (start here at n : ℕ) (old outer new : List Frame) (slot : Option Edn) (i : Frame) (f : model.Form)
     (r : Result Progress EdnFault)
     → old ≡ outer ++ i ∷ []
     → r ≡ Ok (Further n) → new ≡ outer → Whole bytes start here at n old f → EndsWith i.construct f
-    → Leads bytes start here (steps.land (frames_of bytes old) f (drop at bytes) (drop n bytes)) r new
-over_leads bytes start here at n old outer new i f r is on now h lands =
+    → Leads bytes start here (steps.land (frames_of bytes old) f (drop at bytes) (drop n bytes)) r new slot
+over_leads bytes start here at n old outer new slot i f r is on now h lands =
     let begun = steps.land (frames_of bytes old) f (drop at bytes) (drop n bytes) in
-    subst (λ z. Leads bytes start here begun z new) (sym on)
+    subst (λ z. Leads bytes start here begun z new slot) (sym on)
     (subst (λ (xs : List Frame). LeadsOn bytes start here begun n xs) (sym now) (over_there bytes start here at n old outer i f is h lands))
 
 again_there : (bytes : List ℕ) (start here at n : ℕ) (old outer : List Frame) (i : Frame) (f : model.Form) → old ≡ outer ++ i ∷ []
@@ -259,23 +254,23 @@ again_there bytes start here at n old outer i f is h lands =
     }
 
 -- where the innermost becomes another in its place, or the form is said again
-pub lands_there : (bytes : List ℕ) (start here at n : ℕ) (old outer new : List Frame) (i j : Frame) (f : model.Form)
+pub lands_there : (bytes : List ℕ) (start here at n : ℕ) (old outer new : List Frame) (slot : Option Edn) (i j : Frame) (f : model.Form)
     (r : Result Progress EdnFault)
     → old ≡ outer ++ i ∷ [] → new ≡ outer ++ j ∷ [] → j.at ≡ i.at → Whole bytes start here at n old f
     → LandsAs i.construct f at n r j.construct
-    → Leads bytes start here (steps.land (frames_of bytes old) f (drop at bytes) (drop n bytes)) r new
-lands_there bytes start here at n old outer new i j f (Ok (Further m)) is now same h lands =
+    → Leads bytes start here (steps.land (frames_of bytes old) f (drop at bytes) (drop n bytes)) r new slot
+lands_there bytes start here at n old outer new slot i j f (Ok (Further m)) is now same h lands =
     subst (λ k. LeadsOn bytes start here (steps.land (frames_of bytes old) f (drop at bytes) (drop n bytes)) k new) (sym lands.0)
     (goes_there bytes start here at n old outer new i j f is now same h lands.1)
-lands_there bytes start here at n old outer new i j f (Ok (Read g m)) is now same h lands = absurd lands
-lands_there bytes start here at n old outer new i j f (Ok End) is now same h lands = absurd lands
-lands_there bytes start here at n old outer new i j f (Err (Bad byte)) is now same h lands =
+lands_there bytes start here at n old outer new slot i j f (Ok (Read m)) is now same h lands = absurd lands
+lands_there bytes start here at n old outer new slot i j f (Ok End) is now same h lands = absurd lands
+lands_there bytes start here at n old outer new slot i j f (Err (Bad byte)) is now same h lands =
     subst (λ b. LeadsAstray bytes start (steps.land (frames_of bytes old) f (drop at bytes) (drop n bytes)) faults.bad b) (sym lands.0)
     (again_there bytes start here at n old outer i f is h lands.1)
-lands_there bytes start here at n old outer new i j f (Err (Unsupported byte what)) is now same h lands = absurd lands
-lands_there bytes start here at n old outer new i j f (Err (Deep byte)) is now same h lands = absurd lands
-lands_there bytes start here at n old outer new i j f (Err (Cut byte)) is now same h lands = absurd lands
-lands_there bytes start here at n old outer new i j f (Err Memory) is now same h lands = tt
+lands_there bytes start here at n old outer new slot i j f (Err (Unsupported byte what)) is now same h lands = absurd lands
+lands_there bytes start here at n old outer new slot i j f (Err (Deep byte)) is now same h lands = absurd lands
+lands_there bytes start here at n old outer new slot i j f (Err (Cut byte)) is now same h lands = absurd lands
+lands_there bytes start here at n old outer new slot i j f (Err Memory) is now same h lands = tt
 
 -- where it grows, or memory is wanting
 pub grown_lands : (o p : Construct) (f : model.Form) (at n : ℕ) (r : Result Progress EdnFault) (Grew : Type 0)

@@ -20,13 +20,15 @@ fault_weaker None P Q more h = tt
 
 -- some steps before, from a place before
 pub leads_from : (bytes : List ℕ) (start here there : ℕ) (s t : State) (r : Result Progress EdnFault) (frames : List Frame)
-    → here ≤ there → Reaches s t → Leads bytes start there t r frames → Leads bytes start here s r frames
-leads_from bytes start here there s t (Ok (Further n)) frames le q h =
+    (slot : Option Edn)
+    → here ≤ there → Reaches s t → Leads bytes start there t r frames slot → Leads bytes start here s r frames slot
+leads_from bytes start here there s t (Ok (Further n)) frames slot le q h =
     let more = h.ahead in record { ahead = omega arith; within = h.within; kept = h.kept; runs = joined q h.runs }
-leads_from bytes start here there s t (Ok (Read form n)) frames le q h =
+leads_from bytes start here there s t (Ok (Read n)) frames (Some form) le q h =
     let more = h.ahead in record { ahead = omega arith; within = h.within; runs = joined q h.runs }
-leads_from bytes start here there s t (Ok End) frames le q h = joined q h
-leads_from bytes start here there s t (Err e) frames le q h =
+leads_from bytes start here there s t (Ok (Read n)) frames None le q h = h
+leads_from bytes start here there s t (Ok End) frames slot le q h = joined q h
+leads_from bytes start here there s t (Err e) frames slot le q h =
     fault_weaker (fault_of e) (LeadsAstray bytes start t) (LeadsAstray bytes start s)
     (λ why byte k. record { ahead = k.ahead; within = k.within; runs = joined q k.runs }) h
 
@@ -61,15 +63,15 @@ ends_whole bytes at [] is none = subst (λ z. Reaches (going outermost z) (ended
 ends_whole bytes at (f ∷ fs) is none = absurd (omega arith)
 
 -- where a form is put, at the end of some steps
-pub leads_put : (bytes : List ℕ) (start here at n : ℕ) (old new : List Frame) (e : Edn) (f : model.Form) (s : State)
+pub leads_put : (bytes : List ℕ) (start here at n : ℕ) (old new : List Frame) (slot : Option Edn) (e : Edn) (f : model.Form) (s : State)
     (r : Result Progress EdnFault)
     → form_of e ≡ f
     → Reaches s (land (frames_of bytes old) f (drop at bytes) (drop n bytes)) → Whole bytes start here at n old f
     → (Whole bytes start here at n old (form_of e)
-    → Leads bytes start here (land (frames_of bytes old) (form_of e) (drop at bytes) (drop n bytes)) r new)
-    → Leads bytes start here s r new
-leads_put bytes start here at n old new e f s r is runs whole put =
+    → Leads bytes start here (land (frames_of bytes old) (form_of e) (drop at bytes) (drop n bytes)) r new slot)
+    → Leads bytes start here s r new slot
+leads_put bytes start here at n old new slot e f s r is runs whole put =
     let mid = land (frames_of bytes old) (form_of e) (drop at bytes) (drop n bytes) in
-    leads_from bytes start here here s mid r new (let same : here ≤ here = omega arith in same)
+    leads_from bytes start here here s mid r new slot (let same : here ≤ here = omega arith in same)
     (subst (λ z. Reaches s (land (frames_of bytes old) z (drop at bytes) (drop n bytes))) (sym is) runs)
     (put (subst (Whole bytes start here at n old) (sym is) whole))

@@ -3,7 +3,7 @@ use Rattle.std.proofs.Common.{◌≡◌, ℕ, ◌+◌, ◌<◌, ◌≤◌, Bool,
 use Rattle.std.proofs.Common.{subst, arith}
 use Rattle.std.proofs.lemmas.List.{length-drop, drop-drop}
 use Rattle.std.proofs.lemmas.Bool.Decides.{nat_tests}
-use Rattle.std.specs.Prelude.{◌==◌, ◌&&◌, ◌||◌, not, None, Result, Ok, Err, IfOk, OnErr}
+use Rattle.std.specs.Prelude.{◌==◌, ◌&&◌, ◌||◌, not, Option, None, Result, Ok, Err, IfOk, OnErr}
 use Rattle.edn_model.specs.Form as model
 use Rattle.edn_model.specs.Bytes.{quote, hash, open_paren, semicolon, open_bracket, underscore, open_brace, is_blank, is_opening}
 use Rattle.edn_model.specs.Bytes.{is_closing, is_token_byte}
@@ -218,16 +218,17 @@ entered bytes start old new f n h is after within kept =
     }
 
 -- the same, or memory is wanting
-pub grown_enters : (bytes : List ℕ) (start at n : ℕ) (old new : List Frame) (o : Construct) (r : Result Progress EdnFault)
+pub grown_enters : (bytes : List ℕ) (start at n : ℕ) (old new : List Frame) (slot : Option Edn) (o : Construct)
+    (r : Result Progress EdnFault)
     → Enters bytes old o at n
     → IfOk r (λ q. (q ≡ Further n) × (new ≡ old ++ framed o at ∷ [])) → OnErr r (r ≡ Err Memory) → start ≤ at → at ≤ length bytes
     → AreSound start (length bytes) old
-    → Leads bytes start at (going (frames_of bytes old) (drop at bytes)) r new
-grown_enters bytes start at n old new o (Ok q) h grew err after within kept =
-    subst (λ z. Leads bytes start at (going (frames_of bytes old) (drop at bytes)) (Ok z) new) (sym grew.0)
+    → Leads bytes start at (going (frames_of bytes old) (drop at bytes)) r new slot
+grown_enters bytes start at n old new slot o (Ok q) h grew err after within kept =
+    subst (λ z. Leads bytes start at (going (frames_of bytes old) (drop at bytes)) (Ok z) new slot) (sym grew.0)
     (entered bytes start old new (framed o at) n h grew.1 after within kept)
-grown_enters bytes start at n old new o (Err e) h grew err after within kept =
-    subst (λ z. Leads bytes start at (going (frames_of bytes old) (drop at bytes)) z new) (sym err) tt
+grown_enters bytes start at n old new slot o (Err e) h grew err after within kept =
+    subst (λ z. Leads bytes start at (going (frames_of bytes old) (drop at bytes)) z new slot) (sym err) tt
 
 -- where none may open
 pub refused_leads : (bytes : List ℕ) (start at : ℕ) (frames : Frames) (e : EdnFault) → RefusedAt at frames e

@@ -1,7 +1,7 @@
 -- What the constructs that the reader keeps open stand for, and what its steps come to.
 -- This project's own choice.
 use Rattle.std.specs.Prelude.{◌≡◌, ℕ, ◌<◌, ◌≤◌, true, false, IsTrue, List, [], ◌∷◌, length, drop}
-use Rattle.std.specs.Prelude.{fold, Some, None, Result, Ok, Err}
+use Rattle.std.specs.Prelude.{fold, Option, Some, None, Result, Ok, Err}
 use Rattle.edn_model.specs.Form as model
 use Rattle.edn_model.specs.Likeness.{distinct, keys}
 use Rattle.edn_model.specs.Faults as faults
@@ -90,12 +90,6 @@ LandsAs o f at next (Err (Bad byte)) p = (byte ≡ at) × IsAgain o f
 LandsAs o f at next (Err Memory) p = Unit {0}
 LandsAs o f at next _ p = ⊥
 
--- the form is what was to be read, up to a place; running out of memory says nothing
-abbrev pub ReadsForm : Edn → ℕ → Result Progress EdnFault → Type 0
-ReadsForm form next (Ok (Read boxed n)) = (boxed.value ≡ form) × (n ≡ next)
-ReadsForm form next (Err Memory) = Unit {0}
-ReadsForm form next _ = ⊥
-
 -- a discard has its form, and is over; so would be a tag
 abbrev pub EndsWith : Construct → model.Form → Type 0
 EndsWith o f =
@@ -132,20 +126,25 @@ pub record LeadsAstray (bytes : List ℕ) (start : ℕ) (begun : State) (why : f
   pub within : byte ≤ length bytes
   pub runs : Reaches begun (ended (fault why (drop byte bytes)))
 
--- the steps from a state on come to this answer, after a place, and leave these open
-abbrev pub Leads : List ℕ → ℕ → ℕ → State → Result Progress EdnFault → List Frame → Type 0
-Leads bytes start here begun (Ok (Further next)) frames = LeadsOn bytes start here begun next frames
-Leads bytes start here begun (Ok (Read form next)) frames =
-    LeadsTo bytes here begun (form_of form.value) next
-Leads bytes start here begun (Ok End) frames = Reaches begun (ended nothing)
-Leads bytes start here begun (Err e) frames =
+-- the steps from a state on come to this answer, after a place, and leave these open;
+-- the form that is read lies in the slot
+abbrev pub Leads : List ℕ → ℕ → ℕ → State → Result Progress EdnFault → List Frame → Option Edn
+    → Type 0
+Leads bytes start here begun (Ok (Further next)) frames slot =
+    LeadsOn bytes start here begun next frames
+Leads bytes start here begun (Ok (Read next)) frames (Some form) =
+    LeadsTo bytes here begun (form_of form) next
+Leads bytes start here begun (Ok (Read next)) frames None = ⊥
+Leads bytes start here begun (Ok End) frames slot = Reaches begun (ended nothing)
+Leads bytes start here begun (Err e) frames slot =
     MatchFault (fault_of e) (LeadsAstray bytes start begun)
 
 -- the same from a place on, with what is open there
-abbrev pub LeadsFrom : List ℕ → ℕ → List Frame → Result Progress EdnFault → List Frame → Type 0
-LeadsFrom bytes at old result new =
+abbrev pub LeadsFrom : List ℕ → ℕ → List Frame → Result Progress EdnFault → List Frame → Option Edn
+    → Type 0
+LeadsFrom bytes at old result new slot =
     (start : ℕ) → start ≤ at → at ≤ length bytes → AreSound start (length bytes) old
-    → Leads bytes start at (going (frames_of bytes old) (drop at bytes)) result new
+    → Leads bytes start at (going (frames_of bytes old) (drop at bytes)) result new slot
 
 -- ---- what one step asks for
 

@@ -1,5 +1,5 @@
 //! What opens, what closes, and where a whole form goes.
-ghost use Rattle.std.specs.Prelude.{◌≡◌, ℕ, ◌-◌, ◌<◌, ◌≤◌, true, ◌++◌, ◌∷◌, [], List, Vec, vec_len, IfOk, IfErr, OnErr, Ok, Err, None, length, take, drop};
+ghost use Rattle.std.specs.Prelude.{◌≡◌, ℕ, ◌-◌, ◌<◌, ◌≤◌, true, ◌++◌, ◌∷◌, [], List, Vec, vec_len, IfOk, IfErr, OnErr, Ok, Err, Option, Some, None, length, take, drop};
 ghost use Rattle.std.specs.Global.{Global};
 ghost use Rattle.edn_model.specs.Bytes.{is_closing};
 ghost use Rattle.edn_model.specs.Steps as steps;
@@ -7,10 +7,10 @@ ghost use Rattle.edn_model.specs.Steps.{Free, HasRoom};
 ghost use Rattle.edn_form.specs.View.{form_of};
 ghost use Rattle.edn_form.specs.declared.form.Edn.{Edn};
 ghost use Rattle.edn_duplicates.specs.Inside.{IsDistinctInside};
-ghost use Rattle.edn_core.specs.Frames.{frames_of, IsSoundOpen, LandsAs, ReadsForm, Leads, LeadsFrom, Whole, Opens, RefusedAt};
+ghost use Rattle.edn_core.specs.Frames.{frames_of, IsSoundOpen, LandsAs, Leads, LeadsFrom, Whole, Opens, RefusedAt};
 ghost use Rattle.edn_core.specs.declared.construct.Construct.TheVariants.{Map, Set};
 ghost use Rattle.edn_core.specs.declared.fault.EdnFault.{EdnFault};
-ghost use Rattle.edn_core.specs.declared.progress.Progress.TheVariants.{Further};
+ghost use Rattle.edn_core.specs.declared.progress.Progress.TheVariants.{Further, Read};
 
 use crate::construct::{Construct, Frame, closed, has_room, wants_string};
 use crate::fault::EdnFault;
@@ -19,11 +19,13 @@ use edn_duplicates::FormCodes;
 use edn_form::Edn;
 use std::alloc::Global;
 
-/// A form from one place up to the next falls to the innermost construct, or is what was to be read. What holds forms
-/// grows where it is, and is not moved; each kind in a call of its own, so that none makes room for another.
+/// A form from one place up to the next falls to the innermost construct, or, where nothing is open, is what was to be
+/// read, and goes into the slot. What holds forms grows where it is, and is not moved; each kind in a call of its own, so
+/// that none makes room for another.
 pub(crate) fn put(
     alloc: Global,
     frames: &mut Vec<Frame>,
+    slot: &mut Option<Edn>,
     form: Edn,
     at: usize,
     next: usize,
@@ -33,10 +35,10 @@ pub(crate) fn put(
         → Leads bytes start here
         (steps.land (frames_of bytes frames.old.items) (form_of form) (drop at bytes)
         (drop next bytes))
-        result frames.new.items }
+        result frames.new.items slot.new }
 {
     let Some(innermost) = frames.last_mut() else {
-        return whole(alloc, form, next);
+        return whole(slot, form, next);
     };
     match &mut innermost.construct {
         Construct::List(items) => grow(items, form, next),
@@ -134,32 +136,31 @@ fn over(frames: &mut Vec<Frame>, form: Edn, next: usize) -> Result<Progress, Edn
 }
 
 /// The form is what was to be read.
-fn whole(alloc: Global, form: Edn, next: usize) -> Result<Progress, EdnFault>
-    ensures { ReadsForm form next result }
+fn whole(slot: &mut Option<Edn>, form: Edn, next: usize) -> Result<Progress, EdnFault>
+    ensures { (result ≡ Ok (Read next)) × (slot.new ≡ Some form) }
 {
-    match Box::new(alloc, form) {
-        Ok(form) => Ok(Progress::Read(form, next)),
-        Err(_) => Err(EdnFault::Memory),
-    }
+    *slot = Some(form);
+    Ok(Progress::Read(next))
 }
 
 /// A bracket closes the innermost construct, or nothing.
 pub(crate) fn close(
     alloc: Global,
     frames: &mut Vec<Frame>,
+    slot: &mut Option<Edn>,
     bracket: u8,
     at: usize,
     next: usize,
 ) -> Result<Progress, EdnFault>
     ensures { (bytes : List ℕ) → at < next → next ≤ length bytes
         → drop at bytes ≡ bracket ∷ drop next bytes → is_closing bracket ≡ true
-        → LeadsFrom bytes at frames.old.items result frames.new.items }
+        → LeadsFrom bytes at frames.old.items result frames.new.items slot.new }
 {
     let Some(innermost) = frames.pop() else {
         return Err(EdnFault::Bad { at });
     };
     match closed(innermost.construct, bracket) {
-        Some(form) => put(alloc, frames, form, innermost.at, next),
+        Some(form) => put(alloc, frames, slot, form, innermost.at, next),
         None => Err(EdnFault::Bad { at }),
     }
 }
@@ -187,8 +188,8 @@ pub(crate) fn begin(
     at: usize,
     next: usize,
 ) -> Result<Progress, EdnFault>
-    ensures { (bytes : List ℕ) → Opens bytes frames.old.items construct at next
-        → LeadsFrom bytes at frames.old.items result frames.new.items }
+    ensures { (bytes : List ℕ) (slot : Option Edn) → Opens bytes frames.old.items construct at next
+        → LeadsFrom bytes at frames.old.items result frames.new.items slot }
 {
     if !has_room(frames.as_slice()) {
         return Err(EdnFault::Deep { at });

@@ -1,6 +1,7 @@
 //! Which collection opens here. Each in a call of its own, so that a step over a token makes no room for what opens.
-ghost use Rattle.std.specs.Prelude.{◌≡◌, ℕ, ◌+◌, ◌∷◌, [], List, drop, IfOk};
+ghost use Rattle.std.specs.Prelude.{◌≡◌, ℕ, ◌+◌, ◌∷◌, [], List, Option, drop, IfOk};
 ghost use Rattle.edn_model.specs.Bytes.{hash, open_paren, open_bracket, open_brace};
+ghost use Rattle.edn_form.specs.declared.form.Edn.{Edn};
 ghost use Rattle.edn_core.specs.Frames.{LeadsFrom};
 
 use crate::construct::{Construct, Frame};
@@ -21,8 +22,9 @@ pub(crate) fn list(
     at: usize,
     next: usize,
 ) -> Result<Progress, EdnFault>
-    ensures { (bytes : List ℕ) → next ≡ at + 1 → drop at bytes ≡ open_paren ∷ drop 1 (drop at bytes)
-        → LeadsFrom bytes at frames.old.items result frames.new.items }
+    ensures { (bytes : List ℕ) (slot : Option Edn) → next ≡ at + 1
+        → drop at bytes ≡ open_paren ∷ drop 1 (drop at bytes)
+        → LeadsFrom bytes at frames.old.items result frames.new.items slot }
 {
     may_open(frames.as_slice(), at)?;
     let construct = Construct::List(Vec::new(alloc));
@@ -35,9 +37,9 @@ pub(crate) fn vector(
     at: usize,
     next: usize,
 ) -> Result<Progress, EdnFault>
-    ensures { (bytes : List ℕ) → next ≡ at + 1
+    ensures { (bytes : List ℕ) (slot : Option Edn) → next ≡ at + 1
         → drop at bytes ≡ open_bracket ∷ drop 1 (drop at bytes)
-        → LeadsFrom bytes at frames.old.items result frames.new.items }
+        → LeadsFrom bytes at frames.old.items result frames.new.items slot }
 {
     may_open(frames.as_slice(), at)?;
     let construct = Construct::Vector(Vec::new(alloc));
@@ -50,8 +52,9 @@ pub(crate) fn map(
     at: usize,
     next: usize,
 ) -> Result<Progress, EdnFault>
-    ensures { (bytes : List ℕ) → next ≡ at + 1 → drop at bytes ≡ open_brace ∷ drop 1 (drop at bytes)
-        → LeadsFrom bytes at frames.old.items result frames.new.items }
+    ensures { (bytes : List ℕ) (slot : Option Edn) → next ≡ at + 1
+        → drop at bytes ≡ open_brace ∷ drop 1 (drop at bytes)
+        → LeadsFrom bytes at frames.old.items result frames.new.items slot }
 {
     may_open(frames.as_slice(), at)?;
     let pairs = no_pairs(alloc)?;
@@ -71,9 +74,9 @@ pub(crate) fn set(
     at: usize,
     next: usize,
 ) -> Result<Progress, EdnFault>
-    ensures { (bytes : List ℕ) → next ≡ at + 2
+    ensures { (bytes : List ℕ) (slot : Option Edn) → next ≡ at + 2
         → drop at bytes ≡ hash ∷ open_brace ∷ drop 2 (drop at bytes)
-        → LeadsFrom bytes at frames.old.items result frames.new.items }
+        → LeadsFrom bytes at frames.old.items result frames.new.items slot }
 {
     may_open(frames.as_slice(), at)?;
     let construct = Construct::Set(Vec::new(alloc), FormCodes::new(alloc));

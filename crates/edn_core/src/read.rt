@@ -64,11 +64,14 @@ fn answer(
     if bytes.len() < at {
         return Ok(None);
     }
-    let mut here = at;
+    let (mut slot, mut here) = (None, at);
     'steps: loop {
-        match step(alloc, bytes, frames, here)? {
+        match step(alloc, bytes, frames, &mut slot, here)? {
             Progress::Further(next) => here = next,
-            Progress::Read(form, next) => return Ok(Some((Box::into_inner(form), next))),
+            Progress::Read(next) => match slot {
+                Some(form) => return Ok(Some((form, next))),
+                None => unreachable!(),
+            },
             Progress::End => return Ok(None),
         }
     }

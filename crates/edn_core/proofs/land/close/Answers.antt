@@ -23,7 +23,7 @@ returns-in-Some-closed c bytes ahead within is closing start after before kept =
     let here : c.args.at ≤ c.args.at = omega arith in
     let begun = going (frames_of bytes old) (drop c.args.at bytes) in
     let reached = land (frames_of bytes outer) f (drop i.at bytes) (drop c.args.next bytes) in
-    leads_from bytes start c.args.at c.args.at begun reached c.put.result c.put.new.frames.items here
+    leads_from bytes start c.args.at c.args.at begun reached c.put.result c.put.new.frames.items c.put.new.slot here
     (closes_leads bytes c.args.at c.args.next c.args.bracket old outer i f old_is is closes.0)
     (c.put.ensures bytes start c.args.at (closes_whole bytes start c.args.at c.args.next old outer i f old_is closes.1 ahead within kept))
 

@@ -17,12 +17,14 @@ returns-in_default c bytes start here h =
     let none =
     none_open old
     (λ (some : 0 < length old). let wrong = c.in_default.ensures.variant.1 (omega (arith, c.args.frames.now.ok.0, some)) in cc) in
-    read_there bytes start here c.args.at c.args.next old _ c.args.form c.whole.result none h c.whole.ensures
+    read_there bytes start here c.args.at c.args.next old _ c.whole.new.slot c.args.form c.whole.result none h c.whole.ensures.0
+    c.whole.ensures.1
 
 pub returns-in-List : goal.returns-in-List
 returns-in-List c bytes start here h =
     let old = c.args.frames.now.items in
     let n = vec_len c.args.frames.now in
+    let slot = c.args.slot.now in
     let i = c.in-Some.innermost.now in
     let f = form_of c.args.form in
     let size : n ≡ length old = omega (arith, c.args.frames.now.ok.0) in
@@ -31,7 +33,7 @@ returns-in-List c bytes start here h =
     let inner = kept_inner bytes start old (take (n - 1) old) i is h.kept in
     let o = List' c.grow.new.items in
     let j = framed o i.at in
-    lands_there bytes start here c.args.at c.args.next old (take (n - 1) old) (slice_set old (n - 1) j) i j f c.grow.result is
+    lands_there bytes start here c.args.at c.args.next old (take (n - 1) old) (slice_set old (n - 1) j) slot i j f c.grow.result is
     (last_set old n j size some) refl h
     (subst (λ z. LandsAs z f c.args.at c.args.next c.grow.result o) (sym c.in-List.is)
     (grown_lands (List' c.in-List.items) o f c.args.at c.args.next c.grow.result _ c.grow.ensures.ok c.grow.ensures.err
@@ -41,6 +43,7 @@ pub returns-in-Vector : goal.returns-in-Vector
 returns-in-Vector c bytes start here h =
     let old = c.args.frames.now.items in
     let n = vec_len c.args.frames.now in
+    let slot = c.args.slot.now in
     let i = c.in-Some.innermost.now in
     let f = form_of c.args.form in
     let size : n ≡ length old = omega (arith, c.args.frames.now.ok.0) in
@@ -49,8 +52,8 @@ returns-in-Vector c bytes start here h =
     let inner = kept_inner bytes start old (take (n - 1) old) i is h.kept in
     let o = Vector c.grow-in-Vector.new.items in
     let j = framed o i.at in
-    lands_there bytes start here c.args.at c.args.next old (take (n - 1) old) (slice_set old (n - 1) j) i j f c.grow-in-Vector.result is
-    (last_set old n j size some) refl h
+    lands_there bytes start here c.args.at c.args.next old (take (n - 1) old) (slice_set old (n - 1) j) slot i j f
+    c.grow-in-Vector.result is (last_set old n j size some) refl h
     (subst (λ z. LandsAs z f c.args.at c.args.next c.grow-in-Vector.result o) (sym c.in-Vector.is)
     (grown_lands (Vector c.in-Vector.items) o f c.args.at c.args.next c.grow-in-Vector.result _ c.grow-in-Vector.ensures.ok
     c.grow-in-Vector.ensures.err
@@ -61,6 +64,7 @@ pub returns-in-Map : goal.returns-in-Map
 returns-in-Map c bytes start here h =
     let old = c.args.frames.now.items in
     let n = vec_len c.args.frames.now in
+    let slot = c.args.slot.now in
     let i = c.in-Some.innermost.now in
     let f = form_of c.args.form in
     let size : n ≡ length old = omega (arith, c.args.frames.now.ok.0) in
@@ -69,7 +73,7 @@ returns-in-Map c bytes start here h =
     let inner = kept_inner bytes start old (take (n - 1) old) i is h.kept in
     let o = Map c.entry.new.pairs c.entry.new.waiting c.entry.new.said in
     let j = framed o i.at in
-    lands_there bytes start here c.args.at c.args.next old (take (n - 1) old) (slice_set old (n - 1) j) i j f c.entry.result is
+    lands_there bytes start here c.args.at c.args.next old (take (n - 1) old) (slice_set old (n - 1) j) slot i j f c.entry.result is
     (last_set old n j size some) refl h
     (subst (λ z. LandsAs z f c.args.at c.args.next c.entry.result o) (sym c.in-Map.is)
     (c.entry.ensures (subst IsSoundOpen c.in-Map.is inner.kept) h.inside))
@@ -78,6 +82,7 @@ pub returns-in-Set : goal.returns-in-Set
 returns-in-Set c bytes start here h =
     let old = c.args.frames.now.items in
     let n = vec_len c.args.frames.now in
+    let slot = c.args.slot.now in
     let i = c.in-Some.innermost.now in
     let f = form_of c.args.form in
     let size : n ≡ length old = omega (arith, c.args.frames.now.ok.0) in
@@ -86,7 +91,7 @@ returns-in-Set c bytes start here h =
     let inner = kept_inner bytes start old (take (n - 1) old) i is h.kept in
     let o = Set c.member.new.items c.member.new.said in
     let j = framed o i.at in
-    lands_there bytes start here c.args.at c.args.next old (take (n - 1) old) (slice_set old (n - 1) j) i j f c.member.result is
+    lands_there bytes start here c.args.at c.args.next old (take (n - 1) old) (slice_set old (n - 1) j) slot i j f c.member.result is
     (last_set old n j size some) refl h
     (subst (λ z. LandsAs z f c.args.at c.args.next c.member.result o) (sym c.in-Set.is)
     (c.member.ensures (subst IsSoundOpen c.in-Set.is inner.kept) h.inside))
@@ -95,37 +100,42 @@ pub returns-in-Discard : goal.returns-in-Discard
 returns-in-Discard c bytes start here h =
     let old = c.args.frames.now.items in
     let n = vec_len c.args.frames.now in
+    let slot = c.args.slot.now in
     let i = c.in-Some.innermost.now in
     let f = form_of c.args.form in
     let size : n ≡ length old = omega (arith, c.args.frames.now.ok.0) in
     let some : 0 < n = c.in-Some.ensures.variant.0 refl in
     let is = last_is old n i size some c.in-Some.ensures.value in
-    over_leads bytes start here c.args.at c.args.next old (take (n - 1) old) c.over.new.frames.items i f c.over.result is c.over.ensures.0
-    (c.over.ensures.1 ∙ ap (λ (xs : List Frame). take (n - 1) xs) (last_set old n i size some ∙ sym is)) h
+    over_leads bytes start here c.args.at c.args.next old (take (n - 1) old) c.over.new.frames.items slot i f c.over.result is
+    c.over.ensures.0 (c.over.ensures.1 ∙ ap (λ (xs : List Frame). take (n - 1) xs) (last_set old n i size some ∙ sym is)) h
     (subst (λ o. EndsWith o f) (sym c.in-Discard.is) (λ outer opened at rest. refl))
 
 pub returns-in-Inst : goal.returns-in-Inst
 returns-in-Inst c bytes start here h =
     let old = c.args.frames.now.items in
     let n = vec_len c.args.frames.now in
+    let slot = c.args.slot.now in
     let i = c.in-Some.innermost.now in
     let f = form_of c.args.form in
     let size : n ≡ length old = omega (arith, c.args.frames.now.ok.0) in
     let some : 0 < n = c.in-Some.ensures.variant.0 refl in
     let is = last_is old n i size some c.in-Some.ensures.value in
-    over_leads bytes start here c.args.at c.args.next old (take (n - 1) old) c.over-in-Inst.new.frames.items i f c.over-in-Inst.result is
-    c.over-in-Inst.ensures.0 (c.over-in-Inst.ensures.1 ∙ ap (λ (xs : List Frame). take (n - 1) xs) (last_set old n i size some ∙ sym is)) h
+    over_leads bytes start here c.args.at c.args.next old (take (n - 1) old) c.over-in-Inst.new.frames.items slot i f
+    c.over-in-Inst.result is c.over-in-Inst.ensures.0
+    (c.over-in-Inst.ensures.1 ∙ ap (λ (xs : List Frame). take (n - 1) xs) (last_set old n i size some ∙ sym is)) h
     (subst (λ o. EndsWith o f) (sym c.in-Inst.is) (λ outer opened at rest. refl))
 
 pub returns-in-Uuid : goal.returns-in-Uuid
 returns-in-Uuid c bytes start here h =
     let old = c.args.frames.now.items in
     let n = vec_len c.args.frames.now in
+    let slot = c.args.slot.now in
     let i = c.in-Some.innermost.now in
     let f = form_of c.args.form in
     let size : n ≡ length old = omega (arith, c.args.frames.now.ok.0) in
     let some : 0 < n = c.in-Some.ensures.variant.0 refl in
     let is = last_is old n i size some c.in-Some.ensures.value in
-    over_leads bytes start here c.args.at c.args.next old (take (n - 1) old) c.over-in-Uuid.new.frames.items i f c.over-in-Uuid.result is
-    c.over-in-Uuid.ensures.0 (c.over-in-Uuid.ensures.1 ∙ ap (λ (xs : List Frame). take (n - 1) xs) (last_set old n i size some ∙ sym is)) h
+    over_leads bytes start here c.args.at c.args.next old (take (n - 1) old) c.over-in-Uuid.new.frames.items slot i f
+    c.over-in-Uuid.result is c.over-in-Uuid.ensures.0
+    (c.over-in-Uuid.ensures.1 ∙ ap (λ (xs : List Frame). take (n - 1) xs) (last_set old n i size some ∙ sym is)) h
     (subst (λ o. EndsWith o f) (sym c.in-Uuid.is) (λ outer opened at rest. refl))

@@ -9,7 +9,7 @@ use Rattle.edn_core.proofs.Openings.{list_enters, grown_enters, refused_leads, d
 use Rattle.edn_core.proofs.open.list.Goals as goal
 
 pub returns-in_err-may_open : goal.returns-in_err-may_open
-returns-in_err-may_open c bytes next is start after before kept =
+returns-in_err-may_open c bytes slot next is start after before kept =
     let at = c.args.at in
     let here = drop at bytes in
     let F = frames_of bytes c.args.frames.now.items in
@@ -20,13 +20,13 @@ returns-in_err-may_open c bytes next is start after before kept =
     (no_string_paren here (drop 1 here) is) (deep_opening F here (drop 1 here) open_paren is refl) after before)
 
 pub returns : goal.returns
-returns c bytes next is start after before kept =
+returns c bytes slot next is start after before kept =
     let at = c.args.at in
     let old = c.args.frames.now.items in
     let may =
     subst (λ (xs : List Frame). Free (frames_of bytes xs) × HasRoom (frames_of bytes xs)) c.as_slice.ensures.value
     (c.in_ok-may_open.ensures.free bytes) in
-    grown_enters bytes start at c.args.next old c.grow.new.items.items (List' c.new.result) c.grow.result
+    grown_enters bytes start at c.args.next old c.grow.new.items.items slot (List' c.new.result) c.grow.result
     (subst (λ n. Enters bytes old (List' c.new.result) at n) (sym next)
     (list_enters bytes old at c.new.result c.new.ensures.items is may.0 may.1))
     c.grow.ensures.ok c.grow.ensures.err after before kept

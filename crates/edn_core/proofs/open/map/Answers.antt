@@ -9,7 +9,7 @@ use Rattle.edn_core.proofs.Openings.{map_enters, grown_enters, refused_leads, de
 use Rattle.edn_core.proofs.open.map.Goals as goal
 
 pub returns-in_err-may_open : goal.returns-in_err-may_open
-returns-in_err-may_open c bytes next is start after before kept =
+returns-in_err-may_open c bytes slot next is start after before kept =
     let at = c.args.at in
     let here = drop at bytes in
     let F = frames_of bytes c.args.frames.now.items in
@@ -20,18 +20,18 @@ returns-in_err-may_open c bytes next is start after before kept =
     (no_string_brace here (drop 1 here) is) (deep_opening F here (drop 1 here) open_brace is refl) after before)
 
 pub returns-in_err-pairs : goal.returns-in_err-pairs
-returns-in_err-pairs c bytes next is start after before kept =
+returns-in_err-pairs c bytes slot next is start after before kept =
     let p = err_from_is_err_and c.from_residual-in_err-pairs.result c.from_residual-in_err-pairs.ensures.1 in
     rw (p.1, p.2) tt
 
 pub returns : goal.returns
-returns c bytes next is start after before kept =
+returns c bytes slot next is start after before kept =
     let at = c.args.at in
     let old = c.args.frames.now.items in
     let may =
     subst (λ (xs : List Frame). Free (frames_of bytes xs) × HasRoom (frames_of bytes xs)) c.as_slice.ensures.value
     (c.in_ok-may_open.ensures.free bytes) in
-    grown_enters bytes start at c.args.next old c.grow.new.items.items (Map c.in_ok-pairs.pairs None c.new.result) c.grow.result
+    grown_enters bytes start at c.args.next old c.grow.new.items.items slot (Map c.in_ok-pairs.pairs None c.new.result) c.grow.result
     (subst (λ n. Enters bytes old (Map c.in_ok-pairs.pairs None c.new.result) at n) (sym next)
     (map_enters bytes old at c.in_ok-pairs.pairs c.new.result c.in_ok-pairs.ensures c.new.ensures is may.0 may.1))
     c.grow.ensures.ok c.grow.ensures.err after before kept

@@ -17,7 +17,7 @@ returns-in-Ok c start after before kept =
     let within : here + len ≤ length bytes = omega (arith, size, fits) in
     let F = frames_of bytes c.args.frames.now.items in
     leads_from bytes start here (here + len) (going F (drop here bytes))
-    (going F (drop (here + len) bytes)) c.take.result c.take.new.frames.items ahead
+    (going F (drop (here + len) bytes)) c.take.result c.take.new.frames.items c.take.new.slot ahead
     (blanks_lead bytes c.split_at.result.1.now here len (frames_of bytes c.args.frames.now.items) c.split_at.ensures.back c.in-Ok.ensures.1)
     (c.take.ensures start later within kept)
 

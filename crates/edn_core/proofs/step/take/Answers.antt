@@ -19,18 +19,24 @@ pub returns-in-Discard : goal.returns-in-Discard
 returns-in-Discard c =
     let bytes = c.args.bytes.now in
     let is = subst (λ z. z ≡ hash ∷ underscore ∷ drop 2 z) c.split_at.ensures.back c.in-Discard.ensures in
-    c.begin.ensures bytes (discard_opens bytes c.args.frames.now.items c.args.at is)
+    c.begin.ensures bytes c.args.slot.now (discard_opens bytes c.args.frames.now.items c.args.at is)
 
 pub returns-in-List : goal.returns-in-List
-returns-in-List c = c.list.ensures c.args.bytes.now refl (subst (λ z. z ≡ open_paren ∷ drop 1 z) c.split_at.ensures.back c.in-List.ensures)
+returns-in-List c =
+    c.list.ensures c.args.bytes.now c.args.slot.now refl
+    (subst (λ z. z ≡ open_paren ∷ drop 1 z) c.split_at.ensures.back c.in-List.ensures)
 
 pub returns-in-Vector : goal.returns-in-Vector
 returns-in-Vector c =
-    c.vector.ensures c.args.bytes.now refl (subst (λ z. z ≡ open_bracket ∷ drop 1 z) c.split_at.ensures.back c.in-Vector.ensures)
+    c.vector.ensures c.args.bytes.now c.args.slot.now refl
+    (subst (λ z. z ≡ open_bracket ∷ drop 1 z) c.split_at.ensures.back c.in-Vector.ensures)
 
 pub returns-in-Map : goal.returns-in-Map
-returns-in-Map c = c.map.ensures c.args.bytes.now refl (subst (λ z. z ≡ open_brace ∷ drop 1 z) c.split_at.ensures.back c.in-Map.ensures)
+returns-in-Map c =
+    c.map.ensures c.args.bytes.now c.args.slot.now refl
+    (subst (λ z. z ≡ open_brace ∷ drop 1 z) c.split_at.ensures.back c.in-Map.ensures)
 
 pub returns-in-Set : goal.returns-in-Set
 returns-in-Set c =
-    c.set.ensures c.args.bytes.now refl (subst (λ z. z ≡ hash ∷ open_brace ∷ drop 2 z) c.split_at.ensures.back c.in-Set.ensures)
+    c.set.ensures c.args.bytes.now c.args.slot.now refl
+    (subst (λ z. z ≡ hash ∷ open_brace ∷ drop 2 z) c.split_at.ensures.back c.in-Set.ensures)

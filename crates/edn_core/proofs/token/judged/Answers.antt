@@ -16,7 +16,7 @@ returns-in-Nil c bytes ahead within stands ends some free start after before kep
     let old = c.args.frames.now.items in
     let at = c.args.at in
     let f = model.nil in
-    leads_put bytes start at at c.args.next old c.put.new.frames.items (Nil) f
+    leads_put bytes start at at c.args.next old c.put.new.frames.items c.put.new.slot (Nil) f
     (going (frames_of bytes old) (drop at bytes)) c.put.result form_of-Nil
     (atom_leads bytes at c.args.next (frames_of bytes old) c.args.token.now f c.in-Nil.ensures stands ends free)
     (whole_is tt ahead within after before kept) (c.put.ensures bytes start at)
@@ -26,7 +26,7 @@ returns-in-Bool c bytes ahead within stands ends some free start after before ke
     let old = c.args.frames.now.items in
     let at = c.args.at in
     let f = model.boolean c.in-Bool.b in
-    leads_put bytes start at at c.args.next old c.put-in-Bool.new.frames.items (Bool c.in-Bool.b) f
+    leads_put bytes start at at c.args.next old c.put-in-Bool.new.frames.items c.put-in-Bool.new.slot (Bool c.in-Bool.b) f
     (going (frames_of bytes old) (drop at bytes)) c.put-in-Bool.result (form_of-Bool c.in-Bool.b)
     (atom_leads bytes at c.args.next (frames_of bytes old) c.args.token.now f c.in-Bool.ensures stands ends free)
     (whole_is tt ahead within after before kept) (c.put-in-Bool.ensures bytes start at)
@@ -37,7 +37,7 @@ returns-in-Int c bytes ahead within stands ends some free start after before kep
     let at = c.args.at in
     let f = model.integer c.in-Int.n in
     let fits : SFits w64 c.in-Int.n = search rules in
-    leads_put bytes start at at c.args.next old c.put-in-Int.new.frames.items
+    leads_put bytes start at at c.args.next old c.put-in-Int.new.frames.items c.put-in-Int.new.slot
     (Int (to_z w64 (of_z w64 c.in-Int.n))) f (going (frames_of bytes old) (drop at bytes)) c.put-in-Int.result
     (form_of-Int (to_z w64 (of_z w64 c.in-Int.n)) ∙ ap model.integer (to_z-of_z w64 c.in-Int.n fits))
     (atom_leads bytes at c.args.next (frames_of bytes old) c.args.token.now f c.in-Int.ensures stands ends free)
@@ -51,13 +51,13 @@ returns-in-Keyword c bytes ahead within stands ends some free = c.keyword.ensure
 
 pub returns-in-Inst : goal.returns-in-Inst
 returns-in-Inst c bytes ahead within stands ends some free start after before kept =
-    c.tag.ensures bytes
+    c.tag.ensures bytes c.args.slot.now
     (inst_enters bytes c.args.token.now c.args.frames.now.items c.args.at c.args.next ahead within c.in-Inst.ensures stands ends free) start
     after before kept
 
 pub returns-in-Uuid : goal.returns-in-Uuid
 returns-in-Uuid c bytes ahead within stands ends some free start after before kept =
-    c.tag-in-Uuid.ensures bytes
+    c.tag-in-Uuid.ensures bytes c.args.slot.now
     (uuid_enters bytes c.args.token.now c.args.frames.now.items c.args.at c.args.next ahead within c.in-Uuid.ensures stands ends free) start
     after before kept
 

@@ -13,7 +13,7 @@ returns c bytes atom ahead within stands ends free start after before kept =
     let old = c.args.frames.now.items in
     let at = c.args.at in
     let f = model.keyword (drop 1 c.args.token.now) in
-    leads_put bytes start at at c.args.next old c.put.new.frames.items
+    leads_put bytes start at at c.args.next old c.put.new.frames.items c.put.new.slot
     (Key c.in_ok-name.name) f (going (frames_of bytes old) (drop at bytes)) c.put.result
     (form_of-Key c.in_ok-name.name ∙ ap model.keyword (c.in_ok-name.ensures ∙ c.keyword_name.ensures (drop 1 c.args.token.now) atom.0))
     (atom_leads bytes at c.args.next (frames_of bytes old) c.args.token.now f atom stands ends free)

@@ -36,7 +36,7 @@ returns-in-Some-read_instant c bytes ahead within stands start after before kept
     let z = c.in-Some-read_instant.millis in
     let fits : SFits w64 z = search rules in
     let is = subst (λ s. IsInstant z s) (c.as_bytes.ensures.value ∙ c.as_str.ensures) c.in-Some-read_instant.ensures in
-    leads_put bytes start c.args.at i.at c.args.next outer c.put.new.frames.items
+    leads_put bytes start c.args.at i.at c.args.next outer c.put.new.frames.items c.put.new.slot
     (Inst (to_z w64 (of_z w64 z))) (model.instant z) (going (frames_of bytes old) (drop c.args.at bytes)) c.put.result
     (form_of-Inst (to_z w64 (of_z w64 z)) ∙ ap model.instant (to_z-of_z w64 z fits))
     (instant_leads bytes c.args.at c.args.next old outer i z c.args.text c.in-Some.ensures.items c.in-Inst.is stands is)
@@ -56,7 +56,8 @@ returns-in-Some-read_uuid c bytes ahead within stands start after before kept =
     let i = c.in-Some.innermost in
     let u = c.in-Some-read_uuid.uuid in
     let is = subst (λ s. IsUuid u s) c.as_str-in-Uuid.ensures c.in-Some-read_uuid.ensures in
-    leads_put bytes start c.args.at i.at c.args.next outer c.put-in-Some-read_uuid.new.frames.items (Uuid u) (model.uuid u)
+    leads_put bytes start c.args.at i.at c.args.next outer c.put-in-Some-read_uuid.new.frames.items
+    c.put-in-Some-read_uuid.new.slot (Uuid u) (model.uuid u)
     (going (frames_of bytes old) (drop c.args.at bytes)) c.put-in-Some-read_uuid.result (form_of-Uuid u)
     (identifier_leads bytes c.args.at c.args.next old outer i u c.args.text c.in-Some.ensures.items c.in-Uuid.is stands is)
     (closes_whole bytes start c.args.at c.args.next old outer i (model.uuid u) c.in-Some.ensures.items tt ahead within kept)

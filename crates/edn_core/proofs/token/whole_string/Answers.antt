@@ -18,7 +18,7 @@ returns-else-wants_string c bytes ahead within stands start after before kept =
     let free =
     subst (λ (xs : List Frame). wants_string (opens_of (frames_of bytes xs)) ≡ false) c.as_slice.ensures.value
     (sym (c.if-wants_string.ensures bytes)) in
-    leads_put bytes start at at c.args.next old c.put.new.frames.items (Str text) (model.string text)
+    leads_put bytes start at at c.args.next old c.put.new.frames.items c.put.new.slot (Str text) (model.string text)
     (going (frames_of bytes old) (drop at bytes)) c.put.result (form_of-Str text)
     (string_leads bytes at c.args.next (frames_of bytes old) text stands free) (whole_is tt ahead within after before kept)
     (c.put.ensures bytes start at)
