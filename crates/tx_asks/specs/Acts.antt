@@ -34,7 +34,7 @@ abbrev pub model_act : program.Act → Act
 model_act (Adds e attribute v) = adds e (model_attribute attribute.now) v
 model_act (Retracts e attribute v) = retracts e (model_attribute attribute.now) v
 model_act (RetractsAll e attribute) = retracts_all e (model_attribute attribute.now)
-model_act (Compares e attribute old new) = compares e (model_attribute attribute.now) old new
+model_act (Compares of) = compares of.e (model_attribute of.attribute.now) of.old of.new
 model_act (RetractsEntity e) = retracts_entity e
 
 -- ---- the act of an ask, where its names and its attribute are known and its value is read

@@ -64,9 +64,9 @@ ask_of legend (Retracts on attribute part) =
     model.retracts (name_of legend on) attribute.now.ident (part_of legend part)
 ask_of legend (RetractsAll on attribute) =
     model.retracts_all (name_of legend on) attribute.now.ident
-ask_of legend (Compares on attribute old new) =
-    model.compares (name_of legend on) attribute.now.ident (old_part_of legend old)
-    (part_of legend new)
+ask_of legend (Compares of) =
+    model.compares (name_of legend of.on) of.attribute.now.ident (old_part_of legend of.old)
+    (part_of legend of.new)
 ask_of legend (RetractsEntity on) = model.retracts_entity (name_of legend on)
 ask_of legend (Meets on) = model.meets (name_of legend on)
 
@@ -98,9 +98,9 @@ IsTyped facts (Adds on attribute part) =
 IsTyped facts (Retracts on attribute part) =
     IsInstalled facts attribute.now × IsTypedPart attribute.now part
 IsTyped facts (RetractsAll on attribute) = IsInstalled facts attribute.now
-IsTyped facts (Compares on attribute old new) =
-    IsInstalled facts attribute.now × IsTypedOldPart attribute.now old
-    × IsTypedPart attribute.now new
+IsTyped facts (Compares of) =
+    IsInstalled facts of.attribute.now × IsTypedOldPart of.attribute.now of.old
+    × IsTypedPart of.attribute.now of.new
 IsTyped facts (RetractsEntity on) = ⊤
 IsTyped facts (Meets on) = ⊤
 
@@ -121,8 +121,8 @@ abbrev pub AreCounted : ℕ → Ask → Type 0
 AreCounted n (Adds on attribute part) = IsCounted n on × IsCountedPart n part
 AreCounted n (Retracts on attribute part) = IsCounted n on × IsCountedPart n part
 AreCounted n (RetractsAll on attribute) = IsCounted n on
-AreCounted n (Compares on attribute old new) =
-    IsCounted n on × IsCountedOldPart n old × IsCountedPart n new
+AreCounted n (Compares of) =
+    IsCounted n of.on × IsCountedOldPart n of.old × IsCountedPart n of.new
 AreCounted n (RetractsEntity on) = IsCounted n on
 AreCounted n (Meets on) = IsCounted n on
 

@@ -1,4 +1,5 @@
 //! What the forms of a transaction ask, over entities by their numbers.
+use crate::boxes::Boxed;
 use fb_schema::Attribute;
 use fb_text::Text;
 use fb_values::Value;
@@ -21,16 +22,20 @@ pub enum Act<'a> {
         e: u64,
         attribute: &'a Attribute,
     },
-    /// `None` as the old value: the entity has no value.
-    Compares {
-        e: u64,
-        attribute: &'a Attribute,
-        old: Option<Value>,
-        new: Value,
-    },
+    Compares(Boxed<ResolvedComparison<'a>>),
     RetractsEntity {
         e: u64,
     },
+}
+
+/// The value of an entity is to become another one, where it is the old one.
+#[derive(Drop)]
+pub struct ResolvedComparison<'a> {
+    pub e: u64,
+    pub attribute: &'a Attribute,
+    /// `None`: the entity has no value.
+    pub old: Option<Value>,
+    pub new: Value,
 }
 
 /// What each form asks, and the entities of the tempids that have a name, by the bytes of the names.

@@ -1,4 +1,5 @@
 //! What the forms of a transaction ask, with entities still by their names.
+use crate::boxes::Boxed;
 use edn_form::Edn;
 use fb_schema::Attribute;
 use fb_text::Text;
@@ -52,13 +53,7 @@ pub enum Ask<'a> {
         on: Name<'a>,
         attribute: &'a Attribute,
     },
-    /// `None` is `nil`: the entity has no value.
-    Compares {
-        on: Name<'a>,
-        attribute: &'a Attribute,
-        old: Option<Operand<'a>>,
-        new: Operand<'a>,
-    },
+    Compares(Boxed<Comparison<'a>>),
     RetractsEntity {
         on: Name<'a>,
     },
@@ -66,6 +61,16 @@ pub enum Ask<'a> {
     Meets {
         on: Name<'a>,
     },
+}
+
+/// The value of an entity is to become another one, where it is the old one.
+#[derive(Drop)]
+pub struct Comparison<'a> {
+    pub on: Name<'a>,
+    pub attribute: &'a Attribute,
+    /// `None` is `nil`: the entity has no value.
+    pub old: Option<Operand<'a>>,
+    pub new: Operand<'a>,
 }
 
 /// What each form asks, in the order in which a reader meets it.

@@ -5,10 +5,12 @@
 
 mod acts;
 mod asks;
+mod boxes;
 mod laws;
 mod triples;
 
-pub use acts::{Act, Resolved};
-pub use asks::{Ask, Flat, LookupRef, Name, Operand};
+pub use acts::{Act, Resolved, ResolvedComparison};
+pub use asks::{Ask, Comparison, Flat, LookupRef, Name, Operand};
+pub use boxes::Boxed;
 pub use laws::{acts_ask_what_asks_do, acts_compare_what_asks_do, asks_that_ask_for_nothing};
 pub use triples::{Asking, Triple};

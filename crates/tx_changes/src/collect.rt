@@ -96,7 +96,8 @@ fn room_in(acts: &[Act<'_>], issued: u64) -> usize {
 /// What is given to an entity that is not new may replace a value.
 fn room_of(act: &Act<'_>, issued: u64) -> usize {
     match act {
-        Act::Adds { e, .. } | Act::Compares { e, .. } => 1 + usize::from(!is_new(issued, *e)),
+        Act::Adds { e, .. } => 1 + usize::from(!is_new(issued, *e)),
+        Act::Compares(comparison) => 1 + usize::from(!is_new(issued, comparison.get().e)),
         Act::Retracts { .. } => 1,
         Act::RetractsAll { .. } | Act::RetractsEntity { .. } => 0,
     }
@@ -160,13 +161,9 @@ fn note_act<F: Facts>(
             let addition = asking_of(place, *e, attribute.id, v)?;
             note_addition(notes, addition, issued, facts, schema)
         }
-        Act::Compares {
-            e,
-            attribute,
-            new,
-            ..
-        } => {
-            let addition = asking_of(place, *e, attribute.id, new)?;
+        Act::Compares(comparison) => {
+            let comparison = comparison.get();
+            let addition = asking_of(place, comparison.e, comparison.attribute.id, &comparison.new)?;
             note_addition(notes, addition, issued, facts, schema)
         }
         Act::Retracts { e, attribute, v } => {

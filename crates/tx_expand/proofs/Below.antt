@@ -195,8 +195,8 @@ counted_ask : (n : ℕ) (all : List LookupRef) (ask : asks.Ask) → IsAskBelow n
 counted_ask n all (Adds on attribute part) below = (counted_name n all on below.0, counted_part n all part below.1)
 counted_ask n all (Retracts on attribute part) below = (counted_name n all on below.0, counted_part n all part below.1)
 counted_ask n all (RetractsAll on attribute) below = counted_name n all on below
-counted_ask n all (Compares on attribute old new) below =
-    (counted_name n all on below.0, counted_old n all old below.1, counted_part n all new below.2)
+counted_ask n all (Compares of) below =
+    (counted_name n all of.on below.0, counted_old n all of.old below.1, counted_part n all of.new below.2)
 counted_ask n all (RetractsEntity on) below = counted_name n all on below
 counted_ask n all (Meets on) below = counted_name n all on below
 

@@ -177,13 +177,13 @@ module _ (s facts : List Datom) (same : (k : List ℕ) → attribute_named s k �
       ap (λ name. model.retracts name attribute.now.ident (part_of (legend refs all) part)) (name_is refs all on)
       ∙ ap (model.retracts (placed all (model_name refs on)) attribute.now.ident) (part_is refs all part)
   ask_is refs all (RetractsAll on attribute) = ap (λ name. model.retracts_all name attribute.now.ident) (name_is refs all on)
-  ask_is refs all (Compares on attribute old new) =
-      ap (λ name. model.compares name attribute.now.ident (old_part_of (legend refs all) old) (part_of (legend refs all) new))
-      (name_is refs all on)
-      ∙ ap (λ part. model.compares (placed all (model_name refs on)) attribute.now.ident part (part_of (legend refs all) new))
-      (old_part_is refs all old)
-      ∙ ap (model.compares (placed all (model_name refs on)) attribute.now.ident (part_placed all (old_part_read refs old)))
-      (part_is refs all new)
+  ask_is refs all (Compares of) =
+      ap (λ name. model.compares name of.attribute.now.ident (old_part_of (legend refs all) of.old) (part_of (legend refs all) of.new))
+      (name_is refs all of.on)
+      ∙ ap (λ part. model.compares (placed all (model_name refs of.on)) of.attribute.now.ident part (part_of (legend refs all) of.new))
+      (old_part_is refs all of.old)
+      ∙ ap (model.compares (placed all (model_name refs of.on)) of.attribute.now.ident (part_placed all (old_part_read refs of.old)))
+      (part_is refs all of.new)
   ask_is refs all (RetractsEntity on) = ap model.retracts_entity (name_is refs all on)
   ask_is refs all (Meets on) = ap model.meets (name_is refs all on)
 
@@ -206,7 +206,7 @@ module _ (s facts : List Datom) (same : (k : List ℕ) → attribute_named s k �
   read_same (Adds on attribute part) read = (sym (same attribute.now.ident) ∙ read.0, read.1)
   read_same (Retracts on attribute part) read = (sym (same attribute.now.ident) ∙ read.0, read.1)
   read_same (RetractsAll on attribute) read = sym (same attribute.now.ident) ∙ read
-  read_same (Compares on attribute old new) read = (sym (same attribute.now.ident) ∙ read.0, read.1, read.2)
+  read_same (Compares of) read = (sym (same of.attribute.now.ident) ∙ read.0, read.1, read.2)
   read_same (RetractsEntity on) read = tt
   read_same (Meets on) read = tt
 

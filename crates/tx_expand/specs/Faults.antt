@@ -160,9 +160,9 @@ ask_read all (Adds on attribute part) =
 ask_read all (Retracts on attribute part) =
     model.retracts (model_name all on) attribute.now.ident (part_read all part)
 ask_read all (RetractsAll on attribute) = model.retracts_all (model_name all on) attribute.now.ident
-ask_read all (Compares on attribute old new) =
-    model.compares (model_name all on) attribute.now.ident (old_part_read all old)
-    (part_read all new)
+ask_read all (Compares of) =
+    model.compares (model_name all of.on) of.attribute.now.ident (old_part_read all of.old)
+    (part_read all of.new)
 ask_read all (RetractsEntity on) = model.retracts_entity (model_name all on)
 ask_read all (Meets on) = model.meets (model_name all on)
 

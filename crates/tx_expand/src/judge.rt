@@ -187,6 +187,7 @@ fn keep<'a>(settled: Settled<'a>, asks: &mut Vec<Ask<'a>>) -> Result<(), Memory>
 }
 
 fn judge<'a>(
+    alloc: Global,
     schema: &Schema,
     judged: &[NameFaults],
     raw: &RawAsk<'a>,
@@ -204,7 +205,7 @@ fn judge<'a>(
     ensures read { IfOk result (λ _. All (IsTyped schema.now) asks.new.items) }
 {
     let names = names_faults(judged, raw);
-    let settled = settle(schema, raw)?;
+    let settled = settle(alloc, schema, raw)?;
     let unknown = is_unknown(&settled);
     let wrong = is_wrong(&settled);
     keep(settled, asks)?;
@@ -239,7 +240,7 @@ pub fn judge_all<'a>(
     let mut asks = Vec::with_capacity(alloc, raws.len() / 2 + 1)?;
     let mut faults = Faults::NONE;
     for raw in raws {
-        faults = faults.or(judge(schema, judged, raw, &mut asks)?);
+        faults = faults.or(judge(alloc, schema, judged, raw, &mut asks)?);
     }
     Ok(Judged { asks, faults })
 }

@@ -5,7 +5,9 @@ ghost use Rattle.fb_schema.specs.Parts.{model_attribute};
 ghost use Rattle.tx_model.specs.Asks as asks;
 ghost use Rattle.tx_model.specs.NameRules as model;
 ghost use Rattle.tx_asks.specs.declared.asks.LookupRef.{LookupRef as model_LookupRef};
+ghost use Rattle.tx_asks.specs.declared.asks.Ask.TheVariants.{Compares};
 ghost use Rattle.tx_asks.specs.Asks.{IsTypedPart, IsTypedOldPart};
+ghost use Rattle.tx_expand.specs.declared.settle.Settled.TheVariants.{Stands};
 ghost use Rattle.tx_expand.specs.View.{model_name, word_of, model_part, model_ask};
 ghost use Rattle.tx_expand.specs.Known.{IsLookedUp, IsAskLookedUp};
 ghost use Rattle.tx_expand.specs.Faults.{part_read, old_part_read, Settles};
@@ -15,7 +17,8 @@ use crate::raw::{Attr, RawAsk, RawPart};
 use edn_form::Edn;
 use fb_memory::Memory;
 use fb_schema::{Attribute, Schema};
-use tx_asks::{Ask, Name, Operand};
+use std::alloc::Global;
+use tx_asks::{Ask, Boxed, Comparison, Name, Operand};
 
 /// What becomes of an ask.
 #[derive(Drop)]
@@ -145,6 +148,7 @@ fn settle_retraction<'a>(
 }
 
 fn settle_comparison<'a>(
+    alloc: Global,
     _schema: &Schema,
     on: Name<'a>,
     attr: &Attr<'a>,
@@ -164,18 +168,34 @@ fn settle_comparison<'a>(
         return Ok(Settled::Wrong);
     };
     match read_part(attribute, new)? {
-        Some(new) => Ok(Settled::Stands(Ask::Compares {
-            on,
-            attribute,
-            old,
-            new,
-        })),
+        Some(new) => settled_comparison(
+            alloc,
+            Comparison {
+                on,
+                attribute,
+                old,
+                new,
+            },
+        ),
         None => Ok(Settled::Wrong),
     }
 }
 
+fn settled_comparison<'a>(
+    alloc: Global,
+    comparison: Comparison<'a>,
+) -> Result<Settled<'a>, Memory>
+    ensures { IfOk result (λ settled. settled ≡ Stands (Compares comparison.entry)) }
+{
+    Ok(Settled::Stands(Ask::Compares(Boxed::new(alloc, comparison)?)))
+}
+
 /// What becomes of the ask.
-pub fn settle<'a>(schema: &Schema, raw: &RawAsk<'a>) -> Result<Settled<'a>, Memory>
+pub fn settle<'a>(
+    alloc: Global,
+    schema: &Schema,
+    raw: &RawAsk<'a>,
+) -> Result<Settled<'a>, Memory>
     requires { IsAskLookedUp schema.now raw.now }
     ensures { (all : List model_LookupRef)
         → IfOk result (λ settled. Settles schema.now all (model_ask all raw.now) settled) }
@@ -183,7 +203,9 @@ pub fn settle<'a>(schema: &Schema, raw: &RawAsk<'a>) -> Result<Settled<'a>, Memo
     match raw {
         RawAsk::Adds(on, attr, part) => settle_addition(schema, *on, attr, *part),
         RawAsk::Retracts(on, attr, part) => settle_retraction(schema, *on, attr, *part),
-        RawAsk::Compares(on, attr, old, new) => settle_comparison(schema, *on, attr, *old, *new),
+        RawAsk::Compares(on, attr, old, new) => {
+            settle_comparison(alloc, schema, *on, attr, *old, *new)
+        }
         RawAsk::RetractsAll(on, attr) => Ok(match attr {
             Attr::Known(attribute) => {
                 let on = *on;

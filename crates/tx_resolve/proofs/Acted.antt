@@ -123,11 +123,11 @@ module _ (legend : Legend) (apart : AreApart legend.places) (db : Db) (pairs : L
           → option_and_then (λ e. Some (act e b)) o ≡ option_map (λ e. act e b) o
       as_map act b None = refl
       as_map act b (Some e) = refl
-  ask_act (ask.Compares on asked p p') (draft.Compares w a q q') r =
-      valued (λ e b. acts.compares e b (old_value_of db (names_in legend pairs) b (old_part_of legend p)))
-      (name_of legend on) w asked.now.ident a.now p' q' r.0 r.1 r.3
-      ∙ ap (λ old. option_and_then (λ e. option_map (acts.compares e (model_attribute a.now) old) (drafts.value_of pairs q'))
-      (drafts.entity_of pairs w)) (old_part_value a.now p q r.2)
+  ask_act (ask.Compares c) (draft.Compares d) r =
+      valued (λ e b. acts.compares e b (old_value_of db (names_in legend pairs) b (old_part_of legend c.old)))
+      (name_of legend c.on) d.on c.attribute.now.ident d.attribute.now c.new d.new r.0 r.1 r.3
+      ∙ ap (λ old. option_and_then (λ e. option_map (acts.compares e (model_attribute d.attribute.now) old) (drafts.value_of pairs d.new))
+      (drafts.entity_of pairs d.on)) (old_part_value d.attribute.now c.old d.old r.2)
   ask_act (ask.RetractsEntity on) (draft.RetractsEntity w) r = ap (option_map acts.retracts_entity) (whom_entity (name_of legend on) w r)
   ask_act (ask.Meets on) (draft.Meets w) r = refl
   ask_act x d r = absurd r
@@ -166,13 +166,13 @@ module _ (legend : Legend) (apart : AreApart legend.places) (db : Db) (pairs : L
   ask_settled (ask.RetractsAll on asked) (draft.RetractsAll w a) r have =
       ap is_some (ask_act (ask.RetractsAll on asked) (draft.RetractsAll w a) r)
       ∙ is_some_map (λ e. acts.retracts_all e (model_attribute a.now)) (drafts.entity_of pairs w) (whom_has w have)
-  ask_settled (ask.Compares on asked p p') (draft.Compares w a q q') r have =
-      let rest = have_rest pairs (tempid_in w) (tempid_in_old_part q ++ tempid_in_part q') have in
-      ap is_some (ask_act (ask.Compares on asked p p') (draft.Compares w a q q') r)
-      ∙ both_there (λ e. acts.compares e (model_attribute a.now) (drafts.old_value_of pairs q)) (drafts.entity_of pairs w)
-      (drafts.value_of pairs q')
-      (whom_has w (have_first pairs (tempid_in w) (tempid_in_old_part q ++ tempid_in_part q') have))
-      (part_has q' (have_rest pairs (tempid_in_old_part q) (tempid_in_part q') rest))
+  ask_settled (ask.Compares c) (draft.Compares d) r have =
+      let rest = have_rest pairs (tempid_in d.on) (tempid_in_old_part d.old ++ tempid_in_part d.new) have in
+      ap is_some (ask_act (ask.Compares c) (draft.Compares d) r)
+      ∙ both_there (λ e. acts.compares e (model_attribute d.attribute.now) (drafts.old_value_of pairs d.old)) (drafts.entity_of pairs d.on)
+      (drafts.value_of pairs d.new)
+      (whom_has d.on (have_first pairs (tempid_in d.on) (tempid_in_old_part d.old ++ tempid_in_part d.new) have))
+      (part_has d.new (have_rest pairs (tempid_in_old_part d.old) (tempid_in_part d.new) rest))
   ask_settled (ask.RetractsEntity on) (draft.RetractsEntity w) r have =
       ap is_some (ask_act (ask.RetractsEntity on) (draft.RetractsEntity w) r)
       ∙ is_some_map acts.retracts_entity (drafts.entity_of pairs w) (whom_has w have)

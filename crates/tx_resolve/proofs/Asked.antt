@@ -147,11 +147,12 @@ module _ (legend : Legend) (apart : AreApart legend.places) (db : Db) where
       both_tempids (name_of legend on ∷ []) (name_of_part (part_of legend p)) _ _ (whom_tempids (name_of legend on) w r.0)
       (part_tempids a.now p q r.2)
   ask_tempids (ask.RetractsAll on asked) (draft.RetractsAll w a) r = whom_tempids (name_of legend on) w r.0
-  ask_tempids (ask.Compares on asked p p') (draft.Compares w a q q') r =
-      both_tempids (name_of legend on ∷ []) (name_of_part (old_part_of legend p) ++ name_of_part (part_of legend p')) _ _
-      (whom_tempids (name_of legend on) w r.0)
-      (both_tempids (name_of_part (old_part_of legend p)) (name_of_part (part_of legend p')) _ _ (old_part_tempids a.now p q r.2)
-      (part_tempids a.now p' q' r.3))
+  ask_tempids (ask.Compares c) (draft.Compares d) r =
+      both_tempids (name_of legend c.on ∷ []) (name_of_part (old_part_of legend c.old) ++ name_of_part (part_of legend c.new)) _ _
+      (whom_tempids (name_of legend c.on) d.on r.0)
+      (both_tempids (name_of_part (old_part_of legend c.old)) (name_of_part (part_of legend c.new)) _ _
+      (old_part_tempids d.attribute.now c.old d.old r.2)
+      (part_tempids d.attribute.now c.new d.new r.3))
   ask_tempids (ask.RetractsEntity on) (draft.RetractsEntity w) r = whom_tempids (name_of legend on) w r
   ask_tempids (ask.Meets on) (draft.Meets w) r = whom_tempids (name_of legend on) w r
   ask_tempids x d r = absurd r
@@ -162,9 +163,10 @@ module _ (legend : Legend) (apart : AreApart legend.places) (db : Db) where
   ask_meant (ask.Retracts on asked p) (draft.Retracts w a q) r =
       meant_both legend (tempid_in w) (tempid_in_part q) (whom_meant (name_of legend on) w r.0) (part_meant a.now p q r.2)
   ask_meant (ask.RetractsAll on asked) (draft.RetractsAll w a) r = whom_meant (name_of legend on) w r.0
-  ask_meant (ask.Compares on asked p p') (draft.Compares w a q q') r =
-      meant_both legend (tempid_in w) (tempid_in_old_part q ++ tempid_in_part q') (whom_meant (name_of legend on) w r.0)
-      (meant_both legend (tempid_in_old_part q) (tempid_in_part q') (old_part_meant a.now p q r.2) (part_meant a.now p' q' r.3))
+  ask_meant (ask.Compares c) (draft.Compares d) r =
+      meant_both legend (tempid_in d.on) (tempid_in_old_part d.old ++ tempid_in_part d.new) (whom_meant (name_of legend c.on) d.on r.0)
+      (meant_both legend (tempid_in_old_part d.old) (tempid_in_part d.new)
+      (old_part_meant d.attribute.now c.old d.old r.2) (part_meant d.attribute.now c.new d.new r.3))
   ask_meant (ask.RetractsEntity on) (draft.RetractsEntity w) r = whom_meant (name_of legend on) w r
   ask_meant (ask.Meets on) (draft.Meets w) r = whom_meant (name_of legend on) w r
   ask_meant x d r = absurd r
@@ -178,7 +180,7 @@ module _ (legend : Legend) (apart : AreApart legend.places) (db : Db) where
       ap (is_same_tempid (name_in legend t)) r.0.0 ∙ is_same_tempid-name_in legend apart t u meant r.0.1
   ask_adds t meant (ask.Retracts on asked p) (draft.Retracts w a q) r = refl
   ask_adds t meant (ask.RetractsAll on asked) (draft.RetractsAll w a) r = refl
-  ask_adds t meant (ask.Compares on asked p p') (draft.Compares w a q q') r = refl
+  ask_adds t meant (ask.Compares c) (draft.Compares d) r = refl
   ask_adds t meant (ask.RetractsEntity on) (draft.RetractsEntity w) r = refl
   ask_adds t meant (ask.Meets on) (draft.Meets w) r = refl
   ask_adds t meant x d r = absurd r
@@ -211,7 +213,7 @@ module _ (legend : Legend) (apart : AreApart legend.places) (db : Db) where
   ask_identified t meant (ask.Adds on asked p) (draft.Adds w a q o) r = absurd r.2
   ask_identified t meant (ask.Retracts on asked p) (draft.Retracts w a q) r = refl
   ask_identified t meant (ask.RetractsAll on asked) (draft.RetractsAll w a) r = refl
-  ask_identified t meant (ask.Compares on asked p p') (draft.Compares w a q q') r = refl
+  ask_identified t meant (ask.Compares c) (draft.Compares d) r = refl
   ask_identified t meant (ask.RetractsEntity on) (draft.RetractsEntity w) r = refl
   ask_identified t meant (ask.Meets on) (draft.Meets w) r = refl
   ask_identified t meant x d r = absurd r

@@ -90,19 +90,22 @@ module _ (legend : Legend) (db : Db) where
       ∙ both_lost on _ _ (part_lost p)
   ask_lost (ask.RetractsAll on a) =
       is_none-map (λ whom. draft.RetractsAll whom a) (whom_of db (all_found db legend.lookups) on) ∙ one_lost on
-  ask_lost (ask.Compares on a p q) =
+  ask_lost (ask.Compares c) =
       is_none-and_then
-      (λ whom. option_and_then (λ before. option_map (draft.Compares whom a before) (drafts.part_of db (all_found db legend.lookups) q))
-      (drafts.old_part_of db (all_found db legend.lookups) p))
-      (is_none (drafts.old_part_of db (all_found db legend.lookups) p) || is_none (drafts.part_of db (all_found db legend.lookups) q))
-      (λ whom. is_none-and_then (λ before. option_map (draft.Compares whom a before) (drafts.part_of db (all_found db legend.lookups) q))
-      (is_none (drafts.part_of db (all_found db legend.lookups) q))
-      (λ before. is_none-map (draft.Compares whom a before) (drafts.part_of db (all_found db legend.lookups) q))
-      (drafts.old_part_of db (all_found db legend.lookups) p)) (whom_of db (all_found db legend.lookups) on)
-      ∙ both_lost on _ _
-      (ap (λ b. b || is_none (drafts.part_of db (all_found db legend.lookups) q)) (old_part_lost p)
-      ∙ ap (λ b. list_any (finds_none db) (name_of_part (old_part_of legend p)) || b) (part_lost q)
-      ∙ sym (list_any-append (finds_none db) (name_of_part (old_part_of legend p)) (name_of_part (part_of legend q))))
+      (λ whom. option_and_then (λ before. option_map (drafts.compares whom c.attribute before)
+      (drafts.part_of db (all_found db legend.lookups) c.new))
+      (drafts.old_part_of db (all_found db legend.lookups) c.old))
+      (is_none (drafts.old_part_of db (all_found db legend.lookups) c.old)
+      || is_none (drafts.part_of db (all_found db legend.lookups) c.new))
+      (λ whom. is_none-and_then (λ before. option_map (drafts.compares whom c.attribute before)
+      (drafts.part_of db (all_found db legend.lookups) c.new))
+      (is_none (drafts.part_of db (all_found db legend.lookups) c.new))
+      (λ before. is_none-map (drafts.compares whom c.attribute before) (drafts.part_of db (all_found db legend.lookups) c.new))
+      (drafts.old_part_of db (all_found db legend.lookups) c.old)) (whom_of db (all_found db legend.lookups) c.on)
+      ∙ both_lost c.on _ _
+      (ap (λ b. b || is_none (drafts.part_of db (all_found db legend.lookups) c.new)) (old_part_lost c.old)
+      ∙ ap (λ b. list_any (finds_none db) (name_of_part (old_part_of legend c.old)) || b) (part_lost c.new)
+      ∙ sym (list_any-append (finds_none db) (name_of_part (old_part_of legend c.old)) (name_of_part (part_of legend c.new))))
   ask_lost (ask.RetractsEntity on) = is_none-map draft.RetractsEntity (whom_of db (all_found db legend.lookups) on) ∙ one_lost on
   ask_lost (ask.Meets on) = is_none-map draft.Meets (whom_of db (all_found db legend.lookups) on) ∙ one_lost on
 
@@ -183,8 +186,8 @@ module _ (legend : Legend) (apart : AreApart legend.places) (db : Db) (all : Lis
         no_gift (ask_of legend (ask.Retracts on asked p)) (names_of (ask_of legend (ask.Retracts on asked p))) (λ n. refl)
     ask_gives (ask.RetractsAll on asked) (draft.RetractsAll w a) r =
         no_gift (ask_of legend (ask.RetractsAll on asked)) (names_of (ask_of legend (ask.RetractsAll on asked))) (λ n. refl)
-    ask_gives (ask.Compares on asked p p') (draft.Compares w a q q') r =
-        no_gift (ask_of legend (ask.Compares on asked p p')) (names_of (ask_of legend (ask.Compares on asked p p'))) (λ n. refl)
+    ask_gives (ask.Compares c) (draft.Compares d) r =
+        no_gift (ask_of legend (ask.Compares c)) (names_of (ask_of legend (ask.Compares c))) (λ n. refl)
     ask_gives (ask.RetractsEntity on) (draft.RetractsEntity w) r =
         no_gift (ask_of legend (ask.RetractsEntity on)) (names_of (ask_of legend (ask.RetractsEntity on))) (λ n. refl)
     ask_gives (ask.Meets on) (draft.Meets w) r =

@@ -27,7 +27,7 @@ use Rattle.tx_resolve.specs.declared.drafts.Operand.TheVariants.{Plain, Entity}
 use Rattle.tx_resolve.specs.declared.drafts.Draft.{Draft}
 use Rattle.tx_resolve.specs.declared.drafts.Draft.TheVariants as draft
 use Rattle.tx_resolve.specs.Whoms.{all_found, whom_of}
-use Rattle.tx_resolve.specs.Drafts.{part_of, old_part_of, holder_for, draft_of}
+use Rattle.tx_resolve.specs.Drafts.{part_of, old_part_of, holder_for, compares, draft_of}
 use Rattle.tx_resolve.proofs.Lookups.{lookup_is_no_tempid, entity_at}
 use Rattle.tx_resolve.proofs.Options.{same_some, map_some, and_then_some}
 use Rattle.tx_resolve.proofs.Places.{name_in, IsMeant}
@@ -97,8 +97,9 @@ module _ (legend : Legend) (db : Db) where
       IsWhom (name_of legend on) w × IsOf asked.now a.now × IsPart a.now p q × (holder ≡ holder_for db w a.now q)
   Relates (ask.Retracts on asked p) (draft.Retracts w a q) = IsWhom (name_of legend on) w × IsOf asked.now a.now × IsPart a.now p q
   Relates (ask.RetractsAll on asked) (draft.RetractsAll w a) = IsWhom (name_of legend on) w × IsOf asked.now a.now
-  Relates (ask.Compares on asked p p') (draft.Compares w a q q') =
-      IsWhom (name_of legend on) w × IsOf asked.now a.now × IsOldPart a.now p q × IsPart a.now p' q'
+  Relates (ask.Compares c) (draft.Compares d) =
+      IsWhom (name_of legend c.on) d.on × IsOf c.attribute.now d.attribute.now × IsOldPart d.attribute.now c.old d.old
+      × IsPart d.attribute.now c.new d.new
   Relates (ask.RetractsEntity on) (draft.RetractsEntity w) = IsWhom (name_of legend on) w
   Relates (ask.Meets on) (draft.Meets w) = IsWhom (name_of legend on) w
   Relates asked drafted = ⊥
@@ -124,20 +125,20 @@ module _ (legend : Legend) (db : Db) where
   relates (ask.RetractsAll on a) d read counted is =
       let w = map_some (λ whom. draft.RetractsAll whom a) (whom_of db (all_found db legend.lookups) on) d is in
       subst (Relates (ask.RetractsAll on a)) w.gives (whom_is on w.from counted w.is, read)
-  relates (ask.Compares on a p p') d read counted is =
+  relates (ask.Compares c) d read counted is =
       let w =
       and_then_some
-      (λ whom. option_and_then (λ before. option_map (draft.Compares whom a before) (part_of db (all_found db legend.lookups) p'))
-      (old_part_of db (all_found db legend.lookups) p)) (whom_of db (all_found db legend.lookups) on) d is in
+      (λ whom. option_and_then (λ before. option_map (compares whom c.attribute before) (part_of db (all_found db legend.lookups) c.new))
+      (old_part_of db (all_found db legend.lookups) c.old)) (whom_of db (all_found db legend.lookups) c.on) d is in
       let q =
-      and_then_some (λ before. option_map (draft.Compares w.from a before) (part_of db (all_found db legend.lookups) p'))
-      (old_part_of db (all_found db legend.lookups) p) d w.gives in
-      let q' = map_some (draft.Compares w.from a q.from) (part_of db (all_found db legend.lookups) p') d q.gives in
-      subst (Relates (ask.Compares on a p p')) q'.gives (
-        whom_is on w.from counted.0 w.is,
+      and_then_some (λ before. option_map (compares w.from c.attribute before) (part_of db (all_found db legend.lookups) c.new))
+      (old_part_of db (all_found db legend.lookups) c.old) d w.gives in
+      let q' = map_some (compares w.from c.attribute q.from) (part_of db (all_found db legend.lookups) c.new) d q.gives in
+      subst (Relates (ask.Compares c)) q'.gives (
+        whom_is c.on w.from counted.0 w.is,
         read.0,
-        old_part_is a.now p q.from read.1 counted.1 q.is,
-        part_is a.now p' q'.from read.2 counted.2 q'.is,
+        old_part_is c.attribute.now c.old q.from read.1 counted.1 q.is,
+        part_is c.attribute.now c.new q'.from read.2 counted.2 q'.is,
       )
   relates (ask.RetractsEntity on) d read counted is =
       let w = map_some draft.RetractsEntity (whom_of db (all_found db legend.lookups) on) d is in

@@ -3,6 +3,7 @@
 use Rattle.std.specs.Prelude.{◌≡◌, ℕ, Bool, List, map, ◌==◌, if◌then◌else◌, Option, Some, None}
 use Rattle.std.specs.Prelude.{is_none, option_map, option_and_then, Vec}
 use Rattle.std.specs.List.{list_any}
+use Rattle.std.specs.Borrow.{Bor}
 use Rattle.std.specs.declared.alloc.Global.{Global}
 use Rattle.fb_numbers.specs.Numbers.{unique_identity}
 use Rattle.fb_model.specs.Facts.{holder}
@@ -35,6 +36,10 @@ holder_for db (New tempid) attribute (Plain v) =
     if attribute.unique == unique_identity then holder db.facts attribute.id v else None
 holder_for db whom attribute p = None
 
+abbrev pub compares : EntityRef → Bor Attribute → Option Operand → Operand → Draft
+compares on attribute old new =
+    draft.Compares (record { on = on; attribute = attribute; old = old; new = new })
+
 abbrev pub draft_of : Db → List (Option ℕ) → Ask → Option Draft
 draft_of db looked_up (ask.Adds on attribute p) =
     option_and_then
@@ -47,12 +52,12 @@ draft_of db looked_up (ask.Retracts on attribute p) =
     (whom_of db looked_up on)
 draft_of db looked_up (ask.RetractsAll on attribute) =
     option_map (λ whom. draft.RetractsAll whom attribute) (whom_of db looked_up on)
-draft_of db looked_up (ask.Compares on attribute old new) =
+draft_of db looked_up (ask.Compares of) =
     option_and_then
     (λ whom. option_and_then
-    (λ before. option_map (draft.Compares whom attribute before) (part_of db looked_up new))
-    (old_part_of db looked_up old))
-    (whom_of db looked_up on)
+    (λ before. option_map (compares whom of.attribute before) (part_of db looked_up of.new))
+    (old_part_of db looked_up of.old))
+    (whom_of db looked_up of.on)
 draft_of db looked_up (ask.RetractsEntity on) =
     option_map draft.RetractsEntity (whom_of db looked_up on)
 draft_of db looked_up (ask.Meets on) = option_map draft.Meets (whom_of db looked_up on)

@@ -30,8 +30,8 @@ abbrev pub tempids_of : Draft → List Tempid
 tempids_of (draft.Adds on attribute part holder) = tempid_in on ++ tempid_in_part part
 tempids_of (draft.Retracts on attribute part) = tempid_in on ++ tempid_in_part part
 tempids_of (draft.RetractsAll on attribute) = tempid_in on
-tempids_of (draft.Compares on attribute old new) =
-    tempid_in on ++ (tempid_in_old_part old ++ tempid_in_part new)
+tempids_of (draft.Compares of) =
+    tempid_in of.on ++ (tempid_in_old_part of.old ++ tempid_in_part of.new)
 tempids_of (draft.RetractsEntity on) = tempid_in on
 tempids_of (draft.Meets on) = tempid_in on
 

@@ -88,10 +88,11 @@ act_of pairs (draft.Retracts on attribute part) =
     (entity_of pairs on)
 act_of pairs (draft.RetractsAll on attribute) =
     option_map (λ e. acts.retracts_all e (model_attribute attribute.now)) (entity_of pairs on)
-act_of pairs (draft.Compares on attribute old new) =
+act_of pairs (draft.Compares of) =
     option_and_then
-    (λ e. option_map (acts.compares e (model_attribute attribute.now) (old_value_of pairs old))
-    (value_of pairs new))
-    (entity_of pairs on)
+    (λ e. option_map
+    (acts.compares e (model_attribute of.attribute.now) (old_value_of pairs of.old))
+    (value_of pairs of.new))
+    (entity_of pairs of.on)
 act_of pairs (draft.RetractsEntity on) = option_map acts.retracts_entity (entity_of pairs on)
 act_of pairs (draft.Meets on) = None

@@ -1,17 +1,19 @@
 //! What is asked of entities by their numbers.
 ghost use Rattle.std.specs.Prelude.{◌≡◌, ◌++◌, ℕ, List, IfOk, map, filter_map, option_to_list};
 ghost use Rattle.std.specs.Option.{option_map};
+ghost use Rattle.tx_asks.specs.declared.acts.Act.TheVariants as acts;
 ghost use Rattle.tx_asks.specs.Acts.{model_act};
+ghost use Rattle.tx_resolve.specs.declared.drafts.Draft.TheVariants.{Compares};
 ghost use Rattle.tx_resolve.specs.declared.whom.Tempid.{Tempid as model_Tempid};
 ghost use Rattle.tx_resolve.specs.Numbers.{HasEntities, entity_of, value_of, old_value_of, act_of};
 
-use crate::drafts::{Draft, Operand};
+use crate::drafts::{Draft, DraftComparison, Operand};
 use crate::numbers::Entities;
 use crate::whom::EntityRef;
 use fb_memory::Memory;
 use fb_values::Value;
 use std::alloc::Global;
-use tx_asks::Act;
+use tx_asks::{Act, Boxed, ResolvedComparison};
 
 /// The acts of each form.
 pub fn acts_of_forms<'a>(
@@ -40,7 +42,7 @@ fn acts_of<'a>(
 {
     let mut acts = Vec::with_capacity(alloc, drafts.len())?;
     for draft in drafts {
-        push_some(&mut acts, act(entities, draft))?;
+        push_some(&mut acts, act(alloc, entities, draft)?)?;
     }
     Ok(acts)
 }
@@ -55,9 +57,9 @@ fn push_some<'a>(acts: &mut Vec<Act<'a>>, act: Option<Act<'a>>) -> Result<(), Me
 }
 
 /// None where there only is a map of an entity.
-fn act<'a>(entities: &Entities, draft: Draft<'a>) -> Option<Act<'a>>
+fn act<'a>(alloc: Global, entities: &Entities, draft: Draft<'a>) -> Result<Option<Act<'a>>, Memory>
     ensures { (pairs : List (model_Tempid × ℕ)) → HasEntities entities.now pairs
-        → option_map model_act result ≡ act_of pairs draft.entry }
+        → IfOk result (λ act. option_map model_act act ≡ act_of pairs draft.entry) }
 {
     match draft {
         Draft::Adds {
@@ -66,45 +68,79 @@ fn act<'a>(entities: &Entities, draft: Draft<'a>) -> Option<Act<'a>>
             part,
             holder: _,
         } => {
-            let e = entity(entities, &on)?;
-            let v = value(entities, part)?;
-            Some(Act::Adds { e, attribute, v })
+            let Some(e) = entity(entities, &on) else {
+                return Ok(None);
+            };
+            let Some(v) = value(entities, part) else {
+                return Ok(None);
+            };
+            Ok(Some(Act::Adds { e, attribute, v }))
         }
         Draft::Retracts {
             on,
             attribute,
             part,
         } => {
-            let e = entity(entities, &on)?;
-            let v = value(entities, part)?;
-            Some(Act::Retracts { e, attribute, v })
+            let Some(e) = entity(entities, &on) else {
+                return Ok(None);
+            };
+            let Some(v) = value(entities, part) else {
+                return Ok(None);
+            };
+            Ok(Some(Act::Retracts { e, attribute, v }))
         }
         Draft::RetractsAll { on, attribute } => {
-            let e = entity(entities, &on)?;
-            Some(Act::RetractsAll { e, attribute })
+            let Some(e) = entity(entities, &on) else {
+                return Ok(None);
+            };
+            Ok(Some(Act::RetractsAll { e, attribute }))
         }
-        Draft::Compares {
-            on,
-            attribute,
-            old,
-            new,
-        } => {
-            let e = entity(entities, &on)?;
-            let old = old_value(entities, old);
-            let new = value(entities, new)?;
-            Some(Act::Compares {
-                e,
-                attribute,
-                old,
-                new,
-            })
-        }
+        Draft::Compares(drafted) => comparison(alloc, entities, drafted.into_inner()),
         Draft::RetractsEntity { on } => {
-            let e = entity(entities, &on)?;
-            Some(Act::RetractsEntity { e })
+            let Some(e) = entity(entities, &on) else {
+                return Ok(None);
+            };
+            Ok(Some(Act::RetractsEntity { e }))
         }
-        Draft::Meets { .. } => None,
+        Draft::Meets { .. } => Ok(None),
     }
+}
+
+fn comparison<'a>(
+    alloc: Global,
+    entities: &Entities,
+    drafted: DraftComparison<'a>,
+) -> Result<Option<Act<'a>>, Memory>
+    ensures { (pairs : List (model_Tempid × ℕ)) → HasEntities entities.now pairs
+        → IfOk result
+        (λ act. option_map model_act act ≡ act_of pairs (Compares drafted.entry)) }
+{
+    let Some(resolved) = resolved(entities, drafted) else {
+        return Ok(None);
+    };
+    Ok(Some(Act::Compares(Boxed::new(alloc, resolved)?)))
+}
+
+fn resolved<'a>(entities: &Entities, drafted: DraftComparison<'a>) -> Option<ResolvedComparison<'a>>
+    ensures { (pairs : List (model_Tempid × ℕ)) → HasEntities entities.now pairs
+        → option_map (λ found. model_act (acts.Compares found)) result
+        ≡ act_of pairs (Compares drafted.entry) }
+{
+    let DraftComparison {
+        on,
+        attribute,
+        old,
+        new,
+    } = drafted;
+    let e = entity(entities, &on)?;
+    let old = old_value(entities, old);
+    let new = value(entities, new)?;
+    Some(ResolvedComparison {
+        e,
+        attribute,
+        old,
+        new,
+    })
 }
 
 fn entity(entities: &Entities, whom: &EntityRef) -> Option<u64>

@@ -17,7 +17,7 @@ use fb_memory::Memory;
 use fb_schema::{Attribute, Schema};
 use fb_values::Value;
 use std::alloc::Global;
-use tx_asks::{Ask, Name, Operand as AskPart};
+use tx_asks::{Ask, Boxed, Comparison, Name, Operand as AskPart};
 use tx_forms::TxStop;
 use tx_refusals::{Reason, Refusal};
 
@@ -47,18 +47,22 @@ pub enum Draft<'a> {
         on: EntityRef,
         attribute: &'a Attribute,
     },
-    Compares {
-        on: EntityRef,
-        attribute: &'a Attribute,
-        old: Option<Operand>,
-        new: Operand,
-    },
+    Compares(Boxed<DraftComparison<'a>>),
     RetractsEntity {
         on: EntityRef,
     },
     Meets {
         on: EntityRef,
     },
+}
+
+/// A comparison whose names are found in the same way.
+#[derive(Drop)]
+pub struct DraftComparison<'a> {
+    pub on: EntityRef,
+    pub attribute: &'a Attribute,
+    pub old: Option<Operand>,
+    pub new: Operand,
 }
 
 /// What the forms ask, with the names found, where the lookup refs find these entities. A name that finds none is refused at
@@ -113,7 +117,7 @@ fn drafts_of<'a, F: Facts>(
 {
     let mut drafts = Vec::with_capacity(alloc, asks.len())?;
     for ask in asks {
-        let Some(draft) = draft_of(facts, schema, found, ask)? else {
+        let Some(draft) = draft_of(alloc, facts, schema, found, ask)? else {
             return Ok(None);
         };
         drafts.push(draft)?;
@@ -122,6 +126,7 @@ fn drafts_of<'a, F: Facts>(
 }
 
 fn draft_of<'a, F: Facts>(
+    alloc: Global,
     facts: &F,
     schema: &Schema,
     found: &[Option<u64>],
@@ -152,12 +157,7 @@ fn draft_of<'a, F: Facts>(
                 attribute: *attribute,
             }))
         }
-        Ask::Compares {
-            on,
-            attribute,
-            old,
-            new,
-        } => comparison(facts, schema, found, on, *attribute, old, new),
+        Ask::Compares(asked) => comparison(alloc, facts, schema, found, asked.get()),
         Ask::RetractsEntity { on } => {
             let Some(on) = whom(facts, schema, found, on)? else {
                 return Ok(None);
@@ -249,35 +249,35 @@ fn retraction<'a, F: Facts>(
 }
 
 fn comparison<'a, F: Facts>(
+    alloc: Global,
     facts: &F,
     schema: &Schema,
     found: &[Option<u64>],
-    on: &Name<'a>,
-    attribute: &'a Attribute,
-    old: &Option<AskPart<'a>>,
-    new: &AskPart<'a>,
+    asked: &Comparison<'a>,
 ) -> Result<Option<Draft<'a>>, Memory>
     requires schema { SchemaStands schema.now (F.history facts.now) }
     requires lawful { IsLawful (F.history facts.now) }
     ensures { IfOk result (λ draft. draft
         ≡ model.draft_of (db_of (F.history facts.now)) found.now
-        (Ask.Compares on.now attribute.entry old.now new.now)) }
+        (Ask.Compares asked.now)) }
 {
-    let Some(on) = whom(facts, schema, found, on)? else {
+    let Some(on) = whom(facts, schema, found, &asked.on)? else {
         return Ok(None);
     };
-    let Some(old) = old_part_of(facts, schema, found, old)? else {
+    let Some(old) = old_part_of(facts, schema, found, &asked.old)? else {
         return Ok(None);
     };
-    let Some(new) = part_of(facts, schema, found, new)? else {
+    let Some(new) = part_of(facts, schema, found, &asked.new)? else {
         return Ok(None);
     };
-    Ok(Some(Draft::Compares {
+    let attribute = asked.attribute;
+    let drafted = DraftComparison {
         on,
         attribute,
         old,
         new,
-    }))
+    };
+    Ok(Some(Draft::Compares(Boxed::new(alloc, drafted)?)))
 }
 
 fn part_of<F: Facts>(

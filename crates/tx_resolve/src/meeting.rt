@@ -3,7 +3,7 @@ ghost use Rattle.std.specs.Prelude.{◌≡◌, ◌∷◌, [], flat_map, IfOk};
 ghost use Rattle.std.specs.List.{list_any};
 ghost use Rattle.tx_resolve.specs.Meeting.{tempid_in, tempid_in_part, tempid_in_old_part, tempids_of, met_with, drafts_in};
 
-use crate::drafts::{Draft, Operand};
+use crate::drafts::{Draft, DraftComparison, Operand};
 use crate::whom::{EntityRef, Tempid};
 use fb_memory::Memory;
 use std::alloc::Global;
@@ -99,7 +99,8 @@ impl Met {
             Draft::Adds { on, part, .. } | Draft::Retracts { on, part, .. } => {
                 self.with(on)?.with_part(part)
             }
-            Draft::Compares { on, old, new, .. } => {
+            Draft::Compares(comparison) => {
+                let DraftComparison { on, old, new, .. } = comparison.get();
                 self.with(on)?.with_old_part(old)?.with_part(new)
             }
             Draft::RetractsAll { on, .. } | Draft::RetractsEntity { on } | Draft::Meets { on } => {

@@ -7,7 +7,7 @@ ghost use Rattle.tx_resolve.specs.Holders.{AreHolders, holders, has_another};
 ghost use Rattle.tx_resolve.specs.Meeting.{tempid_in, tempid_in_part, tempid_in_old_part};
 ghost use Rattle.tx_resolve.specs.Breaks.{gives_one_of_two as model_gives_one_of_two, is_added_to_by_none, uses_one_of_none as model_uses_one_of_none, first_form};
 
-use crate::drafts::{Draft, Operand};
+use crate::drafts::{Draft, DraftComparison, Operand};
 use crate::holders::{Holders, addition, held_by};
 use crate::whom::{EntityRef, Tempid};
 
@@ -98,7 +98,8 @@ fn uses_one_of_none(kept: &Holders, draft: &Draft<'_>) -> bool
         Draft::Adds { on, part, .. } | Draft::Retracts { on, part, .. } => {
             is_of_none(kept, on) || is_part_of_none(kept, part)
         }
-        Draft::Compares { on, old, new, .. } => {
+        Draft::Compares(comparison) => {
+            let DraftComparison { on, old, new, .. } = comparison.get();
             is_of_none(kept, on) || is_old_part_of_none(kept, old) || is_part_of_none(kept, new)
         }
         Draft::RetractsAll { on, .. } | Draft::RetractsEntity { on } | Draft::Meets { on } => {

@@ -38,7 +38,7 @@ fn is_cas_of_many(act: &Act<'_>) -> bool
     ensures { result ≡ model_is_cas_of_many (model_act act.now) }
 {
     match act {
-        Act::Compares { attribute, .. } => attribute.many,
+        Act::Compares(comparison) => comparison.get().attribute.many,
         _ => false,
     }
 }
@@ -71,17 +71,12 @@ fn has_failed<F: Facts>(form: &[Act<'_>], facts: &F) -> Result<bool, Memory>
 fn finds_another<F: Facts>(act: &Act<'_>, facts: &F) -> Result<bool, Memory>
     ensures { IfOk result (λ b. b ≡ model.finds_another (F.history facts.now) (model_act act.now)) }
 {
-    let Act::Compares {
-        e,
-        attribute,
-        old,
-        ..
-    } = act
-    else {
+    let Act::Compares(comparison) = act else {
         return Ok(false);
     };
-    let values = facts.values_of(*e, attribute.id)?;
-    Ok(!is_value(values.first(), old))
+    let comparison = comparison.get();
+    let values = facts.values_of(comparison.e, comparison.attribute.id)?;
+    Ok(!is_value(values.first(), &comparison.old))
 }
 
 fn is_value(present: Option<&Value>, old: &Option<Value>) -> bool

@@ -5,7 +5,9 @@ use Rattle.fb_model.specs.Schema.{attribute_named}
 use Rattle.fb_schema.specs.Parts.{model_attribute}
 use Rattle.tx_model.specs.Asks.{compares}
 use Rattle.tx_model.specs.NameRules.{is_wrong_part, is_wrong_old_part, has_wrong_part}
+use Rattle.std.proofs.lemmas.Result.{IfOk-weaker}
 use Rattle.tx_asks.specs.declared.asks.Ask.TheVariants as ask
+use Rattle.tx_asks.specs.declared.asks.Comparison.{Comparison}
 use Rattle.tx_asks.specs.Asks.{IsTypedPart, IsTypedOldPart}
 use Rattle.tx_expand.specs.declared.settle.Settled.TheVariants.{Stands}
 use Rattle.tx_expand.specs.View.{word_of, model_name, model_part}
@@ -30,8 +32,11 @@ returns-in-Some-2 c = λ all.
     subst (λ r. MatchOption r (is_wrong_part a p ≡ true)
     (λ r. (is_wrong_part a p ≡ false) × (part_read all r ≡ p) × IsTypedPart c.in-Known.attribute.now r)) c.in-Some-2.is
     (c.in_ok-new.ensures all) in
-    subst (λ attr. Settles facts all (compares on (word_of attr) o p)
-    (Stands (ask.Compares c.args.on c.in-Known.attribute c.in-Some.old c.in-Some-2.new))) (sym c.in-Known.is) (
+    let of : Comparison =
+    record { on = c.args.on; attribute = c.in-Known.attribute; old = c.in-Some.old; new = c.in-Some-2.new } in
+    IfOk-weaker c.settled_comparison.result _ _
+    (λ settled is. subst (Settles facts all (compares on (word_of c.args.attr.now) o p)) (sym is)
+    (subst (λ attr. Settles facts all (compares on (word_of attr) o p) (Stands (ask.Compares of))) (sym c.in-Known.is) (
       refl,
       ap is_none known,
       ap (λ found. option_map_or (has_wrong_part (compares on k o p)) found false) known
@@ -39,4 +44,4 @@ returns-in-Some-2 c = λ all.
           ∙ read.0,
       ap (λ x. compares on k x (part_read all c.in-Some-2.new)) before.1 ∙ ap (compares on k o) read.1,
       (known, before.2, read.2),
-    )
+    ))) c.settled_comparison.ensures
