@@ -163,7 +163,12 @@ fn note_act<F: Facts>(
         }
         Act::Compares(comparison) => {
             let comparison = comparison.get();
-            let addition = asking_of(place, comparison.e, comparison.attribute.id, &comparison.new)?;
+            let addition = asking_of(
+                place,
+                comparison.e,
+                comparison.attribute.id,
+                &comparison.new,
+            )?;
             note_addition(notes, addition, issued, facts, schema)
         }
         Act::Retracts { e, attribute, v } => {
