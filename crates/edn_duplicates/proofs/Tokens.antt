@@ -1,10 +1,10 @@
 -- The order of tokens is total, and equal tokens are one token.
-use Rattle.std.proofs.Common.{◌≡◌, Bool, true, false, [], ◌∷◌, Ordering, Less, Equal, Greater, is_eq, refl, ap, sym, ◌∙◌, true≢false}
+use Rattle.std.proofs.Common.{◌≡◌, Bool, true, false, ◌&&◌, List, [], ◌∷◌, Ordering, Less, Equal, Greater, is_eq, refl, ap, sym, ◌∙◌, true≢false}
 use Rattle.std.proofs.lemmas.Map.Lookups.{CmpEqualImpliesEq, exact_unsigned, exact_signed, exact_bytes}
-use Rattle.std.specs.Cmp.Lexicographic.{slice_cmp}
-use Rattle.std.specs.Ordering.{ordering_then, bool_cmp}
+use Rattle.std.specs.Cmp.Lexicographic.{slice_cmp, pointwise, lists_ties}
+use Rattle.std.specs.Ordering.{ordering_then, bool_cmp, eq_by_cmp}
 use Rattle.edn_duplicates.specs.Code.{spelled}
-use Rattle.edn_duplicates.specs.Order.{token_cmp}
+use Rattle.edn_duplicates.specs.Order.{token_eq, token_cmp, token_ties}
 use Rattle.edn_duplicates.specs.declared.token.CodeToken.{CodeToken}
 use Rattle.edn_duplicates.specs.declared.token.CodeToken.TheVariants.{Nil, Bool as Bool', Int, Str, Sym, Key, Inst, Uuid, Sequence, Map}
 use Rattle.edn_duplicates.specs.declared.token.CodeToken.TheVariants.{Set}
@@ -47,3 +47,16 @@ lists_exact c e (x ∷ xs) (y ∷ ys) h =
 
 pub code_exact : CmpEqualImpliesEq (slice_cmp token_cmp)
 code_exact = lists_exact token_cmp token_exact
+
+-- ---- the test of equal tokens
+
+and_true : (a : Bool) → (a && true) ≡ a
+and_true true = refl
+and_true false = refl
+
+-- of lists of tokens, and of lists of one
+pub same_lists : (xs ys : List CodeToken) → pointwise token_eq xs ys ≡ eq_by_cmp (slice_cmp token_cmp) xs ys
+same_lists xs ys = lists_ties token_cmp token_ties xs ys
+
+pub same_ones : (a b : CodeToken) → token_eq a b ≡ eq_by_cmp (slice_cmp token_cmp) (a ∷ []) (b ∷ [])
+same_ones a b = sym (and_true (token_eq a b)) ∙ same_lists (a ∷ []) (b ∷ [])
