@@ -181,21 +181,14 @@ fn settle_comparison<'a>(
     }
 }
 
-fn settled_comparison<'a>(
-    alloc: Global,
-    comparison: Comparison<'a>,
-) -> Result<Settled<'a>, Memory>
+fn settled_comparison<'a>(alloc: Global, comparison: Comparison<'a>) -> Result<Settled<'a>, Memory>
     ensures { IfOk result (λ settled. settled ≡ Stands (Compares comparison.entry)) }
 {
     Ok(Settled::Stands(Ask::Compares(Boxed::new(alloc, comparison)?)))
 }
 
 /// What becomes of the ask.
-pub fn settle<'a>(
-    alloc: Global,
-    schema: &Schema,
-    raw: &RawAsk<'a>,
-) -> Result<Settled<'a>, Memory>
+pub fn settle<'a>(alloc: Global, schema: &Schema, raw: &RawAsk<'a>) -> Result<Settled<'a>, Memory>
     requires { IsAskLookedUp schema.now raw.now }
     ensures { (all : List model_LookupRef)
         → IfOk result (λ settled. Settles schema.now all (model_ask all raw.now) settled) }
